@@ -1,0 +1,3 @@
+-- What a call of the program read and wrote.
+pub mod Moved
+pub mod Call
