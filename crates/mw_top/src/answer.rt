@@ -1,4 +1,8 @@
 // What is written for the bytes of a source.
+ghost use Rattle.std.specs.Prelude.{◌≡◌, IfOk};
+ghost use Rattle.mw_text.specs.Output.{refusal as refusal_line};
+ghost use Rattle.mw_top.specs.Call.{IsOutput};
+
 use crate::build::{ground_term, signature, statements};
 use crate::print::{print, print_number};
 use crate::reader::read;
@@ -10,6 +14,8 @@ use std::alloc::{AllocError, Global};
 /// How many replacements a reduction makes at the most.
 const MOST: u64 = 1_000_000;
 
+const REFUSAL: &str = "line 1: refused: not in this profile\n";
+
 /// A text, and the status that goes with it.
 #[derive(Drop)]
 pub struct Output {
@@ -18,7 +24,9 @@ pub struct Output {
 }
 
 /// The block for a source of the form, or else the line of its refusal.
-pub fn answer(alloc: Global, bytes: &[u8]) -> Result<Output, AllocError> {
+pub fn answer(alloc: Global, bytes: &[u8]) -> Result<Output, AllocError>
+    ensures { IfOk result (λ o. IsOutput bytes.now o.text.items o.status) }
+{
     let block = match read(alloc, bytes)? {
         Some(source) => block(alloc, source)?,
         None => None,
@@ -29,8 +37,10 @@ pub fn answer(alloc: Global, bytes: &[u8]) -> Result<Output, AllocError> {
     }
 }
 
-fn refusal(alloc: Global) -> Result<Output, AllocError> {
-    let text = b"line 1: refused: not in this profile\n".to_vec(alloc)?;
+fn refusal(alloc: Global) -> Result<Output, AllocError>
+    ensures { IfOk result (λ o. (o.text.items ≡ refusal_line) × (o.status ≡ 1)) }
+{
+    let text = REFUSAL.as_bytes().to_vec(alloc)?;
     Ok(Output { text, status: 1 })
 }
 

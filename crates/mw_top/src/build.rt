@@ -1,7 +1,6 @@
 // The theory of a source's module, and its subject as a term.
 use crate::mentions::{Mentions, are_met, meet_all};
 use crate::source::{Declared, Equation};
-use mw_reduce::Theory;
 use mw_term::{
     Declaration, KindId, Name, Operator, Raw, Seq, Shape, Signature, Sorted, Statement, Term,
 };
@@ -85,7 +84,7 @@ fn statement(alloc: Global, equation: Equation) -> Result<Option<Statement>, All
         left,
         right,
         fragments: Seq::of(Vec::new(alloc)),
-        variables: mentions.into_order(),
+        variables: mentions.variables(alloc, SORT)?,
         rule: false,
         executable: true,
     }))
@@ -106,13 +105,4 @@ pub fn ground_term(alloc: Global, raw: &Raw) -> Result<Option<Term>, AllocError>
     }
     let term = Term::new(alloc, Shape::Op(*operator, made))?;
     Ok(Some(term))
-}
-
-/// The theory of a signature and statements.
-pub fn theory(
-    alloc: Global,
-    signature: Signature,
-    statements: Seq<Statement>,
-) -> Result<Theory, AllocError> {
-    Theory::new(alloc, signature, statements)
 }

@@ -1,4 +1,6 @@
 // Prefix forms.
+ghost use Rattle.std.specs.Prelude.{◌≡◌, ◌+◌, ◌<◌, ◌≤◌, length, IfOk, IfSome};
+
 use crate::names::{Meaning, Names};
 use mw_term::{Name, OpId, Raw, Raws, VarId};
 use std::alloc::{AllocError, Global};
@@ -82,7 +84,9 @@ fn applied_at<'t>(
 }
 
 /// The tokens after this one, where it stands at the front.
-pub fn after_token<'t>(tokens: &'t [Name], text: &[u8]) -> Option<&'t [Name]> {
+pub fn after_token<'t>(tokens: &'t [Name], text: &[u8]) -> Option<&'t [Name]>
+    ensures shorter { IfSome result (λ rest. length rest.now + 1 ≡ length tokens.entry.now) }
+{
     match tokens.split_first() {
         Some((first, rest)) if first.as_slice() == text => Some(rest),
         _ => None,
@@ -93,7 +97,9 @@ pub fn after_token<'t>(tokens: &'t [Name], text: &[u8]) -> Option<&'t [Name]> {
 pub fn before_token<'t>(
     tokens: &'t [Name],
     text: &[u8],
-) -> Option<(&'t [Name], &'t [Name])> {
+) -> Option<(&'t [Name], &'t [Name])>
+    ensures shorter { IfSome result (λ r. length r.0.now + length r.1.now + 1 ≡ length tokens.entry.now) }
+{
     let most = tokens.len().min(LONGEST + 1);
     for i in 0..most {
         if tokens[i].as_slice() == text {

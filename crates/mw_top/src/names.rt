@@ -1,7 +1,8 @@
 // Names, and what they stand for.
+use indexmap::IndexMap;
 use mw_term::{Name, OpId};
 use std::alloc::{AllocError, Global};
-use std::collections::HashMap;
+
 
 /// What a name stands for.
 #[derive(Clone, Copy, Debug, PartialEq, Eq)]
@@ -14,13 +15,13 @@ pub enum Meaning {
 /// What the names of a module stand for.
 #[derive(Drop)]
 pub struct Names {
-    meanings: HashMap<Vec<u8>, Meaning>,
+    meanings: IndexMap<Vec<u8>, Meaning>,
 }
 
 impl Names {
     pub fn new(alloc: Global) -> Names {
         Names {
-            meanings: HashMap::new(alloc),
+            meanings: IndexMap::new(alloc),
         }
     }
 

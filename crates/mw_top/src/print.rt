@@ -3,6 +3,7 @@ use mw_term::{Operator, Shape, Term};
 use std::alloc::AllocError;
 
 /// Writes a term behind a text: its prefix form, with a space after each comma.
+#[cycle(print)]
 pub fn print(operators: &[Operator], term: &Term, text: &mut Vec<u8>) -> Result<(), AllocError> {
     match term.shape() {
         Shape::Nat(number) => print_number(*number, text),
@@ -13,18 +14,27 @@ pub fn print(operators: &[Operator], term: &Term, text: &mut Vec<u8>) -> Result<
         Shape::Var(variable) => text.extend_from_slice(variable.name.as_slice()),
         Shape::Op(operator, args) => {
             print_name(operators, *operator, text)?;
-            for i in 0..args.len() {
-                let before: &[u8] = if i == 0 { b"(" } else { b", " };
-                text.extend_from_slice(before)?;
-                print(operators, &args[i], text)?;
-            }
-            if args.is_empty() {
-                return Ok(());
-            }
-            text.push(b')')?;
-            Ok(())
+            print_args(operators, args.as_slice(), text)
         }
     }
+}
+
+/// Writes arguments in parentheses, where there are any.
+#[cycle(print)]
+fn print_args(
+    operators: &[Operator],
+    args: &[Term],
+    text: &mut Vec<u8>,
+) -> Result<(), AllocError> {
+    for i in 0..args.len() {
+        let before: &[u8] = if i == 0 { b"(" } else { b", " };
+        text.extend_from_slice(before)?;
+        print(operators, &args[i], text)?;
+    }
+    if !args.is_empty() {
+        text.push(b')')?;
+    }
+    Ok(())
 }
 
 fn print_name(

@@ -1,4 +1,6 @@
 // Reads a source of the form: `fmod M is sort S .`, operators, variables, equations, `endfm`, `reduce T .`
+ghost use Rattle.std.specs.Prelude.{◌≡◌, ◌+◌, ◌<◌, ◌≤◌, length, IfOk, IfSome};
+
 use crate::forms::{after_token, before_token, term};
 use crate::names::{Meaning, Names, is_name, is_prelude};
 use crate::source::{Declared, Equation, Source};
@@ -89,7 +91,9 @@ fn operators<'t>(
 }
 
 /// An operator's statement after its first word: the name, the number of arguments, and the tokens after it.
-fn operator<'t>(tokens: &'t [Name], sort: &Name) -> Option<(&'t Name, usize, &'t [Name])> {
+fn operator<'t>(tokens: &'t [Name], sort: &Name) -> Option<(&'t Name, usize, &'t [Name])>
+    ensures shorter { IfSome result (λ r. length r.2.now < length tokens.entry.now) }
+{
     let (name, rest) = tokens.split_first()?;
     let mut rest = after_token(rest, b":")?;
     let mut args = 0usize;
@@ -161,7 +165,9 @@ fn equation<'t>(
     alloc: Global,
     names: &Names,
     tokens: &'t [Name],
-) -> Result<Option<(Equation, &'t [Name])>, AllocError> {
+) -> Result<Option<(Equation, &'t [Name])>, AllocError>
+    ensures shorter { IfOk result (λ o. IfSome o (λ r. length r.1.now < length tokens.entry.now)) }
+{
     let Some((left, rest)) = before_token(tokens, b"=") else {
         return Ok(None);
     };

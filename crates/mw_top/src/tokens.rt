@@ -1,4 +1,6 @@
 // The tokens of a text.
+ghost use Rattle.std.specs.Prelude.{◌≡◌, ◌≤◌, length};
+
 use mw_term::Name;
 use std::alloc::{AllocError, Global};
 
@@ -18,7 +20,9 @@ fn is_plain(byte: u8) -> bool {
 }
 
 /// How many bytes at the front are neither blanks nor marks.
-fn run_length(text: &[u8]) -> usize {
+fn run_length(text: &[u8]) -> usize
+    ensures { result ≤ length text.now }
+{
     let mut length = 0;
     let mut rest = text;
     while let [byte, after @ ..] = rest {
