@@ -5,8 +5,7 @@ ghost use Rattle.mw_top.specs.Call.{IsOutput};
 
 use crate::build::{ground_term, signature, statements};
 use crate::print::{print, print_number};
-use crate::reader::read;
-use crate::source::Source;
+use mw_form::{Source, read};
 use mw_reduce::{Outcome, Proved, Theory, reduce};
 use mw_term::{Name, Operator};
 use std::alloc::{AllocError, Global};
@@ -56,9 +55,7 @@ fn block(alloc: Global, source: Source) -> Result<Option<Vec<u8>>, AllocError> {
     let Some(term) = ground_term(alloc, &subject)? else {
         return Ok(None);
     };
-    let Some(statements) = statements(alloc, equations)? else {
-        return Ok(None);
-    };
+    let statements = statements(alloc, equations)?;
     let signature = signature(alloc, sort, operators)?;
     let theory = Theory::new(alloc, signature, statements)?;
     let (proved, outcome) = reduce(alloc, &theory, term, MOST)?;

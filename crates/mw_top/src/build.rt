@@ -1,6 +1,5 @@
 // The theory of a source's module, and its subject as a term.
-use crate::mentions::{Mentions, are_met, meet_all};
-use crate::source::{Declared, Equation};
+use mw_form::{Declared, Equation};
 use mw_term::{
     Declaration, KindId, Name, Operator, Raw, Seq, Shape, Signature, Sorted, Statement, Term,
 };
@@ -12,10 +11,11 @@ const SORT: u32 = 1;
 pub fn signature(
     alloc: Global,
     sort: Name,
-    operators: Vec<Declared>,
+    operators: Seq<Declared>,
 ) -> Result<Signature, AllocError> {
     let mut sorts = Vec::new(alloc);
     sorts.push(sort)?;
+    let operators = operators.into_vec();
     let mut made = Vec::with_capacity(alloc, operators.len())?;
     for declared in operators {
         made.push(operator(alloc, declared)?)?;
@@ -54,40 +54,30 @@ fn operator(alloc: Global, declared: Declared) -> Result<Operator, AllocError> {
     })
 }
 
-/// The statements that equations are. None where a left side is a variable, or a right side has a variable that
-/// its left side hasn't.
-pub fn statements(
-    alloc: Global,
-    equations: Vec<Equation>,
-) -> Result<Option<Seq<Statement>>, AllocError> {
+/// The statements that equations are.
+pub fn statements(alloc: Global, equations: Seq<Equation>) -> Result<Seq<Statement>, AllocError> {
+    let equations = equations.into_vec();
     let mut made = Vec::with_capacity(alloc, equations.len())?;
     for equation in equations {
-        match statement(alloc, equation)? {
-            Some(statement) => made.push(statement)?,
-            None => return Ok(None),
-        }
+        made.push(statement(alloc, equation))?;
     }
-    Ok(Some(Seq::of(made)))
+    Ok(Seq::of(made))
 }
 
-fn statement(alloc: Global, equation: Equation) -> Result<Option<Statement>, AllocError> {
-    let Equation { left, right } = equation;
-    if !matches!(&left, Raw::Op(_, _)) {
-        return Ok(None);
-    }
-    let mut mentions = Mentions::new(alloc);
-    meet_all(alloc, &mut mentions, &left)?;
-    if !are_met(&mentions, &right) {
-        return Ok(None);
-    }
-    Ok(Some(Statement {
+fn statement(alloc: Global, equation: Equation) -> Statement {
+    let Equation {
+        left,
+        right,
+        variables,
+    } = equation;
+    Statement {
         left,
         right,
         fragments: Seq::of(Vec::new(alloc)),
-        variables: mentions.variables(alloc, SORT)?,
+        variables,
         rule: false,
         executable: true,
-    }))
+    }
 }
 
 /// The term that a ground one without numerals and quoted identifiers is; none where it is another one.

@@ -11,14 +11,8 @@ ghost use Rattle.mw_top.specs.Call.{texts, IsCommand, Owes, IsExactLength};
 
 mod answer;
 mod build;
-mod forms;
-mod mentions;
-mod names;
 mod print;
-mod reader;
-mod source;
 mod streams;
-mod tokens;
 mod words;
 
 use answer::{Output, answer};
@@ -91,12 +85,7 @@ pub fn alone<S: Source, K: Sink>(
 }
 
 /// The same, as a number.
-fn run<S: Source, K: Sink>(
-    alloc: Global,
-    words: &[String],
-    source: &mut S,
-    sink: &mut K,
-) -> u8
+fn run<S: Source, K: Sink>(alloc: Global, words: &[String], source: &mut S, sink: &mut K) -> u8
     ensures status { result ≤ 6 }
     ensures source_faults { S.faults source.old ≤ S.faults source.new }
     ensures sink_faults { K.faults sink.old ≤ K.faults sink.new }

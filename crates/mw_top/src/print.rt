@@ -21,11 +21,7 @@ pub fn print(operators: &[Operator], term: &Term, text: &mut Vec<u8>) -> Result<
 
 /// Writes arguments in parentheses, where there are any.
 #[cycle(print)]
-fn print_args(
-    operators: &[Operator],
-    args: &[Term],
-    text: &mut Vec<u8>,
-) -> Result<(), AllocError> {
+fn print_args(operators: &[Operator], args: &[Term], text: &mut Vec<u8>) -> Result<(), AllocError> {
     for i in 0..args.len() {
         let before: &[u8] = if i == 0 { b"(" } else { b", " };
         text.extend_from_slice(before)?;
@@ -37,11 +33,7 @@ fn print_args(
     Ok(())
 }
 
-fn print_name(
-    operators: &[Operator],
-    operator: u32,
-    text: &mut Vec<u8>,
-) -> Result<(), AllocError> {
+fn print_name(operators: &[Operator], operator: u32, text: &mut Vec<u8>) -> Result<(), AllocError> {
     if operator == 0 {
         return Ok(());
     }
