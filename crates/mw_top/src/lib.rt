@@ -10,6 +10,7 @@ ghost use Rattle.mw_top.specs.Moved.{Gave, Took};
 ghost use Rattle.mw_top.specs.Call.{texts, IsCommand, Owes, IsExactLength};
 
 mod answer;
+mod block;
 mod build;
 mod print;
 mod streams;
