@@ -16,6 +16,9 @@ mod print;
 mod streams;
 mod words;
 
+#[cfg(test)]
+mod tests;
+
 use answer::{Output, answer};
 use mw_outside::{Sink, Source};
 use std::alloc::Global;
