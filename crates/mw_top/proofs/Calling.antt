@@ -2,7 +2,8 @@
 use Rattle.std.proofs.Common.{◌≡◌, ◌+◌, ◌<◌, ◌≤◌, ℕ, List, [], ◌∷◌, length, map, get_or, None, Some, arith, refl, ap, sym, subst}
 use Rattle.std.specs.declared.option.Option.{Option}
 use Rattle.std.specs.Io.KnownBytes.{Consumes, IsAtEnd, Keeps}
-use Rattle.mw_top.specs.Call.{IsOutput, Owes}
+use Rattle.mw_text.specs.Answer.{IsOutput}
+use Rattle.mw_top.specs.Call.{Owes}
 use Rattle.std.specs.List.{slice_get}
 
 pub second_is : {A : Type 0} (v : A → List ℕ) (ws : List A) (w : A) → length ws ≡ 2 → w ≡ get_or ws 1 w → slice_get (map v ws) 1 ≡ Some (v w)

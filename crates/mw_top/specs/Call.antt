@@ -3,7 +3,8 @@ use Rattle.std.specs.Prelude.{◌≡◌, ◌≤◌, ◌<◌, ◌⊎◌, ℕ, Lis
 use Rattle.std.specs.declared.option.Option.{Option}
 use Rattle.std.specs.Global.{Global}
 use Rattle.std.specs.Io.KnownBytes.{Consumes, IsAtEnd}
-use Rattle.mw_text.specs.Output.{refusal}
+use Rattle.mw_text.specs.Spelling.{HasForm}
+use Rattle.mw_text.specs.Answer.{IsOutput}
 
 -- the words as bytes
 abbrev pub texts : List (String Global) → List (List ℕ)
@@ -12,10 +13,6 @@ texts words = map (λ w. string_bytes w) words
 -- the program's name and `run`
 abbrev pub IsCommand : List (List ℕ) → Type 0
 IsCommand words = (length words ≡ 2) × (slice_get words 1 ≡ Some (codes "run"))
-
--- The text is what is written for a source's bytes, with its status. (Of the text with status 0, nothing is said here yet.)
-abbrev pub IsOutput : List ℕ → List ℕ → ℕ → Type 0
-IsOutput bytes text status = (status ≡ 0) ⊎ ((status ≡ 1) × (text ≡ refusal))
 
 -- these are all the bytes that were left, and they aren't too many
 pub record ReadsWhole (old new : Option (List ℕ)) (bytes : List ℕ) : Type 0 where
@@ -28,6 +25,13 @@ pub record Owes (old new : Option (List ℕ)) (text : List ℕ) (status : ℕ) :
   pub bytes : List ℕ
   pub read : ReadsWhole old new bytes
   pub output : IsOutput bytes text status
+
+-- Where the source's bytes are known and not too many, the words are a command and nothing failed, the status is 0 exactly for a source of
+-- the form, and 1 exactly for another, unless memory ran out.
+abbrev pub IsExact : Option (List ℕ) → Type 0 → Type 0 → Type 0 → Option ℕ → Type 0
+IsExact old command source_failed sink_failed status = (bytes : List ℕ) → old ≡ Some bytes → command
+    → (source_failed → ⊥) → (sink_failed → ⊥) → length bytes ≤ 8388608
+    → (HasForm bytes → (status ≡ Some 0) ⊎ (status ≡ Some 5)) × ((HasForm bytes → ⊥) → (status ≡ Some 1) ⊎ (status ≡ Some 5))
 
 -- Where the source's bytes are known and too many, the words are a command and the source didn't fail, the status is 6, unless memory ran
 -- out.

@@ -1,7 +1,7 @@
 // What is written for the bytes of a source.
 ghost use Rattle.std.specs.Prelude.{◌≡◌, IfOk};
 ghost use Rattle.mw_text.specs.Output.{refusal as refusal_line};
-ghost use Rattle.mw_top.specs.Call.{IsOutput};
+ghost use Rattle.mw_text.specs.Answer.{IsOutput};
 
 use crate::block::{write_count, write_echo, write_result, write_status};
 use crate::build::{free_term, signature, statements};

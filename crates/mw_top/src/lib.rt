@@ -7,7 +7,7 @@ ghost use Rattle.std.specs.Io.KnownBytes.{Appends, Keeps};
 ghost use Rattle.mw_outside.specs.Causes.{Rose};
 ghost use Rattle.mw_text.specs.Output.{usage};
 ghost use Rattle.mw_top.specs.Moved.{Gave, Took};
-ghost use Rattle.mw_top.specs.Call.{texts, IsCommand, Owes, IsExactLength};
+ghost use Rattle.mw_top.specs.Call.{texts, IsCommand, Owes, IsExact, IsExactLength};
 
 mod answer;
 mod block;
@@ -52,11 +52,11 @@ pub fn alone<S: Source, K: Sink>(
     ensures sink_faults { K.faults sink.old ≤ K.faults sink.new }
     ensures bounded { Gave (S.left source.old) (S.left source.new) (λ n. n ≤ 8388609) }
 
-    // 0: the words are a command, and the whole output for all of the source's bytes was written.
+    // 0: the words are a command, the source was read to its end, and the block of a kept proof was written.
     ensures answered { result ≡ Some 0 → IsCommand (texts words.now)
         × ((text : List ℕ) × Owes (S.left source.old) (S.left source.new) text 0 × Appends (K.held sink.old) (K.held sink.new) text) }
 
-    // 1: the same, with the line of a refusal.
+    // 1: the bytes are not of the form, and exactly the line of the refusal was written.
     ensures refused { result ≡ Some 1 → IsCommand (texts words.now)
         × ((text : List ℕ) × Owes (S.left source.old) (S.left source.new) text 1 × Appends (K.held sink.old) (K.held sink.new) text) }
 
@@ -82,6 +82,9 @@ pub fn alone<S: Source, K: Sink>(
     // 6: the source gave more than the limit, and nothing was written.
     ensures too_long { result ≡ Some 6 → IsCommand (texts words.now)
         × Gave (S.left source.old) (S.left source.new) (λ n. n ≡ 8388609) × Keeps (K.held sink.old) (K.held sink.new) }
+    // So the status is 0 exactly for sources of the form, 1 exactly for others, and 6 exactly for longer ones.
+    ensures exact { IsExact (S.left source.old) (IsCommand (texts words.now))
+        (Rose (S.faults source.old) (S.faults source.new)) (Rose (K.faults sink.old) (K.faults sink.new)) result }
     ensures exact_length { IsExactLength (S.left source.old) (IsCommand (texts words.now))
         (Rose (S.faults source.old) (S.faults source.new)) result }
 {
