@@ -32,7 +32,7 @@ mod tests {
 
     #[test]
     fn two_threads_meet(rt: HostRuntime) {
-        let gate = MeetGate::new(100_000_000);
+        let gate = MeetGate::new(1_000_000_000);
         join(&rt, || tell(&gate, 7), || tell(&gate, 8));
         assert!(rt; gate.met());
         assert_eq!(rt; gate.receipts(), 2);
