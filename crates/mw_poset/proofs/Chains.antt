@@ -1,6 +1,6 @@
 -- Chains of pairs, and kinds as chains of pairs that are walked either way.
 use Rattle.std.specs.Prelude.{All, map}
-use Rattle.std.proofs.Common.{◌≡◌, ◌⊎◌, ℕ, ◌≤◌, List, [], ◌∷◌, ◌++◌, refl, ap, sym, ◌∙◌, inl, inr, arith, subst}
+use Rattle.std.proofs.Common.{◌≡◌, ◌⊎◌, ℕ, List, [], ◌∷◌, ap, sym, inl, inr, subst}
 use Rattle.mw_logic.specs.Signature.{Signature, Member, SameKind, same, up, down}
 use Rattle.mw_logic.specs.Sorts.{AtOrBelow}
 use Rattle.mw_poset.specs.Order.{IsSort, IsKindOf}

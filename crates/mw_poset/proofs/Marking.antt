@@ -1,6 +1,6 @@
 -- Marks in a row, and the search: what it has marked is reached, and what a marked sort leads to is marked or still waits for its turn.
-use Rattle.std.specs.Prelude.{Bool, true, false, cond, All, ◌↔◌, sum_by}
-use Rattle.std.proofs.Common.{◌≡◌, ◌≢◌, ◌⊎◌, ℕ, zero, suc, ◌+◌, ◌-◌, ◌<◌, ◌≤◌, List, [], ◌∷◌, ◌++◌, length, refl, ap, sym, ◌∙◌, inl, inr, arith, get_or, set, subst, get_or-set_same, get_or-set_other, length-append, length-set, replicate}
+use Rattle.std.specs.Prelude.{Bool, true, false, cond}
+use Rattle.std.proofs.Common.{◌≡◌, ◌⊎◌, ℕ, zero, suc, ◌+◌, ◌<◌, List, [], ◌∷◌, ◌++◌, length, refl, ap, sym, ◌∙◌, inl, inr, arith, get_or, set, subst, get_or-set_same, get_or-set_other, length-append, length-set, replicate}
 use Rattle.std.proofs.lemmas.List.Sums.{sum_by-set}
 use Rattle.std.proofs.lemmas.Bool.{cases_eq}
 use Rattle.std.proofs.lemmas.List.{length-replicate}
@@ -40,17 +40,6 @@ set-marked row k (suc j) m = elim (cases_eq j k) [
   | inl e ↦ inr (ap suc (sym e))
   | inr n ↦ inl (sym (get_or-set_other row k j true false n) ∙ m)
 ]
-
--- nothing is marked
-pub marks_none : (row : List Bool) (waiting : List ℕ) → Marks [] row row waiting waiting
-marks_none row waiting = record {
-  kept = λ S m. m;
-  all = λ S m. absurd m;
-  only = λ S m. inl m;
-  still = λ S m. m;
-  waits = λ S m. inl m;
-  count = refl;
-}
 
 -- one more that is marked already
 pub marks_marked : (xs : List ℕ) (old new : List Bool) (waited waiting : List ℕ) (S : ℕ) → Marks xs old new waited waiting → IsMarked new S → Marks (xs ++ S ∷ []) old new waited waiting

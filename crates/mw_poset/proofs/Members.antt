@@ -1,6 +1,6 @@
 -- Membership in lists, and the sorts directly above one.
 use Rattle.std.specs.Prelude.{Bool, true, false, cond, nat_eq, All}
-use Rattle.std.proofs.Common.{◌≡◌, ◌⊎◌, ℕ, zero, suc, ◌+◌, ◌<◌, List, [], ◌∷◌, ◌++◌, length, refl, ap, sym, ◌∙◌, inl, inr, arith, get_or, subst}
+use Rattle.std.proofs.Common.{◌≡◌, ◌⊎◌, ℕ, zero, suc, ◌<◌, List, [], ◌∷◌, ◌++◌, length, refl, ap, ◌∙◌, inl, inr, arith, get_or, subst}
 use Rattle.std.proofs.lemmas.Bool.{eqb-true, eq-eqb}
 use Rattle.mw_logic.specs.Signature.{Member}
 use Rattle.mw_poset.specs.Tables.{supersorts}

@@ -1,7 +1,7 @@
 -- What is read off the rows: the table, cycles, kinds and maximal sorts.
 use Rattle.std.specs.Prelude.{Bool, true, false, All, ◌↔◌, slice_index}
 use Rattle.std.specs.List.Sorted.{IsStrictlyIncreasing}
-use Rattle.std.proofs.Common.{◌≡◌, ◌≢◌, ◌⊎◌, ℕ, zero, suc, ◌+◌, ◌-◌, ◌*◌, ◌<◌, ◌≤◌, List, [], ◌∷◌, ◌++◌, length, refl, ap, sym, ◌∙◌, inl, inr, arith, get_or, subst, length-append}
+use Rattle.std.proofs.Common.{◌≡◌, ◌≢◌, ℕ, suc, ◌+◌, ◌-◌, ◌*◌, ◌<◌, ◌≤◌, List, [], ◌∷◌, ◌++◌, length, refl, ap, sym, ◌∙◌, inl, inr, arith, get_or, subst, length-append}
 use Rattle.std.proofs.lemmas.List.{get_or_append_left, get_or-append_right}
 use Rattle.std.proofs.lemmas.Bool.{cases_eq, cases_lt}
 use Rattle.std.proofs.Math.Nat.{mul-le-mul_right, suc-mul}
@@ -9,8 +9,8 @@ use Rattle.mw_logic.specs.Signature.{Signature, Member, SameKind}
 use Rattle.mw_logic.specs.Sorts.{AtOrBelow}
 use Rattle.mw_logic.proofs.KindLaws.{SameKind-trans, SameKind-sym}
 use Rattle.mw_poset.specs.SortOrder.{SortOrder}
-use Rattle.mw_poset.specs.Order.{IsSort, IsOnCycle, IsLeastOnCycle, IsKindOf, IsMaximalIn}
-use Rattle.mw_poset.specs.Tables.{IsMarked, IsRow, IsTable, IsSymmetric, NamesMarked, IsLeastReached, AreLeastReached, supersorts}
+use Rattle.mw_poset.specs.Order.{IsSort, IsOnCycle, IsKindOf, IsMaximalIn}
+use Rattle.mw_poset.specs.Tables.{IsRow, IsTable, IsSymmetric, NamesMarked, IsLeastReached, AreLeastReached, supersorts}
 use Rattle.mw_poset.proofs.Members.{member-at, member-all, member-left, member-last, member-push, supersorts-member, member-supersorts}
 use Rattle.mw_poset.proofs.Chains.{AtOrBelow-trans, AtOrBelow-turned, within-pair}
 

@@ -1,19 +1,19 @@
 -- The steps of the loops, in the words of their goals.
-use Rattle.std.specs.Prelude.{Bool, true, false, All, ◌↔◌, slice_index, IsTrue}
-use Rattle.std.proofs.Common.{◌≡◌, ◌≢◌, ◌⊎◌, ℕ, zero, suc, ◌+◌, ◌-◌, ◌<◌, ◌≤◌, List, [], ◌∷◌, ◌++◌, length, map, refl, ap, sym, ◌∙◌, inl, inr, arith, get_or, set, take, drop, replicate, subst, add-one, length-set, get_or-set_same, get_or-set_other}
+use Rattle.std.specs.Prelude.{Bool, true, false, All, slice_index}
+use Rattle.std.proofs.Common.{◌≡◌, ℕ, suc, ◌+◌, ◌-◌, ◌<◌, ◌≤◌, List, [], ◌∷◌, ◌++◌, length, refl, ap, sym, ◌∙◌, inl, inr, arith, get_or, set, take, drop, replicate, subst, add-one, length-set, get_or-set_same, get_or-set_other}
 use Rattle.std.proofs.lemmas.List.{take_more, take_all, take-append-le, get_or_default, length-replicate, get_or-replicate}
 use Rattle.std.proofs.lemmas.List.Elements.{All-more}
 use Rattle.std.proofs.lemmas.Bool.{cases_eq, ne_eqb}
 use Rattle.mw_logic.specs.Signature.{Member}
 use Rattle.mw_logic.specs.Sorts.{AtOrBelow}
 use Rattle.mw_poset.specs.SortOrder.{SortOrder}
-use Rattle.mw_poset.specs.Order.{IsSort, IsOnCycle, IsLeastOnCycle, IsKindOf, IsMaximalIn}
+use Rattle.mw_poset.specs.Order.{IsSort, IsOnCycle, IsKindOf, IsMaximalIn}
 use Rattle.mw_poset.specs.Tables.{AreListsOf, AreLinks, IsMarked, IsRow, IsTable, IsSymmetric, NamesMarked, IsLeastReached, AreLeastReached, IsPoset, supersorts, turned_too}
 use Rattle.mw_poset.specs.Search.{Marks}
-use Rattle.mw_poset.proofs.Members.{member-at, member-last, member-all, supersorts-member, supersorts-push_same, supersorts-push_other}
+use Rattle.mw_poset.proofs.Members.{member-at, member-last, supersorts-member, supersorts-push_same, supersorts-push_other}
 use Rattle.mw_poset.proofs.Chains.{within-pair, turned_too-member, within-chain, passed_on, SameKind-connected, least-kind}
 use Rattle.mw_poset.proofs.Marking.{Search, search_begun, search_step, marked-sort, marks_marked, marks_new}
-use Rattle.mw_poset.proofs.Reading.{some_signature, KindsSoFar, MaximalSoFar, maximal_found, maximal_passed, table_more, kinds_passed, kinds_named, on_cycle, no_cycle, cycle-within}
+use Rattle.mw_poset.proofs.Reading.{some_signature, KindsSoFar, MaximalSoFar, maximal_found, maximal_passed, table_more, kinds_passed, kinds_named, on_cycle, no_cycle}
 
 -- what is directly above a sort is there
 pub above-within : (sorts : ℕ) (ps : List (ℕ × ℕ)) (above : List (List ℕ)) (S : ℕ) (list : List ℕ) → AreLinks sorts ps above → IsSort sorts S → list ≡ get_or above (S - 1) list → All (IsSort sorts) list

@@ -125,3 +125,87 @@ impl Poset {
         self.kind_of(sort) == self.kind_of(kind) && self.links.above(sort).is_empty()
     }
 }
+
+#[cfg(test)]
+mod tests {
+    use super::{Poset, PosetError, SortId};
+    use std::alloc::{AllocError, Global};
+    use std::rt::HostRuntime;
+    use std::test::Fail;
+
+    fn are_there(sorts: u32, pairs: &[(SortId, SortId)]) -> bool
+        ensures { IsTrue result → All (λ p. IsSort sorts p.0 × IsSort sorts p.1) pairs.now }
+    {
+        for (lower, upper) in pairs {
+            if *lower < 1 || sorts < *lower || *upper < 1 || sorts < *upper {
+                return false;
+            }
+        }
+        true
+    }
+
+    // The sort that a cycle is named by, or 0.
+    fn cycle_of(
+        alloc: Global,
+        sorts: u32,
+        pairs: &[(SortId, SortId)],
+    ) -> Result<SortId, AllocError> {
+        if !are_there(sorts, pairs) {
+            return Ok(99);
+        }
+        match Poset::build(alloc, sorts, pairs) {
+            Ok(_) => Ok(0),
+            Err(PosetError::Cycle(sort)) => Ok(sort),
+            Err(PosetError::Memory) => Err(AllocError),
+        }
+    }
+
+    #[test]
+    fn cycles_are_named(rt: HostRuntime) -> Result<(), Fail> {
+        let rows: &[(u32, &[(SortId, SortId)], SortId)] = &[
+            (0, &[], 0),
+            (3, &[(1, 2), (2, 3), (1, 3)], 0),
+            (2, &[(2, 2)], 2),
+            (3, &[(3, 2), (2, 3)], 2),
+            (5, &[(1, 2), (5, 3), (2, 4), (4, 3), (3, 4)], 3),
+        ];
+        for (sorts, pairs, want) in rows {
+            assert_eq!(rt; cycle_of(rt.alloc(), *sorts, *pairs)?, *want, "{pairs:?}");
+        }
+        Ok(())
+    }
+
+    // Zero, NzNat < Nat; Qid; Bird < Animal, Bird < Flyer.
+    #[test]
+    fn sorts_are_ordered(rt: HostRuntime) -> Result<(), Fail> {
+        let pairs: &[(SortId, SortId)] = &[(1, 3), (2, 3), (5, 6), (5, 7)];
+        assert!(rt; are_there(7, pairs));
+        let poset = Poset::build(rt.alloc(), 7, pairs)?;
+        let above: [[bool; 7]; 7] = [
+            [true, false, true, false, false, false, false],
+            [false, true, true, false, false, false, false],
+            [false, false, true, false, false, false, false],
+            [false, false, false, true, false, false, false],
+            [false, false, false, false, true, true, true],
+            [false, false, false, false, false, true, false],
+            [false, false, false, false, false, false, true],
+        ];
+        for (lower, row) in above.iter().enumerate() {
+            for (upper, want) in row.iter().enumerate() {
+                let le = poset.le(lower as u32 + 1, upper as u32 + 1);
+                assert_eq!(rt; le, *want, "{lower} {upper}");
+            }
+        }
+        let kinds: [u32; 7] = [1, 1, 1, 4, 5, 5, 5];
+        for (k, want) in kinds.iter().enumerate() {
+            assert_eq!(rt; poset.kind_of(k as u32 + 1), *want);
+        }
+        let maximal: &[(u32, &[SortId])] = &[(1, &[3]), (4, &[4]), (5, &[6, 7])];
+        for (kind, want) in maximal {
+            if 1 <= *kind && *kind <= 7 {
+                assert_eq!(rt; poset.maximal(rt.alloc(), *kind)?.as_slice(), *want);
+            }
+        }
+        Ok(())
+    }
+}

@@ -1,4 +1,4 @@
-use Rattle.std.proofs.Common.{ap, sym, subst, ℕ, ◌∙◌, length, List}
+use Rattle.std.proofs.Common.{ap, sym, subst, ℕ, ◌∙◌, length}
 use Rattle.std.proofs.lemmas.Bool.{eqb-true, eq-eqb}
 use Rattle.mw_poset.specs.SortOrder.{SortOrder}
 use Rattle.mw_poset.specs.Order.{IsKindOf, IsOnCycle}

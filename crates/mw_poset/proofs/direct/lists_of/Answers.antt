@@ -1,4 +1,3 @@
-use Rattle.std.proofs.Common.{◌∙◌}
 use Rattle.mw_poset.proofs.Steps.{lists_more}
 use Rattle.mw_poset.proofs.direct.lists_of.Goals as goal
 
