@@ -1,9 +1,9 @@
 -- Chains of pairs, and kinds as chains of pairs that are walked either way.
-use Rattle.std.specs.Prelude.{All, map}
+use Rattle.std.specs.Prelude.{map}
 use Rattle.std.proofs.Common.{◌≡◌, ◌⊎◌, ℕ, List, [], ◌∷◌, ap, sym, inl, inr, subst}
 use Rattle.mw_logic.specs.Signature.{Signature, Member, SameKind, same, up, down}
 use Rattle.mw_logic.specs.Sorts.{AtOrBelow}
-use Rattle.mw_poset.specs.Order.{IsSort, IsKindOf}
+use Rattle.mw_poset.specs.Order.{IsSort, ArePairsOf, IsKindOf}
 use Rattle.mw_poset.specs.Tables.{turned_too, IsSymmetric, IsLeastReached}
 use Rattle.mw_poset.proofs.Members.{member-left, member-right, member-append, member-all}
 
@@ -19,11 +19,11 @@ pub passed_on : (P : ℕ → Type 0) {ps : List (ℕ × ℕ)} {S T : ℕ} → ((
 passed_on P h AtOrBelow.same x = x
 passed_on P h (AtOrBelow.above m p) x = passed_on P h p (h _ _ m x)
 
-pub within-pair : (sorts : ℕ) (ps : List (ℕ × ℕ)) → All (λ p. IsSort sorts p.0 × IsSort sorts p.1) ps → (S T : ℕ) → Member (S, T) ps → IsSort sorts S × IsSort sorts T
+pub within-pair : (sorts : ℕ) (ps : List (ℕ × ℕ)) → ArePairsOf sorts ps → (S T : ℕ) → Member (S, T) ps → IsSort sorts S × IsSort sorts T
 within-pair sorts ps a S T m = member-all (λ (p : ℕ × ℕ). IsSort sorts p.0 × IsSort sorts p.1) ps a (S, T) m
 
 -- a chain from a sort that is there ends at one
-pub within-chain : (sorts : ℕ) (ps : List (ℕ × ℕ)) → All (λ p. IsSort sorts p.0 × IsSort sorts p.1) ps → {S T : ℕ} → AtOrBelow ps S T → IsSort sorts S → IsSort sorts T
+pub within-chain : (sorts : ℕ) (ps : List (ℕ × ℕ)) → ArePairsOf sorts ps → {S T : ℕ} → AtOrBelow ps S T → IsSort sorts S → IsSort sorts T
 within-chain sorts ps a p x = passed_on (λ (S : ℕ). IsSort sorts S) (λ A B m y. (within-pair sorts ps a A B m).1) p x
 
 -- where each pair can be walked either way, so can a chain

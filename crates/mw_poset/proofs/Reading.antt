@@ -9,7 +9,7 @@ use Rattle.mw_logic.specs.Signature.{Signature, Member, SameKind}
 use Rattle.mw_logic.specs.Sorts.{AtOrBelow}
 use Rattle.mw_logic.proofs.KindLaws.{SameKind-trans, SameKind-sym}
 use Rattle.mw_poset.specs.SortOrder.{SortOrder}
-use Rattle.mw_poset.specs.Order.{IsSort, IsOnCycle, IsKindOf, IsMaximalIn}
+use Rattle.mw_poset.specs.Order.{IsSort, ArePairsOf, IsOnCycle, IsKindOf, IsMaximalIn}
 use Rattle.mw_poset.specs.Tables.{IsRow, IsTable, IsSymmetric, NamesMarked, IsLeastReached, AreLeastReached, supersorts}
 use Rattle.mw_poset.proofs.Members.{member-at, member-all, member-left, member-last, member-push, supersorts-member, member-supersorts}
 use Rattle.mw_poset.proofs.Chains.{AtOrBelow-trans, AtOrBelow-turned, within-pair}
@@ -46,7 +46,7 @@ on_cycle ps S T m p = record { next = T; pair = supersorts-member ps S T m; back
 pub no_cycle : (ps : List (ℕ × ℕ)) (S : ℕ) → All (λ T. AtOrBelow ps T S → ⊥) (supersorts ps S) → IsOnCycle ps S → ⊥
 no_cycle ps S a h = member-all (λ (T : ℕ). AtOrBelow ps T S → ⊥) (supersorts ps S) a h.next (member-supersorts ps S h.next h.pair) h.back
 
-pub cycle-within : (sorts : ℕ) (ps : List (ℕ × ℕ)) → All (λ p. IsSort sorts p.0 × IsSort sorts p.1) ps → (S : ℕ) → IsOnCycle ps S → IsSort sorts S
+pub cycle-within : (sorts : ℕ) (ps : List (ℕ × ℕ)) → ArePairsOf sorts ps → (S : ℕ) → IsOnCycle ps S → IsSort sorts S
 cycle-within sorts ps a S h = (within-pair sorts ps a S h.next h.pair).0
 
 -- the first sorts have the least that they are connected with; what the others are connected with comes later

@@ -7,7 +7,7 @@ use Rattle.std.proofs.lemmas.Bool.{cases_eq, ne_eqb}
 use Rattle.mw_logic.specs.Signature.{Member}
 use Rattle.mw_logic.specs.Sorts.{AtOrBelow}
 use Rattle.mw_poset.specs.SortOrder.{SortOrder}
-use Rattle.mw_poset.specs.Order.{IsSort, IsOnCycle, IsKindOf, IsMaximalIn}
+use Rattle.mw_poset.specs.Order.{IsSort, ArePairsOf, IsOnCycle, IsKindOf, IsMaximalIn}
 use Rattle.mw_poset.specs.Tables.{AreListsOf, AreLinks, IsMarked, IsRow, IsTable, IsSymmetric, NamesMarked, IsLeastReached, AreLeastReached, IsPoset, supersorts, turned_too}
 use Rattle.mw_poset.specs.Search.{Marks}
 use Rattle.mw_poset.proofs.Members.{member-at, member-last, supersorts-member, supersorts-push_same, supersorts-push_other}
@@ -109,13 +109,13 @@ pub no_cycle_left : (ps : List (ℕ × ℕ)) (S i : ℕ) (above : List ℕ) → 
 no_cycle_left ps S i above e l h = no_cycle ps S (subst (λ (xs : List ℕ). All (λ (T : ℕ). AtOrBelow ps T S → ⊥) xs) (take_all i (supersorts ps S) (subst (λ (xs : List ℕ). length xs ≤ i) e l)) h)
 
 -- pairs turned round are of the same sorts
-pub turned-within : (sorts : ℕ) (ps both : List (ℕ × ℕ)) → All (λ p. IsSort sorts p.0 × IsSort sorts p.1) ps → both ≡ turned_too ps → All (λ p. IsSort sorts p.0 × IsSort sorts p.1) both
+pub turned-within : (sorts : ℕ) (ps both : List (ℕ × ℕ)) → ArePairsOf sorts ps → both ≡ turned_too ps → ArePairsOf sorts both
 turned-within sorts ps both h e k d l =
     let p : ℕ × ℕ = get_or both k d in
     let m : Member {X = ℕ × ℕ} (p.0, p.1) (turned_too ps) = subst (λ (xs : List (ℕ × ℕ)). Member {X = ℕ × ℕ} p xs) e (member-at both k d l) in
     elim (turned_too-member ps p.0 p.1 m) [ inl i ↦ within-pair sorts ps h p.0 p.1 i | inr i ↦ let q = within-pair sorts ps h p.1 p.0 i in (q.1, q.0) ]
 
-pub kinds_begun : (order : SortOrder) (kinds : List ℕ) → All (λ p. IsSort order.sorts p.0 × IsSort order.sorts p.1) order.pairs → kinds ≡ replicate order.sorts 0 → KindsSoFar order 0 kinds
+pub kinds_begun : (order : SortOrder) (kinds : List ℕ) → ArePairsOf order.sorts order.pairs → kinds ≡ replicate order.sorts 0 → KindsSoFar order 0 kinds
 kinds_begun order kinds a e = record {
   size = ap (λ (xs : List ℕ). length xs) e ∙ length-replicate order.sorts 0;
   named = λ j l n. absurd (n (ap (λ (xs : List ℕ). get_or xs j 0) e ∙ get_or-replicate order.sorts j 0 0 l));
@@ -166,7 +166,7 @@ maximal_begun order kind found within e = rw e none
     }
 
 -- a sort of the kind of one that is there is there
-pub maximal-within : (order : SortOrder) (kind T : ℕ) → All (λ p. IsSort order.sorts p.0 × IsSort order.sorts p.1) order.pairs → IsSort order.sorts kind → IsMaximalIn order.pairs kind T → IsSort order.sorts T
+pub maximal-within : (order : SortOrder) (kind T : ℕ) → ArePairsOf order.sorts order.pairs → IsSort order.sorts kind → IsMaximalIn order.pairs kind T → IsSort order.sorts T
 maximal-within order kind T a s m =
     passed_on (λ (S : ℕ). IsSort order.sorts S)
     (λ A B i x. elim (turned_too-member order.pairs A B i) [ inl j ↦ (within-pair order.sorts order.pairs a A B j).1 | inr j ↦ (within-pair order.sorts order.pairs a B A j).0 ])

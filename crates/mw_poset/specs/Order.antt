@@ -1,5 +1,5 @@
 -- What subsort pairs say: cycles, kinds and maximal sorts.
-use Rattle.std.specs.Prelude.{ℕ, ◌≡◌, ◌≤◌, List}
+use Rattle.std.specs.Prelude.{ℕ, ◌≡◌, ◌≤◌, List, All}
 use Rattle.mw_logic.specs.Signature.{Signature, Member, SameKind}
 use Rattle.mw_logic.specs.Sorts.{AtOrBelow}
 
@@ -7,12 +7,17 @@ use Rattle.mw_logic.specs.Sorts.{AtOrBelow}
 abbrev pub IsSort : ℕ → ℕ → Type 0
 IsSort sorts S = (1 ≤ S) × (S ≤ sorts)
 
+-- each pair is of two of so many sorts
+abbrev pub ArePairsOf : ℕ → List (ℕ × ℕ) → Type 0
+ArePairsOf sorts pairs = All (λ p. IsSort sorts p.0 × IsSort sorts p.1) pairs
+
 -- a chain of at least one pair leads from S back to S
 pub record IsOnCycle (pairs : List (ℕ × ℕ)) (S : ℕ) : Type 0 where
   pub next : ℕ
   pub pair : Member (S, next) pairs
   pub back : AtOrBelow pairs next S
 
+-- no sort on a cycle is below S in number, and S is on one
 pub record IsLeastOnCycle (pairs : List (ℕ × ℕ)) (S : ℕ) : Type 0 where
   pub on : IsOnCycle pairs S
   pub least : (T : ℕ) → IsOnCycle pairs T → S ≤ T

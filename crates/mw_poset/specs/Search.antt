@@ -7,6 +7,7 @@ use Rattle.mw_poset.specs.Tables.{IsMarked}
 abbrev pub unmarked : List Bool → ℕ
 unmarked row = sum_by (λ b. if b then 0 else 1) row
 
+-- From the old marks to the new ones: these sorts are marked besides, and those of them that were not marked before wait, behind those that waited.
 pub record Marks (sorts : List ℕ) (old new : List Bool) (waited waiting : List ℕ) : Type 0 where
   pub kept : (S : ℕ) → IsMarked old S → IsMarked new S
   pub all : (S : ℕ) → Member S sorts → IsMarked new S

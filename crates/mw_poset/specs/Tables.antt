@@ -1,9 +1,9 @@
 -- What a poset keeps: lists of direct supersorts, a table of marks, and the kinds.
-use Rattle.std.specs.Prelude.{ℕ, zero, suc, ◌≡◌, ◌+◌, ◌*◌, ◌<◌, ◌≤◌, ◌↔◌, List, [], ◌∷◌, ◌++◌, length, map, Bool, true, false, All, nat_eq, slice_index, slice_index_or, if◌then◌else◌}
+use Rattle.std.specs.Prelude.{ℕ, zero, suc, ◌≡◌, ◌+◌, ◌*◌, ◌<◌, ◌≤◌, ◌↔◌, List, [], ◌∷◌, ◌++◌, length, map, Bool, true, false, nat_eq, slice_index, slice_index_or, if◌then◌else◌}
 use Rattle.mw_logic.specs.Signature.{Member}
 use Rattle.mw_logic.specs.Sorts.{AtOrBelow}
 use Rattle.mw_poset.specs.SortOrder.{SortOrder}
-use Rattle.mw_poset.specs.Order.{IsSort, IsOnCycle, IsKindOf}
+use Rattle.mw_poset.specs.Order.{ArePairsOf, IsOnCycle, IsKindOf}
 
 -- the sorts directly above S, in the order of the pairs
 abbrev pub supersorts : List (ℕ × ℕ) → ℕ → List ℕ
@@ -23,9 +23,10 @@ pub record AreListsOf (sorts : ℕ) (pairs : List (ℕ × ℕ)) (above : List (L
   pub size : length above ≡ sorts
   pub direct : (k : ℕ) → k < sorts → slice_index_or above k [] ≡ supersorts pairs (suc k)
 
+-- what is kept with the pairs, whose sorts are all there
 pub record AreLinks (sorts : ℕ) (pairs : List (ℕ × ℕ)) (above : List (List ℕ)) : Type 0 where
   pub lists : AreListsOf sorts pairs above
-  pub within : All (λ p. IsSort sorts p.0 × IsSort sorts p.1) pairs
+  pub within : ArePairsOf sorts pairs
 
 -- S is marked in a row, which has a place for each sort
 abbrev pub IsMarked : List Bool → ℕ → Type 0
@@ -52,6 +53,7 @@ pub record IsLeastReached (pairs : List (ℕ × ℕ)) (S K : ℕ) : Type 0 where
   pub reached : AtOrBelow pairs S K
   pub least : (T : ℕ) → AtOrBelow pairs S T → K ≤ T
 
+-- of each sort the least that is at or above it
 pub record AreLeastReached (order : SortOrder) (kinds : List ℕ) : Type 0 where
   pub size : length kinds ≡ order.sorts
   pub exact : (k : ℕ) → k < order.sorts → IsLeastReached order.pairs (suc k) (slice_index kinds k)

@@ -1,6 +1,6 @@
 // The sorts directly above each sort, as lists.
 ghost use Rattle.std.specs.Prelude.{◌≡◌, ℕ, ◌+◌, ◌-◌, ◌<◌, ◌≤◌, List, [], ◌∷◌, ◌++◌, length, All, IfOk, OnOk};
-ghost use Rattle.mw_poset.specs.Order.{IsSort};
+ghost use Rattle.mw_poset.specs.Order.{IsSort, ArePairsOf};
 ghost use Rattle.mw_poset.specs.Tables.{supersorts, turned_too, AreListsOf};
 
 use crate::SortId;
@@ -64,7 +64,7 @@ impl Model for Links {
 
 impl Links {
     pub fn of(alloc: Global, sorts: u32, pairs: &[(SortId, SortId)]) -> Result<Links, AllocError>
-        requires { All (λ p. IsSort sorts p.0 × IsSort sorts p.1) pairs.now }
+        requires { ArePairsOf sorts pairs.now }
         ensures sorts { IfOk result (λ l. l.sorts ≡ sorts) }
         ensures pairs { IfOk result (λ l. l.pairs ≡ pairs.now) }
     {
@@ -78,7 +78,7 @@ impl Links {
 
     pub fn sorts(&self) -> u32
         ensures sorts { result ≡ self.now.sorts }
-        ensures within { All (λ p. IsSort self.now.sorts p.0 × IsSort self.now.sorts p.1) self.now.pairs }
+        ensures within { ArePairsOf self.now.sorts self.now.pairs }
     {
         self.sorts
     }
@@ -110,7 +110,7 @@ fn lists_of(
     sorts: u32,
     pairs: &[(SortId, SortId)],
 ) -> Result<Vec<Supersorts>, AllocError>
-    requires { All (λ p. IsSort sorts p.0 × IsSort sorts p.1) pairs.now }
+    requires { ArePairsOf sorts pairs.now }
     ensures { IfOk result (λ lists. AreListsOf sorts pairs.now lists.items) }
 {
     let mut lists = empty_lists(alloc, sorts)?;
@@ -123,7 +123,7 @@ fn lists_of(
 
 // The pairs and, of each, the pair turned round.
 pub fn both_ways(alloc: Global, sorts: u32, pairs: &[(SortId, SortId)]) -> Result<Links, AllocError>
-    requires { All (λ p. IsSort sorts p.0 × IsSort sorts p.1) pairs.now }
+    requires { ArePairsOf sorts pairs.now }
     ensures sorts { IfOk result (λ l. l.sorts ≡ sorts) }
     ensures pairs { IfOk result (λ l. l.pairs ≡ turned_too pairs.now) }
 {

@@ -12,7 +12,7 @@ ghost use Rattle.std.specs.Prelude.{◌≡◌, ℕ, ◌+◌, ◌-◌, ◌<◌, �
 ghost use Rattle.std.specs.List.Sorted.{IsStrictlyIncreasing};
 ghost use Rattle.mw_logic.specs.Signature.{Member};
 ghost use Rattle.mw_logic.specs.Sorts.{AtOrBelow};
-ghost use Rattle.mw_poset.specs.Order.{IsSort, IsOnCycle, IsLeastOnCycle, IsKindOf, IsMaximalIn};
+ghost use Rattle.mw_poset.specs.Order.{IsSort, ArePairsOf, IsOnCycle, IsLeastOnCycle, IsKindOf, IsMaximalIn};
 
 use direct::{Links, both_ways};
 use search::{is_marked_above, kinds_of, least_on_cycle, table_of};
@@ -65,7 +65,7 @@ impl Model for Poset {
 impl Poset {
     /// A pair is a sort and one directly above it. A pair of a sort and itself is a cycle.
     pub fn build(alloc: Global, sorts: u32, pairs: &[(SortId, SortId)]) -> Result<Poset, PosetError>
-        requires { All (λ p. IsSort sorts p.0 × IsSort sorts p.1) pairs.now }
+        requires { ArePairsOf sorts pairs.now }
         ensures sorts { IfOk result (λ p. p.sorts ≡ sorts) }
         ensures pairs { IfOk result (λ p. p.pairs ≡ pairs.now) }
         ensures acyclic { OnOk result ((S : ℕ) → ¬ IsOnCycle pairs.now S) }
@@ -134,7 +134,7 @@ mod tests {
     use std::test::Fail;
 
     fn are_there(sorts: u32, pairs: &[(SortId, SortId)]) -> bool
-        ensures { IsTrue result → All (λ p. IsSort sorts p.0 × IsSort sorts p.1) pairs.now }
+        ensures { IsTrue result → ArePairsOf sorts pairs.now }
     {
         for (lower, upper) in pairs {
             if *lower < 1 || sorts < *lower || *upper < 1 || sorts < *upper {

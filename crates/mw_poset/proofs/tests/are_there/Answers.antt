@@ -1,8 +1,7 @@
 use Rattle.std.proofs.Common.{ℕ, List, subst, arith}
-use Rattle.std.specs.Prelude.{All}
 use Rattle.std.proofs.lemmas.List.{take_all}
 use Rattle.std.proofs.lemmas.List.Elements.{All-more}
-use Rattle.mw_poset.specs.Order.{IsSort}
+use Rattle.mw_poset.specs.Order.{IsSort, ArePairsOf}
 use Rattle.mw_poset.proofs.tests.are_there.Goals as goal
 
 pub loop-lower-preserved : goal.loop-lower-preserved
@@ -12,5 +11,5 @@ loop-lower-preserved c =
 
 pub returns : goal.returns
 returns c = λ _.
-    subst (λ (ps : List (ℕ × ℕ)). All (λ p. IsSort c.args.sorts p.0 × IsSort c.args.sorts p.1) ps)
+    subst (λ (ps : List (ℕ × ℕ)). ArePairsOf c.args.sorts ps)
     (take_all c.loop-lower.lower-index c.args.pairs.now c.loop-lower-test.false) c.loop-lower.invariant
