@@ -13,7 +13,7 @@ pub data Fragment : Type 0 where
   is_true : RawTerm → Fragment
 
 -- An equation or a rule, from left to right where its condition holds. A `nonexec` one is not executable. An `owise` equation applies where no
--- other does (R15).
+-- other does.
 pub record Statement : Type 0 where
   pub left : RawTerm
   pub right : RawTerm
@@ -38,7 +38,7 @@ pub record Module : Type 0 where
   pub signature : Signature
   pub statements : List Statement
 
--- D7. The statement of this number, counted from 1.
+-- The statement of this number, counted from 1.
 pub record IsStatement (M : Module) (k : ℕ) (st : Statement) : Type 0 where
   pub is_there : at_number M.statements k ≡ Some st
   pub executable : IsTrue st.executable
@@ -84,7 +84,7 @@ abbrev pub by_nonzero : ℕ → Result → Result
 by_nonzero zero r = nothing
 by_nonzero (suc n) r = r
 
--- D7 and the table of schemata: what a built-in operator gives of m and n
+-- What a built-in operator gives of m and n
 abbrev pub result_of : BuiltIn → ℕ → ℕ → Result
 result_of plus m n = bounded (m + n)
 result_of times m n = bounded (m * n)
@@ -145,7 +145,7 @@ pub data MeetsRow (sig : Signature) : RawTerm → Type 0 where
   an_equality : {f : ℕ} {u v : RawTerm} → IsPolymorphic sig f (codes "_==_") → MeetsRow sig (binary f u v)
   an_inequality : {f : ℕ} {u v : RawTerm} → IsPolymorphic sig f (codes "_=/=_") → MeetsRow sig (binary f u v)
 
--- D7. A pair of numerals whose sum or product is 2^128 or more.
+-- A pair of numerals whose sum or product is 2^128 or more.
 pub record IsTooBigPair (sig : Signature) (t : RawTerm) : Type 0 where
   pub operator : ℕ
   pub m : ℕ

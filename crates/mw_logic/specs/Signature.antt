@@ -76,7 +76,7 @@ pub data HasKind (sig : Signature) : RawTerm → ℕ → Type 0 where
   of_variable : {x : Variable} {K : ℕ} → SameKind sig x.sort K → HasKind sig (variable x) K
   of_operator : {f K : ℕ} {ts : RawTerms} (o : Operator) → IsOperator sig f o → SameKind sig o.result K → HasKind sig (apply f ts) K
 
--- D1. Numerals are below 2^128, and an operator stands on arguments of its kinds.
+-- Numerals are below 2^128, and an operator stands on arguments of its kinds.
 mutual
   pub data IsRawTerm (sig : Signature) : RawTerm → Type 0 where
     a_numeral : {n : ℕ} → IsTrue sig.nat → n < 2 ^ 128 → IsRawTerm sig (numeral n)
