@@ -52,9 +52,9 @@ pub data BuiltIn : Type 0 where
   remainder : BuiltIn
   least : BuiltIn
   greatest : BuiltIn
-  less : BuiltIn
+  less_than : BuiltIn
   at_most : BuiltIn
-  more : BuiltIn
+  more_than : BuiltIn
   at_least : BuiltIn
 
 abbrev pub spelling_of : BuiltIn → List ℕ
@@ -65,9 +65,9 @@ spelling_of quotient = codes "_quo_"
 spelling_of remainder = codes "_rem_"
 spelling_of least = codes "min"
 spelling_of greatest = codes "max"
-spelling_of less = codes "_<_"
+spelling_of less_than = codes "_<_"
 spelling_of at_most = codes "_<=_"
-spelling_of more = codes "_>_"
+spelling_of more_than = codes "_>_"
 spelling_of at_least = codes "_>=_"
 
 -- a number, a truth value, nothing at all, or a number that is too big
@@ -93,9 +93,9 @@ result_of quotient m n = by_nonzero n (number (m / n))
 result_of remainder m n = by_nonzero n (number (m % n))
 result_of least m n = number (min m n)
 result_of greatest m n = number (max m n)
-result_of less m n = truth (nat_lt m n)
+result_of less_than m n = truth (nat_lt m n)
 result_of at_most m n = truth (nat_le m n)
-result_of more m n = truth (nat_lt n m)
+result_of more_than m n = truth (nat_lt n m)
 result_of at_least m n = truth (nat_le n m)
 
 -- the kinds are those of the sorts of these names
