@@ -1,9 +1,9 @@
 -- The normal form tried on SET (associative, commutative, with an identity) and on numbers.
-use Rattle.std.specs.Prelude.{◌≡◌, ℕ, zero, suc, ◌-◌, ◌^◌, true, false, List, [], ◌∷◌, Some, None, codes, refl, IsTrue}
+use Rattle.std.specs.Prelude.{◌≡◌, ◌↔◌, ◌||◌, ℕ, zero, suc, ◌-◌, ◌^◌, true, false, List, [], ◌∷◌, Some, None, codes, refl, IsTrue}
 use Rattle.std.proofs.Common.{arith, ap, subst, sym, ◌∙◌}
 use Rattle.std.proofs.lemmas.Bool.{both_ways}
 use Rattle.mw_logic.specs.Term.{numeral, variable, apply, nil, cons, binary, unary}
-use Rattle.mw_logic.specs.Signature.{Signature, Operator, SameKind, same, HasKind, of_operator, IsRawTerm, an_operator, end, Identity, constant_of, numeral_of, identity_term, IsOperator, at_number}
+use Rattle.mw_logic.specs.Signature.{Signature, Operator, SameKind, same, HasKind, of_operator, IsRawTerm, an_operator, end, Identity, constant_of, numeral_of, identity_term, IsOperator, Member, at_number}
 use Rattle.mw_logic.specs.Axioms.{EqualModulo}
 use Rattle.mw_logic.specs.Accepted.{IsAccepted}
 use Rattle.mw_logic.specs.Kinds.{is_successor}
@@ -24,6 +24,7 @@ accepted = record {
   assoc = of_assoc;
   comm = of_comm;
   identity = of_identity;
+  frozen = none_frozen;
   sorts_differ = differ;
 }
   where
@@ -58,6 +59,14 @@ accepted = record {
         subst (λ (o : Operator). IsTrue o.assoc × IsRawTerm sig mt × HasKind sig mt o.result) (some_inj e) (refl, an_operator _ refl end, of_operator _ refl same) in
         subst (λ (i : Identity). IsTrue o.assoc × IsRawTerm sig (identity_term i) × HasKind sig (identity_term i) o.result) named there
     of_identity (suc (suc (suc (suc (suc n))))) o i e h = cc
+
+    none_frozen : (f : ℕ) (o : Operator) → IsOperator sig f o → IsTrue (o.assoc || o.comm) → (Member 1 o.frozen ↔ Member 2 o.frozen)
+    none_frozen zero o e h = cc
+    none_frozen (suc zero) o e h = subst (λ (o : Operator). Member 1 o.frozen ↔ Member 2 o.frozen) (some_inj e) (λ m. m, λ m. m)
+    none_frozen (suc (suc zero)) o e h = subst (λ (o : Operator). Member 1 o.frozen ↔ Member 2 o.frozen) (some_inj e) (λ m. m, λ m. m)
+    none_frozen (suc (suc (suc zero))) o e h = subst (λ (o : Operator). Member 1 o.frozen ↔ Member 2 o.frozen) (some_inj e) (λ m. m, λ m. m)
+    none_frozen (suc (suc (suc (suc zero)))) o e h = subst (λ (o : Operator). Member 1 o.frozen ↔ Member 2 o.frozen) (some_inj e) (λ m. m, λ m. m)
+    none_frozen (suc (suc (suc (suc (suc n))))) o e h = cc
 
     letters : codes "E" ≡ codes "S" → ⊥
     letters e = let k : ◌≡◌ {A = ℕ} 69 83 = first_inj e in omega arith
