@@ -1,0 +1,2 @@
+-- Laws of terms in lists.
+pub mod Terms

@@ -1,0 +1,7 @@
+-- What the types of this crate stand for.
+pub mod Raws
+pub mod RawFalls
+pub mod Shapes
+pub mod TermFalls
+pub mod Signatures
+pub mod Statements

@@ -1,0 +1,21 @@
+-- An argument is smaller than its term, by twice the depth.
+use Rattle.std.specs.Prelude.{◌+◌, ◌*◌, ◌≤◌, List, [], ◌∷◌}
+use Rattle.std.proofs.Common.{arith}
+use denote.Param.Weighed.{most}
+use Rattle.mw_term.specs.declared.term.Shape.{Shape}
+use Rattle.mw_term.specs.declared.term.Shape.TheVariants.{Nat, Qid, Var, Op}
+use Rattle.mw_term.specs.declared.term.Term.TheDeep.{deep-Shape}
+use Rattle.mw_logic.specs.Term.{RawTerm}
+use Rattle.mw_logic.specs.Terms.{terms_of}
+use Rattle.mw_logic.specs.NormalForm.{height, highest}
+use Rattle.mw_term.specs.Shapes.{shaped}
+
+pub terms_fall : (ts : List RawTerm) → most (λ t. 2 * height t + 1) ts ≤ 2 * highest (terms_of ts) + 1
+terms_fall [] = omega arith
+terms_fall (t ∷ ts) = omega (arith, terms_fall ts)
+
+pub shape_falls : (s : Shape) → deep-Shape s ≤ 2 * height (shaped s)
+shape_falls (Nat n) = omega arith
+shape_falls (Qid q) = omega arith
+shape_falls (Var x) = omega arith
+shape_falls (Op f ts) = omega (arith, terms_fall ts.items)

@@ -1,0 +1,157 @@
+// Terms that share their parts.
+ghost use Rattle.std.specs.Prelude.{◌≡◌, ◌↔◌, ◌+◌, ◌-◌, ◌^◌, List, min, IfOk, IsTrue};
+ghost use Rattle.mw_logic.specs.Term.{RawTerm, numeral, quoted, variable, apply as applied};
+ghost use Rattle.mw_logic.specs.Terms.{terms_of};
+ghost use Rattle.mw_logic.specs.NormalForm.{height, highest};
+ghost use Rattle.mw_term.specs.Shapes.{shaped};
+
+use crate::{Name, OpId, VarId};
+use std::alloc::{AllocError, Global};
+use std::marker::Model;
+use std::sync::Arc;
+
+/// A term in canonical form, ground or not: the arguments of an associative operator are flattened, those of a
+/// commutative one ascend. Its parts are shared, so a copy is one count, and it may go to another thread. Its
+/// depth is kept.
+#[derive(Drop)]
+#[cycle(term)]
+pub struct Term {
+    node: Arc<Node>,
+}
+
+#[derive(Drop)]
+#[cycle(term)]
+struct Node {
+    depth: u32,
+    shape: Shape,
+}
+
+/// What stands on top of a term.
+#[derive(Drop)]
+#[cycle(term)]
+pub enum Shape {
+    /// A numeral.
+    Nat(u128),
+    /// A quoted identifier, by its bytes after the quote.
+    Qid(Name),
+    /// A variable.
+    Var(VarId),
+    /// An operator on its arguments.
+    Op(OpId, Vec<Term>),
+}
+
+impl Model for Term {
+    ghost use Rattle.std.specs.Prelude.{◌≡◌, ◌*◌, ◌-◌, ◌^◌, min};
+    ghost use Rattle.mw_logic.specs.Term.{RawTerm};
+    ghost use Rattle.mw_logic.specs.TermCode.{coded_term};
+    ghost use Rattle.mw_logic.specs.NormalForm.{height};
+
+    ghost Value = { RawTerm };
+
+    ghost coded = { coded_term };
+
+    ghost use Rattle.mw_term.specs.Shapes.{shaped};
+
+    ghost view = { λ t. shaped t.node.value.shape };
+
+    ghost invariant = { λ t. t.node.value.depth ≡ min (height (shaped t.node.value.shape)) (2 ^ 32 - 1) };
+
+    ghost size = { λ t. 2 * height t };
+
+    ghost use Rattle.std.proofs.Common.{arith};
+    ghost use Rattle.mw_term.specs.TermFalls.{shape_falls};
+
+    ghost size_decreases = { λ a h. Prim.omega (arith, shape_falls a.node.value.shape) };
+}
+
+impl Term {
+    /// The term with this on top.
+    pub fn new(alloc: Global, shape: Shape) -> Result<Term, AllocError>
+        ensures { IfOk result (λ t. t ≡ shaped shape) }
+    {
+        let depth = depth_of(&shape);
+        let node = Arc::new(alloc, Node { depth, shape }).map_err(AllocError::from)?;
+        Ok(Term { node })
+    }
+
+    /// The operator on these arguments.
+    pub fn apply(alloc: Global, operator: OpId, args: Vec<Term>) -> Result<Term, AllocError>
+        ensures { IfOk result (λ t. t ≡ applied operator (terms_of args.items)) }
+    {
+        Term::new(alloc, Shape::Op(operator, args))
+    }
+
+    /// What stands on top.
+    pub fn shape(&self) -> &Shape
+        ensures { self.now ≡ shaped result.now }
+    {
+        &self.node.shape
+    }
+}
+
+/// How deep a term is: a constant, a numeral, a quoted identifier and a variable have 1, an operator one more
+/// than its deepest argument. Where that is more than 2^32 - 1, it is 2^32 - 1. It is kept, so this is no walk.
+pub fn depth(term: &Term) -> u32
+    ensures { result ≡ min (height term.now) (2 ^ 32 - 1) }
+{
+    term.node.depth
+}
+
+/// The same term again, by one count. It fails only where 2^63 copies are held.
+pub fn copy(term: &Term) -> Result<Term, AllocError>
+    ensures { IfOk result (λ t. t ≡ term.now) }
+{
+    let node = Arc::try_clone(&term.node)?;
+    Ok(Term { node })
+}
+
+/// Whether two terms are equal.
+#[cycle(same)]
+pub fn same(a: &Term, b: &Term) -> bool
+    ensures { IsTrue result ↔ (a.now ≡ b.now) }
+{
+    match (&a.node.shape, &b.node.shape) {
+        (Shape::Nat(m), Shape::Nat(n)) => m == n,
+        (Shape::Qid(p), Shape::Qid(q)) => p.as_slice() == q.as_slice(),
+        (Shape::Var(x), Shape::Var(y)) => {
+            x.sort == y.sort && x.name.as_slice() == y.name.as_slice()
+        }
+        (Shape::Op(f, ts), Shape::Op(g, us)) => f == g && all_same(ts, us),
+        _ => false,
+    }
+}
+
+#[cycle(same)]
+fn all_same(a: &[Term], b: &[Term]) -> bool
+    ensures { IsTrue result ↔ (terms_of a.now ≡ terms_of b.now) }
+{
+    let n = a.len();
+    if n != b.len() {
+        return false;
+    }
+    for i in 0..n {
+        if !same(&a[i], &b[i]) {
+            return false;
+        }
+    }
+    true
+}
+
+fn depth_of(shape: &Shape) -> u32
+    ensures { result ≡ min (height (shaped shape.now)) (2 ^ 32 - 1) }
+{
+    match shape {
+        Shape::Op(_, args) => deepest(args.as_slice()).saturating_add(1),
+        _ => 1,
+    }
+}
+
+fn deepest(args: &[Term]) -> u32
+    ensures { result ≡ min (highest (terms_of args.now)) (2 ^ 32 - 1) }
+{
+    let mut most = 0;
+    for t in args {
+        most = most.max(depth(t));
+    }
+    most
+}
