@@ -195,7 +195,7 @@ module _ (sig : Signature) where
         of_frozen : (not (o.assoc || o.comm) || agree (is_member 1 o.frozen) (is_member 2 o.frozen)) ≡ true
         of_frozen =
             implied_from _ _ (λ a. let p : (Member 1 o.frozen ↔ Member 2 o.frozen) = ok.frozen (suc j) o e a in
-              agree-from _ _ (λ m. member-from 2 o.frozen (p.0 (member-true 1 o.frozen m))) (λ m. member-from 1 o.frozen (p.1 (member-true 2 o.frozen m))))
+            agree-from _ _ (λ m. member-from 2 o.frozen (p.0 (member-true 1 o.frozen m))) (λ m. member-from 1 o.frozen (p.1 (member-true 2 o.frozen m))))
 
     -- an accepted signature passes
     pub is_accepted-complete : is_accepted sig ≡ true
