@@ -1,8 +1,8 @@
 -- Proofs are built: under an operator, in a context, by a statement or a row at a part. What they count is what their one replacement counts.
-use Rattle.std.specs.Prelude.{◌≡◌, ℕ, zero, suc, ◌+◌, List, [], ◌∷◌, ◌++◌, Bool, true, false, cond, refl}
-use Rattle.std.proofs.Common.{arith, ap, subst, sym, ◌∙◌, append-nil}
-use Rattle.mw_logic.specs.Term.{RawTerm, apply, RawTerms, nil, cons, join, Frame, Context, plug}
-use Rattle.mw_logic.specs.Axioms.{EqualModulo, done}
+use Rattle.std.specs.Prelude.{◌≡◌, ℕ, zero, suc, List, [], ◌∷◌, ◌++◌, Bool, false, refl}
+use Rattle.std.proofs.Common.{arith, subst, sym, ◌∙◌, append-nil}
+use Rattle.mw_logic.specs.Term.{RawTerm, RawTerms, nil, cons, join, Frame, Context, plug}
+use Rattle.mw_logic.specs.Axioms.{done}
 use Rattle.mw_logic.specs.Substitution.{Substitution}
 use Rattle.mw_logic.specs.Parts.{ReplacesPart}
 use Rattle.mw_logic.specs.Module.{Fragment, Module, Row}
@@ -40,9 +40,16 @@ module _ (M : Module) (Step : StepTest) (H : List Fragment → Substitution → 
       LeadsIn M Step H F C f finished (beside before p after) (join before (cons t after)) (join before (cons u after))
   beside_leads C f finished nil p t u after l =
       (t, u, after, after, refl, refl, subst (λ b. Leads M Step H F (record { operator = f; before = b; after = after } ∷ C) p t u) (join-nil finished) l, untouched_leads C f (join finished (cons u nil)) after)
-  beside_leads C f finished (cons b before) p t u after l =
-      (b, b, join before (cons t after), join before (cons u after), refl, refl, refl,
-       beside_leads C f (join finished (cons b nil)) before p t u after (subst (λ d. Leads M Step H F (record { operator = f; before = d; after = after } ∷ C) p t u) (sym (join_assoc finished (cons b nil) before)) l))
+  beside_leads C f finished (cons b before) p t u after l = (
+    b,
+    b,
+    join before (cons t after),
+    join before (cons u after),
+    refl,
+    refl,
+    refl,
+    beside_leads C f (join finished (cons b nil)) before p t u after (subst (λ d. Leads M Step H F (record { operator = f; before = d; after = after } ∷ C) p t u) (sym (join_assoc finished (cons b nil) before)) l),
+  )
 
   -- a proof with one more frame round it leads from the frame with its first term to the frame with its last
   pub under_frame_leads : (c : Frame) (C : Context) (p : Proof) (t u : RawTerm) → Leads M Step H F (c ∷ C) p t u → Leads M Step H F C (under_frame c p) (plug (c ∷ []) t) (plug (c ∷ []) u)

@@ -1,5 +1,5 @@
 -- What proofs count: rules are among the replacements, and these among all; counts add up along a transitivity, so equational proofs join.
-use Rattle.std.specs.Prelude.{◌≡◌, ℕ, ◌+◌, ◌≤◌, Bool, true, false, refl}
+use Rattle.std.specs.Prelude.{◌≡◌, ℕ, ◌+◌, ◌≤◌, true, false, refl}
 use Rattle.std.proofs.Common.{arith}
 use Rattle.mw_logic.specs.Term.{RawTerm}
 use Rattle.mw_logic.specs.Axioms.{EqualModulo}

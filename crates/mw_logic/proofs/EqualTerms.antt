@@ -1,14 +1,14 @@
 -- What is said of a term is said of each equal one: its parts, its limits, whether it is ground, admitted, plain, normal or final.
-use Rattle.std.specs.Prelude.{◌≡◌, ℕ, zero, suc, Bool, true, false, ◌&&◌, refl, IsTrue}
+use Rattle.std.specs.Prelude.{◌≡◌, ℕ, zero, suc, Bool, true, false, ◌&&◌, refl}
 use Rattle.std.proofs.Common.{ap, sym, ◌∙◌}
-use Rattle.mw_logic.specs.Term.{RawTerm, RawTerms, cons, is_ground, are_ground, Context}
+use Rattle.mw_logic.specs.Term.{RawTerm, RawTerms, is_ground, are_ground, Context}
 use Rattle.mw_logic.specs.Signature.{Signature, Identity, constant_of, numeral_of, identity_term}
 use Rattle.mw_logic.specs.Axioms.{Axiom, assoc, comm, id_left, id_right, successor, OneUse, forward, backward, inside, OneUseIn, here, later, EqualModulo, done, then}
-use Rattle.mw_logic.specs.Parts.{IsCleanForm, IsPart, IsPartForRules, IsTopPart, whole, proper, IsTooDeep, IsTooLarge, IsAdmitted, ReplacesPart}
+use Rattle.mw_logic.specs.Parts.{IsPart, IsPartForRules, IsTopPart, whole, proper, IsTooDeep, IsTooLarge, IsAdmitted, ReplacesPart}
 use Rattle.mw_logic.specs.Module.{Module}
 use Rattle.mw_logic.specs.Judgements.{IsNormalBy, IsPlainBy, IsNormal, IsPlain, judgements_with}
 use Rattle.mw_logic.specs.Ends.{IsFinal}
-use Rattle.mw_logic.proofs.AxiomLaws.{trans, sym as back}
+use Rattle.mw_logic.proofs.AxiomLaws.{trans}
 
 and_assoc : (a b c : Bool) → ((a && (b && true)) && (c && true)) ≡ (a && ((b && (c && true)) && true))
 and_assoc false b c = refl

@@ -1,8 +1,8 @@
 -- What the worked rows share: operators with one declaration, and proofs of one step.
-use Rattle.std.specs.Prelude.{◌≡◌, ℕ, zero, suc, List, [], ◌∷◌, Bool, true, false, ◌||◌, cond, is_some, Option, Some, None, refl}
-use Rattle.std.proofs.Common.{inl, inr, ap, subst, sym, true≢false}
+use Rattle.std.specs.Prelude.{◌≡◌, ℕ, List, [], ◌∷◌, Bool, true, false, ◌||◌, cond, is_some, Option, Some, None, refl}
+use Rattle.std.proofs.Common.{inl, inr, ap, subst, sym}
 use Rattle.mw_logic.specs.Term.{RawTerm, Variable, apply, RawTerms}
-use Rattle.mw_logic.specs.Signature.{Signature, Sorted, sort, kind, Declaration, Operator, IsOperator, Identity, Member}
+use Rattle.mw_logic.specs.Signature.{Signature, Sorted, sort, Declaration, Operator, IsOperator, Identity, Member}
 use Rattle.mw_logic.specs.Axioms.{done}
 use Rattle.mw_logic.specs.Sorts.{same, IsBelow, AreBelow, Takes, Declares, DeclaredSort, of_operator, DeclaredSorts, HasSort}
 use Rattle.mw_logic.specs.Substitution.{is_bound, same_variable}
@@ -70,9 +70,9 @@ pub has_declared : {sig : Signature} {t : RawTerm} {S : ℕ} → DeclaredSort si
 has_declared {t = t} {S} d = record { form = t; equal = done; declared = sort S; is_declared = d; below = same }
 
 -- a substitution of one variable binds that one
-pub one_bound : (y : Variable) (t : RawTerm) (x : Variable) → is_bound ((y, t) ∷ []) x ≡ (false || (false || (same_variable y x || false)))
+pub one_bound : (y : Variable) (t : RawTerm) (x : Variable) → is_bound ((y, t) ∷ []) x ≡ (same_variable y x || false)
 one_bound y t x = by_test (same_variable y x)
   where
-    by_test : (b : Bool) → is_some (cond b (Some t) None) ≡ (false || (false || (b || false)))
+    by_test : (b : Bool) → is_some (cond b (Some t) None) ≡ (b || false)
     by_test true = refl
     by_test false = refl

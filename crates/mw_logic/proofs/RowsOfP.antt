@@ -1,13 +1,13 @@
 -- Peano numbers, the module P: z, s and plus, with plus(z, Y) = Y and plus(s(X), Y) = s(plus(X, Y)). What it proves, and what it doesn't.
-use Rattle.std.specs.Prelude.{◌≡◌, ℕ, zero, suc, List, [], ◌∷◌, true, false, Some, None, codes, refl, IsTrue}
-use Rattle.std.proofs.Common.{inl, inr, ap, arith, sym, subst, ◌∙◌, true≢false}
-use Rattle.std.proofs.lemmas.Bool.{both_ways, false≢true}
+use Rattle.std.specs.Prelude.{◌≡◌, ℕ, zero, suc, List, [], ◌∷◌, false, Some, None, codes, refl, IsTrue}
+use Rattle.std.proofs.Common.{ap, arith, sym, subst, ◌∙◌}
+use Rattle.std.proofs.lemmas.Bool.{false≢true}
 use Rattle.mw_logic.specs.Term.{Variable, RawTerm, numeral, variable, apply, RawTerms, constant, unary, binary, Context, plug}
 use Rattle.mw_logic.specs.Term as term
 use Rattle.mw_logic.specs.Signature.{Signature, Operator, IsOperator, sort, IsRawTerm, a_numeral, an_operator, HasKind, SameKind}
 use Rattle.mw_logic.specs.Signature.{AreRawTerms as arguments}
 use Rattle.mw_logic.specs.Axioms.{done}
-use Rattle.mw_logic.specs.Sorts.{DeclaredSort, of_operator, DeclaredSorts, end, next, same, HasSort}
+use Rattle.mw_logic.specs.Sorts.{DeclaredSort, end, next, same, HasSort}
 use Rattle.mw_logic.specs.Substitution.{Substitution, instance, instances, IsSubstitution, IsSolution}
 use Rattle.mw_logic.specs.Parts.{ReplacesPart}
 use Rattle.mw_logic.specs.Module.{Module, Statement, Fragment, IsStatement, binds_statement}
@@ -16,7 +16,7 @@ use Rattle.mw_logic.specs.Proof as proof
 use Rattle.mw_logic.specs.Judgements.{Proves, Leads, Replaces, IsNormal, IsNormalBy, judgements_with}
 use Rattle.mw_logic.specs.Ends.{IsFinal}
 use Rattle.mw_logic.proofs.RowsKit as kit
-use Rattle.mw_logic.proofs.FreeSignature.{IsFreeSignature, is_free-sound, free_part, free_part-is, free_replaces, free_solution, free_admitted, free_meets_no_row, free_no_pair, no_operator_inside}
+use Rattle.mw_logic.proofs.FreeSignature.{bare_from_free, IsFreeSignature, is_free-sound, free_part, free_part-is, free_replaces, free_solution, free_admitted, bare_meets_no_row, bare_no_pair, no_operator_inside}
 
 abbrev pub P_signature : Signature
 P_signature = record {
@@ -181,8 +181,8 @@ normal_by : (F : List Fragment → Substitution → Type 0) → IsNormalBy P F (
 normal_by F = record {
   admitted = free_admitted P_signature free (s (s z)) refl (omega arith);
   no_equation = λ C w p k e is eq r sol. absurd (no_statement_at k e is C w (free_part-is P_signature free C w p) r sol);
-  no_row = λ C w p. free_meets_no_row P_signature free w;
-  no_pair = λ C w p. free_no_pair P_signature free w;
+  no_row = λ C w p. bare_meets_no_row P_signature (bare_from_free P_signature free) w;
+  no_pair = λ C w p. bare_no_pair P_signature (bare_from_free P_signature free) w;
 }
 
 two_normal : (n : ℕ) → IsNormal P n (s (s z))

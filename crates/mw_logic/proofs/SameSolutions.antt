@@ -1,9 +1,7 @@
 -- Sameness of solutions is an equivalence, and a solution agrees with what it extends.
-use Rattle.std.specs.Prelude.{◌≡◌, Some, refl}
-use Rattle.mw_logic.specs.Term.{Variable, RawTerm}
 use Rattle.mw_logic.specs.Signature.{Signature}
 use Rattle.mw_logic.specs.Axioms.{done}
-use Rattle.mw_logic.specs.Substitution.{Substitution, value, Extends, AgreesWith, SameSolution}
+use Rattle.mw_logic.specs.Substitution.{Substitution, Extends, AgreesWith, SameSolution}
 use Rattle.mw_logic.proofs.AxiomLaws.{trans}
 
 module _ (sig : Signature) where

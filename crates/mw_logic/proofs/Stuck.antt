@@ -1,5 +1,5 @@
 -- Where nothing can be replaced in the terms of a kind that equality keeps, a proof leads to equal terms only.
-use Rattle.std.specs.Prelude.{◌≡◌, ℕ, zero, suc, List, ◌∷◌, [], Bool, false}
+use Rattle.std.specs.Prelude.{◌≡◌, ℕ, List, ◌∷◌, Bool, false}
 use Rattle.std.proofs.Common.{subst, sym}
 use Rattle.mw_logic.specs.Term.{RawTerm, apply, RawTerms, cons, join, Context, plug, Frame}
 use Rattle.mw_logic.specs.Term as term
@@ -9,8 +9,8 @@ use Rattle.mw_logic.specs.Module.{Module, Fragment, Row}
 use Rattle.mw_logic.specs.Proof.{Proof, reflexivity, equality, congruence, transitivity, replacement, row, Proofs}
 use Rattle.mw_logic.specs.Proof as proof
 use Rattle.mw_logic.specs.Judgements.{StepTest, Replaces, Leads, LeadsIn, IsNormalBy}
-use Rattle.mw_logic.proofs.AxiomLaws.{trans, sym as back, under, in_context}
-use Rattle.mw_logic.proofs.SortLaws.{join_assoc, join-nil}
+use Rattle.mw_logic.proofs.AxiomLaws.{trans, under, in_context}
+use Rattle.mw_logic.proofs.SortLaws.{join_assoc}
 
 module _ (M : Module) (Step : StepTest) (H : List Fragment → Substitution → Proofs → Substitution → Type 0) (F : List Fragment → Substitution → Type 0)
     (Q : RawTerm → Type 0) (kept : (t u : RawTerm) → EqualModulo M.signature t u → Q t → Q u)
