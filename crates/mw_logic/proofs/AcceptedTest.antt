@@ -1,11 +1,11 @@
 -- The test for an accepted signature passes exactly on accepted signatures.
-use Rattle.std.specs.Prelude.{◌≡◌, ◌↔◌, ◌⊎◌, ℕ, zero, suc, pred, ◌^◌, List, [], ◌∷◌, Bool, true, false, not, ◌&&◌, ◌||◌, nat_eq, nat_lt, refl, Option, Some, None, IsTrue, slice_get, codes}
+use Rattle.std.specs.Prelude.{◌≡◌, ◌↔◌, ◌⊎◌, ℕ, zero, suc, ◌+◌, pred, ◌^◌, List, [], ◌∷◌, Bool, true, false, not, ◌&&◌, ◌||◌, nat_eq, nat_lt, refl, Option, Some, None, IsTrue, slice_get, codes}
 use Rattle.std.proofs.Common.{inl, inr, arith, ap, subst, sym, ◌∙◌}
 use Rattle.std.proofs.lemmas.Bool.{true≢false, false≢true, and_parts, and_from, or_cases, or_left, or_right, eqb-true, eq-eqb, ltb-true, lt-ltb, not_from_false, false_from_ne_true}
 use Rattle.mw_logic.specs.Term.{nil, constant}
-use Rattle.mw_logic.specs.Signature.{Signature, Operator, Identity, constant_of, numeral_of, identity_term, at_number, IsOperator, IsSortNamed, SameKind, Member, HasKind, of_numeral, of_operator, IsRawTerm, a_numeral, an_operator, AreRawTerms, end}
+use Rattle.mw_logic.specs.Signature.{Signature, Declaration, Operator, Identity, constant_of, numeral_of, identity_term, at_number, IsOperator, IsSortNamed, SameKind, Member, HasKind, of_numeral, of_operator, IsRawTerm, a_numeral, an_operator, AreRawTerms, end}
 use Rattle.mw_logic.specs.Kinds.{kind_number, same_name, some_sort}
-use Rattle.mw_logic.specs.Accepted.{IsAccepted, are_two, takes_nothing, agree, is_same_kind, is_member, is_constant_of_kind, is_identity_of_kind, is_accepted_identity, is_accepted_operator, are_accepted_operators, is_named_among, names_differ, is_accepted}
+use Rattle.mw_logic.specs.Accepted.{IsAccepted, are_two, takes_nothing, agree, is_same_kind, is_member, is_constant_of_kind, is_identity_of_kind, is_accepted_identity, is_accepted_operator, are_accepted_operators, is_named_among, names_differ, is_accepted, number_of_sort, IsWellSorted, are_of_kind, are_well_sorted_operators, are_of_nat, is_well_sorted}
 use Rattle.mw_logic.proofs.KindLaws.{kind_number-same, kind_number-sound}
 use Rattle.mw_logic.proofs.Successor.{same_name-true, same_name-refl, some_sort-from, some_sort-true}
 
@@ -200,3 +200,36 @@ module _ (sig : Signature) where
     -- an accepted signature passes
     pub is_accepted-complete : is_accepted sig ≡ true
     is_accepted-complete = and_from _ _ (all-from sig sig.operators one_passes) (differ-from sig.sorts (λ i j name e k. ap pred (ok.sorts_differ (suc i) (suc j) name e k)))
+
+-- what passes the test has its declared sorts in their kinds
+of_kind_at : (sig : Signature) (K : ℕ) (ds : List Declaration) → are_of_kind sig K ds ≡ true → (d : Declaration) → Member d ds → SameKind sig K (number_of_sort d.result)
+of_kind_at sig K [] h d m = elim m [ ]
+of_kind_at sig K (e ∷ ds) h d (inl k) = subst (λ (d : Declaration). SameKind sig K (number_of_sort d.result)) k (kind-true sig K _ (and_parts _ _ h).0)
+of_kind_at sig K (e ∷ ds) h d (inr m) = of_kind_at sig K ds (and_parts _ _ h).1 d m
+
+well_sorted_at : (sig : Signature) (os : List Operator) → are_well_sorted_operators sig os ≡ true → (j : ℕ) (o : Operator) → slice_get os j ≡ Some o → are_of_kind sig o.result o.declarations ≡ true
+well_sorted_at sig [] h j o e = cc
+well_sorted_at sig (p ∷ ps) h zero o e = subst (λ (o : Operator). are_of_kind sig o.result o.declarations ≡ true) (some_inj e) (and_parts _ _ h).0
+well_sorted_at sig (p ∷ ps) h (suc j) o e = well_sorted_at sig ps (and_parts _ _ h).1 j o e
+
+of_nat_at : (sig : Signature) (name : List ℕ) (i : ℕ) (ns : List (List ℕ)) → are_of_nat sig name i ns ≡ true → (j : ℕ) → slice_get ns j ≡ Some name → some_sort sig (codes "Nat") (kind_number sig (i + j)) 1 sig.sorts ≡ true
+of_nat_at sig name i [] h j e = cc
+of_nat_at sig name i (n ∷ ns) h zero e =
+    subst (λ k. some_sort sig (codes "Nat") (kind_number sig k) 1 sig.sorts ≡ true) (omega arith) (implied _ _ (and_parts _ _ h).0 (subst (λ m. same_name n m ≡ true) (some_inj e) (same_name-refl n)))
+of_nat_at sig name i (n ∷ ns) h (suc j) e = subst (λ k. some_sort sig (codes "Nat") (kind_number sig k) 1 sig.sorts ≡ true) (omega arith) (of_nat_at sig name (suc i) ns (and_parts _ _ h).1 j e)
+
+pub is_well_sorted-sound : (sig : Signature) → is_well_sorted sig ≡ true → IsWellSorted sig
+is_well_sorted-sound sig h = record { results = results; zero = λ S n e. of_nat (codes "Zero") (and_parts _ _ (numbers n)).0 S e; nonzero = λ S n e. of_nat (codes "NzNat") (and_parts _ _ (numbers n)).1 S e }
+  where
+    results : (f : ℕ) (o : Operator) (d : Declaration) → IsOperator sig f o → Member d o.declarations → SameKind sig o.result (number_of_sort d.result)
+    results zero o d e m = cc
+    results (suc j) o d e m = of_kind_at sig o.result o.declarations (well_sorted_at sig sig.operators (and_parts _ _ h).0 j o e) d m
+
+    numbers : IsTrue sig.nat → (are_of_nat sig (codes "Zero") 1 sig.sorts && are_of_nat sig (codes "NzNat") 1 sig.sorts) ≡ true
+    numbers n = implied _ _ (and_parts (are_well_sorted_operators sig sig.operators) (not sig.nat || (are_of_nat sig (codes "Zero") 1 sig.sorts && are_of_nat sig (codes "NzNat") 1 sig.sorts)) h).1 n
+
+    of_nat : (name : List ℕ) → are_of_nat sig name 1 sig.sorts ≡ true → (S : ℕ) → IsSortNamed sig S name → (N : ℕ) × IsSortNamed sig N (codes "Nat") × SameKind sig N S
+    of_nat name k zero e = cc
+    of_nat name k (suc j) e =
+        let (i, m, q) = some_sort-true sig (codes "Nat") (kind_number sig (1 + j)) 1 sig.sorts (of_nat_at sig name 1 sig.sorts k j e) in
+        (suc i, m, kind_number-sound sig (suc i) (suc j) (ap (kind_number sig) (omega arith) ∙ q ∙ ap (kind_number sig) (omega arith)))

@@ -12,10 +12,11 @@ use Rattle.mw_logic.specs.Proof.{Proof, reflexivity}
 use Rattle.mw_logic.specs.Proof as proof
 use Rattle.mw_logic.specs.Judgements.{Held, Fails, IsNormal, judgements, judgements_with, Evaluates, IsNormalBy, Proves, Judgements, Leads, Replaces}
 use Rattle.mw_logic.specs.Ends.{Stops, StopsBy, Limits, Tries, Reason, of_side, by_nest, by_condition}
+use Rattle.mw_logic.specs.Free.{IsFreeSignature}
 use Rattle.mw_logic.proofs.RowsKit as kit
 use Rattle.mw_logic.proofs.Stuck.{led_to_equal}
 use Rattle.mw_logic.proofs.Judging.{Proves-reflexivity}
-use Rattle.mw_logic.proofs.FreeSignature.{bare_from_free, IsFreeSignature, is_free-sound, free_equal, free_part, free_part-is, free_replaces-is, bare_no_row, free_solution, free_admitted, bare_meets_no_row, bare_no_pair, has_operator, no_operator_inside}
+use Rattle.mw_logic.proofs.FreeSignature.{bare_from_free, is_free-sound, free_equal, free_part, free_part-is, free_replaces-is, bare_no_row, free_solution, free_admitted, bare_meets_no_row, bare_no_pair, has_operator, no_operator_inside}
 
 abbrev sig : Signature
 sig = record {

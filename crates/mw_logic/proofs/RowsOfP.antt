@@ -15,8 +15,9 @@ use Rattle.mw_logic.specs.Proof.{Proof, Proofs, transitivity, replacement, congr
 use Rattle.mw_logic.specs.Proof as proof
 use Rattle.mw_logic.specs.Judgements.{Proves, Leads, Replaces, IsNormal, IsNormalBy, judgements_with}
 use Rattle.mw_logic.specs.Ends.{IsFinal}
+use Rattle.mw_logic.specs.Free.{IsFreeSignature}
 use Rattle.mw_logic.proofs.RowsKit as kit
-use Rattle.mw_logic.proofs.FreeSignature.{bare_from_free, IsFreeSignature, is_free-sound, free_part, free_part-is, free_replaces, free_solution, free_admitted, bare_meets_no_row, bare_no_pair, no_operator_inside}
+use Rattle.mw_logic.proofs.FreeSignature.{bare_from_free, is_free-sound, free_part, free_part-is, free_replaces, free_solution, free_admitted, bare_meets_no_row, bare_no_pair, no_operator_inside}
 
 abbrev pub P_signature : Signature
 P_signature = record {

@@ -11,8 +11,9 @@ use Rattle.mw_logic.specs.Substitution.{Substitution, instance, IsSolution}
 use Rattle.mw_logic.specs.Parts.{ReplacesPart, IsFrozen, IsFrozenArgument, number_of_terms, whole}
 use Rattle.mw_logic.specs.Module.{Module, Statement, Fragment, IsStatement}
 use Rattle.mw_logic.specs.Judgements.{IsPlain, IsPlainBy, judgements_with}
+use Rattle.mw_logic.specs.Free.{IsFreeSignature}
 use Rattle.mw_logic.proofs.RowsKit as kit
-use Rattle.mw_logic.proofs.FreeSignature.{IsFreeSignature, is_free-sound, bare_from_free, bare_meets_no_row, bare_no_pair, free_equal, free_part, free_top_part-is, free_replaces, free_replaces-is, free_solution}
+use Rattle.mw_logic.proofs.FreeSignature.{is_free-sound, bare_from_free, bare_meets_no_row, bare_no_pair, free_equal, free_part, free_top_part-is, free_replaces, free_replaces-is, free_solution}
 
 abbrev a : RawTerm
 a = constant 1
