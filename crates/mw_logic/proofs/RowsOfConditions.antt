@@ -199,3 +199,6 @@ cycle_stops zero limits l m = StopsBy.nest [] cycle ((X, c) ∷ []) (refl, l) tt
 cycle_stops (suc n) limits l m =
     StopsBy.condition [] cycle ((X, c) ∷ []) ((X, c) ∷ []) [] [] (equal (g (variable X)) c) proof.nil (g (variable X)) (refl, l) (tried _ limits) refl (refl, refl) (inl refl)
     (reflexivity, g c, why n, inr (free_admitted CY_signature CY_free (g c) refl (omega arith), refl, cycle_stops n (of_side limits) m m))
+
+f_c_stops : (limits : Limits) → 0 < limits.most → 0 < limits.most_of_sides → Stops CY 63 limits (g c) reflexivity (g c) by_condition
+f_c_stops limits l m = cycle_stops 63 limits l m

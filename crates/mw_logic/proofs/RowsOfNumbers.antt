@@ -71,9 +71,6 @@ unfolding is_successor
 normal_collapsed = refl
 
 -- s_ stays on the largest numeral, so this term is too large; and no numeral is larger.
-largest : RawTerm
-largest = numeral (2 ^ 128 - 1)
-
 normal_largest : normal_form numbers (s (numeral (2 ^ 128 - 1))) ≡ s (numeral (2 ^ 128 - 1))
 unfolding is_successor
 normal_largest = refl

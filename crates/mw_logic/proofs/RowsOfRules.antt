@@ -57,10 +57,6 @@ only_argument f nil X after e = (cc, refl, cc)
 only_argument f (cons y nil) X after e = cc
 only_argument f (cons y (cons x ys)) X after e = cc
 
-no_argument : (f : ℕ) (before : RawTerms) (X : RawTerm) (after : RawTerms) → apply f (join before (cons X after)) ≡ a → ⊥
-no_argument f nil X after e = cc
-no_argument f (cons y ys) X after e = cc
-
 inside_f : (C : Context) (X : RawTerm) → plug C X ≡ unary 3 a → (X ≡ unary 3 a) ⊎ IsFrozen FZ C
 inside_f [] X e = inl e
 inside_f (c ∷ C) X e = by_case (inside_f C (apply c.operator (join c.before (cons X c.after))) e)

@@ -220,9 +220,6 @@ only_constant (several {f = g} A o l cut) e = absurd (constant_not_assoc g A (op
 part_of_b : (C : Context) (w : RawTerm) → IsPart sig b C w → normal_form sig w ≡ b
 part_of_b C w p = only_constant (part_kept sig accepted {by_rule = false} C w (λ h. absurd (false≢true h)) b_raw p) refl
 
-b_not_mt : EqualModulo sig mt b → ⊥
-b_not_mt e = constants_differ 2 3 (omega arith) (sym (normal_form-kept sig accepted e))
-
 no_mt_in_b : (by_rule : Bool) (v u : RawTerm) → ReplacesPart sig by_rule b mt v u → ⊥
 no_mt_in_b r v u p = constants_differ 2 3 (omega arith) (sym (part_of_b p.place p.part p.is_part) ∙ sym (normal_form-kept sig accepted p.same))
 
