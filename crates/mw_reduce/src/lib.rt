@@ -1,0 +1,20 @@
+//! Reduction with equations, innermost first and from the left, and the proof that it keeps.
+//!
+//! The reducer is an abstract machine: what waits lies in a list of frames on the heap, so the native stack does
+//! not grow with the term. A step costs its matching and its right side.
+#![tactic(auto)]
+
+mod equations;
+mod frame;
+mod kept;
+mod machine;
+mod next;
+mod pattern;
+mod progress;
+mod turn;
+
+pub use equations::{Equation, Equations, Group};
+pub use kept::{Item, Kept};
+pub use machine::reduce;
+pub use pattern::{Pattern, Patterns};
+pub use progress::{Outcome, Reduced};
