@@ -7,16 +7,16 @@ use Rattle.mw_logic.specs.Axioms.{done}
 use Rattle.mw_logic.specs.Substitution.{Substitution, instance}
 use Rattle.mw_logic.specs.Parts.{IsTooDeep, ReplacesPart}
 use Rattle.mw_logic.specs.Module.{Fragment, Module}
-use Rattle.mw_logic.specs.Proof.{Proof, reflexivity, equality, congruence, transitivity, replacement, row, Proofs, steps, steps_of}
+use Rattle.mw_logic.specs.Proof.{Proof, reflexivity, equality, congruence, transitivity, replacement, row, Proofs, rules, rules_of, steps, steps_of, count, count_of}
 use Rattle.mw_logic.specs.Proof as proof
-use Rattle.mw_logic.specs.Judgements.{StepTest, Leads, LeadsIn, AdmittedStep, IsNormalBy, Proves, Held, Fails, IsNormal, judgements, judgements_with}
+use Rattle.mw_logic.specs.Judgements.{StepTest, Leads, LeadsIn, AdmittedStep, Replaces, IsNormalBy, Proves, Held, Fails, IsNormal, judgements, judgements_with, admitted_judgements}
 use Rattle.mw_logic.specs.Ends.{StopsBy, NextStep, by_statement, Tries, Stops, by_depth, by_rewrites}
-use Rattle.mw_machine.specs.Moves.{Move, enter, leave, apply, Level, Place, unchanged, around, around_all, tree, applied}
+use Rattle.mw_machine.specs.Moves.{Move, enter, leave, apply, Level, Place, unchanged, around, around_all, tree, applied, AreEquations}
 use Rattle.mw_machine.specs.Plain.{IsFreeModule}
 use Rattle.mw_logic.specs.NormalForm.{height}
 use Rattle.mw_machine.specs.Limits.{limits_of}
 use Rattle.mw_machine.specs.Machine.{Open, round, Fires}
-use Rattle.mw_machine.proofs.Free.{part, all_clean}
+use Rattle.mw_machine.proofs.Free.{part, all_clean, no_row}
 use Rattle.mw_machine.proofs.Depths.{depth_height, level_within}
 use Rattle.mw_machine.proofs.Steps.{length-under_all}
 
@@ -34,6 +34,44 @@ module _ (M : Module) (Step Tep : StepTest) (j : (r : Bool) (t w v u : RawTerm) 
     weaker_in : (ps : Proofs) (C : Context) (f : ℕ) (d ts us : RawTerms) → LeadsIn M Step H F C f d ps ts us → LeadsIn M Tep H F C f d ps ts us
     weaker_in proof.nil C f d ts us l = l
     weaker_in (proof.cons p ps) C f d ts us (t, u, ts', us', a, b, l, more) = (t, u, ts', us', a, b, weaker p _ t u l, weaker_in ps C f _ ts' us' more)
+
+-- In a free module all conditions are empty, so what leads by one rank's judgements of conditions leads by another's.
+module _ (M : Module) (free : IsFreeModule M) (Step : StepTest) (H I : List Fragment → Substitution → Proofs → Substitution → Type 0) (F G : List Fragment → Substitution → Type 0)
+    (i : (s : Substitution) (es : Proofs) → H [] s es s → I [] s es s) where
+  replaces_by : (k : ℕ) (r : Bool) (s : Substitution) (es : Proofs) (t u : RawTerm) → Replaces M H F k r s es t u → Replaces M I G k r s es t u
+  replaces_by k r s es t u x =
+      let e = free.unconditional k x.statement x.is_there in
+      let c : H [] s es s = subst (λ C. H C s es s) e x.condition in
+      record {
+        statement = x.statement;
+        is_there = x.is_there;
+        rule = x.rule;
+        substitution = x.substitution;
+        all_bound = x.all_bound;
+        condition = subst (λ C. I C s es s) (sym e) (i s es c);
+        plain = λ o. absurd (true≢false (sym o ∙ free.ordinary k x.statement x.is_there));
+        from = x.from;
+        to = x.to;
+      }
+
+  mutual
+    leads_by : (p : Proof) (C : Context) (t u : RawTerm) → Leads M Step H F C p t u → Leads M Step I G C p t u
+    leads_by reflexivity C t u l = l
+    leads_by equality C t u l = l
+    leads_by (congruence ps) C t u (f, ts, us, a, b, l) = (f, ts, us, a, b, leads_by_in ps C f term.nil ts us l)
+    leads_by (transitivity p q) C t u (m, a, b) = (m, leads_by p C t m a, leads_by q C m u b)
+    leads_by (replacement k r s es) C t u (x, y) = (replaces_by k r s es t u x, y)
+    leads_by row C t u (x, y) = absurd (no_row M.signature free.signature _ t u x)
+
+    leads_by_in : (ps : Proofs) (C : Context) (f : ℕ) (d ts us : RawTerms) → LeadsIn M Step H F C f d ps ts us → LeadsIn M Step I G C f d ps ts us
+    leads_by_in proof.nil C f d ts us l = l
+    leads_by_in (proof.cons p ps) C f d ts us (t, u, ts', us', a, b, l, more) = (t, u, ts', us', a, b, leads_by p _ t u l, leads_by_in ps C f _ ts' us' more)
+
+-- it reaches admitted terms alone
+pub Proves_admitted : (M : Module) (n : ℕ) → IsFreeModule M → (p : Proof) (t u : RawTerm) → Leads M (AdmittedStep M) (Held M n) (Fails M n) [] p t u → (admitted_judgements M n).Proves p t u
+unfolding judgements_with
+Proves_admitted M zero free p t u l = leads_by M free (AdmittedStep M) (Held M zero) (admitted_judgements M zero).Held (Fails M zero) (admitted_judgements M zero).Fails (λ s es h. h) p [] t u l
+Proves_admitted M (suc n) free p t u l = leads_by M free (AdmittedStep M) (Held M (suc n)) (admitted_judgements M (suc n)).Held (Fails M (suc n)) (admitted_judgements M (suc n)).Fails (λ s es h. h) p [] t u l
 
 pub Proves_of : (M : Module) (n : ℕ) (p : Proof) (t u : RawTerm) → Leads M (AdmittedStep M) (Held M n) (Fails M n) [] p t u → Proves M n p t u
 unfolding judgements_with
@@ -68,6 +106,41 @@ steps_tree ls (enter i j ∷ ms) = steps_tree _ ms
 steps_tree [] (leave ∷ ms) = steps_tree [] ms
 steps_tree (l ∷ ls) (leave ∷ ms) = steps_tree ls ms
 steps_tree ls (apply k r s es ∷ ms) = let a = steps_around_all ls (replacement k r s es) in let b = steps_tree ls ms in omega (arith, a, b)
+
+-- Without rules and evidence there are no steps but these.
+rules_unchanged : (n : ℕ) (ps : Proofs) → rules_of (unchanged n ps) ≡ rules_of ps
+rules_unchanged zero ps = refl
+rules_unchanged (suc n) ps = let h = rules_unchanged n ps in omega (arith, h)
+
+rules_around_all : (ls : Place) (p : Proof) → rules (around_all ls p) ≡ rules p
+rules_around_all [] p = refl
+rules_around_all (l ∷ ls) p =
+    let a = rules_unchanged l.before (proof.cons p (unchanged l.after proof.nil)) in let b = rules_unchanged l.after proof.nil in let h = rules_around_all ls (around l p) in omega (arith, a, b, h)
+
+pub rules_tree : (ls : Place) (ms : List Move) → AreEquations ms → rules (tree ls ms) ≡ 0
+rules_tree ls [] h = refl
+rules_tree ls (enter i j ∷ ms) h = rules_tree _ ms h
+rules_tree [] (leave ∷ ms) h = rules_tree [] ms h
+rules_tree (l ∷ ls) (leave ∷ ms) h = rules_tree ls ms h
+rules_tree ls (apply k r s es ∷ ms) h =
+    let a = rules_around_all ls (replacement k r s es) in let b = rules_tree ls ms h.2 in let c : rules (replacement k r s es) ≡ 0 = rw h.0 refl in omega (arith, a, b, c)
+
+count_unchanged : (n : ℕ) (ps : Proofs) → count_of (unchanged n ps) ≡ count_of ps
+count_unchanged zero ps = refl
+count_unchanged (suc n) ps = let h = count_unchanged n ps in omega (arith, h)
+
+count_around_all : (ls : Place) (p : Proof) → count (around_all ls p) ≡ count p
+count_around_all [] p = refl
+count_around_all (l ∷ ls) p =
+    let a = count_unchanged l.before (proof.cons p (unchanged l.after proof.nil)) in let b = count_unchanged l.after proof.nil in let h = count_around_all ls (around l p) in omega (arith, a, b, h)
+
+pub count_tree : (ls : Place) (ms : List Move) → AreEquations ms → count (tree ls ms) ≡ applied ms
+count_tree ls [] h = refl
+count_tree ls (enter i j ∷ ms) h = count_tree _ ms h
+count_tree [] (leave ∷ ms) h = count_tree [] ms h
+count_tree (l ∷ ls) (leave ∷ ms) h = count_tree ls ms h
+count_tree ls (apply k r s es ∷ ms) h =
+    let a = count_around_all ls (replacement k r s es) in let b = count_tree ls ms h.2 in let c : count (replacement k r s es) ≡ 1 = rw h.1 refl in omega (arith, a, b, c)
 
 module _ (M : Module) (n m : ℕ) (free : IsFreeModule M) (t0 : RawTerm) (ms : List Move) (os : List Open) where
   deep : (u : RawTerm) → 1000 < length os + height u → IsTooDeep M.signature (plug (round os) u)

@@ -36,17 +36,17 @@ module _ (sig : Signature) (free : IsFreeSignature sig) where
   not_built : (f : ℕ) (name : List ℕ) → IsPolymorphic sig f name → ⊥
   not_built f name p = false_true (free.operators f p.0 p.1).built p.3
 
-  no_row : (t u : RawTerm) → Row sig (λ v. ⊥) t u → ⊥
-  no_row _ _ (Row.arithmetic b f d) = false_true free.nat f.0
-  no_row _ _ (Row.equal_terms f e r) = not_built _ _ f
-  no_row _ _ (Row.unequal_terms f n m e r) = not_built _ _ f
-  no_row _ _ (Row.not_different f e r) = not_built _ _ f
-  no_row _ _ (Row.different f n m e r) = not_built _ _ f
-  no_row _ _ (Row.if_true f c) = not_built _ _ f
-  no_row _ _ (Row.if_false f c) = not_built _ _ f
+  pub no_row : (N : RawTerm → Type 0) (t u : RawTerm) → Row sig N t u → ⊥
+  no_row N _ _ (Row.arithmetic b f d) = false_true free.nat f.0
+  no_row N _ _ (Row.equal_terms f e r) = not_built _ _ f
+  no_row N _ _ (Row.unequal_terms f n m e r) = not_built _ _ f
+  no_row N _ _ (Row.not_different f e r) = not_built _ _ f
+  no_row N _ _ (Row.different f n m e r) = not_built _ _ f
+  no_row N _ _ (Row.if_true f c) = not_built _ _ f
+  no_row N _ _ (Row.if_false f c) = not_built _ _ f
 
   pub meets_no_row : (t : RawTerm) → MeetsRow sig t → ⊥
-  meets_no_row _ (by_row r) = no_row _ _ r
+  meets_no_row _ (by_row r) = no_row (λ v. ⊥) _ _ r
   meets_no_row _ (an_equality f) = not_built _ _ f
   meets_no_row _ (an_inequality f) = not_built _ _ f
 

@@ -4,6 +4,7 @@ use Rattle.std.proofs.Common.{sym, subst, ap, ◌∙◌, arith, true≢false}
 use Rattle.mw_logic.specs.Term.{RawTerm, RawTerms, Frame, Context, plug, join, apply, is_ground, are_ground}
 use Rattle.mw_logic.specs.Term as term
 use Rattle.mw_logic.specs.Axioms.{done}
+use Rattle.mw_logic.specs.Signature.{IsRawTerm}
 use Rattle.mw_logic.specs.Substitution.{Substitution}
 use Rattle.mw_logic.specs.Parts.{number_of_terms, IsAdmitted, ReplacesPart}
 use Rattle.mw_logic.specs.Module.{Fragment, Module}
@@ -77,8 +78,8 @@ module _ (M : Module) (H : List Fragment → Substitution → Proofs → Substit
   AreNormalBy-join (term.cons t ts) us a b = (a.0, AreNormalBy-join ts us a.1 b)
 
   -- at the start
-  pub begins : (t : RawTerm) → IsTrue (is_ground t) → height t ≤ 1000 → At M H F t [] [] t
-  begins t g h = record { leads = refl; place = refl; ground = g; high = h; below = tt }
+  pub begins : (t : RawTerm) → IsTrue (is_ground t) → IsRawTerm M.signature t → height t ≤ 1000 → At M H F t [] [] t
+  begins t g w h = record { leads = refl; place = refl; ground = g; raw = w; high = h; below = tt }
 
   -- the present argument is a normal term: nothing changes
   pub passes : (o : Open) (v : RawTerm) (ts : RawTerms) → o.rest ≡ term.cons v ts → here o ≡ here (given o v)
@@ -95,6 +96,7 @@ module _ (M : Module) (H : List Fragment → Substitution → Proofs → Substit
         leads = subst P (sym r) (leads_in_or_out M (AdmittedStep M) H F ms _ t0 _ (λ ls. refl) a.leads);
         place = reached-append [] ms (enter (number_of_terms o.done) (number_of_terms ts) ∷ []) ∙ rw (a.place, under_all-append os o [], e) refl;
         ground = rw r a.ground;
+        raw = rw r a.raw;
         high = rw r a.high;
         below = AllDone-append os o a.below d;
       }
@@ -111,6 +113,7 @@ module _ (M : Module) (H : List Fragment → Substitution → Proofs → Substit
         leads = subst P r (leads_in_or_out M (AdmittedStep M) H F ms leave t0 _ nothing a.leads);
         place = reached-append [] ms (leave ∷ []) ∙ rw (a.place, under_all-append os o []) refl;
         ground = subst Q r a.ground;
+        raw = subst (IsRawTerm M.signature) r a.raw;
         high = subst R r a.high;
         below = AllDone-init os o a.below;
       }
@@ -164,6 +167,7 @@ module _ (M : Module) (H : List Fragment → Substitution → Proofs → Substit
         leads = leads_on M (AdmittedStep M) H F ms C k false s proof.nil t0 t u a.place a.leads (r, (p, x, y));
         place = reached-append [] ms (applies k false s proof.nil ∷ []) ∙ a.place;
         ground = g;
+        raw = f.raw C a.raw;
         high = w;
         below = a.below;
       }
@@ -190,6 +194,7 @@ module _ (M : Module) (H : List Fragment → Substitution → Proofs → Substit
         leads = subst P r (leads_without M (AdmittedStep M) H F [] ms i j t0 _ a.leads);
         place = tail_is p;
         ground = subst Q r a.ground;
+        raw = subst (IsRawTerm M.signature) r a.raw;
         high = subst R r a.high;
         below = AllDone-init M H F os o a.below;
       }

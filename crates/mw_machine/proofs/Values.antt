@@ -8,6 +8,7 @@ use Rattle.mw_logic.specs.Parts.{IsPart, IsAdmitted}
 use Rattle.mw_logic.specs.Substitution.{Substitution, instance}
 use Rattle.mw_logic.specs.Module.{Fragment, Module}
 use Rattle.mw_logic.specs.Judgements.{IsNormalBy}
+use Rattle.mw_logic.proofs.Canonical.{Each}
 use Rattle.mw_logic.proofs.Lifting.{fill as filled, plug-append}
 use Rattle.mw_machine.specs.Plain.{IsFreeSignature}
 use Rattle.mw_logic.specs.NormalForm.{height}
@@ -21,6 +22,11 @@ use Rattle.mw_machine.proofs.Steps.{part_ground}
 plug-both : (D C : Context) (w : RawTerm) → plug (D ++ C) w ≡ plug C (plug D w)
 plug-both [] C w = refl
 plug-both (d ∷ D) C w = plug-both D C (filled d w)
+
+within_bound : (a b : ℕ) → (a ≤ b) ⊎ (b < a)
+within_bound zero b = inl (omega arith)
+within_bound (suc a) zero = inr (omega arith)
+within_bound (suc a) (suc b) = ⊎_elim (λ h. inl (omega (arith, h))) (λ h. inr (omega (arith, h))) (within_bound a b)
 
 -- a part of a term with no operator on top is the term itself
 flat_alone : (C : Context) (w t : RawTerm) → IsFlat t → t ≡ plug C w → w ≡ t
@@ -55,11 +61,6 @@ module _ (M : Module) (F : List Fragment → Substitution → Type 0) (free : Is
     no_pair = λ C w p. no_big_pair M.signature free w;
   }
 
-  within_bound : (a b : ℕ) → (a ≤ b) ⊎ (b < a)
-  within_bound zero b = inl (omega arith)
-  within_bound (suc a) zero = inr (omega arith)
-  within_bound (suc a) (suc b) = ⊎_elim (λ h. inl (omega (arith, h))) (λ h. inr (omega (arith, h))) (within_bound a b)
-
   pub admitted_height : (t : RawTerm) → IsAdmitted M.signature t → height t ≤ 1000
   admitted_height t a =
       ⊎_elim (λ h. h)
@@ -91,15 +92,16 @@ module _ (M : Module) (F : List Fragment → Substitution → Type 0) (free : Is
         behind (join bs (term.cons t term.nil)) ts (subst (λ xs. IsNormalBy M F (apply f xs)) (sym (join-assoc bs (term.cons t term.nil) ts)) h),
       )
 
-  abbrev IsNormalAt : List RawTerm → ℕ → Type 0
-  IsNormalAt vs i = (v : RawTerm) → slice_get vs i ≡ Some v → IsNormalBy M F v
+-- what holds of a term and so of its arguments holds of the values of a match
+module _ (P : RawTerm → Type 0) (args : (f : ℕ) (ts : RawTerms) → P (apply f ts) → Each P ts) where
+  abbrev HasAt : List RawTerm → ℕ → Type 0
+  HasAt vs i = (v : RawTerm) → slice_get vs i ≡ Some v → P v
 
   mutual
-    values_normal_in : (vs : List RawTerm) (n : ℕ) (p t : RawTerm) → fill vs p ≡ t → IsNumbered n p → IsNormalBy M F t
-        → ((i : ℕ) → i < n → IsNormalAt vs i) → (i : ℕ) → i < counted n p → IsNormalAt vs i
-    values_normal_in vs n (term.numeral m) t e a h b i l = b i l
-    values_normal_in vs n (term.quoted q) t e a h b i l = b i l
-    values_normal_in vs n (term.variable x) t e a h b i l = λ v k.
+    values_have : (vs : List RawTerm) (n : ℕ) (p t : RawTerm) → fill vs p ≡ t → IsNumbered n p → P t → ((i : ℕ) → i < n → HasAt vs i) → (i : ℕ) → i < counted n p → HasAt vs i
+    values_have vs n (term.numeral m) t e a h b i l = b i l
+    values_have vs n (term.quoted q) t e a h b i l = b i l
+    values_have vs n (term.variable x) t e a h b i l = λ v k.
         ⊎_elim
         (λ (d : suc i ≤ n). b i (omega (arith, d)) v k)
         (λ (d : n < suc i).
@@ -107,16 +109,22 @@ module _ (M : Module) (F : List Fragment → Substitution → Type 0) (free : Is
         let k' : slice_get vs x.sort ≡ Some v = rw (← same) k in
         let e' : v ≡ t = rw k' at e in rw e' h)
         (within_bound (suc i) n)
-    values_normal_in vs n (apply f ps) t e a h b i l = all_values_normal_in vs n ps (fill_all vs ps) refl a (normal_args f (fill_all vs ps) (rw e h)) b i l
+    values_have vs n (apply f ps) t e a h b i l = all_values_have vs n ps (fill_all vs ps) refl a (args f (fill_all vs ps) (rw e h)) b i l
 
-    all_values_normal_in : (vs : List RawTerm) (n : ℕ) (ps ts : RawTerms) → fill_all vs ps ≡ ts → AreNumbered n ps → AreNormalBy M F ts
-        → ((i : ℕ) → i < n → IsNormalAt vs i) → (i : ℕ) → i < counted_all n ps → IsNormalAt vs i
-    all_values_normal_in vs n term.nil ts e a h b i l = b i l
-    all_values_normal_in vs n (term.cons p ps) term.nil e a h b i l = cc
-    all_values_normal_in vs n (term.cons p ps) (term.cons t ts) e a h b i l =
+    all_values_have : (vs : List RawTerm) (n : ℕ) (ps ts : RawTerms) → fill_all vs ps ≡ ts → AreNumbered n ps → Each P ts → ((i : ℕ) → i < n → HasAt vs i) → (i : ℕ) → i < counted_all n ps → HasAt vs i
+    all_values_have vs n term.nil ts e a h b i l = b i l
+    all_values_have vs n (term.cons p ps) term.nil e a h b i l = cc
+    all_values_have vs n (term.cons p ps) (term.cons t ts) e a h b i l =
         let e0 : fill vs p ≡ t = cc in let e1 : fill_all vs ps ≡ ts = cc in
-        all_values_normal_in vs (counted n p) ps ts e1 a.1 h.1 (values_normal_in vs n p t e0 a.0 h.0 b) i l
+        all_values_have vs (counted n p) ps ts e1 a.1 h.1 (values_have vs n p t e0 a.0 h.0 b) i l
 
-  -- the values of a match over normal arguments are normal
-  pub values_normal : (vs : List RawTerm) (ps ts : RawTerms) → fill_all vs ps ≡ ts → AreNumbered 0 ps → AreNormalBy M F ts → (i : ℕ) → i < counted_all 0 ps → (v : RawTerm) → slice_get vs i ≡ Some v → IsNormalBy M F v
-  values_normal vs ps ts e a h i l v k = all_values_normal_in vs 0 ps ts e a h (λ j m. absurd (omega (arith, m))) i l v k
+  pub value_each : (vs : List RawTerm) (p t : RawTerm) → fill vs p ≡ t → IsNumbered 0 p → P t → (i : ℕ) → i < counted 0 p → (v : RawTerm) → slice_get vs i ≡ Some v → P v
+  value_each vs p t e a h i l v k = values_have vs 0 p t e a h (λ j m. absurd (omega (arith, m))) i l v k
+
+  pub values_each : (vs : List RawTerm) (ps ts : RawTerms) → fill_all vs ps ≡ ts → AreNumbered 0 ps → Each P ts → (i : ℕ) → i < counted_all 0 ps → (v : RawTerm) → slice_get vs i ≡ Some v → P v
+  values_each vs ps ts e a h i l v k = all_values_have vs 0 ps ts e a h (λ j m. absurd (omega (arith, m))) i l v k
+
+-- the values of a match over normal arguments are normal
+pub values_normal : (M : Module) (F : List Fragment → Substitution → Type 0) → IsFreeSignature M.signature → (vs : List RawTerm) (ps ts : RawTerms) → fill_all vs ps ≡ ts → AreNumbered 0 ps → AreNormalBy M F ts
+    → (i : ℕ) → i < counted_all 0 ps → (v : RawTerm) → slice_get vs i ≡ Some v → IsNormalBy M F v
+values_normal M F free = values_each (IsNormalBy M F) (normal_args M F free)

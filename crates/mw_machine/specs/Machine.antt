@@ -1,10 +1,12 @@
 -- A reduction with an explicit stack: operators whose arguments are being reduced from the left, and the term in hand.
 use Rattle.std.specs.Prelude.{ℕ, ◌+◌, ◌≡◌, ◌≤◌, List, [], ◌∷◌, false, IsTrue, IsFalse, ⊤}
 use Rattle.mw_logic.specs.Term.{RawTerm, RawTerms, numeral, quoted, variable, apply, nil, cons, Frame, Context, plug, join, is_ground}
+use Rattle.mw_logic.specs.Signature.{IsRawTerm}
 use Rattle.mw_logic.specs.Substitution.{Substitution, instance, IsSubstitution, IsSolution}
 use Rattle.mw_logic.specs.Module.{Fragment, Module, Statement, IsStatement, binds_statement}
 use Rattle.mw_logic.specs.Proof.{Proofs}
 use Rattle.mw_logic.specs.Judgements.{Leads, AdmittedStep, IsNormalBy}
+use Rattle.mw_logic.proofs.Canonical.{Each}
 use Rattle.mw_machine.specs.Moves.{Move, tree, reached, place_of}
 use Rattle.mw_logic.specs.NormalForm.{height}
 
@@ -47,12 +49,12 @@ pub record Fires (M : Module) (k : ℕ) (s : Substitution) (t u : RawTerm) : Typ
   pub from : t ≡ instance s statement.left
   pub to : u ≡ instance s statement.right
   pub ground : IsTrue (is_ground u)
+  pub raw : (C : Context) → IsRawTerm M.signature (plug C t) → IsRawTerm M.signature (plug C u)
   pub solution : IsSolution M.signature statement.left t [] s
 
 module _ (M : Module) (F : List Fragment → Substitution → Type 0) where
   abbrev pub AreNormalBy : RawTerms → Type 0
-  AreNormalBy nil = ⊤
-  AreNormalBy (cons t ts) = IsNormalBy M F t × AreNormalBy ts
+  AreNormalBy = Each (IsNormalBy M F)
 
   abbrev pub AllDone : List Open → Type 0
   AllDone [] = ⊤
@@ -78,6 +80,7 @@ pub record At (M : Module) (H : List Fragment → Substitution → Proofs → Su
   pub leads : Leads M (AdmittedStep M) H F [] (tree [] ms) t0 (plug (round os) t)
   pub place : reached [] ms ≡ place_of (round os)
   pub ground : IsTrue (is_ground (plug (round os) t))
+  pub raw : IsRawTerm M.signature (plug (round os) t)
   pub high : height (plug (round os) t) ≤ 1000
   pub below : AllDone M F os
 

@@ -1,8 +1,10 @@
 -- The steps of the reducer on its frames.
 use Rattle.std.specs.Prelude.{◌≡◌, ◌⊎◌, ◌≤◌, ◌<◌, ◌+◌, ℕ, List, [], ◌∷◌, ◌++◌, length, refl, IsTrue}
-use Rattle.std.proofs.Common.{sym, subst, ap, ◌∙◌, arith, ⊎_elim}
+use Rattle.std.proofs.Common.{sym, subst, ap, ◌∙◌, arith, ⊎_elim, append-nil}
 use Rattle.mw_logic.specs.Term.{RawTerm, apply, nil, cons, join, plug, is_ground}
 use Rattle.mw_logic.specs.Parts.{number_of_terms}
+use Rattle.mw_logic.specs.Signature.{IsRawTerm}
+use Rattle.mw_logic.specs.Proof.{steps}
 use Rattle.mw_logic.specs.Module.{Module}
 use Rattle.mw_logic.specs.Judgements.{Held, Fails, IsNormalBy}
 use Rattle.mw_machine.specs.Moves.{Move, enter, leave, tree, applied}
@@ -20,10 +22,10 @@ use Rattle.mw_machine.proofs.Steps.{length-under_all}
 use Rattle.mw_machine.proofs.Values.{flat_normal}
 use Rattle.mw_machine.proofs.Work.{work_value, work_inside, work_out}
 use Rattle.mw_machine.proofs.AtRank.{Proves_of, IsNormal_of, steps_tree, stops_by_depth, stops_by_rewrites}
-use Rattle.mw_reduce.specs.Kept.{moves, needed, stepped, Leaves, outward}
+use Rattle.mw_reduce.specs.Kept.{proof_of, moves, needed, stepped, Leaves, outward}
 use Rattle.mw_reduce.specs.Stack.{opened, stack, Fits, AllFit, Stands}
 use Rattle.mw_reduce.specs.State.{Describes, Holds, Counts, GoesTooDeep}
-use Rattle.mw_reduce.specs.Run.{MeansRunning, IsReduced, proof_of}
+use Rattle.mw_reduce.specs.Run.{MeansRunning, IsReduced}
 use Rattle.mw_reduce.specs.declared.kept.Item.{Item}
 use Rattle.mw_reduce.specs.declared.kept.Item.TheVariants.{Enter, Leave, Apply}
 use Rattle.mw_reduce.specs.declared.kept.Kept.{Kept}
@@ -36,22 +38,18 @@ use Rattle.mw_reduce.proofs.Lists.{number_terms_of}
 use Rattle.mw_reduce.proofs.Turns.{moves-append, needed-append, stepped-append, stack_more, all_fit_more, length-stack}
 use Rattle.mw_reduce.proofs.Rest.{opened_given, stack-append}
 
-append-nil : {A : Type 0} (xs : List A) → xs ++ [] ≡ xs
-append-nil [] = refl
-append-nil (x ∷ xs) = ap (λ ys. x ∷ ys) (append-nil xs)
-
 -- an item that takes no values
-moves-enter : (xs : List Item) (vs : List RawTerm) (i j : ℕ) → needed xs ≡ length vs → moves (xs ++ Enter i j ∷ []) vs ≡ moves xs vs ++ enter i j ∷ []
-moves-enter xs vs i j h = ap (moves (xs ++ Enter i j ∷ [])) (sym (append-nil vs)) ∙ moves-append xs (Enter i j ∷ []) vs [] h
+moves-enter : (M : Module) (xs : List Item) (vs : List RawTerm) (i j : ℕ) → needed xs ≡ length vs → moves M (xs ++ Enter i j ∷ []) vs ≡ moves M xs vs ++ enter i j ∷ []
+moves-enter M xs vs i j h = ap (moves M (xs ++ Enter i j ∷ [])) (sym (append-nil vs)) ∙ moves-append M xs (Enter i j ∷ []) vs [] h
 
-moves-leave : (xs : List Item) (vs : List RawTerm) → needed xs ≡ length vs → moves (xs ++ Leave ∷ []) vs ≡ moves xs vs ++ leave ∷ []
-moves-leave xs vs h = ap (moves (xs ++ Leave ∷ [])) (sym (append-nil vs)) ∙ moves-append xs (Leave ∷ []) vs [] h
+moves-leave : (M : Module) (xs : List Item) (vs : List RawTerm) → needed xs ≡ length vs → moves M (xs ++ Leave ∷ []) vs ≡ moves M xs vs ++ leave ∷ []
+moves-leave M xs vs h = ap (moves M (xs ++ Leave ∷ [])) (sym (append-nil vs)) ∙ moves-append M xs (Leave ∷ []) vs [] h
 
-applied_moves : (xs : List Item) (vs : List RawTerm) → applied (moves xs vs) ≡ stepped xs
-applied_moves [] vs = refl
-applied_moves (Enter i j ∷ xs) vs = applied_moves xs vs
-applied_moves (Leave ∷ xs) vs = applied_moves xs vs
-applied_moves (Apply k n ∷ xs) vs = ap (λ a. 1 + a) (applied_moves xs _)
+applied_moves : (M : Module) (xs : List Item) (vs : List RawTerm) → applied (moves M xs vs) ≡ stepped xs
+applied_moves M [] vs = refl
+applied_moves M (Enter i j ∷ xs) vs = applied_moves M xs vs
+applied_moves M (Leave ∷ xs) vs = applied_moves M xs vs
+applied_moves M (Apply k n ∷ xs) vs = ap (λ a. 1 + a) (applied_moves M xs _)
 
 pub all_fit_append : (vs : List RawTerm) (fs : List Frame) (f : Frame) → AllFit vs fs → Fits vs f → AllFit vs (fs ++ f ∷ [])
 all_fit_append vs [] f a b = (b, tt)
@@ -85,19 +83,19 @@ pub record Closed (k r : Kept) (j : ℕ) : Type 0 where
   pub values : r.values.items ≡ k.values.items
   pub steps : r.steps ≡ k.steps
 
-moves-outward : (j : ℕ) → moves (outward j) [] ≡ leaves j
-moves-outward zero = refl
-moves-outward (suc j) = ap (λ ms. leave ∷ ms) (moves-outward j)
+moves-outward : (M : Module) (j : ℕ) → moves M (outward j) [] ≡ leaves j
+moves-outward M zero = refl
+moves-outward M (suc j) = ap (λ ms. leave ∷ ms) (moves-outward M j)
 
-pub moves_closed : (k r : Kept) (j : ℕ) → needed k.items.items ≡ length k.values.items → Closed k r j → moves r.items.items r.values.items ≡ moves k.items.items k.values.items ++ leaves j
-moves_closed k r j h y =
-    ap (λ xs. moves xs r.values.items) y.items ∙ ap (moves (k.items.items ++ outward j)) (y.values ∙ sym (append-nil k.values.items)) ∙ moves-append k.items.items (outward j) k.values.items [] h
-    ∙ ap (λ ms. moves k.items.items k.values.items ++ ms) (moves-outward j)
+pub moves_closed : (M : Module) (k r : Kept) (j : ℕ) → needed k.items.items ≡ length k.values.items → Closed k r j → moves M r.items.items r.values.items ≡ moves M k.items.items k.values.items ++ leaves j
+moves_closed M k r j h y =
+    ap (λ xs. moves M xs r.values.items) y.items ∙ ap (moves M (k.items.items ++ outward j)) (y.values ∙ sym (append-nil k.values.items)) ∙ moves-append M k.items.items (outward j) k.values.items [] h
+    ∙ ap (λ ms. moves M k.items.items k.values.items ++ ms) (moves-outward M j)
 
-pub applied_closed : (k : Kept) (j : ℕ) → Counts k → applied (moves k.items.items k.values.items ++ leaves j) ≡ k.steps
-applied_closed k j c =
-    let a = applied-append (moves k.items.items k.values.items) (leaves j) in let b = applied_leaves j in
-    let q : applied (moves k.items.items k.values.items) ≡ stepped k.items.items = applied_moves k.items.items k.values.items in let d = c.steps in omega (arith, a, b, q, d)
+pub applied_closed : (M : Module) (k : Kept) (j : ℕ) → Counts k → applied (moves M k.items.items k.values.items ++ leaves j) ≡ k.steps
+applied_closed M k j c =
+    let a = applied-append (moves M k.items.items k.values.items) (leaves j) in let b = applied_leaves j in
+    let q : applied (moves M k.items.items k.values.items) ≡ stepped k.items.items = applied_moves M k.items.items k.values.items in let d = c.steps in omega (arith, a, b, q, d)
 
 pub place_closed : (ms : List Move) (vs : List RawTerm) (below : List Frame) → reached [] ms ≡ place_of (round (stack vs below)) → reached [] (ms ++ leaves (length below)) ≡ []
 place_closed ms vs below e =
@@ -134,9 +132,9 @@ module _ (M : Module) (n : ℕ) (t0 : RawTerm) where
   means_inside s s' g t b v i r d c h =
       let vs : List RawTerm = s.kept.values.items in
       let o : Open = opened vs s.top in
-      let a = goes_in M (Held M n) (Fails M n) t0 (moves s.kept.items.items vs) (stack vs s.below.items) o (here (opened vs g)) (rest_of o.rest) r h.holds.at h.done in
-      let w : moves (s.kept.items.items ++ Enter (length s.top.done.items) (number_of_terms (rest_of o.rest)) ∷ []) vs ≡ moves s.kept.items.items vs ++ enter (number_of_terms (terms_of s.top.done.items)) (number_of_terms (rest_of o.rest)) ∷ [] =
-      moves-enter s.kept.items.items vs _ _ c.values ∙ ap (λ q. moves s.kept.items.items vs ++ enter q (number_of_terms (rest_of o.rest)) ∷ []) (sym (number_terms_of s.top.done.items)) in
+      let a = goes_in M (Held M n) (Fails M n) t0 (moves M s.kept.items.items vs) (stack vs s.below.items) o (here (opened vs g)) (rest_of o.rest) r h.holds.at h.done in
+      let w : moves M (s.kept.items.items ++ Enter (length s.top.done.items) (number_of_terms (rest_of o.rest)) ∷ []) vs ≡ moves M s.kept.items.items vs ++ enter (number_of_terms (terms_of s.top.done.items)) (number_of_terms (rest_of o.rest)) ∷ [] =
+      moves-enter M s.kept.items.items vs _ _ c.values ∙ ap (λ q. moves M s.kept.items.items vs ++ enter q (number_of_terms (rest_of o.rest)) ∷ []) (sym (number_terms_of s.top.done.items)) in
       record {
         holds = rw (t, b, v, i) (record { at = rw (w, stack-append vs s.below.items s.top) a; values = h.holds.values });
         done = rw (t, d) tt;
@@ -147,16 +145,16 @@ module _ (M : Module) (n : ℕ) (t0 : RawTerm) where
       → Leaves xs xs' → needed xs ≡ length vs → Holds M n t0 xs vs below t → IsNormalBy M (Fails M n) t
       → Holds M n t0 xs' vs fs (here (opened vs f')) × AreNormalBy M (Fails M n) (terms_of f'.done.items)
   means_out xs xs' vs below fs f f' t e o d m l q h x =
-      let a : At M (Held M n) (Fails M n) t0 (moves xs vs) (stack vs fs ++ opened vs f ∷ []) t = subst (λ os. At M (Held M n) (Fails M n) t0 (moves xs vs) os t) (ap (stack vs) e ∙ stack-append vs fs f) h.at in
+      let a : At M (Held M n) (Fails M n) t0 (moves M xs vs) (stack vs fs ++ opened vs f ∷ []) t = subst (λ os. At M (Held M n) (Fails M n) t0 (moves M xs vs) os t) (ap (stack vs) e ∙ stack-append vs fs f) h.at in
       let g = opened_given vs f f' t o d m in
-      let b : At M (Held M n) (Fails M n) t0 (moves xs' vs) (stack vs fs) (here (given (opened vs f) t)) =
-      ⊎_elim (λ y. let w : moves xs' vs ≡ moves xs vs ++ leave ∷ [] = ap (λ z. moves z vs) y ∙ moves-leave xs vs q in rw w (goes_out M (Held M n) (Fails M n) t0 (moves xs vs) (stack vs fs) (opened vs f) t a))
+      let b : At M (Held M n) (Fails M n) t0 (moves M xs' vs) (stack vs fs) (here (given (opened vs f) t)) =
+      ⊎_elim (λ y. let w : moves M xs' vs ≡ moves M xs vs ++ leave ∷ [] = ap (λ z. moves M z vs) y ∙ moves-leave M xs vs q in rw w (goes_out M (Held M n) (Fails M n) t0 (moves M xs vs) (stack vs fs) (opened vs f) t a))
       (λ y.
       let r : needed xs' ≡ length vs = let p = needed-append xs' (Enter y.0 y.1 ∷ []) in let z = ap needed y.2 in omega (arith, p, z, q) in
-      let w : moves xs vs ≡ moves xs' vs ++ enter y.0 y.1 ∷ [] = ap (λ z. moves z vs) y.2 ∙ moves-enter xs' vs y.0 y.1 r in
-      goes_back M (Held M n) (Fails M n) t0 (moves xs' vs) y.0 y.1 (stack vs fs) (opened vs f) t (rw w at a))
+      let w : moves M xs vs ≡ moves M xs' vs ++ enter y.0 y.1 ∷ [] = ap (λ z. moves M z vs) y.2 ∙ moves-enter M xs' vs y.0 y.1 r in
+      goes_back M (Held M n) (Fails M n) t0 (moves M xs' vs) y.0 y.1 (stack vs fs) (opened vs f) t (rw w at a))
       l in
-      (record { at = subst (λ x. At M (Held M n) (Fails M n) t0 (moves xs' vs) (stack vs fs) x) (sym (ap here g)) b; values = h.values }, done_put f.done.items f'.done.items t m (done_last fs f e h.at.below) x)
+      (record { at = subst (λ x. At M (Held M n) (Fails M n) t0 (moves M xs' vs) (stack vs fs) x) (sym (ap here g)) b; values = h.values }, done_put f.done.items f'.done.items t m (done_last fs f e h.at.below) x)
     where
       done_in : (vs : List RawTerm) (fs : List Frame) (f : Frame) → AllDone M (Fails M n) (stack vs (fs ++ f ∷ [])) → AreNormalBy M (Fails M n) (terms_of f.done.items)
       done_in vs [] f a = a.0
@@ -166,28 +164,30 @@ module _ (M : Module) (n : ℕ) (t0 : RawTerm) where
       done_last fs f e a = done_in vs fs f (rw e at a)
 
   -- the ends
-  pub means_done : (m : ℕ) (r : Reduced) (below : List Frame) → r.outcome ≡ Done → below ≡ [] → Counts r.kept → Holds M n t0 r.kept.items.items r.kept.values.items below r.term → IsNormalBy M (Fails M n) r.term → IsReduced M n t0 m r
-  means_done m r below o e c h x =
+  pub means_done : (m : ℕ) (r : Reduced) (below : List Frame) → r.outcome ≡ Done → below ≡ [] → Counts r.kept → r.kept.steps < m → Holds M n t0 r.kept.items.items r.kept.values.items below r.term → IsNormalBy M (Fails M n) r.term → IsReduced M n t0 m r
+  means_done m r below o e c l h x =
       let h' = rw e at h in
-      let q : applied (moves r.kept.items.items r.kept.values.items) ≡ stepped r.kept.items.items = applied_moves r.kept.items.items r.kept.values.items in
+      let q : applied (moves M r.kept.items.items r.kept.values.items) ≡ stepped r.kept.items.items = applied_moves M r.kept.items.items r.kept.values.items in
+      let y = steps_tree [] (moves M r.kept.items.items r.kept.values.items) in let z = c.steps in
+      let k : steps (proof_of M r.kept) < m = omega (arith, y, q, z, l) in
       record {
-        proves = Proves_of M n (proof_of r.kept) t0 r.term h'.at.leads;
-        counted = steps_tree [] (moves r.kept.items.items r.kept.values.items) ∙ q ∙ sym c.steps;
+        leads = h'.at.leads;
+        counted = c.steps ∙ sym q;
         balanced = h'.at.place;
-        ends = rw o (IsNormal_of M n r.term x);
+        ends = rw o (k, IsNormal_of M n r.term x);
       }
 
   pub means_full : (m : ℕ) (eqs : Equations) (k : Kept) (r : Reduced) (below : List Frame) (t : RawTerm) → Describes M n eqs → r.outcome ≡ Rewrites → r.term ≡ plug (round (stack k.values.items below)) t → Counts k → k.steps ≡ m
       → Closed k r.kept (length below) → Holds M n t0 k.items.items k.values.items below t → IsReduced M n t0 m r
   means_full m eqs k r below t d o e c s y h =
-      let ms : List Move = moves k.items.items k.values.items in let j : ℕ = length below in
-      let w : moves r.kept.items.items r.kept.values.items ≡ ms ++ leaves j = moves_closed k r.kept j c.values y in
-      let q : applied (ms ++ leaves j) ≡ k.steps = applied_closed k j c in
+      let ms : List Move = moves M k.items.items k.values.items in let j : ℕ = length below in
+      let w : moves M r.kept.items.items r.kept.values.items ≡ ms ++ leaves j = moves_closed M k r.kept j c.values y in
+      let q : applied (ms ++ leaves j) ≡ k.steps = applied_closed M k j c in
       let l = leads_closed M (AdmittedStep M) (Held M n) (Fails M n) ms j t0 _ h.at.leads in
       let x = stops_by_rewrites M n m d.free t0 (ms ++ leaves j) (stack k.values.items below) t l (q ∙ s) in
       record {
-        proves = rw (w, e) (Proves_of M n (tree [] (ms ++ leaves j)) t0 _ l);
-        counted = rw w (steps_tree [] (ms ++ leaves j) ∙ q ∙ sym y.steps);
+        leads = rw (w, e) l;
+        counted = rw w (y.steps ∙ sym q);
         balanced = rw w (place_closed ms k.values.items below h.at.place);
         ends = rw (o, w, e) x;
       }
@@ -195,15 +195,15 @@ module _ (M : Module) (n : ℕ) (t0 : RawTerm) where
   pub means_deep : (m : ℕ) (eqs : Equations) (k : Kept) (r : Reduced) (below : List Frame) (t : RawTerm) → Describes M n eqs → r.outcome ≡ Depth → r.term ≡ plug (round (stack k.values.items below)) t → Counts k → k.steps < m
       → Closed k r.kept (length below) → Holds M n t0 k.items.items k.values.items below t → GoesTooDeep M (length below) t → IsReduced M n t0 m r
   means_deep m eqs k r below t d o e c s y h g =
-      let ms : List Move = moves k.items.items k.values.items in let j : ℕ = length below in
-      let w : moves r.kept.items.items r.kept.values.items ≡ ms ++ leaves j = moves_closed k r.kept j c.values y in
-      let q : applied (ms ++ leaves j) ≡ k.steps = applied_closed k j c in
+      let ms : List Move = moves M k.items.items k.values.items in let j : ℕ = length below in
+      let w : moves M r.kept.items.items r.kept.values.items ≡ ms ++ leaves j = moves_closed M k r.kept j c.values y in
+      let q : applied (ms ++ leaves j) ≡ k.steps = applied_closed M k j c in
       let l = leads_closed M (AdmittedStep M) (Held M n) (Fails M n) ms j t0 _ h.at.leads in
       let z = length-stack k.values.items below in let v = g.4 in
       let x = stops_by_depth M n m d.free t0 (ms ++ leaves j) (stack k.values.items below) g.0 g.1 t g.2 l g.3 (omega (arith, q, s)) (omega (arith, z, v)) in
       record {
-        proves = rw (w, e) (Proves_of M n (tree [] (ms ++ leaves j)) t0 _ l);
-        counted = rw w (steps_tree [] (ms ++ leaves j) ∙ q ∙ sym y.steps);
+        leads = rw (w, e) l;
+        counted = rw w (y.steps ∙ sym q);
         balanced = rw w (place_closed ms k.values.items below h.at.place);
         ends = rw (o, w, e) x;
       }
@@ -218,33 +218,32 @@ pub means_open : (M : Module) (n : ℕ) (t0 : RawTerm) (s' : Running) → s'.top
 means_open M n t0 s' e h = record { holds = h; done = rw e tt }
 
 -- the start
-pub means_start : (M : Module) (n : ℕ) (t : RawTerm) (s : Running) → IsTrue (is_ground t) → height t ≤ 1000 → s.kept.items.items ≡ [] → s.kept.values.items ≡ [] → s.below.items ≡ []
+pub means_start : (M : Module) (n : ℕ) (t : RawTerm) (s : Running) → IsTrue (is_ground t) → IsRawTerm M.signature t → height t ≤ 1000 → s.kept.items.items ≡ [] → s.kept.values.items ≡ [] → s.below.items ≡ []
     → t ≡ here (opened s.kept.values.items s.top) → s.top.done.items ≡ [] → MeansRunning M n t s
-means_start M n t s g h i v b e d =
-    let a : At M (Held M n) (Fails M n) t [] [] t = begins M (Held M n) (Fails M n) t g h in
-    let a' : At M (Held M n) (Fails M n) t (moves s.kept.items.items s.kept.values.items) (stack s.kept.values.items s.below.items) t = rw (i, b) a in
+means_start M n t s g w h i v b e d =
+    let a : At M (Held M n) (Fails M n) t [] [] t = begins M (Held M n) (Fails M n) t g w h in
+    let a' : At M (Held M n) (Fails M n) t (moves M s.kept.items.items s.kept.values.items) (stack s.kept.values.items s.below.items) t = rw (i, b) a in
     record {
       holds = record {
-        at = subst (λ x. At M (Held M n) (Fails M n) t (moves s.kept.items.items s.kept.values.items) (stack s.kept.values.items s.below.items) x) e a';
-        values = λ j w k. let k' = rw v at k in cc;
+        at = subst (λ x. At M (Held M n) (Fails M n) t (moves M s.kept.items.items s.kept.values.items) (stack s.kept.values.items s.below.items) x) e a';
+        values = λ j u k. let k' = rw v at k in cc;
       };
       done = rw d tt;
     }
 
 -- no step at all
-pub means_none : (M : Module) (n : ℕ) (eqs : Equations) (d : Describes M n eqs) (m : ℕ) (r : Reduced) (t : RawTerm) → IsTrue (is_ground t) → height t ≤ 1000 → r.outcome ≡ Rewrites → r.term ≡ t → r.kept.items.items ≡ [] → r.kept.steps ≡ 0 → m ≡ 0 → IsReduced M n t m r
-means_none M n eqs d m r t g h o e i s z =
-    let a = begins M (Held M n) (Fails M n) t g h in
-    let y = stops_by_rewrites M n m d.free t [] [] t a.leads (sym z) in
-    let p = Proves_of M n (tree [] []) t t a.leads in
-    record { proves = rw (i, e) p; counted = rw i (sym s); balanced = rw i refl; ends = rw (o, i, e) y }
+pub means_none : (M : Module) (n : ℕ) (eqs : Equations) (d : Describes M n eqs) (m : ℕ) (r : Reduced) (t : RawTerm) → IsTrue (is_ground t) → IsRawTerm M.signature t → height t ≤ 1000
+    → r.outcome ≡ Rewrites → r.term ≡ t → r.kept.items.items ≡ [] → r.kept.steps ≡ 0 → m ≡ 0 → IsReduced M n t m r
+means_none M n eqs d m r t g w h o e i s z =
+    let a = begins M (Held M n) (Fails M n) t g w h in
+    let y = stops_by_rewrites M n m d.free t [] [] t a.leads (sym z) in record { leads = rw (i, e) a.leads; counted = rw i s; balanced = rw i refl; ends = rw (o, i, e) y }
 
 -- nothing to be done at all
-pub means_flat : (M : Module) (n : ℕ) (eqs : Equations) (d : Describes M n eqs) (m : ℕ) (r : Reduced) (t : RawTerm) → IsFlat t → IsTrue (is_ground t) → height t ≤ 1000 → r.outcome ≡ Done → r.term ≡ t → r.kept.items.items ≡ [] → r.kept.steps ≡ 0 → IsReduced M n t m r
-means_flat M n eqs d m r t f g h o e i s =
-    let a = begins M (Held M n) (Fails M n) t g h in
-    let p = Proves_of M n (tree [] []) t t a.leads in
-    record { proves = rw (i, e) p; counted = rw i (sym s); balanced = rw i refl; ends = rw (o, e) (IsNormal_of M n t (flat_normal M (Fails M n) d.free.signature d.tops t f g)) }
+pub means_flat : (M : Module) (n : ℕ) (eqs : Equations) (d : Describes M n eqs) (m : ℕ) (r : Reduced) (t : RawTerm) → IsFlat t → IsTrue (is_ground t) → IsRawTerm M.signature t → height t ≤ 1000
+    → r.outcome ≡ Done → r.term ≡ t → r.kept.items.items ≡ [] → r.kept.steps ≡ 0 → 0 < m → IsReduced M n t m r
+means_flat M n eqs d m r t f g w h o e i s l =
+    let a = begins M (Held M n) (Fails M n) t g w h in
+    record { leads = rw (i, e) a.leads; counted = rw i s; balanced = rw i refl; ends = rw (o, i, e) (l, IsNormal_of M n t (flat_normal M (Fails M n) d.free.signature d.tops t f g)) }
 
 pub falls_value : (s : Running) (f' : Frame) (t : RawTerm) → f'.op ≡ s.top.op → f'.todo ≡ s.top.todo → f'.done.items ≡ s.top.done.items ++ t ∷ []
     → (opened s.kept.values.items s.top).rest ≡ cons t (rest_of (opened s.kept.values.items s.top).rest)

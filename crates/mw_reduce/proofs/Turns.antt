@@ -3,20 +3,23 @@ use Rattle.std.specs.Prelude.{◌≡◌, ◌≤◌, ◌<◌, ◌+◌, ◌-◌, �
 use Rattle.std.proofs.Common.{sym, subst, ap, ◌∙◌, arith, inl, inr, ⊎_elim, length-append, length-drop}
 use Rattle.std.proofs.lemmas.Option.{slice_get_within}
 use Rattle.mw_logic.specs.Term.{RawTerm, RawTerms, numeral, quoted, variable, apply, nil, cons, join, is_ground}
+use Rattle.std.specs.List.{zip}
+use Rattle.mw_logic.specs.Signature.{IsRawTerm}
 use Rattle.mw_logic.specs.Module.{Module}
 use Rattle.mw_logic.specs.Judgements.{Held, Fails, IsNormalBy}
 use Rattle.mw_logic.specs.Proof as proof
 use Rattle.mw_machine.specs.Moves.{enter, leave, apply as applies}
 use Rattle.mw_logic.specs.NormalForm.{height}
 use Rattle.mw_machine.specs.Machine.{round, Fires, AreNormalBy}
-use Rattle.mw_machine.specs.Positions.{skip, fill, fill_all, IsWithin, AreWithin, numbered}
+use Rattle.mw_machine.specs.Positions.{skip, fill, fill_all, IsWithin, AreWithin}
 use Rattle.mw_logic.specs.Terms.{terms_of}
+use Rattle.mw_logic.proofs.PartsKept.{raw_inside}
 use Rattle.mw_machine.proofs.Filling.{fill_all-append}
 use Rattle.mw_machine.proofs.Steps.{part_ground, normal_here, steps_on}
 use Rattle.mw_machine.proofs.AtRank.{held_empty}
 use Rattle.mw_machine.proofs.Values.{values_normal}
 use Rattle.mw_reduce.specs.Clean.{clean, clean_all}
-use Rattle.mw_reduce.specs.Kept.{moves, needed, stepped}
+use Rattle.mw_reduce.specs.Kept.{variables_of, moves, needed, stepped}
 use Rattle.mw_reduce.specs.Equations.{listed}
 use Rattle.mw_reduce.specs.Stack.{all_of, opened, TodoFits, Fits, stack, AllFit}
 use Rattle.mw_reduce.specs.State.{NoneFits, IsWellNumbered, Describes, Holds, GoesTooDeep, After, Becomes, Fired, IsRight, IsCounted, Counts, Climbs}
@@ -53,17 +56,17 @@ pub drop_whole : {A : Type 0} (xs ys : List A) → drop (length xs) (xs ++ ys) �
 drop_whole [] ys = refl
 drop_whole (x ∷ xs) ys = drop_whole xs ys
 
-pub moves-append : (xs ys : List Item) (vs ws : List RawTerm) → needed xs ≡ length vs → moves (xs ++ ys) (vs ++ ws) ≡ moves xs vs ++ moves ys ws
-moves-append [] ys [] ws h = refl
-moves-append [] ys (v ∷ vs) ws h = absurd (omega (arith, h))
-moves-append (Enter i j ∷ xs) ys vs ws h = ap (λ ms. enter i j ∷ ms) (moves-append xs ys vs ws h)
-moves-append (Leave ∷ xs) ys vs ws h = ap (λ ms. leave ∷ ms) (moves-append xs ys vs ws h)
-moves-append (Apply k n ∷ xs) ys vs ws h =
+pub moves-append : (M : Module) (xs ys : List Item) (vs ws : List RawTerm) → needed xs ≡ length vs → moves M (xs ++ ys) (vs ++ ws) ≡ moves M xs vs ++ moves M ys ws
+moves-append M [] ys [] ws h = refl
+moves-append M [] ys (v ∷ vs) ws h = absurd (omega (arith, h))
+moves-append M (Enter i j ∷ xs) ys vs ws h = ap (λ ms. enter i j ∷ ms) (moves-append M xs ys vs ws h)
+moves-append M (Leave ∷ xs) ys vs ws h = ap (λ ms. leave ∷ ms) (moves-append M xs ys vs ws h)
+moves-append M (Apply k n ∷ xs) ys vs ws h =
     let l : n ≤ length vs = omega (arith, h) in
     let d = length-drop n vs in
     let m : needed xs ≡ length (drop n vs) = omega (arith, h, d) in
     let a = take_first n vs ws l in let b = drop_first n vs ws l in
-    rw (a, b) (ap (λ ms. applies k false (numbered 0 (take n vs)) proof.nil ∷ ms) (moves-append xs ys (drop n vs) ws m))
+    rw (a, b) (ap (λ ms. applies k false (zip (variables_of M k) (take n vs)) proof.nil ∷ ms) (moves-append M xs ys (drop n vs) ws m))
 
 pub needed-append : (xs ys : List Item) → needed (xs ++ ys) ≡ needed xs + needed ys
 needed-append [] ys = omega arith
@@ -124,29 +127,33 @@ module _ (M : Module) (n : ℕ) (m : Equations) (d : Describes M n m) (t0 : RawT
   pub ground_here : (t : RawTerm) → Holds M n t0 xs vs below t → IsTrue (is_ground t)
   ground_here t h = part_ground (round (stack vs below)) t h.at.ground
 
+  pub raw_here : (t : RawTerm) → Holds M n t0 xs vs below t → IsRawTerm M.signature t
+  raw_here t h = raw_inside M.signature d.accepted (round (stack vs below)) t h.at.raw
+
   pub turn_normal : (f : ℕ) (ts : RawTerms) (t : RawTerm) → NoneFits m f ts → t ≡ apply f ts → Holds M n t0 xs vs below (apply f ts) → AreNormalBy M (Fails M n) ts
       → Holds M n t0 xs vs below t × IsNormalBy M (Fails M n) t
   turn_normal f ts t none e h ns =
-      let x = normal_here M (Held M n) (Fails M n) d.free.signature t0 (moves xs vs) (stack vs below) f ts h.at ns (d.none f ts (ground_here (apply f ts) h) none) in
+      let x = normal_here M (Held M n) (Fails M n) d.free.signature t0 (moves M xs vs) (stack vs below) f ts h.at ns (d.none f ts (ground_here (apply f ts) h) none) in
       rw e (h, x)
 
   module _ (f i : ℕ) (st : Equation) (found : List RawTerm) (ts : RawTerms) (l : slice_get (listed m f) i ≡ Some st) (c : length found ≡ st.variables) (e : fill_all found st.left ≡ ts)
       (h : Holds M n t0 xs vs below (apply f ts)) where
-    fires_here : Fires M st.number (numbered 0 found) (apply f ts) (fill found (clean st.right))
+    fires_here : Fires M st.number (zip (variables_of M st.number) found) (apply f ts) (fill found (clean st.right))
     fires_here =
         let g : IsTrue (is_ground (apply f (fill_all found st.left))) = rw e (ground_here (apply f ts) h) in
-        subst (λ us. Fires M st.number (numbered 0 found) (apply f us) (fill found (clean st.right))) e (d.fires f i st found l c g)
+        let r : IsRawTerm M.signature (apply f (fill_all found st.left)) = rw e (raw_here (apply f ts) h) in
+        subst (λ us. Fires M st.number (zip (variables_of M st.number) found) (apply f us) (fill found (clean st.right))) e (d.fires f i st found l c g r)
 
     pub turn_deep : (t : RawTerm) → t ≡ apply f ts → 1000 < length below + height (fill found (clean st.right)) → Holds M n t0 xs vs below t × GoesTooDeep M (length below) t
-    turn_deep t k x = rw k (h, (st.number, numbered 0 found, fill found (clean st.right), fires_here, x))
+    turn_deep t k x = rw k (h, (st.number, zip (variables_of M st.number) found, fill found (clean st.right), fires_here, x))
 
     pub turn_applied : IsWellNumbered st → needed xs ≡ length vs → AllFit vs below → AreNormalBy M (Fails M n) ts → length below + height (fill found (clean st.right)) ≤ 1000
         → Holds M n t0 (xs ++ Apply st.number st.variables ∷ []) (vs ++ found) below (fill found (clean st.right))
     turn_applied w q fit ns x =
         let k = length-stack vs below in
-        let a = steps_on M (Held M n) (Fails M n) d.free (held_empty M n) t0 (moves xs vs) (stack vs below) st.number (numbered 0 found) (apply f ts) (fill found (clean st.right)) h.at fires_here (omega (arith, x, k)) in
-        let o : moves (xs ++ Apply st.number st.variables ∷ []) (vs ++ found) ≡ moves xs vs ++ applies st.number false (numbered 0 found) proof.nil ∷ [] =
-        moves-append xs (Apply st.number st.variables ∷ []) vs found q ∙ ap (λ us. moves xs vs ++ applies st.number false (numbered 0 us) proof.nil ∷ []) (take_whole st.variables found (sym c)) in
+        let a = steps_on M (Held M n) (Fails M n) d.free (held_empty M n) t0 (moves M xs vs) (stack vs below) st.number (zip (variables_of M st.number) found) (apply f ts) (fill found (clean st.right)) h.at fires_here (omega (arith, x, k)) in
+        let o : moves M (xs ++ Apply st.number st.variables ∷ []) (vs ++ found) ≡ moves M xs vs ++ applies st.number false (zip (variables_of M st.number) found) proof.nil ∷ [] =
+        moves-append M xs (Apply st.number st.variables ∷ []) vs found q ∙ ap (λ us. moves M xs vs ++ applies st.number false (zip (variables_of M st.number) us) proof.nil ∷ []) (take_whole st.variables found (sym c)) in
         let s = stack_more vs found below fit in
         record {
           at = rw (o, s) a;

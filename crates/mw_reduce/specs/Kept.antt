@@ -1,18 +1,30 @@
 -- What a kept proof means.
 use Rattle.std.specs.Prelude.{◌≡◌, ◌⊎◌, ℕ, zero, suc, ◌+◌, List, [], ◌∷◌, ◌++◌, take, drop, false}
-use Rattle.mw_logic.specs.Term.{RawTerm}
-use Rattle.mw_logic.specs.Proof.{nil}
-use Rattle.mw_machine.specs.Moves.{Move, enter, leave, apply}
-use Rattle.mw_machine.specs.Positions.{numbered}
+use Rattle.std.specs.List.{zip}
+use Rattle.std.specs.Prelude.{option_map, unwrap_or}
+use Rattle.mw_logic.specs.Term.{Variable, RawTerm}
+use Rattle.mw_logic.specs.Signature.{at_number}
+use Rattle.mw_logic.specs.Module.{Module, Statement}
+use Rattle.mw_logic.specs.Proof.{Proof, nil}
+use Rattle.mw_machine.specs.Moves.{Move, enter, leave, apply, tree}
+use Rattle.mw_reduce.specs.declared.kept.Kept.{Kept}
 use Rattle.mw_reduce.specs.declared.kept.Item.{Item}
 use Rattle.mw_reduce.specs.declared.kept.Item.TheVariants.{Enter, Leave, Apply}
 
--- the values are taken in order
-abbrev pub moves : List Item → List RawTerm → List Move
-moves [] vs = []
-moves (Enter i j ∷ xs) vs = enter i j ∷ moves xs vs
-moves (Leave ∷ xs) vs = leave ∷ moves xs vs
-moves (Apply k n ∷ xs) vs = apply k false (numbered 0 (take n vs)) nil ∷ moves xs (drop n vs)
+-- the variables of the statement of this number
+abbrev pub variables_of : Module → ℕ → List Variable
+variables_of M k = unwrap_or (option_map (λ (e : Statement). e.variables) (at_number M.statements k)) []
+
+-- the values are taken in order: those of a statement's variables, in the statement's own order
+abbrev pub moves : Module → List Item → List RawTerm → List Move
+moves M [] vs = []
+moves M (Enter i j ∷ xs) vs = enter i j ∷ moves M xs vs
+moves M (Leave ∷ xs) vs = leave ∷ moves M xs vs
+moves M (Apply k n ∷ xs) vs = apply k false (zip (variables_of M k) (take n vs)) nil ∷ moves M xs (drop n vs)
+
+-- the tree that a kept proof means
+abbrev pub proof_of : Module → Kept → Proof
+proof_of M k = tree [] (moves M k.items.items k.values.items)
 
 abbrev pub needed : List Item → ℕ
 needed [] = 0

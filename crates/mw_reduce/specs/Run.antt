@@ -2,14 +2,14 @@
 use Rattle.std.specs.Prelude.{◌≡◌, ◌⊎◌, ℕ, ◌<◌, [], ⊤}
 use Rattle.mw_logic.specs.Term.{RawTerm}
 use Rattle.mw_logic.specs.Module.{Module}
-use Rattle.mw_logic.specs.Judgements.{Fails, IsNormal, Proves}
+use Rattle.mw_logic.specs.Judgements.{Leads, AdmittedStep, Held, Fails, IsNormal}
 use Rattle.mw_logic.specs.Proof.{Proof, steps}
 use Rattle.mw_logic.specs.Ends.{Stops, by_rewrites, by_depth}
-use Rattle.mw_machine.specs.Moves.{tree, reached}
+use Rattle.mw_machine.specs.Moves.{reached, applied}
 use Rattle.mw_machine.specs.Limits.{limits_of}
 use Rattle.mw_machine.specs.Machine.{here, AreNormalBy, work}
 use Rattle.mw_logic.specs.Terms.{terms_of}
-use Rattle.mw_reduce.specs.Kept.{moves}
+use Rattle.mw_reduce.specs.Kept.{moves, proof_of}
 use Rattle.mw_reduce.specs.Stack.{opened, stack, Fits, AllFit}
 use Rattle.mw_reduce.specs.State.{Holds, Counts}
 use Rattle.mw_reduce.specs.declared.kept.Kept.{Kept}
@@ -19,10 +19,6 @@ use Rattle.mw_reduce.specs.declared.progress.Reduced.{Reduced}
 use Rattle.mw_reduce.specs.declared.progress.Running.{Running}
 use Rattle.mw_reduce.specs.declared.progress.Progress.{Progress}
 use Rattle.mw_reduce.specs.declared.progress.Progress.TheVariants.{More, Ended}
-
--- the tree that a kept proof means
-abbrev pub proof_of : Kept → Proof
-proof_of k = tree [] (moves k.items.items k.values.items)
 
 pub record IsRunning (m : ℕ) (s : Running) : Type 0 where
   pub counts : Counts s.kept
@@ -35,16 +31,16 @@ pub record MeansRunning (M : Module) (n : ℕ) (t0 : RawTerm) (s : Running) : Ty
   pub done : AreNormalBy M (Fails M n) (terms_of s.top.done.items)
 
 abbrev pub IsOutcome : Module → ℕ → ℕ → RawTerm → Proof → RawTerm → Outcome → Type 0
-IsOutcome M n m t0 p t Done = IsNormal M n t
+IsOutcome M n m t0 p t Done = (steps p < m) × IsNormal M n t
 IsOutcome M n m t0 p t Rewrites = Stops M n (limits_of m) t0 p t by_rewrites
 IsOutcome M n m t0 p t Depth = Stops M n (limits_of m) t0 p t by_depth
 
--- the kept proof proves what was reached, in as many steps as were counted, and the outcome is as it says
+-- the kept proof leads to what was reached, in as many steps as were counted, and the outcome is as it says
 pub record IsReduced (M : Module) (n : ℕ) (t0 : RawTerm) (m : ℕ) (r : Reduced) : Type 0 where
-  pub proves : Proves M n (proof_of r.kept) t0 r.term
-  pub counted : steps (proof_of r.kept) ≡ r.kept.steps
-  pub balanced : reached [] (moves r.kept.items.items r.kept.values.items) ≡ []
-  pub ends : IsOutcome M n m t0 (proof_of r.kept) r.term r.outcome
+  pub leads : Leads M (AdmittedStep M) (Held M n) (Fails M n) [] (proof_of M r.kept) t0 r.term
+  pub counted : r.kept.steps ≡ applied (moves M r.kept.items.items r.kept.values.items)
+  pub balanced : reached [] (moves M r.kept.items.items r.kept.values.items) ≡ []
+  pub ends : IsOutcome M n m t0 (proof_of M r.kept) r.term r.outcome
 
 abbrev pub Goes : ℕ → Progress → Type 0
 Goes m (More s) = IsRunning m s

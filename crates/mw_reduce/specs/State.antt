@@ -1,15 +1,18 @@
 -- What the reducer's state means, in a module that its equations are those of.
 use Rattle.std.specs.Prelude.{◌≡◌, ◌⊎◌, ℕ, ◌+◌, ◌<◌, List, [], ◌∷◌, ◌++◌, length, slice_get, Some, IsTrue, Bool, true, false, ⊤}
 use Rattle.mw_logic.specs.Term.{RawTerm, RawTerms, apply, is_ground}
+use Rattle.std.specs.List.{zip}
+use Rattle.mw_logic.specs.Signature.{IsRawTerm}
 use Rattle.mw_logic.specs.Module.{Module}
 use Rattle.mw_logic.specs.Substitution.{Substitution}
+use Rattle.mw_logic.specs.Accepted.{IsAccepted}
 use Rattle.mw_logic.specs.Judgements.{Held, Fails, IsNormalBy}
 use Rattle.mw_machine.specs.Plain.{IsFreeModule}
 use Rattle.mw_logic.specs.NormalForm.{height}
 use Rattle.mw_machine.specs.Machine.{here, Fires, NoneAtTop, NoFlatLeft, At}
-use Rattle.mw_machine.specs.Positions.{fill, fill_all, IsWithin, AreNumbered, counted_all, numbered}
+use Rattle.mw_machine.specs.Positions.{fill, fill_all, IsWithin, AreNumbered, counted_all}
 use Rattle.mw_reduce.specs.Clean.{clean}
-use Rattle.mw_reduce.specs.Kept.{moves, needed, stepped}
+use Rattle.mw_reduce.specs.Kept.{variables_of, moves, needed, stepped}
 use Rattle.mw_reduce.specs.Equations.{listed}
 use Rattle.mw_reduce.specs.Stack.{opened, stack, Fits, Stands}
 use Rattle.mw_reduce.specs.declared.equations.Equation.{Equation}
@@ -37,14 +40,15 @@ AreWellNumbered m = (f i : ℕ) (st : Equation) → slice_get (listed m f) i ≡
 -- The equations are those of the module M. (The numbering of variables, their sorts, and the index are in these two facts.)
 pub record Describes (M : Module) (n : ℕ) (m : Equations) : Type 0 where
   pub free : IsFreeModule M
+  pub accepted : IsAccepted M.signature
   pub tops : NoFlatLeft M
   pub fires : (f i : ℕ) (st : Equation) (vs : List RawTerm) → slice_get (listed m f) i ≡ Some st → length vs ≡ st.variables
-      → IsTrue (is_ground (apply f (fill_all vs st.left))) → Fires M st.number (numbered 0 vs) (apply f (fill_all vs st.left)) (fill vs (clean st.right))
+      → IsTrue (is_ground (apply f (fill_all vs st.left))) → IsRawTerm M.signature (apply f (fill_all vs st.left)) → Fires M st.number (zip (variables_of M st.number) vs) (apply f (fill_all vs st.left)) (fill vs (clean st.right))
   pub none : (f : ℕ) (ts : RawTerms) → IsTrue (is_ground (apply f ts)) → NoneFits m f ts → NoneAtTop M (Fails M n) (apply f ts)
 
 -- the kept items lead from t0 to the frames round t, and each kept value is normal
 pub record Holds (M : Module) (n : ℕ) (t0 : RawTerm) (xs : List Item) (vs : List RawTerm) (below : List Frame) (t : RawTerm) : Type 0 where
-  pub at : At M (Held M n) (Fails M n) t0 (moves xs vs) (stack vs below) t
+  pub at : At M (Held M n) (Fails M n) t0 (moves M xs vs) (stack vs below) t
   pub values : (i : ℕ) (v : RawTerm) → slice_get vs i ≡ Some v → IsNormalBy M (Fails M n) v
 
 -- the term can go no further for its depth: an equation fires, to a part that is too deep at its level

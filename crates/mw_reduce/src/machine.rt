@@ -2,6 +2,7 @@
 
 ghost use Rattle.std.specs.Prelude.{◌≡◌, ◌<◌, ◌≤◌, ◌++◌, [], ◌∷◌, ℕ, List, IfOk, IsTrue};
 ghost use Rattle.mw_logic.specs.Term.{RawTerm, RawTerms, join, is_ground, plug};
+ghost use Rattle.mw_logic.specs.Signature.{IsRawTerm};
 ghost use Rattle.mw_logic.specs.Module.{Module};
 ghost use Rattle.mw_logic.specs.NormalForm.{height};
 ghost use Rattle.mw_machine.specs.Positions.{skip};
@@ -215,7 +216,7 @@ pub fn reduce(
     requires ground { IsTrue (is_ground term) }
     requires admitted { height term ≤ 1000 }
     requires numbered { AreWellNumbered equations.now }
-    ensures { (M : Module) (n : ℕ) → Describes M n equations.now → IfOk result (IsReduced M n term limit) }
+    ensures { (M : Module) (n : ℕ) → Describes M n equations.now → IsRawTerm M.signature term → IfOk result (IsReduced M n term limit) }
 {
     let kept = Kept::new(alloc);
     if limit == 0 {

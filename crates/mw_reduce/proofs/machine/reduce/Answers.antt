@@ -5,12 +5,13 @@ use Rattle.mw_reduce.proofs.Moving.{means_start, means_none, means_flat}
 use Rattle.mw_reduce.proofs.machine.reduce.Goals as goal
 
 pub returns-then-limit-eq0 : goal.returns-then-limit-eq0
-returns-then-limit-eq0 c = λ M n d. means_none M n c.args.equations.now d c.args.limit _ c.args.term c.requires.ground c.requires.admitted refl refl c.new-kept.ensures.items c.new-kept.ensures.steps c.if-limit-eq0.true
+returns-then-limit-eq0 c = λ M n d w. means_none M n c.args.equations.now d c.args.limit _ c.args.term c.requires.ground w c.requires.admitted refl refl c.new-kept.ensures.items c.new-kept.ensures.steps c.if-limit-eq0.true
 
 pub returns-in-None : goal.returns-in-None
 returns-in-None c =
     let f = rw c.in-None.is at c.in_ok-opened.ensures [] in
-    λ M n d. means_flat M n c.args.equations.now d c.args.limit _ c.args.term f c.requires.ground c.requires.admitted refl refl c.new-kept.ensures.items c.new-kept.ensures.steps
+    let ne = c.if-limit-eq0.false in
+    λ M n d w. means_flat M n c.args.equations.now d c.args.limit _ c.args.term f c.requires.ground w c.requires.admitted refl refl c.new-kept.ensures.items c.new-kept.ensures.steps (omega (arith, ne))
 
 pub run-requires : goal.run-requires
 run-requires c =
@@ -31,4 +32,4 @@ returns-in-Some c =
     let f = rw c.in-Some.is at c.in_ok-opened.ensures c.new-kept.result.values.items in
     let k = c.new-kept.ensures in
     let s : Running = record { below = c.new-below.result; top = c.in-Some.top; kept = c.new-kept.result } in
-    λ M n d. c.run.ensures M n c.args.term d (means_start M n c.args.term s c.requires.ground c.requires.admitted k.items k.values c.new-below.ensures.items (sym f.0) f.1)
+    λ M n d w. c.run.ensures M n c.args.term d (means_start M n c.args.term s c.requires.ground w c.requires.admitted k.items k.values c.new-below.ensures.items (sym f.0) f.1)

@@ -59,7 +59,7 @@ returns-in-None-clause-means c =
     let e : c.args.state.below.items ≡ [] = search rules in
     λ M n t0 d h.
     let a = c.in_ok-frame-in-Complete.ensures.turns M n t0 c.args.state.below.items d l c.requires.running.below (subst (λ z. Holds M n t0 c.args.state.kept.items.items c.args.state.kept.values.items c.args.state.below.items z) w h.holds) h.done in
-    let b = rw c.in-Normal.is at a in means_done M n t0 c.args.limit _ c.args.state.below.items refl e q.0 b.0 b.1
+    let b = rw c.in-Normal.is at a in means_done M n t0 c.args.limit _ c.args.state.below.items refl e q.0 q.1 b.0 b.1
 
 pub returns-in-Normal-clause-goes : goal.returns-in-Normal-clause-goes
 returns-in-Normal-clause-goes c =
