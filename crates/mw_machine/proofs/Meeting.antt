@@ -1,5 +1,5 @@
 -- Variables in the order in which they are first met, and their positions.
-use Rattle.std.specs.Prelude.{◌≡◌, ◌<◌, ◌≤◌, ◌+◌, ℕ, suc, max, List, [], ◌∷◌, ◌++◌, length, Bool, true, false, ◌||◌, cond, IsTrue, refl}
+use Rattle.std.specs.Prelude.{◌≡◌, ◌<◌, ◌≤◌, ◌+◌, ℕ, zero, suc, max, get_or, List, [], ◌∷◌, ◌++◌, length, Bool, true, false, ◌||◌, cond, IsTrue, refl}
 use Rattle.std.proofs.Common.{sym, ap, ◌∙◌, arith, append_assoc, append-nil, length-append}
 use Rattle.std.proofs.lemmas.Bool.{eqb-true, and_parts, both_ways}
 use Rattle.std.proofs.lemmas.Slice.Eq.{bytes_eq-Decides}
@@ -37,7 +37,7 @@ pub neither : (a b : Bool) → (a || b) ≡ false → (a ≡ false) × (b ≡ fa
 neither true b h = absurd (both_ways _ h refl)
 neither false b h = (refl, h)
 
-is_in-append : (x : Variable) (xs ys : List Variable) → is_in x (xs ++ ys) ≡ (is_in x xs || is_in x ys)
+pub is_in-append : (x : Variable) (xs ys : List Variable) → is_in x (xs ++ ys) ≡ (is_in x xs || is_in x ys)
 is_in-append x [] ys = refl
 is_in-append x (y ∷ xs) ys = ap (λ b. same_variable y x || b) (is_in-append x xs ys) ∙ sym (or_assoc (same_variable y x) (is_in x xs) (is_in x ys))
 
@@ -119,6 +119,25 @@ place-append x (y ∷ xs) ys h = of (place-append x xs ys) (same_variable y x) h
 place-put : (x : Variable) (xs ys : List Variable) → is_in x xs ≡ false → place x (xs ++ x ∷ ys) ≡ length xs
 place-put x [] ys h = rw (same_itself x) refl
 place-put x (y ∷ xs) ys h = let p = neither (same_variable y x) (is_in x xs) h in rw (p.0) (ap suc (place-put x xs ys p.1))
+
+in_at : (xs : List Variable) (i : ℕ) (x : Variable) → i < length xs → x ≡ get_or xs i x → is_in x xs ≡ true
+in_at [] i x h e = absurd (omega (arith, h))
+in_at (y ∷ ys) zero x h e = let k : y ≡ x = sym e in rw k (let s = same_itself x in rw s refl)
+in_at (y ∷ ys) (suc i) x h e = of (same_variable y x) (in_at ys i x (omega (arith, h)) e)
+  where
+    of : (b : Bool) → is_in x ys ≡ true → (b || is_in x ys) ≡ true
+    of true r = refl
+    of false r = r
+
+-- the variable at a position
+pub place_at : (xs : List Variable) (i : ℕ) (x : Variable) → AreDistinct xs → i < length xs → x ≡ get_or xs i x → place x xs ≡ i
+place_at [] i x d h e = absurd (omega (arith, h))
+place_at (y ∷ ys) zero x d h e = let k : y ≡ x = sym e in rw k (let s = same_itself x in rw s refl)
+place_at (y ∷ ys) (suc i) x d h e = of (same_variable y x) refl (place_at ys i x d.1 (omega (arith, h)) e) (in_at ys i x (omega (arith, h)) e)
+  where
+    of : (b : Bool) → same_variable y x ≡ b → place x ys ≡ i → is_in x ys ≡ true → cond b 0 (suc (place x ys)) ≡ suc i
+    of false s r k = ap suc r
+    of true s r k = absurd (both_ways _ d.0 (let w : y ≡ x = same_is y x s in rw w k))
 
 mutual
   -- where the positions are those of first mention, patterns are numbered as the matcher wants them

@@ -5,3 +5,7 @@ pub mod Turns
 pub mod Rest
 pub mod Moving
 pub mod Outward
+pub mod Describing
+pub mod Tables
+pub mod Compiling
+pub mod Indexing

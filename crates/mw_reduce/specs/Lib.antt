@@ -6,3 +6,6 @@ pub mod Stack
 pub mod State
 pub mod Run
 pub mod Matching
+pub mod Compiled
+pub mod Theories
+pub mod Tables

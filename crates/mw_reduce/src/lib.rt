@@ -4,17 +4,21 @@
 //! not grow with the term. A step costs its matching and its right side.
 #![tactic(auto)]
 
+mod compile;
 mod equations;
 mod frame;
 mod kept;
 mod machine;
 mod next;
 mod pattern;
+mod places;
 mod progress;
+mod theory;
 mod turn;
 
 pub use equations::{Equation, Equations, Group};
 pub use kept::{Item, Kept};
 pub use machine::reduce;
+pub use theory::Theory;
 pub use pattern::{Pattern, Patterns};
 pub use progress::{Outcome, Reduced};
