@@ -1,5 +1,5 @@
 -- In a module with one sort: an equation fires where its left side matches by position, and has a solution only there.
-use Rattle.std.specs.Prelude.{◌≡◌, ◌<◌, ℕ, List, [], ◌∷◌, length, map, Bool, true, ◌||◌, Some, None, Option, slice_get, IsTrue, IsFalse, refl}
+use Rattle.std.specs.Prelude.{◌≡◌, ℕ, List, [], length, Some, None, slice_get, IsTrue, refl}
 use Rattle.std.specs.List.{zip}
 use Rattle.std.proofs.Common.{sym, subst, ap, ◌∙◌, arith, append-nil}
 use Rattle.std.proofs.lemmas.Bool.{and_parts}
@@ -7,8 +7,8 @@ use Rattle.std.proofs.lemmas.Option.{slice_get_within}
 use Rattle.mw_logic.specs.Term.{Variable, RawTerm, apply, RawTerms, is_ground, are_ground}
 use Rattle.mw_logic.specs.Signature.{Signature, at_number, HasKind, of_variable, of_operator, IsRawTerm, a_numeral, a_quoted, a_variable, an_operator, AreRawTerms, end, next}
 use Rattle.mw_logic.specs.Axioms.{done}
-use Rattle.mw_logic.specs.Substitution.{Substitution, instance, occurs, is_bound, binds_all, IsSubstitution, IsSolution}
-use Rattle.mw_logic.specs.Module.{Fragment, Module, Statement, IsStatement, binds_fragments}
+use Rattle.mw_logic.specs.Substitution.{Substitution, instance, occurs, is_bound, IsSubstitution, IsSolution}
+use Rattle.mw_logic.specs.Module.{Module, Statement}
 use Rattle.mw_logic.proofs.Canonical.{Each}
 use Rattle.mw_logic.proofs.InstanceLaws.{instance_kind}
 use Rattle.mw_logic.proofs.KindLaws.{SameKind-equal}

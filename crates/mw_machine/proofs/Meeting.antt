@@ -1,5 +1,5 @@
 -- Variables in the order in which they are first met, and their positions.
-use Rattle.std.specs.Prelude.{◌≡◌, ◌<◌, ◌≤◌, ◌+◌, ℕ, zero, suc, max, get_or, List, [], ◌∷◌, ◌++◌, length, Bool, true, false, ◌||◌, cond, IsTrue, refl}
+use Rattle.std.specs.Prelude.{◌≡◌, ◌<◌, ◌≤◌, ℕ, zero, suc, max, get_or, List, [], ◌∷◌, ◌++◌, length, Bool, true, false, ◌||◌, cond, refl}
 use Rattle.std.proofs.Common.{sym, ap, ◌∙◌, arith, append_assoc, append-nil, length-append}
 use Rattle.std.proofs.lemmas.Bool.{eqb-true, and_parts, both_ways}
 use Rattle.std.proofs.lemmas.Slice.Eq.{bytes_eq-Decides}

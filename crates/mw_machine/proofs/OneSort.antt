@@ -4,7 +4,7 @@ use Rattle.std.proofs.Common.{sym, subst, ap, ◌∙◌, inl, inr, ⊎_elim, ari
 use Rattle.std.proofs.lemmas.Bool.{and_parts, both_ways}
 use Rattle.mw_logic.specs.Term.{Variable, RawTerm, RawTerms, Frame, Context, plug, join, apply, is_ground, are_ground}
 use Rattle.mw_logic.specs.Term as term
-use Rattle.mw_logic.specs.Signature.{Signature, Sorted, sort, Declaration, Operator, Identity, IsOperator, at_number, SameKind, same, up, down, Member, HasKind, of_operator, of_variable, IsRawTerm, a_numeral, a_quoted, a_variable, an_operator, AreRawTerms, end, next}
+use Rattle.mw_logic.specs.Signature.{Signature, Sorted, sort, Declaration, Operator, Identity, at_number, SameKind, same, up, down, Member, HasKind, of_operator, of_variable, IsRawTerm, a_numeral, a_quoted, a_variable, an_operator, AreRawTerms, end, next}
 use Rattle.mw_logic.specs.Axioms.{done}
 use Rattle.mw_logic.specs.Accepted.{IsAccepted}
 use Rattle.mw_logic.specs.Sorts.{AtOrBelow, IsBelow, AreBelow, Takes, DeclaredSort, DeclaredSorts, HasSort}

@@ -1,5 +1,5 @@
 -- Instances by position are those by a statement's own variables.
-use Rattle.std.specs.Prelude.{◌≡◌, ◌<◌, ℕ, suc, List, [], ◌∷◌, length, map, Bool, true, false, ◌&&◌, ◌||◌, cond, Some, None, unwrap_or, is_some, slice_get, IsTrue, refl}
+use Rattle.std.specs.Prelude.{◌≡◌, ℕ, suc, List, [], ◌∷◌, length, map, Bool, true, false, ◌&&◌, ◌||◌, cond, Some, unwrap_or, is_some, slice_get, IsTrue, refl}
 use Rattle.std.specs.List.{zip}
 use Rattle.std.proofs.Common.{sym, subst, ap, ◌∙◌, arith}
 use Rattle.std.proofs.lemmas.Bool.{both_ways}
@@ -7,7 +7,7 @@ use Rattle.mw_logic.specs.Term.{Variable, RawTerm, numeral, quoted, variable, ap
 use Rattle.mw_logic.specs.Signature.{Signature, sort, IsRawTerm, a_numeral, a_quoted, a_variable, an_operator, AreRawTerms, end, next}
 use Rattle.mw_logic.specs.Sorts.{HasSort}
 use Rattle.mw_logic.specs.Substitution.{Substitution, same_variable, value, instance, instances, occurs, occurs_in, is_bound, binds, binds_all, IsSubstitution}
-use Rattle.mw_machine.specs.Positions.{position, fill, fill_all}
+use Rattle.mw_machine.specs.Positions.{fill, fill_all}
 use Rattle.mw_machine.specs.Simple.{IsSimpleSignature}
 use Rattle.mw_machine.specs.Variables.{is_in, AreDistinct, place, placed, all_placed, IsPlaceable, ArePlaceable}
 use Rattle.mw_machine.proofs.Meeting.{same_is, same_itself, same_turned, neither}

@@ -1,7 +1,7 @@
 -- Modules with one sort, free operators on it, and equations without conditions.
-use Rattle.std.specs.Prelude.{ℕ, ◌≡◌, List, [], ◌∷◌, length, map, Some, true, false, IsTrue}
+use Rattle.std.specs.Prelude.{ℕ, ◌≡◌, [], ◌∷◌, length, map, Some, true, false, IsTrue}
 use Rattle.mw_logic.specs.Term.{Variable}
-use Rattle.mw_logic.specs.Signature.{Signature, Operator, Declaration, sort, IsOperator, IsRawTerm, Member, at_number}
+use Rattle.mw_logic.specs.Signature.{Signature, Operator, sort, IsOperator, IsRawTerm, Member, at_number}
 use Rattle.mw_logic.specs.Substitution.{occurs}
 use Rattle.mw_logic.specs.Module.{Module, Statement}
 use Rattle.mw_machine.specs.Machine.{IsFlat}

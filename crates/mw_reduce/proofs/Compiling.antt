@@ -1,7 +1,7 @@
 -- Terms as they are written, one by one, as patterns.
 use Rattle.std.specs.Prelude.{◌≡◌, ◌<◌, ◌≤◌, ◌+◌, ℕ, zero, suc, List, [], ◌∷◌, ◌++◌, length, drop, get_or, refl}
 use Rattle.std.proofs.Common.{sym, subst, ap, ◌∙◌, arith, drop_of_length-le}
-use Rattle.mw_logic.specs.Term.{Variable, RawTerms, nil, cons, join}
+use Rattle.mw_logic.specs.Term.{Variable, RawTerms, cons, join}
 use Rattle.mw_logic.specs.NormalForm.{height, highest}
 use Rattle.mw_machine.specs.Variables.{placed, all_placed, IsPlaceable, ArePlaceable}
 use Rattle.mw_machine.proofs.Trees.{join-nil, join-assoc}

@@ -1,15 +1,14 @@
 -- What is compiled describes its module.
-use Rattle.std.specs.Prelude.{◌≡◌, ℕ, List, [], length, map, option_map, unwrap_or, Some, slice_get, IsTrue, IsFalse, refl}
+use Rattle.std.specs.Prelude.{◌≡◌, ℕ, List, [], length, option_map, unwrap_or, Some, slice_get, IsTrue}
 use Rattle.std.specs.List.{zip}
-use Rattle.std.proofs.Common.{sym, subst, ap, ◌∙◌, arith}
+use Rattle.std.proofs.Common.{sym, subst, ap, ◌∙◌}
 use Rattle.std.proofs.lemmas.List.{length-map}
-use Rattle.mw_logic.specs.Term.{Variable, RawTerm, RawTerms, apply, is_ground}
+use Rattle.mw_logic.specs.Term.{RawTerm, RawTerms, apply, is_ground}
 use Rattle.mw_logic.specs.Signature.{at_number, IsRawTerm}
 use Rattle.mw_logic.specs.Substitution.{Substitution, IsSolution}
 use Rattle.mw_logic.specs.Module.{Module, Statement, IsStatement}
-use Rattle.mw_logic.specs.Judgements.{Fails}
 use Rattle.mw_machine.specs.Machine.{Fires}
-use Rattle.mw_machine.specs.Positions.{fill, fill_all, IsNumbered, counted, IsWithin}
+use Rattle.mw_machine.specs.Positions.{fill, fill_all, IsNumbered, counted}
 use Rattle.mw_machine.specs.Simple.{IsSimpleModule}
 use Rattle.mw_machine.specs.Variables.{placed}
 use Rattle.mw_machine.proofs.Firing.{free_module, no_flat_left, distinct, left_placeable, right_placeable, left_numbered, fires, solved}
@@ -17,10 +16,10 @@ use Rattle.mw_machine.proofs.Meeting.{placed_within}
 use Rattle.mw_machine.proofs.OneSort.{accepted}
 use Rattle.mw_machine.proofs.Placing.{value_of, values_of}
 use Rattle.mw_reduce.specs.Clean.{clean}
-use Rattle.mw_reduce.specs.Compiled.{IsCompilable, IsCompiled, IsIndexOf}
+use Rattle.mw_reduce.specs.Compiled.{IsCompilable, IsIndexOf}
 use Rattle.mw_reduce.specs.Equations.{listed}
 use Rattle.mw_reduce.specs.Kept.{variables_of}
-use Rattle.mw_reduce.specs.State.{NoneFits, IsWellNumbered, AreWellNumbered, Describes}
+use Rattle.mw_reduce.specs.State.{NoneFits, AreWellNumbered}
 use Rattle.mw_reduce.specs.Theories.{IsTheory}
 use Rattle.mw_reduce.specs.declared.equations.Equation.{Equation}
 use Rattle.mw_reduce.specs.declared.equations.Equations.{Equations}

@@ -1,7 +1,7 @@
 -- The index, equation by equation.
-use Rattle.std.specs.Prelude.{◌≡◌, ◌≢◌, ◌<◌, ◌≤◌, ◌+◌, ◌⊎◌, ℕ, zero, suc, List, [], ◌∷◌, ◌++◌, length, take, get_or, Some, None, slice_get, refl}
+use Rattle.std.specs.Prelude.{◌≡◌, ◌≢◌, ◌<◌, ◌+◌, ◌⊎◌, ℕ, zero, suc, List, [], ◌∷◌, ◌++◌, length, take, get_or, Some, None, slice_get, refl}
 use Rattle.std.proofs.Common.{sym, subst, ap, ◌∙◌, arith, inl, inr, ⊎_elim, length-take-le}
-use Rattle.std.proofs.lemmas.List.{take_more, take_all}
+use Rattle.std.proofs.lemmas.List.{take_more}
 use Rattle.mw_logic.specs.Signature.{at_number}
 use Rattle.mw_logic.specs.Module.{Statement}
 use Rattle.mw_reduce.specs.Compiled.{IsCompiled, IsIndexOf}
@@ -71,12 +71,12 @@ module _ (xs : List Statement) (e : Statement) (m m' : Equations) (f : ℕ) (st 
   complete_on (suc k) e' h = ⊎_elim
       (λ a. let (g, j, s, l, c) = old.complete (suc k) e' a in (g, j, s, listed_on g j s l, c))
       (λ a. (
-          f,
-          length (listed m f),
-          st,
-          ap (λ l. slice_get l (length (listed m f))) here ∙ get_last (listed m f) st,
-          subst (λ z. IsCompiled (suc k) z f st) a.1 (subst (λ z. IsCompiled (suc z) e f st) (sym a.0) comp),
-        ))
+        f,
+        length (listed m f),
+        st,
+        ap (λ l. slice_get l (length (listed m f))) here ∙ get_last (listed m f) st,
+        subst (λ z. IsCompiled (suc k) z f st) a.1 (subst (λ z. IsCompiled (suc z) e f st) (sym a.0) comp),
+      ))
       (old_or_last xs e k e' h)
 
   index_more : IsIndexOf (xs ++ e ∷ []) m'

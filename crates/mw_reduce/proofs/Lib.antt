@@ -9,3 +9,4 @@ pub mod Describing
 pub mod Tables
 pub mod Compiling
 pub mod Indexing
+pub mod Deducing

@@ -7,7 +7,7 @@ use Rattle.mw_logic.specs.Signature.{IsRawTerm}
 use Rattle.mw_logic.specs.Proof.{steps}
 use Rattle.mw_logic.specs.Module.{Module}
 use Rattle.mw_logic.specs.Judgements.{Held, Fails, IsNormalBy}
-use Rattle.mw_machine.specs.Moves.{Move, enter, leave, tree, applied}
+use Rattle.mw_machine.specs.Moves.{Move, enter, leave, applied}
 use Rattle.mw_logic.specs.NormalForm.{height}
 use Rattle.mw_machine.specs.Machine.{Open, here, under, IsFlat, round, given, rest_of, AreNormalBy, At, AllDone, work}
 use Rattle.mw_logic.specs.Terms.{terms_of}
@@ -21,7 +21,7 @@ use Rattle.mw_machine.proofs.Closing.{leaves, closed_place, applied-append, appl
 use Rattle.mw_machine.proofs.Steps.{length-under_all}
 use Rattle.mw_machine.proofs.Values.{flat_normal}
 use Rattle.mw_machine.proofs.Work.{work_value, work_inside, work_out}
-use Rattle.mw_machine.proofs.AtRank.{Proves_of, IsNormal_of, steps_tree, stops_by_depth, stops_by_rewrites}
+use Rattle.mw_machine.proofs.AtRank.{IsNormal_of, steps_tree, stops_by_depth, stops_by_rewrites}
 use Rattle.mw_reduce.specs.Kept.{proof_of, moves, needed, stepped, Leaves, outward}
 use Rattle.mw_reduce.specs.Stack.{opened, stack, Fits, AllFit, Stands}
 use Rattle.mw_reduce.specs.State.{Describes, Holds, Counts, GoesTooDeep}

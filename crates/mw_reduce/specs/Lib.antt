@@ -9,3 +9,4 @@ pub mod Matching
 pub mod Compiled
 pub mod Theories
 pub mod Tables
+pub mod Deductions

@@ -12,7 +12,6 @@ use Rattle.mw_logic.specs.Terms.{terms_of}
 use Rattle.mw_reduce.specs.Kept.{moves, proof_of}
 use Rattle.mw_reduce.specs.Stack.{opened, stack, Fits, AllFit}
 use Rattle.mw_reduce.specs.State.{Holds, Counts}
-use Rattle.mw_reduce.specs.declared.kept.Kept.{Kept}
 use Rattle.mw_reduce.specs.declared.progress.Outcome.{Outcome}
 use Rattle.mw_reduce.specs.declared.progress.Outcome.TheVariants.{Done, Rewrites, Depth}
 use Rattle.mw_reduce.specs.declared.progress.Reduced.{Reduced}

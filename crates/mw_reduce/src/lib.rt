@@ -13,12 +13,10 @@ mod next;
 mod pattern;
 mod places;
 mod progress;
+mod proved;
 mod theory;
 mod turn;
 
-pub use equations::{Equation, Equations, Group};
-pub use kept::{Item, Kept};
-pub use machine::reduce;
+pub use progress::Outcome;
+pub use proved::{Proved, reduce};
 pub use theory::Theory;
-pub use pattern::{Pattern, Patterns};
-pub use progress::{Outcome, Reduced};

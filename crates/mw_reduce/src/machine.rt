@@ -206,8 +206,8 @@ fn advance<'m>(
     }
 }
 
-/// Reduces with equations, innermost first and from the left.
-pub fn reduce(
+/// A term with its equations, from the start to the end.
+pub fn start(
     alloc: Global,
     equations: &Equations,
     term: Term,

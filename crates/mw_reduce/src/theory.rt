@@ -2,6 +2,7 @@
 ghost use Rattle.std.specs.Prelude.{◌≡◌, ℕ, IfOk};
 ghost use Rattle.mw_logic.specs.Module.{Module};
 ghost use Rattle.mw_machine.specs.Simple.{IsSimpleModule};
+ghost use Rattle.mw_reduce.specs.Theories.{IsTheory};
 
 use crate::compile::index;
 use crate::equations::Equations;
@@ -58,7 +59,14 @@ impl Theory {
         &self.signature
     }
 
-    /// The equations, in order.
+    /// The equations as the reducer uses them.
+    pub(crate) fn equations(&self) -> &Equations
+        ensures { IsTheory self.now result.now }
+    {
+        &self.equations
+    }
+
+    /// The statements, in order.
     pub fn statements(&self) -> &[Statement]
         ensures { result.now ≡ self.now.statements }
     {

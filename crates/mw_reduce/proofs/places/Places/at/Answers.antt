@@ -1,8 +1,7 @@
-use Rattle.std.proofs.Common.{◌≡◌, ◌∙◌, ap, IsTrue, sym, subst, Some, None}
+use Rattle.std.proofs.Common.{◌≡◌, ◌∙◌, ap, IsTrue, Some, None}
 use Rattle.std.specs.HashMap.{get}
-use Rattle.mw_logic.specs.Term.{Variable}
 use Rattle.mw_machine.specs.Variables.{is_in, place}
-use Rattle.mw_reduce.specs.Tables.{Key, same_key, variable_of}
+use Rattle.mw_reduce.specs.Tables.{same_key, variable_of}
 use Rattle.mw_reduce.proofs.places.Places.at.Goals as goal
 
 pub unreachable-requires : goal.unreachable-requires

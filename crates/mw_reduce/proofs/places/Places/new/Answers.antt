@@ -1,9 +1,8 @@
-use Rattle.std.proofs.Common.{◌≡◌, ◌∙◌, ap, IsTrue, sym}
+use Rattle.std.proofs.Common.{◌≡◌, ◌∙◌, ap}
 use Rattle.std.proofs.lemmas.List.{take_all}
 use Rattle.std.specs.HashMap.{get}
-use Rattle.mw_logic.specs.Term.{Variable}
 use Rattle.mw_machine.specs.Variables.{is_in}
-use Rattle.mw_reduce.specs.Tables.{Key, same_key, variable_of}
+use Rattle.mw_reduce.specs.Tables.{same_key, variable_of}
 use Rattle.mw_reduce.proofs.Tables.{table_on}
 use Rattle.mw_reduce.proofs.places.Places.new.Goals as goal
 

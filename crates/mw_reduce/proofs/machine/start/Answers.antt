@@ -2,7 +2,7 @@ use Rattle.std.proofs.Common.{◌∙◌, ap, refl, length, sym, arith, []}
 use Rattle.mw_reduce.specs.Kept.{needed, stepped}
 use Rattle.mw_reduce.specs.declared.progress.Running.{Running}
 use Rattle.mw_reduce.proofs.Moving.{means_start, means_none, means_flat}
-use Rattle.mw_reduce.proofs.machine.reduce.Goals as goal
+use Rattle.mw_reduce.proofs.machine.start.Goals as goal
 
 pub returns-then-limit-eq0 : goal.returns-then-limit-eq0
 returns-then-limit-eq0 c = λ M n d w. means_none M n c.args.equations.now d c.args.limit _ c.args.term c.requires.ground w c.requires.admitted refl refl c.new-kept.ensures.items c.new-kept.ensures.steps c.if-limit-eq0.true
