@@ -1,0 +1,128 @@
+-- Lists of terms and of patterns, item by item.
+use Rattle.std.proofs.Common.{◌≡◌, ℕ, zero, suc, ◌+◌, ◌<◌, ◌≤◌, List, [], ◌∷◌, ◌++◌, length, get_or, drop, arith, ap, sym, ◌∙◌, refl, drop-cons, add-one, length-drop, drop_of_length-le, subst, inl, inr}
+use Rattle.mw_logic.specs.Term.{RawTerm, RawTerms, numeral, quoted, variable, apply, nil, cons, join}
+use Rattle.mw_logic.specs.Parts.{number_of_terms}
+use Rattle.std.proofs.Common.{Vec, Global}
+use Rattle.mw_term.specs.declared.term.Term.{Term}
+use Rattle.mw_term.specs.declared.term.Shape.{Shape}
+use Rattle.mw_term.specs.Shapes.{shaped}
+use Rattle.std.specs.Prelude.{Some, None, slice_get, ◌-◌}
+use Rattle.mw_machine.specs.Machine.{rest_of, IsFlat}
+use Rattle.mw_machine.specs.Positions.{args_of, skip, fill, fill_all, IsWithin, AreWithin}
+use Rattle.mw_logic.specs.Terms.{terms_of}
+use Rattle.mw_machine.proofs.Trees.{join-assoc, join-nil}
+use Rattle.mw_machine.proofs.Filling.{terms_of-append}
+use Rattle.mw_reduce.specs.declared.pattern.Pattern.{Pattern}
+use Rattle.std.proofs.lemmas.Option.{slice_get-get_or}
+use Rattle.mw_reduce.specs.declared.pattern.Pattern.TheVariants.{Var, Op}
+use Rattle.mw_reduce.specs.declared.kept.Item.TheVariants.{Enter}
+use Rattle.mw_reduce.specs.Clean.{clean, clean_all}
+use Rattle.mw_reduce.specs.Stack.{Opens, IsNextArgument, IsNextPattern}
+use Rattle.mw_reduce.specs.declared.frame.Frame.{Frame}
+use Rattle.mw_reduce.specs.declared.frame.Next.TheVariants.{Value, Inside}
+
+pub number_terms_of : (xs : List RawTerm) → number_of_terms (terms_of xs) ≡ length xs
+number_terms_of [] = refl
+number_terms_of (x ∷ xs) = ap suc (number_terms_of xs)
+
+pub drop_at : {A : Type 0} (xs : List A) (i : ℕ) (x : A) → i < length xs → x ≡ get_or xs i x → drop i xs ≡ x ∷ drop (i + 1) xs
+drop_at xs i x h e = drop-cons xs i x h ∙ rw (← e, add-one) refl
+
+pub step_made : (vs : List RawTerm) (items : List Pattern) (i : ℕ) (p : Pattern) (made made' : List RawTerm) (t : RawTerm) (all : RawTerms)
+    → i < length items → p ≡ get_or items i p → made' ≡ made ++ t ∷ [] → t ≡ fill vs (clean p)
+    → join (terms_of made) (fill_all vs (clean_all (drop i items))) ≡ all → join (terms_of made') (fill_all vs (clean_all (drop (i + 1) items))) ≡ all
+step_made vs items i p made made' t all h e m f inv =
+    let d = drop_at items i p h e in
+    let k : join (terms_of made) (cons (fill vs (clean p)) (fill_all vs (clean_all (drop (i + 1) items)))) ≡ all = rw d at inv in
+    rw (m, terms_of-append, join-assoc, f) k
+
+pub step_end : (vs : List RawTerm) (items : List Pattern) (i : ℕ) (made : List RawTerm) (all : RawTerms) → length items ≤ i
+    → join (terms_of made) (fill_all vs (clean_all (drop i items))) ≡ all → terms_of made ≡ all
+step_end vs items i made all h inv = let d : drop i items ≡ [] = drop_of_length-le items h in sym (join-nil (terms_of made)) ∙ (rw d at inv)
+
+-- the item of a number, among the arguments that are left
+pub terms_some : (xs : List RawTerm) (k : ℕ) (u : RawTerm) → slice_get xs k ≡ Some u
+    → (skip k (terms_of xs) ≡ cons u (rest_of (skip k (terms_of xs)))) × (number_of_terms (rest_of (skip k (terms_of xs))) ≡ length xs - k - 1)
+terms_some [] k u h = cc
+terms_some (x ∷ xs) zero u h = let n = number_terms_of xs in ((cc), omega (arith, n))
+terms_some (x ∷ xs) (suc k) u h = let a = terms_some xs k u h in (a.0, omega (arith, a.1))
+
+pub pattern_none : (us : List RawTerm) (ps : List Pattern) (k : ℕ) → slice_get ps k ≡ None → skip k (fill_all us (clean_all ps)) ≡ nil
+pattern_none us [] zero h = refl
+pattern_none us [] (suc k) h = refl
+pattern_none us (p ∷ ps) zero h = cc
+pattern_none us (p ∷ ps) (suc k) h = pattern_none us ps k h
+
+number_patterns : (us : List RawTerm) (ps : List Pattern) → number_of_terms (fill_all us (clean_all ps)) ≡ length ps
+number_patterns us [] = refl
+number_patterns us (p ∷ ps) = ap suc (number_patterns us ps)
+
+pub pattern_some : (us : List RawTerm) (ps : List Pattern) (k : ℕ) (p : Pattern) → slice_get ps k ≡ Some p
+    → (skip k (fill_all us (clean_all ps)) ≡ cons (fill us (clean p)) (rest_of (skip k (fill_all us (clean_all ps))))) × (number_of_terms (rest_of (skip k (fill_all us (clean_all ps)))) ≡ length ps - k - 1)
+pattern_some us [] k p h = cc
+pattern_some us (x ∷ ps) zero p h = let n = number_patterns us ps in ((cc), omega (arith, n))
+pattern_some us (x ∷ ps) (suc k) p h = let a = pattern_some us ps k p h in (a.0, omega (arith, a.1))
+
+pub pattern_within : (n : ℕ) (ps : List Pattern) (k : ℕ) (p : Pattern) → slice_get ps k ≡ Some p → AreWithin n (clean_all ps) → IsWithin n (clean p)
+pattern_within n [] k p h w = cc
+pattern_within n (x ∷ ps) zero p h w = let e : x ≡ p = cc in subst (λ y. IsWithin n (clean y)) e w.0
+pattern_within n (x ∷ ps) (suc k) p h w = pattern_within n ps k p h w.1
+
+pub slice_get_behind : (vs : List RawTerm) (b i : ℕ) → slice_get (drop b vs) i ≡ slice_get vs (b + i)
+slice_get_behind vs zero i = let e : i ≡ 0 + i = omega arith in ap (slice_get vs) e
+slice_get_behind [] (suc b) i = refl
+slice_get_behind (v ∷ vs) (suc b) i = let e : suc (b + i) ≡ suc b + i = omega arith in slice_get_behind vs b i ∙ ap (slice_get (v ∷ vs)) e
+
+pub got : {A : Type 0} (xs : List A) (k : ℕ) (x : A) → k < length xs → x ≡ get_or xs k x → slice_get xs k ≡ Some x
+got xs k x h e = slice_get-get_or xs k x h ∙ ap Some (sym e)
+
+-- a variable's position is within the statement's own values
+pub own_position : (vs : List RawTerm) (ps : List Pattern) (base k i : ℕ) (p : Pattern) (own : List RawTerm) → k < length ps → p ≡ get_or ps k p → p ≡ Var i → AreWithin (length vs - base) (clean_all ps) → own ≡ drop base vs → i < length own
+own_position vs ps base k i p own h e q w o =
+    let a : IsWithin (length vs - base) (clean p) = pattern_within (length vs - base) ps k p (got ps k p h e) w in
+    let b : i < length vs - base = rw q at a in
+    let d = length-drop base vs in
+    let l = ap length o in omega (arith, b, d, l)
+
+pub argument_opened : (vs xs : List RawTerm) (at after : ℕ) (u : RawTerm) (g : Frame) → at < length xs → u ≡ get_or xs at u → Opens vs u g → after ≡ length xs - at - 1 → IsNextArgument vs xs at (Inside g (Enter at after))
+argument_opened vs xs at after u g h e o a = let x = terms_some xs at u (got xs at u h e) in let n : after ≡ number_of_terms (rest_of (skip at (terms_of xs))) = a ∙ sym x.1 in (rw o.0 x.0, o.1, o.2, rw n refl)
+
+pub argument_flat : (vs xs : List RawTerm) (at : ℕ) (u v : RawTerm) → at < length xs → u ≡ get_or xs at u → v ≡ u → IsFlat u → IsNextArgument vs xs at (Value v)
+argument_flat vs xs at u v h e m f = let x = terms_some xs at u (got xs at u h e) in rw m (x.0, inr f)
+
+pub next_pattern_value : (vs : List RawTerm) (ps : List Pattern) (base at i : ℕ) (p : Pattern) (v v' : RawTerm)
+    → at < length ps → p ≡ get_or ps at p → p ≡ Var i → i < length (drop base vs) → v ≡ get_or (drop base vs) i v → v' ≡ v
+    → IsNextPattern vs ps base at (Value v')
+next_pattern_value vs ps base at i p v v' h g e k l s =
+    let x = pattern_some (drop base vs) ps at p (got ps at p h g) in
+    let z : slice_get (drop base vs) i ≡ Some v' = got (drop base vs) i v k l ∙ ap Some (sym s) in
+    let y : fill (drop base vs) (clean p) ≡ v' = rw (ap (λ q. fill (drop base vs) (clean q)) e, z) refl in
+    (rw y at x.0, inl (base + i, sym (slice_get_behind vs base i) ∙ z))
+
+pub next_pattern_some : (vs : List RawTerm) (ps inner : List Pattern) (base at f before after : ℕ) (args : RawTerms) (p : Pattern) (done : List RawTerm)
+    → AreWithin (length vs - base) (clean_all ps) → base ≤ length vs → at < length ps → p ≡ get_or ps at p → p ≡ Op f args → clean_all inner ≡ args → done ≡ [] → before ≡ at → after ≡ length ps - at - 1
+    → (skip at (fill_all (drop base vs) (clean_all ps)) ≡ cons (apply f (join (terms_of done) (skip (length done) (fill_all (drop base vs) (clean_all inner))))) (rest_of (skip at (fill_all (drop base vs) (clean_all ps)))))
+    × (done ≡ []) × ((base ≤ length vs) × AreWithin (length vs - base) (clean_all inner)) × (Enter before after ≡ Enter at (number_of_terms (rest_of (skip at (fill_all (drop base vs) (clean_all ps))))))
+next_pattern_some vs ps inner base at f before after args p done w l h g e c d b a =
+    let x = pattern_some (drop base vs) ps at p (got ps at p h g) in
+    let y : apply f (join (terms_of done) (skip (length done) (fill_all (drop base vs) (clean_all inner)))) ≡ fill (drop base vs) (clean p) = rw (d, c, e) refl in
+    let n : after ≡ number_of_terms (rest_of (skip at (fill_all (drop base vs) (clean_all ps)))) = a ∙ sym x.1 in
+    let i : IsWithin (length vs - base) (clean p) = pattern_within (length vs - base) ps at p (got ps at p h g) w in
+    (rw y x.0, d, (l, rw c (rw e at i)), rw (b, n) refl)
+
+-- what stands on top is no operator
+pub flat_shape : (s : Shape) → ((f : ℕ) (ts : Vec Term Global) → s ≡ Shape.Op f ts → ⊥) → IsFlat (shaped s)
+flat_shape (Shape.Nat n) h = tt
+flat_shape (Shape.Qid q) h = tt
+flat_shape (Shape.Var x) h = tt
+flat_shape (Shape.Op f ts) h = h f ts refl
+
+pub flat_args : (t : RawTerm) → IsFlat t → args_of t ≡ nil
+flat_args (numeral n) h = refl
+flat_args (quoted q) h = refl
+flat_args (variable x) h = refl
+flat_args (apply f ts) h = absurd h
+
+pub skip_nil : (k : ℕ) → skip k nil ≡ nil
+skip_nil zero = refl
+skip_nil (suc k) = refl

@@ -1,0 +1,210 @@
+-- What an equation's step makes of the kept items, the values and the frames.
+use Rattle.std.specs.Prelude.{◌≡◌, ◌≤◌, ◌<◌, ◌+◌, ◌-◌, ◌⊎◌, ℕ, zero, suc, List, [], ◌∷◌, ◌++◌, length, take, drop, false, Some, slice_get, IsTrue, Bool, true, ◌≢◌, refl}
+use Rattle.std.proofs.Common.{sym, subst, ap, ◌∙◌, arith, inl, inr, ⊎_elim, length-append, length-drop}
+use Rattle.std.proofs.lemmas.Option.{slice_get_within}
+use Rattle.mw_logic.specs.Term.{RawTerm, RawTerms, numeral, quoted, variable, apply, nil, cons, join, is_ground}
+use Rattle.std.specs.List.{zip}
+use Rattle.mw_logic.specs.Signature.{IsRawTerm}
+use Rattle.mw_logic.specs.Module.{Module}
+use Rattle.mw_logic.specs.Judgements.{Held, Fails, IsNormalBy}
+use Rattle.mw_logic.specs.Proof as proof
+use Rattle.mw_machine.specs.Moves.{enter, leave, apply as applies}
+use Rattle.mw_logic.specs.NormalForm.{height}
+use Rattle.mw_machine.specs.Machine.{round, Fires, AreNormalBy}
+use Rattle.mw_machine.specs.Positions.{skip, fill, fill_all, IsWithin, AreWithin}
+use Rattle.mw_logic.specs.Terms.{terms_of}
+use Rattle.mw_logic.proofs.PartsKept.{raw_inside}
+use Rattle.mw_machine.proofs.Filling.{fill_all-append}
+use Rattle.mw_machine.proofs.Steps.{part_ground, normal_here, steps_on}
+use Rattle.mw_machine.proofs.AtRank.{held_empty}
+use Rattle.mw_machine.proofs.Values.{values_normal}
+use Rattle.mw_reduce.specs.Clean.{clean, clean_all}
+use Rattle.mw_reduce.specs.Kept.{variables_of, moves, needed, stepped}
+use Rattle.mw_reduce.specs.Equations.{listed}
+use Rattle.mw_reduce.specs.Stack.{all_of, opened, TodoFits, Fits, stack, AllFit}
+use Rattle.mw_reduce.specs.State.{NoneFits, IsWellNumbered, Describes, Holds, GoesTooDeep, After, Becomes, Fired, IsRight, IsCounted, Counts, Climbs}
+use Rattle.mw_reduce.specs.declared.kept.Kept.{Kept}
+use Rattle.mw_reduce.specs.declared.frame.Turn.{Turn}
+use Rattle.mw_reduce.specs.declared.frame.Turn.TheVariants as turn
+use Rattle.mw_reduce.specs.declared.kept.Item.{Item}
+use Rattle.mw_reduce.specs.declared.kept.Item.TheVariants.{Enter, Leave, Apply}
+use Rattle.mw_reduce.specs.declared.pattern.Pattern.{Pattern as Pat}
+use Rattle.mw_reduce.specs.declared.pattern.Pattern.TheVariants.{Op}
+use Rattle.mw_reduce.specs.declared.equations.Equation.{Equation}
+use Rattle.mw_reduce.specs.declared.equations.Equations.{Equations}
+use Rattle.mw_reduce.specs.declared.frame.Todo.{Todo}
+use Rattle.mw_reduce.specs.declared.frame.Todo.TheVariants.{Pattern, Given}
+use Rattle.mw_reduce.specs.declared.frame.Frame.{Frame}
+
+take_first : {A : Type 0} (n : ℕ) (xs ys : List A) → n ≤ length xs → take n (xs ++ ys) ≡ take n xs
+take_first zero xs ys h = refl
+take_first (suc n) [] ys h = absurd (omega (arith, h))
+take_first (suc n) (x ∷ xs) ys h = ap (λ zs. x ∷ zs) (take_first n xs ys (omega (arith, h)))
+
+drop_first : {A : Type 0} (n : ℕ) (xs ys : List A) → n ≤ length xs → drop n (xs ++ ys) ≡ drop n xs ++ ys
+drop_first zero xs ys h = refl
+drop_first (suc n) [] ys h = absurd (omega (arith, h))
+drop_first (suc n) (x ∷ xs) ys h = drop_first n xs ys (omega (arith, h))
+
+take_whole : {A : Type 0} (n : ℕ) (xs : List A) → n ≡ length xs → take n xs ≡ xs
+take_whole zero [] h = refl
+take_whole zero (x ∷ xs) h = absurd (omega (arith, h))
+take_whole (suc n) [] h = absurd (omega (arith, h))
+take_whole (suc n) (x ∷ xs) h = ap (λ zs. x ∷ zs) (take_whole n xs (omega (arith, h)))
+
+pub drop_whole : {A : Type 0} (xs ys : List A) → drop (length xs) (xs ++ ys) ≡ ys
+drop_whole [] ys = refl
+drop_whole (x ∷ xs) ys = drop_whole xs ys
+
+pub moves-append : (M : Module) (xs ys : List Item) (vs ws : List RawTerm) → needed xs ≡ length vs → moves M (xs ++ ys) (vs ++ ws) ≡ moves M xs vs ++ moves M ys ws
+moves-append M [] ys [] ws h = refl
+moves-append M [] ys (v ∷ vs) ws h = absurd (omega (arith, h))
+moves-append M (Enter i j ∷ xs) ys vs ws h = ap (λ ms. enter i j ∷ ms) (moves-append M xs ys vs ws h)
+moves-append M (Leave ∷ xs) ys vs ws h = ap (λ ms. leave ∷ ms) (moves-append M xs ys vs ws h)
+moves-append M (Apply k n ∷ xs) ys vs ws h =
+    let l : n ≤ length vs = omega (arith, h) in
+    let d = length-drop n vs in
+    let m : needed xs ≡ length (drop n vs) = omega (arith, h, d) in
+    let a = take_first n vs ws l in let b = drop_first n vs ws l in
+    rw (a, b) (ap (λ ms. applies k false (zip (variables_of M k) (take n vs)) proof.nil ∷ ms) (moves-append M xs ys (drop n vs) ws m))
+
+pub needed-append : (xs ys : List Item) → needed (xs ++ ys) ≡ needed xs + needed ys
+needed-append [] ys = omega arith
+needed-append (Enter i j ∷ xs) ys = needed-append xs ys
+needed-append (Leave ∷ xs) ys = needed-append xs ys
+needed-append (Apply k n ∷ xs) ys = let h = needed-append xs ys in omega (arith, h)
+
+pub stepped-append : (xs ys : List Item) → stepped (xs ++ ys) ≡ stepped xs + stepped ys
+stepped-append [] ys = omega arith
+stepped-append (Enter i j ∷ xs) ys = stepped-append xs ys
+stepped-append (Leave ∷ xs) ys = stepped-append xs ys
+stepped-append (Apply k n ∷ xs) ys = let h = stepped-append xs ys in omega (arith, h)
+
+-- more values change no frame
+mutual
+  within_more : (m n : ℕ) (t : RawTerm) → m ≤ n → IsWithin m t → IsWithin n t
+  within_more m n (numeral x) h w = tt
+  within_more m n (quoted q) h w = tt
+  within_more m n (variable x) h w = omega (arith, h, w)
+  within_more m n (apply f ts) h w = all_within_more m n ts h w
+
+  all_within_more : (m n : ℕ) (ts : RawTerms) → m ≤ n → AreWithin m ts → AreWithin n ts
+  all_within_more m n nil h w = tt
+  all_within_more m n (cons t ts) h w = (within_more m n t h w.0, all_within_more m n ts h w.1)
+
+all_of_more : (vs ws : List RawTerm) (td : Todo) → TodoFits vs td → all_of (vs ++ ws) td ≡ all_of vs td
+all_of_more vs ws (Pattern ps base) h =
+    let d = drop_first base vs ws h.0 in let l = length-drop base vs in
+    let w : AreWithin (length (drop base vs)) (clean_all ps.now) = rw l h.1 in
+    ap (λ us. fill_all us (clean_all ps.now)) d ∙ fill_all-append (drop base vs) ws (clean_all ps.now) w
+all_of_more vs ws (Given t) h = refl
+
+todo_fits_more : (vs ws : List RawTerm) (td : Todo) → TodoFits vs td → TodoFits (vs ++ ws) td
+todo_fits_more vs ws (Pattern ps base) h = let l = length-append vs ws in let b = h.0 in (omega (arith, l, b), all_within_more (length vs - base) (length (vs ++ ws) - base) (clean_all ps.now) (omega (arith, l, b)) h.1)
+todo_fits_more vs ws (Given t) h = tt
+
+pub opened_more : (vs ws : List RawTerm) (f : Frame) → Fits vs f → opened (vs ++ ws) f ≡ opened vs f
+opened_more vs ws f h = ap (λ ts. record { operator = f.op; done = terms_of f.done.items; rest = skip (length f.done.items) ts }) (all_of_more vs ws f.todo h)
+
+pub stack_more : (vs ws : List RawTerm) (fs : List Frame) → AllFit vs fs → stack (vs ++ ws) fs ≡ stack vs fs
+stack_more vs ws [] h = refl
+stack_more vs ws (f ∷ fs) h = let a = opened_more vs ws f h.0 in let b = stack_more vs ws fs h.1 in cc
+
+pub all_fit_more : (vs ws : List RawTerm) (fs : List Frame) → AllFit vs fs → AllFit (vs ++ ws) fs
+all_fit_more vs ws [] h = tt
+all_fit_more vs ws (f ∷ fs) h = (todo_fits_more vs ws f.todo h.0, all_fit_more vs ws fs h.1)
+
+pub length-stack : (vs : List RawTerm) (fs : List Frame) → length (stack vs fs) ≡ length fs
+length-stack vs [] = refl
+length-stack vs (f ∷ fs) = ap suc (length-stack vs fs)
+
+either_value : (vs ws : List RawTerm) (i : ℕ) (v : RawTerm) → slice_get (vs ++ ws) i ≡ Some v → (slice_get vs i ≡ Some v) ⊎ ((j : ℕ) × (slice_get ws j ≡ Some v))
+either_value [] ws i v h = inr (i, h)
+either_value (x ∷ vs) ws zero v h = inl h
+either_value (x ∷ vs) ws (suc i) v h = either_value vs ws i v h
+
+module _ (M : Module) (n : ℕ) (m : Equations) (d : Describes M n m) (t0 : RawTerm) (xs : List Item) (vs : List RawTerm) (below : List Frame) where
+  pub ground_here : (t : RawTerm) → Holds M n t0 xs vs below t → IsTrue (is_ground t)
+  ground_here t h = part_ground (round (stack vs below)) t h.at.ground
+
+  pub raw_here : (t : RawTerm) → Holds M n t0 xs vs below t → IsRawTerm M.signature t
+  raw_here t h = raw_inside M.signature d.accepted (round (stack vs below)) t h.at.raw
+
+  pub turn_normal : (f : ℕ) (ts : RawTerms) (t : RawTerm) → NoneFits m f ts → t ≡ apply f ts → Holds M n t0 xs vs below (apply f ts) → AreNormalBy M (Fails M n) ts
+      → Holds M n t0 xs vs below t × IsNormalBy M (Fails M n) t
+  turn_normal f ts t none e h ns =
+      let x = normal_here M (Held M n) (Fails M n) d.free.signature t0 (moves M xs vs) (stack vs below) f ts h.at ns (d.none f ts (ground_here (apply f ts) h) none) in
+      rw e (h, x)
+
+  module _ (f i : ℕ) (st : Equation) (found : List RawTerm) (ts : RawTerms) (l : slice_get (listed m f) i ≡ Some st) (c : length found ≡ st.variables) (e : fill_all found st.left ≡ ts)
+      (h : Holds M n t0 xs vs below (apply f ts)) where
+    fires_here : Fires M st.number (zip (variables_of M st.number) found) (apply f ts) (fill found (clean st.right))
+    fires_here =
+        let g : IsTrue (is_ground (apply f (fill_all found st.left))) = rw e (ground_here (apply f ts) h) in
+        let r : IsRawTerm M.signature (apply f (fill_all found st.left)) = rw e (raw_here (apply f ts) h) in
+        subst (λ us. Fires M st.number (zip (variables_of M st.number) found) (apply f us) (fill found (clean st.right))) e (d.fires f i st found l c g r)
+
+    pub turn_deep : (t : RawTerm) → t ≡ apply f ts → 1000 < length below + height (fill found (clean st.right)) → Holds M n t0 xs vs below t × GoesTooDeep M (length below) t
+    turn_deep t k x = rw k (h, (st.number, zip (variables_of M st.number) found, fill found (clean st.right), fires_here, x))
+
+    pub turn_applied : IsWellNumbered st → needed xs ≡ length vs → AllFit vs below → AreNormalBy M (Fails M n) ts → length below + height (fill found (clean st.right)) ≤ 1000
+        → Holds M n t0 (xs ++ Apply st.number st.variables ∷ []) (vs ++ found) below (fill found (clean st.right))
+    turn_applied w q fit ns x =
+        let k = length-stack vs below in
+        let a = steps_on M (Held M n) (Fails M n) d.free (held_empty M n) t0 (moves M xs vs) (stack vs below) st.number (zip (variables_of M st.number) found) (apply f ts) (fill found (clean st.right)) h.at fires_here (omega (arith, x, k)) in
+        let o : moves M (xs ++ Apply st.number st.variables ∷ []) (vs ++ found) ≡ moves M xs vs ++ applies st.number false (zip (variables_of M st.number) found) proof.nil ∷ [] =
+        moves-append M xs (Apply st.number st.variables ∷ []) vs found q ∙ ap (λ us. moves M xs vs ++ applies st.number false (zip (variables_of M st.number) us) proof.nil ∷ []) (take_whole st.variables found (sym c)) in
+        let s = stack_more vs found below fit in
+        record {
+          at = rw (o, s) a;
+          values = λ j v z. ⊎_elim (λ y. h.values j v y)
+              (λ y. values_normal M (Fails M n) d.free.signature found st.left ts e w.left ns y.0 (let p = slice_get_within found y.0 v y.1 in let r = w.count in omega (arith, p, r, c)) v y.1)
+              (either_value vs found j v z);
+        }
+
+-- the new term in hand, as a frame, as a term, or as a value
+pub new_frame : (vs vs' found : List RawTerm) (base op : ℕ) (right : Pat) (args : RawTerms) (list : List Pat) (ds : List RawTerm) → base ≡ length vs → vs' ≡ vs ++ found → right ≡ Op op args → clean_all list ≡ args → ds ≡ []
+    → apply op (join (terms_of ds) (skip (length ds) (fill_all (drop base vs') (clean_all list)))) ≡ fill found (clean right)
+new_frame vs vs' found base op right args list ds b v r c d = let w = drop_whole vs found in rw (d, b, v, w, c, r) refl
+
+stands_behind : (vs ws : List RawTerm) (j : ℕ) (v : RawTerm) → slice_get ws j ≡ Some v → (i : ℕ) × (slice_get (vs ++ ws) i ≡ Some v)
+stands_behind [] ws j v h = (j, h)
+stands_behind (x ∷ vs) ws j v h = let a = stands_behind vs ws j v h in (suc a.0, a.1)
+
+-- what an equation's step leaves, in the module
+pub after_fired : (M : Module) (n : ℕ) (t0 : RawTerm) (xs : List Item) (vs found : List RawTerm) (below : List Frame) (u : RawTerm) (r : Turn)
+    → Holds M n t0 xs (vs ++ found) below u → Becomes (vs ++ found) found u r → After M n t0 xs (vs ++ found) below r
+after_fired M n t0 xs vs found below u (turn.Open g) h b = rw b h
+after_fired M n t0 xs vs found below u (turn.Normal t) h b =
+    let s = stands_behind vs found b.1.0 t b.1.1 in (rw b.0 h, h.values s.0 t s.1)
+after_fired M n t0 xs vs found below u (turn.Full t) h b = rw b h
+after_fired M n t0 xs vs found below u (turn.Deep t) h b = absurd b
+
+pub turn_fired : (M : Module) (n : ℕ) (m : Equations) (d : Describes M n m) (t0 : RawTerm) (old new : Kept) (below : List Frame) (f i : ℕ) (st : Equation) (found : List RawTerm) (ts : RawTerms) (r : Turn)
+    → slice_get (listed m f) i ≡ Some st → length found ≡ st.variables → fill_all found st.left ≡ ts → IsWellNumbered st → needed old.items.items ≡ length old.values.items
+    → AllFit old.values.items below → Holds M n t0 old.items.items old.values.items below (apply f ts) → AreNormalBy M (Fails M n) ts → length below + height (fill found (clean st.right)) ≤ 1000
+    → Fired old new st found → Becomes new.values.items found (fill found (clean st.right)) r → After M n t0 new.items.items new.values.items below r
+turn_fired M n m d t0 old new below f i st found ts r l c e w q fit h ns x y b =
+    let a = turn_applied M n m d t0 old.items.items old.values.items below f i st found ts l c e h w q fit ns x in
+    let b' = rw y.values at b in
+    rw (y.items, y.values) (after_fired M n t0 _ old.values.items found below _ r a b')
+
+pub counted_right : (m : ℕ) (k : Kept) (full : Bool) (r : Turn) → IsRight k.values.items full r → k.steps ≤ m → (full ≡ true → k.steps ≡ m) → (full ≡ false → k.steps ≢ m) → IsCounted m k r
+counted_right m k full (turn.Open g) i l e n = let d = n i.0 in (omega (arith, l, d), i.1, i.2)
+counted_right m k full (turn.Normal t) i l e n = let d = n i in omega (arith, l, d)
+counted_right m k full (turn.Full t) i l e n = e i
+counted_right m k full (turn.Deep t) i l e n = absurd i
+
+pub counts_fired : (old new : Kept) (st : Equation) (found : List RawTerm) → Fired old new st found → new.steps ≡ old.steps + 1 → length found ≡ st.variables → Counts old → Counts new
+counts_fired old new st found f s l c = record {
+  values = let a = needed-append old.items.items (Apply st.number st.variables ∷ []) in let b = length-append old.values.items found in let q = c.values in
+      ap needed f.items ∙ (let e : needed (old.items.items ++ Apply st.number st.variables ∷ []) ≡ length (old.values.items ++ found) = omega (arith, a, b, q, l) in e) ∙ ap length (sym f.values);
+  steps = let a = stepped-append old.items.items (Apply st.number st.variables ∷ []) in let q = c.steps in
+      s ∙ (let e : old.steps + 1 ≡ stepped (old.items.items ++ Apply st.number st.variables ∷ []) = omega (arith, a, q) in e) ∙ ap stepped (sym f.items);
+}
+
+pub climbs_one : (old new : Kept) (r : Turn) → new.steps ≡ old.steps + 1 → Climbs old new r
+climbs_one old new (turn.Open g) e = omega (arith, e)
+climbs_one old new (turn.Normal t) e = inl (omega (arith, e))
+climbs_one old new (turn.Full t) e = tt
+climbs_one old new (turn.Deep t) e = tt

@@ -1,0 +1,6 @@
+use Rattle.mw_logic.specs.Terms.{terms_of}
+use Rattle.mw_reduce.proofs.Finding.{NoneOf}
+use Rattle.mw_reduce.proofs.turn.find.Given as goal
+
+abbrev pub invariant-loop-i : goal.invariant-loop-i
+invariant-loop-i l = NoneOf l.list (terms_of l.done) l.i

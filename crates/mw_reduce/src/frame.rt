@@ -1,0 +1,37 @@
+// The frames of the stack.
+
+use crate::kept::Item;
+use crate::pattern::Pattern;
+use mw_term::{OpId, Term};
+
+/// What the arguments of a frame are made of: the subterms of a right side, at the values from `base` on, or given ones.
+#[derive(Drop)]
+pub enum Todo<'m> {
+    Pattern(&'m [Pattern], usize),
+    Given(Term),
+}
+
+/// An operator whose arguments are reduced from the left: those that are done, and what all are made of.
+#[derive(Drop)]
+pub struct Frame<'m> {
+    pub op: OpId,
+    pub done: Vec<Term>,
+    pub todo: Todo<'m>,
+}
+
+/// What the next argument of a frame is: a value, a term to be reduced, or none.
+#[derive(Drop)]
+pub enum Next<'m> {
+    Value(Term),
+    Inside(Frame<'m>, Item),
+    Complete,
+}
+
+/// What comes where all arguments of an operator are done.
+#[derive(Drop)]
+pub enum Turn<'m> {
+    Open(Frame<'m>),
+    Normal(Term),
+    Full(Term),
+    Deep(Term),
+}

@@ -1,0 +1,118 @@
+// The next argument of a frame.
+ghost use Rattle.std.specs.Prelude.{◌≡◌, ◌≤◌, ◌-◌, length, List, IfOk, MatchOption, drop};
+ghost use Rattle.mw_logic.specs.Term.{RawTerm};
+ghost use Rattle.mw_machine.specs.Machine.{IsFlat};
+ghost use Rattle.mw_machine.specs.Positions.{AreWithin};
+ghost use Rattle.mw_reduce.specs.Clean.{clean_all};
+ghost use Rattle.mw_reduce.specs.Stack.{IsNext, IsNextPattern, IsNextGiven, Fits, Opens};
+
+use crate::frame::{Frame, Next, Todo};
+use crate::kept::Item;
+use crate::pattern::Pattern;
+use mw_term::{Shape, Term, copy};
+use std::alloc::{AllocError, Global};
+
+/// The values of one statement, which begin at a position.
+pub fn behind(values: &[Term], base: usize) -> &[Term]
+    requires { base ≤ length values.now }
+    ensures { result.now ≡ drop base values.now }
+{
+    &values[base..]
+}
+
+/// The frame in which a term's arguments are reduced. None for a term that is no operator on arguments.
+pub fn open<'m>(alloc: Global, term: &Term) -> Result<Option<Frame<'m>>, AllocError>
+    ensures { (vs : List RawTerm) → IfOk result (λ r. MatchOption r (IsFlat term.now) (Opens vs term.now)) }
+{
+    match term.shape() {
+        Shape::Op(op, args) => {
+            let done = Vec::with_capacity(alloc, args.len())?;
+            let term = copy(term)?;
+            Ok(Some(Frame {
+                op: *op,
+                done,
+                todo: Todo::Given(term),
+            }))
+        }
+        _ => Ok(None),
+    }
+}
+
+/// What the next argument is.
+pub fn next_of<'m>(
+    alloc: Global,
+    frame: &Frame<'m>,
+    values: &[Term],
+) -> Result<Next<'m>, AllocError>
+    requires { Fits values.now frame.now }
+    ensures { IfOk result (IsNext values.now frame.now) }
+{
+    match &frame.todo {
+        Todo::Pattern(list, base) => next_pattern(alloc, *list, *base, frame.done.len(), values),
+        Todo::Given(term) => next_given(alloc, term, frame.done.len()),
+    }
+}
+
+fn next_pattern<'m>(
+    alloc: Global,
+    list: &'m [Pattern],
+    base: usize,
+    at: usize,
+    values: &[Term],
+) -> Result<Next<'m>, AllocError>
+    requires below { base ≤ length values.now }
+    requires within { AreWithin (length values.now - base) (clean_all list.now) }
+    ensures { IfOk result (IsNextPattern values.now list.now base at) }
+{
+    match list.get(at) {
+        None => Ok(Next::Complete),
+        Some(Pattern::Var(i)) => {
+            let own = behind(values, base);
+            let t = copy(&own[*i])?;
+            Ok(Next::Value(t))
+        }
+        Some(Pattern::Op(f, args)) => {
+            let after = list.len() - at - 1;
+            let inner = args.slice();
+            let done = Vec::with_capacity(alloc, inner.len())?;
+            Ok(Next::Inside(
+                Frame {
+                    op: *f,
+                    done,
+                    todo: Todo::Pattern(inner, base),
+                },
+                Item::Enter(at, after),
+            ))
+        }
+    }
+}
+
+fn next_given<'m>(alloc: Global, term: &Term, at: usize) -> Result<Next<'m>, AllocError>
+    ensures { (vs : List RawTerm) → IfOk result (IsNextGiven vs term.now at) }
+{
+    match term.shape() {
+        Shape::Op(_, list) => next_argument(alloc, list.as_slice(), at),
+        _ => Ok(Next::Complete),
+    }
+}
+
+ghost use Rattle.mw_reduce.specs.Stack.{IsNextArgument};
+
+fn next_argument<'m>(alloc: Global, list: &[Term], at: usize) -> Result<Next<'m>, AllocError>
+    ensures { (vs : List RawTerm) → IfOk result (IsNextArgument vs list.now at) }
+{
+    match list.get(at) {
+        None => Ok(Next::Complete),
+        Some(t) => {
+            let after = list.len() - at - 1;
+            let opened = open(alloc, t)?;
+            match opened {
+                Some(frame) => Ok(Next::Inside(frame, Item::Enter(at, after))),
+                None => {
+                    let t = copy(t)?;
+                    Ok(Next::Value(t))
+                }
+            }
+        }
+    }
+}

@@ -1,0 +1,170 @@
+// Patterns, whose variables are numbered by position.
+ghost use Rattle.std.specs.Prelude.{◌≡◌, ◌↔◌, ◌+◌, ◌-◌, ◌^◌, min, IfOk, IsTrue};
+ghost use Rattle.mw_logic.specs.NormalForm.{height, highest};
+ghost use Rattle.mw_machine.specs.Positions.{fill, fill_all};
+ghost use Rattle.mw_logic.specs.Terms.{terms_of};
+ghost use Rattle.mw_reduce.specs.Clean.{clean, clean_all};
+ghost use Rattle.std.specs.Prelude.{length};
+ghost use Rattle.mw_machine.specs.Positions.{IsWithin, AreWithin, IsNumbered, AreNumbered, counted, counted_all};
+ghost use Rattle.mw_reduce.specs.Matching.{Decides};
+
+use mw_term::{OpId, Shape, Term, copy, depth, same};
+use std::alloc::{AllocError, Global};
+use std::marker::Model;
+
+#[derive(Drop)]
+#[cycle(pattern)]
+pub enum Pattern {
+    /// The variable of this position.
+    Var(usize),
+    Op(OpId, Patterns),
+}
+
+/// A list of patterns, which contracts see as the terms that they mean.
+#[derive(Drop)]
+#[cycle(pattern)]
+pub struct Patterns {
+    list: Vec<Pattern>,
+}
+
+impl Model for Patterns {
+    ghost use Rattle.mw_logic.specs.Term.{RawTerms};
+    ghost use Rattle.mw_logic.specs.TermCode.{coded_terms};
+    ghost use Rattle.mw_logic.specs.NormalForm.{highest};
+    ghost use Rattle.std.specs.Prelude.{◌+◌, ◌*◌};
+
+    ghost Value = { RawTerms };
+
+    ghost coded = { coded_terms };
+
+    ghost use Rattle.mw_reduce.specs.Clean.{clean_all};
+
+    ghost view = { λ a. clean_all a.list.items };
+
+    ghost size = { λ ts. 2 * highest ts + 1 };
+
+    ghost use Rattle.std.proofs.Common.{arith};
+    ghost use Rattle.mw_reduce.specs.Falls.{all_fall};
+
+    ghost size_decreases = { λ a h. Prim.omega (arith, all_fall a.list.items) };
+}
+
+impl Patterns {
+    pub fn new(list: Vec<Pattern>) -> Patterns
+        ensures { result ≡ clean_all list.items }
+    {
+        Patterns { list }
+    }
+
+    pub fn slice(&self) -> &[Pattern]
+        ensures { clean_all result.now ≡ self.now }
+    {
+        self.list.as_slice()
+    }
+}
+
+/// The depth of the instance.
+#[cycle(depth_at)]
+pub fn depth_at(pattern: &Pattern, values: &[Term]) -> u32
+    ensures { result ≡ min (height (fill values.now (clean pattern.now))) (2 ^ 32 - 1) }
+{
+    match pattern {
+        Pattern::Var(i) => match values.get(*i) {
+            Some(value) => depth(value),
+            None => 1,
+        },
+        Pattern::Op(_, args) => args.deepest_at(values).saturating_add(1),
+    }
+}
+
+impl Patterns {
+    #[cycle(depth_at)]
+    pub fn deepest_at(&self, values: &[Term]) -> u32
+        ensures { result ≡ min (highest (fill_all values.now self.now)) (2 ^ 32 - 1) }
+    {
+        let mut most = 0;
+        for p in &self.list {
+            most = most.max(depth_at(p, values));
+        }
+        most
+    }
+}
+
+/// The instance.
+#[cycle(instance)]
+pub fn instance(alloc: Global, pattern: &Pattern, values: &[Term]) -> Result<Term, AllocError>
+    requires { IsWithin (length values.now) (clean pattern.now) }
+    ensures { IfOk result (λ t. t ≡ fill values.now (clean pattern.now)) }
+{
+    match pattern {
+        Pattern::Var(i) => copy(&values[*i]),
+        Pattern::Op(f, args) => {
+            let made = args.instances(alloc, values)?;
+            Term::apply(alloc, *f, made)
+        }
+    }
+}
+
+impl Patterns {
+    #[cycle(instance)]
+    pub fn instances(&self, alloc: Global, values: &[Term]) -> Result<Vec<Term>, AllocError>
+        requires { AreWithin (length values.now) self.now }
+        ensures { IfOk result (λ ts. terms_of ts.items ≡ fill_all values.now self.now) }
+    {
+        let mut made = Vec::new(alloc);
+        for p in &self.list {
+            let t = instance(alloc, p, values)?;
+            made.push(t)?;
+        }
+        Ok(made)
+    }
+}
+
+/// Whether the term is an instance, by the values that are there and those that are put behind them.
+#[cycle(matches)]
+pub fn matches(pattern: &Pattern, term: &Term, values: &mut Vec<Term>) -> Result<bool, AllocError>
+    requires { IsNumbered (length values.old.items) (clean pattern.now) }
+    ensures decides { IfOk result (λ b. Decides b (counted (length values.old.items) (clean pattern.now)) values.old.items values.new.items (λ us. fill us (clean pattern.now) ≡ term.now)) }
+    ensures count { IfOk result (λ b. IsTrue b → length values.new.items ≡ counted (length values.old.items) (clean pattern.now)) }
+{
+    match pattern {
+        Pattern::Var(i) => match values.get(*i) {
+            Some(value) => Ok(same(value, term)),
+            None => {
+                let value = copy(term)?;
+                values.push(value)?;
+                Ok(true)
+            }
+        },
+        Pattern::Op(f, args) => match term.shape() {
+            Shape::Op(g, terms) => {
+                if f != g {
+                    return Ok(false);
+                }
+                args.all_match(terms.as_slice(), values)
+            }
+            _ => Ok(false),
+        },
+    }
+}
+
+impl Patterns {
+    #[cycle(matches)]
+    pub fn all_match(&self, terms: &[Term], values: &mut Vec<Term>) -> Result<bool, AllocError>
+        requires { AreNumbered (length values.old.items) self.now }
+        ensures decides { IfOk result (λ b. Decides b (counted_all (length values.old.items) self.now) values.old.items values.new.items (λ us. fill_all us self.now ≡ terms_of terms.now)) }
+        ensures count { IfOk result (λ b. IsTrue b → length values.new.items ≡ counted_all (length values.old.items) self.now) }
+    {
+        let list = self.list.as_slice();
+        let n = list.len();
+        if n != terms.len() {
+            return Ok(false);
+        }
+        for i in 0..n {
+            if !matches(&list[i], &terms[i], values)? {
+                return Ok(false);
+            }
+        }
+        Ok(true)
+    }
+}

@@ -1,0 +1,151 @@
+// What comes where all arguments of an operator are done.
+
+ghost use Rattle.std.specs.Prelude.{◌≡◌, ◌<◌, ◌+◌, ℕ, List, [], ◌++◌, length, slice_get, Some, IfOk, MatchOption};
+ghost use Rattle.mw_logic.specs.Term.{RawTerm, apply};
+ghost use Rattle.mw_logic.specs.Module.{Module};
+ghost use Rattle.mw_logic.specs.Judgements.{Fails};
+ghost use Rattle.mw_machine.specs.Machine.{AreNormalBy};
+ghost use Rattle.mw_machine.specs.Positions.{fill_all};
+ghost use Rattle.mw_logic.specs.Terms.{terms_of};
+ghost use Rattle.mw_reduce.specs.Equations.{listed};
+ghost use Rattle.mw_reduce.specs.Stack.{AllFit};
+ghost use Rattle.mw_reduce.specs.State.{NoneFits, AreWellNumbered, Describes, Holds, After, IsCounted, Counts};
+ghost use Rattle.mw_reduce.specs.declared.frame.Frame.{Frame as FrameOf};
+
+use crate::equations::{Equation, Equations};
+use crate::frame::{Frame, Todo, Turn};
+use crate::kept::{Item, Kept};
+use crate::next::behind;
+use crate::pattern::{Pattern, depth_at, instance};
+use mw_term::{OpId, Term, copy};
+use std::alloc::{AllocError, Global};
+
+const DEEPEST: u64 = 1000;
+
+/// The first equation that applies, with the values of its variables.
+pub fn find<'m>(
+    equations: &'m Equations,
+    op: OpId,
+    done: &[Term],
+    found: &mut Vec<Term>,
+) -> Result<Option<&'m Equation>, AllocError>
+    requires { AreWellNumbered equations.now }
+    ensures { IfOk result (λ r. MatchOption r (NoneFits equations.now op (terms_of done.now)) (λ st. ((i : ℕ) × (slice_get (listed equations.now op) i ≡ Some st.now)) × (length found.new.items ≡ st.now.variables) × (fill_all found.new.items st.now.left ≡ terms_of done.now))) }
+{
+    let list = equations.at(op);
+    for i in 0..list.len() {
+        let statement = &list[i];
+        found.clear();
+        if statement.left.all_match(done, found)? {
+            return Ok(Some(statement));
+        }
+    }
+    Ok(None)
+}
+
+ghost use Rattle.mw_reduce.specs.State.{Becomes, Climbs, Fired, IsWellNumbered};
+ghost use Rattle.mw_machine.specs.Positions.{fill};
+ghost use Rattle.mw_reduce.specs.Clean.{clean};
+
+/// An equation is applied.
+fn fire<'m>(
+    alloc: Global,
+    statement: &'m Equation,
+    kept: &mut Kept,
+    found: &mut Vec<Term>,
+    limit: u64,
+) -> Result<Turn<'m>, AllocError>
+    requires numbered { IsWellNumbered statement.now }
+    requires bound { length found.old.items ≡ statement.now.variables }
+    requires counts { Counts kept.old }
+    requires limited { kept.old.steps < limit }
+    ensures counts { IfOk result (λ r. Counts kept.new × IsCounted limit kept.new r) }
+    ensures one { IfOk result (λ r. kept.new.steps ≡ kept.old.steps + 1) }
+    ensures fired { IfOk result (λ r. Fired kept.old kept.new statement.now found.old.items) }
+    ensures becomes { IfOk result (Becomes kept.new.values.items found.old.items (fill found.old.items (clean statement.now.right))) }
+{
+    let base = kept.values.len();
+    kept.items
+        .push(Item::Apply(statement.number, statement.variables))?;
+    kept.values.append(found)?;
+    kept.steps += 1;
+    let full = kept.steps == limit;
+    let next = right(alloc, statement, kept.values.as_slice(), base, full)?;
+    Ok(next)
+}
+
+ghost use Rattle.std.specs.Prelude.{drop, ◌≤◌, ◌-◌, Bool, IsTrue, IsFalse};
+ghost use Rattle.mw_reduce.specs.State.{IsRight};
+
+/// The right side's instance.
+fn right<'m>(
+    alloc: Global,
+    statement: &'m Equation,
+    values: &[Term],
+    base: usize,
+    full: bool,
+) -> Result<Turn<'m>, AllocError>
+    requires numbered { IsWellNumbered statement.now }
+    requires bound { length (drop base values.now) ≡ statement.now.variables }
+    requires below { base ≤ length values.now }
+    ensures becomes { IfOk result (Becomes values.now (drop base values.now) (fill (drop base values.now) (clean statement.now.right))) }
+    ensures form { IfOk result (IsRight values.now full) }
+{
+    if full {
+        let part = instance(alloc, &statement.right, behind(values, base))?;
+        return Ok(Turn::Full(part));
+    }
+    match &statement.right {
+        Pattern::Op(f, args) => {
+            let list = args.slice();
+            let done = Vec::with_capacity(alloc, list.len())?;
+            Ok(Turn::Open(Frame {
+                op: *f,
+                done,
+                todo: Todo::Pattern(list, base),
+            }))
+        }
+        Pattern::Var(i) => {
+            let own = behind(values, base);
+            let t = copy(&own[*i])?;
+            Ok(Turn::Normal(t))
+        }
+    }
+}
+
+/// An equation is applied, or the term is normal, or a limit is met.
+pub fn turn<'m>(
+    alloc: Global,
+    equations: &'m Equations,
+    op: OpId,
+    done: Vec<Term>,
+    level: usize,
+    kept: &mut Kept,
+    found: &mut Vec<Term>,
+    limit: u64,
+) -> Result<Turn<'m>, AllocError>
+    requires numbered { AreWellNumbered equations.now }
+    requires counts { Counts kept.old }
+    requires limited { kept.old.steps < limit }
+    ensures counts { IfOk result (λ r. Counts kept.new × IsCounted limit kept.new r) }
+    ensures climbs { IfOk result (Climbs kept.old kept.new) }
+    ensures grows { IfOk result (λ r. (ws : List RawTerm) × (kept.new.values.items ≡ kept.old.values.items ++ ws)) }
+    ensures turns { (M : Module) (n : ℕ) (t0 : RawTerm) (below : List FrameOf) → Describes M n equations.now → length below ≡ level → AllFit kept.old.values.items below → Holds M n t0 kept.old.items.items kept.old.values.items below (apply op (terms_of done.items)) → AreNormalBy M (Fails M n) (terms_of done.items) → IfOk result (After M n t0 kept.new.items.items kept.new.values.items below) }
+{
+    let first = find(equations, op, done.as_slice(), found)?;
+    match first {
+        None => {
+            let t = Term::apply(alloc, op, done)?;
+            Ok(Turn::Normal(t))
+        }
+        Some(statement) => {
+            let depth = depth_at(&statement.right, found.as_slice()) as u64;
+            if depth.saturating_add(level as u64) > DEEPEST {
+                let part = Term::apply(alloc, op, done)?;
+                return Ok(Turn::Deep(part));
+            }
+            let next = fire(alloc, statement, kept, found, limit)?;
+            Ok(next)
+        }
+    }
+}
