@@ -16,7 +16,7 @@ use Rattle.mw_machine.specs.Plain.{IsFreeModule}
 use Rattle.mw_logic.specs.NormalForm.{height}
 use Rattle.mw_machine.specs.Limits.{limits_of}
 use Rattle.mw_machine.specs.Machine.{Open, round, Fires}
-use Rattle.mw_machine.proofs.Free.{part, all_clean, no_row}
+use Rattle.mw_logic.proofs.FreeSignature.{free_part, free_clean, bare_from_free, bare_no_row}
 use Rattle.mw_machine.proofs.Depths.{depth_height, level_within}
 use Rattle.mw_machine.proofs.Steps.{length-under_all}
 
@@ -61,7 +61,7 @@ module _ (M : Module) (free : IsFreeModule M) (Step : StepTest) (H I : List Frag
     leads_by (congruence ps) C t u (f, ts, us, a, b, l) = (f, ts, us, a, b, leads_by_in ps C f term.nil ts us l)
     leads_by (transitivity p q) C t u (m, a, b) = (m, leads_by p C t m a, leads_by q C m u b)
     leads_by (replacement k r s es) C t u (x, y) = (replaces_by k r s es t u x, y)
-    leads_by row C t u (x, y) = absurd (no_row M.signature free.signature _ t u x)
+    leads_by row C t u (x, y) = absurd (bare_no_row M.signature (bare_from_free M.signature free.signature) x)
 
     leads_by_in : (ps : Proofs) (C : Context) (f : ℕ) (d ts us : RawTerms) → LeadsIn M Step H F C f d ps ts us → LeadsIn M Step I G C f d ps ts us
     leads_by_in proof.nil C f d ts us l = l
@@ -146,7 +146,7 @@ module _ (M : Module) (n m : ℕ) (free : IsFreeModule M) (t0 : RawTerm) (ms : L
   deep : (u : RawTerm) → 1000 < length os + height u → IsTooDeep M.signature (plug (round os) u)
   deep u d =
       let l = level_within (round os) u in let k = length-under_all os [] in let e = depth_height M.signature free.signature (plug (round os) u) in
-      record { form = plug (round os) u; clean = record { clean = all_clean M.signature free.signature (plug (round os) u); equal = done }; deep = omega (arith, d, l, k, e) }
+      record { form = plug (round os) u; clean = record { clean = free_clean M.signature free.signature (plug (round os) u); equal = done }; deep = omega (arith, d, l, k, e) }
 
   next : (k : ℕ) (s : Substitution) (t u : RawTerm) (f : Fires M k s t u)
       → NextStep M (judgements M n) (limits_of m) (tree [] ms) (plug (round os) t) (plug (round os) u)
@@ -154,7 +154,7 @@ module _ (M : Module) (n m : ℕ) (free : IsFreeModule M) (t0 : RawTerm) (ms : L
       let e : plug (round os) (instance s f.statement.right) ≡ plug (round os) u = ap (plug (round os)) (sym f.to) in
       let w : Tries M (judgements M n) (limits_of m) (tree [] ms) (plug (round os) t) (round os) f.statement s = record {
         part = t;
-        is_part = part M.signature free.signature (round os) t;
+        is_part = free_part M.signature free.signature (round os) t;
         number = k;
         is_there = f.is_there;
         solution = f.solution;

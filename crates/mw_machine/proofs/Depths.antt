@@ -6,9 +6,9 @@ use Rattle.mw_logic.specs.Term as term
 use Rattle.mw_logic.specs.Signature.{Signature, Operator, at_number}
 use Rattle.mw_logic.specs.Parts.{depth, deepest, continues, is_assoc, IsAdmitted}
 use Rattle.mw_logic.proofs.Lifting.{fill}
-use Rattle.mw_machine.specs.Plain.{IsFreeSignature}
+use Rattle.mw_logic.specs.Free.{IsFreeSignature}
 use Rattle.mw_logic.specs.NormalForm.{height, highest}
-use Rattle.mw_machine.proofs.Free.{equal_is, no_successor}
+use Rattle.mw_logic.proofs.FreeSignature.{free_admitted}
 
 pub highest-join : (ts us : RawTerms) → highest (join ts us) ≡ max (highest ts) (highest us)
 highest-join term.nil us = omega arith
@@ -31,7 +31,7 @@ step_within m (c ∷ C) t u a b =
 
 module _ (sig : Signature) (free : IsFreeSignature sig) where
   not_assoc : (f : ℕ) → is_assoc sig f ≡ false
-  not_assoc f = of (at_number sig.operators f) (λ o e. (free.operators f o e).assoc)
+  not_assoc f = of (at_number sig.operators f) (λ o e. free.assoc f o e)
     where
       of : (x : Option Operator) → ((o : Operator) → x ≡ Some o → o.assoc ≡ false) → unwrap_or (option_map (λ o. o.assoc) x) false ≡ false
       of None h = refl
@@ -59,8 +59,4 @@ module _ (sig : Signature) (free : IsFreeSignature sig) where
     deepest_highest f (term.cons t ts) = rw (not_continues f t, depth_height t, deepest_highest f ts) refl
 
   pub admitted : (t : RawTerm) → IsTrue (is_ground t) → height t ≤ 1000 → IsAdmitted sig t
-  admitted t g h = record {
-    ground = g;
-    not_deep = λ x. let e : t ≡ x.form = equal_is sig free x.clean.equal in let d = depth_height x.form in let k : height x.form ≡ height t = ap height (sym e) in omega (arith, d, x.deep, k, h);
-    not_large = λ x. no_successor sig free _ x.successor;
-  }
+  admitted t g h = free_admitted sig free t g (let d = depth_height t in omega (arith, d, h))

@@ -18,7 +18,7 @@ use Rattle.mw_machine.specs.Plain.{IsFreeModule}
 use Rattle.mw_machine.specs.Positions.{fill, IsNumbered, counted}
 use Rattle.mw_machine.specs.Simple.{IsSimpleSignature, IsSimpleEquation, IsSimpleModule}
 use Rattle.mw_machine.specs.Variables.{is_in, met, AreDistinct, placed, IsPlaceable}
-use Rattle.mw_machine.proofs.Free.{equal_is}
+use Rattle.mw_logic.proofs.FreeSignature.{free_equal}
 use Rattle.mw_machine.proofs.Meeting.{same_itself, is_in-met, AreDistinct-met, numbered_met}
 use Rattle.mw_machine.proofs.OneSort.{free, accepted, well_sorted, kind_one, variable_sort, raw_again}
 use Rattle.mw_machine.proofs.Placing.{values_of, fill_placed, placeable, values_zip, bound_zip, binds_placed, instance_ground, substitution_zip}
@@ -132,4 +132,4 @@ module _ (M : Module) (simple : IsSimpleModule M) where
 
     -- a solution's values, in order
     pub solved : (t : RawTerm) (s : Substitution) → IsSolution M.signature e.left t [] s → fill (values_of s e.variables) (placed e.variables e.left) ≡ t
-    solved t s sol = fill_placed s e.variables e.left left_placeable ∙ equal_is M.signature (free M.signature simple.signature) sol.matches
+    solved t s sol = fill_placed s e.variables e.left left_placeable ∙ free_equal M.signature (free M.signature simple.signature) sol.matches

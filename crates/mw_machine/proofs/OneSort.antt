@@ -11,9 +11,9 @@ use Rattle.mw_logic.specs.Sorts.{AtOrBelow, IsBelow, AreBelow, Takes, DeclaredSo
 use Rattle.mw_logic.specs.Substitution.{occurs, occurs_in}
 use Rattle.mw_logic.proofs.KindLaws.{SameKind-equal}
 use Rattle.mw_logic.proofs.Lifting.{fill}
-use Rattle.mw_logic.proofs.PartsKept.{raw_inside}
-use Rattle.mw_logic.proofs.SolutionLaws.{IsWellSorted, number_of_sort}
-use Rattle.mw_machine.specs.Plain.{IsFreeSignature}
+use Rattle.mw_logic.proofs.Inside.{raw_inside}
+use Rattle.mw_logic.specs.Accepted.{IsWellSorted, number_of_sort}
+use Rattle.mw_logic.specs.Free.{IsFreeSignature}
 use Rattle.mw_machine.specs.Simple.{IsSimpleOperator, IsSimpleSignature}
 use Rattle.mw_machine.proofs.Meeting.{same_is}
 
@@ -33,13 +33,23 @@ one_of x ys y e m = let k : Member x (y ∷ []) = subst (Member x) e m in ⊎_el
 
 module _ (sig : Signature) (one : IsSimpleSignature sig) where
   pub free : IsFreeSignature sig
-  free = record { operators = λ f o is. (one.operators f o is).free; nat = one.nat }
+  free = record {
+    assoc = λ f o is. (one.operators f o is).free.assoc;
+    comm = λ f o is. (one.operators f o is).free.comm;
+    identity = λ f o is. (one.operators f o is).free.identity;
+    built = λ f o is. (one.operators f o is).free.built;
+    nat = one.nat;
+  }
 
   pub accepted : IsAccepted sig
   accepted = record {
     assoc = λ f o is h. absurd (both_ways _ (one.operators f o is).free.assoc h);
     comm = λ f o is h. absurd (both_ways _ (one.operators f o is).free.comm h);
     identity = λ f o i is h. absurd (apart o.identity i (one.operators f o is).free.identity h);
+    frozen = λ f o is h. ⊎_elim
+        (λ a. absurd (both_ways _ (one.operators f o is).free.assoc a))
+        (λ c. absurd (both_ways _ (one.operators f o is).free.comm c))
+        (either o.assoc o.comm h);
     sorts_differ = λ S T name a b. only_one sig.sorts S name one.sorts a ∙ sym (only_one sig.sorts T name one.sorts b);
   }
     where

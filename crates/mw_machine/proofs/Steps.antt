@@ -13,11 +13,13 @@ use Rattle.mw_logic.specs.Proof as proof
 use Rattle.mw_logic.specs.Judgements.{Leads, AdmittedStep, Replaces, IsNormalBy}
 use Rattle.mw_logic.proofs.Lifting.{fill}
 use Rattle.mw_machine.specs.Moves.{Move, enter, leave, apply as applies, Level, Place, tree, reached, place_of}
-use Rattle.mw_machine.specs.Plain.{IsFreeSignature, IsFreeModule}
+use Rattle.mw_logic.specs.Free.{IsFreeSignature}
+use Rattle.mw_machine.specs.Plain.{IsFreeModule}
 use Rattle.mw_logic.specs.NormalForm.{height}
 use Rattle.mw_machine.specs.Machine.{Open, rest_of, here, under, given, under_all, round, Fires, AreNormalBy, AllDone, NoneAtTop, At}
 use Rattle.mw_machine.proofs.Trees.{join-assoc, leads_on, leads_in_or_out, leads_without, reached-append}
-use Rattle.mw_machine.proofs.Free.{part, normal_built}
+use Rattle.mw_logic.proofs.FreeSignature.{free_part}
+use Rattle.mw_machine.proofs.Free.{normal_built}
 use Rattle.mw_machine.proofs.Depths.{level_within, step_within, admitted}
 
 pub under_all-append : (os : List Open) (o : Open) (C : Context) → under_all (os ++ o ∷ []) C ≡ under o ∷ under_all os C
@@ -157,7 +159,7 @@ module _ (M : Module) (H : List Fragment → Substitution → Proofs → Substit
         place = C;
         part = t;
         for_rules = λ x. absurd (true≢false (sym x));
-        is_part = part M.signature free.signature C t;
+        is_part = free_part M.signature free.signature C t;
         same = done;
         becomes = done;
       } in

@@ -9,19 +9,17 @@ use Rattle.mw_logic.specs.Substitution.{Substitution, instance}
 use Rattle.mw_logic.specs.Module.{Fragment, Module}
 use Rattle.mw_logic.specs.Judgements.{IsNormalBy}
 use Rattle.mw_logic.proofs.Canonical.{Each}
-use Rattle.mw_logic.proofs.Lifting.{fill as filled, plug-append}
-use Rattle.mw_machine.specs.Plain.{IsFreeSignature}
+use Rattle.mw_logic.proofs.ContextLaws.{plug-append}
+use Rattle.mw_logic.proofs.Lifting.{fill as filled}
+use Rattle.mw_logic.specs.Free.{IsFreeSignature}
 use Rattle.mw_logic.specs.NormalForm.{height}
 use Rattle.mw_machine.specs.Machine.{AreNormalBy, IsFlat, NoFlatLeft}
 use Rattle.mw_machine.specs.Positions.{fill, fill_all, counted, counted_all, IsNumbered, AreNumbered}
 use Rattle.mw_machine.proofs.Trees.{join-assoc}
-use Rattle.mw_machine.proofs.Free.{equal_is, all_clean, meets_no_row, no_big_pair, Outermost, none, last, outermost}
+use Rattle.mw_logic.proofs.FreeSignature.{free_equal, free_clean, bare_from_free, bare_meets_no_row, bare_no_pair}
+use Rattle.mw_machine.proofs.Free.{Outermost, none, last, outermost}
 use Rattle.mw_machine.proofs.Depths.{level_within, depth_height, admitted}
 use Rattle.mw_machine.proofs.Steps.{part_ground}
-
-plug-both : (D C : Context) (w : RawTerm) → plug (D ++ C) w ≡ plug C (plug D w)
-plug-both [] C w = refl
-plug-both (d ∷ D) C w = plug-both D C (filled d w)
 
 within_bound : (a b : ℕ) → (a ≤ b) ⊎ (b < a)
 within_bound zero b = inl (omega arith)
@@ -34,7 +32,7 @@ flat_alone C w t fl e = at C (outermost C) w e
   where
     at : (C : Context) → Outermost C → (w : RawTerm) → t ≡ plug C w → w ≡ t
     at _ none w e = sym e
-    at _ (last D c) w e = absurd (subst IsFlat (e ∙ plug-append D c w) fl)
+    at _ (last D c) w e = absurd (subst IsFlat (e ∙ plug-append D (c ∷ []) w) fl)
 
 flat_instance : (s : Substitution) (p : RawTerm) → (IsFlat p → ⊥) → IsFlat (instance s p) → ⊥
 flat_instance s (term.numeral n) h i = h tt
@@ -54,17 +52,17 @@ module _ (M : Module) (F : List Fragment → Substitution → Type 0) (free : Is
   flat_normal tops t fl g = record {
     admitted = admitted M.signature free t g (flat_height t fl);
     no_equation = λ C w p k e is eq s sol.
-        let a : w ≡ t = flat_alone C w t fl (equal_is M.signature free p.equal) in
-        let b : instance s e.left ≡ t = equal_is M.signature free sol.matches ∙ a in
+        let a : w ≡ t = flat_alone C w t fl (free_equal M.signature free p.equal) in
+        let b : instance s e.left ≡ t = free_equal M.signature free sol.matches ∙ a in
         absurd (flat_instance s e.left (tops k e is eq) (subst IsFlat (sym b) fl));
-    no_row = λ C w p. meets_no_row M.signature free w;
-    no_pair = λ C w p. no_big_pair M.signature free w;
+    no_row = λ C w p. bare_meets_no_row M.signature (bare_from_free M.signature free) w;
+    no_pair = λ C w p. bare_no_pair M.signature (bare_from_free M.signature free) w;
   }
 
   pub admitted_height : (t : RawTerm) → IsAdmitted M.signature t → height t ≤ 1000
   admitted_height t a =
       ⊎_elim (λ h. h)
-      (λ h. let e = depth_height M.signature free t in absurd (a.not_deep (record { form = t; clean = record { clean = all_clean M.signature free t; equal = done }; deep = omega (arith, e, h) })))
+      (λ h. let e = depth_height M.signature free t in absurd (a.not_deep (record { form = t; clean = record { clean = free_clean M.signature free t; equal = done }; deep = omega (arith, e, h) })))
       (within_bound (height t) 1000)
 
   pub normal_part : (C : Context) (t : RawTerm) → IsNormalBy M F (plug C t) → IsNormalBy M F t
@@ -73,14 +71,14 @@ module _ (M : Module) (F : List Fragment → Substitution → Type 0) (free : Is
       record {
         admitted = admitted M.signature free t (part_ground C t h.admitted.ground) (omega (arith, l, k));
         no_equation = λ D w p k e is eq s sol. h.no_equation (D ++ C) w (onto D w p) k e is eq s sol;
-        no_row = λ D w p. meets_no_row M.signature free w;
-        no_pair = λ D w p. no_big_pair M.signature free w;
+        no_row = λ D w p. bare_meets_no_row M.signature (bare_from_free M.signature free) w;
+        no_pair = λ D w p. bare_no_pair M.signature (bare_from_free M.signature free) w;
       }
     where
       onto : (D : Context) (w : RawTerm) → IsPart M.signature t D w → IsPart M.signature (plug C t) (D ++ C) w
       onto D w p =
-          let e : plug C t ≡ plug (D ++ C) w = ap (plug C) (equal_is M.signature free p.equal) ∙ sym (plug-both D C w) in
-          record { clean = all_clean M.signature free (plug (D ++ C) w); equal = rw e done }
+          let e : plug C t ≡ plug (D ++ C) w = ap (plug C) (free_equal M.signature free p.equal) ∙ sym (plug-append D C w) in
+          record { clean = free_clean M.signature free (plug (D ++ C) w); equal = rw e done }
 
   pub normal_args : (f : ℕ) (ts : RawTerms) → IsNormalBy M F (apply f ts) → AreNormalBy M F ts
   normal_args f ts h = behind term.nil ts h

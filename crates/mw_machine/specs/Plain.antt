@@ -1,6 +1,7 @@
 -- Free modules: no operator has an axiom, and nothing is built in.
 use Rattle.std.specs.Prelude.{ℕ, ◌≡◌, [], false, None}
-use Rattle.mw_logic.specs.Signature.{Signature, Operator, IsOperator}
+use Rattle.mw_logic.specs.Signature.{Operator}
+use Rattle.mw_logic.specs.Free.{IsFreeSignature}
 use Rattle.mw_logic.specs.Module.{Module, Statement, IsStatement}
 
 pub record IsFreeOperator (o : Operator) : Type 0 where
@@ -8,10 +9,6 @@ pub record IsFreeOperator (o : Operator) : Type 0 where
   pub comm : o.comm ≡ false
   pub identity : o.identity ≡ None
   pub built : o.built ≡ false
-
-pub record IsFreeSignature (sig : Signature) : Type 0 where
-  pub operators : (f : ℕ) (o : Operator) → IsOperator sig f o → IsFreeOperator o
-  pub nat : sig.nat ≡ false
 
 pub record IsFreeModule (M : Module) : Type 0 where
   pub signature : IsFreeSignature M.signature

@@ -1,2 +1,3 @@
 -- Laws of terms in lists.
 pub mod Terms
+pub mod RawLists

@@ -1,0 +1,2 @@
+-- The text of the workload.
+pub mod Workload

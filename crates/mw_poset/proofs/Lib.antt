@@ -1,0 +1,5 @@
+pub mod Members
+pub mod Chains
+pub mod Marking
+pub mod Reading
+pub mod Steps

@@ -1,0 +1,4 @@
+pub mod SortOrder
+pub mod Order
+pub mod Tables
+pub mod Search

@@ -1,0 +1,6 @@
+pub mod Lists
+pub mod Every
+pub mod Next
+pub mod Turning
+pub mod Whole
+pub mod Columns

@@ -1,0 +1,139 @@
+-- Which term some tokens spell, how a source is spelled, and when a source is well formed.
+use Rattle.std.specs.Prelude.{◌≡◌, ◌≢◌, ◌≤◌, ◌⊎◌, ◌++◌, ℕ, List, [], ◌∷◌, map, length, replicate, Contains, codes, option_map, unwrap_or, IsTrue}
+use Rattle.std.specs.List.{AllByRecursion}
+use Rattle.mw_logic.specs.Term.{Variable, RawTerm, numeral, quoted, variable, apply, RawTerms, nil, cons, is_ground}
+use Rattle.mw_logic.specs.Signature.{Signature, Operator, IsOperator, at_number}
+use Rattle.mw_logic.specs.Parts.{number_of_terms}
+use Rattle.mw_logic.specs.Substitution.{occurs}
+use Rattle.mw_text.specs.Tokens.{Name, tokens_of}
+use Rattle.mw_text.specs.Form.{Declared, Equation, Source, signature_of, variable_named}
+
+-- The tokens spell the term: a variable and a constant by its name, and an operator by its name and its arguments, divided by
+-- commas, in parentheses.
+mutual
+  pub data Spells (sig : Signature) (variables : List Variable) : RawTerm → List (List ℕ) → Type 0 where
+    a_variable : (x : Variable) → Contains variables x → Spells sig variables (variable x) (x.name ∷ [])
+    a_constant : (f : ℕ) (o : Operator) → IsOperator sig f o → o.args ≡ [] → Spells sig variables (apply f nil) (o.spelling ∷ [])
+    applied : (f : ℕ) (o : Operator) (t : RawTerm) (ts : RawTerms) (inner : List Name) → IsOperator sig f o → length o.args ≡ number_of_terms (cons t ts)
+        → SpellsAll sig variables t ts inner → Spells sig variables (apply f (cons t ts)) (o.spelling ∷ codes "(" ∷ inner ++ codes ")" ∷ [])
+
+  -- one argument, and those after it
+  pub data SpellsAll (sig : Signature) (variables : List Variable) : RawTerm → RawTerms → List (List ℕ) → Type 0 where
+    last : (t : RawTerm) (text : List Name) → Spells sig variables t text → SpellsAll sig variables t nil text
+    more : (t u : RawTerm) (us : RawTerms) (text rest : List Name) → Spells sig variables t text → SpellsAll sig variables u us rest
+        → SpellsAll sig variables t (cons u us) (text ++ codes "," ∷ rest)
+
+-- the tokens, 1,024 at most, spell this term and no other
+pub record Reads (sig : Signature) (variables : List Variable) (tokens : List Name) (t : RawTerm) : Type 0 where
+  pub short : length tokens ≤ 1024
+  pub spelled : Spells sig variables t tokens
+  pub only : (u : RawTerm) → Spells sig variables u tokens → u ≡ t
+
+abbrev pub spelling_of : Signature → ℕ → Name
+spelling_of sig f = unwrap_or (option_map (λ (o : Operator). o.spelling) (at_number sig.operators f)) []
+
+-- the prefix form of a term
+abbrev mutual
+  pub prefix_form : Signature → RawTerm → List Name
+  prefix_form sig (numeral n) = []
+  prefix_form sig (quoted q) = []
+  prefix_form sig (variable x) = x.name ∷ []
+  prefix_form sig (apply f ts) = spelling_of sig f ∷ in_parentheses sig ts
+
+  pub in_parentheses : Signature → RawTerms → List Name
+  in_parentheses sig nil = []
+  in_parentheses sig (cons t ts) = codes "(" ∷ prefix_form sig t ++ after_comma sig ts
+
+  pub after_comma : Signature → RawTerms → List Name
+  after_comma sig nil = codes ")" ∷ []
+  after_comma sig (cons t ts) = codes "," ∷ prefix_form sig t ++ after_comma sig ts
+
+abbrev pub operator_line : Name → Declared → List Name
+operator_line sort d = codes "op" ∷ d.name ∷ codes ":" ∷ replicate d.args sort ++ codes "->" ∷ sort ∷ codes "." ∷ []
+
+abbrev pub operator_lines : Name → List Declared → List Name
+operator_lines sort [] = []
+operator_lines sort (d ∷ ds) = operator_line sort d ++ operator_lines sort ds
+
+abbrev pub variable_line : Name → List Name → List Name
+variable_line sort [] = []
+variable_line sort (x ∷ xs) = codes "vars" ∷ (x ∷ xs) ++ codes ":" ∷ sort ∷ codes "." ∷ []
+
+abbrev pub equation_lines : Signature → List Equation → List Name
+equation_lines sig [] = []
+equation_lines sig (e ∷ es) = codes "eq" ∷ prefix_form sig e.left ++ codes "=" ∷ prefix_form sig e.right ++ codes "." ∷ equation_lines sig es
+
+-- the words of the command, between `reduce` and its full stop
+abbrev pub command_words : Source → List Name
+command_words s = prefix_form (signature_of s) s.subject
+
+-- the tokens of a source
+abbrev pub source_tokens : Source → List Name
+source_tokens s = codes "fmod" ∷ s.name ∷ codes "is" ∷ codes "sort" ∷ s.sort_name ∷ codes "." ∷ operator_lines s.sort_name s.operators
+    ++ variable_line s.sort_name s.variables ++ equation_lines (signature_of s) s.equations
+    ++ codes "endfm" ∷ codes "reduce" ∷ command_words s ++ codes "." ∷ []
+
+abbrev pub IsLetter : ℕ → Type 0
+IsLetter b = ((65 ≤ b) × (b ≤ 90)) ⊎ ((97 ≤ b) × (b ≤ 122))
+
+abbrev pub IsKept : Name → Type 0
+IsKept n = Contains (codes "endfm" ∷ codes "in" ∷ codes "if" ∷ codes "fi" ∷ []) n
+
+-- a name is letters alone, and none of the kept words
+pub record IsName (n : Name) : Type 0 where
+  pub some : n ≢ []
+  pub letters : AllByRecursion IsLetter n
+  pub free : IsKept n → ⊥
+
+-- the modules whose names are taken
+abbrev pub IsPrelude : Name → Type 0
+IsPrelude n = Contains (codes "BOOL" ∷ codes "NAT" ∷ codes "QID" ∷ codes "CONFIGURATION" ∷ []) n
+
+abbrev pub AllDiffer : List Name → Type 0
+AllDiffer [] = Unit {0}
+AllDiffer (n ∷ ns) = (Contains ns n → ⊥) × AllDiffer ns
+
+abbrev pub variables_in : Source → List Variable
+variables_in s = map variable_named s.variables
+
+-- a term over the source's operators and variables, whose prefix form is short enough
+pub record IsForm (s : Source) (t : RawTerm) : Type 0 where
+  pub spelled : Spells (signature_of s) (variables_in s) t (prefix_form (signature_of s) t)
+  pub short : length (prefix_form (signature_of s) t) ≤ 1024
+
+abbrev pub IsOperatorTerm : RawTerm → Type 0
+IsOperatorTerm (numeral n) = ⊥
+IsOperatorTerm (quoted q) = ⊥
+IsOperatorTerm (variable x) = ⊥
+IsOperatorTerm (apply f ts) = Unit {0}
+
+-- an equation's left side is no variable, and its right side has no other variables
+pub record IsRewriting (s : Source) (e : Equation) : Type 0 where
+  pub left : IsForm s e.left
+  pub right : IsForm s e.right
+  pub operator : IsOperatorTerm e.left
+  pub bound : (x : Variable) → IsTrue (occurs x e.right) → IsTrue (occurs x e.left)
+
+abbrev pub names_in : Source → List Name
+names_in s = map (λ (d : Declared). d.name) s.operators ++ s.variables
+
+pub record IsWellFormed (s : Source) : Type 0 where
+  pub names : AllByRecursion IsName (s.name ∷ s.sort_name ∷ names_in s)
+  pub new : IsPrelude s.name → ⊥
+  pub differ : AllDiffer (names_in s)
+  pub equations : AllByRecursion (IsRewriting s) s.equations
+  pub subject : IsForm s s.subject
+  pub ground : IsTrue (is_ground s.subject)
+
+abbrev pub IsPlainByte : ℕ → Type 0
+IsPlainByte b = (b ≡ 10) ⊎ ((32 ≤ b) × (b ≤ 126))
+
+-- the bytes spell the source
+pub record IsText (bytes : List ℕ) (s : Source) : Type 0 where
+  pub plain : AllByRecursion IsPlainByte bytes
+  pub tokens : tokens_of bytes ≡ source_tokens s
+  pub well_formed : IsWellFormed s
+
+-- the bytes are of the first form
+abbrev pub HasForm : List ℕ → Type 0
+HasForm bytes = (s : Source) × IsText bytes s

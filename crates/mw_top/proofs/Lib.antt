@@ -1,0 +1,4 @@
+-- Laws of bytes that move, of words, and of statuses.
+pub mod Moving
+pub mod Calling
+pub mod Exact
