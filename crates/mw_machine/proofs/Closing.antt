@@ -38,7 +38,3 @@ module _ (M : Module) (Step : StepTest) (H : List Fragment → Substitution → 
 
   pub leads_closed : (ms : List Move) (n : ℕ) (t u : RawTerm) → Leads M Step H F [] (tree [] ms) t u → Leads M Step H F [] (tree [] (ms ++ leaves n)) t u
   leads_closed ms n t u a = leads_then M Step H F [] ms (leaves n) t u u a (leads_leaves (reached [] ms) n u)
-
-  -- two whole proofs, one after the other
-  pub leads_both : (ms ns : List Move) (t u v : RawTerm) → reached [] ms ≡ [] → Leads M Step H F [] (tree [] ms) t u → Leads M Step H F [] (tree [] ns) u v → Leads M Step H F [] (tree [] (ms ++ ns)) t v
-  leads_both ms ns t u v e a b = leads_then M Step H F [] ms ns t u v a (subst (λ ls. Leads M Step H F [] (tree ls ns) u v) (sym e) b)

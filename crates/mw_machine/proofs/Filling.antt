@@ -25,12 +25,6 @@ mutual
   fill_all-append vs ws nil h = refl
   fill_all-append vs ws (cons t ts) h = rw (fill-append vs ws t h.0, fill_all-append vs ws ts h.1) refl
 
--- the term of a number, and those behind it
-pub skip_some : (ts : List RawTerm) (k : ℕ) (t : RawTerm) → slice_get ts k ≡ Some t → skip k (terms_of ts) ≡ cons t (skip (suc k) (terms_of ts))
-skip_some [] k t h = cc
-skip_some (x ∷ ts) zero t h = cc
-skip_some (x ∷ ts) (suc k) t h = skip_some ts k t h
-
 pub skip_none : (ts : List RawTerm) (k : ℕ) → slice_get ts k ≡ None → skip k (terms_of ts) ≡ nil
 skip_none [] zero h = refl
 skip_none [] (suc k) h = refl
