@@ -1,6 +1,6 @@
 -- At a stop each open place is left, so that another proof can follow.
 use Rattle.std.specs.Prelude.{◌≡◌, ◌+◌, ℕ, zero, suc, List, [], ◌∷◌, ◌++◌, length, refl}
-use Rattle.std.proofs.Common.{sym, subst, ◌∙◌, arith}
+use Rattle.std.proofs.Common.{◌∙◌, arith}
 use Rattle.mw_logic.specs.Term.{RawTerm, Context}
 use Rattle.mw_logic.specs.Substitution.{Substitution}
 use Rattle.mw_logic.specs.Module.{Fragment, Module}

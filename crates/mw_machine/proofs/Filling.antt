@@ -1,5 +1,5 @@
 -- Instances by position: more values behind, and what is left of a list.
-use Rattle.std.specs.Prelude.{◌≡◌, ◌<◌, ℕ, zero, suc, List, [], ◌∷◌, ◌++◌, length, Some, None, slice_get, refl}
+use Rattle.std.specs.Prelude.{◌≡◌, ◌<◌, ℕ, zero, suc, List, [], ◌∷◌, ◌++◌, length, None, slice_get, refl}
 use Rattle.std.proofs.Common.{ap, arith}
 use Rattle.mw_logic.specs.Term.{RawTerm, numeral, quoted, variable, apply, RawTerms, nil, cons, join}
 use Rattle.mw_machine.specs.Positions.{skip, fill, fill_all, IsWithin, AreWithin}

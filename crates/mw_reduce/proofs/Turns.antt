@@ -2,7 +2,7 @@
 use Rattle.std.specs.Prelude.{◌≡◌, ◌≤◌, ◌<◌, ◌+◌, ◌-◌, ◌⊎◌, ℕ, zero, suc, List, [], ◌∷◌, ◌++◌, length, take, drop, false, Some, slice_get, IsTrue, Bool, true, ◌≢◌, refl}
 use Rattle.std.proofs.Common.{sym, subst, ap, ◌∙◌, arith, inl, inr, ⊎_elim, length-append, length-drop}
 use Rattle.std.proofs.lemmas.Option.{slice_get_within}
-use Rattle.mw_logic.specs.Term.{RawTerm, RawTerms, numeral, quoted, variable, apply, nil, cons, join, is_ground}
+use Rattle.mw_logic.specs.Term.{RawTerm, RawTerms, numeral, quoted, variable, apply, nil, cons, is_ground}
 use Rattle.std.specs.List.{zip}
 use Rattle.mw_logic.specs.Signature.{IsRawTerm}
 use Rattle.mw_logic.specs.Module.{Module}
@@ -28,8 +28,6 @@ use Rattle.mw_reduce.specs.declared.frame.Turn.{Turn}
 use Rattle.mw_reduce.specs.declared.frame.Turn.TheVariants as turn
 use Rattle.mw_reduce.specs.declared.kept.Item.{Item}
 use Rattle.mw_reduce.specs.declared.kept.Item.TheVariants.{Enter, Leave, Apply}
-use Rattle.mw_reduce.specs.declared.pattern.Pattern.{Pattern as Pat}
-use Rattle.mw_reduce.specs.declared.pattern.Pattern.TheVariants.{Op}
 use Rattle.mw_reduce.specs.declared.equations.Equation.{Equation}
 use Rattle.mw_reduce.specs.declared.equations.Equations.{Equations}
 use Rattle.mw_reduce.specs.declared.frame.Todo.{Todo}
