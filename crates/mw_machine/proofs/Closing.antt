@@ -1,6 +1,6 @@
 -- At a stop each open place is left, so that another proof can follow.
 use Rattle.std.specs.Prelude.{◌≡◌, ◌+◌, ℕ, zero, suc, List, [], ◌∷◌, ◌++◌, length, refl}
-use Rattle.std.proofs.Common.{sym, subst, ◌∙◌, arith}
+use Rattle.std.proofs.Common.{◌∙◌, arith}
 use Rattle.mw_logic.specs.Term.{RawTerm, Context}
 use Rattle.mw_logic.specs.Substitution.{Substitution}
 use Rattle.mw_logic.specs.Module.{Fragment, Module}
@@ -38,7 +38,3 @@ module _ (M : Module) (Step : StepTest) (H : List Fragment → Substitution → 
 
   pub leads_closed : (ms : List Move) (n : ℕ) (t u : RawTerm) → Leads M Step H F [] (tree [] ms) t u → Leads M Step H F [] (tree [] (ms ++ leaves n)) t u
   leads_closed ms n t u a = leads_then M Step H F [] ms (leaves n) t u u a (leads_leaves (reached [] ms) n u)
-
-  -- two whole proofs, one after the other
-  pub leads_both : (ms ns : List Move) (t u v : RawTerm) → reached [] ms ≡ [] → Leads M Step H F [] (tree [] ms) t u → Leads M Step H F [] (tree [] ns) u v → Leads M Step H F [] (tree [] (ms ++ ns)) t v
-  leads_both ms ns t u v e a b = leads_then M Step H F [] ms ns t u v a (subst (λ ls. Leads M Step H F [] (tree ls ns) u v) (sym e) b)

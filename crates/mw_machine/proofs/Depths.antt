@@ -1,6 +1,6 @@
 -- Whether the whole term is too deep after a step is a matter of the hole's level and the new part alone.
 use Rattle.std.specs.Prelude.{◌≡◌, ◌≤◌, ◌+◌, ℕ, max, [], ◌∷◌, length, Bool, true, false, ◌&&◌, nat_eq, Option, Some, None, option_map, unwrap_or, IsTrue, refl}
-use Rattle.std.proofs.Common.{sym, ap, arith}
+use Rattle.std.proofs.Common.{ap, arith}
 use Rattle.mw_logic.specs.Term.{RawTerm, RawTerms, Frame, Context, plug, join, apply, is_ground}
 use Rattle.mw_logic.specs.Term as term
 use Rattle.mw_logic.specs.Signature.{Signature, Operator, at_number}

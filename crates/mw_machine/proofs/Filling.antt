@@ -1,5 +1,5 @@
 -- Instances by position: more values behind, and what is left of a list.
-use Rattle.std.specs.Prelude.{◌≡◌, ◌<◌, ℕ, zero, suc, List, [], ◌∷◌, ◌++◌, length, Some, None, slice_get, refl}
+use Rattle.std.specs.Prelude.{◌≡◌, ◌<◌, ℕ, zero, suc, List, [], ◌∷◌, ◌++◌, length, None, slice_get, refl}
 use Rattle.std.proofs.Common.{ap, arith}
 use Rattle.mw_logic.specs.Term.{RawTerm, numeral, quoted, variable, apply, RawTerms, nil, cons, join}
 use Rattle.mw_machine.specs.Positions.{skip, fill, fill_all, IsWithin, AreWithin}
@@ -24,12 +24,6 @@ mutual
   pub fill_all-append : (vs ws : List RawTerm) (ts : RawTerms) → AreWithin (length vs) ts → fill_all (vs ++ ws) ts ≡ fill_all vs ts
   fill_all-append vs ws nil h = refl
   fill_all-append vs ws (cons t ts) h = rw (fill-append vs ws t h.0, fill_all-append vs ws ts h.1) refl
-
--- the term of a number, and those behind it
-pub skip_some : (ts : List RawTerm) (k : ℕ) (t : RawTerm) → slice_get ts k ≡ Some t → skip k (terms_of ts) ≡ cons t (skip (suc k) (terms_of ts))
-skip_some [] k t h = cc
-skip_some (x ∷ ts) zero t h = cc
-skip_some (x ∷ ts) (suc k) t h = skip_some ts k t h
 
 pub skip_none : (ts : List RawTerm) (k : ℕ) → slice_get ts k ≡ None → skip k (terms_of ts) ≡ nil
 skip_none [] zero h = refl

@@ -71,10 +71,6 @@ module _ (M : Module) (H : List Fragment → Substitution → Proofs → Substit
   AllDone-init [] o a = tt
   AllDone-init (x ∷ os) o a = (a.0, AllDone-init os o a.1)
 
-  AllDone-last : (os : List Open) (o : Open) → AllDone M F (os ++ o ∷ []) → AreNormalBy M F o.done
-  AllDone-last [] o a = a.0
-  AllDone-last (x ∷ os) o a = AllDone-last os o a.1
-
   pub AreNormalBy-join : (ts us : RawTerms) → AreNormalBy M F ts → AreNormalBy M F us → AreNormalBy M F (join ts us)
   AreNormalBy-join term.nil us a b = b
   AreNormalBy-join (term.cons t ts) us a b = (a.0, AreNormalBy-join ts us a.1 b)
@@ -173,10 +169,6 @@ module _ (M : Module) (H : List Fragment → Substitution → Proofs → Substit
         high = w;
         below = a.below;
       }
-
-  -- the whole would be too deep exactly where the new part is, at its level
-  pub too_deep_exactly : (os : List Open) (t u : RawTerm) → height (plug (round os) u) ≤ 1000 → length os + height u ≤ 1000
-  too_deep_exactly os t u h = let k = level_within (round os) u in let n = length-under_all os [] in omega (arith, h, k, n)
 
 module _ (M : Module) (H : List Fragment → Substitution → Proofs → Substitution → Type 0) (F : List Fragment → Substitution → Type 0) where
   tail_is : {l m : Level} {ls ks : Place} → l ∷ ls ≡ m ∷ ks → ls ≡ ks

@@ -10,7 +10,6 @@ use Rattle.mw_logic.specs.Module.{Fragment, Module}
 use Rattle.mw_logic.specs.Judgements.{IsNormalBy}
 use Rattle.mw_logic.proofs.Canonical.{Each}
 use Rattle.mw_logic.proofs.ContextLaws.{plug-append}
-use Rattle.mw_logic.proofs.Lifting.{fill as filled}
 use Rattle.mw_logic.specs.Free.{IsFreeSignature}
 use Rattle.mw_logic.specs.NormalForm.{height}
 use Rattle.mw_machine.specs.Machine.{AreNormalBy, IsFlat, NoFlatLeft}

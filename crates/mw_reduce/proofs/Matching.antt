@@ -1,8 +1,7 @@
 -- Matching, case by case.
 use Rattle.std.specs.Prelude.{◌≡◌, ◌≢◌, ◌≤◌, ◌<◌, ◌+◌, ◌↔◌, ℕ, zero, suc, List, [], ◌∷◌, ◌++◌, length, drop, get_or, Bool, true, false, Some, slice_get, unwrap_or, IsTrue, refl}
-use Rattle.std.proofs.Common.{sym, ap, ◌∙◌, arith, true≢false, drop_of_length-le, subst}
+use Rattle.std.proofs.Common.{sym, ap, ◌∙◌, arith, true≢false}
 use Rattle.mw_logic.specs.Term.{RawTerm, RawTerms, numeral, quoted, variable, apply, nil, cons}
-use Rattle.mw_machine.specs.Machine.{IsFlat}
 use Rattle.mw_machine.specs.Positions.{position, fill, fill_all, counted, counted_all, AreNumbered, Begins}
 use Rattle.mw_logic.specs.Terms.{terms_of}
 use Rattle.mw_reduce.specs.Clean.{clean, clean_all}
@@ -59,16 +58,6 @@ decides_var_new old new i t l m = rw m (
     (λ q. let k : slice_get us i ≡ Some t = rw l (begins_last old us t q) in rw k refl),
   ),
 )
-
-pub decides_other : (n : ℕ) (old new : List RawTerm) (f g : ℕ) (ps ts : RawTerms) (t : RawTerm) → f ≢ g → t ≡ apply g ts → Decides false n old new (λ us. fill us (apply f ps) ≡ t)
-decides_other n old new f g ps ts t d e = λ us b m p. d (cc)
-
-pub decides_flat : (n : ℕ) (old new : List RawTerm) (f : ℕ) (ps : RawTerms) (t : RawTerm) → IsFlat t → Decides false n old new (λ us. fill us (apply f ps) ≡ t)
-decides_flat n old new f ps t h = λ us b m p. subst IsFlat (sym p) h
-
-pub decides_under : (b : Bool) (n : ℕ) (old new : List RawTerm) (f g : ℕ) (ps ts : RawTerms) (t : RawTerm) → f ≡ g → t ≡ apply g ts → Decides b n old new (λ us. fill_all us ps ≡ ts) → Decides b n old new (λ us. fill us (apply f ps) ≡ t)
-decides_under true n old new f g ps ts t e h d = (d.0, λ us b m. ((λ p. let q : fill_all us ps ≡ ts = cc in (d.1 us b m).0 q), (λ q. let p : fill_all us ps ≡ ts = (d.1 us b m).1 q in cc)))
-decides_under false n old new f g ps ts t e h d = λ us b m p. let q : fill_all us ps ≡ ts = cc in d us b m q
 
 mutual
   counted_grows : (n : ℕ) (p : RawTerm) → n ≤ counted n p
@@ -135,16 +124,6 @@ matching_fails old cur new new' ps ts i p t h e g d m = λ us b z q.
     let a = (m.same us b z).0 q in
     let c : cons (fill us (clean p)) (fill_all us (clean_all (drop (i + 1) ps))) ≡ cons t (terms_of (drop (i + 1) ts)) = ap (λ xs. fill_all us (clean_all xs)) (sym dp) ∙ a.1 ∙ ap terms_of dt in
     d us a.0 (omega (arith, w, co, z)) (cons_parts _ _ _ _ c).0
-
-pub matching_ends : (old cur : List RawTerm) (ps : List Pattern) (ts : List RawTerm) (i : ℕ) → length ps ≤ i → Matching old cur ps ts i
-    → Decides true (counted_all (length old) (clean_all ps)) old cur (λ us. fill_all us (clean_all ps) ≡ terms_of ts) × (length cur ≡ counted_all (length old) (clean_all ps))
-matching_ends old cur ps ts i h m =
-    let dp : drop i ps ≡ [] = drop_of_length-le ps h in
-    let lt : length ts ≤ i = let l = m.long in omega (arith, l, h) in
-    let dt : drop i ts ≡ [] = drop_of_length-le ts lt in
-    let z : (us : List RawTerm) → fill_all us (clean_all (drop i ps)) ≡ terms_of (drop i ts) = λ us. rw (dp, dt) refl in
-    let co = rw dp at m.count in
-    ((m.begins, λ us b y. ((λ q. ((m.same us b y).0 q).0), (λ q. (m.same us b y).1 (q, z us)))), co)
 
 number_patterns : (us : List RawTerm) (ps : List Pattern) (ts : List RawTerm) → fill_all us (clean_all ps) ≡ terms_of ts → length ps ≡ length ts
 number_patterns us [] [] e = refl

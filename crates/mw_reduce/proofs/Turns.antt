@@ -2,7 +2,7 @@
 use Rattle.std.specs.Prelude.{◌≡◌, ◌≤◌, ◌<◌, ◌+◌, ◌-◌, ◌⊎◌, ℕ, zero, suc, List, [], ◌∷◌, ◌++◌, length, take, drop, false, Some, slice_get, IsTrue, Bool, true, ◌≢◌, refl}
 use Rattle.std.proofs.Common.{sym, subst, ap, ◌∙◌, arith, inl, inr, ⊎_elim, length-append, length-drop}
 use Rattle.std.proofs.lemmas.Option.{slice_get_within}
-use Rattle.mw_logic.specs.Term.{RawTerm, RawTerms, numeral, quoted, variable, apply, nil, cons, join, is_ground}
+use Rattle.mw_logic.specs.Term.{RawTerm, RawTerms, numeral, quoted, variable, apply, nil, cons, is_ground}
 use Rattle.std.specs.List.{zip}
 use Rattle.mw_logic.specs.Signature.{IsRawTerm}
 use Rattle.mw_logic.specs.Module.{Module}
@@ -28,8 +28,6 @@ use Rattle.mw_reduce.specs.declared.frame.Turn.{Turn}
 use Rattle.mw_reduce.specs.declared.frame.Turn.TheVariants as turn
 use Rattle.mw_reduce.specs.declared.kept.Item.{Item}
 use Rattle.mw_reduce.specs.declared.kept.Item.TheVariants.{Enter, Leave, Apply}
-use Rattle.mw_reduce.specs.declared.pattern.Pattern.{Pattern as Pat}
-use Rattle.mw_reduce.specs.declared.pattern.Pattern.TheVariants.{Op}
 use Rattle.mw_reduce.specs.declared.equations.Equation.{Equation}
 use Rattle.mw_reduce.specs.declared.equations.Equations.{Equations}
 use Rattle.mw_reduce.specs.declared.frame.Todo.{Todo}
@@ -51,10 +49,6 @@ take_whole zero [] h = refl
 take_whole zero (x ∷ xs) h = absurd (omega (arith, h))
 take_whole (suc n) [] h = absurd (omega (arith, h))
 take_whole (suc n) (x ∷ xs) h = ap (λ zs. x ∷ zs) (take_whole n xs (omega (arith, h)))
-
-pub drop_whole : {A : Type 0} (xs ys : List A) → drop (length xs) (xs ++ ys) ≡ ys
-drop_whole [] ys = refl
-drop_whole (x ∷ xs) ys = drop_whole xs ys
 
 pub moves-append : (M : Module) (xs ys : List Item) (vs ws : List RawTerm) → needed xs ≡ length vs → moves M (xs ++ ys) (vs ++ ws) ≡ moves M xs vs ++ moves M ys ws
 moves-append M [] ys [] ws h = refl
@@ -161,11 +155,6 @@ module _ (M : Module) (n : ℕ) (m : Equations) (d : Describes M n m) (t0 : RawT
               (λ y. values_normal M (Fails M n) d.free.signature found st.left ts e w.left ns y.0 (let p = slice_get_within found y.0 v y.1 in let r = w.count in omega (arith, p, r, c)) v y.1)
               (either_value vs found j v z);
         }
-
--- the new term in hand, as a frame, as a term, or as a value
-pub new_frame : (vs vs' found : List RawTerm) (base op : ℕ) (right : Pat) (args : RawTerms) (list : List Pat) (ds : List RawTerm) → base ≡ length vs → vs' ≡ vs ++ found → right ≡ Op op args → clean_all list ≡ args → ds ≡ []
-    → apply op (join (terms_of ds) (skip (length ds) (fill_all (drop base vs') (clean_all list)))) ≡ fill found (clean right)
-new_frame vs vs' found base op right args list ds b v r c d = let w = drop_whole vs found in rw (d, b, v, w, c, r) refl
 
 stands_behind : (vs ws : List RawTerm) (j : ℕ) (v : RawTerm) → slice_get ws j ≡ Some v → (i : ℕ) × (slice_get (vs ++ ws) i ≡ Some v)
 stands_behind [] ws j v h = (j, h)

@@ -8,6 +8,7 @@ use mw_term::{OpId, Term};
 #[derive(Drop)]
 pub enum Todo<'m> {
     Pattern(&'m [Pattern], usize),
+    /// The arguments of this term, which has an operator on top.
     Given(Term),
 }
 
@@ -30,8 +31,12 @@ pub enum Next<'m> {
 /// What comes where all arguments of an operator are done.
 #[derive(Drop)]
 pub enum Turn<'m> {
+    /// An equation was applied: its right side is the next term.
     Open(Frame<'m>),
+    /// The term is normal, or a variable of the right side has it for its value.
     Normal(Term),
+    /// An equation was applied, and the limit is reached.
     Full(Term),
+    /// An equation would make the term too deep, and was not applied.
     Deep(Term),
 }

@@ -6,6 +6,7 @@ ghost use Rattle.std.specs.Prelude.{◌≡◌, ◌++◌, [], IfOk};
 use mw_term::Term;
 use std::alloc::{AllocError, Global};
 
+/// One entry of a kept proof.
 #[derive(Clone, Copy)]
 pub enum Item {
     /// Into an argument: so many stand before it, and so many after it.
@@ -16,10 +17,13 @@ pub enum Item {
     Apply(usize, usize),
 }
 
+/// A proof as it is kept. Each statement that is applied has the next values as its own, in the order in which
+/// its left side first mentions its variables.
 #[derive(Drop)]
 pub struct Kept {
     pub items: Vec<Item>,
     pub values: Vec<Term>,
+    /// How many statements are applied.
     pub steps: u64,
 }
 

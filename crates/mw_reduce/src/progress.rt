@@ -4,10 +4,14 @@ use crate::frame::Frame;
 use crate::kept::Kept;
 use mw_term::Term;
 
+/// How a reduction ends.
 #[derive(Clone, Copy, PartialEq, Eq, Debug)]
 pub enum Outcome {
+    /// At a normal term, in fewer steps than the limit.
     Done,
+    /// In as many steps as the limit.
     Rewrites,
+    /// Below the limit: the next step would make a term of more than 1,000 levels.
     Depth,
 }
 
@@ -27,6 +31,7 @@ pub struct Running<'m> {
     pub kept: Kept,
 }
 
+/// More is left to be done, or nothing is.
 #[derive(Drop)]
 pub enum Progress<'m> {
     More(Running<'m>),
