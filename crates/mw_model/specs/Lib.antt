@@ -1,0 +1,3 @@
+-- What trees stand for.
+pub mod Trees
+pub mod TreesFall
