@@ -2,12 +2,16 @@
 //! the engine's answers with it.
 #![tactic(auto)]
 
+mod copying;
 mod kinds;
 mod normal;
 mod order;
+mod listing;
 mod tree;
 
+pub use copying::copy;
 pub use kinds::is_successor;
 pub use normal::normal_form;
 pub use order::compare;
+pub use listing::parts;
 pub use tree::{Tree, Trees};
