@@ -3,6 +3,7 @@
 #![tactic(auto)]
 
 mod copying;
+mod equality;
 mod kinds;
 mod normal;
 mod order;
@@ -10,6 +11,7 @@ mod listing;
 mod tree;
 
 pub use copying::copy;
+pub use equality::equal;
 pub use kinds::is_successor;
 pub use normal::normal_form;
 pub use order::compare;

@@ -1,9 +1,13 @@
 // All parts of a term in normal form.
-ghost use Rattle.std.specs.Prelude.{◌≡◌, IfOk};
-ghost use Rattle.mw_logic.specs.Term.{apply as applied, nil};
+ghost use Rattle.std.specs.Prelude.{◌≡◌, ◌↔◌, IfOk, false};
+ghost use Rattle.mw_logic.specs.Term.{RawTerm};
+ghost use Rattle.mw_logic.specs.Accepted.{IsAccepted};
+ghost use Rattle.mw_logic.specs.Parts.{Among};
+ghost use Rattle.mw_logic.specs.NormalForm.{normal_form};
+ghost use Rattle.mw_logic.specs.CanonicalPart.{IsPartOf};
 ghost use Rattle.mw_model.specs.AllParts.{with_first as first_before, prepended as each_after, choices as choices_of, beginnings as beginnings_of, runs as runs_of, has_several as is_several, with_several as several_of, all_cuts, all_parts, parts_of_all};
 
-use crate::copying::{copy, copy_all};
+use crate::copying::copy;
 use crate::normal::{is_assoc, is_comm};
 use crate::tree::{Link, Node, Tree, Trees};
 use mw_term::{OpId, Signature};
@@ -116,8 +120,16 @@ fn cuts(alloc: Global, sig: &Signature, f: OpId, ts: &Trees) -> Result<Trees, Al
 }
 
 /// All parts of a term in normal form: the whole first, then those of the arguments, then several arguments of an associative operator.
-#[cycle(parts)]
 pub fn parts(alloc: Global, sig: &Signature, t: &Tree) -> Result<Trees, AllocError>
+    ensures listed { IfOk result (λ ps. ps ≡ all_parts sig.now t.now) }
+    ensures exact { IfOk result (λ ps. IsAccepted sig.now → (u w : RawTerm) → t.now ≡ normal_form sig.now u → (Among ps w ↔ IsPartOf sig.now false t.now w)) }
+{
+    listed(alloc, sig, t)
+}
+
+/// The whole first, then the parts of the arguments, then several arguments of an associative operator.
+#[cycle(parts)]
+fn listed(alloc: Global, sig: &Signature, t: &Tree) -> Result<Trees, AllocError>
     ensures { IfOk result (λ ps. ps ≡ all_parts sig.now t.now) }
 {
     let whole = copy(alloc, t)?;
@@ -138,7 +150,7 @@ fn parts_of_each(alloc: Global, sig: &Signature, ts: &Trees) -> Result<Trees, Al
     match &ts.link {
         Link::Nil => Ok(Trees::nil()),
         Link::Cons(t, rest) => {
-            let first = parts(alloc, sig, t)?;
+            let first = listed(alloc, sig, t)?;
             first.join(alloc, parts_of_each(alloc, sig, rest)?)
         }
     }
