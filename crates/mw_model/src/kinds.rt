@@ -46,7 +46,14 @@ fn is_named(name: &[u8], other: &[u8]) -> bool
 }
 
 /// Whether the sort of this number, whose name is given, has the other name and the kind.
-fn is_sort(alloc: Global, sig: &Signature, sort: &Name, number: u64, name: &[u8], kind: u64) -> Result<bool, AllocError>
+fn is_sort(
+    alloc: Global,
+    sig: &Signature,
+    sort: &Name,
+    number: u64,
+    name: &[u8],
+    kind: u64,
+) -> Result<bool, AllocError>
     ensures { IfOk result (λ b. b ≡ (same_name sort.now name.now && nat_eq (kind_of sig.now number) kind)) }
 {
     if is_named(sort.as_slice(), name) {
@@ -70,7 +77,12 @@ fn some_sort(alloc: Global, sig: &Signature, name: &[u8], kind: u64) -> Result<b
 }
 
 /// Whether there is one argument, and it has this kind.
-fn takes_kind(alloc: Global, sig: &Signature, kind: u64, args: &[KindId]) -> Result<bool, AllocError>
+fn takes_kind(
+    alloc: Global,
+    sig: &Signature,
+    kind: u64,
+    args: &[KindId],
+) -> Result<bool, AllocError>
     ensures { IfOk result (λ b. b ≡ is_taken sig.now kind args.now) }
 {
     if args.len() == 1 {
@@ -84,10 +96,12 @@ fn is_successor_operator(alloc: Global, sig: &Signature, o: &Operator) -> Result
     ensures { IfOk result (λ b. b ≡ is_the_successor_operator sig.now (Some o.now)) }
 {
     let kind = kind_number(alloc, sig, u64::from(o.result))?;
-    Ok(sig.nat
-        && is_named(o.spelling.as_slice(), b"s_".as_slice())
-        && takes_kind(alloc, sig, kind, o.args.as_slice())?
-        && some_sort(alloc, sig, b"Nat".as_slice(), kind)?)
+    Ok(
+        sig.nat
+            && is_named(o.spelling.as_slice(), b"s_".as_slice())
+            && takes_kind(alloc, sig, kind, o.args.as_slice())?
+            && some_sort(alloc, sig, b"Nat".as_slice(), kind)?,
+    )
 }
 
 /// Whether an operator is the successor of numbers.

@@ -1,5 +1,6 @@
 // Terms as plain trees: an operator's arguments are a list, as in the definitions.
-ghost use Rattle.std.specs.Prelude.{◌≡◌, ◌↔◌, IfOk, IsTrue};
+ghost use Rattle.std.specs.Prelude.{◌≡◌, ◌↔◌, ◌-◌, ◌^◌, min, IfOk, IsTrue};
+ghost use Rattle.mw_logic.specs.Parts.{number_of_terms};
 ghost use Rattle.mw_logic.specs.Term.{RawTerm, numeral, quoted, variable, apply as applied, RawTerms, nil, cons, join as joined};
 ghost use Rattle.mw_model.specs.Trees.{tree_of, trees_of};
 
@@ -139,6 +140,16 @@ impl Trees {
         match &self.link {
             Link::Nil => true,
             Link::Cons(_, _) => false,
+        }
+    }
+
+    /// How many there are; 2^64 - 1 where there are more.
+    pub fn len(&self) -> u64
+        ensures { result ≡ min (number_of_terms self.now) (2 ^ 64 - 1) }
+    {
+        match &self.link {
+            Link::Nil => 0,
+            Link::Cons(_, rest) => rest.len().saturating_add(1),
         }
     }
 

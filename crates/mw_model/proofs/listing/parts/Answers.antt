@@ -15,6 +15,6 @@ returns-clause-exact c =
     IfOk-weaker c.listed.result (λ ps. ps ≡ all_parts c.args.sig.now c.args.t.now)
     (λ ps. IsAccepted c.args.sig.now → (u w : RawTerm) → c.args.t.now ≡ normal_form c.args.sig.now u → (Among ps w ↔ IsPartOf c.args.sig.now false c.args.t.now w))
     (λ ps e ok u w n.
-      subst (λ ps. Among ps w ↔ IsPartOf c.args.sig.now false c.args.t.now w) (sym e)
-      (subst (λ v. Among (all_parts c.args.sig.now v) w ↔ IsPartOf c.args.sig.now false v w) (sym n) (listed-iff c.args.sig.now ok u w)))
+    subst (λ ps. Among ps w ↔ IsPartOf c.args.sig.now false c.args.t.now w) (sym e)
+    (subst (λ v. Among (all_parts c.args.sig.now v) w ↔ IsPartOf c.args.sig.now false v w) (sym n) (listed-iff c.args.sig.now ok u w)))
     c.listed.ensures
