@@ -1,11 +1,11 @@
 -- What a kept deduction says, and how a reduction ends.
-use Rattle.std.specs.Prelude.{◌≡◌, ◌<◌, ℕ}
-use Rattle.mw_logic.specs.Term.{RawTerm}
+use Rattle.std.specs.Prelude.{◌≡◌, ◌<◌, ℕ, IsTrue}
+use Rattle.mw_logic.specs.Term.{RawTerm, is_ground}
+use Rattle.mw_logic.specs.Signature.{IsRawTerm}
 use Rattle.mw_logic.specs.Module.{Module}
 use Rattle.mw_logic.specs.Proof.{Proof, rules, steps}
 use Rattle.mw_logic.specs.Judgements.{Proves, IsNormal, admitted_judgements}
-use Rattle.mw_logic.specs.Ends.{Stops, by_rewrites, by_depth}
-use Rattle.mw_machine.specs.Limits.{limits_of}
+use Rattle.mw_logic.specs.Ends.{limits_of, Stops, by_rewrites, by_depth}
 use Rattle.mw_reduce.specs.declared.progress.Outcome.{Outcome}
 use Rattle.mw_reduce.specs.declared.progress.Outcome.TheVariants.{Done, Rewrites, Depth}
 
@@ -27,9 +27,11 @@ Ends m d Done = (steps d.proof < m) × IsNormal d.over 63 d.to
 Ends m d Rewrites = Stops d.over 63 (limits_of m) d.from d.proof d.to by_rewrites
 Ends m d Depth = Stops d.over 63 (limits_of m) d.from d.proof d.to by_depth
 
--- a reduction of t in M by at most m steps
+-- A reduction of t in M by at most m steps: by equations alone, to a ground term over M.
 pub record IsReductionOf (M : Module) (t : RawTerm) (m : ℕ) (d : Deduction) (o : Outcome) : Type 0 where
   pub over : d.over ≡ M
   pub from : d.from ≡ t
   pub equational : rules d.proof ≡ 0
+  pub ground : IsTrue (is_ground d.to)
+  pub raw : IsRawTerm M.signature d.to
   pub ends : Ends m d o

@@ -1,12 +1,12 @@
 -- A reduction under way, and its end.
-use Rattle.std.specs.Prelude.{◌≡◌, ◌⊎◌, ℕ, ◌<◌, [], ⊤}
-use Rattle.mw_logic.specs.Term.{RawTerm}
+use Rattle.std.specs.Prelude.{◌≡◌, ◌⊎◌, ℕ, ◌<◌, [], ⊤, IsTrue}
+use Rattle.mw_logic.specs.Term.{RawTerm, is_ground}
+use Rattle.mw_logic.specs.Signature.{IsRawTerm}
 use Rattle.mw_logic.specs.Module.{Module}
 use Rattle.mw_logic.specs.Judgements.{Leads, AdmittedStep, Held, Fails, IsNormal}
 use Rattle.mw_logic.specs.Proof.{Proof, steps}
-use Rattle.mw_logic.specs.Ends.{Stops, by_rewrites, by_depth}
+use Rattle.mw_logic.specs.Ends.{limits_of, Stops, by_rewrites, by_depth}
 use Rattle.mw_machine.specs.Moves.{reached, applied}
-use Rattle.mw_machine.specs.Limits.{limits_of}
 use Rattle.mw_machine.specs.Machine.{here, AreNormalBy, work}
 use Rattle.mw_logic.specs.Terms.{terms_of}
 use Rattle.mw_reduce.specs.Kept.{moves, proof_of}
@@ -39,6 +39,8 @@ pub record IsReduced (M : Module) (n : ℕ) (t0 : RawTerm) (m : ℕ) (r : Reduce
   pub leads : Leads M (AdmittedStep M) (Held M n) (Fails M n) [] (proof_of M r.kept) t0 r.term
   pub counted : r.kept.steps ≡ applied (moves M r.kept.items.items r.kept.values.items)
   pub balanced : reached [] (moves M r.kept.items.items r.kept.values.items) ≡ []
+  pub ground : IsTrue (is_ground r.term)
+  pub raw : IsRawTerm M.signature r.term
   pub ends : IsOutcome M n m t0 (proof_of M r.kept) r.term r.outcome
 
 abbrev pub Goes : ℕ → Progress → Type 0
