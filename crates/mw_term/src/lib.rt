@@ -27,3 +27,29 @@ pub type SortId = u32;
 
 /// A kind, named by the number of one of its sorts.
 pub type KindId = u32;
+
+#[cfg(test)]
+mod tests {
+    use super::*;
+    use std::test::Fail;
+
+    #[test]
+    fn terms_are_made_copied_and_compared(rt: HostRuntime) -> Result<(), Fail> {
+        let alloc = rt.alloc();
+        let zero = Term::apply(alloc, 1, Vec::new(alloc))?;
+        let one = Term::apply(alloc, 2, vec![in alloc; copy(&zero)?]?)?;
+        let two = Term::apply(alloc, 2, vec![in alloc; copy(&one)?]?)?;
+        assert_eq!(rt; depth(&zero), 1);
+        assert_eq!(rt; depth(&two), 3);
+        assert!(rt; same(&copy(&two)?, &two));
+        assert!(rt; !same(&one, &two));
+        let seven = Term::new(alloc, Shape::Nat(7))?;
+        assert!(rt; same(&seven, &Term::new(alloc, Shape::Nat(7))?));
+        let name = Name::of(b"N".to_vec(alloc)?);
+        assert_eq!(rt; copy_name(alloc, &name)?.as_slice(), b"N".as_slice());
+        let raw = Raw::Op(2, Raws::of(vec![in alloc; Raw::Nat(3)]?));
+        assert!(rt; matches!(&raw, Raw::Op(2, args) if args.as_slice().len() == 1));
+        assert_eq!(rt; name.into_vec().len(), 1);
+        Ok(())
+    }
+}
