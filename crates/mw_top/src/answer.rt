@@ -1,12 +1,14 @@
 // What is written for the bytes of a source.
 ghost use Rattle.std.specs.Prelude.{◌≡◌, IfOk};
 ghost use Rattle.mw_text.specs.Output.{refusal as refusal_line};
-ghost use Rattle.mw_text.specs.Answer.{IsOutput};
+ghost use Rattle.mw_text.specs.Spelling.{IsWellFormed};
+ghost use Rattle.mw_text.specs.Answer.{Answers, IsOutput};
 
 use crate::block::{write_count, write_echo, write_result, write_status};
-use crate::build::{free_term, signature, statements};
-use mw_form::{Source, read};
+use crate::terms::free_term;
+use mw_form::{Source, read, signature, statements};
 use mw_reduce::{Theory, reduce};
+use mw_term::copy_name;
 use std::alloc::{AllocError, Global};
 
 /// How many replacements a reduction makes at the most.
@@ -41,7 +43,10 @@ fn refusal(alloc: Global) -> Result<Output, AllocError>
     Ok(Output { text, status: 1 })
 }
 
-fn block(alloc: Global, source: Source) -> Result<Vec<u8>, AllocError> {
+fn block(alloc: Global, source: Source) -> Result<Vec<u8>, AllocError>
+    requires { IsWellFormed source }
+    ensures { IfOk result (λ text. Answers source 1000000 text.items) }
+{
     let Source {
         name,
         sort,
@@ -52,9 +57,10 @@ fn block(alloc: Global, source: Source) -> Result<Vec<u8>, AllocError> {
     } = source;
     let term = free_term(alloc, &subject)?;
     let statements = statements(alloc, equations)?;
-    let signature = signature(alloc, &sort, operators)?;
+    let signature = signature(alloc, copy_name(alloc, &sort)?, operators)?;
     let theory = Theory::new(alloc, signature, statements)?;
     let (proved, outcome) = reduce(alloc, &theory, term, MOST)?;
+    proved.shows();
     let mut text = Vec::new(alloc);
     write_echo(alloc, theory.signature(), &name, proved.from(), &mut text)?;
     write_count(alloc, proved.count(), &mut text)?;

@@ -11,9 +11,10 @@ ghost use Rattle.mw_top.specs.Call.{texts, IsCommand, Owes, IsExact, IsExactLeng
 
 mod answer;
 mod block;
-mod build;
+
 mod print;
 mod streams;
+mod terms;
 mod words;
 
 #[cfg(test)]

@@ -5,7 +5,7 @@ use Rattle.mw_logic.specs.Terms.{terms_of}
 use Rattle.mw_term.specs.Raws.{raw_term, raw_terms}
 use Rattle.mw_term.proofs.RawLists.{raw_element, raws_at, raws_past}
 use Rattle.mw_term.proofs.Terms.{join_pushed, join_nil}
-use Rattle.mw_top.proofs.build.+free_term.Goals as goal
+use Rattle.mw_top.proofs.terms.+free_term.Goals as goal
 
 pub free_terms-free_term-requires : goal.free_terms-free_term-requires
 free_terms-free_term-requires t c =

@@ -3,7 +3,7 @@ use Rattle.mw_logic.specs.Term.{join}
 use Rattle.mw_logic.specs.Terms.{terms_of}
 use Rattle.mw_logic.specs.NormalForm.{height, highest}
 use Rattle.mw_term.specs.Raws.{raw_term, raw_terms}
-use Rattle.mw_top.proofs.build.+free_term.Given as goal
+use Rattle.mw_top.proofs.terms.+free_term.Given as goal
 
 abbrev pub decreases-free_term : goal.decreases-free_term
 decreases-free_term l = 2 * height (raw_term l.raw.now)
