@@ -1,1 +1,3 @@
 -- Laws of reading.
+pub mod Replicates
+pub mod Tables

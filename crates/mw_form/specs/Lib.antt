@@ -1,1 +1,3 @@
--- What is read.
+-- What the reader knows as it goes.
+pub mod Scope
+pub mod Meanings
