@@ -1,3 +1,5 @@
 -- Laws of reading.
 pub mod Replicates
 pub mod Tables
+pub mod Again
+pub mod Takes

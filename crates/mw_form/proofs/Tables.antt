@@ -6,7 +6,7 @@ use Rattle.std.specs.Global.{Global, Vec}
 use Rattle.std.proofs.lemmas.Slice.Eq.{bytes_eq-Decides}
 use Rattle.std.proofs.lemmas.List.{length-replicate}
 use Rattle.mw_logic.specs.Term.{Variable}
-use Rattle.mw_logic.specs.Signature.{Operator, Member, IsOperator, at_number}
+use Rattle.mw_logic.specs.Signature.{Signature, Operator, Member, IsOperator, at_number}
 use Rattle.mw_text.specs.Tokens.{Name}
 use Rattle.mw_text.specs.Form.{Declared, operator_of, variable_named}
 use Rattle.mw_text.specs.Spelling.{AllDiffer, names_over}
@@ -24,13 +24,13 @@ pub lookup_is : (es : List (Vec ℕ × Meaning)) (n : Name) → lookup (λ k. by
 lookup_is [] n = refl
 lookup_is (e ∷ es) n = ap (λ r. cond (bytes_eq n e.0.items) (Some e.1) r) (lookup_is es n)
 
-same_bytes : (n m : Name) → bytes_eq n m ≡ true → n ≡ m
+pub same_bytes : (n m : Name) → bytes_eq n m ≡ true → n ≡ m
 same_bytes n m = (bytes_eq-Decides n m).0
 
 pub bytes_same : (n : Name) → bytes_eq n n ≡ true
 bytes_same n = (bytes_eq-Decides n n).1 refl
 
-by_test : {Y : Type 0} (b : Bool) → (b ≡ true → Y) → (b ≡ false → Y) → Y
+pub by_test : {Y : Type 0} (b : Bool) → (b ≡ true → Y) → (b ≡ false → Y) → Y
 by_test true t f = t refl
 by_test false t f = f refl
 
@@ -139,11 +139,11 @@ entry_operator k (d ∷ ds) n f c (inr h) =
     record { place = suc r.place; declared = r.declared; number = omega (arith, r.number); there = r.there; name = r.name; args = r.args }
 
 -- what a reader of terms has to know of the meanings of names
-pub record Means (D : Declarations) (m : Name → Option Meaning) : Type 0 where
-  pub variable : (x : Variable) → Member x (variables_declared D) → (m x.name ≡ Some meaning.Variable) × (variable_named x.name ≡ x)
-  pub operator : (f : ℕ) (o : Operator) → IsOperator (signature_in D) f o → m o.spelling ≡ Some (meaning.Operator f (length o.args))
-  pub is_variable : (n : Name) → m n ≡ Some meaning.Variable → Member (variable_named n) (variables_declared D)
-  pub is_operator : (n : Name) (f c : ℕ) → m n ≡ Some (meaning.Operator f c) → (o : Operator) × IsOperator (signature_in D) f o × (o.spelling ≡ n) × (length o.args ≡ c)
+pub record Means (sig : Signature) (variables : List Variable) (m : Name → Option Meaning) : Type 0 where
+  pub variable : (x : Variable) → Member x variables → (m x.name ≡ Some meaning.Variable) × (variable_named x.name ≡ x)
+  pub operator : (f : ℕ) (o : Operator) → IsOperator sig f o → m o.spelling ≡ Some (meaning.Operator f (length o.args))
+  pub is_variable : (n : Name) → m n ≡ Some meaning.Variable → Member (variable_named n) variables
+  pub is_operator : (n : Name) (f c : ℕ) → m n ≡ Some (meaning.Operator f c) → (o : Operator) × IsOperator sig f o × (o.spelling ≡ n) × (length o.args ≡ c)
 
 named : (xs : List Name) (x : Variable) → Member x (map variable_named xs) → variable_named x.name ≡ x
 named [] x h = absurd h
@@ -165,7 +165,7 @@ at_place [] i d h = cc
 at_place (e ∷ ds) zero d h = let same : e ≡ d = cc in rw same refl
 at_place (e ∷ ds) (suc i) d h = at_place ds i d h
 
-pub table_means : (D : Declarations) → IsScope D → Means D (meaning_in D)
+pub table_means : (D : Declarations) → IsScope D → Means (signature_in D) (variables_declared D) (meaning_in D)
 table_means D is =
     let differ : AllDiffer (names_of (table_of D)) = rw table_names is.differ in
     record {

@@ -1,3 +1,4 @@
 -- What the reader knows as it goes.
 pub mod Scope
 pub mod Meanings
+pub mod Reading
