@@ -3,3 +3,5 @@ pub mod Replicates
 pub mod Tables
 pub mod Again
 pub mod Takes
+pub mod Scopes
+pub mod Pieces

@@ -2,3 +2,4 @@
 pub mod Scope
 pub mod Meanings
 pub mod Reading
+pub mod Runs

@@ -4,5 +4,6 @@
 mod names;
 mod scope;
 mod source;
+mod tokens;
 
 pub use source::{Declared, Equation, Source, signature, statements};
