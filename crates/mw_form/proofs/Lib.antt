@@ -5,3 +5,4 @@ pub mod Again
 pub mod Takes
 pub mod Scopes
 pub mod Pieces
+pub mod Turns

@@ -1,5 +1,5 @@
 -- The token at the front of a text.
-use Rattle.std.proofs.Common.{◌≡◌, ◌∙◌, ◌+◌, ℕ, zero, suc, List, [], ◌∷◌, ◌++◌, Bool, true, false, cond, ◌||◌, max, take, drop, refl, sym, ap, arith, append_assoc}
+use Rattle.std.proofs.Common.{◌≡◌, ◌∙◌, ◌+◌, ℕ, zero, suc, List, [], ◌∷◌, ◌++◌, Bool, true, false, cond, ◌||◌, max, length, get_or, ◌≤◌, take, drop, refl, sym, ap, arith, append_assoc}
 use Rattle.mw_text.specs.Tokens.{Name, is_blank, is_mark, with_byte, tokens_of}
 use Rattle.mw_form.specs.Runs.{run_length}
 
@@ -53,3 +53,10 @@ token_first b bs n no_blank is =
 
 pub blank_first : (b : ℕ) (bs : List ℕ) → is_blank b ≡ true → tokens_of (b ∷ bs) ≡ tokens_of bs
 blank_first b bs e = rw e refl
+
+-- one more token was found
+pub token_more : (found : List Name) (s token after : List ℕ) (n : ℕ) (all : List Name) → 1 ≤ length s → is_blank (get_or s 0 0) ≡ false → n ≡ max (run_length s) 1 → token ≡ take n s
+    → after ≡ drop n s → found ++ tokens_of s ≡ all → (found ++ token ∷ []) ++ tokens_of after ≡ all
+token_more found [] token after n all some no_blank is t a e = absurd (omega arith)
+token_more found (b ∷ bs) token after n all some no_blank is t a e =
+    append_assoc found (token ∷ []) (tokens_of after) ∙ rw (t, a) (ap (λ ts. found ++ ts) (sym (token_first b bs n no_blank is)) ∙ e)

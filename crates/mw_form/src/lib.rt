@@ -1,6 +1,7 @@
 //! Reads a source of the first form: a module with one sort, its operators and equations, and a term to reduce.
 #![tactic(auto)]
 
+mod forms;
 mod names;
 mod scope;
 mod source;
