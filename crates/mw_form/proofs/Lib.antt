@@ -6,3 +6,4 @@ pub mod Takes
 pub mod Scopes
 pub mod Pieces
 pub mod Turns
+pub mod Whole

@@ -4,7 +4,9 @@ use Rattle.mw_logic.specs.Term.{RawTerm, apply, RawTerms, nil, cons, join}
 use Rattle.mw_term.specs.declared.raw.Raw.{Raw}
 use Rattle.mw_term.specs.Raws.{raw_term, raw_terms}
 use Rattle.mw_text.specs.Tokens.{Name}
-use Rattle.mw_form.specs.Reading.{Read, after_mark, with_head, with_operator, closed, followed, opened, arguments_with, applied_with}
+use Rattle.mw_form.specs.declared.scope.Meaning.{Meaning}
+use Rattle.mw_form.specs.declared.scope.Meaning.TheVariants as meaning
+use Rattle.mw_form.specs.Reading.{Read, after_mark, with_head, with_operator, closed, followed, opened, arguments_with, applied_with, meant_with, term_at}
 use Rattle.mw_form.proofs.Tables.{bytes_same}
 
 abbrev pub with_front : RawTerms → Read RawTerms → Read RawTerms

@@ -3,3 +3,4 @@ pub mod Scope
 pub mod Meanings
 pub mod Reading
 pub mod Runs
+pub mod Mentions

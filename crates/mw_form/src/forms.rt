@@ -28,10 +28,16 @@ pub fn term(alloc: Global, scope: &Scope, tokens: &[Name]) -> Result<Option<Raw>
     if tokens.len() > LONGEST {
         return Ok(None);
     }
-    match term_at(alloc, scope, tokens, tokens.len())? {
-        Some((term, [])) => Ok(Some(term)),
-        _ => Ok(None),
-    }
+    let read = term_at(alloc, scope, tokens, tokens.len())?;
+    Ok(whole(read))
+}
+
+/// The term that was read, where nothing comes after it.
+fn whole(read: Option<(Raw, &[Name])>) -> Option<Raw>
+    ensures { option_map raw_term result ≡ reading.whole (option_map (λ x. (raw_term x.0, x.1.now)) read.entry) }
+{
+    let (term, rest) = read?;
+    if rest.is_empty() { Some(term) } else { None }
 }
 
 /// The term at the front, no deeper than so many levels, and the tokens after it.
@@ -61,7 +67,8 @@ fn term_at<'t>(
             Ok(Some((Raw::Op(operator, none), rest)))
         }
         Some(Meaning::Operator(operator, count)) => {
-            applied_at(alloc, scope, operator, count, rest, depth - 1)
+            let applied = applied_at(alloc, scope, operator, count, rest, depth - 1)?;
+            Ok(applied)
         }
     }
 }

@@ -2,6 +2,7 @@
 #![tactic(auto)]
 
 mod forms;
+mod mentions;
 mod names;
 mod scope;
 mod source;
