@@ -11,7 +11,7 @@ use Rattle.mw_form.specs.declared.scope.Meaning.TheVariants as meaning
 use Rattle.mw_form.specs.Reading.{Read, after_mark, with_head, with_operator, closed, followed, opened, arguments_with, applied_with, meant_with, term_at}
 use Rattle.mw_form.proofs.Tables.{Means, bytes_same}
 
-mark_met : (m : Name) (ts : List Name) → after_mark m (m ∷ ts) ≡ Some ts
+pub mark_met : (m : Name) (ts : List Name) → after_mark m (m ∷ ts) ≡ Some ts
 mark_met m ts = ap (λ (b : Bool). cond b (Some ts) None) (bytes_same m)
 
 count_is : (o : Operator) (n : ℕ) (f : ℕ) → length o.args ≡ n → Some (meaning.Operator f (length o.args)) ≡ Some (meaning.Operator f n)

@@ -7,3 +7,6 @@ pub mod Scopes
 pub mod Pieces
 pub mod Turns
 pub mod Whole
+pub mod Fronts
+pub mod Meeting
+pub mod Firsts

@@ -1,5 +1,5 @@
 -- One more argument is read.
-use Rattle.std.proofs.Common.{◌≡◌, ◌∙◌, ◌-◌, ◌<◌, ◌≤◌, ℕ, zero, suc, List, [], ◌∷◌, ◌++◌, length, get_or, take, drop, Bool, true, cond, bytes_eq, Option, None, Some, option_map, codes, refl, sym, ap, arith}
+use Rattle.std.proofs.Common.{◌≡◌, ◌∙◌, ◌-◌, ◌<◌, ◌≤◌, ℕ, zero, suc, List, [], ◌∷◌, ◌++◌, length, get_or, take, drop, Option, None, Some, option_map, codes, refl, sym, ap, arith}
 use Rattle.mw_logic.specs.Term.{RawTerm, apply, RawTerms, nil, cons, join}
 use Rattle.mw_term.specs.declared.raw.Raw.{Raw}
 use Rattle.mw_term.specs.Raws.{raw_term, raw_terms}
@@ -7,7 +7,8 @@ use Rattle.mw_text.specs.Tokens.{Name}
 use Rattle.mw_form.specs.declared.scope.Meaning.{Meaning}
 use Rattle.mw_form.specs.declared.scope.Meaning.TheVariants as meaning
 use Rattle.mw_form.specs.Reading.{Read, after_mark, with_head, with_operator, closed, followed, opened, arguments_with, applied_with, meant_with, term_at}
-use Rattle.mw_form.proofs.Tables.{bytes_same}
+use Rattle.mw_form.proofs.Fronts.{front_and_rest}
+use Rattle.mw_form.proofs.Again.{mark_met}
 
 abbrev pub with_front : RawTerms → Read RawTerms → Read RawTerms
 with_front front read = option_map (λ p. (join front p.0, p.1)) read
@@ -64,15 +65,5 @@ module _ (one : List Name → Read RawTerm) where
 pub front_none : {left : Read RawTerms} (front : RawTerms) → left ≡ None → with_front front left ≡ None
 front_none front e = ap (with_front front) e
 
-take_whole : (n : ℕ) (ts : List Name) → n ≡ length ts → take n ts ≡ ts
-take_whole zero [] e = refl
-take_whole zero (t ∷ ts) e = absurd (omega arith)
-take_whole (suc n) [] e = absurd (omega arith)
-take_whole (suc n) (t ∷ ts) e = ap (λ x. t ∷ x) (take_whole n ts (omega arith))
-
 pub after_is : (ts : List Name) (text first : Name) → 1 ≤ length ts → first ≡ get_or ts 0 first → first ≡ text → Some (take (length ts - 1) (drop 1 ts)) ≡ after_mark text ts
-after_is [] text first h e same = absurd (omega arith)
-after_is (t ∷ ts) text first h e same =
-    let n : suc (length ts) - 1 ≡ length ts = omega arith in
-    let met : bytes_eq t text ≡ true = rw (← e, same) (bytes_same text) in
-    ap Some (take_whole (suc (length ts) - 1) ts n) ∙ sym (ap (λ (b : Bool). cond b (Some ts) None) met)
+after_is ts text first h e same = sym (ap (after_mark text) (front_and_rest ts first h e ∙ ap (λ t. t ∷ take (length ts - 1) (drop 1 ts)) same) ∙ mark_met text (take (length ts - 1) (drop 1 ts)))

@@ -56,7 +56,7 @@ impl Mentions {
         ensures { IfOk result (λ xs. xs ≡ map variable_named self.now) }
     {
         let mut found = Vec::new(alloc);
-        for name in self.names.iter() {
+        for name in self.names.as_slice() {
             let name = Name::of(name.as_slice().to_vec(alloc)?);
             found.push(VarId { name, sort: SORT })?;
         }
@@ -71,8 +71,10 @@ pub fn meet_all(alloc: Global, mentions: &mut Mentions, term: &Raw) -> Result<()
     match term {
         Raw::Var(variable) => mentions.meet(alloc, &variable.name),
         Raw::Op(_, args) => {
-            for arg in args.as_slice() {
+            let mut rest = args.as_slice();
+            while let [arg, after @ ..] = rest {
                 meet_all(alloc, mentions, arg)?;
+                rest = after;
             }
             Ok(())
         }
@@ -87,10 +89,12 @@ pub fn are_met(mentions: &Mentions, term: &Raw) -> bool
     match term {
         Raw::Var(variable) => mentions.has(&variable.name),
         Raw::Op(_, args) => {
-            for arg in args.as_slice() {
+            let mut rest = args.as_slice();
+            while let [arg, after @ ..] = rest {
                 if !are_met(mentions, arg) {
                     return false;
                 }
+                rest = after;
             }
             true
         }
