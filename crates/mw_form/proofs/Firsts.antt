@@ -8,7 +8,7 @@ use Rattle.mw_logic.specs.Substitution.{same_variable, occurs}
 use Rattle.mw_text.specs.Tokens.{Name}
 use Rattle.mw_text.specs.Form.{variables_of, variable_named, first_mentions}
 use Rattle.mw_text.proofs.Mentions.{occurs_is, is_occurring}
-use Rattle.mw_form.specs.Mentions.{is_among, with_name, with_names_of, are_among}
+use Rattle.mw_form.specs.Mentions.{is_among, with_name, with_names_of, are_among, OneSorted}
 use Rattle.mw_form.proofs.Tables.{by_test, same_bytes, bytes_same}
 
 -- names, each where it stands first
@@ -73,10 +73,6 @@ met_firsts ns (x ∷ xs) =
         ∙ ap (λ l. ns ++ l) (ap (λ l. x.name ∷ l) (filter_twice (is_new (ns ++ x.name ∷ [])) (λ m. not (bytes_eq x.name m)) (is_new ns) (new_test ns x.name) (firsts names))
             ∙ sym (ap (λ b. cond (not b) (x.name ∷ filter (is_new ns) (filter (λ m. not (bytes_eq x.name m)) (firsts names))) (filter (is_new ns) (filter (λ m. not (bytes_eq x.name m)) (firsts names)))) e)))
 
--- all variables are of the one sort
-abbrev pub OneSorted : List Variable → Type 0
-OneSorted xs = (x : Variable) → Member x xs → variable_named x.name ≡ x
-
 filter_named : (x : Variable) → variable_named x.name ≡ x → (ns : List Name)
     → filter (λ y. not (same_variable x y)) (map variable_named ns) ≡ map variable_named (filter (λ m. not (bytes_eq x.name m)) ns)
 filter_named x e [] = refl
@@ -90,11 +86,9 @@ filter_named x e (n ∷ ns) =
     and_true true = refl
     and_true false = refl
 
-    abbrev by_goal : Bool → Type 0
-    by_goal b = cond (not b) (variable_named n ∷ filter (λ y. not (same_variable x y)) (map variable_named ns)) (filter (λ y. not (same_variable x y)) (map variable_named ns))
+    by : (b : Bool) → filter (λ y. not (same_variable x y)) (map variable_named ns) ≡ map variable_named (filter (λ m. not (bytes_eq x.name m)) ns) 
+        → cond (not b) (variable_named n ∷ filter (λ y. not (same_variable x y)) (map variable_named ns)) (filter (λ y. not (same_variable x y)) (map variable_named ns))
         ≡ map variable_named (cond (not b) (n ∷ filter (λ m. not (bytes_eq x.name m)) ns) (filter (λ m. not (bytes_eq x.name m)) ns))
-
-    by : (b : Bool) → filter (λ y. not (same_variable x y)) (map variable_named ns) ≡ map variable_named (filter (λ m. not (bytes_eq x.name m)) ns) → by_goal b
     by true rest = rest
     by false rest = ap (λ ys. variable_named n ∷ ys) rest
 

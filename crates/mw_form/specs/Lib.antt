@@ -3,4 +3,5 @@ pub mod Scope
 pub mod Meanings
 pub mod Reading
 pub mod Runs
+pub mod Statements
 pub mod Mentions
