@@ -41,7 +41,7 @@ old_test ns n e m = by_test (bytes_eq n m)
     (λ h. rw h (ap not (subst (λ k. is_among ns k ≡ true) (same_bytes n m h) e)))
     (λ h. rw h refl)
 
-among_push : (ns : List Name) (n m : Name) → is_among (ns ++ n ∷ []) m ≡ (bytes_eq n m || is_among ns m)
+pub among_push : (ns : List Name) (n m : Name) → is_among (ns ++ n ∷ []) m ≡ (bytes_eq n m || is_among ns m)
 among_push [] n m = ap (λ b. b || false) (other_way m n)
 among_push (k ∷ ns) n m = ap (λ b. bytes_eq m k || b) (among_push ns n m) ∙ swap (bytes_eq m k) (bytes_eq n m) (is_among ns m)
   where

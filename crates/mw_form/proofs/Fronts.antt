@@ -1,7 +1,7 @@
 -- The first element of a list, and the others.
 use Rattle.std.proofs.Common.{◌≡◌, ◌≤◌, ◌-◌, ℕ, zero, suc, List, [], ◌∷◌, length, get_or, take, drop, refl, sym, ap, arith}
 
-take_whole : {X : Type 0} (n : ℕ) (ts : List X) → n ≡ length ts → take n ts ≡ ts
+pub take_whole : {X : Type 0} (n : ℕ) (ts : List X) → n ≡ length ts → take n ts ≡ ts
 take_whole zero [] e = refl
 take_whole zero (t ∷ ts) e = absurd (omega arith)
 take_whole (suc n) [] e = absurd (omega arith)

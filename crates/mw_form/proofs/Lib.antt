@@ -10,3 +10,8 @@ pub mod Whole
 pub mod Fronts
 pub mod Meeting
 pub mod Firsts
+pub mod Bound
+pub mod Lines
+pub mod OverScope
+pub mod Sources
+pub mod Places

@@ -36,7 +36,7 @@ and_twice : (a b c : Bool) → ((a && b) && c) ≡ (a && (b && c))
 and_twice true b c = refl
 and_twice false b c = refl
 
-among_append : (ns : List Name) (xs ys : List Variable) → are_among ns (xs ++ ys) ≡ (are_among ns xs && are_among ns ys)
+pub among_append : (ns : List Name) (xs ys : List Variable) → are_among ns (xs ++ ys) ≡ (are_among ns xs && are_among ns ys)
 among_append ns [] ys = refl
 among_append ns (x ∷ xs) ys = ap (λ b. is_among ns x.name && b) (among_append ns xs ys) ∙ sym (and_twice (is_among ns x.name) (are_among ns xs) (are_among ns ys))
 

@@ -145,7 +145,7 @@ pub record Means (sig : Signature) (variables : List Variable) (m : Name → Opt
   pub is_variable : (n : Name) → m n ≡ Some meaning.Variable → Member (variable_named n) variables
   pub is_operator : (n : Name) (f c : ℕ) → m n ≡ Some (meaning.Operator f c) → (o : Operator) × IsOperator sig f o × (o.spelling ≡ n) × (length o.args ≡ c)
 
-named : (xs : List Name) (x : Variable) → Member x (map variable_named xs) → variable_named x.name ≡ x
+pub named : (xs : List Name) (x : Variable) → Member x (map variable_named xs) → variable_named x.name ≡ x
 named [] x h = absurd h
 named (n ∷ xs) x (inl e) = rw (← e) refl
 named (n ∷ xs) x (inr h) = named xs x h

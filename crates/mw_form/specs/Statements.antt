@@ -34,7 +34,7 @@ pub record FitsOperators (sort : Name) (statements : List (List Name)) (operator
 -- the statement of these variables, where there are any, and then others
 pub record FitsVariables (sort : Name) (statements : List (List Name)) (variables : List Name) (rest : List (List Name)) : Type 0 where
   pub lines : statements ≡ variable_statement sort variables ++ rest
-  pub ends : begins_with (codes "vars") rest ≡ false
+  pub ends : variables ≡ [] → begins_with (codes "vars") rest ≡ false
 
 -- the statements of these equations, and then others
 pub record FitsEquations (sig : Signature) (statements : List (List Name)) (equations : List Equation) (rest : List (List Name)) : Type 0 where

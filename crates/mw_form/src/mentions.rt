@@ -1,5 +1,6 @@
 // The variables of terms.
 ghost use Rattle.std.specs.Prelude.{◌≡◌, ◌↔◌, List, [], map, IfOk, OnOk, IsTrue};
+ghost use Rattle.mw_logic.specs.Term.{is_ground};
 ghost use Rattle.mw_term.specs.Raws.{raw_term};
 ghost use Rattle.mw_text.specs.Tokens.{Name as NameOf};
 ghost use Rattle.mw_text.specs.Form.{variables_of, variable_named};
@@ -80,6 +81,13 @@ pub fn meet_all(alloc: Global, mentions: &mut Mentions, term: &Raw) -> Result<()
         }
         _ => Ok(()),
     }
+}
+
+/// Whether a term has no variable. It takes no memory.
+pub fn has_no_variable(alloc: Global, term: &Raw) -> bool
+    ensures { result ≡ is_ground (raw_term term.now) }
+{
+    are_met(&Mentions::new(alloc), term)
 }
 
 /// Whether each variable of a term was met.

@@ -11,10 +11,10 @@ ghost use Rattle.mw_form.specs.Statements.{texts, Stopless, FitsOperators, FitsV
 
 use crate::equations::equation;
 use crate::forms::term;
-use crate::mentions::{Mentions, are_met};
+use crate::mentions::has_no_variable;
 use crate::scope::{Scope, again};
 use crate::source::{Equation, Source};
-use crate::words::{before_token, begins, head, last, operator, variable_names};
+use crate::words::{before_token, goes_on, head, last, operator, variable_names};
 use crate::tokens::tokens;
 use mw_term::{Name, Raw, Seq};
 use std::alloc::{AllocError, Global};
@@ -118,10 +118,10 @@ fn operators<'s, 't>(
 {
     let mut scope = scope;
     let mut rest = statements;
-    while let [words, after @ ..] = rest {
-        if !begins(words, b"op") {
-            break;
-        }
+    while goes_on(rest, b"op") {
+        let [words, after @ ..] = rest else {
+            return Ok(None);
+        };
         let Some((name, args)) = operator(words, scope.sort()) else {
             return Ok(None);
         };
@@ -146,12 +146,12 @@ fn variables<'s, 't>(
             → AllByRecursion IsName (names_over scope.operators xs) → AllDiffer (names_over scope.operators xs) → ⊥)
         (λ r. (r.0.sort_name ≡ scope.sort_name) × (r.0.operators ≡ scope.operators) × FitsVariables scope.sort_name (texts statements.entry.now) r.0.variables (texts r.1.now))) }
 {
-    let [words, after @ ..] = statements else {
-        return Ok(Some((scope, statements)));
-    };
-    if !begins(words, b"vars") {
+    if !goes_on(statements, b"vars") {
         return Ok(Some((scope, statements)));
     }
+    let [words, after @ ..] = statements else {
+        return Ok(None);
+    };
     let Some(names) = variable_names(words, scope.sort()) else {
         return Ok(None);
     };
@@ -196,10 +196,10 @@ fn equations<'s, 't>(
 {
     let mut found = Vec::new(alloc);
     let mut rest = statements;
-    while let [words, after @ ..] = rest {
-        if !begins(words, b"eq") {
-            break;
-        }
+    while goes_on(rest, b"eq") {
+        let [words, after @ ..] = rest else {
+            return Ok(None);
+        };
         let Some(equation) = equation(alloc, scope, words)? else {
             return Ok(None);
         };
@@ -221,6 +221,7 @@ fn subject(
         (λ r. IsForm (signature_in scope.now) (variables_declared scope.now) (raw_term r) × IsTrue (is_ground (raw_term r))
             × (texts statements.now ≡ last_words (prefix_form (signature_in scope.now) (raw_term r)) ∷ []))) }
 {
+    let _sort = scope.sort();
     let [words] = statements else {
         return Ok(None);
     };
@@ -230,7 +231,7 @@ fn subject(
     let Some(subject) = term(alloc, scope, command)? else {
         return Ok(None);
     };
-    if are_met(&Mentions::new(alloc), &subject) {
+    if has_no_variable(alloc, &subject) {
         Ok(Some(subject))
     } else {
         Ok(None)

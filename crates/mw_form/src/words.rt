@@ -4,13 +4,23 @@ ghost use Rattle.mw_logic.specs.Signature.{Member};
 ghost use Rattle.mw_text.specs.Tokens.{Name as NameOf};
 ghost use Rattle.mw_text.specs.Form.{Declared as DeclaredOf};
 ghost use Rattle.mw_text.specs.Spelling.{IsName, IsPrelude, head_words, operator_words, last_words};
-ghost use Rattle.mw_form.specs.Statements.{begins_with, vars_words};
+ghost use Rattle.mw_form.specs.Statements.{begins_with, texts, vars_words};
 
 use crate::names::{is, is_name, is_prelude};
 use mw_term::Name;
 
+/// Whether there is a statement more, and it begins with this word.
+pub fn goes_on(statements: &[&[Name]], text: &[u8]) -> bool
+    ensures { result ≡ begins_with text.now (texts statements.now) }
+{
+    match statements {
+        [words, ..] => begins(words, text),
+        _ => false,
+    }
+}
+
 /// Whether the first word is this one.
-pub fn begins(words: &[Name], text: &[u8]) -> bool
+fn begins(words: &[Name], text: &[u8]) -> bool
     ensures { result ≡ begins_with text.now (words.now ∷ []) }
 {
     match words {
@@ -106,7 +116,7 @@ fn is_alone(words: &[Name], name: &Name) -> bool
 pub fn variable_names<'t>(words: &'t [Name], sort: &Name) -> Option<&'t [Name]>
     ensures { MatchOption result
         ((xs : List NameOf) → xs ≢ [] → (Member (codes ":") xs → ⊥) → words.entry.now ≡ vars_words sort.now xs → ⊥)
-        (λ xs. (xs.now ≢ []) × (words.entry.now ≡ vars_words sort.now xs.now)) }
+        (λ xs. (xs.now ≢ []) × (Member (codes ":") xs.now → ⊥) × (words.entry.now ≡ vars_words sort.now xs.now)) }
 {
     let [first, rest @ ..] = words else {
         return None;

@@ -35,11 +35,11 @@ same_is x y e = by (bytes_eq x.name y.name) (nat_eq x.sort y.sort) refl refl e
 pub itself : (x : Variable) → same_variable x x ≡ true
 itself x = let name = (bytes_eq-Decides x.name x.name).1 refl in let sort : nat_eq x.sort x.sort ≡ true = grind arith in rw (name, sort) refl
 
-or_cases : (b c : Bool) → (b || c) ≡ true → (b ≡ true) ⊎ (c ≡ true)
+pub or_cases : (b c : Bool) → (b || c) ≡ true → (b ≡ true) ⊎ (c ≡ true)
 or_cases true c e = inl refl
 or_cases false c e = inr e
 
-or_right : (b c : Bool) → c ≡ true → (b || c) ≡ true
+pub or_right : (b c : Bool) → c ≡ true → (b || c) ≡ true
 or_right true c e = refl
 or_right false c e = e
 

@@ -1,0 +1,2 @@
+-- A source, stage by stage.
+use Rattle.std.proofs.Common.{◌≡◌}
