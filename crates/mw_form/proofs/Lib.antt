@@ -15,3 +15,4 @@ pub mod Lines
 pub mod OverScope
 pub mod Sources
 pub mod Places
+pub mod Phrases

@@ -49,9 +49,13 @@ fn sides<'t>(words: &'t [Name]) -> Option<(&'t [Name], &'t [Name])>
         ((l r : List NameOf) → words.entry.now ≡ eq_words l r → ⊥)
         (λ p. (Member (codes "=") p.0.now → ⊥) × (words.entry.now ≡ eq_words p.0.now p.1.now)) }
 {
-    let rest = after_token(words, b"eq")?;
-    let sides = before_token(rest, b"=")?;
-    Some(sides)
+    let Some(rest) = after_token(words, b"eq") else {
+        return None;
+    };
+    match before_token(rest, b"=") {
+        Some((left, right)) => Some((left, right)),
+        None => None,
+    }
 }
 
 /// The equation of two sides: the left one isn't a variable, and the right one has no variable that it hasn't.

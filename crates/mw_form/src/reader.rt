@@ -118,7 +118,7 @@ fn operators<'s, 't>(
 {
     let mut scope = scope;
     let mut rest = statements;
-    while goes_on(rest, b"op") {
+    'lines: while goes_on(rest, b"op") {
         let [words, after @ ..] = rest else {
             return Ok(None);
         };
@@ -196,7 +196,7 @@ fn equations<'s, 't>(
 {
     let mut found = Vec::new(alloc);
     let mut rest = statements;
-    while goes_on(rest, b"eq") {
+    'lines: while goes_on(rest, b"eq") {
         let [words, after @ ..] = rest else {
             return Ok(None);
         };

@@ -80,12 +80,26 @@ pub fn operator<'t>(words: &'t [Name], sort: &Name) -> Option<(&'t Name, usize)>
     let [first, name, second, rest @ ..] = words else {
         return None;
     };
-    let (args, after) = before_token(rest, b"->")?;
-    if is(first, b"op") && is(second, b":") && are_all(args, sort) && is_alone(after, sort) {
+    let Some((args, after)) = before_token(rest, b"->") else {
+        return None;
+    };
+    if are_marked(first, b"op", second, b":") && are_sorts(args, after, sort) {
         Some((name, args.len()))
     } else {
         None
     }
+}
+
+fn are_marked(first: &Name, first_text: &[u8], second: &Name, second_text: &[u8]) -> bool
+    ensures { IsTrue result ↔ (first.now ≡ first_text.now) × (second.now ≡ second_text.now) }
+{
+    is(first, first_text) && is(second, second_text)
+}
+
+fn are_sorts(args: &[Name], after: &[Name], sort: &Name) -> bool
+    ensures { IsTrue result ↔ (args.now ≡ replicate (length args.now) sort.now) × (after.now ≡ sort.now ∷ []) }
+{
+    are_all(args, sort) && is_alone(after, sort)
 }
 
 /// Whether each of them is this name.
@@ -121,12 +135,20 @@ pub fn variable_names<'t>(words: &'t [Name], sort: &Name) -> Option<&'t [Name]>
     let [first, rest @ ..] = words else {
         return None;
     };
-    let (names, after) = before_token(rest, b":")?;
-    if is(first, b"vars") && !names.is_empty() && is_alone(after, sort) {
+    let Some((names, after)) = before_token(rest, b":") else {
+        return None;
+    };
+    if is(first, b"vars") && are_variables(names, after, sort) {
         Some(names)
     } else {
         None
     }
+}
+
+fn are_variables(names: &[Name], after: &[Name], sort: &Name) -> bool
+    ensures { IsTrue result ↔ (names.now ≢ []) × (after.now ≡ sort.now ∷ []) }
+{
+    !names.is_empty() && is_alone(after, sort)
 }
 
 /// `endfm reduce T`: the words of T.

@@ -5,11 +5,11 @@ use Rattle.mw_form.specs.Scope.{signature_in, variables_declared}
 use Rattle.mw_form.specs.Statements.{texts}
 use Rattle.mw_form.proofs.reader.equations.Given as goal
 
-abbrev pub invariant-loop-rest : goal.invariant-loop-rest
-invariant-loop-rest l = record {
+abbrev pub invariant-lines : goal.invariant-lines
+invariant-lines l = record {
   valid : AllByRecursion (IsRewriting (signature_in l.scope) (variables_declared l.scope)) l.found.items;
   lines : texts l.statements ≡ map (equation_words (signature_in l.scope)) l.found.items ++ texts l.rest;
 }
 
-abbrev pub decreases-loop-rest : goal.decreases-loop-rest
-decreases-loop-rest l = length l.rest
+abbrev pub decreases-lines : goal.decreases-lines
+decreases-lines l = length l.rest
