@@ -1,14 +1,16 @@
 -- Prefix forms over what is declared.
-use Rattle.std.proofs.Common.{◌≡◌, ◌∙◌, ◌⊎◌, ◌≤◌, ℕ, zero, suc, List, [], ◌∷◌, ◌++◌, map, codes, Some, slice_get, sym, ap, subst, refl, inl, inr, arith}
+use Rattle.std.proofs.Common.{◌≡◌, ◌∙◌, ◌⊎◌, ◌≤◌, ℕ, zero, suc, List, [], ◌∷◌, ◌++◌, map, codes, Option, None, Some, MatchOption, IsTrue, slice_get, sym, ap, subst, refl, inl, inr, arith}
 use Rattle.std.specs.List.{AllByRecursion}
 use Rattle.mw_logic.specs.Term.{Variable, RawTerm}
 use Rattle.mw_logic.specs.Signature.{Signature, Operator, IsOperator, Member, at_number}
+use Rattle.mw_logic.specs.Substitution.{occurs}
 use Rattle.mw_text.specs.Tokens.{Name}
 use Rattle.mw_text.specs.Form.{Declared, Equation, operator_of, variable_named}
-use Rattle.mw_text.specs.Spelling.{Spells, IsForm, IsName, IsRewriting, prefix_form, equation_words}
+use Rattle.mw_text.specs.Spelling.{Spells, IsForm, IsName, IsRewriting, IsOperatorTerm, prefix_form, equation_words}
 use Rattle.mw_text.proofs.Marks.{Lacks, same_head, same_tail, cut_at_mark}
 use Rattle.mw_text.proofs.Named.{AreNamed, IsApart, spelled_lacks, no_name}
 use Rattle.mw_form.specs.Scope.{Declarations, IsScope, signature_in, variables_declared}
+use Rattle.mw_form.specs.Statements.{eq_words}
 use Rattle.mw_form.proofs.Lines.{all_left, all_right}
 use Rattle.mw_form.proofs.Whole.{one_term}
 
@@ -63,3 +65,26 @@ same_equation D scope a b A B e =
     let left : a.left ≡ b.left = one_form D scope a.left b.left A.left B.left sides.0 in
     let right : a.right ≡ b.right = one_form D scope a.right b.right A.right B.right sides.1 in
     λ i. record { left = left i; right = right i }
+
+-- the sides of an equation's statement
+pub equation_sides : (D : Declarations) → IsScope D → (e : Equation) (left right : List Name) → IsRewriting (signature_in D) (variables_declared D) e → Lacks (codes "=") left
+    → eq_words left right ≡ equation_words (signature_in D) e → (left ≡ prefix_form (signature_in D) e.left) × (right ≡ prefix_form (signature_in D) e.right)
+equation_sides D scope e left right E lacks is =
+    cut_at_mark (codes "=") left (prefix_form (signature_in D) e.left) right (prefix_form (signature_in D) e.right) lacks (form_lacks D scope (codes "=") equals_apart e.left E.left) (same_tail is)
+
+-- the equation of two sides that were read
+pub equation_read : (D : Declarations) → IsScope D → (words left right : List Name) (l r : RawTerm) (o : Option Equation) → Lacks (codes "=") left → words ≡ eq_words left right
+    → IsForm (signature_in D) (variables_declared D) l → left ≡ prefix_form (signature_in D) l → IsForm (signature_in D) (variables_declared D) r → right ≡ prefix_form (signature_in D) r
+    → MatchOption o (IsOperatorTerm l → ((x : Variable) → IsTrue (occurs x r) → IsTrue (occurs x l)) → ⊥)
+        (λ e. (e ≡ record { left = l; right = r }) × IsOperatorTerm l × ((x : Variable) → IsTrue (occurs x r) → IsTrue (occurs x l)))
+    → MatchOption o ((e : Equation) → IsRewriting (signature_in D) (variables_declared D) e → words ≡ equation_words (signature_in D) e → ⊥)
+        (λ e. IsRewriting (signature_in D) (variables_declared D) e × (words ≡ equation_words (signature_in D) e))
+equation_read D scope words left right l r None lacks is L spell R spells none =
+    λ e E words_is.
+        let sides = equation_sides D scope e left right E lacks (sym is ∙ words_is) in
+        let first : e.left ≡ l = one_form D scope e.left l E.left L (sym sides.0 ∙ spell) in
+        let second : e.right ≡ r = one_form D scope e.right r E.right R (sym sides.1 ∙ spells) in
+        none (subst IsOperatorTerm first E.operator) (λ x o. subst (λ t. IsTrue (occurs x t)) first (E.bound x (subst (λ t. IsTrue (occurs x t)) (sym second) o)))
+equation_read D scope words left right l r (Some e) lacks is L spell R spells some =
+    let P : Equation → Type 0 = λ q. IsRewriting (signature_in D) (variables_declared D) q × (words ≡ equation_words (signature_in D) q) in
+    subst P (sym some.0) (record { left = L; right = R; operator = some.1; bound = some.2 }, is ∙ ap (λ x. eq_words x right) spell ∙ ap (eq_words (prefix_form (signature_in D) l)) spells)

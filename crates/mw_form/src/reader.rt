@@ -194,6 +194,7 @@ fn equations<'s, 't>(
         (λ r. FitsEquations (signature_in scope.now) (texts statements.entry.now) r.0.items (texts r.1.now)
             × AllByRecursion (IsRewriting (signature_in scope.now) (variables_declared scope.now)) r.0.items)) }
 {
+    let _sort = scope.sort();
     let mut found = Vec::new(alloc);
     let mut rest = statements;
     'lines: while goes_on(rest, b"eq") {

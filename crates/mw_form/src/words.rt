@@ -83,17 +83,23 @@ pub fn operator<'t>(words: &'t [Name], sort: &Name) -> Option<(&'t Name, usize)>
     let Some((args, after)) = before_token(rest, b"->") else {
         return None;
     };
-    if are_marked(first, b"op", second, b":") && are_sorts(args, after, sort) {
+    if is_operator(first, second, args, after, sort) {
         Some((name, args.len()))
     } else {
         None
     }
 }
 
-fn are_marked(first: &Name, first_text: &[u8], second: &Name, second_text: &[u8]) -> bool
-    ensures { IsTrue result ↔ (first.now ≡ first_text.now) × (second.now ≡ second_text.now) }
+fn is_operator(first: &Name, second: &Name, args: &[Name], after: &[Name], sort: &Name) -> bool
+    ensures { IsTrue result ↔ ((first.now ≡ codes "op") × (second.now ≡ codes ":")) × ((args.now ≡ replicate (length args.now) sort.now) × (after.now ≡ sort.now ∷ [])) }
 {
-    is(first, first_text) && is(second, second_text)
+    are_marked(first, second) && are_sorts(args, after, sort)
+}
+
+fn are_marked(first: &Name, second: &Name) -> bool
+    ensures { IsTrue result ↔ (first.now ≡ codes "op") × (second.now ≡ codes ":") }
+{
+    is(first, b"op") && is(second, b":")
 }
 
 fn are_sorts(args: &[Name], after: &[Name], sort: &Name) -> bool
@@ -138,11 +144,17 @@ pub fn variable_names<'t>(words: &'t [Name], sort: &Name) -> Option<&'t [Name]>
     let Some((names, after)) = before_token(rest, b":") else {
         return None;
     };
-    if is(first, b"vars") && are_variables(names, after, sort) {
+    if is_variables(first, names, after, sort) {
         Some(names)
     } else {
         None
     }
+}
+
+fn is_variables(first: &Name, names: &[Name], after: &[Name], sort: &Name) -> bool
+    ensures { IsTrue result ↔ (first.now ≡ codes "vars") × ((names.now ≢ []) × (after.now ≡ sort.now ∷ [])) }
+{
+    is(first, b"vars") && are_variables(names, after, sort)
 }
 
 fn are_variables(names: &[Name], after: &[Name], sort: &Name) -> bool
