@@ -1,17 +1,17 @@
 -- A source, stage by stage.
-use Rattle.std.proofs.Common.{◌≡◌, ◌∙◌, ◌⊎◌, ◌+◌, ◌-◌, ◌<◌, ℕ, List, [], ◌∷◌, ◌++◌, length, get_or, take, drop, map, Bool, true, false, codes, IsTrue, sym, ap, subst, refl, inl, inr, arith, append_assoc, append-nil}
+use Rattle.std.proofs.Common.{◌≡◌, ◌∙◌, ◌⊎◌, ◌+◌, ◌-◌, ◌<◌, ℕ, List, [], ◌∷◌, ◌++◌, length, get_or, take, drop, map, Bool, true, false, codes, IsTrue, Option, None, Some, MatchOption, sym, ap, subst, refl, inl, inr, arith, append_assoc, append-nil}
 use Rattle.std.specs.List.{AllByRecursion}
 use Rattle.std.proofs.lemmas.List.{map-append}
 use Rattle.mw_logic.specs.Term.{Variable, RawTerm, is_ground}
 use Rattle.mw_logic.specs.Signature.{Signature, Member}
 use Rattle.mw_text.specs.Tokens.{Name}
 use Rattle.mw_text.specs.Form.{Declared, Equation, Source, signature_of}
-use Rattle.mw_text.specs.Spelling.{IsName, IsPrelude, AllDiffer, IsForm, IsRewriting, IsWellFormed, prefix_form, names_over, names_in, head_words, operator_words, variable_statement, equation_words, last_words, command_words, statements_of}
-use Rattle.mw_text.proofs.Marks.{Lacks, same_head, same_tail, cut_at_mark, Member-cases}
+use Rattle.mw_text.specs.Spelling.{IsName, IsPrelude, AllDiffer, IsForm, IsRewriting, IsWellFormed, prefix_form, names_over, names_in, head_words, operator_words, variable_statement, equation_words, last_words, command_words, statements_of, with_stops}
+use Rattle.mw_text.proofs.Marks.{Lacks, same_head, same_tail, cut_at_mark, Member-cases, same_statements}
 use Rattle.mw_text.proofs.Differing.{differ_split, differ_left}
 use Rattle.mw_text.proofs.Named.{same_operator, names_lack}
 use Rattle.mw_form.specs.Scope.{Declarations, IsScope, signature_in, variables_declared}
-use Rattle.mw_form.specs.Statements.{begins_with, vars_words, FitsOperators, FitsVariables, FitsEquations}
+use Rattle.mw_form.specs.Statements.{begins_with, vars_words, Stopless, FitsOperators, FitsVariables, FitsEquations}
 use Rattle.mw_form.proofs.Lines.{all_left, all_right, next, only}
 use Rattle.mw_form.proofs.OverScope.{same_equation}
 use Rattle.mw_form.proofs.Places.{cut_at_place}
@@ -65,18 +65,18 @@ bad_equation D scope found all line ws rest after valid is goes fits ok none =
     let n = next (IsRewriting (signature_in D) (variables_declared D)) (equation_words (signature_in D)) (codes "eq") (λ a r. refl) (λ a b u v e. same_equation D scope a b u v e) found all line rest after valid ok goes fits.ends (sym is ∙ fits.lines) in
     none n.item n.valid n.here
 
-abbrev Some : {X : Type 0} → List X → Type 0
-Some xs = xs ≡ [] → ⊥
+abbrev IsSome : {X : Type 0} → List X → Type 0
+IsSome xs = xs ≡ [] → ⊥
 
 -- where a statement of variables stands, it is that of those that fit
 pub variables_there : (sort : Name) (line : List Name) (ws rest after : List (List Name)) (xs : List Name) → ws ≡ line ∷ rest → begins_with (codes "vars") ws ≡ true → FitsVariables sort ws xs after
-    → Some xs × (line ≡ vars_words sort xs)
+    → IsSome xs × (line ≡ vars_words sort xs)
 variables_there sort line ws rest after [] is goes fits =
     let wrong : true ≡ false = sym goes ∙ ap (begins_with (codes "vars")) fits.lines ∙ fits.ends refl in
     let no : ⊥ = (cc) in absurd no
 variables_there sort line ws rest after (x ∷ xs) is goes fits = ((λ e. let no : ⊥ = (cc) in no), same_head (sym is ∙ fits.lines))
 
-pub fits_variables : (sort : Name) (line : List Name) (ws rest : List (List Name)) (xs : List Name) → Some xs → ws ≡ line ∷ rest → line ≡ vars_words sort xs → FitsVariables sort ws xs rest
+pub fits_variables : (sort : Name) (line : List Name) (ws rest : List (List Name)) (xs : List Name) → IsSome xs → ws ≡ line ∷ rest → line ≡ vars_words sort xs → FitsVariables sort ws xs rest
 fits_variables sort line ws rest [] some is line_is = absurd (some refl)
 fits_variables sort line ws rest (x ∷ xs) some is line_is = record { lines = is ∙ ap (λ l. l ∷ rest) line_is; ends = λ e. absurd (some e) }
 
@@ -138,3 +138,69 @@ pub equations_only : (D : Declarations) → IsScope D → (ps qs : List Equation
     → AllByRecursion (IsRewriting (signature_in D) (variables_declared D)) qs → FitsEquations (signature_in D) ws ps rest → FitsEquations (signature_in D) ws qs after → (ps ≡ qs) × (rest ≡ after)
 equations_only D scope ps qs ws rest after A B a b =
     only (IsRewriting (signature_in D) (variables_declared D)) (equation_words (signature_in D)) (codes "eq") (λ e r. refl) (λ d e u v h. same_equation D scope d e u v h) ps qs rest after A B a.ends b.ends (sym a.lines ∙ b.lines)
+
+-- the names of a source's operators and variables
+pub names_of_form : (s : Source) → IsWellFormed s → AllByRecursion IsName (names_over s.operators []) × AllDiffer (names_over s.operators [])
+names_of_form s wf =
+    let all = all_left IsName (called s.operators) s.variables wf.names.1.1 in
+    let differ = differ_left (called s.operators) s.variables wf.differ in
+    (subst (AllByRecursion IsName) (sym (append-nil (called s.operators))) all, subst AllDiffer (sym (append-nil (called s.operators))) differ)
+
+-- what the head of a source says
+pub head_is : (name sort : Name) (rest : List (List Name)) (s : Source) → head_words name sort ∷ rest ≡ statements_of s
+    → (name ≡ s.name) × (sort ≡ s.sort_name) × (rest ≡ map (operator_words s.sort_name) s.operators ++ after_operators s)
+head_is name sort rest s e =
+    let line : head_words name sort ≡ head_words s.name s.sort_name = same_head e in
+    let after_fmod = same_tail line in
+    (same_head after_fmod, same_head (same_tail (same_tail (same_tail after_fmod))), same_tail e)
+
+-- where a scope stands after the operators, of a source that fits
+pub after_the_operators : (sort : Name) (D : Declarations) (rest0 rest1 : List (List Name)) (s : Source) → sort ≡ s.sort_name → D.sort_name ≡ sort → IsName sort
+    → FitsOperators sort rest0 D.operators rest1 → rest0 ≡ map (operator_words s.sort_name) s.operators ++ after_operators s → (D.operators ≡ s.operators) × (rest1 ≡ after_operators s)
+after_the_operators sort D rest0 rest1 s same is name fits e =
+    operators_only s.sort_name (subst IsName same name) D.operators s.operators rest0 rest1 (after_operators s) (subst (λ n. FitsOperators n rest0 D.operators rest1) same fits) (operators_fit s rest0 e)
+
+-- and after the variables
+pub after_the_variables : (D E : Declarations) (rest1 rest2 : List (List Name)) (s : Source) → IsScope E → IsWellFormed s → D.sort_name ≡ s.sort_name → E.sort_name ≡ D.sort_name → D.operators ≡ s.operators
+    → E.operators ≡ D.operators → FitsVariables D.sort_name rest1 E.variables rest2 → rest1 ≡ after_operators s → (E ≡ scope_of s) × (rest2 ≡ after_variables s)
+after_the_variables D E rest1 rest2 s scope wf sort sort_again ops ops_again fits e =
+    let r = variables_only s.sort_name E.variables s.variables rest1 rest2 (after_variables s) (all_right IsName (called E.operators) E.variables scope.names) (all_right IsName (called s.operators) s.variables wf.names.1.1)
+        (subst (λ n. FitsVariables n rest1 E.variables rest2) sort fits) (variables_fit s rest1 e) in
+    let a : E.sort_name ≡ s.sort_name = sort_again ∙ sort in
+    let b : E.operators ≡ s.operators = ops_again ∙ ops in
+    ((λ i. record { sort_name = a i; operators = b i; variables = r.0 i }), r.1)
+
+-- the source that stages make
+abbrev pub made : Name → Declarations → List Equation → RawTerm → Source
+made name D es t = record { name = name; sort_name = D.sort_name; operators = D.operators; variables = D.variables; equations = es; subject = t }
+
+pub found_source : (name sort : Name) (ds : List Declared) (D : Declarations) (es : List Equation) (t : RawTerm) (ws rest0 rest1 rest2 rest3 : List (List Name))
+    → IsName name → (IsPrelude name → ⊥) → IsName sort → ws ≡ head_words name sort ∷ rest0 → FitsOperators sort rest0 ds rest1 → D.sort_name ≡ sort → D.operators ≡ ds → FitsVariables sort rest1 D.variables rest2
+    → IsScope D → FitsEquations (signature_in D) rest2 es rest3 → AllByRecursion (IsRewriting (signature_in D) (variables_declared D)) es → IsForm (signature_in D) (variables_declared D) t → IsTrue (is_ground t)
+    → rest3 ≡ last_words (prefix_form (signature_in D) t) ∷ [] → IsWellFormed (made name D es t) × (ws ≡ statements_of (made name D es t))
+found_source name sort ds D es t ws rest0 rest1 rest2 rest3 a_name new a_sort head ops same_sort same_ops vars scope eqs valid form ground end =
+    (record { names = (a_name, (subst IsName (sym same_sort) a_sort, scope.names)); new = new; differ = scope.differ; equations = valid; subject = form; ground = ground },
+    head ∙ ap (λ n. head_words name n ∷ rest0) (sym same_sort)
+    ∙ ap (λ l. head_words name D.sort_name ∷ l)
+        (ops.lines ∙ ap (λ n. map (operator_words n) ds ++ rest1) (sym same_sort) ∙ ap (λ l. map (operator_words D.sort_name) l ++ rest1) (sym same_ops)
+        ∙ ap (λ l. map (operator_words D.sort_name) D.operators ++ l)
+            (vars.lines ∙ ap (λ n. variable_statement n D.variables ++ rest2) (sym same_sort)
+            ∙ ap (λ l. variable_statement D.sort_name D.variables ++ l) (eqs.lines ∙ ap (λ l. map (equation_words (signature_in D)) es ++ l) end))))
+
+pub same_made : (name : Name) (D : Declarations) (es : List Equation) (t : RawTerm) (s : Source) → s.name ≡ name → s.sort_name ≡ D.sort_name → s.operators ≡ D.operators → s.variables ≡ D.variables
+    → s.equations ≡ es → s.subject ≡ t → made name D es t ≡ s
+same_made name D es t s a b o v e u =
+    sym (λ i. record { name = a i; sort_name = b i; operators = o i; variables = v i; equations = e i; subject = u i })
+
+-- no statement of a source holds a full stop
+pub source_stopless : (s : Source) → IsWellFormed s → Stopless (statements_of s)
+source_stopless s wf = ?
+
+pub no_statements : (s : Source) → IsWellFormed s → (tokens : List Name) → ((ws : List (List Name)) → Stopless ws → tokens ≡ with_stops ws → ⊥) → tokens ≡ with_stops (statements_of s) → ⊥
+no_statements s wf tokens none e = none (statements_of s) (source_stopless s wf) e
+
+pub source_read : (tokens : List Name) (ws : List (List Name)) (o : Option Source) → Stopless ws → tokens ≡ with_stops ws
+    → MatchOption o ((s : Source) → IsWellFormed s → ws ≡ statements_of s → ⊥) (λ s. IsWellFormed s × (ws ≡ statements_of s))
+    → MatchOption o ((s : Source) → IsWellFormed s → tokens ≡ with_stops (statements_of s) → ⊥) (λ s. IsWellFormed s × (tokens ≡ with_stops (statements_of s)))
+source_read tokens ws None stopless is none = λ s wf e. none s wf (same_statements ws (statements_of s) stopless (source_stopless s wf) (sym is ∙ e))
+source_read tokens ws (Some s) stopless is some = (some.0, is ∙ ap with_stops some.1)

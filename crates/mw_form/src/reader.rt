@@ -85,6 +85,7 @@ fn read_statements(alloc: Global, statements: &[&[Name]]) -> Result<Option<Sourc
     let Some((scope, rest)) = variables(alloc, scope, rest)? else {
         return Ok(None);
     };
+    let _sort = scope.sort();
     let Some((equations, rest)) = equations(alloc, &scope, rest)? else {
         return Ok(None);
     };
