@@ -1,5 +1,5 @@
 -- A source, stage by stage.
-use Rattle.std.proofs.Common.{◌≡◌, ◌∙◌, ◌⊎◌, ◌+◌, ◌-◌, ◌<◌, ℕ, List, [], ◌∷◌, ◌++◌, length, get_or, take, drop, map, Bool, true, false, codes, IsTrue, Option, None, Some, MatchOption, sym, ap, subst, refl, inl, inr, arith, append_assoc, append-nil}
+use Rattle.std.proofs.Common.{◌≡◌, ◌∙◌, ◌⊎◌, ◌+◌, ◌-◌, ◌<◌, ℕ, List, [], ◌∷◌, ◌++◌, length, get_or, take, drop, map, replicate, Bool, true, false, codes, nat_eq, IsTrue, Option, None, Some, MatchOption, sym, ap, subst, refl, inl, inr, arith, append_assoc, append-nil}
 use Rattle.std.specs.List.{AllByRecursion}
 use Rattle.std.proofs.lemmas.List.{map-append}
 use Rattle.mw_logic.specs.Term.{Variable, RawTerm, is_ground}
@@ -9,11 +9,11 @@ use Rattle.mw_text.specs.Form.{Declared, Equation, Source, signature_of}
 use Rattle.mw_text.specs.Spelling.{IsName, IsPrelude, AllDiffer, IsForm, IsRewriting, IsWellFormed, prefix_form, names_over, names_in, head_words, operator_words, variable_statement, equation_words, last_words, command_words, statements_of, with_stops}
 use Rattle.mw_text.proofs.Marks.{Lacks, same_head, same_tail, cut_at_mark, Member-cases, same_statements}
 use Rattle.mw_text.proofs.Differing.{differ_split, differ_left}
-use Rattle.mw_text.proofs.Named.{same_operator, names_lack}
+use Rattle.mw_text.proofs.Named.{same_operator, names_lack, sorts_lack, no_name}
 use Rattle.mw_form.specs.Scope.{Declarations, IsScope, signature_in, variables_declared}
 use Rattle.mw_form.specs.Statements.{begins_with, vars_words, Stopless, FitsOperators, FitsVariables, FitsEquations}
-use Rattle.mw_form.proofs.Lines.{all_left, all_right, next, only}
-use Rattle.mw_form.proofs.OverScope.{same_equation}
+use Rattle.mw_form.proofs.Lines.{all_left, all_right, all_both, next, only}
+use Rattle.mw_form.proofs.OverScope.{same_equation, form_lacks, stop_apart}
 use Rattle.mw_form.proofs.Places.{cut_at_place}
 
 abbrev Any : Declared → Type 0
@@ -192,9 +192,67 @@ pub same_made : (name : Name) (D : Declarations) (es : List Equation) (t : RawTe
 same_made name D es t s a b o v e u =
     sym (λ i. record { name = a i; sort_name = b i; operators = o i; variables = v i; equations = e i; subject = u i })
 
+abbrev Stop : Name
+Stop = codes "."
+
+abbrev Unlike : Name → Type 0
+Unlike n = n ≡ Stop → ⊥
+
+lacks : (ws : List Name) → AllByRecursion Unlike ws → Lacks Stop ws
+lacks [] all h = h
+lacks (w ∷ ws) all (inl e) = all.0 e
+lacks (w ∷ ws) all (inr h) = lacks ws all.1 h
+
+unlikes : (ws : List Name) → Lacks Stop ws → AllByRecursion Unlike ws
+unlikes [] lack = tt
+unlikes (w ∷ ws) lack = ((λ e. lack (inl e)), unlikes ws (λ h. lack (inr h)))
+
+word : (b : ℕ) (bs : List ℕ) → nat_eq b 46 ≡ false → Unlike (b ∷ bs)
+word b bs h e = let wrong : false ≡ true = sym h ∙ ap (λ n. nat_eq n 46) (same_head e) in cc
+
+unnamed : (n : Name) → IsName n → Unlike n
+unnamed n name e = no_name 46 [] (omega arith) (subst IsName e name)
+
+operators_stopless : (sort : Name) → IsName sort → (ds : List Declared) → AllByRecursion IsName (called ds) → Stopless (map (operator_words sort) ds)
+operators_stopless sort name [] all = tt
+operators_stopless sort name (d ∷ ds) all =
+    let after : AllByRecursion Unlike (codes "->" ∷ sort ∷ []) = (word 45 (62 ∷ []) refl, (unnamed sort name, tt)) in
+    let sorts : AllByRecursion Unlike (replicate d.args sort) = unlikes (replicate d.args sort) (sorts_lack d.args sort 46 [] (omega arith) name) in
+    (lacks (operator_words sort d) (word 111 (112 ∷ []) refl, (unnamed d.name all.0, (word 58 [] refl, all_both Unlike (replicate d.args sort) (codes "->" ∷ sort ∷ []) sorts after))),
+    operators_stopless sort name ds all.1)
+
+variables_stopless : (sort : Name) → IsName sort → (xs : List Name) → AllByRecursion IsName xs → Stopless (variable_statement sort xs)
+variables_stopless sort name [] all = tt
+variables_stopless sort name (x ∷ xs) all =
+    let after : AllByRecursion Unlike (codes ":" ∷ sort ∷ []) = (word 58 [] refl, (unnamed sort name, tt)) in
+    (lacks (vars_words sort (x ∷ xs)) (word 118 (97 ∷ 114 ∷ 115 ∷ []) refl, all_both Unlike (x ∷ xs) (codes ":" ∷ sort ∷ []) (unlikes (x ∷ xs) (names_lack (x ∷ xs) 46 [] (omega arith) all)) after), tt)
+
+form_unlike : (D : Declarations) → IsScope D → (t : RawTerm) → IsForm (signature_in D) (variables_declared D) t → AllByRecursion Unlike (prefix_form (signature_in D) t)
+form_unlike D scope t form = unlikes (prefix_form (signature_in D) t) (form_lacks D scope Stop stop_apart t form)
+
+equations_stopless : (D : Declarations) → IsScope D → (es : List Equation) → AllByRecursion (IsRewriting (signature_in D) (variables_declared D)) es → Stopless (map (equation_words (signature_in D)) es)
+equations_stopless D scope [] all = tt
+equations_stopless D scope (e ∷ es) all =
+    let after : AllByRecursion Unlike (codes "=" ∷ prefix_form (signature_in D) e.right) = (word 61 [] refl, form_unlike D scope e.right all.0.right) in
+    (lacks (equation_words (signature_in D) e)
+        (word 101 (113 ∷ []) refl, all_both Unlike (prefix_form (signature_in D) e.left) (codes "=" ∷ prefix_form (signature_in D) e.right) (form_unlike D scope e.left all.0.left) after),
+    equations_stopless D scope es all.1)
+
+pub scope_formed : (s : Source) → IsWellFormed s → IsScope (scope_of s)
+scope_formed s wf = record { sort = wf.names.1.0; names = wf.names.1.1; differ = wf.differ }
+
 -- no statement of a source holds a full stop
-pub source_stopless : (s : Source) → IsWellFormed s → Stopless (statements_of s)
-source_stopless s wf = ?
+source_stopless : (s : Source) → IsWellFormed s → Stopless (statements_of s)
+source_stopless s wf =
+    let scope = scope_formed s wf in
+    let head : AllByRecursion Unlike (head_words s.name s.sort_name)
+        = (word 102 (109 ∷ 111 ∷ 100 ∷ []) refl, (unnamed s.name wf.names.0, (word 105 (115 ∷ []) refl, (word 115 (111 ∷ 114 ∷ 116 ∷ []) refl, (unnamed s.sort_name wf.names.1.0, tt))))) in
+    let last : AllByRecursion Unlike (last_words (command_words s))
+        = (word 101 (110 ∷ 100 ∷ 102 ∷ 109 ∷ []) refl, (word 114 (101 ∷ 100 ∷ 117 ∷ 99 ∷ 101 ∷ []) refl, form_unlike (scope_of s) scope s.subject wf.subject)) in
+    (lacks (head_words s.name s.sort_name) head,
+    all_both (Lacks Stop) (map (operator_words s.sort_name) s.operators) (after_operators s) (operators_stopless s.sort_name scope.sort s.operators (all_left IsName (called s.operators) s.variables scope.names))
+    (all_both (Lacks Stop) (variable_statement s.sort_name s.variables) (after_variables s) (variables_stopless s.sort_name scope.sort s.variables (all_right IsName (called s.operators) s.variables scope.names))
+    (all_both (Lacks Stop) (map (equation_words (signature_of s)) s.equations) (after_equations s) (equations_stopless (scope_of s) scope s.equations wf.equations) (lacks (last_words (command_words s)) last, tt))))
 
 pub no_statements : (s : Source) → IsWellFormed s → (tokens : List Name) → ((ws : List (List Name)) → Stopless ws → tokens ≡ with_stops ws → ⊥) → tokens ≡ with_stops (statements_of s) → ⊥
 no_statements s wf tokens none e = none (statements_of s) (source_stopless s wf) e

@@ -11,5 +11,5 @@ mod source;
 mod words;
 mod tokens;
 
-pub use reader::read;
+pub use reader::{one_reading, read};
 pub use source::{Declared, Equation, Source, signature, statements};

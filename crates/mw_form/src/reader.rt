@@ -1,11 +1,11 @@
 // Reads a source of the form: `fmod M is sort S .`, operators, variables, equations, `endfm reduce T .`
-ghost use Rattle.std.specs.Prelude.{◌≡◌, ◌≢◌, ◌++◌, ◌∷◌, List, [], IfOk, MatchOption, IsTrue, false};
+ghost use Rattle.std.specs.Prelude.{◌≡◌, ◌≢◌, ◌++◌, ◌∷◌, List, [], ℕ, IfOk, MatchOption, IsTrue, false};
 ghost use Rattle.std.specs.List.{AllByRecursion};
 ghost use Rattle.mw_logic.specs.Term.{RawTerm, is_ground};
 ghost use Rattle.mw_term.specs.Raws.{raw_term};
 ghost use Rattle.mw_text.specs.Tokens.{Name as NameOf};
-ghost use Rattle.mw_text.specs.Form.{Declared as DeclaredOf, Equation as EquationOf, Source as SourceOf};
-ghost use Rattle.mw_text.specs.Spelling.{IsName, AllDiffer, IsForm, IsRewriting, IsWellFormed, IsText, HasForm, prefix_form, names_over, last_words, equation_words, statements_of, source_tokens, with_stops};
+ghost use Rattle.mw_text.specs.Form.{Declared as DeclaredOf, Equation as EquationOf, Source as SourceOf, signature_of};
+ghost use Rattle.mw_text.specs.Spelling.{IsName, AllDiffer, IsForm, IsRewriting, IsWellFormed, IsText, HasForm, Reads, variables_in, command_words, prefix_form, names_over, last_words, equation_words, statements_of, source_tokens, with_stops};
 ghost use Rattle.mw_form.specs.Scope.{signature_in, variables_declared};
 ghost use Rattle.mw_form.specs.Statements.{texts, Stopless, FitsOperators, FitsVariables, FitsEquations};
 
@@ -31,6 +31,11 @@ pub fn read(alloc: Global, text: &[u8]) -> Result<Option<Source>, AllocError>
         None => Ok(None),
     }
 }
+
+/// The command of a source has one reading: its term, and no other.
+pub fn one_reading()
+    ensures { (bytes : List ℕ) (s : SourceOf) → IsText bytes s → Reads (signature_of s) (variables_in s) (command_words s) s.subject }
+{}
 
 fn read_tokens(alloc: Global, tokens: &[Name]) -> Result<Option<Source>, AllocError>
     ensures { IfOk result (λ o. MatchOption o
