@@ -1,14 +1,13 @@
 -- What is spelled is read.
-use Rattle.std.proofs.Common.{◌≡◌, ◌∙◌, ◌+◌, ◌<◌, ◌≤◌, ℕ, zero, suc, List, [], ◌∷◌, ◌++◌, length, Bool, true, cond, Option, None, Some, bytes_eq, codes, refl, sym, ap, subst, arith, append_assoc, length-append, append-nil}
-use Rattle.mw_logic.specs.Term.{Variable, RawTerm, numeral, quoted, variable, apply, RawTerms, nil, cons}
-use Rattle.mw_logic.specs.Signature.{Signature, Operator, IsOperator, Member}
+use Rattle.std.proofs.Common.{◌≡◌, ◌∙◌, ◌≤◌, ℕ, zero, suc, List, [], ◌∷◌, ◌++◌, length, Bool, cond, Option, None, Some, codes, ap, arith, append_assoc, length-append}
+use Rattle.mw_logic.specs.Term.{Variable, RawTerm, variable, RawTerms, cons}
+use Rattle.mw_logic.specs.Signature.{Signature, Operator}
 use Rattle.mw_logic.specs.Parts.{number_of_terms}
 use Rattle.mw_text.specs.Tokens.{Name}
-use Rattle.mw_text.specs.Form.{variable_named}
 use Rattle.mw_text.specs.Spelling.{Spells, a_variable, a_constant, applied, SpellsAll, last, more}
 use Rattle.mw_form.specs.declared.scope.Meaning.{Meaning}
 use Rattle.mw_form.specs.declared.scope.Meaning.TheVariants as meaning
-use Rattle.mw_form.specs.Reading.{Read, after_mark, with_head, with_operator, closed, followed, opened, arguments_with, applied_with, meant_with, term_at}
+use Rattle.mw_form.specs.Reading.{Read, after_mark, with_head, with_operator, followed, opened, arguments_with, meant_with, term_at}
 use Rattle.mw_form.proofs.Tables.{Means, bytes_same}
 
 pub mark_met : (m : Name) (ts : List Name) → after_mark m (m ∷ ts) ≡ Some ts

@@ -1,7 +1,7 @@
 -- Which variables a term has, by those that were met.
-use Rattle.std.proofs.Common.{◌≡◌, ◌∙◌, ◌⊎◌, List, [], ◌∷◌, ◌++◌, Bool, true, false, ◌&&◌, ◌||◌, bytes_eq, if◌then◌else◌, IsTrue, refl, sym, ap, inl, inr, subst}
+use Rattle.std.proofs.Common.{◌≡◌, ◌∙◌, ◌⊎◌, List, [], ◌∷◌, ◌++◌, true, false, ◌&&◌, ◌||◌, bytes_eq, if◌then◌else◌, IsTrue, refl, sym, ap, inl, inr, subst}
 use Rattle.mw_logic.specs.Term.{Variable, RawTerm, numeral, quoted, variable, apply, RawTerms, nil, cons, is_ground, are_ground}
-use Rattle.mw_logic.specs.Signature.{Signature, Member}
+use Rattle.mw_logic.specs.Signature.{Member}
 use Rattle.mw_logic.specs.Substitution.{occurs}
 use Rattle.mw_text.specs.Tokens.{Name}
 use Rattle.mw_text.specs.Form.{variables_of, variables_of_all, variable_named}

@@ -1,14 +1,10 @@
 -- Names in order of first mention, met one by one, are the variables in order of first mention.
-use Rattle.std.proofs.Common.{◌≡◌, ◌∙◌, ◌⊎◌, ℕ, List, [], ◌∷◌, ◌++◌, map, filter, not, Bool, true, false, cond, ◌&&◌, ◌||◌, bytes_eq, nat_eq, if◌then◌else◌, IsTrue, refl, sym, ap, inl, inr, subst, append_assoc, append-nil}
-use Rattle.std.specs.List.{list_any}
-use Rattle.std.proofs.lemmas.Slice.Eq.{bytes_eq-Decides}
-use Rattle.mw_logic.specs.Term.{Variable, RawTerm}
-use Rattle.mw_logic.specs.Signature.{Member}
-use Rattle.mw_logic.specs.Substitution.{same_variable, occurs}
+use Rattle.std.proofs.Common.{◌≡◌, ◌∙◌, List, [], ◌∷◌, ◌++◌, map, filter, not, Bool, true, false, cond, ◌&&◌, ◌||◌, bytes_eq, if◌then◌else◌, refl, sym, ap, inl, inr, subst, append_assoc, append-nil}
+use Rattle.mw_logic.specs.Term.{Variable}
+use Rattle.mw_logic.specs.Substitution.{same_variable}
 use Rattle.mw_text.specs.Tokens.{Name}
-use Rattle.mw_text.specs.Form.{variables_of, variable_named, first_mentions}
-use Rattle.mw_text.proofs.Mentions.{occurs_is, is_occurring}
-use Rattle.mw_form.specs.Mentions.{is_among, with_name, with_names_of, are_among, OneSorted}
+use Rattle.mw_text.specs.Form.{variable_named, first_mentions}
+use Rattle.mw_form.specs.Mentions.{is_among, with_names_of, OneSorted}
 use Rattle.mw_form.proofs.Tables.{by_test, same_bytes, bytes_same}
 
 -- names, each where it stands first
@@ -64,14 +60,14 @@ met_firsts ns (x ∷ xs) =
     let names = map (λ (y : Variable). y.name) xs in
     by_test (is_among ns x.name)
     (λ e.
-        ap (λ b. with_names_of (if b then ns else ns ++ x.name ∷ []) xs) e ∙ met_firsts ns xs
-        ∙ ap (λ l. ns ++ l) (filter_twice (is_new ns) (λ m. not (bytes_eq x.name m)) (is_new ns) (old_test ns x.name e) (firsts names)
-            ∙ sym (ap (λ b. cond (not b) (x.name ∷ filter (is_new ns) (filter (λ m. not (bytes_eq x.name m)) (firsts names))) (filter (is_new ns) (filter (λ m. not (bytes_eq x.name m)) (firsts names)))) e)))
+    ap (λ b. with_names_of (if b then ns else ns ++ x.name ∷ []) xs) e ∙ met_firsts ns xs
+    ∙ ap (λ l. ns ++ l) (filter_twice (is_new ns) (λ m. not (bytes_eq x.name m)) (is_new ns) (old_test ns x.name e) (firsts names)
+    ∙ sym (ap (λ b. cond (not b) (x.name ∷ filter (is_new ns) (filter (λ m. not (bytes_eq x.name m)) (firsts names))) (filter (is_new ns) (filter (λ m. not (bytes_eq x.name m)) (firsts names)))) e)))
     (λ e.
-        ap (λ b. with_names_of (if b then ns else ns ++ x.name ∷ []) xs) e ∙ met_firsts (ns ++ x.name ∷ []) xs
-        ∙ append_assoc ns (x.name ∷ []) (filter (is_new (ns ++ x.name ∷ [])) (firsts names))
-        ∙ ap (λ l. ns ++ l) (ap (λ l. x.name ∷ l) (filter_twice (is_new (ns ++ x.name ∷ [])) (λ m. not (bytes_eq x.name m)) (is_new ns) (new_test ns x.name) (firsts names))
-            ∙ sym (ap (λ b. cond (not b) (x.name ∷ filter (is_new ns) (filter (λ m. not (bytes_eq x.name m)) (firsts names))) (filter (is_new ns) (filter (λ m. not (bytes_eq x.name m)) (firsts names)))) e)))
+    ap (λ b. with_names_of (if b then ns else ns ++ x.name ∷ []) xs) e ∙ met_firsts (ns ++ x.name ∷ []) xs
+    ∙ append_assoc ns (x.name ∷ []) (filter (is_new (ns ++ x.name ∷ [])) (firsts names))
+    ∙ ap (λ l. ns ++ l) (ap (λ l. x.name ∷ l) (filter_twice (is_new (ns ++ x.name ∷ [])) (λ m. not (bytes_eq x.name m)) (is_new ns) (new_test ns x.name) (firsts names))
+    ∙ sym (ap (λ b. cond (not b) (x.name ∷ filter (is_new ns) (filter (λ m. not (bytes_eq x.name m)) (firsts names))) (filter (is_new ns) (filter (λ m. not (bytes_eq x.name m)) (firsts names)))) e)))
 
 filter_named : (x : Variable) → variable_named x.name ≡ x → (ns : List Name)
     → filter (λ y. not (same_variable x y)) (map variable_named ns) ≡ map variable_named (filter (λ m. not (bytes_eq x.name m)) ns)
@@ -86,7 +82,7 @@ filter_named x e (n ∷ ns) =
     and_true true = refl
     and_true false = refl
 
-    by : (b : Bool) → filter (λ y. not (same_variable x y)) (map variable_named ns) ≡ map variable_named (filter (λ m. not (bytes_eq x.name m)) ns) 
+    by : (b : Bool) → filter (λ y. not (same_variable x y)) (map variable_named ns) ≡ map variable_named (filter (λ m. not (bytes_eq x.name m)) ns)
         → cond (not b) (variable_named n ∷ filter (λ y. not (same_variable x y)) (map variable_named ns)) (filter (λ y. not (same_variable x y)) (map variable_named ns))
         ≡ map variable_named (cond (not b) (n ∷ filter (λ m. not (bytes_eq x.name m)) ns) (filter (λ m. not (bytes_eq x.name m)) ns))
     by true rest = rest

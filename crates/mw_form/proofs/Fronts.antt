@@ -1,5 +1,5 @@
 -- The first element of a list, and the others.
-use Rattle.std.proofs.Common.{◌≡◌, ◌≤◌, ◌-◌, ℕ, zero, suc, List, [], ◌∷◌, length, get_or, take, drop, refl, sym, ap, arith}
+use Rattle.std.proofs.Common.{◌≡◌, ◌≤◌, ◌-◌, ℕ, zero, suc, List, [], ◌∷◌, length, get_or, take, drop, refl, ap, arith}
 
 pub take_whole : {X : Type 0} (n : ℕ) (ts : List X) → n ≡ length ts → take n ts ≡ ts
 take_whole zero [] e = refl

@@ -1,7 +1,7 @@
 -- Variables that were met.
-use Rattle.std.proofs.Common.{◌≡◌, ◌∙◌, ◌+◌, ◌-◌, ◌≤◌, ℕ, zero, suc, List, [], ◌∷◌, ◌++◌, length, get_or, take, drop, map, Bool, true, false, cond, ◌&&◌, ◌||◌, bytes_eq, if◌then◌else◌, refl, sym, ap, arith}
+use Rattle.std.proofs.Common.{◌≡◌, ◌∙◌, ◌-◌, ◌≤◌, ℕ, zero, suc, List, [], ◌∷◌, ◌++◌, length, get_or, take, drop, map, Bool, true, false, ◌&&◌, ◌||◌, bytes_eq, if◌then◌else◌, refl, sym, ap, arith}
 use Rattle.std.specs.List.{list_any}
-use Rattle.std.specs.Global.{Global, Vec}
+use Rattle.std.specs.Global.{Vec}
 use Rattle.std.proofs.lemmas.List.{map-append}
 use Rattle.indexmap.specs.IndexSet.{insert_key}
 use Rattle.mw_logic.specs.Term.{Variable}

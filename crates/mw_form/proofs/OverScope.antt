@@ -1,8 +1,8 @@
 -- Prefix forms over what is declared.
-use Rattle.std.proofs.Common.{◌≡◌, ◌∙◌, ◌⊎◌, ◌≤◌, ℕ, zero, suc, List, [], ◌∷◌, ◌++◌, map, codes, Option, None, Some, MatchOption, IsTrue, slice_get, sym, ap, subst, refl, inl, inr, arith}
+use Rattle.std.proofs.Common.{◌≡◌, ◌∙◌, ℕ, zero, suc, List, [], ◌∷◌, map, codes, Option, None, Some, MatchOption, IsTrue, sym, ap, subst, inl, inr, arith}
 use Rattle.std.specs.List.{AllByRecursion}
 use Rattle.mw_logic.specs.Term.{Variable, RawTerm}
-use Rattle.mw_logic.specs.Signature.{Signature, Operator, IsOperator, Member, at_number}
+use Rattle.mw_logic.specs.Signature.{Operator, Member, at_number}
 use Rattle.mw_logic.specs.Substitution.{occurs}
 use Rattle.mw_text.specs.Tokens.{Name}
 use Rattle.mw_text.specs.Form.{Declared, Equation, operator_of, variable_named}
@@ -61,7 +61,7 @@ pub same_equation : (D : Declarations) → IsScope D → (a b : Equation) → Is
     → equation_words (signature_in D) a ≡ equation_words (signature_in D) b → a ≡ b
 same_equation D scope a b A B e =
     let sides = cut_at_mark (codes "=") (prefix_form (signature_in D) a.left) (prefix_form (signature_in D) b.left) (prefix_form (signature_in D) a.right) (prefix_form (signature_in D) b.right)
-        (form_lacks D scope (codes "=") equals_apart a.left A.left) (form_lacks D scope (codes "=") equals_apart b.left B.left) (same_tail e) in
+    (form_lacks D scope (codes "=") equals_apart a.left A.left) (form_lacks D scope (codes "=") equals_apart b.left B.left) (same_tail e) in
     let left : a.left ≡ b.left = one_form D scope a.left b.left A.left B.left sides.0 in
     let right : a.right ≡ b.right = one_form D scope a.right b.right A.right B.right sides.1 in
     λ i. record { left = left i; right = right i }
@@ -76,15 +76,15 @@ equation_sides D scope e left right E lacks is =
 pub equation_read : (D : Declarations) → IsScope D → (words left right : List Name) (l r : RawTerm) (o : Option Equation) → Lacks (codes "=") left → words ≡ eq_words left right
     → IsForm (signature_in D) (variables_declared D) l → left ≡ prefix_form (signature_in D) l → IsForm (signature_in D) (variables_declared D) r → right ≡ prefix_form (signature_in D) r
     → MatchOption o (IsOperatorTerm l → ((x : Variable) → IsTrue (occurs x r) → IsTrue (occurs x l)) → ⊥)
-        (λ e. (e ≡ record { left = l; right = r }) × IsOperatorTerm l × ((x : Variable) → IsTrue (occurs x r) → IsTrue (occurs x l)))
+    (λ e. (e ≡ record { left = l; right = r }) × IsOperatorTerm l × ((x : Variable) → IsTrue (occurs x r) → IsTrue (occurs x l)))
     → MatchOption o ((e : Equation) → IsRewriting (signature_in D) (variables_declared D) e → words ≡ equation_words (signature_in D) e → ⊥)
-        (λ e. IsRewriting (signature_in D) (variables_declared D) e × (words ≡ equation_words (signature_in D) e))
+    (λ e. IsRewriting (signature_in D) (variables_declared D) e × (words ≡ equation_words (signature_in D) e))
 equation_read D scope words left right l r None lacks is L spell R spells none =
     λ e E words_is.
-        let sides = equation_sides D scope e left right E lacks (sym is ∙ words_is) in
-        let first : e.left ≡ l = one_form D scope e.left l E.left L (sym sides.0 ∙ spell) in
-        let second : e.right ≡ r = one_form D scope e.right r E.right R (sym sides.1 ∙ spells) in
-        none (subst IsOperatorTerm first E.operator) (λ x o. subst (λ t. IsTrue (occurs x t)) first (E.bound x (subst (λ t. IsTrue (occurs x t)) (sym second) o)))
+    let sides = equation_sides D scope e left right E lacks (sym is ∙ words_is) in
+    let first : e.left ≡ l = one_form D scope e.left l E.left L (sym sides.0 ∙ spell) in
+    let second : e.right ≡ r = one_form D scope e.right r E.right R (sym sides.1 ∙ spells) in
+    none (subst IsOperatorTerm first E.operator) (λ x o. subst (λ t. IsTrue (occurs x t)) first (E.bound x (subst (λ t. IsTrue (occurs x t)) (sym second) o)))
 equation_read D scope words left right l r (Some e) lacks is L spell R spells some =
     let P : Equation → Type 0 = λ q. IsRewriting (signature_in D) (variables_declared D) q × (words ≡ equation_words (signature_in D) q) in
     subst P (sym some.0) (record { left = L; right = R; operator = some.1; bound = some.2 }, is ∙ ap (λ x. eq_words x right) spell ∙ ap (eq_words (prefix_form (signature_in D) l)) spells)

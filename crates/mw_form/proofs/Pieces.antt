@@ -1,5 +1,5 @@
 -- The token at the front of a text.
-use Rattle.std.proofs.Common.{◌≡◌, ◌∙◌, ◌+◌, ℕ, zero, suc, List, [], ◌∷◌, ◌++◌, Bool, true, false, cond, ◌||◌, max, length, get_or, ◌≤◌, take, drop, refl, sym, ap, arith, append_assoc}
+use Rattle.std.proofs.Common.{◌≡◌, ◌∙◌, ℕ, suc, List, [], ◌∷◌, ◌++◌, Bool, true, false, cond, ◌||◌, max, length, get_or, ◌≤◌, take, drop, refl, sym, ap, arith, append_assoc}
 use Rattle.mw_text.specs.Tokens.{Name, is_blank, is_mark, with_byte, tokens_of}
 use Rattle.mw_form.specs.Runs.{run_length}
 
@@ -36,20 +36,20 @@ run_first b (c ∷ cs) e =
     either (is_blank c || is_mark c)
     (λ stop. begun b (c ∷ cs) e ∙ break_after b c cs (tokens_of (c ∷ cs)) stop ∙ rw (run_goes b (c ∷ cs) e, run_stops c cs stop) refl)
     (λ go. begun b (c ∷ cs) e ∙ ap (with_byte b (c ∷ cs)) (run_first c cs go)
-        ∙ joins b c cs (take (run_length (c ∷ cs)) (c ∷ cs)) (tokens_of (drop (run_length (c ∷ cs)) (c ∷ cs))) go
-        ∙ rw (run_goes b (c ∷ cs) e) refl)
+    ∙ joins b c cs (take (run_length (c ∷ cs)) (c ∷ cs)) (tokens_of (drop (run_length (c ∷ cs)) (c ∷ cs))) go
+    ∙ rw (run_goes b (c ∷ cs) e) refl)
 
 -- what stands at the front of a text that begins with no blank
 pub token_first : (b : ℕ) (bs : List ℕ) (n : ℕ) → is_blank b ≡ false → n ≡ max (run_length (b ∷ bs)) 1 → tokens_of (b ∷ bs) ≡ take n (b ∷ bs) ∷ tokens_of (drop n (b ∷ bs))
 token_first b bs n no_blank is =
     either (is_mark b)
     (λ mark.
-        let one : max (run_length (b ∷ bs)) 1 ≡ 1 = rw (run_stops b bs (rw (no_blank, mark) refl)) refl in
-        rw (is, one) (rw (no_blank, mark) refl))
+    let one : max (run_length (b ∷ bs)) 1 ≡ 1 = rw (run_stops b bs (rw (no_blank, mark) refl)) refl in
+    rw (is, one) (rw (no_blank, mark) refl))
     (λ other.
-        let run : (is_blank b || is_mark b) ≡ false = rw (no_blank, other) refl in
-        let same : n ≡ run_length (b ∷ bs) = omega (arith, is, run_goes b bs run) in
-        rw same (run_first b bs run))
+    let run : (is_blank b || is_mark b) ≡ false = rw (no_blank, other) refl in
+    let same : n ≡ run_length (b ∷ bs) = omega (arith, is, run_goes b bs run) in
+    rw same (run_first b bs run))
 
 pub blank_first : (b : ℕ) (bs : List ℕ) → is_blank b ≡ true → tokens_of (b ∷ bs) ≡ tokens_of bs
 blank_first b bs e = rw e refl

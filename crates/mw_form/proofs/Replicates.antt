@@ -1,7 +1,6 @@
 -- The same thing, so many times.
-use Rattle.std.proofs.Common.{◌≡◌, ℕ, zero, suc, List, [], ◌∷◌, map, replicate, refl, ap}
+use Rattle.std.proofs.Common.{◌≡◌, ℕ, zero, suc, ◌∷◌, map, replicate, refl, ap}
 use Rattle.mw_logic.specs.Signature.{sort}
-use Rattle.mw_term.specs.declared.signature.Sorted.{Sorted}
 use Rattle.mw_term.specs.declared.signature.Sorted.TheVariants.{Sort}
 use Rattle.mw_term.specs.Signatures.{sorted_of}
 

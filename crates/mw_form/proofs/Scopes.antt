@@ -1,5 +1,5 @@
 -- What is declared, with one more name.
-use Rattle.std.proofs.Common.{◌≡◌, ◌∙◌, ◌+◌, ℕ, zero, suc, List, [], ◌∷◌, ◌++◌, length, map, Bool, true, false, not, is_some, Option, None, Some, refl, sym, ap, subst, arith, append_assoc, append-nil}
+use Rattle.std.proofs.Common.{◌≡◌, ◌∙◌, ◌+◌, ℕ, suc, List, [], ◌∷◌, ◌++◌, length, map, Bool, true, false, not, is_some, Option, None, Some, refl, sym, ap, subst, arith, append_assoc, append-nil}
 use Rattle.std.specs.List.{AllByRecursion}
 use Rattle.std.specs.Bool.{MatchBool}
 use Rattle.std.proofs.lemmas.List.{map-append}
@@ -11,7 +11,7 @@ use Rattle.mw_text.proofs.Differing.{differ_push}
 use Rattle.mw_form.specs.declared.scope.Meaning.{Meaning}
 use Rattle.mw_form.specs.declared.scope.Meaning.TheVariants as meaning
 use Rattle.mw_form.specs.Scope.{Declarations, declared_names, IsScope, with_operator, with_variable}
-use Rattle.mw_form.specs.Meanings.{Table, meaning_in, table_of, operators_from, variables_table}
+use Rattle.mw_form.specs.Meanings.{meaning_in, table_of, operators_from, variables_table}
 use Rattle.mw_form.proofs.Tables.{table_names, named_is_meant, meant_is_named}
 
 pub unmeant_is_new : (D : Declarations) (n : Name) → meaning_in D n ≡ None → Member n (declared_names D) → ⊥

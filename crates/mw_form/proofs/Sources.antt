@@ -1,13 +1,13 @@
 -- A source, stage by stage.
-use Rattle.std.proofs.Common.{◌≡◌, ◌∙◌, ◌⊎◌, ◌+◌, ◌-◌, ◌<◌, ℕ, List, [], ◌∷◌, ◌++◌, length, get_or, take, drop, map, replicate, Bool, true, false, codes, nat_eq, IsTrue, Option, None, Some, MatchOption, sym, ap, subst, refl, inl, inr, arith, append_assoc, append-nil}
+use Rattle.std.proofs.Common.{◌≡◌, ◌∙◌, ◌+◌, ◌-◌, ◌<◌, ℕ, List, [], ◌∷◌, ◌++◌, length, get_or, take, drop, map, replicate, true, false, codes, nat_eq, IsTrue, Option, None, Some, MatchOption, sym, ap, subst, refl, inl, inr, arith, append_assoc, append-nil}
 use Rattle.std.specs.List.{AllByRecursion}
 use Rattle.std.proofs.lemmas.List.{map-append}
-use Rattle.mw_logic.specs.Term.{Variable, RawTerm, is_ground}
+use Rattle.mw_logic.specs.Term.{RawTerm, is_ground}
 use Rattle.mw_logic.specs.Signature.{Signature, Member}
 use Rattle.mw_text.specs.Tokens.{Name}
 use Rattle.mw_text.specs.Form.{Declared, Equation, Source, signature_of}
-use Rattle.mw_text.specs.Spelling.{IsName, IsPrelude, AllDiffer, IsForm, IsRewriting, IsWellFormed, prefix_form, names_over, names_in, head_words, operator_words, variable_statement, equation_words, last_words, command_words, statements_of, with_stops}
-use Rattle.mw_text.proofs.Marks.{Lacks, same_head, same_tail, cut_at_mark, Member-cases, same_statements}
+use Rattle.mw_text.specs.Spelling.{IsName, IsPrelude, AllDiffer, IsForm, IsRewriting, IsWellFormed, prefix_form, names_over, head_words, operator_words, variable_statement, equation_words, last_words, command_words, statements_of, with_stops}
+use Rattle.mw_text.proofs.Marks.{Lacks, same_head, same_tail, cut_at_mark, same_statements}
 use Rattle.mw_text.proofs.Differing.{differ_split, differ_left}
 use Rattle.mw_text.proofs.Named.{same_operator, names_lack, sorts_lack, no_name}
 use Rattle.mw_form.specs.Scope.{Declarations, IsScope, signature_in, variables_declared}
@@ -165,7 +165,7 @@ pub after_the_variables : (D E : Declarations) (rest1 rest2 : List (List Name)) 
     → E.operators ≡ D.operators → FitsVariables D.sort_name rest1 E.variables rest2 → rest1 ≡ after_operators s → (E ≡ scope_of s) × (rest2 ≡ after_variables s)
 after_the_variables D E rest1 rest2 s scope wf sort sort_again ops ops_again fits e =
     let r = variables_only s.sort_name E.variables s.variables rest1 rest2 (after_variables s) (all_right IsName (called E.operators) E.variables scope.names) (all_right IsName (called s.operators) s.variables wf.names.1.1)
-        (subst (λ n. FitsVariables n rest1 E.variables rest2) sort fits) (variables_fit s rest1 e) in
+    (subst (λ n. FitsVariables n rest1 E.variables rest2) sort fits) (variables_fit s rest1 e) in
     let a : E.sort_name ≡ s.sort_name = sort_again ∙ sort in
     let b : E.operators ≡ s.operators = ops_again ∙ ops in
     ((λ i. record { sort_name = a i; operators = b i; variables = r.0 i }), r.1)
@@ -178,14 +178,15 @@ pub found_source : (name sort : Name) (ds : List Declared) (D : Declarations) (e
     → IsName name → (IsPrelude name → ⊥) → IsName sort → ws ≡ head_words name sort ∷ rest0 → FitsOperators sort rest0 ds rest1 → D.sort_name ≡ sort → D.operators ≡ ds → FitsVariables sort rest1 D.variables rest2
     → IsScope D → FitsEquations (signature_in D) rest2 es rest3 → AllByRecursion (IsRewriting (signature_in D) (variables_declared D)) es → IsForm (signature_in D) (variables_declared D) t → IsTrue (is_ground t)
     → rest3 ≡ last_words (prefix_form (signature_in D) t) ∷ [] → IsWellFormed (made name D es t) × (ws ≡ statements_of (made name D es t))
-found_source name sort ds D es t ws rest0 rest1 rest2 rest3 a_name new a_sort head ops same_sort same_ops vars scope eqs valid form ground end =
-    (record { names = (a_name, (subst IsName (sym same_sort) a_sort, scope.names)); new = new; differ = scope.differ; equations = valid; subject = form; ground = ground },
-    head ∙ ap (λ n. head_words name n ∷ rest0) (sym same_sort)
-    ∙ ap (λ l. head_words name D.sort_name ∷ l)
-        (ops.lines ∙ ap (λ n. map (operator_words n) ds ++ rest1) (sym same_sort) ∙ ap (λ l. map (operator_words D.sort_name) l ++ rest1) (sym same_ops)
-        ∙ ap (λ l. map (operator_words D.sort_name) D.operators ++ l)
-            (vars.lines ∙ ap (λ n. variable_statement n D.variables ++ rest2) (sym same_sort)
-            ∙ ap (λ l. variable_statement D.sort_name D.variables ++ l) (eqs.lines ∙ ap (λ l. map (equation_words (signature_in D)) es ++ l) end))))
+found_source name sort ds D es t ws rest0 rest1 rest2 rest3 a_name new a_sort head ops same_sort same_ops vars scope eqs valid form ground end = (
+  record { names = (a_name, (subst IsName (sym same_sort) a_sort, scope.names)); new = new; differ = scope.differ; equations = valid; subject = form; ground = ground },
+  head ∙ ap (λ n. head_words name n ∷ rest0) (sym same_sort)
+      ∙ ap (λ l. head_words name D.sort_name ∷ l)
+      (ops.lines ∙ ap (λ n. map (operator_words n) ds ++ rest1) (sym same_sort) ∙ ap (λ l. map (operator_words D.sort_name) l ++ rest1) (sym same_ops)
+      ∙ ap (λ l. map (operator_words D.sort_name) D.operators ++ l)
+      (vars.lines ∙ ap (λ n. variable_statement n D.variables ++ rest2) (sym same_sort)
+      ∙ ap (λ l. variable_statement D.sort_name D.variables ++ l) (eqs.lines ∙ ap (λ l. map (equation_words (signature_in D)) es ++ l) end))),
+)
 
 pub same_made : (name : Name) (D : Declarations) (es : List Equation) (t : RawTerm) (s : Source) → s.name ≡ name → s.sort_name ≡ D.sort_name → s.operators ≡ D.operators → s.variables ≡ D.variables
     → s.equations ≡ es → s.subject ≡ t → made name D es t ≡ s
@@ -217,9 +218,10 @@ operators_stopless : (sort : Name) → IsName sort → (ds : List Declared) → 
 operators_stopless sort name [] all = tt
 operators_stopless sort name (d ∷ ds) all =
     let after : AllByRecursion Unlike (codes "->" ∷ sort ∷ []) = (word 45 (62 ∷ []) refl, (unnamed sort name, tt)) in
-    let sorts : AllByRecursion Unlike (replicate d.args sort) = unlikes (replicate d.args sort) (sorts_lack d.args sort 46 [] (omega arith) name) in
-    (lacks (operator_words sort d) (word 111 (112 ∷ []) refl, (unnamed d.name all.0, (word 58 [] refl, all_both Unlike (replicate d.args sort) (codes "->" ∷ sort ∷ []) sorts after))),
-    operators_stopless sort name ds all.1)
+    let sorts : AllByRecursion Unlike (replicate d.args sort) = unlikes (replicate d.args sort) (sorts_lack d.args sort 46 [] (omega arith) name) in (
+      lacks (operator_words sort d) (word 111 (112 ∷ []) refl, (unnamed d.name all.0, (word 58 [] refl, all_both Unlike (replicate d.args sort) (codes "->" ∷ sort ∷ []) sorts after))),
+      operators_stopless sort name ds all.1,
+    )
 
 variables_stopless : (sort : Name) → IsName sort → (xs : List Name) → AllByRecursion IsName xs → Stopless (variable_statement sort xs)
 variables_stopless sort name [] all = tt
@@ -233,10 +235,11 @@ form_unlike D scope t form = unlikes (prefix_form (signature_in D) t) (form_lack
 equations_stopless : (D : Declarations) → IsScope D → (es : List Equation) → AllByRecursion (IsRewriting (signature_in D) (variables_declared D)) es → Stopless (map (equation_words (signature_in D)) es)
 equations_stopless D scope [] all = tt
 equations_stopless D scope (e ∷ es) all =
-    let after : AllByRecursion Unlike (codes "=" ∷ prefix_form (signature_in D) e.right) = (word 61 [] refl, form_unlike D scope e.right all.0.right) in
-    (lacks (equation_words (signature_in D) e)
-        (word 101 (113 ∷ []) refl, all_both Unlike (prefix_form (signature_in D) e.left) (codes "=" ∷ prefix_form (signature_in D) e.right) (form_unlike D scope e.left all.0.left) after),
-    equations_stopless D scope es all.1)
+    let after : AllByRecursion Unlike (codes "=" ∷ prefix_form (signature_in D) e.right) = (word 61 [] refl, form_unlike D scope e.right all.0.right) in (
+      lacks (equation_words (signature_in D) e)
+          (word 101 (113 ∷ []) refl, all_both Unlike (prefix_form (signature_in D) e.left) (codes "=" ∷ prefix_form (signature_in D) e.right) (form_unlike D scope e.left all.0.left) after),
+      equations_stopless D scope es all.1,
+    )
 
 pub scope_formed : (s : Source) → IsWellFormed s → IsScope (scope_of s)
 scope_formed s wf = record { sort = wf.names.1.0; names = wf.names.1.1; differ = wf.differ }
@@ -246,13 +249,14 @@ source_stopless : (s : Source) → IsWellFormed s → Stopless (statements_of s)
 source_stopless s wf =
     let scope = scope_formed s wf in
     let head : AllByRecursion Unlike (head_words s.name s.sort_name)
-        = (word 102 (109 ∷ 111 ∷ 100 ∷ []) refl, (unnamed s.name wf.names.0, (word 105 (115 ∷ []) refl, (word 115 (111 ∷ 114 ∷ 116 ∷ []) refl, (unnamed s.sort_name wf.names.1.0, tt))))) in
+    = (word 102 (109 ∷ 111 ∷ 100 ∷ []) refl, (unnamed s.name wf.names.0, (word 105 (115 ∷ []) refl, (word 115 (111 ∷ 114 ∷ 116 ∷ []) refl, (unnamed s.sort_name wf.names.1.0, tt))))) in
     let last : AllByRecursion Unlike (last_words (command_words s))
-        = (word 101 (110 ∷ 100 ∷ 102 ∷ 109 ∷ []) refl, (word 114 (101 ∷ 100 ∷ 117 ∷ 99 ∷ 101 ∷ []) refl, form_unlike (scope_of s) scope s.subject wf.subject)) in
-    (lacks (head_words s.name s.sort_name) head,
-    all_both (Lacks Stop) (map (operator_words s.sort_name) s.operators) (after_operators s) (operators_stopless s.sort_name scope.sort s.operators (all_left IsName (called s.operators) s.variables scope.names))
-    (all_both (Lacks Stop) (variable_statement s.sort_name s.variables) (after_variables s) (variables_stopless s.sort_name scope.sort s.variables (all_right IsName (called s.operators) s.variables scope.names))
-    (all_both (Lacks Stop) (map (equation_words (signature_of s)) s.equations) (after_equations s) (equations_stopless (scope_of s) scope s.equations wf.equations) (lacks (last_words (command_words s)) last, tt))))
+    = (word 101 (110 ∷ 100 ∷ 102 ∷ 109 ∷ []) refl, (word 114 (101 ∷ 100 ∷ 117 ∷ 99 ∷ 101 ∷ []) refl, form_unlike (scope_of s) scope s.subject wf.subject)) in (
+      lacks (head_words s.name s.sort_name) head,
+      all_both (Lacks Stop) (map (operator_words s.sort_name) s.operators) (after_operators s) (operators_stopless s.sort_name scope.sort s.operators (all_left IsName (called s.operators) s.variables scope.names))
+          (all_both (Lacks Stop) (variable_statement s.sort_name s.variables) (after_variables s) (variables_stopless s.sort_name scope.sort s.variables (all_right IsName (called s.operators) s.variables scope.names))
+          (all_both (Lacks Stop) (map (equation_words (signature_of s)) s.equations) (after_equations s) (equations_stopless (scope_of s) scope s.equations wf.equations) (lacks (last_words (command_words s)) last, tt))),
+    )
 
 pub no_statements : (s : Source) → IsWellFormed s → (tokens : List Name) → ((ws : List (List Name)) → Stopless ws → tokens ≡ with_stops ws → ⊥) → tokens ≡ with_stops (statements_of s) → ⊥
 no_statements s wf tokens none e = none (statements_of s) (source_stopless s wf) e

@@ -1,15 +1,14 @@
 -- Names and their meanings in a table.
-use Rattle.std.proofs.Common.{◌≡◌, ◌∙◌, ◌⊎◌, ◌+◌, ℕ, zero, suc, List, [], ◌∷◌, ◌++◌, length, map, Bool, true, false, cond, Option, Some, None, bytes_eq, refl, sym, ap, inl, inr, arith, subst, slice_get}
-use Rattle.std.specs.Bool.{Decides}
+use Rattle.std.proofs.Common.{◌≡◌, ◌∙◌, ◌+◌, ℕ, zero, suc, List, [], ◌∷◌, ◌++◌, length, map, Bool, true, false, cond, Option, Some, None, bytes_eq, refl, sym, ap, inl, inr, arith, subst, slice_get}
 use Rattle.std.specs.Map.{lookup}
-use Rattle.std.specs.Global.{Global, Vec}
+use Rattle.std.specs.Global.{Vec}
 use Rattle.std.proofs.lemmas.Slice.Eq.{bytes_eq-Decides}
 use Rattle.std.proofs.lemmas.List.{length-replicate}
 use Rattle.mw_logic.specs.Term.{Variable}
 use Rattle.mw_logic.specs.Signature.{Signature, Operator, Member, IsOperator, at_number}
 use Rattle.mw_text.specs.Tokens.{Name}
 use Rattle.mw_text.specs.Form.{Declared, operator_of, variable_named}
-use Rattle.mw_text.specs.Spelling.{AllDiffer, names_over}
+use Rattle.mw_text.specs.Spelling.{AllDiffer}
 use Rattle.mw_text.proofs.Marks.{Member-cases, Member-left, Member-right}
 use Rattle.mw_form.specs.declared.scope.Meaning.{Meaning}
 use Rattle.mw_form.specs.declared.scope.Meaning.TheVariants as meaning
@@ -63,6 +62,7 @@ entry_is_meant (f ∷ t) e d (inl same) = rw same (ap (λ c. cond c (Some e.1) (
 entry_is_meant (f ∷ t) e d (inr h) =
     by_test (bytes_eq e.0 f.0) (λ b. let there : Member f.0 (names_of t) = subst (λ n. Member n (names_of t)) (same_bytes e.0 f.0 b) (member_is_named t e h) in absurd (d.0 there))
     (λ b. ap (λ c. cond c (Some f.1) (meaning_at t e.0)) b ∙ entry_is_meant t e d.1 h)
+
 pair_is : {A B : Type 0} (a : A) (b : B) (e : A × B) → e.0 ≡ a → e.1 ≡ b → e ≡ (a, b)
 pair_is a b e p q = λ i. (p i, q i)
 
@@ -175,7 +175,7 @@ table_means D is =
       operator = λ f o h.
           let r = operator_at D.operators f o h in
           let met = entry_is_meant (table_of D) (r.1.name, meaning.Operator (1 + r.0) r.1.args) differ
-              (Member-left _ (operators_from 1 D.operators) (variables_table D.variables) (operator_entry 1 r.0 D.operators r.1 r.3)) in
+          (Member-left _ (operators_from 1 D.operators) (variables_table D.variables) (operator_entry 1 r.0 D.operators r.1 r.3)) in
           let count : r.1.args ≡ length o.args = sym (length-replicate r.1.args 1) ∙ ap (λ (p : Operator). length p.args) r.4 in
           ap (λ (p : Operator). meaning_in D p.spelling) (sym r.4) ∙ met ∙ ap (λ g. Some (meaning.Operator g r.1.args)) (sym r.2) ∙ ap (λ c. Some (meaning.Operator f c)) count;
       is_variable = λ n h.

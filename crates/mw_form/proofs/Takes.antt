@@ -1,7 +1,7 @@
 -- What is read is spelled so.
-use Rattle.std.proofs.Common.{◌≡◌, ◌∙◌, ◌+◌, ℕ, zero, suc, List, [], ◌∷◌, ◌++◌, length, Bool, true, false, cond, Option, None, Some, bytes_eq, codes, refl, sym, ap, subst, arith, append_assoc}
-use Rattle.mw_logic.specs.Term.{Variable, RawTerm, numeral, quoted, variable, apply, RawTerms, nil, cons}
-use Rattle.mw_logic.specs.Signature.{Signature, Operator, IsOperator, Member}
+use Rattle.std.proofs.Common.{◌≡◌, ◌∙◌, ℕ, zero, suc, List, [], ◌∷◌, ◌++◌, length, Bool, cond, Option, None, Some, bytes_eq, codes, refl, sym, ap, subst, arith, append_assoc}
+use Rattle.mw_logic.specs.Term.{Variable, RawTerm, apply, RawTerms, nil, cons}
+use Rattle.mw_logic.specs.Signature.{Signature, Operator, IsOperator}
 use Rattle.mw_logic.specs.Parts.{number_of_terms}
 use Rattle.mw_text.specs.Tokens.{Name}
 use Rattle.mw_text.specs.Form.{variable_named}

@@ -1,12 +1,10 @@
 -- One more argument is read.
-use Rattle.std.proofs.Common.{◌≡◌, ◌∙◌, ◌-◌, ◌<◌, ◌≤◌, ℕ, zero, suc, List, [], ◌∷◌, ◌++◌, length, get_or, take, drop, Option, None, Some, option_map, codes, refl, sym, ap, arith}
-use Rattle.mw_logic.specs.Term.{RawTerm, apply, RawTerms, nil, cons, join}
+use Rattle.std.proofs.Common.{◌≡◌, ◌∙◌, ◌-◌, ◌<◌, ◌≤◌, ℕ, zero, suc, List, [], ◌∷◌, ◌++◌, length, get_or, take, drop, None, Some, option_map, codes, refl, sym, ap, arith}
+use Rattle.mw_logic.specs.Term.{RawTerm, RawTerms, nil, cons, join}
 use Rattle.mw_term.specs.declared.raw.Raw.{Raw}
 use Rattle.mw_term.specs.Raws.{raw_term, raw_terms}
 use Rattle.mw_text.specs.Tokens.{Name}
-use Rattle.mw_form.specs.declared.scope.Meaning.{Meaning}
-use Rattle.mw_form.specs.declared.scope.Meaning.TheVariants as meaning
-use Rattle.mw_form.specs.Reading.{Read, after_mark, with_head, with_operator, closed, followed, opened, arguments_with, applied_with, meant_with, term_at}
+use Rattle.mw_form.specs.Reading.{Read, after_mark, with_head, with_operator, closed, followed, opened, arguments_with, applied_with}
 use Rattle.mw_form.proofs.Fronts.{front_and_rest}
 use Rattle.mw_form.proofs.Again.{mark_met}
 

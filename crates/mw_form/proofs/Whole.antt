@@ -1,5 +1,5 @@
 -- A term that is all of some tokens.
-use Rattle.std.proofs.Common.{◌≡◌, ◌∙◌, ◌≤◌, ℕ, List, [], ◌∷◌, ◌++◌, length, Option, None, Some, option_map, MatchOption, refl, sym, ap, subst, arith, append-nil}
+use Rattle.std.proofs.Common.{◌≡◌, ◌∙◌, ◌≤◌, List, [], ◌∷◌, length, Option, None, Some, option_map, MatchOption, sym, ap, subst, arith, append-nil}
 use Rattle.mw_logic.specs.Term.{Variable, RawTerm}
 use Rattle.mw_logic.specs.Signature.{Signature}
 use Rattle.mw_term.specs.declared.raw.Raw.{Raw}
@@ -13,7 +13,7 @@ use Rattle.mw_form.specs.Meanings.{meaning_in}
 use Rattle.mw_form.specs.Reading.{Read, term_at, whole}
 use Rattle.mw_form.proofs.Tables.{Means, table_means}
 use Rattle.mw_form.proofs.Again.{read_again}
-use Rattle.mw_form.proofs.Takes.{Taken, read_is}
+use Rattle.mw_form.proofs.Takes.{read_is}
 
 -- what is spelled is all that is read
 spelled_whole : {sig : Signature} {variables : List Variable} {m : Name → Option Meaning} → Means sig variables m → (t : RawTerm) (text : List Name) → Spells sig variables t text
@@ -35,16 +35,18 @@ whole_is (Some (u, n ∷ ns)) t e = let no : ⊥ = (cc) in absurd no
 
 pub form_read : (D : Declarations) → IsScope D → (tokens : List Name) → length tokens ≤ 1024 → (o : Option Raw) → option_map raw_term o ≡ whole (term_at (meaning_in D) (length tokens) tokens)
     → MatchOption o ((t : RawTerm) → IsForm (signature_in D) (variables_declared D) t → tokens ≡ prefix_form (signature_in D) t → ⊥)
-        (λ r. IsForm (signature_in D) (variables_declared D) (raw_term r) × (tokens ≡ prefix_form (signature_in D) (raw_term r)))
+    (λ r. IsForm (signature_in D) (variables_declared D) (raw_term r) × (tokens ≡ prefix_form (signature_in D) (raw_term r)))
 form_read D scope tokens few None e =
     λ t form is.
-        let spelled : Spells (signature_in D) (variables_declared D) t tokens = subst (Spells (signature_in D) (variables_declared D) t) (sym is) form.spelled in
-        let read = e ∙ spelled_whole (table_means D scope) t tokens spelled in
-        cc
+    let spelled : Spells (signature_in D) (variables_declared D) t tokens = subst (Spells (signature_in D) (variables_declared D) t) (sym is) form.spelled in
+    let read = e ∙ spelled_whole (table_means D scope) t tokens spelled in
+    cc
 form_read D scope tokens few (Some r) e =
     let taken = read_is (table_means D scope) (length tokens) tokens (raw_term r) [] (whole_is (term_at (meaning_in D) (length tokens) tokens) (raw_term r) (sym e)) in
-    let is : tokens ≡ prefix_form (signature_in D) (raw_term r) = taken.front ∙ append-nil taken.text ∙ spelled_is (raw_term r) taken.text taken.spells in
-    (record {
-      spelled = subst (Spells (signature_in D) (variables_declared D) (raw_term r)) (spelled_is (raw_term r) taken.text taken.spells) taken.spells;
-      short = subst (λ x. length x ≤ 1024) is few;
-    }, is)
+    let is : tokens ≡ prefix_form (signature_in D) (raw_term r) = taken.front ∙ append-nil taken.text ∙ spelled_is (raw_term r) taken.text taken.spells in (
+      record {
+        spelled = subst (Spells (signature_in D) (variables_declared D) (raw_term r)) (spelled_is (raw_term r) taken.text taken.spells) taken.spells;
+        short = subst (λ x. length x ≤ 1024) is few;
+      },
+      is,
+    )

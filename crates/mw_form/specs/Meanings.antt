@@ -1,6 +1,6 @@
 -- What names stand for.
 use Rattle.std.specs.Prelude.{◌≡◌, ◌++◌, ℕ, suc, List, [], ◌∷◌, map, Option, Some, None, bytes_eq, if◌then◌else◌}
-use Rattle.std.specs.Global.{Global, Vec}
+use Rattle.std.specs.Global.{Vec}
 use Rattle.mw_text.specs.Tokens.{Name}
 use Rattle.mw_text.specs.Form.{Declared}
 use Rattle.mw_form.specs.declared.scope.Meaning.{Meaning}

@@ -65,7 +65,7 @@ fn rewriting(alloc: Global, left: Raw, right: Raw) -> Result<Option<Equation>, A
     ensures { IfOk result (λ o. MatchOption o
         (IsOperatorTerm (raw_term left) → ((x : Variable) → IsTrue (occurs x (raw_term right)) → IsTrue (occurs x (raw_term left))) → ⊥)
         (λ e. (e ≡ record { left = raw_term left; right = raw_term right }) × IsOperatorTerm (raw_term left)
-            × ((x : Variable) → IsTrue (occurs x (raw_term right)) → IsTrue (occurs x (raw_term left))))) }
+        × ((x : Variable) → IsTrue (occurs x (raw_term right)) → IsTrue (occurs x (raw_term left))))) }
 {
     if !is_applied(&left) {
         return Ok(None);

@@ -8,8 +8,8 @@ mod names;
 mod reader;
 mod scope;
 mod source;
-mod words;
 mod tokens;
+mod words;
 
 pub use reader::{one_reading, read};
 pub use source::{Declared, Equation, Source, signature, statements};

@@ -14,8 +14,8 @@ use crate::forms::term;
 use crate::mentions::has_no_variable;
 use crate::scope::{Scope, again};
 use crate::source::{Equation, Source};
-use crate::words::{before_token, goes_on, head, last, operator, variable_names};
 use crate::tokens::tokens;
+use crate::words::{before_token, goes_on, head, last, operator, variable_names};
 use mw_term::{Name, Raw, Seq};
 use std::alloc::{AllocError, Global};
 
@@ -52,10 +52,7 @@ fn read_tokens(alloc: Global, tokens: &[Name]) -> Result<Option<Source>, AllocEr
 }
 
 /// The statements, each without its full stop; none where the last has no full stop.
-fn statements<'t>(
-    alloc: Global,
-    tokens: &'t [Name],
-) -> Result<Option<Vec<&'t [Name]>>, AllocError>
+fn statements<'t>(alloc: Global, tokens: &'t [Name]) -> Result<Option<Vec<&'t [Name]>>, AllocError>
     ensures { IfOk result (λ o. MatchOption o
         ((ws : List (List NameOf)) → Stopless ws → tokens.entry.now ≡ with_stops ws → ⊥)
         (λ v. Stopless (texts v.items) × (tokens.entry.now ≡ with_stops (texts v.items)))) }
@@ -119,7 +116,7 @@ fn operators<'s, 't>(
     requires variables { scope.variables ≡ [] }
     ensures { IfOk result (λ o. MatchOption o
         ((ds : List DeclaredOf) (rest : List (List NameOf)) → FitsOperators scope.sort_name (texts statements.entry.now) ds rest
-            → AllByRecursion IsName (names_over ds []) → AllDiffer (names_over ds []) → ⊥)
+        → AllByRecursion IsName (names_over ds []) → AllDiffer (names_over ds []) → ⊥)
         (λ r. (r.0.sort_name ≡ scope.sort_name) × (r.0.variables ≡ []) × FitsOperators scope.sort_name (texts statements.entry.now) r.0.operators (texts r.1.now))) }
 {
     let mut scope = scope;
@@ -149,7 +146,7 @@ fn variables<'s, 't>(
     requires { scope.variables ≡ [] }
     ensures { IfOk result (λ o. MatchOption o
         ((xs : List NameOf) (rest : List (List NameOf)) → FitsVariables scope.sort_name (texts statements.entry.now) xs rest
-            → AllByRecursion IsName (names_over scope.operators xs) → AllDiffer (names_over scope.operators xs) → ⊥)
+        → AllByRecursion IsName (names_over scope.operators xs) → AllDiffer (names_over scope.operators xs) → ⊥)
         (λ r. (r.0.sort_name ≡ scope.sort_name) × (r.0.operators ≡ scope.operators) × FitsVariables scope.sort_name (texts statements.entry.now) r.0.variables (texts r.1.now))) }
 {
     if !goes_on(statements, b"vars") {
@@ -168,11 +165,7 @@ fn variables<'s, 't>(
 }
 
 /// The scope with these variables; none where one isn't a name, or has been declared.
-fn with_variables(
-    alloc: Global,
-    scope: Scope,
-    names: &[Name],
-) -> Result<Option<Scope>, AllocError>
+fn with_variables(alloc: Global, scope: Scope, names: &[Name]) -> Result<Option<Scope>, AllocError>
     requires { scope.variables ≡ [] }
     ensures { IfOk result (λ o. MatchOption o
         (AllByRecursion IsName (names_over scope.operators names.now) → AllDiffer (names_over scope.operators names.now) → ⊥)
@@ -196,9 +189,9 @@ fn equations<'s, 't>(
 ) -> Result<Option<(Vec<Equation>, &'s [&'t [Name]])>, AllocError>
     ensures { IfOk result (λ o. MatchOption o
         ((es : List EquationOf) (rest : List (List NameOf)) → FitsEquations (signature_in scope.now) (texts statements.entry.now) es rest
-            → AllByRecursion (IsRewriting (signature_in scope.now) (variables_declared scope.now)) es → ⊥)
+        → AllByRecursion (IsRewriting (signature_in scope.now) (variables_declared scope.now)) es → ⊥)
         (λ r. FitsEquations (signature_in scope.now) (texts statements.entry.now) r.0.items (texts r.1.now)
-            × AllByRecursion (IsRewriting (signature_in scope.now) (variables_declared scope.now)) r.0.items)) }
+        × AllByRecursion (IsRewriting (signature_in scope.now) (variables_declared scope.now)) r.0.items)) }
 {
     let _sort = scope.sort();
     let mut found = Vec::new(alloc);
@@ -217,16 +210,12 @@ fn equations<'s, 't>(
 }
 
 /// The term of the last statement, where there is no other.
-fn subject(
-    alloc: Global,
-    scope: &Scope,
-    statements: &[&[Name]],
-) -> Result<Option<Raw>, AllocError>
+fn subject(alloc: Global, scope: &Scope, statements: &[&[Name]]) -> Result<Option<Raw>, AllocError>
     ensures { IfOk result (λ o. MatchOption o
         ((t : RawTerm) → IsForm (signature_in scope.now) (variables_declared scope.now) t → IsTrue (is_ground t)
-            → texts statements.now ≡ last_words (prefix_form (signature_in scope.now) t) ∷ [] → ⊥)
+        → texts statements.now ≡ last_words (prefix_form (signature_in scope.now) t) ∷ [] → ⊥)
         (λ r. IsForm (signature_in scope.now) (variables_declared scope.now) (raw_term r) × IsTrue (is_ground (raw_term r))
-            × (texts statements.now ≡ last_words (prefix_form (signature_in scope.now) (raw_term r)) ∷ []))) }
+        × (texts statements.now ≡ last_words (prefix_form (signature_in scope.now) (raw_term r)) ∷ []))) }
 {
     let _sort = scope.sort();
     let [words] = statements else {

@@ -1,11 +1,11 @@
 -- Variables of terms, and their order of first mention.
-use Rattle.std.proofs.Common.{◌≡◌, ◌∙◌, ◌⊎◌, ℕ, List, [], ◌∷◌, ◌++◌, map, filter, not, Bool, true, false, cond, ◌&&◌, ◌||◌, bytes_eq, nat_eq, IsTrue, arith, refl, sym, ap, inl, inr, subst}
+use Rattle.std.proofs.Common.{◌≡◌, ◌⊎◌, List, [], ◌++◌, Bool, true, false, ◌&&◌, ◌||◌, bytes_eq, nat_eq, IsTrue, arith, refl, ap, inl, inr, subst}
 use Rattle.std.proofs.lemmas.Slice.Eq.{bytes_eq-Decides}
 use Rattle.mw_logic.specs.Term.{Variable, RawTerm, numeral, quoted, variable, apply, RawTerms, nil, cons}
 use Rattle.mw_logic.specs.Signature.{Signature, Member}
 use Rattle.mw_logic.specs.Substitution.{same_variable, occurs, occurs_in}
 use Rattle.mw_text.specs.Tokens.{Name}
-use Rattle.mw_text.specs.Form.{variables_of, variables_of_all, variable_named, first_mentions}
+use Rattle.mw_text.specs.Form.{variables_of, variables_of_all}
 use Rattle.mw_text.specs.Spelling.{Spells, a_variable, a_constant, applied, SpellsAll, last, more}
 use Rattle.mw_text.proofs.Marks.{Member-cases, Member-left, Member-right}
 

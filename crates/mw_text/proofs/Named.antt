@@ -1,11 +1,11 @@
 -- Names and marks.
-use Rattle.std.proofs.Common.{◌≡◌, ◌∙◌, ◌⊎◌, ◌≤◌, ℕ, zero, suc, List, [], ◌∷◌, ◌++◌, length, map, replicate, codes, sym, ap, refl, inl, inr, subst, arith}
+use Rattle.std.proofs.Common.{◌≡◌, ◌∙◌, ◌≤◌, ℕ, zero, suc, List, [], ◌∷◌, length, replicate, codes, sym, ap, inl, inr, subst, arith}
 use Rattle.std.specs.List.{AllByRecursion}
 use Rattle.std.proofs.lemmas.List.{length-replicate}
 use Rattle.mw_logic.specs.Term.{Variable, RawTerm, RawTerms}
 use Rattle.mw_logic.specs.Signature.{Signature, Operator, IsOperator, Member}
 use Rattle.mw_text.specs.Tokens.{Name}
-use Rattle.mw_text.specs.Form.{Declared, Equation, Source}
+use Rattle.mw_text.specs.Form.{Declared}
 use Rattle.mw_text.specs.Spelling.{Spells, a_variable, a_constant, applied, SpellsAll, last, more, IsName, operator_words}
 use Rattle.mw_text.proofs.Marks.{Lacks, Member-cases, same_head, same_tail, cut_at_mark}
 

@@ -1,4 +1,4 @@
-use Rattle.std.proofs.Common.{◌≡◌, ◌∙◌, sym, ap}
+use Rattle.std.proofs.Common.{◌∙◌, sym}
 use Rattle.mw_term.specs.Raws.{raw_term}
 use Rattle.mw_form.proofs.Bound.{spelled_one_sorted}
 use Rattle.mw_form.proofs.OverScope.{equation_sides, equation_read}

@@ -1,6 +1,5 @@
-use Rattle.std.proofs.Common.{◌≡◌, ◌∙◌, ◌∷◌, ◌++◌, [], List, sym, refl, subst, inl}
+use Rattle.std.proofs.Common.{◌≡◌, ◌∙◌, ◌∷◌, ◌++◌, [], sym, refl, subst, inl}
 use Rattle.mw_logic.specs.Signature.{Member}
-use Rattle.mw_text.specs.Tokens.{Name}
 use Rattle.mw_text.proofs.Marks.{same_tail, Member-right}
 use Rattle.mw_form.proofs.Takes.{mark_is}
 use Rattle.mw_form.proofs.equations.sides.Goals as goal

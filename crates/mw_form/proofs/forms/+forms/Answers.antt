@@ -1,4 +1,4 @@
-use Rattle.std.proofs.Common.{◌≡◌, ◌∙◌, ◌<◌, Some, arith, sym, ap}
+use Rattle.std.proofs.Common.{◌∙◌, Some, sym, ap}
 use Rattle.mw_logic.specs.Term.{apply}
 use Rattle.mw_form.specs.Meanings.{meaning_in}
 use Rattle.mw_form.specs.Reading.{term_at, with_operator}

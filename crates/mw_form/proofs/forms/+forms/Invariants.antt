@@ -1,4 +1,4 @@
-use Rattle.std.proofs.Common.{◌≡◌, ◌≤◌, ◌*◌, ◌+◌, codes}
+use Rattle.std.proofs.Common.{◌≡◌, ◌*◌, ◌+◌, codes}
 use Rattle.mw_term.specs.Raws.{raw_terms}
 use Rattle.mw_form.specs.Meanings.{meaning_in}
 use Rattle.mw_form.specs.Reading.{term_at, arguments_with}

@@ -1,4 +1,4 @@
-use Rattle.std.proofs.Common.{◌≡◌, ◌∙◌, ap}
+use Rattle.std.proofs.Common.{◌∙◌, ap}
 use Rattle.mw_form.specs.Reading.{whole}
 use Rattle.mw_form.proofs.Whole.{form_read}
 use Rattle.mw_form.proofs.forms.term.Goals as goal

@@ -1,4 +1,4 @@
-use Rattle.std.proofs.Common.{◌≡◌, ◌∙◌, ◌+◌, ◌≤◌, ◌&&◌, arith, sym, ap}
+use Rattle.std.proofs.Common.{◌∙◌, ◌&&◌, arith, sym, ap}
 use Rattle.mw_form.specs.Mentions.{are_among}
 use Rattle.mw_form.proofs.Meeting.{one_among, rest_high, after, variables_in_all}
 use Rattle.mw_form.proofs.mentions.+are_met.Goals as goal

@@ -1,4 +1,4 @@
-use Rattle.std.proofs.Common.{◌≡◌, ◌∙◌, ◌+◌, ◌≤◌, arith, sym, ap}
+use Rattle.std.proofs.Common.{◌∙◌, arith}
 use Rattle.mw_form.proofs.Meeting.{one_met, rest_high}
 use Rattle.mw_form.proofs.mentions.+meet_all.Goals as goal
 

@@ -1,4 +1,4 @@
-use Rattle.std.proofs.Common.{◌≡◌, ◌∙◌, ap}
+use Rattle.std.proofs.Common.{◌∙◌, ap}
 use Rattle.mw_term.specs.Raws.{raw_term}
 use Rattle.mw_text.specs.Form.{variables_of}
 use Rattle.mw_form.specs.Mentions.{are_among}

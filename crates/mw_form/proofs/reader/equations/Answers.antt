@@ -1,4 +1,4 @@
-use Rattle.std.proofs.Common.{◌≡◌, ◌∙◌, ◌-◌, ◌∷◌, ◌++◌, length, take, drop, map, true, codes, sym, ap}
+use Rattle.std.proofs.Common.{◌∙◌, ◌-◌, ◌++◌, length, take, drop, map, codes, sym, ap}
 use Rattle.mw_text.specs.Spelling.{equation_words}
 use Rattle.mw_form.specs.Scope.{signature_in}
 use Rattle.mw_form.specs.Statements.{texts, begins_with}

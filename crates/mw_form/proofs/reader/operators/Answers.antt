@@ -1,7 +1,5 @@
-use Rattle.std.proofs.Common.{◌≡◌, ◌∙◌, ◌-◌, ◌∷◌, ◌++◌, List, [], length, take, drop, map, true, codes, sym, ap, subst}
+use Rattle.std.proofs.Common.{◌∙◌, ◌-◌, ◌++◌, length, take, drop, map, codes, sym, ap, subst}
 use Rattle.mw_logic.specs.Signature.{Member}
-use Rattle.mw_text.specs.Tokens.{Name}
-use Rattle.mw_text.specs.Form.{Declared}
 use Rattle.mw_text.specs.Spelling.{IsName, operator_words, names_over}
 use Rattle.mw_form.specs.Statements.{texts, begins_with}
 use Rattle.mw_form.proofs.Fronts.{front_and_rest}

@@ -1,4 +1,4 @@
-use Rattle.std.proofs.Common.{◌≡◌, ◌∙◌, ◌-◌, ◌∷◌, ◌++◌, [], List, length, take, drop, map, refl, sym, ap, subst}
+use Rattle.std.proofs.Common.{◌≡◌, ◌∙◌, ◌-◌, ◌∷◌, [], List, length, take, drop, refl, sym, ap, subst}
 use Rattle.std.specs.List.{AllByRecursion}
 use Rattle.mw_term.specs.Raws.{raw_term}
 use Rattle.mw_text.specs.Tokens.{Name}
@@ -63,8 +63,8 @@ returns-in_default-5 c = λ s wf is.
     let B = sources.after_the_variables c.in-Some-2.scope c.in-Some-3.scope (texts c.in-Some-2.rest.now) (texts c.in-Some-3.rest.now) s c.sort-sort.ensures.names wf (ops.0 ∙ sort) vars.0 A.0 vars.1 vars.2 A.1 in
     let eqs = rw c.in-Some-4.is at c.in_ok-equations.ensures in
     let C = sources.equations_only c.in-Some-3.scope c.sort-sort.ensures.names c.in-Some-4.equations.items s.equations (texts c.in-Some-3.rest.now) (texts c.in-Some-4.rest.now) (sources.after_equations s) eqs.1
-        (subst (λ d. AllByRecursion (IsRewriting (signature_in d) (variables_declared d)) s.equations) (sym B.0) wf.equations) eqs.0
-        (subst (λ d. FitsEquations (signature_in d) (texts c.in-Some-3.rest.now) s.equations (sources.after_equations s)) (sym B.0) (sources.equations_fit s (texts c.in-Some-3.rest.now) B.1)) in
+    (subst (λ d. AllByRecursion (IsRewriting (signature_in d) (variables_declared d)) s.equations) (sym B.0) wf.equations) eqs.0
+    (subst (λ d. FitsEquations (signature_in d) (texts c.in-Some-3.rest.now) s.equations (sources.after_equations s)) (sym B.0) (sources.equations_fit s (texts c.in-Some-3.rest.now) B.1)) in
     let none = rw c.in_default-5.is at c.in_ok-subject.ensures in
     none s.subject (subst (λ d. IsForm (signature_in d) (variables_declared d) s.subject) (sym B.0) wf.subject) wf.ground
     (C.1 ∙ ap (λ d. last_words (prefix_form (signature_in d) s.subject) ∷ []) (sym B.0))
@@ -81,9 +81,9 @@ returns c =
     let P : Source → Type 0 = λ s. IsWellFormed s × (texts c.args.statements.now ≡ statements_of s) in
     subst P
     (sources.same_made c.in-Some.name.now c.in-Some-3.scope c.in-Some-4.equations.items (raw_term c.in-Some-5.subject) _ c.in_ok-name.ensures c.into_parts-sort.ensures.0 c.into_parts-sort.ensures.1
-        c.into_parts-sort.ensures.2 c.of.ensures refl)
+    c.into_parts-sort.ensures.2 c.of.ensures refl)
     (sources.found_source c.in-Some.name.now c.in-Some.sort.now c.in-Some-2.scope.operators c.in-Some-3.scope c.in-Some-4.equations.items (raw_term c.in-Some-5.subject) (texts c.args.statements.now) ws
-        (texts c.in-Some-2.rest.now) (texts c.in-Some-3.rest.now) (texts c.in-Some-4.rest.now) c.in-Some.ensures.0 c.in-Some.ensures.1 c.in-Some.ensures.2 (split ∙ ap (λ l. l ∷ ws) c.in-Some.ensures.3)
-        (subst (λ n. FitsOperators n ws c.in-Some-2.scope.operators (texts c.in-Some-2.rest.now)) given ops.2) (vars.0 ∙ ops.0 ∙ given) vars.1
-        (subst (λ n. FitsVariables n (texts c.in-Some-2.rest.now) c.in-Some-3.scope.variables (texts c.in-Some-3.rest.now)) (ops.0 ∙ given) vars.2)
-        c.sort-sort.ensures.names eqs.0 eqs.1 subject.0 subject.1 subject.2)
+    (texts c.in-Some-2.rest.now) (texts c.in-Some-3.rest.now) (texts c.in-Some-4.rest.now) c.in-Some.ensures.0 c.in-Some.ensures.1 c.in-Some.ensures.2 (split ∙ ap (λ l. l ∷ ws) c.in-Some.ensures.3)
+    (subst (λ n. FitsOperators n ws c.in-Some-2.scope.operators (texts c.in-Some-2.rest.now)) given ops.2) (vars.0 ∙ ops.0 ∙ given) vars.1
+    (subst (λ n. FitsVariables n (texts c.in-Some-2.rest.now) c.in-Some-3.scope.variables (texts c.in-Some-3.rest.now)) (ops.0 ∙ given) vars.2)
+    c.sort-sort.ensures.names eqs.0 eqs.1 subject.0 subject.1 subject.2)

@@ -1,6 +1,6 @@
-use Rattle.std.proofs.Common.{◌≡◌, ◌∙◌, sym, ap}
+use Rattle.std.proofs.Common.{◌∙◌, sym, ap}
 use Rattle.mw_text.specs.Spelling.{with_stops}
-use Rattle.mw_form.specs.Statements.{texts, Stopless}
+use Rattle.mw_form.specs.Statements.{texts}
 use Rattle.mw_form.proofs.Sources.{source_read, no_statements}
 use Rattle.mw_form.proofs.reader.read_tokens.Goals as goal
 

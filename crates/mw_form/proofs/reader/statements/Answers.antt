@@ -1,6 +1,5 @@
-use Rattle.std.proofs.Common.{◌≡◌, ◌∙◌, ◌==◌, ◌++◌, ◌∷◌, [], List, length, true, false, sym, ap, map}
+use Rattle.std.proofs.Common.{◌≡◌, ◌∙◌, ◌==◌, ◌++◌, ◌∷◌, [], List, length, true, false, sym, ap}
 use Rattle.std.proofs.lemmas.List.{map-append}
-use Rattle.mw_logic.specs.Signature.{Member}
 use Rattle.mw_text.specs.Tokens.{Name}
 use Rattle.mw_text.specs.Spelling.{with_stops}
 use Rattle.mw_text.proofs.Marks.{unended, stops_push, Lacks}

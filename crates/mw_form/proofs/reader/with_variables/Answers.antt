@@ -1,6 +1,6 @@
-use Rattle.std.proofs.Common.{◌≡◌, take, ap, subst}
+use Rattle.std.proofs.Common.{subst}
 use Rattle.mw_logic.specs.Signature.{Member}
-use Rattle.mw_form.specs.Scope.{Declarations, declared_names}
+use Rattle.mw_form.specs.Scope.{declared_names}
 use Rattle.mw_form.proofs.Sources.{taken_variable}
 use Rattle.mw_form.proofs.reader.with_variables.Goals as goal
 

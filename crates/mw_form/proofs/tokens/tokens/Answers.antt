@@ -1,5 +1,4 @@
-use Rattle.std.proofs.Common.{◌≡◌, ◌∙◌, ◌++◌, ◌∷◌, [], max, sym, ap}
-use Rattle.mw_text.specs.Tokens.{Name, tokens_of}
+use Rattle.std.proofs.Common.{◌∙◌, max, sym, ap}
 use Rattle.mw_form.proofs.Pieces.{token_more}
 use Rattle.mw_form.proofs.tokens.tokens.Goals as goal
 

@@ -1,5 +1,4 @@
-use Rattle.std.proofs.Common.{◌≡◌, ◌∙◌, ◌∷◌, ◌++◌, [], List, true, false, sym, ap}
-use Rattle.mw_text.specs.Tokens.{Name}
+use Rattle.std.proofs.Common.{◌≡◌, ◌∙◌, ◌∷◌, true, false, sym, ap}
 use Rattle.mw_form.proofs.Phrases.{three_and_rest, operator_has_arrow, operator_parts}
 use Rattle.mw_form.proofs.words.operator.Goals as goal
 

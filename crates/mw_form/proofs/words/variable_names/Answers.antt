@@ -1,5 +1,4 @@
-use Rattle.std.proofs.Common.{◌≡◌, ◌∙◌, ◌∷◌, ◌++◌, [], List, true, false, sym, ap}
-use Rattle.mw_text.specs.Tokens.{Name}
+use Rattle.std.proofs.Common.{◌≡◌, ◌∙◌, ◌∷◌, true, false, sym, ap}
 use Rattle.mw_form.proofs.Fronts.{front_and_rest}
 use Rattle.mw_form.proofs.Phrases.{variables_have_colon, variable_parts}
 use Rattle.mw_form.proofs.words.variable_names.Goals as goal

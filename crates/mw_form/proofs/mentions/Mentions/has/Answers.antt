@@ -1,4 +1,4 @@
-use Rattle.std.proofs.Common.{◌≡◌, ◌∙◌, sym, ap}
+use Rattle.std.proofs.Common.{◌∙◌, ap}
 use Rattle.mw_form.specs.Mentions.{is_among}
 use Rattle.mw_form.proofs.Meeting.{held_any, names_held}
 use Rattle.mw_form.proofs.mentions.Mentions.has.Goals as goal

@@ -1,4 +1,4 @@
-use Rattle.std.proofs.Common.{◌≡◌, ◌∙◌, sym, ap}
+use Rattle.std.proofs.Common.{◌∙◌, ap}
 use Rattle.mw_form.specs.Mentions.{with_name}
 use Rattle.mw_form.proofs.Meeting.{held_insert, names_held}
 use Rattle.mw_form.proofs.mentions.Mentions.meet.Goals as goal

@@ -1,4 +1,4 @@
-use Rattle.std.proofs.Common.{◌≡◌, ◌∙◌, map, ap}
+use Rattle.std.proofs.Common.{◌∙◌, map, ap}
 use Rattle.mw_text.specs.Form.{variable_named}
 use Rattle.mw_form.proofs.Meeting.{variables_held, names_held}
 use Rattle.mw_form.proofs.mentions.Mentions.variables.Goals as goal

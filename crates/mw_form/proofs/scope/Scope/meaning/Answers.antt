@@ -1,4 +1,4 @@
-use Rattle.std.proofs.Common.{◌≡◌, ◌∙◌, sym, ap}
+use Rattle.std.proofs.Common.{◌∙◌, ap}
 use Rattle.mw_form.specs.Meanings.{meaning_in, meaning_at, table_in}
 use Rattle.mw_form.proofs.Tables.{lookup_is}
 use Rattle.mw_form.proofs.scope.Scope.meaning.Goals as goal
