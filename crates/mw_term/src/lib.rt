@@ -13,7 +13,7 @@ mod subst;
 mod term;
 
 pub use raw::{Raw, Raws, VarId};
-pub use seq::{Name, Seq};
+pub use seq::{Name, Seq, copy_name};
 pub use signature::{Declaration, Gather, Identity, Operator, Signature, Sorted};
 pub use statement::{Fragment, Statement};
 pub use subst::{Binding, Subst};

@@ -1,6 +1,7 @@
 // Lists, seen without their capacity.
-ghost use Rattle.std.specs.Prelude.{◌≡◌, ◌↔◌, List, ℕ, IsTrue};
+ghost use Rattle.std.specs.Prelude.{◌≡◌, List, IfOk};
 
+use std::alloc::{AllocError, Global};
 use std::marker::Model;
 
 /// A list, which contracts see as one: two lists with the same elements are equal, whatever room they have.
@@ -43,3 +44,11 @@ impl<T> Seq<T> {
 
 /// The bytes of a name.
 pub type Name = Seq<u8>;
+
+/// The same name again.
+pub fn copy_name(alloc: Global, name: &Name) -> Result<Name, AllocError>
+    ensures { IfOk result (λ n. n ≡ name.now) }
+{
+    let bytes = name.as_slice().to_vec(alloc)?;
+    Ok(Name::of(bytes))
+}

@@ -3,3 +3,4 @@ pub mod Tokens
 pub mod Form
 pub mod Spelling
 pub mod Output
+pub mod Answer

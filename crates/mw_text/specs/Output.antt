@@ -36,10 +36,25 @@ word_text limit_depth = codes "limit depth"
 abbrev pub line : List ℕ → List ℕ
 line text = text ++ 10 ∷ []
 
--- the four lines for a command: its echo, the count, the result with its sort, and the status
+-- the command with its module and its term
+abbrev pub echo_line : Signature → Name → RawTerm → List ℕ
+echo_line sig name from = line (codes "reduce in " ++ name ++ codes " : " ++ printed sig from ++ codes " .")
+
+-- how many replacements were made
+abbrev pub count_line : ℕ → List ℕ
+count_line count = line (codes "rewrites: " ++ decimal count)
+
+-- the result, with its sort
+abbrev pub result_line : Signature → Name → RawTerm → List ℕ
+result_line sig sort to = line (codes "result " ++ sort ++ codes ": " ++ printed sig to)
+
+-- how the reduction ended
+abbrev pub status_line : Word → List ℕ
+status_line word = line (codes "status: " ++ word_text word)
+
+-- the four lines for a command
 abbrev pub block : Signature → Name → RawTerm → ℕ → Name → RawTerm → Word → List ℕ
-block sig module_name from count sort_name to word = line (codes "reduce in " ++ module_name ++ codes " : " ++ printed sig from ++ codes " .")
-    ++ line (codes "rewrites: " ++ decimal count) ++ line (codes "result " ++ sort_name ++ codes ": " ++ printed sig to) ++ line (codes "status: " ++ word_text word)
+block sig name from count sort to word = echo_line sig name from ++ count_line count ++ result_line sig sort to ++ status_line word
 
 -- the line for a source that isn't of the form
 abbrev pub refusal : List ℕ

@@ -3,11 +3,10 @@ ghost use Rattle.std.specs.Prelude.{◌≡◌, IfOk};
 ghost use Rattle.mw_text.specs.Output.{refusal as refusal_line};
 ghost use Rattle.mw_top.specs.Call.{IsOutput};
 
-use crate::build::{ground_term, signature, statements};
-use crate::print::{print, print_number};
+use crate::block::{write_count, write_echo, write_result, write_status};
+use crate::build::{free_term, signature, statements};
 use mw_form::{Source, read};
-use mw_reduce::{Outcome, Proved, Theory, reduce};
-use mw_term::{Name, Operator};
+use mw_reduce::{Theory, reduce};
 use std::alloc::{AllocError, Global};
 
 /// How many replacements a reduction makes at the most.
@@ -26,12 +25,11 @@ pub struct Output {
 pub fn answer(alloc: Global, bytes: &[u8]) -> Result<Output, AllocError>
     ensures { IfOk result (λ o. IsOutput bytes.now o.text.items o.status) }
 {
-    let block = match read(alloc, bytes)? {
-        Some(source) => block(alloc, source)?,
-        None => None,
-    };
-    match block {
-        Some(text) => Ok(Output { text, status: 0 }),
+    match read(alloc, bytes)? {
+        Some(source) => {
+            let text = block(alloc, source)?;
+            Ok(Output { text, status: 0 })
+        }
         None => refusal(alloc),
     }
 }
@@ -43,7 +41,7 @@ fn refusal(alloc: Global) -> Result<Output, AllocError>
     Ok(Output { text, status: 1 })
 }
 
-fn block(alloc: Global, source: Source) -> Result<Option<Vec<u8>>, AllocError> {
+fn block(alloc: Global, source: Source) -> Result<Vec<u8>, AllocError> {
     let Source {
         name,
         sort,
@@ -52,48 +50,15 @@ fn block(alloc: Global, source: Source) -> Result<Option<Vec<u8>>, AllocError> {
         equations,
         subject,
     } = source;
-    let Some(term) = ground_term(alloc, &subject)? else {
-        return Ok(None);
-    };
+    let term = free_term(alloc, &subject)?;
     let statements = statements(alloc, equations)?;
-    let signature = signature(alloc, sort, operators)?;
+    let signature = signature(alloc, &sort, operators)?;
     let theory = Theory::new(alloc, signature, statements)?;
     let (proved, outcome) = reduce(alloc, &theory, term, MOST)?;
-    let text = block_text(alloc, &name, &theory, &proved, outcome)?;
-    Ok(Some(text))
-}
-
-/// The four lines: the echo, the count, the result and the status.
-fn block_text(
-    alloc: Global,
-    name: &Name,
-    theory: &Theory,
-    proved: &Proved<'_>,
-    outcome: Outcome,
-) -> Result<Vec<u8>, AllocError> {
-    let operators: &[Operator] = theory.signature().operators.as_slice();
-    let mut text = b"reduce in ".to_vec(alloc)?;
-    text.extend_from_slice(name.as_slice())?;
-    text.extend_from_slice(b" : ")?;
-    print(operators, proved.from(), &mut text)?;
-    text.extend_from_slice(b" .\nrewrites: ")?;
-    print_number(proved.count() as u128, &mut text)?;
-    text.extend_from_slice(b"\nresult ")?;
-    for sort in theory.signature().sorts.as_slice() {
-        text.extend_from_slice(sort.as_slice())?;
-    }
-    text.extend_from_slice(b": ")?;
-    print(operators, proved.to(), &mut text)?;
-    text.extend_from_slice(b"\nstatus: ")?;
-    text.extend_from_slice(status_word(outcome))?;
-    text.push(b'\n')?;
+    let mut text = Vec::new(alloc);
+    write_echo(alloc, theory.signature(), &name, proved.from(), &mut text)?;
+    write_count(alloc, proved.count(), &mut text)?;
+    write_result(alloc, theory.signature(), &sort, proved.to(), &mut text)?;
+    write_status(outcome, &mut text)?;
     Ok(text)
-}
-
-fn status_word(outcome: Outcome) -> &'static [u8] {
-    match outcome {
-        Outcome::Done => b"reduced",
-        Outcome::Rewrites => b"limit rewrites",
-        Outcome::Depth => b"limit depth",
-    }
 }

@@ -1,7 +1,12 @@
 // The theory of a source's module, and its subject as a term.
+ghost use Rattle.std.specs.Prelude.{◌≡◌, IfOk};
+ghost use Rattle.mw_logic.specs.Terms.{terms_of};
+ghost use Rattle.mw_term.specs.Raws.{raw_term, raw_terms};
+
 use mw_form::{Declared, Equation};
 use mw_term::{
     Declaration, KindId, Name, Operator, Raw, Seq, Shape, Signature, Sorted, Statement, Term,
+    VarId, copy_name,
 };
 use std::alloc::{AllocError, Global};
 
@@ -10,11 +15,11 @@ const SORT: u32 = 1;
 /// The signature of one sort and these operators.
 pub fn signature(
     alloc: Global,
-    sort: Name,
+    sort: &Name,
     operators: Seq<Declared>,
 ) -> Result<Signature, AllocError> {
     let mut sorts = Vec::new(alloc);
-    sorts.push(sort)?;
+    sorts.push(copy_name(alloc, sort)?)?;
     let operators = operators.into_vec();
     let mut made = Vec::with_capacity(alloc, operators.len())?;
     for declared in operators {
@@ -80,19 +85,36 @@ fn statement(alloc: Global, equation: Equation) -> Statement {
     }
 }
 
-/// The term that a ground one without numerals and quoted identifiers is; none where it is another one.
-pub fn ground_term(alloc: Global, raw: &Raw) -> Result<Option<Term>, AllocError> {
-    let Raw::Op(operator, args) = raw else {
-        return Ok(None);
-    };
-    let args = args.as_slice();
-    let mut made = Vec::with_capacity(alloc, args.len())?;
-    for arg in args {
-        match ground_term(alloc, arg)? {
-            Some(term) => made.push(term)?,
-            None => return Ok(None),
+/// The term that one as it is written is, under a signature without axioms.
+#[cycle(free_term)]
+pub fn free_term(alloc: Global, raw: &Raw) -> Result<Term, AllocError>
+    ensures { IfOk result (λ t. t ≡ raw_term raw.now) }
+{
+    match raw {
+        Raw::Nat(number) => Term::new(alloc, Shape::Nat(*number)),
+        Raw::Qid(name) => {
+            let name = copy_name(alloc, name)?;
+            Term::new(alloc, Shape::Qid(name))
+        }
+        Raw::Var(variable) => {
+            let name = copy_name(alloc, &variable.name)?;
+            let sort = variable.sort;
+            Term::new(alloc, Shape::Var(VarId { name, sort }))
+        }
+        Raw::Op(operator, args) => {
+            let made = free_terms(alloc, args.as_slice())?;
+            Term::apply(alloc, *operator, made)
         }
     }
-    let term = Term::new(alloc, Shape::Op(*operator, made))?;
-    Ok(Some(term))
+}
+
+#[cycle(free_term)]
+fn free_terms(alloc: Global, args: &[Raw]) -> Result<Vec<Term>, AllocError>
+    ensures { IfOk result (λ ts. terms_of ts.items ≡ raw_terms args.now) }
+{
+    let mut made = Vec::with_capacity(alloc, args.len())?;
+    for arg in args {
+        made.push(free_term(alloc, arg)?)?;
+    }
+    Ok(made)
 }

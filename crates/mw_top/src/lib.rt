@@ -10,10 +10,14 @@ ghost use Rattle.mw_top.specs.Moved.{Gave, Took};
 ghost use Rattle.mw_top.specs.Call.{texts, IsCommand, Owes, IsExactLength};
 
 mod answer;
+mod block;
 mod build;
 mod print;
 mod streams;
 mod words;
+
+#[cfg(test)]
+mod tests;
 
 use answer::{Output, answer};
 use mw_outside::{Sink, Source};
