@@ -1,1 +1,7 @@
--- What is read.
+-- What the reader knows as it goes.
+pub mod Scope
+pub mod Meanings
+pub mod Reading
+pub mod Runs
+pub mod Statements
+pub mod Mentions

@@ -1,7 +1,17 @@
 // Prefix forms.
-ghost use Rattle.std.specs.Prelude.{◌≡◌, ◌+◌, ◌<◌, ◌≤◌, length, IfOk, IfSome};
+ghost use Rattle.std.specs.Prelude.{◌≡◌, ◌+◌, ◌<◌, ◌≤◌, ◌++◌, ◌∷◌, List, [], length, option_map, IfOk, IfSome, MatchOption};
+ghost use Rattle.mw_logic.specs.Term.{RawTerm, variable};
+ghost use Rattle.mw_logic.specs.Signature.{Member};
+ghost use Rattle.mw_term.specs.Raws.{raw_term};
+ghost use Rattle.mw_text.specs.Form.{variable_named};
+ghost use Rattle.mw_text.specs.Spelling.{IsForm, prefix_form};
+ghost use Rattle.mw_form.specs.Scope.{signature_in, variables_declared};
+ghost use Rattle.mw_form.specs.Meanings.{meaning_in};
+ghost use Rattle.mw_form.specs.Reading as reading;
 
-use crate::names::{Meaning, Names};
+use crate::names::is;
+use crate::scope::{Meaning, Scope, again};
+use crate::source::SORT;
 use mw_term::{Name, OpId, Raw, Raws, VarId};
 use std::alloc::{AllocError, Global};
 
@@ -9,31 +19,44 @@ use std::alloc::{AllocError, Global};
 pub const LONGEST: usize = 1024;
 
 /// The term that all of the tokens spell.
-pub fn term(alloc: Global, names: &Names, tokens: &[Name]) -> Result<Option<Raw>, AllocError> {
+pub fn term(alloc: Global, scope: &Scope, tokens: &[Name]) -> Result<Option<Raw>, AllocError>
+    ensures { IfOk result (λ o. MatchOption o
+        ((t : RawTerm) → IsForm (signature_in scope.now) (variables_declared scope.now) t → tokens.now ≡ prefix_form (signature_in scope.now) t → ⊥)
+        (λ r. IsForm (signature_in scope.now) (variables_declared scope.now) (raw_term r) × (tokens.now ≡ prefix_form (signature_in scope.now) (raw_term r)))) }
+{
+    let _sort = scope.sort();
     if tokens.len() > LONGEST {
         return Ok(None);
     }
-    match term_at(alloc, names, tokens, tokens.len())? {
-        Some((term, [])) => Ok(Some(term)),
-        _ => Ok(None),
-    }
+    let read = term_at(alloc, scope, tokens, tokens.len())?;
+    Ok(whole(read))
+}
+
+/// The term that was read, where nothing comes after it.
+fn whole(read: Option<(Raw, &[Name])>) -> Option<Raw>
+    ensures { option_map raw_term result ≡ reading.whole (option_map (λ x. (raw_term x.0, x.1.now)) read.entry) }
+{
+    let (term, rest) = read?;
+    if rest.is_empty() { Some(term) } else { None }
 }
 
 /// The term at the front, no deeper than so many levels, and the tokens after it.
 #[cycle(forms)]
 fn term_at<'t>(
     alloc: Global,
-    names: &Names,
+    scope: &Scope,
     tokens: &'t [Name],
     depth: usize,
-) -> Result<Option<(Raw, &'t [Name])>, AllocError> {
-    let Some((name, rest)) = tokens.split_first() else {
-        return Ok(None);
-    };
+) -> Result<Option<(Raw, &'t [Name])>, AllocError>
+    ensures { IfOk result (λ read. option_map (λ x. (raw_term x.0, x.1.now)) read ≡ reading.term_at (meaning_in scope.now) depth tokens.entry.now) }
+{
     if depth == 0 {
         return Ok(None);
     }
-    match names.meaning(name) {
+    let [name, rest @ ..] = tokens else {
+        return Ok(None);
+    };
+    match scope.meaning(name) {
         None => Ok(None),
         Some(Meaning::Variable) => {
             let term = variable(alloc, name)?;
@@ -44,38 +67,48 @@ fn term_at<'t>(
             Ok(Some((Raw::Op(operator, none), rest)))
         }
         Some(Meaning::Operator(operator, count)) => {
-            applied_at(alloc, names, operator, count, rest, depth - 1)
+            let applied = applied_at(alloc, scope, operator, count, rest, depth - 1)?;
+            Ok(applied)
         }
     }
 }
 
-fn variable(alloc: Global, name: &Name) -> Result<Raw, AllocError> {
-    let name = Name::of(name.as_slice().to_vec(alloc)?);
-    Ok(Raw::Var(VarId { name, sort: 1 }))
+fn variable(alloc: Global, name: &Name) -> Result<Raw, AllocError>
+    ensures { IfOk result (λ r. raw_term r ≡ variable (variable_named name.now)) }
+{
+    let name = again(alloc, name)?;
+    Ok(Raw::Var(VarId { name, sort: SORT }))
 }
 
-/// An operator on so many arguments, at least one, whose parentheses stand at the front.
+/// An operator on so many arguments, whose parentheses stand at the front.
 #[cycle(forms)]
 fn applied_at<'t>(
     alloc: Global,
-    names: &Names,
+    scope: &Scope,
     operator: OpId,
     count: usize,
     tokens: &'t [Name],
     depth: usize,
-) -> Result<Option<(Raw, &'t [Name])>, AllocError> {
+) -> Result<Option<(Raw, &'t [Name])>, AllocError>
+    requires { 0 < count }
+    ensures { IfOk result (λ read. option_map (λ x. (raw_term x.0, x.1.now)) read
+        ≡ reading.applied_with (λ s. reading.term_at (meaning_in scope.now) depth s) operator count tokens.entry.now) }
+{
     let mut args = Vec::new(alloc);
     let mut rest = tokens;
-    for i in 0..count {
-        let mark: &[u8] = if i == 0 { b"(" } else { b"," };
+    let mut mark = b"(";
+    let mut left = count;
+    while left > 0 {
         let Some(after) = after_token(rest, mark) else {
             return Ok(None);
         };
-        let Some((arg, after)) = term_at(alloc, names, after, depth)? else {
+        let Some((arg, after)) = term_at(alloc, scope, after, depth)? else {
             return Ok(None);
         };
         args.push(arg)?;
         rest = after;
+        mark = b",";
+        left -= 1;
     }
     match after_token(rest, b")") {
         Some(after) => Ok(Some((Raw::Op(operator, Raws::of(args)), after))),
@@ -85,23 +118,10 @@ fn applied_at<'t>(
 
 /// The tokens after this one, where it stands at the front.
 pub fn after_token<'t>(tokens: &'t [Name], text: &[u8]) -> Option<&'t [Name]>
-    ensures shorter { IfSome result (λ rest. length rest.now + 1 ≡ length tokens.entry.now) }
+    ensures { option_map (λ rest. rest.now) result ≡ reading.after_mark text.now tokens.entry.now }
 {
-    match tokens.split_first() {
-        Some((first, rest)) if first.as_slice() == text => Some(rest),
+    match tokens {
+        [first, rest @ ..] if is(first, text) => Some(rest),
         _ => None,
     }
-}
-
-/// The tokens before the first that is this one, at most as many as a term may have, and those after it.
-pub fn before_token<'t>(tokens: &'t [Name], text: &[u8]) -> Option<(&'t [Name], &'t [Name])>
-    ensures shorter { IfSome result (λ r. length r.0.now + length r.1.now + 1 ≡ length tokens.entry.now) }
-{
-    let most = tokens.len().min(LONGEST + 1);
-    for i in 0..most {
-        if tokens[i].as_slice() == text {
-            return Some((&tokens[..i], &tokens[i + 1..]));
-        }
-    }
-    None
 }

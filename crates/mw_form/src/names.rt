@@ -1,61 +1,39 @@
-// Names, and what they stand for.
-use indexmap::IndexMap;
-use mw_term::{Name, OpId};
-use std::alloc::{AllocError, Global};
+// Which tokens are names.
+ghost use Rattle.std.specs.Prelude.{◌≡◌, ◌↔◌, ◌⊎◌, ◌≤◌, IsTrue};
+ghost use Rattle.mw_text.specs.Spelling.{IsName, IsLetter, IsKept, IsPrelude};
 
-/// What a name stands for.
-#[derive(Clone, Copy, Debug, PartialEq, Eq)]
-pub enum Meaning {
-    /// The operator of this number, with so many arguments.
-    Operator(OpId, usize),
-    Variable,
-}
+use mw_term::Name;
 
-/// What the names of a module stand for.
-#[derive(Drop)]
-pub struct Names {
-    meanings: IndexMap<Vec<u8>, Meaning>,
-}
-
-impl Names {
-    pub fn new(alloc: Global) -> Names {
-        Names {
-            meanings: IndexMap::new(alloc),
-        }
-    }
-
-    /// Gives a name its meaning. False, and nothing has changed but the meaning of that name, where it had one.
-    pub fn declare(
-        &mut self,
-        alloc: Global,
-        name: &Name,
-        meaning: Meaning,
-    ) -> Result<bool, AllocError> {
-        let key = name.as_slice().to_vec(alloc)?;
-        let before = self.meanings.insert(key, meaning)?;
-        Ok(before.is_none())
-    }
-
-    /// What a name stands for.
-    pub fn meaning(&self, name: &Name) -> Option<Meaning> {
-        self.meanings.get(name.as_slice()).copied()
-    }
-}
-
-/// A name that isn't one of the kept words: letters alone, and at least one.
-pub fn is_name(name: &Name) -> bool {
+/// Whether it is letters alone, at least one, and none of the kept words.
+pub fn is_name(name: &Name) -> bool
+    ensures { IsTrue result ↔ IsName name.now }
+{
     let text = name.as_slice();
-    !text.is_empty() && text.iter().all(|byte| byte.is_ascii_alphabetic()) && !is_kept(text)
+    !text.is_empty() && text.iter().all(|byte| is_letter(*byte)) && !is_kept(text)
 }
 
-fn is_kept(text: &[u8]) -> bool {
+fn is_letter(byte: u8) -> bool
+    ensures { IsTrue result ↔ IsLetter byte }
+{
+    (b'A'..=b'Z').contains(&byte) || (b'a'..=b'z').contains(&byte)
+}
+
+fn is_kept(text: &[u8]) -> bool
+    ensures { IsTrue result ↔ IsKept text.now }
+{
     matches!(text, b"endfm" | b"in" | b"if" | b"fi")
 }
 
 /// Whether a module of this name is there from the start.
-pub fn is_prelude(name: &Name) -> bool {
-    matches!(
-        name.as_slice(),
-        b"BOOL" | b"NAT" | b"QID" | b"CONFIGURATION"
-    )
+pub fn is_prelude(name: &Name) -> bool
+    ensures { IsTrue result ↔ IsPrelude name.now }
+{
+    is(name, b"BOOL") || is(name, b"NAT") || is(name, b"QID") || is(name, b"CONFIGURATION")
+}
+
+/// Whether a token is this one.
+pub fn is(token: &Name, text: &[u8]) -> bool
+    ensures { IsTrue result ↔ (token.now ≡ text.now) }
+{
+    token.as_slice() == text
 }

@@ -1,158 +1,206 @@
-// Reads a source of the form: `fmod M is sort S .`, operators, variables, equations, `endfm`, `reduce T .`
-ghost use Rattle.std.specs.Prelude.{◌≡◌, ◌+◌, ◌<◌, ◌≤◌, length, IfOk, IfSome};
+// Reads a source of the form: `fmod M is sort S .`, operators, variables, equations, `endfm reduce T .`
+ghost use Rattle.std.specs.Prelude.{◌≡◌, ◌≢◌, ◌++◌, ◌∷◌, List, [], ℕ, IfOk, MatchOption, IsTrue, false};
+ghost use Rattle.std.specs.List.{AllByRecursion};
+ghost use Rattle.mw_logic.specs.Term.{RawTerm, is_ground};
+ghost use Rattle.mw_term.specs.Raws.{raw_term};
+ghost use Rattle.mw_text.specs.Tokens.{Name as NameOf};
+ghost use Rattle.mw_text.specs.Form.{Declared as DeclaredOf, Equation as EquationOf, Source as SourceOf, signature_of};
+ghost use Rattle.mw_text.specs.Spelling.{IsName, AllDiffer, IsForm, IsRewriting, IsWellFormed, IsText, HasForm, Reads, variables_in, command_words, prefix_form, names_over, last_words, equation_words, statements_of, source_tokens, with_stops};
+ghost use Rattle.mw_form.specs.Scope.{signature_in, variables_declared};
+ghost use Rattle.mw_form.specs.Statements.{texts, Stopless, FitsOperators, FitsVariables, FitsEquations};
 
-use crate::forms::{after_token, before_token, term};
-use crate::mentions::{Mentions, are_met, meet_all};
-use crate::names::{Meaning, Names, is_name, is_prelude};
-use crate::source::{Declared, Equation, Source};
+use crate::equations::equation;
+use crate::forms::term;
+use crate::mentions::has_no_variable;
+use crate::scope::{Scope, again};
+use crate::source::{Equation, Source};
 use crate::tokens::tokens;
-use mw_term::{Name, OpId, Raw, Seq};
+use crate::words::{before_token, goes_on, head, last, operator, variable_names};
+use mw_term::{Name, Raw, Seq};
 use std::alloc::{AllocError, Global};
 
 /// What a text says, where it is of the form.
-pub fn read(alloc: Global, text: &[u8]) -> Result<Option<Source>, AllocError> {
+pub fn read(alloc: Global, text: &[u8]) -> Result<Option<Source>, AllocError>
+    ensures { IfOk result (λ o. MatchOption o (HasForm text.now → ⊥) (λ s. IsText text.now s)) }
+{
     match tokens(alloc, text)? {
-        Some(tokens) => read_tokens(alloc, tokens.as_slice()),
+        Some(tokens) => {
+            let read = read_tokens(alloc, tokens.as_slice())?;
+            Ok(read)
+        }
         None => Ok(None),
     }
 }
 
-fn read_tokens(alloc: Global, tokens: &[Name]) -> Result<Option<Source>, AllocError> {
-    let Some((name, sort, rest)) = header(tokens) else {
+/// The command of a source has one reading: its term, and no other.
+pub fn one_reading()
+    ensures { (bytes : List ℕ) (s : SourceOf) → IsText bytes s → Reads (signature_of s) (variables_in s) (command_words s) s.subject }
+{}
+
+fn read_tokens(alloc: Global, tokens: &[Name]) -> Result<Option<Source>, AllocError>
+    ensures { IfOk result (λ o. MatchOption o
+        ((s : SourceOf) → IsWellFormed s → tokens.now ≡ source_tokens s → ⊥)
+        (λ s. IsWellFormed s × (tokens.now ≡ source_tokens s))) }
+{
+    match statements(alloc, tokens)? {
+        Some(statements) => {
+            let read = read_statements(alloc, statements.as_slice())?;
+            Ok(read)
+        }
+        None => Ok(None),
+    }
+}
+
+/// The statements, each without its full stop; none where the last has no full stop.
+fn statements<'t>(alloc: Global, tokens: &'t [Name]) -> Result<Option<Vec<&'t [Name]>>, AllocError>
+    ensures { IfOk result (λ o. MatchOption o
+        ((ws : List (List NameOf)) → Stopless ws → tokens.entry.now ≡ with_stops ws → ⊥)
+        (λ v. Stopless (texts v.items) × (tokens.entry.now ≡ with_stops (texts v.items)))) }
+{
+    let mut found = Vec::new(alloc);
+    let mut rest = tokens;
+    while !rest.is_empty() {
+        let Some((words, after)) = before_token(rest, b".") else {
+            return Ok(None);
+        };
+        found.push(words)?;
+        rest = after;
+    }
+    Ok(Some(found))
+}
+
+fn read_statements(alloc: Global, statements: &[&[Name]]) -> Result<Option<Source>, AllocError>
+    ensures { IfOk result (λ o. MatchOption o
+        ((s : SourceOf) → IsWellFormed s → texts statements.now ≡ statements_of s → ⊥)
+        (λ s. IsWellFormed s × (texts statements.now ≡ statements_of s))) }
+{
+    let [words, rest @ ..] = statements else {
         return Ok(None);
     };
-    let mut names = Names::new(alloc);
-    let Some((operators, rest)) = operators(alloc, &mut names, rest, sort)? else {
+    let Some((name, sort)) = head(words) else {
         return Ok(None);
     };
-    let Some((variables, rest)) = variables(alloc, &mut names, rest, sort)? else {
+    let scope = Scope::new(alloc, again(alloc, sort)?);
+    let Some((scope, rest)) = operators(alloc, scope, rest)? else {
         return Ok(None);
     };
-    let Some((equations, rest)) = equations(alloc, &names, rest)? else {
+    let Some((scope, rest)) = variables(alloc, scope, rest)? else {
         return Ok(None);
     };
-    let Some(subject) = subject(alloc, &names, rest)? else {
+    let _sort = scope.sort();
+    let Some((equations, rest)) = equations(alloc, &scope, rest)? else {
         return Ok(None);
     };
+    let Some(subject) = subject(alloc, &scope, rest)? else {
+        return Ok(None);
+    };
+    let name = again(alloc, name)?;
+    let (sort, operators, variables) = scope.into_parts();
     Ok(Some(Source {
-        name: again(alloc, name)?,
-        sort: again(alloc, sort)?,
-        operators: Seq::of(operators),
-        variables: Seq::of(variables),
+        name,
+        sort,
+        operators,
+        variables,
         equations: Seq::of(equations),
         subject,
     }))
 }
 
-fn again(alloc: Global, name: &Name) -> Result<Name, AllocError> {
-    Ok(Name::of(name.as_slice().to_vec(alloc)?))
-}
-
-/// `fmod M is sort S .`: M, S, and the tokens after it.
-fn header(tokens: &[Name]) -> Option<(&Name, &Name, &[Name])> {
-    let (name, rest) = after_token(tokens, b"fmod")?.split_first()?;
-    let rest = after_token(after_token(rest, b"is")?, b"sort")?;
-    let (sort, rest) = rest.split_first()?;
-    let rest = after_token(rest, b".")?;
-    if is_name(name) && is_name(sort) && !is_prelude(name) {
-        Some((name, sort, rest))
-    } else {
-        None
-    }
-}
-
-/// Statements `op F : S S -> S .`
-fn operators<'t>(
+/// The operators that the first statements declare, and the statements after them.
+fn operators<'s, 't>(
     alloc: Global,
-    names: &mut Names,
-    tokens: &'t [Name],
-    sort: &Name,
-) -> Result<Option<(Vec<Declared>, &'t [Name])>, AllocError> {
-    let mut found = Vec::new(alloc);
-    let mut rest = tokens;
-    let mut number: OpId = 0;
-    while let Some(after) = after_token(rest, b"op") {
-        let Some((name, args, after)) = operator(after, sort) else {
+    scope: Scope,
+    statements: &'s [&'t [Name]],
+) -> Result<Option<(Scope, &'s [&'t [Name]])>, AllocError>
+    requires operators { scope.operators ≡ [] }
+    requires variables { scope.variables ≡ [] }
+    ensures { IfOk result (λ o. MatchOption o
+        ((ds : List DeclaredOf) (rest : List (List NameOf)) → FitsOperators scope.sort_name (texts statements.entry.now) ds rest
+        → AllByRecursion IsName (names_over ds []) → AllDiffer (names_over ds []) → ⊥)
+        (λ r. (r.0.sort_name ≡ scope.sort_name) × (r.0.variables ≡ []) × FitsOperators scope.sort_name (texts statements.entry.now) r.0.operators (texts r.1.now))) }
+{
+    let mut scope = scope;
+    let mut rest = statements;
+    'lines: while goes_on(rest, b"op") {
+        let [words, after @ ..] = rest else {
             return Ok(None);
         };
-        if number == OpId::MAX {
+        let Some((name, args)) = operator(words, scope.sort()) else {
             return Ok(None);
-        }
-        number += 1;
-        if !names.declare(alloc, name, Meaning::Operator(number, args))? {
+        };
+        let Some(more) = scope.with_operator(alloc, name, args)? else {
             return Ok(None);
-        }
-        found.push(Declared {
-            name: again(alloc, name)?,
-            args,
-        })?;
+        };
+        scope = more;
         rest = after;
     }
-    Ok(Some((found, rest)))
+    Ok(Some((scope, rest)))
 }
 
-/// An operator's statement after its first word: the name, the number of arguments, and the tokens after it.
-fn operator<'t>(tokens: &'t [Name], sort: &Name) -> Option<(&'t Name, usize, &'t [Name])>
-    ensures shorter { IfSome result (λ r. length r.2.now < length tokens.entry.now) }
+/// The variables that the first statement declares, where it does, and the statements after it.
+fn variables<'s, 't>(
+    alloc: Global,
+    scope: Scope,
+    statements: &'s [&'t [Name]],
+) -> Result<Option<(Scope, &'s [&'t [Name]])>, AllocError>
+    requires { scope.variables ≡ [] }
+    ensures { IfOk result (λ o. MatchOption o
+        ((xs : List NameOf) (rest : List (List NameOf)) → FitsVariables scope.sort_name (texts statements.entry.now) xs rest
+        → AllByRecursion IsName (names_over scope.operators xs) → AllDiffer (names_over scope.operators xs) → ⊥)
+        (λ r. (r.0.sort_name ≡ scope.sort_name) × (r.0.operators ≡ scope.operators) × FitsVariables scope.sort_name (texts statements.entry.now) r.0.variables (texts r.1.now))) }
 {
-    let (name, rest) = tokens.split_first()?;
-    let mut rest = after_token(rest, b":")?;
-    let mut args = 0usize;
-    while let Some(after) = after_token(rest, sort.as_slice()) {
-        args = args.saturating_add(1);
-        rest = after;
+    if !goes_on(statements, b"vars") {
+        return Ok(Some((scope, statements)));
     }
-    let rest = after_token(after_token(rest, b"->")?, sort.as_slice())?;
-    let rest = after_token(rest, b".")?;
-    if is_name(name) {
-        Some((name, args, rest))
-    } else {
-        None
-    }
-}
-
-/// At most one statement `vars X Y : S .`
-fn variables<'t>(
-    alloc: Global,
-    names: &mut Names,
-    tokens: &'t [Name],
-    sort: &Name,
-) -> Result<Option<(Vec<Name>, &'t [Name])>, AllocError> {
-    let mut found = Vec::new(alloc);
-    let Some(mut rest) = after_token(tokens, b"vars") else {
-        return Ok(Some((found, tokens)));
+    let [words, after @ ..] = statements else {
+        return Ok(None);
     };
-    while let Some((name, after)) = rest.split_first() {
-        if !is_name(name) {
-            break;
-        }
-        if !names.declare(alloc, name, Meaning::Variable)? {
+    let Some(names) = variable_names(words, scope.sort()) else {
+        return Ok(None);
+    };
+    match with_variables(alloc, scope, names)? {
+        Some(scope) => Ok(Some((scope, after))),
+        None => Ok(None),
+    }
+}
+
+/// The scope with these variables; none where one isn't a name, or has been declared.
+fn with_variables(alloc: Global, scope: Scope, names: &[Name]) -> Result<Option<Scope>, AllocError>
+    requires { scope.variables ≡ [] }
+    ensures { IfOk result (λ o. MatchOption o
+        (AllByRecursion IsName (names_over scope.operators names.now) → AllDiffer (names_over scope.operators names.now) → ⊥)
+        (λ s. s ≡ record { sort_name = scope.sort_name; operators = scope.operators; variables = names.now })) }
+{
+    let mut scope = scope;
+    for name in names {
+        let Some(more) = scope.with_variable(alloc, name)? else {
             return Ok(None);
-        }
-        found.push(again(alloc, name)?)?;
-        rest = after;
+        };
+        scope = more;
     }
-    match variables_end(rest, sort) {
-        Some(rest) if !found.is_empty() => Ok(Some((found, rest))),
-        _ => Ok(None),
-    }
+    Ok(Some(scope))
 }
 
-fn variables_end<'t>(tokens: &'t [Name], sort: &Name) -> Option<&'t [Name]> {
-    let rest = after_token(after_token(tokens, b":")?, sort.as_slice())?;
-    after_token(rest, b".")
-}
-
-/// Statements `eq L = R .`
-fn equations<'t>(
+/// The equations that the first statements say, and the statements after them.
+fn equations<'s, 't>(
     alloc: Global,
-    names: &Names,
-    tokens: &'t [Name],
-) -> Result<Option<(Vec<Equation>, &'t [Name])>, AllocError> {
+    scope: &Scope,
+    statements: &'s [&'t [Name]],
+) -> Result<Option<(Vec<Equation>, &'s [&'t [Name]])>, AllocError>
+    ensures { IfOk result (λ o. MatchOption o
+        ((es : List EquationOf) (rest : List (List NameOf)) → FitsEquations (signature_in scope.now) (texts statements.entry.now) es rest
+        → AllByRecursion (IsRewriting (signature_in scope.now) (variables_declared scope.now)) es → ⊥)
+        (λ r. FitsEquations (signature_in scope.now) (texts statements.entry.now) r.0.items (texts r.1.now)
+        × AllByRecursion (IsRewriting (signature_in scope.now) (variables_declared scope.now)) r.0.items)) }
+{
+    let _sort = scope.sort();
     let mut found = Vec::new(alloc);
-    let mut rest = tokens;
-    while let Some(after) = after_token(rest, b"eq") {
-        let Some((equation, after)) = equation(alloc, names, after)? else {
+    let mut rest = statements;
+    'lines: while goes_on(rest, b"eq") {
+        let [words, after @ ..] = rest else {
+            return Ok(None);
+        };
+        let Some(equation) = equation(alloc, scope, words)? else {
             return Ok(None);
         };
         found.push(equation)?;
@@ -161,65 +209,27 @@ fn equations<'t>(
     Ok(Some((found, rest)))
 }
 
-/// An equation after its first word, and the tokens after it.
-fn equation<'t>(
-    alloc: Global,
-    names: &Names,
-    tokens: &'t [Name],
-) -> Result<Option<(Equation, &'t [Name])>, AllocError>
-    ensures shorter { IfOk result (λ o. IfSome o (λ r. length r.1.now < length tokens.entry.now)) }
+/// The term of the last statement, where there is no other.
+fn subject(alloc: Global, scope: &Scope, statements: &[&[Name]]) -> Result<Option<Raw>, AllocError>
+    ensures { IfOk result (λ o. MatchOption o
+        ((t : RawTerm) → IsForm (signature_in scope.now) (variables_declared scope.now) t → IsTrue (is_ground t)
+        → texts statements.now ≡ last_words (prefix_form (signature_in scope.now) t) ∷ [] → ⊥)
+        (λ r. IsForm (signature_in scope.now) (variables_declared scope.now) (raw_term r) × IsTrue (is_ground (raw_term r))
+        × (texts statements.now ≡ last_words (prefix_form (signature_in scope.now) (raw_term r)) ∷ []))) }
 {
-    let Some((left, rest)) = before_token(tokens, b"=") else {
+    let _sort = scope.sort();
+    let [words] = statements else {
         return Ok(None);
     };
-    let Some((right, rest)) = before_token(rest, b".") else {
+    let Some(command) = last(words) else {
         return Ok(None);
     };
-    let Some(left) = term(alloc, names, left)? else {
+    let Some(subject) = term(alloc, scope, command)? else {
         return Ok(None);
     };
-    let Some(right) = term(alloc, names, right)? else {
-        return Ok(None);
-    };
-    match rewriting(alloc, left, right)? {
-        Some(equation) => Ok(Some((equation, rest))),
-        None => Ok(None),
-    }
-}
-
-/// The equation of two sides: the left one isn't a variable, and the right one has no variable that it hasn't.
-fn rewriting(alloc: Global, left: Raw, right: Raw) -> Result<Option<Equation>, AllocError> {
-    if !matches!(&left, Raw::Op(_, _)) {
-        return Ok(None);
-    }
-    let mut mentions = Mentions::new(alloc);
-    meet_all(alloc, &mut mentions, &left)?;
-    if !are_met(&mentions, &right) {
-        return Ok(None);
-    }
-    let variables = mentions.variables(alloc)?;
-    Ok(Some(Equation {
-        left,
-        right,
-        variables,
-    }))
-}
-
-/// `endfm`, `reduce T .` and nothing more.
-fn subject(alloc: Global, names: &Names, tokens: &[Name]) -> Result<Option<Raw>, AllocError> {
-    let Some(words) = subject_tokens(tokens) else {
-        return Ok(None);
-    };
-    match term(alloc, names, words)? {
-        Some(subject) if are_met(&Mentions::new(alloc), &subject) => Ok(Some(subject)),
-        _ => Ok(None),
-    }
-}
-
-fn subject_tokens(tokens: &[Name]) -> Option<&[Name]> {
-    let rest = after_token(after_token(tokens, b"endfm")?, b"reduce")?;
-    match before_token(rest, b".")? {
-        (words, []) => Some(words),
-        _ => None,
+    if has_no_variable(alloc, &subject) {
+        Ok(Some(subject))
+    } else {
+        Ok(None)
     }
 }

@@ -1,27 +1,45 @@
 // The tokens of a text.
-ghost use Rattle.std.specs.Prelude.{◌≡◌, ◌≤◌, length};
+ghost use Rattle.std.specs.Prelude.{◌≡◌, ◌↔◌, ◌⊎◌, ◌≤◌, length, IfOk, MatchOption, IsTrue};
+ghost use Rattle.std.specs.List.{AllByRecursion};
+ghost use Rattle.mw_text.specs.Tokens as kinds;
+ghost use Rattle.mw_text.specs.Spelling.{IsPlainByte};
+ghost use Rattle.mw_form.specs.Runs as runs;
 
 use mw_term::Name;
 use std::alloc::{AllocError, Global};
 
 /// Whether it is a space or the end of a line.
-fn is_blank(byte: u8) -> bool {
-    byte == b' ' || byte == b'\n'
+fn is_blank(byte: u8) -> bool
+    ensures { result ≡ kinds.is_blank byte }
+{
+    byte == b'\n' || byte == b' '
 }
 
 /// Whether it is a token by itself.
-fn is_mark(byte: u8) -> bool {
+fn is_mark(byte: u8) -> bool
+    ensures { result ≡ kinds.is_mark byte }
+{
     byte == b'(' || byte == b')' || byte == b','
 }
 
 /// Whether it may stand in a source of the form.
-fn is_plain(byte: u8) -> bool {
+fn is_plain(byte: u8) -> bool
+    ensures { IsTrue result ↔ IsPlainByte byte }
+{
     byte == b'\n' || (32..=126).contains(&byte)
+}
+
+/// Whether all bytes may stand in a source of the form.
+fn are_plain(text: &[u8]) -> bool
+    ensures { IsTrue result ↔ AllByRecursion IsPlainByte text.now }
+{
+    text.iter().all(|byte| is_plain(*byte))
 }
 
 /// How many bytes at the front are neither blanks nor marks.
 fn run_length(text: &[u8]) -> usize
-    ensures { result ≤ length text.now }
+    ensures length { result ≡ runs.run_length text.now }
+    ensures within { result ≤ length text.now }
 {
     let mut length = 0;
     let mut rest = text;
@@ -36,8 +54,10 @@ fn run_length(text: &[u8]) -> usize
 }
 
 /// The tokens of a text of plain bytes; none where another byte stands in it.
-pub fn tokens(alloc: Global, text: &[u8]) -> Result<Option<Vec<Name>>, AllocError> {
-    if !text.iter().all(|byte| is_plain(*byte)) {
+pub fn tokens(alloc: Global, text: &[u8]) -> Result<Option<Vec<Name>>, AllocError>
+    ensures { IfOk result (λ o. MatchOption o (AllByRecursion IsPlainByte text.now → ⊥) (λ v. AllByRecursion IsPlainByte text.now × (v.items ≡ kinds.tokens_of text.now))) }
+{
+    if !are_plain(text) {
         return Ok(None);
     }
     let mut found = Vec::new(alloc);

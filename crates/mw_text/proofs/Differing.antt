@@ -1,5 +1,5 @@
 -- Names that all differ.
-use Rattle.std.proofs.Common.{◌≡◌, ◌⊎◌, List, [], ◌∷◌, ◌++◌, inl, inr, sym}
+use Rattle.std.proofs.Common.{List, [], ◌∷◌, ◌++◌, inl, inr, sym}
 use Rattle.mw_logic.specs.Signature.{Member}
 use Rattle.mw_text.specs.Tokens.{Name}
 use Rattle.mw_text.specs.Spelling.{AllDiffer}

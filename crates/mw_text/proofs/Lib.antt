@@ -3,3 +3,4 @@ pub mod Marks
 pub mod Differing
 pub mod Spelled
 pub mod Mentions
+pub mod Named

@@ -1,5 +1,5 @@
 -- Lists of tokens, cut at a mark.
-use Rattle.std.proofs.Common.{◌≡◌, ◌∙◌, ◌⊎◌, ℕ, List, [], ◌∷◌, ◌++◌, ap, sym, refl, inl, inr, codes}
+use Rattle.std.proofs.Common.{◌≡◌, ◌∙◌, ◌⊎◌, List, [], ◌∷◌, ◌++◌, ap, sym, refl, inl, inr, codes, subst, append_assoc}
 use Rattle.std.specs.List.{AllByRecursion}
 use Rattle.mw_logic.specs.Signature.{Member}
 use Rattle.mw_text.specs.Tokens.{Name}
@@ -44,7 +44,7 @@ cut_at_mark m (x ∷ xs) (y ∷ ys) r s a b e =
 abbrev pub Stopless : List (List Name) → Type 0
 Stopless = AllByRecursion (Lacks (codes "."))
 
-some_stop : (words : List Name) (rest : List Name) → (let none : List Name = [] in none ≡ words ++ codes "." ∷ rest) → ⊥
+pub some_stop : (words : List Name) (rest : List Name) → (let none : List Name = [] in none ≡ words ++ codes "." ∷ rest) → ⊥
 some_stop [] rest e = not_nil e
 some_stop (w ∷ ws) rest e = not_nil e
 
@@ -57,3 +57,17 @@ same_statements (w ∷ ws) (v ∷ vs) h k e =
     let both = cut_at_mark (codes ".") w v (with_stops ws) (with_stops vs) h.0 k.0 e in
     let rest : ws ≡ vs = same_statements ws vs h.1 k.1 both.1 in
     cc (both.0, rest)
+
+pub stops_push : (a : List (List Name)) (w : List Name) (rest : List Name) → with_stops (a ++ w ∷ []) ++ rest ≡ with_stops a ++ (w ++ codes "." ∷ rest)
+stops_push [] w rest = append_assoc w (codes "." ∷ []) rest
+stops_push (v ∷ vs) w rest =
+    append_assoc v (codes "." ∷ with_stops (vs ++ w ∷ [])) rest ∙ ap (λ ts. v ++ codes "." ∷ ts) (stops_push vs w rest)
+    ∙ sym (append_assoc v (codes "." ∷ with_stops vs) (w ++ codes "." ∷ rest))
+
+-- tokens after the last full stop make no statement
+pub unended : (a : List (List Name)) (rest : List Name) (b : List (List Name)) → Stopless a → Stopless b → Lacks (codes ".") rest → (rest ≡ [] → ⊥) → with_stops a ++ rest ≡ with_stops b → ⊥
+unended [] rest [] h k lacks some e = some e
+unended [] rest (w ∷ ws) h k lacks some e = lacks (subst (Member (codes ".")) (sym e) (Member-right (codes ".") w (codes "." ∷ with_stops ws) (inl refl)))
+unended (v ∷ vs) rest [] h k lacks some e = some_stop v (with_stops vs ++ rest) (sym e ∙ append_assoc v (codes "." ∷ with_stops vs) rest)
+unended (v ∷ vs) rest (w ∷ ws) h k lacks some e =
+    unended vs rest ws h.1 k.1 lacks some (cut_at_mark (codes ".") v w (with_stops vs ++ rest) (with_stops ws) h.0 k.0 (sym (append_assoc v (codes "." ∷ with_stops vs) rest) ∙ e)).1

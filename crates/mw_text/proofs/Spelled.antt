@@ -1,9 +1,9 @@
 -- What a term is spelled by is its prefix form.
-use Rattle.std.proofs.Common.{◌≡◌, ◌∙◌, ◌⊎◌, ℕ, List, [], ◌∷◌, ◌++◌, ap, sym, refl, inl, inr, codes, map, option_map, unwrap_or, append_assoc}
-use Rattle.mw_logic.specs.Term.{Variable, RawTerm, numeral, quoted, variable, apply, RawTerms, nil, cons}
-use Rattle.mw_logic.specs.Signature.{Signature, Operator, IsOperator, Member, at_number}
+use Rattle.std.proofs.Common.{◌≡◌, ◌∙◌, ℕ, List, [], ◌∷◌, ◌++◌, ap, sym, refl, codes, option_map, unwrap_or, append_assoc}
+use Rattle.mw_logic.specs.Term.{Variable, RawTerm, RawTerms}
+use Rattle.mw_logic.specs.Signature.{Signature, Operator, IsOperator}
 use Rattle.mw_text.specs.Tokens.{Name}
-use Rattle.mw_text.specs.Spelling.{Spells, a_variable, a_constant, applied, SpellsAll, last, more, spelling_of, prefix_form, in_parentheses, after_comma}
+use Rattle.mw_text.specs.Spelling.{Spells, a_variable, a_constant, applied, SpellsAll, last, more, spelling_of, prefix_form, after_comma}
 
 spelling_is : (sig : Signature) (f : ℕ) (o : Operator) → IsOperator sig f o → spelling_of sig f ≡ o.spelling
 spelling_is sig f o e = ap (λ x. unwrap_or (option_map (λ (p : Operator). p.spelling) x) []) e

@@ -1,5 +1,5 @@
 -- What a source of the first form says: one module with one sort, its operators and equations, and a term to reduce.
-use Rattle.std.specs.Prelude.{ℕ, List, [], ◌∷◌, ◌++◌, ◌&&◌, map, filter, not, replicate, Bool, true, false, None}
+use Rattle.std.specs.Prelude.{ℕ, List, [], ◌∷◌, ◌++◌, map, filter, not, replicate, true, false, None}
 use Rattle.mw_logic.specs.Term.{Variable, RawTerm, numeral, quoted, variable, apply, RawTerms, nil, cons}
 use Rattle.mw_logic.specs.Signature.{Signature, Operator, sort}
 use Rattle.mw_logic.specs.Substitution.{same_variable}

@@ -1,13 +1,16 @@
-use Rattle.std.proofs.Common.{◌≡◌, ◌+◌, ◌≤◌, get_or, arith, ap}
-use Rattle.mw_logic.specs.NormalForm.{height, highest}
-use Rattle.mw_term.specs.Raws.{raw_term, raw_terms}
-use Rattle.mw_term.proofs.RawLists.{raw_element}
+use Rattle.std.proofs.Common.{◌∙◌, ◌&&◌, arith, sym, ap}
+use Rattle.mw_form.specs.Mentions.{are_among}
+use Rattle.mw_form.proofs.Meeting.{one_among, rest_high, after, variables_in_all}
 use Rattle.mw_form.proofs.mentions.+are_met.Goals as goal
 
-pub are_met-requires : goal.are_met-requires
-are_met-requires t c =
-    let h : height (raw_term (get_or c.as_slice-arg-items.result.now c.loop-arg.arg-index c.arg-item.result)) ≤ highest (raw_terms c.as_slice-arg-items.result.now) = raw_element _ _ _ c.loop-arg-test.true in
-    let e : height (raw_term c.arg-item.result) ≡ height (raw_term (get_or c.as_slice-arg-items.result.now c.loop-arg.arg-index c.arg-item.result)) = ap (λ r. height (raw_term r)) c.arg-item.is in
-    let f : highest (raw_terms c.as_slice-arg-items.result.now) ≡ highest c.in-Op.args = ap highest c.as_slice-arg-items.ensures in
-    let g : height (raw_term c.args.term.now) ≡ 1 + highest c.in-Op.args = ap (λ r. height (raw_term r)) c.in-Op.is in
-    (omega (arith, h, e, f, g, c.decreases), tt)
+pub returns-then-not-are_met : goal.returns-then-not-are_met
+returns-then-not-are_met t c =
+    sym (sym c.loop-rest.invariant.met ∙ one_among c.args.mentions.now c.loop-rest.rest.now c.arg-item.result c.in-len1-up.len_at_least c.arg-item.is
+    ∙ ap (λ b. b && are_among c.args.mentions.now (variables_in_all (after c.loop-rest.rest.now))) (sym c.are_met.ensures ∙ c.if-not-are_met.true))
+
+pub loop-rest-preserved : goal.loop-rest-preserved
+loop-rest-preserved t c = record {
+  met = sym (one_among c.args.mentions.now c.loop-rest.rest.now c.arg-item.result c.in-len1-up.len_at_least c.arg-item.is
+      ∙ ap (λ b. b && are_among c.args.mentions.now (variables_in_all (after c.loop-rest.rest.now))) (sym c.are_met.ensures ∙ c.if-not-are_met.false)) ∙ c.loop-rest.invariant.met;
+  high = omega (arith, rest_high c.loop-rest.rest.now c.arg-item.result c.in-len1-up.len_at_least c.arg-item.is, c.loop-rest.invariant.high);
+}

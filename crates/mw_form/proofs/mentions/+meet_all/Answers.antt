@@ -1,13 +1,9 @@
-use Rattle.std.proofs.Common.{◌≡◌, ◌+◌, ◌≤◌, get_or, arith, ap}
-use Rattle.mw_logic.specs.NormalForm.{height, highest}
-use Rattle.mw_term.specs.Raws.{raw_term, raw_terms}
-use Rattle.mw_term.proofs.RawLists.{raw_element}
+use Rattle.std.proofs.Common.{◌∙◌, arith}
+use Rattle.mw_form.proofs.Meeting.{one_met, rest_high}
 use Rattle.mw_form.proofs.mentions.+meet_all.Goals as goal
 
-pub meet_all-requires : goal.meet_all-requires
-meet_all-requires t c =
-    let h : height (raw_term (get_or c.as_slice-arg-items.result.now c.loop-arg.arg-index c.arg-item.result)) ≤ highest (raw_terms c.as_slice-arg-items.result.now) = raw_element _ _ _ c.loop-arg-test.true in
-    let e : height (raw_term c.arg-item.result) ≡ height (raw_term (get_or c.as_slice-arg-items.result.now c.loop-arg.arg-index c.arg-item.result)) = ap (λ r. height (raw_term r)) c.arg-item.is in
-    let f : highest (raw_terms c.as_slice-arg-items.result.now) ≡ highest c.in-Op.args = ap highest c.as_slice-arg-items.ensures in
-    let g : height (raw_term c.args.term.now) ≡ 1 + highest c.in-Op.args = ap (λ r. height (raw_term r)) c.in-Op.is in
-    (omega (arith, h, e, f, g, c.decreases), tt)
+pub loop-rest-preserved : goal.loop-rest-preserved
+loop-rest-preserved t c = record {
+  met = one_met c.loop-rest.mentions c.meet_all.new.mentions c.loop-rest.rest.now c.arg-item.result c.in-len1-up.len_at_least c.arg-item.is c.in_ok-meet_all-in-Op.ensures ∙ c.loop-rest.invariant.met;
+  high = omega (arith, rest_high c.loop-rest.rest.now c.arg-item.result c.in-len1-up.len_at_least c.arg-item.is, c.loop-rest.invariant.high);
+}

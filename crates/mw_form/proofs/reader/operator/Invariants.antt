@@ -1,8 +1,0 @@
-use Rattle.std.proofs.Common.{◌≡◌, ◌≤◌, ◌<◌, ◌*◌, ◌+◌, length}
-use Rattle.mw_form.proofs.reader.operator.Given as goal
-
-abbrev pub invariant-loop-after : goal.invariant-loop-after
-invariant-loop-after l = length l.rest < length l.fn.tokens
-
-abbrev pub decreases-loop-after : goal.decreases-loop-after
-decreases-loop-after l = length l.rest
