@@ -10,11 +10,10 @@ use Rattle.mw_logic.specs.Module.{Fragment, Module}
 use Rattle.mw_logic.specs.Proof.{Proof, reflexivity, equality, congruence, transitivity, replacement, row, Proofs, rules, rules_of, steps, steps_of, count, count_of}
 use Rattle.mw_logic.specs.Proof as proof
 use Rattle.mw_logic.specs.Judgements.{StepTest, Leads, LeadsIn, AdmittedStep, Replaces, IsNormalBy, Proves, Held, Fails, IsNormal, judgements, judgements_with, admitted_judgements}
-use Rattle.mw_logic.specs.Ends.{StopsBy, NextStep, by_statement, Tries, Stops, by_depth, by_rewrites}
+use Rattle.mw_logic.specs.Ends.{limits_of, StopsBy, NextStep, by_statement, Tries, Stops, by_depth, by_rewrites}
 use Rattle.mw_machine.specs.Moves.{Move, enter, leave, apply, Level, Place, unchanged, around, around_all, tree, applied, AreEquations}
 use Rattle.mw_machine.specs.Plain.{IsFreeModule}
 use Rattle.mw_logic.specs.NormalForm.{height}
-use Rattle.mw_machine.specs.Limits.{limits_of}
 use Rattle.mw_machine.specs.Machine.{Open, round, Fires}
 use Rattle.mw_logic.proofs.FreeSignature.{free_part, free_clean, bare_from_free, bare_no_row}
 use Rattle.mw_machine.proofs.Depths.{depth_height, level_within}

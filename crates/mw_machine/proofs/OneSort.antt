@@ -9,9 +9,8 @@ use Rattle.mw_logic.specs.Axioms.{done}
 use Rattle.mw_logic.specs.Accepted.{IsAccepted}
 use Rattle.mw_logic.specs.Sorts.{AtOrBelow, IsBelow, AreBelow, Takes, DeclaredSort, DeclaredSorts, HasSort, IsLeastSort}
 use Rattle.mw_logic.specs.Substitution.{occurs, occurs_in}
-use Rattle.mw_logic.proofs.Canonical.{same_operator}
-use Rattle.mw_logic.proofs.FreeSignature.{free_equal}
 use Rattle.mw_logic.proofs.KindLaws.{SameKind-equal}
+use Rattle.mw_logic.proofs.FreeSignature.{free_equal}
 use Rattle.mw_logic.proofs.Lifting.{fill}
 use Rattle.mw_logic.proofs.Inside.{raw_inside}
 use Rattle.mw_logic.specs.Accepted.{IsWellSorted, number_of_sort}
@@ -86,11 +85,11 @@ module _ (sig : Signature) (one : IsSimpleSignature sig) where
   takes : (o : Operator) → IsSimpleOperator o → Takes sig o (map sort o.args) (sort 1)
   takes o s = record { args = map sort o.args; declares = inl (rw (s.declarations) (inl refl)); fits = below_itself o.args }
 
-  takes_one : (o : Operator) → IsSimpleOperator o → (Ss : List Sorted) (Q : Sorted) → Takes sig o Ss Q → sort 1 ≡ Q
-  takes_one o s Ss Q t = ⊎_elim (λ m. ap (λ (d : Declaration). d.result) (one_of _ o.declarations _ s.declarations m)) (λ h. absurd (both_ways _ s.free.comm h.0)) t.declares
-
   takes_no_other : (o : Operator) → IsSimpleOperator o → (Ss : List Sorted) (Q : Sorted) → Takes sig o Ss Q → IsBelow sig (sort 1) Q
-  takes_no_other o s Ss Q t = subst (IsBelow sig (sort 1)) (takes_one o s Ss Q t) AtOrBelow.same
+  takes_no_other o s Ss Q t = ⊎_elim
+      (λ m. let e = ap (λ (d : Declaration). d.result) (one_of _ o.declarations _ s.declarations m) in subst (IsBelow sig (sort 1)) e AtOrBelow.same)
+      (λ h. absurd (both_ways _ s.free.comm h.0))
+      t.declares
 
   mutual
     declared : {t : RawTerm} → IsRawTerm sig t → IsTrue (is_ground t) → DeclaredSort sig t (sort 1)
@@ -109,35 +108,6 @@ module _ (sig : Signature) (one : IsSimpleSignature sig) where
 
   pub sort_one : {t : RawTerm} → IsRawTerm sig t → IsTrue (is_ground t) → HasSort sig t (sort 1)
   sort_one {t} r g = record { form = t; equal = done; declared = sort 1; is_declared = declared r g; below = AtOrBelow.same }
-
-  mutual
-    -- it has no other declared sort
-    declared_one : {t : RawTerm} {D : Sorted} → IsRawTerm sig t → DeclaredSort sig t D → IsTrue (is_ground t) → sort 1 ≡ D
-    declared_one (a_numeral b l) d g = absurd (both_ways _ one.nat b)
-    declared_one (a_quoted b) d g = absurd (both_ways _ one.qid b)
-    declared_one a_variable d g = absurd (both_ways _ refl g)
-    declared_one (an_operator o is args) (DeclaredSort.of_operator {R} p e ds t least) g = takes_one p (one.operators _ p e) _ R t
-    declared_one (an_operator {f} o is args) (DeclaredSort.of_kind p e ds none) g =
-        let q : p ≡ o = same_operator sig f p o e is in
-        let s = one.operators f o is in
-        let k : Takes sig p (map sort o.args) (sort 1) = subst (λ x. Takes sig x (map sort o.args) (sort 1)) (sym q) (takes o s) in
-        absurd (none (sort 1) (subst (λ Ss. Takes sig p Ss (sort 1)) (sym (all_declared_one args ds g s.args)) k))
-
-    all_declared_one : {ts : RawTerms} {Ks : List ℕ} {Ss : List Sorted} → AreRawTerms sig ts Ks → DeclaredSorts sig ts Ss → IsTrue (are_ground ts) → ((K : ℕ) → Member K Ks → K ≡ 1) → Ss ≡ map sort Ks
-    all_declared_one end DeclaredSorts.end g h = refl
-    all_declared_one (next {K = K} r k rest) (DeclaredSorts.next d ds) g h =
-        let p = and_parts _ _ g in
-        let a = sym (declared_one r d p.0) ∙ ap sort (sym (h K (inl refl))) in
-        let b = all_declared_one rest ds p.1 (λ L m. h L (inr m)) in rw (a, b) refl
-
-  pub least_sort_one : {t : RawTerm} → IsRawTerm sig t → IsTrue (is_ground t) → IsLeastSort sig t (sort 1)
-  least_sort_one {t} r g = record {
-    has = sort_one r g;
-    least = λ T h.
-        let e : t ≡ h.form = free_equal sig free h.equal in
-        let d = declared_one (subst (IsRawTerm sig) e r) h.is_declared (subst (λ x. IsTrue (is_ground x)) e g) in
-        subst (λ D. IsBelow sig D T) (sym d) h.below;
-  }
 
   mutual
     -- each variable of a raw term of the one kind is of the one sort
@@ -166,3 +136,44 @@ module _ (sig : Signature) (one : IsSimpleSignature sig) where
   raw_again [] t u r s j = s
   raw_again (c ∷ C) t u r s j =
       let a = raw_filled c t u (raw_inside sig accepted C (fill c t) r) s j in raw_again C (fill c t) (fill c u) r a.0 a.1
+
+some_same : {X : Type 0} {x y : X} {o : Option X} → o ≡ Some x → o ≡ Some y → x ≡ y
+some_same e d = cc
+
+module _ (sig : Signature) (one : IsSimpleSignature sig) where
+  only_result : {R : Sorted} (o : Operator) → IsSimpleOperator o → (Ss : List Sorted) → Takes sig o Ss R → R ≡ sort 1
+  only_result o s Ss t = ⊎_elim
+      (λ m. sym (ap (λ (d : Declaration). d.result) (one_of _ o.declarations _ s.declarations m)))
+      (λ h. absurd (both_ways _ s.free.comm h.0))
+      t.declares
+
+  mutual
+    only_declared : (t : RawTerm) (D : Sorted) → IsRawTerm sig t → IsTrue (is_ground t) → DeclaredSort sig t D → D ≡ sort 1
+    only_declared t D (a_numeral b l) g d = absurd (both_ways _ one.nat b)
+    only_declared t D (a_quoted b) g d = absurd (both_ways _ one.qid b)
+    only_declared t D a_variable g d = absurd (both_ways _ refl g)
+    only_declared t D (an_operator {f} {ts} p is args) g (DeclaredSort.of_operator {Ss = Ss} o at ds takes least) = only_result o (one.operators f o at) Ss takes
+    only_declared t D (an_operator {f} {ts} p is args) g (DeclaredSort.of_kind {Ss = Ss} o at ds none) =
+        let e : p ≡ o = some_same is at in
+        let s = one.operators f o at in
+        let k : Ss ≡ map sort p.args = only_all_declared ts p.args Ss args g (one.operators f p is).args ds in
+        absurd (none (sort 1) (subst (λ Qs. Takes sig o Qs (sort 1)) (sym (k ∙ ap (λ (q : Operator). map sort q.args) e)) (takes sig one o s)))
+
+    only_all_declared : (ts : RawTerms) (Ks : List ℕ) (Ss : List Sorted) → AreRawTerms sig ts Ks → IsTrue (are_ground ts) → ((K : ℕ) → Member K Ks → K ≡ 1) → DeclaredSorts sig ts Ss → Ss ≡ map sort Ks
+    only_all_declared ts Ks Ss end g h DeclaredSorts.end = refl
+    only_all_declared vs Ks Ss (next {t} {ts = us} {K} {Ks = Ls} r k rest) g h (DeclaredSorts.next {S = S} {Ss = Qs} d ds) =
+        let p = and_parts _ _ g in
+        let a : S ≡ sort 1 = only_declared t S r p.0 d in
+        let b : sort K ≡ sort 1 = ap sort (h K (inl refl)) in
+        let c : Qs ≡ map sort Ls = only_all_declared us Ls Qs rest p.1 (λ L m. h L (inr m)) ds in
+        (cc (a, b, c))
+
+  -- the one sort is the least sort of each ground raw term
+  pub least_sort_one : (t : RawTerm) → IsRawTerm sig t → IsTrue (is_ground t) → IsLeastSort sig t (sort 1)
+  least_sort_one t r g = record {
+    has = sort_one sig one r g;
+    least = λ T h.
+        let e : t ≡ h.form = free_equal sig (free sig one) h.equal in
+        let d : DeclaredSort sig t h.declared = subst (λ u. DeclaredSort sig u h.declared) (sym e) h.is_declared in
+        subst (λ S. IsBelow sig S T) (only_declared t h.declared r g d) h.below;
+  }

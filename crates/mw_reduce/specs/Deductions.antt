@@ -6,8 +6,7 @@ use Rattle.mw_logic.specs.NormalForm.{height}
 use Rattle.mw_logic.specs.Module.{Module}
 use Rattle.mw_logic.specs.Proof.{Proof, rules, steps}
 use Rattle.mw_logic.specs.Judgements.{Proves, IsNormal, admitted_judgements}
-use Rattle.mw_logic.specs.Ends.{Stops, by_rewrites, by_depth}
-use Rattle.mw_machine.specs.Limits.{limits_of}
+use Rattle.mw_logic.specs.Ends.{limits_of, Stops, by_rewrites, by_depth}
 use Rattle.mw_reduce.specs.declared.progress.Outcome.{Outcome}
 use Rattle.mw_reduce.specs.declared.progress.Outcome.TheVariants.{Done, Rewrites, Depth}
 

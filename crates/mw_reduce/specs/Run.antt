@@ -6,9 +6,8 @@ use Rattle.mw_logic.specs.NormalForm.{height}
 use Rattle.mw_logic.specs.Module.{Module}
 use Rattle.mw_logic.specs.Judgements.{Leads, AdmittedStep, Held, Fails, IsNormal}
 use Rattle.mw_logic.specs.Proof.{Proof, steps}
-use Rattle.mw_logic.specs.Ends.{Stops, by_rewrites, by_depth}
+use Rattle.mw_logic.specs.Ends.{limits_of, Stops, by_rewrites, by_depth}
 use Rattle.mw_machine.specs.Moves.{reached, applied}
-use Rattle.mw_machine.specs.Limits.{limits_of}
 use Rattle.mw_machine.specs.Machine.{here, AreNormalBy, work}
 use Rattle.mw_logic.specs.Terms.{terms_of}
 use Rattle.mw_reduce.specs.Kept.{moves, proof_of}

@@ -1,26 +1,22 @@
 -- What the block of a command claims, and what is written for the bytes of a source.
-use Rattle.std.specs.Prelude.{◌≡◌, ◌<◌, ◌-◌, ◌^◌, ◌⊎◌, ℕ, List, min, false, None}
+use Rattle.std.specs.Prelude.{◌≡◌, ◌<◌, ◌-◌, ◌^◌, ◌⊎◌, ℕ, List, min}
 use Rattle.mw_logic.specs.Term.{RawTerm}
 use Rattle.mw_logic.specs.Signature.{sort}
 use Rattle.mw_logic.specs.Sorts.{IsLeastSort}
 use Rattle.mw_logic.specs.Module.{Module}
 use Rattle.mw_logic.specs.Proof.{Proof, rules, steps, count}
 use Rattle.mw_logic.specs.Judgements.{Proves, IsNormal}
-use Rattle.mw_logic.specs.Ends.{Limits, Stops, by_rewrites, by_depth}
+use Rattle.mw_logic.specs.Ends.{limits_of, Stops, by_rewrites, by_depth}
 use Rattle.mw_text.specs.Form.{Source, signature_of, module_of}
 use Rattle.mw_text.specs.Spelling.{Reads, IsText, HasForm, command_words, variables_in}
 use Rattle.mw_text.specs.Output.{Word, reduced, limit_rewrites, limit_depth, block, refusal}
-
--- equations alone, and so many steps at the most
-abbrev pub equational : ℕ → Limits
-equational most = record { rules_too = false; bound = None; most = most; most_of_sides = most }
 
 -- What the status word says of the proof from one term to another. `reduced`: it is by equations alone, has fewer steps than the limit, and
 -- its end is normal. `limit rewrites`: it has as many steps. `limit depth`: a next step exists, whose term is too deep.
 abbrev pub IsTrueWord : Module → ℕ → RawTerm → Proof → RawTerm → Word → Type 0
 IsTrueWord M most from p to reduced = (rules p ≡ 0) × (steps p < most) × IsNormal M 63 to
-IsTrueWord M most from p to limit_rewrites = (rules p ≡ 0) × Stops M 63 (equational most) from p to by_rewrites
-IsTrueWord M most from p to limit_depth = (rules p ≡ 0) × Stops M 63 (equational most) from p to by_depth
+IsTrueWord M most from p to limit_rewrites = (rules p ≡ 0) × Stops M 63 (limits_of most) from p to by_rewrites
+IsTrueWord M most from p to limit_depth = (rules p ≡ 0) × Stops M 63 (limits_of most) from p to by_depth
 
 -- The text is the block of a proof. It begins at the one term that the command's words spell, and leads to the term that is printed, with its
 -- least sort; the count is that of the proof, and the status word is true of it.

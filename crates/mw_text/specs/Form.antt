@@ -40,8 +40,12 @@ operator_of d = record {
   built = false;
 }
 
+-- the signature of one sort and these operators
+abbrev pub signature_over : Name → List Declared → Signature
+signature_over sort_name operators = record { sorts = sort_name ∷ []; pairs = []; operators = map operator_of operators; nat = false; qid = false }
+
 abbrev pub signature_of : Source → Signature
-signature_of s = record { sorts = s.sort_name ∷ []; pairs = []; operators = map operator_of s.operators; nat = false; qid = false }
+signature_of s = signature_over s.sort_name s.operators
 
 -- a variable of the one sort
 abbrev pub variable_named : Name → Variable

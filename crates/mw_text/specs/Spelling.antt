@@ -1,8 +1,8 @@
 -- Which term some tokens spell, how a source is spelled, and when a source is well formed.
-use Rattle.std.specs.Prelude.{◌≡◌, ◌≢◌, ◌≤◌, ◌⊎◌, ◌++◌, ℕ, List, [], ◌∷◌, map, length, replicate, Contains, codes, option_map, unwrap_or, IsTrue}
+use Rattle.std.specs.Prelude.{◌≡◌, ◌≢◌, ◌≤◌, ◌⊎◌, ◌++◌, ℕ, List, [], ◌∷◌, map, length, replicate, codes, option_map, unwrap_or, IsTrue}
 use Rattle.std.specs.List.{AllByRecursion}
 use Rattle.mw_logic.specs.Term.{Variable, RawTerm, numeral, quoted, variable, apply, RawTerms, nil, cons, is_ground}
-use Rattle.mw_logic.specs.Signature.{Signature, Operator, IsOperator, at_number}
+use Rattle.mw_logic.specs.Signature.{Signature, Operator, IsOperator, Member, at_number}
 use Rattle.mw_logic.specs.Parts.{number_of_terms}
 use Rattle.mw_logic.specs.Substitution.{occurs}
 use Rattle.mw_text.specs.Tokens.{Name, tokens_of}
@@ -12,7 +12,7 @@ use Rattle.mw_text.specs.Form.{Declared, Equation, Source, signature_of, variabl
 -- commas, in parentheses.
 mutual
   pub data Spells (sig : Signature) (variables : List Variable) : RawTerm → List (List ℕ) → Type 0 where
-    a_variable : (x : Variable) → Contains variables x → Spells sig variables (variable x) (x.name ∷ [])
+    a_variable : (x : Variable) → Member x variables → Spells sig variables (variable x) (x.name ∷ [])
     a_constant : (f : ℕ) (o : Operator) → IsOperator sig f o → o.args ≡ [] → Spells sig variables (apply f nil) (o.spelling ∷ [])
     applied : (f : ℕ) (o : Operator) (t : RawTerm) (ts : RawTerms) (inner : List Name) → IsOperator sig f o → length o.args ≡ number_of_terms (cons t ts)
         → SpellsAll sig variables t ts inner → Spells sig variables (apply f (cons t ts)) (o.spelling ∷ codes "(" ∷ inner ++ codes ")" ∷ [])
@@ -48,36 +48,48 @@ abbrev mutual
   after_comma sig nil = codes ")" ∷ []
   after_comma sig (cons t ts) = codes "," ∷ prefix_form sig t ++ after_comma sig ts
 
-abbrev pub operator_line : Name → Declared → List Name
-operator_line sort d = codes "op" ∷ d.name ∷ codes ":" ∷ replicate d.args sort ++ codes "->" ∷ sort ∷ codes "." ∷ []
+-- The statements of a source, each without its full stop: the module's head, then
+abbrev pub head_words : Name → Name → List Name
+head_words name sort = codes "fmod" ∷ name ∷ codes "is" ∷ codes "sort" ∷ sort ∷ []
 
-abbrev pub operator_lines : Name → List Declared → List Name
-operator_lines sort [] = []
-operator_lines sort (d ∷ ds) = operator_line sort d ++ operator_lines sort ds
+-- each operator with its arguments and its result,
+abbrev pub operator_words : Name → Declared → List Name
+operator_words sort d = codes "op" ∷ d.name ∷ codes ":" ∷ replicate d.args sort ++ codes "->" ∷ sort ∷ []
 
-abbrev pub variable_line : Name → List Name → List Name
-variable_line sort [] = []
-variable_line sort (x ∷ xs) = codes "vars" ∷ (x ∷ xs) ++ codes ":" ∷ sort ∷ codes "." ∷ []
+-- the variables, where there are any,
+abbrev pub variable_statement : Name → List Name → List (List Name)
+variable_statement sort [] = []
+variable_statement sort (x ∷ xs) = (codes "vars" ∷ (x ∷ xs) ++ codes ":" ∷ sort ∷ []) ∷ []
 
-abbrev pub equation_lines : Signature → List Equation → List Name
-equation_lines sig [] = []
-equation_lines sig (e ∷ es) = codes "eq" ∷ prefix_form sig e.left ++ codes "=" ∷ prefix_form sig e.right ++ codes "." ∷ equation_lines sig es
+-- the equations,
+abbrev pub equation_words : Signature → Equation → List Name
+equation_words sig e = codes "eq" ∷ prefix_form sig e.left ++ codes "=" ∷ prefix_form sig e.right
+
+-- and the module's end with the command.
+abbrev pub last_words : List Name → List Name
+last_words command = codes "endfm" ∷ codes "reduce" ∷ command
 
 -- the words of the command, between `reduce` and its full stop
 abbrev pub command_words : Source → List Name
 command_words s = prefix_form (signature_of s) s.subject
 
+abbrev pub statements_of : Source → List (List Name)
+statements_of s = head_words s.name s.sort_name ∷ map (operator_words s.sort_name) s.operators ++ (variable_statement s.sort_name s.variables ++ (map (equation_words (signature_of s)) s.equations ++ last_words (command_words s) ∷ []))
+
+-- each statement, and a full stop
+abbrev pub with_stops : List (List Name) → List Name
+with_stops [] = []
+with_stops (words ∷ rest) = words ++ codes "." ∷ with_stops rest
+
 -- the tokens of a source
 abbrev pub source_tokens : Source → List Name
-source_tokens s = codes "fmod" ∷ s.name ∷ codes "is" ∷ codes "sort" ∷ s.sort_name ∷ codes "." ∷ operator_lines s.sort_name s.operators
-    ++ variable_line s.sort_name s.variables ++ equation_lines (signature_of s) s.equations
-    ++ codes "endfm" ∷ codes "reduce" ∷ command_words s ++ codes "." ∷ []
+source_tokens s = with_stops (statements_of s)
 
 abbrev pub IsLetter : ℕ → Type 0
 IsLetter b = ((65 ≤ b) × (b ≤ 90)) ⊎ ((97 ≤ b) × (b ≤ 122))
 
 abbrev pub IsKept : Name → Type 0
-IsKept n = Contains (codes "endfm" ∷ codes "in" ∷ codes "if" ∷ codes "fi" ∷ []) n
+IsKept n = Member n (codes "endfm" ∷ codes "in" ∷ codes "if" ∷ codes "fi" ∷ [])
 
 -- a name is letters alone, and none of the kept words
 pub record IsName (n : Name) : Type 0 where
@@ -87,19 +99,22 @@ pub record IsName (n : Name) : Type 0 where
 
 -- the modules whose names are taken
 abbrev pub IsPrelude : Name → Type 0
-IsPrelude n = Contains (codes "BOOL" ∷ codes "NAT" ∷ codes "QID" ∷ codes "CONFIGURATION" ∷ []) n
+IsPrelude n = Member n (codes "BOOL" ∷ codes "NAT" ∷ codes "QID" ∷ codes "CONFIGURATION" ∷ [])
 
 abbrev pub AllDiffer : List Name → Type 0
 AllDiffer [] = Unit {0}
-AllDiffer (n ∷ ns) = (Contains ns n → ⊥) × AllDiffer ns
+AllDiffer (n ∷ ns) = (Member n ns → ⊥) × AllDiffer ns
+
+abbrev pub variables_named : List Name → List Variable
+variables_named xs = map variable_named xs
 
 abbrev pub variables_in : Source → List Variable
-variables_in s = map variable_named s.variables
+variables_in s = variables_named s.variables
 
--- a term over the source's operators and variables, whose prefix form is short enough
-pub record IsForm (s : Source) (t : RawTerm) : Type 0 where
-  pub spelled : Spells (signature_of s) (variables_in s) t (prefix_form (signature_of s) t)
-  pub short : length (prefix_form (signature_of s) t) ≤ 1024
+-- a term over these operators and variables, whose prefix form is short enough
+pub record IsForm (sig : Signature) (variables : List Variable) (t : RawTerm) : Type 0 where
+  pub spelled : Spells sig variables t (prefix_form sig t)
+  pub short : length (prefix_form sig t) ≤ 1024
 
 abbrev pub IsOperatorTerm : RawTerm → Type 0
 IsOperatorTerm (numeral n) = ⊥
@@ -108,21 +123,25 @@ IsOperatorTerm (variable x) = ⊥
 IsOperatorTerm (apply f ts) = Unit {0}
 
 -- an equation's left side is no variable, and its right side has no other variables
-pub record IsRewriting (s : Source) (e : Equation) : Type 0 where
-  pub left : IsForm s e.left
-  pub right : IsForm s e.right
+pub record IsRewriting (sig : Signature) (variables : List Variable) (e : Equation) : Type 0 where
+  pub left : IsForm sig variables e.left
+  pub right : IsForm sig variables e.right
   pub operator : IsOperatorTerm e.left
   pub bound : (x : Variable) → IsTrue (occurs x e.right) → IsTrue (occurs x e.left)
 
+-- the names of operators and of variables
+abbrev pub names_over : List Declared → List Name → List Name
+names_over operators variables = map (λ (d : Declared). d.name) operators ++ variables
+
 abbrev pub names_in : Source → List Name
-names_in s = map (λ (d : Declared). d.name) s.operators ++ s.variables
+names_in s = names_over s.operators s.variables
 
 pub record IsWellFormed (s : Source) : Type 0 where
   pub names : AllByRecursion IsName (s.name ∷ s.sort_name ∷ names_in s)
   pub new : IsPrelude s.name → ⊥
   pub differ : AllDiffer (names_in s)
-  pub equations : AllByRecursion (IsRewriting s) s.equations
-  pub subject : IsForm s s.subject
+  pub equations : AllByRecursion (IsRewriting (signature_of s) (variables_in s)) s.equations
+  pub subject : IsForm (signature_of s) (variables_in s) s.subject
   pub ground : IsTrue (is_ground s.subject)
 
 abbrev pub IsPlainByte : ℕ → Type 0

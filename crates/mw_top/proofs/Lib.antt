@@ -2,3 +2,5 @@
 pub mod Moving
 pub mod Calling
 pub mod Exact
+pub mod Mentioned
+pub mod Simple

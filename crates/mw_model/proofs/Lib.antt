@@ -1,0 +1,2 @@
+-- The listed parts are the parts.
+pub mod ListedParts

@@ -1,0 +1,2 @@
+-- Variables in order of first mention.
+use Rattle.std.proofs.Common.{◌≡◌}
