@@ -45,5 +45,6 @@ module _ (M : Module) (m : Equations) (d : Describes M 63 m) (t : RawTerm) (limi
     equational = rules_tree [] (moves M r.kept.items.items r.kept.values.items) (moves_equations M r.kept.items.items r.kept.values.items);
     ground = h.ground;
     raw = h.raw;
+    admitted = h.high;
     ends = subst (λ z. Ends limit (record { over = M; from = z; to = r.term; proof = proof_of M r.kept }) r.outcome) (sym e) (ends_of M limit t r.term (proof_of M r.kept) r.outcome h.ends);
   }

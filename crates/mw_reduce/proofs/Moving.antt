@@ -172,10 +172,11 @@ module _ (M : Module) (n : ℕ) (t0 : RawTerm) where
       let k : steps (proof_of M r.kept) < m = omega (arith, y, q, z, l) in
       record {
         leads = h'.at.leads;
-        counted = c.steps ∙ sym q;
-        balanced = h'.at.place;
         ground = h'.at.ground;
         raw = h'.at.raw;
+        high = h'.at.high;
+        counted = c.steps ∙ sym q;
+        balanced = h'.at.place;
         ends = rw o (k, IsNormal_of M n r.term x);
       }
 
@@ -189,10 +190,11 @@ module _ (M : Module) (n : ℕ) (t0 : RawTerm) where
       let x = stops_by_rewrites M n m d.free t0 (ms ++ leaves j) (stack k.values.items below) t l (q ∙ s) in
       record {
         leads = rw (w, e) l;
-        counted = rw w (y.steps ∙ sym q);
-        balanced = rw w (place_closed ms k.values.items below h.at.place);
         ground = rw e h.at.ground;
         raw = rw e h.at.raw;
+        high = rw e h.at.high;
+        counted = rw w (y.steps ∙ sym q);
+        balanced = rw w (place_closed ms k.values.items below h.at.place);
         ends = rw (o, w, e) x;
       }
 
@@ -207,10 +209,11 @@ module _ (M : Module) (n : ℕ) (t0 : RawTerm) where
       let x = stops_by_depth M n m d.free t0 (ms ++ leaves j) (stack k.values.items below) g.0 g.1 t g.2 l g.3 (omega (arith, q, s)) (omega (arith, z, v)) in
       record {
         leads = rw (w, e) l;
-        counted = rw w (y.steps ∙ sym q);
-        balanced = rw w (place_closed ms k.values.items below h.at.place);
         ground = rw e h.at.ground;
         raw = rw e h.at.raw;
+        high = rw e h.at.high;
+        counted = rw w (y.steps ∙ sym q);
+        balanced = rw w (place_closed ms k.values.items below h.at.place);
         ends = rw (o, w, e) x;
       }
 
@@ -242,14 +245,14 @@ pub means_none : (M : Module) (n : ℕ) (eqs : Equations) (d : Describes M n eqs
     → r.outcome ≡ Rewrites → r.term ≡ t → r.kept.items.items ≡ [] → r.kept.steps ≡ 0 → m ≡ 0 → IsReduced M n t m r
 means_none M n eqs d m r t g w h o e i s z =
     let a = begins M (Held M n) (Fails M n) t g w h in
-    let y = stops_by_rewrites M n m d.free t [] [] t a.leads (sym z) in record { leads = rw (i, e) a.leads; counted = rw i s; balanced = rw i refl; ground = rw e g; raw = rw e w; ends = rw (o, i, e) y }
+    let y = stops_by_rewrites M n m d.free t [] [] t a.leads (sym z) in record { leads = rw (i, e) a.leads; ground = rw e g; raw = rw e w; high = rw e h; counted = rw i s; balanced = rw i refl; ends = rw (o, i, e) y }
 
 -- nothing to be done at all
 pub means_flat : (M : Module) (n : ℕ) (eqs : Equations) (d : Describes M n eqs) (m : ℕ) (r : Reduced) (t : RawTerm) → IsFlat t → IsTrue (is_ground t) → IsRawTerm M.signature t → height t ≤ 1000
     → r.outcome ≡ Done → r.term ≡ t → r.kept.items.items ≡ [] → r.kept.steps ≡ 0 → 0 < m → IsReduced M n t m r
 means_flat M n eqs d m r t f g w h o e i s l =
     let a = begins M (Held M n) (Fails M n) t g w h in
-    record { leads = rw (i, e) a.leads; counted = rw i s; balanced = rw i refl; ground = rw e g; raw = rw e w; ends = rw (o, i, e) (l, IsNormal_of M n t (flat_normal M (Fails M n) d.free.signature d.tops t f g)) }
+    record { leads = rw (i, e) a.leads; ground = rw e g; raw = rw e w; high = rw e h; counted = rw i s; balanced = rw i refl; ends = rw (o, i, e) (l, IsNormal_of M n t (flat_normal M (Fails M n) d.free.signature d.tops t f g)) }
 
 pub falls_value : (s : Running) (f' : Frame) (t : RawTerm) → f'.op ≡ s.top.op → f'.todo ≡ s.top.todo → f'.done.items ≡ s.top.done.items ++ t ∷ []
     → (opened s.kept.values.items s.top).rest ≡ cons t (rest_of (opened s.kept.values.items s.top).rest)

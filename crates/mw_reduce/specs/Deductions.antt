@@ -1,7 +1,8 @@
 -- What a kept deduction says, and how a reduction ends.
-use Rattle.std.specs.Prelude.{◌≡◌, ◌<◌, ℕ, IsTrue}
+use Rattle.std.specs.Prelude.{◌≡◌, ◌<◌, ℕ, ◌≤◌, IsTrue}
 use Rattle.mw_logic.specs.Term.{RawTerm, is_ground}
 use Rattle.mw_logic.specs.Signature.{IsRawTerm}
+use Rattle.mw_logic.specs.NormalForm.{height}
 use Rattle.mw_logic.specs.Module.{Module}
 use Rattle.mw_logic.specs.Proof.{Proof, rules, steps}
 use Rattle.mw_logic.specs.Judgements.{Proves, IsNormal, admitted_judgements}
@@ -27,11 +28,12 @@ Ends m d Done = (steps d.proof < m) × IsNormal d.over 63 d.to
 Ends m d Rewrites = Stops d.over 63 (limits_of m) d.from d.proof d.to by_rewrites
 Ends m d Depth = Stops d.over 63 (limits_of m) d.from d.proof d.to by_depth
 
--- A reduction of t in M by at most m steps: by equations alone, to a ground term over M.
+-- a reduction of t in M by at most m steps, to a term that is admitted as t was
 pub record IsReductionOf (M : Module) (t : RawTerm) (m : ℕ) (d : Deduction) (o : Outcome) : Type 0 where
   pub over : d.over ≡ M
   pub from : d.from ≡ t
   pub equational : rules d.proof ≡ 0
   pub ground : IsTrue (is_ground d.to)
   pub raw : IsRawTerm M.signature d.to
+  pub admitted : height d.to ≤ 1000
   pub ends : Ends m d o

@@ -1,7 +1,8 @@
 -- A reduction under way, and its end.
-use Rattle.std.specs.Prelude.{◌≡◌, ◌⊎◌, ℕ, ◌<◌, [], ⊤, IsTrue}
+use Rattle.std.specs.Prelude.{◌≡◌, ◌⊎◌, ℕ, ◌<◌, ◌≤◌, [], IsTrue, ⊤}
 use Rattle.mw_logic.specs.Term.{RawTerm, is_ground}
 use Rattle.mw_logic.specs.Signature.{IsRawTerm}
+use Rattle.mw_logic.specs.NormalForm.{height}
 use Rattle.mw_logic.specs.Module.{Module}
 use Rattle.mw_logic.specs.Judgements.{Leads, AdmittedStep, Held, Fails, IsNormal}
 use Rattle.mw_logic.specs.Proof.{Proof, steps}
@@ -37,10 +38,11 @@ IsOutcome M n m t0 p t Depth = Stops M n (limits_of m) t0 p t by_depth
 -- the kept proof leads to what was reached, in as many steps as were counted, and the outcome is as it says
 pub record IsReduced (M : Module) (n : ℕ) (t0 : RawTerm) (m : ℕ) (r : Reduced) : Type 0 where
   pub leads : Leads M (AdmittedStep M) (Held M n) (Fails M n) [] (proof_of M r.kept) t0 r.term
-  pub counted : r.kept.steps ≡ applied (moves M r.kept.items.items r.kept.values.items)
-  pub balanced : reached [] (moves M r.kept.items.items r.kept.values.items) ≡ []
   pub ground : IsTrue (is_ground r.term)
   pub raw : IsRawTerm M.signature r.term
+  pub high : height r.term ≤ 1000
+  pub counted : r.kept.steps ≡ applied (moves M r.kept.items.items r.kept.values.items)
+  pub balanced : reached [] (moves M r.kept.items.items r.kept.values.items) ≡ []
   pub ends : IsOutcome M n m t0 (proof_of M r.kept) r.term r.outcome
 
 abbrev pub Goes : ℕ → Progress → Type 0
