@@ -1,17 +1,19 @@
--- What fails from a substitution fails from each same one.
-use Rattle.std.specs.Prelude.{◌≡◌, ◌⊎◌, ℕ, zero, suc, List, [], ◌∷◌, Bool, true, false, ◌||◌, cond, is_some, Option, Some, None, refl, bytes_eq, IsFalse}
+-- What holds or fails from a substitution does so from each same one.
+use Rattle.std.specs.Prelude.{◌≡◌, ℕ, zero, suc, List, [], ◌∷◌, Bool, true, false, ◌||◌, cond, is_some, Option, Some, None, refl, bytes_eq}
 use Rattle.std.proofs.Common.{inl, inr, arith, ap, subst, sym, ◌∙◌, ⊎_elim}
 use Rattle.std.proofs.lemmas.Slice.Eq.{bytes_eq-Decides}
 use Rattle.std.proofs.lemmas.Bool.{both_ways, and_parts, eqb-true, or_from}
 use Rattle.mw_logic.specs.Term.{Variable, RawTerm}
 use Rattle.mw_logic.specs.Signature.{Signature}
 use Rattle.mw_logic.specs.Axioms.{EqualModulo, done}
-use Rattle.mw_logic.specs.Substitution.{Substitution, value, instance, is_bound, same_variable, occurs, IsSubstitution, Extends, AgreesWith, IsSolution, SameSolution}
+use Rattle.mw_logic.specs.Substitution.{Substitution, value, instance, is_bound, same_variable, occurs, IsSubstitution, AgreesWith, IsSolution, SameSolution}
 use Rattle.mw_logic.specs.Module.{Module, Fragment, equal, matches, has_sort, is_true}
-use Rattle.mw_logic.specs.Proof.{Proof, equality, transitivity, rules}
-use Rattle.mw_logic.specs.Judgements.{Judgements, Evaluates, FailsAbove, Fails, judgements, judgements_with}
+use Rattle.mw_logic.specs.Proof.{Proof, Proofs, equality, transitivity}
+use Rattle.mw_logic.specs.Proof as proof
+use Rattle.mw_logic.specs.Judgements.{Evaluates, HoldsAbove, FailsAbove, Held, Fails, judgements, judgements_with}
 use Rattle.mw_logic.proofs.AxiomLaws.{trans, sym as back}
 use Rattle.mw_logic.proofs.InstanceLaws.{instance_same}
+use Rattle.mw_logic.proofs.SameSolutions.{same_solution-sym}
 use Rattle.mw_logic.proofs.Judging.{Proves-equality, Proves-transitivity}
 use Rattle.mw_logic.proofs.SameSolutions.{same_solution-sym}
 
@@ -134,13 +136,49 @@ module _ (M : Module) (n : ℕ) where
       (transitivity equality p, transitivity equality q, a, b, evaluates_same r s h u p a x, evaluates_same r s h v q b y, ⊎_elim inl (λ g. inr (fails_same C r s h k g)) f)
   fails_same (is_true b ∷ C) r s h k (p, a, x, f) = (transitivity equality p, a, evaluates_same r s h b p a x, ⊎_elim inl (λ g. inr (fails_same C r s h k g)) f)
   fails_same (has_sort t S ∷ C) r s h k (p, a, x, f) = (transitivity equality p, a, evaluates_same r s h t p a x, ⊎_elim inl (λ g. inr (fails_same C r s h k g)) f)
-  fails_same (matches l t ∷ C) r s h k (p, a, x, f) =
-      (transitivity equality p, a, evaluates_same r s h t p a x, λ q sol.
+  fails_same (matches l t ∷ C) r s h k (p, a, x, f) = (
+    transitivity equality p,
+    a,
+    evaluates_same r s h t p a x,
+    λ q sol.
         let m : IsSolution M.signature l a r (merged r q) = merged_solution M.signature r s h k l a q sol in
-        fails_same C (merged r q) q (merged_same M.signature r s h k l a q sol) m.substitution (f (merged r q) m))
+        fails_same C (merged r q) q (merged_same M.signature r s h k l a q sol) m.substitution (f (merged r q) m),
+  )
+
+  -- what holds so from r holds from s, and reaches a same substitution
+  holds_same : (C : List Fragment) (r s : Substitution) (es : Proofs) (q : Substitution) → SameSolution M.signature r s → IsSubstitution M.signature s → HoldsAbove M (judgements M n) C r es q →
+      (es' : Proofs) × (q' : Substitution) × HoldsAbove M (judgements M n) C s es' q' × SameSolution M.signature q q'
+  holds_same [] r s es q h k (e, d) = (proof.nil, s, (refl, refl), subst (λ q. SameSolution M.signature q s) d h)
+  holds_same (equal u v ∷ C) r s es q h k (p, p', rest, a, b, e, x, y, m, f) =
+      let (es', q', g, j) = holds_same C r s rest q h k f in (
+        proof.cons (transitivity equality p) (proof.cons (transitivity equality p') es'),
+        q',
+        (transitivity equality p, transitivity equality p', es', a, b, refl, evaluates_same r s h u p a x, evaluates_same r s h v p' b y, m, g),
+        j,
+      )
+  holds_same (is_true b ∷ C) r s es q h k (p, rest, a, e, x, m, f) =
+      let (es', q', g, j) = holds_same C r s rest q h k f in
+      (proof.cons (transitivity equality p) es', q', (transitivity equality p, es', a, refl, evaluates_same r s h b p a x, m, g), j)
+  holds_same (has_sort t S ∷ C) r s es q h k (p, rest, a, e, x, m, f) =
+      let (es', q', g, j) = holds_same C r s rest q h k f in
+      (proof.cons (transitivity equality p) es', q', (transitivity equality p, es', a, refl, evaluates_same r s h t p a x, m, g), j)
+  holds_same (matches l t ∷ C) r s es q h k (p, rest, a, r', e, x, sol, f) =
+      let back_h : SameSolution M.signature s r = same_solution-sym M.signature r s h in
+      let m : IsSolution M.signature l a s (merged s r') = merged_solution M.signature s r back_h k l a r' sol in
+      let same : SameSolution M.signature r' (merged s r') = same_solution-sym M.signature (merged s r') r' (merged_same M.signature s r back_h k l a r' sol) in
+      let (es', q', g, j) = holds_same C r' (merged s r') rest q same m.substitution f in
+      (proof.cons (transitivity equality p) es', q', (transitivity equality p, es', a, merged s r', refl, evaluates_same r s h t p a x, m, g), j)
 
 -- a condition that fails for a substitution fails for each same one, at each rank
 pub Fails-same : (M : Module) (n : ℕ) (C : List Fragment) (r s : Substitution) → SameSolution M.signature r s → IsSubstitution M.signature r → Fails M n C r → Fails M n C s
 unfolding judgements_with
 Fails-same M zero C r s h k f = f
 Fails-same M (suc n) C r s h k f = fails_same M n C r s h k f
+
+-- and one that holds for a substitution holds for each same one, and reaches a same one
+pub Held-same : (M : Module) (n : ℕ) (C : List Fragment) (r s : Substitution) (es : Proofs) (q : Substitution) → SameSolution M.signature r s → IsSubstitution M.signature s → Held M n C r es q →
+    (es' : Proofs) × (q' : Substitution) × Held M n C s es' q' × SameSolution M.signature q q'
+unfolding judgements_with
+Held-same M zero [] r s es q h k (e, d) = (proof.nil, s, (refl, refl), subst (λ q. SameSolution M.signature q s) d h)
+Held-same M zero (f ∷ C) r s es q h k x = absurd x
+Held-same M (suc n) C r s es q h k f = holds_same M n C r s es q h k f
