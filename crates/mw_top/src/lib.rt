@@ -11,14 +11,12 @@ ghost use Rattle.mw_top.specs.Call.{texts, IsCommand, Owes, IsExact, IsExactLeng
 
 mod answer;
 mod block;
-
 mod print;
 mod streams;
 mod terms;
-mod words;
-
 #[cfg(test)]
 mod tests;
+mod words;
 
 use answer::{Output, answer};
 use mw_outside::{Sink, Source};

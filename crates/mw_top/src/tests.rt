@@ -3,7 +3,8 @@ use mw_outside::{MemSink, MemSource};
 use std::alloc::{AllocError, Global};
 use std::test::Fail;
 
-const PEANO: &str = "fmod P is sort N . op z : -> N . op s : N -> N . op plus : N N -> N . vars X Y : N .
+const PEANO: &str =
+    "fmod P is sort N . op z : -> N . op s : N -> N . op plus : N N -> N . vars X Y : N .
   eq plus(z, Y) = Y . eq plus(s(X), Y) = s(plus(X, Y)) . endfm
 reduce plus(s(z), s(z)) .
 ";
@@ -73,7 +74,8 @@ fn a_source_of_the_form_gets_its_block(rt: HostRuntime) -> Result<(), Fail> {
 #[test]
 fn a_term_stops_growing_at_its_greatest_depth(rt: HostRuntime) -> Result<(), Fail> {
     let alloc = rt.alloc();
-    let source = "fmod G is sort T . op c : -> T . op g : T -> T . op h : T -> T . vars X : T . eq g(X) = g(h(X)) . endfm reduce g(c) .";
+    let source =
+        "fmod G is sort T . op c : -> T . op g : T -> T . op h : T -> T . vars X : T . eq g(X) = g(h(X)) . endfm reduce g(c) .";
     let mut block = b"reduce in G : g(c) .\nrewrites: 998\nresult T: g(".to_vec(alloc)?;
     for _ in 0..998 {
         block.extend_from_slice(b"h(")?;
