@@ -4,8 +4,8 @@ ghost use Rattle.mw_text.specs.Output.{refusal as refusal_line};
 ghost use Rattle.mw_top.specs.Call.{IsOutput};
 
 use crate::block::{write_count, write_echo, write_result, write_status};
-use crate::build::{free_term, signature, statements};
-use mw_form::{Source, read};
+use crate::build::free_term;
+use mw_form::{Source, read, signature, statements};
 use mw_reduce::{Theory, reduce};
 use std::alloc::{AllocError, Global};
 
