@@ -5,9 +5,9 @@ ghost use Rattle.mw_logic.specs.Term.{RawTerm, is_ground};
 ghost use Rattle.mw_term.specs.Raws.{raw_term};
 ghost use Rattle.mw_text.specs.Tokens.{Name as NameOf};
 ghost use Rattle.mw_text.specs.Form.{Declared as DeclaredOf, Equation as EquationOf, Source as SourceOf, signature_of};
-ghost use Rattle.mw_text.specs.Spelling.{IsName, AllDiffer, IsForm, IsRewriting, IsWellFormed, IsText, HasForm, Reads, variables_in, command_words, prefix_form, names_over, last_words, equation_words, statements_of, source_tokens, with_stops};
+ghost use Rattle.mw_text.specs.Spelling.{Stopless, IsName, AllDiffer, IsForm, IsRewriting, IsWellFormed, IsText, HasForm, Reads, variables_in, command_words, prefix_form, names_over, last_words, equation_words, statements_of, source_tokens, with_stops};
 ghost use Rattle.mw_form.specs.Scope.{signature_in, variables_declared};
-ghost use Rattle.mw_form.specs.Statements.{texts, Stopless, FitsOperators, FitsVariables, FitsEquations};
+ghost use Rattle.mw_form.specs.Statements.{texts, FitsOperators, FitsVariables, FitsEquations};
 
 use crate::equations::equation;
 use crate::forms::term;
