@@ -54,9 +54,6 @@ one_met ns ms rs r h e is =
 pub one_among : (ns : List Name) (rs : List Raw) (r : Raw) → 1 ≤ length rs → r ≡ get_or rs 0 r → are_among ns (variables_in_all rs) ≡ (are_among ns (variables_of (raw_term r)) && are_among ns (variables_in_all (after rs)))
 one_among ns rs r h e = ap (λ x. are_among ns (variables_in_all x)) (front_and_rest rs r h e) ∙ among_append ns (variables_of (raw_term r)) (variables_in_all (after rs))
 
-pub one_high : (rs : List Raw) (r : Raw) → 1 ≤ length rs → r ≡ get_or rs 0 r → height (raw_term r) ≤ highest (raw_terms rs)
-one_high rs r h e = let is = ap (λ x. highest (raw_terms x)) (front_and_rest rs r h e) in omega (arith, is)
-
 pub rest_high : (rs : List Raw) (r : Raw) → 1 ≤ length rs → r ≡ get_or rs 0 r → highest (raw_terms (after rs)) ≤ highest (raw_terms rs)
 rest_high rs r h e = let is = ap (λ x. highest (raw_terms x)) (front_and_rest rs r h e) in omega (arith, is)
 

@@ -2,6 +2,7 @@
 use Rattle.std.proofs.Common.{◌≡◌, ◌∙◌, ℕ, suc, List, [], ◌∷◌, ◌++◌, Bool, true, false, cond, ◌||◌, max, length, get_or, ◌≤◌, take, drop, refl, sym, ap, arith, append_assoc}
 use Rattle.mw_text.specs.Tokens.{Name, is_blank, is_mark, with_byte, tokens_of}
 use Rattle.mw_form.specs.Runs.{run_length}
+use Rattle.mw_form.proofs.Tables.{by_test}
 
 break_after : (b c : ℕ) (cs : List ℕ) (ts : List Name) → (is_blank c || is_mark c) ≡ true → with_byte b (c ∷ cs) ts ≡ (b ∷ []) ∷ ts
 break_after b c cs [] e = refl
@@ -25,15 +26,11 @@ begun b bs e = by (is_blank b) (is_mark b) e
     by false true e = let no : ⊥ = (cc) in absurd no
     by false false e = refl
 
-either : {Y : Type 0} (b : Bool) → (b ≡ true → Y) → (b ≡ false → Y) → Y
-either true t f = t refl
-either false t f = f refl
-
 -- a run is the first token
 run_first : (b : ℕ) (bs : List ℕ) → (is_blank b || is_mark b) ≡ false → tokens_of (b ∷ bs) ≡ take (run_length (b ∷ bs)) (b ∷ bs) ∷ tokens_of (drop (run_length (b ∷ bs)) (b ∷ bs))
 run_first b [] e = begun b [] e ∙ rw (run_goes b [] e) refl
 run_first b (c ∷ cs) e =
-    either (is_blank c || is_mark c)
+    by_test (is_blank c || is_mark c)
     (λ stop. begun b (c ∷ cs) e ∙ break_after b c cs (tokens_of (c ∷ cs)) stop ∙ rw (run_goes b (c ∷ cs) e, run_stops c cs stop) refl)
     (λ go. begun b (c ∷ cs) e ∙ ap (with_byte b (c ∷ cs)) (run_first c cs go)
     ∙ joins b c cs (take (run_length (c ∷ cs)) (c ∷ cs)) (tokens_of (drop (run_length (c ∷ cs)) (c ∷ cs))) go
@@ -42,7 +39,7 @@ run_first b (c ∷ cs) e =
 -- what stands at the front of a text that begins with no blank
 pub token_first : (b : ℕ) (bs : List ℕ) (n : ℕ) → is_blank b ≡ false → n ≡ max (run_length (b ∷ bs)) 1 → tokens_of (b ∷ bs) ≡ take n (b ∷ bs) ∷ tokens_of (drop n (b ∷ bs))
 token_first b bs n no_blank is =
-    either (is_mark b)
+    by_test (is_mark b)
     (λ mark.
     let one : max (run_length (b ∷ bs)) 1 ≡ 1 = rw (run_stops b bs (rw (no_blank, mark) refl)) refl in
     rw (is, one) (rw (no_blank, mark) refl))
@@ -50,9 +47,6 @@ token_first b bs n no_blank is =
     let run : (is_blank b || is_mark b) ≡ false = rw (no_blank, other) refl in
     let same : n ≡ run_length (b ∷ bs) = omega (arith, is, run_goes b bs run) in
     rw same (run_first b bs run))
-
-pub blank_first : (b : ℕ) (bs : List ℕ) → is_blank b ≡ true → tokens_of (b ∷ bs) ≡ tokens_of bs
-blank_first b bs e = rw e refl
 
 -- one more token was found
 pub token_more : (found : List Name) (s token after : List ℕ) (n : ℕ) (all : List Name) → 1 ≤ length s → is_blank (get_or s 0 0) ≡ false → n ≡ max (run_length s) 1 → token ≡ take n s

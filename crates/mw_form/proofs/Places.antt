@@ -28,19 +28,6 @@ take_one_more xs i x h e = let s : i + 1 ≡ suc i = omega arith in ap (λ k. ta
 abbrev pub Repeats : List Name → Name → Type 0
 Repeats ws n = ws ≡ replicate (length ws) n
 
-pub repeats_front : (ws : List Name) (w n : Name) → 1 ≤ length ws → w ≡ get_or ws 0 w → Repeats ws n → (w ≡ n) × Repeats (take (length ws - 1) (drop 1 ws)) n
-repeats_front ws w n h e r =
-    let is = front_and_rest ws w h e in
-    let all : Repeats (w ∷ take (length ws - 1) (drop 1 ws)) n = subst (λ l. Repeats l n) is r in
-    (same_head all, same_tail all)
-
-pub repeats_back : (ws : List Name) (w n : Name) → 1 ≤ length ws → w ≡ get_or ws 0 w → w ≡ n → Repeats (take (length ws - 1) (drop 1 ws)) n → Repeats ws n
-repeats_back ws w n h e same r =
-    let is = front_and_rest ws w h e in
-    let rest : List Name = take (length ws - 1) (drop 1 ws) in
-    let all : Repeats (w ∷ rest) n = ap (λ z. z ∷ rest) same ∙ ap (λ l. n ∷ l) r in
-    subst (λ l. Repeats l n) (sym is) all
-
 -- the mark is in no more of the list
 pub lack_one_more : (xs : List Name) (i : ℕ) (x m : Name) → i < length xs → x ≡ get_or xs i x → (x ≡ m → ⊥) → (Member m (take i xs) → ⊥) → Member m (take (i + 1) xs) → ⊥
 lack_one_more xs i x m h e other lacks there =

@@ -6,12 +6,12 @@ use Rattle.mw_logic.specs.Term.{RawTerm, is_ground}
 use Rattle.mw_logic.specs.Signature.{Signature, Member}
 use Rattle.mw_text.specs.Tokens.{Name}
 use Rattle.mw_text.specs.Form.{Declared, Equation, Source, signature_of}
-use Rattle.mw_text.specs.Spelling.{IsName, IsPrelude, AllDiffer, IsForm, IsRewriting, IsWellFormed, prefix_form, names_over, head_words, operator_words, variable_statement, equation_words, last_words, command_words, statements_of, with_stops}
+use Rattle.mw_text.specs.Spelling.{Stopless, IsName, IsPrelude, AllDiffer, IsForm, IsRewriting, IsWellFormed, prefix_form, names_over, head_words, operator_words, variable_statement, equation_words, last_words, command_words, statements_of, with_stops}
 use Rattle.mw_text.proofs.Marks.{Lacks, same_head, same_tail, cut_at_mark, same_statements}
 use Rattle.mw_text.proofs.Differing.{differ_split, differ_left}
 use Rattle.mw_text.proofs.Named.{same_operator, names_lack, sorts_lack, no_name}
 use Rattle.mw_form.specs.Scope.{Declarations, IsScope, signature_in, variables_declared}
-use Rattle.mw_form.specs.Statements.{begins_with, vars_words, Stopless, FitsOperators, FitsVariables, FitsEquations}
+use Rattle.mw_form.specs.Statements.{begins_with, vars_words, FitsOperators, FitsVariables, FitsEquations}
 use Rattle.mw_form.proofs.Lines.{all_left, all_right, all_both, next, only}
 use Rattle.mw_form.proofs.OverScope.{same_equation, form_lacks, stop_apart}
 use Rattle.mw_form.proofs.Places.{cut_at_place}

@@ -35,12 +35,6 @@ module _ (one : List Name → Read RawTerm) where
   turn zero mark rest h = absurd (omega arith)
   turn (suc n) mark rest h = let e : suc n - 1 ≡ n = omega arith in rw e refl
 
-  pub turn_unmarked : (left : ℕ) (mark : Name) (rest : List Name) → 0 < left → None ≡ after_mark mark rest → arguments_with one left mark rest ≡ None
-  turn_unmarked left mark rest h e = turn left mark rest h ∙ ap (opened one (more (left - 1))) (sym e)
-
-  pub turn_unread : (left : ℕ) (mark : Name) (rest after : List Name) → 0 < left → Some after ≡ after_mark mark rest → None ≡ one after → arguments_with one left mark rest ≡ None
-  turn_unread left mark rest after h e none = turn left mark rest h ∙ ap (opened one (more (left - 1))) (sym e) ∙ ap (followed (more (left - 1))) (sym none)
-
   pub turn_more : (front : List Raw) (r : Raw) (left : ℕ) (mark : Name) (rest after next : List Name) → 0 < left → Some after ≡ after_mark mark rest → Some (raw_term r, next) ≡ one after
       → with_front (raw_terms (front ++ r ∷ [])) (arguments_with one (left - 1) (codes ",") next) ≡ with_front (raw_terms front) (arguments_with one left mark rest)
   turn_more front r left mark rest after next h e is =
@@ -52,16 +46,9 @@ module _ (one : List Name → Read RawTerm) where
   turn_last front mark rest after zero h e = ap (λ x. with_front (raw_terms front) (closed x)) (sym e) ∙ ap (λ us. Some (us, after)) (join_none (raw_terms front))
   turn_last front mark rest after (suc n) h e = absurd (omega arith)
 
-  pub turn_open : (front : RawTerms) (mark : Name) (rest : List Name) (left : ℕ) → left ≤ 0 → None ≡ after_mark (codes ")") rest → with_front front (arguments_with one left mark rest) ≡ None
-  turn_open front mark rest zero h e = ap (λ x. with_front front (closed x)) (sym e)
-  turn_open front mark rest (suc n) h e = absurd (omega arith)
-
   pub applied_is : (f count : ℕ) (ts : List Name) → 0 < count → applied_with one f count ts ≡ with_operator f (arguments_with one count (codes "(") ts)
   applied_is f zero ts h = absurd (omega arith)
   applied_is f (suc n) ts h = refl
-
-pub front_none : {left : Read RawTerms} (front : RawTerms) → left ≡ None → with_front front left ≡ None
-front_none front e = ap (with_front front) e
 
 pub after_is : (ts : List Name) (text first : Name) → 1 ≤ length ts → first ≡ get_or ts 0 first → first ≡ text → Some (take (length ts - 1) (drop 1 ts)) ≡ after_mark text ts
 after_is ts text first h e same = sym (ap (after_mark text) (front_and_rest ts first h e ∙ ap (λ t. t ∷ take (length ts - 1) (drop 1 ts)) same) ∙ mark_met text (take (length ts - 1) (drop 1 ts)))

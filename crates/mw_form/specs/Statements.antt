@@ -10,10 +10,6 @@ use Rattle.mw_text.specs.Spelling.{operator_words, variable_statement, equation_
 abbrev pub texts : List (Bor (List Name)) → List (List Name)
 texts ws = map (λ w. w.now) ws
 
--- none of them holds a full stop
-abbrev pub Stopless : List (List Name) → Type 0
-Stopless = AllByRecursion (λ ws. Member (codes ".") ws → ⊥)
-
 -- the first statement begins with this word
 abbrev pub begins_with : Name → List (List Name) → Bool
 begins_with word [] = false

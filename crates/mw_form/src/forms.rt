@@ -10,9 +10,9 @@ ghost use Rattle.mw_form.specs.Meanings.{meaning_in};
 ghost use Rattle.mw_form.specs.Reading as reading;
 
 use crate::names::is;
-use crate::scope::{Meaning, Scope, again};
+use crate::scope::{Meaning, Scope};
 use crate::source::SORT;
-use mw_term::{Name, OpId, Raw, Raws, VarId};
+use mw_term::{Name, OpId, Raw, Raws, VarId, copy_name};
 use std::alloc::{AllocError, Global};
 
 /// A term's prefix form has at most so many tokens.
@@ -76,7 +76,7 @@ fn term_at<'t>(
 fn variable(alloc: Global, name: &Name) -> Result<Raw, AllocError>
     ensures { IfOk result (λ r. raw_term r ≡ variable (variable_named name.now)) }
 {
-    let name = again(alloc, name)?;
+    let name = copy_name(alloc, name)?;
     Ok(Raw::Var(VarId { name, sort: SORT }))
 }
 

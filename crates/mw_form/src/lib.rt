@@ -8,6 +8,8 @@ mod names;
 mod reader;
 mod scope;
 mod source;
+#[cfg(test)]
+mod tests;
 mod tokens;
 mod words;
 

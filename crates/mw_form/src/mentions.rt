@@ -6,7 +6,6 @@ ghost use Rattle.mw_text.specs.Tokens.{Name as NameOf};
 ghost use Rattle.mw_text.specs.Form.{variables_of, variable_named};
 ghost use Rattle.mw_form.specs.Mentions.{with_name, with_names_of, is_among, are_among};
 
-use crate::scope::again;
 use crate::source::SORT;
 use indexmap::IndexSet;
 use mw_term::{Name, Raw, Seq, VarId};

@@ -5,18 +5,18 @@ ghost use Rattle.mw_logic.specs.Term.{RawTerm, is_ground};
 ghost use Rattle.mw_term.specs.Raws.{raw_term};
 ghost use Rattle.mw_text.specs.Tokens.{Name as NameOf};
 ghost use Rattle.mw_text.specs.Form.{Declared as DeclaredOf, Equation as EquationOf, Source as SourceOf, signature_of};
-ghost use Rattle.mw_text.specs.Spelling.{IsName, AllDiffer, IsForm, IsRewriting, IsWellFormed, IsText, HasForm, Reads, variables_in, command_words, prefix_form, names_over, last_words, equation_words, statements_of, source_tokens, with_stops};
+ghost use Rattle.mw_text.specs.Spelling.{Stopless, IsName, AllDiffer, IsForm, IsRewriting, IsWellFormed, IsText, HasForm, Reads, variables_in, command_words, prefix_form, names_over, last_words, equation_words, statements_of, source_tokens, with_stops};
 ghost use Rattle.mw_form.specs.Scope.{signature_in, variables_declared};
-ghost use Rattle.mw_form.specs.Statements.{texts, Stopless, FitsOperators, FitsVariables, FitsEquations};
+ghost use Rattle.mw_form.specs.Statements.{texts, FitsOperators, FitsVariables, FitsEquations};
 
 use crate::equations::equation;
 use crate::forms::term;
 use crate::mentions::has_no_variable;
-use crate::scope::{Scope, again};
+use crate::scope::Scope;
 use crate::source::{Equation, Source};
 use crate::tokens::tokens;
 use crate::words::{before_token, goes_on, head, last, operator, variable_names};
-use mw_term::{Name, Raw, Seq};
+use mw_term::{Name, Raw, Seq, copy_name};
 use std::alloc::{AllocError, Global};
 
 /// What a text says, where it is of the form.
@@ -80,7 +80,7 @@ fn read_statements(alloc: Global, statements: &[&[Name]]) -> Result<Option<Sourc
     let Some((name, sort)) = head(words) else {
         return Ok(None);
     };
-    let scope = Scope::new(alloc, again(alloc, sort)?);
+    let scope = Scope::new(alloc, copy_name(alloc, sort)?);
     let Some((scope, rest)) = operators(alloc, scope, rest)? else {
         return Ok(None);
     };
@@ -94,7 +94,7 @@ fn read_statements(alloc: Global, statements: &[&[Name]]) -> Result<Option<Sourc
     let Some(subject) = subject(alloc, &scope, rest)? else {
         return Ok(None);
     };
-    let name = again(alloc, name)?;
+    let name = copy_name(alloc, name)?;
     let (sort, operators, variables) = scope.into_parts();
     Ok(Some(Source {
         name,

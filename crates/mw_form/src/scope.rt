@@ -9,7 +9,7 @@ ghost use Rattle.mw_form.specs.Meanings.{meaning_in, meaning_at, table_in};
 use crate::names::is_name;
 use crate::source::Declared;
 use indexmap::IndexMap;
-use mw_term::{Name, OpId, Seq};
+use mw_term::{Name, OpId, Seq, copy_name};
 use std::alloc::{AllocError, Global};
 use std::marker::Model;
 
@@ -97,7 +97,7 @@ impl Scope {
         }
         let number = operators.len() as OpId + 1;
         declare(alloc, &mut meanings, name, Meaning::Operator(number, args))?;
-        let name = again(alloc, name)?;
+        let name = copy_name(alloc, name)?;
         operators.push(Declared { name, args })?;
         Ok(Some(Scope {
             sort,
@@ -121,7 +121,7 @@ impl Scope {
             mut meanings,
         } = self;
         declare(alloc, &mut meanings, name, Meaning::Variable)?;
-        variables.push(again(alloc, name)?)?;
+        variables.push(copy_name(alloc, name)?)?;
         Ok(Some(Scope {
             sort,
             operators,
@@ -149,13 +149,6 @@ impl Scope {
         } = self;
         (sort, Seq::of(operators), Seq::of(variables))
     }
-}
-
-/// The name once more.
-pub fn again(alloc: Global, name: &Name) -> Result<Name, AllocError>
-    ensures { IfOk result (λ n. n ≡ name.now) }
-{
-    Ok(Name::of(name.as_slice().to_vec(alloc)?))
 }
 
 /// Gives a name that has none its meaning.

@@ -6,6 +6,7 @@ ghost use Rattle.mw_text.specs.Form as form;
 
 use mw_term::{
     Declaration, KindId, Name, Operator, Raw, Seq, Signature, SortId, Sorted, Statement, VarId,
+    copy_name,
 };
 use std::alloc::{AllocError, Global};
 use std::marker::Model;
@@ -115,13 +116,13 @@ impl Model for Source {
 /// The signature of one sort and these operators.
 pub fn signature(
     alloc: Global,
-    sort: Name,
+    sort: &Name,
     operators: Seq<Declared>,
 ) -> Result<Signature, AllocError>
-    ensures { IfOk result (λ r. r ≡ form.signature_over sort operators) }
+    ensures { IfOk result (λ r. r ≡ form.signature_over sort.now operators) }
 {
     let mut sorts = Vec::new(alloc);
-    sorts.push(sort)?;
+    sorts.push(copy_name(alloc, sort)?)?;
     let operators = operators.into_vec();
     let mut made = Vec::with_capacity(alloc, operators.len())?;
     for declared in operators {

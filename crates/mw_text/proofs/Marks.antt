@@ -3,7 +3,7 @@ use Rattle.std.proofs.Common.{◌≡◌, ◌∙◌, ◌⊎◌, List, [], ◌∷�
 use Rattle.std.specs.List.{AllByRecursion}
 use Rattle.mw_logic.specs.Signature.{Member}
 use Rattle.mw_text.specs.Tokens.{Name}
-use Rattle.mw_text.specs.Spelling.{with_stops}
+use Rattle.mw_text.specs.Spelling.{with_stops, Stopless}
 
 abbrev pub Lacks : {X : Type 0} → X → List X → Type 0
 Lacks m xs = Member m xs → ⊥
@@ -40,9 +40,6 @@ cut_at_mark m (x ∷ xs) (y ∷ ys) r s a b e =
     let rest = cut_at_mark m xs ys r s (λ h. a (inr h)) (λ h. b (inr h)) (same_tail e) in
     let first : x ≡ y = same_head e in
     ((cc (rest.0, first)), rest.1)
-
-abbrev pub Stopless : List (List Name) → Type 0
-Stopless = AllByRecursion (Lacks (codes "."))
 
 pub some_stop : (words : List Name) (rest : List Name) → (let none : List Name = [] in none ≡ words ++ codes "." ∷ rest) → ⊥
 some_stop [] rest e = not_nil e

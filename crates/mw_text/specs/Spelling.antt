@@ -29,6 +29,7 @@ pub record Reads (sig : Signature) (variables : List Variable) (tokens : List Na
   pub spelled : Spells sig variables t tokens
   pub only : (u : RawTerm) → Spells sig variables u tokens → u ≡ t
 
+-- the name of an operator
 abbrev pub spelling_of : Signature → ℕ → Name
 spelling_of sig f = unwrap_or (option_map (λ (o : Operator). o.spelling) (at_number sig.operators f)) []
 
@@ -48,24 +49,24 @@ abbrev mutual
   after_comma sig nil = codes ")" ∷ []
   after_comma sig (cons t ts) = codes "," ∷ prefix_form sig t ++ after_comma sig ts
 
--- The statements of a source, each without its full stop: the module's head, then
+-- The statements of a source, each without its full stop. The first has the names of the module and of its sort.
 abbrev pub head_words : Name → Name → List Name
 head_words name sort = codes "fmod" ∷ name ∷ codes "is" ∷ codes "sort" ∷ sort ∷ []
 
--- each operator with its arguments and its result,
+-- an operator, with the sort for each argument and for its result
 abbrev pub operator_words : Name → Declared → List Name
 operator_words sort d = codes "op" ∷ d.name ∷ codes ":" ∷ replicate d.args sort ++ codes "->" ∷ sort ∷ []
 
--- the variables, where there are any,
+-- the variables; no statement where there are none
 abbrev pub variable_statement : Name → List Name → List (List Name)
 variable_statement sort [] = []
 variable_statement sort (x ∷ xs) = (codes "vars" ∷ (x ∷ xs) ++ codes ":" ∷ sort ∷ []) ∷ []
 
--- the equations,
+-- an equation
 abbrev pub equation_words : Signature → Equation → List Name
 equation_words sig e = codes "eq" ∷ prefix_form sig e.left ++ codes "=" ∷ prefix_form sig e.right
 
--- and the module's end with the command.
+-- the end of the module, and the command
 abbrev pub last_words : List Name → List Name
 last_words command = codes "endfm" ∷ codes "reduce" ∷ command
 
@@ -73,6 +74,7 @@ last_words command = codes "endfm" ∷ codes "reduce" ∷ command
 abbrev pub command_words : Source → List Name
 command_words s = prefix_form (signature_of s) s.subject
 
+-- all of them, in order
 abbrev pub statements_of : Source → List (List Name)
 statements_of s = head_words s.name s.sort_name ∷ map (operator_words s.sort_name) s.operators ++ (variable_statement s.sort_name s.variables ++ (map (equation_words (signature_of s)) s.equations ++ last_words (command_words s) ∷ []))
 
@@ -81,13 +83,19 @@ abbrev pub with_stops : List (List Name) → List Name
 with_stops [] = []
 with_stops (words ∷ rest) = words ++ codes "." ∷ with_stops rest
 
+-- none of the statements holds a full stop
+abbrev pub Stopless : List (List Name) → Type 0
+Stopless = AllByRecursion (λ (words : List Name). Member (codes ".") words → ⊥)
+
 -- the tokens of a source
 abbrev pub source_tokens : Source → List Name
 source_tokens s = with_stops (statements_of s)
 
+-- an ASCII letter
 abbrev pub IsLetter : ℕ → Type 0
 IsLetter b = ((65 ≤ b) × (b ≤ 90)) ⊎ ((97 ≤ b) × (b ≤ 122))
 
+-- a word that is no name
 abbrev pub IsKept : Name → Type 0
 IsKept n = Member n (codes "endfm" ∷ codes "in" ∷ codes "if" ∷ codes "fi" ∷ [])
 
@@ -101,10 +109,12 @@ pub record IsName (n : Name) : Type 0 where
 abbrev pub IsPrelude : Name → Type 0
 IsPrelude n = Member n (codes "BOOL" ∷ codes "NAT" ∷ codes "QID" ∷ codes "CONFIGURATION" ∷ [])
 
+-- no name stands there twice
 abbrev pub AllDiffer : List Name → Type 0
 AllDiffer [] = Unit {0}
 AllDiffer (n ∷ ns) = (Member n ns → ⊥) × AllDiffer ns
 
+-- variables of these names
 abbrev pub variables_named : List Name → List Variable
 variables_named xs = map variable_named xs
 
@@ -116,6 +126,7 @@ pub record IsForm (sig : Signature) (variables : List Variable) (t : RawTerm) : 
   pub spelled : Spells sig variables t (prefix_form sig t)
   pub short : length (prefix_form sig t) ≤ 1024
 
+-- an operator stands on top
 abbrev pub IsOperatorTerm : RawTerm → Type 0
 IsOperatorTerm (numeral n) = ⊥
 IsOperatorTerm (quoted q) = ⊥
@@ -136,6 +147,7 @@ names_over operators variables = map (λ (d : Declared). d.name) operators ++ va
 abbrev pub names_in : Source → List Name
 names_in s = names_over s.operators s.variables
 
+-- names are names, new and all different, and terms are terms over what is declared
 pub record IsWellFormed (s : Source) : Type 0 where
   pub names : AllByRecursion IsName (s.name ∷ s.sort_name ∷ names_in s)
   pub new : IsPrelude s.name → ⊥
@@ -144,6 +156,7 @@ pub record IsWellFormed (s : Source) : Type 0 where
   pub subject : IsForm (signature_of s) (variables_in s) s.subject
   pub ground : IsTrue (is_ground s.subject)
 
+-- a byte of a source of the form: the end of a line, or one from the space to `~`
 abbrev pub IsPlainByte : ℕ → Type 0
 IsPlainByte b = (b ≡ 10) ⊎ ((32 ≤ b) × (b ≤ 126))
 

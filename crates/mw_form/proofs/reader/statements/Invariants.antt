@@ -1,6 +1,6 @@
 use Rattle.std.proofs.Common.{◌≡◌, ◌++◌, length}
-use Rattle.mw_text.specs.Spelling.{with_stops}
-use Rattle.mw_form.specs.Statements.{texts, Stopless}
+use Rattle.mw_text.specs.Spelling.{Stopless, with_stops}
+use Rattle.mw_form.specs.Statements.{texts}
 use Rattle.mw_form.proofs.reader.statements.Given as goal
 
 abbrev pub invariant-loop-rest : goal.invariant-loop-rest

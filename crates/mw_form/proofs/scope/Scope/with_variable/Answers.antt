@@ -16,7 +16,7 @@ invariant_of-result c =
     let new = rw c.if-not-is_new.false at c.is_new.ensures in
     let D : Declarations = record { sort_name = c.self.inside.sort; operators = c.self.inside.operators.items; variables = c.self.inside.variables.items } in
     let none : meaning_in D c.args.name.now ≡ None = ap (λ d. meaning_in d c.args.name.now) c.self.view_is ∙ new.1 in
-    let pushed : c.push.new.self.items ≡ D.variables ++ c.args.name.now ∷ [] = c.in_ok-push.ensures.items ∙ ap (λ n. D.variables ++ n ∷ []) c.in_ok-again.ensures in
+    let pushed : c.push.new.self.items ≡ D.variables ++ c.args.name.now ∷ [] = c.in_ok-push.ensures.items ∙ ap (λ n. D.variables ++ n ∷ []) c.in_ok-copy_name.ensures in
     let place : List Name → Declarations = λ xs. record { sort_name = c.self.inside.sort; operators = c.self.inside.operators.items; variables = xs } in (
       subst (λ xs. IsScope (place xs)) (sym pushed) (scope_with_variable D c.args.name.now c.self.invariant.0 new.0 none),
       c.in_ok-declare.ensures
