@@ -5,7 +5,7 @@ use Rattle.std.specs.Global.{Vec}
 use Rattle.std.proofs.lemmas.List.{map-append}
 use Rattle.indexmap.specs.IndexSet.{insert_key}
 use Rattle.mw_logic.specs.Term.{Variable}
-use Rattle.mw_logic.specs.NormalForm.{height, highest}
+use Rattle.mw_logic.specs.NormalForm.{highest}
 use Rattle.mw_term.specs.declared.raw.Raw.{Raw}
 use Rattle.mw_term.specs.Raws.{raw_term, raw_terms}
 use Rattle.mw_text.specs.Tokens.{Name}

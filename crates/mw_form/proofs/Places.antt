@@ -1,9 +1,9 @@
 -- A list, cut at a place.
-use Rattle.std.proofs.Common.{◌≡◌, ◌∙◌, ◌+◌, ◌-◌, ◌<◌, ◌≤◌, ℕ, zero, suc, List, [], ◌∷◌, ◌++◌, length, get_or, take, drop, replicate, sym, ap, subst, inl, inr, arith, length-drop}
+use Rattle.std.proofs.Common.{◌≡◌, ◌∙◌, ◌+◌, ◌-◌, ◌<◌, ℕ, zero, suc, List, [], ◌∷◌, ◌++◌, length, get_or, take, drop, replicate, sym, ap, subst, inl, inr, arith, length-drop}
 use Rattle.mw_logic.specs.Signature.{Member}
 use Rattle.mw_text.specs.Tokens.{Name}
-use Rattle.mw_text.proofs.Marks.{same_head, same_tail, Member-cases}
-use Rattle.mw_form.proofs.Fronts.{take_whole, front_and_rest}
+use Rattle.mw_text.proofs.Marks.{Member-cases}
+use Rattle.mw_form.proofs.Fronts.{take_whole}
 
 cut : {X : Type 0} (xs : List X) (i : ℕ) (x : X) → i < length xs → x ≡ get_or xs i x → xs ≡ take i xs ++ x ∷ drop (suc i) xs
 cut [] i x h e = absurd (omega arith)

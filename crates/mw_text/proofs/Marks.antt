@@ -1,6 +1,5 @@
 -- Lists of tokens, cut at a mark.
 use Rattle.std.proofs.Common.{◌≡◌, ◌∙◌, ◌⊎◌, List, [], ◌∷◌, ◌++◌, ap, sym, refl, inl, inr, codes, subst, append_assoc}
-use Rattle.std.specs.List.{AllByRecursion}
 use Rattle.mw_logic.specs.Signature.{Member}
 use Rattle.mw_text.specs.Tokens.{Name}
 use Rattle.mw_text.specs.Spelling.{with_stops, Stopless}

@@ -3,10 +3,10 @@ use Rattle.std.specs.Prelude.{◌≡◌, ◌-◌, ◌^◌, ℕ, List, min, Resul
 use Rattle.std.proofs.Common.{subst, sym, ap, inr}
 use Rattle.mw_logic.specs.Term.{RawTerm}
 use Rattle.mw_logic.specs.Module.{Module}
-use Rattle.mw_logic.specs.Proof.{Proof, count}
+use Rattle.mw_logic.specs.Proof.{count}
 use Rattle.mw_logic.specs.Judgements.{Proves}
 use Rattle.mw_machine.proofs.OneSort.{least_sort_one}
-use Rattle.mw_reduce.specs.Deductions.{Deduction, IsDeduction, Ends, IsReductionOf}
+use Rattle.mw_reduce.specs.Deductions.{Deduction, IsDeduction, IsReductionOf}
 use Rattle.mw_reduce.specs.declared.progress.Outcome.{Outcome}
 use Rattle.mw_reduce.specs.declared.progress.Outcome.TheVariants.{Done, Rewrites, Depth}
 use Rattle.mw_text.specs.Form.{Source, signature_of, module_of}

@@ -1,17 +1,15 @@
 -- The module of a well-formed source is one that the reducer works in, and its subject is a term that may be reduced.
-use Rattle.std.specs.Prelude.{◌≡◌, ◌⊎◌, ◌≤◌, ◌+◌, ◌*◌, ◌++◌, ℕ, zero, suc, List, [], ◌∷◌, map, replicate, length, max, Some, None, slice_get, IsTrue, refl, codes}
+use Rattle.std.specs.Prelude.{◌≡◌, ◌≤◌, ◌+◌, ◌*◌, ℕ, zero, suc, List, [], ◌∷◌, map, replicate, length, Some, slice_get, refl, codes}
 use Rattle.std.specs.List.{AllByRecursion}
-use Rattle.std.proofs.Common.{sym, subst, ap, ◌∙◌, inl, inr, arith, length-append}
+use Rattle.std.proofs.Common.{sym, subst, ap, inl, inr, arith, length-append}
 use Rattle.mw_logic.specs.Term.{Variable, RawTerm, numeral, quoted, variable, apply, RawTerms, nil, cons}
-use Rattle.mw_logic.specs.Signature.{Signature, Sorted, sort, Operator, IsOperator, at_number, Member, SameKind, same, HasKind, of_variable, of_operator, IsRawTerm, a_variable, an_operator, AreRawTerms, end, next}
-use Rattle.mw_logic.specs.Signature as signature
+use Rattle.mw_logic.specs.Signature.{Signature, sort, Operator, IsOperator, at_number, Member, SameKind, same, HasKind, of_variable, of_operator, IsRawTerm, a_variable, an_operator, AreRawTerms, end, next}
 use Rattle.mw_logic.specs.Parts.{number_of_terms}
-use Rattle.mw_logic.specs.Module.{Module, Statement}
+use Rattle.mw_logic.specs.Module.{Statement}
 use Rattle.mw_logic.specs.NormalForm.{height, highest}
 use Rattle.mw_machine.specs.Machine.{IsFlat}
 use Rattle.mw_machine.specs.Simple.{IsSimpleOperator, IsSimpleSignature, IsSimpleEquation, IsSimpleModule}
-use Rattle.mw_machine.specs.Variables.{met}
-use Rattle.mw_text.specs.Form.{Declared, Equation, Source, operator_of, signature_of, statement_of, module_of, variable_named, first_mentions, variables_of}
+use Rattle.mw_text.specs.Form.{Declared, Equation, Source, operator_of, signature_of, statement_of, module_of}
 use Rattle.mw_text.specs.Spelling.{Spells, applied, SpellsAll, last, more, prefix_form, IsForm, IsRewriting, IsWellFormed, IsOperatorTerm, variables_in, variables_named}
 use Rattle.mw_text.specs.Spelling as spelling
 use Rattle.mw_top.proofs.Mentioned.{met_is}

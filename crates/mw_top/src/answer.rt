@@ -12,7 +12,7 @@ use crate::block::{write_count, write_echo, write_result, write_status};
 use crate::terms::free_term;
 use mw_form::{Declared, Equation, Source, one_reading, read, signature, statements};
 use mw_reduce::{Outcome, Proved, Theory, reduce};
-use mw_term::{Name, Seq, copy_name};
+use mw_term::{Name, Seq};
 use std::alloc::{AllocError, Global};
 
 /// How many replacements a reduction makes at the most.
@@ -80,7 +80,6 @@ fn theory(
     ensures { IfOk result (λ t. t ≡ record { signature = signature_over sort.now operators; statements = map statement_of equations }) }
 {
     let statements = statements(alloc, equations)?;
-    let sort = copy_name(alloc, sort)?;
     let signature = signature(alloc, sort, operators)?;
     Theory::new(alloc, signature, statements)
 }

@@ -1,6 +1,6 @@
 -- When each status comes, from the cause of each.
-use Rattle.std.proofs.Common.{arith, ◌≡◌, ℕ, length, inl, inr, ap, Some}
-use Rattle.mw_top.proofs.Exact.{by_status, told_length, owes_form, owes_no_form, owes_short}
+use Rattle.std.proofs.Common.{arith, inl, inr, ap, Some}
+use Rattle.mw_top.proofs.Exact.{by_status, told_length, owes_form, owes_no_form}
 use Rattle.mw_top.proofs.alone.Goals as goal
 
 pub returns-clause-exact : goal.returns-clause-exact

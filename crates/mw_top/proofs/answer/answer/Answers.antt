@@ -1,6 +1,4 @@
-use Rattle.std.proofs.Common.{◌≡◌, refl, inl, inr}
-use Rattle.std.specs.Prelude.{Ok, Err}
-use Rattle.mw_text.specs.Answer.{IsOutput}
+use Rattle.std.proofs.Common.{refl, inl}
 use Rattle.mw_top.proofs.Answering.{if_ok, refused}
 use Rattle.mw_top.proofs.answer.answer.Goals as goal
 

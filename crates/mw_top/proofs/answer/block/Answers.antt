@@ -1,5 +1,5 @@
 use Rattle.std.proofs.Common.{◌≤◌, sym, subst}
-use Rattle.std.specs.Prelude.{IsTrue, Result}
+use Rattle.std.specs.Prelude.{IsTrue}
 use Rattle.mw_logic.specs.Term.{is_ground}
 use Rattle.mw_logic.specs.Signature.{IsRawTerm}
 use Rattle.mw_logic.specs.NormalForm.{height}

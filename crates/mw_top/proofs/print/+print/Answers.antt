@@ -1,4 +1,4 @@
-use Rattle.std.proofs.Common.{◌≡◌, ◌∙◌, ◌+◌, ◌≤◌, get_or, arith, ap}
+use Rattle.std.proofs.Common.{◌≡◌, ◌+◌, ◌≤◌, get_or, arith, ap}
 use Rattle.mw_logic.specs.NormalForm.{height, highest}
 use Rattle.mw_logic.specs.Terms.{terms_of}
 use Rattle.mw_term.specs.Shapes.{shaped}

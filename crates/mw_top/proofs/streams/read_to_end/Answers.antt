@@ -1,4 +1,4 @@
-use Rattle.std.proofs.Common.{arith, ℕ, take, ◌++◌, length-append, length-take}
+use Rattle.std.proofs.Common.{arith, ℕ, length-append, length-take}
 use Rattle.mw_top.proofs.Moving.{consumes_more}
 use Rattle.mw_top.proofs.streams.read_to_end.Goals as goal
 

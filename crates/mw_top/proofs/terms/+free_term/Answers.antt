@@ -1,5 +1,5 @@
 use Rattle.std.proofs.Common.{◌≡◌, ◌∙◌, ◌+◌, ◌≤◌, drop, get_or, arith, ap, sym}
-use Rattle.mw_logic.specs.Term.{nil, cons, join}
+use Rattle.mw_logic.specs.Term.{join}
 use Rattle.mw_logic.specs.NormalForm.{height, highest}
 use Rattle.mw_logic.specs.Terms.{terms_of}
 use Rattle.mw_term.specs.Raws.{raw_term, raw_terms}
