@@ -1,6 +1,7 @@
 -- Where clap's walk may end at a request for help or the version, it may end at nothing else.
 use Rattle.std.proofs.Common.{◌≡◌, ◌&&◌, inl, inr, ℕ, zero, suc, Bool, true, false, not, refl, sym, ap, subst, true≢false, List, [], ◌∷◌, Option, Some, None}
 use Rattle.std.specs.Prelude.{if◌then◌else◌, find, is_some, drop, length, encode_utf8}
+use Rattle.std.specs.List.{list_all}
 use Rattle.std.specs.Option.{option_map_or}
 use Rattle.clap.specs.Walk.{arg_by_id, arg_by_index, arg_by_long, arg_by_short, Held, Names, Row, Rule, Step, value, Text, Walk, finished, reacted, walk, subcommand_met, word_met, walked, nothing_held, with_default}
 use Rattle.clap.specs.Simple.{App, Shape, argument_words, built}
@@ -11,6 +12,7 @@ use Rattle.clap.specs.declared.builder.action.ArgAction.TheVariants as action
 use Rattle.clap.specs.declared.builder.value_parser.ValueParser.{ValueParser}
 use Rattle.clap.specs.declared.error.kind.ErrorKind.{ErrorKind}
 use Rattle.clap.specs.declared.error.kind.ErrorKind.TheVariants.{DisplayHelp, DisplayVersion, InvalidSubcommand, UnknownArgument}
+use Rattle.clap.proofs.WalkLemmas.{both as and_true}
 use Rattle.mw_words.specs.CommandLine.{mw_app}
 
 abbrev pub is_request : ErrorKind → Bool
@@ -179,23 +181,22 @@ level_apart s e names h words has below p =
     (both _ _ p (both _ _ (settle_apart s.rules s.args_override_self end)
     (both _ _ (defaults_apart _ s.rules) (check_apart s (finished s.rules end) has))))
 
--- each subcommand has the command `help` disabled
-abbrev HaveNoHelp : List Shape → Type 0
-HaveNoHelp [] = Unit
-HaveNoHelp (s ∷ rest) = (s.disable_help_subcommand ≡ true) × HaveNoHelp rest
+-- `help` is disabled in each
+abbrev has_no_help : List Shape → Bool
+has_no_help = list_all (λ s. s.disable_help_subcommand)
 
-found_apart : (p : Shape → Bool) (f : Shape → Kinds) (subs : List Shape) → HaveNoHelp subs → ((s : Shape) → s.disable_help_subcommand ≡ true → IsApart (f s))
+found_apart : (p : Shape → Bool) (f : Shape → Kinds) (subs : List Shape) → has_no_help subs ≡ true → ((s : Shape) → s.disable_help_subcommand ≡ true → IsApart (f s))
     → IsApart (option_map_or f (find p subs) [])
 found_apart p f [] e each = none
-found_apart p f (s ∷ rest) e each = go (p s) (found_apart p f rest e.1 each)
+found_apart p f (s ∷ rest) e each = go (p s) (found_apart p f rest (and_true _ _ e).1 each)
   where
     go : (b : Bool) → IsApart (option_map_or f (find p rest) []) → IsApart (option_map_or f (if b then Some s else find p rest) [])
-    go true later = each s e.0
+    go true later = each s (and_true _ _ e).0
     go false later = later
 
-pub built_apart : (a : App) → a.top.disable_help_subcommand ≡ true → HaveNoHelp a.subs → (h : Held) (words : List Text) → IsApart (built_fault a h words)
+pub built_apart : (a : App) → a.top.disable_help_subcommand ≡ true → has_no_help a.subs ≡ true → (h : Held) (words : List Text) → IsApart (built_fault a h words)
 built_apart a e subs h words =
     level_apart a.top e _ h words _ _ (of_option _ _ _ (λ p. found_apart _ _ a.subs subs (λ s e. level_apart s e [] nothing_held p.1 false [] none)) none)
 
 pub request_alone : (words : List Text) (k : ErrorKind) → is_request k ≡ true → IsAmong k (fault_of mw_app words) → fault_of mw_app words ≡ k ∷ []
-request_alone words k asks among = (built_apart (built mw_app) refl (refl, tt) nothing_held (argument_words mw_app words)).alone k among asks
+request_alone words k asks among = (built_apart (built mw_app) refl refl nothing_held (argument_words mw_app words)).alone k among asks

@@ -1,5 +1,6 @@
 -- What the words of a command line ask for.
-use Rattle.std.specs.Prelude.{◌≡◌, ◌≤◌, ℕ, List, [], ◌∷◌, Option, Some, None, codes}
+use Rattle.std.specs.Prelude.{◌≡◌, ◌≤◌, ℕ, List, [], ◌∷◌, Option, Some, None, String, map, string_bytes, codes}
+use Rattle.std.specs.Global.{Global}
 use Rattle.std.specs.Fmt.{decimal}
 use Rattle.clap.specs.Walk.{Row, first_of}
 use Rattle.clap.specs.Simple.{subcommand_of}
@@ -8,6 +9,10 @@ use Rattle.clap.specs.declared.error.kind.ErrorKind.TheVariants.{DisplayHelp, Di
 use Rattle.mw_words.specs.declared.Asked.{Asked}
 use Rattle.mw_words.specs.declared.Asked.TheVariants.{Run, Help, Version}
 use Rattle.mw_words.specs.CommandLine.{mw_app}
+
+-- the words as bytes
+abbrev pub texts : List (String Global) → List (List ℕ)
+texts words = map (λ w. string_bytes w) words
 
 -- clap takes the words, and they name this subcommand, whose arguments have these rows
 pub record IsCommand (words : List (List ℕ)) (name : List ℕ) (rows : List Row) : Type 0 where

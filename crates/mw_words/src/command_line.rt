@@ -1,13 +1,15 @@
 //! The command line that clap is told to read, and what it makes of the words.
 
-ghost use Rattle.std.specs.Prelude.{◌≡◌, ◌⊎◌, [], map, IfOk, IfErr, OnOk, false, string_bytes};
+ghost use Rattle.std.specs.Prelude.{◌≡◌, ◌⊎◌, [], IfOk, IfErr, OnOk, false};
 ghost use Rattle.clap.specs.Simple.{app_of, subcommand_of, subcommand_rows_of};
 ghost use Rattle.clap.specs.Faults.{fault_of};
 ghost use Rattle.clap.specs.Kinds.{IsAmong};
 ghost use Rattle.clap.specs.Walk.{rule_of};
 ghost use Rattle.clap.specs.declared.builder.command.Command.TheViews.{out-Command as fields_of};
+ghost use Rattle.mw_words.specs.Asked.{texts};
 ghost use Rattle.mw_words.specs.CommandLine.{mw_app, option_rule, program_app, run_app};
 
+use crate::texts::version_text;
 use clap::error::ErrorKind;
 use clap::{Arg, ArgAction, ArgMatches, Command};
 use std::alloc::{AllocError, Global};
@@ -26,11 +28,12 @@ fn run_command<'a>(alloc: Global) -> Result<Command<'a>, AllocError>
     Command::new(alloc, "run").arg(option(alloc, "max"))
 }
 
+/// With a version, so that clap knows `--version`; what it would write for it is never shown.
 fn program_command<'a>(alloc: Global) -> Command<'a>
     ensures { app_of result ≡ program_app }
 {
     Command::new(alloc, "mw")
-        .version("0.1.0")
+        .version(version_text())
         .subcommand_required(true)
         .disable_help_subcommand(true)
 }
@@ -46,9 +49,9 @@ pub(crate) fn matches_of<'a>(
     alloc: Global,
     words: &'a [String],
 ) -> Result<ArgMatches<'a>, ErrorKind>
-    ensures taken { OnOk result (fault_of mw_app (map (λ w. string_bytes w) words.entry.now) ≡ []) }
-    ensures rows { IfOk result (λ m. subcommand_rows_of m ≡ subcommand_of mw_app (map (λ w. string_bytes w) words.entry.now)) }
-    ensures kind { IfErr result (λ k. (k ≡ ErrorKind.OutOfMemory) ⊎ IsAmong k (fault_of mw_app (map (λ w. string_bytes w) words.entry.now))) }
+    ensures taken { OnOk result (fault_of mw_app (texts words.entry.now) ≡ []) }
+    ensures rows { IfOk result (λ m. subcommand_rows_of m ≡ subcommand_of mw_app (texts words.entry.now)) }
+    ensures kind { IfErr result (λ k. (k ≡ ErrorKind.OutOfMemory) ⊎ IsAmong k (fault_of mw_app (texts words.entry.now))) }
 {
     let Ok(command) = mw_command(alloc) else {
         return Err(ErrorKind::OutOfMemory);

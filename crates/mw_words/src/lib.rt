@@ -1,11 +1,11 @@
 //! The words of the command line, read by clap: what they ask for, and the texts that answer `--help` and `--version`.
 #![tactic(auto)]
 
-ghost use Rattle.std.specs.Prelude.{◌≡◌, ◌≢◌, ◌⊎◌, ℕ, map, IfOk, IsErrOf, string_bytes};
+ghost use Rattle.std.specs.Prelude.{◌≡◌, ◌≢◌, ◌⊎◌, ℕ, IfOk, IsErrOf};
 ghost use Rattle.clap.specs.Walk.{rows_of};
 ghost use Rattle.clap.specs.Matches.{found_of};
 ghost use Rattle.clap.specs.Simple.{subcommand_rows_of};
-ghost use Rattle.mw_words.specs.Asked.{Asks, IsMax};
+ghost use Rattle.mw_words.specs.Asked.{texts, Asks, IsMax};
 ghost use Rattle.mw_words.specs.declared.WordsError.TheVariants.{Memory as MemoryError};
 
 mod command_line;
@@ -80,9 +80,9 @@ fn read_run(alloc: Global, matches: &ArgMatches<'_>) -> Result<Asked, WordsError
 ///
 /// Other words, or none, are `Usage`.
 pub fn read_words(alloc: Global, words: &[String]) -> Result<Asked, WordsError>
-    ensures asked { IfOk result (Asks (map (λ w. string_bytes w) words.now)) }
-    ensures only { IfOk result (λ asked. (other : Asked) → Asks (map (λ w. string_bytes w) words.now) other → other ≡ asked) }
-    ensures usage { IsErrOf result WordsError.Usage → (asked : Asked) → Asks (map (λ w. string_bytes w) words.now) asked → ⊥ }
+    ensures asked { IfOk result (Asks (texts words.now)) }
+    ensures only { IfOk result (λ asked. (other : Asked) → Asks (texts words.now) other → other ≡ asked) }
+    ensures usage { IsErrOf result WordsError.Usage → (asked : Asked) → Asks (texts words.now) asked → ⊥ }
 {
     let matches = match matches_of(alloc, words) {
         Ok(matches) => matches,
@@ -111,12 +111,13 @@ mod tests {
     fn words_are_read(rt: HostRuntime) -> Result<(), Fail> {
         let alloc = rt.alloc();
         let run = |max: u64| Ok(Asked::Run { max });
-        let cases: [(&str, Result<Asked, WordsError>); 33] = [
+        let cases: [(&str, Result<Asked, WordsError>); 36] = [
             ("mw run", run(1_000_000)),
             ("mw run --max 5", run(5)),
             ("mw run --max 1", run(1)),
             ("mw run --max=10000000", run(10_000_000)),
             ("another run", run(1_000_000)),
+            ("mw run --", run(1_000_000)),
             ("mw run --max 0", Err(WordsError::Usage)),
             ("mw run --max 10000001", Err(WordsError::Usage)),
             ("mw run --max 007", Err(WordsError::Usage)),
@@ -144,7 +145,9 @@ mod tests {
             ("mw run -h", Ok(Asked::Help)),
             ("mw run --max 007 --help", Ok(Asked::Help)),
             ("mw run --proof --help", Err(WordsError::Usage)),
+            ("mw --help more", Ok(Asked::Help)),
             ("mw --version", Ok(Asked::Version)),
+            ("mw -V", Ok(Asked::Version)),
         ];
         for (line, want) in cases {
             assert_eq!(rt; asked(alloc, line)?, want, "at {line}");

@@ -7,8 +7,8 @@ const VERSION: &str = "mw 0.1.0\n";
 
 const HELP: &str = "\
 mw run [--max N]    answers the commands of the source on standard input
-mw --help           writes this text, as `mw run --help` does
-mw --version        writes the version
+mw --help, -h       writes this text, as `mw run --help` does
+mw --version, -V    writes the version
 --max N             the most rewrites of a command, 1 to 10000000 (default 1000000)
 Exit status:
   0  all was answered
