@@ -1,0 +1,4 @@
+-- Laws of what words ask for.
+pub mod Rows
+pub mod Apart
+pub mod Only

@@ -1,0 +1,55 @@
+-- The words ask for one thing at most.
+use Rattle.std.proofs.Common.{◌≡◌, ◌∙◌, ◌<◌, ◌^◌, ◌⊎◌, inl, inr, ℕ, Option, Some, None, List, [], ◌∷◌, codes, arith, refl, sym, ap, subst, true}
+use Rattle.std.specs.Prelude.{◌≢◌, Result, Ok, Err, IfOk}
+use Rattle.std.proofs.lemmas.Fmt.{decimal_injective}
+use Rattle.clap.specs.Walk.{Row, first_of}
+use Rattle.clap.specs.Faults.{fault_of}
+use Rattle.clap.specs.Kinds.{IsAmong}
+use Rattle.clap.specs.declared.error.kind.ErrorKind.{ErrorKind}
+use Rattle.clap.specs.declared.error.kind.ErrorKind.TheVariants.{DisplayHelp, DisplayVersion, OutOfMemory}
+use Rattle.mw_words.specs.declared.Asked.{Asked}
+use Rattle.mw_words.specs.declared.Asked.TheVariants.{Run, Help, Version}
+use Rattle.mw_words.specs.declared.WordsError.{WordsError}
+use Rattle.mw_words.specs.Asked.{Asks, IsCommand, IsMax, IsValue}
+use Rattle.mw_words.specs.CommandLine.{mw_app}
+use Rattle.mw_words.proofs.Apart.{is_request, request_alone}
+
+one_value : (low high absent : ℕ) → high < 2 ^ 64 → (o : Option (List ℕ)) (m n : ℕ) → IsValue low high absent o m → IsValue low high absent o n → m ≡ n
+one_value low high absent small None m n p q = p ∙ sym q
+one_value low high absent small (Some text) m n p q = decimal_injective m n (omega (arith, p.most)) (omega (arith, q.most)) (sym p.digits ∙ q.digits)
+
+-- a subcommand has one list of rows
+one_rows : (words : List (List ℕ)) (name : List ℕ) (r s : List Row) → IsCommand words name r → IsCommand words name s → r ≡ s
+one_rows words name r s p q =
+    let pairs : (name, r) ≡ (name, s) = (cc (p.named, q.named)) in
+    ap (λ (pair : List ℕ × List Row). pair.1) pairs
+
+pub one_answer : (words : List (List ℕ)) (a b : Asked) → Asks words a → Asks words b → b ≡ a
+one_answer words (Run m) (Run n) p q =
+    let same = one_rows words (codes "run") q.0 p.0 q.1 p.1 in
+    ap Run (one_value 1 10000000 1000000 (omega arith) (first_of (codes "max") p.0) n m (subst (λ rows. IsMax rows n) same q.2) p.2)
+one_answer words (Run m) Help p q = (cc (p.1.taken, q))
+one_answer words (Run m) Version p q = (cc (p.1.taken, q))
+one_answer words Help (Run n) p q = (cc (p, q.1.taken))
+one_answer words Help Help p q = refl
+one_answer words Help Version p q = (cc (p, q))
+one_answer words Version (Run n) p q = (cc (p, q.1.taken))
+one_answer words Version Help p q = (cc (p, q))
+one_answer words Version Version p q = refl
+
+-- a request at which clap's walk may end is what the words ask for
+request_asked : (words : List (List ℕ)) (k : ErrorKind) → (k ≡ OutOfMemory) ⊎ IsAmong k (fault_of mw_app words) → (r : ErrorKind) → is_request r ≡ true → OutOfMemory ≢ r
+    → k ≡ r → fault_of mw_app words ≡ r ∷ []
+request_asked words k (inl memory) r asks other is = absurd (other (sym memory ∙ is))
+request_asked words k (inr among) r asks other is = request_alone words r asks (subst (λ x. IsAmong x (fault_of mw_app words)) is among)
+
+pub asked_instead_asks : (words : List (List ℕ)) (k : ErrorKind) → (k ≡ OutOfMemory) ⊎ IsAmong k (fault_of mw_app words) → (result : Result Asked WordsError)
+    → IfOk result (λ a. ((a ≡ Help) × (k ≡ DisplayHelp)) ⊎ ((a ≡ Version) × (k ≡ DisplayVersion))) → IfOk result (Asks words)
+asked_instead_asks words k may (Err e) is = is
+asked_instead_asks words k may (Ok a) (inl help) = subst (Asks words) (sym help.0) (request_asked words k may DisplayHelp refl (λ e. (cc)) help.1)
+asked_instead_asks words k may (Ok a) (inr version) = subst (Asks words) (sym version.0) (request_asked words k may DisplayVersion refl (λ e. (cc)) version.1)
+
+pub asked_only : (words : List (List ℕ)) (result : Result Asked WordsError) → IfOk result (Asks words)
+    → IfOk result (λ a. (other : Asked) → Asks words other → other ≡ a)
+asked_only words (Err e) is = is
+asked_only words (Ok a) is = λ other asks. one_answer words a other is asks

@@ -1,0 +1,9 @@
+use Rattle.std.proofs.Common.{rules}
+use Rattle.mw_words.proofs.Only.{asked_instead_asks, asked_only}
+use Rattle.mw_words.proofs.read_words.Goals as goal
+
+pub returns-in-Err-clause-asked : goal.returns-in-Err-clause-asked
+returns-in-Err-clause-asked c = asked_instead_asks _ c.in-Err.kind c.in-Err.ensures.kind _ c.asked_instead.ensures.asked
+
+pub returns-in-Some-run-default-clause-only : goal.returns-in-Some-run-default-clause-only
+returns-in-Some-run-default-clause-only c = asked_only _ c.read_run.result (search rules)

@@ -1,0 +1,21 @@
+-- The command line that clap is told to read: the program, its subcommands and their arguments.
+use Rattle.std.specs.Prelude.{List, ℕ, Some, true, codes}
+use Rattle.clap.specs.Walk.{Rule}
+use Rattle.clap.specs.Simple.{App, new_app, new_rule, on_top, with_rule, with_subcommand}
+use Rattle.clap.specs.declared.builder.action.ArgAction.TheVariants.{Set}
+
+-- an option with a value, as `--name VALUE` or `--name=VALUE`
+abbrev pub option_rule : List ℕ → Rule
+option_rule name = record (new_rule name) { long = Some name; action = Some Set }
+
+-- `run [--max N]`
+abbrev pub run_app : App
+run_app = with_rule (new_app (codes "run")) (option_rule (codes "max"))
+
+-- the program without its subcommands: it wants one, `help` is none, and it has a version
+abbrev pub program_app : App
+program_app = on_top (λ s. record s { subcommand_required = true; disable_help_subcommand = true; has_version = true }) (new_app (codes "mw"))
+
+-- the whole command line
+abbrev pub mw_app : App
+mw_app = with_subcommand program_app run_app.top

@@ -1,0 +1,34 @@
+-- The texts that answer a wish for help and for the version.
+use Rattle.std.specs.Prelude.{◌++◌, ℕ, List, [], ◌∷◌, codes}
+
+abbrev pub line : List ℕ → List ℕ
+line text = text ++ 10 ∷ []
+
+-- what is written for `--version`
+abbrev pub version_line : List ℕ
+version_line = line (codes "mw 0.1.0")
+
+-- the commands with their options
+abbrev pub help_commands : List ℕ
+help_commands = line (codes "mw run [--max N]    answers the commands of the source on standard input")
+    ++ line (codes "mw --help, -h       writes this text, as `mw run --help` does")
+    ++ line (codes "mw --version, -V    writes the version")
+
+-- the options with their ranges and defaults
+abbrev pub help_options : List ℕ
+help_options = line (codes "--max N             the most rewrites of a command, 1 to 10000000 (default 1000000)")
+
+-- the statuses
+abbrev pub help_statuses : List ℕ
+help_statuses = line (codes "Exit status:")
+    ++ line (codes "  0  all was answered")
+    ++ line (codes "  1  a part of the source was refused")
+    ++ line (codes "  2  the words are no command; nothing was read")
+    ++ line (codes "  3  the source failed; nothing was written")
+    ++ line (codes "  4  the output failed")
+    ++ line (codes "  5  out of memory")
+    ++ line (codes "  6  the source has more than 8388608 bytes; nothing was written")
+
+-- what is written for `--help`
+abbrev pub help : List ℕ
+help = help_commands ++ help_options ++ help_statuses

@@ -1,0 +1,63 @@
+//! The command line that clap is told to read, and what it makes of the words.
+
+ghost use Rattle.std.specs.Prelude.{◌≡◌, ◌⊎◌, [], IfOk, IfErr, OnOk, false};
+ghost use Rattle.clap.specs.Simple.{app_of, subcommand_of, subcommand_rows_of};
+ghost use Rattle.clap.specs.Faults.{fault_of};
+ghost use Rattle.clap.specs.Kinds.{IsAmong};
+ghost use Rattle.clap.specs.Walk.{rule_of};
+ghost use Rattle.clap.specs.declared.builder.command.Command.TheViews.{out-Command as fields_of};
+ghost use Rattle.mw_words.specs.Asked.{texts};
+ghost use Rattle.mw_words.specs.CommandLine.{mw_app, option_rule, program_app, run_app};
+
+use crate::texts::version_text;
+use clap::error::ErrorKind;
+use clap::{Arg, ArgAction, ArgMatches, Command};
+use std::alloc::{AllocError, Global};
+
+fn option<'a>(alloc: Global, name: &'a str) -> Arg<'a>
+    ensures rule { rule_of result ≡ option_rule name.entry.now }
+    ensures local { result.global ≡ false }
+{
+    Arg::new(alloc, name).long(name).action(ArgAction::Set)
+}
+
+fn run_command<'a>(alloc: Global) -> Result<Command<'a>, AllocError>
+    ensures app { IfOk result (λ c. app_of c ≡ run_app) }
+    ensures local { IfOk result (λ c. (fields_of c).has_globals ≡ false) }
+{
+    Command::new(alloc, "run").arg(option(alloc, "max"))
+}
+
+/// With a version, so that clap knows `--version`; what it would write for it is never shown.
+fn program_command<'a>(alloc: Global) -> Command<'a>
+    ensures { app_of result ≡ program_app }
+{
+    Command::new(alloc, "mw")
+        .version(version_text())
+        .subcommand_required(true)
+        .disable_help_subcommand(true)
+}
+
+fn mw_command<'a>(alloc: Global) -> Result<Command<'a>, AllocError>
+    ensures { IfOk result (λ c. app_of c ≡ mw_app) }
+{
+    program_command(alloc).subcommand(run_command(alloc)?)
+}
+
+/// What clap makes of the words: the subcommand with its arguments, or the kind of its error.
+pub(crate) fn matches_of<'a>(
+    alloc: Global,
+    words: &'a [String],
+) -> Result<ArgMatches<'a>, ErrorKind>
+    ensures taken { OnOk result (fault_of mw_app (texts words.entry.now) ≡ []) }
+    ensures rows { IfOk result (λ m. subcommand_rows_of m ≡ subcommand_of mw_app (texts words.entry.now)) }
+    ensures kind { IfErr result (λ k. (k ≡ ErrorKind.OutOfMemory) ⊎ IsAmong k (fault_of mw_app (texts words.entry.now))) }
+{
+    let Ok(command) = mw_command(alloc) else {
+        return Err(ErrorKind::OutOfMemory);
+    };
+    match command.try_get_matches_from(words) {
+        Ok(matches) => Ok(matches),
+        Err(error) => Err(error.kind()),
+    }
+}

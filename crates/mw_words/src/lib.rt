@@ -1,0 +1,158 @@
+//! The words of the command line, read by clap: what they ask for, and the texts that answer `--help` and `--version`.
+#![tactic(auto)]
+
+ghost use Rattle.std.specs.Prelude.{◌≡◌, ◌≢◌, ◌⊎◌, ℕ, IfOk, IsErrOf};
+ghost use Rattle.clap.specs.Walk.{rows_of};
+ghost use Rattle.clap.specs.Matches.{found_of};
+ghost use Rattle.clap.specs.Simple.{subcommand_rows_of};
+ghost use Rattle.mw_words.specs.Asked.{texts, Asks, IsMax};
+ghost use Rattle.mw_words.specs.declared.WordsError.TheVariants.{Memory as MemoryError};
+
+mod command_line;
+mod number;
+mod texts;
+
+use clap::ArgMatches;
+use clap::error::ErrorKind;
+use command_line::matches_of;
+use number::option_number;
+use std::alloc::{AllocError, Global};
+pub use texts::{help_text, version_text};
+
+/// What the words ask for.
+#[derive(Clone, Copy, Debug, PartialEq, Eq)]
+pub enum Asked {
+    /// `run`: to answer a source, with at most `max` rewrites for each command.
+    Run { max: u64 },
+    /// `--help` or `-h`, of the program or of a command: to write the help text.
+    Help,
+    /// `--version` or `-V` of the program: to write its version.
+    Version,
+}
+
+/// Why the words were not read.
+#[derive(Clone, Copy, Debug, PartialEq, Eq)]
+pub enum WordsError {
+    /// Out of memory. It may come at any words.
+    Memory,
+    /// The words ask for nothing.
+    Usage,
+}
+
+impl From<AllocError> for WordsError {
+    ghost from_gives = { λ _ e. e ≡ MemoryError };
+
+    fn from(_: AllocError) -> Self {
+        WordsError::Memory
+    }
+}
+
+/// What is asked for where the parser of command lines ended with this error.
+fn asked_instead(kind: ErrorKind) -> Result<Asked, WordsError>
+    ensures asked { IfOk result (λ asked. ((asked ≡ Asked.Help) × (kind ≡ ErrorKind.DisplayHelp)) ⊎ ((asked ≡ Asked.Version) × (kind ≡ ErrorKind.DisplayVersion))) }
+    ensures usage { IsErrOf result WordsError.Usage → (kind ≢ ErrorKind.OutOfMemory) × (kind ≢ ErrorKind.DisplayHelp) × (kind ≢ ErrorKind.DisplayVersion) }
+{
+    match kind {
+        ErrorKind::OutOfMemory => Err(WordsError::Memory),
+        ErrorKind::DisplayHelp => Ok(Asked::Help),
+        ErrorKind::DisplayVersion => Ok(Asked::Version),
+        _ => Err(WordsError::Usage),
+    }
+}
+
+/// What `run` with these arguments asks for.
+fn read_run(alloc: Global, matches: &ArgMatches<'_>) -> Result<Asked, WordsError>
+    ensures asked { IfOk result (λ asked. (max : ℕ) × (asked ≡ Asked.Run max) × IsMax (rows_of (found_of matches.now)) max) }
+    ensures usage { IsErrOf result WordsError.Usage → (max : ℕ) → IsMax (rows_of (found_of matches.now)) max → ⊥ }
+{
+    match option_number(alloc, matches, "max", 1, 10_000_000, 1_000_000)? {
+        Some(max) => Ok(Asked::Run { max }),
+        None => Err(WordsError::Usage),
+    }
+}
+
+/// Reads the words of a command line, of which the first is the program's name.
+///
+/// - `run`, with `--max N` or `--max=N` at most once, asks for a run. N is a number from 1 to 10,000,000 in digits, with
+///   no sign and no zero in front. Without it the run has 1,000,000.
+/// - `--help` and `-h` ask for help, `--version` and `-V` for the version. Clap reads from the left and ends there, so the
+///   words behind them say nothing, but a word in front that clap refuses is refused.
+///
+/// Other words, or none, are `Usage`.
+pub fn read_words(alloc: Global, words: &[String]) -> Result<Asked, WordsError>
+    ensures asked { IfOk result (Asks (texts words.now)) }
+    ensures only { IfOk result (λ asked. (other : Asked) → Asks (texts words.now) other → other ≡ asked) }
+    ensures usage { IsErrOf result WordsError.Usage → (asked : Asked) → Asks (texts words.now) asked → ⊥ }
+{
+    let matches = match matches_of(alloc, words) {
+        Ok(matches) => matches,
+        Err(kind) => return asked_instead(kind),
+    };
+    match matches.subcommand() {
+        Some(("run", arguments)) => read_run(alloc, arguments),
+        _ => Err(WordsError::Usage),
+    }
+}
+
+#[cfg(test)]
+mod tests {
+    use super::*;
+    use std::test::Fail;
+
+    fn asked(alloc: Global, line: &str) -> Result<Result<Asked, WordsError>, Fail> {
+        let mut words = Vec::new(alloc);
+        for word in line.split(' ') {
+            words.push(String::from_str(alloc, word)?)?;
+        }
+        Ok(read_words(alloc, words.as_slice()))
+    }
+
+    #[test]
+    fn words_are_read(rt: HostRuntime) -> Result<(), Fail> {
+        let alloc = rt.alloc();
+        let run = |max: u64| Ok(Asked::Run { max });
+        let cases: [(&str, Result<Asked, WordsError>); 36] = [
+            ("mw run", run(1_000_000)),
+            ("mw run --max 5", run(5)),
+            ("mw run --max 1", run(1)),
+            ("mw run --max=10000000", run(10_000_000)),
+            ("another run", run(1_000_000)),
+            ("mw run --", run(1_000_000)),
+            ("mw run --max 0", Err(WordsError::Usage)),
+            ("mw run --max 10000001", Err(WordsError::Usage)),
+            ("mw run --max 007", Err(WordsError::Usage)),
+            ("mw run --max +5", Err(WordsError::Usage)),
+            ("mw run --max -5", Err(WordsError::Usage)),
+            ("mw run --max 5x", Err(WordsError::Usage)),
+            ("mw run --max 18446744073709551617", Err(WordsError::Usage)),
+            ("mw run --max=", Err(WordsError::Usage)),
+            ("mw run --max", Err(WordsError::Usage)),
+            ("mw run --max 5 --max 5", Err(WordsError::Usage)),
+            ("mw run 5", Err(WordsError::Usage)),
+            ("mw run --proof", Err(WordsError::Usage)),
+            ("mw run --workers 2", Err(WordsError::Usage)),
+            ("mw run --rounds", Err(WordsError::Usage)),
+            ("mw run --version", Err(WordsError::Usage)),
+            ("mw --max 5 run", Err(WordsError::Usage)),
+            ("mw check", Err(WordsError::Usage)),
+            ("mw gen 2", Err(WordsError::Usage)),
+            ("mw help", Err(WordsError::Usage)),
+            ("mw Run", Err(WordsError::Usage)),
+            ("mw", Err(WordsError::Usage)),
+            ("mw --help", Ok(Asked::Help)),
+            ("mw -h", Ok(Asked::Help)),
+            ("mw run --help", Ok(Asked::Help)),
+            ("mw run -h", Ok(Asked::Help)),
+            ("mw run --max 007 --help", Ok(Asked::Help)),
+            ("mw run --proof --help", Err(WordsError::Usage)),
+            ("mw --help more", Ok(Asked::Help)),
+            ("mw --version", Ok(Asked::Version)),
+            ("mw -V", Ok(Asked::Version)),
+        ];
+        for (line, want) in cases {
+            assert_eq!(rt; asked(alloc, line)?, want, "at {line}");
+        }
+        assert_eq!(rt; read_words(alloc, &[]), Err(WordsError::Usage));
+        Ok(())
+    }
+}

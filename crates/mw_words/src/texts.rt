@@ -1,0 +1,35 @@
+//! The texts that answer a wish for help and for the version.
+
+ghost use Rattle.std.specs.Prelude.{◌≡◌};
+ghost use Rattle.mw_words.specs.Texts.{help, version_line};
+
+const VERSION: &str = "mw 0.1.0\n";
+
+const HELP: &str = "\
+mw run [--max N]    answers the commands of the source on standard input
+mw --help, -h       writes this text, as `mw run --help` does
+mw --version, -V    writes the version
+--max N             the most rewrites of a command, 1 to 10000000 (default 1000000)
+Exit status:
+  0  all was answered
+  1  a part of the source was refused
+  2  the words are no command; nothing was read
+  3  the source failed; nothing was written
+  4  the output failed
+  5  out of memory
+  6  the source has more than 8388608 bytes; nothing was written
+";
+
+/// What is written for `--version`: one line.
+pub fn version_text() -> &'static str
+    ensures { result.now ≡ version_line }
+{
+    VERSION
+}
+
+/// What is written for `--help`: the commands, their options with ranges and defaults, and the statuses.
+pub fn help_text() -> &'static str
+    ensures { result.now ≡ help }
+{
+    HELP
+}
