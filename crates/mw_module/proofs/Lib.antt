@@ -1,0 +1,2 @@
+-- Laws of tokens, forms and units.
+pub mod Slices

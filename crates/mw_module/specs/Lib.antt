@@ -1,0 +1,4 @@
+-- Units of a source.
+pub mod Words
+pub mod Openings
+pub mod Forms
