@@ -2,3 +2,5 @@
 pub mod Words
 pub mod Openings
 pub mod Forms
+pub mod Kinds
+pub mod Units
