@@ -7,13 +7,14 @@ use Rattle.std.specs.Global.{Vec}
 use Rattle.mw_lex.specs.declared.token.Token.{Token}
 use Rattle.mw_module.specs.declared.faults.Fault.{Fault}
 use Rattle.mw_module.proofs.Slices.{seen_take, seen_length}
-use Rattle.std.specs.Prelude.{codes}
+use Rattle.std.specs.Prelude.{codes, All, IsOk}
+use Rattle.std.proofs.lemmas.List.Elements.{All-append, All-nil, All-cons}
 use Rattle.mw_lex.specs.Lexing.{Seen, seen_all}
 use Rattle.mw_module.specs.declared.faults.FaultKind.{FaultKind}
 use Rattle.mw_module.specs.declared.faults.FaultKind.TheVariants.{BadStatement}
 use Rattle.mw_module.specs.Forms.{Shape, form_of}
 use Rattle.mw_module.specs.Words.{is, count_before}
-use Rattle.mw_module.specs.Units.{Statement, Cut, with_token, cut, Body, with_items, statements_before, kind_unended, left_of, body_of, seen_items}
+use Rattle.mw_module.specs.Units.{Statement, Cut, with_token, cut, Body, with_items, statements_before, kind_unended, left_of, body_of, seen_items, IsFormed}
 
 -- the line of the first token
 abbrev pub first_line : List Seen → ℕ
@@ -118,3 +119,11 @@ items_kept xs v ts behind n shape w e short f same next kept =
     let step : body_of (seen_all ts) ≡ with_items (take n (seen_all ts) ∷ []) (body_of (drop (n + 1) (seen_all ts))) = body_step (seen_all ts) n shape e (omega arith) form in
     let item : seen_all v.items ≡ take n (seen_all ts) = same ∙ seen_take n ts in
     rw (map-append, next, item) (items_twice (seen_items xs) (take n (seen_all ts) ∷ []) (body_of (drop (n + 1) (seen_all ts))) ∙ ap (with_items (seen_items xs)) (sym step) ∙ kept)
+
+-- one more item with a form
+pub formed_more : (xs : List (Vec Token)) (v : Vec Token) (ts : List Token) (shape : Shape) → form_of (seen_all ts) ≡ Ok shape → seen_all v.items ≡ seen_all ts
+    → All IsFormed (seen_items xs) → All IsFormed (seen_items (xs ++ v ∷ []))
+formed_more xs v ts shape form same formed =
+    let met : form_of (seen_all v.items) ≡ Ok shape = ap form_of same ∙ form in
+    let here : IsFormed (seen_all v.items) = subst IsOk (sym met) refl in
+    rw map-append (All-append IsFormed (seen_items xs) (seen_all v.items ∷ []) formed (All-cons IsFormed (seen_all v.items) [] here (All-nil IsFormed)))

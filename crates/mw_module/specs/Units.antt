@@ -138,6 +138,14 @@ unit_with kind.Strategy first ts = Err (record { line = first.line; kind = NotIn
 unit_with kind.Proof first ts = Err (record { line = first.line; kind = NotInProfile })
 unit_with kind.Command first ts = Ok (record { line = first.line; word = first.text; name = None; items = ts ∷ [] })
 
+-- a statement that has a form
+abbrev pub IsFormed : List Seen → Type 0
+IsFormed ts = IsOk (form_of ts)
+
+-- each of a module's statements has a form
+abbrev pub AreFormed : SeenUnit → Type 0
+AreFormed u = IsSome u.name → All IsFormed u.items
+
 -- a unit or what is wrong with it, and how many tokens it has
 pub record Reading : Type 0 where
   pub outcome : Outcome

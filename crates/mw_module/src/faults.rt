@@ -43,7 +43,10 @@ pub enum FaultKind {
         sorts: Vec<Vec<u8>>,
     },
     /// An operator whose identity lowers this sort.
-    LowIdentity { operator: Vec<u8>, sort: Vec<u8> },
+    LowIdentity {
+        operator: Vec<u8>,
+        sort: Vec<u8>,
+    },
     /// A term of too many tokens.
     TermTooLong,
     /// No term is spelled so.

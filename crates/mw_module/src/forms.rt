@@ -13,7 +13,9 @@ use mw_lex::Token;
 #[derive(Clone, Copy)]
 pub enum Form<'a> {
     /// Sorts that are declared, at least one.
-    Sorts { names: &'a [Token] },
+    Sorts {
+        names: &'a [Token],
+    },
     /// Operators that are declared, at least one, each with these argument sorts and this value's sort.
     Operators {
         names: &'a [Token],
@@ -21,7 +23,10 @@ pub enum Form<'a> {
         result: &'a Token,
     },
     /// Variables that are declared, at least one.
-    Variables { names: &'a [Token], sort: &'a Token },
+    Variables {
+        names: &'a [Token],
+        sort: &'a Token,
+    },
     /// The two sides of an equation; each may be empty.
     Equation {
         left: &'a [Token],

@@ -1,9 +1,9 @@
 // The units of a source.
-ghost use Rattle.std.specs.Prelude.{◌≡◌, ◌<◌, ◌≤◌, ◌+◌, ℕ, List, length, drop, map, IfOk, IfErr, Ok, Err, Some};
+ghost use Rattle.std.specs.Prelude.{◌≡◌, ◌<◌, ◌≤◌, ◌+◌, ℕ, List, length, drop, map, All, IfOk, IfErr, Ok, Err, Some};
 ghost use Rattle.mw_lex.specs.Lexing.{seen, seen_all};
 ghost use Rattle.mw_module.specs.Units as units;
 ghost use Rattle.mw_module.specs.declared.units.UnitError.TheVariants.{Memory};
-ghost use Rattle.mw_module.specs.declared.kinds.Kind.TheVariants as kind_;
+ghost use Rattle.mw_module.specs.declared.kinds.Kind.TheVariants as kinds;
 
 use crate::faults::{Fault, FaultKind};
 use crate::forms::Form;
@@ -27,10 +27,7 @@ pub struct Unit {
 #[derive(Debug, Drop)]
 pub enum UnitError {
     /// What is wrong with the unit, and the place where the next one begins.
-    Fault {
-        fault: Fault,
-        next: usize,
-    },
+    Fault { fault: Fault, next: usize },
     Memory,
 }
 
@@ -53,7 +50,8 @@ pub fn copies(alloc: Global, tokens: &[Token]) -> Result<Vec<Token>, AllocError>
 
 // The statements of a body, or its first fault.
 fn read_body(alloc: Global, body: &[Token]) -> Result<Result<Vec<Vec<Token>>, Fault>, AllocError>
-    ensures { IfOk result (λ r. units.seen_body r ≡ units.body_of (seen_all body.now)) }
+    ensures body { IfOk result (λ r. units.seen_body r ≡ units.body_of (seen_all body.now)) }
+    ensures formed { IfOk result (λ r. IfOk r (λ items. All units.IsFormed (units.seen_items items.items))) }
 {
     let mut items = Vec::new(alloc);
     let mut rest = body;
@@ -97,7 +95,8 @@ fn read_module(
     first: &Token,
     tokens: &[Token],
 ) -> Result<Result<Unit, Fault>, AllocError>
-    ensures { IfOk result (λ r. units.seen_outcome r ≡ units.module_of (seen first.now) (seen_all tokens.now)) }
+    ensures unit { IfOk result (λ r. units.seen_outcome r ≡ units.module_of (seen first.now) (seen_all tokens.now)) }
+    ensures formed { IfOk result (λ r. IfOk r (λ u. units.AreFormed (units.seen_unit u))) }
 {
     let line = first.line;
     match tokens {
@@ -124,7 +123,8 @@ fn read_module(
 
 // A command, whose tokens are one item.
 fn read_command(alloc: Global, first: &Token, tokens: &[Token]) -> Result<Unit, AllocError>
-    ensures { IfOk result (λ u. Ok (units.seen_unit u) ≡ units.unit_with kind_.Command (seen first.now) (seen_all tokens.now)) }
+    ensures unit { IfOk result (λ u. Ok (units.seen_unit u) ≡ units.unit_with kinds.Command (seen first.now) (seen_all tokens.now)) }
+    ensures formed { IfOk result (λ u. units.AreFormed (units.seen_unit u)) }
 {
     let mut items = Vec::new(alloc);
     items.push(copies(alloc, tokens)?)?;
@@ -143,7 +143,8 @@ fn read_whole(
     first: &Token,
     tokens: &[Token],
 ) -> Result<Result<Unit, Fault>, AllocError>
-    ensures { IfOk result (λ r. units.seen_outcome r ≡ units.unit_with kind (seen first.now) (seen_all tokens.now)) }
+    ensures unit { IfOk result (λ r. units.seen_outcome r ≡ units.unit_with kind (seen first.now) (seen_all tokens.now)) }
+    ensures formed { IfOk result (λ r. IfOk r (λ u. units.AreFormed (units.seen_unit u))) }
 {
     match kind {
         Kind::Functional => match tokens {
@@ -168,6 +169,7 @@ pub fn read_unit(
 ) -> Result<(Unit, usize), UnitError>
     requires { at < length tokens.now }
     ensures unit { IfOk result (λ r. units.Reads proofs (seen_all tokens.now) at (Ok (units.seen_unit r.0)) r.1) }
+    ensures formed { IfOk result (λ r. units.AreFormed (units.seen_unit r.0)) }
     ensures fault { IfErr result (λ e. units.HasCause proofs (seen_all tokens.now) at e) }
 {
     let rest = from(tokens, at);

@@ -12,7 +12,7 @@ returns-in-Ok-clause-unit c =
     (c.kind_of-kind.ensures ∙ ap (kind_of c.args.proofs) c.as_slice.ensures.value)
     (c.count_before-len.ensures.count ∙ ap (λ w. count_before w (seen_all c.from-rest.result.now)) c.end_word.ensures)
     (omega (arith, c.count_before-len.ensures.within))
-    (sym (ap seen_outcome c.in-Ok.is) ∙ c.in_ok-unit.ensures)
+    (sym (ap seen_outcome c.in-Ok.is) ∙ c.in_ok-unit.ensures.unit)
 
 pub returns-in-Err-clause-fault : goal.returns-in-Err-clause-fault
 returns-in-Err-clause-fault c =
@@ -20,4 +20,4 @@ returns-in-Err-clause-fault c =
     (c.kind_of-kind.ensures ∙ ap (kind_of c.args.proofs) c.as_slice.ensures.value)
     (c.count_before-len.ensures.count ∙ ap (λ w. count_before w (seen_all c.from-rest.result.now)) c.end_word.ensures)
     (omega (arith, c.count_before-len.ensures.within))
-    (sym (ap seen_outcome c.in-Err.is) ∙ c.in_ok-unit.ensures)
+    (sym (ap seen_outcome c.in-Err.is) ∙ c.in_ok-unit.ensures.unit)
