@@ -66,11 +66,7 @@ fn behind_word(unit: &Unit) -> &[Token]
 }
 
 // A reduction of this term.
-fn reduction(
-    alloc: Global,
-    module: Option<Vec<u8>>,
-    term: &[Token],
-) -> Result<Command, AllocError>
+fn reduction(alloc: Global, module: Option<Vec<u8>>, term: &[Token]) -> Result<Command, AllocError>
     ensures { IfOk result (λ c. commands.seen_command c ≡ commands.reduction (option_map (λ m. m.items) «module») (seen_all term.now)) }
 {
     Ok(Command {

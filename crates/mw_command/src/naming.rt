@@ -4,7 +4,7 @@ ghost use Rattle.mw_lex.specs.Lexing.{seen, seen_all};
 ghost use Rattle.mw_command.specs.Commands as commands;
 
 use mw_lex::Token;
-use mw_module::{count_before, from, is_word};
+use mw_module::{count_before, is_word, tokens_from};
 
 /// Whether the first token has this text.
 pub fn begins_with(tokens: &[Token], word: &[u8]) -> bool
@@ -25,9 +25,9 @@ fn behind_bound(tokens: &[Token]) -> &[Token]
     }
     let end = count_before(tokens, b"]");
     if end < tokens.len() {
-        from(tokens, end + 1)
+        tokens_from(tokens, end + 1)
     } else {
-        from(tokens, tokens.len())
+        tokens_from(tokens, tokens.len())
     }
 }
 

@@ -1,5 +1,5 @@
 -- A body, statement by statement.
-use Rattle.std.proofs.Common.{◌≡◌, ◌∙◌, ◌<◌, ◌≤◌, ◌+◌, inl, inr, ◌⊎◌, ℕ, Bool, true, false, cond, suc, List, [], ◌∷◌, ◌++◌, length, take, drop, get_or, Ok, Err, refl, sym, ap, subst, arith, append_assoc}
+use Rattle.std.proofs.Common.{◌≡◌, ◌∙◌, ◌<◌, ◌≤◌, ◌+◌, inl, inr, ℕ, Bool, true, false, cond, suc, List, [], ◌∷◌, ◌++◌, length, take, drop, get_or, Ok, Err, refl, sym, ap, subst, arith, append_assoc}
 use Rattle.std.proofs.lemmas.List.{map-append}
 use Rattle.std.proofs.Math.Seq.{take-length}
 use Rattle.std.proofs.Math.Nat.{eq-or-lt_of_le}
@@ -14,7 +14,7 @@ use Rattle.mw_module.specs.declared.faults.FaultKind.{FaultKind}
 use Rattle.mw_module.specs.declared.faults.FaultKind.TheVariants.{BadStatement}
 use Rattle.mw_module.specs.Forms.{Shape, form_of}
 use Rattle.mw_module.specs.Words.{is, count_before}
-use Rattle.mw_module.specs.Units.{Statement, Cut, with_token, cut, Body, with_items, statements_before, kind_unended, left_of, body_of, seen_items, IsFormed}
+use Rattle.mw_module.specs.Units.{Cut, with_token, cut, Body, with_items, statements_before, kind_unended, left_of, body_of, seen_items, IsFormed}
 
 -- the line of the first token
 abbrev pub first_line : List Seen → ℕ

@@ -1,9 +1,8 @@
 -- The unit at the front of what is left.
-use Rattle.std.proofs.Common.{◌≡◌, ◌∙◌, ◌<◌, ◌≤◌, ◌+◌, ◌-◌, ◌==◌, ℕ, Bool, false, List, [], ◌∷◌, length, take, drop, get_or, Some, refl, sym, ap, arith}
+use Rattle.std.proofs.Common.{◌≡◌, ◌∙◌, ◌<◌, ◌+◌, ◌-◌, ◌==◌, ℕ, Bool, false, List, [], ◌∷◌, length, take, drop, get_or, Some, refl, sym, ap, arith}
 use Rattle.std.proofs.lemmas.Bool.{ne_eqb}
-use Rattle.std.proofs.lemmas.List.{length-drop}
 use Rattle.mw_lex.specs.declared.token.Token.{Token}
-use Rattle.mw_lex.specs.Lexing.{Seen, seen, seen_all}
+use Rattle.mw_lex.specs.Lexing.{seen, seen_all}
 use Rattle.mw_module.specs.declared.kinds.Kind.{Kind}
 use Rattle.mw_module.specs.Kinds.{kind_of, end_word}
 use Rattle.mw_module.specs.Words.{count_before}

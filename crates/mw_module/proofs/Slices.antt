@@ -1,5 +1,5 @@
 -- Tokens as they are seen, in parts of slices.
-use Rattle.std.proofs.Common.{◌≡◌, ℕ, List, length, take, drop, reverse, sym}
+use Rattle.std.proofs.Common.{◌≡◌, ℕ, List, length, take, drop, sym}
 use Rattle.std.proofs.lemmas.List.{take-map, drop-map, length-map}
 use Rattle.mw_lex.specs.declared.token.Token.{Token}
 use Rattle.mw_lex.specs.Lexing.{seen, seen_all}

@@ -1,5 +1,5 @@
 -- The units of a source.
-use Rattle.std.specs.Prelude.{◌≡◌, ◌<◌, ◌≤◌, ℕ, Bool, true, false, List, [], ◌∷◌, ◌++◌, ◌+◌, ◌-◌, ◌==◌, ◌||◌, nat_lt, length, take, drop, map, All, IsOk, IsSome, Option, None, Some, option_map, Result, Ok, Err, if◌then◌else◌, codes}
+use Rattle.std.specs.Prelude.{◌≡◌, ◌<◌, ◌≤◌, ℕ, Bool, false, List, [], ◌∷◌, ◌++◌, ◌+◌, ◌-◌, ◌==◌, nat_lt, length, take, drop, map, All, IsOk, IsSome, Option, None, Some, option_map, Result, Ok, Err, if◌then◌else◌, codes}
 use Rattle.std.specs.Global.{Vec}
 use Rattle.mw_lex.specs.declared.token.Token.{Token}
 use Rattle.mw_lex.specs.Lexing.{Seen, seen, seen_all}
@@ -98,8 +98,9 @@ has_brace ts = nat_lt (count_before (codes "{") ts) (count_before (codes "is") t
 
 -- what is wrong with a module's name and what stands behind it
 abbrev pub head_fault : Seen → List Seen → Option FaultKind
-head_fault name behind = if is (codes "{") name || has_brace behind then Some NotInProfile
-    else if begins_is behind then None else Some BadStatement
+head_fault name behind = if is (codes "{") name then Some NotInProfile
+    else if begins_is behind then None
+    else if has_brace behind then Some NotInProfile else Some BadStatement
 
 -- a unit, or what is wrong
 abbrev pub Outcome : Type 0

@@ -6,7 +6,7 @@ ghost use Rattle.mw_module.specs.Forms as forms;
 use crate::faults::FaultKind;
 use crate::names::{Role, first_fault, lone_sort, names_fault};
 use crate::openings::{Opening, opening_of};
-use crate::words::{count_before, from, is_word};
+use crate::words::{count_before, is_word, tokens_from};
 use mw_lex::Token;
 
 /// A statement by its form, with its parts.
@@ -61,7 +61,7 @@ fn variables_form<'a>(tokens: &'a [Token]) -> Result<Form<'a>, FaultKind>
     if let Some(kind) = names_fault(Role::Variable, names) {
         return Err(kind);
     }
-    match lone_sort(Role::VariableSort, from(tokens, colon + 1)) {
+    match lone_sort(Role::VariableSort, tokens_from(tokens, colon + 1)) {
         Ok(sort) => Ok(Form::Variables { names, sort }),
         Err(kind) => Err(kind),
     }
@@ -82,7 +82,7 @@ fn arrow_form<'a>(names: &'a [Token], tokens: &'a [Token]) -> Result<Form<'a>, F
     if arrow == tokens.len() {
         return Err(FaultKind::BadStatement);
     }
-    match lone_sort(Role::Value, from(tokens, arrow + 1)) {
+    match lone_sort(Role::Value, tokens_from(tokens, arrow + 1)) {
         Ok(result) => Ok(Form::Operators {
             names,
             args,
@@ -119,7 +119,7 @@ fn operators_form<'a>(single: bool, tokens: &'a [Token]) -> Result<Form<'a>, Fau
     if let Some(kind) = operator_names_fault(single, names) {
         return Err(kind);
     }
-    match arrow_form(names, from(tokens, colon + 1)) {
+    match arrow_form(names, tokens_from(tokens, colon + 1)) {
         Ok(form) => Ok(form),
         Err(kind) => Err(kind),
     }
@@ -184,7 +184,7 @@ fn attributes_len(tokens: &[Token]) -> usize
     ensures within { result ≤ length tokens.now }
 {
     match bracket_len(tokens) {
-        Some(len) if begins_attributes(from(tokens, tokens.len() - len)) => len,
+        Some(len) if begins_attributes(tokens_from(tokens, tokens.len() - len)) => len,
         _ => 0,
     }
 }
@@ -248,7 +248,7 @@ fn equation_form<'a>(tokens: &'a [Token]) -> Result<Form<'a>, FaultKind>
         Some(_) if attributes != 0 => Err(FaultKind::NotInProfile),
         Some(at) => Ok(Form::Equation {
             left: &sides[..at],
-            right: from(sides, at + 1),
+            right: tokens_from(sides, at + 1),
         }),
     }
 }

@@ -17,7 +17,7 @@ mod words;
 pub use faults::{Fault, FaultKind};
 pub use forms::Form;
 pub use units::{Unit, UnitError, copies, read_unit};
-pub use words::{count_before, from, is_word};
+pub use words::{count_before, is_word, tokens_from};
 
 #[cfg(test)]
 mod tests {

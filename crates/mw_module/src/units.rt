@@ -8,7 +8,7 @@ ghost use Rattle.mw_module.specs.declared.kinds.Kind.TheVariants as kinds;
 use crate::faults::{Fault, FaultKind};
 use crate::forms::Form;
 use crate::kinds::{Kind, end_word, kind_of, unended};
-use crate::words::{count_before, from, is_word};
+use crate::words::{count_before, is_word, tokens_from};
 use mw_lex::Token;
 use std::alloc::{AllocError, Global};
 
@@ -71,7 +71,7 @@ fn read_body(alloc: Global, body: &[Token]) -> Result<Result<Vec<Vec<Token>>, Fa
             }));
         }
         items.push(copies(alloc, statement)?)?;
-        rest = from(rest, len + 1);
+        rest = tokens_from(rest, len + 1);
     }
     Ok(Ok(items))
 }
@@ -80,11 +80,14 @@ fn read_body(alloc: Global, body: &[Token]) -> Result<Result<Vec<Vec<Token>>, Fa
 fn head_fault(name: &Token, behind: &[Token]) -> Option<FaultKind>
     ensures { result ≡ units.head_fault (seen name.now) (seen_all behind.now) }
 {
-    if is_word(name, b"{") || count_before(behind, b"{") < count_before(behind, b"is") {
+    if is_word(name, b"{") {
         return Some(FaultKind::NotInProfile);
     }
     match behind {
         [token, ..] if is_word(token, b"is") => None,
+        _ if count_before(behind, b"{") < count_before(behind, b"is") => {
+            Some(FaultKind::NotInProfile)
+        }
         _ => Some(FaultKind::BadStatement),
     }
 }
@@ -172,7 +175,7 @@ pub fn read_unit(
     ensures formed { IfOk result (λ r. units.AreFormed (units.seen_unit r.0)) }
     ensures fault { IfErr result (λ e. units.HasCause proofs (seen_all tokens.now) at e) }
 {
-    let rest = from(tokens, at);
+    let rest = tokens_from(tokens, at);
     let first = &rest[0];
     let kind = kind_of(proofs, first.text.as_slice());
     let len = count_before(rest, end_word(kind));

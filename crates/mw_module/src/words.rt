@@ -38,7 +38,7 @@ pub fn count_before(tokens: &[Token], word: &[u8]) -> usize
 
 // The tokens from this one on.
 #[tactic(auto, using(crate::proofs::Slices::seen_drop))]
-pub fn from(tokens: &[Token], at: usize) -> &[Token]
+pub fn tokens_from(tokens: &[Token], at: usize) -> &[Token]
     requires { at ≤ length tokens.now }
     ensures seen { seen_all result.now ≡ drop at (seen_all tokens.now) }
     ensures len { length result.now + at ≡ length tokens.now }

@@ -4,4 +4,4 @@ use Rattle.mw_module.proofs.Slices.{seen_take, seen_length}
 use Rattle.mw_module.proofs.forms.arrow_form.Goals as goal
 
 pub returns-in-Err : goal.returns-in-Err
-returns-in-Err c = grind (arith, common_steps, seen_take, seen_length, c.in-Err.ensures, c.from.ensures.seen)
+returns-in-Err c = grind (arith, common_steps, seen_take, seen_length, c.in-Err.ensures, c.tokens_from.ensures.seen)

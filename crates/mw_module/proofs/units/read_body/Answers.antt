@@ -15,6 +15,6 @@ returns-then-len-rest-clause-body c =
 pub loop-rest-preserved : goal.loop-rest-preserved
 loop-rest-preserved c = record {
   body = rw c.in_ok-push.ensures.items
-      (items_kept _ _ _ _ _ _ _ c.count_before-len.ensures.count (omega (arith, c.count_before-len.ensures.within)) c.in_default-of.ensures c.in_ok-copies.ensures c.from-rest.ensures.seen c.loop-rest.invariant.body);
+      (items_kept _ _ _ _ _ _ _ c.count_before-len.ensures.count (omega (arith, c.count_before-len.ensures.within)) c.in_default-of.ensures c.in_ok-copies.ensures c.tokens_from-rest.ensures.seen c.loop-rest.invariant.body);
   formed = rw c.in_ok-push.ensures.items (formed_more _ _ _ _ c.in_default-of.ensures c.in_ok-copies.ensures c.loop-rest.invariant.formed);
 }
