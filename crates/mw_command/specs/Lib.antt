@@ -1,0 +1,2 @@
+-- The commands of a source.
+pub mod Commands

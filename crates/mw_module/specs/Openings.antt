@@ -1,0 +1,19 @@
+-- The first words of statements.
+use Rattle.std.specs.Prelude.{ℕ, Bool, List, ◌||◌, if◌then◌else◌, codes}
+use Rattle.std.specs.Str.{bytes_eq}
+use Rattle.mw_module.specs.declared.openings.Opening.{Opening}
+use Rattle.mw_module.specs.declared.openings.Opening.TheVariants as opening
+
+-- a word of statements that stand in system or object modules alone
+abbrev pub is_elsewhere : List ℕ → Bool
+is_elsewhere word = bytes_eq word (codes "rl") || bytes_eq word (codes "crl") || bytes_eq word (codes "class") || bytes_eq word (codes "subclass")
+    || bytes_eq word (codes "subclasses") || bytes_eq word (codes "msg") || bytes_eq word (codes "msgs")
+
+-- what a statement's first word asks for
+abbrev pub opening_of : List ℕ → Opening
+opening_of word = if bytes_eq word (codes "sort") || bytes_eq word (codes "sorts") then opening.Sorts
+    else if bytes_eq word (codes "op") then opening.Operator
+    else if bytes_eq word (codes "ops") then opening.Operators
+    else if bytes_eq word (codes "var") || bytes_eq word (codes "vars") then opening.Variables
+    else if bytes_eq word (codes "eq") then opening.Equation
+    else if is_elsewhere word then opening.Elsewhere else opening.Unread

@@ -1,0 +1,79 @@
+// What is wrong with a unit.
+
+/// The kinds of faults, in the order in which they are looked for in a source. A name, sort or operator is held as
+/// it is spelled.
+#[derive(Debug, PartialEq, Eq, Drop)]
+pub enum FaultKind {
+    /// A byte that stands in no token.
+    BadByte,
+    /// A block comment whose closing parenthesis is missing.
+    UnendedComment,
+    /// The input ends in a module.
+    UnendedModule,
+    /// The input ends in a command.
+    UnendedCommand,
+    /// The input ends in a proof.
+    UnendedProof,
+    /// A form that isn't read.
+    NotInProfile,
+    /// A statement that begins as one that is read, and isn't of its form.
+    BadStatement,
+    /// A name that is taken: a module's, or a variable's with another sort.
+    AlreadyDefined(Vec<u8>),
+    /// No accepted module has this name.
+    UnknownModule(Vec<u8>),
+    /// A module that imports itself.
+    CircularImport(Vec<u8>),
+    /// No sort has this name.
+    UnknownSort(Vec<u8>),
+    /// The least sort that is below itself.
+    SortCycle(Vec<u8>),
+    /// Axioms that don't go together, or don't fit the operator.
+    BadAxioms(Vec<u8>),
+    /// Two identities, precedences or gathers of one operator.
+    AttributesDisagree(Vec<u8>),
+    /// An operator that has no least result at these argument sorts.
+    NotPreregular {
+        operator: Vec<u8>,
+        sorts: Vec<Vec<u8>>,
+    },
+    /// An associative operator whose two nestings differ in sort at these sorts.
+    NotAssociative {
+        operator: Vec<u8>,
+        sorts: Vec<Vec<u8>>,
+    },
+    /// An operator whose identity lowers this sort.
+    LowIdentity {
+        operator: Vec<u8>,
+        sort: Vec<u8>,
+    },
+    /// A term of too many tokens.
+    TermTooLong,
+    /// No term is spelled so.
+    NoParse,
+    /// More than one term is spelled so.
+    Ambiguous,
+    /// A term that is nested too deep.
+    TooDeep,
+    /// A number that is too large.
+    NumberTooLarge,
+    /// A left side that is a variable.
+    LoneVariable,
+    /// A variable that nothing binds.
+    UnboundVariable(Vec<u8>),
+    /// A variable in a term that must have none.
+    OpenTerm,
+    /// Objects that a rule can't rewrite.
+    BadObject,
+    /// A bound that isn't a number in range, or that the command doesn't take.
+    BadBound,
+    /// There is no module to take.
+    NoModule,
+}
+
+/// A fault, with the line of the statement's first token, or else of the unit's.
+#[derive(Debug, PartialEq, Eq, Drop)]
+pub struct Fault {
+    pub line: u32,
+    pub kind: FaultKind,
+}

@@ -1,0 +1,251 @@
+//! Cuts the tokens of a source into units, and a functional module's body into statements of known forms.
+//!
+//! A unit that begins with `fmod`, `mod` or `omod` is a module, up to the first `endfm`, `endm` or `endom`. One that
+//! begins with `fth`, `th`, `oth`, `view` or `smod` goes to its own end word, or to the end of the input. Any other
+//! one is a command, up to the first full stop. Of modules those that begin with `fmod` are read: a name of one
+//! token, `is`, and statements, each up to the first full stop.
+#![tactic(auto)]
+
+mod faults;
+mod forms;
+mod kinds;
+mod names;
+mod openings;
+mod units;
+mod words;
+
+pub use faults::{Fault, FaultKind};
+pub use forms::Form;
+pub use units::{Unit, UnitError, copies, read_unit};
+pub use words::{count_before, is_word, tokens_from};
+
+#[cfg(test)]
+mod tests {
+    use super::*;
+    use mw_lex::{Token, tokens};
+    use std::alloc::{AllocError, Global};
+    use std::process::Abort;
+    use std::test::Fail;
+
+    /// The number under which a kind of fault is listed, of those that units and statements have.
+    fn mark(kind: &FaultKind) -> u8 {
+        match kind {
+            FaultKind::UnendedModule => b'3',
+            FaultKind::UnendedCommand => b'4',
+            FaultKind::UnendedProof => b'5',
+            FaultKind::NotInProfile => b'6',
+            FaultKind::BadStatement => b'7',
+            _ => b'?',
+        }
+    }
+
+    fn digit(rt: &impl Abort, number: usize) -> u8 {
+        assert!(rt; number < 10);
+        b'0' + number as u8
+    }
+
+    /// The tokens of an item, with a space behind each.
+    fn write_item(out: &mut Vec<u8>, item: &[Token]) -> Result<(), AllocError> {
+        for token in item {
+            out.extend_from_slice(token.text.as_slice())?;
+            out.push(b' ')?;
+        }
+        Ok(())
+    }
+
+    /// A unit's line, word, name and items; behind each item stands a full stop.
+    fn write_unit(rt: &impl Abort, out: &mut Vec<u8>, unit: &Unit) -> Result<(), AllocError> {
+        out.push(digit(rt, unit.line as usize))?;
+        out.extend_from_slice(unit.word.as_slice())?;
+        if let Some(name) = &unit.name {
+            out.push(b' ')?;
+            out.extend_from_slice(name.text.as_slice())?;
+        }
+        out.push(b'<')?;
+        for item in unit.items.iter() {
+            write_item(out, item.as_slice())?;
+            out.push(b'.')?;
+        }
+        out.push(b'>')?;
+        Ok(())
+    }
+
+    /// All units of a source; of a refused one its line, an exclamation mark and its number.
+    fn told(rt: &impl Abort, alloc: Global, source: &[u8], proofs: bool) -> Result<Vec<u8>, Fail> {
+        assert!(rt; source.len() < 1000);
+        let all = tokens(alloc, source)?;
+        let mut out = Vec::new(alloc);
+        let mut at = 0;
+        while at < all.len() {
+            match read_unit(alloc, all.as_slice(), at, proofs) {
+                Ok((unit, next)) => {
+                    write_unit(rt, &mut out, &unit)?;
+                    at = next;
+                }
+                Err(UnitError::Fault { fault, next }) => {
+                    out.push(digit(rt, fault.line as usize))?;
+                    out.push(b'!')?;
+                    out.push(mark(&fault.kind))?;
+                    at = next;
+                }
+                Err(UnitError::Memory) => Err("memory")?,
+            }
+        }
+        Ok(out)
+    }
+
+    #[test]
+    fn sources_are_cut_into_units(rt: HostRuntime) -> Result<(), Fail> {
+        let alloc = rt.alloc();
+        let cases: [(&[u8], &[u8]); 24] = [
+            (b"", b""),
+            (
+                b"fmod P is sort N .\nop s : N -> N . eq s(X) = X . endfm reduce in P : s(z) .",
+                b"1fmod P<sort N .op s : N -> N .eq s ( X ) = X .>2reduce<reduce in P : s ( z ) .>",
+            ),
+            (b"red z .\n. x y .", b"1red<red z .>2.<.>2x<x y .>"),
+            (b"reduce z .\nred z", b"1reduce<reduce z .>2!4"),
+            (b"\nfmod A is sort S .\nxyz", b"2!3"),
+            (b"mod A is xyz . endfm", b"1!3"),
+            (b"omod A is endm . endom red x .", b"1!61red<red x .>"),
+            (b"mod A is sort S .\n endm\nred x .", b"1!63red<red x .>"),
+            (b"fth T is .\nendfth red x .", b"1!62red<red x .>"),
+            (b"th endth oth endoth view endv smod endsm", b"1!61!61!61!6"),
+            (b"view V from T . endsm .", b"1!6"),
+            (b"fmod M is . endfm", b"1!6"),
+            (b"fmod M is\nsort S .\n. endfm", b"3!6"),
+            (b"fmod M is sort S .\nsort T endfm", b"2!7"),
+            (b"fmod M is sort S .\nsubsort S < T endfm", b"2!6"),
+            (b"fmod M is sort S .\nsort .\nxyz . endfm", b"2!7"),
+            (b"fmod endfm fmod M endfm", b"1!71!7"),
+            (b"fmod M N is\n xyz . endfm red x .", b"1!72red<red x .>"),
+            (b"fmod L{X :: T} is xyz . endfm", b"1!6"),
+            (b"fmod { is endfm", b"1!6"),
+            (b"fmod M sort S is { endfm", b"1!7"),
+            (b"fmod is is endfm", b"1fmod is<>"),
+            (b"fmod M is endfm fmod M is endfm", b"1fmod M<>1fmod M<>"),
+            (
+                b"proof p . endproof .",
+                b"1proof<proof p .>1endproof<endproof .>",
+            ),
+        ];
+        for (source, want) in cases {
+            let got = told(&rt, alloc, source, false)?;
+            assert_eq!(rt; got.as_slice(), want);
+        }
+        Ok(())
+    }
+
+    #[test]
+    fn proofs_are_units_where_asked_for(rt: HostRuntime) -> Result<(), Fail> {
+        let alloc = rt.alloc();
+        let whole = told(&rt, alloc, b"proof p .\nendproof red x .", true)?;
+        assert_eq!(rt; whole.as_slice(), b"1!62red<red x .>".as_slice());
+        let open = told(&rt, alloc, b"red x .\nproof p .", true)?;
+        assert_eq!(rt; open.as_slice(), b"1red<red x .>2!5".as_slice());
+        Ok(())
+    }
+
+    /// The letter of a statement's form and the numbers of tokens of its parts, or its fault's number.
+    fn formed(rt: &impl Abort, alloc: Global, statement: &[u8]) -> Result<Vec<u8>, Fail> {
+        assert!(rt; statement.len() < 1000);
+        let all = tokens(alloc, statement)?;
+        let mut out = Vec::new(alloc);
+        match Form::of(all.as_slice()) {
+            Ok(Form::Sorts { names }) => {
+                out.push(b's')?;
+                out.push(digit(rt, names.len()))?;
+            }
+            Ok(
+                Form::Operators {
+                    names,
+                    args,
+                    result,
+                },
+            ) => {
+                out.push(b'o')?;
+                out.push(digit(rt, names.len()))?;
+                out.push(digit(rt, args.len()))?;
+                out.extend_from_slice(result.text.as_slice())?;
+            }
+            Ok(Form::Variables { names, sort }) => {
+                out.push(b'v')?;
+                out.push(digit(rt, names.len()))?;
+                out.extend_from_slice(sort.text.as_slice())?;
+            }
+            Ok(Form::Equation { left, right }) => {
+                out.push(b'e')?;
+                out.push(digit(rt, left.len()))?;
+                out.push(digit(rt, right.len()))?;
+            }
+            Err(kind) => out.push(mark(&kind))?,
+        }
+        Ok(out)
+    }
+
+    #[test]
+    fn statements_have_forms(rt: HostRuntime) -> Result<(), Fail> {
+        let alloc = rt.alloc();
+        let cases: [(&[u8], &[u8]); 54] = [
+            (b"sort A B", b"s2"),
+            (b"sorts A", b"s1"),
+            (b"sort", b"7"),
+            (b"sort L{X}", b"6"),
+            (b"sort A , {", b"7"),
+            (b"sort \"a\"", b"7"),
+            (b"op f : A B -> C", b"o12C"),
+            (b"op f : -> C", b"o10C"),
+            (b"ops f g : A -> C", b"o21C"),
+            (b"op f : -> C [ctor]", b"6"),
+            (b"op f : A ~> B", b"6"),
+            (b"op f : [A] -> B", b"6"),
+            (b"op f : A -> [B]", b"6"),
+            (b"op f : A -> L{B}", b"6"),
+            (b"op _+_ : A A -> A", b"6"),
+            (b"op a`b : -> A", b"6"),
+            (b"op f g : -> A", b"6"),
+            (b"ops (f _) g : A -> A", b"6"),
+            (b"op f -> A", b"7"),
+            (b"op : -> A", b"7"),
+            (b"op f : A", b"7"),
+            (b"op f : A ->", b"7"),
+            (b"op f : -> A B", b"7"),
+            (b"op f : ( -> A", b"7"),
+            (b"op \"x\" : -> A", b"7"),
+            (b"op f : : -> :", b"o11:"),
+            (b"var X : A", b"v1A"),
+            (b"vars X Y : A", b"v2A"),
+            (b"var : A", b"7"),
+            (b"var X Y", b"7"),
+            (b"var X :", b"7"),
+            (b"var X : [A]", b"7"),
+            (b"var X : L{A}", b"6"),
+            (b"var X : A B", b"7"),
+            (b"var { : A", b"7"),
+            (b"eq f(X) = X", b"e41"),
+            (b"eq f(=) = X = Y", b"e43"),
+            (b"eq if X = Y fi = Z", b"e51"),
+            (b"eq ) X = Y", b"e21"),
+            (b"eq =", b"e00"),
+            (b"eq X", b"7"),
+            (b"eq if X = Y", b"7"),
+            (b"eq [l] : X = Y", b"6"),
+            (b"eq [l] : X", b"6"),
+            (b"eq X = Y [owise]", b"6"),
+            (b"eq X = Y [label [a] ]", b"6"),
+            (b"eq X [metadata \"=\" = ]", b"7"),
+            (b"eq X = Y [z]", b"e14"),
+            (b"subsort A < B", b"6"),
+            (b"pr NAT", b"6"),
+            (b"ceq X = Y if Z", b"6"),
+            (b"rl X => Y", b"7"),
+            (b"msg m : -> Msg", b"7"),
+            (b"mb X : A", b"6"),
+        ];
+        for (statement, want) in cases {
+            let got = formed(&rt, alloc, statement)?;
+            assert_eq!(rt; got.as_slice(), want);
+        }
+        Ok(())
+    }
+}

@@ -1,0 +1,99 @@
+// What may be wrong with names and sorts.
+ghost use Rattle.std.specs.Prelude.{◌≡◌, MatchResult, Ok, Err};
+ghost use Rattle.mw_lex.specs.Lexing.{seen, seen_all};
+ghost use Rattle.mw_module.specs.Forms as forms;
+
+use crate::faults::FaultKind;
+use crate::words::{is_cut, is_no_piece, is_punctuation, is_quoted, same};
+use mw_lex::Token;
+
+/// What a token stands for.
+#[derive(Clone, Copy)]
+pub enum Role {
+    /// The name of a sort that is declared.
+    NewSort,
+    Variable,
+    Operator,
+    /// The sort of an operator's argument.
+    Argument,
+    /// The sort of an operator's value.
+    Value,
+    VariableSort,
+}
+
+// Whether a form begins here that isn't read yet.
+fn is_unread(role: Role, text: &[u8]) -> bool
+    ensures { result ≡ forms.is_unread role text.now }
+{
+    match role {
+        Role::NewSort | Role::VariableSort => same(text, b"{"),
+        Role::Variable => false,
+        Role::Operator => !is_no_piece(text) && (is_cut(text) || is_punctuation(text)),
+        Role::Argument => same(text, b"[") || same(text, b"{") || same(text, b"~>"),
+        Role::Value => same(text, b"[") || same(text, b"{"),
+    }
+}
+
+// Whether the text can't stand in this role.
+fn is_bad(role: Role, text: &[u8]) -> bool
+    ensures { result ≡ forms.is_bad role text.now }
+{
+    match role {
+        Role::NewSort | Role::Variable => is_punctuation(text) || is_quoted(text),
+        Role::Operator => is_no_piece(text),
+        Role::Argument | Role::Value | Role::VariableSort => is_punctuation(text),
+    }
+}
+
+fn text_fault(role: Role, text: &[u8]) -> Option<FaultKind>
+    ensures { result ≡ forms.text_fault role text.now }
+{
+    if is_unread(role, text) {
+        Some(FaultKind::NotInProfile)
+    } else if is_bad(role, text) {
+        Some(FaultKind::BadStatement)
+    } else {
+        None
+    }
+}
+
+// The first fault of tokens in one role.
+pub fn first_fault(role: Role, tokens: &[Token]) -> Option<FaultKind>
+    ensures { result ≡ forms.first_fault role (seen_all tokens.now) }
+{
+    let mut rest = tokens;
+    while let [token, after @ ..] = rest {
+        let fault = text_fault(role, token.text.as_slice());
+        if fault.is_some() {
+            return fault;
+        }
+        rest = after;
+    }
+    None
+}
+
+// The same where at least one name is wanted.
+pub fn names_fault(role: Role, tokens: &[Token]) -> Option<FaultKind>
+    ensures { result ≡ forms.names_fault role (seen_all tokens.now) }
+{
+    if tokens.is_empty() {
+        return Some(FaultKind::BadStatement);
+    }
+    first_fault(role, tokens)
+}
+
+// One sort and nothing more.
+pub fn lone_sort(role: Role, tokens: &[Token]) -> Result<&Token, FaultKind>
+    ensures { MatchResult result
+        (λ sort. forms.lone_sort role (seen_all tokens.now) ≡ Ok (seen sort.now))
+        (λ kind. forms.lone_sort role (seen_all tokens.now) ≡ Err kind) }
+{
+    match tokens {
+        [] => Err(FaultKind::BadStatement),
+        [sort] => match text_fault(role, sort.text.as_slice()) {
+            None => Ok(sort),
+            Some(kind) => Err(kind),
+        },
+        [sort, ..] => Err(first_fault(role, &tokens[..2]).unwrap_or(FaultKind::BadStatement)),
+    }
+}

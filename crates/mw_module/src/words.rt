@@ -1,0 +1,88 @@
+// What single tokens say.
+ghost use Rattle.std.specs.Prelude.{◌≡◌, ◌≤◌, ◌+◌, length, drop, ℕ, List, ◌∷◌, []};
+ghost use Rattle.std.specs.Str.{bytes_eq};
+ghost use Rattle.mw_lex.specs.Lexing.{seen, seen_all};
+ghost use Rattle.mw_module.specs.Words as words;
+
+use mw_lex::Token;
+
+pub fn same(text: &[u8], word: &[u8]) -> bool
+    ensures { result ≡ bytes_eq text.now word.now }
+{
+    text == word
+}
+
+/// Whether the token has this text.
+pub fn is_word(token: &Token, word: &[u8]) -> bool
+    ensures { result ≡ words.is word.now (seen token.now) }
+{
+    same(token.text.as_slice(), word)
+}
+
+/// How many tokens come before the first that has this text: all where none has it.
+pub fn count_before(tokens: &[Token], word: &[u8]) -> usize
+    ensures count { result ≡ words.count_before word.now (seen_all tokens.now) }
+    ensures within { result ≤ length tokens.now }
+{
+    let mut rest = tokens;
+    let mut count = 0;
+    while let [token, after @ ..] = rest {
+        if is_word(token, word) {
+            return count;
+        }
+        count += 1;
+        rest = after;
+    }
+    count
+}
+
+// The tokens from this one on.
+#[tactic(auto, using(crate::proofs::Slices::seen_drop))]
+pub fn tokens_from(tokens: &[Token], at: usize) -> &[Token]
+    requires { at ≤ length tokens.now }
+    ensures seen { seen_all result.now ≡ drop at (seen_all tokens.now) }
+    ensures len { length result.now + at ≡ length tokens.now }
+{
+    let (_, behind) = tokens.split_at(at);
+    behind
+}
+
+// A parenthesis, bracket, brace or comma.
+pub fn is_punctuation(text: &[u8]) -> bool
+    ensures { result ≡ words.is_punctuation_word text.now }
+{
+    match text {
+        [b] => matches!(*b, b'(' | b')' | b'[' | b']' | b'{' | b'}' | b','),
+        _ => false,
+    }
+}
+
+// Whether the text begins with a quotation mark.
+pub fn is_quoted(text: &[u8]) -> bool
+    ensures { result ≡ words.is_quoted text.now }
+{
+    match text {
+        [b'"', ..] => true,
+        _ => false,
+    }
+}
+
+// Whether an operator's name may have no piece like this.
+pub fn is_no_piece(text: &[u8]) -> bool
+    ensures { result ≡ words.is_no_piece text.now }
+{
+    match text {
+        [b'.'] => true,
+        [b'"', ..] => true,
+        [b'*', b'*', b'*', ..] => true,
+        [b'-', b'-', b'-', ..] => true,
+        _ => false,
+    }
+}
+
+// Whether the text has an underscore or a backquote, which make holes and pieces of it.
+pub fn is_cut(text: &[u8]) -> bool
+    ensures { result ≡ words.is_cut text.now }
+{
+    text.iter().any(|b| *b == b'_' || *b == b'`')
+}
