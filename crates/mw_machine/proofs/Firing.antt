@@ -1,51 +1,25 @@
--- In a module with one sort: an equation fires where its left side matches by position, and has a solution only there.
+-- In a simple module an equation fires where its left side matches by position, and has a solution only there.
 use Rattle.std.specs.Prelude.{◌≡◌, ℕ, List, [], length, Some, None, slice_get, IsTrue, refl}
 use Rattle.std.specs.List.{zip}
-use Rattle.std.proofs.Common.{sym, subst, ap, ◌∙◌, arith, append-nil}
-use Rattle.std.proofs.lemmas.Bool.{and_parts}
-use Rattle.std.proofs.lemmas.Option.{slice_get_within}
-use Rattle.mw_logic.specs.Term.{Variable, RawTerm, apply, RawTerms, is_ground, are_ground}
-use Rattle.mw_logic.specs.Signature.{Signature, at_number, HasKind, of_variable, of_operator, IsRawTerm, a_numeral, a_quoted, a_variable, an_operator, AreRawTerms, end, next}
+use Rattle.std.proofs.Common.{sym, subst, ap, ◌∙◌, append-nil}
+use Rattle.std.proofs.lemmas.Bool.{both_ways}
+use Rattle.mw_logic.specs.Term.{Variable, RawTerm, is_ground}
+use Rattle.mw_logic.specs.Signature.{at_number, HasKind, IsRawTerm}
 use Rattle.mw_logic.specs.Axioms.{done}
 use Rattle.mw_logic.specs.Substitution.{Substitution, instance, occurs, is_bound, IsSubstitution, IsSolution}
 use Rattle.mw_logic.specs.Module.{Module, Statement}
-use Rattle.mw_logic.proofs.Canonical.{Each}
+use Rattle.mw_logic.specs.WellFormed.{IsWellFormed}
 use Rattle.mw_logic.proofs.InstanceLaws.{instance_kind}
-use Rattle.mw_logic.proofs.KindLaws.{SameKind-equal}
 use Rattle.mw_logic.proofs.SolutionLaws.{substitution_kinds, instance_raw}
-use Rattle.mw_machine.specs.Machine.{IsFlat, NoFlatLeft, Fires}
+use Rattle.mw_machine.specs.Machine.{NoFlatLeft, Fires}
 use Rattle.mw_machine.specs.Plain.{IsFreeModule}
 use Rattle.mw_machine.specs.Positions.{fill, IsNumbered, counted}
-use Rattle.mw_machine.specs.Simple.{IsSimpleSignature, IsSimpleEquation, IsSimpleModule}
-use Rattle.mw_machine.specs.Variables.{is_in, met, AreDistinct, placed, IsPlaceable}
+use Rattle.mw_machine.specs.Simple.{IsSimpleEquation, IsSimpleModule}
+use Rattle.mw_machine.specs.Variables.{is_in, met, AreDistinct, place, placed, IsPlaceable}
 use Rattle.mw_logic.proofs.FreeSignature.{free_equal}
-use Rattle.mw_machine.proofs.Meeting.{same_itself, is_in-met, AreDistinct-met, numbered_met}
-use Rattle.mw_machine.proofs.OneSort.{free, accepted, well_sorted, kind_one, variable_sort, raw_again}
-use Rattle.mw_machine.proofs.Placing.{values_of, fill_placed, placeable, values_zip, bound_zip, binds_placed, instance_ground, substitution_zip}
-use Rattle.mw_machine.proofs.Values.{value_each}
-
-abbrev IsGood : Signature → RawTerm → Type 0
-IsGood sig t = IsTrue (is_ground t) × IsRawTerm sig t
-
-good_arguments : (sig : Signature) {ts : RawTerms} {Ks : List ℕ} → AreRawTerms sig ts Ks → IsTrue (are_ground ts) → Each (IsGood sig) ts
-good_arguments sig end g = tt
-good_arguments sig (next r k rest) g = let p = and_parts _ _ g in ((p.0, r), good_arguments sig rest p.1)
-
-good_inside : (sig : Signature) (f : ℕ) (ts : RawTerms) → IsGood sig (apply f ts) → Each (IsGood sig) ts
-good_inside sig f ts (g, an_operator o is args) = good_arguments sig args g
-
-module _ (sig : Signature) (one : IsSimpleSignature sig) where
-  kind_top : {t : RawTerm} → IsRawTerm sig t → ¬ IsFlat t → HasKind sig t 1
-  kind_top (a_numeral b l) h = absurd (h tt)
-  kind_top (a_quoted b) h = absurd (h tt)
-  kind_top a_variable h = absurd (h tt)
-  kind_top (an_operator o is args) h = of_operator o is (SameKind-equal (one.operators _ o is).result)
-
-  kind_any : {t : RawTerm} → IsRawTerm sig t → ((x : Variable) → IsTrue (occurs x t) → x.sort ≡ 1) → HasKind sig t 1
-  kind_any (a_numeral b l) h = kind_one sig one (a_numeral b l) refl
-  kind_any (a_quoted b) h = kind_one sig one (a_quoted b) refl
-  kind_any (a_variable {x}) h = of_variable (SameKind-equal (h x (same_itself x)))
-  kind_any (an_operator o is args) h = of_operator o is (SameKind-equal (one.operators _ o is).result)
+use Rattle.mw_machine.proofs.Meeting.{is_in-met, AreDistinct-met, numbered_met}
+use Rattle.mw_machine.proofs.Discrete.{free, accepted, well_sorted, raw_again}
+use Rattle.mw_machine.proofs.Placing.{values_of, fill_placed, placeable, values_zip, bound_zip, binds_placed, instance_ground, IsGood, filled_kind, good_value, substitution_zip}
 
 module _ (M : Module) (simple : IsSimpleModule M) where
   pub free_module : IsFreeModule M
@@ -53,6 +27,16 @@ module _ (M : Module) (simple : IsSimpleModule M) where
     signature = free M.signature simple.signature;
     unconditional = λ k e is. (simple.equations k e is.is_there).unconditional;
     ordinary = λ k e is. (simple.equations k e is.is_there).ordinary;
+  }
+
+  -- so a proof leads a raw term to raw terms of its kind alone
+  pub well_formed : IsWellFormed M
+  well_formed = record {
+    accepted = accepted M.signature simple.signature;
+    sorted = well_sorted M.signature simple.signature;
+    statements = λ k e is. let s = simple.equations k e is.is_there in (s.left, s.right, s.kinds.0, s.kinds.1, s.kinds.2);
+    tests = λ f o is b h. absurd (both_ways _ (simple.signature.operators f o is).free.built b);
+    choices = λ f o is b h. absurd (both_ways _ (simple.signature.operators f o is).free.built b);
   }
 
   pub no_flat_left : NoFlatLeft M
@@ -74,24 +58,19 @@ module _ (M : Module) (simple : IsSimpleModule M) where
     pub right_placeable : IsPlaceable e.variables e.right
     right_placeable = placeable M.signature simple.signature here.right e.variables (λ x h. met_here x ∙ here.bound x h)
 
-    one_sort : (x : Variable) → IsTrue (occurs x e.left) → x.sort ≡ 1
-    one_sort x h = variable_sort M.signature simple.signature here.left (kind_top M.signature simple.signature here.left here.top) x h
-
-    right_kind : HasKind M.signature e.right 1
-    right_kind = kind_any M.signature simple.signature here.right (λ x h. one_sort x (here.bound x h))
-
     pub left_numbered : IsNumbered 0 (placed e.variables e.left) × (counted 0 (placed e.variables e.left) ≡ length e.variables)
     left_numbered =
         let a = numbered_met [] e.left [] e.variables (here.variables ∙ sym (append-nil (met [] e.left))) in (a.0, a.1 ∙ sym (ap length here.variables))
 
     module _ (vs : List RawTerm) (l : length vs ≡ length e.variables) (g : IsTrue (is_ground (fill vs (placed e.variables e.left)))) (r : IsRawTerm M.signature (fill vs (placed e.variables e.left))) where
-      good : (i : ℕ) (v : RawTerm) → slice_get vs i ≡ Some v → IsGood M.signature v
-      good i v h =
-          let n = left_numbered in let c = n.1 in let w = slice_get_within vs i v h in
-          value_each (IsGood M.signature) (good_inside M.signature) vs (placed e.variables e.left) _ refl n.0 (g, r) i (omega (arith, c, w, l)) v h
+      left_kind : HasKind M.signature (fill vs (placed e.variables e.left)) here.kinds.0
+      left_kind = filled_kind M.signature simple.signature vs e.variables here.top here.kinds.1
+
+      good : (x : Variable) (v : RawTerm) → IsTrue (is_in x e.variables) → slice_get vs (place x e.variables) ≡ Some v → IsGood M.signature simple.signature x.sort v
+      good x v h i = good_value M.signature simple.signature vs e.variables here.left here.kinds.1 g r left_kind x (sym (met_here x) ∙ h) v i
 
       substitution : IsSubstitution M.signature (zip e.variables vs)
-      substitution = substitution_zip M.signature simple.signature e.variables vs distinct l (λ x h. one_sort x (sym (met_here x) ∙ h)) good
+      substitution = substitution_zip M.signature simple.signature e.variables vs distinct l good
 
       bound : (x : Variable) → is_bound (zip e.variables vs) x ≡ is_in x e.variables
       bound x = bound_zip e.variables vs x l
@@ -107,8 +86,8 @@ module _ (M : Module) (simple : IsSimpleModule M) where
           let a = binds_placed s e.variables bound e.left left_placeable in
           let b = binds_placed s e.variables bound e.right right_placeable in
           let raw : IsRawTerm M.signature (instance s e.right) = instance_raw M.signature (accepted M.signature simple.signature) (well_sorted M.signature simple.signature) s substitution here.right in
-          let kind : HasKind M.signature (instance s e.right) 1 =
-          instance_kind M.signature s (substitution_kinds M.signature (accepted M.signature simple.signature) (well_sorted M.signature simple.signature) s substitution) right_kind in
+          let kind : HasKind M.signature (instance s e.right) here.kinds.0 =
+          instance_kind M.signature s (substitution_kinds M.signature (accepted M.signature simple.signature) (well_sorted M.signature simple.signature) s substitution) here.kinds.2 in
           record {
             statement = e;
             is_there = record { is_there = is; executable = here.executable };
@@ -118,7 +97,7 @@ module _ (M : Module) (simple : IsSimpleModule M) where
             from = from;
             to = to;
             ground = rw to (instance_ground M.signature s substitution e.variables bound e.right right_placeable);
-            raw = λ C w. raw_again M.signature simple.signature C _ _ w (rw to raw) (rw to kind);
+            raw = λ C w. raw_again M.signature simple.signature C w left_kind (rw to raw) (rw to kind);
             solution = record {
               substitution = substitution;
               extends = λ x t h. absurd (nothing t h);

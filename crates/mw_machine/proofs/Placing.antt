@@ -1,17 +1,18 @@
 -- Instances by position are those by a statement's own variables.
 use Rattle.std.specs.Prelude.{◌≡◌, ℕ, suc, List, [], ◌∷◌, length, map, Bool, true, false, ◌&&◌, ◌||◌, cond, Some, unwrap_or, is_some, slice_get, IsTrue, refl}
 use Rattle.std.specs.List.{zip}
-use Rattle.std.proofs.Common.{sym, subst, ap, ◌∙◌, arith}
-use Rattle.std.proofs.lemmas.Bool.{both_ways}
+use Rattle.std.proofs.Common.{sym, subst, ap, ◌∙◌, ⊎_elim, arith}
+use Rattle.std.proofs.lemmas.Bool.{and_parts, both_ways}
 use Rattle.mw_logic.specs.Term.{Variable, RawTerm, numeral, quoted, variable, apply, RawTerms, nil, cons, is_ground, are_ground}
-use Rattle.mw_logic.specs.Signature.{Signature, sort, IsRawTerm, a_numeral, a_quoted, a_variable, an_operator, AreRawTerms, end, next}
-use Rattle.mw_logic.specs.Sorts.{HasSort}
+use Rattle.mw_logic.specs.Signature.{Signature, Operator, HasKind, of_numeral, of_quoted, of_variable, of_operator, IsRawTerm, a_numeral, a_quoted, a_variable, an_operator, AreRawTerms, end, next}
 use Rattle.mw_logic.specs.Substitution.{Substitution, same_variable, value, instance, instances, occurs, occurs_in, is_bound, binds, binds_all, IsSubstitution}
+use Rattle.mw_logic.proofs.Canonical.{same_operator}
+use Rattle.mw_machine.specs.Machine.{IsFlat}
 use Rattle.mw_machine.specs.Positions.{fill, fill_all}
 use Rattle.mw_machine.specs.Simple.{IsSimpleSignature}
 use Rattle.mw_machine.specs.Variables.{is_in, AreDistinct, place, placed, all_placed, IsPlaceable, ArePlaceable}
 use Rattle.mw_machine.proofs.Meeting.{same_is, same_itself, same_turned, neither}
-use Rattle.mw_machine.proofs.OneSort.{sort_one}
+use Rattle.mw_machine.proofs.Discrete.{either, lone_kind, has_sort}
 
 -- the values of variables in order
 abbrev pub value_of : Substitution → Variable → RawTerm
@@ -117,17 +118,58 @@ module _ (sig : Signature) where
     instances_ground s h xs e nil p = refl
     instances_ground s h xs e (cons t ts) p = both_true (is_ground (instance s t)) (are_ground (instances s ts)) (instance_ground s h xs e t p.0) (instances_ground s h xs e ts p.1)
 
-  -- ground raw values of distinct variables of the one sort are a substitution
-  pub substitution_zip : IsSimpleSignature sig → (xs : List Variable) (vs : List RawTerm) → AreDistinct xs → length vs ≡ length xs → ((x : Variable) → IsTrue (is_in x xs) → x.sort ≡ 1)
-      → ((i : ℕ) (v : RawTerm) → slice_get vs i ≡ Some v → IsTrue (is_ground v) × IsRawTerm sig v) → IsSubstitution sig (zip xs vs)
-  substitution_zip one [] vs d l s g = tt
-  substitution_zip one (x ∷ xs) [] d l s g = tt
-  substitution_zip one (x ∷ xs) (v ∷ vs) d l s g =
-      let k : length vs ≡ length xs = omega (arith, l) in let w = g 0 v refl in
-      let S : x.sort ≡ 1 = s x (or_left (same_variable x x) (is_in x xs) (same_itself x)) in (
+apart : (x y : Variable) (xs : List Variable) → is_in x xs ≡ false → is_in y xs ≡ true → same_variable x y ≡ false
+apart x y xs h k = of (same_variable x y) refl
+  where
+    of : (b : Bool) → same_variable x y ≡ b → b ≡ false
+    of false e = refl
+    of true e = absurd (both_ways _ h (subst (λ z. is_in z xs ≡ true) (sym (same_is x y e)) k))
+
+module _ (sig : Signature) (simple : IsSimpleSignature sig) where
+  -- a ground raw term of this kind
+  abbrev pub IsGood : ℕ → RawTerm → Type 0
+  IsGood K t = IsTrue (is_ground t) × IsRawTerm sig t × HasKind sig t K
+
+  -- with values for its variables, a term with an operator on top has the kind that it had
+  pub filled_kind : (vs : List RawTerm) (xs : List Variable) {p : RawTerm} {K : ℕ} → ¬ IsFlat p → HasKind sig p K → HasKind sig (fill vs (placed xs p)) K
+  filled_kind vs xs h (of_numeral S n b k) = absurd (h tt)
+  filled_kind vs xs h (of_quoted S n b k) = absurd (h tt)
+  filled_kind vs xs h (of_variable k) = absurd (h tt)
+  filled_kind vs xs h (of_operator o is k) = of_operator o is k
+
+  mutual
+    -- a value stands where its variable does, so it has the variable's kind
+    pub good_value : (vs : List RawTerm) (xs : List Variable) {p : RawTerm} {K : ℕ} → IsRawTerm sig p → HasKind sig p K
+        → IsTrue (is_ground (fill vs (placed xs p))) → IsRawTerm sig (fill vs (placed xs p)) → HasKind sig (fill vs (placed xs p)) K
+        → (x : Variable) → IsTrue (occurs x p) → (v : RawTerm) → slice_get vs (place x xs) ≡ Some v → IsGood x.sort v
+    good_value vs xs (a_numeral b l) k g r j x h v e = absurd (both_ways _ simple.nat b)
+    good_value vs xs (a_quoted b) k g r j x h v e = absurd (both_ways _ simple.qid b)
+    good_value vs xs {K = K} (a_variable {x = y}) (of_variable k) g r j x h v e =
+        let same : y ≡ x = same_is y x h in
+        let is : fill vs (placed xs (variable y)) ≡ v = rw (same, e) refl in
+        let K' : K ≡ x.sort = sym (lone_kind sig simple k) ∙ ap (λ (z : Variable). z.sort) same in
+        subst (IsGood x.sort) is (g, r, subst (HasKind sig (fill vs (placed xs (variable y)))) K' j)
+    good_value vs xs (an_operator {f} {ts} o is args) k g (an_operator p there filled) j x h v e =
+        good_values vs xs args g (subst (AreRawTerms sig (fill_all vs (all_placed xs ts))) (ap (λ (q : Operator). q.args) (same_operator sig f p o there is)) filled) x h v e
+
+    good_values : (vs : List RawTerm) (xs : List Variable) {ps : RawTerms} {Ks : List ℕ} → AreRawTerms sig ps Ks → IsTrue (are_ground (fill_all vs (all_placed xs ps)))
+        → AreRawTerms sig (fill_all vs (all_placed xs ps)) Ks → (x : Variable) → IsTrue (occurs_in x ps) → (v : RawTerm) → slice_get vs (place x xs) ≡ Some v → IsGood x.sort v
+    good_values vs xs end g r x h v e = absurd (both_ways _ refl h)
+    good_values vs xs (next {t = p} {ts = ps} r k rest) g (next s j more) x h v e =
+        let a = and_parts _ _ g in
+        ⊎_elim (λ i. good_value vs xs r k a.0 s j x i v e) (λ i. good_values vs xs rest a.1 more x i v e) (either (occurs x p) (occurs_in x ps) h)
+
+  -- ground raw values of distinct variables, each of its variable's kind, are a substitution
+  pub substitution_zip : (xs : List Variable) (vs : List RawTerm) → AreDistinct xs → length vs ≡ length xs
+      → ((x : Variable) (v : RawTerm) → IsTrue (is_in x xs) → slice_get vs (place x xs) ≡ Some v → IsGood x.sort v) → IsSubstitution sig (zip xs vs)
+  substitution_zip [] vs d l g = tt
+  substitution_zip (x ∷ xs) [] d l g = tt
+  substitution_zip (x ∷ xs) (v ∷ vs) d l g =
+      let k : length vs ≡ length xs = omega (arith, l) in
+      let w = g x v (or_left (same_variable x x) (is_in x xs) (same_itself x)) (rw (same_itself x) refl) in (
         bound_zip xs vs x k ∙ d.0,
         w.0,
         w.1,
-        subst (λ S. HasSort sig v (sort S)) (sym S) (sort_one sig one w.1 w.0),
-        substitution_zip one xs vs d.1 k (λ y h. s y (or_right (same_variable x y) (is_in y xs) h)) (λ i u h. g (suc i) u h),
+        has_sort sig simple w.1 w.0 w.2,
+        substitution_zip xs vs d.1 k (λ y u h e. g y u (or_right (same_variable x y) (is_in y xs) h) (rw (apart x y xs d.0 h) e)),
       )

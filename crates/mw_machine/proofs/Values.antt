@@ -115,9 +115,6 @@ module _ (P : RawTerm → Type 0) (args : (f : ℕ) (ts : RawTerms) → P (apply
         let e0 : fill vs p ≡ t = cc in let e1 : fill_all vs ps ≡ ts = cc in
         all_values_have vs (counted n p) ps ts e1 a.1 h.1 (values_have vs n p t e0 a.0 h.0 b) i l
 
-  pub value_each : (vs : List RawTerm) (p t : RawTerm) → fill vs p ≡ t → IsNumbered 0 p → P t → (i : ℕ) → i < counted 0 p → (v : RawTerm) → slice_get vs i ≡ Some v → P v
-  value_each vs p t e a h i l v k = values_have vs 0 p t e a h (λ j m. absurd (omega (arith, m))) i l v k
-
   pub values_each : (vs : List RawTerm) (ps ts : RawTerms) → fill_all vs ps ≡ ts → AreNumbered 0 ps → Each P ts → (i : ℕ) → i < counted_all 0 ps → (v : RawTerm) → slice_get vs i ≡ Some v → P v
   values_each vs ps ts e a h i l v k = all_values_have vs 0 ps ts e a h (λ j m. absurd (omega (arith, m))) i l v k
 

@@ -1,28 +1,27 @@
--- Modules with one sort, free operators on it, and equations without conditions.
-use Rattle.std.specs.Prelude.{ℕ, ◌≡◌, [], ◌∷◌, length, map, Some, true, false, IsTrue}
+-- Modules in which no sort is below another, with free operators, and equations without conditions.
+use Rattle.std.specs.Prelude.{ℕ, ◌≡◌, List, [], ◌∷◌, map, Some, true, false, IsTrue}
 use Rattle.mw_logic.specs.Term.{Variable}
-use Rattle.mw_logic.specs.Signature.{Signature, Operator, sort, IsOperator, IsRawTerm, Member, at_number}
+use Rattle.mw_logic.specs.Signature.{Signature, Operator, sort, IsOperator, IsSortNamed, HasKind, IsRawTerm, at_number}
 use Rattle.mw_logic.specs.Substitution.{occurs}
 use Rattle.mw_logic.specs.Module.{Module, Statement}
 use Rattle.mw_machine.specs.Machine.{IsFlat}
 use Rattle.mw_machine.specs.Plain.{IsFreeOperator}
 use Rattle.mw_machine.specs.Variables.{met}
 
--- an operator without axioms that is declared once, on the one sort
+-- an operator without axioms that is declared once, on sorts
 pub record IsSimpleOperator (o : Operator) : Type 0 where
   pub free : IsFreeOperator o
-  pub args : (K : ℕ) → Member K o.args → K ≡ 1
-  pub result : o.result ≡ 1
-  pub declarations : o.declarations ≡ record { args = map sort o.args; result = sort 1 } ∷ []
+  pub declarations : o.declarations ≡ record { args = map sort o.args; result = sort o.result } ∷ []
 
+-- No sort is below another, so each sort is its own kind. Operators may share a spelling: those on other sorts are other operators.
 pub record IsSimpleSignature (sig : Signature) : Type 0 where
-  pub sorts : length sig.sorts ≡ 1
   pub pairs : sig.pairs ≡ []
   pub nat : sig.nat ≡ false
   pub qid : sig.qid ≡ false
+  pub sorts_differ : (S T : ℕ) (name : List ℕ) → IsSortNamed sig S name → IsSortNamed sig T name → S ≡ T
   pub operators : (f : ℕ) (o : Operator) → IsOperator sig f o → IsSimpleOperator o
 
--- An equation with an operator on top of its left side. The left side has each variable of the right side.
+-- An equation between terms of one kind, with an operator on top of its left side. The left side has each variable of the right side.
 pub record IsSimpleEquation (sig : Signature) (e : Statement) : Type 0 where
   pub executable : e.executable ≡ true
   pub equation : e.rule ≡ false
@@ -30,6 +29,7 @@ pub record IsSimpleEquation (sig : Signature) (e : Statement) : Type 0 where
   pub ordinary : e.owise ≡ false
   pub left : IsRawTerm sig e.left
   pub right : IsRawTerm sig e.right
+  pub kinds : (K : ℕ) × HasKind sig e.left K × HasKind sig e.right K
   pub top : ¬ IsFlat e.left
   pub variables : e.variables ≡ met [] e.left
   pub bound : (x : Variable) → IsTrue (occurs x e.right) → IsTrue (occurs x e.left)

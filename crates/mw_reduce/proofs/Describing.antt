@@ -13,7 +13,7 @@ use Rattle.mw_machine.specs.Simple.{IsSimpleModule}
 use Rattle.mw_machine.specs.Variables.{placed}
 use Rattle.mw_machine.proofs.Firing.{free_module, no_flat_left, distinct, left_placeable, right_placeable, left_numbered, fires, solved}
 use Rattle.mw_machine.proofs.Meeting.{placed_within}
-use Rattle.mw_machine.proofs.OneSort.{accepted}
+use Rattle.mw_machine.proofs.Discrete.{accepted}
 use Rattle.mw_machine.proofs.Placing.{value_of, values_of}
 use Rattle.mw_reduce.specs.Clean.{clean}
 use Rattle.mw_reduce.specs.Compiled.{IsCompilable, IsIndexOf}

@@ -6,7 +6,7 @@ use Rattle.mw_logic.specs.Term.{Variable}
 use Rattle.mw_logic.specs.Substitution.{same_variable}
 use Rattle.mw_machine.specs.Variables.{is_in, AreDistinct, place}
 use Rattle.mw_machine.proofs.Meeting.{same_is, or_none, is_in-append, place_at}
-use Rattle.mw_machine.proofs.OneSort.{either}
+use Rattle.mw_machine.proofs.Discrete.{either}
 use Rattle.mw_reduce.specs.Tables.{Key, same_key, variable_of}
 
 taken_or_last : (xs : List Variable) (i : ℕ) (x q : Variable) → i < length xs → x ≡ get_or xs i x → is_in q (take (i + 1) xs) ≡ true → (is_in q (take i xs) ≡ true) ⊎ (same_variable x q ≡ true)

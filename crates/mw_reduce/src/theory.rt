@@ -10,8 +10,8 @@ use mw_term::{Seq, Signature, Statement};
 use std::alloc::{AllocError, Global};
 use std::marker::Model;
 
-/// A module with one sort, free operators and equations without conditions, which contracts see as a module. Its
-/// equations are held by the operators on top of their left sides too, with positions for variables.
+/// A module with free operators, no sort below another and equations without conditions, which contracts see as a
+/// module. Its equations are held by the operators on top of their left sides too, with positions for variables.
 #[derive(Drop)]
 pub struct Theory {
     signature: Signature,
@@ -53,6 +53,13 @@ impl Theory {
         })
     }
 
+    /// The module is one that the reducer works in.
+    pub fn shows(&self)
+        ensures { IsSimpleModule self.now }
+    {
+        let _ = &self.signature;
+    }
+
     pub fn signature(&self) -> &Signature
         ensures { result.now ≡ self.now.signature }
     {
@@ -64,12 +71,5 @@ impl Theory {
         ensures { IsTheory self.now result.now }
     {
         &self.equations
-    }
-
-    /// The statements, in order.
-    pub fn statements(&self) -> &[Statement]
-        ensures { result.now ≡ self.now.statements }
-    {
-        self.statements.as_slice()
     }
 }

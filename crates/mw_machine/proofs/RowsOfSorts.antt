@@ -1,0 +1,182 @@
+-- Lists of numbers, the module T: sorts N and L, z and s, nil and cons, and two operators of the name size, one on numbers and one on lists. What holds of it, and what doesn't.
+use Rattle.std.specs.Prelude.{◌≡◌, ℕ, zero, suc, List, [], ◌∷◌, map, Bool, true, false, ◌||◌, Some, None, codes, refl}
+use Rattle.std.specs.List.{AllByRecursion, slice_get}
+use Rattle.std.proofs.Common.{subst, ◌∙◌, arith}
+use Rattle.std.proofs.lemmas.Bool.{false≢true}
+use Rattle.mw_logic.specs.Term.{Variable, RawTerm, variable, nil, cons, constant, unary, binary}
+use Rattle.mw_logic.specs.Signature.{Signature, Operator, at_number, sort, same, of_variable, of_operator, IsRawTerm, a_variable, an_operator, AreRawTerms, end, next}
+use Rattle.mw_logic.specs.Sorts.{HasSort, IsLeastSort}
+use Rattle.mw_logic.specs.Substitution.{same_variable, IsSubstitution}
+use Rattle.mw_logic.specs.Module.{Module}
+use Rattle.mw_logic.proofs.AcceptedTest.{is_accepted-sound}
+use Rattle.mw_logic.proofs.Canonical.{same_operator}
+use Rattle.mw_logic.proofs.RowsKit.{a_variable as variable_of, an_equation}
+use Rattle.mw_machine.specs.Machine.{Fires}
+use Rattle.mw_machine.specs.Simple.{IsSimpleOperator, IsSimpleSignature, IsSimpleEquation, IsSimpleModule}
+use Rattle.mw_machine.proofs.Meeting.{or_none}
+use Rattle.mw_machine.proofs.Discrete.{least_sort_of_top, only_sort, top_kind}
+use Rattle.mw_machine.proofs.Firing.{fires}
+
+abbrev operator : List ℕ → List ℕ → ℕ → Operator
+operator name args result = record {
+  spelling = name;
+  args = args;
+  result = result;
+  declarations = record { args = map sort args; result = sort result } ∷ [];
+  assoc = false;
+  comm = false;
+  identity = None;
+  prec = 0;
+  gather = [];
+  config = false;
+  frozen = [];
+  built = false;
+}
+
+abbrev pub T_signature : Signature
+T_signature = record {
+  sorts = codes "N" ∷ codes "L" ∷ [];
+  pairs = [];
+  operators = operator (codes "z") [] 1 ∷ operator (codes "s") (1 ∷ []) 1 ∷ operator (codes "nil") [] 2 ∷ operator (codes "cons") (1 ∷ 2 ∷ []) 2 ∷ operator (codes "size") (1 ∷ []) 1 ∷ operator (codes "size") (2 ∷ []) 1 ∷ [];
+  nat = false;
+  qid = false;
+}
+
+abbrev z : RawTerm
+z = constant 1
+
+abbrev empty : RawTerm
+empty = constant 3
+
+abbrev X : Variable
+X = variable_of (codes "X") 1
+
+abbrev Y : Variable
+Y = variable_of (codes "Y") 2
+
+-- size(X) = X of numbers; size(nil) = z and size(cons(X, Y)) = s(size(Y)) of lists
+abbrev pub T : Module
+T = record {
+  signature = T_signature;
+  statements = an_equation (unary 5 (variable X)) (variable X) [] (X ∷ []) ∷ an_equation (unary 6 empty) z [] [] ∷ an_equation (unary 6 (binary 4 (variable X) (variable Y))) (unary 2 (unary 6 (variable Y))) [] (X ∷ Y ∷ []) ∷ [];
+}
+
+-- what holds of each element holds at each number
+each : {A : Type 0} (P : A → Type 0) (xs : List A) → AllByRecursion P xs → (k : ℕ) (x : A) → at_number xs k ≡ Some x → P x
+each P xs all zero x e = cc
+each {A} P xs all (suc k) x e = within xs all k e
+  where
+    within : (xs : List A) → AllByRecursion P xs → (i : ℕ) → slice_get xs i ≡ Some x → P x
+    within [] all i e = cc
+    within (y ∷ ys) all zero e = let k : Some y ≡ Some x = e in let h : y ≡ x = cc in subst P h all.0
+    within (y ∷ ys) all (suc i) e = within ys all.1 i e
+
+simple_operator : (name : List ℕ) (args : List ℕ) (result : ℕ) → IsSimpleOperator (operator name args result)
+simple_operator name args result = record { free = record { assoc = refl; comm = refl; identity = refl; built = refl }; declarations = refl }
+
+pub T_simple : IsSimpleSignature T_signature
+T_simple = record {
+  pairs = refl;
+  nat = refl;
+  qid = refl;
+  sorts_differ = (is_accepted-sound T_signature refl).sorts_differ;
+  operators = each IsSimpleOperator T_signature.operators (simple_operator _ _ _, (simple_operator _ _ _, (simple_operator _ _ _, (simple_operator _ _ _, (simple_operator _ _ _, (simple_operator _ _ _, tt))))));
+}
+
+bound_in_third : (a b : Bool) → ((b || false) || false) ≡ true → ((a || (b || false)) || false) ≡ true
+bound_in_third true b h = refl
+bound_in_third false b h = h
+
+z_raw : IsRawTerm T_signature z
+z_raw = an_operator _ refl end
+
+empty_raw : IsRawTerm T_signature empty
+empty_raw = an_operator _ refl end
+
+first : IsSimpleEquation T_signature (an_equation (unary 5 (variable X)) (variable X) [] (X ∷ []))
+first = record {
+  executable = refl;
+  equation = refl;
+  unconditional = refl;
+  ordinary = refl;
+  left = an_operator _ refl (next a_variable (of_variable same) end);
+  right = a_variable;
+  kinds = (1, of_operator _ refl same, of_variable same);
+  top = λ h. h;
+  variables = refl;
+  bound = λ x h. or_none (same_variable X x) ∙ h;
+}
+
+second : IsSimpleEquation T_signature (an_equation (unary 6 empty) z [] [])
+second = record {
+  executable = refl;
+  equation = refl;
+  unconditional = refl;
+  ordinary = refl;
+  left = an_operator _ refl (next empty_raw (of_operator _ refl same) end);
+  right = z_raw;
+  kinds = (1, of_operator _ refl same, of_operator _ refl same);
+  top = λ h. h;
+  variables = refl;
+  bound = λ x h. absurd (false≢true h);
+}
+
+third : IsSimpleEquation T_signature (an_equation (unary 6 (binary 4 (variable X) (variable Y))) (unary 2 (unary 6 (variable Y))) [] (X ∷ Y ∷ []))
+third = record {
+  executable = refl;
+  equation = refl;
+  unconditional = refl;
+  ordinary = refl;
+  left = an_operator _ refl (next (an_operator _ refl (next a_variable (of_variable same) (next a_variable (of_variable same) end))) (of_operator _ refl same) end);
+  right = an_operator _ refl (next (an_operator _ refl (next a_variable (of_variable same) end)) (of_operator _ refl same) end);
+  kinds = (1, of_operator _ refl same, of_operator _ refl same);
+  top = λ h. h;
+  variables = refl;
+  bound = λ x h. bound_in_third (same_variable X x) (same_variable Y x) h;
+}
+
+pub T_module : IsSimpleModule T
+T_module = record { signature = T_simple; equations = each (IsSimpleEquation T_signature) T.statements (first, (second, (third, tt))) }
+
+-- cons(z, nil) has the least sort L; size(z) and size(nil) have N, by two operators
+list_raw : IsRawTerm T_signature (binary 4 z empty)
+list_raw = an_operator _ refl (next z_raw (of_operator _ refl same) (next empty_raw (of_operator _ refl same) end))
+
+list_sort : IsLeastSort T_signature (binary 4 z empty) (sort 2)
+list_sort = least_sort_of_top T_signature T_simple 4 _ _ refl list_raw refl
+
+number_size : IsLeastSort T_signature (unary 5 z) (sort 1)
+number_size = least_sort_of_top T_signature T_simple 5 _ _ refl (an_operator _ refl (next z_raw (of_operator _ refl same) end)) refl
+
+list_size : IsLeastSort T_signature (unary 6 empty) (sort 1)
+list_size = least_sort_of_top T_signature T_simple 6 _ _ refl (an_operator _ refl (next empty_raw (of_operator _ refl same) end)) refl
+
+-- the third equation makes size(cons(z, nil)) s(size(nil))
+third_fires : Fires T 3 ((X, z) ∷ (Y, empty) ∷ []) (unary 6 (binary 4 z empty)) (unary 2 (unary 6 empty))
+third_fires = fires T T_module 3 _ refl (z ∷ empty ∷ []) refl refl (an_operator _ refl (next list_raw (of_operator _ refl same) end))
+
+-- nil isn't of sort N, so it is no value of X
+empty_no_number : HasSort T_signature empty (sort 1) → ⊥
+empty_no_number h = let e : 2 ≡ 1 = only_sort T_signature T_simple empty_raw refl (of_operator _ refl same) h in omega (arith, e)
+
+no_value : IsSubstitution T_signature ((X, empty) ∷ []) → ⊥
+no_value h = empty_no_number h.3
+
+-- the size of numbers stands on no list, and no list ends in a number
+no_size : IsRawTerm T_signature (unary 5 empty) → ⊥
+no_size (an_operator o is args) = stands (subst (λ (p : Operator). AreRawTerms T_signature (cons empty nil) p.args) (same_operator T_signature 5 o _ is refl) args)
+  where
+    stands : AreRawTerms T_signature (cons empty nil) (1 ∷ []) → ⊥
+    stands (next r k rest) = let e : 2 ≡ 1 = top_kind T_signature T_simple _ refl k in omega (arith, e)
+
+no_list : IsRawTerm T_signature (binary 4 z z) → ⊥
+no_list (an_operator o is args) = stands (subst (λ (p : Operator). AreRawTerms T_signature (cons z (cons z nil)) p.args) (same_operator T_signature 4 o _ is refl) args)
+  where
+    stands : AreRawTerms T_signature (cons z (cons z nil)) (1 ∷ 2 ∷ []) → ⊥
+    stands (next r k (next q j rest)) = let e : 1 ≡ 2 = top_kind T_signature T_simple _ refl j in omega (arith, e)
+
+-- nil = z is no equation
+no_equation : IsSimpleEquation T_signature (an_equation empty z [] []) → ⊥
+no_equation e =
+    let l : 2 ≡ e.kinds.0 = top_kind T_signature T_simple _ refl e.kinds.1 in
+    let r : 1 ≡ e.kinds.0 = top_kind T_signature T_simple _ refl e.kinds.2 in omega (arith, l, r)
