@@ -29,7 +29,7 @@ pub fn copy(alloc: Global, t: &Tree) -> Result<Tree, AllocError>
 
 /// The same terms again.
 #[cycle(copy)]
-fn copy_all(alloc: Global, ts: &Trees) -> Result<Trees, AllocError>
+pub fn copy_all(alloc: Global, ts: &Trees) -> Result<Trees, AllocError>
     ensures { IfOk result (λ us. us ≡ ts.now) }
 {
     match &ts.link {

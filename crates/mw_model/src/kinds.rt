@@ -32,7 +32,7 @@ fn joining(alloc: Global, pairs: &[(SortId, SortId)]) -> Result<Vec<(u64, u64)>,
 }
 
 /// The number of a sort's kind.
-fn kind_number(alloc: Global, sig: &Signature, sort: u64) -> Result<u64, AllocError>
+pub fn kind_number(alloc: Global, sig: &Signature, sort: u64) -> Result<u64, AllocError>
     ensures { IfOk result (λ k. k ≡ kind_of sig.now sort) }
 {
     let made = joining(alloc, sig.pairs.as_slice())?;

@@ -10,13 +10,13 @@ mod normal;
 mod order;
 mod tree;
 
-pub use copying::copy;
+pub use copying::{copy, copy_all};
 pub use equality::equal;
-pub use kinds::is_successor;
+pub use kinds::{is_successor, kind_number};
 pub use listing::parts;
-pub use normal::normal_form;
+pub use normal::{elements, identity_of, is_assoc, is_comm, normal_form};
 pub use order::compare;
-pub use tree::{Tree, Trees};
+pub use tree::{Link, Node, Tree, Trees};
 
 #[cfg(test)]
 mod tests {

@@ -15,9 +15,10 @@ pub struct Tree {
     pub(crate) node: Node,
 }
 
+/// What stands on top of a term.
 #[derive(Drop)]
 #[cycle(tree)]
-pub(crate) enum Node {
+pub enum Node {
     Numeral(u128),
     Quoted(Name),
     Variable(VarId),
@@ -31,9 +32,10 @@ pub struct Trees {
     pub(crate) link: Link,
 }
 
+/// No terms, or the first one and the others.
 #[derive(Drop)]
 #[cycle(tree)]
-pub(crate) enum Link {
+pub enum Link {
     Nil,
     Cons(Box<Tree>, Box<Trees>),
 }
@@ -112,6 +114,13 @@ impl Tree {
             node: Node::Apply(f, ts),
         }
     }
+
+    /// What stands on top.
+    pub fn node(&self) -> &Node
+        ensures { self.now ≡ tree_of result.now }
+    {
+        &self.node
+    }
 }
 
 impl Trees {
@@ -131,6 +140,13 @@ impl Trees {
         Ok(Trees {
             link: Link::Cons(first, rest),
         })
+    }
+
+    /// The first one and the others, if there are any.
+    pub fn link(&self) -> &Link
+        ensures { self.now ≡ trees_of result.now }
+    {
+        &self.link
     }
 
     /// Whether there are none.

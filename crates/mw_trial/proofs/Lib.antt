@@ -1,0 +1,2 @@
+-- Listed steps are steps.
+pub mod Stepping
