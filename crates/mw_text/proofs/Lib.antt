@@ -1,6 +1,3 @@
--- Laws of texts.
-pub mod Marks
-pub mod Differing
-pub mod Spelled
-pub mod Mentions
-pub mod Named
+-- What is spelled is a term of the signature; membership in joined lists.
+pub mod Joined
+pub mod RawTerms

@@ -1,6 +1,4 @@
--- Texts: the tokens of a source, the form of a source, which terms tokens spell, and what is written for a source.
-pub mod Tokens
-pub mod Form
-pub mod Spelling
-pub mod Output
-pub mod Answer
+-- Texts: names as pieces and holes, which terms tokens spell, and the one reading of a text.
+pub mod Names
+pub mod Mixfix
+pub mod Readings

@@ -1,2 +1,3 @@
-//! The first form of sources, and what is written for one: definitions alone, which the contract of the program cites.
+//! Which terms the tokens of a text spell: definitions alone, which the contracts of the reader and of the program
+//! cite.
 #![tactic(auto)]

@@ -1,0 +1,13 @@
+pub mod Lists
+pub mod Cells
+pub mod Adding
+pub mod Filling
+pub mod Started
+pub mod Begins
+pub mod Turned
+pub mod Ends
+pub mod Wholes
+pub mod Fulls
+pub mod Sets
+pub mod Rows
+pub mod Covered

@@ -1,0 +1,73 @@
+-- How the readings of a row are found.
+use Rattle.std.proofs.Common.{◌≡◌, ◌∙◌, ◌+◌, ◌<◌, ◌≤◌, arith, ℕ, List, [], ◌∷◌, ◌++◌, length, get_or, Some, sym, ap, inl, inr, subst}
+use Rattle.std.specs.List.{slice_get}
+use Rattle.std.specs.Global.{Global}
+use Rattle.std.specs.declared.vec.Vec.{Vec}
+use Rattle.std.proofs.Math.ListN.{set}
+use Rattle.mw_chart.specs.Bits.{IsSet}
+use Rattle.mw_chart.specs.Chart.{inner}
+use Rattle.mw_chart.specs.Row.{IsListed, IsInStrip}
+use Rattle.mw_chart.specs.declared.row.Strip.{Strip}
+use Rattle.mw_chart.specs.declared.slot.Reading.{Reading}
+use Rattle.mw_chart.proofs.Lists.{get_below, get_same, get_left, get_last, get_set_same, get_set_other, eq_or, one_there}
+use Rattle.mw_chart.proofs.Adding.{inner_same, inner_other, inner_is}
+
+pub listed_kept : (places : List (Vec ℕ Global)) (end k : ℕ) (old new : Vec ℕ Global) → end < length places → old ≡ get_or places end old → new.items ≡ old.items ++ k ∷ []
+    → (e j : ℕ) → IsListed places e j → IsListed (set places end new) e j
+listed_kept places end k old new low is added e j (p, got) =
+    elim (eq_or e end) [
+      | inl same ↦
+          let was : slice_get old.items p ≡ Some j = subst (λ (l : List ℕ). slice_get l p ≡ Some j) (ap (λ m. inner places m) same ∙ inner_is places end old low is) got in
+          let now : slice_get new.items p ≡ Some j = subst (λ (l : List ℕ). slice_get l p ≡ Some j) (sym added) (get_left old.items (k ∷ []) p j was) in
+          (p, subst (λ (l : List ℕ). slice_get l p ≡ Some j) (sym (ap (λ m. inner (set places end new) m) same ∙ inner_same places end new low)) now)
+      | inr other ↦ (p, subst (λ (l : List ℕ). slice_get l p ≡ Some j) (sym (inner_other places e end new other)) got)
+    ]
+
+pub listed_new : (places : List (Vec ℕ Global)) (end k : ℕ) (old new : Vec ℕ Global) → end < length places → new.items ≡ old.items ++ k ∷ [] → IsListed (set places end new) end k
+listed_new places end k old new low added =
+    (length old.items, subst (λ (l : List ℕ). slice_get l (length old.items) ≡ Some k) (sym (inner_same places end new low ∙ added)) (get_last old.items k))
+
+-- a strip changed for one of the same state that has more
+pub strip_kept : (strips : List Strip) (p : ℕ) (old new : Strip) → slice_get strips p ≡ Some old → new.state ≡ old.state → ((e : ℕ) → IsSet old.ends.items e → IsSet new.ends.items e)
+    → (w e : ℕ) → IsInStrip strips w e → IsInStrip (set strips p new) w e
+strip_kept strips p old new at same more w e (q, strip, got, state, inside) =
+    elim (eq_or q p) [
+      | inl here ↦
+          let is : strip ≡ old = one_there strips p strip old (subst (λ (m : ℕ). slice_get strips m ≡ Some strip) here got) at in
+          (p, new, get_set_same strips p new (get_below strips p old at), same ∙ ap (λ (s : Strip). s.state) (sym is) ∙ state, more e (subst (λ (s : Strip). IsSet s.ends.items e) is inside))
+      | inr other ↦ (q, strip, get_set_other strips q p new other ∙ got, state, inside)
+    ]
+
+pub strip_push : (strips : List Strip) (new : Strip) (w e : ℕ) → IsInStrip strips w e → IsInStrip (strips ++ new ∷ []) w e
+strip_push strips new w e (q, strip, got, state, inside) = (q, strip, get_left strips (new ∷ []) q strip got, state, inside)
+
+pub strip_pushed : (strips : List Strip) (new : Strip) (w e : ℕ) → new.state ≡ w → IsSet new.ends.items e → IsInStrip (strips ++ new ∷ []) w e
+strip_pushed strips new w e state inside = (length strips, new, get_last strips new, state, inside)
+
+-- as code reads the strip at an index
+pub strip_item : (strips : List Strip) (p : ℕ) (strip old : Strip) → slice_get strips p ≡ Some strip → old ≡ get_or strips p old → slice_get strips p ≡ Some old
+strip_item strips p strip old got is = got ∙ ap (λ (s : Strip). Some s) (sym (is ∙ get_same strips p strip old got))
+
+pub strip_state : (strips : List Strip) (p : ℕ) (strip old : Strip) → slice_get strips p ≡ Some strip → slice_get strips p ≡ Some old → old.state ≡ strip.state
+strip_state strips p strip old got at = ap (λ (s : Strip). s.state) (one_there strips p old strip at got)
+
+-- the next reading is listed too
+pub index_next : (readings : List Reading) (k : ℕ) (x : Reading) (places more : List (Vec ℕ Global)) (strips others : List Strip) → slice_get readings k ≡ Some x
+    → ((e j : ℕ) → IsListed places e j → IsListed more e j) → IsListed more x.end k
+    → ((w e : ℕ) → IsInStrip strips w e → IsInStrip others w e) → IsInStrip others x.state x.end
+    → ((j : ℕ) (r : Reading) → j < k → slice_get readings j ≡ Some r → IsListed places r.end j × IsInStrip strips r.state r.end)
+    → (j : ℕ) (r : Reading) → j < k + 1 → slice_get readings j ≡ Some r → IsListed more r.end j × IsInStrip others r.state r.end
+index_next readings k x places more strips others at kept new kept2 new2 before j r low got =
+    elim (eq_or j k) [
+      | inl e ↦
+          let same : x ≡ r = one_there readings k x r at (subst (λ (m : ℕ). slice_get readings m ≡ Some r) e got) in
+          rw e (subst (λ (y : Reading). IsListed more y.end k × IsInStrip others y.state y.end) same (new, new2))
+      | inr n ↦ let b = before j r (omega (arith, low, n)) got in (kept r.end j b.0, kept2 r.state r.end b.1)
+    ]
+
+pub index_done : (readings items : List Reading) (k : ℕ) (places : List (Vec ℕ Global)) (strips : List Strip) → items ≡ readings → length items ≤ k
+    → ((j : ℕ) (r : Reading) → j < k → slice_get items j ≡ Some r → IsListed places r.end j × IsInStrip strips r.state r.end)
+    → (j : ℕ) (r : Reading) → slice_get readings j ≡ Some r → IsListed places r.end j × IsInStrip strips r.state r.end
+index_done readings items k places strips same all before j r got =
+    let there : slice_get items j ≡ Some r = subst (λ (l : List Reading). slice_get l j ≡ Some r) (sym same) got in
+    before j r (let b = get_below items j r there in omega (arith, b, all)) there

@@ -1,0 +1,13 @@
+-- What the chart reads, and what it holds.
+pub mod Tree
+pub mod Shape
+pub mod Falls
+pub mod Spelling
+pub mod Chart
+pub mod Nothing
+pub mod Answer
+pub mod Whole
+pub mod Bits
+pub mod Row
+pub mod Hash
+pub mod Shapes

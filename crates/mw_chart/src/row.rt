@@ -1,0 +1,97 @@
+// The readings that begin at a place, found by state and end.
+ghost use Rattle.std.specs.Prelude.{◌≡◌, ◌≤◌, ◌<◌, ℕ, Some, IfOk, IfSome, length};
+ghost use Rattle.std.specs.List.{slice_get};
+ghost use Rattle.mw_chart.specs.Bits.{IsSet};
+ghost use Rattle.mw_chart.specs.Row.{IsListed, IsInStrip, IsIndexed, EndBy};
+ghost use Rattle.mw_chart.specs.declared.row.Strip.{Strip};
+
+use crate::bits::insert;
+use crate::empty::empty_lists;
+use crate::slot::Reading;
+use std::alloc::{AllocError, Global};
+
+/// The ends of the texts that have come to a whole state.
+#[derive(Drop)]
+pub struct Strip {
+    pub state: usize,
+    pub ends: Vec<u64>,
+}
+
+/// The readings that begin at a place.
+#[derive(Drop)]
+pub struct Row {
+    pub readings: Vec<Reading>,
+    /// For each end the indexes of its readings.
+    pub places: Vec<Vec<usize>>,
+    pub strips: Vec<Strip>,
+}
+
+fn list_place(places: &mut Vec<Vec<usize>>, end: usize, k: usize) -> Result<(), AllocError>
+    requires { end < length places.old.items }
+    ensures len { length places.new.items ≡ length places.old.items }
+    ensures kept { IfOk result (λ _. (e j : ℕ) → IsListed places.old.items e j → IsListed places.new.items e j) }
+    ensures listed { IfOk result (λ _. IsListed places.new.items end k) }
+{
+    places[end].push(k)?;
+    Ok(())
+}
+
+/// Where a state's strip is.
+fn strip_of(strips: &Vec<Strip>, state: usize) -> Option<usize>
+    ensures { IfSome result (λ p. (strip : Strip) × (slice_get strips.now.items p ≡ Some strip) × (strip.state ≡ state)) }
+{
+    for (p, strip) in strips.iter().enumerate() {
+        if strip.state == state {
+            return Some(p);
+        }
+    }
+    None
+}
+
+fn add_end(strip: &mut Strip, end: usize) -> Result<(), AllocError>
+    ensures state { strip.new.state ≡ strip.old.state }
+    ensures kept { IfOk result (λ _. (e : ℕ) → IsSet strip.old.ends.items e → IsSet strip.new.ends.items e) }
+    ensures added { IfOk result (λ _. IsSet strip.new.ends.items end) }
+{
+    insert(&mut strip.ends, end)
+}
+
+fn list_end(
+    alloc: Global,
+    strips: &mut Vec<Strip>,
+    state: usize,
+    end: usize,
+) -> Result<(), AllocError>
+    ensures kept { IfOk result (λ _. (w e : ℕ) → IsInStrip strips.old.items w e → IsInStrip strips.new.items w e) }
+    ensures listed { IfOk result (λ _. IsInStrip strips.new.items state end) }
+{
+    match strip_of(strips, state) {
+        Some(p) => add_end(&mut strips[p], end),
+        None => {
+            let mut ends = Vec::new(alloc);
+            insert(&mut ends, end)?;
+            strips.push(Strip { state, ends })?;
+            Ok(())
+        }
+    }
+}
+
+/// The row of readings that end by a place.
+pub fn indexed(alloc: Global, readings: Vec<Reading>, n: usize) -> Result<Row, AllocError>
+    requires ends { EndBy n readings.items }
+    requires short { n ≤ 1024 }
+    ensures readings { IfOk result (λ row. row.readings ≡ readings) }
+    ensures indexed { IfOk result IsIndexed }
+{
+    let mut places = empty_lists(alloc, n + 1)?;
+    let mut strips = Vec::new(alloc);
+    for (k, reading) in readings.iter().enumerate() {
+        list_place(&mut places, reading.end, k)?;
+        list_end(alloc, &mut strips, reading.state, reading.end)?;
+    }
+    Ok(Row {
+        readings,
+        places,
+        strips,
+    })
+}
