@@ -1,0 +1,14 @@
+use Rattle.std.proofs.Common.{arith}
+use Rattle.mw_grammar.specs.Readable.{kind_in}
+use Rattle.mw_grammar.proofs.Added.{adds_same, adds_then}
+use Rattle.mw_grammar.proofs.Tokens.{more_to, more_from, name_below}
+use Rattle.mw_grammar.proofs.leaves.push_with_sorts.Goals as goal
+
+pub loop-colon-preserved : goal.loop-colon-preserved
+loop-colon-preserved c =
+    adds_then (kind_in c.args.kinds.now) _ _ _ _ _ _ _ _ _ (more_to c.args.sorts.now c.args.token.now c.loop-colon.colon) (more_from c.args.sorts.now c.args.token.now c.loop-colon.colon)
+    c.loop-colon.invariant c.in_ok-push_divided.ensures
+
+pub returns : goal.returns
+returns c =
+    adds_same (kind_in c.args.kinds.now) _ _ _ _ _ _ (λ x h. h.0) (λ x h. (h, (let l = name_below c.args.sorts.now c.args.token.now x h in omega (arith, l)))) c.loop-colon.invariant

@@ -1,0 +1,10 @@
+use Rattle.std.proofs.Common.{◌<◌, length}
+use Rattle.mw_logic.specs.Term.{Variable}
+use Rattle.mw_grammar.specs.Readable.{kind_in}
+use Rattle.mw_grammar.specs.Leaves.{IsWithSort}
+use Rattle.mw_grammar.specs.Worded.{Adds}
+use Rattle.mw_grammar.proofs.leaves.push_with_sorts.Given as goal
+
+abbrev pub invariant-loop-colon : goal.invariant-loop-colon
+invariant-loop-colon l =
+    Adds (kind_in l.kinds) l.initial.leaves.items l.leaves.items l.initial.found.items l.found.items (λ (x : Variable). IsWithSort l.sorts l.token x × (length x.name < l.colon))

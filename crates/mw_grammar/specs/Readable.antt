@@ -1,0 +1,50 @@
+-- Which signatures have a grammar.
+use Rattle.std.specs.Prelude.{ℕ, ◌≡◌, ◌≢◌, ◌≤◌, ◌<◌, List, [], ◌∷◌, length, slice_index_or, IsTrue, All}
+use Rattle.mw_logic.specs.Term.{Variable}
+use Rattle.mw_logic.specs.Signature.{Signature, Operator, IsOperator, SameKind, Member}
+use Rattle.mw_text.specs.Names.{Item, hole, items_of}
+
+-- a sort's kind by a list, in which each sort has a place
+abbrev pub kind_in : List ℕ → ℕ → ℕ
+kind_in kinds S = slice_index_or kinds S S
+
+-- the number is that of a sort, or 0
+abbrev pub IsWithin : Signature → ℕ → Type 0
+IsWithin sig S = S ≤ length sig.sorts
+
+-- `kind` gives each kind one of its numbers
+pub record AreKinds (sig : Signature) (kind : ℕ → ℕ) : Type 0 where
+  pub same : (S : ℕ) → SameKind sig S (kind S)
+  pub agree : (S T : ℕ) → SameKind sig S T → kind S ≡ kind T
+  pub within : (S : ℕ) → IsWithin sig S → IsWithin sig (kind S)
+
+-- A name is a piece at least, or more than a hole.
+abbrev pub IsName : List Item → Type 0
+IsName items = (items ≢ []) × (items ≢ hole ∷ [])
+
+abbrev pub AreNames : Signature → Type 0
+AreNames sig = (f : ℕ) (o : Operator) → IsOperator sig f o → IsName (items_of o.spelling)
+
+-- Operators have names, sorts that are declared, and precedences up to 127; associative ones have two arguments of their result's kind.
+pub record IsReadable (sig : Signature) : Type 0 where
+  pub names : AreNames sig
+  pub args : (f : ℕ) (o : Operator) (K : ℕ) → IsOperator sig f o → Member K o.args → IsWithin sig K
+  pub results : (f : ℕ) (o : Operator) → IsOperator sig f o → IsWithin sig o.result
+  pub precedences : (f : ℕ) (o : Operator) → IsOperator sig f o → o.prec < 128
+  pub assoc : (f : ℕ) (o : Operator) → IsOperator sig f o → IsTrue o.assoc → (K : ℕ) × (L : ℕ) × (o.args ≡ K ∷ L ∷ []) × SameKind sig K o.result × SameKind sig L o.result
+
+-- The same by a test, where `kind` gives each kind one of its numbers. These are two arguments of the result's kind.
+abbrev pub IsJoined : (ℕ → ℕ) → List ℕ → ℕ → Type 0
+IsJoined kind args result = (K : ℕ) × (L : ℕ) × (args ≡ K ∷ L ∷ []) × (kind K ≡ kind result) × (kind L ≡ kind result)
+
+-- one operator is as it must be, with so many sorts
+pub record IsReadableOperator (kind : ℕ → ℕ) (sorts : ℕ) (o : Operator) : Type 0 where
+  pub name : IsName (items_of o.spelling)
+  pub args : All (λ K. K ≤ sorts) o.args
+  pub result : o.result ≤ sorts
+  pub precedence : o.prec < 128
+  pub assoc : IsTrue o.assoc → IsJoined kind o.args o.result
+
+-- variables have sorts that are declared
+abbrev pub AreVariables : Signature → List Variable → Type 0
+AreVariables sig variables = (x : Variable) → Member x variables → IsWithin sig x.sort

@@ -1,0 +1,191 @@
+-- What the chart's answers say of the terms that tokens spell.
+use Rattle.std.proofs.Common.{◌++◌, ◌≡◌, ◌≢◌, ◌≤◌, ◌<◌, ◌∙◌, ℕ, List, [], ◌∷◌, length, Option, None, Some, refl, sym, ap, subst, ⊎_elim, inl, inr}
+use Rattle.mw_lex.specs.declared.token.Token.{Token}
+use Rattle.mw_lex.specs.Lexing.{seen_all}
+use Rattle.mw_logic.specs.Term.{Variable, RawTerm, apply, nil, cons, join}
+use Rattle.mw_logic.specs.Signature.{Signature, SameKind, same, up, down, Member}
+use Rattle.mw_text.specs.Mixfix as mixfix
+use Rattle.mw_text.specs.Mixfix.{Reads}
+use Rattle.mw_text.specs.Readings.{ArePair, ReadsPair, NoneHas, TwoHave}
+use Rattle.mw_term.specs.declared.raw.Raw.{Raw}
+use Rattle.mw_term.specs.Raws.{raw_term, raw_terms}
+use Rattle.mw_chart.specs.Tree.{Tree, app}
+use Rattle.mw_chart.specs.Answer as chart
+use Rattle.mw_chart.specs.declared.table.Table.{Table}
+use Rattle.mw_chart.specs.declared.word.Word.{Word}
+use Rattle.mw_chart.specs.declared.fault.Fault.{Fault}
+use Rattle.mw_chart.specs.declared.fault.Fault.TheVariants as fault
+use Rattle.mw_chart.specs.declared.fault.Pair.{Pair}
+use Rattle.mw_chart.specs.declared.fault.PairFault.{PairFault}
+use Rattle.mw_chart.specs.declared.fault.PairFault.TheVariants as pair_fault
+use Rattle.mw_grammar.specs.Readable.{kind_in, AreKinds}
+use Rattle.mw_grammar.specs.Worded.{AreWords}
+use Rattle.mw_grammar.specs.Meaning.{term_of, with_last}
+use Rattle.mw_grammar.specs.Grammars.{IsWordsOf, texts as tokens_texts}
+use Rattle.mw_grammar.specs.Exact.{IsTree, AreExact}
+use Rattle.mw_grammar.specs.declared.grammar.Words.{Words}
+use Rattle.mw_grammar.proofs.Exactly.{exactly}
+use Rattle.mw_declare.specs.Meaning.{texts}
+use Rattle.mw_parse.specs.declared.reader.Reader.{Reader}
+use Rattle.mw_parse.specs.Readers.{IsReaderOf}
+use Rattle.mw_parse.specs.Answers.{HasCause, HasPairCause}
+use Rattle.mw_parse.specs.Tops.{IsTop, error_of, pair_error_of}
+use Rattle.mw_parse.specs.declared.terms.Top.{Top}
+use Rattle.mw_parse.specs.declared.terms.Top.TheVariants.{Operator, Variable as VariableTop}
+
+pub texts_seen : (ts : List Token) → tokens_texts ts ≡ texts (seen_all ts)
+texts_seen [] = refl
+texts_seen (t ∷ ts) = ap (λ x. t.text.items ∷ x) (texts_seen ts)
+
+-- where no sort is below another, each is its own kind
+lone : (sig : Signature) → sig.pairs ≡ [] → {S T : ℕ} → SameKind sig S T → S ≡ T
+lone sig none same = refl
+lone sig none (up {S} {T} m k) = absurd (subst (Member (S, T)) none m)
+lone sig none (down {S} {T} m k) = absurd (subst (Member (T, S)) none m)
+
+kinds : (sig : Signature) → sig.pairs ≡ [] → AreKinds sig (kind_in [])
+kinds sig none = record { same = λ S. SameKind.same; agree = λ S T k. lone sig none k; within = λ S h. h }
+
+pub exact_words : (sig : Signature) (variables : List Variable) (r : Reader) (tokens : List Token) (w : Words) → IsReaderOf sig variables r → IsWordsOf r.grammar tokens w
+    → AreExact sig variables (kind_in []) r.grammar.table w.leaves.items (texts (seen_all tokens)) w.words.items
+exact_words sig variables r tokens w is words =
+    let g = r.grammar in
+    let made = is.grammar in
+    let ts = tokens_texts tokens in
+    let a = subst (λ (s : List (List ℕ)). AreWords s g.variables (kind_in g.kinds) g.names w.leaves.items ts w.words.items) made.sorts words in
+    let b = subst (λ (v : List Variable). AreWords sig.sorts v (kind_in g.kinds) g.names w.leaves.items ts w.words.items) made.variables_are a in
+    let d = subst (λ (k : List ℕ). AreWords sig.sorts variables (kind_in k) g.names w.leaves.items ts w.words.items) made.kinds_are b in
+    subst (λ x. AreExact sig variables (kind_in []) g.table w.leaves.items x w.words.items) (texts_seen tokens)
+    (exactly sig variables (kind_in []) (kinds sig is.discrete) is.readable is.declared g.names g.table made.compiled w.leaves.items ts w.words.items d)
+
+pub count_words : (r : Reader) (tokens : List Token) (w : Words) → IsWordsOf r.grammar tokens w → length w.words.items ≡ length (texts (seen_all tokens))
+count_words r tokens w words = words.count ∙ ap length (texts_seen tokens)
+
+module _ (sig : Signature) (variables : List Variable) (g : Table) (terms : g.kinds ≡ length sig.sorts) (leaves : List Variable) (tokens : List (List ℕ)) (words : List Word)
+    (count : length words ≡ length tokens) (exact : AreExact sig variables (kind_in []) g leaves tokens words) where
+  -- the chart's trees of the wanted kind are the grammar's
+  tree : (wanted : Option ℕ) (t : Tree) → chart.IsSpelled g wanted words t → IsTree sig (kind_in []) g wanted words t
+  tree None t (kind, within, want, of) = record { K = kind; within = subst (λ n. kind ≤ n) terms within; is_wanted = tt; spelled = of }
+  tree (Some S) t (kind, within, want, of) = record { K = kind; within = subst (λ n. kind ≤ n) terms within; is_wanted = sym want; spelled = of }
+
+  spelled_by : (wanted : Option ℕ) (t : Tree) → IsTree sig (kind_in []) g wanted words t → chart.IsSpelled g wanted words t
+  spelled_by None t h = (h.K, subst (λ n. h.K ≤ n) (sym terms) h.within, tt, h.spelled)
+  spelled_by (Some S) t h = (h.K, subst (λ n. h.K ≤ n) (sym terms) h.within, sym h.is_wanted, h.spelled)
+
+  pub reads : (wanted : Option ℕ) (t : Tree) → chart.Reads g wanted words t → Reads sig variables wanted tokens (term_of leaves t)
+  reads wanted t h = exact.only wanted t (subst (λ n. n ≤ 1024) count h.short) (tree wanted t h.spelled) (λ u k. h.only u (spelled_by wanted u k))
+
+  none : (wanted : Option ℕ) → ((u : Tree) → chart.IsSpelled g wanted words u → ⊥) → NoneHas (mixfix.IsSpelled sig variables wanted tokens)
+  none wanted never t h = let r = exact.complete wanted t h in never r.0 (spelled_by wanted r.0 r.1)
+
+  two : (wanted : Option ℕ) (a b : Tree) → chart.IsSpelled g wanted words a → chart.IsSpelled g wanted words b → a ≢ b → TwoHave (mixfix.IsSpelled sig variables wanted tokens)
+  two wanted a b h k apart = (
+    term_of leaves a,
+    term_of leaves b,
+    exact.sound wanted a (tree wanted a h),
+    exact.sound wanted b (tree wanted b k),
+    exact.differ wanted a b (tree wanted a h) (tree wanted b k) apart,
+  )
+
+  pub cause : (wanted : Option ℕ) (f : Fault) → chart.HasFault g wanted words f → HasCause sig variables wanted tokens (error_of f)
+  cause wanted fault.NoParse h = (subst (λ n. n ≤ 1024) count h.0, none wanted h.1)
+  cause wanted (fault.Ambiguous a b) h = (subst (λ n. n ≤ 1024) count h.0, two wanted a b h.1 h.2 h.3)
+  cause wanted fault.TooLong h = subst (λ n. 1024 < n) count h
+  cause wanted fault.Memory h = tt
+
+  -- a tree of a kind is a term of that kind, and a term of a kind is a tree of it
+  pub of_kind : (kind : ℕ) (t : Tree) → kind ≤ g.kinds → chart.IsOf g words kind t → mixfix.IsSpelled sig variables (Some kind) tokens (term_of leaves t)
+  of_kind kind t within of = exact.sound (Some kind) t (tree (Some kind) t (kind, within, refl, of))
+
+  pub in_kind : (kind : ℕ) (t : RawTerm) → mixfix.IsSpelled sig variables (Some kind) tokens t → (u : Tree) × (kind ≤ g.kinds) × chart.IsOf g words kind u × (term_of leaves u ≡ t)
+  in_kind kind t h =
+      let r = exact.complete (Some kind) t h in
+      let s = spelled_by (Some kind) r.0 r.1 in
+      (r.0, subst (λ n. n ≤ g.kinds) (sym s.2) s.1, subst (λ n. chart.IsOf g words n r.0) (sym s.2) s.3, r.2)
+
+  pub tell : (kind : ℕ) (a b : Tree) → kind ≤ g.kinds → chart.IsOf g words kind a → chart.IsOf g words kind b → a ≢ b → term_of leaves a ≢ term_of leaves b
+  tell kind a b within h k apart = exact.differ (Some kind) a b (tree (Some kind) a (kind, within, refl, h)) (tree (Some kind) b (kind, within, refl, k)) apart
+
+same_pair : (p q : RawTerm × RawTerm) → p.0 ≡ q.0 → p.1 ≡ q.1 → p ≡ q
+same_pair p q e f = ap (λ (x : RawTerm). let r : RawTerm × RawTerm = (x, p.1) in r) e ∙ ap (λ (y : RawTerm). let r : RawTerm × RawTerm = (q.0, y) in r) f
+
+of_any : (sig : Signature) (variables : List Variable) (K : ℕ) (text : List (List ℕ)) (t : RawTerm) → mixfix.IsSpelled sig variables (Some K) text t → mixfix.IsSpelled sig variables None text t
+of_any sig variables K text t h = record { precedence = h.precedence; spells = h.spells; kind = tt }
+
+module _ (sig : Signature) (variables : List Variable) (g : Table) (terms : g.kinds ≡ length sig.sorts)
+    (ls : List Variable) (left : List (List ℕ)) (lw : List Word) (lc : length lw ≡ length left) (le : AreExact sig variables (kind_in []) g ls left lw)
+    (rs : List Variable) (right : List (List ℕ)) (rw : List Word) (rc : length rw ≡ length right) (re : AreExact sig variables (kind_in []) g rs right rw) where
+  pair : (a b : Tree) → chart.IsPair g lw rw a b → ArePair sig variables left right (term_of ls a, term_of rs b)
+  pair a b (kind, within, h, k) =
+      let first = of_kind sig variables g terms ls left lw lc le kind a within h in
+      let second = of_kind sig variables g terms rs right rw rc re kind b within k in
+      record { first = of_any sig variables kind left _ first; second = of_any sig variables kind right _ second; kind = kind; of_first = first.kind; of_second = second.kind }
+
+  trees : (p : RawTerm × RawTerm) → ArePair sig variables left right p → (a : Tree) × (b : Tree) × chart.IsPair g lw rw a b × (term_of ls a ≡ p.0) × (term_of rs b ≡ p.1)
+  trees p h =
+      let first : mixfix.IsSpelled sig variables (Some h.kind) left p.0 = record { precedence = h.first.precedence; spells = h.first.spells; kind = h.of_first } in
+      let second : mixfix.IsSpelled sig variables (Some h.kind) right p.1 = record { precedence = h.second.precedence; spells = h.second.spells; kind = h.of_second } in
+      let a = in_kind sig variables g terms ls left lw lc le h.kind p.0 first in
+      let b = in_kind sig variables g terms rs right rw rc re h.kind p.1 second in
+      (a.0, b.0, (h.kind, a.1, a.2, b.2), a.3, b.3)
+
+  pub reads_pair : (p : RawTerm × RawTerm) (a b : Tree) → chart.AreShort lw rw → chart.IsPair g lw rw a b → ((c d : Tree) → chart.IsPair g lw rw c d → (c ≡ a) × (d ≡ b))
+      → p.0 ≡ term_of ls a → p.1 ≡ term_of rs b → ReadsPair sig variables left right p
+  reads_pair p a b short is only e f =
+      let same = same_pair p (term_of ls a, term_of rs b) e f in
+      record {
+        short_left = subst (λ n. n ≤ 1024) lc short.0;
+        short_right = subst (λ n. n ≤ 1024) rc short.1;
+        only = (
+          subst (ArePair sig variables left right) (sym same) (pair a b is),
+          λ q h. let t = trees q h in let o = only t.0 t.1 t.2 in
+              let x : q.0 ≡ p.0 = sym t.3 ∙ ap (term_of ls) o.0 ∙ sym e in
+              let y : q.1 ≡ p.1 = sym t.4 ∙ ap (term_of rs) o.1 ∙ sym f in same_pair q p x y,
+        );
+      }
+
+  none_pair : ((a b : Tree) → chart.IsPair g lw rw a b → ⊥) → NoneHas (ArePair sig variables left right)
+  none_pair never p h = let t = trees p h in never t.0 t.1 t.2
+
+module _ (sig : Signature) (variables : List Variable) (g : Table) (terms : g.kinds ≡ length sig.sorts)
+    (ls : List Variable) (left : List (List ℕ)) (lw : List Word) (lc : length lw ≡ length left) (le : AreExact sig variables (kind_in []) g ls left lw)
+    (rs : List Variable) (right : List (List ℕ)) (rw : List Word) (rc : length rw ≡ length right) (re : AreExact sig variables (kind_in []) g rs right rw) where
+  same_trees : (p q : Pair) → p.left ≡ q.left → p.right ≡ q.right → p ≡ q
+  same_trees p q e f = ap (λ (x : Tree). let r : Pair = record { left = x; right = p.right } in r) e ∙ ap (λ (y : Tree). let r : Pair = record { left = q.left; right = y } in r) f
+
+  -- two pairs of trees are different ones of terms
+  apart_pairs : (p q : Pair) → chart.IsPair g lw rw p.left p.right → chart.IsPair g lw rw q.left q.right → p ≢ q → term_of ls p.left ≡ term_of ls q.left → term_of rs p.right ≡ term_of rs q.right → ⊥
+  apart_pairs p q h k apart e f =
+      let lt : (t : Tree) (kind : ℕ) → kind ≤ g.kinds → chart.IsOf g lw kind t → IsTree sig (kind_in []) g None lw t = λ t kind within of. record { K = kind; within = subst (λ n. kind ≤ n) terms within; is_wanted = tt; spelled = of } in
+      let rt : (t : Tree) (kind : ℕ) → kind ≤ g.kinds → chart.IsOf g rw kind t → IsTree sig (kind_in []) g None rw t = λ t kind within of. record { K = kind; within = subst (λ n. kind ≤ n) terms within; is_wanted = tt; spelled = of } in
+      le.differ None p.left q.left (lt p.left h.0 h.1 h.2) (lt q.left k.0 k.1 k.2)
+      (λ x. re.differ None p.right q.right (rt p.right h.0 h.1 h.3) (rt q.right k.0 k.1 k.3) (λ y. apart (same_trees p q x y)) f)
+      e
+
+  pub pair_cause : (f : PairFault) → chart.HasPairFault g lw rw f → HasPairCause sig variables left right (pair_error_of f)
+  pair_cause pair_fault.NoParse h = (subst (λ n. n ≤ 1024) lc h.0.0, subst (λ n. n ≤ 1024) rc h.0.1, none_pair sig variables g terms ls left lw lc le rs right rw rc re h.1)
+  pair_cause (pair_fault.Ambiguous p q) h = (
+    subst (λ n. n ≤ 1024) lc h.0.0,
+    subst (λ n. n ≤ 1024) rc h.0.1,
+    (
+      (term_of ls p.left, term_of rs p.right),
+      (term_of ls q.left, term_of rs q.right),
+      pair sig variables g terms ls left lw lc le rs right rw rc re p.left p.right h.1,
+      pair sig variables g terms ls left lw lc le rs right rw rc re q.left q.right h.2,
+      λ e. apart_pairs p q h.1 h.2 h.3 (ap (λ x. x.0) e) (ap (λ x. x.1) e),
+    ),
+  )
+  pair_cause pair_fault.TooLong h = ⊎_elim (λ a. inl (subst (λ n. 1024 < n) lc a)) (λ a. inr (subst (λ n. 1024 < n) rc a)) h
+  pair_cause pair_fault.Memory h = tt
+
+raws_push : (rs : List Raw) (r : Raw) → raw_terms (rs ++ r ∷ []) ≡ join (raw_terms rs) (cons (raw_term r) nil)
+raws_push [] r = refl
+raws_push (s ∷ rs) r = ap (cons (raw_term s)) (raws_push rs r)
+
+-- with one argument more
+pub top_more : (leaves : List Variable) (t u : Tree) (top : Top) (args more : List Raw) (r : Raw) → IsTop top args (term_of leaves t) → raw_term r ≡ term_of leaves u → more ≡ args ++ r ∷ []
+    → IsTop top more (term_of leaves (app t u))
+top_more leaves t u (Operator f) args more r h e m =
+    let a : with_last (term_of leaves t) (term_of leaves u) ≡ with_last (apply f (raw_terms args)) (raw_term r) = ap (λ x. with_last x (term_of leaves u)) h ∙ ap (with_last (apply f (raw_terms args))) (sym e) in
+    a ∙ ap (apply f) (sym (raws_push args r)) ∙ ap (λ x. apply f (raw_terms x)) (sym m)
+top_more leaves t u (VariableTop x) args more r h e m = ap (λ y. with_last y (term_of leaves u)) h

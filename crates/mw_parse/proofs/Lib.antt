@@ -1,0 +1,2 @@
+-- What the chart's trees say of the terms that tokens spell.
+pub mod Exactness

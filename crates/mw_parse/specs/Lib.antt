@@ -1,0 +1,4 @@
+-- What texts are read as.
+pub mod Readers
+pub mod Answers
+pub mod Tops

@@ -1,0 +1,59 @@
+// The one reading of a text.
+ghost use Rattle.std.specs.Prelude.{◌≡◌, List, IfOk, IfErr};
+ghost use Rattle.mw_lex.specs.Lexing.{seen_all};
+ghost use Rattle.mw_logic.specs.Term.{Variable};
+ghost use Rattle.mw_logic.specs.Signature.{Signature as SignatureOf};
+ghost use Rattle.mw_term.specs.Raws.{raw_term};
+ghost use Rattle.mw_text.specs.Mixfix.{Reads};
+ghost use Rattle.mw_declare.specs.Meaning.{texts};
+ghost use Rattle.mw_parse.specs.Readers.{IsReaderOf, IsReading};
+ghost use Rattle.mw_parse.specs.Answers.{HasCause};
+ghost use Rattle.mw_parse.specs.Tops.{error_of};
+
+use crate::fault::ParseError;
+use crate::reader::Reader;
+use crate::terms::raw;
+use mw_chart::{Fault, LIMIT};
+use mw_lex::Token;
+use mw_term::{Raw, SortId};
+use std::alloc::Global;
+
+/// What the chart's fault tells.
+fn told(fault: Fault) -> ParseError
+    ensures { result ≡ error_of fault }
+{
+    match fault {
+        Fault::NoParse => ParseError::NoParse,
+        Fault::Ambiguous { .. } => ParseError::Ambiguous,
+        Fault::TooLong => ParseError::TooLong,
+        Fault::Memory => ParseError::Memory,
+    }
+}
+
+/// The one term that the tokens spell, of this sort's kind if one is wanted.
+pub fn parse(
+    alloc: Global,
+    reader: &Reader,
+    tokens: &[Token],
+    wanted: Option<SortId>,
+) -> Result<Raw, ParseError>
+    requires { IsReading reader.now }
+    ensures read { (sig : SignatureOf) (variables : List Variable) → IsReaderOf sig variables reader.now
+        → IfOk result (λ t. Reads sig variables wanted (texts (seen_all tokens.now)) (raw_term t)) }
+    ensures cause { (sig : SignatureOf) (variables : List Variable) → IsReaderOf sig variables reader.now
+        → IfErr result (HasCause sig variables wanted (texts (seen_all tokens.now))) }
+{
+    if tokens.len() > LIMIT {
+        return Err(ParseError::TooLong);
+    }
+    let words = reader.grammar.words(alloc, tokens)?;
+    match mw_chart::parse(
+        alloc,
+        reader.grammar.table(),
+        words.words.as_slice(),
+        wanted,
+    ) {
+        Ok(term) => Ok(raw(alloc, term.body(), words.leaves.as_slice())?),
+        Err(fault) => Err(told(fault)),
+    }
+}
