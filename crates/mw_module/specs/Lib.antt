@@ -4,3 +4,4 @@ pub mod Openings
 pub mod Forms
 pub mod Kinds
 pub mod Units
+pub mod Refusals

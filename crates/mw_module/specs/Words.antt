@@ -1,5 +1,5 @@
 -- What single tokens say.
-use Rattle.std.specs.Prelude.{ℕ, Bool, List, [], ◌∷◌, ◌+◌, ◌==◌, ◌&&◌, ◌||◌, false, if◌then◌else◌}
+use Rattle.std.specs.Prelude.{ℕ, Bool, List, [], ◌∷◌, ◌+◌, ◌==◌, ◌&&◌, ◌||◌, true, false, if◌then◌else◌}
 use Rattle.std.specs.List.{list_any}
 use Rattle.std.specs.Str.{bytes_eq}
 use Rattle.mw_lex.specs.Bytes.{is_punctuation}
@@ -24,10 +24,10 @@ abbrev pub is_quoted : List ℕ → Bool
 is_quoted [] = false
 is_quoted (b ∷ rest) = b == 34
 
--- a text that is no piece of an operator's name: a full stop alone, or one that begins with a quotation mark, three
--- stars or three dashes
+-- a text that is no piece of an operator's name: an empty text, a full stop alone, or one that begins with a quotation
+-- mark, three stars or three dashes
 abbrev pub is_no_piece : List ℕ → Bool
-is_no_piece [] = false
+is_no_piece [] = true
 is_no_piece (a ∷ []) = a == 46 || a == 34
 is_no_piece (a ∷ b ∷ []) = a == 34
 is_no_piece (a ∷ b ∷ c ∷ rest) = a == 34 || (a == 42 && b == 42 && c == 42) || (a == 45 && b == 45 && c == 45)

@@ -72,6 +72,7 @@ pub fn is_no_piece(text: &[u8]) -> bool
     ensures { result ≡ words.is_no_piece text.now }
 {
     match text {
+        [] => true,
         [b'.'] => true,
         [b'"', ..] => true,
         [b'*', b'*', b'*', ..] => true,

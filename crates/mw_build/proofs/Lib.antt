@@ -1,0 +1,7 @@
+-- Laws of modules that are accepted.
+pub mod Keys
+pub mod Signatures
+pub mod Readable
+pub mod Sides
+pub mod Reading
+pub mod Accepting

@@ -1,0 +1,129 @@
+-- Sides of equations in signatures in which no sort is below another.
+use Rattle.std.proofs.Common.{nat_le, ◌≡◌, ◌∙◌, ◌≤◌, ◌<◌, ◌||◌, ℕ, zero, suc, List, [], ◌∷◌, Bool, true, false, if◌then◌else◌, Option, Some, None, IsTrue, Result, Ok, Err, IfOk, refl, sym, ap, subst, arith}
+use Rattle.std.proofs.lemmas.Bool.{both_ways}
+use Rattle.std.proofs.lemmas.Option.{slice_get_within}
+use Rattle.mw_logic.specs.Term.{Variable, RawTerm, numeral, quoted, variable}
+use Rattle.mw_logic.specs.Signature.{Signature, IsRawTerm, a_numeral, a_quoted, a_variable, an_operator, at_number}
+use Rattle.mw_logic.specs.Substitution.{same_variable, occurs}
+use Rattle.mw_logic.specs.Axioms.{done}
+use Rattle.mw_logic.specs.NormalForm.{height}
+use Rattle.mw_logic.specs.Parts.{depth}
+use Rattle.mw_logic.specs.Module.{Statement, Fragment}
+use Rattle.mw_logic.proofs.FreeSignature.{free_equal, free_clean}
+use Rattle.mw_term.specs.declared.raw.Raw.{Raw}
+use Rattle.mw_term.specs.declared.raw.Raw.TheVariants.{Nat, Qid, Var, Op}
+use Rattle.mw_term.specs.Raws.{raw_term}
+use Rattle.mw_machine.specs.Machine.{IsFlat}
+use Rattle.mw_machine.specs.Simple.{IsSimpleSignature, IsSimpleEquation, IsSimpleModule}
+use Rattle.mw_machine.specs.Variables.{is_in, met}
+use Rattle.mw_machine.proofs.Discrete.{free, accepted}
+use Rattle.mw_machine.proofs.Depths.{depth_height}
+use Rattle.mw_machine.proofs.Meeting.{same_is, is_in-met}
+use Rattle.mw_module.specs.Refusals.{too_deep}
+use Rattle.mw_text.specs.Mixfix.{Reads}
+use Rattle.mw_text.proofs.RawTerms.{spelled_raw}
+use Rattle.mw_declare.specs.Meaning.{Sides}
+use Rattle.mw_build.proofs.Reading.{there}
+use Rattle.mw_build.specs.Equations.{missing_in, unbound, FitsIn, Oversized, deep, IsLone, statement_of, IsEquation, AreEquations}
+
+-- where none is missing, each is bound
+none_missing : (bound xs : List Variable) → missing_in bound xs ≡ None → (x : Variable) → is_in x xs ≡ true → is_in x bound ≡ true
+none_missing bound [] h x i = absurd (both_ways _ refl i)
+none_missing bound (y ∷ xs) h x i = of (is_in y bound) refl h (λ n. none_missing bound xs n x)
+  where
+    here : (b : Bool) → same_variable y x ≡ b → is_in y bound ≡ true → (is_in x xs ≡ true → is_in x bound ≡ true) → (b || is_in x xs) ≡ true → is_in x bound ≡ true
+    here true e k rest j = subst (λ z. is_in z bound ≡ true) (same_is y x e) k
+    here false e k rest j = rest j
+
+    of : (b : Bool) → is_in y bound ≡ b → (if b then missing_in bound xs else Some y) ≡ None → (missing_in bound xs ≡ None → is_in x xs ≡ true → is_in x bound ≡ true) → is_in x bound ≡ true
+    of true k n rest = here (same_variable y x) refl k (rest n) i
+    of false k n rest = cc
+
+pub all_bound : (left right : RawTerm) → unbound left right ≡ None → (x : Variable) → IsTrue (occurs x right) → IsTrue (occurs x left)
+all_bound left right h x i = sym (is_in-met x [] left) ∙ none_missing (met [] left) (met [] right) h x (is_in-met x [] right ∙ i)
+
+-- what a test of the levels says
+pub within : (t : RawTerm) (n : ℕ) (b : Bool) → b ≡ nat_le (height t) n → b ≡ true → height t ≤ n
+within t n b e h = grind arith
+
+pub above : (t : RawTerm) (n : ℕ) (b : Bool) → b ≡ nat_le (height t) n → b ≡ false → n < height t
+above t n b e h = grind arith
+
+-- the first variable that is missing, from the variables of both sides
+pub first_unbound : (left right : RawTerm) (bound xs : List Variable) (o : Option Variable) → bound ≡ met [] left → xs ≡ met [] right → o ≡ missing_in bound xs → unbound left right ≡ o
+first_unbound left right bound xs o b e h = sym (h ∙ ap (λ ys. missing_in ys xs) b ∙ ap (missing_in (met [] left)) e)
+
+-- where no variable is missing, the option holds none
+pub holds_none : (o : Option Variable) → ((x : Variable) → o ≡ Some x → ⊥) → o ≡ None
+holds_none None h = refl
+holds_none (Some x) h = absurd (h x refl)
+
+pub made : (left right : RawTerm) (fragments : List Fragment) (variables : List Variable) → fragments ≡ [] → variables ≡ met [] left
+    → record { left = left; right = right; fragments = fragments; variables = variables; rule = false; executable = true; owise = false } ≡ statement_of left right
+made left right fragments variables e h = rw (e, h) refl
+
+module _ (sig : Signature) (simple : IsSimpleSignature sig) where
+  -- no more than so many levels, so the term fits in
+  pub fits : (t : RawTerm) → height t ≤ 1000 → FitsIn sig t
+  fits t h = record {
+    not_deep = λ k. let d = depth_height sig (free sig simple) t in let l : 1000 < depth sig t = subst (λ u. 1000 < depth sig u) (sym (free_equal sig (free sig simple) k.clean.equal)) k.deep in omega (arith, h, d, l);
+    not_large = λ k. both_ways _ simple.nat k.successor.nat;
+  }
+
+  pub oversized : (t : RawTerm) → 1000 < height t → Oversized sig t too_deep
+  oversized t h = deep (record {
+    form = t;
+    clean = record { clean = free_clean sig (free sig simple) t; equal = done };
+    deep = let d = depth_height sig (free sig simple) t in omega (arith, d, h);
+  })
+
+  pub lone_is : (t : RawTerm) → IsLone sig t → (x : Variable) × (t ≡ variable x)
+  lone_is t l = (l.0, free_equal sig (free sig simple) l.1)
+
+  pub is_lone : (r : Raw) (x : Variable) → r ≡ Var x → IsLone sig (raw_term r)
+  is_lone r x e = subst (λ s. IsLone sig (raw_term s)) (sym e) (x, done)
+
+  pub not_lone : (r : Raw) → ((x : Variable) → r ≡ Var x → ⊥) → IsLone sig (raw_term r) → ⊥
+  not_lone (Nat n) h l = let e = (lone_is (numeral n) l).1 in cc
+  not_lone (Qid q) h l = let e = (lone_is (quoted q) l).1 in cc
+  not_lone (Var x) h l = h x refl
+  not_lone (Op f ts) h l = let e = (lone_is (raw_term (Op f ts)) l).1 in cc
+
+  has_top : (t : RawTerm) → IsRawTerm sig t → (IsLone sig t → ⊥) → IsFlat t → ⊥
+  has_top t (a_numeral b l) h f = both_ways _ simple.nat b
+  has_top t (a_quoted b) h f = both_ways _ simple.qid b
+  has_top t (a_variable {x}) h f = h (x, done)
+  has_top t (an_operator o is args) h f = f
+
+  module _ (variables : List Variable) where
+    pub simple_equation : (e : Sides) (st : Statement) → IsEquation sig variables e st → IsSimpleEquation sig st
+    simple_equation e st is = subst (IsSimpleEquation sig) (sym is.sides.statement) (record {
+      executable = refl;
+      equation = refl;
+      unconditional = refl;
+      ordinary = refl;
+      left = left_raw;
+      right = spelled_raw sig (accepted sig simple) variables is.read.only.0.second.spells;
+      kinds = (is.read.only.0.kind, is.read.only.0.of_first, is.read.only.0.of_second);
+      top = has_top is.left left_raw is.sides.not_lone;
+      variables = refl;
+      bound = all_bound is.left is.right is.sides.bound;
+    })
+      where
+        left_raw : IsRawTerm sig is.left
+        left_raw = spelled_raw sig (accepted sig simple) variables is.read.only.0.first.spells
+
+    pub simple_module : (es : List Sides) (sts : List Statement) → AreEquations sig variables es sts → IsSimpleModule (record { signature = sig; statements = sts })
+    simple_module es sts all = record { signature = simple; equations = at_each }
+      where
+        at_each : (k : ℕ) (st : Statement) → at_number sts k ≡ Some st → IsSimpleEquation sig st
+        at_each zero st h = cc
+        at_each (suc i) st h =
+            let w = slice_get_within sts i st h in
+            let e = there es i (omega (arith, w, all.count)) in simple_equation e.0 st (all.each i e.0 st e.1 h)
+
+-- what a text is read as is a term of the signature
+pub raw_read : {E : Type 0} (sig : Signature) (variables : List Variable) (words : List (List ℕ)) → IsSimpleSignature sig → (r : Result Raw E)
+    → IfOk r (λ t. Reads sig variables None words (raw_term t)) → IfOk r (λ t. IsRawTerm sig (raw_term t))
+raw_read sig variables words simple (Ok t) h = spelled_raw sig (accepted sig simple) variables h.spelled.spells
+raw_read sig variables words simple (Err e) h = tt

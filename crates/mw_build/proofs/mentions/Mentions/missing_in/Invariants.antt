@@ -1,0 +1,10 @@
+use Rattle.std.proofs.Common.{◌≡◌, map, length}
+use Rattle.mw_build.specs.Seen.{seen_key}
+use Rattle.mw_build.specs.Equations.{missing_in}
+use Rattle.mw_build.proofs.mentions.Mentions.missing_in.Given as goal
+
+abbrev pub invariant-loop-rest : goal.invariant-loop-rest
+invariant-loop-rest l = missing_in l.others (map seen_key l.rest) ≡ missing_in l.others l.self
+
+abbrev pub decreases-loop-rest : goal.decreases-loop-rest
+decreases-loop-rest l = length l.rest

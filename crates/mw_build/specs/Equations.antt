@@ -1,0 +1,96 @@
+-- Which statement an equation is, and what is wrong with one. (Maude Manual, chapter 4, "Unconditional equations".)
+use Rattle.std.specs.Prelude.{◌≡◌, ◌<◌, ◌⊎◌, ◌++◌, ℕ, List, [], ◌∷◌, length, slice_get, cond, true, false, Option, Some, None, if◌then◌else◌}
+use Rattle.mw_logic.specs.Term.{Variable, RawTerm, variable}
+use Rattle.mw_logic.specs.Signature.{Signature}
+use Rattle.mw_logic.specs.Axioms.{EqualModulo}
+use Rattle.mw_logic.specs.Parts.{IsTooDeep, IsTooLarge}
+use Rattle.mw_logic.specs.Module.{Statement}
+use Rattle.mw_machine.specs.Variables.{is_in, met}
+use Rattle.mw_module.specs.Refusals.{Cause, Refusal, term_too_long, no_parse, ambiguous, too_deep, number_too_large, lone_variable, unbound_variable}
+use Rattle.mw_text.specs.Readings.{NoneHas, TwoHave, IsShort, ArePair, ReadsPair}
+use Rattle.mw_declare.specs.Meaning.{Sides, texts}
+
+-- the variables, and this one behind them where it is new
+abbrev pub with_variable : List Variable → Variable → List Variable
+with_variable xs x = cond (is_in x xs) xs (xs ++ x ∷ [])
+
+-- the first of these variables that isn't among the bound ones
+abbrev pub missing_in : List Variable → List Variable → Option Variable
+missing_in bound [] = None
+missing_in bound (x ∷ xs) = if is_in x bound then missing_in bound xs else Some x
+
+-- the first variable of the right side that the left side hasn't
+abbrev pub unbound : RawTerm → RawTerm → Option Variable
+unbound left right = missing_in (met [] left) (met [] right)
+
+-- neither too deep nor with too large a number
+pub record FitsIn (sig : Signature) (t : RawTerm) : Type 0 where
+  pub not_deep : IsTooDeep sig t → ⊥
+  pub not_large : IsTooLarge sig t → ⊥
+
+-- what keeps a term out: that it is too deep, or else a number
+pub data Oversized (sig : Signature) (t : RawTerm) : Cause → Type 0 where
+  deep : IsTooDeep sig t → Oversized sig t too_deep
+  large : (IsTooDeep sig t → ⊥) → IsTooLarge sig t → Oversized sig t number_too_large
+
+-- in the canonical form it is a variable
+abbrev pub IsLone : Signature → RawTerm → Type 0
+IsLone sig t = (x : Variable) × EqualModulo sig t (variable x)
+
+-- the equation of these sides
+abbrev pub statement_of : RawTerm → RawTerm → Statement
+statement_of left right = record {
+  left = left;
+  right = right;
+  fragments = [];
+  variables = met [] left;
+  rule = false;
+  executable = true;
+  owise = false;
+}
+
+-- The sides are those of this statement: they fit in, the left one isn't a variable, and it has each variable of the right one.
+pub record IsStatementOf (sig : Signature) (left right : RawTerm) (st : Statement) : Type 0 where
+  pub left_fits : FitsIn sig left
+  pub right_fits : FitsIn sig right
+  pub not_lone : IsLone sig left → ⊥
+  pub bound : unbound left right ≡ None
+  pub statement : st ≡ statement_of left right
+
+-- what is wrong with sides, in this order
+pub data SidesFault (sig : Signature) (left right : RawTerm) : Cause → Type 0 where
+  big_left : (cause : Cause) → Oversized sig left cause → SidesFault sig left right cause
+  big_right : (cause : Cause) → FitsIn sig left → Oversized sig right cause → SidesFault sig left right cause
+  lone : FitsIn sig left → FitsIn sig right → IsLone sig left → SidesFault sig left right lone_variable
+  open_right : (x : Variable) → FitsIn sig left → FitsIn sig right → (IsLone sig left → ⊥) → unbound left right ≡ Some x
+      → SidesFault sig left right (unbound_variable x.name)
+
+module _ (sig : Signature) (variables : List Variable) where
+  -- the equation is this statement: its texts spell these sides, and no others of one kind
+  pub record IsEquation (e : Sides) (st : Statement) : Type 0 where
+    pub left : RawTerm
+    pub right : RawTerm
+    pub read : ReadsPair sig variables (texts e.left) (texts e.right) (left, right)
+    pub sides : IsStatementOf sig left right st
+
+  -- what is wrong with an equation, in this order
+  pub data EquationFault (e : Sides) : Cause → Type 0 where
+    long : (1024 < length (texts e.left)) ⊎ (1024 < length (texts e.right)) → EquationFault e term_too_long
+    unread : IsShort (texts e.left) → IsShort (texts e.right) → NoneHas (ArePair sig variables (texts e.left) (texts e.right)) → EquationFault e no_parse
+    unclear : IsShort (texts e.left) → IsShort (texts e.right) → TwoHave (ArePair sig variables (texts e.left) (texts e.right)) → EquationFault e ambiguous
+    sides : (left right : RawTerm) (cause : Cause) → ReadsPair sig variables (texts e.left) (texts e.right) (left, right) → SidesFault sig left right cause
+        → EquationFault e cause
+
+  -- the equations are these statements, one for one
+  pub record AreEquations (es : List Sides) (sts : List Statement) : Type 0 where
+    pub count : length sts ≡ length es
+    pub each : (i : ℕ) (e : Sides) (st : Statement) → slice_get es i ≡ Some e → slice_get sts i ≡ Some st → IsEquation e st
+
+  -- the first equation that isn't a statement is at fault
+  pub record FirstFault (es : List Sides) (r : Refusal) : Type 0 where
+    pub place : ℕ
+    pub equation : Sides
+    pub is_there : slice_get es place ≡ Some equation
+    pub fault : EquationFault equation r.cause
+    pub line : r.line ≡ equation.line
+    pub before : (i : ℕ) (e : Sides) → i < place → slice_get es i ≡ Some e → (st : Statement) × IsEquation e st

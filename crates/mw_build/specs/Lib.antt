@@ -1,0 +1,4 @@
+-- Modules that were accepted, and why others are refused.
+pub mod Equations
+pub mod Modules
+pub mod Seen

@@ -1,0 +1,96 @@
+// Equations, from tokens to statements.
+ghost use Rattle.std.specs.Prelude.{◌≡◌, List, IfOk, MatchResult};
+ghost use Rattle.mw_logic.specs.Term.{Variable};
+ghost use Rattle.mw_logic.specs.Signature.{Signature as SignatureOf};
+ghost use Rattle.mw_machine.specs.Simple.{IsSimpleSignature};
+ghost use Rattle.mw_term.specs.Raws.{raw_term};
+ghost use Rattle.mw_module.specs.Refusals.{cause_of, refusal_of};
+ghost use Rattle.mw_declare.specs.Seen.{seen_equation, seen_equations};
+ghost use Rattle.mw_parse.specs.Readers.{IsReaderOf, IsReading};
+ghost use Rattle.mw_build.specs.Equations.{IsEquation, EquationFault, IsStatementOf, SidesFault, AreEquations, FirstFault};
+
+use crate::mentions::mentioned;
+use crate::size::is_within;
+use mw_declare::Equation;
+use mw_module::{Fault, FaultKind};
+use mw_parse::{ParseError, Reader, parse_pair};
+use mw_term::{Fragment, Raw, Seq, Statement};
+use std::alloc::{AllocError, Global};
+
+/// The most levels of a term.
+const DEEPEST: u32 = 1000;
+
+/// The statement of an equation's sides, or what is wrong with them.
+fn sides_statement(
+    alloc: Global,
+    left: Raw,
+    right: Raw,
+) -> Result<Result<Statement, FaultKind>, AllocError>
+    ensures { (sig : SignatureOf) → IsSimpleSignature sig → IfOk result (λ r. MatchResult r
+        (λ st. IsStatementOf sig (raw_term left) (raw_term right) st)
+        (λ kind. SidesFault sig (raw_term left) (raw_term right) (cause_of kind))) }
+{
+    if !is_within(&left, DEEPEST) || !is_within(&right, DEEPEST) {
+        return Ok(Err(FaultKind::TooDeep));
+    }
+    if matches!(left, Raw::Var(_)) {
+        return Ok(Err(FaultKind::LoneVariable));
+    }
+    let bound = mentioned(alloc, &left)?;
+    if let Some(variable) = mentioned(alloc, &right)?.missing_in(alloc, &bound)? {
+        return Ok(Err(FaultKind::UnboundVariable(variable.name.into_vec())));
+    }
+    let variables = bound.variables(alloc)?;
+    Ok(Ok(Statement {
+        left,
+        right,
+        fragments: Seq::of(Vec::<Fragment>::new(alloc)),
+        variables,
+        rule: false,
+        executable: true,
+    }))
+}
+
+/// The statement that an equation is, or what is wrong with it.
+fn statement(
+    alloc: Global,
+    reader: &Reader,
+    equation: &Equation<'_>,
+) -> Result<Result<Statement, FaultKind>, AllocError>
+    requires { IsReading reader.now }
+    ensures { (sig : SignatureOf) (variables : List Variable) → IsSimpleSignature sig → IsReaderOf sig variables reader.now → IfOk result (λ r. MatchResult r
+        (IsEquation sig variables (seen_equation equation.now))
+        (λ kind. EquationFault sig variables (seen_equation equation.now) (cause_of kind))) }
+{
+    match parse_pair(alloc, reader, equation.left, equation.right) {
+        Ok((left, right)) => sides_statement(alloc, left, right),
+        Err(ParseError::TooLong) => Ok(Err(FaultKind::TermTooLong)),
+        Err(ParseError::NoParse) => Ok(Err(FaultKind::NoParse)),
+        Err(ParseError::Ambiguous) => Ok(Err(FaultKind::Ambiguous)),
+        Err(ParseError::Memory) => Err(AllocError),
+    }
+}
+
+/// The statements that equations are, or the first fault.
+pub fn statements(
+    alloc: Global,
+    reader: &Reader,
+    equations: &[Equation<'_>],
+) -> Result<Result<Vec<Statement>, Fault>, AllocError>
+    requires { IsReading reader.now }
+    ensures { (sig : SignatureOf) (variables : List Variable) → IsSimpleSignature sig → IsReaderOf sig variables reader.now → IfOk result (λ r. MatchResult r
+        (λ sts. AreEquations sig variables (seen_equations equations.now) sts.items)
+        (λ fault. FirstFault sig variables (seen_equations equations.now) (refusal_of fault))) }
+{
+    let mut found = Vec::new(alloc);
+    for equation in equations {
+        match statement(alloc, reader, equation)? {
+            Ok(statement) => found.push(statement)?,
+            Err(kind) => {
+                let line = equation.line;
+                return Ok(Err(Fault { line, kind }));
+            }
+        }
+    }
+    Ok(Ok(found))
+}

@@ -1,0 +1,115 @@
+// Modules that were accepted.
+ghost use Rattle.std.specs.Prelude.{◌≡◌, ℕ, List, IfOk, IfErr, IsSome, None};
+ghost use Rattle.mw_lex.specs.Lexing.{seen_all};
+ghost use Rattle.mw_module.specs.Units.{seen_unit};
+ghost use Rattle.mw_logic.specs.Signature.{IsRawTerm};
+ghost use Rattle.mw_term.specs.Raws.{raw_term};
+ghost use Rattle.mw_text.specs.Mixfix.{Reads};
+ghost use Rattle.mw_declare.specs.Meaning.{texts};
+ghost use Rattle.mw_parse.specs.Answers.{HasCause as HasReadingCause};
+ghost use Rattle.mw_build.specs.Modules.{IsAccepted, HasCause};
+ghost use Rattle.mw_build.specs.declared.modules.BuildError.TheVariants.{Memory};
+
+use crate::equations::statements;
+use mw_declare::{Declarations, DeclareError, declare};
+use mw_lex::Token;
+use mw_module::{Fault, Unit};
+use mw_parse::{ParseError, Reader, parse};
+use mw_reduce::Theory;
+use mw_term::{Name, Raw, Seq, VarId};
+use std::alloc::{AllocError, Global};
+use std::marker::Model;
+
+/// A module that was accepted.
+#[derive(Drop)]
+pub struct Module {
+    name: Name,
+    theory: Theory,
+    variables: Seq<VarId>,
+    reader: Reader,
+}
+
+impl Model for Module {
+    ghost use Rattle.std.specs.Coded.{codes};
+    ghost use Rattle.mw_logic.specs.TermCode.{coded_term, coded_variable};
+    ghost use Rattle.mw_build.specs.Modules.{Accepted};
+
+    ghost Value = { Accepted };
+
+    ghost coded = { Prim.hlevel (codes, coded_term, coded_variable) };
+
+    ghost view = { λ m. record { name = m.name; «module» = m.theory; variables = m.variables } };
+
+    ghost use Rattle.mw_parse.specs.Readers.{IsReaderOf};
+
+    ghost invariant = { λ m. IsReaderOf m.theory.signature m.variables m.reader };
+}
+
+impl Module {
+    pub fn name(&self) -> &Name
+        ensures { result.now ≡ self.now.name }
+    {
+        &self.name
+    }
+
+    /// Its signature and its equations, as the reducer takes them.
+    pub fn theory(&self) -> &Theory
+        ensures { result.now ≡ self.now.module }
+    {
+        &self.theory
+    }
+
+    /// The one term that the tokens spell, in which the module's variables may stand. It is a term of the signature.
+    pub fn term(&self, alloc: Global, tokens: &[Token]) -> Result<Raw, ParseError>
+        ensures read { IfOk result (λ t. Reads self.now.module.signature self.now.variables None (texts (seen_all tokens.now)) (raw_term t)) }
+        ensures raw { IfOk result (λ t. IsRawTerm self.now.module.signature (raw_term t)) }
+        ensures cause { IfErr result (HasReadingCause self.now.module.signature self.now.variables None (texts (seen_all tokens.now))) }
+    {
+        self.theory.shows();
+        parse(alloc, &self.reader, tokens, None)
+    }
+}
+
+/// Why there is no module.
+#[derive(Debug, Drop)]
+pub enum BuildError {
+    /// The first fault of the unit.
+    Fault(Fault),
+    Memory,
+}
+
+impl From<AllocError> for BuildError {
+    ghost from_gives = { λ _ e. e ≡ Memory };
+
+    fn from(_: AllocError) -> Self {
+        BuildError::Memory
+    }
+}
+
+/// The module that a unit is, or its first fault: of its declarations, and then of its equations in order.
+pub fn build(alloc: Global, unit: &Unit, name: Name) -> Result<Module, BuildError>
+    ensures accepted { IfOk result (λ m. IsAccepted (seen_unit unit.now) name m) }
+    ensures fault { IfErr result (HasCause (seen_unit unit.now)) }
+{
+    let declared = match declare(alloc, unit) {
+        Ok(declared) => declared,
+        Err(DeclareError::Fault(fault)) => return Err(BuildError::Fault(fault)),
+        Err(DeclareError::Memory) => return Err(BuildError::Memory),
+    };
+    let Declarations {
+        signature,
+        variables,
+        equations,
+    } = declared;
+    let reader = Reader::of(alloc, &signature, variables.as_slice())?;
+    let statements = match statements(alloc, &reader, equations.as_slice())? {
+        Ok(statements) => Seq::of(statements),
+        Err(fault) => return Err(BuildError::Fault(fault)),
+    };
+    Ok(Module {
+        name,
+        theory: Theory::new(alloc, signature, statements)?,
+        variables,
+        reader,
+    })
+}

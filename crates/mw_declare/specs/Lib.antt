@@ -1,0 +1,5 @@
+-- What a module's statements declare.
+pub mod Statements
+pub mod Meaning
+pub mod Faults
+pub mod Seen

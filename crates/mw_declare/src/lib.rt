@@ -1,0 +1,243 @@
+//! What the statements of a functional module declare: its sorts, operators, variables and equations, and what is
+//! wrong with its declarations.
+#![tactic(auto)]
+
+mod declarations;
+mod names;
+mod operators;
+mod sorts;
+mod statement;
+mod variables;
+
+pub use declarations::{Declarations, DeclareError, declare};
+pub use statement::Equation;
+
+#[cfg(test)]
+mod tests {
+    use super::*;
+    use mw_lex::tokens;
+    use mw_module::{Fault, FaultKind, read_unit};
+    use mw_term::{Name, Operator, VarId};
+    use std::alloc::{AllocError, Global};
+    use std::process::Abort;
+    use std::test::Fail;
+
+    fn digit(rt: &impl Abort, number: usize) -> u8 {
+        assert!(rt; number < 10);
+        b'0' + number as u8
+    }
+
+    /// The names of sorts, each with a space behind.
+    fn write_sorts(out: &mut Vec<u8>, sorts: &[Name]) -> Result<(), AllocError> {
+        for sort in sorts {
+            out.extend_from_slice(sort.as_slice())?;
+            out.push(b' ')?;
+        }
+        Ok(())
+    }
+
+    /// An operator's name, the numbers of its arguments' sorts and of its value's sort.
+    fn write_operator(
+        rt: &impl Abort,
+        out: &mut Vec<u8>,
+        operator: &Operator,
+    ) -> Result<(), AllocError> {
+        out.extend_from_slice(operator.spelling.as_slice())?;
+        out.push(b':')?;
+        for arg in operator.args.as_slice() {
+            out.push(digit(rt, *arg as usize))?;
+        }
+        out.push(b'>')?;
+        out.push(digit(rt, operator.result as usize))?;
+        out.push(b' ')?;
+        Ok(())
+    }
+
+    fn write_variables(
+        rt: &impl Abort,
+        out: &mut Vec<u8>,
+        variables: &[VarId],
+    ) -> Result<(), AllocError> {
+        for variable in variables {
+            out.extend_from_slice(variable.name.as_slice())?;
+            out.push(b':')?;
+            out.push(digit(rt, variable.sort as usize))?;
+            out.push(b' ')?;
+        }
+        Ok(())
+    }
+
+    /// An equation's line, and how many tokens its sides have.
+    fn write_equation(
+        rt: &impl Abort,
+        out: &mut Vec<u8>,
+        equation: &Equation<'_>,
+    ) -> Result<(), AllocError> {
+        out.push(digit(rt, equation.line as usize))?;
+        out.push(b'@')?;
+        out.push(digit(rt, equation.left.len()))?;
+        out.push(b'=')?;
+        out.push(digit(rt, equation.right.len()))?;
+        out.push(b' ')?;
+        Ok(())
+    }
+
+    /// Sorts, operators, variables and equations, a semicolon behind each of the first three.
+    fn write_declarations(
+        rt: &impl Abort,
+        out: &mut Vec<u8>,
+        declared: &Declarations<'_>,
+    ) -> Result<(), AllocError> {
+        write_sorts(out, declared.signature.sorts.as_slice())?;
+        out.push(b';')?;
+        for operator in declared.signature.operators.as_slice() {
+            write_operator(rt, out, operator)?;
+        }
+        out.push(b';')?;
+        write_variables(rt, out, declared.variables.as_slice())?;
+        out.push(b';')?;
+        for equation in declared.equations.iter() {
+            write_equation(rt, out, equation)?;
+        }
+        Ok(())
+    }
+
+    /// A fault's line, its kind and its name.
+    fn write_fault(rt: &impl Abort, out: &mut Vec<u8>, fault: &Fault) -> Result<(), AllocError> {
+        out.push(digit(rt, fault.line as usize))?;
+        match &fault.kind {
+            FaultKind::AlreadyDefined(name) => {
+                out.extend_from_slice(b"!defined ")?;
+                out.extend_from_slice(name.as_slice())?;
+            }
+            FaultKind::UnknownSort(name) => {
+                out.extend_from_slice(b"!unknown ")?;
+                out.extend_from_slice(name.as_slice())?;
+            }
+            _ => out.push(b'?')?,
+        }
+        Ok(())
+    }
+
+    /// What the module at the front of a source declares, or its fault.
+    fn told(rt: &impl Abort, alloc: Global, source: &[u8]) -> Result<Vec<u8>, Fail> {
+        assert!(rt; source.len() < 1000);
+        let all = tokens(alloc, source)?;
+        assert!(rt; 0 < all.len());
+        let (unit, _) = read_unit(alloc, all.as_slice(), 0, false)?;
+        let mut out = Vec::new(alloc);
+        match declare(alloc, &unit) {
+            Ok(declared) => write_declarations(rt, &mut out, &declared)?,
+            Err(DeclareError::Fault(fault)) => write_fault(rt, &mut out, &fault)?,
+            Err(DeclareError::Memory) => Err("memory")?,
+        }
+        Ok(out)
+    }
+
+    #[test]
+    fn modules_declare(rt: HostRuntime) -> Result<(), Fail> {
+        let alloc = rt.alloc();
+        let cases: [(&[u8], &[u8]); 14] = [
+            (b"fmod M is endfm", b";;;"),
+            (
+                b"fmod M is sort N . op z : -> N . op s : N -> N . op p : N N -> N .\nvars X Y : N .\neq p(z, X) = X .\neq p(s(X), Y) = s(p(X, Y)) . endfm",
+                b"N ;z:>1 s:1>1 p:11>1 ;X:1 Y:1 ;3@6=1 4@9=9 ",
+            ),
+            (
+                b"fmod M is sorts A B A . sort C B . sort A . endfm",
+                b"A B C ;;;",
+            ),
+            (
+                b"fmod M is op f : B A B -> A . sort A . sort B . endfm",
+                b"A B ;f:212>1 ;;",
+            ),
+            (b"fmod M is var X : B . sorts A B . endfm", b"A B ;;X:2 ;"),
+            (
+                b"fmod M is sort A . var X : A . vars Y X : A . endfm",
+                b"A ;;X:1 Y:1 ;",
+            ),
+            (b"fmod M is sort A . vars X X : A . endfm", b"A ;;X:1 ;"),
+            (
+                b"fmod M is sort A . op f : A -> A . op f : A -> A . endfm",
+                b"A ;f:1>1 ;;",
+            ),
+            (
+                b"fmod M is sorts A B . op f : A -> A . op f : B -> A . op f : A -> B . op f : -> A . op f : A -> A . endfm",
+                b"A B ;f:1>1 f:2>1 f:1>2 f:>1 ;;",
+            ),
+            (
+                b"fmod M is sort A . ops f g : A -> A . ops h f h : A -> A . endfm",
+                b"A ;f:1>1 g:1>1 h:1>1 ;;",
+            ),
+            (
+                b"fmod M is sort A . op A : -> A . var A : A . endfm",
+                b"A ;A:>1 ;A:1 ;",
+            ),
+            (
+                b"fmod M is eq = .\neq X = f(Y) .\n eq X = . endfm",
+                b";;;1@0=0 2@1=4 3@1=0 ",
+            ),
+            (
+                b"fmod M is sorts A a . op f : A -> a . endfm",
+                b"A a ;f:1>2 ;;",
+            ),
+            (
+                b"fmod M is eq X = Y .\nvar X : A . sort A . endfm",
+                b"A ;;X:1 ;1@1=1 ",
+            ),
+        ];
+        for (source, want) in cases {
+            let got = told(&rt, alloc, source)?;
+            assert_eq!(rt; got.as_slice(), want);
+        }
+        Ok(())
+    }
+
+    #[test]
+    fn declarations_have_faults(rt: HostRuntime) -> Result<(), Fail> {
+        let alloc = rt.alloc();
+        let cases: [(&[u8], &[u8]); 12] = [
+            (
+                b"fmod M is sorts A B . var X : A .\nvars Y X : B . endfm",
+                b"2!defined X",
+            ),
+            (
+                b"fmod M is sorts A B . vars X Y : A .\nvars Y X : B . endfm",
+                b"2!defined Y",
+            ),
+            (
+                b"fmod M is op f : D -> A .\nsort A .\nvar X : A .\nvar X : B . endfm",
+                b"4!defined X",
+            ),
+            (b"fmod M is var X : D .\nvar X : E . endfm", b"2!defined X"),
+            (
+                b"fmod M is sort A .\nop f : A B C -> D . endfm",
+                b"2!unknown B",
+            ),
+            (b"fmod M is sort A .\nop f : A -> D . endfm", b"2!unknown D"),
+            (
+                b"fmod M is sort A .\n\nop f :\n A ->\n D . endfm",
+                b"3!unknown D",
+            ),
+            (b"fmod M is\n var X : E . endfm", b"2!unknown E"),
+            (
+                b"fmod M is sort A . var X : E .\nop f : D -> A . endfm",
+                b"1!unknown E",
+            ),
+            (
+                b"fmod M is sort A . op f : D -> A .\nvar X : E . endfm",
+                b"1!unknown D",
+            ),
+            (
+                b"fmod M is op f : -> A .\nop f : B -> A . sort A . endfm",
+                b"2!unknown B",
+            ),
+            (b"fmod M is sort A . op f : f -> A . endfm", b"1!unknown f"),
+        ];
+        for (source, want) in cases {
+            let got = told(&rt, alloc, source)?;
+            assert_eq!(rt; got.as_slice(), want);
+        }
+        Ok(())
+    }
+}
