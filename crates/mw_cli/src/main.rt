@@ -1,8 +1,9 @@
 //! The program: it makes the real source and sink, and ends with the status.
 #![tactic(auto)]
 
+use mw_gate::NoGate;
 use mw_outside::{StdSink, StdSource};
-use mw_top::alone;
+use mw_top::top;
 use std::alloc::Global;
 use std::env::Env;
 use std::process::ExitCode;
@@ -21,8 +22,13 @@ fn main(rt: HostRuntime) -> ExitCode {
     };
     let mut source = StdSource::new(rt.reader());
     let mut sink = StdSink::new(io::writer(&rt));
-    match alone(alloc, words.as_slice(), &mut source, &mut sink) {
-        Some(status) => ExitCode::from(status),
-        None => ExitCode::from(5),
-    }
+    let status = top(
+        &rt,
+        alloc,
+        words.as_slice(),
+        &mut source,
+        &mut sink,
+        &NoGate,
+    );
+    ExitCode::from(status)
 }

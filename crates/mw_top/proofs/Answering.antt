@@ -1,60 +1,72 @@
--- The block of a kept deduction answers its source.
-use Rattle.std.specs.Prelude.{◌≡◌, ◌-◌, ◌^◌, ℕ, List, min, Result, Ok, Err, IfOk}
-use Rattle.std.proofs.Common.{subst, sym, ap, inr}
-use Rattle.mw_logic.specs.Term.{RawTerm}
+-- The block of a kept deduction answers a command.
+use Rattle.std.specs.Prelude.{◌≡◌, ◌-◌, ◌^◌, ◌<◌, ℕ, List, None, min, IsTrue, Result, Ok, Err, IfOk}
+use Rattle.std.proofs.Common.{subst, sym, refl, arith}
+use Rattle.mw_logic.specs.Term.{RawTerm, RawTerms, apply, is_ground}
+use Rattle.mw_logic.specs.Signature.{Signature, Operator, sort, IsRawTerm, IsOperator}
+use Rattle.mw_logic.specs.Sorts.{IsLeastSort}
 use Rattle.mw_logic.specs.Module.{Module}
 use Rattle.mw_logic.specs.Proof.{count}
 use Rattle.mw_logic.specs.Judgements.{Proves}
-use Rattle.mw_machine.proofs.OneSort.{least_sort_one}
+use Rattle.mw_machine.specs.Simple.{IsSimpleSignature, IsSimpleModule}
+use Rattle.mw_machine.proofs.Discrete.{ground_top, least_sort_of_top}
 use Rattle.mw_reduce.specs.Deductions.{Deduction, IsDeduction, IsReductionOf}
 use Rattle.mw_reduce.specs.declared.progress.Outcome.{Outcome}
 use Rattle.mw_reduce.specs.declared.progress.Outcome.TheVariants.{Done, Rewrites, Depth}
-use Rattle.mw_text.specs.Form.{Source, signature_of, module_of}
-use Rattle.mw_text.specs.Spelling.{Reads, HasForm, variables_in, command_words}
-use Rattle.mw_text.specs.Output.{block, refusal}
-use Rattle.mw_text.specs.Answer.{Answers, IsTrueWord, IsOutput}
-use Rattle.mw_top.specs.Words.{word_of}
-use Rattle.mw_top.proofs.Simple.{simple_signature}
+use Rattle.mw_text.specs.Mixfix.{Reads}
+use Rattle.mw_logic.specs.NormalForm.{height}
+use Rattle.mw_module.specs.Refusals.{too_deep}
+use Rattle.mw_build.specs.Equations.{Oversized}
+use Rattle.mw_build.specs.Modules.{Accepted}
+use Rattle.mw_build.proofs.Sides.{oversized}
+use Rattle.mw_block.specs.Blocks.{block}
+use Rattle.mw_top.specs.Commands.{IsAnswer, IsTrueWord, top_sort, sort_of_top}
+use Rattle.mw_top.specs.Seen.{word_of}
 
 true_word : (M : Module) (t : RawTerm) (most : ℕ) (d : Deduction) (o : Outcome) → IsReductionOf M t most d o → IsTrueWord d.over most d.from d.proof d.to (word_of o)
 true_word M t most d Done r = (r.equational, r.ends.0, r.ends.1)
 true_word M t most d Rewrites r = (r.equational, r.ends)
 true_word M t most d Depth r = (r.equational, r.ends)
 
-pub answers : (s : Source) (d : Deduction) (o : Outcome) (text : List ℕ) → Reads (signature_of s) (variables_in s) (command_words s) s.subject
-    → IsReductionOf (module_of s) s.subject 1000000 d o → IsDeduction d
-    → text ≡ block (signature_of s) s.name d.from (min (count d.proof) (2 ^ 64 - 1)) s.sort_name d.to (word_of o)
-    → Answers s 1000000 text
-answers s d o text read r proved written = record {
+result_of : (sig : Signature) (f : ℕ) (o : Operator) → IsOperator sig f o → o.result ≡ top_sort sig f
+result_of sig f o is = rw is refl
+
+least_of : (sig : Signature) → IsSimpleSignature sig → (t : RawTerm) → IsRawTerm sig t → IsTrue (is_ground t)
+    → ((f : ℕ) × (ts : RawTerms) × (o : Operator) × (t ≡ apply f ts) × IsOperator sig f o) → IsLeastSort sig t (sort (sort_of_top sig t))
+least_of sig simple t r g (f, ts, o, e, is) =
+    let r' : IsRawTerm sig (apply f ts) = subst (IsRawTerm sig) e r in
+    let g' : IsTrue (is_ground (apply f ts)) = subst (λ u. IsTrue (is_ground u)) e g in
+    let l : IsLeastSort sig (apply f ts) (sort (top_sort sig f)) = subst (λ S. IsLeastSort sig (apply f ts) (sort S)) (result_of sig f o is) (least_sort_of_top sig simple f ts o is r' g') in
+    subst (λ u. IsLeastSort sig u (sort (sort_of_top sig u))) (sym e) l
+
+pub least : (sig : Signature) → IsSimpleSignature sig → (t : RawTerm) → IsRawTerm sig t → IsTrue (is_ground t) → IsLeastSort sig t (sort (sort_of_top sig t))
+least sig simple t r g = least_of sig simple t r g (ground_top sig simple r g)
+
+pub answers : (a : Accepted) (most : ℕ) (words : List (List ℕ)) (t : RawTerm) (d : Deduction) (o : Outcome) (text : List ℕ)
+    → IsSimpleModule a.module → Reads a.module.signature a.variables None words t → IsTrue (is_ground t)
+    → IsReductionOf a.module t most d o → IsDeduction d
+    → text ≡ block a.module.signature a.name d.from (min (count d.proof) (2 ^ 64 - 1)) (sort_of_top a.module.signature d.to) d.to (word_of o)
+    → IsAnswer a most words text
+answers a most words t d o text simple read ground r proved written = record {
   from = d.from;
   to = d.to;
   proof = d.proof;
+  S = sort_of_top a.module.signature d.to;
   word = word_of o;
-  read = subst (Reads (signature_of s) (variables_in s) (command_words s)) (sym r.from) read;
+  read = subst (Reads a.module.signature a.variables None words) (sym r.from) read;
+  ground = subst (λ u. IsTrue (is_ground u)) (sym r.from) ground;
   proves = subst (λ M. Proves M 63 d.proof d.from d.to) r.over proved.proves;
-  least_sort = least_sort_one (signature_of s) (simple_signature s) d.to r.raw r.ground;
-  true_word = subst (λ M. IsTrueWord M 1000000 d.from d.proof d.to (word_of o)) r.over (true_word (module_of s) s.subject 1000000 d o r);
+  least_sort = least a.module.signature simple.signature d.to r.raw r.ground;
+  true_word = subst (λ M. IsTrueWord M most d.from d.proof d.to (word_of o)) r.over (true_word a.module t most d o r);
   written = written;
 }
-
--- The same where the program holds the source by its fields: V is what these mean.
-pub answers_held : (s V : Source) → V ≡ s → (M : Module) (t : RawTerm) (d : Deduction) (o : Outcome) (text : List ℕ) → Reads (signature_of s) (variables_in s) (command_words s) s.subject
-    → M ≡ module_of V → t ≡ V.subject → IsReductionOf M t 1000000 d o → IsDeduction d
-    → text ≡ block d.over.signature V.name d.from (min (count d.proof) (2 ^ 64 - 1)) V.sort_name d.to (word_of o)
-    → Answers s 1000000 text
-answers_held s V same M t d o text read m f r proved written =
-    let r' : IsReductionOf (module_of V) V.subject 1000000 d o = subst (λ u. IsReductionOf (module_of V) u 1000000 d o) f (subst (λ N. IsReductionOf N t 1000000 d o) m r) in
-    let read' : Reads (signature_of V) (variables_in V) (command_words V) V.subject = subst (λ (w : Source). Reads (signature_of w) (variables_in w) (command_words w) w.subject) (sym same) read in
-    let over : d.over ≡ module_of V = r'.over in
-    let signed : d.over.signature ≡ signature_of V = ap (λ (N : Module). N.signature) over in
-    let written' = subst (λ sig. text ≡ block sig V.name d.from (min (count d.proof) (2 ^ 64 - 1)) V.sort_name d.to (word_of o)) signed written in
-    subst (λ w. Answers w 1000000 text) same (answers V d o text read' r' proved written')
 
 -- what holds of an answer's value, from what was known of it
 pub if_ok : {A E : Type 0} {P Q : A → Type 0} (r : Result A E) → IfOk r P → ((v : A) → P v → Q v) → IfOk r Q
 if_ok (Ok v) h k = k v h
 if_ok (Err e) h k = tt
 
--- the line of the refusal, for bytes that aren't of the form
-pub refused : (bytes text : List ℕ) (status : ℕ) → (HasForm bytes → ⊥) → text ≡ refusal → status ≡ 1 → IsOutput bytes text status
-refused bytes text status none line one = inr (one, none, line)
+-- a term of more than 1,000 levels is too deep
+pub too_deep_by : (sig : Signature) → IsSimpleSignature sig → (t u : RawTerm) → u ≡ t → 1000 < min (height u) (2 ^ 32 - 1) → Oversized sig t too_deep
+too_deep_by sig simple t u e h =
+    let above : 1000 < height u = omega (arith, h) in
+    oversized sig simple t (subst (λ v. 1000 < height v) e above)

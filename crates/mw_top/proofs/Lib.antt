@@ -1,7 +1,7 @@
--- Laws of bytes that move, of words, and of statuses.
+-- Laws of bytes that move, of the modules that were accepted, and of units that are answered.
 pub mod Moving
-pub mod Calling
 pub mod Answering
-pub mod Exact
-pub mod Mentioned
-pub mod Simple
+pub mod Sessions
+pub mod Giving
+pub mod Bytes
+pub mod Doing

@@ -1,18 +1,27 @@
--- The words of the command line, and what a call read and wrote.
-use Rattle.std.specs.Prelude.{◌≡◌, ◌≤◌, ◌<◌, ◌⊎◌, ℕ, List, length, codes, slice_get, Some, String, string_bytes, map}
+-- What a call of the program did.
+use Rattle.std.specs.Prelude.{◌≡◌, ◌≤◌, ◌<◌, ◌⊎◌, ℕ, true, false, List, length, codes, Some}
 use Rattle.std.specs.declared.option.Option.{Option}
-use Rattle.std.specs.Global.{Global}
-use Rattle.std.specs.Io.KnownBytes.{Consumes, IsAtEnd}
-use Rattle.mw_text.specs.Spelling.{HasForm}
-use Rattle.mw_text.specs.Answer.{IsOutput}
+use Rattle.std.specs.Io.KnownBytes.{Appends, Consumes, IsAtEnd, Keeps}
+use Rattle.mw_outside.specs.Causes.{Rose}
+use Rattle.mw_words.specs.Asked.{Asks}
+use Rattle.mw_words.specs.Texts.{help, version_line}
+use Rattle.mw_words.specs.declared.Asked.{Asked}
+use Rattle.mw_words.specs.declared.Asked.TheVariants.{Run, Help, Version}
+use Rattle.mw_block.specs.Blocks.{line}
+use Rattle.mw_top.specs.Moved.{Gave, Took}
+use Rattle.mw_top.specs.Outputs.{IsOutput, IsBegun, IsCut}
 
--- the words as bytes
-abbrev pub texts : List (String Global) → List (List ℕ)
-texts words = map (λ w. string_bytes w) words
+-- the line for words that ask for nothing
+abbrev pub usage : List ℕ
+usage = line (codes "usage: mw run, mw check, mw gen")
 
--- the program's name and `run`
-abbrev pub IsCommand : List (List ℕ) → Type 0
-IsCommand words = (length words ≡ 2) × (slice_get words 1 ≡ Some (codes "run"))
+-- the words ask for nothing
+abbrev pub AskNothing : List (List ℕ) → Type 0
+AskNothing words = (a : Asked) → Asks words a → ⊥
+
+-- the words ask for this text: help or the version
+abbrev pub AskText : List (List ℕ) → List ℕ → Type 0
+AskText words text = (Asks words Help × (text ≡ help)) ⊎ (Asks words Version × (text ≡ version_line))
 
 -- these are all the bytes that were left, and they aren't too many
 pub record ReadsWhole (old new : Option (List ℕ)) (bytes : List ℕ) : Type 0 where
@@ -20,21 +29,52 @@ pub record ReadsWhole (old new : Option (List ℕ)) (bytes : List ℕ) : Type 0 
   pub end : IsAtEnd new
   pub short : length bytes ≤ 8388608
 
--- The call read these bytes, all that were left, and this text is what has to be written.
-pub record Owes (old new : Option (List ℕ)) (text : List ℕ) (status : ℕ) : Type 0 where
+-- the words ask for a run, the source was read to its end, and a text with this property was written
+pub record Ran (words : List (List ℕ)) (left left_after held held_after : Option (List ℕ)) (P : ℕ → List ℕ → List ℕ → Type 0) : Type 0 where
+  pub most : ℕ
+  pub asked : Asks words (Run most)
   pub bytes : List ℕ
-  pub read : ReadsWhole old new bytes
-  pub output : IsOutput bytes text status
+  pub read : ReadsWhole left left_after bytes
+  pub text : List ℕ
+  pub written : P most bytes text
+  pub appended : Appends held held_after text
 
--- Where the source's bytes are known and not too many, the words are a command and nothing failed, the status is 0 exactly for a source of
--- the form, and 1 exactly for another, unless memory ran out.
-abbrev pub IsExact : Option (List ℕ) → Type 0 → Type 0 → Type 0 → Option ℕ → Type 0
-IsExact old command source_failed sink_failed status = (bytes : List ℕ) → old ≡ Some bytes → command
-    → (source_failed → ⊥) → (sink_failed → ⊥) → length bytes ≤ 8388608
-    → (HasForm bytes → (status ≡ Some 0) ⊎ (status ≡ Some 5)) × ((HasForm bytes → ⊥) → (status ≡ Some 1) ⊎ (status ≡ Some 5))
+-- nothing was read, and a text with this property was written
+pub record Told (left left_after held held_after : Option (List ℕ)) (P : List ℕ → Type 0) : Type 0 where
+  pub text : List ℕ
+  pub unread : Keeps left left_after
+  pub is : P text
+  pub appended : Appends held held_after text
 
--- Where the source's bytes are known and too many, the words are a command and the source didn't fail, the status is 6, unless memory ran
--- out.
-abbrev pub IsExactLength : Option (List ℕ) → Type 0 → Type 0 → Option ℕ → Type 0
-IsExactLength old command source_failed status = (bytes : List ℕ) → old ≡ Some bytes → command
-    → (source_failed → ⊥) → 8388608 < length bytes → (status ≡ Some 6) ⊎ (status ≡ Some 5)
+-- What a call did that answered this status, by the bytes that the source had left and the sink held, before and after, and the counts of faults.
+pub record Did (words : List (List ℕ)) (left left_after : Option (List ℕ)) (source source_after : ℕ) (held held_after : Option (List ℕ)) (sink sink_after status : ℕ) : Type 0 where
+  pub known : status ≤ 6
+  pub source_later : source ≤ source_after
+  pub sink_later : sink ≤ sink_after
+  -- no more than one byte above the limit is taken
+  pub bounded : Gave left left_after (λ n. n ≤ 8388609)
+  -- 0: each unit was answered, and none of them refused; or the words ask for help or the version
+  pub answered : status ≡ 0 → Ran words left left_after held held_after (λ most bytes text. IsOutput most bytes text false) ⊎ Told left left_after held held_after (AskText words)
+  -- 1: each unit was answered or refused, and one at least was refused
+  pub refused : status ≡ 1 → Ran words left left_after held held_after (λ most bytes text. IsOutput most bytes text true)
+  -- 2: the words ask for nothing, nothing was read, and the usage line was written
+  pub usage_told : status ≡ 2 → Told left left_after held held_after (λ text. AskNothing words × (text ≡ usage))
+  -- 3: the source failed, after no more than the limit, and nothing was written
+  pub source_failed : status ≡ 3 → ((most : ℕ) × Asks words (Run most)) × Rose source source_after × Gave left left_after (λ n. n ≤ 8388608) × Keeps held held_after
+  -- 4: the sink failed, and holds a proper prefix of what was to be written
+  pub sink_failed : status ≡ 4 → Rose sink sink_after
+  pub cut : status ≡ 4 → Ran words left left_after held held_after IsCut
+      ⊎ ((text : List ℕ) × (AskText words text ⊎ (AskNothing words × (text ≡ usage))) × Keeps left left_after × Took held held_after text)
+  -- 5: want of memory; the sink holds the texts of the first units, or nothing was written
+  pub memory : status ≡ 5 → Ran words left left_after held held_after IsBegun ⊎ Keeps held held_after
+  -- 6: the source gave more than the limit, and nothing was written
+  pub too_long : status ≡ 6 → ((most : ℕ) × Asks words (Run most)) × Gave left left_after (λ n. n ≡ 8388609) × Keeps held held_after
+
+-- Where the source's bytes are known, the words ask for a run and nothing failed: of bytes that aren't too many the status is 0 where nothing can be
+-- refused and 1 where something must be; of too many it is 6; unless memory ran out.
+abbrev pub IsExact : List (List ℕ) → Option (List ℕ) → (source_rose sink_rose : Type 0) → ℕ → Type 0
+IsExact words left source_rose sink_rose status = (bytes : List ℕ) (most : ℕ) → left ≡ Some bytes → Asks words (Run most)
+    → (source_rose → ⊥) → (sink_rose → ⊥)
+    → (length bytes ≤ 8388608 → ((text : List ℕ) → IsOutput most bytes text true → ⊥) → (status ≡ 0) ⊎ (status ≡ 5))
+    × (length bytes ≤ 8388608 → ((text : List ℕ) → IsOutput most bytes text false → ⊥) → (status ≡ 1) ⊎ (status ≡ 5))
+    × (8388608 < length bytes → (status ≡ 6) ⊎ (status ≡ 5))

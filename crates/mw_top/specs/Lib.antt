@@ -1,5 +1,7 @@
--- What a call of the program read and wrote.
+-- What a call of the program reads and writes.
 pub mod Moved
+pub mod Commands
+pub mod Sources
+pub mod Outputs
 pub mod Call
-pub mod Printing
-pub mod Words
+pub mod Seen

@@ -2,41 +2,49 @@
 //! answer and a status.
 #![tactic(auto)]
 
-ghost use Rattle.std.specs.Prelude.{◌≡◌, ◌<◌, ◌≤◌, ◌⊎◌, ◌↔◌, ℕ, List, map, length, IsSomeAnd, Some, string_bytes};
+ghost use Rattle.std.specs.Prelude.{◌≡◌, ◌≢◌, ◌⊎◌, ◌≤◌, ℕ, List, length, true, false, IfSome, IsSome};
 ghost use Rattle.std.specs.Io.KnownBytes.{Appends, Keeps};
 ghost use Rattle.mw_outside.specs.Causes.{Rose};
-ghost use Rattle.mw_text.specs.Output.{usage};
-ghost use Rattle.mw_top.specs.Moved.{Gave, Took};
-ghost use Rattle.mw_top.specs.Call.{texts, IsCommand, Owes, IsExact, IsExactLength};
+ghost use Rattle.mw_words.specs.Asked.{texts, Asks};
+ghost use Rattle.mw_block.specs.Refused.{refusal_line};
+ghost use Rattle.mw_top.specs.Moved.{Took, Wrote};
+ghost use Rattle.mw_top.specs.Call.{Did, IsExact};
+ghost use Rattle.mw_top.specs.Outputs.{IsOutput, IsBegun, IsCut, lexing_refusal};
 
-mod answer;
-mod block;
-mod print;
+mod reduction;
+mod session;
 mod streams;
 mod terms;
 #[cfg(test)]
 mod tests;
-mod words;
+mod units;
 
-use answer::{Output, answer};
+use mw_block::refusal;
+use mw_gate::Gate;
+use mw_lex::{LexError, LexFault, LexKind, tokens};
+use mw_module::{Fault, FaultKind};
 use mw_outside::{Sink, Source};
+use mw_words::{Asked, WordsError, help_text, read_words, version_text};
 use std::alloc::Global;
+use std::sync::Wait;
+use std::thread::Threads;
 use streams::{ReadError, read_to_end, write_whole};
-use words::is_command;
+use units::answer_units;
 
 const USAGE: &str = "usage: mw run, mw check, mw gen\n";
 
-/// Does all that the program does, and answers its status: the words are those of the command line, with the
-/// program's name; the source is read to its end, and what is written goes to the sink.
+/// Does all that the program does, on one thread, and answers its status: the words are those of the command line,
+/// with the program's name; the source is read to its end, and what is written goes to the sink, the text of each unit
+/// as it is done.
 ///
 /// | status | comes |
 /// |---|---|
-/// | 0 | the source is of the form, and its block was written |
-/// | 1 | it isn't, and the line of its refusal was written |
-/// | 2 | the words are no command, and the usage line was written; nothing was read |
+/// | 0 | each unit was answered; or the words ask for help or the version |
+/// | 1 | a unit, or the whole source, was refused |
+/// | 2 | the words ask for nothing, and the usage line was written; nothing was read |
 /// | 3 | the source failed; nothing was written |
 /// | 4 | the sink failed; it holds a proper prefix of what was to be written |
-/// | 5 | want of memory; nothing was written |
+/// | 5 | want of memory; the sink holds the texts of the units done before |
 /// | 6 | the source has more than 8,388,608 bytes; nothing was written |
 ///
 /// It is never `None`: that is kept for words that ask for more than one thread.
@@ -46,92 +54,109 @@ pub fn alone<S: Source, K: Sink>(
     source: &mut S,
     sink: &mut K,
 ) -> Option<u8>
-    ensures status { IsSomeAnd result (λ status. status ≤ 6) }
-    ensures source_faults { S.faults source.old ≤ S.faults source.new }
-    ensures sink_faults { K.faults sink.old ≤ K.faults sink.new }
-    ensures bounded { Gave (S.left source.old) (S.left source.new) (λ n. n ≤ 8388609) }
-
-    // 0: the words are a command, the source was read to its end, and the block of a kept proof was written.
-    ensures answered { result ≡ Some 0 → IsCommand (texts words.now)
-        × ((text : List ℕ) × Owes (S.left source.old) (S.left source.new) text 0 × Appends (K.held sink.old) (K.held sink.new) text) }
-
-    // 1: the bytes are not of the form, and exactly the line of the refusal was written.
-    ensures refused { result ≡ Some 1 → IsCommand (texts words.now)
-        × ((text : List ℕ) × Owes (S.left source.old) (S.left source.new) text 1 × Appends (K.held sink.old) (K.held sink.new) text) }
-
-    // 2: the words are none, nothing was read, and the usage line was written.
-    ensures usage { result ≡ Some 2 → (IsCommand (texts words.now) → ⊥)
-        × Keeps (S.left source.old) (S.left source.new) × Appends (K.held sink.old) (K.held sink.new) usage }
-
-    // 3: the source failed, after no more than the limit, and nothing was written.
-    ensures source_failed { result ≡ Some 3 → IsCommand (texts words.now)
-        × Rose (S.faults source.old) (S.faults source.new)
-        × Gave (S.left source.old) (S.left source.new) (λ n. n ≤ 8388608) × Keeps (K.held sink.old) (K.held sink.new) }
-
-    // 4: the sink failed, and holds a proper prefix of what was to be written.
-    ensures sink_failed { result ≡ Some 4 → Rose (K.faults sink.old) (K.faults sink.new) }
-    ensures prefix { result ≡ Some 4 → IsCommand (texts words.now)
-        → (text : List ℕ) × (s : ℕ) × Owes (S.left source.old) (S.left source.new) text s × Took (K.held sink.old) (K.held sink.new) text }
-    ensures usage_prefix { result ≡ Some 4 → (IsCommand (texts words.now) → ⊥)
-        → Keeps (S.left source.old) (S.left source.new) × Took (K.held sink.old) (K.held sink.new) usage }
-
-    // 5: want of memory, and nothing was written.
-    ensures memory { result ≡ Some 5 → IsCommand (texts words.now) × Keeps (K.held sink.old) (K.held sink.new) }
-
-    // 6: the source gave more than the limit, and nothing was written.
-    ensures too_long { result ≡ Some 6 → IsCommand (texts words.now)
-        × Gave (S.left source.old) (S.left source.new) (λ n. n ≡ 8388609) × Keeps (K.held sink.old) (K.held sink.new) }
-    // So the status is 0 exactly for sources of the form, 1 exactly for others, and 6 exactly for longer ones.
-    ensures exact { IsExact (S.left source.old) (IsCommand (texts words.now))
-        (Rose (S.faults source.old) (S.faults source.new)) (Rose (K.faults sink.old) (K.faults sink.new)) result }
-    ensures exact_length { IsExactLength (S.left source.old) (IsCommand (texts words.now))
-        (Rose (S.faults source.old) (S.faults source.new)) result }
+    ensures some { IsSome result }
+    ensures did { IfSome result (Did (texts words.now) (S.left source.old) (S.left source.new) (S.faults source.old) (S.faults source.new) (K.held sink.old) (K.held sink.new) (K.faults sink.old) (K.faults sink.new)) }
+    ensures exact { IfSome result (IsExact (texts words.now) (S.left source.old) (Rose (S.faults source.old) (S.faults source.new)) (Rose (K.faults sink.old) (K.faults sink.new))) }
 {
     Some(run(alloc, words, source, sink))
 }
 
+/// The same, on as many threads as the words ask for; the observer is told of each claim and receipt.
+pub fn top<R: Threads + Wait + Sync, S: Source, K: Sink, G: Gate>(
+    rt: &R,
+    alloc: Global,
+    words: &[String],
+    source: &mut S,
+    sink: &mut K,
+    gate: &G,
+) -> u8
+    ensures did { Did (texts words.now) (S.left source.old) (S.left source.new) (S.faults source.old) (S.faults source.new) (K.held sink.old) (K.held sink.new) (K.faults sink.old) (K.faults sink.new) result }
+    ensures exact { IsExact (texts words.now) (S.left source.old) (Rose (S.faults source.old) (S.faults source.new)) (Rose (K.faults sink.old) (K.faults sink.new)) result }
+{
+    match alone(alloc, words, source, sink) {
+        Some(status) => status,
+        None => unreachable!(),
+    }
+}
+
 /// The same, as a number.
 fn run<S: Source, K: Sink>(alloc: Global, words: &[String], source: &mut S, sink: &mut K) -> u8
-    ensures status { result ≤ 6 }
-    ensures source_faults { S.faults source.old ≤ S.faults source.new }
-    ensures sink_faults { K.faults sink.old ≤ K.faults sink.new }
-    ensures bounded { Gave (S.left source.old) (S.left source.new) (λ n. n ≤ 8388609) }
-    ensures answered { result ≡ 0 → IsCommand (texts words.now)
-        × ((text : List ℕ) × Owes (S.left source.old) (S.left source.new) text 0 × Appends (K.held sink.old) (K.held sink.new) text) }
-    ensures refused { result ≡ 1 → IsCommand (texts words.now)
-        × ((text : List ℕ) × Owes (S.left source.old) (S.left source.new) text 1 × Appends (K.held sink.old) (K.held sink.new) text) }
-    ensures usage { result ≡ 2 → (IsCommand (texts words.now) → ⊥)
-        × Keeps (S.left source.old) (S.left source.new) × Appends (K.held sink.old) (K.held sink.new) usage }
-    ensures source_failed { result ≡ 3 → IsCommand (texts words.now)
-        × Rose (S.faults source.old) (S.faults source.new)
-        × Gave (S.left source.old) (S.left source.new) (λ n. n ≤ 8388608) × Keeps (K.held sink.old) (K.held sink.new) }
-    ensures sink_failed { result ≡ 4 → Rose (K.faults sink.old) (K.faults sink.new) }
-    ensures prefix { result ≡ 4 → IsCommand (texts words.now)
-        → (text : List ℕ) × (s : ℕ) × Owes (S.left source.old) (S.left source.new) text s × Took (K.held sink.old) (K.held sink.new) text }
-    ensures usage_prefix { result ≡ 4 → (IsCommand (texts words.now) → ⊥)
-        → Keeps (S.left source.old) (S.left source.new) × Took (K.held sink.old) (K.held sink.new) usage }
-    ensures memory { result ≡ 5 → IsCommand (texts words.now) × Keeps (K.held sink.old) (K.held sink.new) }
-    ensures too_long { result ≡ 6 → IsCommand (texts words.now)
-        × Gave (S.left source.old) (S.left source.new) (λ n. n ≡ 8388609) × Keeps (K.held sink.old) (K.held sink.new) }
+    ensures { Did (texts words.now) (S.left source.old) (S.left source.new) (S.faults source.old) (S.faults source.new) (K.held sink.old) (K.held sink.new) (K.faults sink.old) (K.faults sink.new) result }
 {
-    if !is_command(words) {
-        return match write_whole(sink, USAGE.as_bytes()) {
-            Ok(()) => 2,
-            Err(_) => 4,
-        };
+    match read_words(alloc, words) {
+        Ok(Asked::Run { max }) => answer_source(alloc, max, source, sink),
+        Ok(Asked::Help) => tell(sink, help_text(), 0),
+        Ok(Asked::Version) => tell(sink, version_text(), 0),
+        Err(WordsError::Usage) => tell(sink, USAGE, 2),
+        Err(WordsError::Memory) => 5,
     }
-    let bytes = match read_to_end(alloc, source) {
-        Ok(bytes) => bytes,
-        Err(ReadError::Memory) => return 5,
-        Err(ReadError::Failed) => return 3,
-        Err(ReadError::TooLong) => return 6,
+}
+
+/// Writes a text, and answers this status, or 4 where the sink failed.
+fn tell<K: Sink>(sink: &mut K, text: &str, status: u8) -> u8
+    requires { status ≢ 4 }
+    ensures later { K.faults sink.old ≤ K.faults sink.new }
+    ensures known { (result ≡ status) ⊎ (result ≡ 4) }
+    ensures whole { result ≡ status → Appends (K.held sink.old) (K.held sink.new) text.now }
+    ensures failed { result ≡ 4 → Rose (K.faults sink.old) (K.faults sink.new) }
+    ensures part { result ≡ 4 → Took (K.held sink.old) (K.held sink.new) text.now }
+{
+    match write_whole(sink, text.as_bytes()) {
+        Ok(()) => status,
+        Err(_) => 4,
+    }
+}
+
+/// Reads a source to its end, and answers its units.
+fn answer_source<S: Source, K: Sink>(alloc: Global, most: u64, source: &mut S, sink: &mut K) -> u8
+    ensures { (words : List (List ℕ)) → Asks words (Asked.Run most)
+        → Did words (S.left source.old) (S.left source.new) (S.faults source.old) (S.faults source.new) (K.held sink.old) (K.held sink.new) (K.faults sink.old) (K.faults sink.new) result }
+{
+    match read_to_end(alloc, source) {
+        Ok(bytes) => answer_bytes(alloc, bytes.as_slice(), most, sink),
+        Err(ReadError::Memory) => 5,
+        Err(ReadError::Failed) => 3,
+        Err(ReadError::TooLong) => 6,
+    }
+}
+
+/// Answers the units of these bytes.
+fn answer_bytes<K: Sink>(alloc: Global, bytes: &[u8], most: u64, sink: &mut K) -> u8
+    requires { length bytes.now ≤ 8388608 }
+    ensures known { (result ≤ 1) ⊎ ((result ≡ 4) ⊎ (result ≡ 5)) }
+    ensures later { K.faults sink.old ≤ K.faults sink.new }
+    ensures answered { result ≡ 0 → Wrote (K.held sink.old) (K.held sink.new) (λ text. IsOutput most bytes.now text false) }
+    ensures refused { result ≡ 1 → Wrote (K.held sink.old) (K.held sink.new) (λ text. IsOutput most bytes.now text true) }
+    ensures failed { result ≡ 4 → Rose (K.faults sink.old) (K.faults sink.new) }
+    ensures cut { result ≡ 4 → Wrote (K.held sink.old) (K.held sink.new) (IsCut most bytes.now) }
+    ensures memory { result ≡ 5 → Wrote (K.held sink.old) (K.held sink.new) (IsBegun most bytes.now) }
+{
+    match tokens(alloc, bytes) {
+        Ok(tokens) => answer_units(alloc, tokens.as_slice(), most, sink),
+        Err(LexError::Fault(fault)) => refuse_whole(alloc, fault, sink),
+        Err(LexError::Memory) => 5,
+    }
+}
+
+/// Writes the one line for a source that isn't made of tokens.
+fn refuse_whole<K: Sink>(alloc: Global, fault: LexFault, sink: &mut K) -> u8
+    ensures known { (result ≡ 1) ⊎ ((result ≡ 4) ⊎ (result ≡ 5)) }
+    ensures later { K.faults sink.old ≤ K.faults sink.new }
+    ensures whole { result ≡ 1 → Appends (K.held sink.old) (K.held sink.new) (refusal_line (lexing_refusal fault)) }
+    ensures failed { result ≡ 4 → Rose (K.faults sink.old) (K.faults sink.new) }
+    ensures part { result ≡ 4 → Took (K.held sink.old) (K.held sink.new) (refusal_line (lexing_refusal fault)) }
+    ensures memory { result ≡ 5 → Keeps (K.held sink.old) (K.held sink.new) }
+{
+    let kind = match fault.kind {
+        LexKind::BadByte => FaultKind::BadByte,
+        LexKind::UnendedComment => FaultKind::UnendedComment,
     };
-    let Output { text, status } = match answer(alloc, bytes.as_slice()) {
-        Ok(answer) => answer,
-        Err(_) => return 5,
+    let line = fault.line;
+    let Ok(text) = refusal(alloc, &Fault { line, kind }) else {
+        return 5;
     };
     match write_whole(sink, text.as_slice()) {
-        Ok(()) => status,
+        Ok(()) => 1,
         Err(_) => 4,
     }
 }

@@ -1,4 +1,6 @@
-use crate::alone;
+// Whole runs: words and a source, against what must be written and the status.
+use crate::{alone, top};
+use mw_gate::NoGate;
 use mw_outside::{MemSink, MemSource};
 use std::alloc::{AllocError, Global};
 use std::test::Fail;
@@ -14,8 +16,6 @@ rewrites: 2
 result N: s(s(z))
 status: reduced
 ";
-
-const REFUSED: &str = "line 1: refused: not in this profile\n";
 
 const USAGE: &str = "usage: mw run, mw check, mw gen\n";
 
@@ -36,9 +36,9 @@ fn words(alloc: Global, rest: &[&str]) -> Result<Vec<String>, AllocError> {
     Ok(words)
 }
 
-fn run(alloc: Global, rest: &[&str], bytes: Vec<u8>) -> Result<Ran, AllocError> {
+fn run(alloc: Global, rest: &[&str], bytes: &[u8]) -> Result<Ran, AllocError> {
     let words = words(alloc, rest)?;
-    let mut source = MemSource::new(bytes, 1000, Vec::new(alloc));
+    let mut source = MemSource::new(bytes.to_vec(alloc)?, 1000, Vec::new(alloc));
     let mut sink = MemSink::new(alloc, 10000, 10000, Vec::new(alloc))?;
     let status = alone(alloc, words.as_slice(), &mut source, &mut sink);
     let written = sink.bytes().to_vec(alloc)?;
@@ -46,25 +46,34 @@ fn run(alloc: Global, rest: &[&str], bytes: Vec<u8>) -> Result<Ran, AllocError> 
 }
 
 #[test]
-fn a_source_of_the_form_gets_its_block(rt: HostRuntime) -> Result<(), Fail> {
+fn commands_get_their_blocks(rt: HostRuntime) -> Result<(), Fail> {
     let alloc = rt.alloc();
     let blocks = [
+        ("", ""),
         (PEANO, PEANO_BLOCK),
         (
-            "fmod LP is sort T . op loop : -> T . op d : -> T . eq d = loop . eq loop = loop . endfm reduce d .",
-            "reduce in LP : d .\nrewrites: 1000000\nresult T: loop\nstatus: limit rewrites\n",
+            "fmod LP is sort T . op loop : -> T . eq loop = loop . endfm reduce loop .",
+            "reduce in LP : loop .\nrewrites: 1000000\nresult T: loop\nstatus: limit rewrites\n",
         ),
         (
-            "fmod C is sort T . op c : -> T . endfm reduce c .",
-            "reduce in C : c .\nrewrites: 0\nresult T: c\nstatus: reduced\n",
-        ),
-        (
-            "fmod F is sort T . op a : -> T . op b : -> T . op f : T T -> T . vars X : T . eq f(X, X) = b . endfm reduce f(f(a, a), f(a, b)) .",
+            "fmod F is sort T . ops a b : -> T . op f : T T -> T . vars X : T . eq f(X, X) = b . endfm red f(f(a, a), (f((a), b))) .",
             "reduce in F : f(f(a, a), f(a, b)) .\nrewrites: 1\nresult T: f(b, f(a, b))\nstatus: reduced\n",
+        ),
+        (
+            "fmod L is sorts N L . op z : -> N . op nil : -> L . op size : L -> N . op size : N -> N . eq size(nil) = z . endfm reduce size(size(nil)) .",
+            "reduce in L : size(size(nil)) .\nrewrites: 1\nresult N: size(z)\nstatus: reduced\n",
+        ),
+        (
+            "fmod A is sort S . op a : -> S . endfm fmod B is sort S . op b : -> S . endfm red in A : a . red b .",
+            "reduce in A : a .\nrewrites: 0\nresult S: a\nstatus: reduced\nreduce in B : b .\nrewrites: 0\nresult S: b\nstatus: reduced\n",
+        ),
+        (
+            "*** a line\nfmod A is sort S . ***( over\n lines ) op a : -> S . endfm red a .",
+            "reduce in A : a .\nrewrites: 0\nresult S: a\nstatus: reduced\n",
         ),
     ];
     for (source, block) in blocks {
-        let Ran { status, written } = run(alloc, &["run"], source.as_bytes().to_vec(alloc)?)?;
+        let Ran { status, written } = run(alloc, &["run"], source.as_bytes())?;
         assert_eq!(rt; status, Some(0), "{source}");
         assert_eq!(rt; written.as_slice(), block.as_bytes(), "{source}");
     }
@@ -72,11 +81,22 @@ fn a_source_of_the_form_gets_its_block(rt: HostRuntime) -> Result<(), Fail> {
 }
 
 #[test]
+fn a_limit_stops_a_reduction(rt: HostRuntime) -> Result<(), Fail> {
+    let alloc = rt.alloc();
+    let Ran { status, written } = run(alloc, &["run", "--max", "2"], PEANO.as_bytes())?;
+    assert_eq!(rt; status, Some(0));
+    let block: &str =
+        "reduce in P : plus(s(z), s(z)) .\nrewrites: 2\nresult N: s(s(z))\nstatus: limit rewrites\n";
+    assert_eq!(rt; written.as_slice(), block.as_bytes());
+    Ok(())
+}
+
+#[test]
 fn a_term_stops_growing_at_its_greatest_depth(rt: HostRuntime) -> Result<(), Fail> {
     let alloc = rt.alloc();
     let source =
-        "fmod G is sort T . op c : -> T . op g : T -> T . op h : T -> T . vars X : T . eq g(X) = g(h(X)) . endfm reduce g(c) .";
-    let mut block = b"reduce in G : g(c) .\nrewrites: 998\nresult T: g(".to_vec(alloc)?;
+        "fmod DP is sort T . op c : -> T . ops g h : T -> T . var X : T . eq g(X) = g(h(X)) . endfm reduce g(c) .";
+    let mut block = b"reduce in DP : g(c) .\nrewrites: 998\nresult T: g(".to_vec(alloc)?;
     for _ in 0..998 {
         block.extend_from_slice(b"h(")?;
     }
@@ -85,48 +105,161 @@ fn a_term_stops_growing_at_its_greatest_depth(rt: HostRuntime) -> Result<(), Fai
         block.push(b')')?;
     }
     block.extend_from_slice(b"\nstatus: limit depth\n")?;
-    let Ran { status, written } = run(alloc, &["run"], source.as_bytes().to_vec(alloc)?)?;
+    let Ran { status, written } = run(alloc, &["run"], source.as_bytes())?;
     assert_eq!(rt; status, Some(0));
     assert_eq!(rt; written.as_slice(), block.as_slice());
     Ok(())
 }
 
 #[test]
-fn another_source_is_refused_in_one_line(rt: HostRuntime) -> Result<(), Fail> {
+fn units_are_refused_in_one_line(rt: HostRuntime) -> Result<(), Fail> {
     let alloc = rt.alloc();
-    let sources = [
-        "",
-        "reduce z .",
-        "fmod P is sort N . op z : -> N . endfm reduce z . reduce z .",
-        "fmod P is sort N . op z : -> N . op z : -> N . endfm reduce z .",
-        "fmod P is sort N . op z : -> N . vars z : N . endfm reduce z .",
-        "fmod P is sort N . op z : -> N . endfm reduce (z) .",
-        "fmod P is sort N . op z : -> N . op s : N -> N . endfm reduce s(z, z) .",
-        "fmod P is sort N . op z : -> N . op s : N -> N . vars X : N . endfm reduce s(X) .",
-        "fmod P is sort N . op z : -> N . op s : N -> N . vars X : N . eq X = z . endfm reduce z .",
-        "fmod P is sort N . op z : -> N . op s : N -> N . vars X : N . eq z = X . endfm reduce z .",
-        "fmod P is sort N . op z : -> M . endfm reduce z .",
-        "fmod NAT is sort N . op z : -> N . endfm reduce z .",
-        "fmod P is sort N . op if : -> N . endfm reduce if .",
-        "fmod P is sort N . *** a comment\n op z : -> N . endfm reduce z .",
-        "fmod P is sort N .\top z : -> N . endfm reduce z .",
+    let cases = [
+        ("\n\n\u{c8}", "line 3: refused: bad byte\n"),
+        ("red a .\n***( open", "line 2: refused: unended comment\n"),
+        ("fmod A is sort B", "line 1: refused: unended module\n"),
+        ("reduce z", "line 1: refused: unended command\n"),
+        ("search z .", "line 1: refused: not in this profile\n"),
+        (
+            "fmod A is\nsort .\nendfm",
+            "line 2: refused: bad statement\n",
+        ),
+        (
+            "fmod NAT is endfm",
+            "line 1: refused: already defined: NAT\n",
+        ),
+        (
+            "fmod A is endfm\nfmod A is endfm",
+            "line 2: refused: already defined: A\n",
+        ),
+        (
+            "fmod A is sorts S T .\nvar X : S .\nvars Y X : T . endfm",
+            "line 3: refused: already defined: X\n",
+        ),
+        ("\nred in A : a .", "line 2: refused: unknown module: A\n"),
+        (
+            "fmod A is sort S .\nop f : S T -> U . endfm",
+            "line 2: refused: unknown sort: T\n",
+        ),
+        ("red a .", "line 1: refused: no module\n"),
+        (
+            "fmod A is endfm\nred [1] a .",
+            "line 2: refused: bad bound\n",
+        ),
     ];
-    for source in sources {
-        let Ran { status, written } = run(alloc, &["run"], source.as_bytes().to_vec(alloc)?)?;
+    for (source, line) in cases {
+        let Ran { status, written } = run(alloc, &["run"], source.as_bytes())?;
         assert_eq!(rt; status, Some(1), "{source}");
-        assert_eq!(rt; written.as_slice(), REFUSED.as_bytes(), "{source}");
+        assert_eq!(rt; written.as_slice(), line.as_bytes(), "{source}");
+    }
+    Ok(())
+}
+
+/// A module with overloaded and ambiguous names, and this statement or command behind it, on line 2.
+fn over(alloc: Global, behind: &str) -> Result<Ran, AllocError> {
+    let module =
+        "fmod A is sorts S T . ops a b : -> S . op a : -> T . op f : S -> S . op g : S -> S . op g : T -> S . var X : S . var b : S .\n";
+    let mut source = module.as_bytes().to_vec(alloc)?;
+    source.extend_from_slice(behind.as_bytes())?;
+    run(alloc, &["run"], source.as_slice())
+}
+
+#[test]
+fn terms_are_refused_in_one_line(rt: HostRuntime) -> Result<(), Fail> {
+    let alloc = rt.alloc();
+    let cases = [
+        ("endfm red f() .", "no parse"),
+        ("endfm red .", "no parse"),
+        ("endfm red f(a, a) .", "no parse"),
+        ("endfm red ( f(a) .", "no parse"),
+        ("endfm red g(a) .", "ambiguous"),
+        ("endfm red f(b) .", "ambiguous"),
+        ("endfm red a .", "ambiguous"),
+        ("endfm red f(X) .", "open term"),
+        ("eq X = f(X) . endfm", "lone variable"),
+        ("eq f(a) = f(X) . endfm", "unbound variable: X"),
+        ("eq f(a) = g(a) . endfm", "ambiguous"),
+        ("eq f(a) = h . endfm", "no parse"),
+        ("eq X = h . eq f(a) = X . endfm", "no parse"),
+    ];
+    for (behind, cause) in cases {
+        let Ran { status, written } = over(alloc, behind)?;
+        let line = format!(in alloc; "line 2: refused: {cause}\n")?;
+        assert_eq!(rt; status, Some(1), "{behind}");
+        assert_eq!(rt; written.as_slice(), line.as_bytes(), "{behind}");
     }
     Ok(())
 }
 
 #[test]
-fn other_words_are_no_command_and_nothing_is_read(rt: HostRuntime) -> Result<(), Fail> {
+fn a_pair_of_sides_has_one_kind(rt: HostRuntime) -> Result<(), Fail> {
     let alloc = rt.alloc();
-    let lines: [&[&str]; 4] = [
+    let Ran { status, written } = over(alloc, "eq f(X) = a . endfm red f((f(f(X:S))) .")?;
+    assert_eq!(rt; status, Some(1));
+    assert_eq!(rt;
+        written.as_slice(),
+        b"line 2: refused: no parse\n".as_slice()
+    );
+    let Ran { status, written } = over(alloc, "eq f(X) = a . endfm red f(a) .")?;
+    assert_eq!(rt; status, Some(0));
+    let block: &str = "reduce in A : f(a) .\nrewrites: 1\nresult S: a\nstatus: reduced\n";
+    assert_eq!(rt; written.as_slice(), block.as_bytes());
+    Ok(())
+}
+
+#[test]
+fn a_text_has_at_most_1024_tokens(rt: HostRuntime) -> Result<(), Fail> {
+    let alloc = rt.alloc();
+    for (count, status) in [(511usize, 0u8), (512, 1)] {
+        let mut source = b"fmod A is sort S . op a : -> S . endfm\nred ".to_vec(alloc)?;
+        for _ in 0..count {
+            source.push(b'(')?;
+        }
+        source.push(b'a')?;
+        for _ in 0..count {
+            source.push(b')')?;
+        }
+        source.extend_from_slice(b" .")?;
+        let ran = run(alloc, &["run"], source.as_slice())?;
+        assert_eq!(rt; ran.status, Some(status));
+    }
+    Ok(())
+}
+
+#[test]
+fn nothing_is_lost_behind_a_refusal(rt: HostRuntime) -> Result<(), Fail> {
+    let alloc = rt.alloc();
+    let source = "fmod A is sort S . op a : -> S . endfm
+fmod B is sort S . op b : -> T . endfm
+red a .
+red in B : b .
+red a .";
+    let text = "line 2: refused: unknown sort: T
+reduce in A : a .
+rewrites: 0
+result S: a
+status: reduced
+line 4: refused: unknown module: B
+reduce in A : a .
+rewrites: 0
+result S: a
+status: reduced
+";
+    let Ran { status, written } = run(alloc, &["run"], source.as_bytes())?;
+    assert_eq!(rt; status, Some(1));
+    assert_eq!(rt; written.as_slice(), text.as_bytes());
+    Ok(())
+}
+
+#[test]
+fn other_words_ask_for_nothing_and_nothing_is_read(rt: HostRuntime) -> Result<(), Fail> {
+    let alloc = rt.alloc();
+    let lines: [&[&str]; 5] = [
         &[],
         &["walk"],
         &["run", "--workers", "65"],
-        &["run", "--max", "2"],
+        &["run", "--max", "0"],
+        &["run", "--max", "007"],
     ];
     for line in lines {
         let words = words(alloc, line)?;
@@ -137,6 +270,18 @@ fn other_words_are_no_command_and_nothing_is_read(rt: HostRuntime) -> Result<(),
         assert_eq!(rt; source.faults(), 0);
         assert_eq!(rt; sink.bytes(), USAGE.as_bytes());
     }
+    Ok(())
+}
+
+#[test]
+fn help_and_the_version_are_told(rt: HostRuntime) -> Result<(), Fail> {
+    let alloc = rt.alloc();
+    let Ran { status, written } = run(alloc, &["--version"], PEANO.as_bytes())?;
+    assert_eq!(rt; status, Some(0));
+    assert_eq!(rt; written.as_slice(), b"mw 0.1.0\n".as_slice());
+    let Ran { status, written } = run(alloc, &["run", "--help"], PEANO.as_bytes())?;
+    assert_eq!(rt; status, Some(0));
+    assert!(rt; written.starts_with(b"mw run [--max N]"));
     Ok(())
 }
 
@@ -167,14 +312,33 @@ fn a_fault_of_the_sink_leaves_a_prefix_in_it(rt: HostRuntime) -> Result<(), Fail
 #[test]
 fn a_source_has_at_most_so_many_bytes(rt: HostRuntime) -> Result<(), Fail> {
     let alloc = rt.alloc();
-    for (length, wanted, text) in [(8_388_608usize, 1u8, REFUSED), (8_388_609, 6, "")] {
+    for (length, wanted) in [(8_388_608usize, 0u8), (8_388_609, 6)] {
         let words = words(alloc, &["run"])?;
         let spaces = vec![in alloc; b' '; length]?;
         let mut source = MemSource::new(spaces, 1 << 20, Vec::new(alloc));
         let mut sink = MemSink::new(alloc, 100, 100, Vec::new(alloc))?;
         let status = alone(alloc, words.as_slice(), &mut source, &mut sink);
         assert_eq!(rt; status, Some(wanted));
-        assert_eq!(rt; sink.bytes(), text.as_bytes());
+        assert!(rt; sink.bytes().is_empty());
     }
+    Ok(())
+}
+
+#[test]
+fn the_call_with_threads_does_the_same(rt: HostRuntime) -> Result<(), Fail> {
+    let alloc = rt.alloc();
+    let words = words(alloc, &["run"])?;
+    let mut source = MemSource::new(PEANO.as_bytes().to_vec(alloc)?, 1000, Vec::new(alloc));
+    let mut sink = MemSink::new(alloc, 1000, 1000, Vec::new(alloc))?;
+    let status = top(
+        &rt,
+        alloc,
+        words.as_slice(),
+        &mut source,
+        &mut sink,
+        &NoGate,
+    );
+    assert_eq!(rt; status, 0);
+    assert_eq!(rt; sink.bytes(), PEANO_BLOCK.as_bytes());
     Ok(())
 }

@@ -1,0 +1,108 @@
+// The block of a command.
+ghost use Rattle.std.specs.Prelude.{◌≡◌, ◌++◌, IfOk, OnOk};
+ghost use Rattle.mw_block.specs.Blocks.{block, count_line, echo_line, result_line, status_line, word_text};
+ghost use Rattle.mw_block.specs.Seen.{word_of};
+
+use crate::printing::{print, print_number, print_sort};
+use mw_term::{Name, Signature, SortId, Term};
+use std::alloc::{AllocError, Global};
+
+/// How a reduction ended.
+#[derive(Clone, Copy, Debug, PartialEq, Eq)]
+pub enum Status {
+    /// At a normal term.
+    Reduced,
+    /// At the most rewrites that are allowed.
+    Rewrites,
+    /// Before a term that is too deep.
+    Depth,
+}
+
+/// The command with its module and its term.
+fn write_echo(
+    alloc: Global,
+    signature: &Signature,
+    name: &Name,
+    term: &Term,
+    text: &mut Vec<u8>,
+) -> Result<(), AllocError>
+    ensures { OnOk result (text.new.items ≡ text.old.items ++ echo_line signature.now name.now term.now) }
+{
+    text.extend_from_slice("reduce in ".as_bytes())?;
+    text.extend_from_slice(name.as_slice())?;
+    text.extend_from_slice(" : ".as_bytes())?;
+    print(alloc, signature, term, text)?;
+    text.extend_from_slice(" .\n".as_bytes())
+}
+
+/// How many replacements were made.
+fn write_count(alloc: Global, count: u64, text: &mut Vec<u8>) -> Result<(), AllocError>
+    ensures { OnOk result (text.new.items ≡ text.old.items ++ count_line count) }
+{
+    text.extend_from_slice("rewrites: ".as_bytes())?;
+    print_number(alloc, count as u128, text)?;
+    text.extend_from_slice("\n".as_bytes())
+}
+
+/// The result, with its sort.
+fn write_result(
+    alloc: Global,
+    signature: &Signature,
+    sort: SortId,
+    term: &Term,
+    text: &mut Vec<u8>,
+) -> Result<(), AllocError>
+    ensures { OnOk result (text.new.items ≡ text.old.items ++ result_line signature.now sort term.now) }
+{
+    text.extend_from_slice("result ".as_bytes())?;
+    print_sort(signature, sort, text)?;
+    text.extend_from_slice(": ".as_bytes())?;
+    print(alloc, signature, term, text)?;
+    text.extend_from_slice("\n".as_bytes())
+}
+
+fn word(status: Status) -> &'static str
+    ensures { result.now ≡ word_text (word_of status) }
+{
+    match status {
+        Status::Reduced => "reduced",
+        Status::Rewrites => "limit rewrites",
+        Status::Depth => "limit depth",
+    }
+}
+
+/// How the reduction ended.
+fn write_status(status: Status, text: &mut Vec<u8>) -> Result<(), AllocError>
+    ensures { OnOk result (text.new.items ≡ text.old.items ++ status_line (word_of status)) }
+{
+    text.extend_from_slice("status: ".as_bytes())?;
+    text.extend_from_slice(word(status).as_bytes())?;
+    text.extend_from_slice("\n".as_bytes())
+}
+
+/// What a reduction came to: how many replacements, a term, its sort, and how it ended.
+#[derive(Clone, Copy)]
+pub struct Reached<'t> {
+    pub count: u64,
+    pub sort: SortId,
+    pub term: &'t Term,
+    pub status: Status,
+}
+
+/// The block of a reduction in the module of this name, from a term to what it came to.
+pub fn reduction(
+    alloc: Global,
+    signature: &Signature,
+    name: &Name,
+    from: &Term,
+    reached: &Reached<'_>,
+) -> Result<Vec<u8>, AllocError>
+    ensures { IfOk result (λ text. text.items ≡ block signature.now name.now from.now reached.now.count reached.now.sort reached.now.term.now (word_of reached.now.status)) }
+{
+    let mut text = Vec::new(alloc);
+    write_echo(alloc, signature, name, from, &mut text)?;
+    write_count(alloc, reached.count, &mut text)?;
+    write_result(alloc, signature, reached.sort, reached.term, &mut text)?;
+    write_status(reached.status, &mut text)?;
+    Ok(text)
+}

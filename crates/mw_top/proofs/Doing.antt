@@ -1,0 +1,111 @@
+-- When each status comes, from the cause of each.
+use Rattle.std.proofs.Common.{◌≡◌, ◌≤◌, ◌⊎◌, ◌++◌, ℕ, zero, suc, List, [], Bool, true, false, length, None, Some, arith, refl, subst, inl, inr, ⊎_elim, length-append}
+use Rattle.std.proofs.lemmas.List.{append-nil}
+use Rattle.std.specs.declared.option.Option.{Option}
+use Rattle.std.specs.Io.KnownBytes.{Consumes, IsAtEnd}
+use Rattle.mw_words.specs.Asked.{Asks}
+use Rattle.mw_words.specs.declared.Asked.TheVariants.{Run, Help, Version}
+use Rattle.mw_words.proofs.Only.{one_answer}
+use Rattle.mw_top.specs.Moved.{Wrote}
+use Rattle.mw_top.specs.Outputs.{IsOutput}
+use Rattle.mw_top.specs.Call.{AskText, ReadsWhole, Ran, Did, IsExact}
+
+-- the statuses that an answer to bytes has
+abbrev pub IsOfBytes : ℕ → Type 0
+IsOfBytes s = (s ≤ 1) ⊎ ((s ≡ 4) ⊎ (s ≡ 5))
+
+pub known_small : (s : ℕ) → IsOfBytes s → s ≤ 6
+known_small s h = ⊎_elim (λ a. omega (arith, a)) (λ k. ⊎_elim (λ a. omega (arith, a)) (λ a. omega (arith, a)) k) h
+
+pub never_2 : (s : ℕ) → IsOfBytes s → s ≡ 2 → ⊥
+never_2 s h e = ⊎_elim (λ a. omega (arith, a, e)) (λ k. ⊎_elim (λ a. omega (arith, a, e)) (λ a. omega (arith, a, e)) k) h
+
+pub never_3 : (s : ℕ) → IsOfBytes s → s ≡ 3 → ⊥
+never_3 s h e = ⊎_elim (λ a. omega (arith, a, e)) (λ k. ⊎_elim (λ a. omega (arith, a, e)) (λ a. omega (arith, a, e)) k) h
+
+pub never_6 : (s : ℕ) → IsOfBytes s → s ≡ 6 → ⊥
+never_6 s h e = ⊎_elim (λ a. omega (arith, a, e)) (λ k. ⊎_elim (λ a. omega (arith, a, e)) (λ a. omega (arith, a, e)) k) h
+
+pub ran : (words : List (List ℕ)) (left left_after held held_after : Option (List ℕ)) (P : ℕ → List ℕ → List ℕ → Type 0) (most : ℕ) (bytes : List ℕ)
+    → Asks words (Run most) → ReadsWhole left left_after bytes → Wrote held held_after (P most bytes) → Ran words left left_after held held_after P
+ran words left left_after held held_after P most bytes asked read w = record { most = most; asked = asked; bytes = bytes; read = read; text = w.0; written = w.1; appended = w.2 }
+
+by_status : {P : Type 0} (s : ℕ) → s ≤ 6 → (s ≡ 0 → P) → (s ≡ 1 → P) → (s ≡ 2 → P) → (s ≡ 3 → P) → (s ≡ 4 → P) → (s ≡ 5 → P) → (s ≡ 6 → P) → P
+by_status zero le a b c d e f g = a refl
+by_status (suc zero) le a b c d e f g = b refl
+by_status (suc (suc zero)) le a b c d e f g = c refl
+by_status (suc (suc (suc zero))) le a b c d e f g = d refl
+by_status (suc (suc (suc (suc zero)))) le a b c d e f g = e refl
+by_status (suc (suc (suc (suc (suc zero))))) le a b c d e f g = f refl
+by_status (suc (suc (suc (suc (suc (suc zero)))))) le a b c d e f g = g refl
+by_status (suc (suc (suc (suc (suc (suc (suc s))))))) le a b c d e f g = absurd (omega arith)
+
+told_bytes : (old new : Option (List ℕ)) (bytes seen : List ℕ) → old ≡ Some bytes → Consumes old new seen → IsAtEnd new → seen ≡ bytes
+told_bytes None new bytes seen e given end = (cc)
+told_bytes (Some xs) None bytes seen e given end = absurd given
+told_bytes (Some xs) (Some ys) bytes seen e given end = let s : seen ++ [] ≡ seen = append-nil seen in (cc)
+
+told_length : (old new : Option (List ℕ)) (bytes seen : List ℕ) → old ≡ Some bytes → Consumes old new seen → length seen ≤ length bytes
+told_length None new bytes seen e given = let no : ⊥ = (cc) in absurd no
+told_length (Some xs) None bytes seen e given = absurd given
+told_length (Some xs) (Some ys) bytes seen e given = let same : bytes ≡ seen ++ ys = (cc) in rw same (rw length-append (omega arith))
+
+same_most : (a b : ℕ) → Run a ≡ Run b → a ≡ b
+same_most a b e = cc
+
+no_text : (words : List (List ℕ)) (most : ℕ) (text : List ℕ) → Asks words (Run most) → AskText words text → ⊥
+no_text words most text asks h = ⊎_elim
+    (λ a. let wrong : Help ≡ Run most = one_answer words (Run most) Help asks a.0 in cc)
+    (λ a. let wrong : Version ≡ Run most = one_answer words (Run most) Version asks a.0 in cc)
+    h
+
+module _ (words : List (List ℕ)) (left left_after held held_after : Option (List ℕ)) (bytes : List ℕ) (most : ℕ) (told : left ≡ Some bytes) (asks : Asks words (Run most)) where
+  -- what was written answers these bytes
+  outputs : (bad : Bool) → Ran words left left_after held held_after (λ m b text. IsOutput m b text bad) → (text : List ℕ) × IsOutput most bytes text bad
+  outputs bad r =
+      let m = same_most r.most most (one_answer words (Run most) (Run r.most) asks r.asked) in
+      let b = told_bytes left left_after bytes r.bytes told r.read.given r.read.end in
+      (r.text, subst (λ n. IsOutput n bytes r.text bad) m (subst (λ bs. IsOutput r.most bs r.text bad) b r.written))
+
+  short : (bad : Bool) → Ran words left left_after held held_after (λ m b text. IsOutput m b text bad) → length bytes ≤ 8388608
+  short bad r = let b = told_bytes left left_after bytes r.bytes told r.read.given r.read.end in subst (λ bs. length bs ≤ 8388608) b r.read.short
+
+  module _ (source source_after sink sink_after s : ℕ) (d : Did words left left_after source source_after held held_after sink sink_after s) where
+    not_long : s ≡ 6 → length bytes ≤ 8388608 → ⊥
+    not_long e short = let t = d.too_long e in omega (arith, told_length left left_after bytes t.1.0 told t.1.1, t.1.2, short)
+
+pub exact : (words : List (List ℕ)) (left left_after : Option (List ℕ)) (source source_after : ℕ) (held held_after : Option (List ℕ)) (sink sink_after s : ℕ) (source_rose sink_rose : Type 0)
+    → (s ≡ 3 → source_rose) → (s ≡ 4 → sink_rose)
+    → Did words left left_after source source_after held held_after sink sink_after s → IsExact words left source_rose sink_rose s
+exact words left left_after source source_after held held_after sink sink_after s source_rose sink_rose at_3 at_4 d = λ bytes most told asks no_source no_sink. (
+  λ small none. by_status s d.known
+      (λ e. inl e)
+      (λ e. let o = outputs words left left_after held held_after bytes most told asks true (d.refused e) in absurd (none o.0 o.1))
+      (λ e. absurd ((d.usage_told e).is.0 (Run most) asks))
+      (λ e. absurd (no_source (at_3 e)))
+      (λ e. absurd (no_sink (at_4 e)))
+      (λ e. inr e)
+      (λ e. absurd (not_long words left left_after held held_after bytes most told asks source source_after sink sink_after s d e small)),
+  λ small none. by_status s d.known
+      (λ e. ⊎_elim
+      (λ r. let o = outputs words left left_after held held_after bytes most told asks false r in absurd (none o.0 o.1))
+      (λ t. absurd (no_text words most t.text asks t.is))
+      (d.answered e))
+      (λ e. inl e)
+      (λ e. absurd ((d.usage_told e).is.0 (Run most) asks))
+      (λ e. absurd (no_source (at_3 e)))
+      (λ e. absurd (no_sink (at_4 e)))
+      (λ e. inr e)
+      (λ e. absurd (not_long words left left_after held held_after bytes most told asks source source_after sink sink_after s d e small)),
+  λ large. by_status s d.known
+      (λ e. ⊎_elim
+      (λ r. absurd (omega (arith, large, short words left left_after held held_after bytes most told asks false r)))
+      (λ t. absurd (no_text words most t.text asks t.is))
+      (d.answered e))
+      (λ e. absurd (omega (arith, large, short words left left_after held held_after bytes most told asks true (d.refused e))))
+      (λ e. absurd ((d.usage_told e).is.0 (Run most) asks))
+      (λ e. absurd (no_source (at_3 e)))
+      (λ e. absurd (no_sink (at_4 e)))
+      (λ e. inr e)
+      (λ e. inl e),
+)

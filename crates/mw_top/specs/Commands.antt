@@ -1,0 +1,79 @@
+-- What the block of a command claims, and why a command is refused.
+use Rattle.std.specs.Prelude.{◌≡◌, ◌<◌, ◌-◌, ◌^◌, ℕ, List, [], ◌∷◌, length, min, bytes_eq, Option, Some, None, option_map, unwrap_or, IsTrue, IsFalse, if◌then◌else◌}
+use Rattle.mw_logic.specs.Term.{RawTerm, numeral, quoted, variable, apply, is_ground}
+use Rattle.mw_logic.specs.Signature.{Signature, Operator, sort, at_number}
+use Rattle.mw_logic.specs.Sorts.{IsLeastSort}
+use Rattle.mw_logic.specs.Module.{Module}
+use Rattle.mw_logic.specs.Proof.{Proof, rules, steps, count}
+use Rattle.mw_logic.specs.Judgements.{Proves, IsNormal}
+use Rattle.mw_logic.specs.Ends.{limits_of, Stops, by_rewrites, by_depth}
+use Rattle.mw_text.specs.Mixfix.{IsSpelled, Reads}
+use Rattle.mw_text.specs.Readings.{NoneHas, TwoHave, IsShort}
+use Rattle.mw_module.specs.Refusals.{Cause, term_too_long, no_parse, ambiguous, open_term, no_module, unknown_module}
+use Rattle.mw_declare.specs.Meaning.{texts}
+use Rattle.mw_command.specs.Commands.{SeenCommand}
+use Rattle.mw_build.specs.Equations.{Oversized}
+use Rattle.mw_build.specs.Modules.{Accepted}
+use Rattle.mw_block.specs.Blocks.{Word, reduced, limit_rewrites, limit_depth, block}
+
+-- What the status word says of the proof from one term to another. `reduced`: it is by equations alone, has fewer steps than the limit, and
+-- its end is normal. `limit rewrites`: it has as many steps. `limit depth`: a next step exists, whose term is too deep.
+abbrev pub IsTrueWord : Module → ℕ → RawTerm → Proof → RawTerm → Word → Type 0
+IsTrueWord M most from p to reduced = (rules p ≡ 0) × (steps p < most) × IsNormal M 63 to
+IsTrueWord M most from p to limit_rewrites = (rules p ≡ 0) × Stops M 63 (limits_of most) from p to by_rewrites
+IsTrueWord M most from p to limit_depth = (rules p ≡ 0) × Stops M 63 (limits_of most) from p to by_depth
+
+-- The text is the block of a proof in this module. It begins at the one term that the command's words spell, which has no variable, and leads to
+-- the term that is printed, with its least sort; the count is that of the proof, and the status word is true of it.
+pub record IsAnswer (a : Accepted) (most : ℕ) (words : List (List ℕ)) (text : List ℕ) : Type 0 where
+  pub from : RawTerm
+  pub to : RawTerm
+  pub proof : Proof
+  pub S : ℕ
+  pub word : Word
+  pub read : Reads a.module.signature a.variables None words from
+  pub ground : IsTrue (is_ground from)
+  pub proves : Proves a.module 63 proof from to
+  pub least_sort : IsLeastSort a.module.signature to (sort S)
+  pub true_word : IsTrueWord a.module most from proof to word
+  pub written : text ≡ block a.module.signature a.name from (min (count proof) (2 ^ 64 - 1)) S to word
+
+-- the module of a name, and the last one
+abbrev pub module_named : List Accepted → List ℕ → Option Accepted
+module_named [] n = None
+module_named (a ∷ ms) n = if bytes_eq n a.name then Some a else module_named ms n
+
+abbrev pub last_module : List Accepted → Option Accepted
+last_module [] = None
+last_module (a ∷ []) = Some a
+last_module (a ∷ b ∷ ms) = last_module (b ∷ ms)
+
+-- the module in which a command stands: the one that it names, or else the last one that was accepted
+abbrev pub module_for : List Accepted → Option (List ℕ) → Option Accepted
+module_for ms (Some n) = module_named ms n
+module_for ms None = last_module ms
+
+-- what is wrong with the term of a command, in this order
+pub data TermFault (a : Accepted) (words : List (List ℕ)) : Cause → Type 0 where
+  long : 1024 < length words → TermFault a words term_too_long
+  unread : IsShort words → NoneHas (IsSpelled a.module.signature a.variables None words) → TermFault a words no_parse
+  unclear : IsShort words → TwoHave (IsSpelled a.module.signature a.variables None words) → TermFault a words ambiguous
+  opened : (t : RawTerm) → Reads a.module.signature a.variables None words t → IsFalse (is_ground t) → TermFault a words open_term
+  big : (t : RawTerm) (cause : Cause) → Reads a.module.signature a.variables None words t → IsTrue (is_ground t) → Oversized a.module.signature t cause
+      → TermFault a words cause
+
+-- what is wrong with a command, where these modules were accepted
+pub data CommandFault (ms : List Accepted) (c : SeenCommand) : Cause → Type 0 where
+  nowhere : c.module ≡ None → module_for ms c.module ≡ None → CommandFault ms c no_module
+  unknown : (n : List ℕ) → c.module ≡ Some n → module_for ms c.module ≡ None → CommandFault ms c (unknown_module n)
+  in_term : (a : Accepted) (cause : Cause) → module_for ms c.module ≡ Some a → TermFault a (texts c.term) cause → CommandFault ms c cause
+
+-- the result sort of an operator, and of the one on top of a term
+abbrev pub top_sort : Signature → ℕ → ℕ
+top_sort sig f = unwrap_or (option_map (λ (o : Operator). o.result) (at_number sig.operators f)) 0
+
+abbrev pub sort_of_top : Signature → RawTerm → ℕ
+sort_of_top sig (numeral n) = 0
+sort_of_top sig (quoted q) = 0
+sort_of_top sig (variable x) = 0
+sort_of_top sig (apply f ts) = top_sort sig f

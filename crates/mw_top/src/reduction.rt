@@ -1,0 +1,153 @@
+// The answer of a command: its term is read and reduced, and its block is written.
+ghost use Rattle.std.specs.Prelude.{◌≡◌, ◌≤◌, ◌-◌, ◌^◌, ℕ, List, min, None, IfOk, MatchResult, IsTrue};
+ghost use Rattle.mw_logic.specs.Proof.{count};
+ghost use Rattle.mw_block.specs.Blocks.{block as block_of};
+ghost use Rattle.mw_lex.specs.Lexing.{seen_all};
+ghost use Rattle.mw_logic.specs.Term.{is_ground, are_ground};
+ghost use Rattle.mw_logic.specs.Signature.{IsRawTerm};
+ghost use Rattle.mw_logic.specs.NormalForm.{height};
+ghost use Rattle.mw_term.specs.Raws.{raw_term, raw_terms};
+ghost use Rattle.mw_text.specs.Mixfix.{Reads};
+ghost use Rattle.mw_module.specs.Refusals.{cause_of};
+ghost use Rattle.mw_declare.specs.Meaning.{texts};
+ghost use Rattle.mw_block.specs.Seen.{word_of as word_of_status};
+ghost use Rattle.mw_top.specs.Commands.{IsAnswer, TermFault, top_sort, sort_of_top};
+ghost use Rattle.mw_top.specs.Seen.{word_of};
+
+use crate::terms::free_term;
+use mw_block::{Reached, Status, reduction};
+use mw_build::Module;
+use mw_lex::Token;
+use mw_module::FaultKind;
+use mw_parse::ParseError;
+use mw_reduce::{Outcome, Proved, reduce};
+use mw_term::{OpId, Raw, Shape, Signature, SortId, Term, depth};
+use std::alloc::{AllocError, Global};
+
+/// The most levels of a term.
+const DEEPEST: u32 = 1000;
+
+/// Whether no variable stands in a term.
+#[cycle(ground)]
+fn has_no_variable(term: &Raw) -> bool
+    ensures { result ≡ is_ground (raw_term term.now) }
+{
+    match term {
+        Raw::Var(_) => false,
+        Raw::Op(_, args) => have_no_variable(args.as_slice()),
+        _ => true,
+    }
+}
+
+#[cycle(ground)]
+fn have_no_variable(terms: &[Raw]) -> bool
+    ensures { result ≡ are_ground (raw_terms terms.now) }
+{
+    let mut rest = terms;
+    while let [term, after @ ..] = rest {
+        if !has_no_variable(term) {
+            return false;
+        }
+        rest = after;
+    }
+    true
+}
+
+/// The term of a command, which has no variable and isn't too deep, or what is wrong with it.
+pub fn command_term(
+    alloc: Global,
+    accepted: &Module,
+    tokens: &[Token],
+) -> Result<Result<Term, FaultKind>, AllocError>
+    ensures read { IfOk result (λ r. MatchResult r
+        (λ t. Reads accepted.now.module.signature accepted.now.variables None (texts (seen_all tokens.now)) t × IsTrue (is_ground t) × IsRawTerm accepted.now.module.signature t × (height t ≤ 1000))
+        (λ kind. TermFault accepted.now (texts (seen_all tokens.now)) (cause_of kind))) }
+{
+    accepted.theory().shows();
+    let raw = match accepted.term(alloc, tokens) {
+        Ok(raw) => raw,
+        Err(ParseError::TooLong) => return Ok(Err(FaultKind::TermTooLong)),
+        Err(ParseError::NoParse) => return Ok(Err(FaultKind::NoParse)),
+        Err(ParseError::Ambiguous) => return Ok(Err(FaultKind::Ambiguous)),
+        Err(ParseError::Memory) => return Err(AllocError),
+    };
+    if !has_no_variable(&raw) {
+        return Ok(Err(FaultKind::OpenTerm));
+    }
+    let term = free_term(alloc, &raw)?;
+    if depth(&term) > DEEPEST {
+        return Ok(Err(FaultKind::TooDeep));
+    }
+    Ok(Ok(term))
+}
+
+/// The result sort of an operator, or 0.
+fn result_sort(signature: &Signature, operator: OpId) -> SortId
+    ensures { result ≡ top_sort signature.now operator }
+{
+    if operator == 0 {
+        return 0;
+    }
+    match signature.operators.as_slice().get(operator as usize - 1) {
+        Some(found) => found.result,
+        None => 0,
+    }
+}
+
+/// The sort of a term without variables.
+fn sort_of(signature: &Signature, term: &Term) -> SortId
+    ensures { result ≡ sort_of_top signature.now term.now }
+{
+    match term.shape() {
+        Shape::Op(operator, _) => result_sort(signature, *operator),
+        _ => 0,
+    }
+}
+
+fn status_of(outcome: Outcome) -> Status
+    ensures { word_of_status result ≡ word_of outcome }
+{
+    match outcome {
+        Outcome::Done => Status::Reduced,
+        Outcome::Rewrites => Status::Rewrites,
+        Outcome::Depth => Status::Depth,
+    }
+}
+
+/// The block for a kept deduction in a module.
+fn block(
+    alloc: Global,
+    accepted: &Module,
+    proved: &Proved<'_>,
+    outcome: Outcome,
+) -> Result<Vec<u8>, AllocError>
+    ensures { IfOk result (λ text. text.items ≡ block_of accepted.now.module.signature accepted.now.name proved.now.from (min (count proved.now.proof) (2 ^ 64 - 1)) (sort_of_top accepted.now.module.signature proved.now.to) proved.now.to (word_of outcome)) }
+{
+    let signature = accepted.theory().signature();
+    let reached = Reached {
+        count: proved.count(),
+        sort: sort_of(signature, proved.to()),
+        term: proved.to(),
+        status: status_of(outcome),
+    };
+    reduction(alloc, signature, accepted.name(), proved.from(), &reached)
+}
+
+/// Reduces the term that a command's tokens spell, by at most so many steps, and gives its block.
+pub fn answer_term(
+    alloc: Global,
+    accepted: &Module,
+    term: Term,
+    most: u64,
+) -> Result<Vec<u8>, AllocError>
+    requires ground { IsTrue (is_ground term) }
+    requires raw { IsRawTerm accepted.now.module.signature term }
+    requires admitted { height term ≤ 1000 }
+    ensures { (words : List (List ℕ)) → Reads accepted.now.module.signature accepted.now.variables None words term → IfOk result (λ text. IsAnswer accepted.now most words text.items) }
+{
+    let theory = accepted.theory();
+    theory.shows();
+    let (proved, outcome) = reduce(alloc, theory, term, most)?;
+    proved.shows();
+    block(alloc, accepted, &proved, outcome)
+}
