@@ -13,8 +13,6 @@ mod mixing;
 mod names;
 mod parts;
 mod readable;
-#[cfg(test)]
-mod tests;
 
 pub use form::{Form, Part};
 pub use grammar::{Grammar, Words, trees_are_terms};

@@ -19,5 +19,3 @@ pub use sorts::{has_sort, least_sort};
 pub use steps::{is_normal, successors, successors_by};
 pub use written::as_tree;
 
-#[cfg(test)]
-mod tests;
