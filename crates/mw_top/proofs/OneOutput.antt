@@ -10,19 +10,25 @@ use Rattle.mw_declare.specs.Meaning.{texts}
 use Rattle.mw_command.specs.Commands.{SeenCommand, command_of}
 use Rattle.mw_build.specs.Equations.{FitsIn, Oversized}
 use Rattle.mw_build.specs.Modules.{Accepted, IsAccepted, IsRefused}
-use Rattle.mw_top.specs.Commands.{IsAnswer, TermFault, long, unread, unclear, opened, big, CommandFault, nowhere, unknown, in_term, module_for}
+use Rattle.mw_command.specs.declared.commands.Word.{Word}
+use Rattle.mw_top.specs.Commands.{IsTerm, IsAnswer, reduction, parsing, TermFault, long, unread, unclear, opened, big, CommandFault, nowhere, unknown, in_term, module_for}
 use Rattle.mw_top.specs.Sources.{IsTaken, name_of, Gives, formless, taken, refused, accepted, no_command, faulty, answered, Answered, nothing_yet, one_more}
 use Rattle.mw_top.specs.Outputs.{IsOutput, unlexed, answered as of_tokens}
 use Rattle.mw_top.proofs.OneModule.{not_big, one_module, not_refused}
 
-module _ (a : Accepted) (most : ℕ) (words : List (List ℕ)) (text : List ℕ) (is : IsAnswer a most words text) where
+-- the term of a command that is answered
+term_of : (a : Accepted) (most : ℕ) (words : List (List ℕ)) (word : Word) (text : List ℕ) → IsAnswer a most words word text → (t : RawTerm) × IsTerm a words t
+term_of a most words word text (reduction from block is reduced) = (from, is)
+term_of a most words word text (parsing term block is parsed) = (term, is)
+
+module _ (a : Accepted) (words : List (List ℕ)) (term : RawTerm) (is : IsTerm a words term) where
   -- what is answered has no fault
   pub term_holds : (cause : Cause) → TermFault a words cause → ⊥
   term_holds cause (long h) = omega (arith, h, is.read.short)
-  term_holds cause (unread s none) = none is.from is.read.spelled
+  term_holds cause (unread s none) = none term is.read.spelled
   term_holds cause (unclear s (x, y, of_x, of_y, differ)) = differ (is.read.only x of_x ∙ sym (is.read.only y of_y))
   term_holds cause (opened t read h) = both_ways _ (subst (λ u. is_ground u ≡ false) (is.read.only t read.spelled) h) is.ground
-  term_holds cause (big t cause read g h) = not_big a.module.signature is.from cause is.fits (subst (λ u. Oversized a.module.signature u cause) (is.read.only t read.spelled) h)
+  term_holds cause (big t cause read g h) = not_big a.module.signature term cause is.fits (subst (λ u. Oversized a.module.signature u cause) (is.read.only t read.spelled) h)
 
   pub command_holds : (ms : List Accepted) (c : SeenCommand) (cause : Cause) → module_for ms c.module ≡ Some a → texts c.term ≡ words → CommandFault ms c cause → ⊥
   command_holds ms c cause m w (nowhere e none) = none-some a (sym none ∙ m)
@@ -57,7 +63,7 @@ module _ (most : ℕ) (before : List Accepted) where
 
   -- what a command gives that is answered
   from_answered : (u : SeenUnit) (c : SeenCommand) (a : Accepted) (block : List ℕ) → name_of u ≡ None → command_of u ≡ Ok c → module_for before c.module ≡ Some a
-      → IsAnswer a most (texts c.term) block
+      → IsAnswer a most (texts c.term) c.word block
       → (o : Outcome) → o ≡ Ok u → (text : List ℕ) (bad : Bool) (after : List Accepted) → Gives most before o text bad after → (false ≡ bad) × (before ≡ after)
   from_answered u c a block unnamed command m is o e text bad after (formless f) = cc
   from_answered u c a block unnamed command m is o e text bad after (taken v n named is_taken) =
@@ -73,7 +79,8 @@ module _ (most : ℕ) (before : List Accepted) where
       let unit : v ≡ u = cc in
       let both : Ok d ≡ Ok c = sym asked ∙ ap command_of unit ∙ command in
       let same : d ≡ c = cc in
-      absurd (command_holds a most (texts c.term) block is before c cause m refl (subst (λ k. CommandFault before k cause) same wrong))
+      let of = term_of a most (texts c.term) c.word block is in
+      absurd (command_holds a (texts c.term) of.0 of.1 before c cause m refl (subst (λ k. CommandFault before k cause) same wrong))
   from_answered u c a block unnamed command m is o e text bad after (answered v d b other_block other asked at answer) = (refl, refl)
 
   -- a unit gives refusals alone or none, and the same modules after it

@@ -12,9 +12,11 @@ use Rattle.mw_text.specs.Readings.{NoneHas, TwoHave, IsShort}
 use Rattle.mw_module.specs.Refusals.{Cause, term_too_long, no_parse, ambiguous, open_term, no_module, unknown_module}
 use Rattle.mw_declare.specs.Meaning.{texts}
 use Rattle.mw_command.specs.Commands.{SeenCommand}
+use Rattle.mw_command.specs.declared.commands.Word.{Word as CommandWord}
+use Rattle.mw_command.specs.declared.commands.Word.TheVariants.{Reduce, Parse}
 use Rattle.mw_build.specs.Equations.{FitsIn, Oversized}
 use Rattle.mw_build.specs.Modules.{Accepted}
-use Rattle.mw_block.specs.Blocks.{Word, reduced, limit_rewrites, limit_depth, block}
+use Rattle.mw_block.specs.Blocks.{Word, reduced, limit_rewrites, limit_depth, block, parsed_block}
 
 -- What the status word says of the proof from one term to another. `reduced`: it is by equations alone, has fewer steps than the limit, and
 -- its end is normal. `limit rewrites`: it has as many steps. `limit depth`: a next step exists, whose term is too deep.
@@ -23,21 +25,34 @@ IsTrueWord M most from p to reduced = (rules p ≡ 0) × (steps p < most) × IsN
 IsTrueWord M most from p to limit_rewrites = (rules p ≡ 0) × Stops M 63 (limits_of most) from p to by_rewrites
 IsTrueWord M most from p to limit_depth = (rules p ≡ 0) × Stops M 63 (limits_of most) from p to by_depth
 
--- The text is the block of a proof in this module. It begins at the one term that the command's words spell, which has no variable and fits in, and
--- leads to the term that is printed, with its least sort; the count is that of the proof, and the status word is true of it.
-pub record IsAnswer (a : Accepted) (most : ℕ) (words : List (List ℕ)) (text : List ℕ) : Type 0 where
-  pub from : RawTerm
+-- The term is the one that a command's words spell. It has no variable, and fits in.
+pub record IsTerm (a : Accepted) (words : List (List ℕ)) (t : RawTerm) : Type 0 where
+  pub read : Reads a.module.signature a.variables None words t
+  pub ground : IsTrue (is_ground t)
+  pub fits : FitsIn a.module.signature t
+
+-- The text is the block of a proof in this module. It begins at this term and leads to the term that is printed, with its least sort; the count is
+-- that of the proof, and the status word is true of it.
+pub record IsReduced (a : Accepted) (most : ℕ) (from : RawTerm) (text : List ℕ) : Type 0 where
   pub to : RawTerm
   pub proof : Proof
   pub S : ℕ
   pub word : Word
-  pub read : Reads a.module.signature a.variables None words from
-  pub ground : IsTrue (is_ground from)
-  pub fits : FitsIn a.module.signature from
   pub proves : Proves a.module 63 proof from to
   pub least_sort : IsLeastSort a.module.signature to (sort S)
   pub true_word : IsTrueWord a.module most from proof to word
   pub written : text ≡ block a.module.signature a.name from (min (count proof) (2 ^ 64 - 1)) S to word
+
+-- The text tells this term, with its least sort.
+pub record IsParsed (a : Accepted) (term : RawTerm) (text : List ℕ) : Type 0 where
+  pub S : ℕ
+  pub least_sort : IsLeastSort a.module.signature term (sort S)
+  pub written : text ≡ parsed_block a.module.signature a.name term S
+
+-- the text answers a command of this word
+pub data IsAnswer (a : Accepted) (most : ℕ) (words : List (List ℕ)) : CommandWord → List ℕ → Type 0 where
+  reduction : (from : RawTerm) (text : List ℕ) → IsTerm a words from → IsReduced a most from text → IsAnswer a most words Reduce text
+  parsing : (term : RawTerm) (text : List ℕ) → IsTerm a words term → IsParsed a term text → IsAnswer a most words Parse text
 
 -- the module of a name, and the last one
 abbrev pub module_named : List Accepted → List ℕ → Option Accepted

@@ -37,7 +37,7 @@ pub data Gives (most : ℕ) (before : List Accepted) : Outcome → List ℕ → 
   faulty : (u : SeenUnit) (c : SeenCommand) (cause : Cause) → name_of u ≡ None → command_of u ≡ Ok c → CommandFault before c cause
       → Gives most before (Ok u) (refusal_line (record { line = u.line; cause = cause })) true before
   answered : (u : SeenUnit) (c : SeenCommand) (a : Accepted) (text : List ℕ) → name_of u ≡ None → command_of u ≡ Ok c → module_for before c.module ≡ Some a
-      → IsAnswer a most (texts c.term) text → Gives most before (Ok u) text false before
+      → IsAnswer a most (texts c.term) c.word text → Gives most before (Ok u) text false before
 
 -- The units of these tokens up to a place are answered, in order: their texts, whether one of them was refused, and the modules that were accepted.
 pub data Answered (most : ℕ) (tokens : List Seen) : ℕ → List Accepted → List ℕ → Bool → Type 0 where

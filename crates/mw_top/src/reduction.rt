@@ -1,4 +1,4 @@
-// The answer of a command: its term is read and reduced, and its block is written.
+// The answer of a command: its term is read, and reduced where the command asks for it, and its block is written.
 ghost use Rattle.std.specs.Prelude.{◌≡◌, ◌≤◌, ◌-◌, ◌^◌, ℕ, List, min, None, IfOk, MatchResult, IsTrue};
 ghost use Rattle.mw_logic.specs.Proof.{count};
 ghost use Rattle.mw_block.specs.Blocks.{block as block_of};
@@ -11,12 +11,13 @@ ghost use Rattle.mw_text.specs.Mixfix.{Reads};
 ghost use Rattle.mw_module.specs.Refusals.{cause_of};
 ghost use Rattle.mw_declare.specs.Meaning.{texts};
 ghost use Rattle.mw_block.specs.Seen.{word_of as word_of_status};
-ghost use Rattle.mw_top.specs.Commands.{IsAnswer, TermFault, top_sort, sort_of_top};
+ghost use Rattle.mw_top.specs.Commands.{IsAnswer, IsReduced, IsParsed, TermFault, top_sort, sort_of_top};
 ghost use Rattle.mw_top.specs.Seen.{word_of};
 
 use crate::terms::free_term;
-use mw_block::{Reached, Status, reduction};
+use mw_block::{Reached, Status, parsed, reduction};
 use mw_build::Module;
+use mw_command::Word;
 use mw_lex::Token;
 use mw_module::FaultKind;
 use mw_parse::ParseError;
@@ -68,7 +69,7 @@ pub fn command_term(
         Ok(raw) => raw,
         Err(ParseError::TooLong) => return Ok(Err(FaultKind::TermTooLong)),
         Err(ParseError::NoParse) => return Ok(Err(FaultKind::NoParse)),
-        Err(ParseError::Ambiguous) => return Ok(Err(FaultKind::Ambiguous)),
+        Err(ParseError::Ambiguous { .. }) => return Ok(Err(FaultKind::Ambiguous)),
         Err(ParseError::Memory) => return Err(AllocError),
     };
     if !has_no_variable(&raw) {
@@ -133,8 +134,8 @@ fn block(
     reduction(alloc, signature, accepted.name(), proved.from(), &reached)
 }
 
-/// Reduces the term that a command's tokens spell, by at most so many steps, and gives its block.
-pub fn answer_term(
+/// Reduces a term by at most so many steps, and gives the block.
+fn reduced_term(
     alloc: Global,
     accepted: &Module,
     term: Term,
@@ -143,11 +144,44 @@ pub fn answer_term(
     requires ground { IsTrue (is_ground term) }
     requires raw { IsRawTerm accepted.now.module.signature term }
     requires admitted { height term ≤ 1000 }
-    ensures { (words : List (List ℕ)) → Reads accepted.now.module.signature accepted.now.variables None words term → IfOk result (λ text. IsAnswer accepted.now most words text.items) }
+    ensures { IfOk result (λ text. IsReduced accepted.now most term text.items) }
 {
     let theory = accepted.theory();
     theory.shows();
     let (proved, outcome) = reduce(alloc, theory, term, most)?;
     proved.shows();
     block(alloc, accepted, &proved, outcome)
+}
+
+/// The block that tells a term with its sort.
+fn parsed_term(alloc: Global, accepted: &Module, term: &Term) -> Result<Vec<u8>, AllocError>
+    requires ground { IsTrue (is_ground term.now) }
+    requires raw { IsRawTerm accepted.now.module.signature term.now }
+    ensures { IfOk result (λ text. IsParsed accepted.now term.now text.items) }
+{
+    let theory = accepted.theory();
+    theory.shows();
+    let signature = theory.signature();
+    let sort = sort_of(signature, term);
+    parsed(alloc, signature, accepted.name(), term, sort)
+}
+
+/// The answer of a command of this word for its term, by at most so many steps where it reduces.
+pub fn answer_term(
+    alloc: Global,
+    accepted: &Module,
+    word: Word,
+    term: Term,
+    most: u64,
+) -> Result<Vec<u8>, AllocError>
+    requires ground { IsTrue (is_ground term) }
+    requires raw { IsRawTerm accepted.now.module.signature term }
+    requires admitted { height term ≤ 1000 }
+    ensures { (words : List (List ℕ)) → Reads accepted.now.module.signature accepted.now.variables None words term → IfOk result (λ text. IsAnswer accepted.now most words word text.items) }
+{
+    accepted.theory().shows();
+    match word {
+        Word::Reduce => reduced_term(alloc, accepted, term, most),
+        Word::Parse => parsed_term(alloc, accepted, &term),
+    }
 }

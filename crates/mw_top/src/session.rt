@@ -179,7 +179,7 @@ impl Session {
         };
         match command_term(alloc, module, command.term.as_slice())? {
             Ok(term) => Ok(Answer {
-                text: answer_term(alloc, module, term, most)?,
+                text: answer_term(alloc, module, command.word, term, most)?,
                 refused: false,
             }),
             Err(kind) => refused(alloc, line, kind),

@@ -1,12 +1,21 @@
-use Rattle.std.proofs.Common.{subst}
+use Rattle.std.proofs.Common.{subst, sym}
 use Rattle.mw_machine.specs.Simple.{IsSimpleModule}
-use Rattle.mw_reduce.specs.Deductions.{IsReductionOf}
-use Rattle.mw_top.proofs.Answering.{answers, if_ok}
+use Rattle.mw_top.specs.Commands.{IsAnswer, reduction, parsing}
+use Rattle.mw_top.proofs.Answering.{is_term, if_ok}
 use Rattle.mw_top.proofs.reduction.answer_term.Goals as goal
 
-pub returns : goal.returns
-returns c = λ words read.
-    let simple = subst IsSimpleModule c.theory-theory.ensures c.shows.ensures in
-    let reduction = subst (λ M. IsReductionOf M c.args.term c.args.most c.in_ok-proved.proved c.in_ok-proved.outcome) c.theory-theory.ensures c.in_ok-proved.ensures in
-    if_ok c.block.result c.block.ensures
-    (λ text written. answers c.args.accepted.now c.args.most words c.args.term c.in_ok-proved.proved c.in_ok-proved.outcome text.items simple read c.requires.ground c.requires.admitted reduction c.shows-2.ensures written)
+pub returns-in-Reduce : goal.returns-in-Reduce
+returns-in-Reduce c = λ words read.
+    let simple = subst IsSimpleModule c.theory.ensures c.shows.ensures in
+    let a = c.args.accepted.now in
+    if_ok c.reduced_term.result c.reduced_term.ensures
+    (λ text reduced. subst (λ w. IsAnswer a c.args.most words w text.items) (sym c.in-Reduce.is)
+    (reduction c.args.term text.items (is_term a words c.args.term simple read c.requires.ground c.requires.admitted) reduced))
+
+pub returns-in-Parse : goal.returns-in-Parse
+returns-in-Parse c = λ words read.
+    let simple = subst IsSimpleModule c.theory.ensures c.shows.ensures in
+    let a = c.args.accepted.now in
+    if_ok c.parsed_term.result c.parsed_term.ensures
+    (λ text parsed. subst (λ w. IsAnswer a c.args.most words w text.items) (sym c.in-Parse.is)
+    (parsing c.args.term text.items (is_term a words c.args.term simple read c.requires.ground c.requires.admitted) parsed))

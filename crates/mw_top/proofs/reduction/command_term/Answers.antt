@@ -23,7 +23,7 @@ pub returns-in-Err-Ambiguous : goal.returns-in-Err-Ambiguous
 returns-in-Err-Ambiguous c =
     let a : Accepted = c.args.accepted.now in
     let h = subst (HasCause a.module.signature a.variables None (texts (seen_all c.args.tokens.now))) c.in-Err-Ambiguous.field-0-is c.in-Err-Ambiguous.ensures.cause in
-    record { read = unclear h.0 h.1 }
+    record { read = unclear h.0 (_, _, h.1) }
 
 pub returns-then-not-has_no_variable : goal.returns-then-not-has_no_variable
 returns-then-not-has_no_variable c = record { read = opened _ c.in-Ok.ensures.read (sym c.has_no_variable.ensures ∙ c.if-not-has_no_variable.true) }

@@ -18,7 +18,7 @@ returns-in_default c = λ u line named command.
 
 pub returns-in_ok-answer_term-in-Ok : goal.returns-in_ok-answer_term-in-Ok
 returns-in_ok-answer_term-in-Ok c = λ u line named command. answered u (seen_command c.args.command.now) c.in-Some.module.now c.in_ok-answer_term-in-Ok.field-0.items named command (sym c.in-Some.ensures)
-    (subst (λ ts. IsAnswer c.in-Some.module.now c.args.most (texts (seen_all ts)) c.in_ok-answer_term-in-Ok.field-0.items) c.as_slice.ensures.value
+    (subst (λ ts. IsAnswer c.in-Some.module.now c.args.most (texts (seen_all ts)) c.args.command.now.word c.in_ok-answer_term-in-Ok.field-0.items) c.as_slice.ensures.value
     (c.in_ok-answer_term-in-Ok.ensures (texts (seen_all c.as_slice.result.now)) (match_ok _ _ c.in_ok-term.field-0 c.in_ok-term.ensures.read c.in-Ok.term c.in-Ok.is).0))
 
 pub returns-in-Err : goal.returns-in-Err
