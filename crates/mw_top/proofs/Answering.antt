@@ -1,5 +1,5 @@
 -- The block of a kept deduction answers a command.
-use Rattle.std.specs.Prelude.{◌≡◌, ◌-◌, ◌^◌, ◌<◌, ℕ, List, None, min, IsTrue, Result, Ok, Err, IfOk}
+use Rattle.std.specs.Prelude.{◌≡◌, ◌-◌, ◌^◌, ◌<◌, ◌≤◌, ℕ, List, None, min, IsTrue, Result, Ok, Err, IfOk}
 use Rattle.std.proofs.Common.{subst, sym, refl, arith}
 use Rattle.mw_logic.specs.Term.{RawTerm, RawTerms, apply, is_ground}
 use Rattle.mw_logic.specs.Signature.{Signature, Operator, sort, IsRawTerm, IsOperator}
@@ -15,9 +15,9 @@ use Rattle.mw_reduce.specs.declared.progress.Outcome.TheVariants.{Done, Rewrites
 use Rattle.mw_text.specs.Mixfix.{Reads}
 use Rattle.mw_logic.specs.NormalForm.{height}
 use Rattle.mw_module.specs.Refusals.{too_deep}
-use Rattle.mw_build.specs.Equations.{Oversized}
+use Rattle.mw_build.specs.Equations.{FitsIn, Oversized}
 use Rattle.mw_build.specs.Modules.{Accepted}
-use Rattle.mw_build.proofs.Sides.{oversized}
+use Rattle.mw_build.proofs.Sides.{fits, oversized}
 use Rattle.mw_block.specs.Blocks.{block}
 use Rattle.mw_top.specs.Commands.{IsAnswer, IsTrueWord, top_sort, sort_of_top}
 use Rattle.mw_top.specs.Seen.{word_of}
@@ -42,11 +42,11 @@ pub least : (sig : Signature) → IsSimpleSignature sig → (t : RawTerm) → Is
 least sig simple t r g = least_of sig simple t r g (ground_top sig simple r g)
 
 pub answers : (a : Accepted) (most : ℕ) (words : List (List ℕ)) (t : RawTerm) (d : Deduction) (o : Outcome) (text : List ℕ)
-    → IsSimpleModule a.module → Reads a.module.signature a.variables None words t → IsTrue (is_ground t)
+    → IsSimpleModule a.module → Reads a.module.signature a.variables None words t → IsTrue (is_ground t) → height t ≤ 1000
     → IsReductionOf a.module t most d o → IsDeduction d
     → text ≡ block a.module.signature a.name d.from (min (count d.proof) (2 ^ 64 - 1)) (sort_of_top a.module.signature d.to) d.to (word_of o)
     → IsAnswer a most words text
-answers a most words t d o text simple read ground r proved written = record {
+answers a most words t d o text simple read ground low r proved written = record {
   from = d.from;
   to = d.to;
   proof = d.proof;
@@ -54,6 +54,7 @@ answers a most words t d o text simple read ground r proved written = record {
   word = word_of o;
   read = subst (Reads a.module.signature a.variables None words) (sym r.from) read;
   ground = subst (λ u. IsTrue (is_ground u)) (sym r.from) ground;
+  fits = subst (FitsIn a.module.signature) (sym r.from) (fits a.module.signature simple.signature t low);
   proves = subst (λ M. Proves M 63 d.proof d.from d.to) r.over proved.proves;
   least_sort = least a.module.signature simple.signature d.to r.raw r.ground;
   true_word = subst (λ M. IsTrueWord M most d.from d.proof d.to (word_of o)) r.over (true_word a.module t most d o r);

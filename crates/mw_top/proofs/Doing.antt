@@ -1,5 +1,5 @@
 -- When each status comes, from the cause of each.
-use Rattle.std.proofs.Common.{◌≡◌, ◌≤◌, ◌⊎◌, ◌++◌, ℕ, zero, suc, List, [], Bool, true, false, length, None, Some, arith, refl, subst, inl, inr, ⊎_elim, length-append}
+use Rattle.std.proofs.Common.{◌≡◌, ◌≤◌, ◌<◌, ◌⊎◌, ◌++◌, ℕ, zero, suc, List, [], Bool, true, false, length, None, Some, arith, refl, subst, inl, inr, ⊎_elim, length-append}
 use Rattle.std.proofs.lemmas.List.{append-nil}
 use Rattle.std.specs.declared.option.Option.{Option}
 use Rattle.std.specs.Io.KnownBytes.{Consumes, IsAtEnd}
@@ -8,7 +8,8 @@ use Rattle.mw_words.specs.declared.Asked.TheVariants.{Run, Help, Version}
 use Rattle.mw_words.proofs.Only.{one_answer}
 use Rattle.mw_top.specs.Moved.{Wrote}
 use Rattle.mw_top.specs.Outputs.{IsOutput}
-use Rattle.mw_top.specs.Call.{AskText, ReadsWhole, Ran, Did, IsExact}
+use Rattle.mw_top.specs.Call.{AskText, ReadsWhole, Ran, Did, HasOutput, IsExactFor, IsExact}
+use Rattle.mw_top.proofs.OneOutput.{agree}
 
 -- the statuses that an answer to bytes has
 abbrev pub IsOfBytes : ℕ → Type 0
@@ -59,53 +60,58 @@ no_text words most text asks h = ⊎_elim
     (λ a. let wrong : Version ≡ Run most = one_answer words (Run most) Version asks a.0 in cc)
     h
 
+module _ (most : ℕ) (bytes : List ℕ) where
+  never_both : HasOutput most bytes false → HasOutput most bytes true → ⊥
+  never_both a b = let wrong : false ≡ true = agree most bytes a.1.0 b.1.0 false true a.1.1 b.1.1 in cc
+
+  exact_answered : (s : ℕ) → s ≡ 0 → HasOutput most bytes false → IsExactFor most bytes s
+  exact_answered s e output = record {
+    known = inl e;
+    answered = (λ z. output, λ h. e);
+    refused = (λ z. absurd (omega (arith, e, z)), λ h. absurd (never_both output h));
+    too_long = (λ z. absurd (omega (arith, e, z)), λ h. absurd (omega (arith, h, output.0)));
+  }
+
+  exact_refused : (s : ℕ) → s ≡ 1 → HasOutput most bytes true → IsExactFor most bytes s
+  exact_refused s e output = record {
+    known = inr (inl e);
+    answered = (λ z. absurd (omega (arith, e, z)), λ h. absurd (never_both h output));
+    refused = (λ z. output, λ h. e);
+    too_long = (λ z. absurd (omega (arith, e, z)), λ h. absurd (omega (arith, h, output.0)));
+  }
+
+  exact_long : (s : ℕ) → s ≡ 6 → 8388608 < length bytes → IsExactFor most bytes s
+  exact_long s e large = record {
+    known = inr (inr e);
+    answered = (λ z. absurd (omega (arith, e, z)), λ h. absurd (omega (arith, large, h.0)));
+    refused = (λ z. absurd (omega (arith, e, z)), λ h. absurd (omega (arith, large, h.0)));
+    too_long = (λ z. large, λ h. e);
+  }
+
 module _ (words : List (List ℕ)) (left left_after held held_after : Option (List ℕ)) (bytes : List ℕ) (most : ℕ) (told : left ≡ Some bytes) (asks : Asks words (Run most)) where
   -- what was written answers these bytes
-  outputs : (bad : Bool) → Ran words left left_after held held_after (λ m b text. IsOutput m b text bad) → (text : List ℕ) × IsOutput most bytes text bad
-  outputs bad r =
+  output_of : (bad : Bool) → Ran words left left_after held held_after (λ m b text. IsOutput m b text bad) → HasOutput most bytes bad
+  output_of bad r =
       let m = same_most r.most most (one_answer words (Run most) (Run r.most) asks r.asked) in
       let b = told_bytes left left_after bytes r.bytes told r.read.given r.read.end in
-      (r.text, subst (λ n. IsOutput n bytes r.text bad) m (subst (λ bs. IsOutput r.most bs r.text bad) b r.written))
-
-  short : (bad : Bool) → Ran words left left_after held held_after (λ m b text. IsOutput m b text bad) → length bytes ≤ 8388608
-  short bad r = let b = told_bytes left left_after bytes r.bytes told r.read.given r.read.end in subst (λ bs. length bs ≤ 8388608) b r.read.short
+      (subst (λ bs. length bs ≤ 8388608) b r.read.short, (r.text, subst (λ n. IsOutput n bytes r.text bad) m (subst (λ bs. IsOutput r.most bs r.text bad) b r.written)))
 
   module _ (source source_after sink sink_after s : ℕ) (d : Did words left left_after source source_after held held_after sink sink_after s) where
-    not_long : s ≡ 6 → length bytes ≤ 8388608 → ⊥
-    not_long e short = let t = d.too_long e in omega (arith, told_length left left_after bytes t.1.0 told t.1.1, t.1.2, short)
+    are_many : s ≡ 6 → 8388608 < length bytes
+    are_many e = let t = d.too_long e in omega (arith, told_length left left_after bytes t.1.0 told t.1.1, t.1.2)
 
 pub exact : (words : List (List ℕ)) (left left_after : Option (List ℕ)) (source source_after : ℕ) (held held_after : Option (List ℕ)) (sink sink_after s : ℕ) (source_rose sink_rose : Type 0)
     → (s ≡ 3 → source_rose) → (s ≡ 4 → sink_rose)
     → Did words left left_after source source_after held held_after sink sink_after s → IsExact words left source_rose sink_rose s
-exact words left left_after source source_after held held_after sink sink_after s source_rose sink_rose at_3 at_4 d = λ bytes most told asks no_source no_sink. (
-  λ small none. by_status s d.known
-      (λ e. inl e)
-      (λ e. let o = outputs words left left_after held held_after bytes most told asks true (d.refused e) in absurd (none o.0 o.1))
-      (λ e. absurd ((d.usage_told e).is.0 (Run most) asks))
-      (λ e. absurd (no_source (at_3 e)))
-      (λ e. absurd (no_sink (at_4 e)))
-      (λ e. inr e)
-      (λ e. absurd (not_long words left left_after held held_after bytes most told asks source source_after sink sink_after s d e small)),
-  λ small none. by_status s d.known
-      (λ e. ⊎_elim
-      (λ r. let o = outputs words left left_after held held_after bytes most told asks false r in absurd (none o.0 o.1))
-      (λ t. absurd (no_text words most t.text asks t.is))
-      (d.answered e))
-      (λ e. inl e)
-      (λ e. absurd ((d.usage_told e).is.0 (Run most) asks))
-      (λ e. absurd (no_source (at_3 e)))
-      (λ e. absurd (no_sink (at_4 e)))
-      (λ e. inr e)
-      (λ e. absurd (not_long words left left_after held held_after bytes most told asks source source_after sink sink_after s d e small)),
-  λ large. by_status s d.known
-      (λ e. ⊎_elim
-      (λ r. absurd (omega (arith, large, short words left left_after held held_after bytes most told asks false r)))
-      (λ t. absurd (no_text words most t.text asks t.is))
-      (d.answered e))
-      (λ e. absurd (omega (arith, large, short words left left_after held held_after bytes most told asks true (d.refused e))))
-      (λ e. absurd ((d.usage_told e).is.0 (Run most) asks))
-      (λ e. absurd (no_source (at_3 e)))
-      (λ e. absurd (no_sink (at_4 e)))
-      (λ e. inr e)
-      (λ e. inl e),
-)
+exact words left left_after source source_after held held_after sink sink_after s source_rose sink_rose at_3 at_4 d = λ bytes most told asks no_source no_sink.
+    by_status s d.known
+    (λ e. ⊎_elim
+    (λ r. inr (exact_answered most bytes s e (output_of words left left_after held held_after bytes most told asks false r)))
+    (λ t. absurd (no_text words most t.text asks t.is))
+    (d.answered e))
+    (λ e. inr (exact_refused most bytes s e (output_of words left left_after held held_after bytes most told asks true (d.refused e))))
+    (λ e. absurd ((d.usage_told e).is.0 (Run most) asks))
+    (λ e. absurd (no_source (at_3 e)))
+    (λ e. absurd (no_sink (at_4 e)))
+    (λ e. inl e)
+    (λ e. inr (exact_long most bytes s e (are_many words left left_after held held_after bytes most told asks source source_after sink sink_after s d e)))

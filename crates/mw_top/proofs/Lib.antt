@@ -4,4 +4,6 @@ pub mod Answering
 pub mod Sessions
 pub mod Giving
 pub mod Bytes
+pub mod OneModule
+pub mod OneOutput
 pub mod Doing

@@ -1,5 +1,5 @@
 -- What a call of the program did.
-use Rattle.std.specs.Prelude.{◌≡◌, ◌≤◌, ◌<◌, ◌⊎◌, ℕ, true, false, List, length, codes, Some}
+use Rattle.std.specs.Prelude.{◌≡◌, ◌≤◌, ◌<◌, ◌⊎◌, ◌↔◌, ℕ, Bool, true, false, List, length, codes, Some}
 use Rattle.std.specs.declared.option.Option.{Option}
 use Rattle.std.specs.Io.KnownBytes.{Appends, Consumes, IsAtEnd, Keeps}
 use Rattle.mw_outside.specs.Causes.{Rose}
@@ -70,11 +70,22 @@ pub record Did (words : List (List ℕ)) (left left_after : Option (List ℕ)) (
   -- 6: the source gave more than the limit, and nothing was written
   pub too_long : status ≡ 6 → ((most : ℕ) × Asks words (Run most)) × Gave left left_after (λ n. n ≡ 8388609) × Keeps held held_after
 
--- Where the source's bytes are known, the words ask for a run and nothing failed: of bytes that aren't too many the status is 0 where nothing can be
--- refused and 1 where something must be; of too many it is 6; unless memory ran out.
+-- the bytes aren't too many, and have an output with a refusal, or one without
+abbrev pub HasOutput : ℕ → List ℕ → Bool → Type 0
+HasOutput most bytes refused = (length bytes ≤ 8388608) × ((text : List ℕ) × IsOutput most bytes text refused)
+
+-- What the status says of these bytes, where nothing failed and memory didn't run out.
+pub record IsExactFor (most : ℕ) (bytes : List ℕ) (status : ℕ) : Type 0 where
+  -- no other status comes
+  pub known : (status ≡ 0) ⊎ (status ≡ 1) ⊎ (status ≡ 6)
+  -- 0: exactly where there is an output without a refusal
+  pub answered : (status ≡ 0) ↔ HasOutput most bytes false
+  -- 1: exactly where there is one with a refusal
+  pub refused : (status ≡ 1) ↔ HasOutput most bytes true
+  -- 6: exactly where the bytes are too many
+  pub too_long : (status ≡ 6) ↔ (8388608 < length bytes)
+
+-- Where the source's bytes are known, the words ask for a run and nothing failed, the status is exact for these bytes, or memory ran out.
 abbrev pub IsExact : List (List ℕ) → Option (List ℕ) → (source_rose sink_rose : Type 0) → ℕ → Type 0
 IsExact words left source_rose sink_rose status = (bytes : List ℕ) (most : ℕ) → left ≡ Some bytes → Asks words (Run most)
-    → (source_rose → ⊥) → (sink_rose → ⊥)
-    → (length bytes ≤ 8388608 → ((text : List ℕ) → IsOutput most bytes text true → ⊥) → (status ≡ 0) ⊎ (status ≡ 5))
-    × (length bytes ≤ 8388608 → ((text : List ℕ) → IsOutput most bytes text false → ⊥) → (status ≡ 1) ⊎ (status ≡ 5))
-    × (8388608 < length bytes → (status ≡ 6) ⊎ (status ≡ 5))
+    → (source_rose → ⊥) → (sink_rose → ⊥) → (status ≡ 5) ⊎ IsExactFor most bytes status

@@ -12,7 +12,7 @@ use Rattle.mw_text.specs.Readings.{NoneHas, TwoHave, IsShort}
 use Rattle.mw_module.specs.Refusals.{Cause, term_too_long, no_parse, ambiguous, open_term, no_module, unknown_module}
 use Rattle.mw_declare.specs.Meaning.{texts}
 use Rattle.mw_command.specs.Commands.{SeenCommand}
-use Rattle.mw_build.specs.Equations.{Oversized}
+use Rattle.mw_build.specs.Equations.{FitsIn, Oversized}
 use Rattle.mw_build.specs.Modules.{Accepted}
 use Rattle.mw_block.specs.Blocks.{Word, reduced, limit_rewrites, limit_depth, block}
 
@@ -23,8 +23,8 @@ IsTrueWord M most from p to reduced = (rules p ≡ 0) × (steps p < most) × IsN
 IsTrueWord M most from p to limit_rewrites = (rules p ≡ 0) × Stops M 63 (limits_of most) from p to by_rewrites
 IsTrueWord M most from p to limit_depth = (rules p ≡ 0) × Stops M 63 (limits_of most) from p to by_depth
 
--- The text is the block of a proof in this module. It begins at the one term that the command's words spell, which has no variable, and leads to
--- the term that is printed, with its least sort; the count is that of the proof, and the status word is true of it.
+-- The text is the block of a proof in this module. It begins at the one term that the command's words spell, which has no variable and fits in, and
+-- leads to the term that is printed, with its least sort; the count is that of the proof, and the status word is true of it.
 pub record IsAnswer (a : Accepted) (most : ℕ) (words : List (List ℕ)) (text : List ℕ) : Type 0 where
   pub from : RawTerm
   pub to : RawTerm
@@ -33,6 +33,7 @@ pub record IsAnswer (a : Accepted) (most : ℕ) (words : List (List ℕ)) (text 
   pub word : Word
   pub read : Reads a.module.signature a.variables None words from
   pub ground : IsTrue (is_ground from)
+  pub fits : FitsIn a.module.signature from
   pub proves : Proves a.module 63 proof from to
   pub least_sort : IsLeastSort a.module.signature to (sort S)
   pub true_word : IsTrueWord a.module most from proof to word

@@ -58,6 +58,10 @@ pub data IsOutput (most : ℕ) (bytes : List ℕ) : List ℕ → Bool → Type 0
   answered : (tokens : List Seen) (after : List Accepted) (text : List ℕ) (bad : Bool) → tokens_of bytes ≡ Ok tokens
       → Answered most tokens (length tokens) after text bad → IsOutput most bytes text bad
 
+-- of the same bytes, by the same limit, no two outputs differ in whether something was refused
+abbrev pub AgreeInRefusal : Type 0
+AgreeInRefusal = (most : ℕ) (bytes text other : List ℕ) (bad worse : Bool) → IsOutput most bytes text bad → IsOutput most bytes other worse → bad ≡ worse
+
 -- the texts of the first units, or nothing
 pub data IsBegun (most : ℕ) (bytes : List ℕ) : List ℕ → Type 0 where
   nothing : IsBegun most bytes []

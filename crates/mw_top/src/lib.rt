@@ -9,7 +9,7 @@ ghost use Rattle.mw_words.specs.Asked.{texts, Asks};
 ghost use Rattle.mw_block.specs.Refused.{refusal_line};
 ghost use Rattle.mw_top.specs.Moved.{Took, Wrote};
 ghost use Rattle.mw_top.specs.Call.{Did, IsExact};
-ghost use Rattle.mw_top.specs.Outputs.{IsOutput, IsBegun, IsCut, lexing_refusal};
+ghost use Rattle.mw_top.specs.Outputs.{IsOutput, AgreeInRefusal, IsBegun, IsCut, lexing_refusal};
 
 mod reduction;
 mod session;
@@ -79,7 +79,12 @@ pub fn top<R: Threads + Wait + Sync, S: Source, K: Sink, G: Gate>(
     }
 }
 
-/// The same, as a number.
+/// Of the same bytes, by the same limit, no two outputs differ in whether something was refused.
+pub fn outputs_agree()
+    ensures { AgreeInRefusal }
+{}
+
+/// What `alone` does, with the status as a number.
 fn run<S: Source, K: Sink>(alloc: Global, words: &[String], source: &mut S, sink: &mut K) -> u8
     ensures { Did (texts words.now) (S.left source.old) (S.left source.new) (S.faults source.old) (S.faults source.new) (K.held sink.old) (K.held sink.new) (K.faults sink.old) (K.faults sink.new) result }
 {

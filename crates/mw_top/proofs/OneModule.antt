@@ -1,0 +1,98 @@
+-- A unit is one module at most, and none where it is refused.
+use Rattle.std.proofs.Common.{◌≡◌, ◌∙◌, ℕ, zero, suc, List, [], ◌∷◌, length, slice_get, Some, Ok, refl, sym, ap, subst, arith, ⊎_elim}
+use Rattle.std.proofs.lemmas.Option.{none-some, slice_get_within}
+use Rattle.mw_logic.specs.Term.{Variable, RawTerm}
+use Rattle.mw_logic.specs.Signature.{Signature}
+use Rattle.mw_logic.specs.Module.{Statement}
+use Rattle.mw_module.specs.Refusals.{Cause, Refusal}
+use Rattle.mw_module.specs.Units.{SeenUnit}
+use Rattle.mw_declare.specs.Meaning.{Sides}
+use Rattle.mw_declare.specs.Statements.{statements_of}
+use Rattle.mw_declare.specs.Faults.{Declarations, declarations_of}
+use Rattle.mw_build.specs.Equations.{FitsIn, Oversized, deep, large, statement_of, IsStatementOf, SidesFault, big_left, big_right, lone, open_right, IsEquation, EquationFault, long, unread, unclear, sides, AreEquations, FirstFault}
+use Rattle.mw_build.specs.Modules.{Accepted, IsAccepted, IsRefused, by_declarations, by_equations}
+use Rattle.mw_build.proofs.Reading.{there}
+
+-- lists as long as each other that agree at each place are one
+same_lists : {X : Type 0} (xs ys : List X) → length xs ≡ length ys → ((i : ℕ) (x y : X) → slice_get xs i ≡ Some x → slice_get ys i ≡ Some y → x ≡ y) → xs ≡ ys
+same_lists [] [] n h = refl
+same_lists [] (y ∷ ys) n h = absurd (omega (arith, n))
+same_lists (x ∷ xs) [] n h = absurd (omega (arith, n))
+same_lists (x ∷ xs) (y ∷ ys) n h =
+    let front = h zero x y refl refl in
+    let rest = same_lists xs ys (omega (arith, n)) (λ i a b. h (suc i) a b) in
+    cc
+
+pub not_big : (sig : Signature) (t : RawTerm) (cause : Cause) → FitsIn sig t → Oversized sig t cause → ⊥
+not_big sig t cause f (deep k) = f.not_deep k
+not_big sig t cause f (large s k) = f.not_large k
+
+module _ (sig : Signature) where
+  sides_hold : (left right : RawTerm) (st : Statement) (cause : Cause) → IsStatementOf sig left right st → SidesFault sig left right cause → ⊥
+  sides_hold left right st cause s (big_left why big) = not_big sig left why s.left_fits big
+  sides_hold left right st cause s (big_right why fits big) = not_big sig right why s.right_fits big
+  sides_hold left right st cause s (lone f g is) = s.not_lone is
+  sides_hold left right st cause s (open_right x f g not is) = absurd (none-some x (sym s.bound ∙ is))
+
+  module _ (variables : List Variable) where
+    same_sides : (e : Sides) (st other : Statement) (p : IsEquation sig variables e st) (q : IsEquation sig variables e other) → ◌≡◌ {A = RawTerm × RawTerm} (p.left, p.right) (q.left, q.right)
+    same_sides e st other p q = q.read.only.1 (p.left, p.right) p.read.only.0
+
+    -- an equation is one statement
+    one_statement : (e : Sides) (st other : Statement) → IsEquation sig variables e st → IsEquation sig variables e other → st ≡ other
+    one_statement e st other p q =
+        let left : p.left ≡ q.left = ap (λ (s : RawTerm × RawTerm). s.0) (same_sides e st other p q) in
+        let right : p.right ≡ q.right = ap (λ (s : RawTerm × RawTerm). s.1) (same_sides e st other p q) in
+        p.sides.statement ∙ ap (λ t. statement_of t p.right) left ∙ ap (statement_of q.left) right ∙ sym q.sides.statement
+
+    equation_holds : (e : Sides) (st : Statement) (cause : Cause) → IsEquation sig variables e st → EquationFault sig variables e cause → ⊥
+    equation_holds e st cause p (long h) = ⊎_elim (λ k. omega (arith, k, p.read.short_left)) (λ k. omega (arith, k, p.read.short_right)) h
+    equation_holds e st cause p (unread f g none) = none (p.left, p.right) p.read.only.0
+    equation_holds e st cause p (unclear f g (x, y, of_x, of_y, differ)) = differ (p.read.only.1 x of_x ∙ sym (p.read.only.1 y of_y))
+    equation_holds e st cause p (sides left right why read fault) =
+        let pair : ◌≡◌ {A = RawTerm × RawTerm} (left, right) (p.left, p.right) = p.read.only.1 (left, right) read.only.0 in
+        sides_hold p.left p.right st why p.sides (subst (λ (s : RawTerm × RawTerm). SidesFault sig s.0 s.1 why) pair fault)
+
+    one_list : (es : List Sides) (sts others : List Statement) → AreEquations sig variables es sts → AreEquations sig variables es others → sts ≡ others
+    one_list es sts others p q = same_lists sts others (p.count ∙ sym q.count)
+        (λ i st other a b.
+        let w = slice_get_within sts i st a in
+        let e = there es i (omega (arith, w, p.count)) in
+        one_statement e.0 st other (p.each i e.0 st e.1 a) (q.each i e.0 other e.1 b))
+
+    equations_hold : (es : List Sides) (sts : List Statement) (r : Refusal) → AreEquations sig variables es sts → FirstFault sig variables es r → ⊥
+    equations_hold es sts r p f =
+        let w = slice_get_within es f.place f.equation f.is_there in
+        let st = there sts f.place (omega (arith, w, p.count)) in
+        equation_holds f.equation st.0 r.cause (p.each f.place f.equation st.0 f.is_there st.1) f.fault
+
+abbrev module_of : List ℕ → Signature → List Statement → List Variable → Accepted
+module_of name signature statements variables = record { name = name; «module» = record { signature = signature; statements = statements }; variables = variables }
+
+-- modules are one whose parts are
+same_module : (a b : Accepted) → a.name ≡ b.name → a.module.signature ≡ b.module.signature → a.module.statements ≡ b.module.statements → a.variables ≡ b.variables → a ≡ b
+same_module a b n s e v =
+    ap (λ x. module_of x a.module.signature a.module.statements a.variables) n ∙ ap (λ x. module_of b.name x a.module.statements a.variables) s
+    ∙ ap (λ x. module_of b.name b.module.signature x a.variables) e ∙ ap (module_of b.name b.module.signature b.module.statements) v
+
+module _ (u : SeenUnit) (n : List ℕ) (a : Accepted) (p : IsAccepted u n a) where
+  same_declarations : (d : Declarations) → declarations_of (statements_of u) ≡ Ok d → d ≡ p.declarations
+  same_declarations d e = cc (p.declared, e)
+
+  -- a unit is one module
+  pub one_module : (b : Accepted) → IsAccepted u n b → a ≡ b
+  one_module b q =
+      let d : q.declarations ≡ p.declarations = same_declarations q.declarations q.declared in
+      let equations : AreEquations p.declarations.signature p.declarations.variables p.declarations.equations b.module.statements =
+      subst (λ (e : Declarations). AreEquations e.signature e.variables e.equations b.module.statements) d q.equations in
+      let name : a.name ≡ b.name = p.named ∙ sym q.named in
+      let signature : a.module.signature ≡ b.module.signature = p.signature ∙ ap (λ (e : Declarations). e.signature) (sym d) ∙ sym q.signature in
+      let variables : a.variables ≡ b.variables = p.variables ∙ ap (λ (e : Declarations). e.variables) (sym d) ∙ sym q.variables in
+      let statements = one_list p.declarations.signature p.declarations.variables p.declarations.equations a.module.statements b.module.statements p.equations equations in
+      same_module a b name signature statements variables
+
+  -- and then it isn't refused
+  pub not_refused : (r : Refusal) → IsRefused u r → ⊥
+  not_refused r (by_declarations e) = cc (p.declared, e)
+  not_refused r (by_equations d e f) = equations_hold p.declarations.signature p.declarations.variables p.declarations.equations a.module.statements r p.equations
+      (subst (λ (k : Declarations). FirstFault k.signature k.variables k.equations r) (same_declarations d e) f)

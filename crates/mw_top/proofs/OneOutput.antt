@@ -1,0 +1,149 @@
+-- Of the same units no two texts differ in whether something was refused.
+use Rattle.std.proofs.Common.{◌≡◌, ◌∙◌, ◌≤◌, ◌<◌, ◌+◌, ◌-◌, ◌++◌, ◌||◌, ℕ, zero, suc, Bool, false, List, [], ◌∷◌, length, Some, None, Ok, Err, refl, sym, ap, subst, arith, ⊎_elim}
+use Rattle.std.proofs.lemmas.Bool.{both_ways, cases_order}
+use Rattle.std.proofs.lemmas.Option.{none-some, same_Some}
+use Rattle.mw_logic.specs.Term.{is_ground}
+use Rattle.mw_lex.specs.Lexing.{Seen}
+use Rattle.mw_module.specs.Refusals.{Cause}
+use Rattle.mw_module.specs.Units.{SeenUnit, Outcome, Reading, Reads}
+use Rattle.mw_declare.specs.Meaning.{texts}
+use Rattle.mw_command.specs.Commands.{SeenCommand, command_of}
+use Rattle.mw_build.specs.Equations.{Oversized}
+use Rattle.mw_build.specs.Modules.{Accepted, IsAccepted, IsRefused}
+use Rattle.mw_top.specs.Commands.{IsAnswer, TermFault, long, unread, unclear, opened, big, CommandFault, nowhere, unknown, in_term, module_for}
+use Rattle.mw_top.specs.Sources.{IsTaken, name_of, Gives, formless, taken, refused, accepted, no_command, faulty, answered, Answered, nothing_yet, one_more}
+use Rattle.mw_top.specs.Outputs.{IsOutput, unlexed, answered as of_tokens}
+use Rattle.mw_top.proofs.OneModule.{not_big, one_module, not_refused}
+
+-- the term of a command that is answered has no fault
+term_holds : (a : Accepted) (most : ℕ) (words : List (List ℕ)) (text : List ℕ) → IsAnswer a most words text → (cause : Cause) → TermFault a words cause → ⊥
+term_holds a most words text is cause (long h) = omega (arith, h, is.read.short)
+term_holds a most words text is cause (unread s none) = none is.from is.read.spelled
+term_holds a most words text is cause (unclear s (x, y, of_x, of_y, differ)) = differ (is.read.only x of_x ∙ sym (is.read.only y of_y))
+term_holds a most words text is cause (opened t read h) = both_ways _ (subst (λ u. is_ground u ≡ false) (is.read.only t read.spelled) h) is.ground
+term_holds a most words text is cause (big t why read g h) =
+    not_big a.module.signature is.from why is.fits (subst (λ u. Oversized a.module.signature u why) (is.read.only t read.spelled) h)
+
+-- nor has the command
+command_holds : (a : Accepted) (most : ℕ) (text : List ℕ) (ms : List Accepted) (c : SeenCommand) (cause : Cause) → module_for ms c.module ≡ Some a
+    → IsAnswer a most (texts c.term) text → CommandFault ms c cause → ⊥
+command_holds a most text ms c cause m is (nowhere e none) = none-some a (sym none ∙ m)
+command_holds a most text ms c cause m is (unknown n e none) = none-some a (sym none ∙ m)
+command_holds a most text ms c cause m is (in_term b why other fault) =
+    let same : b ≡ a = same_Some b a (sym other ∙ m) in
+    term_holds a most (texts c.term) text is why (subst (λ x. TermFault x (texts c.term) why) same fault)
+
+module _ (most : ℕ) (before : List Accepted) where
+  -- what a module gives that is accepted
+  from_accepted : (u : SeenUnit) (n : List ℕ) (a : Accepted) → name_of u ≡ Some n → (IsTaken before n → ⊥) → IsAccepted u n a
+      → (o : Outcome) → o ≡ Ok u → (text : List ℕ) (bad : Bool) (after : List Accepted) → Gives most before o text bad after → (false ≡ bad) × (before ++ a ∷ [] ≡ after)
+  from_accepted u n a named free is o e text bad after (formless f) = cc
+  from_accepted u n a named free is o e text bad after (taken v m other is_taken) =
+      let unit : v ≡ u = cc in
+      let name : m ≡ n = same_Some m n (sym other ∙ ap name_of unit ∙ named) in
+      absurd (free (subst (IsTaken before) name is_taken))
+  from_accepted u n a named free is o e text bad after (refused v m r other not_taken wrong) =
+      let unit : v ≡ u = cc in
+      absurd (not_refused u n a is r (subst (λ w. IsRefused w r) unit wrong))
+  from_accepted u n a named free is o e text bad after (accepted v m b other not_taken module_is) =
+      let unit : v ≡ u = cc in
+      let name : m ≡ n = same_Some m n (sym other ∙ ap name_of unit ∙ named) in
+      let same : a ≡ b = one_module u n a is b (subst (λ k. IsAccepted u k b) name (subst (λ w. IsAccepted w m b) unit module_is)) in
+      (refl, ap (λ x. before ++ x ∷ []) same)
+  from_accepted u n a named free is o e text bad after (no_command v f unnamed wrong) =
+      let unit : v ≡ u = cc in absurd (none-some n (sym unnamed ∙ ap name_of unit ∙ named))
+  from_accepted u n a named free is o e text bad after (faulty v c cause unnamed command wrong) =
+      let unit : v ≡ u = cc in absurd (none-some n (sym unnamed ∙ ap name_of unit ∙ named))
+  from_accepted u n a named free is o e text bad after (answered v c b block unnamed command m answer) =
+      let unit : v ≡ u = cc in absurd (none-some n (sym unnamed ∙ ap name_of unit ∙ named))
+
+  -- what a command gives that is answered
+  from_answered : (u : SeenUnit) (c : SeenCommand) (a : Accepted) (block : List ℕ) → name_of u ≡ None → command_of u ≡ Ok c → module_for before c.module ≡ Some a
+      → IsAnswer a most (texts c.term) block
+      → (o : Outcome) → o ≡ Ok u → (text : List ℕ) (bad : Bool) (after : List Accepted) → Gives most before o text bad after → (false ≡ bad) × (before ≡ after)
+  from_answered u c a block unnamed command m is o e text bad after (formless f) = cc
+  from_answered u c a block unnamed command m is o e text bad after (taken v n named is_taken) =
+      let unit : v ≡ u = cc in absurd (none-some n (sym unnamed ∙ ap name_of (sym unit) ∙ named))
+  from_answered u c a block unnamed command m is o e text bad after (refused v n r named not_taken wrong) =
+      let unit : v ≡ u = cc in absurd (none-some n (sym unnamed ∙ ap name_of (sym unit) ∙ named))
+  from_answered u c a block unnamed command m is o e text bad after (accepted v n b named not_taken module_is) =
+      let unit : v ≡ u = cc in absurd (none-some n (sym unnamed ∙ ap name_of (sym unit) ∙ named))
+  from_answered u c a block unnamed command m is o e text bad after (no_command v f other wrong) =
+      let unit : v ≡ u = cc in
+      let both : Ok c ≡ Err f = sym command ∙ ap command_of (sym unit) ∙ wrong in cc
+  from_answered u c a block unnamed command m is o e text bad after (faulty v d cause other asked wrong) =
+      let unit : v ≡ u = cc in
+      let both : Ok d ≡ Ok c = sym asked ∙ ap command_of unit ∙ command in
+      let same : d ≡ c = cc in
+      absurd (command_holds a most block before c cause m is (subst (λ k. CommandFault before k cause) same wrong))
+  from_answered u c a block unnamed command m is o e text bad after (answered v d b other_block other asked at answer) = (refl, refl)
+
+  -- a unit gives refusals alone or none, and the same modules after it
+  gives_one : (o : Outcome) (text other : List ℕ) (bad worse : Bool) (after later : List Accepted) → Gives most before o text bad after → Gives most before o other worse later
+      → (bad ≡ worse) × (after ≡ later)
+  gives_one o text other bad worse after later (accepted u n a named free is) q = from_accepted u n a named free is o refl other worse later q
+  gives_one o text other bad worse after later (answered u c a block unnamed command m is) q = from_answered u c a block unnamed command m is o refl other worse later q
+  gives_one o text other bad worse after later p (accepted u n a named free is) =
+      let back = from_accepted u n a named free is o refl text bad after p in (sym back.0, sym back.1)
+  gives_one o text other bad worse after later p (answered u c a block unnamed command m is) =
+      let back = from_answered u c a block unnamed command m is o refl text bad after p in (sym back.0, sym back.1)
+  gives_one o text other bad worse after later p q = (refl, refl)
+
+-- the unit at a place, and the place of the next one, are determined
+one_unit : (tokens : List Seen) (at : ℕ) (o other : Outcome) (next behind : ℕ) → Reads false tokens at o next → Reads false tokens at other behind → (o ≡ other) × (next ≡ behind)
+one_unit tokens at o other next behind p q =
+    let first : Reading = record { outcome = o; len = next - at } in
+    let second : Reading = record { outcome = other; len = behind - at } in
+    let same : first ≡ second = same_Some first second (sym p.reading ∙ q.reading) in
+    let length : next - at ≡ behind - at = ap (λ (r : Reading). r.len) same in
+    (ap (λ (r : Reading). r.outcome) same, omega (arith, length, p.further, q.further))
+
+module _ (most : ℕ) (tokens : List Seen) where
+  -- no place within a unit is reached
+  none_within : (fuel p q : ℕ) (ms ns : List Accepted) (t u : List ℕ) (bad worse : Bool) → Answered most tokens p ms t bad → Answered most tokens q ns u worse → p + q ≤ fuel → p < q
+      → (o : Outcome) (next : ℕ) → Reads false tokens p o next → next ≤ q
+  none_within zero p q ms ns t u bad worse d e small less o next reads = absurd (omega (arith, small, less))
+  none_within (suc fuel) p zero ms ns t u bad worse d nothing_yet small less o next reads = absurd (omega (arith, less))
+  none_within (suc fuel) p q ms ns t u bad worse d (one_more at before text was e outcome end last flag after read gives) small less o next reads =
+      let further : at < q = read.further in
+      ⊎_elim
+      (λ same. let one = one_unit tokens p o outcome next q reads (subst (λ k. Reads false tokens k outcome q) same read) in omega (arith, one.1))
+      (λ apart. ⊎_elim
+      (λ below. let back = none_within fuel at p before ms text t was bad e d (omega (arith, small, further)) below outcome q read in absurd (omega (arith, back, less)))
+      (λ above. let on = none_within fuel p at ms before t text bad was d e (omega (arith, small, further)) above o next reads in omega (arith, on, further))
+      apart)
+      (cases_order at p)
+
+  -- the modules at a place are determined, and whether something was refused
+  answered_one : (p q : ℕ) (ms ns : List Accepted) (t u : List ℕ) (bad worse : Bool) → Answered most tokens p ms t bad → Answered most tokens q ns u worse → p ≡ q → (ms ≡ ns) × (bad ≡ worse)
+  answered_one p q ms ns t u bad worse nothing_yet nothing_yet e = (refl, refl)
+  answered_one p q ms ns t u bad worse nothing_yet (one_more at before text was d outcome next last flag after read gives) e =
+      let further = read.further in absurd (omega (arith, further, e))
+  answered_one p q ms ns t u bad worse (one_more at before text was d outcome next last flag after read gives) nothing_yet e =
+      let further = read.further in absurd (omega (arith, further, e))
+  answered_one p q ms ns t u bad worse (one_more at before text was d outcome next last flag after read gives)
+      (one_more place earlier written wrong k out end behind worst later reads given) e =
+      ⊎_elim
+      (λ same.
+      let rest = answered_one at place before earlier text written was wrong d k same in
+      let one = one_unit tokens place outcome out p q (subst (λ i. Reads false tokens i outcome p) same read) reads in
+      let first : Gives most earlier out last flag after = subst (λ x. Gives most earlier x last flag after) one.0 (subst (λ xs. Gives most xs outcome last flag after) rest.0 gives) in
+      let here = gives_one most earlier out last behind flag worst after later first given in
+      (here.1, ap (λ b. b || flag) rest.1 ∙ ap (λ b. wrong || b) here.0))
+      (λ apart. ⊎_elim
+      (λ below. let on = none_within (at + place) at place before earlier text written was wrong d k (omega arith) below outcome p read in
+      let further = reads.further in absurd (omega (arith, on, further, e)))
+      (λ above. let on = none_within (place + at) place at earlier before written text wrong was k d (omega arith) above out q reads in
+      let further = read.further in absurd (omega (arith, on, further, e)))
+      apart)
+      (cases_order at place)
+
+-- outputs for the same bytes
+pub agree : (most : ℕ) (bytes text other : List ℕ) (bad worse : Bool) → IsOutput most bytes text bad → IsOutput most bytes other worse → bad ≡ worse
+agree most bytes text other bad worse (unlexed f e) (unlexed g h) = refl
+agree most bytes text other bad worse (unlexed f e) (of_tokens tokens after t b h d) = cc
+agree most bytes text other bad worse (of_tokens tokens after t b h d) (unlexed f e) = cc
+agree most bytes text other bad worse (of_tokens tokens after t b h d) (of_tokens others later u c k e) =
+    let both : Ok tokens ≡ Ok others = sym h ∙ k in
+    let same : tokens ≡ others = cc in
+    (answered_one most others (length others) (length others) after later t u b c (subst (λ ts. Answered most ts (length ts) after t b) same d) e refl).1
