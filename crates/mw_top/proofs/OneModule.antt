@@ -48,7 +48,7 @@ module _ (sig : Signature) where
     equation_holds : (e : Sides) (st : Statement) (cause : Cause) → IsEquation sig variables e st → EquationFault sig variables e cause → ⊥
     equation_holds e st cause p (long h) = ⊎_elim (λ k. omega (arith, k, p.read.short_left)) (λ k. omega (arith, k, p.read.short_right)) h
     equation_holds e st cause p (unread f g none) = none (p.left, p.right) p.read.only.0
-    equation_holds e st cause p (unclear f g (x, y, of_x, of_y, differ)) = differ (p.read.only.1 x of_x ∙ sym (p.read.only.1 y of_y))
+    equation_holds e st cause p (unclear f g (x, y, (of_x, of_y, differ))) = differ (p.read.only.1 x of_x ∙ sym (p.read.only.1 y of_y))
     equation_holds e st cause p (sides left right why read fault) =
         let pair : ◌≡◌ {A = RawTerm × RawTerm} (left, right) (p.left, p.right) = p.read.only.1 (left, right) read.only.0 in
         sides_hold p.left p.right st why p.sides (subst (λ (s : RawTerm × RawTerm). SidesFault sig s.0 s.1 why) pair fault)

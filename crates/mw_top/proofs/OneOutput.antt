@@ -25,7 +25,7 @@ term_of a most words word text (parsing term block is parsed) = (term, is)
 term_holds : (a : Accepted) (words : List (List ℕ)) (term : RawTerm) → IsTerm a words term → (cause : Cause) → TermFault a words cause → ⊥
 term_holds a words term is cause (long h) = omega (arith, h, is.read.short)
 term_holds a words term is cause (unread s none) = none term is.read.spelled
-term_holds a words term is cause (unclear s (x, y, of_x, of_y, differ)) = differ (is.read.only x of_x ∙ sym (is.read.only y of_y))
+term_holds a words term is cause (unclear s (x, y, (of_x, of_y, differ))) = differ (is.read.only x of_x ∙ sym (is.read.only y of_y))
 term_holds a words term is cause (opened t read h) = both_ways _ (subst (λ u. is_ground u ≡ false) (is.read.only t read.spelled) h) is.ground
 term_holds a words term is cause (big t why read g h) =
     not_big a.module.signature term why is.fits (subst (λ u. Oversized a.module.signature u why) (is.read.only t read.spelled) h)
