@@ -15,7 +15,7 @@ use Rattle.mw_reduce.specs.declared.progress.Outcome.TheVariants.{Done, Rewrites
 use Rattle.mw_text.specs.Mixfix.{Reads}
 use Rattle.mw_logic.specs.NormalForm.{height}
 use Rattle.mw_module.specs.Refusals.{too_deep}
-use Rattle.mw_build.specs.Equations.{FitsIn, Oversized}
+use Rattle.mw_build.specs.Equations.{Oversized}
 use Rattle.mw_build.specs.Modules.{Accepted}
 use Rattle.mw_build.proofs.Sides.{fits, oversized}
 use Rattle.mw_block.specs.Blocks.{block, parsed_block}
@@ -64,9 +64,9 @@ parsed_by a t sig name S text simple raw ground is_signature is_name is_sort wri
   S = sort_of_top a.module.signature t;
   least_sort = least a.module.signature simple.signature t raw ground;
   written = written
-  ∙ ap (λ g. parsed_block g name t S) is_signature
-  ∙ ap (λ n. parsed_block a.module.signature n t S) is_name
-  ∙ ap (parsed_block a.module.signature a.name t) (is_sort ∙ ap (λ g. sort_of_top g t) is_signature);
+      ∙ ap (λ g. parsed_block g name t S) is_signature
+      ∙ ap (λ n. parsed_block a.module.signature n t S) is_name
+      ∙ ap (parsed_block a.module.signature a.name t) (is_sort ∙ ap (λ g. sort_of_top g t) is_signature);
 }
 
 pub is_term : (a : Accepted) (words : List (List ℕ)) (t : RawTerm) → IsSimpleModule a.module → Reads a.module.signature a.variables None words t → IsTrue (is_ground t) → height t ≤ 1000

@@ -1,6 +1,6 @@
 -- A unit is one module at most, and none where it is refused.
-use Rattle.std.proofs.Common.{◌≡◌, ◌∙◌, ℕ, zero, suc, List, [], ◌∷◌, length, slice_get, Some, None, Ok, Err, refl, sym, ap, subst, arith, ⊎_elim}
-use Rattle.std.proofs.lemmas.Option.{none-some, same_Some, slice_get_within}
+use Rattle.std.proofs.Common.{◌≡◌, ◌∙◌, ℕ, zero, suc, List, [], ◌∷◌, length, slice_get, Some, Ok, refl, sym, ap, subst, arith, ⊎_elim}
+use Rattle.std.proofs.lemmas.Option.{none-some, slice_get_within}
 use Rattle.mw_logic.specs.Term.{Variable, RawTerm}
 use Rattle.mw_logic.specs.Signature.{Signature}
 use Rattle.mw_logic.specs.Module.{Statement}
@@ -29,13 +29,13 @@ not_big sig t cause f (large s k) = f.not_large k
 
 module _ (sig : Signature) where
   sides_hold : (left right : RawTerm) (st : Statement) (cause : Cause) → IsStatementOf sig left right st → SidesFault sig left right cause → ⊥
-  sides_hold left right st cause s (big_left big) = not_big sig left cause s.left_fits big
-  sides_hold left right st cause s (big_right fits big) = not_big sig right cause s.right_fits big
+  sides_hold left right st cause s (big_left why big) = not_big sig left why s.left_fits big
+  sides_hold left right st cause s (big_right why fits big) = not_big sig right why s.right_fits big
   sides_hold left right st cause s (lone f g is) = s.not_lone is
   sides_hold left right st cause s (open_right x f g not is) = absurd (none-some x (sym s.bound ∙ is))
 
   module _ (variables : List Variable) where
-    same_sides : (e : Sides) (st other : Statement) (p : IsEquation sig variables e st) (q : IsEquation sig variables e other) → (p.left, p.right) ≡ (q.left, q.right)
+    same_sides : (e : Sides) (st other : Statement) (p : IsEquation sig variables e st) (q : IsEquation sig variables e other) → ◌≡◌ {A = RawTerm × RawTerm} (p.left, p.right) (q.left, q.right)
     same_sides e st other p q = q.read.only.1 (p.left, p.right) p.read.only.0
 
     -- an equation is one statement
@@ -48,10 +48,10 @@ module _ (sig : Signature) where
     equation_holds : (e : Sides) (st : Statement) (cause : Cause) → IsEquation sig variables e st → EquationFault sig variables e cause → ⊥
     equation_holds e st cause p (long h) = ⊎_elim (λ k. omega (arith, k, p.read.short_left)) (λ k. omega (arith, k, p.read.short_right)) h
     equation_holds e st cause p (unread f g none) = none (p.left, p.right) p.read.only.0
-    equation_holds e st cause p (unclear f g (x, y, of_x, of_y, differ)) = differ (p.read.only.1 x of_x ∙ sym (p.read.only.1 y of_y))
-    equation_holds e st cause p (sides left right cause read fault) =
-        let pair : (left, right) ≡ (p.left, p.right) = p.read.only.1 (left, right) read.only.0 in
-        sides_hold p.left p.right st cause p.sides (subst (λ (s : RawTerm × RawTerm). SidesFault sig s.0 s.1 cause) pair fault)
+    equation_holds e st cause p (unclear f g (x, y, (of_x, of_y, differ))) = differ (p.read.only.1 x of_x ∙ sym (p.read.only.1 y of_y))
+    equation_holds e st cause p (sides left right why read fault) =
+        let pair : ◌≡◌ {A = RawTerm × RawTerm} (left, right) (p.left, p.right) = p.read.only.1 (left, right) read.only.0 in
+        sides_hold p.left p.right st why p.sides (subst (λ (s : RawTerm × RawTerm). SidesFault sig s.0 s.1 why) pair fault)
 
     one_list : (es : List Sides) (sts others : List Statement) → AreEquations sig variables es sts → AreEquations sig variables es others → sts ≡ others
     one_list es sts others p q = same_lists sts others (p.count ∙ sym q.count)
@@ -65,6 +65,15 @@ module _ (sig : Signature) where
         let w = slice_get_within es f.place f.equation f.is_there in
         let st = there sts f.place (omega (arith, w, p.count)) in
         equation_holds f.equation st.0 r.cause (p.each f.place f.equation st.0 f.is_there st.1) f.fault
+
+abbrev module_of : List ℕ → Signature → List Statement → List Variable → Accepted
+module_of name signature statements variables = record { name = name; «module» = record { signature = signature; statements = statements }; variables = variables }
+
+-- modules are one whose parts are
+same_module : (a b : Accepted) → a.name ≡ b.name → a.module.signature ≡ b.module.signature → a.module.statements ≡ b.module.statements → a.variables ≡ b.variables → a ≡ b
+same_module a b n s e v =
+    ap (λ x. module_of x a.module.signature a.module.statements a.variables) n ∙ ap (λ x. module_of b.name x a.module.statements a.variables) s
+    ∙ ap (λ x. module_of b.name b.module.signature x a.variables) e ∙ ap (module_of b.name b.module.signature b.module.statements) v
 
 module _ (u : SeenUnit) (n : List ℕ) (a : Accepted) (p : IsAccepted u n a) where
   same_declarations : (d : Declarations) → declarations_of (statements_of u) ≡ Ok d → d ≡ p.declarations
@@ -80,7 +89,7 @@ module _ (u : SeenUnit) (n : List ℕ) (a : Accepted) (p : IsAccepted u n a) whe
       let signature : a.module.signature ≡ b.module.signature = p.signature ∙ ap (λ (e : Declarations). e.signature) (sym d) ∙ sym q.signature in
       let variables : a.variables ≡ b.variables = p.variables ∙ ap (λ (e : Declarations). e.variables) (sym d) ∙ sym q.variables in
       let statements = one_list p.declarations.signature p.declarations.variables p.declarations.equations a.module.statements b.module.statements p.equations equations in
-      cc
+      same_module a b name signature statements variables
 
   -- and then it isn't refused
   pub not_refused : (r : Refusal) → IsRefused u r → ⊥

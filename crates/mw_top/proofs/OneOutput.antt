@@ -1,5 +1,5 @@
 -- Of the same units no two texts differ in whether something was refused.
-use Rattle.std.proofs.Common.{◌≡◌, ◌∙◌, ◌≤◌, ◌<◌, ◌+◌, ◌-◌, ◌++◌, ◌||◌, ℕ, zero, suc, Bool, true, false, List, [], ◌∷◌, length, drop, Some, None, Ok, Err, refl, sym, ap, subst, arith, ⊎_elim}
+use Rattle.std.proofs.Common.{◌≡◌, ◌∙◌, ◌≤◌, ◌<◌, ◌+◌, ◌-◌, ◌++◌, ◌||◌, ℕ, zero, suc, Bool, false, List, [], ◌∷◌, length, Some, None, Ok, Err, refl, sym, ap, subst, arith, ⊎_elim}
 use Rattle.std.proofs.lemmas.Bool.{both_ways, cases_order}
 use Rattle.std.proofs.lemmas.Option.{none-some, same_Some}
 use Rattle.mw_logic.specs.Term.{RawTerm, is_ground}
@@ -8,7 +8,7 @@ use Rattle.mw_module.specs.Refusals.{Cause}
 use Rattle.mw_module.specs.Units.{SeenUnit, Outcome, Reading, Reads}
 use Rattle.mw_declare.specs.Meaning.{texts}
 use Rattle.mw_command.specs.Commands.{SeenCommand, command_of}
-use Rattle.mw_build.specs.Equations.{FitsIn, Oversized}
+use Rattle.mw_build.specs.Equations.{Oversized}
 use Rattle.mw_build.specs.Modules.{Accepted, IsAccepted, IsRefused}
 use Rattle.mw_command.specs.declared.commands.Word.{Word}
 use Rattle.mw_top.specs.Commands.{IsTerm, IsAnswer, reduction, parsing, TermFault, long, unread, unclear, opened, big, CommandFault, nowhere, unknown, in_term, module_for}
@@ -21,21 +21,23 @@ term_of : (a : Accepted) (most : ℕ) (words : List (List ℕ)) (word : Word) (t
 term_of a most words word text (reduction from block is reduced) = (from, is)
 term_of a most words word text (parsing term block is parsed) = (term, is)
 
-module _ (a : Accepted) (words : List (List ℕ)) (term : RawTerm) (is : IsTerm a words term) where
-  -- what is answered has no fault
-  pub term_holds : (cause : Cause) → TermFault a words cause → ⊥
-  term_holds cause (long h) = omega (arith, h, is.read.short)
-  term_holds cause (unread s none) = none term is.read.spelled
-  term_holds cause (unclear s (x, y, of_x, of_y, differ)) = differ (is.read.only x of_x ∙ sym (is.read.only y of_y))
-  term_holds cause (opened t read h) = both_ways _ (subst (λ u. is_ground u ≡ false) (is.read.only t read.spelled) h) is.ground
-  term_holds cause (big t cause read g h) = not_big a.module.signature term cause is.fits (subst (λ u. Oversized a.module.signature u cause) (is.read.only t read.spelled) h)
+-- it has no fault
+term_holds : (a : Accepted) (words : List (List ℕ)) (term : RawTerm) → IsTerm a words term → (cause : Cause) → TermFault a words cause → ⊥
+term_holds a words term is cause (long h) = omega (arith, h, is.read.short)
+term_holds a words term is cause (unread s none) = none term is.read.spelled
+term_holds a words term is cause (unclear s (x, y, (of_x, of_y, differ))) = differ (is.read.only x of_x ∙ sym (is.read.only y of_y))
+term_holds a words term is cause (opened t read h) = both_ways _ (subst (λ u. is_ground u ≡ false) (is.read.only t read.spelled) h) is.ground
+term_holds a words term is cause (big t why read g h) =
+    not_big a.module.signature term why is.fits (subst (λ u. Oversized a.module.signature u why) (is.read.only t read.spelled) h)
 
-  pub command_holds : (ms : List Accepted) (c : SeenCommand) (cause : Cause) → module_for ms c.module ≡ Some a → texts c.term ≡ words → CommandFault ms c cause → ⊥
-  command_holds ms c cause m w (nowhere e none) = none-some a (sym none ∙ m)
-  command_holds ms c cause m w (unknown n e none) = none-some a (sym none ∙ m)
-  command_holds ms c cause m w (in_term b cause other fault) =
-      let same : b ≡ a = same_Some b a (sym other ∙ m) in
-      term_holds cause (subst (TermFault a) w (subst (λ x. TermFault x (texts c.term) cause) same fault))
+-- nor has the command
+command_holds : (a : Accepted) (term : RawTerm) (ms : List Accepted) (c : SeenCommand) (cause : Cause) → module_for ms c.module ≡ Some a
+    → IsTerm a (texts c.term) term → CommandFault ms c cause → ⊥
+command_holds a term ms c cause m is (nowhere e none) = none-some a (sym none ∙ m)
+command_holds a term ms c cause m is (unknown n e none) = none-some a (sym none ∙ m)
+command_holds a term ms c cause m is (in_term b why other fault) =
+    let same : b ≡ a = same_Some b a (sym other ∙ m) in
+    term_holds a (texts c.term) term is why (subst (λ x. TermFault x (texts c.term) why) same fault)
 
 module _ (most : ℕ) (before : List Accepted) where
   -- what a module gives that is accepted
@@ -80,7 +82,7 @@ module _ (most : ℕ) (before : List Accepted) where
       let both : Ok d ≡ Ok c = sym asked ∙ ap command_of unit ∙ command in
       let same : d ≡ c = cc in
       let of = term_of a most (texts c.term) c.word block is in
-      absurd (command_holds a (texts c.term) of.0 of.1 before c cause m refl (subst (λ k. CommandFault before k cause) same wrong))
+      absurd (command_holds a of.0 before c cause m of.1 (subst (λ k. CommandFault before k cause) same wrong))
   from_answered u c a block unnamed command m is o e text bad after (answered v d b other_block other asked at answer) = (refl, refl)
 
   -- a unit gives refusals alone or none, and the same modules after it
@@ -97,7 +99,9 @@ module _ (most : ℕ) (before : List Accepted) where
 -- the unit at a place, and the place of the next one, are determined
 one_unit : (tokens : List Seen) (at : ℕ) (o other : Outcome) (next behind : ℕ) → Reads false tokens at o next → Reads false tokens at other behind → (o ≡ other) × (next ≡ behind)
 one_unit tokens at o other next behind p q =
-    let same : record { outcome = o; len = next - at } ≡ record { outcome = other; len = behind - at } = same_Some _ _ (sym p.reading ∙ q.reading) in
+    let first : Reading = record { outcome = o; len = next - at } in
+    let second : Reading = record { outcome = other; len = behind - at } in
+    let same : first ≡ second = same_Some first second (sym p.reading ∙ q.reading) in
     let length : next - at ≡ behind - at = ap (λ (r : Reading). r.len) same in
     (ap (λ (r : Reading). r.outcome) same, omega (arith, length, p.further, q.further))
 
@@ -107,7 +111,7 @@ module _ (most : ℕ) (tokens : List Seen) where
       → (o : Outcome) (next : ℕ) → Reads false tokens p o next → next ≤ q
   none_within zero p q ms ns t u bad worse d e small less o next reads = absurd (omega (arith, small, less))
   none_within (suc fuel) p zero ms ns t u bad worse d nothing_yet small less o next reads = absurd (omega (arith, less))
-  none_within (suc fuel) p q ms ns t u bad worse d (one_more at before text was e outcome end last refused after read gives) small less o next reads =
+  none_within (suc fuel) p q ms ns t u bad worse d (one_more at before text was e outcome end last flag after read gives) small less o next reads =
       let further : at < q = read.further in
       ⊎_elim
       (λ same. let one = one_unit tokens p o outcome next q reads (subst (λ k. Reads false tokens k outcome q) same read) in omega (arith, one.1))
@@ -120,19 +124,19 @@ module _ (most : ℕ) (tokens : List Seen) where
   -- the modules at a place are determined, and whether something was refused
   answered_one : (p q : ℕ) (ms ns : List Accepted) (t u : List ℕ) (bad worse : Bool) → Answered most tokens p ms t bad → Answered most tokens q ns u worse → p ≡ q → (ms ≡ ns) × (bad ≡ worse)
   answered_one p q ms ns t u bad worse nothing_yet nothing_yet e = (refl, refl)
-  answered_one p q ms ns t u bad worse nothing_yet (one_more at before text was d outcome next last refused after read gives) e =
+  answered_one p q ms ns t u bad worse nothing_yet (one_more at before text was d outcome next last flag after read gives) e =
       let further = read.further in absurd (omega (arith, further, e))
-  answered_one p q ms ns t u bad worse (one_more at before text was d outcome next last refused after read gives) nothing_yet e =
+  answered_one p q ms ns t u bad worse (one_more at before text was d outcome next last flag after read gives) nothing_yet e =
       let further = read.further in absurd (omega (arith, further, e))
-  answered_one p q ms ns t u bad worse (one_more at before text was d outcome next last refused after read gives)
+  answered_one p q ms ns t u bad worse (one_more at before text was d outcome next last flag after read gives)
       (one_more place earlier written wrong k out end behind worst later reads given) e =
       ⊎_elim
       (λ same.
       let rest = answered_one at place before earlier text written was wrong d k same in
       let one = one_unit tokens place outcome out p q (subst (λ i. Reads false tokens i outcome p) same read) reads in
-      let first : Gives most earlier out last refused after = subst (λ x. Gives most earlier x last refused after) one.0 (subst (λ xs. Gives most xs outcome last refused after) rest.0 gives) in
-      let here = gives_one most earlier out last behind refused worst after later first given in
-      (here.1, ap (λ b. b || refused) rest.1 ∙ ap (λ b. wrong || b) here.0))
+      let first : Gives most earlier out last flag after = subst (λ x. Gives most earlier x last flag after) one.0 (subst (λ xs. Gives most xs outcome last flag after) rest.0 gives) in
+      let here = gives_one most earlier out last behind flag worst after later first given in
+      (here.1, ap (λ b. b || flag) rest.1 ∙ ap (λ b. wrong || b) here.0))
       (λ apart. ⊎_elim
       (λ below. let on = none_within (at + place) at place before earlier text written was wrong d k (omega arith) below outcome p read in
       let further = reads.further in absurd (omega (arith, on, further, e)))

@@ -70,17 +70,17 @@ pub record Did (words : List (List ℕ)) (left left_after : Option (List ℕ)) (
   -- 6: the source gave more than the limit, and nothing was written
   pub too_long : status ≡ 6 → ((most : ℕ) × Asks words (Run most)) × Gave left left_after (λ n. n ≡ 8388609) × Keeps held held_after
 
--- there are no more than these bytes may be, and they have an output with this flag
+-- the bytes aren't too many, and have an output with a refusal, or one without
 abbrev pub HasOutput : ℕ → List ℕ → Bool → Type 0
 HasOutput most bytes refused = (length bytes ≤ 8388608) × ((text : List ℕ) × IsOutput most bytes text refused)
 
--- What the status says of bytes that were answered, where nothing failed and memory was there.
+-- What the status says of these bytes, where nothing failed and memory didn't run out.
 pub record IsExactFor (most : ℕ) (bytes : List ℕ) (status : ℕ) : Type 0 where
   -- no other status comes
   pub known : (status ≡ 0) ⊎ (status ≡ 1) ⊎ (status ≡ 6)
-  -- 0: exactly where an output has no refusal
+  -- 0: exactly where there is an output without a refusal
   pub answered : (status ≡ 0) ↔ HasOutput most bytes false
-  -- 1: exactly where an output has a refusal
+  -- 1: exactly where there is one with a refusal
   pub refused : (status ≡ 1) ↔ HasOutput most bytes true
   -- 6: exactly where the bytes are too many
   pub too_long : (status ≡ 6) ↔ (8388608 < length bytes)
