@@ -1,0 +1,5 @@
+-- Terms as texts.
+pub mod Tokens
+pub mod Printing
+pub mod Writing
+pub mod Reading
