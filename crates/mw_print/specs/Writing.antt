@@ -1,5 +1,5 @@
 -- A text to which tokens are written one after another.
-use Rattle.std.specs.Prelude.{List, [], ◌∷◌, ◌++◌, ℕ, codes, if◌then◌else◌}
+use Rattle.std.specs.Prelude.{List, [], ◌∷◌, ◌++◌, ℕ, Bool, codes, if◌then◌else◌}
 use Rattle.mw_print.specs.Tokens.{Token, is_near, opens, ends_in_backquote, spaced}
 use Rattle.mw_print.specs.declared.writer.End.{End}
 use Rattle.mw_print.specs.declared.writer.End.TheVariants.{Empty, Opened, Quoted, Plain}
@@ -9,16 +9,16 @@ use Rattle.mw_print.specs.declared.writer.Writer.{Writer}
 abbrev pub end_of : List ℕ → End
 end_of x = if ends_in_backquote x then Quoted else if opens x then Opened else Plain
 
--- what stands between a text that ends so and the next token
-abbrev pub gap_behind : End → Token → List ℕ
-gap_behind Empty y = []
-gap_behind Opened y = []
-gap_behind Quoted y = codes " "
-gap_behind Plain y = if is_near y then [] else codes " "
+-- the space between a text that ends so and the next token, which may be near
+abbrev pub space : End → Bool → List ℕ
+space Empty near = []
+space Opened near = []
+space Quoted near = codes " "
+space Plain near = if near then [] else codes " "
 
 abbrev pub behind : End → List Token → List ℕ
 behind end [] = []
-behind end (y ∷ ts) = gap_behind end y ++ spaced (y ∷ ts)
+behind end (y ∷ ts) = space end (is_near y) ++ spaced (y ∷ ts)
 
 -- the text with these tokens behind it
 abbrev pub written : Writer → List Token → List ℕ

@@ -1,7 +1,7 @@
 // Names as pieces and holes.
-ghost use Rattle.std.specs.Prelude.{◌≡◌, ◌≢◌, ◌∷◌, ◌<◌, ◌≤◌, [], length, take, drop, slice_index, IsTrue, IsFalse, IfNone, IfSome};
+ghost use Rattle.std.specs.Prelude.{◌≡◌, ◌≢◌, ◌∷◌, ◌<◌, ◌≤◌, [], length, slice_index, IfNone, IfSome};
 ghost use Rattle.mw_text.specs.Names as spec;
-ghost use Rattle.mw_text.specs.Names.{items_of, items_from, ended};
+ghost use Rattle.mw_text.specs.Names.{items_of};
 ghost use Rattle.mw_print.specs.Printing as printing;
 ghost use Rattle.mw_print.specs.Reading as reading;
 ghost use Rattle.mw_print.specs.Reading.{item_of};
@@ -37,7 +37,7 @@ fn ends_run(byte: u8) -> bool
 
 /// How far the run at the front of a name reaches.
 fn run_len(name: &[u8]) -> usize
-    ensures run { items_from [] name.now ≡ ended (take result name.now) (items_of (drop result name.now)) }
+    ensures run { result ≡ reading.run_length name.now }
     ensures within { result ≤ length name.now }
 {
     let mut len = 0;
@@ -54,9 +54,13 @@ fn run_len(name: &[u8]) -> usize
 fn unquoted(name: &[u8]) -> &[u8]
     ensures items { items_of result.now ≡ items_of name.now }
     ensures within { length result.now ≤ length name.now }
+    ensures front { 0 < length result.now → slice_index result.now 0 ≢ 96 }
 {
     let mut rest = name;
-    while let [b'`', after @ ..] = rest {
+    while let [byte, after @ ..] = rest {
+        if *byte != b'`' {
+            return rest;
+        }
         rest = after;
     }
     rest
@@ -69,20 +73,20 @@ pub fn first_item(name: &[u8]) -> Option<Front<'_>>
     ensures less { IfSome result (λ f. length f.rest.now < length name.now) }
 {
     let name = unquoted(name);
-    match name {
-        [] => None,
-        [b'_', rest @ ..] => Some(Front {
+    let [byte, behind @ ..] = name else {
+        return None;
+    };
+    if *byte == b'_' {
+        return Some(Front {
             item: Item::Hole,
-            rest,
-        }),
-        _ => {
-            let (piece, rest) = name.split_at(run_len(name).max(1));
-            Some(Front {
-                item: Item::Piece(piece),
-                rest,
-            })
-        }
+            rest: behind,
+        });
     }
+    let (piece, rest) = name.split_at(run_len(name).max(1));
+    Some(Front {
+        item: Item::Piece(piece),
+        rest,
+    })
 }
 
 /// Whether a name has a hole.

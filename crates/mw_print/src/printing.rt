@@ -1,7 +1,6 @@
 // Terms as they are printed.
-ghost use Rattle.std.specs.Prelude.{◌≡◌, ◌∷◌, ◌++◌, List, [], ℕ, length, map, codes, IfOk, OnOk, IsTrue, Some, None, option_map};
-ghost use Rattle.std.specs.Fmt.{decimal};
-ghost use Rattle.mw_logic.specs.Signature.{at_number};
+ghost use Rattle.std.specs.Prelude.{◌≡◌, ◌<◌, ◌∷◌, ◌++◌, List, [], length, map, codes, IfOk, IfSome, IfNone, OnOk, option_map};
+ghost use Rattle.mw_logic.specs.Signature.{Signature as SignatureOf, at_number};
 ghost use Rattle.mw_logic.specs.Parts.{is_assoc};
 ghost use Rattle.mw_logic.specs.Term as logic;
 ghost use Rattle.mw_logic.specs.Terms.{terms_of};
@@ -9,7 +8,7 @@ ghost use Rattle.mw_term.specs.Signatures.{gather_of};
 ghost use Rattle.mw_text.specs.Names.{items_of};
 ghost use Rattle.mw_print.specs.Printing as spec;
 ghost use Rattle.mw_print.specs.Printing.{printed, printed_all, mixfix_text};
-ghost use Rattle.mw_print.specs.Tokens.{Token, token, opening};
+ghost use Rattle.mw_print.specs.Tokens.{Token};
 ghost use Rattle.mw_print.specs.Writing.{written};
 
 use crate::names::{Item, first_item, has_hole, holes};
@@ -168,19 +167,54 @@ fn print_list(
 {
     let mut rest = args;
     while let [arg, behind @ ..] = rest {
-        match arg.shape() {
-            Shape::Op(operator, inner)
-                if assoc && *operator == number && behind.is_empty() && !inner.is_empty() => {
-                print_list(alloc, signature, number, assoc, inner.as_slice(), writer)?;
-            }
-            _ => print(alloc, signature, arg, writer)?,
+        if behind.is_empty() {
+            return print_last(alloc, signature, number, assoc, arg, writer);
         }
-        if !behind.is_empty() {
-            writer.token(b",")?;
-        }
+        print(alloc, signature, arg, writer)?;
+        writer.token(b",")?;
         rest = behind;
     }
     Ok(())
+}
+
+/// Writes the last argument.
+#[cycle(print)]
+fn print_last(
+    alloc: Global,
+    signature: &Signature,
+    number: OpId,
+    assoc: bool,
+    arg: &Term,
+    writer: &mut Writer,
+) -> Result<(), AllocError>
+    requires { assoc ≡ is_assoc signature.now number }
+    ensures { OnOk result ((ts : List Token) → written writer.new ts ≡ written writer.old
+        (spec.divided (spec.arguments_of assoc number (printed signature.now arg.now ∷ [])) ++ ts)) }
+{
+    if !assoc {
+        return print(alloc, signature, arg, writer);
+    }
+    match own_args(number, arg) {
+        Some(inner) => print_list(alloc, signature, number, assoc, inner, writer),
+        None => print(alloc, signature, arg, writer),
+    }
+}
+
+/// The arguments of a term with this operator on top, where there are any.
+fn own_args(number: OpId, term: &Term) -> Option<&[Term]>
+    ensures some { IfSome result (λ args. (term.now ≡ logic.apply number (terms_of args.now)) × (0 < length args.now)) }
+    ensures none { IfNone result ((sig : SignatureOf) → spec.spread number (printed sig term.now) ≡ (printed sig term.now).tokens ∷ []) }
+{
+    let Shape::Op(operator, args) = term.shape() else {
+        return None;
+    };
+    if *operator != number {
+        return None;
+    }
+    if args.is_empty() {
+        return None;
+    }
+    Some(args.as_slice())
 }
 
 /// The operator of a number, from 1.

@@ -1,5 +1,5 @@
 // A text to which tokens are written one after another.
-ghost use Rattle.std.specs.Prelude.{◌≡◌, ◌∷◌, List, [], OnOk};
+ghost use Rattle.std.specs.Prelude.{◌≡◌, ◌∷◌, ◌++◌, List, [], OnOk};
 ghost use Rattle.mw_print.specs.Tokens as tokens;
 ghost use Rattle.mw_print.specs.Tokens.{Token, token, opening, spaced};
 ghost use Rattle.mw_print.specs.Writing as writing;
@@ -77,12 +77,18 @@ impl Writer {
         }
     }
 
-    /// Whether a token, which may stand right behind the one before it, has a space before it.
-    fn is_apart(&self, near: bool) -> bool {
+    /// Writes the space before a token, where there is one; `near` tells whether it may stand right behind the one
+    /// before it.
+    fn space(&mut self, near: bool) -> Result<(), AllocError>
+        ensures { OnOk result (self.new.text.items ≡ self.old.text.items ++ writing.space self.old.end near) }
+    {
         match self.end {
-            End::Empty | End::Opened => false,
-            End::Quoted => true,
-            End::Plain => !near,
+            End::Empty | End::Opened => Ok(()),
+            End::Plain if near => Ok(()),
+            _ => {
+                self.text.push(b' ')?;
+                Ok(())
+            }
         }
     }
 
@@ -90,9 +96,7 @@ impl Writer {
     pub fn token(&mut self, token: &[u8]) -> Result<(), AllocError>
         ensures { OnOk result ((ts : List Token) → written self.new ts ≡ written self.old (tokens.token token.now ∷ ts)) }
     {
-        if self.is_apart(closes(token)) {
-            self.text.push(b' ')?;
-        }
+        self.space(closes(token))?;
         self.text.extend_from_slice(token)?;
         self.end = end_of(token);
         Ok(())
@@ -102,9 +106,7 @@ impl Writer {
     pub fn open(&mut self) -> Result<(), AllocError>
         ensures { OnOk result ((ts : List Token) → written self.new ts ≡ written self.old (opening ∷ ts)) }
     {
-        if self.is_apart(true) {
-            self.text.push(b' ')?;
-        }
+        self.space(true)?;
         self.text.push(b'(')?;
         self.end = End::Opened;
         Ok(())

@@ -1,0 +1,3 @@
+-- Laws of names and of texts.
+pub mod Behind
+pub mod Items
