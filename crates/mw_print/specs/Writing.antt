@@ -1,5 +1,5 @@
 -- A text to which tokens are written one after another.
-use Rattle.std.specs.Prelude.{List, [], ◌∷◌, ◌++◌, ℕ, Bool, codes, if◌then◌else◌}
+use Rattle.std.specs.Prelude.{◌≡◌, List, [], ◌∷◌, ◌++◌, ℕ, Bool, codes, if◌then◌else◌}
 use Rattle.mw_print.specs.Tokens.{Token, is_near, opens, ends_in_backquote, spaced}
 use Rattle.mw_print.specs.declared.writer.End.{End}
 use Rattle.mw_print.specs.declared.writer.End.TheVariants.{Empty, Opened, Quoted, Plain}
@@ -23,3 +23,7 @@ behind end (y ∷ ts) = space end (is_near y) ++ spaced (y ∷ ts)
 -- the text with these tokens behind it
 abbrev pub written : Writer → List Token → List ℕ
 written w ts = w.text.items ++ behind w.end ts
+
+-- these tokens were written
+abbrev pub Writes : Writer → Writer → List Token → Type 0
+Writes old new tokens = (ts : List Token) → written new ts ≡ written old (tokens ++ ts)

@@ -1,5 +1,5 @@
 // Terms as they are printed.
-ghost use Rattle.std.specs.Prelude.{◌≡◌, ◌<◌, ◌∷◌, ◌++◌, List, [], length, map, codes, IfOk, IfSome, IfNone, OnOk, option_map};
+ghost use Rattle.std.specs.Prelude.{◌≡◌, ◌<◌, ◌∷◌, ◌++◌, [], length, map, codes, IfOk, IfSome, IfNone, OnOk, option_map};
 ghost use Rattle.mw_logic.specs.Signature.{Signature as SignatureOf, at_number};
 ghost use Rattle.mw_logic.specs.Parts.{is_assoc};
 ghost use Rattle.mw_logic.specs.Term as logic;
@@ -8,8 +8,7 @@ ghost use Rattle.mw_term.specs.Signatures.{gather_of};
 ghost use Rattle.mw_text.specs.Names.{items_of};
 ghost use Rattle.mw_print.specs.Printing as spec;
 ghost use Rattle.mw_print.specs.Printing.{printed, printed_all, mixfix_text};
-ghost use Rattle.mw_print.specs.Tokens.{Token};
-ghost use Rattle.mw_print.specs.Writing.{written};
+ghost use Rattle.mw_print.specs.Writing.{Writes};
 
 use crate::names::{Item, first_item, has_hole, holes};
 use crate::writer::Writer;
@@ -33,7 +32,7 @@ fn print(
     term: &Term,
     writer: &mut Writer,
 ) -> Result<(), AllocError>
-    ensures { OnOk result ((ts : List Token) → written writer.new ts ≡ written writer.old ((printed signature.now term.now).tokens ++ ts)) }
+    ensures { OnOk result (Writes writer.old writer.new ((printed signature.now term.now).tokens)) }
 {
     match term.shape() {
         Shape::Nat(number) => {
@@ -63,7 +62,7 @@ fn print_operator(
     args: &[Term],
     writer: &mut Writer,
 ) -> Result<(), AllocError>
-    ensures { OnOk result ((ts : List Token) → written writer.new ts ≡ written writer.old ((printed signature.now (logic.apply number (terms_of args.now))).tokens ++ ts)) }
+    ensures { OnOk result (Writes writer.old writer.new ((printed signature.now (logic.apply number (terms_of args.now))).tokens)) }
 {
     match operator_at(signature, number) {
         Some(operator) => {
@@ -87,8 +86,7 @@ fn print_mixfix(
     args: &[Term],
     writer: &mut Writer,
 ) -> Result<(), AllocError>
-    ensures { OnOk result ((ts : List Token) → written writer.new ts ≡ written writer.old
-        (spec.in_holes operator.now.prec (items_of operator.now.spelling) operator.now.gather (printed_all signature.now (terms_of args.now)) ++ ts)) }
+    ensures { OnOk result (Writes writer.old writer.new (spec.in_holes operator.now.prec (items_of operator.now.spelling) operator.now.gather (printed_all signature.now (terms_of args.now)))) }
 {
     let mut name = operator.spelling.as_slice();
     let mut gather = operator.gather.as_slice();
@@ -119,7 +117,7 @@ fn print_in_hole(
     arg: &Term,
     writer: &mut Writer,
 ) -> Result<(), AllocError>
-    ensures { OnOk result ((ts : List Token) → written writer.new ts ≡ written writer.old (spec.in_hole (gather_of mark) prec (printed signature.now arg.now) ++ ts)) }
+    ensures { OnOk result (Writes writer.old writer.new (spec.in_hole (gather_of mark) prec (printed signature.now arg.now))) }
 {
     if takes(mark, prec, precedence(signature, arg)) {
         return print(alloc, signature, arg, writer);
@@ -140,8 +138,7 @@ fn print_args(
     writer: &mut Writer,
 ) -> Result<(), AllocError>
     requires { assoc ≡ is_assoc signature.now number }
-    ensures { OnOk result ((ts : List Token) → written writer.new ts ≡ written writer.old
-        (spec.called [] (spec.arguments_of assoc number (printed_all signature.now (terms_of args.now))) ++ ts)) }
+    ensures { OnOk result (Writes writer.old writer.new (spec.called [] (spec.arguments_of assoc number (printed_all signature.now (terms_of args.now))))) }
 {
     if args.is_empty() {
         return Ok(());
@@ -162,8 +159,7 @@ fn print_list(
     writer: &mut Writer,
 ) -> Result<(), AllocError>
     requires { assoc ≡ is_assoc signature.now number }
-    ensures { OnOk result ((ts : List Token) → written writer.new ts ≡ written writer.old
-        (spec.divided (spec.arguments_of assoc number (printed_all signature.now (terms_of args.now))) ++ ts)) }
+    ensures { OnOk result (Writes writer.old writer.new (spec.divided (spec.arguments_of assoc number (printed_all signature.now (terms_of args.now))))) }
 {
     let mut rest = args;
     while let [arg, behind @ ..] = rest {
@@ -188,8 +184,7 @@ fn print_last(
     writer: &mut Writer,
 ) -> Result<(), AllocError>
     requires { assoc ≡ is_assoc signature.now number }
-    ensures { OnOk result ((ts : List Token) → written writer.new ts ≡ written writer.old
-        (spec.divided (spec.arguments_of assoc number (printed signature.now arg.now ∷ [])) ++ ts)) }
+    ensures { OnOk result (Writes writer.old writer.new (spec.divided (spec.arguments_of assoc number (printed signature.now arg.now ∷ [])))) }
 {
     if !assoc {
         return print(alloc, signature, arg, writer);
@@ -277,7 +272,7 @@ fn precedence(signature: &Signature, term: &Term) -> u32
 
 /// Writes what stands before the arguments of a prefix form.
 fn print_head(operator: &Operator, writer: &mut Writer) -> Result<(), AllocError>
-    ensures { OnOk result ((ts : List Token) → written writer.new ts ≡ written writer.old (spec.head operator.now ++ ts)) }
+    ensures { OnOk result (Writes writer.old writer.new (spec.head operator.now)) }
 {
     let spelling = operator.spelling.as_slice();
     if has_hole(spelling) {

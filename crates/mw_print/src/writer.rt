@@ -1,9 +1,9 @@
 // A text to which tokens are written one after another.
 ghost use Rattle.std.specs.Prelude.{◌≡◌, ◌∷◌, ◌++◌, List, [], OnOk};
 ghost use Rattle.mw_print.specs.Tokens as tokens;
-ghost use Rattle.mw_print.specs.Tokens.{Token, token, opening, spaced};
+ghost use Rattle.mw_print.specs.Tokens.{Token, opening, spaced};
 ghost use Rattle.mw_print.specs.Writing as writing;
-ghost use Rattle.mw_print.specs.Writing.{written};
+ghost use Rattle.mw_print.specs.Writing.{written, Writes};
 
 use std::alloc::{AllocError, Global};
 
@@ -94,7 +94,7 @@ impl Writer {
 
     /// Writes a token.
     pub fn token(&mut self, token: &[u8]) -> Result<(), AllocError>
-        ensures { OnOk result ((ts : List Token) → written self.new ts ≡ written self.old (tokens.token token.now ∷ ts)) }
+        ensures { OnOk result (Writes self.old self.new (tokens.token token.now ∷ [])) }
     {
         self.space(closes(token))?;
         self.text.extend_from_slice(token)?;
@@ -104,7 +104,7 @@ impl Writer {
 
     /// Writes the parenthesis of a prefix form.
     pub fn open(&mut self) -> Result<(), AllocError>
-        ensures { OnOk result ((ts : List Token) → written self.new ts ≡ written self.old (opening ∷ ts)) }
+        ensures { OnOk result (Writes self.old self.new (opening ∷ [])) }
     {
         self.space(true)?;
         self.text.push(b'(')?;
