@@ -40,7 +40,7 @@ arguments_some true f a [] = spread_some f a
 arguments_some false f a [] = omega arith
 arguments_some assoc f a (b ∷ ps) = omega arith
 
-divided_more : (x : List Token) (ys : List (List Token)) → 0 < length ys → divided (x ∷ ys) ≡ x ++ token (codes ",") ∷ divided ys
+pub divided_more : (x : List Token) (ys : List (List Token)) → 0 < length ys → divided (x ∷ ys) ≡ x ++ token (codes ",") ∷ divided ys
 divided_more x [] h = absurd (omega arith)
 divided_more x (y ∷ ys) h = refl
 
@@ -50,9 +50,9 @@ pub list_more : (assoc : Bool) (f : ℕ) (a b : Printed) (ps : List Printed)
 list_more assoc f a b ps = divided_more a.tokens (arguments_of assoc f (b ∷ ps)) (arguments_some assoc f b ps)
 
 -- arguments in parentheses
-pub called_some : (xs : List (List Token)) → 0 < length xs → called [] xs ≡ opening ∷ divided xs ++ token (codes ")") ∷ []
-called_some [] h = absurd (omega arith)
-called_some (x ∷ xs) h = refl
+pub called_some : (head : List Token) (xs : List (List Token)) → 0 < length xs → called head xs ≡ head ++ opening ∷ divided xs ++ token (codes ")") ∷ []
+called_some head [] h = absurd (omega arith)
+called_some head (x ∷ xs) h = refl
 
 pub called_head : (head : List Token) (xs : List (List Token)) → called head xs ≡ head ++ called [] xs
 called_head head [] = sym (append-nil head)

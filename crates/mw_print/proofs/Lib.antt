@@ -3,3 +3,4 @@ pub mod Behind
 pub mod Items
 pub mod Forms
 pub mod Lists
+pub mod Spelled

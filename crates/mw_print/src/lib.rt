@@ -1,10 +1,12 @@
 //! Terms as texts, in mixfix form.
 #![tactic(auto)]
 
+mod laws;
 mod names;
 mod printing;
 mod writer;
 
+pub use laws::printed_spells;
 pub use printing::mixfix;
 
 #[cfg(test)]

@@ -16,7 +16,7 @@ print_args-returns t c =
     let listed = arguments_of c.args.assoc c.args.number (printed_all sig (terms_of ts)) in
     let some = listed_some sig c.args.assoc c.args.number ts (sym c.is_empty.ensures ∙ c.if-is_empty.false) in
     let before = writes_both u c.open.new.self v (opening ∷ []) (divided listed) c.in_ok-open.ensures c.in_ok-print_list.ensures in
-    rw (called_some listed some) (on_ok_weaker c.token.result (writes_both u v c.token.new.self (opening ∷ divided listed) (token (codes ")") ∷ []) before) c.token.ensures)
+    rw (called_some [] listed some) (on_ok_weaker c.token.result (writes_both u v c.token.new.self (opening ∷ divided listed) (token (codes ")") ∷ []) before) c.token.ensures)
 
 pub print_last-returns-in-Some : goal.print_last-returns-in-Some
 print_last-returns-in-Some t c =
