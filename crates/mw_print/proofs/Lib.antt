@@ -4,3 +4,6 @@ pub mod Items
 pub mod Forms
 pub mod Lists
 pub mod Spelled
+pub mod Bytes
+pub mod Runs
+pub mod Lexed

@@ -1,10 +1,13 @@
 -- What is printed can be read.
-use Rattle.std.specs.Prelude.{◌≡◌, ℕ, List, length, IsTrue, ⊤}
+use Rattle.std.specs.Prelude.{◌≡◌, ◌≢◌, ◌⊎◌, ℕ, List, [], ◌∷◌, map, length, All, IsTrue, IsFalse, Ok, ⊤}
+use Rattle.mw_lex.specs.Bytes.{is_punctuation}
+use Rattle.mw_lex.specs.Pieces.{run_len, opens_comment}
+use Rattle.mw_lex.specs.Lexing.{Seen, tokens_of}
 use Rattle.mw_logic.specs.Term.{Variable, RawTerm, numeral, quoted, variable, apply, RawTerms, nil, cons}
 use Rattle.mw_logic.specs.Signature.{Signature, Operator, IsOperator, IsSortNamed, IsRawTerm}
 use Rattle.mw_text.specs.Mixfix.{Spells, IsVariableName}
 use Rattle.mw_print.specs.Tokens.{texts}
-use Rattle.mw_print.specs.Printing.{printed}
+use Rattle.mw_print.specs.Printing.{printed, mixfix_text}
 
 -- an associative operator has two arguments
 abbrev pub AreBinary : Signature → Type 0
@@ -26,3 +29,24 @@ abbrev mutual
 abbrev pub PrintedSpells : Type 0
 PrintedSpells = (sig : Signature) (variables : List Variable) (t : RawTerm) → AreBinary sig → IsRawTerm sig t → IsNamed sig t
     → Spells sig variables t (printed sig t).precedence (texts (printed sig t).tokens)
+
+-- A token as the lexer takes it: one of ( ) [ ] { } and the comma, or a run that is read to its end, where no string and no comment begins.
+abbrev pub IsMark : List ℕ → Type 0
+IsMark [] = ⊥
+IsMark (b ∷ []) = IsTrue (is_punctuation b)
+IsMark (b ∷ c ∷ x) = ⊥
+
+abbrev pub IsRun : List ℕ → Type 0
+IsRun [] = ⊥
+IsRun (b ∷ x) = (run_len (b ∷ x) ≡ length (b ∷ x)) × (b ≢ 34) × IsFalse (opens_comment (b ∷ x))
+
+abbrev pub IsProper : List ℕ → Type 0
+IsProper x = IsMark x ⊎ IsRun x
+
+-- the text has these tokens
+abbrev pub HasTokens : List ℕ → List (List ℕ) → Type 0
+HasTokens text tokens = (found : List Seen) × (tokens_of text ≡ Ok found) × (map (λ (t : Seen). t.text) found ≡ tokens)
+
+-- The tokens of a term's text are those that were printed, where each of these is proper.
+abbrev pub PrintedLexes : Type 0
+PrintedLexes = (sig : Signature) (t : RawTerm) → All IsProper (texts (printed sig t).tokens) → HasTokens (mixfix_text sig t) (texts (printed sig t).tokens)

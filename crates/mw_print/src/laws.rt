@@ -1,8 +1,13 @@
 // What is printed can be read.
-ghost use Rattle.mw_print.specs.Laws.{PrintedSpells};
+ghost use Rattle.mw_print.specs.Laws.{PrintedLexes, PrintedSpells};
 
 /// The tokens of a printed term spell it, where associative operators have two arguments, variables and their sorts
 /// have names, and no numeral and no quoted identifier stands in it.
 pub fn printed_spells()
     ensures { PrintedSpells }
+{}
+
+/// The tokens of a term's text are those that were printed, where each of these is proper: one of the seven, or a run.
+pub fn printed_lexes()
+    ensures { PrintedLexes }
 {}
