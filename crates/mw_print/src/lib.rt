@@ -7,7 +7,7 @@ mod printing;
 mod writer;
 
 pub use laws::{printed_lexes, printed_spells};
-pub use printing::mixfix;
+pub use printing::{mixfix, print_sort};
 
 #[cfg(test)]
 mod tests;

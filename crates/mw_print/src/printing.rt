@@ -303,12 +303,12 @@ fn sorted(alloc: Global, signature: &Signature, variable: &VarId) -> Result<Vec<
 {
     let mut token = variable.name.as_slice().to_vec(alloc)?;
     token.push(b':')?;
-    push_sort(signature, variable.sort, &mut token)?;
+    print_sort(signature, variable.sort, &mut token)?;
     Ok(token)
 }
 
 /// Writes a sort's name behind a text.
-fn push_sort(signature: &Signature, sort: SortId, text: &mut Vec<u8>) -> Result<(), AllocError>
+pub fn print_sort(signature: &Signature, sort: SortId, text: &mut Vec<u8>) -> Result<(), AllocError>
     ensures { OnOk result (text.new.items ≡ text.old.items ++ spec.sort_name signature.now sort) }
 {
     if sort == 0 {
