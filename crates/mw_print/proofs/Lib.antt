@@ -7,3 +7,5 @@ pub mod Spelled
 pub mod Bytes
 pub mod Runs
 pub mod Lexed
+pub mod Digits
+pub mod Proper

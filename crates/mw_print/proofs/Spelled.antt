@@ -45,7 +45,7 @@ less_behind most gs h = h
 less_behind any gs h = h
 
 -- what stands for the last argument: its own arguments, or its tokens
-spread_cases : (f : ℕ) (a : Printed) → ((a.operator ≡ f) × (has_arguments a ≡ true) × (spread f a ≡ a.arguments)) ⊎ (spread f a ≡ a.tokens ∷ [])
+pub spread_cases : (f : ℕ) (a : Printed) → ((a.operator ≡ f) × (has_arguments a ≡ true) × (spread f a ≡ a.arguments)) ⊎ (spread f a ≡ a.tokens ∷ [])
 spread_cases f a =
     elim (cases_Bool (a.operator == f && has_arguments a)) [
       | inl e ↦ let both = and_parts (a.operator == f) (has_arguments a) e in inl (eqb-true a.operator f both.0, both.1, rw e refl)

@@ -1,13 +1,14 @@
 -- What is printed can be read.
-use Rattle.std.specs.Prelude.{◌≡◌, ◌≢◌, ◌⊎◌, ℕ, List, [], ◌∷◌, map, length, All, IsTrue, IsFalse, Ok, ⊤}
+use Rattle.std.specs.Prelude.{◌≡◌, ◌≢◌, ◌⊎◌, ◌<◌, ◌^◌, ℕ, List, [], ◌∷◌, ◌++◌, map, length, codes, All, IsTrue, IsFalse, Ok, ⊤}
 use Rattle.mw_lex.specs.Bytes.{is_punctuation}
 use Rattle.mw_lex.specs.Pieces.{run_len, opens_comment}
 use Rattle.mw_lex.specs.Lexing.{Seen, tokens_of}
 use Rattle.mw_logic.specs.Term.{Variable, RawTerm, numeral, quoted, variable, apply, RawTerms, nil, cons}
 use Rattle.mw_logic.specs.Signature.{Signature, Operator, IsOperator, IsSortNamed, IsRawTerm}
+use Rattle.mw_text.specs.Names.{items_of, pieces}
 use Rattle.mw_text.specs.Mixfix.{Spells, IsVariableName}
 use Rattle.mw_print.specs.Tokens.{texts}
-use Rattle.mw_print.specs.Printing.{printed, mixfix_text}
+use Rattle.mw_print.specs.Printing.{printed, sort_name, mixfix_text}
 
 -- an associative operator has two arguments
 abbrev pub AreBinary : Signature → Type 0
@@ -50,3 +51,23 @@ HasTokens text tokens = (found : List Seen) × (tokens_of text ≡ Ok found) × 
 -- The tokens of a term's text are those that were printed, where each of these is proper.
 abbrev pub PrintedLexes : Type 0
 PrintedLexes = (sig : Signature) (t : RawTerm) → All IsProper (texts (printed sig t).tokens) → HasTokens (mixfix_text sig t) (texts (printed sig t).tokens)
+
+-- Each piece of an operator's name is proper, and so is the whole name.
+abbrev pub AreProperNames : Signature → Type 0
+AreProperNames sig = (f : ℕ) (o : Operator) → IsOperator sig f o → IsProper o.spelling × All IsProper (pieces (items_of o.spelling))
+
+-- Numerals are below 2^128; quoted identifiers are proper, and so are variables with their sorts.
+abbrev mutual
+  pub HasProperLeaves : Signature → RawTerm → Type 0
+  HasProperLeaves sig (numeral n) = n < 2 ^ 128
+  HasProperLeaves sig (quoted q) = IsProper (codes "'" ++ q)
+  HasProperLeaves sig (variable x) = IsProper (x.name ++ codes ":" ++ sort_name sig x.sort)
+  HasProperLeaves sig (apply f ts) = HaveProperLeaves sig ts
+
+  pub HaveProperLeaves : Signature → RawTerms → Type 0
+  HaveProperLeaves sig nil = ⊤
+  HaveProperLeaves sig (cons t ts) = HasProperLeaves sig t × HaveProperLeaves sig ts
+
+-- The printed tokens are proper.
+abbrev pub PrintedProper : Type 0
+PrintedProper = (sig : Signature) (t : RawTerm) → AreProperNames sig → HasProperLeaves sig t → All IsProper (texts (printed sig t).tokens)

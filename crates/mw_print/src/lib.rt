@@ -6,7 +6,7 @@ mod names;
 mod printing;
 mod writer;
 
-pub use laws::{printed_lexes, printed_spells};
+pub use laws::{printed_lexes, printed_proper, printed_spells};
 pub use printing::{mixfix, print_sort};
 
 #[cfg(test)]
