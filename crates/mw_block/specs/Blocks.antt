@@ -3,7 +3,7 @@ use Rattle.std.specs.Prelude.{◌++◌, ℕ, List, [], ◌∷◌, codes}
 use Rattle.std.specs.Fmt.{decimal}
 use Rattle.mw_logic.specs.Term.{RawTerm}
 use Rattle.mw_logic.specs.Signature.{Signature}
-use Rattle.mw_block.specs.Printing.{printed, sort_name}
+use Rattle.mw_print.specs.Printing.{mixfix_text, sort_name}
 
 -- how a reduction ended, in a word
 pub data Word : Type 0 where
@@ -21,7 +21,7 @@ line text = text ++ 10 ∷ []
 
 -- the command by its word, with its module and its term
 abbrev pub echo_line : List ℕ → Signature → List ℕ → RawTerm → List ℕ
-echo_line command sig name from = line (command ++ codes " in " ++ name ++ codes " : " ++ printed sig from ++ codes " .")
+echo_line command sig name from = line (command ++ codes " in " ++ name ++ codes " : " ++ mixfix_text sig from ++ codes " .")
 
 -- how many replacements were made
 abbrev pub count_line : ℕ → List ℕ
@@ -29,7 +29,7 @@ count_line count = line (codes "rewrites: " ++ decimal count)
 
 -- the result, with its sort
 abbrev pub result_line : Signature → ℕ → RawTerm → List ℕ
-result_line sig S to = line (codes "result " ++ sort_name sig S ++ codes ": " ++ printed sig to)
+result_line sig S to = line (codes "result " ++ sort_name sig S ++ codes ": " ++ mixfix_text sig to)
 
 -- how the reduction ended
 abbrev pub status_line : Word → List ℕ

@@ -1,5 +1,4 @@
 -- What is written for a command, and for a unit that is refused.
-pub mod Printing
 pub mod Blocks
 pub mod Refused
 pub mod Seen

@@ -3,7 +3,8 @@ ghost use Rattle.std.specs.Prelude.{◌≡◌, ◌++◌, IfOk, OnOk};
 ghost use Rattle.mw_block.specs.Blocks.{block, count_line, echo_line, parsed_block, result_line, sort_line, status_line, word_text};
 ghost use Rattle.mw_block.specs.Seen.{word_of};
 
-use crate::printing::{print, print_number, print_sort};
+use crate::printing::{print, print_number};
+use mw_print::print_sort;
 use mw_term::{Name, Signature, SortId, Term};
 use std::alloc::{AllocError, Global};
 

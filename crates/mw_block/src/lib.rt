@@ -6,5 +6,4 @@ mod printing;
 mod refused;
 
 pub use blocks::{Reached, Status, parsed, reduction};
-pub use printing::print;
 pub use refused::refusal;

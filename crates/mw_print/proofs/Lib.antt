@@ -1,0 +1,11 @@
+-- Laws of names and of texts.
+pub mod Behind
+pub mod Items
+pub mod Forms
+pub mod Lists
+pub mod Spelled
+pub mod Bytes
+pub mod Runs
+pub mod Lexed
+pub mod Digits
+pub mod Proper

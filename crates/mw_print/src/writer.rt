@@ -1,0 +1,122 @@
+// A text to which tokens are written one after another.
+ghost use Rattle.std.specs.Prelude.{◌≡◌, ◌∷◌, ◌++◌, List, [], OnOk};
+ghost use Rattle.mw_print.specs.Tokens as tokens;
+ghost use Rattle.mw_print.specs.Tokens.{Token, opening, spaced};
+ghost use Rattle.mw_print.specs.Writing as writing;
+ghost use Rattle.mw_print.specs.Writing.{written, Writes};
+
+use std::alloc::{AllocError, Global};
+
+/// How a text ends, as it matters to the token behind it.
+#[derive(Clone, Copy)]
+pub enum End {
+    /// It has no token.
+    Empty,
+    /// In `(`, `[` or `{`.
+    Opened,
+    /// In a backquote.
+    Quoted,
+    Plain,
+}
+
+/// A text, to which tokens are written.
+#[derive(Drop)]
+pub struct Writer {
+    text: Vec<u8>,
+    end: End,
+}
+
+fn opens(token: &[u8]) -> bool
+    ensures { result ≡ tokens.opens token.now }
+{
+    match token {
+        [byte] => *byte == b'(' || *byte == b'[' || *byte == b'{',
+        _ => false,
+    }
+}
+
+fn closes(token: &[u8]) -> bool
+    ensures { result ≡ tokens.closes token.now }
+{
+    match token {
+        [byte] => *byte == b',' || *byte == b')' || *byte == b']' || *byte == b'}',
+        _ => false,
+    }
+}
+
+fn ends_in_backquote(token: &[u8]) -> bool
+    ensures { result ≡ tokens.ends_in_backquote token.now }
+{
+    match token {
+        [.., last] => *last == b'`',
+        [] => false,
+    }
+}
+
+/// How a text ends whose last token this is.
+fn end_of(token: &[u8]) -> End
+    ensures { result ≡ writing.end_of token.now }
+{
+    if ends_in_backquote(token) {
+        End::Quoted
+    } else if opens(token) {
+        End::Opened
+    } else {
+        End::Plain
+    }
+}
+
+impl Writer {
+    /// A text without tokens.
+    pub fn new(alloc: Global) -> Writer
+        ensures { (ts : List Token) → written result ts ≡ spaced ts }
+    {
+        Writer {
+            text: Vec::new(alloc),
+            end: End::Empty,
+        }
+    }
+
+    /// Writes the space before a token, where there is one; `near` tells whether it may stand right behind the one
+    /// before it.
+    fn space(&mut self, near: bool) -> Result<(), AllocError>
+        ensures { OnOk result (self.new.text.items ≡ self.old.text.items ++ writing.space self.old.end near) }
+    {
+        match self.end {
+            End::Empty | End::Opened => Ok(()),
+            End::Plain if near => Ok(()),
+            _ => {
+                self.text.push(b' ')?;
+                Ok(())
+            }
+        }
+    }
+
+    /// Writes a token.
+    pub fn token(&mut self, token: &[u8]) -> Result<(), AllocError>
+        ensures { OnOk result (Writes self.old self.new (tokens.token token.now ∷ [])) }
+    {
+        self.space(closes(token))?;
+        self.text.extend_from_slice(token)?;
+        self.end = end_of(token);
+        Ok(())
+    }
+
+    /// Writes the parenthesis of a prefix form.
+    pub fn open(&mut self) -> Result<(), AllocError>
+        ensures { OnOk result (Writes self.old self.new (opening ∷ [])) }
+    {
+        self.space(true)?;
+        self.text.push(b'(')?;
+        self.end = End::Opened;
+        Ok(())
+    }
+
+    /// The text. It takes no memory.
+    pub fn into_text(self) -> Vec<u8>
+        ensures { result.items ≡ written self [] }
+    {
+        let Writer { text, end: _ } = self;
+        text
+    }
+}
