@@ -1,8 +1,8 @@
 -- One token more.
-use Rattle.std.proofs.Common.{◌≡◌, ◌+◌, ◌-◌, ◌==◌, ◌||◌, ℕ, suc, Bool, true, false, List, [], ◌∷◌, ◌++◌, length, get_or, refl, ap, append_assoc, arith}
+use Rattle.std.proofs.Common.{◌≡◌, ◌-◌, ◌==◌, ◌||◌, ℕ, suc, Bool, true, false, List, [], ◌∷◌, ◌++◌, length, get_or, refl, append_assoc, arith}
 use Rattle.std.proofs.lemmas.List.{append-nil}
 use Rattle.std.specs.Prelude.{codes, if◌then◌else◌}
-use Rattle.mw_print.specs.Tokens.{Token, text_of, is_near, opens, ends_in_backquote, spaced}
+use Rattle.mw_print.specs.Tokens.{Token, text_of, is_near, opens, ends_in_backquote}
 use Rattle.mw_print.specs.declared.writer.End.TheVariants.{Quoted, Opened, Plain}
 use Rattle.mw_print.specs.declared.writer.End.{End}
 use Rattle.mw_print.specs.declared.writer.Writer.{Writer}

@@ -1,7 +1,7 @@
 -- Bytes that begin tokens, and bytes that end them.
-use Rattle.std.proofs.Common.{◌≡◌, ◌≢◌, ◌<◌, ◌≤◌, ◌==◌, ◌&&◌, ◌||◌, inl, inr, ℕ, Bool, true, false, List, [], ◌∷◌, subst, sym, refl, arith}
-use Rattle.std.specs.Prelude.{not, nat_le, IsFalse}
-use Rattle.std.proofs.lemmas.Bool.{or_cases, and_parts, not-true, eqb-true, ne_eqb, leb-true, lt-leb, true≢false, or_from, and_right, or_parts}
+use Rattle.std.proofs.Common.{◌≡◌, ◌≤◌, ◌==◌, ◌&&◌, inl, inr, ℕ, true, false, List, [], ◌∷◌, subst, sym, refl, arith}
+use Rattle.std.specs.Prelude.{not, nat_le}
+use Rattle.std.proofs.lemmas.Bool.{or_cases, and_parts, not-true, eqb-true, ne_eqb, leb-true, lt-leb, or_from, and_right}
 use Rattle.mw_lex.specs.Bytes.{is_punctuation, is_run_byte, is_visible, is_blank}
 use Rattle.mw_lex.specs.Pieces.{opens_comment}
 

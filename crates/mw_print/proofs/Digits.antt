@@ -1,12 +1,12 @@
 -- A numeral is a proper token.
-use Rattle.std.proofs.Common.{◌≡◌, ◌<◌, ◌≤◌, ◌+◌, ◌%◌, ◌^◌, ◌==◌, inl, inr, ℕ, true, false, List, [], ◌∷◌, ◌++◌, length, arith, refl, lit<}
+use Rattle.std.proofs.Common.{◌≡◌, ◌<◌, ◌≤◌, ◌+◌, ◌%◌, ◌^◌, ◌==◌, inl, inr, ℕ, true, false, List, [], ◌∷◌, ◌++◌, length, arith, refl}
 use Rattle.std.specs.Prelude.{⊤}
 use Rattle.std.specs.Fmt.{decimal}
 use Rattle.std.proofs.lemmas.Fmt.{decimal_by_steps_wide}
 use Rattle.std.proofs.lemmas.Bool.{cases_Bool, ne_eqb, le-leb, and_from}
 use Rattle.mw_lex.specs.Bytes.{is_punctuation, is_run_byte}
 use Rattle.mw_lex.specs.Pieces.{run_len}
-use Rattle.mw_print.specs.Laws.{IsRun, IsProper}
+use Rattle.mw_print.specs.Laws.{IsProper}
 use Rattle.mw_print.proofs.Bytes.{seven, no_comment}
 
 abbrev IsDigit : ℕ → Type 0

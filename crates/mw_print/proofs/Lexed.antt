@@ -1,13 +1,12 @@
 -- The tokens of a text are those that were written.
-use Rattle.std.proofs.Common.{◌≡◌, ◌≢◌, ◌∙◌, ◌⊎◌, ◌+◌, ◌-◌, ◌==◌, ◌||◌, inl, inr, ℕ, zero, suc, Bool, true, false, List, [], ◌∷◌, ◌++◌, map, length, take, Ok, refl, sym, ap, append_assoc, arith, add-zero}
-use Rattle.std.specs.Prelude.{All, codes, if◌then◌else◌, ⊤}
+use Rattle.std.proofs.Common.{◌≡◌, ◌∙◌, ◌+◌, ◌-◌, ◌==◌, ◌||◌, inl, inr, ℕ, suc, true, false, List, [], ◌∷◌, ◌++◌, map, length, take, Ok, refl, sym, ap, append_assoc, arith, add-zero}
+use Rattle.std.specs.Prelude.{All}
 use Rattle.std.proofs.lemmas.Bool.{cases_Bool, true≢false, ne_eqb, eqb-true, or_cases}
 use Rattle.std.proofs.lemmas.List.{append-nil, take_at}
 use Rattle.std.proofs.lemmas.List.Elements.{All-head, All-tail}
-use Rattle.mw_lex.specs.Bytes.{is_punctuation, is_run_byte, is_blank, is_visible}
-use Rattle.mw_lex.specs.Pieces.{run_len, opens_comment, piece_of, word_piece}
+use Rattle.mw_lex.specs.Bytes.{is_punctuation, is_run_byte}
+use Rattle.mw_lex.specs.Pieces.{run_len, opens_comment, piece_of}
 use Rattle.mw_lex.specs.Lexing.{Seen, Lexed, with_front, token_at, meaning, lexed, line_after, line_behind}
-use Rattle.mw_lex.specs.declared.pieces.Piece.{Piece}
 use Rattle.mw_lex.specs.declared.pieces.Piece.TheVariants as piece
 use Rattle.mw_print.specs.Tokens.{Token, token, opening, text_of, texts, opens, closes, ends_in_backquote, is_near, gap, spaced}
 use Rattle.mw_print.specs.Laws.{IsRun, IsProper, PrintedLexes}

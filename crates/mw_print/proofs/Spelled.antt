@@ -1,10 +1,10 @@
 -- The tokens of a printed term spell it.
-use Rattle.std.proofs.Common.{◌≡◌, ◌≢◌, ◌∙◌, ◌⊎◌, ◌<◌, ◌≤◌, ◌==◌, ◌&&◌, inl, inr, ℕ, zero, suc, Bool, true, false, List, [], ◌∷◌, ◌++◌, map, length, Some, refl, sym, ap, subst, append_assoc, arith}
-use Rattle.std.specs.Prelude.{IsTrue, IsFalse, not, codes, unwrap_or, option_map, if◌then◌else◌}
+use Rattle.std.proofs.Common.{◌≡◌, ◌∙◌, ◌⊎◌, ◌<◌, ◌==◌, ◌&&◌, inl, inr, ℕ, zero, suc, Bool, true, false, List, [], ◌∷◌, ◌++◌, map, length, Some, refl, sym, ap, append_assoc, arith}
+use Rattle.std.specs.Prelude.{IsTrue, not, codes}
 use Rattle.std.proofs.lemmas.Bool.{cases_Bool, and_parts, true≢false, ltb-true, leb-true, eqb-true, eq-eqb}
 use Rattle.std.proofs.lemmas.List.{map-append}
-use Rattle.mw_logic.specs.Term.{Variable, RawTerm, numeral, quoted, variable, apply, RawTerms, nil, cons}
-use Rattle.mw_logic.specs.Signature.{Signature, Operator, Gather, less, most, any, IsOperator, Member, IsSortNamed, HasKind, IsRawTerm, a_numeral, a_quoted, a_variable, an_operator, AreRawTerms, end, next, at_number}
+use Rattle.mw_logic.specs.Term.{Variable, RawTerm, apply, RawTerms, nil, cons}
+use Rattle.mw_logic.specs.Signature.{Signature, Operator, Gather, less, most, any, IsOperator, Member, HasKind, IsRawTerm, a_numeral, a_quoted, a_variable, an_operator, AreRawTerms, end, next}
 use Rattle.mw_logic.specs.Parts.{is_assoc}
 use Rattle.mw_text.specs.Names.{Item, piece, hole, items_of, has_hole, pieces}
 use Rattle.mw_text.specs.Mixfix.{IsTaken, IsHead, Spells, with_sort, grouped, a_constant, prefixed, flattened, mixfix, SpellsArguments, last, more, SpellsNested, two, another, SpellsItems, no_items, over_piece, over_hole}

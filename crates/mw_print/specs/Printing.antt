@@ -1,5 +1,5 @@
 -- Terms as they are printed, in mixfix form.
-use Rattle.std.specs.Prelude.{ℕ, suc, List, [], ◌∷◌, ◌++◌, map, length, codes, Bool, false, true, ◌==◌, ◌&&◌, ◌||◌, not, nat_lt, nat_le, Option, None, Some, option_map, unwrap_or, if◌then◌else◌}
+use Rattle.std.specs.Prelude.{ℕ, suc, List, [], ◌∷◌, ◌++◌, map, length, codes, Bool, false, true, ◌==◌, ◌&&◌, not, nat_lt, nat_le, Option, None, Some, unwrap_or, if◌then◌else◌}
 use Rattle.std.specs.Fmt.{decimal}
 use Rattle.mw_logic.specs.Term.{RawTerm, numeral, quoted, variable, apply, RawTerms, nil, cons}
 use Rattle.mw_logic.specs.Signature.{Signature, Operator, Gather, less, most, any, at_number}
@@ -7,8 +7,8 @@ use Rattle.mw_logic.specs.Parts.{is_assoc}
 use Rattle.mw_text.specs.Names.{Item, piece, hole, items_of, has_hole, pieces}
 use Rattle.mw_print.specs.Tokens.{Token, token, opening, spaced}
 
--- A term as it is printed: its precedence, and its tokens. Where it is an operator on arguments, these are what is printed in its place as the last
--- argument of the same operator, if that is associative: f(a, f(b, c)) is f(a, b, c).
+-- A term as it is printed: its precedence and its tokens, and the operator on top (0 for none) with the arguments of its prefix form. Where it is the last
+-- argument of the same operator, and that is associative, these arguments are printed in its place: f(a, f(b, c)) is f(a, b, c).
 pub record Printed : Type 0 where
   pub precedence : ℕ
   pub tokens : List Token
@@ -25,14 +25,15 @@ holes [] = 0
 holes (piece x ∷ items) = holes items
 holes (hole ∷ items) = suc (holes items)
 
+-- some hole has the mark `less`
 abbrev pub has_less : List Gather → Bool
 has_less [] = false
 has_less (less ∷ gs) = true
 has_less (most ∷ gs) = has_less gs
 has_less (any ∷ gs) = has_less gs
 
--- The operator on so many arguments is printed in mixfix form: its name has holes, as many as there are arguments and marks. But in a form of precedence 0
--- no text has a precedence that is less.
+-- The operator on so many arguments is printed in mixfix form: its name has holes, as many as there are arguments and marks. In a form of precedence 0 no
+-- text fills a hole with the mark `less`, so such a form isn't used.
 abbrev pub is_mixfix : Operator → ℕ → Bool
 is_mixfix o n = has_hole (items_of o.spelling) && (holes (items_of o.spelling) == n && (length o.gather == n && not (o.prec == 0 && has_less o.gather)))
 
@@ -72,6 +73,7 @@ abbrev pub called : List Token → List (List Token) → List Token
 called head [] = head
 called head (a ∷ args) = head ++ opening ∷ divided (a ∷ args) ++ token (codes ")") ∷ []
 
+-- it is an operator on arguments
 abbrev pub has_arguments : Printed → Bool
 has_arguments a = not (length a.arguments == 0)
 
@@ -91,12 +93,13 @@ precedence_of None n = 0
 precedence_of (Some o) n = if is_mixfix o n then o.prec else 0
 
 abbrev pub tokens_of : Option Operator → List Printed → List (List Token) → List Token
-tokens_of None args arguments = called [] arguments
-tokens_of (Some o) args arguments = if is_mixfix o (length args) then in_holes o.prec (items_of o.spelling) o.gather args else called (head o) arguments
+tokens_of None args listed = called [] listed
+tokens_of (Some o) args listed = if is_mixfix o (length args) then in_holes o.prec (items_of o.spelling) o.gather args else called (head o) listed
 
+-- the operator of this number on arguments
 abbrev pub applied : Signature → ℕ → List Printed → Printed
-applied sig f args = let o = at_number sig.operators f in let arguments = arguments_of (is_assoc sig f) f args in
-    record { precedence = precedence_of o (length args); tokens = tokens_of o args arguments; operator = f; arguments = arguments }
+applied sig f args = let o = at_number sig.operators f in let listed = arguments_of (is_assoc sig f) f args in
+    record { precedence = precedence_of o (length args); tokens = tokens_of o args listed; operator = f; arguments = listed }
 
 -- the name of a sort
 abbrev pub sort_name : Signature → ℕ → List ℕ

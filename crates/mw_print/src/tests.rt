@@ -8,7 +8,7 @@ use std::test::Fail;
 /// a mark for each argument: `e`, `E` or `&`, and `-` where none is declared.
 type Row = (u8, &'static [u8], bool, u32, &'static [u8]);
 
-const ROWS: [Row; 21] = [
+static ROWS: [Row; 21] = [
     (b'z', b"z", false, 0, b""),
     (b's', b"s", false, 0, b"-"),
     (b'f', b"f", false, 0, b"--"),
@@ -33,7 +33,7 @@ const ROWS: [Row; 21] = [
 ];
 
 /// Terms as tests write them, each argument before its operator, and their texts.
-const CASES: [(&[u8], &[u8]); 35] = [
+static CASES: [(&[u8], &[u8]); 35] = [
     (b"z", b"z"),
     (b"zs", b"s(z)"),
     (b"zzsf", b"f(z, s(z))"),
@@ -108,8 +108,8 @@ fn operator(alloc: Global, row: &Row) -> Result<Operator, AllocError> {
 /// The signature of the rows, with the sorts N and N`.
 fn signature(alloc: Global) -> Result<Signature, AllocError> {
     let mut operators = Vec::new(alloc);
-    for row in ROWS {
-        operators.push(operator(alloc, &row)?)?;
+    for row in &ROWS {
+        operators.push(operator(alloc, row)?)?;
     }
     let mut sorts = vec![in alloc; Name::of(b"N".to_vec(alloc)?)]?;
     sorts.push(Name::of(b"N`".to_vec(alloc)?))?;
@@ -167,10 +167,10 @@ fn term(alloc: Global, letters: &[u8]) -> Result<Option<Term>, AllocError> {
 fn terms_are_printed(rt: HostRuntime) -> Result<(), Fail> {
     let alloc = rt.alloc();
     let signature = signature(alloc)?;
-    for (letters, text) in CASES {
+    for (letters, text) in &CASES {
         let term = term(alloc, letters)?.ok_or("a term")?;
         let printed = mixfix(alloc, &signature, &term)?;
-        assert_eq!(rt; printed.as_slice(), text);
+        assert_eq!(rt; printed.as_slice(), *text);
     }
     Ok(())
 }
