@@ -1,3 +1,4 @@
--- What is spelled is a term of the signature; membership in joined lists.
+-- What is spelled is a term of the signature; membership in joined lists; names that are read back.
 pub mod Joined
 pub mod RawTerms
+pub mod Spellings

@@ -4,12 +4,15 @@ use Rattle.mw_logic.specs.Term.{Variable, RawTerm}
 use Rattle.mw_logic.specs.Signature.{Signature, HasKind}
 use Rattle.mw_text.specs.Mixfix.{IsSpelled}
 
--- no X has the property; two different ones have it; this one has it alone
+-- no X has the property; these two have it, and they differ; two different ones have it; this one has it alone
 abbrev pub NoneHas : {X : Type 0} → (X → Type 0) → Type 0
 NoneHas {X} P = (x : X) → P x → ⊥
 
+abbrev pub BothHave : {X : Type 0} → (X → Type 0) → X → X → Type 0
+BothHave P x y = P x × P y × (x ≢ y)
+
 abbrev pub TwoHave : {X : Type 0} → (X → Type 0) → Type 0
-TwoHave {X} P = (x : X) × (y : X) × P x × P y × (x ≢ y)
+TwoHave {X} P = (x : X) × (y : X) × BothHave P x y
 
 abbrev pub OnlyHas : {X : Type 0} → (X → Type 0) → X → Type 0
 OnlyHas {X} P x = P x × ((y : X) → P y → y ≡ x)

@@ -1,0 +1,84 @@
+// Names as pieces and holes.
+ghost use Rattle.std.specs.Prelude.{◌≡◌, ◌≤◌, ◌<◌, ◌∷◌, [], length, true, IfSome, IfNone};
+ghost use Rattle.mw_lex.specs.Bytes.{is_punctuation};
+ghost use Rattle.mw_text.specs.Names.{items_of, SpellingsRead};
+ghost use Rattle.mw_text.specs.Runs.{is_plain as is_plain_byte, run_len as run_length};
+ghost use Rattle.mw_text.specs.Seen.{item_of};
+
+/// A piece of a name, which stands as one token, or a hole, where an argument stands.
+#[derive(Clone, Copy)]
+pub enum Item<'t> {
+    Piece(&'t [u8]),
+    Hole,
+}
+
+/// Whether it is one of the punctuation bytes.
+fn is_mark(byte: u8) -> bool
+    ensures { result ≡ is_punctuation byte }
+{
+    matches!(byte, b'(' | b')' | b'[' | b']' | b'{' | b'}' | b',')
+}
+
+/// Whether a piece goes on with this byte.
+fn is_plain(byte: u8) -> bool
+    ensures { result ≡ is_plain_byte byte }
+{
+    !(byte == b'_' || byte == b'`' || is_mark(byte))
+}
+
+/// How many bytes of the front stand in a piece.
+fn run_len(text: &[u8]) -> usize
+    ensures len { result ≡ run_length text.now }
+    ensures within { result ≤ length text.now }
+{
+    let mut rest = text;
+    let mut len = 0;
+    while let [byte, after @ ..] = rest {
+        if !is_plain(*byte) {
+            return len;
+        }
+        len += 1;
+        rest = after;
+    }
+    len
+}
+
+/// A piece at the front whose bytes are no punctuation, and what stands behind it.
+#[tactic(auto, using(crate::proofs::Spellings::run_first, crate::proofs::Spellings::run_some))]
+fn first_run<'t>(byte: u8, after: &[u8], text: &'t [u8]) -> (Item<'t>, &'t [u8])
+    requires begins { text.now ≡ byte ∷ after.now }
+    requires plain { is_plain_byte byte ≡ true }
+    ensures first { items_of text.entry.now ≡ item_of result.0 ∷ items_of result.1.now }
+    ensures shorter { length result.1.now < length text.entry.now }
+{
+    let (run, rest) = text.split_at(run_len(text));
+    (Item::Piece(run), rest)
+}
+
+#[tactic(auto, using(crate::proofs::Spellings::mark_first))]
+/// The first item of a name's spelling, and the bytes behind it. Backquotes before it are dropped.
+pub fn first_item(text: &[u8]) -> Option<(Item<'_>, &[u8])>
+    ensures first { IfSome result (λ r. items_of text.now ≡ item_of r.0 ∷ items_of r.1.now) }
+    ensures shorter { IfSome result (λ r. length r.1.now < length text.now) }
+    ensures none { IfNone result (items_of text.now ≡ []) }
+{
+    let mut rest = text;
+    while let [byte, after @ ..] = rest {
+        if *byte == b'_' {
+            return Some((Item::Hole, after));
+        }
+        if is_mark(*byte) {
+            return Some((Item::Piece(&rest[..1]), after));
+        }
+        if *byte != b'`' {
+            return Some(first_run(*byte, after, rest));
+        }
+        rest = after;
+    }
+    None
+}
+
+/// The law that a name's prefix spelling reads back as the name.
+pub fn spellings_read()
+    ensures { SpellingsRead }
+{}
