@@ -1,6 +1,9 @@
 -- Units of a source.
 pub mod Words
 pub mod Openings
+pub mod OperatorNames
+pub mod Attributes
+pub mod Equations
 pub mod Forms
 pub mod Kinds
 pub mod Units

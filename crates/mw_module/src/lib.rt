@@ -6,16 +6,23 @@
 //! token, `is`, and statements, each up to the first full stop.
 #![tactic(auto)]
 
+mod attribute;
+mod attribute_list;
+mod equations;
 mod faults;
 mod forms;
 mod kinds;
 mod names;
 mod openings;
+mod operator_names;
+mod operators;
 mod units;
 mod words;
 
+pub use attribute::Attributes;
 pub use faults::{Fault, FaultKind};
 pub use forms::Form;
+pub use operator_names::Names;
 pub use units::{Unit, UnitError, copies, read_unit};
 pub use words::{count_before, is_word, tokens_from};
 
@@ -146,7 +153,41 @@ mod tests {
         Ok(())
     }
 
-    /// The letter of a statement's form and the numbers of tokens of its parts, or its fault's number.
+    /// What attributes say: the precedence, a word for the gather, the marks for a configuration and a clash.
+    fn write_attributes(out: &mut Vec<u8>, attributes: Attributes) -> Result<(), AllocError> {
+        if let Some(precedence) = attributes.precedence {
+            out.push(b'p')?;
+            out.push(b'0' + (precedence / 100 % 10) as u8)?;
+            out.push(b'0' + (precedence / 10 % 10) as u8)?;
+            out.push(b'0' + (precedence % 10) as u8)?;
+        }
+        if let Some(marks) = attributes.gather {
+            out.push(b'g')?;
+            for mark in marks {
+                out.extend_from_slice(mark.text.as_slice())?;
+            }
+        }
+        if attributes.config {
+            out.push(b'c')?;
+        }
+        if attributes.clash {
+            out.push(b'!')?;
+        }
+        Ok(())
+    }
+
+    /// For each name its number of tokens.
+    fn write_names(rt: &impl Abort, out: &mut Vec<u8>, names: Names) -> Result<(), AllocError> {
+        let mut rest = names;
+        while let Some((name, others)) = rest.first() {
+            out.push(digit(rt, name.len()))?;
+            rest = others;
+        }
+        Ok(())
+    }
+
+    /// The letter of a statement's form and the numbers of tokens of its parts, or its fault's number. Behind an
+    /// operator's names stand a colon, the number of arguments, the value's sort and the attributes.
     fn formed(rt: &impl Abort, alloc: Global, statement: &[u8]) -> Result<Vec<u8>, Fail> {
         assert!(rt; statement.len() < 1000);
         let all = tokens(alloc, statement)?;
@@ -161,20 +202,29 @@ mod tests {
                     names,
                     args,
                     result,
+                    attributes,
                 },
             ) => {
                 out.push(b'o')?;
-                out.push(digit(rt, names.len()))?;
+                write_names(rt, &mut out, names)?;
+                out.push(b':')?;
                 out.push(digit(rt, args.len()))?;
                 out.extend_from_slice(result.text.as_slice())?;
+                write_attributes(&mut out, attributes)?;
             }
             Ok(Form::Variables { names, sort }) => {
                 out.push(b'v')?;
                 out.push(digit(rt, names.len()))?;
                 out.extend_from_slice(sort.text.as_slice())?;
             }
-            Ok(Form::Equation { left, right }) => {
-                out.push(b'e')?;
+            Ok(
+                Form::Equation {
+                    left,
+                    right,
+                    executable,
+                },
+            ) => {
+                out.push(if executable { b'e' } else { b'n' })?;
                 out.push(digit(rt, left.len()))?;
                 out.push(digit(rt, right.len()))?;
             }

@@ -1,7 +1,7 @@
 use Rattle.std.proofs.Common.{◌≡◌, ◌+◌, ◌≤◌, length, reverse, option_map}
 use Rattle.mw_lex.specs.Lexing.{seen_all}
-use Rattle.mw_module.specs.Forms.{bracket_len}
-use Rattle.mw_module.proofs.forms.bracket_len.Given as goal
+use Rattle.mw_module.specs.Equations.{bracket_len}
+use Rattle.mw_module.proofs.equations.bracket_len.Given as goal
 
 abbrev pub invariant-loop-rest : goal.invariant-loop-rest
 invariant-loop-rest l = record {

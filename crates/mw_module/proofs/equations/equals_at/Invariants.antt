@@ -1,7 +1,7 @@
 use Rattle.std.proofs.Common.{◌≡◌, ◌+◌, ◌≤◌, length, option_map}
 use Rattle.mw_lex.specs.Lexing.{seen_all}
-use Rattle.mw_module.specs.Forms.{equals_at}
-use Rattle.mw_module.proofs.forms.equals_at.Given as goal
+use Rattle.mw_module.specs.Equations.{equals_at}
+use Rattle.mw_module.proofs.equations.equals_at.Given as goal
 
 abbrev pub invariant-loop-rest : goal.invariant-loop-rest
 invariant-loop-rest l = record {
