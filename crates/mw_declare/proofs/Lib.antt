@@ -1,5 +1,6 @@
--- Laws of names, variables and profiles that tables hold, and of unknown sorts.
+-- Laws of names, variables and operators that tables hold, of marks, and of unknown sorts.
 pub mod Held
 pub mod Typings
-pub mod Profiles
+pub mod Tables
+pub mod Holes
 pub mod Unknown
