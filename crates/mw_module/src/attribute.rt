@@ -80,4 +80,11 @@ impl<'a> Attributes<'a> {
                 || gathers_differ(self.gather, other.gather),
         }
     }
+
+    // Both, in place.
+    pub fn add(&mut self, other: Attributes<'a>)
+        ensures { seen_attributes self.new ≡ joined_attributes (seen_attributes self.old) (seen_attributes other.entry) }
+    {
+        *self = self.joined(other);
+    }
 }

@@ -35,11 +35,8 @@ fn precedence_of(text: &[u8]) -> Option<u32>
         [a, b] if a.is_ascii_digit() && b.is_ascii_digit() && *a != b'0' => {
             10 * (*a - b'0') as u32 + (*b - b'0') as u32
         }
-        [a, b, c]
-            if a.is_ascii_digit() && b.is_ascii_digit() && c.is_ascii_digit() && *a != b'0' =>
-        {
-            100 * (*a - b'0') as u32 + 10 * (*b - b'0') as u32 + (*c - b'0') as u32
-        }
+        [a, b, c] if a.is_ascii_digit() && b.is_ascii_digit() && c.is_ascii_digit() && *a != b'0' =>
+            { 100 * (*a - b'0') as u32 + 10 * (*b - b'0') as u32 + (*c - b'0') as u32 }
         _ => return None,
     };
     if number < 128 { Some(number) } else { None }
@@ -66,9 +63,7 @@ fn prec_attribute<'a>(tokens: &'a [Token]) -> Result<Attribute<'a>, FaultKind>
 fn are_all_marks(tokens: &[Token]) -> bool
     ensures { result ≡ list_all attributes.is_mark (seen_all tokens.now) }
 {
-    tokens
-        .iter()
-        .all(|token| is_word(token, b"e") || is_word(token, b"E") || is_word(token, b"&"))
+    tokens.iter().all(|token| is_word(token, b"e") || is_word(token, b"E") || is_word(token, b"&"))
 }
 
 // Whether marks stand here in number of the arguments, with the parenthesis that closes them.
@@ -194,17 +189,14 @@ fn attribute_list<'a>(arity: usize, tokens: &'a [Token]) -> Result<Attributes<'a
             Ok(attribute) => attribute,
             Err(kind) => return Err(kind),
         };
-        said = said.joined(attribute.says);
+        said.add(attribute.says);
         rest = tokens_from(after, attribute.behind);
     }
     Err(FaultKind::BadStatement)
 }
 
 // What stands behind the value's sort of an operator with so many arguments.
-pub fn attributes_behind<'a>(
-    arity: usize,
-    tokens: &'a [Token],
-) -> Result<Attributes<'a>, FaultKind>
+pub fn attributes_behind<'a>(arity: usize, tokens: &'a [Token]) -> Result<Attributes<'a>, FaultKind>
     ensures { attributes.seen_said result ≡ attributes.attributes_behind arity (seen_all tokens.now) }
 {
     match tokens {

@@ -77,7 +77,9 @@ fn has_fine_pieces(text: &[u8]) -> bool
 {
     let mut rest = text;
     while let Some((item, after)) = first_item(rest) {
-        if let Item::Piece(piece) = item && is_no_piece(piece) {
+        if let Item::Piece(piece) = item
+            && is_no_piece(piece)
+        {
             return false;
         }
         rest = after;
