@@ -23,14 +23,17 @@ fn same_marks(marks: &[Token], others: &[Token]) -> bool
 {
     let mut left = marks;
     let mut right = others;
-    while let ([mark, after @ ..], [other, behind @ ..]) = (left, right) {
+    while let [mark, after @ ..] = left {
+        let [other, behind @ ..] = right else {
+            return false;
+        };
         if mark.text.as_slice() != other.text.as_slice() {
             return false;
         }
         left = after;
         right = behind;
     }
-    left.is_empty() && right.is_empty()
+    right.is_empty()
 }
 
 // Whether there are two precedences, and they differ.
