@@ -1,5 +1,8 @@
 -- Laws of tokens, forms and units.
 pub mod Slices
+pub mod NameByName
+pub mod Lists
+pub mod ItemByItem
 pub mod Clones
 pub mod Bodies
 pub mod Fronts

@@ -11,7 +11,7 @@ use Rattle.mw_module.specs.declared.attribute.Attributes.{Attributes as HeldAttr
 use Rattle.mw_module.specs.declared.attribute_list.Attribute.{Attribute as HeldAttribute}
 use Rattle.mw_module.specs.declared.faults.FaultKind.{FaultKind}
 use Rattle.mw_module.specs.declared.faults.FaultKind.TheVariants.{NotInProfile, BadStatement}
-use Rattle.mw_module.specs.Words.{is, begins, count_before, texts, is_whole_string}
+use Rattle.mw_module.specs.Words.{is, begins, count_before, texts, begins_string}
 
 -- what the attributes of an operator say
 pub record Attributes : Type 0 where
@@ -116,8 +116,7 @@ format_attribute (t ∷ rest) = let n = count_before (codes ")") rest in
 
 -- what stands behind `metadata`: a string
 abbrev pub metadata_attribute : List Seen → Result Attribute FaultKind
-metadata_attribute [] = Err BadStatement
-metadata_attribute (t ∷ rest) = if is_whole_string t.text then Ok (silent 1) else Err BadStatement
+metadata_attribute ts = if begins_string ts then Ok (silent 1) else Err BadStatement
 
 -- an attribute that is a word alone and says nothing
 abbrev pub is_silent_word : Seen → Bool

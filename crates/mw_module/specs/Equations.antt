@@ -1,9 +1,10 @@
 -- The parts of equations: a label in front, two sides, and attributes at the end.
-use Rattle.std.specs.Prelude.{ℕ, Bool, true, false, List, [], ◌∷◌, ◌+◌, ◌-◌, ◌==◌, ◌&&◌, ◌||◌, length, take, drop, reverse, Option, None, Some, Result, Ok, Err, if◌then◌else◌, codes}
+use Rattle.std.specs.Prelude.{ℕ, Bool, true, false, List, [], ◌∷◌, ◌+◌, ◌-◌, ◌==◌, ◌&&◌, ◌||◌, not, length, take, drop, reverse, Option, None, Some, Result, Ok, Err, zero, suc, if◌then◌else◌, codes}
 use Rattle.mw_lex.specs.Lexing.{Seen}
 use Rattle.mw_lex.specs.Pieces.{one_more}
 use Rattle.mw_module.specs.declared.faults.FaultKind.{FaultKind}
 use Rattle.mw_module.specs.declared.faults.FaultKind.TheVariants.{NotInProfile, BadStatement}
+use Rattle.mw_module.specs.Faults.{fault_if, unless}
 use Rattle.mw_module.specs.Words.{is, is_whole_string}
 
 -- a label in front: one token in brackets, and a colon
@@ -46,15 +47,23 @@ attributes_len ts = attributes_among ts (bracket_len 0 (reverse ts))
 abbrev pub group_at_end : ℕ → List Seen → List Seen
 group_at_end n ts = take (n - 2) (drop (length ts - n + 1) ts)
 
--- whether an equation with these attributes is executable, where it was before them; or what is wrong with them
-abbrev pub executable_with : Bool → List Seen → Result Bool FaultKind
-executable_with before [] = Ok before
-executable_with before (t ∷ []) = if is (codes "nonexec") t then Ok false
-    else if is (codes "label") t || is (codes "metadata") t then Err BadStatement else Err NotInProfile
-executable_with before (t ∷ u ∷ rest) = if is (codes "nonexec") t then executable_with false (u ∷ rest)
-    else if is (codes "label") t then executable_with before rest
-    else if is (codes "metadata") t then (if is_whole_string u.text then executable_with before rest else Err BadStatement)
-    else Err NotInProfile
+-- what is wrong with an attribute that has one token behind its word
+abbrev pub value_fault : Seen → List Seen → Option FaultKind
+value_fault t [] = if is (codes "label") t || is (codes "metadata") t then Some BadStatement else Some NotInProfile
+value_fault t (u ∷ rest) = if is (codes "label") t then None
+    else if is (codes "metadata") t then fault_if (not (is_whole_string u.text)) BadStatement else Some NotInProfile
+
+-- whether an equation is executable, by what was said before and by these attributes; or what is wrong with them. The
+-- first `skip` tokens belong to an attribute that is read already
+abbrev pub executable_from : ℕ → Bool → List Seen → Result Bool FaultKind
+executable_from skip executable [] = Ok executable
+executable_from (suc k) executable (t ∷ rest) = executable_from k executable rest
+executable_from zero executable (t ∷ rest) = if is (codes "nonexec") t then executable_from 0 false rest
+    else unless (value_fault t rest) (executable_from 1 executable rest)
+
+-- whether an equation with these attributes is executable
+abbrev pub executable_with : List Seen → Result Bool FaultKind
+executable_with ts = executable_from 0 true ts
 
 -- a token that opens, and one that closes; `if` and `fi` are taken as brackets
 abbrev pub opens : Seen → Bool

@@ -11,6 +11,7 @@ use Rattle.mw_module.specs.declared.names.Role.{Role}
 use Rattle.mw_module.specs.declared.names.Role.TheVariants as role
 use Rattle.mw_module.specs.declared.openings.Opening.{Opening}
 use Rattle.mw_module.specs.declared.openings.Opening.TheVariants as opening
+use Rattle.mw_module.specs.Faults.{first_of, fault_if, unless}
 use Rattle.mw_module.specs.Openings.{opening_of}
 use Rattle.mw_module.specs.OperatorNames.{names_of, names_from, are_names, all_fit}
 use Rattle.mw_module.specs.Attributes.{Attributes, seen_attributes, Said, attributes_behind}
@@ -36,15 +37,6 @@ shape_of (form.Equation left right executable) = Equation (seen_all left.now) (s
 -- the form, or what is wrong
 abbrev pub Formed : Type 0
 Formed = Result Shape FaultKind
-
--- the left one, where there is one
-abbrev pub first_of : Option FaultKind → Option FaultKind → Option FaultKind
-first_of None other = other
-first_of (Some kind) other = Some kind
-
--- this fault where the test is met
-abbrev pub fault_if : Bool → FaultKind → Option FaultKind
-fault_if test kind = if test then Some kind else None
 
 -- where a text in this role begins a form that isn't read
 abbrev pub is_unread : Role → List ℕ → Bool
@@ -75,11 +67,6 @@ first_fault role (t ∷ rest) = first_of (text_fault role t.text) (first_fault r
 abbrev pub names_fault : Role → List Seen → Option FaultKind
 names_fault role [] = Some BadStatement
 names_fault role (t ∷ rest) = first_fault role (t ∷ rest)
-
--- the answer, unless there is a fault
-abbrev pub unless : {A : Type 0} → Option FaultKind → Result A FaultKind → Result A FaultKind
-unless None answer = answer
-unless (Some kind) answer = Err kind
 
 -- a variable's sort and nothing more
 abbrev pub lone_sort : List Seen → Result Seen FaultKind
@@ -136,7 +123,7 @@ divided sides (Some n) (Err kind) = Err kind
 
 -- the sides, and the group of attributes behind them that has so many tokens
 abbrev pub sides_form : ℕ → List Seen → Formed
-sides_form n ts = let sides = take (length ts - n) ts in divided sides (equals_at 0 sides) (executable_with true (group_at_end n ts))
+sides_form n ts = let sides = take (length ts - n) ts in divided sides (equals_at 0 sides) (executable_with (group_at_end n ts))
 
 -- `eq`: a label, two sides, and attributes
 abbrev pub equation_form : List Seen → Formed

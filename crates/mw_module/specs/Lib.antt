@@ -1,5 +1,6 @@
 -- Units of a source.
 pub mod Words
+pub mod Faults
 pub mod Openings
 pub mod OperatorNames
 pub mod Attributes

@@ -4,6 +4,7 @@ use Rattle.std.specs.List.{list_any, list_all}
 use Rattle.mw_lex.specs.Lexing.{Seen, seen_all}
 use Rattle.mw_lex.specs.Pieces.{one_more}
 use Rattle.mw_text.specs.Names.{Item, piece, hole, items_of_tokens, count_holes}
+use Rattle.mw_module.specs.declared.operator_names.FrontName.{FrontName as HeldName}
 use Rattle.mw_module.specs.declared.operator_names.Names.{Names}
 use Rattle.mw_module.specs.Words.{is, texts, is_no_piece}
 
@@ -11,6 +12,10 @@ use Rattle.mw_module.specs.Words.{is, texts, is_no_piece}
 pub record FrontName : Type 0 where
   pub name : List Seen
   pub behind : ℕ
+
+-- the name as its readers see it
+abbrev pub seen_front : HeldName → FrontName
+seen_front front = record { name = seen_all front.name.now; behind = front.behind }
 
 -- how many tokens a group has behind the parenthesis that opens it, with the one that closes it, where `depth` are open
 abbrev pub group_len : ℕ → List Seen → Option ℕ
@@ -25,19 +30,20 @@ in_group rest (Some n) = record { name = take (n - 1) rest; behind = n }
 
 -- the first of several names: a group in parentheses, or one token; a parenthesis that closes nothing stands for an
 -- empty name
-abbrev pub one_of_several : Seen → List Seen → FrontName
-one_of_several t rest = if is (codes "(") t then in_group rest (group_len 1 rest)
+abbrev pub one_of_several : List Seen → FrontName
+one_of_several [] = record { name = []; behind = 0 }
+one_of_several (t ∷ rest) = if is (codes "(") t then in_group rest (group_len 1 rest)
     else if is (codes ")") t then record { name = []; behind = 0 } else record { name = t ∷ []; behind = 0 }
 
 -- the first name, where there are several or where all tokens are a single one
-abbrev pub front_name : Bool → Seen → List Seen → FrontName
-front_name single t rest = if single then record { name = t ∷ rest; behind = length rest } else one_of_several t rest
+abbrev pub front_name : Bool → List Seen → FrontName
+front_name single ts = if single then record { name = ts; behind = length ts - 1 } else one_of_several ts
 
 -- the names, where the first `skip` tokens belong to one that is read already
 abbrev pub names_from : Bool → ℕ → List Seen → List (List Seen)
 names_from single skip [] = []
 names_from single (suc k) (t ∷ rest) = names_from single k rest
-names_from single zero (t ∷ rest) = (front_name single t rest).name ∷ names_from single (front_name single t rest).behind rest
+names_from single zero (t ∷ rest) = (front_name single (t ∷ rest)).name ∷ names_from single (front_name single (t ∷ rest)).behind rest
 
 -- names as their readers see them, each as its tokens
 abbrev pub names_of : Names → List (List Seen)

@@ -23,14 +23,17 @@ fn same_marks(marks: &[Token], others: &[Token]) -> bool
 {
     let mut left = marks;
     let mut right = others;
-    while let ([mark, after @ ..], [other, behind @ ..]) = (left, right) {
+    while let [mark, after @ ..] = left {
+        let [other, behind @ ..] = right else {
+            return false;
+        };
         if mark.text.as_slice() != other.text.as_slice() {
             return false;
         }
         left = after;
         right = behind;
     }
-    left.is_empty() && right.is_empty()
+    right.is_empty()
 }
 
 // Whether there are two precedences, and they differ.
@@ -79,5 +82,12 @@ impl<'a> Attributes<'a> {
                 || precedences_differ(self.precedence, other.precedence)
                 || gathers_differ(self.gather, other.gather),
         }
+    }
+
+    // Both, in place.
+    pub fn add(&mut self, other: Attributes<'a>)
+        ensures { seen_attributes self.new ≡ joined_attributes (seen_attributes self.old) (seen_attributes other.entry) }
+    {
+        *self = self.joined(other);
     }
 }

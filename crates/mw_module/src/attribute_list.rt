@@ -6,7 +6,7 @@ ghost use Rattle.mw_module.specs.Attributes as attributes;
 
 use crate::attribute::Attributes;
 use crate::faults::FaultKind;
-use crate::words::{begins, count_before, is_whole_string, is_word, tokens_from};
+use crate::words::{begins, begins_string, count_before, is_word, tokens_from};
 use mw_lex::Token;
 
 /// One attribute, and how many tokens belong to it behind its word.
@@ -35,11 +35,8 @@ fn precedence_of(text: &[u8]) -> Option<u32>
         [a, b] if a.is_ascii_digit() && b.is_ascii_digit() && *a != b'0' => {
             10 * (*a - b'0') as u32 + (*b - b'0') as u32
         }
-        [a, b, c]
-            if a.is_ascii_digit() && b.is_ascii_digit() && c.is_ascii_digit() && *a != b'0' =>
-        {
-            100 * (*a - b'0') as u32 + 10 * (*b - b'0') as u32 + (*c - b'0') as u32
-        }
+        [a, b, c] if a.is_ascii_digit() && b.is_ascii_digit() && c.is_ascii_digit() && *a != b'0' =>
+            { 100 * (*a - b'0') as u32 + 10 * (*b - b'0') as u32 + (*c - b'0') as u32 }
         _ => return None,
     };
     if number < 128 { Some(number) } else { None }
@@ -62,24 +59,30 @@ fn prec_attribute<'a>(tokens: &'a [Token]) -> Result<Attribute<'a>, FaultKind>
     Ok(Attribute { says, behind: 1 })
 }
 
-// Whether these are marks of a gather.
-fn are_all_marks(tokens: &[Token]) -> bool
-    ensures { result ≡ list_all attributes.is_mark (seen_all tokens.now) }
+// Whether this is a mark of a gather.
+fn is_mark(token: &Token) -> bool
+    ensures { result ≡ attributes.is_mark (seen token.now) }
 {
-    tokens
-        .iter()
-        .all(|token| is_word(token, b"e") || is_word(token, b"E") || is_word(token, b"&"))
+    is_word(token, b"e") || is_word(token, b"E") || is_word(token, b"&")
+}
+
+// Whether these are marks.
+fn are_all_marks(tokens: &[Token]) -> bool
+    ensures { result ≡ list_all (λ t. attributes.is_mark (seen t)) tokens.now }
+{
+    tokens.iter().all(is_mark)
 }
 
 // Whether marks stand here in number of the arguments, with the parenthesis that closes them.
+#[tactic(auto, using(crate::proofs::Lists::far_marks, crate::proofs::Lists::near_marks))]
 fn are_marks(arity: usize, tokens: &[Token]) -> bool
     ensures marks { result ≡ attributes.are_marks arity (seen_all tokens.now) }
     ensures within { IsTrue result → arity < length tokens.now }
 {
-    0 < arity
-        && arity < tokens.len()
-        && are_all_marks(&tokens[..arity])
-        && begins(tokens_from(tokens, arity), b")")
+    if arity == 0 || tokens.len() <= arity {
+        return false;
+    }
+    are_all_marks(&tokens[..arity]) && begins(tokens_from(tokens, arity), b")")
 }
 
 // What stands behind `gather`.
@@ -121,9 +124,10 @@ fn metadata_attribute<'a>(tokens: &'a [Token]) -> Result<Attribute<'a>, FaultKin
     ensures said { attributes.seen_one result ≡ attributes.metadata_attribute (seen_all tokens.now) }
     ensures within { IfOk result (λ a. a.behind ≤ length tokens.now) }
 {
-    match tokens {
-        [string, ..] if is_whole_string(string.text.as_slice()) => Ok(silent(1)),
-        _ => Err(FaultKind::BadStatement),
+    if begins_string(tokens) {
+        Ok(silent(1))
+    } else {
+        Err(FaultKind::BadStatement)
     }
 }
 
@@ -194,17 +198,14 @@ fn attribute_list<'a>(arity: usize, tokens: &'a [Token]) -> Result<Attributes<'a
             Ok(attribute) => attribute,
             Err(kind) => return Err(kind),
         };
-        said = said.joined(attribute.says);
+        said.add(attribute.says);
         rest = tokens_from(after, attribute.behind);
     }
     Err(FaultKind::BadStatement)
 }
 
 // What stands behind the value's sort of an operator with so many arguments.
-pub fn attributes_behind<'a>(
-    arity: usize,
-    tokens: &'a [Token],
-) -> Result<Attributes<'a>, FaultKind>
+pub fn attributes_behind<'a>(arity: usize, tokens: &'a [Token]) -> Result<Attributes<'a>, FaultKind>
     ensures { attributes.seen_said result ≡ attributes.attributes_behind arity (seen_all tokens.now) }
 {
     match tokens {

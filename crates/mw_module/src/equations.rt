@@ -1,12 +1,12 @@
 // Equations.
-ghost use Rattle.std.specs.Prelude.{◌≡◌, ◌<◌, ◌≤◌, ◌+◌, ◌-◌, ◌^◌, ℕ, true, length, reverse, IfSome, MatchResult, Ok, Err};
+ghost use Rattle.std.specs.Prelude.{◌≡◌, ◌<◌, ◌≤◌, ◌+◌, ◌-◌, ◌^◌, ℕ, true, length, reverse, IfNone, IfSome, MatchResult, Ok, Err};
 ghost use Rattle.mw_lex.specs.Lexing.{seen, seen_all};
 ghost use Rattle.mw_module.specs.Equations as equations;
 ghost use Rattle.mw_module.specs.Forms as forms;
 
 use crate::faults::FaultKind;
 use crate::forms::Form;
-use crate::words::{is_whole_string, is_word, tokens_from};
+use crate::words::{begins_string, is_word, tokens_from};
 use mw_lex::Token;
 
 // Whether a label stands in front.
@@ -96,9 +96,26 @@ fn group_at_end(len: usize, tokens: &[Token]) -> &[Token]
     &group[1..len - 1]
 }
 
+// What is wrong with an attribute that has one token behind its word.
+fn value_fault(word: &Token, tokens: &[Token]) -> Option<FaultKind>
+    ensures fault { result ≡ equations.value_fault (seen word.now) (seen_all tokens.now) }
+    ensures some { IfNone result (0 < length tokens.now) }
+{
+    let is_label = is_word(word, b"label");
+    if !is_label && !is_word(word, b"metadata") {
+        return Some(FaultKind::NotInProfile);
+    }
+    if !tokens.is_empty() && (is_label || begins_string(tokens)) {
+        None
+    } else {
+        Some(FaultKind::BadStatement)
+    }
+}
+
 // Whether an equation with these attributes is executable, or what is wrong with them.
+#[tactic(auto, using(crate::proofs::Slices::behind_first))]
 fn executable_with(attributes: &[Token]) -> Result<bool, FaultKind>
-    ensures { result ≡ equations.executable_with true (seen_all attributes.now) }
+    ensures { result ≡ equations.executable_with (seen_all attributes.now) }
 {
     let mut executable = true;
     let mut rest = attributes;
@@ -108,16 +125,10 @@ fn executable_with(attributes: &[Token]) -> Result<bool, FaultKind>
             rest = after;
             continue;
         }
-        let is_label = is_word(word, b"label");
-        if !is_label && !is_word(word, b"metadata") {
-            return Err(FaultKind::NotInProfile);
+        if let Some(kind) = value_fault(word, after) {
+            return Err(kind);
         }
-        match after {
-            [value, behind @ ..] if is_label || is_whole_string(value.text.as_slice()) => {
-                rest = behind;
-            }
-            _ => return Err(FaultKind::BadStatement),
-        }
+        rest = tokens_from(after, 1);
     }
     Ok(executable)
 }
@@ -165,6 +176,7 @@ fn equals_at(tokens: &[Token]) -> Option<usize>
 }
 
 // Two sides, and the group of attributes behind them that has so many tokens.
+#[tactic(auto, using(crate::proofs::Slices::seen_take, crate::proofs::Slices::seen_length))]
 fn sides_form<'a>(len: usize, tokens: &'a [Token]) -> Result<Form<'a>, FaultKind>
     requires { len ≤ length tokens.now }
     ensures { MatchResult result

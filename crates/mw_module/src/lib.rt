@@ -236,33 +236,13 @@ mod tests {
     #[test]
     fn statements_have_forms(rt: HostRuntime) -> Result<(), Fail> {
         let alloc = rt.alloc();
-        let cases: [(&[u8], &[u8]); 54] = [
+        let cases: [(&[u8], &[u8]); 21] = [
             (b"sort A B", b"s2"),
             (b"sorts A", b"s1"),
             (b"sort", b"7"),
             (b"sort L{X}", b"6"),
             (b"sort A , {", b"7"),
             (b"sort \"a\"", b"7"),
-            (b"op f : A B -> C", b"o12C"),
-            (b"op f : -> C", b"o10C"),
-            (b"ops f g : A -> C", b"o21C"),
-            (b"op f : -> C [ctor]", b"6"),
-            (b"op f : A ~> B", b"6"),
-            (b"op f : [A] -> B", b"6"),
-            (b"op f : A -> [B]", b"6"),
-            (b"op f : A -> L{B}", b"6"),
-            (b"op _+_ : A A -> A", b"6"),
-            (b"op a`b : -> A", b"6"),
-            (b"op f g : -> A", b"6"),
-            (b"ops (f _) g : A -> A", b"6"),
-            (b"op f -> A", b"7"),
-            (b"op : -> A", b"7"),
-            (b"op f : A", b"7"),
-            (b"op f : A ->", b"7"),
-            (b"op f : -> A B", b"7"),
-            (b"op f : ( -> A", b"7"),
-            (b"op \"x\" : -> A", b"7"),
-            (b"op f : : -> :", b"o11:"),
             (b"var X : A", b"v1A"),
             (b"vars X Y : A", b"v2A"),
             (b"var : A", b"7"),
@@ -272,6 +252,146 @@ mod tests {
             (b"var X : L{A}", b"6"),
             (b"var X : A B", b"7"),
             (b"var { : A", b"7"),
+            (b"subsort A < B", b"6"),
+            (b"pr NAT", b"6"),
+            (b"ceq X = Y if Z", b"6"),
+            (b"rl X => Y", b"7"),
+            (b"msg m : -> Msg", b"7"),
+            (b"mb X : A", b"6"),
+        ];
+        for (statement, want) in cases {
+            let got = formed(&rt, alloc, statement)?;
+            assert_eq!(rt; got.as_slice(), want);
+        }
+        Ok(())
+    }
+
+    #[test]
+    fn operators_have_names(rt: HostRuntime) -> Result<(), Fail> {
+        let alloc = rt.alloc();
+        let cases: [(&[u8], &[u8]); 50] = [
+            (b"op f : A B -> C", b"o1:2C"),
+            (b"op f : -> C", b"o1:0C"),
+            (b"ops f g : A -> C", b"o11:1C"),
+            (b"op f : A ~> B", b"6"),
+            (b"op f : [A] -> B", b"6"),
+            (b"op f : A -> [B]", b"6"),
+            (b"op f : A -> L{B}", b"6"),
+            (b"op f -> A", b"7"),
+            (b"op : -> A", b"7"),
+            (b"op f : A", b"7"),
+            (b"op f : A ->", b"7"),
+            (b"op f : -> A B", b"7"),
+            (b"op f : -> A (", b"7"),
+            (b"op f : ( -> A", b"7"),
+            (b"op f : : -> :", b"o1:1:"),
+            (b"op f g : -> A", b"o2:0A"),
+            (b"op a`b : -> A", b"o1:0A"),
+            (b"op _+_ : A A -> A", b"o1:2A"),
+            (b"op _ + _ : A A -> A", b"o3:2A"),
+            (b"op _[_] : A A -> A", b"o4:2A"),
+            (b"op { : -> A", b"o1:0A"),
+            (b"op __ : A A -> A", b"o1:2A"),
+            (b"op _`_ : A A -> A", b"o1:2A"),
+            (b"op _ _ : A A -> A", b"o2:2A"),
+            (b"op _.. : A -> A", b"o1:1A"),
+            (b"op a\" : -> A", b"o1:0A"),
+            (b"op _ : A -> A", b"7"),
+            (b"op ` : -> A", b"7"),
+            (b"op \"x\" : -> A", b"7"),
+            (b"op a_***b : A -> A", b"7"),
+            (b"op _---_ : A A -> A", b"7"),
+            (b"op _. : A -> A", b"7"),
+            (b"op a_\"b : A -> A", b"7"),
+            (b"op _+_ : A -> A", b"7"),
+            (b"op _+_ : -> A", b"7"),
+            (b"op f_ : A A -> A", b"7"),
+            (b"op _+_ : A ~> A", b"6"),
+            (b"op _+_ : A -> [A]", b"7"),
+            (b"op _ : [A] -> A", b"7"),
+            (b"ops (f _) g : A -> A", b"o21:1A"),
+            (b"ops _+_ (_ * _) (_[_]) : A A -> A", b"o134:2A"),
+            (b"ops ((_)) g : A -> A", b"o31:1A"),
+            (b"ops [ ] : -> A", b"o11:0A"),
+            (b"ops f _g : A -> A", b"o11:1A"),
+            (b"ops f _g : A A -> A", b"7"),
+            (b"ops : -> A", b"7"),
+            (b"ops f () : -> A", b"7"),
+            (b"ops (f : -> A", b"7"),
+            (b"ops f ) : -> A", b"7"),
+            (b"ops f (_) : A -> A", b"7"),
+        ];
+        for (statement, want) in cases {
+            let got = formed(&rt, alloc, statement)?;
+            assert_eq!(rt; got.as_slice(), want);
+        }
+        Ok(())
+    }
+
+    #[test]
+    fn operators_have_attributes(rt: HostRuntime) -> Result<(), Fail> {
+        let alloc = rt.alloc();
+        let cases: [(&[u8], &[u8]); 42] = [
+            (
+                b"op f : A -> A [ctor ditto memo config object message]",
+                b"o1:1Ac",
+            ),
+            (b"op f : -> A [prec 0]", b"o1:0Ap000"),
+            (b"op f : -> A [prec 99]", b"o1:0Ap099"),
+            (
+                b"op _+_ : A A -> A [prec 127 gather (E e)]",
+                b"o1:2Ap127gEe",
+            ),
+            (b"op f : -> A [prec 128]", b"7"),
+            (b"op f : -> A [prec 1000]", b"7"),
+            (b"op f : -> A [prec 01]", b"7"),
+            (b"op f : -> A [prec 7x]", b"7"),
+            (b"op f : -> A [prec]", b"7"),
+            (b"op f : A -> A [gather (&) ctor]", b"o1:1Ag&"),
+            (b"op f : A A -> A [gather (e E &)]", b"7"),
+            (b"op f : A A -> A [gather (e)]", b"7"),
+            (b"op f : A -> A [gather (x)]", b"7"),
+            (b"op f : A -> A [gather e]", b"7"),
+            (b"op f : A -> A [gather (&]", b"7"),
+            (b"op f : -> A [gather ()]", b"7"),
+            (b"op f : A -> A [format (d [ d) prec 3]", b"o1:1Ap003"),
+            (b"op f : -> A [format ()]", b"o1:0A"),
+            (b"op f : -> A [format d]", b"7"),
+            (b"op f : -> A [format (d]", b"7"),
+            (b"op f : -> A [metadata \"x y\" metadata \"\"]", b"o1:0A"),
+            (b"op f : -> A [metadata x]", b"7"),
+            (b"op f : -> A [metadata \"x]", b"7"),
+            (b"op f : -> A [metadata \"x\\\"]", b"7"),
+            (b"op f : -> A [metadata \"]", b"7"),
+            (b"op f : A A -> A [assoc]", b"6"),
+            (b"op f : A A -> A [comm]", b"6"),
+            (b"op f : A A -> A [id: a]", b"6"),
+            (b"op f : A -> A [iter]", b"6"),
+            (b"op f : -> A [ctor foo]", b"6"),
+            (b"op f : -> A [foo", b"6"),
+            (b"op f : -> A []", b"7"),
+            (b"op f : -> A [", b"7"),
+            (b"op f : -> A [ctor", b"7"),
+            (b"op f : -> A [ctor] x", b"7"),
+            (b"op f : -> A [ctor] [memo]", b"7"),
+            (b"op f : -> A [prec 128 foo]", b"7"),
+            (b"op f : -> A [foo prec 128]", b"6"),
+            (b"op f : -> A [prec 3 ctor prec 3]", b"o1:0Ap003"),
+            (b"op f : -> A [prec 3 prec 4]", b"o1:0Ap003!"),
+            (b"op f : A -> A [gather (e) gather (e)]", b"o1:1Age"),
+            (b"op f : A -> A [gather (e) gather (E)]", b"o1:1Age!"),
+        ];
+        for (statement, want) in cases {
+            let got = formed(&rt, alloc, statement)?;
+            assert_eq!(rt; got.as_slice(), want);
+        }
+        Ok(())
+    }
+
+    #[test]
+    fn equations_have_sides(rt: HostRuntime) -> Result<(), Fail> {
+        let alloc = rt.alloc();
+        let cases: [(&[u8], &[u8]); 29] = [
             (b"eq f(X) = X", b"e41"),
             (b"eq f(=) = X = Y", b"e43"),
             (b"eq if X = Y fi = Z", b"e51"),
@@ -279,18 +399,28 @@ mod tests {
             (b"eq =", b"e00"),
             (b"eq X", b"7"),
             (b"eq if X = Y", b"7"),
-            (b"eq [l] : X = Y", b"6"),
-            (b"eq [l] : X", b"6"),
-            (b"eq X = Y [owise]", b"6"),
-            (b"eq X = Y [label [a] ]", b"6"),
-            (b"eq X [metadata \"=\" = ]", b"7"),
+            (b"eq [l] : X = Y", b"e11"),
+            (b"eq [=] : X = Y", b"e11"),
+            (b"eq [l] : X", b"7"),
+            (b"eq [l m] : X = Y", b"e61"),
+            (b"eq [l] X = Y", b"e41"),
+            (b"eq [] : X = Y", b"e41"),
+            (b"eq X = Y [nonexec]", b"n11"),
+            (b"eq X = Y [label a]", b"e11"),
+            (b"eq [l] : X = Y [label a metadata \"b\" nonexec]", b"n11"),
+            (b"eq X = [nonexec]", b"n10"),
             (b"eq X = Y [z]", b"e14"),
-            (b"subsort A < B", b"6"),
-            (b"pr NAT", b"6"),
-            (b"ceq X = Y if Z", b"6"),
-            (b"rl X => Y", b"7"),
-            (b"msg m : -> Msg", b"7"),
-            (b"mb X : A", b"6"),
+            (b"eq X = Y nonexec]", b"e13"),
+            (b"eq X = Y [owise]", b"6"),
+            (b"eq X = Y [nonexec foo]", b"6"),
+            (b"eq X = Y [label [a] ]", b"6"),
+            (b"eq X = Y [label]", b"7"),
+            (b"eq X = Y [nonexec metadata]", b"7"),
+            (b"eq X = Y [metadata b]", b"7"),
+            (b"eq X = Y [metadata b owise]", b"7"),
+            (b"eq X Y [owise]", b"7"),
+            (b"eq X [metadata \"=\" = ]", b"7"),
+            (b"eq [nonexec]", b"7"),
         ];
         for (statement, want) in cases {
             let got = formed(&rt, alloc, statement)?;

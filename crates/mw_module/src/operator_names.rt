@@ -16,9 +16,17 @@ pub struct Names<'a> {
     pub tokens: &'a [Token],
 }
 
+// A name, and how many tokens belong to it behind the first.
+#[derive(Clone, Copy)]
+struct FrontName<'a> {
+    name: &'a [Token],
+    behind: usize,
+}
+
 // How many tokens a group has behind the parenthesis that opens it, with the one that closes it.
 fn group_len(tokens: &[Token]) -> Option<usize>
     ensures len { result ≡ spec.group_len 1 (seen_all tokens.now) }
+    ensures some { IfSome result (λ n. 0 < n) }
     ensures within { IfSome result (λ n. n ≤ length tokens.now) }
 {
     let mut rest = tokens;
@@ -39,6 +47,57 @@ fn group_len(tokens: &[Token]) -> Option<usize>
     None
 }
 
+// The tokens of a group behind the parenthesis that opens it. A group that isn't closed stands for an empty name.
+#[tactic(auto, using(crate::proofs::Slices::seen_take))]
+fn in_group<'a>(tokens: &'a [Token]) -> FrontName<'a>
+    ensures front { spec.seen_front result ≡ spec.in_group (seen_all tokens.now) (spec.group_len 1 (seen_all tokens.now)) }
+    ensures within { result.behind ≤ length tokens.now }
+{
+    match group_len(tokens) {
+        Some(len) => FrontName {
+            name: &tokens[..len - 1],
+            behind: len,
+        },
+        None => FrontName {
+            name: &tokens[..0],
+            behind: 0,
+        },
+    }
+}
+
+// The first of several names. A parenthesis that closes nothing stands for an empty name.
+fn one_of_several<'a>(tokens: &'a [Token]) -> FrontName<'a>
+    ensures front { spec.seen_front result ≡ spec.one_of_several (seen_all tokens.now) }
+    ensures within { 0 < length tokens.now → result.behind < length tokens.now }
+{
+    match tokens {
+        [open, rest @ ..] if is_word(open, b"(") => in_group(rest),
+        [token, ..] if !is_word(token, b")") => FrontName {
+            name: &tokens[..1],
+            behind: 0,
+        },
+        _ => FrontName {
+            name: &tokens[..0],
+            behind: 0,
+        },
+    }
+}
+
+// The first name, where there are several or where all tokens are a single one.
+fn front_name<'a>(single: bool, tokens: &'a [Token]) -> FrontName<'a>
+    ensures front { spec.seen_front result ≡ spec.front_name single (seen_all tokens.now) }
+    ensures within { 0 < length tokens.now → result.behind < length tokens.now }
+{
+    if single {
+        FrontName {
+            name: tokens,
+            behind: tokens.len().saturating_sub(1),
+        }
+    } else {
+        one_of_several(tokens)
+    }
+}
+
 impl<'a> Names<'a> {
     /// The first name as its tokens, and the others. A parenthesis that has no partner stands for a name of no tokens.
     pub fn first(self) -> Option<(&'a [Token], Names<'a>)>
@@ -46,28 +105,15 @@ impl<'a> Names<'a> {
         ensures shorter { IfSome result (λ r. length r.1.tokens.now < length self.entry.tokens.now) }
         ensures none { IfNone result (spec.names_of self.entry ≡ []) }
     {
-        let [token, rest @ ..] = self.tokens else {
+        let [_, rest @ ..] = self.tokens else {
             return None;
         };
-        let (name, behind) = if self.single {
-            (self.tokens, rest.len())
-        } else if is_word(token, b"(") {
-            match group_len(rest) {
-                Some(len) => (&rest[..len - 1], len),
-                None => (&rest[..0], 0),
-            }
-        } else if is_word(token, b")") {
-            (&rest[..0], 0)
-        } else {
-            (&self.tokens[..1], 0)
+        let front = front_name(self.single, self.tokens);
+        let others = Names {
+            single: self.single,
+            tokens: tokens_from(rest, front.behind),
         };
-        Some((
-            name,
-            Names {
-                single: self.single,
-                tokens: tokens_from(rest, behind),
-            },
-        ))
+        Some((front.name, others))
     }
 }
 
@@ -77,7 +123,9 @@ fn has_fine_pieces(text: &[u8]) -> bool
 {
     let mut rest = text;
     while let Some((item, after)) = first_item(rest) {
-        if let Item::Piece(piece) = item && is_no_piece(piece) {
+        if let Item::Piece(piece) = item
+            && is_no_piece(piece)
+        {
             return false;
         }
         rest = after;
@@ -127,13 +175,27 @@ fn holes_of(name: &[Token]) -> usize
     holes
 }
 
-// Whether these tokens are a name.
-fn is_name(name: &[Token]) -> bool
-    ensures { result ≡ spec.is_name (spec.items_in (seen_all name.now)) }
+// Whether the pieces of a name may stand in one.
+fn is_fine(name: &[Token]) -> bool
+    ensures { result ≡ list_all (λ t. list_all spec.is_fine (items_of t.text.items)) name.now }
 {
     name.iter()
         .all(|token| has_fine_pieces(token.text.as_slice()))
-        && (name.iter().any(|token| has_piece(token.text.as_slice())) || 2 <= holes_of(name))
+}
+
+// Whether a name has a piece.
+fn has_some_piece(name: &[Token]) -> bool
+    ensures { result ≡ list_any (λ t. list_any spec.is_piece (items_of t.text.items)) name.now }
+{
+    name.iter().any(|token| has_piece(token.text.as_slice()))
+}
+
+// Whether these tokens are a name.
+#[tactic(auto, using(crate::proofs::ItemByItem::is_name_by_token))]
+fn is_name(name: &[Token]) -> bool
+    ensures { result ≡ spec.is_name (spec.items_in (seen_all name.now)) }
+{
+    is_fine(name) && (has_some_piece(name) || 2 <= holes_of(name))
 }
 
 // Whether a name has no holes, or one for each argument.

@@ -13,6 +13,7 @@ use crate::words::{count_before, tokens_from};
 use mw_lex::Token;
 
 // A value's sort and attributes.
+#[tactic(auto, using(crate::proofs::Slices::seen_take, crate::proofs::Slices::seen_length))]
 fn value_form<'a>(
     names: Names<'a>,
     args: &'a [Token],
@@ -40,6 +41,7 @@ fn value_form<'a>(
 }
 
 // Argument sorts, an arrow and what comes behind.
+#[tactic(auto, using(crate::proofs::Slices::seen_take, crate::proofs::Slices::seen_length))]
 fn arrow_form<'a>(names: Names<'a>, tokens: &'a [Token]) -> Result<Form<'a>, FaultKind>
     ensures { MatchResult result
         (λ f. forms.arrow_form (names_of names.entry) (seen_all tokens.now) ≡ Ok (forms.shape_of f))
@@ -60,6 +62,7 @@ fn arrow_form<'a>(names: Names<'a>, tokens: &'a [Token]) -> Result<Form<'a>, Fau
 }
 
 // Names of operators, a colon and what comes behind.
+#[tactic(auto, using(crate::proofs::Slices::seen_take, crate::proofs::Slices::seen_length))]
 pub fn operators_form<'a>(single: bool, tokens: &'a [Token]) -> Result<Form<'a>, FaultKind>
     ensures { MatchResult result
         (λ f. forms.operators_form single (seen_all tokens.now) ≡ Ok (forms.shape_of f))

@@ -92,9 +92,19 @@ pub fn is_no_piece(text: &[u8]) -> bool
 }
 
 // Whether the text is a string up to its end.
-pub fn is_whole_string(text: &[u8]) -> bool
+fn is_whole_string(text: &[u8]) -> bool
     ensures { result ≡ words.is_whole_string text.now }
 {
     let len = text.len();
     len >= 2 && text[0] == b'"' && text[len - 1] == b'"' && text[len - 2] != b'\\'
+}
+
+// Whether the first token is such a string.
+pub fn begins_string(tokens: &[Token]) -> bool
+    ensures { result ≡ words.begins_string (seen_all tokens.now) }
+{
+    match tokens {
+        [token, ..] => is_whole_string(token.text.as_slice()),
+        [] => false,
+    }
 }

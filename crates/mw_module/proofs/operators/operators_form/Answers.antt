@@ -8,6 +8,3 @@ returns-in-Ok c = grind (arith, common_steps, seen_take, seen_length, c.in-Ok.en
 
 pub returns-in-Err : goal.returns-in-Err
 returns-in-Err c = grind (arith, common_steps, seen_take, seen_length, c.in-Err.ensures, c.tokens_from.ensures.seen)
-
-pub returns-in-Some : goal.returns-in-Some
-returns-in-Some c = grind (arith, common_steps, seen_take, seen_length, c.in-Some.ensures, c.count_before-colon.ensures)
