@@ -95,8 +95,11 @@ declared_unless None d = Ok d
 declared_unless (Some f) d = Err f
 
 -- what is wrong with sorts, or else with operators, whose fault stands at the unit's line
+abbrev pub fault_with : ℕ → List Name → List Declared → List Lined → Option Refusal
+fault_with line sorts os ss = option_or (unknown_from sorts ss) (disagreement line (disagreeing os))
+
 abbrev pub fault_of : ℕ → List Lined → Option Refusal
-fault_of line ss = option_or (unknown_from (sorts_of ss) ss) (disagreement line (disagreeing (operators_of ss)))
+fault_of line ss = fault_with line (sorts_of ss) (operators_of ss) ss
 
 -- by the variables of the module, or the refusal that comes first
 abbrev pub declared_with : ℕ → List Lined → Result Typing Refusal → Result Declarations Refusal

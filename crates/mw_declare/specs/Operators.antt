@@ -71,5 +71,8 @@ operator_of o = record {
   built = false;
 }
 
+abbrev pub signature_with : List Name → List Declared → Signature
+signature_with sorts os = record { sorts = sorts; pairs = []; operators = map operator_of os; nat = false; qid = false }
+
 abbrev pub signature_of : List Lined → Signature
-signature_of statements = record { sorts = sorts_of statements; pairs = []; operators = map operator_of (operators_of statements); nat = false; qid = false }
+signature_of statements = signature_with (sorts_of statements) (operators_of statements)

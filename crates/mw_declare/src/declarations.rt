@@ -1,9 +1,11 @@
 // What a module declares.
-ghost use Rattle.std.specs.Prelude.{◌≡◌, false, [], map, IfOk, IfErr, Ok, Err};
+ghost use Rattle.std.specs.Prelude.{◌≡◌, option_map, IfOk, IfErr, Ok, Err};
+ghost use Rattle.mw_module.specs.Refusals.{refusal_of};
 ghost use Rattle.mw_module.specs.Units.{seen_unit};
-ghost use Rattle.mw_declare.specs.Statements.{statements_of};
-ghost use Rattle.mw_declare.specs.Operators.{operator_of};
-ghost use Rattle.mw_declare.specs.Faults.{declarations_of};
+ghost use Rattle.mw_declare.specs.Statements.{statements_of, seen_statements};
+ghost use Rattle.mw_declare.specs.Meaning.{equations_of};
+ghost use Rattle.mw_declare.specs.Operators.{signature_with};
+ghost use Rattle.mw_declare.specs.Faults.{variables_with, fault_with, declarations_of};
 ghost use Rattle.mw_declare.specs.Seen.{HasCause, seen_declarations};
 ghost use Rattle.mw_declare.specs.declared.declarations.DeclareError.TheVariants.{Memory};
 
@@ -11,7 +13,7 @@ use crate::names::Names;
 use crate::operators::{Operators, all_operators};
 use crate::sorts::{all_sorts, unknown_sort};
 use crate::statement::{Equation, Lined, equations, statements};
-use crate::variables::all_typed;
+use crate::variables::{Typing, all_typed};
 use mw_module::{Fault, Unit};
 use mw_term::{Seq, Signature, VarId};
 use std::alloc::{AllocError, Global};
@@ -46,7 +48,7 @@ fn signature(
     sorts: &Names,
     operators: &Operators<'_>,
 ) -> Result<Signature, AllocError>
-    ensures { IfOk result (λ s. s ≡ record { sorts = sorts.now; pairs = []; operators = map operator_of operators.now; nat = false; qid = false }) }
+    ensures { IfOk result (λ s. s ≡ signature_with sorts.now operators.now) }
 {
     Ok(Signature {
         sorts: sorts.list(alloc)?,
@@ -55,6 +57,40 @@ fn signature(
         nat: false,
         qid: false,
     })
+}
+
+/// What a module with these variables, sorts and operators declares.
+fn all_declared<'u>(
+    alloc: Global,
+    statements: &[Lined<'u>],
+    typing: &Typing,
+    sorts: &Names,
+    operators: &Operators<'_>,
+) -> Result<Declarations<'u>, AllocError>
+    ensures { IfOk result (λ d. seen_declarations d ≡ record { signature = signature_with sorts.now operators.now; variables = variables_with sorts.now typing.now; equations = equations_of (seen_statements statements.now) }) }
+{
+    Ok(Declarations {
+        signature: signature(alloc, sorts, operators)?,
+        variables: typing.variables(alloc, sorts)?,
+        equations: equations(alloc, statements)?,
+    })
+}
+
+/// The first fault of sorts, or else of operators, whose fault stands at this line.
+fn first_fault(
+    alloc: Global,
+    line: u32,
+    statements: &[Lined<'_>],
+    sorts: &Names,
+    operators: &Operators<'_>,
+) -> Result<Option<Fault>, AllocError>
+    ensures { IfOk result (λ o. option_map refusal_of o ≡ fault_with line sorts.now operators.now (seen_statements statements.now)) }
+{
+    let fault = unknown_sort(alloc, sorts, statements)?;
+    if fault.is_some() {
+        return Ok(fault);
+    }
+    operators.disagreement(alloc, line)
 }
 
 /// What a module declares, or the first fault of its declarations: first that of a variable that is declared again
@@ -70,16 +106,12 @@ pub fn declare<'u>(alloc: Global, unit: &'u Unit) -> Result<Declarations<'u>, De
         Err(fault) => return Err(DeclareError::Fault(fault)),
     };
     let sorts = all_sorts(alloc, statements)?;
-    if let Some(fault) = unknown_sort(alloc, &sorts, statements)? {
-        return Err(DeclareError::Fault(fault));
-    }
     let operators = all_operators(alloc, &sorts, statements)?;
-    if let Some(fault) = operators.disagreement(alloc, unit.line)? {
-        return Err(DeclareError::Fault(fault));
+    match first_fault(alloc, unit.line, statements, &sorts, &operators)? {
+        Some(fault) => Err(DeclareError::Fault(fault)),
+        None => {
+            let declared = all_declared(alloc, statements, &typing, &sorts, &operators)?;
+            Ok(declared)
+        }
     }
-    Ok(Declarations {
-        signature: signature(alloc, &sorts, &operators)?,
-        variables: typing.variables(alloc, &sorts)?,
-        equations: equations(alloc, statements)?,
-    })
 }
