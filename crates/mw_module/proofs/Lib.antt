@@ -3,6 +3,7 @@ pub mod Slices
 pub mod NameByName
 pub mod Lists
 pub mod ItemByItem
+pub mod Formed
 pub mod Clones
 pub mod Bodies
 pub mod Fronts
