@@ -21,6 +21,7 @@ use Rattle.mw_declare.specs.Meaning.{Name, number_of, numbers_of, sorts_of}
 use Rattle.mw_declare.specs.Grouping.{begins_open, ends_open, is_end, gather_behind, default_precedence, gather_of_mark, precedence_of, gather_of}
 use Rattle.mw_declare.specs.Operators.{Profile, same_profile, Declared, with_operator, profile_of, with_named, with_operators, operators_from, operators_of, operator_of}
 use Rattle.mw_declare.specs.Faults.{Typing, variables_with}
+use Rattle.mw_declare.proofs.Holes.{with_holes, without_holes}
 
 abbrev pub IsUpTo : ℕ → ℕ → Type 0
 IsUpTo count K = K ≤ count
@@ -145,23 +146,15 @@ marks_behind first [] = refl
 marks_behind first (piece x ∷ items) = marks_behind false items
 marks_behind first (hole ∷ items) = ap suc (marks_behind false items)
 
-no_holes : (items : List Item) → has_hole items ≡ false → count_holes items ≡ 0
-no_holes [] e = refl
-no_holes (piece x ∷ items) e = no_holes items e
-no_holes (hole ∷ items) e = cc
-
-some_holes : (items : List Item) → has_hole items ≡ true → count_holes items ≢ 0
-some_holes [] e = cc
-some_holes (piece x ∷ items) e = some_holes items e
-some_holes (hole ∷ items) e = λ h. omega (arith, h)
-
 marks : (arity : ℕ) (said : Option (List (List ℕ))) (items : List Item) → IfSome said (IsGather arity) → (count_holes items ≡ 0) ⊎ (count_holes items ≡ arity) → length (gather_of said items) ≡ count_holes items
 marks arity None items h fits = marks_behind true items
-marks arity (Some ms) items h fits = of (has_hole items) refl
+marks arity (Some ms) items h fits = of (count_holes items) refl
   where
-    of : (b : Bool) → has_hole items ≡ b → length (if b then map gather_of_mark ms else []) ≡ count_holes items
-    of true e = ⊎_elim (λ z. absurd (some_holes items e z)) (λ n. length-map ms gather_of_mark ∙ h.0 ∙ sym n) fits
-    of false e = sym (no_holes items e)
+    of : (n : ℕ) → count_holes items ≡ n → length (gather_of (Some ms) items) ≡ count_holes items
+    of zero e = ap length (without_holes (Some ms) ms refl items e) ∙ sym e
+    of (suc n) e =
+        let some : count_holes items ≢ 0 = λ z. omega (arith, e, z) in
+        ap length (with_holes (Some ms) ms refl items some) ∙ length-map ms gather_of_mark ∙ h.0 ∙ sym (⊎_elim (λ z. absurd (some z)) (λ k. k) fits)
 
 -- An operator that a module declares, where there are so many sorts: its name has no holes or one for each argument, and a mark for each hole, its
 -- sorts are declared, and its precedence is at most 127.
