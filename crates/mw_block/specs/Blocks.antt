@@ -19,9 +19,9 @@ word_text limit_depth = codes "limit depth"
 abbrev pub line : List ℕ → List ℕ
 line text = text ++ 10 ∷ []
 
--- the command with its module and its term
-abbrev pub echo_line : Signature → List ℕ → RawTerm → List ℕ
-echo_line sig name from = line (codes "reduce in " ++ name ++ codes " : " ++ printed sig from ++ codes " .")
+-- the command by its word, with its module and its term
+abbrev pub echo_line : List ℕ → Signature → List ℕ → RawTerm → List ℕ
+echo_line command sig name from = line (command ++ codes " in " ++ name ++ codes " : " ++ printed sig from ++ codes " .")
 
 -- how many replacements were made
 abbrev pub count_line : ℕ → List ℕ
@@ -35,6 +35,14 @@ result_line sig S to = line (codes "result " ++ sort_name sig S ++ codes ": " ++
 abbrev pub status_line : Word → List ℕ
 status_line word = line (codes "status: " ++ word_text word)
 
--- the four lines for a command
+-- the four lines for a reduction
 abbrev pub block : Signature → List ℕ → RawTerm → ℕ → ℕ → RawTerm → Word → List ℕ
-block sig name from count S to word = echo_line sig name from ++ count_line count ++ result_line sig S to ++ status_line word
+block sig name from count S to word = echo_line (codes "reduce") sig name from ++ count_line count ++ result_line sig S to ++ status_line word
+
+-- the sort of a term that was read
+abbrev pub sort_line : Signature → ℕ → List ℕ
+sort_line sig S = line (codes "sort: " ++ sort_name sig S)
+
+-- the two lines for a term that was read
+abbrev pub parsed_block : Signature → List ℕ → RawTerm → ℕ → List ℕ
+parsed_block sig name term S = echo_line (codes "parse") sig name term ++ sort_line sig S

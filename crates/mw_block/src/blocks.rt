@@ -1,6 +1,6 @@
-// The block of a command.
+// The blocks of commands.
 ghost use Rattle.std.specs.Prelude.{◌≡◌, ◌++◌, IfOk, OnOk};
-ghost use Rattle.mw_block.specs.Blocks.{block, count_line, echo_line, result_line, status_line, word_text};
+ghost use Rattle.mw_block.specs.Blocks.{block, count_line, echo_line, parsed_block, result_line, sort_line, status_line, word_text};
 ghost use Rattle.mw_block.specs.Seen.{word_of};
 
 use crate::printing::{print, print_number, print_sort};
@@ -18,17 +18,19 @@ pub enum Status {
     Depth,
 }
 
-/// The command with its module and its term.
+/// The command by its word, with its module and its term.
 fn write_echo(
     alloc: Global,
+    command: &str,
     signature: &Signature,
     name: &Name,
     term: &Term,
     text: &mut Vec<u8>,
 ) -> Result<(), AllocError>
-    ensures { OnOk result (text.new.items ≡ text.old.items ++ echo_line signature.now name.now term.now) }
+    ensures { OnOk result (text.new.items ≡ text.old.items ++ echo_line command.now signature.now name.now term.now) }
 {
-    text.extend_from_slice("reduce in ".as_bytes())?;
+    text.extend_from_slice(command.as_bytes())?;
+    text.extend_from_slice(" in ".as_bytes())?;
     text.extend_from_slice(name.as_slice())?;
     text.extend_from_slice(" : ".as_bytes())?;
     print(alloc, signature, term, text)?;
@@ -80,6 +82,15 @@ fn write_status(status: Status, text: &mut Vec<u8>) -> Result<(), AllocError>
     text.extend_from_slice("\n".as_bytes())
 }
 
+/// The sort of a term that was read.
+fn write_sort(signature: &Signature, sort: SortId, text: &mut Vec<u8>) -> Result<(), AllocError>
+    ensures { OnOk result (text.new.items ≡ text.old.items ++ sort_line signature.now sort) }
+{
+    text.extend_from_slice("sort: ".as_bytes())?;
+    print_sort(signature, sort, text)?;
+    text.extend_from_slice("\n".as_bytes())
+}
+
 /// What a reduction came to: how many replacements, a term, its sort, and how it ended.
 #[derive(Clone, Copy)]
 pub struct Reached<'t> {
@@ -100,9 +111,25 @@ pub fn reduction(
     ensures { IfOk result (λ text. text.items ≡ block signature.now name.now from.now reached.now.count reached.now.sort reached.now.term.now (word_of reached.now.status)) }
 {
     let mut text = Vec::new(alloc);
-    write_echo(alloc, signature, name, from, &mut text)?;
+    write_echo(alloc, "reduce", signature, name, from, &mut text)?;
     write_count(alloc, reached.count, &mut text)?;
     write_result(alloc, signature, reached.sort, reached.term, &mut text)?;
     write_status(reached.status, &mut text)?;
+    Ok(text)
+}
+
+/// The block of a term that was read in the module of this name, with its sort.
+pub fn parsed(
+    alloc: Global,
+    signature: &Signature,
+    name: &Name,
+    term: &Term,
+    sort: SortId,
+) -> Result<Vec<u8>, AllocError>
+    ensures { IfOk result (λ text. text.items ≡ parsed_block signature.now name.now term.now sort) }
+{
+    let mut text = Vec::new(alloc);
+    write_echo(alloc, "parse", signature, name, term, &mut text)?;
+    write_sort(signature, sort, &mut text)?;
     Ok(text)
 }

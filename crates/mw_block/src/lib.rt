@@ -5,6 +5,6 @@ mod blocks;
 mod printing;
 mod refused;
 
-pub use blocks::{Reached, Status, reduction};
+pub use blocks::{Reached, Status, parsed, reduction};
 pub use printing::print;
 pub use refused::refusal;

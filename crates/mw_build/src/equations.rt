@@ -13,7 +13,7 @@ use crate::mentions::{mentioned, mentioned_in_both};
 use crate::size::is_within;
 use mw_declare::Equation;
 use mw_module::{Fault, FaultKind};
-use mw_parse::{ParseError, Reader, parse_pair};
+use mw_parse::{PairError, Reader, parse_pair};
 use mw_term::{Fragment, Raw, Seq, Statement};
 use std::alloc::{AllocError, Global};
 
@@ -83,10 +83,10 @@ fn statement(
 {
     match parse_pair(alloc, reader, equation.left, equation.right) {
         Ok((left, right)) => sides_statement(alloc, left, right, equation.executable),
-        Err(ParseError::TooLong) => Ok(Err(FaultKind::TermTooLong)),
-        Err(ParseError::NoParse) => Ok(Err(FaultKind::NoParse)),
-        Err(ParseError::Ambiguous) => Ok(Err(FaultKind::Ambiguous)),
-        Err(ParseError::Memory) => Err(AllocError),
+        Err(PairError::TooLong) => Ok(Err(FaultKind::TermTooLong)),
+        Err(PairError::NoParse) => Ok(Err(FaultKind::NoParse)),
+        Err(PairError::Ambiguous { .. }) => Ok(Err(FaultKind::Ambiguous)),
+        Err(PairError::Memory) => Err(AllocError),
     }
 }
 

@@ -10,7 +10,7 @@ use Rattle.mw_command.specs.declared.commands.Command.{Command}
 use Rattle.mw_command.specs.declared.commands.CommandError.{CommandError}
 use Rattle.mw_command.specs.declared.commands.CommandError.TheVariants as error
 use Rattle.mw_command.specs.declared.commands.Word.{Word}
-use Rattle.mw_command.specs.declared.commands.Word.TheVariants.{Reduce}
+use Rattle.mw_command.specs.declared.commands.Word.TheVariants.{Reduce, Parse}
 
 -- a command as its readers see it
 pub record SeenCommand : Type 0 where
@@ -50,38 +50,43 @@ names_with_braces (a ∷ []) = false
 names_with_braces (a ∷ b ∷ rest) =
     is (codes "in") a && ((is (codes "{") b && begins_with (codes ":") rest) || has_braces_before_colon rest)
 
--- a reduction of this term in this module
-abbrev pub reduction : Option (List ℕ) → List Seen → SeenCommand
-reduction name term = record { word = Reduce; bound = None; «module» = name; term = term; subject = None }
+-- a command of this word for this term, in this module
+abbrev pub for_term : Word → Option (List ℕ) → List Seen → SeenCommand
+for_term word name term = record { word = word; bound = None; «module» = name; term = term; subject = None }
 
--- a reduction behind its word: exactly `in`, a name and a colon name a module, and what follows is the term
-abbrev pub reduction_of : List Seen → SeenCommand
-reduction_of [] = reduction None []
-reduction_of (a ∷ []) = reduction None (a ∷ [])
-reduction_of (a ∷ b ∷ []) = reduction None (a ∷ b ∷ [])
-reduction_of (a ∷ b ∷ c ∷ rest) = if is (codes "in") a && is (codes ":") c then reduction (Some b.text) rest else reduction None (a ∷ b ∷ c ∷ rest)
+-- a command behind its word: exactly `in`, a name and a colon name a module, and what follows is the term
+abbrev pub named_behind : Word → List Seen → SeenCommand
+named_behind word [] = for_term word None []
+named_behind word (a ∷ []) = for_term word None (a ∷ [])
+named_behind word (a ∷ b ∷ []) = for_term word None (a ∷ b ∷ [])
+named_behind word (a ∷ b ∷ c ∷ rest) = if is (codes "in") a && is (codes ":") c then for_term word (Some b.text) rest else for_term word None (a ∷ b ∷ c ∷ rest)
 
 -- a command, or what is wrong
 abbrev pub Outcome : Type 0
 Outcome = Result SeenCommand Fault
 
--- what a reduction is behind its word; a module's name comes before the bound, which a reduction doesn't take
-abbrev pub outcome_behind : ℕ → List Seen → Outcome
-outcome_behind line ts = if names_with_braces (behind_bound ts) then Err (record { line = line; kind = NotInProfile })
-    else if begins_with (codes "[") ts then Err (record { line = line; kind = BadBound }) else Ok (reduction_of ts)
+-- what a command is behind its word; a module's name comes before the bound, which none of these commands takes
+abbrev pub outcome_behind : Word → ℕ → List Seen → Outcome
+outcome_behind word line ts = if names_with_braces (behind_bound ts) then Err (record { line = line; kind = NotInProfile })
+    else if begins_with (codes "[") ts then Err (record { line = line; kind = BadBound }) else Ok (named_behind word ts)
 
 -- the tokens of the first item behind its first
 abbrev pub behind_word : List (List Seen) → List Seen
 behind_word [] = []
 behind_word (item ∷ items) = drop 1 item
 
--- a reduction's word
-abbrev pub is_reduce : List ℕ → Bool
-is_reduce word = bytes_eq word (codes "reduce") || bytes_eq word (codes "red")
+-- the command that a first word asks for
+abbrev pub word_of : List ℕ → Option Word
+word_of text = if bytes_eq text (codes "reduce") || bytes_eq text (codes "red") then Some Reduce
+    else if bytes_eq text (codes "parse") then Some Parse else None
+
+abbrev pub outcome_of : Option Word → SeenUnit → Outcome
+outcome_of None u = Err (record { line = u.line; kind = NotInProfile })
+outcome_of (Some word) u = outcome_behind word u.line (behind_word u.items)
 
 -- the command that a unit is, by its first word
 abbrev pub command_of : SeenUnit → Outcome
-command_of u = if is_reduce u.word then outcome_behind u.line (behind_word u.items) else Err (record { line = u.line; kind = NotInProfile })
+command_of u = outcome_of (word_of u.word) u
 
 -- why there is no command: want of memory, which is free, or the unit's fault
 abbrev pub HasCause : CommandError → Outcome → Type 0

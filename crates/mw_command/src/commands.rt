@@ -13,7 +13,10 @@ use std::alloc::{AllocError, Global};
 /// What a command does.
 #[derive(Clone, Copy, Debug, PartialEq, Eq)]
 pub enum Word {
+    /// Reduces a term.
     Reduce,
+    /// Reads a term.
+    Parse,
 }
 
 /// A command.
@@ -46,10 +49,17 @@ impl From<AllocError> for CommandError {
     }
 }
 
-fn is_reduce(word: &[u8]) -> bool
-    ensures { result ≡ commands.is_reduce word.now }
+// The command that a first word asks for.
+fn word_of(text: &[u8]) -> Option<Word>
+    ensures { result ≡ commands.word_of text.now }
 {
-    word == b"reduce".as_slice() || word == b"red".as_slice()
+    if text == b"reduce".as_slice() || text == b"red".as_slice() {
+        Some(Word::Reduce)
+    } else if text == b"parse".as_slice() {
+        Some(Word::Parse)
+    } else {
+        None
+    }
 }
 
 // The tokens of the first item behind its first.
@@ -65,12 +75,17 @@ fn behind_word(unit: &Unit) -> &[Token]
     }
 }
 
-// A reduction of this term.
-fn reduction(alloc: Global, module: Option<Vec<u8>>, term: &[Token]) -> Result<Command, AllocError>
-    ensures { IfOk result (λ c. commands.seen_command c ≡ commands.reduction (option_map (λ m. m.items) «module») (seen_all term.now)) }
+// A command for this term.
+fn for_term(
+    alloc: Global,
+    word: Word,
+    module: Option<Vec<u8>>,
+    term: &[Token],
+) -> Result<Command, AllocError>
+    ensures { IfOk result (λ c. commands.seen_command c ≡ commands.for_term word (option_map (λ m. m.items) «module») (seen_all term.now)) }
 {
     Ok(Command {
-        word: Word::Reduce,
+        word,
         bound: None,
         module,
         term: copies(alloc, term)?,
@@ -78,16 +93,16 @@ fn reduction(alloc: Global, module: Option<Vec<u8>>, term: &[Token]) -> Result<C
     })
 }
 
-// A reduction behind its word.
-fn reduction_of(alloc: Global, tokens: &[Token]) -> Result<Command, AllocError>
-    ensures { IfOk result (λ c. commands.seen_command c ≡ commands.reduction_of (seen_all tokens.now)) }
+// A command behind its word.
+fn named_behind(alloc: Global, word: Word, tokens: &[Token]) -> Result<Command, AllocError>
+    ensures { IfOk result (λ c. commands.seen_command c ≡ commands.named_behind word (seen_all tokens.now)) }
 {
     match tokens {
-        [word, name, colon, term @ ..] if is_word(word, b"in") && is_word(colon, b":") => {
+        [first, name, colon, term @ ..] if is_word(first, b"in") && is_word(colon, b":") => {
             let name = name.text.as_slice().to_vec(alloc)?;
-            reduction(alloc, Some(name), term)
+            for_term(alloc, word, Some(name), term)
         }
-        _ => reduction(alloc, None, tokens),
+        _ => for_term(alloc, word, None, tokens),
     }
 }
 
@@ -98,13 +113,17 @@ pub fn read(alloc: Global, unit: &Unit) -> Result<Command, CommandError>
 {
     let line = unit.line;
     let tokens = behind_word(unit);
-    if !is_reduce(unit.word.as_slice()) || has_braced_name(tokens) {
-        let kind = FaultKind::NotInProfile;
-        return Err(CommandError::Fault(Fault { line, kind }));
+    match word_of(unit.word.as_slice()) {
+        Some(word) if !has_braced_name(tokens) => {
+            if begins_with(tokens, b"[") {
+                let kind = FaultKind::BadBound;
+                return Err(CommandError::Fault(Fault { line, kind }));
+            }
+            Ok(named_behind(alloc, word, tokens)?)
+        }
+        _ => {
+            let kind = FaultKind::NotInProfile;
+            Err(CommandError::Fault(Fault { line, kind }))
+        }
     }
-    if begins_with(tokens, b"[") {
-        let kind = FaultKind::BadBound;
-        return Err(CommandError::Fault(Fault { line, kind }));
-    }
-    Ok(reduction_of(alloc, tokens)?)
 }

@@ -1,7 +1,7 @@
 //! Reads the commands of a source.
 //!
-//! Of the commands only `reduce`, also written `red`, is read: behind its word `in M :` may name a module, and what
-//! follows is the term. A bracket behind the word would be a bound, which `reduce` doesn't take.
+//! Of the commands `reduce`, also written `red`, and `parse` are read: behind the word `in M :` may name a module, and
+//! what follows is the term. A bracket behind the word would be a bound, which these commands don't take.
 #![tactic(auto)]
 
 mod commands;
@@ -18,7 +18,8 @@ mod tests {
     use std::process::Abort;
     use std::test::Fail;
 
-    /// The module and term of the first unit's command, or its fault's line and number.
+    /// The module and term of the first unit's command, behind a question mark where it is `parse`; or its fault's line
+    /// and number.
     fn told(rt: &impl Abort, alloc: Global, source: &[u8]) -> Result<Vec<u8>, Fail> {
         assert!(rt; source.len() < 1000);
         let all = tokens(alloc, source)?;
@@ -27,7 +28,9 @@ mod tests {
         let mut out = Vec::new(alloc);
         match read(alloc, &unit) {
             Ok(command) => {
-                assert_eq!(rt; command.word, Word::Reduce);
+                if command.word == Word::Parse {
+                    out.push(b'?')?;
+                }
                 assert!(rt; command.bound.is_none() && command.subject.is_none());
                 if let Some(name) = &command.module {
                     out.extend_from_slice(name.as_slice())?;
@@ -56,7 +59,7 @@ mod tests {
     #[test]
     fn units_are_read_as_commands(rt: HostRuntime) -> Result<(), Fail> {
         let alloc = rt.alloc();
-        let cases: [(&[u8], &[u8]); 24] = [
+        let cases: [(&[u8], &[u8]); 30] = [
             (b"reduce plus(s(z), X) .", b" plus ( s ( z ) , X )"),
             (b"red z .", b" z"),
             (b"red in P : z .", b"P: z"),
@@ -75,6 +78,12 @@ mod tests {
             (b"reduce in { : z .", b"1!6"),
             (b"reduce in P{N} z .", b" in P { N } z"),
             (b"reduce in P{N} z } : z .", b" in P { N } z } : z"),
+            (b"parse plus(z, z) .", b"? plus ( z , z )"),
+            (b"parse in P : z .", b"?P: z"),
+            (b"parse .", b"?"),
+            (b"\nparse [5] z .", b"2!27"),
+            (b"parse [5] in P{N} : z .", b"1!6"),
+            (b"parser z .", b"1!6"),
             (b"\n\nrewrite z .", b"3!6"),
             (b"rewrite [5] z .", b"1!6"),
             (b"search in SET : a =>* b .", b"1!6"),

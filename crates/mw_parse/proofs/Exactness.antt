@@ -6,7 +6,7 @@ use Rattle.mw_logic.specs.Term.{Variable, RawTerm, apply, nil, cons, join}
 use Rattle.mw_logic.specs.Signature.{Signature, SameKind, same, up, down, Member}
 use Rattle.mw_text.specs.Mixfix as mixfix
 use Rattle.mw_text.specs.Mixfix.{Reads}
-use Rattle.mw_text.specs.Readings.{ArePair, ReadsPair, NoneHas, TwoHave}
+use Rattle.mw_text.specs.Readings.{ArePair, ReadsPair, NoneHas, BothHave}
 use Rattle.mw_term.specs.declared.raw.Raw.{Raw}
 use Rattle.mw_term.specs.Raws.{raw_term, raw_terms}
 use Rattle.mw_chart.specs.Tree.{Tree, app}
@@ -14,10 +14,8 @@ use Rattle.mw_chart.specs.Answer as chart
 use Rattle.mw_chart.specs.declared.table.Table.{Table}
 use Rattle.mw_chart.specs.declared.word.Word.{Word}
 use Rattle.mw_chart.specs.declared.fault.Fault.{Fault}
-use Rattle.mw_chart.specs.declared.fault.Fault.TheVariants as fault
 use Rattle.mw_chart.specs.declared.fault.Pair.{Pair}
 use Rattle.mw_chart.specs.declared.fault.PairFault.{PairFault}
-use Rattle.mw_chart.specs.declared.fault.PairFault.TheVariants as pair_fault
 use Rattle.mw_grammar.specs.Readable.{kind_in, AreKinds}
 use Rattle.mw_grammar.specs.Worded.{AreWords}
 use Rattle.mw_grammar.specs.Meaning.{term_of, with_last}
@@ -29,7 +27,11 @@ use Rattle.mw_declare.specs.Meaning.{texts}
 use Rattle.mw_parse.specs.declared.reader.Reader.{Reader}
 use Rattle.mw_parse.specs.Readers.{IsReaderOf}
 use Rattle.mw_parse.specs.Answers.{HasCause, HasPairCause}
-use Rattle.mw_parse.specs.Tops.{IsTop, error_of, pair_error_of}
+use Rattle.mw_parse.specs.Tops.{IsTop, IsTold, IsPairTold}
+use Rattle.mw_parse.specs.declared.fault.ParseError.{ParseError}
+use Rattle.mw_parse.specs.declared.fault.ParseError.TheVariants as error
+use Rattle.mw_parse.specs.declared.fault.PairError.{PairError}
+use Rattle.mw_parse.specs.declared.fault.PairError.TheVariants as pair_error
 use Rattle.mw_parse.specs.declared.terms.Top.{Top}
 use Rattle.mw_parse.specs.declared.terms.Top.TheVariants.{Operator, Variable as VariableTop}
 
@@ -78,20 +80,24 @@ module _ (sig : Signature) (variables : List Variable) (g : Table) (terms : g.ki
   none : (wanted : Option ℕ) → ((u : Tree) → chart.IsSpelled g wanted words u → ⊥) → NoneHas (mixfix.IsSpelled sig variables wanted tokens)
   none wanted never t h = let r = exact.complete wanted t h in never r.0 (spelled_by wanted r.0 r.1)
 
-  two : (wanted : Option ℕ) (a b : Tree) → chart.IsSpelled g wanted words a → chart.IsSpelled g wanted words b → a ≢ b → TwoHave (mixfix.IsSpelled sig variables wanted tokens)
+  two : (wanted : Option ℕ) (a b : Tree) → chart.IsSpelled g wanted words a → chart.IsSpelled g wanted words b → a ≢ b
+      → BothHave (mixfix.IsSpelled sig variables wanted tokens) (term_of leaves a) (term_of leaves b)
   two wanted a b h k apart = (
-    term_of leaves a,
-    term_of leaves b,
     exact.sound wanted a (tree wanted a h),
     exact.sound wanted b (tree wanted b k),
     exact.differ wanted a b (tree wanted a h) (tree wanted b k) apart,
   )
 
-  pub cause : (wanted : Option ℕ) (f : Fault) → chart.HasFault g wanted words f → HasCause sig variables wanted tokens (error_of f)
-  cause wanted fault.NoParse h = (subst (λ n. n ≤ 1024) count h.0, none wanted h.1)
-  cause wanted (fault.Ambiguous a b) h = (subst (λ n. n ≤ 1024) count h.0, two wanted a b h.1 h.2 h.3)
-  cause wanted fault.TooLong h = subst (λ n. 1024 < n) count h
-  cause wanted fault.Memory h = tt
+  pub cause : (wanted : Option ℕ) (f : Fault) (e : ParseError) → chart.HasFault g wanted words f → IsTold leaves f e → HasCause sig variables wanted tokens e
+  cause wanted f error.TooLong h e = let k = subst (chart.HasFault g wanted words) e h in subst (λ n. 1024 < n) count k
+  cause wanted f error.NoParse h e = let k = subst (chart.HasFault g wanted words) e h in (subst (λ n. n ≤ 1024) count k.0, none wanted k.1)
+  cause wanted f (error.Ambiguous t u) h (a, b, e, first, second) =
+      let k = subst (chart.HasFault g wanted words) e h in (
+        subst (λ n. n ≤ 1024) count k.0,
+        subst (λ m. BothHave (mixfix.IsSpelled sig variables wanted tokens) m (raw_term u)) (sym first)
+            (subst (λ m. BothHave (mixfix.IsSpelled sig variables wanted tokens) (term_of leaves a) m) (sym second) (two wanted a b k.1 k.2 k.3)),
+      )
+  cause wanted f error.Memory h e = tt
 
   -- a tree of a kind is a term of that kind, and a term of a kind is a tree of it
   pub of_kind : (kind : ℕ) (t : Tree) → kind ≤ g.kinds → chart.IsOf g words kind t → mixfix.IsSpelled sig variables (Some kind) tokens (term_of leaves t)
@@ -162,21 +168,30 @@ module _ (sig : Signature) (variables : List Variable) (g : Table) (terms : g.ki
       (λ x. re.differ None p.right q.right (rt p.right h.0 h.1 h.3) (rt q.right k.0 k.1 k.3) (λ y. apart (same_trees p q x y)) f)
       e
 
-  pub pair_cause : (f : PairFault) → chart.HasPairFault g lw rw f → HasPairCause sig variables left right (pair_error_of f)
-  pair_cause pair_fault.NoParse h = (subst (λ n. n ≤ 1024) lc h.0.0, subst (λ n. n ≤ 1024) rc h.0.1, none_pair sig variables g terms ls left lw lc le rs right rw rc re h.1)
-  pair_cause (pair_fault.Ambiguous p q) h = (
-    subst (λ n. n ≤ 1024) lc h.0.0,
-    subst (λ n. n ≤ 1024) rc h.0.1,
-    (
-      (term_of ls p.left, term_of rs p.right),
-      (term_of ls q.left, term_of rs q.right),
-      pair sig variables g terms ls left lw lc le rs right rw rc re p.left p.right h.1,
-      pair sig variables g terms ls left lw lc le rs right rw rc re q.left q.right h.2,
-      λ e. apart_pairs p q h.1 h.2 h.3 (ap (λ x. x.0) e) (ap (λ x. x.1) e),
-    ),
+  apart : (p q : Pair) → chart.IsPair g lw rw p.left p.right → chart.IsPair g lw rw q.left q.right → p ≢ q
+      → BothHave (ArePair sig variables left right) (term_of ls p.left, term_of rs p.right) (term_of ls q.left, term_of rs q.right)
+  apart p q h k differ = (
+    pair sig variables g terms ls left lw lc le rs right rw rc re p.left p.right h,
+    pair sig variables g terms ls left lw lc le rs right rw rc re q.left q.right k,
+    λ e. apart_pairs p q h k differ (ap (λ x. x.0) e) (ap (λ x. x.1) e),
   )
-  pair_cause pair_fault.TooLong h = ⊎_elim (λ a. inl (subst (λ n. 1024 < n) lc a)) (λ a. inr (subst (λ n. 1024 < n) rc a)) h
-  pair_cause pair_fault.Memory h = tt
+
+  pub pair_cause : (f : PairFault) (e : PairError) → chart.HasPairFault g lw rw f → IsPairTold ls rs f e → HasPairCause sig variables left right e
+  pair_cause f pair_error.TooLong h e =
+      let k = subst (chart.HasPairFault g lw rw) e h in ⊎_elim (λ a. inl (subst (λ n. 1024 < n) lc a)) (λ a. inr (subst (λ n. 1024 < n) rc a)) k
+  pair_cause f pair_error.NoParse h e =
+      let k = subst (chart.HasPairFault g lw rw) e h in
+      (subst (λ n. n ≤ 1024) lc k.0.0, subst (λ n. n ≤ 1024) rc k.0.1, none_pair sig variables g terms ls left lw lc le rs right rw rc re k.1)
+  pair_cause f (pair_error.Ambiguous t u) h (p, q, e, first, second) =
+      let k = subst (chart.HasPairFault g lw rw) e h in
+      let same = same_pair (raw_term t.0, raw_term t.1) (term_of ls p.left, term_of rs p.right) first.0 first.1 in
+      let other = same_pair (raw_term u.0, raw_term u.1) (term_of ls q.left, term_of rs q.right) second.0 second.1 in (
+        subst (λ n. n ≤ 1024) lc k.0.0,
+        subst (λ n. n ≤ 1024) rc k.0.1,
+        subst (λ m. BothHave (ArePair sig variables left right) m (raw_term u.0, raw_term u.1)) (sym same)
+            (subst (λ m. BothHave (ArePair sig variables left right) (term_of ls p.left, term_of rs p.right) m) (sym other) (apart p q k.1 k.2 k.3)),
+      )
+  pair_cause f pair_error.Memory h e = tt
 
 raws_push : (rs : List Raw) (r : Raw) → raw_terms (rs ++ r ∷ []) ≡ join (raw_terms rs) (cons (raw_term r) nil)
 raws_push [] r = refl

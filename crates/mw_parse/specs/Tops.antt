@@ -1,14 +1,19 @@
 -- A term by its top and its arguments; and what the chart's faults tell.
 use Rattle.std.specs.Prelude.{◌≡◌, List}
-use Rattle.mw_logic.specs.Term.{RawTerm, variable, apply}
+use Rattle.mw_logic.specs.Term.{Variable as Leaf, RawTerm, variable, apply}
 use Rattle.mw_term.specs.declared.raw.Raw.{Raw}
-use Rattle.mw_term.specs.Raws.{raw_terms}
+use Rattle.mw_term.specs.Raws.{raw_term, raw_terms}
+use Rattle.mw_chart.specs.Tree.{Tree}
+use Rattle.mw_chart.specs.declared.fault.Pair.{Pair}
+use Rattle.mw_grammar.specs.Meaning.{term_of}
 use Rattle.mw_chart.specs.declared.fault.Fault.{Fault}
 use Rattle.mw_chart.specs.declared.fault.Fault.TheVariants as fault
 use Rattle.mw_chart.specs.declared.fault.PairFault.{PairFault}
 use Rattle.mw_chart.specs.declared.fault.PairFault.TheVariants as pair_fault
 use Rattle.mw_parse.specs.declared.fault.ParseError.{ParseError}
 use Rattle.mw_parse.specs.declared.fault.ParseError.TheVariants as error
+use Rattle.mw_parse.specs.declared.fault.PairError.{PairError}
+use Rattle.mw_parse.specs.declared.fault.PairError.TheVariants as pair_error
 use Rattle.mw_parse.specs.declared.terms.Top.{Top}
 use Rattle.mw_parse.specs.declared.terms.Top.TheVariants.{Operator, Variable}
 
@@ -17,15 +22,19 @@ abbrev pub IsTop : Top → List Raw → RawTerm → Type 0
 IsTop (Operator f) args t = t ≡ apply f (raw_terms args)
 IsTop (Variable x) args t = t ≡ variable x
 
--- what the chart's faults tell
-abbrev pub error_of : Fault → ParseError
-error_of fault.NoParse = error.NoParse
-error_of (fault.Ambiguous a b) = error.Ambiguous
-error_of fault.TooLong = error.TooLong
-error_of fault.Memory = error.Memory
+-- the error tells the chart's fault: two trees by their terms. Want of memory may come in place of each.
+abbrev pub IsTold : List Leaf → Fault → ParseError → Type 0
+IsTold leaves f error.TooLong = f ≡ fault.TooLong
+IsTold leaves f error.NoParse = f ≡ fault.NoParse
+IsTold leaves f (error.Ambiguous t u) = (a : Tree) × (b : Tree) × (f ≡ fault.Ambiguous a b) × (raw_term t ≡ term_of leaves a) × (raw_term u ≡ term_of leaves b)
+IsTold leaves f error.Memory = Unit {0}
 
-abbrev pub pair_error_of : PairFault → ParseError
-pair_error_of pair_fault.NoParse = error.NoParse
-pair_error_of (pair_fault.Ambiguous a b) = error.Ambiguous
-pair_error_of pair_fault.TooLong = error.TooLong
-pair_error_of pair_fault.Memory = error.Memory
+-- the terms are those of a pair of trees
+abbrev pub ArePairOf : List Leaf → List Leaf → Pair → Raw × Raw → Type 0
+ArePairOf lefts rights p t = (raw_term t.0 ≡ term_of lefts p.left) × (raw_term t.1 ≡ term_of rights p.right)
+
+abbrev pub IsPairTold : List Leaf → List Leaf → PairFault → PairError → Type 0
+IsPairTold lefts rights f pair_error.TooLong = f ≡ pair_fault.TooLong
+IsPairTold lefts rights f pair_error.NoParse = f ≡ pair_fault.NoParse
+IsPairTold lefts rights f (pair_error.Ambiguous t u) = (p : Pair) × (q : Pair) × (f ≡ pair_fault.Ambiguous p q) × ArePairOf lefts rights p t × ArePairOf lefts rights q u
+IsPairTold lefts rights f pair_error.Memory = Unit {0}

@@ -9,7 +9,7 @@ mod reader;
 mod single;
 mod terms;
 
-pub use fault::ParseError;
+pub use fault::{PairError, ParseError};
 pub use pair::parse_pair;
 pub use reader::Reader;
 pub use single::parse;

@@ -8,25 +8,60 @@ ghost use Rattle.mw_text.specs.Readings.{ReadsPair};
 ghost use Rattle.mw_declare.specs.Meaning.{texts};
 ghost use Rattle.mw_parse.specs.Readers.{IsReaderOf, IsReading};
 ghost use Rattle.mw_parse.specs.Answers.{HasPairCause};
-ghost use Rattle.mw_parse.specs.Tops.{pair_error_of};
+ghost use Rattle.mw_chart.specs.declared.fault.PairFault.TheVariants.{Ambiguous};
+ghost use Rattle.mw_parse.specs.Tops.{ArePairOf, IsPairTold};
 
-use crate::fault::ParseError;
+use crate::fault::PairError;
 use crate::reader::Reader;
 use crate::terms::raw;
-use mw_chart::{LIMIT, PairFault};
+use mw_chart::{LIMIT, Pair, PairFault};
 use mw_lex::Token;
-use mw_term::Raw;
-use std::alloc::Global;
+use mw_term::{Raw, VarId};
+use std::alloc::{AllocError, Global};
+
+/// The terms of a pair of trees.
+fn terms(
+    alloc: Global,
+    pair: &Pair,
+    lefts: &[VarId],
+    rights: &[VarId],
+) -> Result<(Raw, Raw), AllocError>
+    ensures { IfOk result (ArePairOf lefts.now rights.now pair.now) }
+{
+    let left = raw(alloc, pair.left.body(), lefts)?;
+    let right = raw(alloc, pair.right.body(), rights)?;
+    Ok((left, right))
+}
+
+/// Two different pairs of terms, from the chart's trees.
+fn unclear(
+    alloc: Global,
+    first: &Pair,
+    second: &Pair,
+    lefts: &[VarId],
+    rights: &[VarId],
+) -> Result<PairError, AllocError>
+    ensures { IfOk result (IsPairTold lefts.now rights.now (Ambiguous first.now second.now)) }
+{
+    let first = terms(alloc, first, lefts, rights)?;
+    let second = terms(alloc, second, lefts, rights)?;
+    Ok(PairError::Ambiguous { first, second })
+}
 
 /// What the chart's fault tells.
-fn told(fault: PairFault) -> ParseError
-    ensures { result ≡ pair_error_of fault }
+fn told(
+    alloc: Global,
+    fault: &PairFault,
+    lefts: &[VarId],
+    rights: &[VarId],
+) -> Result<PairError, AllocError>
+    ensures { IfOk result (IsPairTold lefts.now rights.now fault.now) }
 {
     match fault {
-        PairFault::NoParse => ParseError::NoParse,
-        PairFault::Ambiguous { .. } => ParseError::Ambiguous,
-        PairFault::TooLong => ParseError::TooLong,
-        PairFault::Memory => ParseError::Memory,
+        PairFault::NoParse => Ok(PairError::NoParse),
+        PairFault::Ambiguous { first, second } => unclear(alloc, first, second, lefts, rights),
+        PairFault::TooLong => Ok(PairError::TooLong),
+        PairFault::Memory => Ok(PairError::Memory),
     }
 }
 
@@ -36,7 +71,7 @@ pub fn parse_pair(
     reader: &Reader,
     left: &[Token],
     right: &[Token],
-) -> Result<(Raw, Raw), ParseError>
+) -> Result<(Raw, Raw), PairError>
     requires { IsReading reader.now }
     ensures read { (sig : SignatureOf) (variables : List Variable) → IsReaderOf sig variables reader.now
         → IfOk result (λ p. ReadsPair sig variables (texts (seen_all left.now)) (texts (seen_all right.now)) (raw_term p.0, raw_term p.1)) }
@@ -44,7 +79,7 @@ pub fn parse_pair(
         → IfErr result (HasPairCause sig variables (texts (seen_all left.now)) (texts (seen_all right.now))) }
 {
     if left.len() > LIMIT || right.len() > LIMIT {
-        return Err(ParseError::TooLong);
+        return Err(PairError::TooLong);
     }
     let lefts = reader.grammar.words(alloc, left)?;
     let rights = reader.grammar.words(alloc, right)?;
@@ -56,10 +91,22 @@ pub fn parse_pair(
         rights.words.as_slice(),
     ) {
         Ok(pair) => {
-            let left = raw(alloc, pair.left.body(), lefts.leaves.as_slice())?;
-            let right = raw(alloc, pair.right.body(), rights.leaves.as_slice())?;
-            Ok((left, right))
+            let read = terms(
+                alloc,
+                &pair,
+                lefts.leaves.as_slice(),
+                rights.leaves.as_slice(),
+            )?;
+            Ok(read)
         }
-        Err(fault) => Err(told(fault)),
+        Err(fault) => {
+            let error = told(
+                alloc,
+                &fault,
+                lefts.leaves.as_slice(),
+                rights.leaves.as_slice(),
+            )?;
+            Err(error)
+        }
     }
 }

@@ -8,25 +8,40 @@ ghost use Rattle.mw_text.specs.Mixfix.{Reads};
 ghost use Rattle.mw_declare.specs.Meaning.{texts};
 ghost use Rattle.mw_parse.specs.Readers.{IsReaderOf, IsReading};
 ghost use Rattle.mw_parse.specs.Answers.{HasCause};
-ghost use Rattle.mw_parse.specs.Tops.{error_of};
+ghost use Rattle.mw_chart.specs.declared.fault.Fault.TheVariants.{Ambiguous};
+ghost use Rattle.mw_parse.specs.Tops.{IsTold};
 
 use crate::fault::ParseError;
 use crate::reader::Reader;
 use crate::terms::raw;
-use mw_chart::{Fault, LIMIT};
+use mw_chart::{Fault, LIMIT, Term};
 use mw_lex::Token;
-use mw_term::{Raw, SortId};
-use std::alloc::Global;
+use mw_term::{Raw, SortId, VarId};
+use std::alloc::{AllocError, Global};
+
+/// Two different terms, from the chart's trees.
+fn unclear(
+    alloc: Global,
+    first: &Term,
+    second: &Term,
+    leaves: &[VarId],
+) -> Result<ParseError, AllocError>
+    ensures { IfOk result (IsTold leaves.now (Ambiguous first.now second.now)) }
+{
+    let first = raw(alloc, first.body(), leaves)?;
+    let second = raw(alloc, second.body(), leaves)?;
+    Ok(ParseError::Ambiguous { first, second })
+}
 
 /// What the chart's fault tells.
-fn told(fault: Fault) -> ParseError
-    ensures { result ≡ error_of fault }
+fn told(alloc: Global, fault: &Fault, leaves: &[VarId]) -> Result<ParseError, AllocError>
+    ensures { IfOk result (IsTold leaves.now fault.now) }
 {
     match fault {
-        Fault::NoParse => ParseError::NoParse,
-        Fault::Ambiguous { .. } => ParseError::Ambiguous,
-        Fault::TooLong => ParseError::TooLong,
-        Fault::Memory => ParseError::Memory,
+        Fault::NoParse => Ok(ParseError::NoParse),
+        Fault::Ambiguous { first, second } => unclear(alloc, first, second, leaves),
+        Fault::TooLong => Ok(ParseError::TooLong),
+        Fault::Memory => Ok(ParseError::Memory),
     }
 }
 
@@ -54,6 +69,9 @@ pub fn parse(
         wanted,
     ) {
         Ok(term) => Ok(raw(alloc, term.body(), words.leaves.as_slice())?),
-        Err(fault) => Err(told(fault)),
+        Err(fault) => {
+            let error = told(alloc, &fault, words.leaves.as_slice())?;
+            Err(error)
+        }
     }
 }

@@ -27,4 +27,4 @@ pub returns-in-Err-Ambiguous : goal.returns-in-Err-Ambiguous
 returns-in-Err-Ambiguous c = λ sig variables simple reader.
     let e = seen_equation c.args.equation.now in
     let cause = subst (HasPairCause sig variables (texts e.left) (texts e.right)) c.in-Err-Ambiguous.field-0-is (c.in-Err-Ambiguous.ensures.cause sig variables reader) in
-    unclear cause.0 cause.1 cause.2
+    unclear cause.0 cause.1 (_, _, cause.2)

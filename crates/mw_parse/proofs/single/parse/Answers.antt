@@ -5,7 +5,7 @@ use Rattle.mw_chart.specs.Answer as chart
 use Rattle.mw_text.specs.Mixfix.{Reads}
 use Rattle.mw_declare.specs.Meaning.{texts}
 use Rattle.mw_grammar.specs.Meaning.{term_of}
-use Rattle.mw_parse.specs.Answers.{HasCause}
+use Rattle.mw_parse.specs.Tops.{IsTold}
 use Rattle.mw_parse.proofs.Exactness.{exact_words, count_words, reads, cause}
 use Rattle.mw_parse.proofs.single.parse.Goals as goal
 
@@ -30,5 +30,5 @@ returns-clause-cause c = λ sig variables is.
     let exact = exact_words sig variables r c.args.tokens.now w is c.in_ok-words.ensures in
     let count = count_words r c.args.tokens.now w c.in_ok-words.ensures in
     let h = subst (λ g. chart.HasFault g c.args.wanted w.words.items c.in-Err.fault) c.table.ensures (subst (λ ws. chart.HasFault c.table.result.now c.args.wanted ws c.in-Err.fault) c.as_slice.ensures.value c.in-Err.ensures.fault) in
-    subst (HasCause sig variables c.args.wanted (texts (seen_all c.args.tokens.now))) (sym c.told.ensures)
-    (cause sig variables r.grammar.table is.grammar.compiled.of_terms w.leaves.items (texts (seen_all c.args.tokens.now)) w.words.items count exact c.args.wanted c.in-Err.fault h)
+    let told = subst (λ ls. IsTold ls c.in-Err.fault c.in_ok-error-in-Err.error) c.as_slice-in-Err.ensures.value c.in_ok-error-in-Err.ensures in
+    cause sig variables r.grammar.table is.grammar.compiled.of_terms w.leaves.items (texts (seen_all c.args.tokens.now)) w.words.items count exact c.args.wanted c.in-Err.fault c.in_ok-error-in-Err.error h told
