@@ -15,9 +15,9 @@ use Rattle.mw_build.specs.Modules.{Accepted, IsAccepted, IsRefused, by_equations
 use Rattle.mw_build.proofs.Signatures.{simple_declared}
 use Rattle.mw_build.proofs.Sides.{simple_module}
 
-module _ (u : SeenUnit) (d : Declarations) (declared : declarations_of (statements_of u) ≡ Ok d) where
+module _ (u : SeenUnit) (d : Declarations) (declared : declarations_of u.line (statements_of u) ≡ Ok d) where
   pub simple : IsSimpleSignature d.signature
-  simple = simple_declared (statements_of u) d declared
+  simple = simple_declared u.line (statements_of u) d declared
 
   -- what the equations are, or their first fault
   module _ (es seen : List Equation) (same : es ≡ seen) (is : d.equations ≡ seen_equations seen) (r : Result (Vec Statement) Fault)

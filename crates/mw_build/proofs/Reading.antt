@@ -16,7 +16,7 @@ use Rattle.mw_build.specs.Equations.{IsStatementOf, SidesFault, IsEquation, Equa
 module _ (sig : Signature) (variables : List Variable) (e : Sides) where
   -- an equation whose sides spell these terms
   pub of_sides : {E : Type 0} (left right : RawTerm) → ReadsPair sig variables (texts e.left) (texts e.right) (left, right) → (r : Result (Result Statement FaultKind) E)
-      → IfOk r (λ s. MatchResult s (IsStatementOf sig left right) (λ kind. SidesFault sig left right (cause_of kind)))
+      → IfOk r (λ s. MatchResult s (IsStatementOf sig left right e.executable) (λ kind. SidesFault sig left right e.executable (cause_of kind)))
       → IfOk r (λ s. MatchResult s (IsEquation sig variables e) (λ kind. EquationFault sig variables e (cause_of kind)))
   of_sides left right read (Err x) h = h
   of_sides left right read (Ok (Ok st)) h = record { left = left; right = right; read = read; sides = h }

@@ -1,30 +1,30 @@
 -- Sides of equations in signatures in which no sort is below another.
-use Rattle.std.proofs.Common.{nat_le, ◌≡◌, ◌∙◌, ◌≤◌, ◌<◌, ◌||◌, ℕ, zero, suc, List, [], ◌∷◌, Bool, true, false, if◌then◌else◌, Option, Some, None, IsTrue, Result, Ok, Err, IfOk, refl, sym, ap, subst, arith}
-use Rattle.std.proofs.lemmas.Bool.{both_ways}
+use Rattle.std.proofs.Common.{nat_le, ◌≡◌, ◌∙◌, ◌≤◌, ◌<◌, ◌||◌, ◌++◌, ℕ, zero, suc, List, [], ◌∷◌, Bool, true, false, cond, if◌then◌else◌, Option, Some, None, IsTrue, Result, Ok, Err, IfOk, refl, sym, ap, subst, arith}
+use Rattle.std.proofs.lemmas.Bool.{both_ways, or_left, or_right}
 use Rattle.std.proofs.lemmas.Option.{slice_get_within}
-use Rattle.mw_logic.specs.Term.{Variable, RawTerm, numeral, quoted, variable}
-use Rattle.mw_logic.specs.Signature.{Signature, IsRawTerm, a_numeral, a_quoted, a_variable, an_operator, at_number}
-use Rattle.mw_logic.specs.Substitution.{same_variable, occurs}
+use Rattle.mw_logic.specs.Term.{Variable, RawTerm, numeral, quoted, variable, apply, RawTerms, nil, cons}
+use Rattle.mw_logic.specs.Signature.{Signature, IsRawTerm, a_numeral, a_quoted, a_variable, an_operator}
+use Rattle.mw_logic.specs.Substitution.{same_variable, occurs, occurs_in}
 use Rattle.mw_logic.specs.Axioms.{done}
 use Rattle.mw_logic.specs.NormalForm.{height}
 use Rattle.mw_logic.specs.Parts.{depth}
-use Rattle.mw_logic.specs.Module.{Statement, Fragment}
+use Rattle.mw_logic.specs.Module.{Statement, Fragment, IsStatement}
 use Rattle.mw_logic.proofs.FreeSignature.{free_equal, free_clean}
 use Rattle.mw_term.specs.declared.raw.Raw.{Raw}
 use Rattle.mw_term.specs.declared.raw.Raw.TheVariants.{Nat, Qid, Var, Op}
 use Rattle.mw_term.specs.Raws.{raw_term}
 use Rattle.mw_machine.specs.Machine.{IsFlat}
 use Rattle.mw_machine.specs.Simple.{IsSimpleSignature, IsSimpleEquation, IsSimpleModule}
-use Rattle.mw_machine.specs.Variables.{is_in, met}
+use Rattle.mw_machine.specs.Variables.{is_in, met, all_met}
 use Rattle.mw_machine.proofs.Discrete.{free, accepted}
 use Rattle.mw_machine.proofs.Depths.{depth_height}
-use Rattle.mw_machine.proofs.Meeting.{same_is, is_in-met}
+use Rattle.mw_machine.proofs.Meeting.{same_is, same_itself, is_in-met}
 use Rattle.mw_module.specs.Refusals.{too_deep}
 use Rattle.mw_text.specs.Mixfix.{Reads}
 use Rattle.mw_text.proofs.RawTerms.{spelled_raw}
 use Rattle.mw_declare.specs.Meaning.{Sides}
 use Rattle.mw_build.proofs.Reading.{there}
-use Rattle.mw_build.specs.Equations.{missing_in, unbound, FitsIn, Oversized, deep, IsLone, statement_of, IsEquation, AreEquations}
+use Rattle.mw_build.specs.Equations.{missing_in, unbound, FitsIn, Oversized, deep, IsLone, statement_of, IsApplicable, IsEquation, AreEquations}
 
 -- where none is missing, each is bound
 none_missing : (bound xs : List Variable) → missing_in bound xs ≡ None → (x : Variable) → is_in x xs ≡ true → is_in x bound ≡ true
@@ -58,9 +58,22 @@ pub holds_none : (o : Option Variable) → ((x : Variable) → o ≡ Some x → 
 holds_none None h = refl
 holds_none (Some x) h = absurd (h x refl)
 
-pub made : (left right : RawTerm) (fragments : List Fragment) (variables : List Variable) → fragments ≡ [] → variables ≡ met [] left
-    → record { left = left; right = right; fragments = fragments; variables = variables; rule = false; executable = true; owise = false } ≡ statement_of left right
-made left right fragments variables e h = rw (e, h) refl
+pub made : (left right : RawTerm) (executable : Bool) (fragments : List Fragment) (variables : List Variable) → fragments ≡ [] → variables ≡ met (met [] left) right
+    → record { left = left; right = right; fragments = fragments; variables = variables; rule = false; executable = executable; owise = false } ≡ statement_of left right executable
+made left right executable fragments variables e h = rw (e, h) refl
+
+mutual
+  -- a term in which no variable is new
+  met_again : (xs : List Variable) (t : RawTerm) → ((x : Variable) → IsTrue (occurs x t) → is_in x xs ≡ true) → met xs t ≡ xs
+  met_again xs (numeral n) h = refl
+  met_again xs (quoted q) h = refl
+  met_again xs (variable x) h = ap (λ b. cond b xs (xs ++ x ∷ [])) (h x (same_itself x))
+  met_again xs (apply f ts) h = all_met_again xs ts h
+
+  all_met_again : (xs : List Variable) (ts : RawTerms) → ((x : Variable) → IsTrue (occurs_in x ts) → is_in x xs ≡ true) → all_met xs ts ≡ xs
+  all_met_again xs nil h = refl
+  all_met_again xs (cons t ts) h =
+      ap (λ ys. all_met ys ts) (met_again xs t (λ x o. h x (or_left (occurs x t) (occurs_in x ts) o))) ∙ all_met_again xs ts (λ x o. h x (or_right (occurs x t) (occurs_in x ts) o))
 
 module _ (sig : Signature) (simple : IsSimpleSignature sig) where
   -- no more than so many levels, so the term fits in
@@ -96,31 +109,33 @@ module _ (sig : Signature) (simple : IsSimpleSignature sig) where
   has_top t (an_operator o is args) h f = f
 
   module _ (variables : List Variable) where
-    pub simple_equation : (e : Sides) (st : Statement) → IsEquation sig variables e st → IsSimpleEquation sig st
-    simple_equation e st is = subst (IsSimpleEquation sig) (sym is.sides.statement) (record {
-      executable = refl;
+    pub simple_equation : (e : Sides) (st : Statement) → IsEquation sig variables e st → IsTrue st.executable → IsSimpleEquation sig st
+    simple_equation e st is h = subst (IsSimpleEquation sig) (sym is.sides.statement) (record {
       equation = refl;
       unconditional = refl;
       ordinary = refl;
       left = left_raw;
       right = spelled_raw sig (accepted sig simple) variables is.read.only.0.second.spells;
       kinds = (is.read.only.0.kind, is.read.only.0.of_first, is.read.only.0.of_second);
-      top = has_top is.left left_raw is.sides.not_lone;
-      variables = refl;
-      bound = all_bound is.left is.right is.sides.bound;
+      top = has_top is.left left_raw applicable.not_lone;
+      variables = met_again (met [] is.left) is.right (λ x o. is_in-met x [] is.left ∙ all_bound is.left is.right applicable.bound x o);
+      bound = all_bound is.left is.right applicable.bound;
     })
       where
+        applicable : IsApplicable sig is.left is.right
+        applicable = is.sides.applicable (sym (ap (λ (s : Statement). s.executable) is.sides.statement) ∙ h)
+
         left_raw : IsRawTerm sig is.left
         left_raw = spelled_raw sig (accepted sig simple) variables is.read.only.0.first.spells
 
     pub simple_module : (es : List Sides) (sts : List Statement) → AreEquations sig variables es sts → IsSimpleModule (record { signature = sig; statements = sts })
     simple_module es sts all = record { signature = simple; equations = at_each }
       where
-        at_each : (k : ℕ) (st : Statement) → at_number sts k ≡ Some st → IsSimpleEquation sig st
-        at_each zero st h = cc
-        at_each (suc i) st h =
-            let w = slice_get_within sts i st h in
-            let e = there es i (omega (arith, w, all.count)) in simple_equation e.0 st (all.each i e.0 st e.1 h)
+        at_each : (k : ℕ) (st : Statement) → IsStatement (record { signature = sig; statements = sts }) k st → IsSimpleEquation sig st
+        at_each zero st is = let h = is.is_there in cc
+        at_each (suc i) st is =
+            let w = slice_get_within sts i st is.is_there in
+            let e = there es i (omega (arith, w, all.count)) in simple_equation e.0 st (all.each i e.0 st e.1 is.is_there) is.executable
 
 -- what a text is read as is a term of the signature
 pub raw_read : {E : Type 0} (sig : Signature) (variables : List Variable) (words : List (List ℕ)) → IsSimpleSignature sig → (r : Result Raw E)

@@ -9,8 +9,9 @@ use Rattle.mw_machine.proofs.Meeting.{neither}
 use Rattle.mw_module.specs.Forms.{Shape, Sorts, Operators, Variables, Equation}
 use Rattle.mw_module.specs.Refusals.{Refusal}
 use Rattle.mw_declare.specs.Statements.{Lined}
-use Rattle.mw_declare.specs.Meaning.{Name, texts, is_among, with_name, with_names, with_sorts, sorts_from, sorts_of, Profile, operator_of, profiles_of, signature_of, equations_of}
-use Rattle.mw_declare.specs.Faults.{Typing, Declarations, declarations_of, declared_with, declared_unless, typing_of, unknown_from, variables_with}
+use Rattle.mw_declare.specs.Meaning.{Name, texts, is_among, with_name, with_names, with_sorts, sorts_from, sorts_of, equations_of}
+use Rattle.mw_declare.specs.Operators.{Declared, operator_of, operators_of, signature_of}
+use Rattle.mw_declare.specs.Faults.{Typing, Declarations, declarations_of, declared_with, declared_unless, typing_of, fault_of, variables_with}
 
 -- no name stands twice
 abbrev AreDifferent : List Name → Type 0
@@ -46,9 +47,9 @@ different_names ns (m ∷ ms) d = different_names (with_name ns m) ms (different
 
 different_sorts : (ns : List Name) (s : Shape) → AreDifferent ns → AreDifferent (with_sorts ns s)
 different_sorts ns (Sorts names) d = different_names ns (texts names) d
-different_sorts ns (Operators names args result) d = d
+different_sorts ns (Operators names args result said) d = d
 different_sorts ns (Variables names S) d = d
-different_sorts ns (Equation left right) d = d
+different_sorts ns (Equation left right executable) d = d
 
 different_from : (ns : List Name) (ss : List Lined) → AreDifferent ns → AreDifferent (sorts_from ns ss)
 different_from ns [] d = d
@@ -75,8 +76,8 @@ mapped_at g [] i b e = cc
 mapped_at g (x ∷ xs) zero b e = (x, sym (same_Some (g x) b e))
 mapped_at g (x ∷ xs) (suc i) b e = mapped_at g xs i b e
 
-simple_operator : (p : Profile) → IsSimpleOperator (operator_of p)
-simple_operator p = record { free = record { assoc = refl; comm = refl; identity = refl; built = refl }; declarations = refl }
+simple_operator : (o : Declared) → IsSimpleOperator (operator_of o)
+simple_operator o = record { free = record { assoc = refl; comm = refl; identity = refl; built = refl }; declarations = refl }
 
 pub simple_signature : (ss : List Lined) → IsSimpleSignature (signature_of ss)
 simple_signature ss = record { pairs = refl; nat = refl; qid = refl; sorts_differ = differ; operators = at_each }
@@ -86,21 +87,28 @@ simple_signature ss = record { pairs = refl; nat = refl; qid = refl; sorts_diffe
     differ (suc i) zero n e k = cc
     differ (suc i) (suc j) n e k = ap suc (different_at (sorts_of ss) (different_from [] ss tt) i j n e k)
 
-    at_each : (f : ℕ) (o : Operator) → at_number (map operator_of (profiles_of ss)) f ≡ Some o → IsSimpleOperator o
+    at_each : (f : ℕ) (o : Operator) → at_number (map operator_of (operators_of ss)) f ≡ Some o → IsSimpleOperator o
     at_each zero o e = cc
-    at_each (suc i) o e = let p = mapped_at operator_of (profiles_of ss) i o e in subst IsSimpleOperator (sym p.1) (simple_operator p.0)
+    at_each (suc i) o e = let p = mapped_at operator_of (operators_of ss) i o e in subst IsSimpleOperator (sym p.1) (simple_operator p.0)
 
-pub ok_inj : {X Y : Type 0} {x y : X} → ◌≡◌ {A = Result X Y} (Ok x) (Ok y) → x ≡ y
+ok_inj : {X Y : Type 0} {x y : X} → ◌≡◌ {A = Result X Y} (Ok x) (Ok y) → x ≡ y
 ok_inj e = cc
 
-signature_declared : (ss : List Lined) (r : Result Typing Refusal) (d : Declarations) → declared_with ss r ≡ Ok d → d.signature ≡ signature_of ss
-signature_declared ss (Err f) d e = cc
-signature_declared ss (Ok es) d e = of (unknown_from (sorts_of ss) ss) e
-  where
-    of : (o : Option Refusal) → declared_unless o (record { signature = signature_of ss; variables = variables_with (sorts_of ss) es; equations = equations_of ss }) ≡ Ok d → d.signature ≡ signature_of ss
-    of None k = ap (λ (d : Declarations). d.signature) (sym (ok_inj k))
-    of (Some f) k = cc
+-- what statements declare whose variables have these sorts
+abbrev pub declared_by : List Lined → Typing → Declarations
+declared_by ss es = record { signature = signature_of ss; variables = variables_with (sorts_of ss) es; equations = equations_of ss }
 
--- a module that declares without a fault
-pub simple_declared : (ss : List Lined) (d : Declarations) → declarations_of ss ≡ Ok d → IsSimpleSignature d.signature
-simple_declared ss d e = subst IsSimpleSignature (sym (signature_declared ss (typing_of ss) d e)) (simple_signature ss)
+-- statements that declare without a fault
+pub declared_is : (line : ℕ) (ss : List Lined) (d : Declarations) → declarations_of line ss ≡ Ok d → (es : Typing) × (declared_by ss es ≡ d)
+declared_is line ss d e = by (typing_of ss) e
+  where
+    of : (es : Typing) (o : Option Refusal) → declared_unless o (declared_by ss es) ≡ Ok d → declared_by ss es ≡ d
+    of es None k = ok_inj k
+    of es (Some f) k = cc
+
+    by : (r : Result Typing Refusal) → declared_with line ss r ≡ Ok d → (es : Typing) × (declared_by ss es ≡ d)
+    by (Err f) k = cc
+    by (Ok es) k = (es, of es (fault_of line ss) k)
+
+pub simple_declared : (line : ℕ) (ss : List Lined) (d : Declarations) → declarations_of line ss ≡ Ok d → IsSimpleSignature d.signature
+simple_declared line ss d e = subst (λ (d : Declarations). IsSimpleSignature d.signature) (declared_is line ss d e).1 (simple_signature ss)

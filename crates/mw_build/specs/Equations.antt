@@ -1,5 +1,5 @@
 -- Which statement an equation is, and what is wrong with one. (Maude Manual, chapter 4, "Unconditional equations".)
-use Rattle.std.specs.Prelude.{◌≡◌, ◌<◌, ◌⊎◌, ◌++◌, ℕ, List, [], ◌∷◌, length, slice_get, cond, true, false, Option, Some, None, if◌then◌else◌}
+use Rattle.std.specs.Prelude.{◌≡◌, ◌<◌, ◌⊎◌, ◌++◌, ℕ, List, [], ◌∷◌, length, slice_get, cond, Bool, false, IsTrue, Option, Some, None, if◌then◌else◌}
 use Rattle.mw_logic.specs.Term.{Variable, RawTerm, variable}
 use Rattle.mw_logic.specs.Signature.{Signature}
 use Rattle.mw_logic.specs.Axioms.{EqualModulo}
@@ -38,32 +38,39 @@ abbrev pub IsLone : Signature → RawTerm → Type 0
 IsLone sig t = (x : Variable) × EqualModulo sig t (variable x)
 
 -- the equation of these sides
-abbrev pub statement_of : RawTerm → RawTerm → Statement
-statement_of left right = record {
+abbrev pub statement_of : RawTerm → RawTerm → Bool → Statement
+statement_of left right executable = record {
   left = left;
   right = right;
   fragments = [];
-  variables = met [] left;
+  variables = met (met [] left) right;
   rule = false;
-  executable = true;
+  executable = executable;
   owise = false;
 }
 
--- The sides are those of this statement: they fit in, the left one isn't a variable, and it has each variable of the right one.
-pub record IsStatementOf (sig : Signature) (left right : RawTerm) (st : Statement) : Type 0 where
-  pub left_fits : FitsIn sig left
-  pub right_fits : FitsIn sig right
+-- An equation of these sides can be applied: the left one isn't a variable, and it has each variable of the right one.
+pub record IsApplicable (sig : Signature) (left right : RawTerm) : Type 0 where
   pub not_lone : IsLone sig left → ⊥
   pub bound : unbound left right ≡ None
-  pub statement : st ≡ statement_of left right
 
--- what is wrong with sides, in this order
-pub data SidesFault (sig : Signature) (left right : RawTerm) : Cause → Type 0 where
-  big_left : (cause : Cause) → Oversized sig left cause → SidesFault sig left right cause
-  big_right : (cause : Cause) → FitsIn sig left → Oversized sig right cause → SidesFault sig left right cause
-  lone : FitsIn sig left → FitsIn sig right → IsLone sig left → SidesFault sig left right lone_variable
-  open_right : (x : Variable) → FitsIn sig left → FitsIn sig right → (IsLone sig left → ⊥) → unbound left right ≡ Some x
-      → SidesFault sig left right (unbound_variable x.name)
+-- why it can't, in this order
+pub data ApplicationFault (sig : Signature) (left right : RawTerm) : Cause → Type 0 where
+  lone : IsLone sig left → ApplicationFault sig left right lone_variable
+  open_right : (x : Variable) → (IsLone sig left → ⊥) → unbound left right ≡ Some x → ApplicationFault sig left right (unbound_variable x.name)
+
+-- The sides are those of this statement: they fit in, and it can be applied where it is executable.
+pub record IsStatementOf (sig : Signature) (left right : RawTerm) (executable : Bool) (st : Statement) : Type 0 where
+  pub left_fits : FitsIn sig left
+  pub right_fits : FitsIn sig right
+  pub applicable : IsTrue executable → IsApplicable sig left right
+  pub statement : st ≡ statement_of left right executable
+
+-- what is wrong with sides, in this order; nothing else is with those of an equation that isn't executable
+pub data SidesFault (sig : Signature) (left right : RawTerm) (executable : Bool) : Cause → Type 0 where
+  big_left : (cause : Cause) → Oversized sig left cause → SidesFault sig left right executable cause
+  big_right : (cause : Cause) → FitsIn sig left → Oversized sig right cause → SidesFault sig left right executable cause
+  inapplicable : (cause : Cause) → FitsIn sig left → FitsIn sig right → IsTrue executable → ApplicationFault sig left right cause → SidesFault sig left right executable cause
 
 module _ (sig : Signature) (variables : List Variable) where
   -- the equation is this statement: its texts spell these sides, and no others of one kind
@@ -71,14 +78,14 @@ module _ (sig : Signature) (variables : List Variable) where
     pub left : RawTerm
     pub right : RawTerm
     pub read : ReadsPair sig variables (texts e.left) (texts e.right) (left, right)
-    pub sides : IsStatementOf sig left right st
+    pub sides : IsStatementOf sig left right e.executable st
 
   -- what is wrong with an equation, in this order
   pub data EquationFault (e : Sides) : Cause → Type 0 where
     long : (1024 < length (texts e.left)) ⊎ (1024 < length (texts e.right)) → EquationFault e term_too_long
     unread : IsShort (texts e.left) → IsShort (texts e.right) → NoneHas (ArePair sig variables (texts e.left) (texts e.right)) → EquationFault e no_parse
     unclear : IsShort (texts e.left) → IsShort (texts e.right) → TwoHave (ArePair sig variables (texts e.left) (texts e.right)) → EquationFault e ambiguous
-    sides : (left right : RawTerm) (cause : Cause) → ReadsPair sig variables (texts e.left) (texts e.right) (left, right) → SidesFault sig left right cause
+    sides : (left right : RawTerm) (cause : Cause) → ReadsPair sig variables (texts e.left) (texts e.right) (left, right) → SidesFault sig left right e.executable cause
         → EquationFault e cause
 
   -- the equations are these statements, one for one

@@ -20,15 +20,15 @@ pub record Accepted : Type 0 where
 pub record IsAccepted (u : SeenUnit) (name : List ℕ) (a : Accepted) : Type 0 where
   pub named : a.name ≡ name
   pub declarations : Declarations
-  pub declared : declarations_of (statements_of u) ≡ Ok declarations
+  pub declared : declarations_of u.line (statements_of u) ≡ Ok declarations
   pub signature : a.module.signature ≡ declarations.signature
   pub variables : a.variables ≡ declarations.variables
   pub equations : AreEquations declarations.signature declarations.variables declarations.equations a.module.statements
 
 -- why it is none: a fault of its declarations, or else of its equations
 pub data IsRefused (u : SeenUnit) (r : Refusal) : Type 0 where
-  by_declarations : declarations_of (statements_of u) ≡ Err r → IsRefused u r
-  by_equations : (d : Declarations) → declarations_of (statements_of u) ≡ Ok d → FirstFault d.signature d.variables d.equations r → IsRefused u r
+  by_declarations : declarations_of u.line (statements_of u) ≡ Err r → IsRefused u r
+  by_equations : (d : Declarations) → declarations_of u.line (statements_of u) ≡ Ok d → FirstFault d.signature d.variables d.equations r → IsRefused u r
 
 -- why there is no module: want of memory, which is free, or the unit's first fault
 abbrev pub HasCause : SeenUnit → BuildError → Type 0

@@ -1,5 +1,5 @@
 // Equations, from tokens to statements.
-ghost use Rattle.std.specs.Prelude.{◌≡◌, List, IfOk, MatchResult};
+ghost use Rattle.std.specs.Prelude.{◌≡◌, List, IfOk, MatchOption, MatchResult};
 ghost use Rattle.mw_logic.specs.Term.{Variable};
 ghost use Rattle.mw_logic.specs.Signature.{Signature as SignatureOf};
 ghost use Rattle.mw_machine.specs.Simple.{IsSimpleSignature};
@@ -7,9 +7,9 @@ ghost use Rattle.mw_term.specs.Raws.{raw_term};
 ghost use Rattle.mw_module.specs.Refusals.{cause_of, refusal_of};
 ghost use Rattle.mw_declare.specs.Seen.{seen_equation, seen_equations};
 ghost use Rattle.mw_parse.specs.Readers.{IsReaderOf, IsReading};
-ghost use Rattle.mw_build.specs.Equations.{IsEquation, EquationFault, IsStatementOf, SidesFault, AreEquations, FirstFault};
+ghost use Rattle.mw_build.specs.Equations.{IsEquation, EquationFault, IsApplicable, ApplicationFault, IsStatementOf, SidesFault, AreEquations, FirstFault};
 
-use crate::mentions::mentioned;
+use crate::mentions::{mentioned, mentioned_in_both};
 use crate::size::is_within;
 use mw_declare::Equation;
 use mw_module::{Fault, FaultKind};
@@ -20,34 +20,53 @@ use std::alloc::{AllocError, Global};
 /// The most levels of a term.
 const DEEPEST: u32 = 1000;
 
+/// Why an equation of these sides can't be applied, if it can't.
+fn application_fault(
+    alloc: Global,
+    left: &Raw,
+    right: &Raw,
+) -> Result<Option<FaultKind>, AllocError>
+    ensures { (sig : SignatureOf) → IsSimpleSignature sig → IfOk result (λ o. MatchOption o
+        (IsApplicable sig (raw_term left.now) (raw_term right.now))
+        (λ kind. ApplicationFault sig (raw_term left.now) (raw_term right.now) (cause_of kind))) }
+{
+    if matches!(left, Raw::Var(_)) {
+        return Ok(Some(FaultKind::LoneVariable));
+    }
+    let bound = mentioned(alloc, left)?;
+    match mentioned(alloc, right)?.missing_in(alloc, &bound)? {
+        Some(variable) => Ok(Some(FaultKind::UnboundVariable(variable.name.into_vec()))),
+        None => Ok(None),
+    }
+}
+
 /// The statement of an equation's sides, or what is wrong with them.
 fn sides_statement(
     alloc: Global,
     left: Raw,
     right: Raw,
+    executable: bool,
 ) -> Result<Result<Statement, FaultKind>, AllocError>
     ensures { (sig : SignatureOf) → IsSimpleSignature sig → IfOk result (λ r. MatchResult r
-        (λ st. IsStatementOf sig (raw_term left) (raw_term right) st)
-        (λ kind. SidesFault sig (raw_term left) (raw_term right) (cause_of kind))) }
+        (λ st. IsStatementOf sig (raw_term left) (raw_term right) executable st)
+        (λ kind. SidesFault sig (raw_term left) (raw_term right) executable (cause_of kind))) }
 {
     if !is_within(&left, DEEPEST) || !is_within(&right, DEEPEST) {
         return Ok(Err(FaultKind::TooDeep));
     }
-    if matches!(left, Raw::Var(_)) {
-        return Ok(Err(FaultKind::LoneVariable));
+    if executable {
+        if let Some(kind) = application_fault(alloc, &left, &right)? {
+            return Ok(Err(kind));
+        }
     }
-    let bound = mentioned(alloc, &left)?;
-    if let Some(variable) = mentioned(alloc, &right)?.missing_in(alloc, &bound)? {
-        return Ok(Err(FaultKind::UnboundVariable(variable.name.into_vec())));
-    }
-    let variables = bound.variables(alloc)?;
+    let variables = mentioned_in_both(alloc, &left, &right)?.variables(alloc)?;
     Ok(Ok(Statement {
         left,
         right,
         fragments: Seq::of(Vec::<Fragment>::new(alloc)),
         variables,
         rule: false,
-        executable: true,
+        executable,
     }))
 }
 
@@ -63,7 +82,7 @@ fn statement(
         (λ kind. EquationFault sig variables (seen_equation equation.now) (cause_of kind))) }
 {
     match parse_pair(alloc, reader, equation.left, equation.right) {
-        Ok((left, right)) => sides_statement(alloc, left, right),
+        Ok((left, right)) => sides_statement(alloc, left, right, equation.executable),
         Err(PairError::TooLong) => Ok(Err(FaultKind::TermTooLong)),
         Err(PairError::NoParse) => Ok(Err(FaultKind::NoParse)),
         Err(PairError::Ambiguous { .. }) => Ok(Err(FaultKind::Ambiguous)),

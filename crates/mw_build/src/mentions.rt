@@ -135,3 +135,12 @@ pub fn mentioned(alloc: Global, term: &Raw) -> Result<Mentions, AllocError>
     meet_all(alloc, &mut mentions, term)?;
     Ok(mentions)
 }
+
+/// The variables of two terms in order of first mention.
+pub fn mentioned_in_both(alloc: Global, left: &Raw, right: &Raw) -> Result<Mentions, AllocError>
+    ensures { IfOk result (λ m. m ≡ met (met [] (raw_term left.now)) (raw_term right.now)) }
+{
+    let mut mentions = mentioned(alloc, left)?;
+    meet_all(alloc, &mut mentions, right)?;
+    Ok(mentions)
+}

@@ -1,5 +1,7 @@
 -- What a module's statements declare.
 pub mod Statements
 pub mod Meaning
+pub mod Grouping
+pub mod Operators
 pub mod Faults
 pub mod Seen

@@ -2,6 +2,8 @@
 use Rattle.std.specs.Prelude.{◌≡◌, List, Bool, true, false, Option, None, Some, Result, Ok, Err, map}
 use Rattle.mw_lex.specs.Lexing.{seen_all}
 use Rattle.mw_module.specs.declared.faults.Fault.{Fault}
+use Rattle.mw_module.specs.declared.attribute.Attributes.{Attributes}
+use Rattle.mw_module.specs.Attributes.{seen_attributes}
 use Rattle.mw_module.specs.Refusals.{Refusal, refusal_of}
 use Rattle.mw_declare.specs.declared.statement.Equation.{Equation}
 use Rattle.mw_declare.specs.declared.operators.Profile.{Profile}
@@ -9,11 +11,16 @@ use Rattle.mw_declare.specs.declared.variables.Typing.{Typing as TypingTable}
 use Rattle.mw_declare.specs.declared.declarations.Declarations.{Declarations as DeclarationsHeld}
 use Rattle.mw_declare.specs.declared.declarations.DeclareError.{DeclareError}
 use Rattle.mw_declare.specs.declared.declarations.DeclareError.TheVariants as error
-use Rattle.mw_declare.specs.Meaning.{Name, Sides, Profile as ProfileOf}
+use Rattle.mw_declare.specs.Meaning.{Name, Sides}
+use Rattle.mw_declare.specs.Operators.{Profile as ProfileOf, Declared}
 use Rattle.mw_declare.specs.Faults.{Typing, Declarations}
 
 abbrev pub seen_profile : Profile → ProfileOf
 seen_profile p = record { spelling = p.spelling.items; args = p.args.items; result = p.result }
+
+-- an operator's profile with what is said of it
+abbrev pub seen_operator : Profile × Attributes → Declared
+seen_operator e = record { profile = seen_profile e.0; attributes = seen_attributes e.1 }
 
 abbrev pub ended_by : Bool → Typing → Name → Result Typing Name
 ended_by true es n = Ok es
@@ -28,7 +35,7 @@ seen_typing (Ok t) = Ok t
 seen_typing (Err f) = Err (refusal_of f)
 
 abbrev pub seen_equation : Equation → Sides
-seen_equation e = record { line = e.line; left = seen_all e.left.now; right = seen_all e.right.now }
+seen_equation e = record { line = e.line; left = seen_all e.left.now; right = seen_all e.right.now; executable = e.executable }
 
 abbrev pub seen_equations : List Equation → List Sides
 seen_equations = map seen_equation

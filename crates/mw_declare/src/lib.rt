@@ -3,9 +3,11 @@
 #![tactic(auto)]
 
 mod declarations;
+mod grouping;
 mod names;
 mod operators;
 mod sorts;
+mod spelling;
 mod statement;
 mod variables;
 
@@ -17,7 +19,7 @@ mod tests {
     use super::*;
     use mw_lex::tokens;
     use mw_module::{Fault, FaultKind, read_unit};
-    use mw_term::{Name, Operator, VarId};
+    use mw_term::{Gather, Name, Operator, VarId};
     use std::alloc::{AllocError, Global};
     use std::process::Abort;
     use std::test::Fail;
@@ -36,7 +38,38 @@ mod tests {
         Ok(())
     }
 
-    /// An operator's name, the numbers of its arguments' sorts and of its value's sort.
+    fn mark_of(gather: Gather) -> u8 {
+        match gather {
+            Gather::Less => b'e',
+            Gather::Most => b'E',
+            Gather::Any => b'&',
+        }
+    }
+
+    /// How a mixfix form groups, unless it is that of a name without holes; and whether it joins configurations.
+    fn write_grouping(
+        rt: &impl Abort,
+        out: &mut Vec<u8>,
+        operator: &Operator,
+    ) -> Result<(), AllocError> {
+        let marks = operator.gather.as_slice();
+        if operator.prec != 0 || !marks.is_empty() {
+            out.push(b'/')?;
+            if operator.prec > 9 {
+                out.push(digit(rt, operator.prec as usize / 10))?;
+            }
+            out.push(digit(rt, operator.prec as usize % 10))?;
+        }
+        for mark in marks {
+            out.push(mark_of(*mark))?;
+        }
+        if operator.config {
+            out.push(b'c')?;
+        }
+        Ok(())
+    }
+
+    /// An operator's name, the numbers of its arguments' sorts and of its value's sort, and how it groups.
     fn write_operator(
         rt: &impl Abort,
         out: &mut Vec<u8>,
@@ -49,6 +82,7 @@ mod tests {
         }
         out.push(b'>')?;
         out.push(digit(rt, operator.result as usize))?;
+        write_grouping(rt, out, operator)?;
         out.push(b' ')?;
         Ok(())
     }
@@ -67,7 +101,7 @@ mod tests {
         Ok(())
     }
 
-    /// An equation's line, and how many tokens its sides have.
+    /// An equation's line, how many tokens its sides have, and an `n` where it isn't executable.
     fn write_equation(
         rt: &impl Abort,
         out: &mut Vec<u8>,
@@ -78,6 +112,9 @@ mod tests {
         out.push(digit(rt, equation.left.len()))?;
         out.push(b'=')?;
         out.push(digit(rt, equation.right.len()))?;
+        if !equation.executable {
+            out.push(b'n')?;
+        }
         out.push(b' ')?;
         Ok(())
     }
@@ -112,6 +149,10 @@ mod tests {
             }
             FaultKind::UnknownSort(name) => {
                 out.extend_from_slice(b"!unknown ")?;
+                out.extend_from_slice(name.as_slice())?;
+            }
+            FaultKind::AttributesDisagree(name) => {
+                out.extend_from_slice(b"!disagree ")?;
                 out.extend_from_slice(name.as_slice())?;
             }
             _ => out.push(b'?')?,
@@ -184,6 +225,66 @@ mod tests {
             (
                 b"fmod M is eq X = Y .\nvar X : A . sort A . endfm",
                 b"A ;;X:1 ;1@1=1 ",
+            ),
+        ];
+        for (source, want) in cases {
+            let got = told(&rt, alloc, source)?;
+            assert_eq!(rt; got.as_slice(), want);
+        }
+        Ok(())
+    }
+
+    #[test]
+    fn operators_group(rt: HostRuntime) -> Result<(), Fail> {
+        let alloc = rt.alloc();
+        let cases: [(&[u8], &[u8]); 12] = [
+            (
+                b"fmod M is sort A . op _+_ : A A -> A . op s_ : A -> A . op _! : A -> A . op __ : A A -> A . endfm",
+                b"A ;_+_:11>1/41EE s_:1>1/15E _!:1>1/15E __:11>1/41EE ;;",
+            ),
+            (
+                b"fmod M is sort A . op if_then_else_fi : A A A -> A . op _?_:_ : A A A -> A . op f_g_ : A A -> A . op f_g : A -> A . endfm",
+                b"A ;if_then_else_fi:111>1/0&&& _?_:_:111>1/41E&E f_g_:11>1/41&E f_g:1>1/0& ;;",
+            ),
+            (
+                b"fmod M is sort A . op <_,_> : A A -> A . op {_} : A -> A . op _[_] : A A -> A . op a b : -> A . endfm",
+                b"A ;<_`,_>:11>1/0&& `{_`}:1>1/0& _`[_`]:11>1/41E& a`b:>1 ;;",
+            ),
+            (
+                b"fmod M is sort A . op a b : -> A . op a`b : -> A . ops (a b) c : -> A . op _ + _ : A A -> A . op _+_ : A A -> A . endfm",
+                b"A ;a`b:>1 c:>1 _+_:11>1/41EE ;;",
+            ),
+            (
+                b"fmod M is sort A . op _+_ : A A -> A [prec 33] . op f : A -> A . op _+_ : A A -> A [ditto gather (e E)] . endfm",
+                b"A ;_+_:11>1/33eE f:1>1 ;;",
+            ),
+            (
+                b"fmod M is sort A . op f_ : A -> A [prec 0 gather (&) ctor] . op __ : A A -> A [config] . op f : A A -> A [gather (e E)] . endfm",
+                b"A ;f_:1>1/0& __:11>1/41EEc f:11>1 ;;",
+            ),
+            (
+                b"fmod M is sort A . ops (_+_) (_* _) _-_ : A A -> A [prec 9] . endfm",
+                b"A ;_+_:11>1/9EE _*_:11>1/9EE _-_:11>1/9EE ;;",
+            ),
+            (
+                b"fmod M is sorts A B . op f_ : A -> A [prec 5] . op f_ : B -> A [prec 6] . op f_ : A -> A [prec 5] . endfm",
+                b"A B ;f_:1>1/5E f_:2>1/6E ;;",
+            ),
+            (
+                b"fmod M is sort A .\n op f_ : A -> A [prec 5 prec 6] . endfm",
+                b"1!disagree f_",
+            ),
+            (
+                b"\nfmod M is sort A .\nop g : A -> A . op f a_ : A -> A .\nop _h : A -> A [prec 3] .\nop _h : A -> A [prec 4] .\nop f`a_ : A -> A [gather (e) gather (E)] . endfm",
+                b"2!disagree f`a_",
+            ),
+            (
+                b"fmod M is sort A . op f_ : A -> A [prec 5 prec 6] .\nop f_ : A -> D . endfm",
+                b"2!unknown D",
+            ),
+            (
+                b"fmod M is eq X = Y [nonexec] .\neq [a] : X = f(Y) [label b metadata \"c\"] .\neq X = [label nonexec] . endfm",
+                b";;;1@1=1n 2@1=4 3@1=0 ",
             ),
         ];
         for (source, want) in cases {

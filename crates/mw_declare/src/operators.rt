@@ -1,23 +1,29 @@
 // The operators of a module.
-ghost use Rattle.std.specs.Prelude.{◌≡◌, List, [], map, IfOk, OnOk};
+ghost use Rattle.std.specs.Prelude.{◌≡◌, List, [], map, IfOk, OnOk, option_map};
 ghost use Rattle.mw_lex.specs.Lexing.{seen, seen_all};
 ghost use Rattle.mw_logic.specs.Signature.{sort};
 ghost use Rattle.mw_term.specs.Signatures.{sorted_of};
+ghost use Rattle.mw_module.specs.Attributes.{seen_attributes};
+ghost use Rattle.mw_module.specs.OperatorNames.{names_of};
+ghost use Rattle.mw_module.specs.Refusals.{refusal_of};
 ghost use Rattle.mw_declare.specs.Statements.{seen_statements};
-ghost use Rattle.mw_declare.specs.Meaning.{with_profile, with_profiles, profiles_from, operator_of as operator_with};
-ghost use Rattle.mw_declare.specs.Seen.{seen_profile};
+ghost use Rattle.mw_declare.specs.Operators.{profile_of as profile_with, with_operator, with_named, operators_from, operator_of as operator_with};
+ghost use Rattle.mw_declare.specs.Faults.{disagreeing, disagreement as disagreement_at};
+ghost use Rattle.mw_declare.specs.Seen.{seen_profile, seen_operator};
 
+use crate::grouping::{gather, precedence};
 use crate::names::Names;
 use crate::sorts::numbers;
+use crate::spelling::spelling_of;
 use crate::statement::Lined;
-use indexmap::IndexSet;
+use indexmap::IndexMap;
 use mw_lex::Token;
-use mw_module::Form;
+use mw_module::{Attributes, Fault, FaultKind, Form, Names as OperatorNames};
 use mw_term::{Declaration, Name, Operator, Seq, SortId, Sorted};
 use std::alloc::{AllocError, Global};
 use std::marker::Model;
 
-/// A name with the sorts of its arguments and of its result.
+/// A name, by its prefix spelling, with the sorts of its arguments and of its result.
 #[derive(PartialEq, Eq, Hash, Drop)]
 pub struct Profile {
     pub spelling: Vec<u8>,
@@ -25,107 +31,141 @@ pub struct Profile {
     pub result: SortId,
 }
 
-/// Profiles, each once, in order of first mention.
+/// The profile of a name that these tokens are.
+fn profile_of(
+    alloc: Global,
+    name: &[Token],
+    args: &[SortId],
+    value: SortId,
+) -> Result<Profile, AllocError>
+    ensures { IfOk result (λ p. seen_profile p ≡ profile_with (seen_all name.now) args.now value) }
+{
+    Ok(Profile {
+        spelling: spelling_of(alloc, name)?,
+        args: args.to_vec(alloc)?,
+        result: value,
+    })
+}
+
+/// Operators, each once with what its declarations say of it, in order of first mention.
 #[derive(Drop)]
-pub struct Profiles {
-    set: IndexSet<Profile>,
+pub struct Operators<'u> {
+    table: IndexMap<Profile, Attributes<'u>>,
 }
 
-impl Model for Profiles {
+impl<'u> Model for Operators<'u> {
     ghost use Rattle.std.specs.Prelude.{List, map};
-    ghost use Rattle.mw_declare.specs.Meaning.{Profile as ProfileOf};
+    ghost use Rattle.mw_declare.specs.Operators.{Declared};
 
-    ghost Value = { List ProfileOf };
+    ghost Value = { List Declared };
 
-    ghost use Rattle.mw_declare.specs.Seen.{seen_profile};
+    ghost use Rattle.mw_declare.specs.Seen.{seen_operator};
 
-    ghost view = { λ m. map seen_profile m.set.keys };
+    ghost view = { λ m. map seen_operator m.table.entries };
 }
 
-impl Profiles {
-    fn new(alloc: Global) -> Profiles
+impl<'u> Operators<'u> {
+    fn new(alloc: Global) -> Operators<'u>
         ensures { result ≡ [] }
     {
-        Profiles {
-            set: IndexSet::new(alloc),
+        Operators {
+            table: IndexMap::new(alloc),
         }
     }
 
-    /// Adds a profile behind the others, unless it is there.
-    fn add(
-        &mut self,
-        alloc: Global,
-        spelling: &[u8],
-        args: &[SortId],
-        value: SortId,
-    ) -> Result<(), AllocError>
-        ensures { OnOk result (self.new ≡ with_profile self.old (record { spelling = spelling.now; args = args.now; result = value })) }
+    /// Adds an operator behind the others; if it is there, what is said of it is joined.
+    fn add(&mut self, profile: Profile, attributes: Attributes<'u>) -> Result<(), AllocError>
+        ensures { OnOk result (self.new ≡ with_operator self.old (seen_profile profile) (seen_attributes attributes.entry)) }
     {
-        let profile = Profile {
-            spelling: spelling.to_vec(alloc)?,
-            args: args.to_vec(alloc)?,
-            result: value,
+        let said = match self.table.get(&profile) {
+            Some(known) => known.joined(attributes),
+            None => attributes,
         };
-        self.set.insert(profile)?;
+        self.table.insert(profile, said)?;
         Ok(())
     }
 
-    /// Adds a profile for each of an operator's names.
+    /// Adds an operator for each of these names.
     fn add_all(
         &mut self,
         alloc: Global,
-        names: &[Token],
+        names: OperatorNames<'_>,
         args: &[SortId],
         value: SortId,
+        attributes: Attributes<'u>,
     ) -> Result<(), AllocError>
-        ensures { OnOk result (self.new ≡ with_profiles self.old (seen_all names.now) args.now value) }
+        ensures { OnOk result (self.new ≡ with_named self.old (names_of names.entry) args.now value (seen_attributes attributes.entry)) }
     {
         let mut rest = names;
-        while let [name, after @ ..] = rest {
-            self.add(alloc, name.text.as_slice(), args, value)?;
-            rest = after;
+        while let Some((name, others)) = rest.first() {
+            self.add(profile_of(alloc, name, args, value)?, attributes)?;
+            rest = others;
         }
         Ok(())
     }
 
-    /// The operators of these profiles.
-    pub fn operators(&self, alloc: Global) -> Result<Seq<Operator>, AllocError>
+    /// The first operator of which different precedences or gathers are said.
+    fn disagreeing(&self) -> Option<&Vec<u8>>
+        ensures { option_map (λ n. n.now.items) result ≡ disagreeing self.now }
+    {
+        for (profile, attributes) in self.table.iter() {
+            if attributes.clash {
+                return Some(&profile.spelling);
+            }
+        }
+        None
+    }
+
+    /// That operator's fault, at a line.
+    pub fn disagreement(&self, alloc: Global, line: u32) -> Result<Option<Fault>, AllocError>
+        ensures { IfOk result (λ o. option_map refusal_of o ≡ disagreement_at line (disagreeing self.now)) }
+    {
+        match self.disagreeing() {
+            Some(name) => {
+                let kind = FaultKind::AttributesDisagree(name.as_slice().to_vec(alloc)?);
+                Ok(Some(Fault { line, kind }))
+            }
+            None => Ok(None),
+        }
+    }
+
+    /// The operators in order.
+    pub fn list(&self, alloc: Global) -> Result<Seq<Operator>, AllocError>
         ensures { IfOk result (λ os. os ≡ map operator_with self.now) }
     {
         let mut operators = Vec::new(alloc);
-        let mut rest = self.set.as_slice();
-        while let [profile, after @ ..] = rest {
-            operators.push(operator_of(alloc, profile)?)?;
-            rest = after;
+        for (profile, attributes) in self.table.iter() {
+            operators.push(operator_of(alloc, profile, attributes)?)?;
         }
         Ok(Seq::of(operators))
     }
 }
 
-/// The profiles of the operators that statements declare.
-pub fn all_profiles(
+/// The operators that statements declare.
+pub fn all_operators<'u>(
     alloc: Global,
     sorts: &Names,
-    statements: &[Lined<'_>],
-) -> Result<Profiles, AllocError>
-    ensures { IfOk result (λ ps. ps ≡ profiles_from sorts.now [] (seen_statements statements.now)) }
+    statements: &[Lined<'u>],
+) -> Result<Operators<'u>, AllocError>
+    ensures { IfOk result (λ os. os ≡ operators_from sorts.now [] (seen_statements statements.now)) }
 {
-    let mut profiles = Profiles::new(alloc);
+    let mut operators = Operators::new(alloc);
     let mut rest = statements;
     while let [statement, after @ ..] = rest {
         if let Form::Operators {
             names,
             args,
             result: value,
+            attributes,
         } = &statement.form
         {
             let args = numbers(alloc, sorts, args)?;
             let value = sorts.number(value.text.as_slice())?;
-            profiles.add_all(alloc, names, args.as_slice(), value)?;
+            operators.add_all(alloc, *names, args.as_slice(), value, *attributes)?;
         }
         rest = after;
     }
-    Ok(profiles)
+    Ok(operators)
 }
 
 /// The sorts of arguments.
@@ -141,10 +181,15 @@ fn declared_sorts(alloc: Global, args: &[SortId]) -> Result<Seq<Sorted>, AllocEr
     Ok(Seq::of(sorts))
 }
 
-/// The operator of a profile, without attributes.
-fn operator_of(alloc: Global, profile: &Profile) -> Result<Operator, AllocError>
-    ensures { IfOk result (λ o. o ≡ operator_with (seen_profile profile.now)) }
+/// The operator of a profile of which this is said.
+fn operator_of(
+    alloc: Global,
+    profile: &Profile,
+    said: &Attributes<'_>,
+) -> Result<Operator, AllocError>
+    ensures { IfOk result (λ o. o ≡ operator_with (record { profile = seen_profile profile.now; attributes = seen_attributes said.now })) }
 {
+    let spelling = profile.spelling.as_slice();
     let args = profile.args.as_slice();
     let mut declarations = Vec::new(alloc);
     declarations.push(Declaration {
@@ -152,16 +197,16 @@ fn operator_of(alloc: Global, profile: &Profile) -> Result<Operator, AllocError>
         result: Sorted::Sort(profile.result),
     })?;
     Ok(Operator {
-        spelling: Name::of(profile.spelling.as_slice().to_vec(alloc)?),
+        spelling: Name::of(spelling.to_vec(alloc)?),
         args: Seq::of(args.to_vec(alloc)?),
         result: profile.result,
         declarations: Seq::of(declarations),
         assoc: false,
         comm: false,
         identity: None,
-        prec: 0,
-        gather: Seq::of(Vec::new(alloc)),
-        config: false,
+        prec: precedence(said.precedence, spelling),
+        gather: gather(alloc, said.gather, spelling)?,
+        config: said.config,
         built: false,
     })
 }

@@ -17,12 +17,13 @@ pub struct Lined<'u> {
     pub form: Form<'u>,
 }
 
-/// An equation's sides as tokens, with its line.
+/// An equation's sides as tokens, with its line, and whether it is executable.
 #[derive(Drop)]
 pub struct Equation<'u> {
     pub line: u32,
     pub left: &'u [Token],
     pub right: &'u [Token],
+    pub executable: bool,
 }
 
 /// The line of the first token.
@@ -62,9 +63,18 @@ pub fn equations<'u>(
     let mut found = Vec::new(alloc);
     let mut rest = statements;
     while let [statement, after @ ..] = rest {
-        if let Form::Equation { left, right } = &statement.form {
-            let line = statement.line;
-            found.push(Equation { line, left, right })?;
+        if let Form::Equation {
+            left,
+            right,
+            executable,
+        } = &statement.form
+        {
+            found.push(Equation {
+                line: statement.line,
+                left,
+                right,
+                executable: *executable,
+            })?;
         }
         rest = after;
     }

@@ -4,10 +4,10 @@ use Rattle.std.specs.List.{zip}
 use Rattle.std.proofs.Common.{sym, subst, ap, ◌∙◌, append-nil}
 use Rattle.std.proofs.lemmas.Bool.{both_ways}
 use Rattle.mw_logic.specs.Term.{Variable, RawTerm, is_ground}
-use Rattle.mw_logic.specs.Signature.{at_number, HasKind, IsRawTerm}
+use Rattle.mw_logic.specs.Signature.{HasKind, IsRawTerm}
 use Rattle.mw_logic.specs.Axioms.{done}
 use Rattle.mw_logic.specs.Substitution.{Substitution, instance, occurs, is_bound, IsSubstitution, IsSolution}
-use Rattle.mw_logic.specs.Module.{Module, Statement}
+use Rattle.mw_logic.specs.Module.{Module, Statement, IsStatement}
 use Rattle.mw_logic.specs.WellFormed.{IsWellFormed}
 use Rattle.mw_logic.proofs.InstanceLaws.{instance_kind}
 use Rattle.mw_logic.proofs.SolutionLaws.{substitution_kinds, instance_raw}
@@ -25,8 +25,8 @@ module _ (M : Module) (simple : IsSimpleModule M) where
   pub free_module : IsFreeModule M
   free_module = record {
     signature = free M.signature simple.signature;
-    unconditional = λ k e is. (simple.equations k e is.is_there).unconditional;
-    ordinary = λ k e is. (simple.equations k e is.is_there).ordinary;
+    unconditional = λ k e is. (simple.equations k e is).unconditional;
+    ordinary = λ k e is. (simple.equations k e is).ordinary;
   }
 
   -- so a proof leads a raw term to raw terms of its kind alone
@@ -34,15 +34,15 @@ module _ (M : Module) (simple : IsSimpleModule M) where
   well_formed = record {
     accepted = accepted M.signature simple.signature;
     sorted = well_sorted M.signature simple.signature;
-    statements = λ k e is. let s = simple.equations k e is.is_there in (s.left, s.right, s.kinds.0, s.kinds.1, s.kinds.2);
+    statements = λ k e is. let s = simple.equations k e is in (s.left, s.right, s.kinds.0, s.kinds.1, s.kinds.2);
     tests = λ f o is b h. absurd (both_ways _ (simple.signature.operators f o is).free.built b);
     choices = λ f o is b h. absurd (both_ways _ (simple.signature.operators f o is).free.built b);
   }
 
   pub no_flat_left : NoFlatLeft M
-  no_flat_left k e is eq h = (simple.equations k e is.is_there).top h
+  no_flat_left k e is eq h = (simple.equations k e is).top h
 
-  module _ (k : ℕ) (e : Statement) (is : at_number M.statements k ≡ Some e) where
+  module _ (k : ℕ) (e : Statement) (is : IsStatement M k e) where
     here : IsSimpleEquation M.signature e
     here = simple.equations k e is
 
@@ -90,7 +90,7 @@ module _ (M : Module) (simple : IsSimpleModule M) where
           instance_kind M.signature s (substitution_kinds M.signature (accepted M.signature simple.signature) (well_sorted M.signature simple.signature) s substitution) here.kinds.2 in
           record {
             statement = e;
-            is_there = record { is_there = is; executable = here.executable };
+            is_there = is;
             equation = here.equation;
             substitution = substitution;
             all_bound = rw (a, b, here.unconditional) refl;

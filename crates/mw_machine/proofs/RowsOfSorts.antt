@@ -1,13 +1,13 @@
 -- Lists of numbers, the module T: sorts N and L, z and s, nil and cons, and two operators of the name size, one on numbers and one on lists. What holds of it, and what doesn't.
-use Rattle.std.specs.Prelude.{◌≡◌, ℕ, zero, suc, List, [], ◌∷◌, map, Bool, true, false, ◌||◌, Some, None, codes, refl}
+use Rattle.std.specs.Prelude.{◌≡◌, ℕ, zero, suc, List, [], ◌∷◌, map, Bool, true, false, ◌||◌, Some, None, IsTrue, codes, refl}
 use Rattle.std.specs.List.{AllByRecursion, slice_get}
-use Rattle.std.proofs.Common.{subst, ◌∙◌, arith}
+use Rattle.std.proofs.Common.{sym, subst, ap, ◌∙◌, arith}
 use Rattle.std.proofs.lemmas.Bool.{false≢true}
 use Rattle.mw_logic.specs.Term.{Variable, RawTerm, variable, nil, cons, constant, unary, binary}
 use Rattle.mw_logic.specs.Signature.{Signature, Operator, at_number, sort, same, of_variable, of_operator, IsRawTerm, a_variable, an_operator, AreRawTerms, end, next}
 use Rattle.mw_logic.specs.Sorts.{HasSort, IsLeastSort}
 use Rattle.mw_logic.specs.Substitution.{same_variable, IsSubstitution}
-use Rattle.mw_logic.specs.Module.{Module}
+use Rattle.mw_logic.specs.Module.{Module, Statement, IsStatement}
 use Rattle.mw_logic.proofs.AcceptedTest.{is_accepted-sound}
 use Rattle.mw_logic.proofs.Canonical.{same_operator}
 use Rattle.mw_logic.proofs.RowsKit.{a_variable as variable_of, an_equation}
@@ -54,11 +54,22 @@ X = variable_of (codes "X") 1
 abbrev Y : Variable
 Y = variable_of (codes "Y") 2
 
--- size(X) = X of numbers; size(nil) = z and size(cons(X, Y)) = s(size(Y)) of lists
+abbrev never : Statement
+never = record {
+  left = variable X;
+  right = unary 6 (variable Y);
+  fragments = [];
+  variables = X ∷ Y ∷ [];
+  rule = false;
+  executable = false;
+  owise = false;
+}
+
+-- size(X) = X of numbers; size(nil) = z and size(cons(X, Y)) = s(size(Y)) of lists; and X = size(Y), which isn't executable
 abbrev pub T : Module
 T = record {
   signature = T_signature;
-  statements = an_equation (unary 5 (variable X)) (variable X) [] (X ∷ []) ∷ an_equation (unary 6 empty) z [] [] ∷ an_equation (unary 6 (binary 4 (variable X) (variable Y))) (unary 2 (unary 6 (variable Y))) [] (X ∷ Y ∷ []) ∷ [];
+  statements = an_equation (unary 5 (variable X)) (variable X) [] (X ∷ []) ∷ an_equation (unary 6 empty) z [] [] ∷ an_equation (unary 6 (binary 4 (variable X) (variable Y))) (unary 2 (unary 6 (variable Y))) [] (X ∷ Y ∷ []) ∷ never ∷ [];
 }
 
 -- what holds of each element holds at each number
@@ -95,7 +106,6 @@ empty_raw = an_operator _ refl end
 
 first : IsSimpleEquation T_signature (an_equation (unary 5 (variable X)) (variable X) [] (X ∷ []))
 first = record {
-  executable = refl;
   equation = refl;
   unconditional = refl;
   ordinary = refl;
@@ -109,7 +119,6 @@ first = record {
 
 second : IsSimpleEquation T_signature (an_equation (unary 6 empty) z [] [])
 second = record {
-  executable = refl;
   equation = refl;
   unconditional = refl;
   ordinary = refl;
@@ -123,7 +132,6 @@ second = record {
 
 third : IsSimpleEquation T_signature (an_equation (unary 6 (binary 4 (variable X) (variable Y))) (unary 2 (unary 6 (variable Y))) [] (X ∷ Y ∷ []))
 third = record {
-  executable = refl;
   equation = refl;
   unconditional = refl;
   ordinary = refl;
@@ -136,7 +144,10 @@ third = record {
 }
 
 pub T_module : IsSimpleModule T
-T_module = record { signature = T_simple; equations = each (IsSimpleEquation T_signature) T.statements (first, (second, (third, tt))) }
+T_module = record {
+  signature = T_simple;
+  equations = λ k e is. each (λ (s : Statement). IsTrue s.executable → IsSimpleEquation T_signature s) T.statements (λ h. first, (λ h. second, (λ h. third, (λ h. absurd (false≢true h), tt)))) k e is.is_there is.executable;
+}
 
 -- cons(z, nil) has the least sort L; size(z) and size(nil) have N, by two operators
 list_raw : IsRawTerm T_signature (binary 4 z empty)
@@ -153,7 +164,14 @@ list_size = least_sort_of_top T_signature T_simple 6 _ _ refl (an_operator _ ref
 
 -- the third equation makes size(cons(z, nil)) s(size(nil))
 third_fires : Fires T 3 ((X, z) ∷ (Y, empty) ∷ []) (unary 6 (binary 4 z empty)) (unary 2 (unary 6 empty))
-third_fires = fires T T_module 3 _ refl (z ∷ empty ∷ []) refl refl (an_operator _ refl (next list_raw (of_operator _ refl same) end))
+third_fires = fires T T_module 3 _ (record { is_there = refl; executable = refl }) (z ∷ empty ∷ []) refl refl (an_operator _ refl (next list_raw (of_operator _ refl same) end))
+
+-- the fourth statement never applies, so the module is simple with a variable on its left side, and one more on its right side
+fourth_never : (e : Statement) → IsStatement T 4 e → ⊥
+fourth_never e is = let h : e.executable ≡ false = same_field is.is_there in false≢true (sym h ∙ is.executable)
+  where
+    same_field : Some never ≡ Some e → e.executable ≡ false
+    same_field h = let k : never ≡ e = cc in ap (λ (s : Statement). s.executable) (sym k)
 
 -- nil isn't of sort N, so it is no value of X
 empty_no_number : HasSort T_signature empty (sort 1) → ⊥

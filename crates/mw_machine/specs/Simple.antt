@@ -1,9 +1,9 @@
 -- Modules in which no sort is below another, with free operators, and equations without conditions.
-use Rattle.std.specs.Prelude.{ℕ, ◌≡◌, List, [], ◌∷◌, map, Some, true, false, IsTrue}
+use Rattle.std.specs.Prelude.{ℕ, ◌≡◌, List, [], ◌∷◌, map, false, IsTrue}
 use Rattle.mw_logic.specs.Term.{Variable}
-use Rattle.mw_logic.specs.Signature.{Signature, Operator, sort, IsOperator, IsSortNamed, HasKind, IsRawTerm, at_number}
+use Rattle.mw_logic.specs.Signature.{Signature, Operator, sort, IsOperator, IsSortNamed, HasKind, IsRawTerm}
 use Rattle.mw_logic.specs.Substitution.{occurs}
-use Rattle.mw_logic.specs.Module.{Module, Statement}
+use Rattle.mw_logic.specs.Module.{Module, Statement, IsStatement}
 use Rattle.mw_machine.specs.Machine.{IsFlat}
 use Rattle.mw_machine.specs.Plain.{IsFreeOperator}
 use Rattle.mw_machine.specs.Variables.{met}
@@ -23,7 +23,6 @@ pub record IsSimpleSignature (sig : Signature) : Type 0 where
 
 -- An equation between terms of one kind, with an operator on top of its left side. The left side has each variable of the right side.
 pub record IsSimpleEquation (sig : Signature) (e : Statement) : Type 0 where
-  pub executable : e.executable ≡ true
   pub equation : e.rule ≡ false
   pub unconditional : e.fragments ≡ []
   pub ordinary : e.owise ≡ false
@@ -34,6 +33,7 @@ pub record IsSimpleEquation (sig : Signature) (e : Statement) : Type 0 where
   pub variables : e.variables ≡ met [] e.left
   pub bound : (x : Variable) → IsTrue (occurs x e.right) → IsTrue (occurs x e.left)
 
+-- Nothing is asked of statements that aren't executable, since none of them applies.
 pub record IsSimpleModule (M : Module) : Type 0 where
   pub signature : IsSimpleSignature M.signature
-  pub equations : (k : ℕ) (e : Statement) → at_number M.statements k ≡ Some e → IsSimpleEquation M.signature e
+  pub equations : (k : ℕ) (e : Statement) → IsStatement M k e → IsSimpleEquation M.signature e

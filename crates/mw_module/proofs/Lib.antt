@@ -1,5 +1,9 @@
 -- Laws of tokens, forms and units.
 pub mod Slices
+pub mod NameByName
+pub mod Lists
+pub mod ItemByItem
+pub mod Formed
 pub mod Clones
 pub mod Bodies
 pub mod Fronts

@@ -11,41 +11,37 @@ use Rattle.mw_module.specs.declared.names.Role.{Role}
 use Rattle.mw_module.specs.declared.names.Role.TheVariants as role
 use Rattle.mw_module.specs.declared.openings.Opening.{Opening}
 use Rattle.mw_module.specs.declared.openings.Opening.TheVariants as opening
+use Rattle.mw_module.specs.Faults.{first_of, fault_if, unless}
 use Rattle.mw_module.specs.Openings.{opening_of}
-use Rattle.mw_module.specs.Words.{is, count_before, is_punctuation_word, is_quoted, is_no_piece, is_cut}
+use Rattle.mw_module.specs.OperatorNames.{names_of, names_from, are_names, all_fit}
+use Rattle.mw_module.specs.Attributes.{Attributes, seen_attributes, Said, attributes_behind}
+use Rattle.mw_module.specs.Equations.{unlabelled, attributes_len, group_at_end, executable_with, equals_at}
+use Rattle.mw_module.specs.Words.{count_before, is_punctuation_word, is_quoted}
 
 -- a statement by its form, with its parts
 pub data Shape : Type 0 where
   Sorts : List Seen → Shape
-  Operators : List Seen → List Seen → Seen → Shape
+  -- names, each as its tokens, sorts of arguments, the value's sort, and attributes
+  Operators : List (List Seen) → List Seen → Seen → Attributes → Shape
   Variables : List Seen → Seen → Shape
-  Equation : List Seen → List Seen → Shape
+  -- the sides, and whether it is executable
+  Equation : List Seen → List Seen → Bool → Shape
 
 -- a form as its readers see it
 abbrev pub shape_of : Form → Shape
 shape_of (form.Sorts names) = Sorts (seen_all names.now)
-shape_of (form.Operators names args result) = Operators (seen_all names.now) (seen_all args.now) (seen result.now)
+shape_of (form.Operators names args result attributes) = Operators (names_of names) (seen_all args.now) (seen result.now) (seen_attributes attributes)
 shape_of (form.Variables names sort) = Variables (seen_all names.now) (seen sort.now)
-shape_of (form.Equation left right) = Equation (seen_all left.now) (seen_all right.now)
+shape_of (form.Equation left right executable) = Equation (seen_all left.now) (seen_all right.now) executable
 
 -- the form, or what is wrong
 abbrev pub Formed : Type 0
 Formed = Result Shape FaultKind
 
--- the left one, where there is one
-abbrev pub first_of : Option FaultKind → Option FaultKind → Option FaultKind
-first_of None other = other
-first_of (Some kind) other = Some kind
-
--- this fault where the test is met
-abbrev pub fault_if : Bool → FaultKind → Option FaultKind
-fault_if test kind = if test then Some kind else None
-
 -- where a text in this role begins a form that isn't read
 abbrev pub is_unread : Role → List ℕ → Bool
 is_unread role.NewSort text = bytes_eq text (codes "{")
 is_unread role.Variable text = false
-is_unread role.Operator text = not (is_no_piece text) && (is_cut text || is_punctuation_word text)
 is_unread role.Argument text = bytes_eq text (codes "[") || bytes_eq text (codes "{") || bytes_eq text (codes "~>")
 is_unread role.Value text = bytes_eq text (codes "[") || bytes_eq text (codes "{")
 is_unread role.VariableSort text = bytes_eq text (codes "{")
@@ -54,7 +50,6 @@ is_unread role.VariableSort text = bytes_eq text (codes "{")
 abbrev pub is_bad : Role → List ℕ → Bool
 is_bad role.NewSort text = is_punctuation_word text || is_quoted text
 is_bad role.Variable text = is_punctuation_word text || is_quoted text
-is_bad role.Operator text = is_no_piece text
 is_bad role.Argument text = is_punctuation_word text
 is_bad role.Value text = is_punctuation_word text
 is_bad role.VariableSort text = is_punctuation_word text
@@ -73,16 +68,11 @@ abbrev pub names_fault : Role → List Seen → Option FaultKind
 names_fault role [] = Some BadStatement
 names_fault role (t ∷ rest) = first_fault role (t ∷ rest)
 
--- the answer, unless there is a fault
-abbrev pub unless : {A : Type 0} → Option FaultKind → Result A FaultKind → Result A FaultKind
-unless None answer = answer
-unless (Some kind) answer = Err kind
-
--- one sort and nothing more
-abbrev pub lone_sort : Role → List Seen → Result Seen FaultKind
-lone_sort role [] = Err BadStatement
-lone_sort role (t ∷ []) = unless (text_fault role t.text) (Ok t)
-lone_sort role (t ∷ u ∷ rest) = unless (first_fault role (t ∷ u ∷ [])) (Err BadStatement)
+-- a variable's sort and nothing more
+abbrev pub lone_sort : List Seen → Result Seen FaultKind
+lone_sort [] = Err BadStatement
+lone_sort (t ∷ []) = unless (text_fault role.VariableSort t.text) (Ok t)
+lone_sort (t ∷ u ∷ rest) = unless (first_fault role.VariableSort (t ∷ u ∷ [])) (Err BadStatement)
 
 -- `sort` and `sorts`: names
 abbrev pub sorts_form : List Seen → Formed
@@ -98,94 +88,46 @@ abbrev pub variables_form : List Seen → Formed
 variables_form ts =
     let colon = count_before (codes ":") ts in
     unless (fault_if (colon == length ts) BadStatement)
-    (unless (names_fault role.Variable (take colon ts)) (typed (take colon ts) (lone_sort role.VariableSort (drop (colon + 1) ts))))
+    (unless (names_fault role.Variable (take colon ts)) (typed (take colon ts) (lone_sort (drop (colon + 1) ts))))
 
--- an operator's names and argument sorts, and its value's sort
-abbrev pub valued : List Seen → List Seen → Result Seen FaultKind → Formed
-valued names args (Ok sort) = Ok (Operators names args sort)
-valued names args (Err kind) = Err kind
+-- an operator's names, argument sorts and value's sort, with its attributes
+abbrev pub valued : List (List Seen) → List Seen → Seen → Said → Formed
+valued names args value (Ok attributes) = Ok (Operators names args value attributes)
+valued names args value (Err kind) = Err kind
 
--- what comes behind an operator's names: sorts, the first arrow, and a sort
-abbrev pub arrow_form : List Seen → List Seen → Formed
+-- what comes behind the arrow: a sort, and attributes
+abbrev pub value_form : List (List Seen) → List Seen → List Seen → Formed
+value_form names args [] = Err BadStatement
+value_form names args (t ∷ behind) = unless (text_fault role.Value t.text) (valued names args t (attributes_behind (length args) behind))
+
+-- what comes behind an operator's names: sorts, one for each hole of a name with holes, the first arrow, and the rest
+abbrev pub arrow_form : List (List Seen) → List Seen → Formed
 arrow_form names ts =
     let arrow = count_before (codes "->") ts in
     unless (first_fault role.Argument (take arrow ts))
-    (unless (fault_if (arrow == length ts) BadStatement) (valued names (take arrow ts) (lone_sort role.Value (drop (arrow + 1) ts))))
-
--- what is wrong with the names of operators; `op` has one name
-abbrev pub operator_names_fault : Bool → List Seen → Option FaultKind
-operator_names_fault single names = first_of (names_fault role.Operator names) (fault_if (single && nat_lt 1 (length names)) NotInProfile)
+    (unless (fault_if (arrow == length ts || not (all_fit arrow names)) BadStatement) (value_form names (take arrow ts) (drop (arrow + 1) ts)))
 
 -- `op` and `ops`: names, the first colon, and what comes behind
 abbrev pub operators_form : Bool → List Seen → Formed
 operators_form single ts =
     let colon = count_before (codes ":") ts in
-    unless (fault_if (colon == length ts) BadStatement) (unless (operator_names_fault single (take colon ts)) (arrow_form (take colon ts) (drop (colon + 1) ts)))
+    let names = names_from single 0 (take colon ts) in
+    unless (fault_if (colon == length ts || not (are_names names)) BadStatement) (arrow_form names (drop (colon + 1) ts))
 
--- a label in front: one token in brackets, and a colon
-abbrev pub has_label : List Seen → Bool
-has_label [] = false
-has_label (a ∷ []) = false
-has_label (a ∷ b ∷ []) = false
-has_label (a ∷ b ∷ c ∷ []) = false
-has_label (a ∷ b ∷ c ∷ d ∷ rest) = is (codes "[") a && is (codes "]") c && is (codes ":") d
+-- an equation's sides, where an equals sign divides them, by whether it is executable; what is wrong with its attributes
+-- comes last
+abbrev pub divided : List Seen → Option ℕ → Result Bool FaultKind → Formed
+divided sides None executable = Err BadStatement
+divided sides (Some n) (Ok executable) = Ok (Equation (take n sides) (drop (n + 1) sides) executable)
+divided sides (Some n) (Err kind) = Err kind
 
--- how many tokens has the group that the bracket at the end closes, where it is opened and `depth` are open; the
--- tokens come from the last to the first
-abbrev pub bracket_len : ℕ → List Seen → Option ℕ
-bracket_len depth [] = None
-bracket_len depth (t ∷ before) = if is (codes "]") t then one_more (bracket_len (depth + 1) before)
-    else if depth == 0 then None
-    else if is (codes "[") t then (if depth == 1 then Some 1 else one_more (bracket_len (depth - 1) before))
-    else one_more (bracket_len depth before)
+-- the sides, and the group of attributes behind them that has so many tokens
+abbrev pub sides_form : ℕ → List Seen → Formed
+sides_form n ts = let sides = take (length ts - n) ts in divided sides (equals_at 0 sides) (executable_with (group_at_end n ts))
 
--- a group that begins with a word of attributes
-abbrev pub begins_attributes : List Seen → Bool
-begins_attributes [] = false
-begins_attributes (a ∷ []) = false
-begins_attributes (a ∷ b ∷ rest) = is (codes "label") b || is (codes "metadata") b || is (codes "nonexec") b || is (codes "owise") b
-
--- the length of a group at the end, if it is one of attributes
-abbrev pub attributes_among : List Seen → Option ℕ → ℕ
-attributes_among ts None = 0
-attributes_among ts (Some n) = if begins_attributes (drop (length ts - n) ts) then n else 0
-
--- how many tokens the attributes at the end have
-abbrev pub attributes_len : List Seen → ℕ
-attributes_len ts = attributes_among ts (bracket_len 0 (reverse ts))
-
--- a token that opens, and one that closes; `if` and `fi` are taken as brackets
-abbrev pub opens : Seen → Bool
-opens t = is (codes "(") t || is (codes "[") t || is (codes "{") t || is (codes "if") t
-
-abbrev pub closes : Seen → Bool
-closes t = is (codes ")") t || is (codes "]") t || is (codes "}") t || is (codes "fi") t
-
--- how many are open behind this token; what closes nothing changes nothing
-abbrev pub depth_after : Seen → ℕ → ℕ
-depth_after t depth = if opens t then depth + 1 else if closes t then depth - 1 else depth
-
--- how many tokens come before the first equals sign that nothing encloses, where `depth` are open
-abbrev pub equals_at : ℕ → List Seen → Option ℕ
-equals_at depth [] = None
-equals_at depth (t ∷ rest) = if depth == 0 && is (codes "=") t then Some 0 else one_more (equals_at (depth_after t depth) rest)
-
--- the sides, where an equals sign divides them
-abbrev pub divided : List Seen → Option ℕ → Formed
-divided ts None = Err BadStatement
-divided ts (Some n) = Ok (Equation (take n ts) (drop (n + 1) ts))
-
--- attributes aren't read, whatever they say; what is wrong before them comes first
-abbrev pub without_attributes : ℕ → Formed → Formed
-without_attributes n (Err kind) = Err kind
-without_attributes n (Ok shape) = if n == 0 then Ok shape else Err NotInProfile
-
--- `eq`: two sides
+-- `eq`: a label, two sides, and attributes
 abbrev pub equation_form : List Seen → Formed
-equation_form ts =
-    let n = attributes_len ts in
-    let sides = take (length ts - n) ts in
-    unless (fault_if (has_label ts) NotInProfile) (without_attributes n (divided sides (equals_at 0 sides)))
+equation_form ts = sides_form (attributes_len (unlabelled ts)) (unlabelled ts)
 
 -- what stands behind the first word of a statement
 abbrev pub form_behind : Opening → List Seen → Formed

@@ -1,6 +1,10 @@
 -- Units of a source.
 pub mod Words
+pub mod Faults
 pub mod Openings
+pub mod OperatorNames
+pub mod Attributes
+pub mod Equations
 pub mod Forms
 pub mod Kinds
 pub mod Units

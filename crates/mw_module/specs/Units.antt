@@ -13,7 +13,7 @@ use Rattle.mw_module.specs.declared.units.UnitError.{UnitError}
 use Rattle.mw_module.specs.declared.units.UnitError.TheVariants as error
 use Rattle.mw_module.specs.Forms.{Formed, form_of}
 use Rattle.mw_module.specs.Kinds.{kind_of, end_word, unended}
-use Rattle.mw_module.specs.Words.{is, count_before}
+use Rattle.mw_module.specs.Words.{is, begins, count_before}
 
 -- a unit as its readers see it
 pub record SeenUnit : Type 0 where
@@ -87,11 +87,6 @@ left_of (t ∷ rest) = Err (record { line = t.line; kind = kind_unended (form_of
 abbrev pub body_of : List Seen → Body
 body_of ts = statements_before (cut ts).statements (left_of (cut ts).left)
 
--- a module's first line ends here
-abbrev pub begins_is : List Seen → Bool
-begins_is [] = false
-begins_is (t ∷ rest) = is (codes "is") t
-
 -- a brace stands before the first `is`
 abbrev pub has_brace : List Seen → Bool
 has_brace ts = nat_lt (count_before (codes "{") ts) (count_before (codes "is") ts)
@@ -99,7 +94,7 @@ has_brace ts = nat_lt (count_before (codes "{") ts) (count_before (codes "is") t
 -- what is wrong with a module's name and what stands behind it
 abbrev pub head_fault : Seen → List Seen → Option FaultKind
 head_fault name behind = if is (codes "{") name then Some NotInProfile
-    else if begins_is behind then None
+    else if begins (codes "is") behind then None
     else if has_brace behind then Some NotInProfile else Some BadStatement
 
 -- a unit, or what is wrong

@@ -1,6 +1,5 @@
 -- What single tokens say.
-use Rattle.std.specs.Prelude.{ℕ, Bool, List, [], ◌∷◌, ◌+◌, ◌==◌, ◌&&◌, ◌||◌, true, false, if◌then◌else◌}
-use Rattle.std.specs.List.{list_any}
+use Rattle.std.specs.Prelude.{ℕ, Bool, List, [], ◌∷◌, ◌+◌, ◌-◌, ◌==◌, ◌&&◌, ◌||◌, not, nat_le, map, length, slice_index, true, false, if◌then◌else◌}
 use Rattle.std.specs.Str.{bytes_eq}
 use Rattle.mw_lex.specs.Bytes.{is_punctuation}
 use Rattle.mw_lex.specs.Lexing.{Seen}
@@ -8,6 +7,15 @@ use Rattle.mw_lex.specs.Lexing.{Seen}
 -- the token has this text
 abbrev pub is : List ℕ → Seen → Bool
 is word t = bytes_eq t.text word
+
+-- the first token has this text
+abbrev pub begins : List ℕ → List Seen → Bool
+begins word [] = false
+begins word (t ∷ rest) = is word t
+
+-- the texts of tokens
+abbrev pub texts : List Seen → List (List ℕ)
+texts ts = map (λ (t : Seen). t.text) ts
 
 -- how many tokens come before the first with this text: all where none has it
 abbrev pub count_before : List ℕ → List Seen → ℕ
@@ -32,6 +40,11 @@ is_no_piece (a ∷ []) = a == 46 || a == 34
 is_no_piece (a ∷ b ∷ []) = a == 34
 is_no_piece (a ∷ b ∷ c ∷ rest) = a == 34 || (a == 42 && b == 42 && c == 42) || (a == 45 && b == 45 && c == 45)
 
--- a text with an underscore or a backquote, which make holes and pieces of it
-abbrev pub is_cut : List ℕ → Bool
-is_cut text = list_any (λ b. b == 95 || b == 96) text
+-- a string up to its end: it begins and ends with a quotation mark, and no backslash precedes the one at the end
+abbrev pub is_whole_string : List ℕ → Bool
+is_whole_string text = nat_le 2 (length text) && slice_index text 0 == 34 && slice_index text (length text - 1) == 34 && not (slice_index text (length text - 2) == 92)
+
+-- the first token is such a string
+abbrev pub begins_string : List Seen → Bool
+begins_string [] = false
+begins_string (t ∷ rest) = is_whole_string t.text

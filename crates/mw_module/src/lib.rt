@@ -6,16 +6,23 @@
 //! token, `is`, and statements, each up to the first full stop.
 #![tactic(auto)]
 
+mod attribute;
+mod attribute_list;
+mod equations;
 mod faults;
 mod forms;
 mod kinds;
 mod names;
 mod openings;
+mod operator_names;
+mod operators;
 mod units;
 mod words;
 
+pub use attribute::Attributes;
 pub use faults::{Fault, FaultKind};
 pub use forms::Form;
+pub use operator_names::Names;
 pub use units::{Unit, UnitError, copies, read_unit};
 pub use words::{count_before, is_word, tokens_from};
 
@@ -146,7 +153,41 @@ mod tests {
         Ok(())
     }
 
-    /// The letter of a statement's form and the numbers of tokens of its parts, or its fault's number.
+    /// What attributes say: the precedence, a word for the gather, the marks for a configuration and a clash.
+    fn write_attributes(out: &mut Vec<u8>, attributes: Attributes) -> Result<(), AllocError> {
+        if let Some(precedence) = attributes.precedence {
+            out.push(b'p')?;
+            out.push(b'0' + (precedence / 100 % 10) as u8)?;
+            out.push(b'0' + (precedence / 10 % 10) as u8)?;
+            out.push(b'0' + (precedence % 10) as u8)?;
+        }
+        if let Some(marks) = attributes.gather {
+            out.push(b'g')?;
+            for mark in marks {
+                out.extend_from_slice(mark.text.as_slice())?;
+            }
+        }
+        if attributes.config {
+            out.push(b'c')?;
+        }
+        if attributes.clash {
+            out.push(b'!')?;
+        }
+        Ok(())
+    }
+
+    /// For each name its number of tokens.
+    fn write_names(rt: &impl Abort, out: &mut Vec<u8>, names: Names) -> Result<(), AllocError> {
+        let mut rest = names;
+        while let Some((name, others)) = rest.first() {
+            out.push(digit(rt, name.len()))?;
+            rest = others;
+        }
+        Ok(())
+    }
+
+    /// The letter of a statement's form and the numbers of tokens of its parts, or its fault's number. Behind an
+    /// operator's names stand a colon, the number of arguments, the value's sort and the attributes.
     fn formed(rt: &impl Abort, alloc: Global, statement: &[u8]) -> Result<Vec<u8>, Fail> {
         assert!(rt; statement.len() < 1000);
         let all = tokens(alloc, statement)?;
@@ -161,20 +202,29 @@ mod tests {
                     names,
                     args,
                     result,
+                    attributes,
                 },
             ) => {
                 out.push(b'o')?;
-                out.push(digit(rt, names.len()))?;
+                write_names(rt, &mut out, names)?;
+                out.push(b':')?;
                 out.push(digit(rt, args.len()))?;
                 out.extend_from_slice(result.text.as_slice())?;
+                write_attributes(&mut out, attributes)?;
             }
             Ok(Form::Variables { names, sort }) => {
                 out.push(b'v')?;
                 out.push(digit(rt, names.len()))?;
                 out.extend_from_slice(sort.text.as_slice())?;
             }
-            Ok(Form::Equation { left, right }) => {
-                out.push(b'e')?;
+            Ok(
+                Form::Equation {
+                    left,
+                    right,
+                    executable,
+                },
+            ) => {
+                out.push(if executable { b'e' } else { b'n' })?;
                 out.push(digit(rt, left.len()))?;
                 out.push(digit(rt, right.len()))?;
             }
@@ -186,33 +236,13 @@ mod tests {
     #[test]
     fn statements_have_forms(rt: HostRuntime) -> Result<(), Fail> {
         let alloc = rt.alloc();
-        let cases: [(&[u8], &[u8]); 54] = [
+        let cases: [(&[u8], &[u8]); 21] = [
             (b"sort A B", b"s2"),
             (b"sorts A", b"s1"),
             (b"sort", b"7"),
             (b"sort L{X}", b"6"),
             (b"sort A , {", b"7"),
             (b"sort \"a\"", b"7"),
-            (b"op f : A B -> C", b"o12C"),
-            (b"op f : -> C", b"o10C"),
-            (b"ops f g : A -> C", b"o21C"),
-            (b"op f : -> C [ctor]", b"6"),
-            (b"op f : A ~> B", b"6"),
-            (b"op f : [A] -> B", b"6"),
-            (b"op f : A -> [B]", b"6"),
-            (b"op f : A -> L{B}", b"6"),
-            (b"op _+_ : A A -> A", b"6"),
-            (b"op a`b : -> A", b"6"),
-            (b"op f g : -> A", b"6"),
-            (b"ops (f _) g : A -> A", b"6"),
-            (b"op f -> A", b"7"),
-            (b"op : -> A", b"7"),
-            (b"op f : A", b"7"),
-            (b"op f : A ->", b"7"),
-            (b"op f : -> A B", b"7"),
-            (b"op f : ( -> A", b"7"),
-            (b"op \"x\" : -> A", b"7"),
-            (b"op f : : -> :", b"o11:"),
             (b"var X : A", b"v1A"),
             (b"vars X Y : A", b"v2A"),
             (b"var : A", b"7"),
@@ -222,6 +252,146 @@ mod tests {
             (b"var X : L{A}", b"6"),
             (b"var X : A B", b"7"),
             (b"var { : A", b"7"),
+            (b"subsort A < B", b"6"),
+            (b"pr NAT", b"6"),
+            (b"ceq X = Y if Z", b"6"),
+            (b"rl X => Y", b"7"),
+            (b"msg m : -> Msg", b"7"),
+            (b"mb X : A", b"6"),
+        ];
+        for (statement, want) in cases {
+            let got = formed(&rt, alloc, statement)?;
+            assert_eq!(rt; got.as_slice(), want);
+        }
+        Ok(())
+    }
+
+    #[test]
+    fn operators_have_names(rt: HostRuntime) -> Result<(), Fail> {
+        let alloc = rt.alloc();
+        let cases: [(&[u8], &[u8]); 50] = [
+            (b"op f : A B -> C", b"o1:2C"),
+            (b"op f : -> C", b"o1:0C"),
+            (b"ops f g : A -> C", b"o11:1C"),
+            (b"op f : A ~> B", b"6"),
+            (b"op f : [A] -> B", b"6"),
+            (b"op f : A -> [B]", b"6"),
+            (b"op f : A -> L{B}", b"6"),
+            (b"op f -> A", b"7"),
+            (b"op : -> A", b"7"),
+            (b"op f : A", b"7"),
+            (b"op f : A ->", b"7"),
+            (b"op f : -> A B", b"7"),
+            (b"op f : -> A (", b"7"),
+            (b"op f : ( -> A", b"7"),
+            (b"op f : : -> :", b"o1:1:"),
+            (b"op f g : -> A", b"o2:0A"),
+            (b"op a`b : -> A", b"o1:0A"),
+            (b"op _+_ : A A -> A", b"o1:2A"),
+            (b"op _ + _ : A A -> A", b"o3:2A"),
+            (b"op _[_] : A A -> A", b"o4:2A"),
+            (b"op { : -> A", b"o1:0A"),
+            (b"op __ : A A -> A", b"o1:2A"),
+            (b"op _`_ : A A -> A", b"o1:2A"),
+            (b"op _ _ : A A -> A", b"o2:2A"),
+            (b"op _.. : A -> A", b"o1:1A"),
+            (b"op a\" : -> A", b"o1:0A"),
+            (b"op _ : A -> A", b"7"),
+            (b"op ` : -> A", b"7"),
+            (b"op \"x\" : -> A", b"7"),
+            (b"op a_***b : A -> A", b"7"),
+            (b"op _---_ : A A -> A", b"7"),
+            (b"op _. : A -> A", b"7"),
+            (b"op a_\"b : A -> A", b"7"),
+            (b"op _+_ : A -> A", b"7"),
+            (b"op _+_ : -> A", b"7"),
+            (b"op f_ : A A -> A", b"7"),
+            (b"op _+_ : A ~> A", b"6"),
+            (b"op _+_ : A -> [A]", b"7"),
+            (b"op _ : [A] -> A", b"7"),
+            (b"ops (f _) g : A -> A", b"o21:1A"),
+            (b"ops _+_ (_ * _) (_[_]) : A A -> A", b"o134:2A"),
+            (b"ops ((_)) g : A -> A", b"o31:1A"),
+            (b"ops [ ] : -> A", b"o11:0A"),
+            (b"ops f _g : A -> A", b"o11:1A"),
+            (b"ops f _g : A A -> A", b"7"),
+            (b"ops : -> A", b"7"),
+            (b"ops f () : -> A", b"7"),
+            (b"ops (f : -> A", b"7"),
+            (b"ops f ) : -> A", b"7"),
+            (b"ops f (_) : A -> A", b"7"),
+        ];
+        for (statement, want) in cases {
+            let got = formed(&rt, alloc, statement)?;
+            assert_eq!(rt; got.as_slice(), want);
+        }
+        Ok(())
+    }
+
+    #[test]
+    fn operators_have_attributes(rt: HostRuntime) -> Result<(), Fail> {
+        let alloc = rt.alloc();
+        let cases: [(&[u8], &[u8]); 42] = [
+            (
+                b"op f : A -> A [ctor ditto memo config object message]",
+                b"o1:1Ac",
+            ),
+            (b"op f : -> A [prec 0]", b"o1:0Ap000"),
+            (b"op f : -> A [prec 99]", b"o1:0Ap099"),
+            (
+                b"op _+_ : A A -> A [prec 127 gather (E e)]",
+                b"o1:2Ap127gEe",
+            ),
+            (b"op f : -> A [prec 128]", b"7"),
+            (b"op f : -> A [prec 1000]", b"7"),
+            (b"op f : -> A [prec 01]", b"7"),
+            (b"op f : -> A [prec 7x]", b"7"),
+            (b"op f : -> A [prec]", b"7"),
+            (b"op f : A -> A [gather (&) ctor]", b"o1:1Ag&"),
+            (b"op f : A A -> A [gather (e E &)]", b"7"),
+            (b"op f : A A -> A [gather (e)]", b"7"),
+            (b"op f : A -> A [gather (x)]", b"7"),
+            (b"op f : A -> A [gather e]", b"7"),
+            (b"op f : A -> A [gather (&]", b"7"),
+            (b"op f : -> A [gather ()]", b"7"),
+            (b"op f : A -> A [format (d [ d) prec 3]", b"o1:1Ap003"),
+            (b"op f : -> A [format ()]", b"o1:0A"),
+            (b"op f : -> A [format d]", b"7"),
+            (b"op f : -> A [format (d]", b"7"),
+            (b"op f : -> A [metadata \"x y\" metadata \"\"]", b"o1:0A"),
+            (b"op f : -> A [metadata x]", b"7"),
+            (b"op f : -> A [metadata \"x]", b"7"),
+            (b"op f : -> A [metadata \"x\\\"]", b"7"),
+            (b"op f : -> A [metadata \"]", b"7"),
+            (b"op f : A A -> A [assoc]", b"6"),
+            (b"op f : A A -> A [comm]", b"6"),
+            (b"op f : A A -> A [id: a]", b"6"),
+            (b"op f : A -> A [iter]", b"6"),
+            (b"op f : -> A [ctor foo]", b"6"),
+            (b"op f : -> A [foo", b"6"),
+            (b"op f : -> A []", b"7"),
+            (b"op f : -> A [", b"7"),
+            (b"op f : -> A [ctor", b"7"),
+            (b"op f : -> A [ctor] x", b"7"),
+            (b"op f : -> A [ctor] [memo]", b"7"),
+            (b"op f : -> A [prec 128 foo]", b"7"),
+            (b"op f : -> A [foo prec 128]", b"6"),
+            (b"op f : -> A [prec 3 ctor prec 3]", b"o1:0Ap003"),
+            (b"op f : -> A [prec 3 prec 4]", b"o1:0Ap003!"),
+            (b"op f : A -> A [gather (e) gather (e)]", b"o1:1Age"),
+            (b"op f : A -> A [gather (e) gather (E)]", b"o1:1Age!"),
+        ];
+        for (statement, want) in cases {
+            let got = formed(&rt, alloc, statement)?;
+            assert_eq!(rt; got.as_slice(), want);
+        }
+        Ok(())
+    }
+
+    #[test]
+    fn equations_have_sides(rt: HostRuntime) -> Result<(), Fail> {
+        let alloc = rt.alloc();
+        let cases: [(&[u8], &[u8]); 29] = [
             (b"eq f(X) = X", b"e41"),
             (b"eq f(=) = X = Y", b"e43"),
             (b"eq if X = Y fi = Z", b"e51"),
@@ -229,18 +399,28 @@ mod tests {
             (b"eq =", b"e00"),
             (b"eq X", b"7"),
             (b"eq if X = Y", b"7"),
-            (b"eq [l] : X = Y", b"6"),
-            (b"eq [l] : X", b"6"),
-            (b"eq X = Y [owise]", b"6"),
-            (b"eq X = Y [label [a] ]", b"6"),
-            (b"eq X [metadata \"=\" = ]", b"7"),
+            (b"eq [l] : X = Y", b"e11"),
+            (b"eq [=] : X = Y", b"e11"),
+            (b"eq [l] : X", b"7"),
+            (b"eq [l m] : X = Y", b"e61"),
+            (b"eq [l] X = Y", b"e41"),
+            (b"eq [] : X = Y", b"e41"),
+            (b"eq X = Y [nonexec]", b"n11"),
+            (b"eq X = Y [label a]", b"e11"),
+            (b"eq [l] : X = Y [label a metadata \"b\" nonexec]", b"n11"),
+            (b"eq X = [nonexec]", b"n10"),
             (b"eq X = Y [z]", b"e14"),
-            (b"subsort A < B", b"6"),
-            (b"pr NAT", b"6"),
-            (b"ceq X = Y if Z", b"6"),
-            (b"rl X => Y", b"7"),
-            (b"msg m : -> Msg", b"7"),
-            (b"mb X : A", b"6"),
+            (b"eq X = Y nonexec]", b"e13"),
+            (b"eq X = Y [owise]", b"6"),
+            (b"eq X = Y [nonexec foo]", b"6"),
+            (b"eq X = Y [label [a] ]", b"6"),
+            (b"eq X = Y [label]", b"7"),
+            (b"eq X = Y [nonexec metadata]", b"7"),
+            (b"eq X = Y [metadata b]", b"7"),
+            (b"eq X = Y [metadata b owise]", b"7"),
+            (b"eq X Y [owise]", b"7"),
+            (b"eq X [metadata \"=\" = ]", b"7"),
+            (b"eq [nonexec]", b"7"),
         ];
         for (statement, want) in cases {
             let got = formed(&rt, alloc, statement)?;

@@ -4,7 +4,7 @@ ghost use Rattle.mw_lex.specs.Lexing.{seen, seen_all};
 ghost use Rattle.mw_module.specs.Forms as forms;
 
 use crate::faults::FaultKind;
-use crate::words::{is_cut, is_no_piece, is_punctuation, is_quoted, same};
+use crate::words::{is_punctuation, is_quoted, same};
 use mw_lex::Token;
 
 /// What a token stands for.
@@ -13,7 +13,6 @@ pub enum Role {
     /// The name of a sort that is declared.
     NewSort,
     Variable,
-    Operator,
     /// The sort of an operator's argument.
     Argument,
     /// The sort of an operator's value.
@@ -28,7 +27,6 @@ fn is_unread(role: Role, text: &[u8]) -> bool
     match role {
         Role::NewSort | Role::VariableSort => same(text, b"{"),
         Role::Variable => false,
-        Role::Operator => !is_no_piece(text) && (is_cut(text) || is_punctuation(text)),
         Role::Argument => same(text, b"[") || same(text, b"{") || same(text, b"~>"),
         Role::Value => same(text, b"[") || same(text, b"{"),
     }
@@ -40,12 +38,12 @@ fn is_bad(role: Role, text: &[u8]) -> bool
 {
     match role {
         Role::NewSort | Role::Variable => is_punctuation(text) || is_quoted(text),
-        Role::Operator => is_no_piece(text),
         Role::Argument | Role::Value | Role::VariableSort => is_punctuation(text),
     }
 }
 
-fn text_fault(role: Role, text: &[u8]) -> Option<FaultKind>
+// What is wrong with a text in this role.
+pub fn text_fault(role: Role, text: &[u8]) -> Option<FaultKind>
     ensures { result ≡ forms.text_fault role text.now }
 {
     if is_unread(role, text) {
@@ -82,18 +80,19 @@ pub fn names_fault(role: Role, tokens: &[Token]) -> Option<FaultKind>
     first_fault(role, tokens)
 }
 
-// One sort and nothing more.
-pub fn lone_sort(role: Role, tokens: &[Token]) -> Result<&Token, FaultKind>
+// A variable's sort and nothing more.
+pub fn lone_sort(tokens: &[Token]) -> Result<&Token, FaultKind>
     ensures { MatchResult result
-        (λ sort. forms.lone_sort role (seen_all tokens.now) ≡ Ok (seen sort.now))
-        (λ kind. forms.lone_sort role (seen_all tokens.now) ≡ Err kind) }
+        (λ sort. forms.lone_sort (seen_all tokens.now) ≡ Ok (seen sort.now))
+        (λ kind. forms.lone_sort (seen_all tokens.now) ≡ Err kind) }
 {
+    let role = Role::VariableSort;
     match tokens {
         [] => Err(FaultKind::BadStatement),
         [sort] => match text_fault(role, sort.text.as_slice()) {
             None => Ok(sort),
             Some(kind) => Err(kind),
         },
-        [sort, ..] => Err(first_fault(role, &tokens[..2]).unwrap_or(FaultKind::BadStatement)),
+        [_, ..] => Err(first_fault(role, &tokens[..2]).unwrap_or(FaultKind::BadStatement)),
     }
 }

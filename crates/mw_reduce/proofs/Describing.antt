@@ -4,7 +4,7 @@ use Rattle.std.specs.List.{zip}
 use Rattle.std.proofs.Common.{sym, subst, ap, ◌∙◌}
 use Rattle.std.proofs.lemmas.List.{length-map}
 use Rattle.mw_logic.specs.Term.{RawTerm, RawTerms, apply, is_ground}
-use Rattle.mw_logic.specs.Signature.{at_number, IsRawTerm}
+use Rattle.mw_logic.specs.Signature.{IsRawTerm}
 use Rattle.mw_logic.specs.Substitution.{Substitution, IsSolution}
 use Rattle.mw_logic.specs.Module.{Module, Statement, IsStatement}
 use Rattle.mw_machine.specs.Machine.{Fires}
@@ -24,7 +24,7 @@ use Rattle.mw_reduce.specs.Theories.{IsTheory}
 use Rattle.mw_reduce.specs.declared.equations.Equation.{Equation}
 use Rattle.mw_reduce.specs.declared.equations.Equations.{Equations}
 
-pub compilable : (M : Module) → IsSimpleModule M → (k : ℕ) (e : Statement) → at_number M.statements k ≡ Some e → IsCompilable e
+pub compilable : (M : Module) → IsSimpleModule M → (k : ℕ) (e : Statement) → IsStatement M k e → IsCompilable e
 compilable M simple k e is = record { distinct = distinct M simple k e is; top = (simple.equations k e is).top; left = left_placeable M simple k e is; right = right_placeable M simple k e is }
 
 module _ (M : Module) (simple : IsSimpleModule M) (m : Equations) (index : IsIndexOf M.statements m) where
@@ -32,29 +32,30 @@ module _ (M : Module) (simple : IsSimpleModule M) (m : Equations) (index : IsInd
       → IsTrue (is_ground (apply f (fill_all vs st.left))) → IsRawTerm M.signature (apply f (fill_all vs st.left))
       → Fires M st.number (zip (variables_of M st.number) vs) (apply f (fill_all vs st.left)) (fill vs (clean st.right))
   fires_compiled f i st vs l c g r =
-      let (k, e, is, comp) = index.sound f i st l in
+      let (k, e, is, x, comp) = index.sound f i st l in
       let from : apply f (fill_all vs st.left) ≡ fill vs (placed e.variables e.left) = ap (fill vs) comp.left in
       let to : fill vs (clean st.right) ≡ fill vs (placed e.variables e.right) = ap (fill vs) comp.right in
       let xs : variables_of M st.number ≡ e.variables = ap (variables_of M) comp.number ∙ ap (λ o. unwrap_or (option_map (λ (e : Statement). e.variables) o) []) is in
-      let x : Fires M k (zip e.variables vs) (fill vs (placed e.variables e.left)) (fill vs (placed e.variables e.right)) = fires M simple k e is vs (c ∙ comp.variables) (subst (λ t. IsTrue (is_ground t)) from g) (subst (IsRawTerm M.signature) from r) in
+      let y : Fires M k (zip e.variables vs) (fill vs (placed e.variables e.left)) (fill vs (placed e.variables e.right)) = fires M simple k e (record { is_there = is; executable = x }) vs (c ∙ comp.variables) (subst (λ t. IsTrue (is_ground t)) from g) (subst (IsRawTerm M.signature) from r) in
       let a : Fires M st.number (zip e.variables vs) (fill vs (placed e.variables e.left)) (fill vs (placed e.variables e.right)) =
-      subst (λ j. Fires M j (zip e.variables vs) (fill vs (placed e.variables e.left)) (fill vs (placed e.variables e.right))) (sym comp.number) x in
+      subst (λ j. Fires M j (zip e.variables vs) (fill vs (placed e.variables e.left)) (fill vs (placed e.variables e.right))) (sym comp.number) y in
       rw (from, to, xs) a
 
   none_compiled : (n f : ℕ) (ts : RawTerms) → NoneFits m f ts → (k : ℕ) (e : Statement) → IsStatement M k e → (s : Substitution) → IsSolution M.signature e.left (apply f ts) [] s → ⊥
   none_compiled n f ts none k e is s sol =
-      let (g, i, st, l, comp) = index.complete k e is.is_there in
+      let (g, i, st, l, comp) = index.complete k e is.is_there is.executable in
       let vs : List RawTerm = values_of s e.variables in
-      let h : apply g (fill_all vs st.left) ≡ apply f ts = ap (fill vs) comp.left ∙ solved M simple k e is.is_there (apply f ts) s sol in
+      let h : apply g (fill_all vs st.left) ≡ apply f ts = ap (fill vs) comp.left ∙ solved M simple k e is (apply f ts) s sol in
       let a : g ≡ f = cc in let b : fill_all vs st.left ≡ ts = cc in
       let l' : slice_get (listed m f) i ≡ Some st = rw a at l in
       none i st l' vs (length-map e.variables (value_of s) ∙ sym comp.variables) b
 
   numbered_compiled : AreWellNumbered m
   numbered_compiled f i st l =
-      let (k, e, is, comp) = index.sound f i st l in
-      let a = left_numbered M simple k e is in
-      let w = placed_within e.variables e.right (right_placeable M simple k e is) in
+      let (k, e, is, x, comp) = index.sound f i st l in
+      let there : IsStatement M k e = record { is_there = is; executable = x } in
+      let a = left_numbered M simple k e there in
+      let w = placed_within e.variables e.right (right_placeable M simple k e there) in
       record {
         left = subst (IsNumbered 0) (sym comp.left) a.0;
         count = ap (counted 0) comp.left ∙ a.1 ∙ sym comp.variables;

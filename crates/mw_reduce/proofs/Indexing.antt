@@ -1,6 +1,7 @@
 -- The index, equation by equation.
-use Rattle.std.specs.Prelude.{◌≡◌, ◌≢◌, ◌<◌, ◌+◌, ◌⊎◌, ℕ, zero, suc, List, [], ◌∷◌, ◌++◌, length, take, get_or, Some, None, slice_get, refl}
+use Rattle.std.specs.Prelude.{◌≡◌, ◌≢◌, ◌<◌, ◌+◌, ◌⊎◌, ℕ, zero, suc, List, [], ◌∷◌, ◌++◌, length, take, get_or, false, Some, None, IsTrue, slice_get, refl}
 use Rattle.std.proofs.Common.{sym, subst, ap, ◌∙◌, arith, inl, inr, ⊎_elim, length-take-le}
+use Rattle.std.proofs.lemmas.Bool.{both_ways}
 use Rattle.std.proofs.lemmas.List.{take_more}
 use Rattle.mw_logic.specs.Signature.{at_number}
 use Rattle.mw_logic.specs.Module.{Statement}
@@ -33,7 +34,7 @@ same_or_not (suc a) (suc b) = ⊎_elim (λ h. inl (ap suc h)) (λ n. inr (λ h. 
 pub index_none : (m : Equations) → ((f : ℕ) → listed m f ≡ []) → IsIndexOf [] m
 index_none m h = record {
   sound = λ f i st l. let k = rw (h f) at l in absurd (nothing st i k);
-  complete = λ k e is. absurd (no_number e k is);
+  complete = λ k e is x. absurd (no_number e k is);
 }
   where
     nothing : (st : Equation) (i : ℕ) → None ≡ Some st → ⊥
@@ -43,21 +44,21 @@ index_none m h = record {
     no_number e zero h = cc
     no_number e (suc k) h = cc
 
-module _ (xs : List Statement) (e : Statement) (m m' : Equations) (f : ℕ) (st : Equation) (comp : IsCompiled (suc (length xs)) e f st)
-    (here : listed m' f ≡ listed m f ++ st ∷ []) (others : (g : ℕ) → g ≢ f → listed m' g ≡ listed m g) (old : IsIndexOf xs m) where
-  more : (k : ℕ) (e' : Statement) → at_number xs k ≡ Some e' → at_number (xs ++ e ∷ []) k ≡ Some e'
-  more zero e' h = cc
-  more (suc k) e' h = get_more xs (e ∷ []) k e' h
+more : (xs : List Statement) (e : Statement) (k : ℕ) (e' : Statement) → at_number xs k ≡ Some e' → at_number (xs ++ e ∷ []) k ≡ Some e'
+more xs e zero e' h = cc
+more xs e (suc k) e' h = get_more xs (e ∷ []) k e' h
 
-  sound_on : (g j : ℕ) (s : Equation) → slice_get (listed m' g) j ≡ Some s → (k : ℕ) × (e' : Statement) × (at_number (xs ++ e ∷ []) k ≡ Some e') × IsCompiled k e' g s
+module _ (xs : List Statement) (e : Statement) (m m' : Equations) (f : ℕ) (st : Equation) (x : IsTrue e.executable) (comp : IsCompiled (suc (length xs)) e f st)
+    (here : listed m' f ≡ listed m f ++ st ∷ []) (others : (g : ℕ) → g ≢ f → listed m' g ≡ listed m g) (old : IsIndexOf xs m) where
+  sound_on : (g j : ℕ) (s : Equation) → slice_get (listed m' g) j ≡ Some s → (k : ℕ) × (e' : Statement) × (at_number (xs ++ e ∷ []) k ≡ Some e') × IsTrue e'.executable × IsCompiled k e' g s
   sound_on g j s h = ⊎_elim
       (λ (q : g ≡ f).
       let a : slice_get (listed m f ++ st ∷ []) j ≡ Some s = ap (λ l. slice_get l j) (sym here) ∙ ap (λ z. slice_get (listed m' z) j) (sym q) ∙ h in
       ⊎_elim
-      (λ b. let (k, e', is, c) = old.sound f j s b in (k, e', more k e' is, subst (λ z. IsCompiled k e' z s) (sym q) c))
-      (λ b. (suc (length xs), e, get_last xs e, subst (λ z. IsCompiled (suc (length xs)) e z s) (sym q) (subst (IsCompiled (suc (length xs)) e f) b.1 comp)))
+      (λ b. let (k, e', is, y, c) = old.sound f j s b in (k, e', more xs e k e' is, y, subst (λ z. IsCompiled k e' z s) (sym q) c))
+      (λ b. (suc (length xs), e, get_last xs e, x, subst (λ z. IsCompiled (suc (length xs)) e z s) (sym q) (subst (IsCompiled (suc (length xs)) e f) b.1 comp)))
       (old_or_last (listed m f) st j s a))
-      (λ (n : g ≢ f). let (k, e', is, c) = old.sound g j s (ap (λ l. slice_get l j) (sym (others g n)) ∙ h) in (k, e', more k e' is, c))
+      (λ (n : g ≢ f). let (k, e', is, y, c) = old.sound g j s (ap (λ l. slice_get l j) (sym (others g n)) ∙ h) in (k, e', more xs e k e' is, y, c))
       (same_or_not g f)
 
   listed_on : (g j : ℕ) (s : Equation) → slice_get (listed m g) j ≡ Some s → slice_get (listed m' g) j ≡ Some s
@@ -66,10 +67,10 @@ module _ (xs : List Statement) (e : Statement) (m m' : Equations) (f : ℕ) (st 
       (λ (n : g ≢ f). ap (λ l. slice_get l j) (others g n) ∙ h)
       (same_or_not g f)
 
-  complete_on : (k : ℕ) (e' : Statement) → at_number (xs ++ e ∷ []) k ≡ Some e' → (g : ℕ) × (j : ℕ) × (s : Equation) × (slice_get (listed m' g) j ≡ Some s) × IsCompiled k e' g s
-  complete_on zero e' h = cc
-  complete_on (suc k) e' h = ⊎_elim
-      (λ a. let (g, j, s, l, c) = old.complete (suc k) e' a in (g, j, s, listed_on g j s l, c))
+  complete_on : (k : ℕ) (e' : Statement) → at_number (xs ++ e ∷ []) k ≡ Some e' → IsTrue e'.executable → (g : ℕ) × (j : ℕ) × (s : Equation) × (slice_get (listed m' g) j ≡ Some s) × IsCompiled k e' g s
+  complete_on zero e' h y = cc
+  complete_on (suc k) e' h y = ⊎_elim
+      (λ a. let (g, j, s, l, c) = old.complete (suc k) e' a y in (g, j, s, listed_on g j s l, c))
       (λ a. (
         f,
         length (listed m f),
@@ -82,13 +83,29 @@ module _ (xs : List Statement) (e : Statement) (m m' : Equations) (f : ℕ) (st 
   index_more : IsIndexOf (xs ++ e ∷ []) m'
   index_more = record { sound = sound_on; complete = complete_on }
 
-pub index_on : (xs : List Statement) (i : ℕ) (e : Statement) (m m' : Equations) (f : ℕ) (st : Equation) → i < length xs → e ≡ get_or xs i e → IsCompiled (i + 1) e f st
+one_more : (xs : List Statement) (i : ℕ) (e : Statement) → i < length xs → e ≡ get_or xs i e → take (i + 1) xs ≡ take i xs ++ e ∷ []
+one_more xs i e h g = take_more xs i e h ∙ ap (λ y. take i xs ++ y ∷ []) (sym g)
+
+pub index_on : (xs : List Statement) (i : ℕ) (e : Statement) (m m' : Equations) (f : ℕ) (st : Equation) → i < length xs → e ≡ get_or xs i e → IsTrue e.executable → IsCompiled (i + 1) e f st
     → listed m' f ≡ listed m f ++ st ∷ [] → ((g : ℕ) → g ≢ f → listed m' g ≡ listed m g) → IsIndexOf (take i xs) m → IsIndexOf (take (i + 1) xs) m'
-index_on xs i e m m' f st h g comp here others old =
-    let t : take (i + 1) xs ≡ take i xs ++ e ∷ [] = take_more xs i e h ∙ ap (λ y. take i xs ++ y ∷ []) (sym g) in
+index_on xs i e m m' f st h g x comp here others old =
     let l : length (take i xs) ≡ i = length-take-le i xs (omega (arith, h)) in
     let k : i + 1 ≡ suc (length (take i xs)) = omega (arith, l) in
-    subst (λ ys. IsIndexOf ys m') (sym t) (index_more (take i xs) e m m' f st (subst (λ z. IsCompiled z e f st) k comp) here others old)
+    subst (λ ys. IsIndexOf ys m') (sym (one_more xs i e h g)) (index_more (take i xs) e m m' f st x (subst (λ z. IsCompiled z e f st) k comp) here others old)
+
+-- a statement that isn't executable is passed over
+pub index_past : (xs : List Statement) (i : ℕ) (e : Statement) (m : Equations) → i < length xs → e ≡ get_or xs i e → e.executable ≡ false → IsIndexOf (take i xs) m → IsIndexOf (take (i + 1) xs) m
+index_past xs i e m h g n old = subst (λ ys. IsIndexOf ys m) (sym (one_more xs i e h g)) (record {
+  sound = λ f j s l. let (k, e', is, y, c) = old.sound f j s l in (k, e', more (take i xs) e k e' is, y, c);
+  complete = complete_past;
+})
+  where
+    complete_past : (k : ℕ) (e' : Statement) → at_number (take i xs ++ e ∷ []) k ≡ Some e' → IsTrue e'.executable → (f : ℕ) × (j : ℕ) × (s : Equation) × (slice_get (listed m f) j ≡ Some s) × IsCompiled k e' f s
+    complete_past zero e' l y = cc
+    complete_past (suc k) e' l y = ⊎_elim
+        (λ a. old.complete (suc k) e' a y)
+        (λ a. absurd (both_ways _ n (ap (λ (s : Statement). s.executable) a.1 ∙ y)))
+        (old_or_last (take i xs) e k e' l)
 
 -- the statement at an index
 pub number_at : (xs : List Statement) (i : ℕ) (e : Statement) → i < length xs → e ≡ get_or xs i e → at_number xs (suc i) ≡ Some e

@@ -1,5 +1,5 @@
 -- Equations with positions in place of variables, and their index.
-use Rattle.std.specs.Prelude.{ℕ, ◌≡◌, List, Some, length, slice_get}
+use Rattle.std.specs.Prelude.{ℕ, ◌≡◌, List, Some, IsTrue, length, slice_get}
 use Rattle.mw_logic.specs.Term.{apply}
 use Rattle.mw_logic.specs.Signature.{at_number}
 use Rattle.mw_logic.specs.Module.{Statement}
@@ -24,7 +24,7 @@ pub record IsCompiled (k : ℕ) (e : Statement) (f : ℕ) (st : Equation) : Type
   pub left : apply f st.left ≡ placed e.variables e.left
   pub right : clean st.right ≡ placed e.variables e.right
 
--- the equations listed are those of the statements, and each of them is listed
+-- the equations listed are those of the executable statements, and each of them is listed
 pub record IsIndexOf (statements : List Statement) (m : Equations) : Type 0 where
-  pub sound : (f i : ℕ) (st : Equation) → slice_get (listed m f) i ≡ Some st → (k : ℕ) × (e : Statement) × (at_number statements k ≡ Some e) × IsCompiled k e f st
-  pub complete : (k : ℕ) (e : Statement) → at_number statements k ≡ Some e → (f : ℕ) × (i : ℕ) × (st : Equation) × (slice_get (listed m f) i ≡ Some st) × IsCompiled k e f st
+  pub sound : (f i : ℕ) (st : Equation) → slice_get (listed m f) i ≡ Some st → (k : ℕ) × (e : Statement) × (at_number statements k ≡ Some e) × IsTrue e.executable × IsCompiled k e f st
+  pub complete : (k : ℕ) (e : Statement) → at_number statements k ≡ Some e → IsTrue e.executable → (f : ℕ) × (i : ℕ) × (st : Equation) × (slice_get (listed m f) i ≡ Some st) × IsCompiled k e f st

@@ -1,5 +1,5 @@
 // Equations, from named variables to positions.
-ghost use Rattle.std.specs.Prelude.{◌≡◌, ℕ, IfOk, Some};
+ghost use Rattle.std.specs.Prelude.{◌≡◌, ℕ, IfOk, IsTrue, Some};
 ghost use Rattle.mw_logic.specs.Module.{Statement as StatementOf};
 ghost use Rattle.mw_logic.specs.Signature.{at_number};
 ghost use Rattle.mw_machine.specs.Variables.{placed, all_placed, IsPlaceable, ArePlaceable};
@@ -69,14 +69,18 @@ fn compile_equation(
     }
 }
 
-/// All equations, by the operators on top of their left sides.
+/// The executable equations, by the operators on top of their left sides.
 pub fn index(alloc: Global, statements: &[Statement]) -> Result<Equations, AllocError>
-    requires { (k : ℕ) (e : StatementOf) → at_number statements.now k ≡ Some e → IsCompilable e }
+    requires { (k : ℕ) (e : StatementOf) → at_number statements.now k ≡ Some e → IsTrue e.executable → IsCompilable e }
     ensures { IfOk result (IsIndexOf statements.now) }
 {
     let mut equations = Equations::new(alloc);
     for i in 0..statements.len() {
-        let (op, equation) = compile_equation(alloc, i + 1, &statements[i])?;
+        let statement = &statements[i];
+        if !statement.executable {
+            continue;
+        }
+        let (op, equation) = compile_equation(alloc, i + 1, statement)?;
         equations.add(alloc, op, equation)?;
     }
     Ok(equations)

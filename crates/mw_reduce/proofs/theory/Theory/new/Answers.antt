@@ -5,7 +5,7 @@ use Rattle.mw_reduce.proofs.Describing.{compilable, is_theory}
 use Rattle.mw_reduce.proofs.theory.Theory.new.Goals as goal
 
 pub index-requires : goal.index-requires
-index-requires c = λ k e is. compilable (record { signature = c.args.signature; statements = c.args.statements }) c.requires k e (rw c.as_slice.ensures at is)
+index-requires c = λ k e is x. compilable (record { signature = c.args.signature; statements = c.args.statements }) c.requires k e (record { is_there = rw c.as_slice.ensures at is; executable = x })
 
 pub invariant_of-result : goal.invariant_of-result
 invariant_of-result c =

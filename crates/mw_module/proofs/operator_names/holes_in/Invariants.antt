@@ -1,0 +1,12 @@
+use Rattle.std.proofs.Common.{◌≡◌, ◌+◌, ◌≤◌, length}
+use Rattle.mw_text.specs.Names.{items_of, count_holes}
+use Rattle.mw_module.proofs.operator_names.holes_in.Given as goal
+
+abbrev pub invariant-loop-item : goal.invariant-loop-item
+invariant-loop-item l = record {
+  count : l.holes + count_holes (items_of l.rest) ≡ count_holes (items_of l.text);
+  size : l.holes + length l.rest ≤ length l.text;
+}
+
+abbrev pub decreases-loop-item : goal.decreases-loop-item
+decreases-loop-item l = length l.rest

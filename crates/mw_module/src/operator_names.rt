@@ -1,0 +1,237 @@
+// Names of operators.
+ghost use Rattle.std.specs.Prelude.{◌≡◌, ◌<◌, ◌≤◌, ◌-◌, ◌^◌, ◌∷◌, [], length, min, IfNone, IfSome};
+ghost use Rattle.std.specs.List.{list_any, list_all};
+ghost use Rattle.mw_lex.specs.Lexing.{seen, seen_all};
+ghost use Rattle.mw_text.specs.Names.{items_of, count_holes};
+ghost use Rattle.mw_module.specs.OperatorNames as spec;
+
+use crate::words::{is_no_piece, is_word, tokens_from};
+use mw_lex::Token;
+use mw_text::{Item, first_item};
+
+/// Names of operators: all tokens are a single one, or there are several, each a token or a group in parentheses.
+#[derive(Clone, Copy)]
+pub struct Names<'a> {
+    pub single: bool,
+    pub tokens: &'a [Token],
+}
+
+// A name, and how many tokens belong to it behind the first.
+#[derive(Clone, Copy)]
+struct FrontName<'a> {
+    name: &'a [Token],
+    behind: usize,
+}
+
+// How many tokens a group has behind the parenthesis that opens it, with the one that closes it.
+fn group_len(tokens: &[Token]) -> Option<usize>
+    ensures len { result ≡ spec.group_len 1 (seen_all tokens.now) }
+    ensures some { IfSome result (λ n. 0 < n) }
+    ensures within { IfSome result (λ n. n ≤ length tokens.now) }
+{
+    let mut rest = tokens;
+    let mut depth = 1usize;
+    let mut len = 0;
+    while let [token, after @ ..] = rest {
+        len += 1;
+        if is_word(token, b")") {
+            if depth == 1 {
+                return Some(len);
+            }
+            depth -= 1;
+        } else if is_word(token, b"(") {
+            depth += 1;
+        }
+        rest = after;
+    }
+    None
+}
+
+// The tokens of a group behind the parenthesis that opens it. A group that isn't closed stands for an empty name.
+#[tactic(auto, using(crate::proofs::Slices::seen_take))]
+fn in_group<'a>(tokens: &'a [Token]) -> FrontName<'a>
+    ensures front { spec.seen_front result ≡ spec.in_group (seen_all tokens.now) (spec.group_len 1 (seen_all tokens.now)) }
+    ensures within { result.behind ≤ length tokens.now }
+{
+    match group_len(tokens) {
+        Some(len) => FrontName {
+            name: &tokens[..len - 1],
+            behind: len,
+        },
+        None => FrontName {
+            name: &tokens[..0],
+            behind: 0,
+        },
+    }
+}
+
+// The first of several names. A parenthesis that closes nothing stands for an empty name.
+fn one_of_several<'a>(tokens: &'a [Token]) -> FrontName<'a>
+    ensures front { spec.seen_front result ≡ spec.one_of_several (seen_all tokens.now) }
+    ensures within { 0 < length tokens.now → result.behind < length tokens.now }
+{
+    match tokens {
+        [open, rest @ ..] if is_word(open, b"(") => in_group(rest),
+        [token, ..] if !is_word(token, b")") => FrontName {
+            name: &tokens[..1],
+            behind: 0,
+        },
+        _ => FrontName {
+            name: &tokens[..0],
+            behind: 0,
+        },
+    }
+}
+
+// The first name, where there are several or where all tokens are a single one.
+fn front_name<'a>(single: bool, tokens: &'a [Token]) -> FrontName<'a>
+    ensures front { spec.seen_front result ≡ spec.front_name single (seen_all tokens.now) }
+    ensures within { 0 < length tokens.now → result.behind < length tokens.now }
+{
+    if single {
+        FrontName {
+            name: tokens,
+            behind: tokens.len().saturating_sub(1),
+        }
+    } else {
+        one_of_several(tokens)
+    }
+}
+
+impl<'a> Names<'a> {
+    /// The first name as its tokens, and the others. A parenthesis that has no partner stands for a name of no tokens.
+    pub fn first(self) -> Option<(&'a [Token], Names<'a>)>
+        ensures first { IfSome result (λ r. spec.names_of self.entry ≡ seen_all r.0.now ∷ spec.names_of r.1) }
+        ensures shorter { IfSome result (λ r. length r.1.tokens.now < length self.entry.tokens.now) }
+        ensures none { IfNone result (spec.names_of self.entry ≡ []) }
+    {
+        let [_, rest @ ..] = self.tokens else {
+            return None;
+        };
+        let front = front_name(self.single, self.tokens);
+        let others = Names {
+            single: self.single,
+            tokens: tokens_from(rest, front.behind),
+        };
+        Some((front.name, others))
+    }
+}
+
+// Whether the pieces of a token may stand in a name.
+fn has_fine_pieces(text: &[u8]) -> bool
+    ensures { result ≡ list_all spec.is_fine (items_of text.now) }
+{
+    let mut rest = text;
+    while let Some((item, after)) = first_item(rest) {
+        if let Item::Piece(piece) = item
+            && is_no_piece(piece)
+        {
+            return false;
+        }
+        rest = after;
+    }
+    true
+}
+
+// Whether a token has a piece.
+fn has_piece(text: &[u8]) -> bool
+    ensures { result ≡ list_any spec.is_piece (items_of text.now) }
+{
+    let mut rest = text;
+    while let Some((item, after)) = first_item(rest) {
+        if let Item::Piece(_) = item {
+            return true;
+        }
+        rest = after;
+    }
+    false
+}
+
+// How many holes a token has.
+fn holes_in(text: &[u8]) -> usize
+    ensures { result ≡ count_holes (items_of text.now) }
+{
+    let mut rest = text;
+    let mut holes = 0;
+    while let Some((item, after)) = first_item(rest) {
+        if let Item::Hole = item {
+            holes += 1;
+        }
+        rest = after;
+    }
+    holes
+}
+
+// How many holes a name has, or the greatest number where it has more.
+fn holes_of(name: &[Token]) -> usize
+    ensures { result ≡ min (count_holes (spec.items_in (seen_all name.now))) (2 ^ 64 - 1) }
+{
+    let mut rest = name;
+    let mut holes = 0usize;
+    while let [token, after @ ..] = rest {
+        holes = holes.saturating_add(holes_in(token.text.as_slice()));
+        rest = after;
+    }
+    holes
+}
+
+// Whether the pieces of a name may stand in one.
+fn is_fine(name: &[Token]) -> bool
+    ensures { result ≡ list_all (λ t. list_all spec.is_fine (items_of t.text.items)) name.now }
+{
+    name.iter()
+        .all(|token| has_fine_pieces(token.text.as_slice()))
+}
+
+// Whether a name has a piece.
+fn has_some_piece(name: &[Token]) -> bool
+    ensures { result ≡ list_any (λ t. list_any spec.is_piece (items_of t.text.items)) name.now }
+{
+    name.iter().any(|token| has_piece(token.text.as_slice()))
+}
+
+// Whether these tokens are a name.
+#[tactic(auto, using(crate::proofs::ItemByItem::is_name_by_token))]
+fn is_name(name: &[Token]) -> bool
+    ensures { result ≡ spec.is_name (spec.items_in (seen_all name.now)) }
+{
+    is_fine(name) && (has_some_piece(name) || 2 <= holes_of(name))
+}
+
+// Whether a name has no holes, or one for each argument.
+fn fits(arity: usize, name: &[Token]) -> bool
+    requires { arity < 2 ^ 64 - 1 }
+    ensures { result ≡ spec.fits arity (spec.items_in (seen_all name.now)) }
+{
+    let holes = holes_of(name);
+    holes == 0 || holes == arity
+}
+
+// Whether there is at least one name, and all are names.
+pub fn are_names(names: Names) -> bool
+    ensures { result ≡ spec.are_names (spec.names_of names.entry) }
+{
+    let mut rest = names;
+    while let Some((name, others)) = rest.first() {
+        if !is_name(name) {
+            return false;
+        }
+        rest = others;
+    }
+    !names.tokens.is_empty()
+}
+
+// Whether each of the names with holes has one for each argument.
+pub fn all_fit(arity: usize, names: Names) -> bool
+    requires { arity < 2 ^ 64 - 1 }
+    ensures { result ≡ spec.all_fit arity (spec.names_of names.entry) }
+{
+    let mut rest = names;
+    while let Some((name, others)) = rest.first() {
+        if !fits(arity, name) {
+            return false;
+        }
+        rest = others;
+    }
+    true
+}
