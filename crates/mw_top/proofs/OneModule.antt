@@ -1,5 +1,5 @@
 -- A unit is one module at most, and none where it is refused.
-use Rattle.std.proofs.Common.{◌≡◌, ◌∙◌, ℕ, zero, suc, List, [], ◌∷◌, length, slice_get, Some, Ok, refl, sym, ap, subst, arith, ⊎_elim}
+use Rattle.std.proofs.Common.{◌≡◌, ◌∙◌, ℕ, zero, suc, Bool, List, [], ◌∷◌, length, slice_get, Some, Ok, refl, sym, ap, subst, arith, ⊎_elim}
 use Rattle.std.proofs.lemmas.Option.{none-some, slice_get_within}
 use Rattle.mw_logic.specs.Term.{Variable, RawTerm}
 use Rattle.mw_logic.specs.Signature.{Signature}
@@ -9,7 +9,7 @@ use Rattle.mw_module.specs.Units.{SeenUnit}
 use Rattle.mw_declare.specs.Meaning.{Sides}
 use Rattle.mw_declare.specs.Statements.{statements_of}
 use Rattle.mw_declare.specs.Faults.{Declarations, declarations_of}
-use Rattle.mw_build.specs.Equations.{FitsIn, Oversized, deep, large, statement_of, IsStatementOf, SidesFault, big_left, big_right, lone, open_right, IsEquation, EquationFault, long, unread, unclear, sides, AreEquations, FirstFault}
+use Rattle.mw_build.specs.Equations.{FitsIn, Oversized, deep, large, statement_of, IsApplicable, ApplicationFault, lone, open_right, IsStatementOf, SidesFault, big_left, big_right, inapplicable, IsEquation, EquationFault, long, unread, unclear, sides, AreEquations, FirstFault}
 use Rattle.mw_build.specs.Modules.{Accepted, IsAccepted, IsRefused, by_declarations, by_equations}
 use Rattle.mw_build.proofs.Reading.{there}
 
@@ -28,11 +28,14 @@ not_big sig t cause f (deep k) = f.not_deep k
 not_big sig t cause f (large s k) = f.not_large k
 
 module _ (sig : Signature) where
-  sides_hold : (left right : RawTerm) (st : Statement) (cause : Cause) → IsStatementOf sig left right st → SidesFault sig left right cause → ⊥
-  sides_hold left right st cause s (big_left why big) = not_big sig left why s.left_fits big
-  sides_hold left right st cause s (big_right why fits big) = not_big sig right why s.right_fits big
-  sides_hold left right st cause s (lone f g is) = s.not_lone is
-  sides_hold left right st cause s (open_right x f g not is) = absurd (none-some x (sym s.bound ∙ is))
+  application_holds : (left right : RawTerm) (cause : Cause) → IsApplicable sig left right → ApplicationFault sig left right cause → ⊥
+  application_holds left right cause a (lone is) = a.not_lone is
+  application_holds left right cause a (open_right x not is) = absurd (none-some x (sym a.bound ∙ is))
+
+  sides_hold : (left right : RawTerm) (executable : Bool) (st : Statement) (cause : Cause) → IsStatementOf sig left right executable st → SidesFault sig left right executable cause → ⊥
+  sides_hold left right executable st cause s (big_left why big) = not_big sig left why s.left_fits big
+  sides_hold left right executable st cause s (big_right why fits big) = not_big sig right why s.right_fits big
+  sides_hold left right executable st cause s (inapplicable why f g is fault) = application_holds left right why (s.applicable is) fault
 
   module _ (variables : List Variable) where
     same_sides : (e : Sides) (st other : Statement) (p : IsEquation sig variables e st) (q : IsEquation sig variables e other) → ◌≡◌ {A = RawTerm × RawTerm} (p.left, p.right) (q.left, q.right)
@@ -43,7 +46,7 @@ module _ (sig : Signature) where
     one_statement e st other p q =
         let left : p.left ≡ q.left = ap (λ (s : RawTerm × RawTerm). s.0) (same_sides e st other p q) in
         let right : p.right ≡ q.right = ap (λ (s : RawTerm × RawTerm). s.1) (same_sides e st other p q) in
-        p.sides.statement ∙ ap (λ t. statement_of t p.right) left ∙ ap (statement_of q.left) right ∙ sym q.sides.statement
+        p.sides.statement ∙ ap (λ t. statement_of t p.right e.executable) left ∙ ap (λ t. statement_of q.left t e.executable) right ∙ sym q.sides.statement
 
     equation_holds : (e : Sides) (st : Statement) (cause : Cause) → IsEquation sig variables e st → EquationFault sig variables e cause → ⊥
     equation_holds e st cause p (long h) = ⊎_elim (λ k. omega (arith, k, p.read.short_left)) (λ k. omega (arith, k, p.read.short_right)) h
@@ -51,7 +54,7 @@ module _ (sig : Signature) where
     equation_holds e st cause p (unclear f g (x, y, (of_x, of_y, differ))) = differ (p.read.only.1 x of_x ∙ sym (p.read.only.1 y of_y))
     equation_holds e st cause p (sides left right why read fault) =
         let pair : ◌≡◌ {A = RawTerm × RawTerm} (left, right) (p.left, p.right) = p.read.only.1 (left, right) read.only.0 in
-        sides_hold p.left p.right st why p.sides (subst (λ (s : RawTerm × RawTerm). SidesFault sig s.0 s.1 why) pair fault)
+        sides_hold p.left p.right e.executable st why p.sides (subst (λ (s : RawTerm × RawTerm). SidesFault sig s.0 s.1 e.executable why) pair fault)
 
     one_list : (es : List Sides) (sts others : List Statement) → AreEquations sig variables es sts → AreEquations sig variables es others → sts ≡ others
     one_list es sts others p q = same_lists sts others (p.count ∙ sym q.count)
@@ -76,7 +79,7 @@ same_module a b n s e v =
     ∙ ap (λ x. module_of b.name b.module.signature x a.variables) e ∙ ap (module_of b.name b.module.signature b.module.statements) v
 
 module _ (u : SeenUnit) (n : List ℕ) (a : Accepted) (p : IsAccepted u n a) where
-  same_declarations : (d : Declarations) → declarations_of (statements_of u) ≡ Ok d → d ≡ p.declarations
+  same_declarations : (d : Declarations) → declarations_of u.line (statements_of u) ≡ Ok d → d ≡ p.declarations
   same_declarations d e = cc (p.declared, e)
 
   -- a unit is one module
