@@ -68,6 +68,18 @@ fn commands_get_their_blocks(rt: HostRuntime) -> Result<(), Fail> {
             "reduce in A : a .\nrewrites: 0\nresult S: a\nstatus: reduced\nreduce in B : b .\nrewrites: 0\nresult S: b\nstatus: reduced\n",
         ),
         (
+            "fmod MX is sort N . op z : -> N . op _+_ : N N -> N . endfm parse z + (z + z) .",
+            "parse in MX : z + z + z .\nsort: N\n",
+        ),
+        (
+            "fmod E is sort S . op a : -> S . op _,_ : S S -> S [prec 0 gather (e e)] . endfm parse _`,_(a, (a)) .",
+            "parse in E : _`,_(a, a) .\nsort: S\n",
+        ),
+        (
+            "fmod N is sort S . ops a b : -> S . op f : S -> S . var X : S . eq [l] : f(X) = a [label k] . eq a = X [nonexec] . endfm red f(b) .",
+            "reduce in N : f(b) .\nrewrites: 1\nresult S: a\nstatus: reduced\n",
+        ),
+        (
             "*** a line\nfmod A is sort S . ***( over\n lines ) op a : -> S . endfm red a .",
             "reduce in A : a .\nrewrites: 0\nresult S: a\nstatus: reduced\n",
         ),
@@ -141,10 +153,22 @@ fn units_are_refused_in_one_line(rt: HostRuntime) -> Result<(), Fail> {
             "fmod A is sort S .\nop f : S T -> U . endfm",
             "line 2: refused: unknown sort: T\n",
         ),
+        (
+            "fmod A is sort S .\nop _+_ : S -> S . endfm",
+            "line 2: refused: bad statement\n",
+        ),
+        (
+            "\nfmod A is sort S .\nop _+_ : S S -> S [prec 3] . op _+_ : S S -> S [prec 4] . endfm",
+            "line 2: refused: attributes disagree: _+_\n",
+        ),
         ("red a .", "line 1: refused: no module\n"),
         (
             "fmod A is endfm\nred [1] a .",
             "line 2: refused: bad bound\n",
+        ),
+        (
+            "fmod MX is sort N . op z : -> N . op _+_ : N N -> N . endfm\nparse z + z + z .",
+            "line 2: refused: ambiguous\n",
         ),
     ];
     for (source, line) in cases {
