@@ -1,7 +1,7 @@
 -- What is known of a statement that has a form.
-use Rattle.std.proofs.Common.{◌≡◌, ◌≢◌, ◌∙◌, ◌<◌, ◌+◌, ◌-◌, ◌*◌, ◌==◌, ◌&&◌, ◌||◌, ◌⊎◌, inl, inr, not, nat_lt, nat_le, ℕ, zero, suc, Bool, true, false, if◌then◌else◌, List, [], ◌∷◌, length, map, take, drop, Option, Some, None, IfSome, IfOk, Result, Ok, Err, All, codes, bytes_eq, refl, sym, ap, subst, arith}
+use Rattle.std.proofs.Common.{◌≡◌, ◌≢◌, ◌<◌, ◌+◌, ◌-◌, ◌*◌, ◌==◌, ◌&&◌, ◌||◌, ◌⊎◌, inl, inr, not, nat_lt, nat_le, ℕ, zero, suc, Bool, true, false, if◌then◌else◌, List, [], ◌∷◌, length, take, drop, Option, Some, None, IfSome, IfOk, Result, Ok, Err, All, codes, refl, sym, ap, subst, arith}
 use Rattle.std.specs.Char.{is_ascii_digit}
-use Rattle.std.specs.List.{list_all, list_any}
+use Rattle.std.specs.List.{list_all}
 use Rattle.std.specs.Option.{option_or}
 use Rattle.std.proofs.lemmas.Bool.{ltb-true, leb-true, eqb-true}
 use Rattle.std.proofs.lemmas.List.Elements.{All-nil, All-cons}
@@ -16,10 +16,10 @@ use Rattle.mw_module.specs.declared.openings.Opening.TheVariants as opening
 use Rattle.mw_module.specs.Words.{is, begins, texts, count_before, begins_string}
 use Rattle.mw_module.specs.Faults.{fault_if, unless}
 use Rattle.mw_module.specs.Openings.{opening_of}
-use Rattle.mw_module.specs.OperatorNames.{items_in, is_piece, is_fine, is_name, all_names, are_names, fits, all_fit, names_from}
+use Rattle.mw_module.specs.OperatorNames.{items_in, is_name, all_names, are_names, fits, all_fit, names_from}
 use Rattle.mw_module.specs.Attributes.{Attributes, no_attributes, joined, Attribute, in_range, precedence_of, with_precedence, prec_attribute, is_mark, are_marks, gather_attribute, format_attribute, metadata_attribute, is_silent_word, attribute_at, Said, at_end, going_on, attributes_from, attribute_list, attributes_behind}
 use Rattle.mw_module.specs.Equations.{unlabelled, attributes_len, group_at_end, executable_with, equals_at}
-use Rattle.mw_module.specs.Forms.{Shape, Sorts, Operators, Variables, Equation, Formed, text_fault, first_fault, names_fault, lone_sort, sorts_form, typed, variables_form, valued, value_form, arrow_form, operators_form, divided, sides_form, equation_form, form_behind, form_of}
+use Rattle.mw_module.specs.Forms.{Shape, Sorts, Operators, Variables, Equation, Formed, text_fault, first_fault, names_fault, lone_sort, typed, variables_form, valued, value_form, arrow_form, operators_form, divided, equation_form, form_behind, form_of}
 
 -- a name is neither nothing nor a hole alone, and has no holes or one for each argument
 pub record IsNameFor (arity : ℕ) (name : List Seen) : Type 0 where

@@ -1,6 +1,5 @@
 -- Lists of attributes of operators.
-use Rattle.std.proofs.Common.{◌≡◌, ◌∙◌, ◌≤◌, ◌<◌, ◌+◌, ◌-◌, ◌==◌, ◌&&◌, ◌⊎◌, inl, inr, nat_lt, ℕ, zero, suc, Bool, true, false, List, [], ◌∷◌, length, take, drop, get_or, Some, Result, Ok, refl, sym, ap, arith, codes}
-use Rattle.std.specs.Borrow.{Bor}
+use Rattle.std.proofs.Common.{◌≡◌, ◌∙◌, ◌≤◌, ◌<◌, ◌+◌, ◌-◌, ◌&&◌, nat_lt, ℕ, zero, suc, Bool, true, false, List, [], ◌∷◌, length, take, drop, get_or, Some, Result, Ok, refl, sym, ap, arith, codes}
 use Rattle.std.specs.List.{list_all}
 use Rattle.std.proofs.lemmas.Bool.{lt-ltb}
 use Rattle.std.proofs.lemmas.List.{drop_all}
@@ -10,7 +9,7 @@ use Rattle.mw_lex.specs.Lexing.{Seen, seen, seen_all}
 use Rattle.mw_module.specs.declared.attribute.Attributes.{Attributes as HeldAttributes}
 use Rattle.mw_module.specs.declared.faults.FaultKind.{FaultKind}
 use Rattle.mw_module.specs.Words.{is, begins, texts}
-use Rattle.mw_module.specs.Attributes.{Attributes, seen_attributes, no_attributes, joined, Attribute, seen_one, is_mark, are_marks, gather_attribute, attribute_at, attributes_from}
+use Rattle.mw_module.specs.Attributes.{Attributes, seen_attributes, no_attributes, joined, Attribute, is_mark, are_marks, gather_attribute, attribute_at, attributes_from}
 use Rattle.mw_module.proofs.Slices.{seen_take, seen_length, parted}
 
 -- where there are too few tokens, no parenthesis closes the marks

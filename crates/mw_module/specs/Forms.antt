@@ -1,8 +1,7 @@
 -- The forms of statements.
-use Rattle.std.specs.Prelude.{ℕ, Bool, true, false, List, [], ◌∷◌, ◌+◌, ◌-◌, ◌==◌, ◌&&◌, ◌||◌, not, nat_lt, length, take, drop, reverse, Option, None, Some, Result, Ok, Err, if◌then◌else◌, codes}
+use Rattle.std.specs.Prelude.{ℕ, Bool, true, false, List, [], ◌∷◌, ◌+◌, ◌-◌, ◌==◌, ◌||◌, not, length, take, drop, Option, None, Some, Result, Ok, Err, codes}
 use Rattle.std.specs.Str.{bytes_eq}
 use Rattle.mw_lex.specs.Lexing.{Seen, seen, seen_all}
-use Rattle.mw_lex.specs.Pieces.{one_more}
 use Rattle.mw_module.specs.declared.faults.FaultKind.{FaultKind}
 use Rattle.mw_module.specs.declared.faults.FaultKind.TheVariants.{NotInProfile, BadStatement}
 use Rattle.mw_module.specs.declared.forms.Form.{Form}

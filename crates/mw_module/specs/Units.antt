@@ -1,5 +1,5 @@
 -- The units of a source.
-use Rattle.std.specs.Prelude.{◌≡◌, ◌<◌, ◌≤◌, ℕ, Bool, false, List, [], ◌∷◌, ◌++◌, ◌+◌, ◌-◌, ◌==◌, nat_lt, length, take, drop, map, All, IsOk, IsSome, Option, None, Some, option_map, Result, Ok, Err, if◌then◌else◌, codes}
+use Rattle.std.specs.Prelude.{◌≡◌, ◌<◌, ◌≤◌, ℕ, Bool, List, [], ◌∷◌, ◌++◌, ◌+◌, ◌-◌, ◌==◌, nat_lt, length, take, drop, map, All, IsOk, IsSome, Option, None, Some, option_map, Result, Ok, Err, if◌then◌else◌, codes}
 use Rattle.std.specs.Global.{Vec}
 use Rattle.mw_lex.specs.declared.token.Token.{Token}
 use Rattle.mw_lex.specs.Lexing.{Seen, seen, seen_all}

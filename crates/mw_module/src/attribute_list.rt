@@ -1,5 +1,6 @@
 // Lists of attributes of operators.
 ghost use Rattle.std.specs.Prelude.{◌≡◌, ◌<◌, ◌≤◌, length, IsTrue, IfOk};
+ghost use Rattle.std.specs.Char.{is_ascii_digit};
 ghost use Rattle.std.specs.List.{list_all};
 ghost use Rattle.mw_lex.specs.Lexing.{seen, seen_all};
 ghost use Rattle.mw_module.specs.Attributes as attributes;
@@ -26,17 +27,24 @@ fn silent<'a>(behind: usize) -> Attribute<'a>
     }
 }
 
+fn is_digit(byte: u8) -> bool
+    ensures { result ≡ is_ascii_digit byte }
+{
+    byte.is_ascii_digit()
+}
+
 // A precedence: a number from 0 to 127.
 fn precedence_of(text: &[u8]) -> Option<u32>
     ensures { result ≡ attributes.precedence_of text.now }
 {
     let number = match text {
-        [a] if a.is_ascii_digit() => (*a - b'0') as u32,
-        [a, b] if a.is_ascii_digit() && b.is_ascii_digit() && *a != b'0' => {
+        [a] if is_digit(*a) => (*a - b'0') as u32,
+        [a, b] if is_digit(*a) && is_digit(*b) && *a != b'0' => {
             10 * (*a - b'0') as u32 + (*b - b'0') as u32
         }
-        [a, b, c] if a.is_ascii_digit() && b.is_ascii_digit() && c.is_ascii_digit() && *a != b'0' =>
-            { 100 * (*a - b'0') as u32 + 10 * (*b - b'0') as u32 + (*c - b'0') as u32 }
+        [a, b, c] if is_digit(*a) && is_digit(*b) && is_digit(*c) && *a != b'0' => {
+            100 * (*a - b'0') as u32 + 10 * (*b - b'0') as u32 + (*c - b'0') as u32
+        }
         _ => return None,
     };
     if number < 128 { Some(number) } else { None }

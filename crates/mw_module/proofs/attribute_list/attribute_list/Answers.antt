@@ -1,6 +1,6 @@
 use Rattle.std.proofs.Common.{◌∙◌, sym, ap}
 use Rattle.mw_lex.specs.Lexing.{seen_all}
-use Rattle.mw_module.specs.Attributes.{Attributes, seen_attributes, seen_attribute, seen_one, attributes_from}
+use Rattle.mw_module.specs.Attributes.{Attributes, seen_attribute, seen_one, attributes_from}
 use Rattle.mw_module.proofs.Lists.{said_more}
 use Rattle.mw_module.proofs.attribute_list.attribute_list.Goals as goal
 
