@@ -9,7 +9,7 @@ use Rattle.mw_logic.specs.Parts.{is_assoc}
 use Rattle.mw_text.specs.Names.{Item, piece, hole, items_of, has_hole, pieces}
 use Rattle.mw_print.specs.Tokens.{Token, token, opening, text_of, texts}
 use Rattle.mw_print.specs.Printing.{Printed, is_mixfix, takes, in_parentheses, in_hole, in_holes, head, divided, called, spread, arguments_of, tokens_of, printed, printed_all}
-use Rattle.mw_print.specs.Laws.{IsProper, AreProperNames, HasProperLeaves, HaveProperLeaves, PrintedProper}
+use Rattle.mw_print.specs.Laws.{IsProper, IsProperName, AreProperNames, HasProperLeaves, HaveProperLeaves, PrintedProper}
 use Rattle.mw_print.proofs.Spelled.{spread_cases}
 use Rattle.mw_print.proofs.Digits.{decimal_proper}
 
@@ -73,18 +73,18 @@ holes_proper p (hole ∷ items) [] args n h = holes_proper p items [] args n h
 holes_proper p (hole ∷ items) (g ∷ gs) [] n h = holes_proper p items (g ∷ gs) [] n h
 holes_proper p (hole ∷ items) (g ∷ gs) (a ∷ args) n h = both_proper (in_hole g p a) (in_holes p items gs args) (hole_proper g p a h.0) (holes_proper p items gs args n h.1)
 
-head_proper : (o : Operator) → IsProper o.spelling → All IsProper (pieces (items_of o.spelling)) → AreProper (head o)
-head_proper o h k =
-    elim (cases_Bool (has_hole (items_of o.spelling))) [ inl e ↦ rw e (h, tt) | inr e ↦ rw e (names_proper (pieces (items_of o.spelling)) k) ]
+head_proper : (o : Operator) → IsProperName o.spelling → AreProper (head o)
+head_proper o h =
+    elim (cases_Bool (has_hole (items_of o.spelling))) [ inl e ↦ rw e (h.1 e, tt) | inr e ↦ rw e (names_proper (pieces (items_of o.spelling)) h.0) ]
 
-tokens_proper : (o : Option Operator) (args : List Printed) (listed : List (List Token)) → ((p : Operator) → o ≡ Some p → IsProper p.spelling × All IsProper (pieces (items_of p.spelling)))
+tokens_proper : (o : Option Operator) (args : List Printed) (listed : List (List Token)) → ((p : Operator) → o ≡ Some p → IsProperName p.spelling)
     → AreFine args → AreAllProper listed → AreProper (tokens_of o args listed)
 tokens_proper None args listed n h k = called_proper [] listed tt k
 tokens_proper (Some o) args listed n h k =
     let names = n o refl in
     elim (cases_Bool (is_mixfix o (length args))) [
-      | inl e ↦ rw e (holes_proper o.prec (items_of o.spelling) o.gather args names.1 h)
-      | inr e ↦ rw e (called_proper (head o) listed (head_proper o names.0 names.1) k)
+      | inl e ↦ rw e (holes_proper o.prec (items_of o.spelling) o.gather args names.0 h)
+      | inr e ↦ rw e (called_proper (head o) listed (head_proper o names) k)
     ]
 
 module _ (sig : Signature) (names : AreProperNames sig) where

@@ -5,7 +5,7 @@ use Rattle.mw_lex.specs.Pieces.{run_len, opens_comment}
 use Rattle.mw_lex.specs.Lexing.{Seen, tokens_of}
 use Rattle.mw_logic.specs.Term.{Variable, RawTerm, numeral, quoted, variable, apply, RawTerms, nil, cons}
 use Rattle.mw_logic.specs.Signature.{Signature, Operator, IsOperator, IsSortNamed, IsRawTerm}
-use Rattle.mw_text.specs.Names.{items_of, pieces}
+use Rattle.mw_text.specs.Names.{items_of, has_hole, pieces}
 use Rattle.mw_text.specs.Mixfix.{Spells, IsVariableName}
 use Rattle.mw_print.specs.Tokens.{texts}
 use Rattle.mw_print.specs.Printing.{printed, sort_name, mixfix_text}
@@ -52,9 +52,12 @@ HasTokens text tokens = (found : List Seen) × (tokens_of text ≡ Ok found) × 
 abbrev pub PrintedLexes : Type 0
 PrintedLexes = (sig : Signature) (t : RawTerm) → All IsProper (texts (printed sig t).tokens) → HasTokens (mixfix_text sig t) (texts (printed sig t).tokens)
 
--- Each piece of an operator's name is proper, and so is the whole name.
+-- Each piece of an operator's name is proper, and so is the whole name of one with holes.
+abbrev pub IsProperName : List ℕ → Type 0
+IsProperName name = All IsProper (pieces (items_of name)) × (IsTrue (has_hole (items_of name)) → IsProper name)
+
 abbrev pub AreProperNames : Signature → Type 0
-AreProperNames sig = (f : ℕ) (o : Operator) → IsOperator sig f o → IsProper o.spelling × All IsProper (pieces (items_of o.spelling))
+AreProperNames sig = (f : ℕ) (o : Operator) → IsOperator sig f o → IsProperName o.spelling
 
 -- Numerals are below 2^128; quoted identifiers are proper, and so are variables with their sorts.
 abbrev mutual

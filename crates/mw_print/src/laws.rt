@@ -12,7 +12,7 @@ pub fn printed_lexes()
     ensures { PrintedLexes }
 {}
 
-/// The printed tokens are proper, where the pieces of names are, whole names, and variables with their sorts.
+/// The printed tokens are proper, where the pieces of names are, whole names with holes, and variables with their sorts.
 pub fn printed_proper()
     ensures { PrintedProper }
 {}

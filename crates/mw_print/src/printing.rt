@@ -32,7 +32,7 @@ fn print(
     term: &Term,
     writer: &mut Writer,
 ) -> Result<(), AllocError>
-    ensures { OnOk result (Writes writer.old writer.new ((printed signature.now term.now).tokens)) }
+    ensures { OnOk result (Writes writer.old writer.new (printed signature.now term.now).tokens) }
 {
     match term.shape() {
         Shape::Nat(number) => {
@@ -62,7 +62,7 @@ fn print_operator(
     args: &[Term],
     writer: &mut Writer,
 ) -> Result<(), AllocError>
-    ensures { OnOk result (Writes writer.old writer.new ((printed signature.now (logic.apply number (terms_of args.now))).tokens)) }
+    ensures { OnOk result (Writes writer.old writer.new (printed signature.now (logic.apply number (terms_of args.now))).tokens) }
 {
     match operator_at(signature, number) {
         Some(operator) => {
