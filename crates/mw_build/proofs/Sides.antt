@@ -53,8 +53,8 @@ above t n b e h = grind arith
 pub first_unbound : (left right : RawTerm) (bound xs : List Variable) (o : Option Variable) → bound ≡ met [] left → xs ≡ met [] right → o ≡ missing_in bound xs → unbound left right ≡ o
 first_unbound left right bound xs o b e h = sym (h ∙ ap (λ ys. missing_in ys xs) b ∙ ap (missing_in (met [] left)) e)
 
--- where no variable is missing, the option holds none
-pub holds_none : (o : Option Variable) → ((x : Variable) → o ≡ Some x → ⊥) → o ≡ None
+-- an option that holds nothing
+pub holds_none : {X : Type 0} (o : Option X) → ((x : X) → o ≡ Some x → ⊥) → o ≡ None
 holds_none None h = refl
 holds_none (Some x) h = absurd (h x refl)
 

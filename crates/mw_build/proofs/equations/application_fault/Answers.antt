@@ -11,7 +11,7 @@ use Rattle.mw_build.proofs.equations.application_fault.Goals.{in-Var, in_default
 
 pub returns-then-matches : goal.returns-then-matches
 returns-then-matches c = λ sig simple. elim c.match-matches.branch [
-  | in-Var w ↦ lone (is_lone sig simple c.args.left.now w.in-Var.field-0.now w.in-Var.is)
+  | in-Var w ↦ lone (is_lone sig simple c.args.left.now w.in-Var.field-0 w.in-Var.is)
   | in_default w ↦ absurd (both_ways _ w.matches-is c.if-matches.true)
 ]
 
@@ -20,14 +20,14 @@ returns-in-Some c = λ sig simple.
     let left = raw_term c.args.left.now in
     let right = raw_term c.args.right.now in
     let none = elim c.match-matches.branch as (λ _. (x : Variable) → c.args.left.now ≡ Var x → ⊥) [ in-Var w ↦ absurd (both_ways _ c.if-matches.false w.matches-is) | in_default w ↦ w.in_default.not-Var ] in
-    let first = first_unbound left right c.in_ok-bound.bound c.in_ok-mentioned.field-0 c.in_ok-missing_in.field-0 c.in_ok-bound.ensures c.in_ok-mentioned.ensures c.in_ok-missing_in.ensures in
+    let first = first_unbound left right c.in_ok-bound.bound c.in_ok-mentioned.field-0 c.in_ok-variable.field-0 c.in_ok-bound.ensures c.in_ok-mentioned.ensures c.in_ok-variable.ensures in
     let name : c.in-Some.variable.name ≡ c.into_vec.result.items = ap (λ (x : Variable). x.name) (sym c.variable.view_is) ∙ sym c.into_vec.ensures in
     subst (λ n. ApplicationFault sig left right (unbound_variable n)) name (open_right c.in-Some.variable (not_lone sig simple c.args.left.now none) (first ∙ c.in-Some.is))
 
-pub returns-in-None : goal.returns-in-None
-returns-in-None c = λ sig simple.
+pub returns : goal.returns
+returns c = λ sig simple.
     let left = raw_term c.args.left.now in
     let right = raw_term c.args.right.now in
     let none = elim c.match-matches.branch as (λ _. (x : Variable) → c.args.left.now ≡ Var x → ⊥) [ in-Var w ↦ absurd (both_ways _ c.if-matches.false w.matches-is) | in_default w ↦ w.in_default.not-Var ] in
-    let first = first_unbound left right c.in_ok-bound.bound c.in_ok-mentioned.field-0 c.in_ok-missing_in.field-0 c.in_ok-bound.ensures c.in_ok-mentioned.ensures c.in_ok-missing_in.ensures in
+    let first = first_unbound left right c.in_ok-bound.bound c.in_ok-mentioned.field-0 c.in_ok-variable.field-0 c.in_ok-bound.ensures c.in_ok-mentioned.ensures c.in_ok-variable.ensures in
     record { not_lone = not_lone sig simple c.args.left.now none; bound = first ∙ c.in-None.is }
