@@ -7,6 +7,8 @@
 // `A` for associative, `C` for commutative, and the letter of its identity. `s4>5/5>4` has two declarations.
 //
 // Statements are words too: `a=b` is an equation, `a>b` a rule.
+use crate::as_tree;
+use mw_model::Tree;
 use mw_term::{
     Declaration, Identity, Name, OpId, Operator, Raw, Raws, Seq, Signature, SortId, Sorted,
     Statement, VarId,
@@ -93,21 +95,42 @@ fn has_sort_named(sorts: &[Name], name: &[u8]) -> bool {
     sorts.iter().any(|sort| sort.as_slice() == name)
 }
 
-pub(crate) fn signature(alloc: Global, text: &[u8]) -> Result<Signature, Fail> {
-    let mut sorts = Vec::new(alloc);
-    let mut pairs = Vec::new(alloc);
-    let mut operators = Vec::new(alloc);
-    for word in text.split(|b| *b == b' ') {
-        match word {
-            [b':', rest @ ..] => sorts.push(name(alloc, rest)?)?,
-            [b'<', low, high] => pairs.push((digit(*low), digit(*high)))?,
-            [letter, rest @ ..] => {
-                let made = operator(alloc, operators.as_slice(), *letter, rest)?;
-                operators.push(made)?;
-            }
-            [] => {}
+/// The sorts that are declared among the words.
+fn sorts_of(alloc: Global, words: &[&[u8]]) -> Result<Vec<Name>, AllocError> {
+    let mut made = Vec::new(alloc);
+    for word in words {
+        if let [b':', rest @ ..] = word {
+            made.push(name(alloc, rest)?)?;
         }
     }
+    Ok(made)
+}
+
+fn pairs_of(alloc: Global, words: &[&[u8]]) -> Result<Vec<(SortId, SortId)>, AllocError> {
+    let mut made = Vec::new(alloc);
+    for word in words {
+        if let [b'<', low, high] = word {
+            made.push((digit(*low), digit(*high)))?;
+        }
+    }
+    Ok(made)
+}
+
+fn operators_of(alloc: Global, words: &[&[u8]]) -> Result<Vec<Operator>, Fail> {
+    let mut made = Vec::new(alloc);
+    for word in words {
+        if let [letter @ b'a'..=b'z', rest @ ..] = word {
+            let one = operator(alloc, made.as_slice(), *letter, rest)?;
+            made.push(one)?;
+        }
+    }
+    Ok(made)
+}
+
+pub(crate) fn signature(alloc: Global, words: &[&[u8]]) -> Result<Signature, Fail> {
+    let sorts = sorts_of(alloc, words)?;
+    let pairs = pairs_of(alloc, words)?;
+    let operators = operators_of(alloc, words)?;
     Ok(Signature {
         nat: has_sort_named(sorts.as_slice(), b"Nat"),
         qid: has_sort_named(sorts.as_slice(), b"Qid"),
@@ -150,7 +173,7 @@ fn begun(
 }
 
 /// A term, which is read from its end.
-pub(crate) fn term(alloc: Global, sig: &Signature, text: &[u8]) -> Result<Raw, Fail> {
+fn term(alloc: Global, sig: &Signature, text: &[u8]) -> Result<Raw, Fail> {
     let mut terms = Vec::new(alloc);
     let mut last = 0;
     for b in text.iter().rev() {
@@ -166,10 +189,30 @@ pub(crate) fn term(alloc: Global, sig: &Signature, text: &[u8]) -> Result<Raw, F
     Ok(terms.pop().ok_or("no term")?)
 }
 
+fn is_statement(word: &[u8]) -> bool {
+    word.iter().any(|b| is_arrow(*b))
+}
+
+fn is_arrow(b: u8) -> bool {
+    matches!(b, b'=' | b'>')
+}
+
+/// The terms among the words.
+pub(crate) fn trees(alloc: Global, sig: &Signature, words: &[&[u8]]) -> Result<Vec<Tree>, Fail> {
+    let mut made = Vec::new(alloc);
+    for word in words {
+        if !is_statement(word) {
+            let raw = term(alloc, sig, word)?;
+            made.push(as_tree(alloc, &raw)?)?;
+        }
+    }
+    Ok(made)
+}
+
 fn statement(alloc: Global, sig: &Signature, text: &[u8]) -> Result<Statement, Fail> {
     let at = text
         .iter()
-        .position(|b| matches!(*b, b'=' | b'>'))
+        .position(|b| is_arrow(*b))
         .ok_or("no statement")?;
     Ok(Statement {
         left: term(alloc, sig, &text[..at])?,
@@ -181,14 +224,28 @@ fn statement(alloc: Global, sig: &Signature, text: &[u8]) -> Result<Statement, F
     })
 }
 
+/// The statements among the words.
 pub(crate) fn statements(
     alloc: Global,
     sig: &Signature,
-    text: &[u8],
+    words: &[&[u8]],
 ) -> Result<Vec<Statement>, Fail> {
     let mut made = Vec::new(alloc);
-    for word in text.split(|b| *b == b' ') {
-        made.push(statement(alloc, sig, word)?)?;
+    for word in words {
+        if is_statement(word) {
+            made.push(statement(alloc, sig, word)?)?;
+        }
+    }
+    Ok(made)
+}
+
+/// The words of a line, which have spaces between them.
+pub(crate) fn words<'a>(alloc: Global, line: &'a [u8]) -> Result<Vec<&'a [u8]>, AllocError> {
+    let mut made = Vec::new(alloc);
+    for word in line.split(|b| *b == b' ') {
+        if !word.is_empty() {
+            made.push(word)?;
+        }
     }
     Ok(made)
 }

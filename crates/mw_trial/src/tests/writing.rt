@@ -44,28 +44,29 @@ fn write_all(out: &mut Vec<u8>, sig: &Signature, ts: &Trees) -> Result<(), Alloc
     }
 }
 
-/// The term as a text.
-pub(crate) fn text_of(alloc: Global, sig: &Signature, t: &Tree) -> Result<Vec<u8>, AllocError> {
-    let mut out = Vec::new(alloc);
-    write(&mut out, sig, t)?;
-    Ok(out)
+/// The term as a text, behind a space.
+pub(crate) fn write_text(out: &mut Vec<u8>, sig: &Signature, t: &Tree) -> Result<(), AllocError> {
+    out.push(b' ')?;
+    write(out, sig, t)
 }
 
-/// The terms as texts, in order, each with a space behind.
-pub(crate) fn texts_of(alloc: Global, sig: &Signature, ts: &[Tree]) -> Result<Vec<u8>, AllocError> {
-    let mut texts = Vec::new(alloc);
+fn texts(alloc: Global, sig: &Signature, ts: &[Tree]) -> Result<Vec<Vec<u8>>, AllocError> {
+    let mut made = Vec::new(alloc);
     for t in ts {
-        texts.push(text_of(alloc, sig, t)?)?;
+        let mut text = Vec::new(alloc);
+        write_text(&mut text, sig, t)?;
+        made.push(text)?;
     }
-    texts.sort()?;
-    joined(alloc, texts.as_slice())
+    Ok(made)
 }
 
-fn joined(alloc: Global, texts: &[Vec<u8>]) -> Result<Vec<u8>, AllocError> {
+/// The terms as texts, in order.
+pub(crate) fn texts_of(alloc: Global, sig: &Signature, ts: &[Tree]) -> Result<Vec<u8>, AllocError> {
+    let mut texts = texts(alloc, sig, ts)?;
+    texts.sort()?;
     let mut out = Vec::new(alloc);
-    for text in texts {
+    for text in &texts {
         out.extend_from_slice(text.as_slice())?;
-        out.push(b' ')?;
     }
     Ok(out)
 }
