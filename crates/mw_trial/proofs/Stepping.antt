@@ -1,6 +1,7 @@
-use Rattle.std.specs.Prelude.{◌≡◌, ℕ, ◌<◌, List, [], ◌∷◌, ◌++◌, Bool, IsTrue, length, All}
-use Rattle.std.proofs.Common.{get_or, subst, sym}
+use Rattle.std.specs.Prelude.{◌≡◌, ◌≢◌, ℕ, ◌<◌, List, [], ◌∷◌, ◌++◌, Bool, IsTrue, length, All, AllPairs}
+use Rattle.std.proofs.Common.{get_or, subst, sym, ◌∙◌}
 use Rattle.std.proofs.lemmas.List.Elements.{All-append, All-push, All-weaker, All-contains}
+use Rattle.std.proofs.lemmas.List.Quantifiers.{all_pairs_push}
 use Rattle.mw_logic.specs.Term.{RawTerm}
 use Rattle.mw_logic.specs.Signature.{Signature}
 use Rattle.mw_logic.specs.NormalForm.{normal_form}
@@ -29,6 +30,10 @@ pub more_by_one : (sig : Signature) (sts : List Statement) (rules : Bool) (t : R
 more_by_one sig sts rules t us vs st i h l e u k =
     All-append (StepsByOne sig sts rules t) us vs h
     (All-weaker (Steps sig st.left st.right t) (StepsByOne sig sts rules t) (λ v s. record { statement = st; there = (i, l, sym e); usable = u; steps = s }) vs k)
+
+-- a copy of a term is put behind others that are not it
+pub once_kept : (us : List RawTerm) (t u : RawTerm) → AllPairs (λ v w. v ≢ w) us → All (λ v. v ≢ t) us → u ≡ t → AllPairs (λ v w. v ≢ w) (us ++ u ∷ [])
+once_kept us t u h k e = all_pairs_push (λ v w. v ≢ w) us u h (λ i d l q. k i d l (q ∙ e))
 
 -- one more of a list
 pub one_kept : (all us : List RawTerm) (t u : RawTerm) (i : ℕ) → All (IsOneOf all) us → i < length all → t ≡ get_or all i t → u ≡ t → All (IsOneOf all) (us ++ u ∷ [])

@@ -11,3 +11,8 @@ use Rattle.mw_logic.specs.Substitution.{Substitution, instance}
 pub record Solves (sig : Signature) (p t : RawTerm) (s : Substitution) : Type 0 where
   pub same : normal_form sig (instance s p) ≡ normal_form sig t
   pub equal : IsAccepted sig → IsRawTerm sig (instance s p) → IsRawTerm sig t → EqualModulo sig (instance s p) t
+
+-- p has an instance that is equal to t modulo the axioms
+pub record IsSolvable (sig : Signature) (p t : RawTerm) : Type 0 where
+  pub substitution : Substitution
+  pub solves : Solves sig p t substitution

@@ -1,11 +1,14 @@
 -- What each listed successor is. A context is a term with a variable of no sort for its hole.
 use Rattle.std.specs.Prelude.{◌≡◌, List, [], ◌∷◌, Bool, true, false, ◌&&◌, ◌||◌, not, IsTrue, Contains}
-use Rattle.mw_logic.specs.Term.{Variable, RawTerm}
+use Rattle.mw_logic.specs.Term.{Variable, RawTerm, RawTerms}
 use Rattle.mw_logic.specs.Signature.{Signature}
 use Rattle.mw_logic.specs.NormalForm.{normal_form}
 use Rattle.mw_logic.specs.Substitution.{Substitution, instance}
+use Rattle.mw_logic.specs.Accepted.{IsAccepted}
+use Rattle.mw_logic.specs.Parts.{Among}
+use Rattle.mw_logic.specs.CanonicalPart.{IsPartOf}
 use Rattle.mw_logic.specs.Module.{Fragment, Statement}
-use Rattle.mw_trial.specs.Solving.{Solves}
+use Rattle.mw_trial.specs.Solving.{Solves, IsSolvable}
 
 abbrev pub the_hole : Variable
 the_hole = record { name = []; sort = 0 }
@@ -45,3 +48,22 @@ pub record StepsByOne (sig : Signature) (sts : List Statement) (rules : Bool) (t
 -- u stands in the list
 pub record IsOneOf (ts : List RawTerm) (u : RawTerm) : Type 0 where
   pub there : Contains ts u
+
+-- one of the statements is an equation without a condition whose left side has a solution for the part
+pub record AppliesAt (sig : Signature) (sts : List Statement) (part : RawTerm) : Type 0 where
+  pub statement : Statement
+  pub there : Contains sts statement
+  pub usable : IsTrue (is_usable false statement)
+  pub solvable : IsSolvable sig statement.left part
+
+-- for one of some terms
+pub record AppliesAmong (sig : Signature) (sts : List Statement) (ts : RawTerms) : Type 0 where
+  pub part : RawTerm
+  pub among : Among ts part
+  pub applies : AppliesAt sig sts part
+
+-- for a part of t
+pub record Applies (sig : Signature) (sts : List Statement) (t : RawTerm) : Type 0 where
+  pub part : RawTerm
+  pub is_part : IsAccepted sig → IsPartOf sig false (normal_form sig t) part
+  pub applies : AppliesAt sig sts part

@@ -18,3 +18,6 @@ pub use solution::{Bound, Solution, instance};
 pub use sorts::{has_sort, least_sort};
 pub use steps::{is_normal, successors, successors_by};
 pub use written::as_tree;
+
+#[cfg(test)]
+mod tests;

@@ -1,7 +1,8 @@
 // Steps by statements without conditions, and terms at which no equation applies.
-ghost use Rattle.std.specs.Prelude.{◌≡◌, IfOk, IsTrue, All};
+ghost use Rattle.std.specs.Prelude.{◌≡◌, ◌≢◌, ◌↔◌, IfOk, IsTrue, IsFalse, All, AllPairs};
 ghost use Rattle.mw_logic.specs.Term.{is_ground as has_no_variable, are_ground as have_no_variable};
-ghost use Rattle.mw_trial.specs.Stepping.{filled, is_usable as can_be_used, StepsAt, Steps, StepsByOne, IsOneOf};
+ghost use Rattle.mw_trial.specs.Solving.{IsSolvable};
+ghost use Rattle.mw_trial.specs.Stepping.{filled, is_usable as can_be_used, StepsAt, Steps, StepsByOne, IsOneOf, AppliesAt, AppliesAmong, Applies};
 
 use crate::matching::solutions;
 use crate::places::{Place, hole, places};
@@ -49,7 +50,7 @@ fn fill(alloc: Global, sig: &Signature, whole: &Tree, t: Tree) -> Result<Tree, A
 }
 
 fn is_same(t: &Tree, u: &Tree) -> bool
-    ensures { IsTrue result → t.now ≡ u.now }
+    ensures { IsTrue result ↔ (t.now ≡ u.now) }
 {
     compare(t, u).is_eq()
 }
@@ -109,7 +110,8 @@ pub fn successors_by(
 
 /// The same terms, each once.
 fn distinct(alloc: Global, all: &[Tree]) -> Result<Vec<Tree>, AllocError>
-    ensures { IfOk result (λ us. All (IsOneOf all.now) us.items) }
+    ensures there { IfOk result (λ us. All (IsOneOf all.now) us.items) }
+    ensures once { IfOk result (λ us. AllPairs (λ u v. u ≢ v) us.items) }
 {
     let mut found = Vec::new(alloc);
     for t in all {
@@ -120,8 +122,15 @@ fn distinct(alloc: Global, all: &[Tree]) -> Result<Vec<Tree>, AllocError>
     Ok(found)
 }
 
-fn is_among(found: &[Tree], t: &Tree) -> bool {
-    found.iter().any(|u| compare(u, t).is_eq())
+fn is_among(found: &[Tree], t: &Tree) -> bool
+    ensures { IsFalse result → All (λ u. u ≢ t.now) found.now }
+{
+    for u in found {
+        if is_same(u, t) {
+            return true;
+        }
+    }
+    false
 }
 
 #[tactic(auto, using(crate::proofs::Stepping::more_by_one))]
@@ -152,11 +161,26 @@ pub fn successors(
     rules: bool,
     t: &Tree,
 ) -> Result<Vec<Tree>, AllocError>
-    ensures { IfOk result (λ us. All (StepsByOne sig.now statements.now rules t.now) us.items) }
+    ensures steps { IfOk result (λ us. All (StepsByOne sig.now statements.now rules t.now) us.items) }
+    ensures once { IfOk result (λ us. AllPairs (λ u v. u ≢ v) us.items) }
 {
     let all = all_successors(alloc, sig, statements, rules, t)?;
     let found = distinct(alloc, all.as_slice())?;
     Ok(found)
+}
+
+/// Whether a statement's left side has a solution for this part.
+fn applies_at(
+    alloc: Global,
+    sig: &Signature,
+    statement: &Statement,
+    part: &Tree,
+) -> Result<bool, AllocError>
+    ensures { IfOk result (λ b. IsTrue b → IsSolvable sig.now statement.now.left part.now) }
+{
+    let left = as_tree(alloc, &statement.left)?;
+    let all = solutions(alloc, sig, &left, part)?;
+    Ok(!all.is_empty())
 }
 
 /// Whether no equation without a condition applies at this part.
@@ -165,16 +189,35 @@ fn is_normal_at(
     sig: &Signature,
     statements: &[Statement],
     part: &Tree,
-) -> Result<bool, AllocError> {
+) -> Result<bool, AllocError>
+    ensures { IfOk result (λ b. IsFalse b → AppliesAt sig.now statements.now part.now) }
+{
     for statement in statements {
-        if is_usable(statement, false) {
-            let left = as_tree(alloc, &statement.left)?;
-            if !solutions(alloc, sig, &left, part)?.is_empty() {
-                return Ok(false);
-            }
+        if is_usable(statement, false) && applies_at(alloc, sig, statement, part)? {
+            return Ok(false);
         }
     }
     Ok(true)
+}
+
+/// Whether no equation without a condition has a solution at any of these parts.
+fn are_normal(
+    alloc: Global,
+    sig: &Signature,
+    statements: &[Statement],
+    parts: &Trees,
+) -> Result<bool, AllocError>
+    ensures { IfOk result (λ b. IsFalse b → AppliesAmong sig.now statements.now parts.now) }
+{
+    match parts.link() {
+        Link::Nil => Ok(true),
+        Link::Cons(part, rest) => {
+            Ok(
+                is_normal_at(alloc, sig, statements, part)?
+                    && are_normal(alloc, sig, statements, rest)?,
+            )
+        }
+    }
 }
 
 /// Whether no equation without a condition has a solution at any part of a ground term.
@@ -183,15 +226,10 @@ pub fn is_normal(
     sig: &Signature,
     statements: &[Statement],
     t: &Tree,
-) -> Result<bool, AllocError> {
+) -> Result<bool, AllocError>
+    ensures { IfOk result (λ b. IsFalse b → Applies sig.now statements.now t.now) }
+{
     let u = normal_form(alloc, sig, copy(alloc, t)?)?;
     let all = parts(alloc, sig, &u)?;
-    let mut now = &all;
-    while let Link::Cons(part, rest) = now.link() {
-        if !is_normal_at(alloc, sig, statements, part)? {
-            return Ok(false);
-        }
-        now = rest;
-    }
-    Ok(true)
+    are_normal(alloc, sig, statements, &all)
 }
