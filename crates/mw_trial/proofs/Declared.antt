@@ -1,6 +1,6 @@
 -- What an operator is declared to give.
 use Rattle.std.specs.Prelude.{◌≡◌, ◌<◌, ℕ, List, [], ◌∷◌, ◌++◌, ◌⊎◌, length, map, IsTrue, All, Contains}
-use Rattle.std.proofs.Common.{refl, get_or, take, ◌+◌, sym, subst, ◌∙◌, inl, inr, arith}
+use Rattle.std.proofs.Common.{refl, get_or, take, ◌+◌, sym, subst, inl, inr, arith}
 use Rattle.std.proofs.lemmas.List.{map-append, get_or-map, length-map}
 use Rattle.std.proofs.lemmas.List.Elements.{All-push, All-more, All-weaker, All-contains, Contains-append_left, Contains-append_right}
 use Rattle.mw_logic.specs.Signature.{Signature, Sorted, kind, Declaration, Operator, Member}

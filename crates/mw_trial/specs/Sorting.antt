@@ -1,10 +1,8 @@
 -- Sorts that are found to be above one, and what operators are declared to give.
 use Rattle.std.specs.Prelude.{◌≡◌, ◌⊎◌, ℕ, List, Bool, true, false, nat_eq, IsTrue, All, Contains}
 use Rattle.std.specs.List.{list_any}
-use Rattle.mw_logic.specs.Term.{RawTerm}
-use Rattle.mw_logic.specs.Signature.{Signature, Sorted, kind, Declaration, Operator}
-use Rattle.mw_logic.specs.Axioms.{EqualModulo}
-use Rattle.mw_logic.specs.Sorts.{IsBelow, AreBelow, swapped, Takes, DeclaredSort}
+use Rattle.mw_logic.specs.Signature.{Signature, Sorted, kind, Operator}
+use Rattle.mw_logic.specs.Sorts.{IsBelow, AreBelow, swapped, Takes}
 
 -- the sort stands in the list
 abbrev pub is_found : List ℕ → ℕ → Bool

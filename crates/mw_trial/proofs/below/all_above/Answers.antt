@@ -1,9 +1,9 @@
-use Rattle.std.specs.Prelude.{◌≡◌, ◌<◌, ℕ, List, [], ◌∷◌, ◌++◌, true, All}
-use Rattle.std.proofs.Common.{refl, ap, sym, subst, ◌∙◌, arith}
+use Rattle.std.specs.Prelude.{◌≡◌, ℕ, List, [], ◌∷◌, ◌++◌, All}
+use Rattle.std.proofs.Common.{ap, subst, ◌∙◌, arith}
 use Rattle.std.proofs.lemmas.List.Elements.{All-push}
 use Rattle.mw_logic.specs.Sorts.{AtOrBelow, same}
-use Rattle.mw_trial.specs.Sorting.{is_found, Follows, IsNext}
-use Rattle.mw_trial.proofs.Above.{missing, missing-less, next_reached, exactly_above, is_found-last, is_found-kept}
+use Rattle.mw_trial.specs.Sorting.{Follows, IsNext}
+use Rattle.mw_trial.proofs.Above.{missing-less, next_reached, exactly_above, is_found-last, is_found-kept}
 use Rattle.mw_trial.proofs.below.all_above.Goals as goal
 
 pub loop-next-init : goal.loop-next-init

@@ -1,4 +1,4 @@
-use Rattle.std.specs.Prelude.{◌≡◌, ℕ, true, All}
+use Rattle.std.specs.Prelude.{◌≡◌, true, All}
 use Rattle.mw_logic.specs.Sorts.{AtOrBelow}
 use Rattle.mw_trial.specs.Sorting.{is_found}
 use Rattle.mw_trial.proofs.Above.{missing}

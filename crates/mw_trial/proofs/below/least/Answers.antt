@@ -1,5 +1,5 @@
 use Rattle.std.specs.Prelude.{List, map, All}
-use Rattle.std.proofs.Common.{sym, subst, ap, ◌∙◌}
+use Rattle.std.proofs.Common.{sym, subst}
 use Rattle.mw_term.specs.declared.signature.Sorted.{Sorted as Given}
 use Rattle.mw_term.specs.declared.signature.Sorted.TheVariants.{Sort}
 use Rattle.mw_term.specs.Signatures.{sorted_of}

@@ -1,8 +1,8 @@
-use Rattle.std.specs.Prelude.{◌≡◌, ℕ, ◌<◌, length, List, Bool, true, false, All, slice_index_or}
-use Rattle.std.proofs.Common.{refl, sym, subst, ◌∙◌, take, arith}
+use Rattle.std.specs.Prelude.{◌≡◌, ℕ, List, true, false, All, slice_index_or}
+use Rattle.std.proofs.Common.{sym, subst, ◌∙◌, take}
 use Rattle.std.proofs.lemmas.List.{take_all, get_or_default}
 use Rattle.std.proofs.lemmas.List.Elements.{All-more}
-use Rattle.mw_trial.specs.Sorting.{is_found, Follows}
+use Rattle.mw_trial.specs.Sorting.{Follows}
 use Rattle.mw_trial.proofs.below.next_above.Goals.{else-contains-via-then-contains+else-not-contains, else-contains-via-else-contains}
 use Rattle.mw_trial.proofs.below.next_above.Goals as goal
 
