@@ -10,7 +10,7 @@ use Rattle.mw_reduce.specs.Deductions.{Deduction, IsDeduction, Ends, IsReduction
 use Rattle.mw_reduce.specs.Kept.{moves, proof_of}
 use Rattle.mw_reduce.specs.Run.{IsOutcome, IsReduced}
 use Rattle.mw_reduce.specs.State.{Describes}
-use Rattle.mw_reduce.specs.declared.equations.Equations.{Equations}
+use Rattle.mw_pattern.specs.declared.equations.Equations.{Equations}
 use Rattle.mw_reduce.specs.declared.kept.Item.{Item}
 use Rattle.mw_reduce.specs.declared.kept.Item.TheVariants.{Enter, Leave, Apply}
 use Rattle.mw_reduce.specs.declared.progress.Outcome.{Outcome}

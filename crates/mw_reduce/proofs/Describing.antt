@@ -15,14 +15,15 @@ use Rattle.mw_machine.proofs.Firing.{free_module, no_flat_left, distinct, left_p
 use Rattle.mw_machine.proofs.Meeting.{placed_within}
 use Rattle.mw_machine.proofs.Discrete.{accepted}
 use Rattle.mw_machine.proofs.Placing.{value_of, values_of}
-use Rattle.mw_reduce.specs.Clean.{clean}
-use Rattle.mw_reduce.specs.Compiled.{IsCompilable, IsIndexOf}
-use Rattle.mw_reduce.specs.Equations.{listed}
+use Rattle.mw_pattern.specs.Clean.{clean}
+use Rattle.mw_pattern.specs.Compiled.{IsCompilable, IsIndexOf}
+use Rattle.mw_pattern.specs.Equations.{listed}
 use Rattle.mw_reduce.specs.Kept.{variables_of}
-use Rattle.mw_reduce.specs.State.{NoneFits, AreWellNumbered}
+use Rattle.mw_pattern.specs.Numbered.{AreWellNumbered}
+use Rattle.mw_reduce.specs.State.{NoneFits}
 use Rattle.mw_reduce.specs.Theories.{IsTheory}
-use Rattle.mw_reduce.specs.declared.equations.Equation.{Equation}
-use Rattle.mw_reduce.specs.declared.equations.Equations.{Equations}
+use Rattle.mw_pattern.specs.declared.equations.Equation.{Equation}
+use Rattle.mw_pattern.specs.declared.equations.Equations.{Equations}
 
 pub compilable : (M : Module) → IsSimpleModule M → (k : ℕ) (e : Statement) → IsStatement M k e → IsCompilable e
 compilable M simple k e is = record { distinct = distinct M simple k e is; top = (simple.equations k e is).top; left = left_placeable M simple k e is; right = right_placeable M simple k e is }

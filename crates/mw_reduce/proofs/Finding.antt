@@ -4,13 +4,14 @@ use Rattle.std.proofs.Common.{sym, ap, ◌∙◌, arith, inl, inr, ⊎_elim}
 use Rattle.std.proofs.lemmas.Option.{slice_get_within}
 use Rattle.mw_logic.specs.Term.{RawTerm, RawTerms}
 use Rattle.mw_machine.specs.Positions.{fill_all, counted_all}
-use Rattle.mw_reduce.specs.Matching.{Decides}
-use Rattle.mw_reduce.specs.Equations.{listed}
-use Rattle.mw_reduce.specs.State.{NoneFits, AreWellNumbered, IsWellNumbered}
-use Rattle.mw_reduce.specs.declared.equations.Equation.{Equation}
-use Rattle.mw_reduce.specs.declared.equations.Equations.{Equations}
-use Rattle.mw_reduce.proofs.Lists.{got}
-use Rattle.mw_reduce.proofs.Matching.{begins_same}
+use Rattle.mw_match.specs.Matching.{Decides}
+use Rattle.mw_pattern.specs.Equations.{listed}
+use Rattle.mw_pattern.specs.Numbered.{AreWellNumbered, IsWellNumbered}
+use Rattle.mw_reduce.specs.State.{NoneFits}
+use Rattle.mw_pattern.specs.declared.equations.Equation.{Equation}
+use Rattle.mw_pattern.specs.declared.equations.Equations.{Equations}
+use Rattle.mw_pattern.proofs.Lists.{got}
+use Rattle.mw_match.proofs.Matching.{begins_same}
 
 -- none of the first i fits
 abbrev pub NoneOf : List Equation → RawTerms → ℕ → Type 0

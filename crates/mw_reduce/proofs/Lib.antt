@@ -1,12 +1,8 @@
 pub mod Lists
-pub mod Matching
 pub mod Finding
 pub mod Turns
 pub mod Rest
 pub mod Moving
 pub mod Outward
 pub mod Describing
-pub mod Tables
-pub mod Compiling
-pub mod Indexing
 pub mod Deducing

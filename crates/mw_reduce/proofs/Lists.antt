@@ -1,4 +1,4 @@
--- Lists of terms and of patterns, item by item.
+-- The arguments of a frame, item by item.
 use Rattle.std.proofs.Common.{◌≡◌, ℕ, zero, suc, ◌+◌, ◌<◌, ◌≤◌, List, [], ◌∷◌, ◌++◌, length, get_or, drop, arith, ap, sym, ◌∙◌, refl, drop-cons, add-one, length-drop, drop_of_length-le, subst, inl, inr}
 use Rattle.mw_logic.specs.Term.{RawTerm, RawTerms, numeral, quoted, variable, apply, nil, cons, join}
 use Rattle.mw_logic.specs.Parts.{number_of_terms}
@@ -12,33 +12,15 @@ use Rattle.mw_machine.specs.Positions.{args_of, skip, fill, fill_all, IsWithin, 
 use Rattle.mw_logic.specs.Terms.{terms_of}
 use Rattle.mw_machine.proofs.Trees.{join-assoc, join-nil}
 use Rattle.mw_machine.proofs.Filling.{terms_of-append}
-use Rattle.mw_reduce.specs.declared.pattern.Pattern.{Pattern}
+use Rattle.mw_pattern.specs.declared.pattern.Pattern.{Pattern}
 use Rattle.std.proofs.lemmas.Option.{slice_get-get_or}
-use Rattle.mw_reduce.specs.declared.pattern.Pattern.TheVariants.{Var, Op}
+use Rattle.mw_pattern.specs.declared.pattern.Pattern.TheVariants.{Var, Op}
 use Rattle.mw_reduce.specs.declared.kept.Item.TheVariants.{Enter}
-use Rattle.mw_reduce.specs.Clean.{clean, clean_all}
+use Rattle.mw_pattern.specs.Clean.{clean, clean_all}
 use Rattle.mw_reduce.specs.Stack.{Opens, IsNextArgument, IsNextPattern}
 use Rattle.mw_reduce.specs.declared.frame.Frame.{Frame}
 use Rattle.mw_reduce.specs.declared.frame.Next.TheVariants.{Value, Inside}
-
-pub number_terms_of : (xs : List RawTerm) → number_of_terms (terms_of xs) ≡ length xs
-number_terms_of [] = refl
-number_terms_of (x ∷ xs) = ap suc (number_terms_of xs)
-
-pub drop_at : {A : Type 0} (xs : List A) (i : ℕ) (x : A) → i < length xs → x ≡ get_or xs i x → drop i xs ≡ x ∷ drop (i + 1) xs
-drop_at xs i x h e = drop-cons xs i x h ∙ rw (← e, add-one) refl
-
-pub step_made : (vs : List RawTerm) (items : List Pattern) (i : ℕ) (p : Pattern) (made made' : List RawTerm) (t : RawTerm) (all : RawTerms)
-    → i < length items → p ≡ get_or items i p → made' ≡ made ++ t ∷ [] → t ≡ fill vs (clean p)
-    → join (terms_of made) (fill_all vs (clean_all (drop i items))) ≡ all → join (terms_of made') (fill_all vs (clean_all (drop (i + 1) items))) ≡ all
-step_made vs items i p made made' t all h e m f inv =
-    let d = drop_at items i p h e in
-    let k : join (terms_of made) (cons (fill vs (clean p)) (fill_all vs (clean_all (drop (i + 1) items)))) ≡ all = rw d at inv in
-    rw (m, terms_of-append, join-assoc, f) k
-
-pub step_end : (vs : List RawTerm) (items : List Pattern) (i : ℕ) (made : List RawTerm) (all : RawTerms) → length items ≤ i
-    → join (terms_of made) (fill_all vs (clean_all (drop i items))) ≡ all → terms_of made ≡ all
-step_end vs items i made all h inv = let d : drop i items ≡ [] = drop_of_length-le items h in sym (join-nil (terms_of made)) ∙ (rw d at inv)
+use Rattle.mw_pattern.proofs.Lists.{number_terms_of, pattern_within, got}
 
 -- the item of a number, among the arguments that are left
 pub terms_some : (xs : List RawTerm) (k : ℕ) (u : RawTerm) → slice_get xs k ≡ Some u
@@ -63,18 +45,10 @@ pattern_some us [] k p h = cc
 pattern_some us (x ∷ ps) zero p h = let n = number_patterns us ps in ((cc), omega (arith, n))
 pattern_some us (x ∷ ps) (suc k) p h = let a = pattern_some us ps k p h in (a.0, omega (arith, a.1))
 
-pub pattern_within : (n : ℕ) (ps : List Pattern) (k : ℕ) (p : Pattern) → slice_get ps k ≡ Some p → AreWithin n (clean_all ps) → IsWithin n (clean p)
-pattern_within n [] k p h w = cc
-pattern_within n (x ∷ ps) zero p h w = let e : x ≡ p = cc in subst (λ y. IsWithin n (clean y)) e w.0
-pattern_within n (x ∷ ps) (suc k) p h w = pattern_within n ps k p h w.1
-
 pub slice_get_behind : (vs : List RawTerm) (b i : ℕ) → slice_get (drop b vs) i ≡ slice_get vs (b + i)
 slice_get_behind vs zero i = let e : i ≡ 0 + i = omega arith in ap (slice_get vs) e
 slice_get_behind [] (suc b) i = refl
 slice_get_behind (v ∷ vs) (suc b) i = let e : suc (b + i) ≡ suc b + i = omega arith in slice_get_behind vs b i ∙ ap (slice_get (v ∷ vs)) e
-
-pub got : {A : Type 0} (xs : List A) (k : ℕ) (x : A) → k < length xs → x ≡ get_or xs k x → slice_get xs k ≡ Some x
-got xs k x h e = slice_get-get_or xs k x h ∙ ap Some (sym e)
 
 -- a variable's position is within the statement's own values
 pub own_position : (vs : List RawTerm) (ps : List Pattern) (base k i : ℕ) (p : Pattern) (own : List RawTerm) → k < length ps → p ≡ get_or ps k p → p ≡ Var i → AreWithin (length vs - base) (clean_all ps) → own ≡ drop base vs → i < length own

@@ -29,12 +29,12 @@ use Rattle.mw_reduce.specs.Run.{MeansRunning, IsReduced}
 use Rattle.mw_reduce.specs.declared.kept.Item.{Item}
 use Rattle.mw_reduce.specs.declared.kept.Item.TheVariants.{Enter, Leave, Apply}
 use Rattle.mw_reduce.specs.declared.kept.Kept.{Kept}
-use Rattle.mw_reduce.specs.declared.equations.Equations.{Equations}
+use Rattle.mw_pattern.specs.declared.equations.Equations.{Equations}
 use Rattle.mw_reduce.specs.declared.frame.Frame.{Frame}
 use Rattle.mw_reduce.specs.declared.progress.Running.{Running}
 use Rattle.mw_reduce.specs.declared.progress.Reduced.{Reduced}
 use Rattle.mw_reduce.specs.declared.progress.Outcome.TheVariants.{Done, Rewrites, Depth}
-use Rattle.mw_reduce.proofs.Lists.{number_terms_of}
+use Rattle.mw_pattern.proofs.Lists.{number_terms_of}
 use Rattle.mw_reduce.proofs.Turns.{moves-append, needed-append, stepped-append, stack_more, all_fit_more, length-stack}
 use Rattle.mw_reduce.proofs.Rest.{opened_given, stack-append}
 

@@ -8,11 +8,12 @@ use Rattle.mw_logic.specs.Terms.{terms_of}
 use Rattle.mw_machine.proofs.Trees.{join-assoc, join-nil}
 use Rattle.mw_machine.proofs.Filling.{terms_of-append}
 use Rattle.mw_machine.proofs.Steps.{under_all-append}
-use Rattle.mw_reduce.specs.Clean.{clean, clean_all}
+use Rattle.mw_pattern.specs.Clean.{clean, clean_all}
 use Rattle.mw_reduce.specs.Stack.{all_of, opened, stack}
-use Rattle.mw_reduce.specs.declared.pattern.Pattern.{Pattern}
+use Rattle.mw_pattern.specs.declared.pattern.Pattern.{Pattern}
 use Rattle.mw_reduce.specs.declared.frame.Frame.{Frame}
-use Rattle.mw_reduce.proofs.Lists.{got, terms_some, pattern_some}
+use Rattle.mw_pattern.proofs.Lists.{got}
+use Rattle.mw_reduce.proofs.Lists.{terms_some, pattern_some}
 
 pub rest_skip : (k : ℕ) (ts : RawTerms) → rest_of (skip k ts) ≡ skip (suc k) ts
 rest_skip zero nil = refl

@@ -18,18 +18,19 @@ use Rattle.mw_machine.proofs.Filling.{fill_all-append}
 use Rattle.mw_machine.proofs.Steps.{part_ground, normal_here, steps_on}
 use Rattle.mw_machine.proofs.AtRank.{held_empty}
 use Rattle.mw_machine.proofs.Values.{values_normal}
-use Rattle.mw_reduce.specs.Clean.{clean, clean_all}
+use Rattle.mw_pattern.specs.Clean.{clean, clean_all}
 use Rattle.mw_reduce.specs.Kept.{variables_of, moves, needed, stepped}
-use Rattle.mw_reduce.specs.Equations.{listed}
+use Rattle.mw_pattern.specs.Equations.{listed}
 use Rattle.mw_reduce.specs.Stack.{all_of, opened, TodoFits, Fits, stack, AllFit}
-use Rattle.mw_reduce.specs.State.{NoneFits, IsWellNumbered, Describes, Holds, GoesTooDeep, After, Becomes, Fired, IsRight, IsCounted, Counts, Climbs}
+use Rattle.mw_pattern.specs.Numbered.{IsWellNumbered}
+use Rattle.mw_reduce.specs.State.{NoneFits, Describes, Holds, GoesTooDeep, After, Becomes, Fired, IsRight, IsCounted, Counts, Climbs}
 use Rattle.mw_reduce.specs.declared.kept.Kept.{Kept}
 use Rattle.mw_reduce.specs.declared.frame.Turn.{Turn}
 use Rattle.mw_reduce.specs.declared.frame.Turn.TheVariants as turn
 use Rattle.mw_reduce.specs.declared.kept.Item.{Item}
 use Rattle.mw_reduce.specs.declared.kept.Item.TheVariants.{Enter, Leave, Apply}
-use Rattle.mw_reduce.specs.declared.equations.Equation.{Equation}
-use Rattle.mw_reduce.specs.declared.equations.Equations.{Equations}
+use Rattle.mw_pattern.specs.declared.equations.Equation.{Equation}
+use Rattle.mw_pattern.specs.declared.equations.Equations.{Equations}
 use Rattle.mw_reduce.specs.declared.frame.Todo.{Todo}
 use Rattle.mw_reduce.specs.declared.frame.Todo.TheVariants.{Pattern, Given}
 use Rattle.mw_reduce.specs.declared.frame.Frame.{Frame}

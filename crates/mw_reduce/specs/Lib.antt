@@ -1,12 +1,6 @@
-pub mod Clean
-pub mod Falls
 pub mod Kept
-pub mod Equations
 pub mod Stack
 pub mod State
 pub mod Run
-pub mod Matching
-pub mod Compiled
 pub mod Theories
-pub mod Tables
 pub mod Deductions

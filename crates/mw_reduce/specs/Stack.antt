@@ -5,8 +5,8 @@ use Rattle.mw_logic.specs.Parts.{number_of_terms}
 use Rattle.mw_machine.specs.Positions.{args_of, skip, fill_all, AreWithin}
 use Rattle.mw_logic.specs.Terms.{terms_of}
 use Rattle.mw_machine.specs.Machine.{Open, here, rest_of, IsFlat}
-use Rattle.mw_reduce.specs.Clean.{clean_all}
-use Rattle.mw_reduce.specs.declared.pattern.Pattern.{Pattern as Pat}
+use Rattle.mw_pattern.specs.Clean.{clean_all}
+use Rattle.mw_pattern.specs.declared.pattern.Pattern.{Pattern as Pat}
 use Rattle.mw_reduce.specs.declared.kept.Item.TheVariants.{Enter}
 use Rattle.mw_reduce.specs.declared.frame.Todo.{Todo}
 use Rattle.mw_reduce.specs.declared.frame.Todo.TheVariants.{Pattern, Given}

@@ -11,12 +11,13 @@ use Rattle.mw_machine.specs.Plain.{IsFreeModule}
 use Rattle.mw_logic.specs.NormalForm.{height}
 use Rattle.mw_machine.specs.Machine.{here, Fires, NoneAtTop, NoFlatLeft, At}
 use Rattle.mw_machine.specs.Positions.{fill, fill_all, IsWithin, AreNumbered, counted_all}
-use Rattle.mw_reduce.specs.Clean.{clean}
+use Rattle.mw_pattern.specs.Clean.{clean}
+use Rattle.mw_pattern.specs.Numbered.{IsWellNumbered, AreWellNumbered}
 use Rattle.mw_reduce.specs.Kept.{variables_of, moves, needed, stepped}
-use Rattle.mw_reduce.specs.Equations.{listed}
+use Rattle.mw_pattern.specs.Equations.{listed}
 use Rattle.mw_reduce.specs.Stack.{opened, stack, Fits, Stands}
-use Rattle.mw_reduce.specs.declared.equations.Equation.{Equation}
-use Rattle.mw_reduce.specs.declared.equations.Equations.{Equations}
+use Rattle.mw_pattern.specs.declared.equations.Equation.{Equation}
+use Rattle.mw_pattern.specs.declared.equations.Equations.{Equations}
 use Rattle.mw_reduce.specs.declared.kept.Item.{Item}
 use Rattle.mw_reduce.specs.declared.kept.Item.TheVariants.{Apply}
 use Rattle.mw_reduce.specs.declared.kept.Kept.{Kept}
@@ -27,15 +28,6 @@ use Rattle.mw_reduce.specs.declared.frame.Turn.TheVariants as turn
 -- no equation's left side has the instance
 abbrev pub NoneFits : Equations → ℕ → RawTerms → Type 0
 NoneFits m f ts = (i : ℕ) (st : Equation) → slice_get (listed m f) i ≡ Some st → (us : List RawTerm) → length us ≡ st.variables → fill_all us st.left ≡ ts → ⊥
-
--- the equation's variables are numbered as they are met, and its right side has no others
-pub record IsWellNumbered (st : Equation) : Type 0 where
-  pub left : AreNumbered 0 st.left
-  pub count : counted_all 0 st.left ≡ st.variables
-  pub right : IsWithin st.variables (clean st.right)
-
-abbrev pub AreWellNumbered : Equations → Type 0
-AreWellNumbered m = (f i : ℕ) (st : Equation) → slice_get (listed m f) i ≡ Some st → IsWellNumbered st
 
 -- The equations are those of the module M. (The numbering of variables, their sorts, and the index are in these two facts.)
 pub record Describes (M : Module) (n : ℕ) (m : Equations) : Type 0 where

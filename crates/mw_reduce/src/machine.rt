@@ -9,7 +9,8 @@ ghost use Rattle.mw_machine.specs.Positions.{skip};
 ghost use Rattle.mw_logic.specs.Terms.{terms_of};
 ghost use Rattle.mw_machine.specs.Machine.{round};
 ghost use Rattle.mw_reduce.specs.Stack.{all_of, stack, TodoFits, AllFit};
-ghost use Rattle.mw_reduce.specs.State.{AreWellNumbered, Describes};
+ghost use Rattle.mw_pattern.specs.Numbered.{AreWellNumbered};
+ghost use Rattle.mw_reduce.specs.State.{Describes};
 ghost use Rattle.mw_reduce.specs.Run.{IsReduced, IsRunning, MeansRunning, Goes, MeansGoes, Falls, Climbed};
 
 use crate::equations::Equations;
@@ -42,7 +43,7 @@ fn put_instances(
 
 ghost use Rattle.std.specs.Prelude.{length};
 ghost use Rattle.mw_machine.specs.Positions.{fill_all, AreWithin};
-ghost use Rattle.mw_reduce.specs.Clean.{clean_all};
+ghost use Rattle.mw_pattern.specs.Clean.{clean_all};
 
 fn put_shared(done: Vec<Term>, list: &[Term]) -> Result<Vec<Term>, AllocError>
     ensures { IfOk result (λ ts. terms_of ts.items ≡ join (terms_of done.items) (skip (length done.items) (terms_of list.now))) }

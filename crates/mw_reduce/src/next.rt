@@ -3,7 +3,7 @@ ghost use Rattle.std.specs.Prelude.{◌≡◌, ◌≤◌, ◌-◌, length, List,
 ghost use Rattle.mw_logic.specs.Term.{RawTerm};
 ghost use Rattle.mw_machine.specs.Machine.{IsFlat};
 ghost use Rattle.mw_machine.specs.Positions.{AreWithin};
-ghost use Rattle.mw_reduce.specs.Clean.{clean_all};
+ghost use Rattle.mw_pattern.specs.Clean.{clean_all};
 ghost use Rattle.mw_reduce.specs.Stack.{IsNext, IsNextPattern, IsNextGiven, Fits, Opens};
 
 use crate::frame::{Frame, Next, Todo};

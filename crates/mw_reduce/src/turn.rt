@@ -7,9 +7,10 @@ ghost use Rattle.mw_logic.specs.Judgements.{Fails};
 ghost use Rattle.mw_machine.specs.Machine.{AreNormalBy};
 ghost use Rattle.mw_machine.specs.Positions.{fill_all};
 ghost use Rattle.mw_logic.specs.Terms.{terms_of};
-ghost use Rattle.mw_reduce.specs.Equations.{listed};
+ghost use Rattle.mw_pattern.specs.Equations.{listed};
 ghost use Rattle.mw_reduce.specs.Stack.{AllFit};
-ghost use Rattle.mw_reduce.specs.State.{NoneFits, AreWellNumbered, Describes, Holds, After, IsCounted, Counts};
+ghost use Rattle.mw_pattern.specs.Numbered.{AreWellNumbered};
+ghost use Rattle.mw_reduce.specs.State.{NoneFits, Describes, Holds, After, IsCounted, Counts};
 ghost use Rattle.mw_reduce.specs.declared.frame.Frame.{Frame as FrameOf};
 
 use crate::equations::{Equation, Equations};
@@ -43,9 +44,10 @@ pub fn find<'m>(
     Ok(None)
 }
 
-ghost use Rattle.mw_reduce.specs.State.{Becomes, Climbs, Fired, IsWellNumbered};
+ghost use Rattle.mw_pattern.specs.Numbered.{IsWellNumbered};
+ghost use Rattle.mw_reduce.specs.State.{Becomes, Climbs, Fired};
 ghost use Rattle.mw_machine.specs.Positions.{fill};
-ghost use Rattle.mw_reduce.specs.Clean.{clean};
+ghost use Rattle.mw_pattern.specs.Clean.{clean};
 
 /// An equation is applied.
 fn fire<'m>(

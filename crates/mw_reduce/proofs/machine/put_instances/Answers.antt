@@ -1,4 +1,4 @@
-use Rattle.mw_reduce.proofs.Lists.{got, pattern_within}
+use Rattle.mw_pattern.proofs.Lists.{got, pattern_within}
 use Rattle.mw_reduce.proofs.Rest.{put_pattern, put_last_pattern}
 use Rattle.mw_reduce.proofs.machine.put_instances.Goals as goal
 

@@ -2,8 +2,9 @@ use Rattle.std.proofs.Common.{◌≡◌, ◌≤◌, ◌+◌, min, length, arith}
 use Rattle.mw_logic.specs.NormalForm.{height}
 use Rattle.mw_machine.specs.Positions.{fill, fill_all}
 use Rattle.mw_logic.specs.Terms.{terms_of}
-use Rattle.mw_reduce.specs.Clean.{clean}
-use Rattle.mw_reduce.specs.State.{NoneFits, IsWellNumbered}
+use Rattle.mw_pattern.specs.Clean.{clean}
+use Rattle.mw_pattern.specs.Numbered.{IsWellNumbered}
+use Rattle.mw_reduce.specs.State.{NoneFits}
 use Rattle.mw_reduce.proofs.Turns.{turn_normal, turn_deep, turn_fired, climbs_one}
 use Rattle.mw_reduce.proofs.turn.turn.Goals as goal
 

@@ -1,6 +1,6 @@
 use Rattle.std.proofs.Common.{subst}
 use Rattle.mw_logic.specs.Module.{Module}
-use Rattle.mw_reduce.specs.Compiled.{IsIndexOf}
+use Rattle.mw_pattern.specs.Compiled.{IsIndexOf}
 use Rattle.mw_reduce.proofs.Describing.{compilable, is_theory}
 use Rattle.mw_reduce.proofs.theory.Theory.new.Goals as goal
 

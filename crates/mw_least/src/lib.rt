@@ -1,0 +1,6 @@
+//! The context of a module's terms: its signature and statements, as they were accepted.
+#![tactic(auto)]
+
+mod context;
+
+pub use context::Ctx;

@@ -1,0 +1,135 @@
+-- Matching, case by case.
+use Rattle.std.specs.Prelude.{◌≡◌, ◌≢◌, ◌≤◌, ◌<◌, ◌+◌, ◌↔◌, ℕ, zero, suc, List, [], ◌∷◌, ◌++◌, length, drop, get_or, Bool, true, false, Some, slice_get, unwrap_or, IsTrue, refl}
+use Rattle.std.proofs.Common.{sym, ap, ◌∙◌, arith, true≢false}
+use Rattle.mw_logic.specs.Term.{RawTerm, RawTerms, numeral, quoted, variable, apply, nil, cons}
+use Rattle.mw_machine.specs.Positions.{position, fill, fill_all, counted, counted_all, AreNumbered, Begins}
+use Rattle.mw_logic.specs.Terms.{terms_of}
+use Rattle.mw_pattern.specs.Clean.{clean, clean_all}
+use Rattle.mw_match.specs.Matching.{Decides}
+use Rattle.mw_pattern.specs.declared.pattern.Pattern.{Pattern}
+use Rattle.mw_pattern.proofs.Lists.{drop_at}
+
+pub begins_same : (vs : List RawTerm) → Begins vs vs
+begins_same [] = tt
+begins_same (v ∷ vs) = (refl, begins_same vs)
+
+begins_then : (vs ws us : List RawTerm) → Begins vs ws → Begins ws us → Begins vs us
+begins_then [] ws us a b = tt
+begins_then (v ∷ vs) [] us a b = absurd a
+begins_then (v ∷ vs) (w ∷ ws) [] a b = absurd b
+begins_then (v ∷ vs) (w ∷ ws) (u ∷ us) a b = (a.0 ∙ b.0, begins_then vs ws us a.1 b.1)
+
+begins_at : (vs us : List RawTerm) (i : ℕ) (v : RawTerm) → Begins vs us → slice_get vs i ≡ Some v → slice_get us i ≡ Some v
+begins_at [] us i v b h = cc
+begins_at (x ∷ vs) [] i v b h = absurd b
+begins_at (x ∷ vs) (u ∷ us) zero v b h = let e = b.0 in cc
+begins_at (x ∷ vs) (u ∷ us) (suc i) v b h = begins_at vs us i v b.1 h
+
+begins_put : (vs us : List RawTerm) (t : RawTerm) → Begins vs us → slice_get us (length vs) ≡ Some t → Begins (vs ++ t ∷ []) us
+begins_put [] [] t b h = cc
+begins_put [] (u ∷ us) t b h = ((cc), tt)
+begins_put (x ∷ vs) [] t b h = absurd b
+begins_put (x ∷ vs) (u ∷ us) t b h = (b.0, begins_put vs us t b.1 h)
+
+begins_last : (vs us : List RawTerm) (t : RawTerm) → Begins (vs ++ t ∷ []) us → slice_get us (length vs) ≡ Some t
+begins_last [] [] t b = absurd b
+begins_last [] (u ∷ us) t b = ap Some (sym b.0)
+begins_last (x ∷ vs) [] t b = absurd b
+begins_last (x ∷ vs) (u ∷ us) t b = begins_last vs us t b.1
+
+begins_more : (vs : List RawTerm) (t : RawTerm) → Begins vs (vs ++ t ∷ [])
+begins_more [] t = tt
+begins_more (v ∷ vs) t = (refl, begins_more vs t)
+
+pub decides_var_old : (old : List RawTerm) (i : ℕ) (v t : RawTerm) (b : Bool) → slice_get old i ≡ Some v → (IsTrue b ↔ (v ≡ t)) → Decides b (counted (length old) (variable (position i))) old old (λ us. fill us (variable (position i)) ≡ t)
+decides_var_old old i v t true h e = (begins_same old, λ us b m. ((λ p. b), (λ q. let k : slice_get us i ≡ Some v = begins_at old us i v b h in rw k (e.0 refl))))
+decides_var_old old i v t false h e = λ us b m p. let k : slice_get us i ≡ Some v = begins_at old us i v b h in true≢false (sym (e.1 (rw k at p)))
+
+read_back : (us : List RawTerm) (i : ℕ) (x t : RawTerm) → i < length us → unwrap_or (slice_get us i) x ≡ t → slice_get us i ≡ Some t
+read_back [] i x t l e = absurd (omega (arith, l))
+read_back (u ∷ us) zero x t l e = ap Some e
+read_back (u ∷ us) (suc i) x t l e = read_back us i x t (omega (arith, l)) e
+
+pub decides_var_new : (old new : List RawTerm) (i : ℕ) (t : RawTerm) → i ≡ length old → new ≡ old ++ t ∷ [] → Decides true (counted (length old) (variable (position i))) old new (λ us. fill us (variable (position i)) ≡ t)
+decides_var_new old new i t l m = rw m (
+  begins_more old t,
+  λ us b k. (
+    (λ p. begins_put old us t b (rw (← l) (read_back us i (variable (position i)) t (omega (arith, k, l)) p))),
+    (λ q. let k : slice_get us i ≡ Some t = rw l (begins_last old us t q) in rw k refl),
+  ),
+)
+
+mutual
+  counted_grows : (n : ℕ) (p : RawTerm) → n ≤ counted n p
+  counted_grows n (numeral m) = omega arith
+  counted_grows n (quoted q) = omega arith
+  counted_grows n (variable x) = omega arith
+  counted_grows n (apply f ts) = all_counted_grows n ts
+
+  all_counted_grows : (n : ℕ) (ps : RawTerms) → n ≤ counted_all n ps
+  all_counted_grows n nil = omega arith
+  all_counted_grows n (cons p ps) = omega (arith, counted_grows n p, all_counted_grows (counted n p) ps)
+
+-- the first i arguments were matched
+pub record Matching (old cur : List RawTerm) (ps : List Pattern) (ts : List RawTerm) (i : ℕ) : Type 0 where
+  pub begins : Begins old cur
+  pub same : (us : List RawTerm) → Begins old us → counted_all (length old) (clean_all ps) ≤ length us → ((fill_all us (clean_all ps) ≡ terms_of ts) ↔ (Begins cur us × (fill_all us (clean_all (drop i ps)) ≡ terms_of (drop i ts))))
+  pub numbered : AreNumbered (length cur) (clean_all (drop i ps))
+  pub count : counted_all (length cur) (clean_all (drop i ps)) ≡ counted_all (length old) (clean_all ps)
+  pub long : length ps ≡ length ts
+
+pub matching_starts : (old : List RawTerm) (ps : List Pattern) (ts : List RawTerm) → AreNumbered (length old) (clean_all ps) → length ps ≡ length ts → Matching old old ps ts 0
+matching_starts old ps ts n l = record { begins = begins_same old; same = λ us b m. ((λ p. (b, p)), (λ q. q.1)); numbered = n; count = refl; long = l }
+
+cons_parts : (t u : RawTerm) (ts us : RawTerms) → cons t ts ≡ cons u us → (t ≡ u) × (ts ≡ us)
+cons_parts t u ts us e = ((cc), (cc))
+
+pub matching_on : (old cur new : List RawTerm) (ps : List Pattern) (ts : List RawTerm) (i : ℕ) (p : Pattern) (t : RawTerm)
+    → i < length ps → p ≡ get_or ps i p → t ≡ get_or ts i t → Decides true (counted (length cur) (clean p)) cur new (λ us. fill us (clean p) ≡ t) → length new ≡ counted (length cur) (clean p)
+    → Matching old cur ps ts i → Matching old new ps ts (i + 1)
+matching_on old cur new ps ts i p t h e g d n m =
+    let dp : drop i ps ≡ p ∷ drop (i + 1) ps = drop_at ps i p h e in
+    let lt : i < length ts = let l = m.long in omega (arith, l, h) in
+    let dt : drop i ts ≡ t ∷ drop (i + 1) ts = drop_at ts i t lt g in
+    let nu = rw dp at m.numbered in
+    let co = rw dp at m.count in
+    let w = all_counted_grows (counted (length cur) (clean p)) (clean_all (drop (i + 1) ps)) in
+    record {
+      begins = begins_then old cur new m.begins d.0;
+      same = λ us b z. (
+        (λ q.
+            let a = (m.same us b z).0 q in
+            let c : cons (fill us (clean p)) (fill_all us (clean_all (drop (i + 1) ps))) ≡ cons t (terms_of (drop (i + 1) ts)) = ap (λ xs. fill_all us (clean_all xs)) (sym dp) ∙ a.1 ∙ ap terms_of dt in
+            let k = cons_parts _ _ _ _ c in ((d.1 us a.0 (omega (arith, w, co, z))).0 k.0, k.1)),
+        (λ q.
+            let a : Begins cur us = begins_then cur new us d.0 q.0 in
+            let k : fill us (clean p) ≡ t = (d.1 us a (omega (arith, w, co, z))).1 q.0 in
+            let y : fill_all us (clean_all (drop (i + 1) ps)) ≡ terms_of (drop (i + 1) ts) = q.1 in
+            let c : fill_all us (clean_all (drop i ps)) ≡ terms_of (drop i ts) = rw (dp, dt, k, y) refl in (m.same us b z).1 (a, c)),
+      );
+      numbered = rw n nu.1;
+      count = rw n co;
+      long = m.long;
+    }
+
+pub matching_fails : (old cur new new' : List RawTerm) (ps : List Pattern) (ts : List RawTerm) (i : ℕ) (p : Pattern) (t : RawTerm)
+    → i < length ps → p ≡ get_or ps i p → t ≡ get_or ts i t → Decides false (counted (length cur) (clean p)) cur new (λ us. fill us (clean p) ≡ t)
+    → Matching old cur ps ts i → Decides false (counted_all (length old) (clean_all ps)) old new' (λ us. fill_all us (clean_all ps) ≡ terms_of ts)
+matching_fails old cur new new' ps ts i p t h e g d m = λ us b z q.
+    let dp : drop i ps ≡ p ∷ drop (i + 1) ps = drop_at ps i p h e in
+    let lt : i < length ts = let l = m.long in omega (arith, l, h) in
+    let dt : drop i ts ≡ t ∷ drop (i + 1) ts = drop_at ts i t lt g in
+    let co = rw dp at m.count in
+    let w = all_counted_grows (counted (length cur) (clean p)) (clean_all (drop (i + 1) ps)) in
+    let a = (m.same us b z).0 q in
+    let c : cons (fill us (clean p)) (fill_all us (clean_all (drop (i + 1) ps))) ≡ cons t (terms_of (drop (i + 1) ts)) = ap (λ xs. fill_all us (clean_all xs)) (sym dp) ∙ a.1 ∙ ap terms_of dt in
+    d us a.0 (omega (arith, w, co, z)) (cons_parts _ _ _ _ c).0
+
+number_patterns : (us : List RawTerm) (ps : List Pattern) (ts : List RawTerm) → fill_all us (clean_all ps) ≡ terms_of ts → length ps ≡ length ts
+number_patterns us [] [] e = refl
+number_patterns us [] (t ∷ ts) e = cc
+number_patterns us (p ∷ ps) [] e = cc
+number_patterns us (p ∷ ps) (t ∷ ts) e = let h : fill_all us (clean_all ps) ≡ terms_of ts = cc in ap suc (number_patterns us ps ts h)
+
+pub lengths_differ : (old new : List RawTerm) (ps : List Pattern) (ts : List RawTerm) → length ps ≢ length ts → Decides false (counted_all (length old) (clean_all ps)) old new (λ us. fill_all us (clean_all ps) ≡ terms_of ts)
+lengths_differ old new ps ts n = λ us b m q. n (number_patterns us ps ts q)

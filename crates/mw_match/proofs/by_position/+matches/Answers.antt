@@ -1,0 +1,53 @@
+use Rattle.std.proofs.Common.{◌≡◌, ◌≤◌, ◌<◌, length, List, ap, sym, ◌∙◌, subst, arith, refl, get_or, true, false, ◌++◌, [], ◌∷◌}
+use Rattle.mw_logic.specs.Term.{RawTerm, RawTerms, variable}
+use Rattle.mw_machine.specs.Positions.{position, fill, fill_all, counted, counted_all, AreNumbered, IsNumbered}
+use Rattle.mw_logic.specs.Terms.{terms_of}
+use Rattle.mw_pattern.specs.Clean.{clean, clean_all}
+use Rattle.mw_match.specs.Matching.{Decides}
+use Rattle.mw_pattern.proofs.Lists.{got}
+use Rattle.mw_match.proofs.Matching.{lengths_differ, matching_starts, matching_on, matching_fails, decides_var_old, decides_var_new}
+use Rattle.mw_match.proofs.by_position.+matches.Goals as goal
+
+pub all_match-returns-then-n-terms-clause-decides : goal.all_match-returns-then-n-terms-clause-decides
+all_match-returns-then-n-terms-clause-decides t c =
+    let e : clean_all c.slice-list.result.now ≡ c.args.patterns.now = c.slice-list.ensures in
+    let P : RawTerms → Type 0 = λ ps. Decides false (counted_all (length c.args.values.now.items) ps) c.args.values.now.items c.args.values.now.items (λ us. fill_all us ps ≡ terms_of c.args.terms.now) in
+    subst P e (lengths_differ c.args.values.now.items c.args.values.now.items c.slice-list.result.now c.args.terms.now c.if-n-terms.true)
+
+pub all_match-loop-i-init : goal.all_match-loop-i-init
+all_match-loop-i-init t c =
+    let e : clean_all c.slice-list.result.now ≡ c.args.patterns.now = c.slice-list.ensures in
+    (refl, matching_starts _ _ _ (subst (λ ps. AreNumbered (length c.args.values.now.items) ps) (sym e) c.requires) c.if-n-terms.false)
+
+pub all_match-loop-i-preserved : goal.all_match-loop-i-preserved
+all_match-loop-i-preserved t c =
+    let d = rw c.if-not-branch.false at c.in_ok-matches.ensures.decides in
+    (refl, matching_on _ _ _ _ _ _ _ _ c.loop-i-test.true c.index-list-i.is c.index-terms-i.is d (c.in_ok-matches.ensures.count c.if-not-branch.false) c.loop-i.invariant.1)
+
+pub matches-returns-in-Some-clause-decides : goal.matches-returns-in-Some-clause-decides
+matches-returns-in-Some-clause-decides t c =
+    let v = c.deref.ensures.value in
+    let l : c.in-Var.i < length c.args.values.now.items = rw (← v) c.in-Some.ensures.lookup.3.0 in
+    let g : c.in-Some.value.now ≡ get_or c.args.values.now.items c.in-Var.i c.in-Some.value.now = rw (← v) c.in-Some.ensures.lookup.1 in
+    let d = decides_var_old c.args.values.now.items c.in-Var.i c.in-Some.value.now c.args.term.now c.same.result (got _ _ _ l g) c.same.ensures in
+    let e : clean c.args.pattern.now ≡ variable (position c.in-Var.i) = ap clean c.in-Var.is in
+    subst (λ p. Decides c.same.result (counted (length c.args.values.now.items) p) c.args.values.now.items c.args.values.now.items (λ us. fill us p ≡ c.args.term.now)) (sym e) d
+
+pub matches-returns-in_ok-push-in-None-clause-decides : goal.matches-returns-in_ok-push-in-None-clause-decides
+matches-returns-in_ok-push-in-None-clause-decides t c =
+    let v = c.deref.ensures.value in
+    let l : length c.args.values.now.items ≤ c.in-Var.i = rw (← v) c.in-None.ensures.lookup.3 in
+    let e : clean c.args.pattern.now ≡ variable (position c.in-Var.i) = ap clean c.in-Var.is in
+    let n : c.in-Var.i ≤ length c.args.values.now.items = subst (λ p. IsNumbered (length c.args.values.now.items) p) e c.requires in
+    let i : c.in-Var.i ≡ length c.args.values.now.items = omega (arith, l, n) in
+    let m : c.push.new.self.items ≡ c.args.values.now.items ++ c.args.term.now ∷ [] = c.in_ok-push-in-None.ensures.items ∙ ap (λ x. c.args.values.now.items ++ x ∷ []) c.in_ok-value-in-None.ensures in
+    let d = decides_var_new c.args.values.now.items c.push.new.self.items c.in-Var.i c.args.term.now i m in
+    subst (λ p. Decides true (counted (length c.args.values.now.items) p) c.args.values.now.items c.push.new.self.items (λ us. fill us p ≡ c.args.term.now)) (sym e) d
+
+pub all_match-returns-then-not-branch-clause-decides : goal.all_match-returns-then-not-branch-clause-decides
+all_match-returns-then-not-branch-clause-decides t c =
+    let e : clean_all c.slice-list.result.now ≡ c.args.patterns.now = c.slice-list.ensures in
+    let d = rw c.if-not-branch.true at c.in_ok-matches.ensures.decides in
+    let old : List RawTerm = c.args.values.now.items in
+    let P : RawTerms → Type 0 = λ ps. Decides false (counted_all (length old) ps) old old (λ us. fill_all us ps ≡ terms_of c.args.terms.now) in
+    subst P e (matching_fails old _ c.matches.new.values.items old _ _ _ _ _ c.loop-i-test.true c.index-list-i.is c.index-terms-i.is d c.loop-i.invariant.1)

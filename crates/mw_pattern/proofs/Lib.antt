@@ -1,0 +1,4 @@
+pub mod Lists
+pub mod Tables
+pub mod Compiling
+pub mod Indexing

@@ -1,0 +1,119 @@
+// Patterns, whose variables are numbered by position.
+ghost use Rattle.std.specs.Prelude.{◌≡◌, ◌-◌, ◌^◌, min, IfOk, length};
+ghost use Rattle.mw_logic.specs.NormalForm.{height, highest};
+ghost use Rattle.mw_machine.specs.Positions.{fill, fill_all};
+ghost use Rattle.mw_logic.specs.Terms.{terms_of};
+ghost use Rattle.mw_pattern.specs.Clean.{clean, clean_all};
+ghost use Rattle.mw_machine.specs.Positions.{IsWithin, AreWithin};
+
+use mw_term::{OpId, Term, copy, depth};
+use std::alloc::{AllocError, Global};
+use std::marker::Model;
+
+#[derive(Drop)]
+#[cycle(pattern)]
+pub enum Pattern {
+    /// The variable of this position.
+    Var(usize),
+    Op(OpId, Patterns),
+}
+
+/// A list of patterns, which contracts see as the terms that they mean.
+#[derive(Drop)]
+#[cycle(pattern)]
+pub struct Patterns {
+    list: Vec<Pattern>,
+}
+
+impl Model for Patterns {
+    ghost use Rattle.mw_logic.specs.Term.{RawTerms};
+    ghost use Rattle.mw_logic.specs.TermCode.{coded_terms};
+    ghost use Rattle.mw_logic.specs.NormalForm.{highest};
+    ghost use Rattle.std.specs.Prelude.{◌+◌, ◌*◌};
+
+    ghost Value = { RawTerms };
+
+    ghost coded = { coded_terms };
+
+    ghost use Rattle.mw_pattern.specs.Clean.{clean_all};
+
+    ghost view = { λ a. clean_all a.list.items };
+
+    ghost size = { λ ts. 2 * highest ts + 1 };
+
+    ghost use Rattle.std.proofs.Common.{arith};
+    ghost use Rattle.mw_pattern.specs.Falls.{all_fall};
+
+    ghost size_decreases = { λ a h. Prim.omega (arith, all_fall a.list.items) };
+}
+
+impl Patterns {
+    pub fn new(list: Vec<Pattern>) -> Patterns
+        ensures { result ≡ clean_all list.items }
+    {
+        Patterns { list }
+    }
+
+    pub fn slice(&self) -> &[Pattern]
+        ensures { clean_all result.now ≡ self.now }
+    {
+        self.list.as_slice()
+    }
+}
+
+/// The depth of the instance.
+#[cycle(depth_at)]
+pub fn depth_at(pattern: &Pattern, values: &[Term]) -> u32
+    ensures { result ≡ min (height (fill values.now (clean pattern.now))) (2 ^ 32 - 1) }
+{
+    match pattern {
+        Pattern::Var(i) => match values.get(*i) {
+            Some(value) => depth(value),
+            None => 1,
+        },
+        Pattern::Op(_, args) => args.deepest_at(values).saturating_add(1),
+    }
+}
+
+impl Patterns {
+    #[cycle(depth_at)]
+    pub fn deepest_at(&self, values: &[Term]) -> u32
+        ensures { result ≡ min (highest (fill_all values.now self.now)) (2 ^ 32 - 1) }
+    {
+        let mut most = 0;
+        for p in &self.list {
+            most = most.max(depth_at(p, values));
+        }
+        most
+    }
+}
+
+/// The instance.
+#[cycle(instance)]
+pub fn instance(alloc: Global, pattern: &Pattern, values: &[Term]) -> Result<Term, AllocError>
+    requires { IsWithin (length values.now) (clean pattern.now) }
+    ensures { IfOk result (λ t. t ≡ fill values.now (clean pattern.now)) }
+{
+    match pattern {
+        Pattern::Var(i) => copy(&values[*i]),
+        Pattern::Op(f, args) => {
+            let made = args.instances(alloc, values)?;
+            Term::apply(alloc, *f, made)
+        }
+    }
+}
+
+impl Patterns {
+    #[cycle(instance)]
+    pub fn instances(&self, alloc: Global, values: &[Term]) -> Result<Vec<Term>, AllocError>
+        requires { AreWithin (length values.now) self.now }
+        ensures { IfOk result (λ ts. terms_of ts.items ≡ fill_all values.now self.now) }
+    {
+        let mut made = Vec::new(alloc);
+        for p in &self.list {
+            let t = instance(alloc, p, values)?;
+            made.push(t)?;
+        }
+        Ok(made)
+    }
+}
