@@ -2,7 +2,8 @@
 use Rattle.std.specs.Prelude.{◌≡◌, ◌≢◌, ◌≤◌, ◌<◌, ◌+◌, ◌↔◌, ℕ, zero, suc, List, [], ◌∷◌, ◌++◌, length, drop, get_or, Bool, true, false, Some, slice_get, unwrap_or, IsTrue, refl}
 use Rattle.std.proofs.Common.{sym, ap, ◌∙◌, arith, true≢false}
 use Rattle.mw_logic.specs.Term.{RawTerm, RawTerms, numeral, quoted, variable, apply, nil, cons}
-use Rattle.mw_machine.specs.Positions.{position, fill, fill_all, counted, counted_all, AreNumbered, Begins}
+use Rattle.mw_machine.specs.Positions.{position, fill, fill_all, counted, counted_all, IsNumbered, AreNumbered, Begins}
+use Rattle.mw_logic.specs.NormalForm.{height, highest}
 use Rattle.mw_logic.specs.Terms.{terms_of}
 use Rattle.mw_pattern.specs.Clean.{clean, clean_all}
 use Rattle.mw_match.specs.Matching.{Decides}
@@ -111,6 +112,16 @@ matching_on old cur new ps ts i p t h e g d n m =
       count = rw n co;
       long = m.long;
     }
+
+-- the next pattern's variables are numbered on from those that have values
+pub numbered_here : {old cur : List RawTerm} {ps : List Pattern} {ts : List RawTerm} (i : ℕ) (p : Pattern) → i < length ps → p ≡ get_or ps i p → Matching old cur ps ts i → IsNumbered (length cur) (clean p)
+numbered_here i p h e m = (rw (drop_at _ i p h e) at m.numbered).0
+
+-- no pattern is higher than the highest
+pub pattern_height : (ps : List Pattern) (i : ℕ) (p : Pattern) → i < length ps → p ≡ get_or ps i p → height (clean p) ≤ highest (clean_all ps)
+pattern_height [] i p h e = absurd (omega (arith, h))
+pattern_height (q ∷ ps) zero p h e = let f : height (clean p) ≡ height (clean q) = ap (λ x. height (clean x)) e in omega (arith, f)
+pattern_height (q ∷ ps) (suc i) p h e = let k = pattern_height ps i p (omega (arith, h)) e in omega (arith, k)
 
 pub matching_fails : (old cur new new' : List RawTerm) (ps : List Pattern) (ts : List RawTerm) (i : ℕ) (p : Pattern) (t : RawTerm)
     → i < length ps → p ≡ get_or ps i p → t ≡ get_or ts i t → Decides false (counted (length cur) (clean p)) cur new (λ us. fill us (clean p) ≡ t)

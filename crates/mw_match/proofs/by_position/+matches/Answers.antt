@@ -1,11 +1,12 @@
 use Rattle.std.proofs.Common.{◌≡◌, ◌≤◌, ◌<◌, length, List, ap, sym, ◌∙◌, subst, arith, refl, get_or, true, false, ◌++◌, [], ◌∷◌}
 use Rattle.mw_logic.specs.Term.{RawTerm, RawTerms, variable}
+use Rattle.mw_logic.specs.NormalForm.{highest}
 use Rattle.mw_machine.specs.Positions.{position, fill, fill_all, counted, counted_all, AreNumbered, IsNumbered}
 use Rattle.mw_logic.specs.Terms.{terms_of}
 use Rattle.mw_pattern.specs.Clean.{clean, clean_all}
 use Rattle.mw_match.specs.Matching.{Decides}
 use Rattle.mw_pattern.proofs.Lists.{got}
-use Rattle.mw_match.proofs.Matching.{lengths_differ, matching_starts, matching_on, matching_fails, decides_var_old, decides_var_new}
+use Rattle.mw_match.proofs.Matching.{lengths_differ, matching_starts, numbered_here, pattern_height, matching_on, matching_fails, decides_var_old, decides_var_new}
 use Rattle.mw_match.proofs.by_position.+matches.Goals as goal
 
 pub all_match-returns-then-n-terms-clause-decides : goal.all_match-returns-then-n-terms-clause-decides
@@ -13,6 +14,12 @@ all_match-returns-then-n-terms-clause-decides t c =
     let e : clean_all c.slice-list.result.now ≡ c.args.patterns.now = c.slice-list.ensures in
     let P : RawTerms → Type 0 = λ ps. Decides false (counted_all (length c.args.values.now.items) ps) c.args.values.now.items c.args.values.now.items (λ us. fill_all us ps ≡ terms_of c.args.terms.now) in
     subst P e (lengths_differ c.args.values.now.items c.args.values.now.items c.slice-list.result.now c.args.terms.now c.if-n-terms.true)
+
+pub all_match-matches-requires : goal.all_match-matches-requires
+all_match-matches-requires t c =
+    let h = pattern_height _ _ _ c.loop-i-test.true c.index-list-i.is in
+    let e : highest (clean_all c.slice-list.result.now) ≡ highest c.args.patterns.now = ap highest c.slice-list.ensures in
+    (omega (arith, h, e, c.decreases), numbered_here _ _ c.loop-i-test.true c.index-list-i.is c.loop-i.invariant.1)
 
 pub all_match-loop-i-init : goal.all_match-loop-i-init
 all_match-loop-i-init t c =
