@@ -1,0 +1,2 @@
+-- Laws of canonical terms.
+pub mod Free

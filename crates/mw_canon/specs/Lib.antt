@@ -1,0 +1,2 @@
+-- What canonical terms are, and what substitutions of them mean.
+pub mod Canonical

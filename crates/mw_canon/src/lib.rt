@@ -1,0 +1,25 @@
+//! Canonical terms: of the terms that are equal modulo the axioms of a signature, the one that stands for all.
+#![tactic(auto)]
+
+ghost use Rattle.std.specs.Prelude.{◌≡◌};
+ghost use Rattle.mw_canon.specs.declared.CanonError.TheVariants.{Memory};
+
+use std::alloc::AllocError;
+
+/// Why there is no canonical term.
+#[derive(Debug, Clone, Copy, PartialEq, Eq)]
+pub enum CanonError {
+    /// It has more than 1,000 levels.
+    Deep,
+    /// A successor of the largest numeral stands in it.
+    Nat,
+    Memory,
+}
+
+impl From<AllocError> for CanonError {
+    ghost from_gives = { λ _ e. e ≡ Memory };
+
+    fn from(_: AllocError) -> Self {
+        CanonError::Memory
+    }
+}
