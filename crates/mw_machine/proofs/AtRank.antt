@@ -10,7 +10,8 @@ use Rattle.mw_logic.specs.Module.{Fragment, Module}
 use Rattle.mw_logic.specs.Proof.{Proof, reflexivity, equality, congruence, transitivity, replacement, row, Proofs, rules, rules_of, steps, steps_of, count, count_of}
 use Rattle.mw_logic.specs.Proof as proof
 use Rattle.mw_logic.specs.Judgements.{StepTest, Leads, LeadsIn, AdmittedStep, Replaces, IsNormalBy, Proves, Held, Fails, IsNormal, judgements, judgements_with, admitted_judgements}
-use Rattle.mw_logic.specs.Ends.{limits_of, StopsBy, NextStep, by_statement, Tries, Stops, by_depth, by_rewrites}
+use Rattle.mw_machine.specs.Limits.{limits_within}
+use Rattle.mw_logic.specs.Ends.{StopsBy, NextStep, by_statement, Tries, Stops, by_depth, by_rewrites}
 use Rattle.mw_machine.specs.Moves.{Move, enter, leave, apply, Level, Place, unchanged, around, around_all, tree, applied, AreEquations}
 use Rattle.mw_machine.specs.Plain.{IsFreeModule}
 use Rattle.mw_logic.specs.NormalForm.{height}
@@ -141,17 +142,17 @@ count_tree (l ∷ ls) (leave ∷ ms) h = count_tree ls ms h
 count_tree ls (apply k r s es ∷ ms) h =
     let a = count_around_all ls (replacement k r s es) in let b = count_tree ls ms h.2 in let c : count (replacement k r s es) ≡ 1 = rw h.1 refl in omega (arith, a, b, c)
 
-module _ (M : Module) (n m : ℕ) (free : IsFreeModule M) (t0 : RawTerm) (ms : List Move) (os : List Open) where
+module _ (M : Module) (n m side : ℕ) (free : IsFreeModule M) (t0 : RawTerm) (ms : List Move) (os : List Open) where
   deep : (u : RawTerm) → 1000 < length os + height u → IsTooDeep M.signature (plug (round os) u)
   deep u d =
       let l = level_within (round os) u in let k = length-under_all os [] in let e = depth_height M.signature free.signature (plug (round os) u) in
       record { form = plug (round os) u; clean = record { clean = free_clean M.signature free.signature (plug (round os) u); equal = done }; deep = omega (arith, d, l, k, e) }
 
   next : (k : ℕ) (s : Substitution) (t u : RawTerm) (f : Fires M k s t u)
-      → NextStep M (judgements M n) (limits_of m) (tree [] ms) (plug (round os) t) (plug (round os) u)
+      → NextStep M (judgements M n) (limits_within m side) (tree [] ms) (plug (round os) t) (plug (round os) u)
   next k s t u f =
       let e : plug (round os) (instance s f.statement.right) ≡ plug (round os) u = ap (plug (round os)) (sym f.to) in
-      let w : Tries M (judgements M n) (limits_of m) (tree [] ms) (plug (round os) t) (round os) f.statement s = record {
+      let w : Tries M (judgements M n) (limits_within m side) (tree [] ms) (plug (round os) t) (round os) f.statement s = record {
         part = t;
         is_part = free_part M.signature free.signature (round os) t;
         number = k;
@@ -160,25 +161,25 @@ module _ (M : Module) (n m : ℕ) (free : IsFreeModule M) (t0 : RawTerm) (ms : L
         may = inl (f.equation, λ o. absurd (true≢false (sym o ∙ free.ordinary k f.statement f.is_there)));
       } in
       let h : Held M n f.statement.fragments s proof.nil s = rw (free.unconditional k f.statement f.is_there) (held_empty M n s) in
-      subst (λ x. NextStep M (judgements M n) (limits_of m) (tree [] ms) (plug (round os) t) x) e (by_statement (round os) f.statement s s proof.nil w h)
+      subst (λ x. NextStep M (judgements M n) (limits_within m side) (tree [] ms) (plug (round os) t) x) e (by_statement (round os) f.statement s s proof.nil w h)
 
   -- `depth`: an equation fires at a part of the whole, and its right side would be too deep at its level
   pub stops_by_depth : (k : ℕ) (s : Substitution) (t u : RawTerm) → Leads M (AdmittedStep M) (Held M n) (Fails M n) [] (tree [] ms) t0 (plug (round os) t) → (f : Fires M k s t u)
-      → applied ms < m → 1000 < length os + height u → Stops M n (limits_of m) t0 (tree [] ms) (plug (round os) t) by_depth
+      → applied ms < m → 1000 < length os + height u → Stops M n (limits_within m side) t0 (tree [] ms) (plug (round os) t) by_depth
   unfolding Stops
   stops_by_depth k s t u a f b d = by_rank n (Proves_of M n _ _ _ a) (rw (steps_tree [] ms) b) (next k s t u f) (deep u d)
     where
       by_rank : (n : ℕ) → Proves M n (tree [] ms) t0 (plug (round os) t) → steps (tree [] ms) < m
-          → NextStep M (judgements M n) (limits_of m) (tree [] ms) (plug (round os) t) (plug (round os) u) → IsTooDeep M.signature (plug (round os) u)
-          → Stops M n (limits_of m) t0 (tree [] ms) (plug (round os) t) by_depth
+          → NextStep M (judgements M n) (limits_within m side) (tree [] ms) (plug (round os) t) (plug (round os) u) → IsTooDeep M.signature (plug (round os) u)
+          → Stops M n (limits_within m side) t0 (tree [] ms) (plug (round os) t) by_depth
       by_rank zero p b x y = StopsBy.depth (plug (round os) u) (p, b) x y
       by_rank (suc n) p b x y = StopsBy.depth (plug (round os) u) (p, b) x y
 
   -- `rewrites`: as many steps as the bound
-  pub stops_by_rewrites : (t : RawTerm) → Leads M (AdmittedStep M) (Held M n) (Fails M n) [] (tree [] ms) t0 (plug (round os) t) → applied ms ≡ m → Stops M n (limits_of m) t0 (tree [] ms) (plug (round os) t) by_rewrites
+  pub stops_by_rewrites : (t : RawTerm) → Leads M (AdmittedStep M) (Held M n) (Fails M n) [] (tree [] ms) t0 (plug (round os) t) → applied ms ≡ m → Stops M n (limits_within m side) t0 (tree [] ms) (plug (round os) t) by_rewrites
   unfolding Stops
   stops_by_rewrites t a b = by_rank n (Proves_of M n _ _ _ a) (steps_tree [] ms ∙ b)
     where
-      by_rank : (n : ℕ) → Proves M n (tree [] ms) t0 (plug (round os) t) → steps (tree [] ms) ≡ m → Stops M n (limits_of m) t0 (tree [] ms) (plug (round os) t) by_rewrites
+      by_rank : (n : ℕ) → Proves M n (tree [] ms) t0 (plug (round os) t) → steps (tree [] ms) ≡ m → Stops M n (limits_within m side) t0 (tree [] ms) (plug (round os) t) by_rewrites
       by_rank zero p b = StopsBy.rewrites p b
       by_rank (suc n) p b = StopsBy.rewrites p b

@@ -23,7 +23,7 @@ drop_first zero xs ys h = refl
 drop_first (suc n) [] ys h = absurd (omega (arith, h))
 drop_first (suc n) (x ∷ xs) ys h = drop_first n xs ys (omega (arith, h))
 
-take_whole : {A : Type 0} (n : ℕ) (xs : List A) → n ≡ length xs → take n xs ≡ xs
+pub take_whole : {A : Type 0} (n : ℕ) (xs : List A) → n ≡ length xs → take n xs ≡ xs
 take_whole zero [] h = refl
 take_whole zero (x ∷ xs) h = absurd (omega (arith, h))
 take_whole (suc n) [] h = absurd (omega (arith, h))

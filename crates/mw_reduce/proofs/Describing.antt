@@ -11,22 +11,18 @@ use Rattle.mw_machine.specs.Machine.{Fires}
 use Rattle.mw_machine.specs.Positions.{fill, fill_all, IsNumbered, counted}
 use Rattle.mw_machine.specs.Simple.{IsSimpleModule}
 use Rattle.mw_machine.specs.Variables.{placed}
-use Rattle.mw_machine.proofs.Firing.{free_module, no_flat_left, distinct, left_placeable, right_placeable, left_numbered, fires, solved}
+use Rattle.mw_machine.proofs.Firing.{free_module, no_flat_left, left_placeable, right_placeable, left_numbered, fires, solved}
 use Rattle.mw_machine.proofs.Meeting.{placed_within}
 use Rattle.mw_machine.proofs.Discrete.{accepted}
 use Rattle.mw_machine.proofs.Placing.{value_of, values_of}
 use Rattle.mw_pattern.specs.Clean.{clean}
-use Rattle.mw_pattern.specs.Compiled.{IsCompilable, IsIndexOf}
+use Rattle.mw_pattern.specs.Compiled.{IsIndexOf}
 use Rattle.mw_pattern.specs.Equations.{listed}
-use Rattle.mw_reduce.specs.Kept.{variables_of}
+use Rattle.mw_proof.specs.Trails.{variables_of}
 use Rattle.mw_pattern.specs.Numbered.{AreWellNumbered}
-use Rattle.mw_reduce.specs.State.{NoneFits}
-use Rattle.mw_reduce.specs.Theories.{IsTheory}
+use Rattle.mw_reduce.specs.State.{NoneFits, Describes}
 use Rattle.mw_pattern.specs.declared.equations.Equation.{Equation}
 use Rattle.mw_pattern.specs.declared.equations.Equations.{Equations}
-
-pub compilable : (M : Module) → IsSimpleModule M → (k : ℕ) (e : Statement) → IsStatement M k e → IsCompilable e
-compilable M simple k e is = record { distinct = distinct M simple k e is; top = (simple.equations k e is).top; left = left_placeable M simple k e is; right = right_placeable M simple k e is }
 
 module _ (M : Module) (simple : IsSimpleModule M) (m : Equations) (index : IsIndexOf M.statements m) where
   fires_compiled : (f i : ℕ) (st : Equation) (vs : List RawTerm) → slice_get (listed m f) i ≡ Some st → length vs ≡ st.variables
@@ -51,7 +47,7 @@ module _ (M : Module) (simple : IsSimpleModule M) (m : Equations) (index : IsInd
       let l' : slice_get (listed m f) i ≡ Some st = rw a at l in
       none i st l' vs (length-map e.variables (value_of s) ∙ sym comp.variables) b
 
-  numbered_compiled : AreWellNumbered m
+  pub numbered_compiled : AreWellNumbered m
   numbered_compiled f i st l =
       let (k, e, is, x, comp) = index.sound f i st l in
       let there : IsStatement M k e = record { is_there = is; executable = x } in
@@ -63,15 +59,11 @@ module _ (M : Module) (simple : IsSimpleModule M) (m : Equations) (index : IsInd
         right = rw (comp.variables, comp.right) w;
       }
 
-  pub is_theory : IsTheory M m
-  is_theory = record {
-    simple = simple;
-    numbered = numbered_compiled;
-    describes = λ n. record {
-      free = free_module M simple;
-      accepted = accepted M.signature simple.signature;
-      tops = no_flat_left M simple;
-      fires = fires_compiled;
-      none = λ f ts g none k e is eq s sol. absurd (none_compiled n f ts none k e is s sol);
-    };
+  pub describes : (n : ℕ) → Describes M n m
+  describes n = record {
+    free = free_module M simple;
+    accepted = accepted M.signature simple.signature;
+    tops = no_flat_left M simple;
+    fires = fires_compiled;
+    none = λ f ts g none k e is eq s sol. absurd (none_compiled n f ts none k e is s sol);
   }

@@ -3,6 +3,5 @@ pub mod Finding
 pub mod Turns
 pub mod Rest
 pub mod Moving
-pub mod Outward
 pub mod Describing
 pub mod Deducing

@@ -15,7 +15,6 @@ use Rattle.mw_machine.proofs.Filling.{terms_of-append}
 use Rattle.mw_pattern.specs.declared.pattern.Pattern.{Pattern}
 use Rattle.std.proofs.lemmas.Option.{slice_get-get_or}
 use Rattle.mw_pattern.specs.declared.pattern.Pattern.TheVariants.{Var, Op}
-use Rattle.mw_reduce.specs.declared.kept.Item.TheVariants.{Enter}
 use Rattle.mw_pattern.specs.Clean.{clean, clean_all}
 use Rattle.mw_reduce.specs.Stack.{Opens, IsNextArgument, IsNextPattern}
 use Rattle.mw_reduce.specs.declared.frame.Frame.{Frame}
@@ -58,8 +57,8 @@ own_position vs ps base k i p own h e q w o =
     let d = length-drop base vs in
     let l = ap length o in omega (arith, b, d, l)
 
-pub argument_opened : (vs xs : List RawTerm) (at after : ℕ) (u : RawTerm) (g : Frame) → at < length xs → u ≡ get_or xs at u → Opens vs u g → after ≡ length xs - at - 1 → IsNextArgument vs xs at (Inside g (Enter at after))
-argument_opened vs xs at after u g h e o a = let x = terms_some xs at u (got xs at u h e) in let n : after ≡ number_of_terms (rest_of (skip at (terms_of xs))) = a ∙ sym x.1 in (rw o.0 x.0, o.1, o.2, rw n refl)
+pub argument_opened : (vs xs : List RawTerm) (at after : ℕ) (u : RawTerm) (g : Frame) → at < length xs → u ≡ get_or xs at u → Opens vs u g → after ≡ length xs - at - 1 → IsNextArgument vs xs at (Inside g at after)
+argument_opened vs xs at after u g h e o a = let x = terms_some xs at u (got xs at u h e) in let n : after ≡ number_of_terms (rest_of (skip at (terms_of xs))) = a ∙ sym x.1 in (rw o.0 x.0, o.1, o.2, refl, n)
 
 pub argument_flat : (vs xs : List RawTerm) (at : ℕ) (u v : RawTerm) → at < length xs → u ≡ get_or xs at u → v ≡ u → IsFlat u → IsNextArgument vs xs at (Value v)
 argument_flat vs xs at u v h e m f = let x = terms_some xs at u (got xs at u h e) in rw m (x.0, inr f)
@@ -76,13 +75,13 @@ next_pattern_value vs ps base at i p v v' h g e k l s =
 pub next_pattern_some : (vs : List RawTerm) (ps inner : List Pattern) (base at f before after : ℕ) (args : RawTerms) (p : Pattern) (done : List RawTerm)
     → AreWithin (length vs - base) (clean_all ps) → base ≤ length vs → at < length ps → p ≡ get_or ps at p → p ≡ Op f args → clean_all inner ≡ args → done ≡ [] → before ≡ at → after ≡ length ps - at - 1
     → (skip at (fill_all (drop base vs) (clean_all ps)) ≡ cons (apply f (join (terms_of done) (skip (length done) (fill_all (drop base vs) (clean_all inner))))) (rest_of (skip at (fill_all (drop base vs) (clean_all ps)))))
-    × (done ≡ []) × ((base ≤ length vs) × AreWithin (length vs - base) (clean_all inner)) × (Enter before after ≡ Enter at (number_of_terms (rest_of (skip at (fill_all (drop base vs) (clean_all ps))))))
+    × (done ≡ []) × ((base ≤ length vs) × AreWithin (length vs - base) (clean_all inner)) × (before ≡ at) × (after ≡ number_of_terms (rest_of (skip at (fill_all (drop base vs) (clean_all ps)))))
 next_pattern_some vs ps inner base at f before after args p done w l h g e c d b a =
     let x = pattern_some (drop base vs) ps at p (got ps at p h g) in
     let y : apply f (join (terms_of done) (skip (length done) (fill_all (drop base vs) (clean_all inner)))) ≡ fill (drop base vs) (clean p) = rw (d, c, e) refl in
     let n : after ≡ number_of_terms (rest_of (skip at (fill_all (drop base vs) (clean_all ps)))) = a ∙ sym x.1 in
     let i : IsWithin (length vs - base) (clean p) = pattern_within (length vs - base) ps at p (got ps at p h g) w in
-    (rw y x.0, d, (l, rw c (rw e at i)), rw (b, n) refl)
+    (rw y x.0, d, (l, rw c (rw e at i)), b, n)
 
 -- what stands on top is no operator
 pub flat_shape : (s : Shape) → ((f : ℕ) (ts : Vec Term Global) → s ≡ Shape.Op f ts → ⊥) → IsFlat (shaped s)

@@ -19,61 +19,22 @@ use Rattle.mw_machine.proofs.Steps.{part_ground, normal_here, steps_on}
 use Rattle.mw_machine.proofs.AtRank.{held_empty}
 use Rattle.mw_machine.proofs.Values.{values_normal}
 use Rattle.mw_pattern.specs.Clean.{clean, clean_all}
-use Rattle.mw_reduce.specs.Kept.{variables_of, moves, needed, stepped}
+use Rattle.mw_proof.specs.Trails.{variables_of, moves, needed, stepped}
 use Rattle.mw_pattern.specs.Equations.{listed}
 use Rattle.mw_reduce.specs.Stack.{all_of, opened, TodoFits, Fits, stack, AllFit}
 use Rattle.mw_pattern.specs.Numbered.{IsWellNumbered}
 use Rattle.mw_reduce.specs.State.{NoneFits, Describes, Holds, GoesTooDeep, After, Becomes, Fired, IsRight, IsCounted, Counts, Climbs}
-use Rattle.mw_reduce.specs.declared.kept.Kept.{Kept}
+use Rattle.mw_proof.specs.Trails.{Track}
 use Rattle.mw_reduce.specs.declared.frame.Turn.{Turn}
 use Rattle.mw_reduce.specs.declared.frame.Turn.TheVariants as turn
-use Rattle.mw_reduce.specs.declared.kept.Item.{Item}
-use Rattle.mw_reduce.specs.declared.kept.Item.TheVariants.{Enter, Leave, Apply}
+use Rattle.mw_proof.specs.declared.trail.Item.{Item}
+use Rattle.mw_proof.specs.declared.trail.Item.TheVariants.{Enter, Leave, Apply}
 use Rattle.mw_pattern.specs.declared.equations.Equation.{Equation}
 use Rattle.mw_pattern.specs.declared.equations.Equations.{Equations}
 use Rattle.mw_reduce.specs.declared.frame.Todo.{Todo}
 use Rattle.mw_reduce.specs.declared.frame.Todo.TheVariants.{Pattern, Given}
 use Rattle.mw_reduce.specs.declared.frame.Frame.{Frame}
-
-take_first : {A : Type 0} (n : ℕ) (xs ys : List A) → n ≤ length xs → take n (xs ++ ys) ≡ take n xs
-take_first zero xs ys h = refl
-take_first (suc n) [] ys h = absurd (omega (arith, h))
-take_first (suc n) (x ∷ xs) ys h = ap (λ zs. x ∷ zs) (take_first n xs ys (omega (arith, h)))
-
-drop_first : {A : Type 0} (n : ℕ) (xs ys : List A) → n ≤ length xs → drop n (xs ++ ys) ≡ drop n xs ++ ys
-drop_first zero xs ys h = refl
-drop_first (suc n) [] ys h = absurd (omega (arith, h))
-drop_first (suc n) (x ∷ xs) ys h = drop_first n xs ys (omega (arith, h))
-
-take_whole : {A : Type 0} (n : ℕ) (xs : List A) → n ≡ length xs → take n xs ≡ xs
-take_whole zero [] h = refl
-take_whole zero (x ∷ xs) h = absurd (omega (arith, h))
-take_whole (suc n) [] h = absurd (omega (arith, h))
-take_whole (suc n) (x ∷ xs) h = ap (λ zs. x ∷ zs) (take_whole n xs (omega (arith, h)))
-
-pub moves-append : (M : Module) (xs ys : List Item) (vs ws : List RawTerm) → needed xs ≡ length vs → moves M (xs ++ ys) (vs ++ ws) ≡ moves M xs vs ++ moves M ys ws
-moves-append M [] ys [] ws h = refl
-moves-append M [] ys (v ∷ vs) ws h = absurd (omega (arith, h))
-moves-append M (Enter i j ∷ xs) ys vs ws h = ap (λ ms. enter i j ∷ ms) (moves-append M xs ys vs ws h)
-moves-append M (Leave ∷ xs) ys vs ws h = ap (λ ms. leave ∷ ms) (moves-append M xs ys vs ws h)
-moves-append M (Apply k n ∷ xs) ys vs ws h =
-    let l : n ≤ length vs = omega (arith, h) in
-    let d = length-drop n vs in
-    let m : needed xs ≡ length (drop n vs) = omega (arith, h, d) in
-    let a = take_first n vs ws l in let b = drop_first n vs ws l in
-    rw (a, b) (ap (λ ms. applies k false (zip (variables_of M k) (take n vs)) proof.nil ∷ ms) (moves-append M xs ys (drop n vs) ws m))
-
-pub needed-append : (xs ys : List Item) → needed (xs ++ ys) ≡ needed xs + needed ys
-needed-append [] ys = omega arith
-needed-append (Enter i j ∷ xs) ys = needed-append xs ys
-needed-append (Leave ∷ xs) ys = needed-append xs ys
-needed-append (Apply k n ∷ xs) ys = let h = needed-append xs ys in omega (arith, h)
-
-pub stepped-append : (xs ys : List Item) → stepped (xs ++ ys) ≡ stepped xs + stepped ys
-stepped-append [] ys = omega arith
-stepped-append (Enter i j ∷ xs) ys = stepped-append xs ys
-stepped-append (Leave ∷ xs) ys = stepped-append xs ys
-stepped-append (Apply k n ∷ xs) ys = let h = stepped-append xs ys in omega (arith, h)
+use Rattle.mw_proof.proofs.Tracks.{drop_first, take_whole, moves-append, needed-append, stepped-append}
 
 -- more values change no frame
 mutual
@@ -170,30 +131,31 @@ after_fired M n t0 xs vs found below u (turn.Normal t) h b =
 after_fired M n t0 xs vs found below u (turn.Full t) h b = rw b h
 after_fired M n t0 xs vs found below u (turn.Deep t) h b = absurd b
 
-pub turn_fired : (M : Module) (n : ℕ) (m : Equations) (d : Describes M n m) (t0 : RawTerm) (old new : Kept) (below : List Frame) (f i : ℕ) (st : Equation) (found : List RawTerm) (ts : RawTerms) (r : Turn)
-    → slice_get (listed m f) i ≡ Some st → length found ≡ st.variables → fill_all found st.left ≡ ts → IsWellNumbered st → needed old.items.items ≡ length old.values.items
-    → AllFit old.values.items below → Holds M n t0 old.items.items old.values.items below (apply f ts) → AreNormalBy M (Fails M n) ts → length below + height (fill found (clean st.right)) ≤ 1000
-    → Fired old new st found → Becomes new.values.items found (fill found (clean st.right)) r → After M n t0 new.items.items new.values.items below r
+pub turn_fired : (M : Module) (n : ℕ) (m : Equations) (d : Describes M n m) (t0 : RawTerm) (old new : Track) (below : List Frame) (f i : ℕ) (st : Equation) (found : List RawTerm) (ts : RawTerms) (r : Turn)
+    → slice_get (listed m f) i ≡ Some st → length found ≡ st.variables → fill_all found st.left ≡ ts → IsWellNumbered st → needed old.items ≡ length old.values
+    → AllFit old.values below → Holds M n t0 old.items old.values below (apply f ts) → AreNormalBy M (Fails M n) ts → length below + height (fill found (clean st.right)) ≤ 1000
+    → Fired old new st found → Becomes new.values found (fill found (clean st.right)) r → After M n t0 new.items new.values below r
 turn_fired M n m d t0 old new below f i st found ts r l c e w q fit h ns x y b =
-    let a = turn_applied M n m d t0 old.items.items old.values.items below f i st found ts l c e h w q fit ns x in
+    let a = turn_applied M n m d t0 old.items old.values below f i st found ts l c e h w q fit ns x in
     let b' = rw y.values at b in
-    rw (y.items, y.values) (after_fired M n t0 _ old.values.items found below _ r a b')
+    rw (y.items, y.values) (after_fired M n t0 _ old.values found below _ r a b')
 
-pub counted_right : (m : ℕ) (k : Kept) (full : Bool) (r : Turn) → IsRight k.values.items full r → k.steps ≤ m → (full ≡ true → k.steps ≡ m) → (full ≡ false → k.steps ≢ m) → IsCounted m k r
+pub counted_right : (m : ℕ) (k : Track) (full : Bool) (r : Turn) → IsRight k.values full r → stepped k.items ≤ m → (full ≡ true → stepped k.items ≡ m) → (full ≡ false → stepped k.items ≢ m) → IsCounted m k r
 counted_right m k full (turn.Open g) i l e n = let d = n i.0 in (omega (arith, l, d), i.1, i.2)
 counted_right m k full (turn.Normal t) i l e n = let d = n i in omega (arith, l, d)
 counted_right m k full (turn.Full t) i l e n = e i
 counted_right m k full (turn.Deep t) i l e n = absurd i
 
-pub counts_fired : (old new : Kept) (st : Equation) (found : List RawTerm) → Fired old new st found → new.steps ≡ old.steps + 1 → length found ≡ st.variables → Counts old → Counts new
-counts_fired old new st found f s l c = record {
-  values = let a = needed-append old.items.items (Apply st.number st.variables ∷ []) in let b = length-append old.values.items found in let q = c.values in
-      ap needed f.items ∙ (let e : needed (old.items.items ++ Apply st.number st.variables ∷ []) ≡ length (old.values.items ++ found) = omega (arith, a, b, q, l) in e) ∙ ap length (sym f.values);
-  steps = let a = stepped-append old.items.items (Apply st.number st.variables ∷ []) in let q = c.steps in
-      s ∙ (let e : old.steps + 1 ≡ stepped (old.items.items ++ Apply st.number st.variables ∷ []) = omega (arith, a, q) in e) ∙ ap stepped (sym f.items);
-}
+pub counts_fired : (old new : Track) (st : Equation) (found : List RawTerm) → Fired old new st found → length found ≡ st.variables → Counts old → Counts new
+counts_fired old new st found f l c =
+    let a = needed-append old.items (Apply st.number st.variables ∷ []) in let b = length-append old.values found in
+    let e : needed (old.items ++ Apply st.number st.variables ∷ []) ≡ length (old.values ++ found) = omega (arith, a, b, c, l) in
+    ap needed f.items ∙ e ∙ ap length (sym f.values)
 
-pub climbs_one : (old new : Kept) (r : Turn) → new.steps ≡ old.steps + 1 → Climbs old new r
+pub steps_fired : (old new : Track) (st : Equation) (found : List RawTerm) → Fired old new st found → stepped new.items ≡ stepped old.items + 1
+steps_fired old new st found f = let a = stepped-append old.items (Apply st.number st.variables ∷ []) in let e : stepped (old.items ++ Apply st.number st.variables ∷ []) ≡ stepped old.items + 1 = omega (arith, a) in ap stepped f.items ∙ e
+
+pub climbs_one : (old new : Track) (r : Turn) → stepped new.items ≡ stepped old.items + 1 → Climbs old new r
 climbs_one old new (turn.Open g) e = omega (arith, e)
 climbs_one old new (turn.Normal t) e = inl (omega (arith, e))
 climbs_one old new (turn.Full t) e = tt

@@ -7,7 +7,6 @@ use Rattle.mw_logic.specs.Terms.{terms_of}
 use Rattle.mw_machine.specs.Machine.{Open, here, rest_of, IsFlat}
 use Rattle.mw_pattern.specs.Clean.{clean_all}
 use Rattle.mw_pattern.specs.declared.pattern.Pattern.{Pattern as Pat}
-use Rattle.mw_reduce.specs.declared.kept.Item.TheVariants.{Enter}
 use Rattle.mw_reduce.specs.declared.frame.Todo.{Todo}
 use Rattle.mw_reduce.specs.declared.frame.Todo.TheVariants.{Pattern, Given}
 use Rattle.mw_reduce.specs.declared.frame.Frame.{Frame}
@@ -48,8 +47,8 @@ Stands vs t = (i : ℕ) × (slice_get vs i ≡ Some t)
 -- what the next argument is, of those that are left
 abbrev pub IsNextOf : List RawTerm → RawTerms → ℕ → Next → Type 0
 IsNextOf vs rest k (Value t) = (rest ≡ cons t (rest_of rest)) × (Stands vs t ⊎ IsFlat t)
-IsNextOf vs rest k (Inside g item) =
-    (rest ≡ cons (here (opened vs g)) (rest_of rest)) × (g.done.items ≡ []) × Fits vs g × (item ≡ Enter k (number_of_terms (rest_of rest)))
+IsNextOf vs rest k (Inside g before after) =
+    (rest ≡ cons (here (opened vs g)) (rest_of rest)) × (g.done.items ≡ []) × Fits vs g × (before ≡ k) × (after ≡ number_of_terms (rest_of rest))
 IsNextOf vs rest k Complete = rest ≡ nil
 
 abbrev pub IsNextPattern : List RawTerm → List Pat → ℕ → ℕ → Next → Type 0

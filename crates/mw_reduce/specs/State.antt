@@ -13,14 +13,14 @@ use Rattle.mw_machine.specs.Machine.{here, Fires, NoneAtTop, NoFlatLeft, At}
 use Rattle.mw_machine.specs.Positions.{fill, fill_all, IsWithin, AreNumbered, counted_all}
 use Rattle.mw_pattern.specs.Clean.{clean}
 use Rattle.mw_pattern.specs.Numbered.{IsWellNumbered, AreWellNumbered}
-use Rattle.mw_reduce.specs.Kept.{variables_of, moves, needed, stepped}
+use Rattle.mw_proof.specs.Trails.{variables_of, moves, needed, stepped}
 use Rattle.mw_pattern.specs.Equations.{listed}
 use Rattle.mw_reduce.specs.Stack.{opened, stack, Fits, Stands}
 use Rattle.mw_pattern.specs.declared.equations.Equation.{Equation}
 use Rattle.mw_pattern.specs.declared.equations.Equations.{Equations}
-use Rattle.mw_reduce.specs.declared.kept.Item.{Item}
-use Rattle.mw_reduce.specs.declared.kept.Item.TheVariants.{Apply}
-use Rattle.mw_reduce.specs.declared.kept.Kept.{Kept}
+use Rattle.mw_proof.specs.declared.trail.Item.{Item}
+use Rattle.mw_proof.specs.declared.trail.Item.TheVariants.{Apply}
+use Rattle.mw_proof.specs.Trails.{Track}
 use Rattle.mw_reduce.specs.declared.frame.Frame.{Frame}
 use Rattle.mw_reduce.specs.declared.frame.Turn.{Turn}
 use Rattle.mw_reduce.specs.declared.frame.Turn.TheVariants as turn
@@ -54,15 +54,15 @@ After M n t0 xs vs below (turn.Full t) = Holds M n t0 xs vs below t
 After M n t0 xs vs below (turn.Deep t) = Holds M n t0 xs vs below t × GoesTooDeep M (length below) t
 
 -- the counts, and the new frame
-abbrev pub IsCounted : ℕ → Kept → Turn → Type 0
-IsCounted m k (turn.Open g) = (k.steps < m) × (g.done.items ≡ []) × Fits k.values.items g
-IsCounted m k (turn.Normal t) = k.steps < m
-IsCounted m k (turn.Full t) = k.steps ≡ m
-IsCounted m k (turn.Deep t) = k.steps < m
+abbrev pub IsCounted : ℕ → Track → Turn → Type 0
+IsCounted m k (turn.Open g) = (stepped k.items < m) × (g.done.items ≡ []) × Fits k.values g
+IsCounted m k (turn.Normal t) = stepped k.items < m
+IsCounted m k (turn.Full t) = stepped k.items ≡ m
+IsCounted m k (turn.Deep t) = stepped k.items < m
 
-pub record Counts (k : Kept) : Type 0 where
-  pub values : needed k.items.items ≡ length k.values.items
-  pub steps : k.steps ≡ stepped k.items.items
+-- the kept items take the kept values
+abbrev pub Counts : Track → Type 0
+Counts k = needed k.items ≡ length k.values
 
 -- what an equation's step leaves: the right side's instance, as a frame or as a term
 abbrev pub Becomes : List RawTerm → List RawTerm → RawTerm → Turn → Type 0
@@ -71,9 +71,9 @@ Becomes vs found u (turn.Normal t) = (t ≡ u) × Stands found t
 Becomes vs found u (turn.Full t) = t ≡ u
 Becomes vs found u (turn.Deep t) = ⊥
 
-pub record Fired (old new : Kept) (st : Equation) (found : List RawTerm) : Type 0 where
-  pub items : new.items.items ≡ old.items.items ++ Apply st.number st.variables ∷ []
-  pub values : new.values.items ≡ old.values.items ++ found
+pub record Fired (old new : Track) (st : Equation) (found : List RawTerm) : Type 0 where
+  pub items : new.items ≡ old.items ++ Apply st.number st.variables ∷ []
+  pub values : new.values ≡ old.values ++ found
 
 -- the limit is met, or not; a new frame is fresh, and its variables have values
 abbrev pub IsRight : List RawTerm → Bool → Turn → Type 0
@@ -83,8 +83,8 @@ IsRight vs full (turn.Full t) = full ≡ true
 IsRight vs full (turn.Deep t) = ⊥
 
 -- an equation was applied, or nothing was
-abbrev pub Climbs : Kept → Kept → Turn → Type 0
-Climbs old new (turn.Open g) = old.steps < new.steps
-Climbs old new (turn.Normal t) = (old.steps < new.steps) ⊎ (new.steps ≡ old.steps)
+abbrev pub Climbs : Track → Track → Turn → Type 0
+Climbs old new (turn.Open g) = stepped old.items < stepped new.items
+Climbs old new (turn.Normal t) = (stepped old.items < stepped new.items) ⊎ (stepped new.items ≡ stepped old.items)
 Climbs old new (turn.Full t) = ⊤
 Climbs old new (turn.Deep t) = ⊤

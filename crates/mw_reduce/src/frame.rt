@@ -1,7 +1,6 @@
 // The frames of the stack.
 
-use crate::kept::Item;
-use crate::pattern::Pattern;
+use mw_pattern::Pattern;
 use mw_term::{OpId, Term};
 
 /// What the arguments of a frame are made of: the subterms of a right side, at the values from `base` on, or given ones.
@@ -20,11 +19,12 @@ pub struct Frame<'m> {
     pub todo: Todo<'m>,
 }
 
-/// What the next argument of a frame is: a value, a term to be reduced, or none.
+/// What the next argument of a frame is: a value, a term to be reduced with the numbers of arguments before and after
+/// it, or none.
 #[derive(Drop)]
 pub enum Next<'m> {
     Value(Term),
-    Inside(Frame<'m>, Item),
+    Inside(Frame<'m>, usize, usize),
     Complete,
 }
 

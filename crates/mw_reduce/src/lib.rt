@@ -4,19 +4,12 @@
 //! not grow with the term. A step costs its matching and its right side.
 #![tactic(auto)]
 
-mod compile;
-mod equations;
 mod frame;
-mod kept;
 mod machine;
 mod next;
-mod pattern;
-mod places;
 mod progress;
-mod proved;
-mod theory;
+mod reducing;
 mod turn;
 
 pub use progress::Outcome;
-pub use proved::{Proved, reduce};
-pub use theory::Theory;
+pub use reducing::{Budget, reduce};

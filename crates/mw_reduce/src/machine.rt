@@ -1,27 +1,31 @@
 // The reducer.
 
-ghost use Rattle.std.specs.Prelude.{◌≡◌, ◌<◌, ◌≤◌, ◌++◌, [], ◌∷◌, ℕ, List, IfOk, IsTrue};
-ghost use Rattle.mw_logic.specs.Term.{RawTerm, RawTerms, join, is_ground, plug};
+ghost use Rattle.std.specs.Prelude.{◌≡◌, ◌<◌, ◌≤◌, ◌++◌, [], ◌∷◌, ℕ, List, Some, IfOk, IsTrue};
+ghost use Rattle.mw_logic.specs.Term.{RawTerm, nil, join, is_ground, plug};
 ghost use Rattle.mw_logic.specs.Signature.{IsRawTerm};
 ghost use Rattle.mw_logic.specs.Module.{Module};
 ghost use Rattle.mw_logic.specs.NormalForm.{height};
 ghost use Rattle.mw_machine.specs.Positions.{skip};
 ghost use Rattle.mw_logic.specs.Terms.{terms_of};
-ghost use Rattle.mw_machine.specs.Machine.{round};
-ghost use Rattle.mw_reduce.specs.Stack.{all_of, stack, TodoFits, AllFit};
+ghost use Rattle.mw_machine.specs.Machine.{round, here};
+ghost use Rattle.mw_reduce.specs.Stack.{all_of, stack, opened, TodoFits, Fits, AllFit};
+ghost use Rattle.mw_reduce.specs.Run.{IsReduced, IsRunning, MeansRunning, Goes, MeansGoes, Falls, FallsOut, Climbed, Closed};
 ghost use Rattle.mw_pattern.specs.Numbered.{AreWellNumbered};
-ghost use Rattle.mw_reduce.specs.State.{Describes};
-ghost use Rattle.mw_reduce.specs.Run.{IsReduced, IsRunning, MeansRunning, Goes, MeansGoes, Falls, Climbed};
+ghost use Rattle.mw_reduce.specs.declared.progress.Outcome.TheVariants.{Stopped};
+ghost use Rattle.mw_logic.specs.Judgements.{Fails, IsNormalBy};
+ghost use Rattle.mw_machine.specs.Machine.{AreNormalBy};
+ghost use Rattle.mw_proof.specs.Trails.{stepped};
+ghost use Rattle.mw_reduce.specs.State.{Counts, Describes, Holds};
 
-use crate::equations::Equations;
 use crate::frame::{Frame, Next, Todo, Turn};
-use crate::kept::{Kept, close, leave};
 use crate::next::{behind, next_of, open};
-use crate::pattern::{Pattern, instance};
-use crate::progress::{Outcome, Progress, Reduced, Running};
+use mw_pattern::{Equations, Pattern, instance};
+use mw_proof::{Reason, Trail};
+use crate::progress::{End, Outcome, Reduced};
 use crate::turn::turn;
 use mw_term::{Shape, Term, copy};
 use std::alloc::{AllocError, Global};
+use std::mem::replace;
 
 fn put_instances(
     alloc: Global,
@@ -79,12 +83,12 @@ fn put_rest(
 /// The whole term with the part on top.
 fn whole(
     alloc: Global,
-    mut below: Vec<Frame<'_>>,
+    below: &mut Vec<Frame<'_>>,
     values: &[Term],
     part: Term,
 ) -> Result<Term, AllocError>
-    requires { AllFit values.now below.items }
-    ensures { IfOk result (λ t. t ≡ plug (round (stack values.now below.entry.items)) part) }
+    requires { AllFit values.now below.old.items }
+    ensures { IfOk result (λ t. t ≡ plug (round (stack values.now below.old.items)) part) }
 {
     let mut term = part;
     while let Some(frame) = below.pop() {
@@ -96,85 +100,116 @@ fn whole(
     Ok(term)
 }
 
-/// One step.
+/// All places are left, and the whole term is put together.
+fn stop(
+    alloc: Global,
+    below: &mut Vec<Frame<'_>>,
+    kept: &mut Trail,
+    part: Term,
+    reason: Reason,
+) -> Result<Option<End>, AllocError>
+    requires { AllFit kept.old.values below.old.items }
+    ensures closed { IfOk result (λ _. Closed kept.old kept.new (length below.old.items)) }
+    ensures end { IfOk result (λ r. r ≡ Some (record { term = plug (round (stack kept.old.values below.old.items)) part; outcome = Stopped reason })) }
+{
+    kept.close(below.len())?;
+    let term = whole(alloc, below, kept.values(), part)?;
+    Ok(Some(End {
+        term,
+        outcome: Outcome::Stopped(reason),
+    }))
+}
+
+/// A normal term is put in its place in the frame below, or is the whole.
+fn go_out<'m>(
+    below: &mut Vec<Frame<'m>>,
+    top: &mut Frame<'m>,
+    kept: &mut Trail,
+    term: Term,
+    limit: u64,
+) -> Result<Option<End>, AllocError>
+    requires counts { Counts kept.old }
+    requires limited { stepped kept.old.items < limit }
+    requires fits { AllFit kept.old.values below.old.items }
+    ensures goes { IfOk result (Goes limit (record { below = below.new.items; top = top.new; kept = kept.new })) }
+    ensures steps { IfOk result (λ _. stepped kept.new.items ≡ stepped kept.old.items) }
+    ensures falls { IfOk result (FallsOut below.old.items kept.old.values (record { below = below.new.items; top = top.new; kept = kept.new })) }
+    ensures means { (M : Module) (n : ℕ) (t0 : RawTerm) → Holds M n t0 kept.old.items kept.old.values below.old.items term → IsNormalBy M (Fails M n) term → IfOk result (MeansGoes M n t0 limit (record { below = below.new.items; top = top.new; kept = kept.new })) }
+{
+    match below.pop() {
+        None => Ok(Some(End {
+            term,
+            outcome: Outcome::Done,
+        })),
+        Some(frame) => {
+            let mut frame = frame;
+            kept.leave()?;
+            frame.done.push(term)?;
+            *top = frame;
+            Ok(None)
+        }
+    }
+}
+
+/// What comes where all arguments of the frame in hand are done.
+fn complete<'m>(
+    alloc: Global,
+    equations: &'m Equations,
+    below: &mut Vec<Frame<'m>>,
+    top: &mut Frame<'m>,
+    kept: &mut Trail,
+    found: &mut Vec<Term>,
+    limit: u64,
+) -> Result<Option<End>, AllocError>
+    requires numbered { AreWellNumbered equations.now }
+    requires running { IsRunning limit (record { below = below.old.items; top = top.old; kept = kept.old }) }
+    requires done { (opened kept.old.values top.old).rest ≡ nil }
+    ensures goes { IfOk result (Goes limit (record { below = below.new.items; top = top.new; kept = kept.new })) }
+    ensures falls { IfOk result (Falls (record { below = below.old.items; top = top.old; kept = kept.old }) (record { below = below.new.items; top = top.new; kept = kept.new })) }
+    ensures means { (M : Module) (n : ℕ) (t0 : RawTerm) → Describes M n equations.now → MeansRunning M n t0 (record { below = below.old.items; top = top.old; kept = kept.old }) → IfOk result (MeansGoes M n t0 limit (record { below = below.new.items; top = top.new; kept = kept.new })) }
+{
+    let op = top.op;
+    let done = replace(&mut top.done, Vec::new(alloc));
+    let level = below.len();
+    match turn(alloc, equations, op, done, level, kept, found, limit)? {
+        Turn::Open(frame) => {
+            *top = frame;
+            Ok(None)
+        }
+        Turn::Normal(term) => go_out(below, top, kept, term, limit),
+        Turn::Full(part) => stop(alloc, below, kept, part, Reason::Rewrites),
+        Turn::Deep(part) => stop(alloc, below, kept, part, Reason::Depth),
+    }
+}
+
+/// A value is the next argument of the frame in hand, or the machine goes into an argument, or all are done.
 fn step<'m>(
     alloc: Global,
     equations: &'m Equations,
-    state: Running<'m>,
+    below: &mut Vec<Frame<'m>>,
+    top: &mut Frame<'m>,
+    kept: &mut Trail,
     found: &mut Vec<Term>,
     limit: u64,
-) -> Result<Progress<'m>, AllocError>
+) -> Result<Option<End>, AllocError>
     requires numbered { AreWellNumbered equations.now }
-    requires running { IsRunning limit state }
-    ensures goes { IfOk result (Goes limit) }
-    ensures falls { IfOk result (Falls state.entry) }
-    ensures means { (M : Module) (n : ℕ) (t0 : RawTerm) → Describes M n equations.now → MeansRunning M n t0 state.entry → IfOk result (MeansGoes M n t0 limit) }
+    requires running { IsRunning limit (record { below = below.old.items; top = top.old; kept = kept.old }) }
+    ensures goes { IfOk result (Goes limit (record { below = below.new.items; top = top.new; kept = kept.new })) }
+    ensures falls { IfOk result (Falls (record { below = below.old.items; top = top.old; kept = kept.old }) (record { below = below.new.items; top = top.new; kept = kept.new })) }
+    ensures means { (M : Module) (n : ℕ) (t0 : RawTerm) → Describes M n equations.now → MeansRunning M n t0 (record { below = below.old.items; top = top.old; kept = kept.old }) → IfOk result (MeansGoes M n t0 limit (record { below = below.new.items; top = top.new; kept = kept.new })) }
 {
-    let Running {
-        mut below,
-        mut top,
-        mut kept,
-    } = state;
-    match next_of(alloc, &top, kept.values.as_slice())? {
-        Next::Value(t) => {
-            top.done.push(t)?;
-            Ok(Progress::More(Running { below, top, kept }))
+    match next_of(alloc, top, kept.values())? {
+        Next::Value(term) => {
+            top.done.push(term)?;
+            Ok(None)
         }
-        Next::Inside(frame, item) => {
-            kept.items.push(item)?;
-            below.push(top)?;
-            Ok(Progress::More(Running {
-                below,
-                top: frame,
-                kept,
-            }))
+        Next::Inside(frame, before, after) => {
+            kept.enter(before, after)?;
+            let outer = replace(top, frame);
+            below.push(outer)?;
+            Ok(None)
         }
-        Next::Complete => {
-            let level = below.len();
-            let Frame { op, done, todo: _ } = top;
-            match turn(alloc, equations, op, done, level, &mut kept, found, limit)? {
-                Turn::Open(frame) => Ok(Progress::More(Running {
-                    below,
-                    top: frame,
-                    kept,
-                })),
-                Turn::Normal(t) => match below.pop() {
-                    None => Ok(Progress::Ended(Reduced {
-                        term: t,
-                        kept,
-                        outcome: Outcome::Done,
-                    })),
-                    Some(frame) => {
-                        let mut frame = frame;
-                        leave(&mut kept.items)?;
-                        frame.done.push(t)?;
-                        Ok(Progress::More(Running {
-                            below,
-                            top: frame,
-                            kept,
-                        }))
-                    }
-                },
-                Turn::Full(part) => {
-                    close(&mut kept.items, level)?;
-                    let term = whole(alloc, below, kept.values.as_slice(), part)?;
-                    Ok(Progress::Ended(Reduced {
-                        term,
-                        kept,
-                        outcome: Outcome::Rewrites,
-                    }))
-                }
-                Turn::Deep(part) => {
-                    close(&mut kept.items, level)?;
-                    let term = whole(alloc, below, kept.values.as_slice(), part)?;
-                    Ok(Progress::Ended(Reduced {
-                        term,
-                        kept,
-                        outcome: Outcome::Depth,
-                    }))
-                }
-            }
-        }
+        Next::Complete => complete(alloc, equations, below, top, kept, found, limit),
     }
 }
 
@@ -182,26 +217,57 @@ fn step<'m>(
 fn advance<'m>(
     alloc: Global,
     equations: &'m Equations,
-    state: Running<'m>,
+    below: &mut Vec<Frame<'m>>,
+    top: &mut Frame<'m>,
+    kept: &mut Trail,
     found: &mut Vec<Term>,
     limit: u64,
-) -> Result<Progress<'m>, AllocError>
+) -> Result<Option<End>, AllocError>
     requires numbered { AreWellNumbered equations.now }
-    requires running { IsRunning limit state }
-    ensures goes { IfOk result (Goes limit) }
-    ensures climbed { IfOk result (Climbed state.entry.kept.steps) }
-    ensures means { (M : Module) (n : ℕ) (t0 : RawTerm) → Describes M n equations.now → MeansRunning M n t0 state.entry → IfOk result (MeansGoes M n t0 limit) }
+    requires running { IsRunning limit (record { below = below.old.items; top = top.old; kept = kept.old }) }
+    ensures goes { IfOk result (Goes limit (record { below = below.new.items; top = top.new; kept = kept.new })) }
+    ensures climbed { IfOk result (Climbed (stepped kept.old.items) (record { below = below.new.items; top = top.new; kept = kept.new })) }
+    ensures means { (M : Module) (n : ℕ) (t0 : RawTerm) → Describes M n equations.now → MeansRunning M n t0 (record { below = below.old.items; top = top.old; kept = kept.old }) → IfOk result (MeansGoes M n t0 limit (record { below = below.new.items; top = top.new; kept = kept.new })) }
 {
-    let before = state.kept.steps;
-    let mut state = state;
+    let before = kept.steps();
     loop {
-        match step(alloc, equations, state, found, limit)? {
-            Progress::Ended(reduced) => return Ok(Progress::Ended(reduced)),
-            Progress::More(next) => {
-                if next.kept.steps != before {
-                    return Ok(Progress::More(next));
-                }
-                state = next;
+        let end = step(alloc, equations, below, top, kept, found, limit)?;
+        if end.is_some() || kept.steps() != before {
+            return Ok(end);
+        }
+    }
+}
+
+/// Steps from this frame until the end.
+fn run<'m>(
+    alloc: Global,
+    equations: &'m Equations,
+    top: Frame<'m>,
+    limit: u64,
+) -> Result<Reduced, AllocError>
+    requires numbered { AreWellNumbered equations.now }
+    requires fits { Fits [] top }
+    requires fresh { top.done.items ≡ [] }
+    requires limited { 0 < limit }
+    ensures { (M : Module) (n : ℕ) → Describes M n equations.now → IsTrue (is_ground (here (opened [] top.entry))) → IsRawTerm M.signature (here (opened [] top.entry)) → height (here (opened [] top.entry)) ≤ 1000 → IfOk result (IsReduced M n (here (opened [] top.entry)) limit) }
+{
+    let mut below = Vec::new(alloc);
+    let mut top = top;
+    let mut kept = Trail::new(alloc);
+    let mut found = Vec::new(alloc);
+    loop {
+        let next = advance(
+            alloc, equations, &mut below, &mut top, &mut kept, &mut found, limit,
+        )?;
+        match next {
+            None => {}
+            Some(end) => {
+                let End { term, outcome } = end;
+                return Ok(Reduced {
+                    term,
+                    kept,
+                    outcome,
+                });
             }
         }
     }
@@ -219,45 +285,20 @@ pub fn start(
     requires numbered { AreWellNumbered equations.now }
     ensures { (M : Module) (n : ℕ) → Describes M n equations.now → IsRawTerm M.signature term → IfOk result (IsReduced M n term limit) }
 {
-    let kept = Kept::new(alloc);
     if limit == 0 {
         return Ok(Reduced {
             term,
-            kept,
-            outcome: Outcome::Rewrites,
+            kept: Trail::new(alloc),
+            outcome: Outcome::Stopped(Reason::Rewrites),
         });
     }
     let opened = open(alloc, &term)?;
     match opened {
         None => Ok(Reduced {
             term,
-            kept,
+            kept: Trail::new(alloc),
             outcome: Outcome::Done,
         }),
-        Some(top) => {
-            let below = Vec::new(alloc);
-            run(alloc, equations, Running { below, top, kept }, limit)
-        }
-    }
-}
-
-/// Steps until the end.
-fn run<'m>(
-    alloc: Global,
-    equations: &'m Equations,
-    state: Running<'m>,
-    limit: u64,
-) -> Result<Reduced, AllocError>
-    requires numbered { AreWellNumbered equations.now }
-    requires running { IsRunning limit state }
-    ensures { (M : Module) (n : ℕ) (t0 : RawTerm) → Describes M n equations.now → MeansRunning M n t0 state.entry → IfOk result (IsReduced M n t0 limit) }
-{
-    let mut state = state;
-    let mut found = Vec::new(alloc);
-    loop {
-        match advance(alloc, equations, state, &mut found, limit)? {
-            Progress::More(next) => state = next,
-            Progress::Ended(reduced) => return Ok(reduced),
-        }
+        Some(top) => run(alloc, equations, top, limit),
     }
 }

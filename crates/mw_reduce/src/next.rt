@@ -7,8 +7,7 @@ ghost use Rattle.mw_pattern.specs.Clean.{clean_all};
 ghost use Rattle.mw_reduce.specs.Stack.{IsNext, IsNextPattern, IsNextGiven, Fits, Opens};
 
 use crate::frame::{Frame, Next, Todo};
-use crate::kept::Item;
-use crate::pattern::Pattern;
+use mw_pattern::Pattern;
 use mw_term::{Shape, Term, copy};
 use std::alloc::{AllocError, Global};
 
@@ -81,7 +80,8 @@ fn next_pattern<'m>(
                     done,
                     todo: Todo::Pattern(inner, base),
                 },
-                Item::Enter(at, after),
+                at,
+                after,
             ))
         }
     }
@@ -107,7 +107,7 @@ fn next_argument<'m>(alloc: Global, list: &[Term], at: usize) -> Result<Next<'m>
             let after = list.len() - at - 1;
             let opened = open(alloc, t)?;
             match opened {
-                Some(frame) => Ok(Next::Inside(frame, Item::Enter(at, after))),
+                Some(frame) => Ok(Next::Inside(frame, at, after)),
                 None => {
                     let t = copy(t)?;
                     Ok(Next::Value(t))

@@ -1,39 +1,27 @@
-// The reducer's state, and what it ends with.
+// What a run ends with.
 
-use crate::frame::Frame;
-use crate::kept::Kept;
+use mw_proof::{Reason, Trail};
 use mw_term::Term;
 
-/// How a reduction ends.
+/// How a run ends.
 #[derive(Clone, Copy, PartialEq, Eq, Debug)]
 pub enum Outcome {
     /// At a normal term, in fewer steps than the limit.
     Done,
-    /// In as many steps as the limit.
-    Rewrites,
-    /// Below the limit: the next step would make a term of more than 1,000 levels.
-    Depth,
+    Stopped(Reason),
 }
 
-/// What was reached, and by which proof.
+/// What was reached, and how.
 #[derive(Drop)]
-pub struct Reduced {
+pub struct End {
     pub term: Term,
-    pub kept: Kept,
     pub outcome: Outcome,
 }
 
-/// The frames round the one in hand, and the proof so far.
+/// The same, with the proof.
 #[derive(Drop)]
-pub struct Running<'m> {
-    pub below: Vec<Frame<'m>>,
-    pub top: Frame<'m>,
-    pub kept: Kept,
-}
-
-/// More is left to be done, or nothing is.
-#[derive(Drop)]
-pub enum Progress<'m> {
-    More(Running<'m>),
-    Ended(Reduced),
+pub struct Reduced {
+    pub term: Term,
+    pub kept: Trail,
+    pub outcome: Outcome,
 }

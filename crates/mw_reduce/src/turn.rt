@@ -8,16 +8,17 @@ ghost use Rattle.mw_machine.specs.Machine.{AreNormalBy};
 ghost use Rattle.mw_machine.specs.Positions.{fill_all};
 ghost use Rattle.mw_logic.specs.Terms.{terms_of};
 ghost use Rattle.mw_pattern.specs.Equations.{listed};
+ghost use Rattle.mw_proof.specs.Trails.{stepped};
 ghost use Rattle.mw_reduce.specs.Stack.{AllFit};
 ghost use Rattle.mw_pattern.specs.Numbered.{AreWellNumbered};
 ghost use Rattle.mw_reduce.specs.State.{NoneFits, Describes, Holds, After, IsCounted, Counts};
 ghost use Rattle.mw_reduce.specs.declared.frame.Frame.{Frame as FrameOf};
 
-use crate::equations::{Equation, Equations};
 use crate::frame::{Frame, Todo, Turn};
-use crate::kept::{Item, Kept};
 use crate::next::behind;
-use crate::pattern::{Pattern, depth_at, instance};
+use mw_match::all_match;
+use mw_pattern::{Equation, Equations, Pattern, depth_at, instance};
+use mw_proof::Trail;
 use mw_term::{OpId, Term, copy};
 use std::alloc::{AllocError, Global};
 
@@ -37,7 +38,7 @@ pub fn find<'m>(
     for i in 0..list.len() {
         let statement = &list[i];
         found.clear();
-        if statement.left.all_match(done, found)? {
+        if all_match(&statement.left, done, found)? {
             return Ok(Some(statement));
         }
     }
@@ -53,38 +54,37 @@ ghost use Rattle.mw_pattern.specs.Clean.{clean};
 fn fire<'m>(
     alloc: Global,
     statement: &'m Equation,
-    kept: &mut Kept,
+    kept: &mut Trail,
     found: &mut Vec<Term>,
+    spare: Vec<Term>,
     limit: u64,
 ) -> Result<Turn<'m>, AllocError>
     requires numbered { IsWellNumbered statement.now }
     requires bound { length found.old.items ≡ statement.now.variables }
     requires counts { Counts kept.old }
-    requires limited { kept.old.steps < limit }
+    requires limited { stepped kept.old.items < limit }
     ensures counts { IfOk result (λ r. Counts kept.new × IsCounted limit kept.new r) }
-    ensures one { IfOk result (λ r. kept.new.steps ≡ kept.old.steps + 1) }
+    ensures one { IfOk result (λ r. stepped kept.new.items ≡ stepped kept.old.items + 1) }
     ensures fired { IfOk result (λ r. Fired kept.old kept.new statement.now found.old.items) }
-    ensures becomes { IfOk result (Becomes kept.new.values.items found.old.items (fill found.old.items (clean statement.now.right))) }
+    ensures becomes { IfOk result (Becomes kept.new.values found.old.items (fill found.old.items (clean statement.now.right))) }
 {
-    let base = kept.values.len();
-    kept.items
-        .push(Item::Apply(statement.number, statement.variables))?;
-    kept.values.append(found)?;
-    kept.steps += 1;
-    let full = kept.steps == limit;
-    let next = right(alloc, statement, kept.values.as_slice(), base, full)?;
+    let base = kept.values().len();
+    kept.apply(statement.number, found)?;
+    let full = kept.steps() == limit;
+    let next = right(alloc, statement, kept.values(), base, spare, full)?;
     Ok(next)
 }
 
 ghost use Rattle.std.specs.Prelude.{drop, ◌≤◌, ◌-◌, Bool, IsTrue, IsFalse};
 ghost use Rattle.mw_reduce.specs.State.{IsRight};
 
-/// The right side's instance.
+/// The right side's instance. Where a frame is opened for it, that takes the spare list for its arguments.
 fn right<'m>(
     alloc: Global,
     statement: &'m Equation,
     values: &[Term],
     base: usize,
+    spare: Vec<Term>,
     full: bool,
 ) -> Result<Turn<'m>, AllocError>
     requires numbered { IsWellNumbered statement.now }
@@ -99,12 +99,12 @@ fn right<'m>(
     }
     match &statement.right {
         Pattern::Op(f, args) => {
-            let list = args.slice();
-            let done = Vec::with_capacity(alloc, list.len())?;
+            let mut done = spare;
+            done.clear();
             Ok(Turn::Open(Frame {
                 op: *f,
                 done,
-                todo: Todo::Pattern(list, base),
+                todo: Todo::Pattern(args.slice(), base),
             }))
         }
         Pattern::Var(i) => {
@@ -122,17 +122,17 @@ pub fn turn<'m>(
     op: OpId,
     done: Vec<Term>,
     level: usize,
-    kept: &mut Kept,
+    kept: &mut Trail,
     found: &mut Vec<Term>,
     limit: u64,
 ) -> Result<Turn<'m>, AllocError>
     requires numbered { AreWellNumbered equations.now }
     requires counts { Counts kept.old }
-    requires limited { kept.old.steps < limit }
+    requires limited { stepped kept.old.items < limit }
     ensures counts { IfOk result (λ r. Counts kept.new × IsCounted limit kept.new r) }
     ensures climbs { IfOk result (Climbs kept.old kept.new) }
-    ensures grows { IfOk result (λ r. (ws : List RawTerm) × (kept.new.values.items ≡ kept.old.values.items ++ ws)) }
-    ensures turns { (M : Module) (n : ℕ) (t0 : RawTerm) (below : List FrameOf) → Describes M n equations.now → length below ≡ level → AllFit kept.old.values.items below → Holds M n t0 kept.old.items.items kept.old.values.items below (apply op (terms_of done.items)) → AreNormalBy M (Fails M n) (terms_of done.items) → IfOk result (After M n t0 kept.new.items.items kept.new.values.items below) }
+    ensures grows { IfOk result (λ r. (ws : List RawTerm) × (kept.new.values ≡ kept.old.values ++ ws)) }
+    ensures turns { (M : Module) (n : ℕ) (t0 : RawTerm) (below : List FrameOf) → Describes M n equations.now → length below ≡ level → AllFit kept.old.values below → Holds M n t0 kept.old.items kept.old.values below (apply op (terms_of done.items)) → AreNormalBy M (Fails M n) (terms_of done.items) → IfOk result (After M n t0 kept.new.items kept.new.values below) }
 {
     let first = find(equations, op, done.as_slice(), found)?;
     match first {
@@ -146,7 +146,7 @@ pub fn turn<'m>(
                 let part = Term::apply(alloc, op, done)?;
                 return Ok(Turn::Deep(part));
             }
-            let next = fire(alloc, statement, kept, found, limit)?;
+            let next = fire(alloc, statement, kept, found, done, limit)?;
             Ok(next)
         }
     }
