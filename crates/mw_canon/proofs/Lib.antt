@@ -2,3 +2,4 @@
 pub mod Free
 pub mod Instances
 pub mod Listing
+pub mod Tested

@@ -2,3 +2,4 @@
 pub mod Canonical
 pub mod Causes
 pub mod Tables
+pub mod Tested

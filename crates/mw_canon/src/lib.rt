@@ -37,3 +37,6 @@ impl<T: Drop> From<AllocFailed<T>> for CanonError {
         CanonError::Memory
     }
 }
+
+#[cfg(test)]
+mod tests;
