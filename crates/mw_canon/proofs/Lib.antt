@@ -1,2 +1,5 @@
 -- Laws of canonical terms.
 pub mod Free
+pub mod Instances
+pub mod Listing
+pub mod Tested

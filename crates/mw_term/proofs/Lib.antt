@@ -1,3 +1,4 @@
 -- Laws of terms in lists.
 pub mod Terms
 pub mod RawLists
+pub mod Orders

@@ -17,7 +17,7 @@ pub use seq::{Name, Seq, copy_name};
 pub use signature::{Declaration, Gather, Identity, Operator, Signature, Sorted};
 pub use statement::{Fragment, Statement};
 pub use subst::{Binding, Subst};
-pub use term::{Shape, Term, copy, depth, same};
+pub use term::{Shape, Term, compare, copy, depth, same};
 
 /// An operator's number in its signature, from 1.
 pub type OpId = u32;
@@ -31,6 +31,7 @@ pub type KindId = u32;
 #[cfg(test)]
 mod tests {
     use super::*;
+    use std::alloc::{AllocError, Global};
     use std::test::Fail;
 
     #[test]
@@ -50,6 +51,56 @@ mod tests {
         let raw = Raw::Op(2, Raws::of(vec![in alloc; Raw::Nat(3)]?));
         assert!(rt; matches!(&raw, Raw::Op(2, args) if args.as_slice().len() == 1));
         assert_eq!(rt; name.into_vec().len(), 1);
+        Ok(())
+    }
+
+    fn word(alloc: Global, text: &[u8]) -> Result<Name, AllocError> {
+        Ok(Name::of(text.to_vec(alloc)?))
+    }
+
+    fn variable(alloc: Global, text: &[u8], sort: SortId) -> Result<Term, AllocError> {
+        let name = word(alloc, text)?;
+        Term::new(alloc, Shape::Var(VarId { name, sort }))
+    }
+
+    fn constant(alloc: Global, operator: OpId) -> Result<Term, AllocError> {
+        Term::apply(alloc, operator, Vec::new(alloc))
+    }
+
+    fn pair(alloc: Global, first: OpId, second: OpId) -> Result<Term, AllocError> {
+        let first = constant(alloc, first)?;
+        let second = constant(alloc, second)?;
+        Term::apply(alloc, 3, vec![in alloc; first, second]?)
+    }
+
+    /// Terms in ascending order.
+    fn ascending(alloc: Global) -> Result<Vec<Term>, AllocError> {
+        let mut terms = Vec::new(alloc);
+        terms.push(Term::new(alloc, Shape::Nat(9))?)?;
+        terms.push(Term::new(alloc, Shape::Nat(10))?)?;
+        terms.push(Term::new(alloc, Shape::Qid(word(alloc, b"a".as_slice())?))?)?;
+        terms.push(Term::new(alloc, Shape::Qid(word(alloc, b"aa".as_slice())?))?)?;
+        terms.push(Term::new(alloc, Shape::Qid(word(alloc, b"b".as_slice())?))?)?;
+        terms.push(constant(alloc, 2)?)?;
+        terms.push(constant(alloc, 3)?)?;
+        terms.push(pair(alloc, 1, 5)?)?;
+        terms.push(pair(alloc, 2, 1)?)?;
+        terms.push(pair(alloc, 2, 4)?)?;
+        terms.push(constant(alloc, 4)?)?;
+        terms.push(variable(alloc, b"M".as_slice(), 2)?)?;
+        terms.push(variable(alloc, b"N".as_slice(), 1)?)?;
+        terms.push(variable(alloc, b"N".as_slice(), 2)?)?;
+        Ok(terms)
+    }
+
+    #[test]
+    fn terms_are_compared(rt: HostRuntime) -> Result<(), Fail> {
+        let terms = ascending(rt.alloc())?;
+        for i in 0..terms.len() {
+            for j in 0..terms.len() {
+                assert_eq!(rt; compare(&terms[i], &terms[j]), i.cmp(&j));
+            }
+        }
         Ok(())
     }
 }

@@ -2,11 +2,13 @@
 ghost use Rattle.std.specs.Prelude.{◌≡◌, ◌↔◌, ◌+◌, ◌-◌, ◌^◌, List, min, IfOk, IsTrue};
 ghost use Rattle.mw_logic.specs.Term.{RawTerm, numeral, quoted, variable, apply as applied};
 ghost use Rattle.mw_logic.specs.Terms.{terms_of};
+ghost use Rattle.mw_logic.specs.TermOrder.{compare_terms, order_terms, order_lists, shape_number};
 ghost use Rattle.mw_logic.specs.NormalForm.{height, highest};
 ghost use Rattle.mw_term.specs.Shapes.{shaped};
 
 use crate::{Name, OpId, VarId};
 use std::alloc::{AllocError, Global};
+use std::cmp::Ordering;
 use std::marker::Model;
 use std::sync::Arc;
 
@@ -105,36 +107,74 @@ pub fn copy(term: &Term) -> Result<Term, AllocError>
     Ok(Term { node })
 }
 
+/// The order of terms: numerals by value, then quoted identifiers by bytes, then operators by number, by how many
+/// arguments they have, and by these from the left, then variables by name and sort. It stops at the first difference.
+pub fn compare(a: &Term, b: &Term) -> Ordering
+    ensures { result ≡ compare_terms a.now b.now }
+{
+    ordered(a, b)
+}
+
 /// Whether two terms are equal.
-#[cycle(same)]
 pub fn same(a: &Term, b: &Term) -> bool
     ensures { IsTrue result ↔ (a.now ≡ b.now) }
 {
+    compare(a, b).is_eq()
+}
+
+#[cycle(ordered)]
+fn ordered(a: &Term, b: &Term) -> Ordering
+    ensures { result ≡ order_terms a.now b.now }
+{
     match (&a.node.shape, &b.node.shape) {
-        (Shape::Nat(m), Shape::Nat(n)) => m == n,
-        (Shape::Qid(p), Shape::Qid(q)) => p.as_slice() == q.as_slice(),
+        (Shape::Nat(m), Shape::Nat(n)) => m.cmp(n),
+        (Shape::Qid(p), Shape::Qid(q)) => p.as_slice().cmp(q.as_slice()),
         (Shape::Var(x), Shape::Var(y)) => {
-            x.sort == y.sort && x.name.as_slice() == y.name.as_slice()
+            let names = x.name.as_slice().cmp(y.name.as_slice());
+            names.then(x.sort.cmp(&y.sort))
         }
-        (Shape::Op(f, ts), Shape::Op(g, us)) => f == g && all_same(ts, us),
-        _ => false,
+        (Shape::Op(f, ts), Shape::Op(g, us)) => {
+            applied_ordered(*f, ts.as_slice(), *g, us.as_slice())
+        }
+        (s, t) => rank(s).cmp(&rank(t)),
     }
 }
 
-#[cycle(same)]
-fn all_same(a: &[Term], b: &[Term]) -> bool
-    ensures { IsTrue result ↔ (terms_of a.now ≡ terms_of b.now) }
+#[cycle(ordered)]
+fn applied_ordered(f: OpId, a: &[Term], g: OpId, b: &[Term]) -> Ordering
+    ensures { result ≡ order_terms (applied f (terms_of a.now)) (applied g (terms_of b.now)) }
 {
-    let n = a.len();
-    if n != b.len() {
-        return false;
+    let tops = f.cmp(&g).then(a.len().cmp(&b.len()));
+    if tops.is_ne() {
+        return tops;
     }
+    all_ordered(a, b)
+}
+
+/// The first difference of two lists decides, as far as both go.
+#[cycle(ordered)]
+fn all_ordered(a: &[Term], b: &[Term]) -> Ordering
+    ensures { result ≡ order_lists (terms_of a.now) (terms_of b.now) }
+{
+    let n = a.len().min(b.len());
     for i in 0..n {
-        if !same(&a[i], &b[i]) {
-            return false;
+        let order = ordered(&a[i], &b[i]);
+        if order.is_ne() {
+            return order;
         }
     }
-    true
+    Ordering::Equal
+}
+
+fn rank(shape: &Shape) -> u8
+    ensures { result ≡ shape_number (shaped shape.now) }
+{
+    match shape {
+        Shape::Nat(_) => 0,
+        Shape::Qid(_) => 1,
+        Shape::Op(_, _) => 2,
+        Shape::Var(_) => 3,
+    }
 }
 
 fn depth_of(shape: &Shape) -> u32
