@@ -83,7 +83,7 @@ mutual
   AreDistinct-all_met xs (cons t ts) d = AreDistinct-all_met (met xs t) ts (AreDistinct-met xs t d)
 
 mutual
-  met_grows : (xs : List Variable) (t : RawTerm) → (zs : List Variable) × (met xs t ≡ xs ++ zs)
+  pub met_grows : (xs : List Variable) (t : RawTerm) → (zs : List Variable) × (met xs t ≡ xs ++ zs)
   met_grows xs (numeral n) = ([], sym (append-nil xs))
   met_grows xs (quoted q) = ([], sym (append-nil xs))
   met_grows xs (variable x) = of (is_in x xs)
