@@ -1,5 +1,5 @@
 -- What a match by position says of solutions.
-use Rattle.std.specs.Prelude.{◌≡◌, ◌≤◌, ◌↔◌, ℕ, zero, suc, List, [], ◌∷◌, length, Bool, true, false, nat_eq, get_or, ◌-◌, Option, Some, None, unwrap_or, slice_get, IsTrue, refl}
+use Rattle.std.specs.Prelude.{◌≡◌, ◌↔◌, ℕ, zero, suc, List, [], ◌∷◌, length, Bool, true, false, nat_eq, get_or, ◌-◌, Option, Some, None, unwrap_or, slice_get, IsTrue, refl}
 use Rattle.std.specs.List.{zip}
 use Rattle.std.proofs.Common.{sym, subst, ap, ◌∙◌, inl, ⊎_elim, arith}
 use Rattle.std.proofs.lemmas.Bool.{both_ways, or_right, eqb-true}
@@ -7,19 +7,21 @@ use Rattle.mw_logic.proofs.Canonical.{nat_eq-refl}
 use Rattle.mw_logic.specs.Term.{Variable, RawTerm, numeral, quoted, variable, apply, RawTerms, is_ground}
 use Rattle.mw_logic.specs.Signature.{Signature, Operator, at_number, sort, same, HasKind, of_numeral, of_quoted, of_variable, of_operator, IsRawTerm, an_operator}
 use Rattle.mw_logic.specs.Sorts.{HasSort}
+use Rattle.mw_logic.specs.Free.{IsFreeSignature}
+use Rattle.mw_logic.specs.Parts.{nested}
+use Rattle.mw_match.proofs.Nested.{nested_free, nested_values_free}
 use Rattle.mw_logic.specs.Substitution.{Substitution, same_variable, value, is_bound, IsSubstitution, IsSolution, SameSolution}
 use Rattle.mw_logic.proofs.FreeSignature.{free_equal}
 use Rattle.mw_logic.proofs.SolutionLaws.{substitution_value, sort_kind}
-use Rattle.mw_machine.specs.Machine.{IsFlat}
 use Rattle.mw_machine.specs.Positions.{fill, counted, Begins, IsNumbered}
 use Rattle.mw_machine.specs.Simple.{IsSimpleSignature}
 use Rattle.mw_machine.specs.Variables.{placed, bound_values}
 use Rattle.mw_machine.proofs.Discrete.{free, accepted, well_sorted, lone_kind, has_sort, only_sort}
 use Rattle.mw_machine.proofs.Meeting.{same_itself}
-use Rattle.mw_machine.proofs.Placing.{values_of, filled_kind}
+use Rattle.mw_machine.proofs.Placing.{values_of}
 use Rattle.mw_machine.proofs.Starting.{variables, pattern_numbered, solution, solved_from, values_length, values_begin, same_solution, begins_whole}
 use Rattle.mw_match.specs.Matching.{Decides}
-use Rattle.mw_match.specs.Solutions.{MayBe, IsOnlySolution, IsAllSolutions, nested_values}
+use Rattle.mw_match.specs.Solutions.{MayBe, IsOnlySolution, IsAllSolutions, nested_values, listed}
 use Rattle.mw_match.specs.declared.solutions.Solution.{Solution}
 
 module _ (sig : Signature) (simple : IsSimpleSignature sig) where
@@ -124,13 +126,13 @@ may_be_variable sig simple x t K S g r k e = (
 
 -- the list of the only solution, if there is one, is that of all solutions
 module _ (sig : Signature) (p t : RawTerm) (s0 : Substitution) where
-  pub none_of_all : ((s : Substitution) → IsSolution sig p t s0 s → ⊥) → IsAllSolutions sig p t s0 []
+  none_of_all : ((s : Substitution) → IsSolution sig p t s0 s → ⊥) → IsAllSolutions sig p t s0 []
   none_of_all h = record { sound = λ r m. absurd m; complete = λ s sol. absurd (h s sol); once = λ i j q r a b e. nothing i q a }
     where
       nothing : {A : Type 0} (i : ℕ) (q : Solution) → slice_get [] i ≡ Some q → A
       nothing i q h = absurd (cc)
 
-  pub one_of_all : (r : Solution) → r.take ≡ None → IsOnlySolution sig p t s0 (Some (nested_values sig r.subst)) → IsAllSolutions sig p t s0 (r ∷ [])
+  one_of_all : (r : Solution) → r.take ≡ None → IsOnlySolution sig p t s0 (Some (nested_values sig r.subst)) → IsAllSolutions sig p t s0 (r ∷ [])
   one_of_all r n h = record {
     sound = λ q m. let e : r ≡ q = ⊎_elim (λ e. e) (λ b. absurd b) m in subst (λ (q : Solution). IsSolution sig p t s0 (nested_values sig q.subst) × (q.take ≡ None)) e (h.0, n);
     complete = λ s sol. (r, inl refl, h.1 s sol);
@@ -140,3 +142,17 @@ module _ (sig : Signature) (p t : RawTerm) (s0 : Substitution) where
       first : (i : ℕ) (q : Solution) → slice_get (r ∷ []) i ≡ Some q → i ≡ 0
       first zero q h = refl
       first (suc i) q h = absurd (cc)
+
+-- so the list has all, as the flattened terms mean them
+module _ (sig : Signature) (free : IsFreeSignature sig) (p t : RawTerm) (s0 : Substitution) where
+  flattened : (list : List Solution) → IsAllSolutions sig p t s0 list → IsAllSolutions sig (nested sig p) (nested sig t) (nested_values sig s0) list
+  flattened list h = rw (nested_free sig free p, nested_free sig free t, nested_values_free sig free s0) h
+
+  pub none_listed : (o : Option Substitution) (coming : Option Solution) → IsOnlySolution sig p t s0 o → o ≡ None → coming ≡ None → IsAllSolutions sig (nested sig p) (nested sig t) (nested_values sig s0) (listed coming)
+  none_listed o coming h e c = rw c (flattened [] (none_of_all sig p t s0 (subst (IsOnlySolution sig p t s0) e h)))
+
+  pub one_listed : (o : Option Substitution) (coming : Option Solution) (r : Substitution) → IsOnlySolution sig p t s0 o → o ≡ Some r → coming ≡ Some (record { subst = r; take = None })
+      → IsAllSolutions sig (nested sig p) (nested sig t) (nested_values sig s0) (listed coming)
+  one_listed o coming r h e c =
+      let k : IsOnlySolution sig p t s0 (Some (nested_values sig r)) = subst (λ u. IsOnlySolution sig p t s0 (Some u)) (sym (nested_values_free sig free r)) (subst (IsOnlySolution sig p t s0) e h) in
+      rw c (flattened (record { subst = r; take = None } ∷ []) (one_of_all sig p t s0 (record { subst = r; take = None }) refl k))

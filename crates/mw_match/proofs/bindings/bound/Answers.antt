@@ -1,4 +1,4 @@
-use Rattle.std.proofs.Common.{◌≡◌, ◌<◌, ◌≤◌, ◌∙◌, ap, arith, length}
+use Rattle.std.proofs.Common.{◌<◌, ◌≤◌, ◌∙◌, ap, arith, length}
 use Rattle.mw_match.proofs.Pairs.{pairs_of, pair_taken, pairs_taken}
 use Rattle.mw_match.proofs.bindings.bound.Goals as goal
 
