@@ -7,3 +7,6 @@ mod solutions;
 
 pub use by_position::{all_match, matches};
 pub use solutions::{Solution, Solutions};
+
+#[cfg(test)]
+mod tests;
