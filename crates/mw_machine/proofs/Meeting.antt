@@ -83,7 +83,7 @@ mutual
   AreDistinct-all_met xs (cons t ts) d = AreDistinct-all_met (met xs t) ts (AreDistinct-met xs t d)
 
 mutual
-  met_grows : (xs : List Variable) (t : RawTerm) → (zs : List Variable) × (met xs t ≡ xs ++ zs)
+  pub met_grows : (xs : List Variable) (t : RawTerm) → (zs : List Variable) × (met xs t ≡ xs ++ zs)
   met_grows xs (numeral n) = ([], sym (append-nil xs))
   met_grows xs (quoted q) = ([], sym (append-nil xs))
   met_grows xs (variable x) = of (is_in x xs)
@@ -108,7 +108,7 @@ place-within x (y ∷ ys) h = of (place-within x ys) (same_variable y x) h
     of r true e = omega arith
     of r false e = let k = r e in omega (arith, k)
 
-place-append : (x : Variable) (xs ys : List Variable) → is_in x xs ≡ true → place x (xs ++ ys) ≡ place x xs
+pub place-append : (x : Variable) (xs ys : List Variable) → is_in x xs ≡ true → place x (xs ++ ys) ≡ place x xs
 place-append x [] ys h = absurd (both_ways false refl h)
 place-append x (y ∷ xs) ys h = of (place-append x xs ys) (same_variable y x) h
   where
@@ -116,7 +116,7 @@ place-append x (y ∷ xs) ys h = of (place-append x xs ys) (same_variable y x) h
     of r true e = refl
     of r false e = ap suc (r e)
 
-place-put : (x : Variable) (xs ys : List Variable) → is_in x xs ≡ false → place x (xs ++ x ∷ ys) ≡ length xs
+pub place-put : (x : Variable) (xs ys : List Variable) → is_in x xs ≡ false → place x (xs ++ x ∷ ys) ≡ length xs
 place-put x [] ys h = rw (same_itself x) refl
 place-put x (y ∷ xs) ys h = let p = neither (same_variable y x) (is_in x xs) h in rw (p.0) (ap suc (place-put x xs ys p.1))
 

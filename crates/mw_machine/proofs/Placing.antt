@@ -21,7 +21,7 @@ value_of s x = unwrap_or (value s x) (variable x)
 abbrev pub values_of : Substitution → List Variable → List RawTerm
 values_of s xs = map (value_of s) xs
 
-at_place : (s : Substitution) (xs : List Variable) (x : Variable) → is_in x xs ≡ true → slice_get (values_of s xs) (place x xs) ≡ Some (value_of s x)
+pub at_place : (s : Substitution) (xs : List Variable) (x : Variable) → is_in x xs ≡ true → slice_get (values_of s xs) (place x xs) ≡ Some (value_of s x)
 at_place s [] x h = absurd (both_ways false refl h)
 at_place s (y ∷ ys) x h = of (at_place s ys x) (same_variable y x) refl h
   where

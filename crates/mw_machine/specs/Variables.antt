@@ -1,7 +1,7 @@
 -- The variables of a term in the order in which they are first met, and terms whose variables stand by position.
-use Rattle.std.specs.Prelude.{ℕ, suc, List, [], ◌∷◌, ◌++◌, Bool, false, ◌||◌, cond, IsTrue, IsFalse, ⊤}
+use Rattle.std.specs.Prelude.{ℕ, suc, List, [], ◌∷◌, ◌++◌, map, Bool, false, ◌||◌, cond, IsTrue, IsFalse, ⊤}
 use Rattle.mw_logic.specs.Term.{Variable, RawTerm, numeral, quoted, variable, apply, RawTerms, nil, cons}
-use Rattle.mw_logic.specs.Substitution.{same_variable}
+use Rattle.mw_logic.specs.Substitution.{Substitution, same_variable}
 use Rattle.mw_machine.specs.Positions.{position}
 
 abbrev pub is_in : Variable → List Variable → Bool
@@ -53,3 +53,10 @@ abbrev mutual
   pub ArePlaceable : List Variable → RawTerms → Type 0
   ArePlaceable xs nil = ⊤
   ArePlaceable xs (cons t ts) = IsPlaceable xs t × ArePlaceable xs ts
+
+-- the variables of a substitution in order, and their values
+abbrev pub bound_variables : Substitution → List Variable
+bound_variables s = map (λ b. b.0) s
+
+abbrev pub bound_values : Substitution → List RawTerm
+bound_values s = map (λ b. b.1) s

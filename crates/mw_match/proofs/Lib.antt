@@ -1,1 +1,4 @@
 pub mod Matching
+pub mod Nested
+pub mod Solving
+pub mod Pairs

@@ -1,5 +1,5 @@
 -- Lists of terms and of patterns, item by item.
-use Rattle.std.proofs.Common.{◌≡◌, ℕ, zero, suc, ◌+◌, ◌<◌, ◌≤◌, List, [], ◌∷◌, ◌++◌, length, get_or, drop, arith, ap, sym, ◌∙◌, refl, drop-cons, add-one, drop_of_length-le, subst}
+use Rattle.std.proofs.Common.{◌≡◌, ℕ, zero, suc, ◌+◌, ◌<◌, ◌≤◌, List, [], ◌∷◌, ◌++◌, length, get_or, drop, ap, sym, ◌∙◌, refl, drop-cons, add-one, drop_of_length-le, subst}
 use Rattle.mw_logic.specs.Term.{RawTerm, RawTerms, cons, join}
 use Rattle.mw_logic.specs.Parts.{number_of_terms}
 use Rattle.std.specs.Prelude.{Some, slice_get}

@@ -1,32 +1,68 @@
--- The table of a statement's variables, entry by entry.
-use Rattle.std.specs.Prelude.{◌≡◌, ◌<◌, ◌+◌, ◌⊎◌, ℕ, List, [], ◌∷◌, ◌++◌, length, take, get_or, Bool, true, false, ◌||◌, cond, Option, Some, IsTrue, refl}
-use Rattle.std.proofs.Common.{sym, ap, ◌∙◌, ⊎_elim}
-use Rattle.std.proofs.lemmas.List.{take_more}
-use Rattle.mw_logic.specs.Term.{Variable}
+-- The table of variables, entry by entry.
+use Rattle.std.specs.Prelude.{◌≡◌, ◌<◌, ◌+◌, ℕ, List, [], ◌∷◌, ◌++◌, length, take, drop, get_or, Bool, true, false, ◌||◌, cond, Option, Some, None, is_some, refl}
+use Rattle.std.proofs.Common.{sym, ap, ◌∙◌, arith, length-take-le}
+use Rattle.std.proofs.lemmas.List.{take_more, map-append, take-append-drop}
+use denote.Ref.{Bor}
+use Rattle.mw_logic.specs.Term.{Variable, variable}
 use Rattle.mw_logic.specs.Substitution.{same_variable}
-use Rattle.mw_machine.specs.Variables.{is_in, AreDistinct, place}
-use Rattle.mw_machine.proofs.Meeting.{same_is, or_none, is_in-append, place_at}
-use Rattle.mw_machine.proofs.Discrete.{either}
-use Rattle.mw_pattern.specs.Tables.{Key, same_key, variable_of}
+use Rattle.mw_machine.specs.Variables.{is_in, met, AreDistinct, place}
+use Rattle.mw_machine.proofs.Meeting.{same_is, same_itself, or_none, is_in-append, place-append, place-put, place-within, place_at}
+use Rattle.mw_pattern.specs.Tables.{Key, same_key, variable_of, pointed, position_in}
 
-taken_or_last : (xs : List Variable) (i : ℕ) (x q : Variable) → i < length xs → x ≡ get_or xs i x → is_in q (take (i + 1) xs) ≡ true → (is_in q (take i xs) ≡ true) ⊎ (same_variable x q ≡ true)
-taken_or_last xs i x q h e k =
-    let t : take (i + 1) xs ≡ take i xs ++ x ∷ [] = take_more xs i x h ∙ ap (λ y. take i xs ++ y ∷ []) (sym e) in
-    let a : (is_in q (take i xs) || same_variable x q) ≡ true = sym (is_in-append q (take i xs) (x ∷ []) ∙ ap (λ b. is_in q (take i xs) || b) (or_none (same_variable x q))) ∙ ap (is_in q) (sym t) ∙ k in
-    either (is_in q (take i xs)) (same_variable x q) a
+pub none_some : (i : ℕ) → None ≡ Some i → ⊥
+none_some i h = cc
 
-pub table_on : (xs : List Variable) (i : ℕ) (x : Variable) (k : Key) → i < length xs → x ≡ get_or xs i x → variable_of k ≡ x → AreDistinct xs → (old new : Key → Option ℕ)
-    → ((q : Key) → new q ≡ cond (same_key k q) (Some i) (old q)) → ((q : Key) → IsTrue (is_in (variable_of q) (take i xs)) → old q ≡ Some (place (variable_of q) xs))
-    → (q : Key) → IsTrue (is_in (variable_of q) (take (i + 1) xs)) → new q ≡ Some (place (variable_of q) xs)
-table_on xs i x k h e v d old new u o q t = u q ∙ of (same_key k q) refl
+pub some_parts : (i j : ℕ) → Some i ≡ Some j → i ≡ j
+some_parts i j h = cc
+
+pub found_in : (x : Variable) (xs : List Variable) → is_in x xs ≡ true → position_in x xs ≡ Some (place x xs)
+found_in x xs h = rw h refl
+
+pub is_found : (x : Variable) (xs : List Variable) → is_some (position_in x xs) ≡ is_in x xs
+is_found x xs = of (is_in x xs)
   where
-    of : (b : Bool) → same_key k q ≡ b → cond b (Some i) (old q) ≡ Some (place (variable_of q) xs)
+    of : (b : Bool) → is_some (cond b (Some (place x xs)) None) ≡ b
+    of true = refl
+    of false = refl
+
+pub met_again : (xs : List Variable) (x : Variable) → is_in x xs ≡ true → xs ≡ met xs (variable x)
+met_again xs x h = rw h refl
+
+-- the positions with one more variable behind
+position_more : (xs : List Variable) (x q : Variable) → is_in x xs ≡ false → position_in q (xs ++ x ∷ []) ≡ cond (same_variable x q) (Some (length xs)) (position_in q xs)
+position_more xs x q h = of (same_variable x q) refl
+  where
+    member : is_in q (xs ++ x ∷ []) ≡ (is_in q xs || same_variable x q)
+    member = is_in-append q xs (x ∷ []) ∙ ap (λ b. is_in q xs || b) (or_none (same_variable x q))
+
+    old : same_variable x q ≡ false → (b : Bool) → is_in q xs ≡ b → cond (is_in q (xs ++ x ∷ [])) (Some (place q (xs ++ x ∷ []))) None ≡ cond b (Some (place q xs)) None
+    old s true e = let m : is_in q (xs ++ x ∷ []) ≡ true = member ∙ rw e refl in rw m (ap Some (place-append q xs (x ∷ []) e))
+    old s false e = let m : is_in q (xs ++ x ∷ []) ≡ false = member ∙ rw (e, s) refl in rw m refl
+
+    of : (b : Bool) → same_variable x q ≡ b → position_in q (xs ++ x ∷ []) ≡ cond b (Some (length xs)) (position_in q xs)
     of true s =
-        let w : x ≡ variable_of q = sym v ∙ same_is (variable_of k) (variable_of q) s in
-        ap Some (sym (place_at xs i x d h e) ∙ ap (λ y. place y xs) w)
-    of false s = ⊎_elim (λ a. o q a)
-        (λ a. let n : same_variable x (variable_of q) ≡ false = ap (λ y. same_variable y (variable_of q)) (sym v) ∙ s in absurd (apart (same_variable x (variable_of q)) n a))
-        (taken_or_last xs i x (variable_of q) h e t)
-      where
-        apart : (b : Bool) → b ≡ false → b ≡ true → ⊥
-        apart b m n = cc
+        let k : x ≡ q = same_is x q s in
+        let m : is_in x (xs ++ x ∷ []) ≡ true = is_in-append x xs (x ∷ []) ∙ rw (h, same_itself x) refl in
+        ap (λ z. position_in z (xs ++ x ∷ [])) (sym k) ∙ rw m (ap Some (place-put x xs [] h))
+    of false s = old s (is_in q xs) refl
+
+pub table_met : (xs : List Variable) (k : Key) → is_in (variable_of k) xs ≡ false → (old new : Key → Option ℕ)
+    → ((q : Key) → new q ≡ cond (same_key k q) (Some (length xs)) (old q)) → ((q : Key) → old q ≡ position_in (variable_of q) xs)
+    → (q : Key) → new q ≡ position_in (variable_of q) (xs ++ variable_of k ∷ [])
+table_met xs k h old new u o q = u q ∙ ap (λ z. cond (same_key k q) (Some (length xs)) z) (o q) ∙ sym (position_more xs (variable_of k) (variable_of q) h)
+
+pub pointed_more : (xs : List (Bor Variable)) (x : Bor Variable) → pointed (xs ++ x ∷ []) ≡ pointed xs ++ x.now ∷ []
+pointed_more xs x = map-append (λ x. x.now) xs (x ∷ [])
+
+-- distinct variables, met one by one
+pub met_next : (xs : List Variable) (i : ℕ) (x : Variable) → i < length xs → x ≡ get_or xs i x → AreDistinct xs → met (take i xs) (variable x) ≡ take (i + 1) xs
+met_next xs i x h e d =
+    rw (not_before (is_in x (take i xs)) refl) (sym (take_more xs i x h ∙ ap (λ y. take i xs ++ y ∷ []) (sym e)))
+  where
+    not_before : (b : Bool) → is_in x (take i xs) ≡ b → is_in x (take i xs) ≡ false
+    not_before false k = k
+    not_before true k =
+        let a : place x xs ≡ place x (take i xs) = ap (place x) (sym (take-append-drop i xs)) ∙ place-append x (take i xs) (drop i xs) k in
+        let w = place-within x (take i xs) k in
+        let l = length-take-le i xs (omega (arith, h)) in
+        let p = place_at xs i x d h e in absurd (omega (arith, a, w, l, p))

@@ -14,8 +14,8 @@ use mw_term::{OpId, Raw, Raws, Statement};
 use std::alloc::{AllocError, Global};
 
 /// A side of an equation as a pattern.
-#[cycle(compile)]
-pub fn compile(alloc: Global, raw: &Raw, places: &Places<'_>) -> Result<Pattern, AllocError>
+#[cycle(pattern_of)]
+pub fn pattern_of(alloc: Global, raw: &Raw, places: &Places<'_>) -> Result<Pattern, AllocError>
     requires { IsPlaceable places.now (raw_term raw.now) }
     ensures { IfOk result (λ p. clean p ≡ placed places.now (raw_term raw.now)) }
 {
@@ -23,21 +23,21 @@ pub fn compile(alloc: Global, raw: &Raw, places: &Places<'_>) -> Result<Pattern,
         Raw::Nat(_) | Raw::Qid(_) => unreachable!(),
         Raw::Var(x) => Ok(Pattern::Var(places.at(x))),
         Raw::Op(op, args) => {
-            let made = compile_all(alloc, args, places)?;
+            let made = patterns_of(alloc, args, places)?;
             Ok(Pattern::Op(*op, made))
         }
     }
 }
 
-#[cycle(compile)]
-fn compile_all(alloc: Global, raws: &Raws, places: &Places<'_>) -> Result<Patterns, AllocError>
+#[cycle(pattern_of)]
+fn patterns_of(alloc: Global, raws: &Raws, places: &Places<'_>) -> Result<Patterns, AllocError>
     requires { ArePlaceable places.now raws.now }
     ensures { IfOk result (λ ps. ps ≡ all_placed places.now raws.now) }
 {
     let list = raws.as_slice();
     let mut made = Vec::with_capacity(alloc, list.len())?;
     for raw in list {
-        let pattern = compile(alloc, raw, places)?;
+        let pattern = pattern_of(alloc, raw, places)?;
         made.push(pattern)?;
     }
     Ok(Patterns::new(made))
@@ -53,10 +53,10 @@ fn compile_equation(
     ensures { IfOk result (λ r. IsCompiled number statement.now r.0 r.1) }
 {
     let places = Places::new(alloc, statement.variables.as_slice())?;
-    let right = compile(alloc, &statement.right, &places)?;
+    let right = pattern_of(alloc, &statement.right, &places)?;
     match &statement.left {
         Raw::Op(op, args) => {
-            let left = compile_all(alloc, args, &places)?;
+            let left = patterns_of(alloc, args, &places)?;
             let equation = Equation {
                 number,
                 left,

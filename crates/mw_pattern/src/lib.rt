@@ -7,7 +7,7 @@ mod equations;
 mod pattern;
 mod places;
 
-pub use by_position::{compile, index};
+pub use by_position::{index, pattern_of};
 pub use equations::{Equation, Equations, Group};
 pub use pattern::{Pattern, Patterns, depth_at, instance};
-pub use places::Places;
+pub use places::{Places, meet_all};

@@ -1,16 +1,18 @@
-// Where the variables of a statement stand.
-ghost use Rattle.std.specs.Prelude.{◌≡◌, IfOk, IsTrue};
-ghost use Rattle.mw_machine.specs.Variables.{is_in, AreDistinct, place};
+// Where variables stand.
+ghost use Rattle.std.specs.Prelude.{◌≡◌, ◌<◌, [], IfOk, OnOk, OnErr, IsTrue, Some, length, slice_get};
+ghost use Rattle.mw_logic.specs.Term.{variable as a_variable};
+ghost use Rattle.mw_machine.specs.Variables.{is_in, AreDistinct, place, met};
+ghost use Rattle.mw_term.specs.Raws.{raw_term};
 
-use mw_term::{SortId, VarId};
+use mw_term::{Raw, SortId, VarId};
 use std::alloc::{AllocError, Global};
 use std::collections::HashMap;
 use std::marker::Model;
 
-/// The variables of a statement, with a table of their positions. Contracts see the variables.
+/// Variables in order, each once, with a table of their positions. Contracts see the variables.
 #[derive(Drop)]
 pub struct Places<'a> {
-    variables: &'a [VarId],
+    variables: Vec<&'a VarId>,
     table: HashMap<(&'a [u8], SortId), usize>,
 }
 
@@ -20,24 +22,52 @@ impl<'a> Model for Places<'a> {
 
     ghost Value = { List Variable };
 
-    ghost view = { λ p. p.variables.now };
+    ghost use Rattle.mw_pattern.specs.Tables.{HasPlaces, pointed};
 
-    ghost use Rattle.mw_pattern.specs.Tables.{HasPlaces};
+    ghost view = { λ p. pointed p.variables.items };
 
-    ghost invariant = { λ p. HasPlaces p.variables.now p.table };
+    ghost invariant = { λ p. HasPlaces (pointed p.variables.items) p.table };
 }
 
 impl<'a> Places<'a> {
+    /// The positions of these variables.
     pub fn new(alloc: Global, variables: &'a [VarId]) -> Result<Places<'a>, AllocError>
         requires { AreDistinct variables.now }
         ensures { IfOk result (λ p. p ≡ variables.now) }
     {
-        let mut table = HashMap::new(alloc);
-        for i in 0..variables.len() {
-            let x = &variables[i];
-            table.insert((x.name.as_slice(), x.sort), i)?;
+        let mut places = Places::none(alloc);
+        for x in variables {
+            places.meet(x)?;
         }
-        Ok(Places { variables, table })
+        Ok(places)
+    }
+
+    /// No variables.
+    pub fn none(alloc: Global) -> Places<'a>
+        ensures { result ≡ [] }
+    {
+        Places {
+            variables: Vec::new(alloc),
+            table: HashMap::new(alloc),
+        }
+    }
+
+    /// Puts a variable behind the others, if it isn't one of them.
+    pub fn meet(&mut self, x: &'a VarId) -> Result<(), AllocError>
+        ensures ok { OnOk result (self.new ≡ met self.old (a_variable x.now)) }
+        ensures err { OnErr result (self.new ≡ self.old) }
+    {
+        let key = (x.name.as_slice(), x.sort);
+        if self.table.contains_key(&key) {
+            return Ok(());
+        }
+        let place = self.variables.len();
+        self.variables.push(x)?;
+        if let Err(full) = self.table.insert(key, place) {
+            self.variables.pop();
+            return Err(full.into());
+        }
+        Ok(())
     }
 
     /// How many variables there are.
@@ -45,6 +75,14 @@ impl<'a> Places<'a> {
         ensures { result ≡ length self.now }
     {
         self.variables.len()
+    }
+
+    /// The variable of this position.
+    pub fn variable(&self, place: usize) -> &VarId
+        requires { place < length self.now }
+        ensures { slice_get self.now place ≡ Some result.now }
+    {
+        self.variables[place]
     }
 
     /// How many of the variables stand before this one.
@@ -59,4 +97,20 @@ impl<'a> Places<'a> {
     }
 }
 
-ghost use Rattle.std.specs.Prelude.{length};
+/// Meets the variables of a term, from the left.
+pub fn meet_all<'a>(places: &mut Places<'a>, term: &'a Raw) -> Result<(), AllocError>
+    ensures { OnOk result (places.new ≡ met places.old (raw_term term.now)) }
+{
+    match term {
+        Raw::Var(x) => places.meet(x),
+        Raw::Op(_, args) => {
+            let mut rest = args.as_slice();
+            while let [arg, after @ ..] = rest {
+                meet_all(places, arg)?;
+                rest = after;
+            }
+            Ok(())
+        }
+        _ => Ok(()),
+    }
+}

@@ -1,0 +1,35 @@
+-- All solutions of a pattern that extend a substitution, each once.
+use Rattle.std.specs.Prelude.{ℕ, ◌≡◌, List, [], ◌∷◌, map, Option, Some, None, slice_get, ⊤}
+use Rattle.mw_logic.specs.Term.{RawTerm, numeral, quoted, variable, apply}
+use Rattle.mw_logic.specs.Signature.{Signature, sort, Member}
+use Rattle.mw_logic.specs.Sorts.{HasSort}
+use Rattle.mw_logic.specs.Parts.{nested}
+use Rattle.mw_logic.specs.Substitution.{Substitution, IsSolution, SameSolution}
+use Rattle.mw_match.specs.declared.solutions.Solution.{Solution}
+
+-- the substitution with the raw terms that its values mean
+abbrev pub nested_values : Signature → Substitution → Substitution
+nested_values sig s = map (λ b. (b.0, nested sig b.1)) s
+
+-- Each entry is a solution of the whole of t, each solution is some entry modulo the axioms, and no two entries are the same solution.
+pub record IsAllSolutions (sig : Signature) (p t : RawTerm) (s0 : Substitution) (list : List Solution) : Type 0 where
+  pub sound : (r : Solution) → Member r list → IsSolution sig p t s0 (nested_values sig r.subst) × (r.take ≡ None)
+  pub complete : (s : Substitution) → IsSolution sig p t s0 s → (r : Solution) × Member r list × SameSolution sig s (nested_values sig r.subst)
+  pub once : (i j : ℕ) (q r : Solution) → slice_get list i ≡ Some q → slice_get list j ≡ Some r → SameSolution sig (nested_values sig q.subst) (nested_values sig r.subst) → i ≡ j
+
+-- the solution to come, if there is one
+abbrev pub listed : Option Solution → List Solution
+listed None = []
+listed (Some r) = r ∷ []
+
+-- a pattern that is a variable has a sort of t
+abbrev pub MayBe : Signature → RawTerm → RawTerm → Type 0
+MayBe sig (numeral n) t = ⊤
+MayBe sig (quoted q) t = ⊤
+MayBe sig (variable x) t = HasSort sig t (sort x.sort)
+MayBe sig (apply f ts) t = ⊤
+
+-- the only solution, if there is one
+abbrev pub IsOnlySolution : Signature → RawTerm → RawTerm → Substitution → Option Substitution → Type 0
+IsOnlySolution sig p t s0 None = (s : Substitution) → IsSolution sig p t s0 s → ⊥
+IsOnlySolution sig p t s0 (Some r) = IsSolution sig p t s0 r × ((s : Substitution) → IsSolution sig p t s0 s → SameSolution sig s r)
