@@ -1,6 +1,7 @@
 -- The block of a command.
 use Rattle.std.specs.Prelude.{◌++◌, ℕ, List, [], ◌∷◌, codes}
 use Rattle.std.specs.Fmt.{decimal}
+use Rattle.mw_logic.specs.Ends.{Reason, by_rules, by_rewrites, by_depth, by_nat, by_condition, by_nest}
 use Rattle.mw_logic.specs.Term.{RawTerm}
 use Rattle.mw_logic.specs.Signature.{Signature}
 use Rattle.mw_print.specs.Printing.{mixfix_text, sort_name}
@@ -8,13 +9,16 @@ use Rattle.mw_print.specs.Printing.{mixfix_text, sort_name}
 -- how a reduction ended, in a word
 pub data Word : Type 0 where
   reduced : Word
-  limit_rewrites : Word
-  limit_depth : Word
+  limit : Reason → Word
 
 abbrev pub word_text : Word → List ℕ
 word_text reduced = codes "reduced"
-word_text limit_rewrites = codes "limit rewrites"
-word_text limit_depth = codes "limit depth"
+word_text (limit by_rules) = codes "limit rules"
+word_text (limit by_rewrites) = codes "limit rewrites"
+word_text (limit by_depth) = codes "limit depth"
+word_text (limit by_nat) = codes "limit nat"
+word_text (limit by_condition) = codes "limit condition"
+word_text (limit by_nest) = codes "limit nest"
 
 abbrev pub line : List ℕ → List ℕ
 line text = text ++ 10 ∷ []

@@ -1,9 +1,9 @@
--- The word for each way in which a reduction ends.
+-- The status of a block as the texts have it.
+use Rattle.mw_proof.specs.Reasons.{reason_of}
 use Rattle.mw_block.specs.declared.blocks.Status.{Status}
-use Rattle.mw_block.specs.declared.blocks.Status.TheVariants.{Reduced, Rewrites, Depth}
-use Rattle.mw_block.specs.Blocks.{Word, reduced, limit_rewrites, limit_depth}
+use Rattle.mw_block.specs.declared.blocks.Status.TheVariants.{Reduced, Limit}
+use Rattle.mw_block.specs.Blocks.{Word, reduced, limit}
 
 abbrev pub word_of : Status → Word
 word_of Reduced = reduced
-word_of Rewrites = limit_rewrites
-word_of Depth = limit_depth
+word_of (Limit reason) = limit (reason_of reason)

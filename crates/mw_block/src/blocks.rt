@@ -5,6 +5,7 @@ ghost use Rattle.mw_block.specs.Seen.{word_of};
 
 use crate::printing::{print, print_number};
 use mw_print::print_sort;
+use mw_proof::Reason;
 use mw_term::{Name, Signature, SortId, Term};
 use std::alloc::{AllocError, Global};
 
@@ -13,10 +14,8 @@ use std::alloc::{AllocError, Global};
 pub enum Status {
     /// At a normal term.
     Reduced,
-    /// At the most rewrites that are allowed.
-    Rewrites,
-    /// Before a term that is too deep.
-    Depth,
+    /// At a limit.
+    Limit(Reason),
 }
 
 /// The command by its word, with its module and its term.
@@ -69,8 +68,12 @@ fn word(status: Status) -> &'static str
 {
     match status {
         Status::Reduced => "reduced",
-        Status::Rewrites => "limit rewrites",
-        Status::Depth => "limit depth",
+        Status::Limit(Reason::Rules) => "limit rules",
+        Status::Limit(Reason::Rewrites) => "limit rewrites",
+        Status::Limit(Reason::Depth) => "limit depth",
+        Status::Limit(Reason::Nat) => "limit nat",
+        Status::Limit(Reason::Condition) => "limit condition",
+        Status::Limit(Reason::Nest) => "limit nest",
     }
 }
 

@@ -12,10 +12,10 @@ ghost use Rattle.mw_build.specs.declared.modules.BuildError.TheVariants.{Memory}
 
 use crate::equations::statements;
 use mw_declare::{Declarations, DeclareError, declare};
+use mw_least::Ctx;
 use mw_lex::Token;
 use mw_module::{Fault, Unit};
 use mw_parse::{ParseError, Reader, parse};
-use mw_reduce::Theory;
 use mw_term::{Name, Raw, Seq, VarId};
 use std::alloc::{AllocError, Global};
 use std::marker::Model;
@@ -24,7 +24,7 @@ use std::marker::Model;
 #[derive(Drop)]
 pub struct Module {
     name: Name,
-    theory: Theory,
+    context: Ctx,
     variables: Seq<VarId>,
     reader: Reader,
 }
@@ -38,11 +38,11 @@ impl Model for Module {
 
     ghost coded = { Prim.hlevel (codes, coded_term, coded_variable) };
 
-    ghost view = { λ m. record { name = m.name; «module» = m.theory; variables = m.variables } };
+    ghost view = { λ m. record { name = m.name; «module» = m.context; variables = m.variables } };
 
     ghost use Rattle.mw_parse.specs.Readers.{IsReaderOf};
 
-    ghost invariant = { λ m. IsReaderOf m.theory.signature m.variables m.reader };
+    ghost invariant = { λ m. IsReaderOf m.context.signature m.variables m.reader };
 }
 
 impl Module {
@@ -52,11 +52,11 @@ impl Module {
         &self.name
     }
 
-    /// Its signature and its equations, as the reducer takes them.
-    pub fn theory(&self) -> &Theory
+    /// Its signature and its statements, as the engine takes them.
+    pub fn context(&self) -> &Ctx
         ensures { result.now ≡ self.now.module }
     {
-        &self.theory
+        &self.context
     }
 
     /// The one term that the tokens spell, in which the module's variables may stand. It is a term of the signature.
@@ -65,7 +65,7 @@ impl Module {
         ensures raw { IfOk result (λ t. IsRawTerm self.now.module.signature (raw_term t)) }
         ensures cause { IfErr result (HasReadingCause self.now.module.signature self.now.variables None (texts (seen_all tokens.now))) }
     {
-        self.theory.shows();
+        self.context.shows();
         parse(alloc, &self.reader, tokens, None)
     }
 }
@@ -108,7 +108,7 @@ pub fn build(alloc: Global, unit: &Unit, name: Name) -> Result<Module, BuildErro
     };
     Ok(Module {
         name,
-        theory: Theory::new(alloc, signature, statements)?,
+        context: Ctx::new(alloc, signature, statements)?,
         variables,
         reader,
     })

@@ -6,7 +6,7 @@ use Rattle.mw_logic.specs.Sorts.{IsLeastSort}
 use Rattle.mw_logic.specs.Module.{Module}
 use Rattle.mw_logic.specs.Proof.{Proof, rules, steps, count}
 use Rattle.mw_logic.specs.Judgements.{Proves, IsNormal}
-use Rattle.mw_logic.specs.Ends.{limits_of, Stops, by_rewrites, by_depth}
+use Rattle.mw_logic.specs.Ends.{limits_of, Stops}
 use Rattle.mw_text.specs.Mixfix.{IsSpelled, Reads}
 use Rattle.mw_text.specs.Readings.{NoneHas, TwoHave, IsShort}
 use Rattle.mw_module.specs.Refusals.{Cause, term_too_long, no_parse, ambiguous, open_term, no_module, unknown_module}
@@ -16,14 +16,14 @@ use Rattle.mw_command.specs.declared.commands.Word.{Word as CommandWord}
 use Rattle.mw_command.specs.declared.commands.Word.TheVariants.{Reduce, Parse}
 use Rattle.mw_build.specs.Equations.{FitsIn, Oversized}
 use Rattle.mw_build.specs.Modules.{Accepted}
-use Rattle.mw_block.specs.Blocks.{Word, reduced, limit_rewrites, limit_depth, block, parsed_block}
+use Rattle.mw_block.specs.Blocks.{Word, reduced, limit, block, parsed_block}
 
 -- What the status word says of the proof from one term to another. `reduced`: it is by equations alone, has fewer steps than the limit, and
--- its end is normal. `limit rewrites`: it has as many steps. `limit depth`: a next step exists, whose term is too deep.
+-- its end is normal. `limit`: it is by equations alone, and stops there for the reason that is told: it has as many steps as the limit, or a next
+-- step exists whose term is too deep, and so on.
 abbrev pub IsTrueWord : Module → ℕ → RawTerm → Proof → RawTerm → Word → Type 0
 IsTrueWord M most from p to reduced = (rules p ≡ 0) × (steps p < most) × IsNormal M 63 to
-IsTrueWord M most from p to limit_rewrites = (rules p ≡ 0) × Stops M 63 (limits_of most) from p to by_rewrites
-IsTrueWord M most from p to limit_depth = (rules p ≡ 0) × Stops M 63 (limits_of most) from p to by_depth
+IsTrueWord M most from p to (limit reason) = (rules p ≡ 0) × Stops M 63 (limits_of most) from p to reason
 
 -- The term is the one that a command's words spell. It has no variable, and fits in.
 pub record IsTerm (a : Accepted) (words : List (List ℕ)) (t : RawTerm) : Type 0 where

@@ -4,14 +4,14 @@ use Rattle.std.specs.Global.{Vec}
 use Rattle.mw_build.specs.declared.modules.Module.{Module}
 use Rattle.mw_build.specs.Modules.{Accepted}
 use Rattle.mw_reduce.specs.declared.progress.Outcome.{Outcome}
-use Rattle.mw_reduce.specs.declared.progress.Outcome.TheVariants.{Done, Rewrites, Depth}
-use Rattle.mw_block.specs.Blocks.{Word, reduced, limit_rewrites, limit_depth}
+use Rattle.mw_reduce.specs.declared.progress.Outcome.TheVariants.{Done, Stopped}
+use Rattle.mw_proof.specs.Reasons.{reason_of}
+use Rattle.mw_block.specs.Blocks.{Word, reduced, limit}
 
 -- the word for each way in which a reduction ends
 abbrev pub word_of : Outcome → Word
 word_of Done = reduced
-word_of Rewrites = limit_rewrites
-word_of Depth = limit_depth
+word_of (Stopped reason) = limit (reason_of reason)
 
 -- the modules of a table, in order
 abbrev pub modules_in : List (Vec ℕ × Module) → List Accepted

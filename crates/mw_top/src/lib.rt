@@ -14,7 +14,6 @@ ghost use Rattle.mw_top.specs.Outputs.{IsOutput, AgreeInRefusal, IsBegun, IsCut,
 mod reduction;
 mod session;
 mod streams;
-mod terms;
 #[cfg(test)]
 mod tests;
 mod units;

@@ -4,8 +4,6 @@ ghost use Rattle.mw_logic.specs.Proof.{count};
 ghost use Rattle.mw_block.specs.Blocks.{block as block_of};
 ghost use Rattle.mw_lex.specs.Lexing.{seen_all};
 ghost use Rattle.mw_logic.specs.Term.{is_ground, are_ground};
-ghost use Rattle.mw_logic.specs.Signature.{IsRawTerm};
-ghost use Rattle.mw_logic.specs.NormalForm.{height};
 ghost use Rattle.mw_term.specs.Raws.{raw_term, raw_terms};
 ghost use Rattle.mw_text.specs.Mixfix.{Reads};
 ghost use Rattle.mw_module.specs.Refusals.{cause_of};
@@ -13,20 +11,19 @@ ghost use Rattle.mw_declare.specs.Meaning.{texts};
 ghost use Rattle.mw_block.specs.Seen.{word_of as word_of_status};
 ghost use Rattle.mw_top.specs.Commands.{IsAnswer, IsReduced, IsParsed, TermFault, top_sort, sort_of_top};
 ghost use Rattle.mw_top.specs.Seen.{word_of};
+ghost use Rattle.mw_canon.specs.Canonical.{IsAdmittedTerm};
 
-use crate::terms::free_term;
 use mw_block::{Reached, Status, parsed, reduction};
 use mw_build::Module;
+use mw_canon::{CanonError, canon};
 use mw_command::Word;
 use mw_lex::Token;
 use mw_module::FaultKind;
 use mw_parse::ParseError;
-use mw_reduce::{Outcome, Proved, reduce};
-use mw_term::{OpId, Raw, Shape, Signature, SortId, Term, depth};
+use mw_proof::Proved;
+use mw_reduce::{Budget, Outcome, reduce};
+use mw_term::{OpId, Raw, Shape, Signature, SortId, Term};
 use std::alloc::{AllocError, Global};
-
-/// The most levels of a term.
-const DEEPEST: u32 = 1000;
 
 /// Whether no variable stands in a term.
 #[cycle(ground)]
@@ -61,10 +58,10 @@ pub fn command_term(
     tokens: &[Token],
 ) -> Result<Result<Term, FaultKind>, AllocError>
     ensures read { IfOk result (λ r. MatchResult r
-        (λ t. Reads accepted.now.module.signature accepted.now.variables None (texts (seen_all tokens.now)) t × IsTrue (is_ground t) × IsRawTerm accepted.now.module.signature t × (height t ≤ 1000))
+        (λ t. Reads accepted.now.module.signature accepted.now.variables None (texts (seen_all tokens.now)) t × IsAdmittedTerm accepted.now.module.signature t)
         (λ kind. TermFault accepted.now (texts (seen_all tokens.now)) (cause_of kind))) }
 {
-    accepted.theory().shows();
+    accepted.context().shows();
     let raw = match accepted.term(alloc, tokens) {
         Ok(raw) => raw,
         Err(ParseError::TooLong) => return Ok(Err(FaultKind::TermTooLong)),
@@ -75,11 +72,12 @@ pub fn command_term(
     if !has_no_variable(&raw) {
         return Ok(Err(FaultKind::OpenTerm));
     }
-    let term = free_term(alloc, &raw)?;
-    if depth(&term) > DEEPEST {
-        return Ok(Err(FaultKind::TooDeep));
+    match canon(alloc, accepted.context().signature(), &raw) {
+        Ok(term) => Ok(Ok(term)),
+        Err(CanonError::Deep) => Ok(Err(FaultKind::TooDeep)),
+        Err(CanonError::Nat) => Ok(Err(FaultKind::NumberTooLarge)),
+        Err(CanonError::Memory) => Err(AllocError),
     }
-    Ok(Ok(term))
 }
 
 /// The result sort of an operator, or 0.
@@ -110,8 +108,7 @@ fn status_of(outcome: Outcome) -> Status
 {
     match outcome {
         Outcome::Done => Status::Reduced,
-        Outcome::Rewrites => Status::Rewrites,
-        Outcome::Depth => Status::Depth,
+        Outcome::Stopped(reason) => Status::Limit(reason),
     }
 }
 
@@ -124,7 +121,7 @@ fn block(
 ) -> Result<Vec<u8>, AllocError>
     ensures { IfOk result (λ text. text.items ≡ block_of accepted.now.module.signature accepted.now.name proved.now.from (min (count proved.now.proof) (2 ^ 64 - 1)) (sort_of_top accepted.now.module.signature proved.now.to) proved.now.to (word_of outcome)) }
 {
-    let signature = accepted.theory().signature();
+    let signature = accepted.context().signature();
     let reached = Reached {
         count: proved.count(),
         sort: sort_of(signature, proved.to()),
@@ -141,27 +138,29 @@ fn reduced_term(
     term: Term,
     most: u64,
 ) -> Result<Vec<u8>, AllocError>
-    requires ground { IsTrue (is_ground term) }
-    requires raw { IsRawTerm accepted.now.module.signature term }
-    requires admitted { height term ≤ 1000 }
+    requires { IsAdmittedTerm accepted.now.module.signature term }
     ensures { IfOk result (λ text. IsReduced accepted.now most term text.items) }
 {
-    let theory = accepted.theory();
-    theory.shows();
-    let (proved, outcome) = reduce(alloc, theory, term, most)?;
+    let context = accepted.context();
+    context.shows();
+    let budget = Budget {
+        steps: most,
+        side: most,
+        nest: 63,
+    };
+    let (proved, outcome) = reduce(alloc, context, term, budget)?;
     proved.shows();
     block(alloc, accepted, &proved, outcome)
 }
 
 /// The block that tells a term with its sort.
 fn parsed_term(alloc: Global, accepted: &Module, term: &Term) -> Result<Vec<u8>, AllocError>
-    requires ground { IsTrue (is_ground term.now) }
-    requires raw { IsRawTerm accepted.now.module.signature term.now }
+    requires { IsAdmittedTerm accepted.now.module.signature term.now }
     ensures { IfOk result (λ text. IsParsed accepted.now term.now text.items) }
 {
-    let theory = accepted.theory();
-    theory.shows();
-    let signature = theory.signature();
+    let context = accepted.context();
+    context.shows();
+    let signature = context.signature();
     let sort = sort_of(signature, term);
     parsed(alloc, signature, accepted.name(), term, sort)
 }
@@ -174,12 +173,10 @@ pub fn answer_term(
     term: Term,
     most: u64,
 ) -> Result<Vec<u8>, AllocError>
-    requires ground { IsTrue (is_ground term) }
-    requires raw { IsRawTerm accepted.now.module.signature term }
-    requires admitted { height term ≤ 1000 }
+    requires { IsAdmittedTerm accepted.now.module.signature term }
     ensures { (words : List (List ℕ)) → Reads accepted.now.module.signature accepted.now.variables None words term → IfOk result (λ text. IsAnswer accepted.now most words word text.items) }
 {
-    accepted.theory().shows();
+    accepted.context().shows();
     match word {
         Word::Reduce => reduced_term(alloc, accepted, term, most),
         Word::Parse => parsed_term(alloc, accepted, &term),

@@ -13,15 +13,15 @@ use Rattle.mw_build.proofs.modules.Module.term.Goals as goal
 pub returns-clause-read : goal.returns-clause-read
 returns-clause-read c =
     subst (λ (a : Accepted). IfOk c.parse.result (λ (t : Raw). Reads a.module.signature a.variables None (texts (seen_all c.args.tokens.now)) (raw_term t))) c.self.view_is
-    (c.parse.ensures.read c.self.inside.theory.signature c.self.inside.variables c.self.invariant)
+    (c.parse.ensures.read c.self.inside.context.signature c.self.inside.variables c.self.invariant)
 
 pub returns-clause-cause : goal.returns-clause-cause
 returns-clause-cause c =
     subst (λ (a : Accepted). IfErr c.parse.result (HasCause a.module.signature a.variables None (texts (seen_all c.args.tokens.now)))) c.self.view_is
-    (c.parse.ensures.cause c.self.inside.theory.signature c.self.inside.variables c.self.invariant)
+    (c.parse.ensures.cause c.self.inside.context.signature c.self.inside.variables c.self.invariant)
 
 pub returns-clause-raw : goal.returns-clause-raw
 returns-clause-raw c =
     subst (λ (a : Accepted). IfOk c.parse.result (λ (t : Raw). IsRawTerm a.module.signature (raw_term t))) c.self.view_is
-    (raw_read c.self.inside.theory.signature c.self.inside.variables (texts (seen_all c.args.tokens.now)) c.shows.ensures.signature c.parse.result
-    (c.parse.ensures.read c.self.inside.theory.signature c.self.inside.variables c.self.invariant))
+    (raw_read c.self.inside.context.signature c.self.inside.variables (texts (seen_all c.args.tokens.now)) c.shows.ensures.signature c.parse.result
+    (c.parse.ensures.read c.self.inside.context.signature c.self.inside.variables c.self.invariant))
