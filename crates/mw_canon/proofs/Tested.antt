@@ -1,13 +1,13 @@
 -- The tests' signature and terms meet what the calls require.
 use Rattle.std.specs.Prelude.{◌≡◌, [], ◌∷◌, true, false, refl}
 use Rattle.std.proofs.Common.{arith, subst, sym}
-use Rattle.mw_logic.specs.Term.{RawTerm, RawTerms, variable, apply, nil, cons, is_ground}
-use Rattle.mw_logic.specs.Signature.{Signature, Operator, IsRawTerm, an_operator, a_variable, next, end, HasKind, of_operator, of_variable, same, IsAssociative}
+use Rattle.mw_logic.specs.Term.{RawTerm, RawTerms, apply, nil, cons}
+use Rattle.mw_logic.specs.Signature.{Signature, IsRawTerm, an_operator, a_variable, next, end, of_operator, of_variable, same, IsAssociative}
 use Rattle.mw_logic.specs.Accepted.{IsAccepted}
 use Rattle.mw_logic.specs.Free.{IsFreeSignature}
 use Rattle.mw_logic.specs.Parts.{nested}
 use Rattle.mw_logic.specs.Substitution.{Substitution, instance}
-use Rattle.mw_logic.specs.NormalForm.{height, applied_in}
+use Rattle.mw_logic.specs.NormalForm.{applied_in}
 use Rattle.mw_logic.proofs.AcceptedTest.{is_accepted-sound}
 use Rattle.mw_logic.proofs.FreeSignature.{is_free-sound}
 use Rattle.mw_canon.specs.Canonical.{IsAdmittedTerm, HasAdmittedValues, meant}

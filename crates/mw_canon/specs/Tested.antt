@@ -1,5 +1,5 @@
 -- What the tests take: a small signature, terms of it, and a substitution.
-use Rattle.std.specs.Prelude.{ℕ, List, [], ◌∷◌, Bool, true, false, Option, Some, None, cond, codes}
+use Rattle.std.specs.Prelude.{ℕ, List, [], ◌∷◌, Bool, false, Some, None, cond, codes}
 use Rattle.mw_logic.specs.Term.{Variable, RawTerm, variable, constant, unary, binary}
 use Rattle.mw_logic.specs.Signature.{Signature, Operator, constant_of, IsRawTerm, HasKind}
 use Rattle.mw_logic.specs.Substitution.{Substitution}

@@ -1,6 +1,5 @@
-use Rattle.std.proofs.Common.{◌≡◌, ◌∙◌, ap, refl}
+use Rattle.std.proofs.Common.{◌∙◌, ap, refl}
 use Rattle.mw_logic.specs.Terms.{terms_of}
-use Rattle.mw_logic.specs.Term.{cons, nil}
 use Rattle.mw_canon.proofs.Tested.{accepted_at, free_at, pair_at}
 use Rattle.mw_canon.proofs.tests.joined.Goals as goal
 

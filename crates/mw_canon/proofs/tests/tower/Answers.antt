@@ -1,5 +1,5 @@
-use Rattle.std.proofs.Common.{◌≡◌, ◌∙◌, ap, refl}
-use Rattle.mw_logic.specs.Term.{apply, nil, cons}
+use Rattle.std.proofs.Common.{◌∙◌, ap}
+use Rattle.mw_logic.specs.Term.{apply}
 use Rattle.mw_term.specs.Raws.{raw_term, raw_terms}
 use Rattle.mw_canon.proofs.Tested.{zero_made, unary_made}
 use Rattle.mw_canon.proofs.tests.tower.Goals as goal
