@@ -1,7 +1,7 @@
 -- What the tests take: a small signature, terms of it, and a substitution.
-use Rattle.std.specs.Prelude.{ℕ, zero, suc, List, [], ◌∷◌, Bool, true, false, Option, Some, None, cond, codes}
-use Rattle.mw_logic.specs.Term.{Variable, RawTerm, variable, apply, nil, cons, constant, unary, binary}
-use Rattle.mw_logic.specs.Signature.{Signature, Operator, Identity, constant_of}
+use Rattle.std.specs.Prelude.{ℕ, List, [], ◌∷◌, Bool, false, Some, None, cond, codes}
+use Rattle.mw_logic.specs.Term.{Variable, RawTerm, variable, constant, unary, binary}
+use Rattle.mw_logic.specs.Signature.{Signature, Operator, constant_of, IsRawTerm, HasKind}
 use Rattle.mw_logic.specs.Substitution.{Substitution}
 
 -- an operator of kind 1, associative with operator 1 as its identity where that is asked
@@ -31,10 +31,16 @@ tested assoc = record {
   qid = false;
 }
 
--- c under so many s
-abbrev pub tower : ℕ → RawTerm
-tower zero = constant 1
-tower (suc n) = unary 2 (tower n)
+-- c, and s(c)
+abbrev pub tested_zero : RawTerm
+tested_zero = constant 1
+
+abbrev pub tested_one : RawTerm
+tested_one = unary 2 tested_zero
+
+-- a raw term of kind 1
+abbrev pub IsTested : RawTerm → Type 0
+IsTested t = IsRawTerm (tested false) t × HasKind (tested false) t 1
 
 abbrev pub named : List ℕ → Variable
 named name = record { name = name; sort = 1 }
@@ -45,4 +51,4 @@ pattern = binary 3 (variable (named (codes "X"))) (binary 3 (variable (named (co
 
 -- X has the value s(c)
 abbrev pub binding : Substitution
-binding = (named (codes "X"), tower 1) ∷ []
+binding = (named (codes "X"), tested_one) ∷ []

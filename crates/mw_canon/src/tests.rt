@@ -2,7 +2,7 @@ ghost use Rattle.std.specs.Prelude.{◌≡◌, IfOk, [], ◌∷◌};
 ghost use Rattle.mw_logic.specs.Term.{variable as as_variable, apply as applied};
 ghost use Rattle.mw_logic.specs.Terms.{terms_of};
 ghost use Rattle.mw_term.specs.Raws.{raw_term, raw_terms};
-ghost use Rattle.mw_canon.specs.Tested.{tested, tested_operator, tower as tower_of, named, pattern as pattern_is, binding as binding_is};
+ghost use Rattle.mw_canon.specs.Tested.{tested, tested_operator, tested_zero, tested_one, IsTested, named, pattern as pattern_is, binding as binding_is};
 
 use super::*;
 use mw_term::{
@@ -59,7 +59,7 @@ fn raw(operator: OpId, args: Vec<Raw>) -> Raw
 
 /// c under so many s.
 fn tower(alloc: Global, levels: u32) -> Result<Raw, AllocError>
-    ensures { IfOk result (λ r. raw_term r ≡ tower_of levels) }
+    ensures { IfOk result (λ r. IsTested (raw_term r)) }
 {
     let mut term = raw(1, Vec::new(alloc));
     for _ in 0..levels {
@@ -87,14 +87,14 @@ fn pattern(alloc: Global) -> Result<Raw, AllocError>
 }
 
 fn constant(alloc: Global) -> Result<Term, AllocError>
-    ensures { IfOk result (λ t. t ≡ tower_of 0) }
+    ensures { IfOk result (λ t. t ≡ tested_zero) }
 {
     Term::apply(alloc, 1, Vec::new(alloc))
 }
 
 /// s(c).
 fn one(alloc: Global) -> Result<Term, AllocError>
-    ensures { IfOk result (λ t. t ≡ tower_of 1) }
+    ensures { IfOk result (λ t. t ≡ tested_one) }
 {
     let zero = constant(alloc)?;
     Term::apply(alloc, 2, vec![in alloc; zero]?)
@@ -122,51 +122,80 @@ fn unbound(alloc: Global, text: &[u8]) -> Result<Term, AllocError>
     Term::new(alloc, Shape::Var(name(alloc, text)?))
 }
 
+fn read(alloc: Global) -> Result<Term, CanonError> {
+    let plain = signature(alloc, false)?;
+    canon(alloc, &plain, &pattern(alloc)?)
+}
+
 #[test]
 fn terms_become_canonical(rt: HostRuntime) -> Result<(), Fail> {
     let alloc = rt.alloc();
-    let plain = signature(alloc, false)?;
-    let made = canon(alloc, &plain, &pattern(alloc)?);
     let inner = pair(
         alloc,
         unbound(alloc, b"Y".as_slice())?,
         unbound(alloc, b"X".as_slice())?,
     )?;
     let whole = pair(alloc, unbound(alloc, b"X".as_slice())?, inner)?;
-    assert!(rt; matches!(&made, Ok(term) if same(term, &whole)));
-    let deepest = canon(alloc, &plain, &tower(alloc, 999)?);
-    assert!(rt; matches!(&deepest, Ok(term) if depth(term) == 1000));
-    let deeper = canon(alloc, &plain, &tower(alloc, 1000)?);
-    assert!(rt; matches!(&deeper, Err(CanonError::Deep)));
+    assert!(rt; matches!(&read(alloc), Ok(term) if same(term, &whole)));
     Ok(())
+}
+
+fn raised(alloc: Global, levels: u32) -> Result<u32, CanonError> {
+    let plain = signature(alloc, false)?;
+    let term = canon(alloc, &plain, &tower(alloc, levels)?)?;
+    Ok(depth(&term))
+}
+
+#[test]
+fn terms_of_more_levels_are_refused(rt: HostRuntime) -> Result<(), Fail> {
+    let alloc = rt.alloc();
+    assert!(rt; matches!(raised(alloc, 999), Ok(1000)));
+    assert!(rt; matches!(raised(alloc, 1000), Err(CanonError::Deep)));
+    Ok(())
+}
+
+fn bound(alloc: Global) -> Result<Term, CanonError> {
+    let plain = signature(alloc, false)?;
+    instance(alloc, &plain, &binding(alloc)?, &pattern(alloc)?)
 }
 
 #[test]
 fn variables_are_replaced(rt: HostRuntime) -> Result<(), Fail> {
     let alloc = rt.alloc();
-    let plain = signature(alloc, false)?;
-    let made = instance(alloc, &plain, &binding(alloc)?, &pattern(alloc)?);
     let inner = pair(alloc, unbound(alloc, b"Y".as_slice())?, one(alloc)?)?;
     let whole = pair(alloc, one(alloc)?, inner)?;
-    assert!(rt; matches!(&made, Ok(term) if same(term, &whole)));
+    assert!(rt; matches!(&bound(alloc), Ok(term) if same(term, &whole)));
     Ok(())
 }
 
-#[test]
-fn parts_are_listed_and_joined(rt: HostRuntime) -> Result<(), Fail> {
-    let alloc = rt.alloc();
+/// How many parts f has where it is associative.
+fn listed(alloc: Global, term: &Term) -> Result<usize, AllocError> {
     let list = signature(alloc, true)?;
+    Ok(parts(&list, 3, term).len())
+}
+
+#[test]
+fn parts_are_listed(rt: HostRuntime) -> Result<(), Fail> {
+    let alloc = rt.alloc();
     let whole = pair(alloc, one(alloc)?, one(alloc)?)?;
-    assert_eq!(rt; parts(&list, 3, &whole).len(), 2);
-    assert_eq!(rt; parts(&list, 3, &one(alloc)?).len(), 1);
-    assert_eq!(rt; parts(&list, 3, &constant(alloc)?).len(), 0);
+    assert_eq!(rt; listed(alloc, &whole)?, 2);
+    assert_eq!(rt; listed(alloc, &one(alloc)?)?, 1);
+    assert_eq!(rt; listed(alloc, &constant(alloc)?)?, 0);
+    Ok(())
+}
+
+/// f(c, s(c)).
+fn joined(alloc: Global) -> Result<Term, AllocError> {
     let plain = signature(alloc, false)?;
-    let made = rebuild(
-        alloc,
-        &plain,
-        3,
-        vec![in alloc; constant(alloc)?, one(alloc)?]?,
-    )?;
-    assert!(rt; same(&made, &pair(alloc, constant(alloc)?, one(alloc)?)?));
+    let zero = constant(alloc)?;
+    let one = one(alloc)?;
+    rebuild(alloc, &plain, 3, vec![in alloc; zero, one]?)
+}
+
+#[test]
+fn terms_are_joined(rt: HostRuntime) -> Result<(), Fail> {
+    let alloc = rt.alloc();
+    let whole = pair(alloc, constant(alloc)?, one(alloc)?)?;
+    assert!(rt; same(&joined(alloc)?, &whole));
     Ok(())
 }

@@ -74,31 +74,33 @@ mod tests {
     }
 
     /// Terms in ascending order.
-    fn ascending(alloc: Global) -> Result<Vec<Term>, AllocError> {
-        let mut terms = Vec::new(alloc);
-        terms.push(Term::new(alloc, Shape::Nat(9))?)?;
-        terms.push(Term::new(alloc, Shape::Nat(10))?)?;
-        terms.push(Term::new(alloc, Shape::Qid(word(alloc, b"a".as_slice())?))?)?;
-        terms.push(Term::new(alloc, Shape::Qid(word(alloc, b"aa".as_slice())?))?)?;
-        terms.push(Term::new(alloc, Shape::Qid(word(alloc, b"b".as_slice())?))?)?;
-        terms.push(constant(alloc, 2)?)?;
-        terms.push(constant(alloc, 3)?)?;
-        terms.push(pair(alloc, 1, 5)?)?;
-        terms.push(pair(alloc, 2, 1)?)?;
-        terms.push(pair(alloc, 2, 4)?)?;
-        terms.push(constant(alloc, 4)?)?;
-        terms.push(variable(alloc, b"M".as_slice(), 2)?)?;
-        terms.push(variable(alloc, b"N".as_slice(), 1)?)?;
-        terms.push(variable(alloc, b"N".as_slice(), 2)?)?;
-        Ok(terms)
+    fn ascending(alloc: Global, i: u32) -> Result<Term, AllocError> {
+        match i {
+            0 => Term::new(alloc, Shape::Nat(9)),
+            1 => Term::new(alloc, Shape::Nat(10)),
+            2 => Term::new(alloc, Shape::Qid(word(alloc, b"a".as_slice())?)),
+            3 => Term::new(alloc, Shape::Qid(word(alloc, b"aa".as_slice())?)),
+            4 => Term::new(alloc, Shape::Qid(word(alloc, b"b".as_slice())?)),
+            5 => constant(alloc, 2),
+            6 => constant(alloc, 3),
+            7 => pair(alloc, 1, 5),
+            8 => pair(alloc, 2, 1),
+            9 => pair(alloc, 2, 4),
+            10 => constant(alloc, 4),
+            11 => variable(alloc, b"M".as_slice(), 2),
+            12 => variable(alloc, b"N".as_slice(), 1),
+            _ => variable(alloc, b"N".as_slice(), 2),
+        }
     }
 
     #[test]
     fn terms_are_compared(rt: HostRuntime) -> Result<(), Fail> {
-        let terms = ascending(rt.alloc())?;
-        for i in 0..terms.len() {
-            for j in 0..terms.len() {
-                assert_eq!(rt; compare(&terms[i], &terms[j]), i.cmp(&j));
+        let alloc = rt.alloc();
+        for i in 0..14u32 {
+            for j in 0..14u32 {
+                let first = ascending(alloc, i)?;
+                let second = ascending(alloc, j)?;
+                assert_eq!(rt; compare(&first, &second), i.cmp(&j));
             }
         }
         Ok(())
