@@ -1,13 +1,13 @@
 -- The small signature of the tests is simple.
-use Rattle.std.specs.Prelude.{◌≡◌, ℕ, zero, suc, List, [], ◌∷◌, Option, None, Some, slice_get, IsTrue, Result, IfOk, refl}
+use Rattle.std.specs.Prelude.{◌≡◌, ℕ, zero, suc, List, [], ◌∷◌, Option, None, Some, Result, IfOk, refl}
 use Rattle.std.proofs.Common.{sym, subst, ap, ◌∙◌, arith}
 use Rattle.std.proofs.lemmas.Result.{IfOk-weaker}
-use Rattle.mw_logic.specs.Term.{Variable, RawTerm, variable, apply, nil, cons, is_ground}
-use Rattle.mw_logic.specs.Signature.{Signature, Operator, at_number, sort, same, of_variable, of_operator, a_variable, an_operator, end, next, IsOperator, IsSortNamed, HasKind, IsRawTerm}
+use Rattle.mw_logic.specs.Term.{Variable, RawTerm, variable, apply, nil, cons}
+use Rattle.mw_logic.specs.Signature.{Signature, Operator, at_number, same, of_variable, of_operator, a_variable, an_operator, end, next, IsOperator, IsSortNamed}
 use Rattle.mw_logic.specs.Free.{IsFreeSignature}
 use Rattle.mw_logic.specs.Terms.{terms_of}
-use Rattle.mw_logic.specs.Module.{Module, Statement}
-use Rattle.mw_logic.specs.Substitution.{Substitution, IsSubstitution}
+use Rattle.mw_logic.specs.Module.{Statement}
+use Rattle.mw_logic.specs.Substitution.{IsSubstitution}
 use Rattle.mw_machine.specs.Simple.{IsSimpleOperator, IsSimpleSignature, IsSimpleModule}
 use Rattle.mw_machine.proofs.Discrete.{free, has_sort}
 use Rattle.mw_match.specs.Letters.{letter, letters, IsOf, IsGroundOf}

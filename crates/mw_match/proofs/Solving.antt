@@ -13,7 +13,7 @@ use Rattle.mw_match.proofs.Nested.{nested_free, nested_values_free}
 use Rattle.mw_logic.specs.Substitution.{Substitution, same_variable, value, is_bound, IsSubstitution, IsSolution, SameSolution}
 use Rattle.mw_logic.proofs.FreeSignature.{free_equal}
 use Rattle.mw_logic.proofs.SolutionLaws.{substitution_value, sort_kind}
-use Rattle.mw_machine.specs.Positions.{fill, counted, Begins, IsNumbered}
+use Rattle.mw_machine.specs.Positions.{fill, counted, IsNumbered}
 use Rattle.mw_machine.specs.Simple.{IsSimpleSignature}
 use Rattle.mw_machine.specs.Variables.{placed, bound_values}
 use Rattle.mw_machine.proofs.Discrete.{free, accepted, well_sorted, lone_kind, has_sort, only_sort}

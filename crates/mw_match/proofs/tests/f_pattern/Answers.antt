@@ -1,4 +1,4 @@
-use Rattle.std.proofs.Common.{◌≡◌, ◌∙◌, ap, sym, subst, refl}
+use Rattle.std.proofs.Common.{◌∙◌, ap, sym, subst, refl}
 use Rattle.mw_logic.specs.Term.{apply}
 use Rattle.mw_term.specs.Raws.{raw_terms}
 use Rattle.mw_match.specs.Letters.{IsOf}

@@ -1,4 +1,3 @@
-use Rattle.std.proofs.Common.{◌≡◌, ◌∙◌, ap, sym, subst, refl}
 use Rattle.mw_match.proofs.Letters.{f_made}
 use Rattle.mw_match.proofs.tests.f_term.Goals as goal
 

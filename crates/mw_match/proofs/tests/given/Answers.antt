@@ -1,4 +1,4 @@
-use Rattle.std.proofs.Common.{◌≡◌, ◌∙◌, sym, subst}
+use Rattle.std.proofs.Common.{◌∙◌, sym, subst}
 use Rattle.mw_logic.specs.Substitution.{IsSubstitution}
 use Rattle.mw_match.specs.Letters.{letters}
 use Rattle.mw_match.proofs.Letters.{substitution_of}
