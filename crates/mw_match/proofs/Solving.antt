@@ -13,13 +13,14 @@ use Rattle.mw_match.proofs.Nested.{nested_free, nested_values_free}
 use Rattle.mw_logic.specs.Substitution.{Substitution, same_variable, value, is_bound, IsSubstitution, IsSolution, SameSolution}
 use Rattle.mw_logic.proofs.FreeSignature.{free_equal}
 use Rattle.mw_logic.proofs.SolutionLaws.{substitution_value, sort_kind}
-use Rattle.mw_machine.specs.Positions.{fill, counted, Begins, IsNumbered}
+use Rattle.mw_machine.specs.Positions.{fill, counted, IsNumbered}
 use Rattle.mw_machine.specs.Simple.{IsSimpleSignature}
 use Rattle.mw_machine.specs.Variables.{placed, bound_values}
 use Rattle.mw_machine.proofs.Discrete.{free, accepted, well_sorted, lone_kind, has_sort, only_sort}
 use Rattle.mw_machine.proofs.Meeting.{same_itself}
 use Rattle.mw_machine.proofs.Placing.{values_of}
 use Rattle.mw_machine.proofs.Starting.{variables, pattern_numbered, solution, solved_from, values_length, values_begin, same_solution, begins_whole}
+use Rattle.mw_match.proofs.Matching.{begins_same}
 use Rattle.mw_match.specs.Matching.{Decides}
 use Rattle.mw_match.specs.Solutions.{MayBe, IsOnlySolution, IsAllSolutions, nested_values, listed}
 use Rattle.mw_match.specs.declared.solutions.Solution.{Solution}
@@ -53,15 +54,8 @@ module _ (sig : Signature) (simple : IsSimpleSignature sig) (p t : RawTerm) (raw
   pub only_solution : (vs : List RawTerm) → MayBe sig p t → Decides true (length xs) (bound_values s0) vs (λ us. fill us (placed xs p) ≡ t) → length vs ≡ length xs → IsOnlySolution sig p t s0 (Some (zip xs vs))
   only_solution vs m d l = (is_solution, is_only)
     where
-      same_length_begins : Begins vs vs
-      same_length_begins = of vs
-        where
-          of : (us : List RawTerm) → Begins us us
-          of [] = tt
-          of (u ∷ us) = (refl, of us)
-
       here : fill vs (placed xs p) ≡ t
-      here = (d.1 vs d.0 (omega (arith, l))).1 same_length_begins
+      here = (d.1 vs d.0 (omega (arith, l))).1 (begins_same vs)
 
       is_solution : IsSolution sig p t s0 (zip xs vs)
       is_solution =

@@ -1,4 +1,4 @@
--- A small signature for tests: constants a and b of one sort and c of another, f on two of the first, and h on one of each.
+-- A small signature for tests: constants a and b of one sort and c of another, and f on two of the first.
 use Rattle.std.specs.Prelude.{ℕ, List, [], ◌∷◌, map, false, None, IsTrue}
 use Rattle.mw_logic.specs.Term.{RawTerm, is_ground}
 use Rattle.mw_logic.specs.Signature.{Signature, Operator, sort, HasKind, IsRawTerm}
@@ -23,7 +23,7 @@ abbrev pub letters : Signature
 letters = record {
   sorts = (65 ∷ []) ∷ (66 ∷ []) ∷ [];
   pairs = [];
-  operators = letter 97 [] 1 ∷ letter 98 [] 1 ∷ letter 99 [] 2 ∷ letter 102 (1 ∷ 1 ∷ []) 1 ∷ letter 104 (1 ∷ 2 ∷ []) 2 ∷ [];
+  operators = letter 97 [] 1 ∷ letter 98 [] 1 ∷ letter 99 [] 2 ∷ letter 102 (1 ∷ 1 ∷ []) 1 ∷ [];
   nat = false;
   qid = false;
 }

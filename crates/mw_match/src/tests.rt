@@ -10,8 +10,8 @@ ghost use Rattle.mw_term.specs.Signatures.{sorted_of};
 use crate::{Solution, Solutions};
 use mw_least::Ctx;
 use mw_term::{
-    Binding, Declaration, Name, Operator, Raw, Raws, Seq, Signature, SortId, Sorted, Subst, Term,
-    VarId, copy, same,
+    Binding, Declaration, Name, Operator, Raw, Raws, Seq, Shape, Signature, SortId, Sorted, Subst,
+    Term, VarId,
 };
 use std::alloc::{AllocError, Global};
 use std::test::Fail;
@@ -51,34 +51,36 @@ fn constant(alloc: Global, name: u8, result_sort: SortId) -> Result<Operator, Al
     made_operator(alloc, name, Vec::new(alloc), Vec::new(alloc), result_sort)
 }
 
-fn binary(
-    alloc: Global,
-    name: u8,
-    first: SortId,
-    second: SortId,
-    result_sort: SortId,
-) -> Result<Operator, AllocError>
-    ensures { IfOk result (λ o. o ≡ letter name (first ∷ second ∷ []) result_sort) }
+fn binary(alloc: Global, name: u8, number: SortId) -> Result<Operator, AllocError>
+    ensures { IfOk result (λ o. o ≡ letter name (number ∷ number ∷ []) number) }
 {
-    let args = vec![in alloc; first, second]?;
-    let sorts = vec![in alloc; Sorted::Sort(first), Sorted::Sort(second)]?;
-    made_operator(alloc, name, args, sorts, result_sort)
+    let args = vec![in alloc; number, number]?;
+    let sorts = vec![in alloc; Sorted::Sort(number), Sorted::Sort(number)]?;
+    made_operator(alloc, name, args, sorts, number)
+}
+
+fn made_operators(alloc: Global) -> Result<Vec<Operator>, AllocError>
+    ensures { IfOk result (λ os. os.items ≡ letters.operators) }
+{
+    let mut operators = Vec::new(alloc);
+    operators.push(constant(alloc, b'a', 1)?)?;
+    operators.push(constant(alloc, b'b', 1)?)?;
+    operators.push(constant(alloc, b'c', 2)?)?;
+    operators.push(binary(alloc, b'f', 1)?)?;
+    Ok(operators)
 }
 
 fn made_signature(alloc: Global) -> Result<Signature, AllocError>
     ensures { IfOk result (λ s. s ≡ letters) }
 {
-    let a = constant(alloc, b'a', 1)?;
-    let b = constant(alloc, b'b', 1)?;
-    let c = constant(alloc, b'c', 2)?;
-    let f = binary(alloc, b'f', 1, 1, 1)?;
-    let h = binary(alloc, b'h', 1, 2, 2)?;
-    let first = Name::of(vec![in alloc; b'A']?);
-    let second = Name::of(vec![in alloc; b'B']?);
+    let mut sorts = Vec::new(alloc);
+    sorts.push(Name::of(vec![in alloc; b'A']?))?;
+    sorts.push(Name::of(vec![in alloc; b'B']?))?;
+    let operators = made_operators(alloc)?;
     Ok(Signature {
-        sorts: Seq::of(vec![in alloc; first, second]?),
+        sorts: Seq::of(sorts),
         pairs: Seq::of(Vec::new(alloc)),
-        operators: Seq::of(vec![in alloc; a, b, c, f, h]?),
+        operators: Seq::of(operators),
         nat: false,
         qid: false,
     })
@@ -98,38 +100,32 @@ fn variable(alloc: Global, name: u8, number: SortId) -> Result<Raw, AllocError>
     Ok(Raw::Var(VarId { name, sort: number }))
 }
 
-fn a_pattern(alloc: Global) -> Raw
-    ensures { IsOf 1 (raw_term result) }
-{
-    Raw::Op(1, Raws::of(Vec::new(alloc)))
-}
-
 fn f_pattern(alloc: Global, first: Raw, second: Raw) -> Result<Raw, AllocError>
     requires first { IsOf 1 (raw_term first) }
     requires second { IsOf 1 (raw_term second) }
     ensures { IfOk result (λ r. IsOf 1 (raw_term r)) }
 {
-    Ok(Raw::Op(4, Raws::of(vec![in alloc; first, second]?)))
+    let args = vec![in alloc; first, second]?;
+    Ok(Raw::Op(4, Raws::of(args)))
 }
 
-fn h_pattern(alloc: Global, first: Raw, second: Raw) -> Result<Raw, AllocError>
-    requires first { IsOf 1 (raw_term first) }
-    requires second { IsOf 2 (raw_term second) }
-    ensures { IfOk result (λ r. IsOf 2 (raw_term r)) }
+/// f(f(X, Y), Z), with these names for X, Y and Z.
+fn pattern_of(alloc: Global, names: &[u8; 3]) -> Result<Raw, AllocError>
+    ensures { IfOk result (λ r. IsOf 1 (raw_term r)) }
 {
-    Ok(Raw::Op(5, Raws::of(vec![in alloc; first, second]?)))
+    let [x, y, z] = *names;
+    let inner = f_pattern(alloc, variable(alloc, x, 1)?, variable(alloc, y, 1)?)?;
+    f_pattern(alloc, inner, variable(alloc, z, 1)?)
 }
 
-fn a_term(alloc: Global) -> Result<Term, AllocError>
+fn a_or_b(alloc: Global, name: u8) -> Result<Term, AllocError>
     ensures { IfOk result (IsGroundOf 1) }
 {
-    Term::apply(alloc, 1, Vec::new(alloc))
-}
-
-fn b_term(alloc: Global) -> Result<Term, AllocError>
-    ensures { IfOk result (IsGroundOf 1) }
-{
-    Term::apply(alloc, 2, Vec::new(alloc))
+    if name == b'a' {
+        Term::apply(alloc, 1, Vec::new(alloc))
+    } else {
+        Term::apply(alloc, 2, Vec::new(alloc))
+    }
 }
 
 fn c_term(alloc: Global) -> Result<Term, AllocError>
@@ -138,24 +134,22 @@ fn c_term(alloc: Global) -> Result<Term, AllocError>
     Term::apply(alloc, 3, Vec::new(alloc))
 }
 
-fn f_term(alloc: Global, first: &Term, second: &Term) -> Result<Term, AllocError>
-    requires first { IsGroundOf 1 first.now }
-    requires second { IsGroundOf 1 second.now }
+fn f_term(alloc: Global, first: Term, second: Term) -> Result<Term, AllocError>
+    requires first { IsGroundOf 1 first }
+    requires second { IsGroundOf 1 second }
     ensures { IfOk result (IsGroundOf 1) }
 {
-    let first = copy(first)?;
-    let second = copy(second)?;
-    Term::apply(alloc, 4, vec![in alloc; first, second]?)
+    let args = vec![in alloc; first, second]?;
+    Term::apply(alloc, 4, args)
 }
 
-fn h_term(alloc: Global, first: &Term, second: &Term) -> Result<Term, AllocError>
-    requires first { IsGroundOf 1 first.now }
-    requires second { IsGroundOf 2 second.now }
-    ensures { IfOk result (IsGroundOf 2) }
+/// f(f(p, q), r), with these constants for p, q and r.
+fn subject_of(alloc: Global, constants: &[u8; 3]) -> Result<Term, AllocError>
+    ensures { IfOk result (IsGroundOf 1) }
 {
-    let first = copy(first)?;
-    let second = copy(second)?;
-    Term::apply(alloc, 5, vec![in alloc; first, second]?)
+    let [p, q, r] = *constants;
+    let inner = f_term(alloc, a_or_b(alloc, p)?, a_or_b(alloc, q)?)?;
+    f_term(alloc, inner, a_or_b(alloc, r)?)
 }
 
 fn nothing(alloc: Global) -> Subst
@@ -166,16 +160,27 @@ fn nothing(alloc: Global) -> Subst
     }
 }
 
-fn given(alloc: Global, name: u8, value: &Term) -> Result<Subst, AllocError>
-    requires { IsGroundOf 1 value.now }
+fn given(alloc: Global, name: u8, value: Term) -> Result<Subst, AllocError>
+    requires { IsGroundOf 1 value }
     ensures { IfOk result (IsSubstitution letters) }
 {
     let name = Name::of(vec![in alloc; name]?);
     let variable = VarId { name, sort: 1 };
-    let value = copy(value)?;
+    let pairs = vec![in alloc; Binding { variable, value }]?;
     Ok(Subst {
-        pairs: Seq::of(vec![in alloc; Binding { variable, value }]?),
+        pairs: Seq::of(pairs),
     })
+}
+
+/// A name with its value, or a dot for none.
+fn start_of(alloc: Global, start: &[u8; 2]) -> Result<Subst, AllocError>
+    ensures { IfOk result (IsSubstitution letters) }
+{
+    let [name, value] = *start;
+    if name == b'.' {
+        return Ok(nothing(alloc));
+    }
+    given(alloc, name, a_or_b(alloc, value)?)
 }
 
 /// The solution, if there is one, where no other comes behind it.
@@ -188,7 +193,8 @@ fn solved(
 ) -> Result<Option<Solution>, Fail>
     requires context { context.now.signature ≡ letters }
     requires pattern { IsRawTerm letters (raw_term pattern.now) }
-    requires subject { IsTrue (is_ground subject.now) × IsRawTerm letters subject.now }
+    requires ground { IsTrue (is_ground subject.now) }
+    requires subject { IsRawTerm letters subject.now }
     requires start { IsSubstitution letters start.now }
 {
     let mut solutions = Solutions::new(alloc, context, pattern, subject, start)?;
@@ -199,80 +205,105 @@ fn solved(
     Ok(first)
 }
 
-/// Whether a solution of the whole has these values, in this order.
-fn has(solution: &Option<Solution>, values: &[(u8, &Term)]) -> bool {
-    let Some(found) = solution else {
-        return false;
-    };
-    let pairs = found.subst.pairs.as_slice();
-    if found.take.is_some() || pairs.len() != values.len() {
-        return false;
+/// Whether the value is the constant of this name.
+fn is_constant(value: &Term, name: u8) -> bool {
+    match value.shape() {
+        Shape::Op(f, _) => *f == if name == b'a' { 1 } else { 2 },
+        _ => false,
     }
-    for i in 0..pairs.len() {
-        let (name, value) = values[i];
-        let binding = &pairs[i];
-        if binding.variable.name.as_slice() != [name].as_slice() || !same(&binding.value, value) {
-            return false;
+}
+
+/// Whether the solution of the whole is the text's: each name with its value, in order.
+fn is_written(solution: &Solution, text: &[u8]) -> bool {
+    let mut rest = text;
+    for binding in solution.subst.pairs.as_slice() {
+        match rest {
+            [name, value, after @ ..] => {
+                let same_name = binding.variable.name.as_slice() == [*name].as_slice();
+                if !same_name || !is_constant(&binding.value, *value) {
+                    return false;
+                }
+                rest = after;
+            }
+            _ => return false,
         }
     }
-    true
+    rest.is_empty() && solution.take.is_none()
+}
+
+/// Whether the solution is the text's, or there is neither.
+fn are_same(found: &Option<Solution>, expected: Option<&[u8]>) -> bool {
+    match (found, expected) {
+        (Some(solution), Some(text)) => is_written(solution, text),
+        (None, None) => true,
+        _ => false,
+    }
+}
+
+/// The names of f(f(X, Y), Z), the constants of f(f(p, q), r), a name with a value that is given (or none, a dot), and
+/// the solution.
+type Row = (
+    &'static [u8; 3],
+    &'static [u8; 3],
+    &'static [u8; 2],
+    Option<&'static [u8]>,
+);
+
+static ROWS: [Row; 9] = [
+    (b"XYZ", b"aba", b"..", Some(b"XaYbZa")),
+    (b"XXY", b"aab", b"..", Some(b"XaYb")),
+    (b"XXY", b"abb", b"..", None),
+    (b"XYX", b"aba", b"..", Some(b"XaYb")),
+    (b"XYX", b"abb", b"..", None),
+    (b"XYZ", b"aba", b"Yb", Some(b"YbXaZa")),
+    (b"XYZ", b"aba", b"Xb", None),
+    (b"XYX", b"aba", b"Xa", Some(b"XaYb")),
+    (b"XXX", b"aaa", b"Wb", Some(b"WbXa")),
+];
+
+/// Whether the row's pattern has the row's solution and no other.
+fn holds(alloc: Global, context: &Ctx, row: Row) -> Result<bool, Fail>
+    requires { context.now.signature ≡ letters }
+{
+    let (names, constants, start, expected) = row;
+    let pattern = pattern_of(alloc, names)?;
+    let subject = subject_of(alloc, constants)?;
+    let start = start_of(alloc, start)?;
+    let found = solved(alloc, context, &pattern, &subject, &start)?;
+    Ok(are_same(&found, expected))
 }
 
 #[test]
 fn patterns_have_one_solution_or_none(rt: HostRuntime) -> Result<(), Fail> {
     let alloc = rt.alloc();
     let context = context(alloc)?;
-    let none = nothing(alloc);
-    let a = a_term(alloc)?;
-    let b = b_term(alloc)?;
-    let two = f_pattern(alloc, variable(alloc, b'X', 1)?, variable(alloc, b'Y', 1)?)?;
-    let twice = f_pattern(alloc, variable(alloc, b'X', 1)?, variable(alloc, b'X', 1)?)?;
-    let ab = f_term(alloc, &a, &b)?;
-    let aa = f_term(alloc, &a, &a)?;
-    // f(X, Y) on f(a, b); f(X, X) on f(a, a) and f(a, b)
-    assert!(rt; has(&solved(alloc, &context, &two, &ab, &none)?, &[(b'X', &a), (b'Y', &b)]));
-    assert!(rt; has(&solved(alloc, &context, &twice, &aa, &none)?, &[(b'X', &a)]));
-    assert!(rt; solved(alloc, &context, &twice, &ab, &none)?.is_none());
-    // a on a and on b; f(X, Y) on a
-    assert!(rt; has(&solved(alloc, &context, &a_pattern(alloc), &a, &none)?, &[]));
-    assert!(rt; solved(alloc, &context, &a_pattern(alloc), &b, &none)?.is_none());
-    assert!(rt; solved(alloc, &context, &two, &a, &none)?.is_none());
+    for row in &ROWS {
+        assert!(rt; holds(alloc, &context, *row)?);
+    }
     Ok(())
 }
 
-#[test]
-fn values_that_are_given_stay(rt: HostRuntime) -> Result<(), Fail> {
-    let alloc = rt.alloc();
-    let context = context(alloc)?;
-    let a = a_term(alloc)?;
-    let b = b_term(alloc)?;
-    let ab = f_term(alloc, &a, &b)?;
-    let two = f_pattern(alloc, variable(alloc, b'X', 1)?, variable(alloc, b'Y', 1)?)?;
-    // f(X, Y) on f(a, b), where Y, X or Z has a value
-    assert!(rt; has(&solved(alloc, &context, &two, &ab, &given(alloc, b'Y', &b)?)?, &[(b'Y', &b), (b'X', &a)]));
-    assert!(rt; has(&solved(alloc, &context, &two, &ab, &given(alloc, b'X', &a)?)?, &[(b'X', &a), (b'Y', &b)]));
-    assert!(rt; solved(alloc, &context, &two, &ab, &given(alloc, b'X', &b)?)?.is_none());
-    assert!(rt; has(&solved(alloc, &context, &two, &ab, &given(alloc, b'Z', &a)?)?, &[(b'Z', &a), (b'X', &a), (b'Y', &b)]));
-    Ok(())
+/// Whether a variable of this sort has the constant c, or a, for its value.
+fn takes(alloc: Global, context: &Ctx, number: SortId, other: bool) -> Result<bool, Fail>
+    requires { context.now.signature ≡ letters }
+{
+    let pattern = variable(alloc, b'X', number)?;
+    let start = nothing(alloc);
+    if other {
+        let c = c_term(alloc)?;
+        return Ok(solved(alloc, context, &pattern, &c, &start)?.is_some());
+    }
+    let a = a_or_b(alloc, b'a')?;
+    Ok(solved(alloc, context, &pattern, &a, &start)?.is_some())
 }
 
 #[test]
-fn a_variable_has_terms_of_its_sort(rt: HostRuntime) -> Result<(), Fail> {
+fn a_variable_takes_terms_of_its_sort(rt: HostRuntime) -> Result<(), Fail> {
     let alloc = rt.alloc();
     let context = context(alloc)?;
-    let none = nothing(alloc);
-    let a = a_term(alloc)?;
-    let c = c_term(alloc)?;
-    let ac = h_term(alloc, &a, &c)?;
-    let nested = h_term(alloc, &a, &ac)?;
-    let x = variable(alloc, b'X', 1)?;
-    let z = variable(alloc, b'X', 2)?;
-    assert!(rt; has(&solved(alloc, &context, &x, &a, &none)?, &[(b'X', &a)]));
-    assert!(rt; solved(alloc, &context, &x, &c, &none)?.is_none());
-    assert!(rt; has(&solved(alloc, &context, &z, &nested, &none)?, &[(b'X', &nested)]));
-    // h(X, h(X, X:B)) on h(a, h(a, c)): two variables of one name
-    let inner = h_pattern(alloc, variable(alloc, b'X', 1)?, z)?;
-    let outer = h_pattern(alloc, x, inner)?;
-    assert!(rt; has(&solved(alloc, &context, &outer, &nested, &none)?, &[(b'X', &a), (b'X', &c)]));
+    assert!(rt; takes(alloc, &context, 1, false)?);
+    assert!(rt; !takes(alloc, &context, 1, true)?);
+    assert!(rt; !takes(alloc, &context, 2, false)?);
+    assert!(rt; takes(alloc, &context, 2, true)?);
     Ok(())
 }
