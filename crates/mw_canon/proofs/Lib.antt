@@ -1,2 +1,4 @@
 -- Laws of canonical terms.
 pub mod Free
+pub mod Instances
+pub mod Listing

@@ -1,2 +1,4 @@
--- What canonical terms are, and what substitutions of them mean.
+-- What canonical terms are, what substitutions of them mean, and why there is none.
 pub mod Canonical
+pub mod Causes
+pub mod Tables

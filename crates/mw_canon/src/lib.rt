@@ -4,7 +4,13 @@
 ghost use Rattle.std.specs.Prelude.{◌≡◌};
 ghost use Rattle.mw_canon.specs.declared.CanonError.TheVariants.{Memory};
 
-use std::alloc::AllocError;
+mod building;
+mod elements;
+mod values;
+
+pub use building::{canon, instance};
+pub use elements::{parts, rebuild};
+use std::alloc::{AllocError, AllocFailed};
 
 /// Why there is no canonical term.
 #[derive(Debug, Clone, Copy, PartialEq, Eq)]
@@ -20,6 +26,14 @@ impl From<AllocError> for CanonError {
     ghost from_gives = { λ _ e. e ≡ Memory };
 
     fn from(_: AllocError) -> Self {
+        CanonError::Memory
+    }
+}
+
+impl<T: Drop> From<AllocFailed<T>> for CanonError {
+    ghost from_gives = { λ _ e. e ≡ Memory };
+
+    fn from(_: AllocFailed<T>) -> Self {
         CanonError::Memory
     }
 }
