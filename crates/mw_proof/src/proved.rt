@@ -5,9 +5,10 @@ ghost use Rattle.mw_machine.specs.Moves.{reached};
 ghost use Rattle.mw_proof.specs.Deductions.{IsDeduction};
 ghost use Rattle.mw_proof.specs.Trails.{moves, proof_of};
 
-use crate::trail::Trail;
+use crate::trail::{Item, Level, Parts, Trail};
 use mw_least::Ctx;
 use mw_term::Term;
+use std::alloc::AllocError;
 use std::marker::Model;
 
 /// A proof that is kept, in a module, from one term to another. Contracts see it as a deduction with a proof tree; its
@@ -17,25 +18,29 @@ pub struct Proved<'m> {
     context: &'m Ctx,
     from: Term,
     to: Term,
-    trail: Trail,
+    /// The place that it begins at, the innermost level first.
+    start: Vec<Level>,
+    items: Vec<Item>,
+    values: Vec<Term>,
+    steps: u64,
+    /// How many levels are open in the end.
+    out: usize,
 }
 
 impl<'m> Model for Proved<'m> {
-    ghost use Rattle.std.specs.Prelude.{◌≡◌, []};
     ghost use Rattle.std.specs.Coded.{codes};
     ghost use Rattle.mw_logic.specs.TermCode.{coded_term, coded_variable};
     ghost use Rattle.mw_logic.specs.ProofCode.{coded_proof};
-    ghost use Rattle.mw_machine.specs.Moves.{reached};
-    ghost use Rattle.mw_proof.specs.Deductions.{Deduction, IsDeduction};
-    ghost use Rattle.mw_proof.specs.Trails.{moves, proof_of};
+    ghost use Rattle.mw_proof.specs.Deductions.{Deduction, IsDeduction, deduced};
+    ghost use Rattle.mw_proof.specs.Trails.{IsWalk};
 
     ghost Value = { Deduction };
 
     ghost coded = { Prim.hlevel (codes, coded_term, coded_variable, coded_proof) };
 
-    ghost view = { λ p. record { over = p.context.now; from = p.from; to = p.to; proof = proof_of p.context.now p.trail } };
+    ghost view = { λ p. deduced p.context.now p.from p.to (record { start = p.start.items; items = p.items.items; values = p.values.items; steps = p.steps; out = p.out }) };
 
-    ghost invariant = { λ p. IsDeduction (record { over = p.context.now; from = p.from; to = p.to; proof = proof_of p.context.now p.trail }) × (reached [] (moves p.context.now p.trail.items p.trail.values) ≡ []) };
+    ghost invariant = { λ p. IsDeduction (deduced p.context.now p.from p.to (record { start = p.start.items; items = p.items.items; values = p.values.items; steps = p.steps; out = p.out })) × IsWalk (record { start = p.start.items; items = p.items.items; values = p.values.items; steps = p.steps; out = p.out }) };
 }
 
 impl<'m> Proved<'m> {
@@ -45,11 +50,21 @@ impl<'m> Proved<'m> {
         requires closed { reached [] (moves context.now trail.items trail.values) ≡ [] }
         ensures { result ≡ record { over = context.now; from = from; to = to; proof = proof_of context.now trail } }
     {
+        let Parts {
+            items,
+            values,
+            steps,
+            out,
+        } = trail.into_parts();
         Proved {
             context,
             from,
             to,
-            trail,
+            start: Vec::new(*values.allocator()),
+            items,
+            values,
+            steps,
+            out,
         }
     }
 
@@ -82,14 +97,14 @@ impl<'m> Proved<'m> {
     pub fn count(&self) -> u64
         ensures { result ≡ min (count self.now.proof) (2 ^ 64 - 1) }
     {
-        self.trail.steps()
+        self.steps
     }
 
     /// How many replacements it has outside evidence, or 2^64 - 1 where it has more. It is kept.
     pub fn steps(&self) -> u64
         ensures { result ≡ min (steps self.now.proof) (2 ^ 64 - 1) }
     {
-        self.trail.steps()
+        self.steps
     }
 
     /// How many of these are by rules, or 2^64 - 1 where more are.
@@ -97,7 +112,7 @@ impl<'m> Proved<'m> {
         ensures { result ≡ min (rules self.now.proof) (2 ^ 64 - 1) }
     {
         // No statement that is applied is a rule yet.
-        let _ = &self.trail;
+        let _ = &self.items;
         0
     }
 }
