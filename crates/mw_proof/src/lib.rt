@@ -5,6 +5,6 @@ mod proved;
 mod reason;
 mod trail;
 
-pub use proved::Proved;
+pub use proved::{Proved, refl, then, under};
 pub use reason::Reason;
 pub use trail::{Item, Trail};

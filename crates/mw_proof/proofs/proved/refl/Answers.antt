@@ -1,0 +1,8 @@
+use Rattle.std.proofs.Common.{◌≡◌}
+use Rattle.mw_logic.specs.Term.{RawTerm}
+use Rattle.mw_logic.specs.Proof.{Proof}
+use Rattle.mw_proof.proofs.Joining.{deduction_itself}
+use Rattle.mw_proof.proofs.proved.refl.Goals as goal
+
+pub of-requires-clause-deduction : goal.of-requires-clause-deduction
+of-requires-clause-deduction c = rw (c.in_ok-from.ensures, c.in_ok-to.ensures, c.new.ensures.items) (deduction_itself c.args.context.now c.args.term.now c.requires)
