@@ -7,6 +7,7 @@ use Rattle.mw_logic.specs.Terms.{terms_of}
 use Rattle.mw_logic.specs.Signature.{Signature}
 use Rattle.mw_logic.specs.Free.{IsFreeSignature}
 use Rattle.mw_logic.specs.Parts.{nested, all_nested, number_of_terms}
+use Rattle.mw_logic.specs.NormalForm.{applied_in}
 use Rattle.mw_logic.specs.Module.{Module}
 use Rattle.mw_logic.specs.Proof.{Proof, reflexivity, count, steps, rules}
 use Rattle.mw_logic.specs.Judgements.{Leads, StepTest, AdmittedStep, Held, Fails, Proves, judgements_with, admitted_judgements}
@@ -190,3 +191,31 @@ kept_joined M L t u s x v w k n e m f a b h =
 
 pub carried_both : (M L : Module) (v w k : Walk) (n : ℕ) (p q : Proof) → k ≡ joined v w n → M ≡ L → IsWalk v → walked M v ≡ p → walked L w ≡ q → carried [] (walked M k) ≡ carried [] p ++ carried [] q
 carried_both M L v w k n p q e m h a b = ap (λ j. carried [] (walked M j)) e ∙ carried_joined M v w n h ∙ rw (a, m, b) refl
+
+pub raised_is : (w k : Walk) (l : Kept) → k.start ≡ w.start ++ l ∷ [] → k.items ≡ w.items → k.values ≡ w.values → k.steps ≡ w.steps → k.out ≡ suc w.out → k ≡ raised w l
+raised_is w k l a b c d e = rw (sym a, sym b, sym c, sym d, sym e) refl
+
+pub kept_raised : (M L : Module) → IsSimpleModule L → (w k : Walk) (l : Kept) (f : ℕ) (xs ys : List RawTerm) (t u a b : RawTerm) (d : Deduction) → deduced M t u w ≡ d → d.over ≡ L → IsWalk w → k ≡ raised w l
+    → l.before ≡ length xs → l.after ≡ length ys → IsLiftable d (frame_of L.signature f xs ys)
+    → IsAdmittedTerm L.signature (filled L.signature f xs d.from ys) → IsAdmittedTerm L.signature (filled L.signature f xs d.to ys)
+    → a ≡ filled L.signature f xs d.from ys → b ≡ filled L.signature f xs d.to ys → IsDeduction (deduced M a b k) × IsWalk k
+kept_raised M L simple w k l f xs ys t u a b d e m h r eb ea lift begins ends ia ib =
+    let n : M ≡ L = ap (λ (x : Deduction). x.over) e ∙ m in
+    let g : deduced L t u w ≡ d = ap (λ N. deduced N t u w) (sym n) ∙ e in
+    let F : Deduction → Type 0 = λ x. IsLiftable x (frame_of L.signature f xs ys) in
+    let A : Deduction → Type 0 = λ x. IsAdmittedTerm L.signature (filled L.signature f xs x.from ys) in
+    let B : Deduction → Type 0 = λ x. IsAdmittedTerm L.signature (filled L.signature f xs x.to ys) in
+    let it : IsDeduction (deduced L (filled L.signature f xs t ys) (filled L.signature f xs u ys) (raised w l)) =
+    deduction_raised L simple w l f xs ys t u h eb ea (subst F (sym g) lift) (subst A (sym g) begins) (subst B (sym g) ends) in
+    let ja : filled L.signature f xs t ys ≡ a = ap (λ (x : Deduction). filled L.signature f xs x.from ys) g ∙ sym ia in
+    let jb : filled L.signature f xs u ys ≡ b = ap (λ (x : Deduction). filled L.signature f xs x.to ys) g ∙ sym ib in
+    let at_k : IsDeduction (deduced L (filled L.signature f xs t ys) (filled L.signature f xs u ys) k) = subst (λ j. IsDeduction (deduced L (filled L.signature f xs t ys) (filled L.signature f xs u ys) j)) (sym r) it in
+    let at_a : IsDeduction (deduced L a (filled L.signature f xs u ys) k) = subst (λ x. IsDeduction (deduced L x (filled L.signature f xs u ys) k)) ja at_k in
+    let at_b : IsDeduction (deduced L a b k) = subst (λ x. IsDeduction (deduced L a x k)) jb at_a in
+    (subst (λ N. IsDeduction (deduced N a b k)) (sym n) at_b, subst IsWalk (sym r) (walk_raised w l h))
+
+pub carried_under : (M : Module) (w k : Walk) (l : Kept) (x y : ℕ) (p : Proof) → k ≡ raised w l → IsWalk w → l.before ≡ x → l.after ≡ y → walked M w ≡ p → carried [] (walked M k) ≡ map (within (record { before = x; after = y })) (carried [] p)
+carried_under M w k l x y p r h eb ea e = ap (λ j. carried [] (walked M j)) r ∙ carried_raised M w l h ∙ rw (eb, ea, e) refl
+
+pub filled_is : (s sig : Signature) (f : ℕ) (is us xs vs ys : List RawTerm) (v t a : RawTerm) → a ≡ applied_in s f (terms_of is) → s ≡ sig → is ≡ us ++ v ∷ vs → us ≡ xs → v ≡ t → vs ≡ ys → a ≡ filled sig f xs t ys
+filled_is s sig f is us xs vs ys v t a e b c d g h = e ∙ ap (λ z. applied_in z f (terms_of is)) b ∙ ap (λ zs. applied_in sig f (terms_of zs)) c ∙ rw (d, g, h) refl
