@@ -10,6 +10,7 @@ mod values;
 
 pub use building::{canon, instance};
 pub use elements::{parts, rebuild};
+pub use values::Values;
 use std::alloc::{AllocError, AllocFailed};
 
 /// Why there is no canonical term.

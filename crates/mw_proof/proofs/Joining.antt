@@ -47,9 +47,9 @@ moves_joined : (M : Module) (v w : Walk) (n : ℕ) → IsWalk v → moves M (joi
 moves_joined M v w n h =
     let ns : List Move = moves M w.items w.values in
     let a : moves M (inward w.start ++ w.items) w.values ≡ enters (place_of_levels w.start) ++ ns =
-        moves-append M (inward w.start) w.items [] w.values (needed_inward w.start) ∙ ap (λ ms. ms ++ ns) (moves-inward M w.start) in
+    moves-append M (inward w.start) w.items [] w.values (needed_inward w.start) ∙ ap (λ ms. ms ++ ns) (moves-inward M w.start) in
     let b : moves M (outward v.out ++ (inward w.start ++ w.items)) w.values ≡ leaves v.out ++ moves M (inward w.start ++ w.items) w.values =
-        moves-append M (outward v.out) (inward w.start ++ w.items) [] w.values (needed_outward v.out) ∙ ap (λ ms. ms ++ moves M (inward w.start ++ w.items) w.values) (moves-outward M v.out) in
+    moves-append M (outward v.out) (inward w.start ++ w.items) [] w.values (needed_outward v.out) ∙ ap (λ ms. ms ++ moves M (inward w.start ++ w.items) w.values) (moves-outward M v.out) in
     moves-append M v.items (outward v.out ++ (inward w.start ++ w.items)) v.values w.values h.needed ∙ ap (λ ms. moves M v.items v.values ++ ms) (b ∙ ap (λ ms. leaves v.out ++ ms) a)
 
 -- what is behind the first one means the second one
@@ -166,8 +166,8 @@ deduction_raised M simple w l f xs ys t u h eb ea lift begins ends =
     let P : Place → RawTerm → RawTerm → Type 0 = λ k a b. Leads M (AdmittedStep M) (Held M 63) (Fails M 63) [] (tree k ms) a b in
     let leads : P (place_of_levels (w.start ++ l ∷ [])) (nested sig (filled sig f xs t ys)) (nested sig (filled sig f xs u ys)) =
     subst (λ k. P k (nested sig (filled sig f xs t ys)) (nested sig (filled sig f xs u ys))) place_is
-        (subst (λ a. P (ls ++ level_of c ∷ []) a (nested sig (filled sig f xs u ys))) (sym (filled_free sig free.signature f xs t ys))
-            (subst (λ b. P (ls ++ level_of c ∷ []) (fill c (nested sig t)) b) (sym (filled_free sig free.signature f xs u ys)) under)) in
+    (subst (λ a. P (ls ++ level_of c ∷ []) a (nested sig (filled sig f xs u ys))) (sym (filled_free sig free.signature f xs t ys))
+    (subst (λ b. P (ls ++ level_of c ∷ []) (fill c (nested sig t)) b) (sym (filled_free sig free.signature f xs u ys)) under)) in
     record { proves = Proves_of M 63 _ _ _ leads; admitted = Proves_admitted M 63 free _ _ _ leads; begins = begins; ends = ends }
 
 -- nothing is done
@@ -180,7 +180,7 @@ pub joined_is : (v w : Walk) (n : ℕ) (xs ys zs : List Item) (us : List RawTerm
     → record { start = v.start; items = zs; values = us; steps = n; out = w.out } ≡ joined v w n
 joined_is v w n xs ys zs us a b c d =
     let e : zs ≡ v.items ++ (outward v.out ++ (inward w.start ++ w.items)) =
-        c ∙ ap (λ is. is ++ w.items) (b ∙ ap (λ is. is ++ inward w.start) a) ∙ append_assoc (v.items ++ outward v.out) (inward w.start) w.items ∙ append_assoc v.items (outward v.out) (inward w.start ++ w.items) in
+    c ∙ ap (λ is. is ++ w.items) (b ∙ ap (λ is. is ++ inward w.start) a) ∙ append_assoc (v.items ++ outward v.out) (inward w.start) w.items ∙ append_assoc v.items (outward v.out) (inward w.start ++ w.items) in
     rw (e, d) refl
 
 pub kept_joined : (M L : Module) (t u s x : RawTerm) (v w k : Walk) (n : ℕ) → k ≡ joined v w n → M ≡ L → u ≡ s → IsDeduction (deduced M t u v) × IsWalk v → IsDeduction (deduced L s x w) × IsWalk w

@@ -1,3 +1,4 @@
 pub mod Trails
 pub mod Deductions
 pub mod Reasons
+pub mod Replacing

@@ -30,7 +30,7 @@ invariant_of-inner c =
     let from = filled_is _ c.args.context.now.signature c.args.operator _ _ c.args.before.items _ c.args.after.items _ c.args.inner.from _ c.in_ok-inner-inside.ensures c.signature.ensures c.in_ok-from.ensures c.as_slice.ensures.value (ap (λ (d : Deduction). d.from) c.inner.view_is) c.as_slice-2.ensures.value in
     let to = filled_is _ c.args.context.now.signature c.args.operator _ _ c.args.before.items _ c.args.after.items _ c.args.inner.to _ c.in_ok-inner-inside-2.ensures c.signature-2.ensures c.in_ok-to.ensures c.as_slice-3.ensures.value (ap (λ (d : Deduction). d.to) c.inner.view_is) c.as_slice-4.ensures.value in
     kept_raised p.context.now c.args.context.now c.shows.ensures w k l c.args.operator c.args.before.items c.args.after.items p.from p.to c.in_ok-inner-inside.field-0 c.in_ok-inner-inside-2.field-0 c.args.inner c.inner.view_is c.requires.module c.inner.invariant.1 r
-        (grind (arith, c.in_ok-narrow.ensures, c.len.ensures)) (grind (arith, c.in_ok-narrow-2.ensures, c.len-2.ensures)) c.requires.liftable c.requires.begins c.requires.ends from to
+    (grind (arith, c.in_ok-narrow.ensures, c.len.ensures)) (grind (arith, c.in_ok-narrow-2.ensures, c.len-2.ensures)) c.requires.liftable c.requires.begins c.requires.ends from to
 
 pub returns-clause-carried : goal.returns-clause-carried
 returns-clause-carried c =
