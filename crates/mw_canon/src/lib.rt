@@ -10,8 +10,8 @@ mod values;
 
 pub use building::{canon, instance};
 pub use elements::{parts, rebuild};
-pub use values::Values;
 use std::alloc::{AllocError, AllocFailed};
+pub use values::Values;
 
 /// Why there is no canonical term.
 #[derive(Debug, Clone, Copy, PartialEq, Eq)]

@@ -1,16 +1,16 @@
 -- A statement applied at the top, in a simple module.
-use Rattle.std.specs.Prelude.{◌≡◌, ℕ, zero, suc, ◌-◌, Result, Ok, Err, IfOk, List, [], ◌∷◌, length, map, take, drop, get_or, slice_get, Some, None, option_map, unwrap_or, Bool, false, IsTrue, refl}
+use Rattle.std.specs.Prelude.{◌≡◌, ℕ, zero, suc, ◌-◌, Result, Ok, Err, IfOk, List, [], ◌∷◌, length, get_or, slice_get, Some, false, IsTrue, refl}
 use Rattle.std.specs.List.{zip}
 use Rattle.std.proofs.Common.{sym, ap, ◌∙◌, subst, arith, true≢false}
 use Rattle.std.proofs.lemmas.List.{length-map, take_all}
-use Rattle.mw_logic.specs.Term.{Variable, RawTerm, is_ground}
+use Rattle.mw_logic.specs.Term.{RawTerm, is_ground}
 use Rattle.mw_logic.specs.Signature.{Signature, at_number, IsRawTerm}
 use Rattle.mw_logic.specs.Free.{IsFreeSignature}
 use Rattle.mw_logic.specs.Substitution.{Substitution, instance}
 use Rattle.mw_logic.specs.Parts.{nested, IsAdmitted}
 use Rattle.mw_logic.specs.NormalForm.{normal_form}
 use Rattle.mw_logic.specs.Module.{Fragment, Module, Statement, IsStatement}
-use Rattle.mw_logic.specs.Proof.{Proof, reflexivity, transitivity, replacement, Proofs, nil, cons}
+use Rattle.mw_logic.specs.Proof.{Proof, reflexivity, transitivity, replacement, nil}
 use Rattle.mw_logic.specs.Judgements.{Leads, Replaces, AdmittedStep, Held, Fails, judgements_with}
 use Rattle.mw_logic.proofs.FreeSignature.{free_replaces, bare_from_free, bare_no_row}
 use Rattle.mw_machine.specs.Machine.{Fires}

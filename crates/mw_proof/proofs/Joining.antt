@@ -1,5 +1,5 @@
 -- Kept deductions, one behind another and under an operator.
-use Rattle.std.specs.Prelude.{◌≡◌, ◌+◌, ◌-◌, ◌^◌, min, ℕ, zero, suc, List, [], ◌∷◌, ◌++◌, length, map, Bool, refl}
+use Rattle.std.specs.Prelude.{◌≡◌, ◌+◌, ◌-◌, ◌^◌, min, ℕ, suc, List, [], ◌∷◌, ◌++◌, length, map, Bool, refl}
 use Rattle.std.proofs.Common.{sym, ap, ◌∙◌, subst, arith, length-append, append_assoc}
 use Rattle.mw_logic.specs.Term.{RawTerm, RawTerms, Frame, apply, join}
 use Rattle.mw_logic.specs.Term as term
@@ -10,10 +10,10 @@ use Rattle.mw_logic.specs.Parts.{nested, all_nested, number_of_terms}
 use Rattle.mw_logic.specs.NormalForm.{applied_in}
 use Rattle.mw_logic.specs.Module.{Module}
 use Rattle.mw_logic.specs.Proof.{Proof, reflexivity, count, steps, rules}
-use Rattle.mw_logic.specs.Judgements.{Leads, StepTest, AdmittedStep, Held, Fails, Proves, judgements_with, admitted_judgements}
+use Rattle.mw_logic.specs.Judgements.{Leads, StepTest, AdmittedStep, Held, Fails, judgements_with}
 use Rattle.mw_logic.proofs.Lifting.{fill, replaces_under}
 use Rattle.mw_machine.specs.Moves.{Move, Place, Level, tree, reached, AreEquations}
-use Rattle.mw_machine.specs.Replacements.{Replacement, carried, within, IsInside, LiftedStep}
+use Rattle.mw_machine.specs.Replacements.{carried, within, IsInside, LiftedStep}
 use Rattle.mw_machine.specs.Plain.{IsFreeModule}
 use Rattle.mw_machine.specs.Simple.{IsSimpleModule}
 use Rattle.mw_machine.proofs.Closing.{leaves}

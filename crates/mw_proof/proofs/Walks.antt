@@ -3,7 +3,7 @@ use Rattle.std.specs.Prelude.{◌≡◌, ◌≤◌, ◌+◌, ◌-◌, ◌^◌, m
 use Rattle.std.proofs.Common.{sym, ap, ◌∙◌, subst, arith, ⊎_elim, take_all}
 use Rattle.mw_logic.specs.Term.{RawTerm}
 use Rattle.mw_logic.specs.Module.{Module}
-use Rattle.mw_machine.specs.Moves.{Level, Place, enter, reached}
+use Rattle.mw_machine.specs.Moves.{Place, enter, reached}
 use Rattle.mw_machine.specs.Replacements.{IsInside}
 use Rattle.mw_machine.proofs.Carrying.{enters}
 use Rattle.mw_proof.specs.Trails.{moves, needed, stepped, Leaves, outward, inward, Stays, left_open, place_of_levels, IsWalk}

@@ -1,6 +1,3 @@
-use Rattle.std.proofs.Common.{◌≡◌}
-use Rattle.mw_logic.specs.Term.{RawTerm}
-use Rattle.mw_logic.specs.Proof.{Proof}
 use Rattle.mw_proof.proofs.Joining.{deduction_itself}
 use Rattle.mw_proof.proofs.proved.refl.Goals as goal
 

@@ -1,6 +1,4 @@
-use Rattle.std.proofs.Common.{◌≡◌, ◌∙◌, ◌++◌, ◌∷◌, sym, ap, subst, refl, arith, suc}
-use Rattle.mw_logic.specs.Accepted.{IsAccepted}
-use Rattle.mw_logic.specs.Free.{IsFreeSignature}
+use Rattle.std.proofs.Common.{◌≡◌, ap, refl, arith}
 use Rattle.mw_machine.proofs.Discrete.{accepted, free}
 use Rattle.mw_proof.specs.Deductions.{Deduction}
 use Rattle.mw_proof.specs.Trails.{Walk}

@@ -1,6 +1,5 @@
-use Rattle.std.proofs.Common.{◌≡◌, ◌∙◌, ap, subst, sym}
+use Rattle.std.proofs.Common.{◌∙◌, ap, subst, sym}
 use Rattle.mw_logic.specs.Signature.{Signature, IsRawTerm}
-use Rattle.mw_logic.specs.Free.{IsFreeSignature}
 use Rattle.mw_logic.specs.Parts.{nested}
 use Rattle.mw_logic.specs.NormalForm.{normal_form}
 use Rattle.mw_logic.specs.Substitution.{instance as instance_of}
@@ -8,7 +7,7 @@ use Rattle.mw_machine.proofs.Discrete.{accepted, free}
 use Rattle.mw_term.specs.Raws.{raw_term}
 use Rattle.mw_canon.specs.Canonical.{meant}
 use Rattle.mw_canon.specs.Causes.{HasCause}
-use Rattle.mw_proof.proofs.Applying.{written, raw_instance, never_deep, never_large}
+use Rattle.mw_proof.proofs.Applying.{written, raw_instance, never_deep}
 use Rattle.mw_proof.proofs.replacing.admitted.Goals as goal
 
 pub instance-requires-clause-accepted : goal.instance-requires-clause-accepted

@@ -1,4 +1,4 @@
-use Rattle.std.proofs.Common.{◌∙◌, refl, [], ◌∷◌, arith}
+use Rattle.std.proofs.Common.{refl, [], ◌∷◌, arith}
 use Rattle.mw_proof.specs.declared.trail.Item.TheVariants.{Enter}
 use Rattle.mw_proof.proofs.Walks.{walk_more}
 use Rattle.mw_proof.proofs.trail.Trail.enter.Goals as goal
