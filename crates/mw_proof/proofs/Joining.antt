@@ -145,7 +145,7 @@ joined_terms [] t ys = refl
 joined_terms (x ∷ xs) t ys = ap (term.cons x) (joined_terms xs t ys)
 
 -- in a signature without axioms an operator stands on its arguments as they are
-filled_free : (sig : Signature) → IsFreeSignature sig → (f : ℕ) (xs : List RawTerm) (t : RawTerm) (ys : List RawTerm) → nested sig (filled sig f xs t ys) ≡ fill (frame_of sig f xs ys) (nested sig t)
+pub filled_free : (sig : Signature) → IsFreeSignature sig → (f : ℕ) (xs : List RawTerm) (t : RawTerm) (ys : List RawTerm) → nested sig (filled sig f xs t ys) ≡ fill (frame_of sig f xs ys) (nested sig t)
 filled_free sig free f xs t ys =
     nested_free sig free (filled sig f xs t ys) ∙ applied_free sig free f (terms_of (xs ++ t ∷ ys)) ∙ rw (all_nested_free sig free (terms_of xs), all_nested_free sig free (terms_of ys), nested_free sig free t) (ap (apply f) (joined_terms xs t ys))
 
