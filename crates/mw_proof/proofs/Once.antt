@@ -61,7 +61,7 @@ module _ (M : Module) (simple : IsSimpleModule M) (H : List Fragment → Substit
   turned : (r : Bool) (x w v y : RawTerm) → r ≡ false → x ≡ T → y ≡ U → Step r x w v y → Tep r x w v y
   turned r x w v y e f g s =
       subst (λ z. Tep z x w v y) (sym e) (subst (λ z. Tep false z w v y) (sym f) (subst (λ z. Tep false T w v z) (sym g)
-          (j w v (subst (λ z. Step false T w v z) g (subst (λ z. Step false z w v y) f (subst (λ z. Step z x w v y) e s))))))
+      (j w v (subst (λ z. Step false T w v z) g (subst (λ z. Step false z w v y) f (subst (λ z. Step z x w v y) e s))))))
 
   mutual
     pub once : (p : Proof) (ls : Place) (r : Replacement) (C : Context) (t u : RawTerm) → plug C t ≡ T → plug C u ≡ U → Leads M Step H F C p t u → carried ls p ≡ r ∷ [] → Leads M Tep H F C p t u
@@ -71,9 +71,9 @@ module _ (M : Module) (simple : IsSimpleModule M) (H : List Fragment → Substit
         (f, ts, us, x, y, once_in ps ls 0 r C f term.nil ts us (ap (plug C) (sym x) ∙ a) (ap (plug C) (sym y) ∙ b) l e)
     once (transitivity p q) ls r C t u a b (m, x, y) e =
         ⊎_elim
-            (λ n. let h = never M free H F Step Tep p ls C t m x n.0 in (m, h.1, once q ls r C m u (ap (plug C) (sym h.0) ∙ a) b y n.1))
-            (λ n. let h = never M free H F Step Tep q ls C m u y n.1 in (m, once p ls r C t m a (ap (plug C) h.0 ∙ b) x n.0, h.1))
-            (one_in (carried ls p) (carried ls q) r e)
+        (λ n. let h = never M free H F Step Tep p ls C t m x n.0 in (m, h.1, once q ls r C m u (ap (plug C) (sym h.0) ∙ a) b y n.1))
+        (λ n. let h = never M free H F Step Tep q ls C m u y n.1 in (m, once p ls r C t m a (ap (plug C) h.0 ∙ b) x n.0, h.1))
+        (one_in (carried ls p) (carried ls q) r e)
     once (replacement k c s es) ls r C t u a b (x, y) e = (x, turned c (plug C t) t u (plug C u) (sym x.rule ∙ (simple.equations k x.statement x.is_there).equation) a b y)
     once row ls r C t u a b (x, y) e = (x, turned false (plug C t) t u (plug C u) refl a b y)
 
@@ -88,11 +88,11 @@ module _ (M : Module) (simple : IsSimpleModule M) (H : List Fragment → Substit
         let b' : W (term.cons u us') ≡ U = ap W (sym y) ∙ b in
         let on : (zs : RawTerms) → plug C (apply f (join (join done (term.cons u term.nil)) zs)) ≡ W (term.cons u zs) = λ zs. ap (λ ys. plug C (apply f ys)) (join-assoc done (term.cons u term.nil) zs) in
         ⊎_elim
-            (λ n. let h = never M free H F Step Tep p ks (c ∷ C) t u l n.0 in
-                (t, u, ts', us', x, y, h.1, once_in ps ls (suc i) r C f (join done (term.cons u term.nil)) ts' us' (on ts' ∙ ap (λ z. W (term.cons z ts')) (sym h.0) ∙ a') (on us' ∙ b') more n.1))
-            (λ n. let h = never_in M free H F Step Tep ps ls (suc i) C f (join done (term.cons u term.nil)) ts' us' more n.1 in
-                (t, u, ts', us', x, y, once p ks r (c ∷ C) t u a' (ap (λ zs. W (term.cons u zs)) h.0 ∙ b') l n.0, h.1))
-            (one_in (carried ks p) (carried_in ls (suc i) ps) r e)
+        (λ n. let h = never M free H F Step Tep p ks (c ∷ C) t u l n.0 in
+        (t, u, ts', us', x, y, h.1, once_in ps ls (suc i) r C f (join done (term.cons u term.nil)) ts' us' (on ts' ∙ ap (λ z. W (term.cons z ts')) (sym h.0) ∙ a') (on us' ∙ b') more n.1))
+        (λ n. let h = never_in M free H F Step Tep ps ls (suc i) C f (join done (term.cons u term.nil)) ts' us' more n.1 in
+        (t, u, ts', us', x, y, once p ks r (c ∷ C) t u a' (ap (λ zs. W (term.cons u zs)) h.0 ∙ b') l n.0, h.1))
+        (one_in (carried ks p) (carried_in ls (suc i) ps) r e)
 
 -- each term is visible under each operator
 visible : (sig : Signature) → IsFreeSignature sig → (c : Frame) (t : RawTerm) → IsVisible sig c t
@@ -128,4 +128,4 @@ module _ (d : Deduction) (simple : IsSimpleModule d.over) (f : ℕ) (xs ys : Lis
   unfolding judgements_with
   liftable_once is r e begins ends =
       once d.over simple _ _ (ReplacesPart sig) (LiftedStep d.over c) (nested sig d.from) (nested sig d.to)
-          (λ w v s. ((visible sig plain c (nested sig d.from), (λ h. absurd (true≢false (sym h))), s), whole d.from begins, whole d.to ends)) d.proof [] r [] (nested sig d.from) (nested sig d.to) refl refl is.proves e
+      (λ w v s. ((visible sig plain c (nested sig d.from), (λ h. absurd (true≢false (sym h))), s), whole d.from begins, whole d.to ends)) d.proof [] r [] (nested sig d.from) (nested sig d.to) refl refl is.proves e
