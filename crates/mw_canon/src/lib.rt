@@ -11,6 +11,7 @@ mod values;
 pub use building::{canon, instance};
 pub use elements::{parts, rebuild};
 use std::alloc::{AllocError, AllocFailed};
+pub use values::Values;
 
 /// Why there is no canonical term.
 #[derive(Debug, Clone, Copy, PartialEq, Eq)]

@@ -3,8 +3,13 @@
 
 mod proved;
 mod reason;
+mod replacing;
 mod trail;
 
-pub use proved::Proved;
+pub use proved::{Proved, refl, then, under};
 pub use reason::Reason;
-pub use trail::{Item, Trail};
+pub use replacing::{By, replace};
+pub use trail::{Item, Level, Trail};
+
+#[cfg(test)]
+mod tests;

@@ -1,6 +1,6 @@
 // A proof as it is kept: a flat list of items, and the values of the statements' variables.
 ghost use Rattle.std.specs.Prelude.{◌≡◌, ◌+◌, ◌-◌, ◌^◌, ◌++◌, [], ◌∷◌, ℕ, min, length, IfOk, IfErr};
-ghost use Rattle.mw_proof.specs.Trails.{Leaves, outward, stepped};
+ghost use Rattle.mw_proof.specs.Trails.{Leaves, outward, inward, stepped, IsWalk};
 ghost use Rattle.mw_proof.specs.declared.trail.Item.TheVariants.{Enter, Apply};
 
 use mw_term::Term;
@@ -18,6 +18,13 @@ pub enum Item {
     Apply(u32, u32),
 }
 
+/// A level of a place: so many arguments stand before it, and so many after it.
+#[derive(Clone, Copy)]
+pub struct Level {
+    pub before: u32,
+    pub after: u32,
+}
+
 /// A proof under way, as it is kept: where it goes, which statements it applies there, and their values. Each statement
 /// that is applied has the next values as its own, in the order of its variables. An entry takes twelve bytes, and a
 /// value is one that is shared.
@@ -26,13 +33,23 @@ pub struct Trail {
     items: Vec<Item>,
     values: Vec<Term>,
     steps: u64,
+    /// How many arguments are open.
+    out: usize,
+}
+
+/// What a trail holds.
+pub(crate) struct Parts {
+    pub items: Vec<Item>,
+    pub values: Vec<Term>,
+    pub steps: u64,
+    pub out: usize,
 }
 
 impl Model for Trail {
-    ghost use Rattle.std.specs.Prelude.{◌≡◌, ◌-◌, ◌^◌, min, length};
+    ghost use Rattle.std.specs.Prelude.{[]};
     ghost use Rattle.std.specs.Coded.{codes};
     ghost use Rattle.mw_logic.specs.TermCode.{coded_term};
-    ghost use Rattle.mw_proof.specs.Trails.{Track, needed, stepped};
+    ghost use Rattle.mw_proof.specs.Trails.{Track, IsWalk};
 
     ghost Value = { Track };
 
@@ -40,11 +57,11 @@ impl Model for Trail {
 
     ghost view = { λ t. record { items = t.items.items; values = t.values.items } };
 
-    ghost invariant = { λ t. (needed t.items.items ≡ length t.values.items) × (t.steps ≡ min (stepped t.items.items) (2 ^ 64 - 1)) };
+    ghost invariant = { λ t. IsWalk (record { start = []; items = t.items.items; values = t.values.items; steps = t.steps; out = t.out }) };
 }
 
 /// The same number, where it is below 2^32.
-fn narrow(number: usize) -> Result<u32, AllocError>
+pub(crate) fn narrow(number: usize) -> Result<u32, AllocError>
     ensures { IfOk result (λ n. n ≡ number) }
 {
     if number > u32::MAX as usize {
@@ -53,25 +70,42 @@ fn narrow(number: usize) -> Result<u32, AllocError>
     Ok(number as u32)
 }
 
-fn leave_one(items: &mut Vec<Item>) -> Result<(), AllocError>
-    ensures left { IfOk result (λ _. Leaves items.old.items items.new.items) }
+/// The levels that are open, where one is left.
+fn leave_one(items: &mut Vec<Item>, out: usize) -> Result<usize, AllocError>
+    ensures left { IfOk result (λ n. Leaves items.old.items items.new.items × (n + 1 ≡ out)) }
     ensures same { IfErr result (λ _. items.new.items ≡ items.old.items) }
 {
+    if out == 0 {
+        return Err(AllocError);
+    }
     if let Some(Item::Enter(_, _)) = items.last() {
         let _ = items.pop();
-        return Ok(());
+        return Ok(out - 1);
     }
     items.push(Item::Leave)?;
+    Ok(out - 1)
+}
+
+/// Out of so many levels.
+pub(crate) fn leave_all(items: &mut Vec<Item>, places: usize) -> Result<(), AllocError>
+    ensures left { IfOk result (λ _. items.new.items ≡ items.old.items ++ outward places) }
+    ensures same { IfErr result (λ _. items.new.items ≡ items.old.items) }
+{
+    let Some(count) = items.len().checked_add(places) else {
+        return Err(AllocError);
+    };
+    items.resize(count, Item::Leave)?;
     Ok(())
 }
 
-fn leave_all(items: &mut Vec<Item>, places: usize) -> Result<(), AllocError>
-    ensures left { IfOk result (λ _. items.new.items ≡ items.old.items ++ outward places) }
-    ensures some { (n : ℕ) × (items.new.items ≡ items.old.items ++ outward n) }
+/// Into a place, from the outermost level on.
+pub(crate) fn enter_all(items: &mut Vec<Item>, levels: &[Level]) -> Result<(), AllocError>
+    ensures { IfOk result (λ _. items.new.items ≡ items.old.items ++ inward levels.now) }
 {
-    let out = Item::Leave;
-    for _ in 0..places {
-        items.push(out)?;
+    let n = levels.len();
+    for i in 0..n {
+        let level = levels[n - 1 - i];
+        items.push(Item::Enter(level.before, level.after))?;
     }
     Ok(())
 }
@@ -85,6 +119,7 @@ impl Trail {
             items: Vec::new(alloc),
             values: Vec::new(alloc),
             steps: 0,
+            out: 0,
         }
     }
 
@@ -109,24 +144,34 @@ impl Trail {
     {
         let before = narrow(before)?;
         let after = narrow(after)?;
+        let Some(out) = self.out.checked_add(1) else {
+            return Err(AllocError);
+        };
         self.items.push(Item::Enter(before, after))?;
+        self.out = out;
         Ok(())
     }
 
-    /// Out of an argument. Where nothing was done in it, it was never entered.
+    /// Out of an argument. Where nothing was done in it, it was never entered. Where no argument is open it fails.
     pub fn leave(&mut self) -> Result<(), AllocError>
         ensures items { IfOk result (λ _. Leaves self.old.items self.new.items) }
         ensures values { IfOk result (λ _. self.new.values ≡ self.old.values) }
     {
-        leave_one(&mut self.items)
+        self.out = leave_one(&mut self.items, self.out)?;
+        Ok(())
     }
 
-    /// Out of so many arguments.
+    /// Out of so many arguments. Where fewer are open it fails.
     pub fn close(&mut self, places: usize) -> Result<(), AllocError>
         ensures items { IfOk result (λ _. self.new.items ≡ self.old.items ++ outward places) }
         ensures values { IfOk result (λ _. self.new.values ≡ self.old.values) }
     {
-        leave_all(&mut self.items, places)
+        if places > self.out {
+            return Err(AllocError);
+        }
+        leave_all(&mut self.items, places)?;
+        self.out -= places;
+        Ok(())
     }
 
     /// The statement of this number is applied, by these values, which are taken.
@@ -141,5 +186,25 @@ impl Trail {
         self.items.push_reserved(Item::Apply(number, count));
         self.steps = self.steps.saturating_add(1);
         Ok(())
+    }
+
+    /// What it holds.
+    pub(crate) fn into_parts(self) -> Parts
+        ensures items { result.items.items ≡ self.items }
+        ensures values { result.values.items ≡ self.values }
+        ensures walk { IsWalk (record { start = []; items = self.items; values = self.values; steps = result.steps; out = result.out }) }
+    {
+        let Trail {
+            items,
+            values,
+            steps,
+            out,
+        } = self;
+        Parts {
+            items,
+            values,
+            steps,
+            out,
+        }
     }
 }

@@ -1,9 +1,6 @@
-use Rattle.std.proofs.Common.{◌∙◌, sym}
-use Rattle.mw_proof.proofs.Tracks.{outward_on}
+use Rattle.std.proofs.Common.{arith}
+use Rattle.mw_proof.proofs.Walks.{filled_up}
 use Rattle.mw_proof.proofs.trail.leave_all.Goals as goal
 
-pub loop-preserved : goal.loop-preserved
-loop-preserved c = outward_on _ _ _ c.loop.counter c.loop.invariant c.in_ok-push.ensures.items
-
-pub returns-in_err-push-clause-some : goal.returns-in_err-push-clause-some
-returns-in_err-push-clause-some c = (c.loop.counter, c.in_err-push.ensures.items ∙ c.loop.invariant)
+pub returns-clause-left : goal.returns-clause-left
+returns-clause-left c = filled_up c.args.items.now.items c.resize.new.self.items c.in-Some.count c.args.places (grind (arith, c.in-Some.ensures, c.len.ensures)) (grind (arith, c.in_ok-resize.ensures.items))
