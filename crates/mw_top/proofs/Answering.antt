@@ -101,14 +101,14 @@ if_ok (Err e) h k = tt
 -- the canonical term of one without variables that fits in is admitted
 pub admitted_by : (sig : Signature) → IsSimpleSignature sig → (t u : RawTerm) → IsRawTerm sig t → IsTrue (is_ground t) → u ≡ normal_form sig (nested sig t)
     → ¬ IsTooDeep sig (nested sig t) → ¬ IsTooLarge sig (nested sig t) → (u ≡ t) × IsAdmittedTerm sig u
-admitted_by sig simple t u raw ground is deep large =
+admitted_by sig simple t u raw ground is not_deep not_large =
     let f : IsFreeSignature sig = free sig simple in
     let n : nested sig t ≡ t = nested_free sig f t in
     let e : u ≡ t = is ∙ normal_form_free sig f (nested sig t) ∙ n in
     let a : IsAdmittedTerm sig t = record {
       raw = rw n raw;
       canonical = normal_form_free sig f (nested sig t) ∙ n;
-      admitted = record { ground = rw n ground; not_deep = deep; not_large = large };
+      admitted = record { ground = rw n ground; not_deep = not_deep; not_large = not_large };
     } in
     (e, rw e a)
 
