@@ -1,5 +1,5 @@
 -- The tests' module is simple, and its terms meet what the calls require.
-use Rattle.std.specs.Prelude.{◌≡◌, ◌+◌, ◌≤◌, ℕ, zero, suc, List, [], ◌∷◌, ◌||◌, Some, None, Bool, true, false, IsTrue, codes, refl}
+use Rattle.std.specs.Prelude.{◌≡◌, ◌≤◌, Result, Ok, Err, IfOk, map, ℕ, zero, suc, List, [], ◌∷◌, ◌||◌, Some, None, Bool, true, false, IsTrue, codes, refl}
 use Rattle.std.proofs.Common.{arith, ap, subst, sym, ◌∙◌}
 use Rattle.std.proofs.lemmas.Bool.{or_right}
 use Rattle.mw_logic.specs.Term.{Variable, RawTerm, variable, apply, nil, cons, unary, binary}
@@ -15,6 +15,7 @@ use Rattle.mw_canon.specs.Canonical.{IsAdmittedTerm, HasAdmittedValues, meant}
 use Rattle.mw_canon.proofs.Free.{admitted_term_free, applied_free, meant_free, normal_form_free}
 use Rattle.mw_proof.specs.Tested.{tested, tested_signature, tested_operator, tested_equation, named, IsSmall, tested_zero, tested_one, pair_values, IsOnce}
 use Rattle.mw_proof.specs.Deductions.{Deduction, IsDeduction, filled, frame_of, IsLiftable}
+use Rattle.mw_term.specs.declared.subst.Binding.{Binding}
 use Rattle.mw_proof.specs.Replacing.{MayApply, Applies}
 use Rattle.mw_proof.proofs.Applying.{normal_instance}
 use Rattle.mw_proof.proofs.Once.{liftable_once}
@@ -146,3 +147,46 @@ module _ (t u v : RawTerm) (d : Deduction) (h : IsSmall 9 t) (k : IsSmall 9 u) (
       let P : Module → Type 0 = λ M. IsLiftable d (frame_of M.signature 3 (v ∷ []) []) in
       let A : RawTerm → Module → Type 0 = λ w M. IsAdmittedTerm M.signature (filled M.signature 3 (v ∷ []) w []) in
       subst P o.over (liftable_once d (subst IsSimpleModule (sym o.over) simple) 3 (v ∷ []) [] is o.replacement o.carried (subst (A d.from) (sym o.over) begins_behind) (subst (A d.to) (sym o.over) ends_behind))
+
+-- the same of what is equal to these
+module _ (M : Module) (e : M ≡ tested) where
+  pub simple_at : IsSimpleModule M
+  simple_at = subst IsSimpleModule (sym e) simple
+
+  pub zero_at : (t : RawTerm) → t ≡ tested_zero → IsAdmittedTerm M.signature t
+  zero_at t f = subst (λ N. IsAdmittedTerm N.signature t) (sym e) (subst (IsAdmittedTerm tested_signature) (sym f) (small_admitted 1 tested_zero (omega arith) zero_small))
+
+pub widened : (n m : ℕ) (t : RawTerm) → n ≤ m → IsSmall n t → IsSmall m t
+widened n m t l h = record { raw = h.raw; has_kind = h.has_kind; ground = h.ground; low = let a = h.low in omega (arith, a, l) }
+
+pub zero_is : (t : RawTerm) → t ≡ tested_zero → IsSmall 9 t
+zero_is t e = subst (IsSmall 9) (sym e) (widened 1 9 tested_zero (omega arith) zero_small)
+
+pub one_is : (t z : RawTerm) → t ≡ unary 2 z → z ≡ tested_zero → IsSmall 9 t
+one_is t z e f = subst (IsSmall 9) (sym (e ∙ ap (unary 2) f)) (widened 2 9 tested_one (omega arith) (unary_small 1 tested_zero zero_small))
+
+pub pairs_are : (bs : List Binding) (x y : Variable) (t u : RawTerm) (xs ys : List ℕ) → bs ≡ record { variable = x; value = t } ∷ record { variable = y; value = u } ∷ [] → x ≡ named xs → xs ≡ codes "X" → y ≡ named ys → ys ≡ codes "Y"
+    → map (λ (b : Binding). (b.variable, b.value)) bs ≡ pair_values t u
+pairs_are bs x y t u xs ys e a b c d = rw (e, a, b, c, d) refl
+
+pub may_apply_at : (M : Module) → M ≡ tested → (s : Substitution) (ds : List Deduction) (t u : RawTerm) → s ≡ pair_values t u → ds ≡ [] → IsSmall 9 t → IsSmall 9 u → MayApply M 1 s ds
+may_apply_at M e s ds t u a b h k = subst (λ N. MayApply N 1 s ds) (sym e) (subst (λ r. MayApply tested 1 r ds) (sym a) (subst (MayApply tested 1 (pair_values t u)) (sym b) (may_apply t u h k)))
+
+pub once_at : {E : Type 0} (r : Result Deduction E) (M : Module) → M ≡ tested → (s : Substitution) (ds : List Deduction) (t u : RawTerm) → s ≡ pair_values t u → ds ≡ [] → IfOk r (λ d. d.over ≡ M)
+    → IfOk r (λ d. (st : Statement) → at_number M.statements 1 ≡ Some st → Applies M 1 s ds st d) → IfOk r (IsOnce t u)
+once_at (Ok d) M e s ds t u a b o h =
+    let P : Module → Type 0 = λ N. (st : Statement) → at_number N.statements 1 ≡ Some st → Applies N 1 s ds st d in
+    let Q : Substitution → Type 0 = λ r. (st : Statement) → at_number tested.statements 1 ≡ Some st → Applies tested 1 r ds st d in
+    let R : List Deduction → Type 0 = λ es. (st : Statement) → at_number tested.statements 1 ≡ Some st → Applies tested 1 (pair_values t u) es st d in
+    applied_once t u d (o ∙ e) (subst R b (subst Q a (subst P e h)))
+once_at (Err x) M e s ds t u a b o h = tt
+
+module _ (M : Module) (e : M ≡ tested) (t u v : RawTerm) (d : Deduction) (h : IsSmall 9 t) (k : IsSmall 9 u) (l : IsSmall 9 v) (o : IsOnce t u d) (xs ys : List RawTerm) (a : xs ≡ v ∷ []) (b : ys ≡ []) where
+  pub begins_at : IsAdmittedTerm M.signature (filled M.signature 3 xs d.from ys)
+  begins_at = rw (e, a, b) (begins_behind t u v d h k l o)
+
+  pub ends_at : IsAdmittedTerm M.signature (filled M.signature 3 xs d.to ys)
+  ends_at = rw (e, a, b) (ends_behind t u v d h k l o)
+
+  pub liftable_at : IsDeduction d → IsLiftable d (frame_of M.signature 3 xs ys)
+  liftable_at is = rw (e, a, b) (liftable_behind t u v d h k l o is)
