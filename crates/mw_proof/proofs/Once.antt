@@ -1,5 +1,5 @@
 -- In a simple module a proof of one replacement may stand under an operator wherever its ends may: the terms before and after that replacement are the ends.
-use Rattle.std.specs.Prelude.{◌≡◌, ◌⊎◌, ℕ, zero, suc, List, [], ◌∷◌, ◌++◌, Bool, false, IsTrue, refl}
+use Rattle.std.specs.Prelude.{◌≡◌, ◌⊎◌, ℕ, suc, List, [], ◌∷◌, ◌++◌, Bool, false, refl}
 use Rattle.std.proofs.Common.{sym, ap, ◌∙◌, subst, inl, inr, ⊎_elim, true≢false, arith}
 use Rattle.mw_logic.specs.Term.{RawTerm, RawTerms, Frame, Context, plug, join, apply}
 use Rattle.mw_logic.specs.Term as term
