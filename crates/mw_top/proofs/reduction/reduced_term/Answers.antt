@@ -12,6 +12,6 @@ reduce-requires-clause-admitted c = subst (λ (M : Module). IsAdmittedTerm M.sig
 pub returns : goal.returns
 returns c =
     let simple = subst IsSimpleModule c.context-context.ensures c.shows.ensures in
-    let reduction = subst (λ M. IsReductionOf M c.args.term _ c.in_ok-proved.proved c.in_ok-proved.outcome) c.context-context.ensures c.in_ok-proved.ensures in
+    let reduction = subst (λ M. IsReductionOf M c.args.term (record { steps = c.args.most; side = c.args.most; nest = 63 }) c.in_ok-proved.proved c.in_ok-proved.outcome) c.context-context.ensures c.in_ok-proved.ensures in
     if_ok c.block.result c.block.ensures
-    (λ text written. reduced_by c.args.accepted.now c.args.most c.args.term _ c.in_ok-proved.proved c.in_ok-proved.outcome text.items simple refl reduction c.shows-2.ensures written)
+    (λ text written. reduced_by c.args.accepted.now c.args.most c.args.term (record { steps = c.args.most; side = c.args.most; nest = 63 }) c.in_ok-proved.proved c.in_ok-proved.outcome text.items simple refl reduction c.shows-2.ensures written)
