@@ -1,5 +1,4 @@
 use Rattle.std.proofs.Common.{subst}
-use Rattle.mw_logic.specs.Module.{Module}
 use Rattle.mw_pattern.specs.Compiled.{IsIndexOf}
 use Rattle.mw_least.proofs.Compilable.{compilable}
 use Rattle.mw_least.proofs.context.Ctx.new.Goals as goal
