@@ -9,7 +9,7 @@ use Rattle.mw_logic.specs.Signature.{Signature, Operator, at_number, sort, same,
 use Rattle.mw_logic.specs.Sorts.{HasSort}
 use Rattle.mw_logic.specs.Free.{IsFreeSignature}
 use Rattle.mw_logic.specs.Parts.{nested}
-use Rattle.mw_match.proofs.Nested.{nested_free, nested_values_free}
+use Rattle.mw_canon.proofs.Free.{nested_free, meant_free}
 use Rattle.mw_logic.specs.Substitution.{Substitution, same_variable, value, is_bound, IsSubstitution, IsSolution, SameSolution}
 use Rattle.mw_logic.proofs.FreeSignature.{free_equal}
 use Rattle.mw_logic.proofs.SolutionLaws.{substitution_value, sort_kind}
@@ -22,7 +22,8 @@ use Rattle.mw_machine.proofs.Placing.{values_of}
 use Rattle.mw_machine.proofs.Starting.{variables, pattern_numbered, solution, solved_from, values_length, values_begin, same_solution, begins_whole}
 use Rattle.mw_match.proofs.Matching.{begins_same}
 use Rattle.mw_match.specs.Matching.{Decides}
-use Rattle.mw_match.specs.Solutions.{MayBe, IsOnlySolution, IsAllSolutions, nested_values, listed}
+use Rattle.mw_match.specs.Solutions.{MayBe, IsOnlySolution, IsAllSolutions, listed}
+use Rattle.mw_canon.specs.Canonical.{meant}
 use Rattle.mw_match.specs.declared.solutions.Solution.{Solution}
 
 module _ (sig : Signature) (simple : IsSimpleSignature sig) where
@@ -126,9 +127,9 @@ module _ (sig : Signature) (p t : RawTerm) (s0 : Substitution) where
       nothing : {A : Type 0} (i : ℕ) (q : Solution) → slice_get [] i ≡ Some q → A
       nothing i q h = absurd (cc)
 
-  one_of_all : (r : Solution) → r.take ≡ None → IsOnlySolution sig p t s0 (Some (nested_values sig r.subst)) → IsAllSolutions sig p t s0 (r ∷ [])
+  one_of_all : (r : Solution) → r.take ≡ None → IsOnlySolution sig p t s0 (Some (meant sig r.subst)) → IsAllSolutions sig p t s0 (r ∷ [])
   one_of_all r n h = record {
-    sound = λ q m. let e : r ≡ q = ⊎_elim (λ e. e) (λ b. absurd b) m in subst (λ (q : Solution). IsSolution sig p t s0 (nested_values sig q.subst) × (q.take ≡ None)) e (h.0, n);
+    sound = λ q m. let e : r ≡ q = ⊎_elim (λ e. e) (λ b. absurd b) m in subst (λ (q : Solution). IsSolution sig p t s0 (meant sig q.subst) × (q.take ≡ None)) e (h.0, n);
     complete = λ s sol. (r, inl refl, h.1 s sol);
     once = λ i j q s a b e. first i q a ∙ sym (first j s b);
   }
@@ -139,14 +140,14 @@ module _ (sig : Signature) (p t : RawTerm) (s0 : Substitution) where
 
 -- so the list has all, as the flattened terms mean them
 module _ (sig : Signature) (free : IsFreeSignature sig) (p t : RawTerm) (s0 : Substitution) where
-  flattened : (list : List Solution) → IsAllSolutions sig p t s0 list → IsAllSolutions sig (nested sig p) (nested sig t) (nested_values sig s0) list
-  flattened list h = rw (nested_free sig free p, nested_free sig free t, nested_values_free sig free s0) h
+  flattened : (list : List Solution) → IsAllSolutions sig p t s0 list → IsAllSolutions sig (nested sig p) (nested sig t) (meant sig s0) list
+  flattened list h = rw (nested_free sig free p, nested_free sig free t, meant_free sig free s0) h
 
-  pub none_listed : (o : Option Substitution) (coming : Option Solution) → IsOnlySolution sig p t s0 o → o ≡ None → coming ≡ None → IsAllSolutions sig (nested sig p) (nested sig t) (nested_values sig s0) (listed coming)
+  pub none_listed : (o : Option Substitution) (coming : Option Solution) → IsOnlySolution sig p t s0 o → o ≡ None → coming ≡ None → IsAllSolutions sig (nested sig p) (nested sig t) (meant sig s0) (listed coming)
   none_listed o coming h e c = rw c (flattened [] (none_of_all sig p t s0 (subst (IsOnlySolution sig p t s0) e h)))
 
   pub one_listed : (o : Option Substitution) (coming : Option Solution) (r : Substitution) → IsOnlySolution sig p t s0 o → o ≡ Some r → coming ≡ Some (record { subst = r; take = None })
-      → IsAllSolutions sig (nested sig p) (nested sig t) (nested_values sig s0) (listed coming)
+      → IsAllSolutions sig (nested sig p) (nested sig t) (meant sig s0) (listed coming)
   one_listed o coming r h e c =
-      let k : IsOnlySolution sig p t s0 (Some (nested_values sig r)) = subst (λ u. IsOnlySolution sig p t s0 (Some u)) (sym (nested_values_free sig free r)) (subst (IsOnlySolution sig p t s0) e h) in
+      let k : IsOnlySolution sig p t s0 (Some (meant sig r)) = subst (λ u. IsOnlySolution sig p t s0 (Some u)) (sym (meant_free sig free r)) (subst (IsOnlySolution sig p t s0) e h) in
       rw c (flattened (record { subst = r; take = None } ∷ []) (one_of_all sig p t s0 (record { subst = r; take = None }) refl k))

@@ -1,21 +1,17 @@
 -- All solutions of a pattern that extend a substitution, each once.
-use Rattle.std.specs.Prelude.{ℕ, ◌≡◌, List, [], ◌∷◌, map, Option, Some, None, slice_get, ⊤}
+use Rattle.std.specs.Prelude.{ℕ, ◌≡◌, List, [], ◌∷◌, Option, Some, None, slice_get, ⊤}
 use Rattle.mw_logic.specs.Term.{RawTerm, numeral, quoted, variable, apply}
 use Rattle.mw_logic.specs.Signature.{Signature, sort, Member}
 use Rattle.mw_logic.specs.Sorts.{HasSort}
-use Rattle.mw_logic.specs.Parts.{nested}
 use Rattle.mw_logic.specs.Substitution.{Substitution, IsSolution, SameSolution}
+use Rattle.mw_canon.specs.Canonical.{meant}
 use Rattle.mw_match.specs.declared.solutions.Solution.{Solution}
-
--- the substitution with the raw terms that its values mean
-abbrev pub nested_values : Signature → Substitution → Substitution
-nested_values sig s = map (λ b. (b.0, nested sig b.1)) s
 
 -- Each entry is a solution of the whole of t, each solution is some entry modulo the axioms, and no two entries are the same solution.
 pub record IsAllSolutions (sig : Signature) (p t : RawTerm) (s0 : Substitution) (list : List Solution) : Type 0 where
-  pub sound : (r : Solution) → Member r list → IsSolution sig p t s0 (nested_values sig r.subst) × (r.take ≡ None)
-  pub complete : (s : Substitution) → IsSolution sig p t s0 s → (r : Solution) × Member r list × SameSolution sig s (nested_values sig r.subst)
-  pub once : (i j : ℕ) (q r : Solution) → slice_get list i ≡ Some q → slice_get list j ≡ Some r → SameSolution sig (nested_values sig q.subst) (nested_values sig r.subst) → i ≡ j
+  pub sound : (r : Solution) → Member r list → IsSolution sig p t s0 (meant sig r.subst) × (r.take ≡ None)
+  pub complete : (s : Substitution) → IsSolution sig p t s0 s → (r : Solution) × Member r list × SameSolution sig s (meant sig r.subst)
+  pub once : (i j : ℕ) (q r : Solution) → slice_get list i ≡ Some q → slice_get list j ≡ Some r → SameSolution sig (meant sig q.subst) (meant sig r.subst) → i ≡ j
 
 -- the solution to come, if there is one
 abbrev pub listed : Option Solution → List Solution

@@ -5,7 +5,8 @@ ghost use Rattle.mw_logic.specs.Signature.{HasKind, IsRawTerm};
 ghost use Rattle.mw_logic.specs.Substitution.{IsSubstitution};
 ghost use Rattle.mw_logic.specs.Term.{is_ground};
 ghost use Rattle.mw_machine.specs.Simple.{IsSimpleSignature};
-ghost use Rattle.mw_match.specs.Solutions.{IsAllSolutions, IsOnlySolution, MayBe, nested_values};
+ghost use Rattle.mw_match.specs.Solutions.{IsAllSolutions, IsOnlySolution, MayBe};
+ghost use Rattle.mw_canon.specs.Canonical.{meant};
 ghost use Rattle.mw_term.specs.Raws.{raw_term};
 
 use crate::bindings::{bound, places_of, values_of};
@@ -57,8 +58,8 @@ impl Solutions {
         requires pattern { IsRawTerm context.now.signature (nested context.now.signature (raw_term pattern.now)) }
         requires ground { IsTrue (is_ground subject.now) }
         requires subject { IsRawTerm context.now.signature (nested context.now.signature subject.now) }
-        requires given { IsSubstitution context.now.signature (nested_values context.now.signature given.now) }
-        ensures { let sig = context.now.signature in IfOk result (λ s. IsAllSolutions sig (nested sig (raw_term pattern.now)) (nested sig subject.now) (nested_values sig given.now) s) }
+        requires given { IsSubstitution context.now.signature (meant context.now.signature given.now) }
+        ensures { let sig = context.now.signature in IfOk result (λ s. IsAllSolutions sig (nested sig (raw_term pattern.now)) (nested sig subject.now) (meant sig given.now) s) }
     {
         context.shows();
         let found = solve(alloc, context.signature(), pattern, subject, given)?;

@@ -4,9 +4,9 @@ use Rattle.mw_logic.specs.Signature.{IsRawTerm}
 use Rattle.mw_logic.specs.Substitution.{IsSubstitution}
 use Rattle.mw_term.specs.Raws.{raw_term}
 use Rattle.mw_match.specs.Letters.{letters}
-use Rattle.mw_match.specs.Solutions.{nested_values}
+use Rattle.mw_canon.specs.Canonical.{meant}
 use Rattle.mw_match.proofs.Letters.{free_letters}
-use Rattle.mw_match.proofs.Nested.{nested_free, nested_values_free}
+use Rattle.mw_canon.proofs.Free.{nested_free, meant_free}
 use Rattle.mw_match.proofs.tests.solved.Goals as goal
 
 pub new-requires-clause-pattern : goal.new-requires-clause-pattern
@@ -21,5 +21,5 @@ new-requires-clause-subject c =
 
 pub new-requires-clause-given : goal.new-requires-clause-given
 new-requires-clause-given c =
-    let r = subst (IsSubstitution letters) (sym (nested_values_free letters free_letters c.args.start.now)) c.requires.start in
-    subst (λ s. IsSubstitution s (nested_values s c.args.start.now)) (sym c.requires.context) r
+    let r = subst (IsSubstitution letters) (sym (meant_free letters free_letters c.args.start.now)) c.requires.start in
+    subst (λ s. IsSubstitution s (meant s c.args.start.now)) (sym c.requires.context) r

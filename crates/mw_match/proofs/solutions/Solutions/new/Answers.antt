@@ -4,7 +4,7 @@ use Rattle.mw_logic.specs.Substitution.{IsSubstitution}
 use Rattle.mw_machine.proofs.Discrete.{free}
 use Rattle.mw_term.specs.Raws.{raw_term}
 use Rattle.mw_match.specs.Solutions.{IsOnlySolution}
-use Rattle.mw_match.proofs.Nested.{nested_free, nested_values_free}
+use Rattle.mw_canon.proofs.Free.{nested_free, meant_free}
 use Rattle.mw_match.proofs.Solving.{none_listed, one_listed}
 use Rattle.mw_match.proofs.solutions.Solutions.new.Goals as goal
 use Rattle.mw_match.proofs.solutions.Solutions.new.Goals.{in-Some, in-None}
@@ -22,7 +22,7 @@ solve-requires-clause-subject c =
 pub solve-requires-clause-given : goal.solve-requires-clause-given
 solve-requires-clause-given c =
     let sig = c.args.context.now.signature in
-    subst (λ s. IsSubstitution s c.args.given.now) (sym c.signature.ensures) (subst (IsSubstitution sig) (nested_values_free sig (free sig c.shows.ensures.signature) c.args.given.now) c.requires.given)
+    subst (λ s. IsSubstitution s c.args.given.now) (sym c.signature.ensures) (subst (IsSubstitution sig) (meant_free sig (free sig c.shows.ensures.signature) c.args.given.now) c.requires.given)
 
 pub returns : goal.returns
 returns c =
