@@ -149,9 +149,6 @@ module _ (t u v : RawTerm) (d : Deduction) (h : IsSmall 9 t) (k : IsSmall 9 u) (
 
 -- the same of what is equal to these
 module _ (M : Module) (e : M ≡ tested) where
-  pub simple_at : IsSimpleModule M
-  simple_at = subst IsSimpleModule (sym e) simple
-
   pub zero_at : (t : RawTerm) → t ≡ tested_zero → IsAdmittedTerm M.signature t
   zero_at t f = subst (λ N. IsAdmittedTerm N.signature t) (sym e) (subst (IsAdmittedTerm tested_signature) (sym f) (small_admitted 1 tested_zero (omega arith) zero_small))
 

@@ -1,10 +1,9 @@
 ghost use Rattle.std.specs.Prelude.{◌≡◌, [], ◌∷◌, map, IfOk};
 ghost use Rattle.mw_logic.specs.Signature.{sort};
-ghost use Rattle.mw_logic.specs.Term.{variable as as_variable, apply as applied, unary, binary};
-ghost use Rattle.mw_logic.specs.Terms.{terms_of};
+ghost use Rattle.mw_logic.specs.Term.{apply as applied, unary, binary};
 ghost use Rattle.mw_term.specs.Signatures.{sorted_of};
 ghost use Rattle.mw_term.specs.Raws.{raw_term, raw_terms};
-ghost use Rattle.mw_proof.specs.Tested.{tested, tested_operator, tested_signature, tested_equation, tested_zero, tested_one, named, pair_values, IsSmall, IsOnce};
+ghost use Rattle.mw_proof.specs.Tested.{tested, tested_operator, tested_signature, tested_equation, tested_zero, named, IsSmall, IsOnce};
 
 use super::*;
 use mw_least::Ctx;
@@ -220,13 +219,18 @@ fn has_steps(proof: &Proved<'_>, steps: u64) -> bool {
     proof.count() == steps && proof.steps() == steps && proof.rules() == 0
 }
 
+/// Whether the proof is in the module with one statement.
+fn is_over_it(proof: &Proved<'_>) -> bool {
+    proof.context().statements().len() == 1
+}
+
 fn both_hold(alloc: Global, context: &Ctx) -> Result<bool, AllocError>
     requires { context.now ≡ tested }
 {
     let proof = both(alloc, context)?;
     let from = begins(alloc)?;
     let to = ends(alloc)?;
-    Ok(leads(&proof, &from, &to) && has_steps(&proof, 2))
+    Ok(leads(&proof, &from, &to) && has_steps(&proof, 2) && is_over_it(&proof))
 }
 
 #[test]
@@ -256,5 +260,36 @@ fn a_term_leads_to_itself(rt: HostRuntime) -> Result<(), Fail> {
     let alloc = rt.alloc();
     let context = module(alloc)?;
     assert!(rt; nothing_holds(alloc, &context)?);
+    Ok(())
+}
+
+/// Into the second of two arguments, a statement applied there with one value, and out of it; then in and out again.
+fn tracked(alloc: Global) -> Result<Trail, AllocError> {
+    let mut values = vec![in alloc; zero(alloc)?]?;
+    let mut trail = Trail::new(alloc);
+    trail.enter(1, 0)?;
+    trail.apply(1, &mut values)?;
+    trail.leave()?;
+    trail.enter(0, 1)?;
+    trail.enter(0, 0)?;
+    trail.close(2)?;
+    Ok(trail)
+}
+
+/// Whether the trail has this value and no other.
+fn has_value(trail: &Trail, term: &Term) -> bool {
+    match trail.values() {
+        [value] => same(value, term),
+        _ => false,
+    }
+}
+
+#[test]
+fn a_trail_keeps_steps_and_values(rt: HostRuntime) -> Result<(), Fail> {
+    let alloc = rt.alloc();
+    let trail = tracked(alloc)?;
+    let zero = zero(alloc)?;
+    assert!(rt; has_value(&trail, &zero));
+    assert_eq!(rt; trail.steps(), 1);
     Ok(())
 }
