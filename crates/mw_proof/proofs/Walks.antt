@@ -149,3 +149,16 @@ filled_up xs zs n k e f =
     let a : n - length xs ≡ k = omega (arith, e) in
     let b : length xs ≤ n = omega (arith, e) in
     f ∙ ap (λ ys. ys ++ replicate (n - length xs) Leave) (take_all n xs b) ∙ ap (λ m. xs ++ replicate m Leave) a ∙ ap (λ ys. xs ++ ys) (repeated_outward k)
+
+-- one level more is open behind an item that goes in, and one less where one is left
+pub left_open_entered : (xs zs : List Item) (i j n : ℕ) → zs ≡ xs ++ Enter i j ∷ [] → left_open 0 xs ≡ n → left_open 0 zs ≡ suc n
+left_open_entered xs zs i j n e h = ap (left_open 0) e ∙ left_open-append 0 xs (Enter i j ∷ []) ∙ ap suc h
+
+pub left_open_left : (xs zs : List Item) (n : ℕ) → Leaves xs zs → left_open 0 xs ≡ suc n → left_open 0 zs ≡ n
+left_open_left xs zs n l h = ⊎_elim
+    (λ e. ap (left_open 0) e ∙ left_open-append 0 xs (Leave ∷ []) ∙ ap (λ m. left_open m (Leave ∷ [])) h)
+    (λ e. let a : suc (left_open 0 zs) ≡ left_open 0 xs = sym (left_open-append 0 zs (Enter e.0 e.1 ∷ [])) ∙ ap (left_open 0) (sym e.2) in omega (arith, a, h))
+    l
+
+pub left_open_applied : (xs zs : List Item) (k c : ℕ) → zs ≡ xs ++ Apply k c ∷ [] → left_open 0 zs ≡ left_open 0 xs
+left_open_applied xs zs k c e = ap (left_open 0) e ∙ left_open-append 0 xs (Apply k c ∷ [])

@@ -1,6 +1,6 @@
 // A proof as it is kept: a flat list of items, and the values of the statements' variables.
-ghost use Rattle.std.specs.Prelude.{◌≡◌, ◌+◌, ◌-◌, ◌^◌, ◌++◌, [], ◌∷◌, ℕ, min, length, IfOk, IfErr};
-ghost use Rattle.mw_proof.specs.Trails.{Leaves, outward, inward, stepped, IsWalk};
+ghost use Rattle.std.specs.Prelude.{◌≡◌, ◌≤◌, ◌+◌, ◌-◌, ◌^◌, ◌++◌, [], ◌∷◌, ℕ, min, length, IfOk, IfErr};
+ghost use Rattle.mw_proof.specs.Trails.{Leaves, outward, inward, left_open, stepped, IsWalk};
 ghost use Rattle.mw_proof.specs.declared.trail.Item.TheVariants.{Enter, Apply};
 
 use mw_term::Term;
@@ -72,12 +72,10 @@ pub(crate) fn narrow(number: usize) -> Result<u32, AllocError>
 
 /// The levels that are open, where one is left.
 fn leave_one(items: &mut Vec<Item>, out: usize) -> Result<usize, AllocError>
+    requires { 1 ≤ out }
     ensures left { IfOk result (λ n. Leaves items.old.items items.new.items × (n + 1 ≡ out)) }
     ensures same { IfErr result (λ _. items.new.items ≡ items.old.items) }
 {
-    if out == 0 {
-        return Err(AllocError);
-    }
     if let Some(Item::Enter(_, _)) = items.last() {
         let _ = items.pop();
         return Ok(out - 1);
@@ -141,6 +139,7 @@ impl Trail {
     pub fn enter(&mut self, before: usize, after: usize) -> Result<(), AllocError>
         ensures items { IfOk result (λ _. self.new.items ≡ self.old.items ++ Enter before after ∷ []) }
         ensures values { IfOk result (λ _. self.new.values ≡ self.old.values) }
+        ensures same { IfErr result (λ _. self.new ≡ self.old) }
     {
         let before = narrow(before)?;
         let after = narrow(after)?;
@@ -152,23 +151,24 @@ impl Trail {
         Ok(())
     }
 
-    /// Out of an argument. Where nothing was done in it, it was never entered. Where no argument is open it fails.
+    /// Out of an argument; one must be open. Where nothing was done in it, it was never entered.
     pub fn leave(&mut self) -> Result<(), AllocError>
+        requires { 1 ≤ left_open 0 self.old.items }
         ensures items { IfOk result (λ _. Leaves self.old.items self.new.items) }
         ensures values { IfOk result (λ _. self.new.values ≡ self.old.values) }
+        ensures same { IfErr result (λ _. self.new ≡ self.old) }
     {
         self.out = leave_one(&mut self.items, self.out)?;
         Ok(())
     }
 
-    /// Out of so many arguments. Where fewer are open it fails.
+    /// Out of so many arguments, which must be open.
     pub fn close(&mut self, places: usize) -> Result<(), AllocError>
+        requires { places ≤ left_open 0 self.old.items }
         ensures items { IfOk result (λ _. self.new.items ≡ self.old.items ++ outward places) }
         ensures values { IfOk result (λ _. self.new.values ≡ self.old.values) }
+        ensures same { IfErr result (λ _. self.new ≡ self.old) }
     {
-        if places > self.out {
-            return Err(AllocError);
-        }
         leave_all(&mut self.items, places)?;
         self.out -= places;
         Ok(())
@@ -178,6 +178,7 @@ impl Trail {
     pub fn apply(&mut self, number: usize, values: &mut Vec<Term>) -> Result<(), AllocError>
         ensures items { IfOk result (λ _. self.new.items ≡ self.old.items ++ Apply number (length values.old.items) ∷ []) }
         ensures values { IfOk result (λ _. self.new.values ≡ self.old.values ++ values.old.items) }
+        ensures same { IfErr result (λ _. self.new ≡ self.old) }
     {
         let number = narrow(number)?;
         let count = narrow(values.len())?;

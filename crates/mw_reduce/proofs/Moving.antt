@@ -256,3 +256,7 @@ falls_out vs vs' ws below fs top f f' t v a b o d m =
 pub at_end : {E : Type 0} (r : Result (Option End) E) (e : End) (C : Type 0) (P : Option End → Type 0) → IfOk r (λ _. C) → IfOk r (λ x. x ≡ Some e) → (C → P (Some e)) → IfOk r P
 at_end (Ok x) e C P c q h = subst P (sym q) (h c)
 at_end (Err y) e C P c q h = tt
+
+pub one_more_frame : (fs : List Frame) (f : Frame) → suc (length fs) ≡ length (fs ++ f ∷ [])
+one_more_frame [] f = refl
+one_more_frame (g ∷ fs) f = ap suc (one_more_frame fs f)

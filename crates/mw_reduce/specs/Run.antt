@@ -11,7 +11,7 @@ use Rattle.mw_machine.specs.Limits.{limits_within}
 use Rattle.mw_machine.specs.Moves.{reached}
 use Rattle.mw_machine.specs.Machine.{here, AreNormalBy, work}
 use Rattle.mw_logic.specs.Terms.{terms_of}
-use Rattle.mw_proof.specs.Trails.{Track, moves, proof_of, stepped, outward}
+use Rattle.mw_proof.specs.Trails.{Track, moves, proof_of, stepped, left_open, outward}
 use Rattle.mw_reduce.specs.Stack.{opened, stack, Fits, AllFit}
 use Rattle.mw_reduce.specs.State.{Holds, Counts}
 use Rattle.mw_reduce.specs.declared.frame.Frame.{Frame}
@@ -30,6 +30,7 @@ pub record Running : Type 0 where
 pub record IsRunning (m : ℕ) (s : Running) : Type 0 where
   pub counts : Counts s.kept
   pub limited : stepped s.kept.items < m
+  pub places : left_open 0 s.kept.items ≡ length s.below
   pub below : AllFit s.kept.values s.below
   pub top : Fits s.kept.values s.top
 

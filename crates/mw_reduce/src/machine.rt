@@ -14,15 +14,15 @@ ghost use Rattle.mw_pattern.specs.Numbered.{AreWellNumbered};
 ghost use Rattle.mw_reduce.specs.declared.progress.Outcome.TheVariants.{Stopped};
 ghost use Rattle.mw_logic.specs.Judgements.{Fails, IsNormalBy};
 ghost use Rattle.mw_machine.specs.Machine.{AreNormalBy};
-ghost use Rattle.mw_proof.specs.Trails.{stepped};
+ghost use Rattle.mw_proof.specs.Trails.{left_open, stepped};
 ghost use Rattle.mw_reduce.specs.State.{Counts, Describes, Holds};
 
 use crate::frame::{Frame, Next, Todo, Turn};
 use crate::next::{behind, next_of, open};
-use mw_pattern::{Equations, Pattern, instance};
-use mw_proof::{Reason, Trail};
 use crate::progress::{End, Outcome, Reduced};
 use crate::turn::turn;
+use mw_pattern::{Equations, Pattern, instance};
+use mw_proof::{Reason, Trail};
 use mw_term::{Shape, Term, copy};
 use std::alloc::{AllocError, Global};
 use std::mem::replace;
@@ -108,7 +108,8 @@ fn stop(
     part: Term,
     reason: Reason,
 ) -> Result<Option<End>, AllocError>
-    requires { AllFit kept.old.values below.old.items }
+    requires fits { AllFit kept.old.values below.old.items }
+    requires places { left_open 0 kept.old.items ≡ length below.old.items }
     ensures closed { IfOk result (λ _. Closed kept.old kept.new (length below.old.items)) }
     ensures end { IfOk result (λ r. r ≡ Some (record { term = plug (round (stack kept.old.values below.old.items)) part; outcome = Stopped reason })) }
 {
@@ -130,6 +131,7 @@ fn go_out<'m>(
 ) -> Result<Option<End>, AllocError>
     requires counts { Counts kept.old }
     requires limited { stepped kept.old.items < limit }
+    requires places { left_open 0 kept.old.items ≡ length below.old.items }
     requires fits { AllFit kept.old.values below.old.items }
     ensures goes { IfOk result (Goes limit (record { below = below.new.items; top = top.new; kept = kept.new })) }
     ensures steps { IfOk result (λ _. stepped kept.new.items ≡ stepped kept.old.items) }

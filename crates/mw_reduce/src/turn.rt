@@ -8,7 +8,7 @@ ghost use Rattle.mw_machine.specs.Machine.{AreNormalBy};
 ghost use Rattle.mw_machine.specs.Positions.{fill_all};
 ghost use Rattle.mw_logic.specs.Terms.{terms_of};
 ghost use Rattle.mw_pattern.specs.Equations.{listed};
-ghost use Rattle.mw_proof.specs.Trails.{stepped};
+ghost use Rattle.mw_proof.specs.Trails.{left_open, stepped};
 ghost use Rattle.mw_reduce.specs.Stack.{AllFit};
 ghost use Rattle.mw_pattern.specs.Numbered.{AreWellNumbered};
 ghost use Rattle.mw_reduce.specs.State.{NoneFits, Describes, Holds, After, IsCounted, Counts};
@@ -131,6 +131,7 @@ pub fn turn<'m>(
     requires limited { stepped kept.old.items < limit }
     ensures counts { IfOk result (λ r. Counts kept.new × IsCounted limit kept.new r) }
     ensures climbs { IfOk result (Climbs kept.old kept.new) }
+    ensures places { IfOk result (λ _. left_open 0 kept.new.items ≡ left_open 0 kept.old.items) }
     ensures grows { IfOk result (λ r. (ws : List RawTerm) × (kept.new.values ≡ kept.old.values ++ ws)) }
     ensures turns { (M : Module) (n : ℕ) (t0 : RawTerm) (below : List FrameOf) → Describes M n equations.now → length below ≡ level → AllFit kept.old.values below → Holds M n t0 kept.old.items kept.old.values below (apply op (terms_of done.items)) → AreNormalBy M (Fails M n) (terms_of done.items) → IfOk result (After M n t0 kept.new.items kept.new.values below) }
 {

@@ -13,17 +13,17 @@ use Rattle.mw_reduce.proofs.machine.complete.Goals as goal
 pub go_out-requires-clause-fits : goal.go_out-requires-clause-fits
 go_out-requires-clause-fits c = let g = c.in_ok-frame.ensures.grows in fit_grown c.args.kept.now.values _ g.0 c.args.below.now.items g.1 c.requires.running.below
 
-pub stop-requires : goal.stop-requires
-stop-requires c = let g = c.in_ok-frame.ensures.grows in fit_grown c.args.kept.now.values _ g.0 c.args.below.now.items g.1 c.requires.running.below
+pub stop-requires-clause-fits : goal.stop-requires-clause-fits
+stop-requires-clause-fits c = let g = c.in_ok-frame.ensures.grows in fit_grown c.args.kept.now.values _ g.0 c.args.below.now.items g.1 c.requires.running.below
 
-pub stop-requires-in-Deep : goal.stop-requires-in-Deep
-stop-requires-in-Deep c = let g = c.in_ok-frame.ensures.grows in fit_grown c.args.kept.now.values _ g.0 c.args.below.now.items g.1 c.requires.running.below
+pub stop-requires-in-Deep-clause-fits : goal.stop-requires-in-Deep-clause-fits
+stop-requires-in-Deep-clause-fits c = let g = c.in_ok-frame.ensures.grows in fit_grown c.args.kept.now.values _ g.0 c.args.below.now.items g.1 c.requires.running.below
 
 pub returns-in-Open-clause-goes : goal.returns-in-Open-clause-goes
 returns-in-Open-clause-goes c =
     let q = rw c.in-Open.is at c.in_ok-frame.ensures.counts in
     let g = c.in_ok-frame.ensures.grows in
-    record { counts = q.0; limited = q.1.0; below = fit_grown c.args.kept.now.values _ g.0 c.args.below.now.items g.1 c.requires.running.below; top = q.1.2 }
+    record { counts = q.0; limited = q.1.0; places = c.in_ok-frame.ensures.places ∙ c.requires.running.places; below = fit_grown c.args.kept.now.values _ g.0 c.args.below.now.items g.1 c.requires.running.below; top = q.1.2 }
 
 pub returns-in-Open-clause-means : goal.returns-in-Open-clause-means
 returns-in-Open-clause-means c =

@@ -1,9 +1,15 @@
-use Rattle.std.proofs.Common.{rules, ◌≡◌, ◌++◌, ◌∷◌, [], refl, sym, arith, subst, List}
-use Rattle.mw_proof.specs.Trails.{Leaves}
+use Rattle.std.proofs.Common.{rules, ◌≡◌, ◌++◌, ◌∷◌, [], suc, length, ap, refl, sym, arith, subst, List}
+use Rattle.mw_proof.specs.Trails.{Leaves, left_open}
+use Rattle.mw_proof.proofs.Walks.{left_open_left}
 use Rattle.mw_reduce.specs.Stack.{AllFit, Fits}
 use Rattle.mw_reduce.specs.declared.frame.Frame.{Frame}
-use Rattle.mw_reduce.proofs.Moving.{means_done, means_out, counts_leave, steps_leave, all_fit_init, falls_out}
+use Rattle.mw_reduce.proofs.Moving.{means_done, means_out, counts_leave, steps_leave, all_fit_init, one_more_frame, falls_out}
 use Rattle.mw_reduce.proofs.machine.go_out.Goals as goal
+
+pub leave-requires : goal.leave-requires
+leave-requires c =
+    let e = c.requires.places in let a = ap length c.in-Some.ensures.items in let b = one_more_frame c.pop.new.self.items c.in-Some.frame in
+    omega (arith, e, a, b)
 
 pub returns-in-None-clause-means : goal.returns-in-None-clause-means
 returns-in-None-clause-means c =
@@ -14,7 +20,9 @@ pub returns-in_ok-push-in-Some-clause-goes : goal.returns-in_ok-push-in-Some-cla
 returns-in_ok-push-in-Some-clause-goes c =
     let i = all_fit_init c.args.kept.now.values c.pop.new.self.items c.in-Some.frame (rw c.in-Some.ensures.items at c.requires.fits) in
     let l = c.in_ok-leave-in-Some.ensures in let s = steps_leave c.args.kept.now c.leave.new.self l.items in let h = c.requires.limited in
-    record { counts = counts_leave c.args.kept.now c.leave.new.self l.items l.values c.requires.counts; limited = omega (arith, s, h); below = rw l.values i.0; top = rw l.values i.1 }
+    let p = c.requires.places in let a = ap length c.in-Some.ensures.items in let b = one_more_frame c.pop.new.self.items c.in-Some.frame in
+    let e : left_open 0 c.args.kept.now.items ≡ suc (length c.pop.new.self.items) = omega (arith, p, a, b) in
+    record { counts = counts_leave c.args.kept.now c.leave.new.self l.items l.values c.requires.counts; limited = omega (arith, s, h); places = left_open_left c.args.kept.now.items c.leave.new.self.items _ l.items e; below = rw l.values i.0; top = rw l.values i.1 }
 
 pub returns-in_ok-push-in-Some-clause-steps : goal.returns-in_ok-push-in-Some-clause-steps
 returns-in_ok-push-in-Some-clause-steps c = steps_leave c.args.kept.now c.leave.new.self c.in_ok-leave-in-Some.ensures.items

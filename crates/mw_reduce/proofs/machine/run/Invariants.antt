@@ -14,7 +14,7 @@ abbrev pub invariant-loop-found : goal.invariant-loop-found
 invariant-loop-found l =
     IsRunning l.limit (record { below = l.below.items; top = l.top; kept = l.kept })
     × ((M : Module) (n : ℕ) → Describes M n l.equations → IsTrue (is_ground (here (opened [] l.fn.top))) → IsRawTerm M.signature (here (opened [] l.fn.top)) → height (here (opened [] l.fn.top)) ≤ 1000
-      → MeansRunning M n (here (opened [] l.fn.top)) (record { below = l.below.items; top = l.top; kept = l.kept }))
+    → MeansRunning M n (here (opened [] l.fn.top)) (record { below = l.below.items; top = l.top; kept = l.kept }))
 
 abbrev pub decreases-loop-found : goal.decreases-loop-found
 decreases-loop-found l = l.limit - stepped l.kept.items

@@ -25,4 +25,4 @@ pub returns-in-Some : goal.returns-in-Some
 returns-in-Some c =
     let f = rw c.in-Some.is at c.in_ok-opened.ensures [] in
     λ M n d w. subst (λ z. IfOk c.run.result (IsReduced M n z c.args.limit)) f.0
-        (c.run.ensures M n d (subst (λ z. IsTrue (is_ground z)) (sym f.0) c.requires.ground) (subst (IsRawTerm M.signature) (sym f.0) w) (subst (λ z. height z ≤ 1000) (sym f.0) c.requires.admitted))
+    (c.run.ensures M n d (subst (λ z. IsTrue (is_ground z)) (sym f.0) c.requires.ground) (subst (IsRawTerm M.signature) (sym f.0) w) (subst (λ z. height z ≤ 1000) (sym f.0) c.requires.admitted))

@@ -5,7 +5,8 @@ use Rattle.mw_proof.specs.declared.trail.Item.TheVariants.{Enter}
 use Rattle.mw_reduce.specs.Stack.{opened}
 use Rattle.mw_reduce.specs.Run.{Running}
 use Rattle.mw_reduce.specs.declared.frame.Frame.{Frame}
-use Rattle.mw_reduce.proofs.Moving.{means_value, means_inside, counts_enter, steps_enter, all_fit_append, falls_value, falls_inside}
+use Rattle.mw_proof.proofs.Walks.{left_open_entered}
+use Rattle.mw_reduce.proofs.Moving.{means_value, means_inside, counts_enter, steps_enter, all_fit_append, one_more_frame, falls_value, falls_inside}
 use Rattle.mw_reduce.proofs.machine.step.Goals as goal
 
 pub returns-in_ok-push-in-Value-clause-falls : goal.returns-in_ok-push-in-Value-clause-falls
@@ -29,6 +30,7 @@ returns-in_ok-push-in-Inside-clause-goes c =
     record {
       counts = counts_enter c.args.kept.now c.enter.new.self _ _ n.items n.values c.requires.running.counts;
       limited = omega (arith, s, l);
+      places = rw e (left_open_entered c.args.kept.now.items c.enter.new.self.items _ _ (length c.args.below.now.items) n.items c.requires.running.places ∙ one_more_frame c.args.below.now.items c.args.top.now);
       below = rw (e, n.values) (all_fit_append c.args.kept.now.values c.args.below.now.items c.args.top.now c.requires.running.below c.requires.running.top);
       top = rw (c.replace-outer.ensures.after, n.values) y.2;
     }

@@ -22,6 +22,6 @@ returns-clause-counts c =
 
 pub returns-clause-one : goal.returns-clause-one
 returns-clause-one c = steps_fired c.args.kept.now c.apply.new.self c.args.statement.now c.args.found.now.items (record {
-    items = c.in_ok-apply.ensures.items ∙ ap (λ n. c.args.kept.now.items ++ Apply c.args.statement.now.number n ∷ []) c.requires.bound;
-    values = c.in_ok-apply.ensures.values;
-  })
+  items = c.in_ok-apply.ensures.items ∙ ap (λ n. c.args.kept.now.items ++ Apply c.args.statement.now.number n ∷ []) c.requires.bound;
+  values = c.in_ok-apply.ensures.values;
+})

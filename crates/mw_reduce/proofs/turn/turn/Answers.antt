@@ -6,6 +6,7 @@ use Rattle.mw_pattern.specs.Clean.{clean}
 use Rattle.mw_pattern.specs.Numbered.{IsWellNumbered}
 use Rattle.mw_reduce.specs.State.{NoneFits}
 use Rattle.mw_reduce.proofs.Turns.{turn_normal, turn_deep, turn_fired, climbs_one}
+use Rattle.mw_proof.proofs.Walks.{left_open_applied}
 use Rattle.mw_reduce.proofs.turn.turn.Goals as goal
 
 pub returns-in_ok-t-in-None-clause-turns : goal.returns-in_ok-t-in-None-clause-turns
@@ -39,3 +40,6 @@ returns-in_ok-next-in-Some-clause-turns c =
 
 pub returns-in_ok-next-in-Some-clause-climbs : goal.returns-in_ok-next-in-Some-clause-climbs
 returns-in_ok-next-in-Some-clause-climbs c = climbs_one c.args.kept.now c.fire.new.kept c.in_ok-next-in-Some.next c.in_ok-next-in-Some.ensures.one
+
+pub returns-in_ok-next-in-Some-clause-places : goal.returns-in_ok-next-in-Some-clause-places
+returns-in_ok-next-in-Some-clause-places c = left_open_applied _ _ _ _ c.in_ok-next-in-Some.ensures.fired.items
