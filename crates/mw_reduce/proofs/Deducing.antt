@@ -1,24 +1,20 @@
 -- What a reduction's kept items mean as a deduction.
-use Rattle.std.specs.Prelude.{◌≡◌, ◌<◌, ◌≤◌, ℕ, [], IsTrue, refl}
-use Rattle.std.proofs.Common.{sym, subst, ◌∙◌}
-use Rattle.mw_logic.specs.Term.{RawTerm, is_ground}
-use Rattle.mw_logic.specs.Signature.{IsRawTerm}
+use Rattle.std.specs.Prelude.{◌≡◌, ℕ, refl}
+use Rattle.std.proofs.Common.{sym}
+use Rattle.mw_logic.specs.Term.{RawTerm}
 use Rattle.mw_logic.specs.Free.{IsFreeSignature}
 use Rattle.mw_logic.specs.Parts.{nested}
-use Rattle.mw_logic.specs.NormalForm.{height}
 use Rattle.mw_logic.specs.Module.{Module}
-use Rattle.mw_logic.specs.Proof.{Proof}
-use Rattle.mw_logic.specs.Judgements.{Proves, admitted_judgements}
+use Rattle.mw_logic.specs.Judgements.{Proves}
 use Rattle.mw_machine.proofs.AtRank.{Proves_of, Proves_admitted}
-use Rattle.mw_machine.specs.Moves.{reached}
 use Rattle.mw_canon.specs.Canonical.{IsAdmittedTerm}
 use Rattle.mw_canon.proofs.Free.{nested_free, admitted_term_free}
 use Rattle.mw_proof.specs.Deductions.{Deduction, IsDeduction}
-use Rattle.mw_proof.specs.Trails.{moves, proof_of}
+use Rattle.mw_proof.specs.Trails.{proof_of}
 use Rattle.mw_proof.proofs.Tracks.{counted_track}
 use Rattle.mw_pattern.specs.declared.equations.Equations.{Equations}
 use Rattle.mw_reduce.specs.Reductions.{IsReductionOf}
-use Rattle.mw_reduce.specs.Run.{IsOutcome, IsReduced}
+use Rattle.mw_reduce.specs.Run.{IsReduced}
 use Rattle.mw_reduce.specs.State.{Describes}
 use Rattle.mw_reduce.specs.declared.progress.Reduced.{Reduced}
 use Rattle.mw_reduce.specs.declared.reducing.Budget.{Budget}

@@ -11,7 +11,7 @@ use Rattle.mw_machine.specs.Machine.{Fires}
 use Rattle.mw_machine.specs.Positions.{fill, fill_all, IsNumbered, counted}
 use Rattle.mw_machine.specs.Simple.{IsSimpleModule}
 use Rattle.mw_machine.specs.Variables.{placed}
-use Rattle.mw_machine.proofs.Firing.{free_module, no_flat_left, left_placeable, right_placeable, left_numbered, fires, solved}
+use Rattle.mw_machine.proofs.Firing.{free_module, no_flat_left, right_placeable, left_numbered, fires, solved}
 use Rattle.mw_machine.proofs.Meeting.{placed_within}
 use Rattle.mw_machine.proofs.Discrete.{accepted}
 use Rattle.mw_machine.proofs.Placing.{value_of, values_of}

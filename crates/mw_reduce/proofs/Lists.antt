@@ -1,5 +1,5 @@
 -- The arguments of a frame, item by item.
-use Rattle.std.proofs.Common.{◌≡◌, ℕ, zero, suc, ◌+◌, ◌<◌, ◌≤◌, List, [], ◌∷◌, ◌++◌, length, get_or, drop, arith, ap, sym, ◌∙◌, refl, drop-cons, add-one, length-drop, drop_of_length-le, subst, inl, inr}
+use Rattle.std.proofs.Common.{◌≡◌, ℕ, zero, suc, ◌+◌, ◌<◌, ◌≤◌, List, [], ◌∷◌, length, get_or, drop, arith, ap, sym, ◌∙◌, refl, length-drop, inl, inr}
 use Rattle.mw_logic.specs.Term.{RawTerm, RawTerms, numeral, quoted, variable, apply, nil, cons, join}
 use Rattle.mw_logic.specs.Parts.{number_of_terms}
 use Rattle.std.proofs.Common.{Vec, Global}
@@ -10,10 +10,7 @@ use Rattle.std.specs.Prelude.{Some, None, slice_get, ◌-◌}
 use Rattle.mw_machine.specs.Machine.{rest_of, IsFlat}
 use Rattle.mw_machine.specs.Positions.{args_of, skip, fill, fill_all, IsWithin, AreWithin}
 use Rattle.mw_logic.specs.Terms.{terms_of}
-use Rattle.mw_machine.proofs.Trees.{join-assoc, join-nil}
-use Rattle.mw_machine.proofs.Filling.{terms_of-append}
 use Rattle.mw_pattern.specs.declared.pattern.Pattern.{Pattern}
-use Rattle.std.proofs.lemmas.Option.{slice_get-get_or}
 use Rattle.mw_pattern.specs.declared.pattern.Pattern.TheVariants.{Var, Op}
 use Rattle.mw_pattern.specs.Clean.{clean, clean_all}
 use Rattle.mw_reduce.specs.Stack.{Opens, IsNextArgument, IsNextPattern}

@@ -1,5 +1,5 @@
 -- The steps of the reducer on its frames.
-use Rattle.std.specs.Prelude.{◌≡◌, ◌⊎◌, ◌≤◌, ◌<◌, ◌+◌, ℕ, List, [], ◌∷◌, ◌++◌, length, refl, IsTrue}
+use Rattle.std.specs.Prelude.{◌≡◌, ◌⊎◌, ◌≤◌, ◌<◌, ℕ, List, [], ◌∷◌, ◌++◌, length, refl, IsTrue}
 use Rattle.std.proofs.Common.{sym, subst, ap, ◌∙◌, arith, ⊎_elim, append-nil}
 use Rattle.mw_logic.specs.Term.{RawTerm, apply, nil, cons, join, plug, is_ground}
 use Rattle.mw_logic.specs.Parts.{number_of_terms}
@@ -15,7 +15,7 @@ use Rattle.mw_machine.proofs.Trees.{join-nil}
 use Rattle.mw_machine.proofs.Filling.{terms_of-append}
 use Rattle.mw_machine.proofs.Steps.{part_ground, begins, passes, goes_in, goes_out, goes_back, AreNormalBy-join}
 use Rattle.mw_logic.specs.Judgements.{AdmittedStep}
-use Rattle.std.specs.Prelude.{zero, suc, Option, Some, Result, Ok, Err, IfOk}
+use Rattle.std.specs.Prelude.{suc, Option, Some, Result, Ok, Err, IfOk}
 use Rattle.mw_reduce.specs.declared.progress.End.{End}
 use Rattle.mw_machine.specs.Moves.{reached, place_of}
 use Rattle.mw_machine.proofs.Closing.{leaves, closed_place, applied-append, applied_leaves, leads_closed}
@@ -28,7 +28,7 @@ use Rattle.mw_reduce.specs.Stack.{opened, stack, Fits, AllFit, Stands}
 use Rattle.mw_reduce.specs.State.{Describes, Holds, Counts, GoesTooDeep}
 use Rattle.mw_reduce.specs.Run.{Running, MeansRunning, IsReduced, Closed}
 use Rattle.mw_proof.specs.declared.trail.Item.{Item}
-use Rattle.mw_proof.specs.declared.trail.Item.TheVariants.{Enter, Leave, Apply}
+use Rattle.mw_proof.specs.declared.trail.Item.TheVariants.{Enter, Leave}
 use Rattle.mw_proof.specs.Trails.{Track}
 use Rattle.mw_pattern.specs.declared.equations.Equations.{Equations}
 use Rattle.mw_reduce.specs.declared.frame.Frame.{Frame}

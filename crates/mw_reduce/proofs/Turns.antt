@@ -1,5 +1,5 @@
 -- What an equation's step makes of the kept items, the values and the frames.
-use Rattle.std.specs.Prelude.{◌≡◌, ◌≤◌, ◌<◌, ◌+◌, ◌-◌, ◌⊎◌, ℕ, zero, suc, List, [], ◌∷◌, ◌++◌, length, take, drop, false, Some, slice_get, IsTrue, Bool, true, ◌≢◌, refl}
+use Rattle.std.specs.Prelude.{◌≡◌, ◌≤◌, ◌<◌, ◌+◌, ◌-◌, ◌⊎◌, ℕ, zero, suc, List, [], ◌∷◌, ◌++◌, length, drop, false, Some, slice_get, IsTrue, Bool, true, ◌≢◌, refl}
 use Rattle.std.proofs.Common.{sym, subst, ap, ◌∙◌, arith, inl, inr, ⊎_elim, length-append, length-drop}
 use Rattle.std.proofs.lemmas.Option.{slice_get_within}
 use Rattle.mw_logic.specs.Term.{RawTerm, RawTerms, numeral, quoted, variable, apply, nil, cons, is_ground}
@@ -8,7 +8,7 @@ use Rattle.mw_logic.specs.Signature.{IsRawTerm}
 use Rattle.mw_logic.specs.Module.{Module}
 use Rattle.mw_logic.specs.Judgements.{Held, Fails, IsNormalBy}
 use Rattle.mw_logic.specs.Proof as proof
-use Rattle.mw_machine.specs.Moves.{enter, leave, apply as applies}
+use Rattle.mw_machine.specs.Moves.{apply as applies}
 use Rattle.mw_logic.specs.NormalForm.{height}
 use Rattle.mw_machine.specs.Machine.{round, Fires, AreNormalBy}
 use Rattle.mw_machine.specs.Positions.{skip, fill, fill_all, IsWithin, AreWithin}
@@ -28,7 +28,7 @@ use Rattle.mw_proof.specs.Trails.{Track}
 use Rattle.mw_reduce.specs.declared.frame.Turn.{Turn}
 use Rattle.mw_reduce.specs.declared.frame.Turn.TheVariants as turn
 use Rattle.mw_proof.specs.declared.trail.Item.{Item}
-use Rattle.mw_proof.specs.declared.trail.Item.TheVariants.{Enter, Leave, Apply}
+use Rattle.mw_proof.specs.declared.trail.Item.TheVariants.{Apply}
 use Rattle.mw_pattern.specs.declared.equations.Equation.{Equation}
 use Rattle.mw_pattern.specs.declared.equations.Equations.{Equations}
 use Rattle.mw_reduce.specs.declared.frame.Todo.{Todo}

@@ -1,5 +1,5 @@
 -- What a reduction gives.
-use Rattle.std.specs.Prelude.{ℕ, ◌≡◌, ◌<◌}
+use Rattle.std.specs.Prelude.{◌≡◌}
 use Rattle.mw_logic.specs.Term.{RawTerm}
 use Rattle.mw_logic.specs.Parts.{nested}
 use Rattle.mw_logic.specs.Module.{Module}

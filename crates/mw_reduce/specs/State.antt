@@ -10,9 +10,8 @@ use Rattle.mw_logic.specs.Judgements.{Held, Fails, IsNormalBy}
 use Rattle.mw_machine.specs.Plain.{IsFreeModule}
 use Rattle.mw_logic.specs.NormalForm.{height}
 use Rattle.mw_machine.specs.Machine.{here, Fires, NoneAtTop, NoFlatLeft, At}
-use Rattle.mw_machine.specs.Positions.{fill, fill_all, IsWithin, AreNumbered, counted_all}
+use Rattle.mw_machine.specs.Positions.{fill, fill_all}
 use Rattle.mw_pattern.specs.Clean.{clean}
-use Rattle.mw_pattern.specs.Numbered.{IsWellNumbered, AreWellNumbered}
 use Rattle.mw_proof.specs.Trails.{variables_of, moves, needed, stepped}
 use Rattle.mw_pattern.specs.Equations.{listed}
 use Rattle.mw_reduce.specs.Stack.{opened, stack, Fits, Stands}

@@ -1,12 +1,7 @@
-use Rattle.std.proofs.Common.{rules, ◌≡◌, ◌∙◌, length, refl, sym, subst, ap, ⊎_elim, inl, inr, List}
-use Rattle.mw_logic.specs.Term.{RawTerm, apply, plug}
-use Rattle.mw_logic.specs.Module.{Module}
+use Rattle.std.proofs.Common.{rules, ◌≡◌, ◌∙◌, length, refl, sym, subst, ap}
+use Rattle.mw_logic.specs.Term.{apply}
 use Rattle.mw_logic.specs.Terms.{terms_of}
-use Rattle.mw_machine.specs.Machine.{round, here}
-use Rattle.mw_proof.specs.declared.reason.Reason.TheVariants.{Rewrites, Depth}
-use Rattle.mw_reduce.specs.Stack.{AllFit, stack, opened}
 use Rattle.mw_reduce.specs.State.{Holds}
-use Rattle.mw_reduce.specs.declared.progress.Outcome.TheVariants.{Stopped}
 use Rattle.mw_reduce.proofs.Moving.{means_full, means_deep, means_open, complete_here, fit_grown, at_end}
 use Rattle.mw_reduce.proofs.machine.complete.Goals as goal
 

@@ -1,8 +1,6 @@
-use Rattle.std.proofs.Common.{rules, ◌≡◌, ◌++◌, ◌∷◌, [], suc, length, ap, refl, sym, arith, subst, List}
-use Rattle.mw_proof.specs.Trails.{Leaves, left_open}
+use Rattle.std.proofs.Common.{rules, ◌≡◌, [], suc, length, ap, refl, arith}
+use Rattle.mw_proof.specs.Trails.{left_open}
 use Rattle.mw_proof.proofs.Walks.{left_open_left}
-use Rattle.mw_reduce.specs.Stack.{AllFit, Fits}
-use Rattle.mw_reduce.specs.declared.frame.Frame.{Frame}
 use Rattle.mw_reduce.proofs.Moving.{means_done, means_out, counts_leave, steps_leave, all_fit_init, one_more_frame, falls_out}
 use Rattle.mw_reduce.proofs.machine.go_out.Goals as goal
 

@@ -1,5 +1,5 @@
 use Rattle.std.proofs.Common.{[], ◌≤◌, sym, subst, arith, refl, IfOk, IsTrue}
-use Rattle.mw_logic.specs.Term.{RawTerm, is_ground}
+use Rattle.mw_logic.specs.Term.{is_ground}
 use Rattle.mw_logic.specs.Signature.{IsRawTerm}
 use Rattle.mw_logic.specs.NormalForm.{height}
 use Rattle.mw_reduce.specs.Run.{IsReduced}

@@ -1,10 +1,9 @@
-use Rattle.std.proofs.Common.{◌≡◌, ◌∙◌, ◌++◌, ◌∷◌, [], length, ap, sym, inr, refl, arith, List}
+use Rattle.std.proofs.Common.{◌≡◌, ◌∙◌, ◌++◌, ◌∷◌, [], length, ap, inr, refl, arith}
 use Rattle.mw_logic.specs.Parts.{number_of_terms}
 use Rattle.mw_machine.specs.Machine.{rest_of}
 use Rattle.mw_proof.specs.declared.trail.Item.TheVariants.{Enter}
 use Rattle.mw_reduce.specs.Stack.{opened}
 use Rattle.mw_reduce.specs.Run.{Running}
-use Rattle.mw_reduce.specs.declared.frame.Frame.{Frame}
 use Rattle.mw_proof.proofs.Walks.{left_open_entered}
 use Rattle.mw_reduce.proofs.Moving.{means_value, means_inside, counts_enter, steps_enter, all_fit_append, one_more_frame, falls_value, falls_inside}
 use Rattle.mw_reduce.proofs.machine.step.Goals as goal

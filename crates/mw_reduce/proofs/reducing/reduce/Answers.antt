@@ -1,11 +1,5 @@
-use Rattle.std.proofs.Common.{ℕ, ◌≤◌, IsTrue, sym, subst}
-use Rattle.mw_logic.specs.Term.{is_ground}
-use Rattle.mw_logic.specs.Signature.{IsRawTerm}
-use Rattle.mw_logic.specs.NormalForm.{height}
 use Rattle.mw_machine.proofs.Discrete.{free}
 use Rattle.mw_canon.proofs.Free.{of_admitted_term}
-use Rattle.mw_reduce.specs.State.{Describes}
-use Rattle.mw_reduce.specs.Run.{IsReduced}
 use Rattle.mw_reduce.proofs.Describing.{numbered_compiled, describes}
 use Rattle.mw_reduce.proofs.Deducing.{deduced, reduction}
 use Rattle.mw_reduce.proofs.reducing.reduce.Goals as goal

@@ -1,5 +1,5 @@
-use Rattle.std.proofs.Common.{◌≡◌, ◌≢◌, ◌≤◌, ◌+◌, ◌-◌, ◌^◌, arith, refl, true, false, nat_eq, min, ap, ◌∙◌, ◌++◌, ◌∷◌, []}
-use Rattle.mw_proof.specs.Trails.{Track, stepped}
+use Rattle.std.proofs.Common.{◌≡◌, ◌≢◌, ◌≤◌, arith, true, false, nat_eq, ap, ◌∙◌, ◌++◌, ◌∷◌, []}
+use Rattle.mw_proof.specs.Trails.{stepped}
 use Rattle.mw_proof.specs.declared.trail.Item.TheVariants.{Apply}
 use Rattle.mw_reduce.specs.State.{Fired}
 use Rattle.mw_reduce.proofs.Turns.{counted_right, counts_fired, steps_fired}
