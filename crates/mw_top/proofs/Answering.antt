@@ -1,6 +1,6 @@
 -- The block of a kept deduction answers a command.
-use Rattle.std.specs.Prelude.{◌≡◌, ◌-◌, ◌^◌, ◌<◌, ◌≤◌, ℕ, List, None, min, IsTrue, Result, Ok, Err, IfOk}
-use Rattle.std.proofs.Common.{◌∙◌, ap, subst, sym, refl, arith}
+use Rattle.std.specs.Prelude.{◌≡◌, ◌-◌, ◌^◌, ℕ, List, None, min, IsTrue, Result, Ok, Err, IfOk}
+use Rattle.std.proofs.Common.{◌∙◌, ap, subst, sym, refl}
 use Rattle.mw_logic.specs.Term.{RawTerm, RawTerms, apply, is_ground}
 use Rattle.mw_logic.specs.Signature.{Signature, Operator, sort, IsRawTerm, IsOperator}
 use Rattle.mw_logic.specs.Sorts.{IsLeastSort}

@@ -1,4 +1,4 @@
-use Rattle.std.proofs.Common.{refl, subst, sym, ap}
+use Rattle.std.proofs.Common.{refl, subst, sym}
 use Rattle.mw_logic.specs.Module.{Module}
 use Rattle.mw_machine.specs.Simple.{IsSimpleModule}
 use Rattle.mw_canon.specs.Canonical.{IsAdmittedTerm}
