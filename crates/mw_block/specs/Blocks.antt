@@ -3,8 +3,9 @@ use Rattle.std.specs.Prelude.{◌++◌, ℕ, List, [], ◌∷◌, codes}
 use Rattle.std.specs.Fmt.{decimal}
 use Rattle.mw_logic.specs.Ends.{Reason, by_rules, by_rewrites, by_depth, by_nat, by_condition, by_nest}
 use Rattle.mw_logic.specs.Term.{RawTerm}
-use Rattle.mw_logic.specs.Signature.{Signature}
-use Rattle.mw_print.specs.Printing.{mixfix_text, sort_name}
+use Rattle.mw_logic.specs.Signature.{Signature, Sorted}
+use Rattle.mw_print.specs.Printing.{mixfix_text}
+use Rattle.mw_print.specs.Sorts.{sorted_name}
 
 -- how a reduction ended, in a word
 pub data Word : Type 0 where
@@ -31,22 +32,22 @@ echo_line command sig name from = line (command ++ codes " in " ++ name ++ codes
 abbrev pub count_line : ℕ → List ℕ
 count_line count = line (codes "rewrites: " ++ decimal count)
 
--- the result, with its sort
-abbrev pub result_line : Signature → ℕ → RawTerm → List ℕ
-result_line sig S to = line (codes "result " ++ sort_name sig S ++ codes ": " ++ mixfix_text sig to)
+-- the result, with its sort or kind
+abbrev pub result_line : Signature → Sorted → RawTerm → List ℕ
+result_line sig S to = line (codes "result " ++ sorted_name sig S ++ codes ": " ++ mixfix_text sig to)
 
 -- how the reduction ended
 abbrev pub status_line : Word → List ℕ
 status_line word = line (codes "status: " ++ word_text word)
 
 -- the four lines for a reduction
-abbrev pub block : Signature → List ℕ → RawTerm → ℕ → ℕ → RawTerm → Word → List ℕ
+abbrev pub block : Signature → List ℕ → RawTerm → ℕ → Sorted → RawTerm → Word → List ℕ
 block sig name from count S to word = echo_line (codes "reduce") sig name from ++ count_line count ++ result_line sig S to ++ status_line word
 
--- the sort of a term that was read
-abbrev pub sort_line : Signature → ℕ → List ℕ
-sort_line sig S = line (codes "sort: " ++ sort_name sig S)
+-- the sort or kind of a term that was read
+abbrev pub sort_line : Signature → Sorted → List ℕ
+sort_line sig S = line (codes "sort: " ++ sorted_name sig S)
 
 -- the two lines for a term that was read
-abbrev pub parsed_block : Signature → List ℕ → RawTerm → ℕ → List ℕ
+abbrev pub parsed_block : Signature → List ℕ → RawTerm → Sorted → List ℕ
 parsed_block sig name term S = echo_line (codes "parse") sig name term ++ sort_line sig S

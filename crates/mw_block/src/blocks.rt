@@ -1,12 +1,16 @@
 // The blocks of commands.
 ghost use Rattle.std.specs.Prelude.{◌≡◌, ◌++◌, IfOk, OnOk};
+ghost use Rattle.mw_term.specs.Signatures.{sorted_of};
+ghost use Rattle.mw_poset.specs.SortOrder.{order_of};
+ghost use Rattle.mw_print.specs.Sorts.{IsKindThere};
 ghost use Rattle.mw_block.specs.Blocks.{block, count_line, echo_line, parsed_block, result_line, sort_line, status_line, word_text};
 ghost use Rattle.mw_block.specs.Seen.{word_of};
 
 use crate::printing::{print, print_number};
-use mw_print::print_sort;
+use mw_poset::Poset;
+use mw_print::print_sorted;
 use mw_proof::Reason;
-use mw_term::{Name, Signature, SortId, Term};
+use mw_term::{Name, Signature, Sorted, Term};
 use std::alloc::{AllocError, Global};
 
 /// How a reduction ended.
@@ -46,18 +50,21 @@ fn write_count(alloc: Global, count: u64, text: &mut Vec<u8>) -> Result<(), Allo
     text.extend_from_slice("\n".as_bytes())
 }
 
-/// The result, with its sort.
+/// The result, with its sort or kind.
 fn write_result(
     alloc: Global,
     signature: &Signature,
-    sort: SortId,
+    order: &Poset,
+    sort: Sorted,
     term: &Term,
     text: &mut Vec<u8>,
 ) -> Result<(), AllocError>
-    ensures { OnOk result (text.new.items ≡ text.old.items ++ result_line signature.now sort term.now) }
+    requires order { order.now ≡ order_of signature.now }
+    requires kind { IsKindThere signature.now (sorted_of sort) }
+    ensures { OnOk result (text.new.items ≡ text.old.items ++ result_line signature.now (sorted_of sort) term.now) }
 {
     text.extend_from_slice("result ".as_bytes())?;
-    print_sort(signature, sort, text)?;
+    print_sorted(alloc, signature, order, sort, text)?;
     text.extend_from_slice(": ".as_bytes())?;
     print(alloc, signature, term, text)?;
     text.extend_from_slice("\n".as_bytes())
@@ -86,54 +93,77 @@ fn write_status(status: Status, text: &mut Vec<u8>) -> Result<(), AllocError>
     text.extend_from_slice("\n".as_bytes())
 }
 
-/// The sort of a term that was read.
-fn write_sort(signature: &Signature, sort: SortId, text: &mut Vec<u8>) -> Result<(), AllocError>
-    ensures { OnOk result (text.new.items ≡ text.old.items ++ sort_line signature.now sort) }
+/// The sort or kind of a term that was read.
+fn write_sort(
+    alloc: Global,
+    signature: &Signature,
+    order: &Poset,
+    sort: Sorted,
+    text: &mut Vec<u8>,
+) -> Result<(), AllocError>
+    requires order { order.now ≡ order_of signature.now }
+    requires kind { IsKindThere signature.now (sorted_of sort) }
+    ensures { OnOk result (text.new.items ≡ text.old.items ++ sort_line signature.now (sorted_of sort)) }
 {
     text.extend_from_slice("sort: ".as_bytes())?;
-    print_sort(signature, sort, text)?;
+    print_sorted(alloc, signature, order, sort, text)?;
     text.extend_from_slice("\n".as_bytes())
 }
 
-/// What a reduction came to: how many replacements, a term, its sort, and how it ended.
+/// What a reduction came to: how many replacements, a term, its sort or kind, and how it ended.
 #[derive(Clone, Copy)]
 pub struct Reached<'t> {
     pub count: u64,
-    pub sort: SortId,
+    pub sort: Sorted,
     pub term: &'t Term,
     pub status: Status,
 }
 
-/// The block of a reduction in the module of this name, from a term to what it came to.
+/// The block of a reduction in the module of this name, from a term to what it came to. The signature's sorts have this
+/// order.
 pub fn reduction(
     alloc: Global,
     signature: &Signature,
+    order: &Poset,
     name: &Name,
     from: &Term,
     reached: &Reached<'_>,
 ) -> Result<Vec<u8>, AllocError>
-    ensures { IfOk result (λ text. text.items ≡ block signature.now name.now from.now reached.now.count reached.now.sort reached.now.term.now (word_of reached.now.status)) }
+    requires order { order.now ≡ order_of signature.now }
+    requires kind { IsKindThere signature.now (sorted_of reached.now.sort) }
+    ensures { IfOk result (λ text. text.items ≡ block signature.now name.now from.now reached.now.count (sorted_of reached.now.sort) reached.now.term.now (word_of reached.now.status)) }
 {
     let mut text = Vec::new(alloc);
     write_echo(alloc, "reduce", signature, name, from, &mut text)?;
     write_count(alloc, reached.count, &mut text)?;
-    write_result(alloc, signature, reached.sort, reached.term, &mut text)?;
+    write_result(
+        alloc,
+        signature,
+        order,
+        reached.sort,
+        reached.term,
+        &mut text,
+    )?;
     write_status(reached.status, &mut text)?;
     Ok(text)
 }
 
-/// The block of a term that was read in the module of this name, with its sort.
+/// The block of a term that was read in the module of this name, with its sort or kind. The signature's sorts have this
+/// order.
 pub fn parsed(
     alloc: Global,
     signature: &Signature,
+    order: &Poset,
     name: &Name,
     term: &Term,
-    sort: SortId,
+    sort: Sorted,
 ) -> Result<Vec<u8>, AllocError>
-    ensures { IfOk result (λ text. text.items ≡ parsed_block signature.now name.now term.now sort) }
+    requires order { order.now ≡ order_of signature.now }
+    requires kind { IsKindThere signature.now (sorted_of sort) }
+    ensures { IfOk result (λ text. text.items ≡ parsed_block signature.now name.now term.now (sorted_of sort)) }
 {
     let mut text = Vec::new(alloc);
     write_echo(alloc, "parse", signature, name, term, &mut text)?;
-    write_sort(signature, sort, &mut text)?;
+    write_sort(alloc, signature, order, sort, &mut text)?;
     Ok(text)
 }

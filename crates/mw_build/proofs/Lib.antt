@@ -5,3 +5,4 @@ pub mod Readable
 pub mod Sides
 pub mod Reading
 pub mod Accepting
+pub mod Naming

@@ -16,7 +16,7 @@ use Rattle.mw_term.specs.Raws.{raw_term}
 use Rattle.mw_machine.specs.Machine.{IsFlat}
 use Rattle.mw_machine.specs.Simple.{IsSimpleSignature, IsSimpleEquation, IsSimpleModule}
 use Rattle.mw_machine.specs.Variables.{is_in, met, all_met}
-use Rattle.mw_machine.proofs.Discrete.{free, accepted}
+use Rattle.mw_machine.proofs.Ordered.{free, accepted}
 use Rattle.mw_machine.proofs.Depths.{depth_height}
 use Rattle.mw_machine.proofs.Meeting.{same_is, same_itself, is_in-met}
 use Rattle.mw_module.specs.Refusals.{too_deep}

@@ -1,17 +1,25 @@
--- What a module declares is a signature in which no sort is below another, with free operators.
-use Rattle.std.proofs.Common.{◌≡◌, ◌∙◌, ◌||◌, ℕ, zero, suc, List, [], ◌∷◌, ◌++◌, map, Bool, true, false, Option, Some, None, Result, Ok, Err, slice_get, bytes_eq, cond, IsFalse, refl, sym, ap, subst}
+-- What a module declares: sorts of different names, free operators, and declarations in the kinds of their operators.
+use Rattle.std.proofs.Common.{◌≡◌, ◌∙◌, ◌||◌, ℕ, zero, suc, List, [], ◌∷◌, ◌++◌, length, map, Bool, true, false, Some, None, All, slice_get, bytes_eq, cond, IsFalse, refl, sym, ap, subst}
 use Rattle.std.proofs.lemmas.Bool.{both_ways}
 use Rattle.std.proofs.lemmas.Option.{same_Some}
+use Rattle.std.proofs.lemmas.List.Elements.{All-head, All-tail}
 use Rattle.std.proofs.lemmas.Slice.Eq.{bytes_eq-Decides}
-use Rattle.mw_logic.specs.Signature.{Operator, at_number}
-use Rattle.mw_machine.specs.Simple.{IsSimpleOperator, IsSimpleSignature}
+use Rattle.mw_logic.specs.Signature.{Signature, Operator, IsOperator, IsSortNamed, at_number}
+use Rattle.mw_logic.specs.Free.{IsFreeSignature}
+use Rattle.mw_logic.specs.Preregular.{IsSortOf, IsDeclarationOf, HasItsSorts, IsPreregular}
+use Rattle.mw_poset.specs.Order.{IsSort}
+use Rattle.mw_poset.proofs.Members.{member-all}
+use Rattle.mw_machine.specs.Plain.{IsFreeOperator}
+use Rattle.mw_machine.specs.Simple.{IsSimpleSignature}
 use Rattle.mw_machine.proofs.Meeting.{neither}
-use Rattle.mw_module.specs.Forms.{Shape, Sorts, Operators, Variables, Equation}
-use Rattle.mw_module.specs.Refusals.{Refusal}
-use Rattle.mw_declare.specs.Statements.{Lined}
-use Rattle.mw_declare.specs.Meaning.{Name, texts, is_among, with_name, with_names, with_sorts, sorts_from, sorts_of, equations_of}
+use Rattle.mw_module.specs.Forms.{Shape, Sorts, Subsorts, Operators, Variables, Equation}
+use Rattle.mw_module.specs.Units.{SeenUnit}
+use Rattle.mw_declare.specs.Statements.{Lined, statements_of}
+use Rattle.mw_declare.specs.Meaning.{Name, texts, is_among, with_name, with_names, with_sorts, sorts_from, sorts_of}
 use Rattle.mw_declare.specs.Operators.{Declared, operator_of, operators_of, signature_of}
-use Rattle.mw_declare.specs.Faults.{Typing, Declarations, declarations_of, declared_with, declared_unless, typing_of, fault_of, variables_with}
+use Rattle.mw_declare.specs.Declarations.{Declarations, unknown_in_all, Declares}
+use Rattle.mw_declare.proofs.Known.{IsDeclared, declared_operators}
+use Rattle.mw_declare.proofs.Pairs.{pairs_there}
 
 -- no name stands twice
 abbrev AreDifferent : List Name → Type 0
@@ -47,6 +55,7 @@ different_names ns (m ∷ ms) d = different_names (with_name ns m) ms (different
 
 different_sorts : (ns : List Name) (s : Shape) → AreDifferent ns → AreDifferent (with_sorts ns s)
 different_sorts ns (Sorts names) d = different_names ns (texts names) d
+different_sorts ns (Subsorts groups) d = d
 different_sorts ns (Operators names args result said) d = d
 different_sorts ns (Variables names S) d = d
 different_sorts ns (Equation left right executable) d = d
@@ -76,39 +85,69 @@ mapped_at g [] i b e = cc
 mapped_at g (x ∷ xs) zero b e = (x, sym (same_Some (g x) b e))
 mapped_at g (x ∷ xs) (suc i) b e = mapped_at g xs i b e
 
-simple_operator : (o : Declared) → IsSimpleOperator (operator_of o)
-simple_operator o = record { free = record { assoc = refl; comm = refl; identity = refl; built = refl }; declarations = refl }
+free_operator : (o : Declared) → IsFreeOperator (operator_of o)
+free_operator o = record { assoc = refl; comm = refl; identity = refl; built = refl }
 
-pub simple_signature : (ss : List Lined) → IsSimpleSignature (signature_of ss)
-simple_signature ss = record { pairs = refl; nat = refl; qid = refl; sorts_differ = differ; operators = at_each }
-  where
-    differ : (S T : ℕ) (n : List ℕ) → at_number (sorts_of ss) S ≡ Some n → at_number (sorts_of ss) T ≡ Some n → S ≡ T
-    differ zero T n e k = cc
-    differ (suc i) zero n e k = cc
-    differ (suc i) (suc j) n e k = ap suc (different_at (sorts_of ss) (different_from [] ss tt) i j n e k)
+pub free_operators : (ss : List Lined) (f : ℕ) (o : Operator) → IsOperator (signature_of ss) f o → IsFreeOperator o
+free_operators ss zero o e = cc
+free_operators ss (suc i) o e = let p = mapped_at operator_of (operators_of ss) i o e in subst IsFreeOperator (sym p.1) (free_operator p.0)
 
-    at_each : (f : ℕ) (o : Operator) → at_number (map operator_of (operators_of ss)) f ≡ Some o → IsSimpleOperator o
-    at_each zero o e = cc
-    at_each (suc i) o e = let p = mapped_at operator_of (operators_of ss) i o e in subst IsSimpleOperator (sym p.1) (simple_operator p.0)
+sorts_apart : (ss : List Lined) (S T : ℕ) (n : List ℕ) → IsSortNamed (signature_of ss) S n → IsSortNamed (signature_of ss) T n → S ≡ T
+sorts_apart ss zero T n e k = cc
+sorts_apart ss (suc i) zero n e k = cc
+sorts_apart ss (suc i) (suc j) n e k = ap suc (different_at (sorts_of ss) (different_from [] ss tt) i j n e k)
 
-ok_inj : {X Y : Type 0} {x y : X} → ◌≡◌ {A = Result X Y} (Ok x) (Ok y) → x ≡ y
-ok_inj e = cc
+all_at : {X : Type 0} (P : X → Type 0) (xs : List X) → All P xs → (f : ℕ) (x : X) → at_number xs f ≡ Some x → P x
+all_at P xs all zero x e = cc
+all_at P [] all (suc i) x e = cc
+all_at P (y ∷ ys) all (suc zero) x e = subst P (same_Some y x e) (All-head P y ys all)
+all_at P (y ∷ ys) all (suc (suc i)) x e = all_at P ys (All-tail P y ys all) (suc i) x e
 
--- what statements declare whose variables have these sorts
-abbrev pub declared_by : List Lined → Typing → Declarations
-declared_by ss es = record { signature = signature_of ss; variables = variables_with (sorts_of ss) es; equations = equations_of ss }
+abbrev pub signature_in : SeenUnit → Signature
+signature_in u = signature_of (statements_of u)
 
--- statements that declare without a fault
-pub declared_is : (line : ℕ) (ss : List Lined) (d : Declarations) → declarations_of line ss ≡ Ok d → (es : Typing) × (declared_by ss es ≡ d)
-declared_is line ss d e = by (typing_of ss) e
-  where
-    of : (es : Typing) (o : Option Refusal) → declared_unless o (declared_by ss es) ≡ Ok d → declared_by ss es ≡ d
-    of es None k = ok_inj k
-    of es (Some f) k = cc
+-- the operators of a unit whose sorts are all known
+module _ (u : SeenUnit) (known : unknown_in_all (statements_of u) ≡ None) where
+  pub operator_known : (f : ℕ) (o : Operator) → IsOperator (signature_in u) f o → IsDeclared (signature_in u) o
+  operator_known f o e = all_at (IsDeclared (signature_in u)) (map operator_of (operators_of (statements_of u))) (declared_operators u known) f o e
 
-    by : (r : Result Typing Refusal) → declared_with line ss r ≡ Ok d → (es : Typing) × (declared_by ss es ≡ d)
-    by (Err f) k = cc
-    by (Ok es) k = (es, of es (fault_of line ss) k)
+  its_sorts : HasItsSorts (signature_in u)
+  its_sorts = record {
+    pairs = λ S T m. let n = length (signature_in u).sorts in
+        member-all (λ (p : ℕ × ℕ). IsSort n p.0 × IsSort n p.1) (signature_in u).pairs (pairs_there (signature_in u).sorts (statements_of u) known) (S, T) m;
+    args = λ f o e K m. member-all (IsSortOf (signature_in u)) o.args (operator_known f o e).args K m;
+    results = λ f o e. (operator_known f o e).result;
+    declarations = λ f o e d m. member-all (IsDeclarationOf (signature_in u) o) o.declarations (operator_known f o e).declarations d m;
+  }
 
-pub simple_declared : (line : ℕ) (ss : List Lined) (d : Declarations) → declarations_of line ss ≡ Ok d → IsSimpleSignature d.signature
-simple_declared line ss d e = subst (λ (d : Declarations). IsSimpleSignature d.signature) (declared_is line ss d e).1 (simple_signature ss)
+-- what a unit declares
+module _ (u : SeenUnit) (d : Declarations) (p : Declares u d) where
+  pub signature_is : d.signature ≡ signature_of (statements_of u)
+  signature_is = ap (λ (d : Declarations). d.signature) p.declared
+
+  pub nat_declared : d.signature.nat ≡ false
+  nat_declared = ap (λ (s : Signature). s.nat) signature_is
+
+  pub qid_declared : d.signature.qid ≡ false
+  qid_declared = ap (λ (s : Signature). s.qid) signature_is
+
+  pub sorts_declared : (S T : ℕ) (name : List ℕ) → IsSortNamed d.signature S name → IsSortNamed d.signature T name → S ≡ T
+  sorts_declared = subst (λ (s : Signature). (S T : ℕ) (name : List ℕ) → IsSortNamed s S name → IsSortNamed s T name → S ≡ T) (sym signature_is) (sorts_apart (statements_of u))
+
+  pub operators_declared : (f : ℕ) (o : Operator) → IsOperator d.signature f o → IsFreeOperator o
+  operators_declared = subst (λ (s : Signature). (f : ℕ) (o : Operator) → IsOperator s f o → IsFreeOperator o) (sym signature_is) (free_operators (statements_of u))
+
+  pub numbers_declared : HasItsSorts d.signature
+  numbers_declared = subst HasItsSorts (sym signature_is) (its_sorts u p.known)
+
+  pub free_declared : IsFreeSignature d.signature
+  free_declared = record {
+    assoc = λ f o e. (operators_declared f o e).assoc;
+    comm = λ f o e. (operators_declared f o e).comm;
+    identity = λ f o e. (operators_declared f o e).identity;
+    built = λ f o e. (operators_declared f o e).built;
+    nat = nat_declared;
+  }
+
+  pub simple_declared : IsPreregular d.signature → IsSimpleSignature d.signature
+  simple_declared preregular = record { nat = nat_declared; qid = qid_declared; sorts_differ = sorts_declared; operators = operators_declared; numbers = numbers_declared; preregular = preregular }

@@ -1,4 +1,5 @@
 -- Modules that were accepted, and why others are refused.
 pub mod Equations
 pub mod Modules
+pub mod SignatureFaults
 pub mod Seen

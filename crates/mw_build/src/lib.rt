@@ -4,6 +4,7 @@
 mod equations;
 mod mentions;
 mod modules;
+mod signature;
 mod size;
 
 pub use modules::{BuildError, Module, build};

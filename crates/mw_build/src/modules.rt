@@ -6,16 +6,23 @@ ghost use Rattle.mw_logic.specs.Signature.{IsRawTerm};
 ghost use Rattle.mw_term.specs.Raws.{raw_term};
 ghost use Rattle.mw_text.specs.Mixfix.{Reads};
 ghost use Rattle.mw_declare.specs.Meaning.{texts};
+ghost use Rattle.mw_declare.specs.Seen.{seen_declarations};
+ghost use Rattle.mw_grammar.specs.Readable.{IsReadable, AreVariables};
+ghost use Rattle.mw_machine.specs.Simple.{IsSimpleSignature};
 ghost use Rattle.mw_parse.specs.Answers.{HasCause as HasReadingCause};
-ghost use Rattle.mw_build.specs.Modules.{IsAccepted, HasCause};
+ghost use Rattle.mw_poset.specs.SortOrder.{order_of};
+ghost use Rattle.mw_sorts.specs.Diagrams.{AreTablesOf};
+ghost use Rattle.mw_build.specs.Modules.{IsDeclaredModule, IsAccepted, HasEquationCause, HasCause};
 ghost use Rattle.mw_build.specs.declared.modules.BuildError.TheVariants.{Memory};
 
 use crate::equations::statements;
+use crate::signature::tables;
 use mw_declare::{Declarations, DeclareError, declare};
 use mw_least::Ctx;
 use mw_lex::Token;
 use mw_module::{Fault, Unit};
 use mw_parse::{ParseError, Reader, parse};
+use mw_sorts::Tables;
 use mw_term::{Name, Raw, Seq, VarId};
 use std::alloc::{AllocError, Global};
 use std::marker::Model;
@@ -86,30 +93,56 @@ impl From<AllocError> for BuildError {
     }
 }
 
-/// The module that a unit is, or its first fault: of its declarations, and then of its equations in order.
-pub fn build(alloc: Global, unit: &Unit, name: Name) -> Result<Module, BuildError>
-    ensures accepted { IfOk result (λ m. IsAccepted (seen_unit unit.now) name m) }
-    ensures fault { IfErr result (HasCause (seen_unit unit.now)) }
+/// The module of this name that was declared, or the first fault of its equations.
+fn declared_module(
+    alloc: Global,
+    name: Name,
+    declarations: Declarations<'_>,
+    tables: Tables,
+) -> Result<Module, BuildError>
+    requires simple { IsSimpleSignature declarations.signature }
+    requires readable { IsReadable declarations.signature }
+    requires variables { AreVariables declarations.signature declarations.variables }
+    requires order { declarations.order ≡ order_of declarations.signature }
+    requires tables { AreTablesOf declarations.signature tables }
+    ensures holds { IfOk result (IsDeclaredModule name (seen_declarations declarations.entry)) }
+    ensures fault { IfErr result (HasEquationCause (seen_declarations declarations.entry)) }
 {
-    let declared = match declare(alloc, unit) {
-        Ok(declared) => declared,
-        Err(DeclareError::Fault(fault)) => return Err(BuildError::Fault(fault)),
-        Err(DeclareError::Memory) => return Err(BuildError::Memory),
-    };
     let Declarations {
         signature,
+        order,
         variables,
         equations,
-    } = declared;
-    let reader = Reader::of(alloc, &signature, variables.as_slice())?;
+    } = declarations;
+    let reader = Reader::of(alloc, &signature, &order, variables.as_slice())?;
     let statements = match statements(alloc, &reader, equations.as_slice())? {
         Ok(statements) => Seq::of(statements),
         Err(fault) => return Err(BuildError::Fault(fault)),
     };
     Ok(Module {
         name,
-        context: Ctx::new(alloc, signature, statements)?,
+        context: Ctx::new(alloc, signature, order, tables, statements)?,
         variables,
         reader,
     })
+}
+
+/// The module that a unit is, or its first fault: of its declarations, then of its signature, and then of its
+/// equations in order.
+pub fn build(alloc: Global, unit: &Unit, name: Name) -> Result<Module, BuildError>
+    ensures accepted { IfOk result (λ m. IsAccepted (seen_unit unit.now) name m) }
+    ensures fault { IfErr result (HasCause (seen_unit unit.now)) }
+{
+    let declarations = match declare(alloc, unit) {
+        Ok(declarations) => declarations,
+        Err(DeclareError::Fault(fault)) => return Err(BuildError::Fault(fault)),
+        Err(DeclareError::Memory) => return Err(BuildError::Memory),
+    };
+    let tables = tables(
+        alloc,
+        unit.line,
+        &declarations.signature,
+        &declarations.order,
+    )?;
+    declared_module(alloc, name, declarations, tables)
 }

@@ -1,9 +1,13 @@
 -- Names that a set holds.
-use Rattle.std.proofs.Common.{◌≡◌, ◌∙◌, ◌+◌, cond, not, ℕ, zero, suc, List, [], ◌∷◌, ◌++◌, ◌≤◌, length, take, map, Bool, true, false, ◌||◌, bytes_eq, position, if◌then◌else◌, refl, ap, arith}
+use Rattle.std.proofs.Common.{◌≡◌, ◌∙◌, ◌+◌, ◌-◌, Some, option_map, get_or, cond, not, ℕ, zero, suc, List, [], ◌∷◌, ◌++◌, ◌≤◌, length, take, map, Bool, true, false, ◌||◌, bytes_eq, position, if◌then◌else◌, refl, ap, arith}
 use Rattle.std.specs.List.{list_any, position_or_len}
 use Rattle.std.specs.Global.{Vec}
+use Rattle.std.proofs.Math.Numerals.{sub-one}
 use Rattle.std.proofs.lemmas.List.{map-append, length-map}
+use Rattle.std.proofs.lemmas.Option.{slice_get-map, slice_get_read}
 use Rattle.indexmap.specs.IndexSet.{insert_key}
+use Rattle.mw_logic.specs.Signature.{at_number}
+use Rattle.mw_poset.specs.Order.{IsSort}
 use Rattle.mw_declare.specs.Meaning.{Name, is_among, with_name}
 
 abbrev pub names_held : List (Vec ℕ) → List Name
@@ -36,3 +40,11 @@ held_position ks n =
     let place = held_place ks n in
     let size = length-map ks (λ (k : Vec ℕ). k.items) in
     rw (place, ← size) refl
+
+-- the name of a number, from 1
+pub held_name : (ks : List (Vec ℕ)) (number : ℕ) (v : Vec ℕ) → IsSort (length (names_held ks)) number → v ≡ get_or ks (number - 1) v → at_number (names_held ks) number ≡ Some v.items
+held_name ks zero v there at = absurd (omega (arith, there.0))
+held_name ks (suc i) v there at =
+    let size = length-map ks (λ (k : Vec ℕ). k.items) in
+    let place : v ≡ get_or ks i v = rw sub-one at at in
+    slice_get-map (λ (k : Vec ℕ). k.items) ks i ∙ ap (option_map (λ (k : Vec ℕ). k.items)) (slice_get_read ks (length ks) i v refl (omega (arith, there.1, size)) place)

@@ -1,5 +1,5 @@
 -- Marks that are said of names with holes, and of names without.
-use Rattle.std.proofs.Common.{◌≡◌, ◌≢◌, ◌∙◌, ℕ, List, [], ◌∷◌, map, Bool, true, false, cond, Option, Some, refl, ap, arith}
+use Rattle.std.proofs.Common.{◌≡◌, ◌≢◌, ◌∙◌, ℕ, List, [], ◌∷◌, map, true, false, cond, Option, Some, refl, ap, arith}
 use Rattle.mw_text.specs.Names.{Item, piece, hole, has_hole, count_holes}
 use Rattle.mw_declare.specs.Grouping.{gather_of_mark, gather_of}
 

@@ -1,30 +1,35 @@
 -- What is known of the operators and variables that a module declares.
-use Rattle.std.proofs.Common.{◌≡◌, ◌≢◌, ◌∙◌, ◌≤◌, ◌<◌, ◌⊎◌, ◌&&◌, ◌||◌, ◌==◌, ℕ, zero, suc, List, [], ◌∷◌, ◌++◌, length, map, Bool, true, false, nat_lt, nat_eq, Option, Some, None, IfSome, option_map, unwrap_or, Ok, Err, All, bytes_eq, cond, if◌then◌else◌, refl, sym, ap, subst, inl, inr, ⊎_elim, arith}
+use Rattle.std.proofs.Common.{◌≡◌, ◌≢◌, ◌∙◌, ◌≤◌, ◌<◌, ◌⊎◌, ◌&&◌, ◌||◌, ◌==◌, ℕ, zero, suc, List, [], ◌∷◌, length, map, Bool, true, false, nat_lt, nat_eq, Option, Some, None, IfSome, option_map, unwrap_or, Ok, Err, All, bytes_eq, cond, if◌then◌else◌, refl, sym, ap, subst, inl, inr, ⊎_elim, arith}
 use Rattle.std.specs.List.{position_or_len}
-use Rattle.std.proofs.lemmas.Bool.{ltb-true}
+use Rattle.std.proofs.lemmas.Bool.{ltb-true, eqb-true}
 use Rattle.std.proofs.lemmas.List.{length-map}
 use Rattle.std.proofs.lemmas.List.Elements.{All-nil, All-cons, All-head, All-tail, All-append}
 use Rattle.std.proofs.lemmas.Slice.Eq.{bytes_eq-Decides}
 use Rattle.mw_lex.specs.Lexing.{Seen}
 use Rattle.mw_logic.specs.Term.{Variable}
-use Rattle.mw_logic.specs.Signature.{Operator}
-use Rattle.mw_text.specs.Names.{Item, piece, hole, items_of, has_hole, count_holes}
+use Rattle.mw_logic.specs.Signature.{Signature, Operator, Declaration, Sorted, sort, kind, Member, SameKind, same}
+use Rattle.mw_logic.specs.Accepted.{number_of_sort}
+use Rattle.mw_logic.specs.Preregular.{IsSortOf, AreOfKinds, IsDeclarationOf}
+use Rattle.mw_logic.proofs.KindLaws.{SameKind-sym}
+use Rattle.mw_text.specs.Names.{Item, piece, hole, items_of, count_holes, name_of_tokens}
 use Rattle.mw_text.proofs.Spellings.{spellings_read}
 use Rattle.mw_module.specs.Words.{texts}
-use Rattle.mw_module.specs.OperatorNames.{items_in}
-use Rattle.mw_module.specs.Attributes.{Attributes, joined}
-use Rattle.mw_module.specs.Forms.{Shape, Sorts, Operators, Variables, Equation, Formed, form_of}
+use Rattle.mw_module.specs.Sortings.{Sorting}
+use Rattle.mw_module.specs.Attributes.{Attributes}
+use Rattle.mw_module.specs.Forms.{Shape, Sorts, Subsorts, Operators, Variables, Equation, Formed, form_of}
 use Rattle.mw_module.specs.Units.{SeenUnit}
-use Rattle.mw_module.proofs.Formed.{IsNameFor, IsPrecedence, IsGather, AreAttributes, AreOperators, IsKnown, joined_known, formed_known}
+use Rattle.mw_module.proofs.Formed.{IsNameFor, IsPrecedence, IsGather, AreAttributes, IsKnown, joined_known, formed_known}
 use Rattle.mw_declare.specs.Statements.{Lined, line_of, lined, statements_in, statements_of}
-use Rattle.mw_declare.specs.Meaning.{Name, number_of, numbers_of, sorts_of}
-use Rattle.mw_declare.specs.Grouping.{begins_open, ends_open, is_end, gather_behind, default_precedence, gather_of_mark, precedence_of, gather_of}
-use Rattle.mw_declare.specs.Operators.{Profile, same_profile, Declared, with_operator, profile_of, with_named, with_operators, operators_from, operators_of, operator_of}
-use Rattle.mw_declare.specs.Faults.{Typing, variables_with}
+use Rattle.mw_declare.specs.Meaning.{Name, is_among, number_of}
+use Rattle.mw_declare.specs.Hierarchy.{Hierarchy, kind_in, sorted_in}
+use Rattle.mw_declare.specs.Grouping.{begins_open, ends_open, gather_behind, default_precedence, gather_of_mark, precedence_of, gather_of}
+use Rattle.mw_declare.specs.Operators.{Rank, rank_of, Profile, same_profile, Declared, declared_again, with_operator, profile_of, with_named, with_operators, operators_from, operators_of, operator_of, signature_of}
+use Rattle.mw_declare.specs.Faults.{Typing, variables_with, unknown_among, name_in, mentioned_by, mentioned, unknown_from}
+use Rattle.mw_declare.specs.Declarations.{unknown_in_all}
 use Rattle.mw_declare.proofs.Holes.{with_holes, without_holes}
-
-abbrev pub IsUpTo : ℕ → ℕ → Type 0
-IsUpTo count K = K ≤ count
+use Rattle.mw_declare.proofs.Unknown.{known_front, known_append, number_there}
+use Rattle.mw_declare.proofs.LeastKinds.{kind_there, kind_same}
+use Rattle.mw_declare.proofs.Pairs.{known_statement}
 
 -- numbers of sorts are within their count
 number_within : (sorts : List Name) (n : Name) → number_of sorts n ≤ length sorts
@@ -33,10 +38,6 @@ number_within sorts n = of (nat_lt (position_or_len (bytes_eq n) sorts) (length 
     of : (b : Bool) → nat_lt (position_or_len (bytes_eq n) sorts) (length sorts) ≡ b → unwrap_or (option_map suc (cond b (Some (position_or_len (bytes_eq n) sorts)) None)) 0 ≤ length sorts
     of true e = let h = ltb-true (position_or_len (bytes_eq n) sorts) (length sorts) e in omega (arith, h)
     of false e = omega arith
-
-numbers_within : (sorts : List Name) (ts : List Seen) → All (IsUpTo (length sorts)) (numbers_of sorts ts)
-numbers_within sorts [] = All-nil (IsUpTo (length sorts))
-numbers_within sorts (t ∷ ts) = All-cons (IsUpTo (length sorts)) (number_of sorts t.text) (numbers_of sorts ts) (number_within sorts t.text) (numbers_within sorts ts)
 
 abbrev pub HasSort : ℕ → Variable → Type 0
 HasSort count x = x.sort ≤ count
@@ -52,11 +53,23 @@ pub record AreItemsFor (arity : ℕ) (items : List Item) : Type 0 where
   pub no_hole : items ≢ hole ∷ []
   pub fits : (count_holes items ≡ 0) ⊎ (count_holes items ≡ arity)
 
--- an operator of which this is said, where there are so many sorts
-record IsSaid (count : ℕ) (o : Declared) : Type 0 where
+-- the sorts of a signature, as a module declares them
+abbrev sorts_held : Signature → Hierarchy
+sorts_held sig = record { names = sig.sorts; pairs = sig.pairs }
+
+-- a declaration whose sorts are there, and lie in these kinds
+record IsRanked (sig : Signature) (args : List ℕ) (result : ℕ) (d : Declaration) : Type 0 where
+  args_of : AreOfKinds sig d.args args
+  result_of : SameKind sig result (number_of_sort d.result)
+  args_there : (S : Sorted) → Member S d.args → IsSortOf sig (number_of_sort S)
+  result_there : IsSortOf sig (number_of_sort d.result)
+
+-- an operator of which this is said
+record IsSaid (sig : Signature) (o : Declared) : Type 0 where
   name : AreItemsFor (length o.profile.args) (items_of o.profile.spelling)
-  args : All (IsUpTo count) o.profile.args
-  result : o.profile.result ≤ count
+  args : All (IsSortOf sig) o.profile.args
+  result : IsSortOf sig o.profile.result
+  declarations : All (IsRanked sig o.profile.args o.profile.result) o.declarations
   attributes : AreAttributes (length o.profile.args) o.attributes
 
 both : (a b : Bool) → (a && b) ≡ true → (a ≡ true) × (b ≡ true)
@@ -68,61 +81,146 @@ same_args p q e =
     let rest = (both (bytes_eq p.spelling q.spelling) (bytes_eq p.args q.args && nat_eq p.result q.result) e).1 in
     (bytes_eq-Decides p.args q.args).0 (both (bytes_eq p.args q.args) (nat_eq p.result q.result) rest).0
 
-said_with : (count : ℕ) (os : List Declared) (p : Profile) (said : Attributes) → All (IsSaid count) os → IsSaid count (record { profile = p; attributes = said }) → All (IsSaid count) (with_operator os p said)
-said_with count [] p said all one = All-cons (IsSaid count) (record { profile = p; attributes = said }) [] one (All-nil (IsSaid count))
-said_with count (o ∷ os) p said all one = of (same_profile p o.profile) refl (said_with count os p said (All-tail (IsSaid count) o os all) one)
-  where
-    this : IsSaid count o
-    this = All-head (IsSaid count) o os all
+same_result : (p q : Profile) → same_profile p q ≡ true → p.result ≡ q.result
+same_result p q e =
+    let rest = (both (bytes_eq p.spelling q.spelling) (bytes_eq p.args q.args && nat_eq p.result q.result) e).1 in
+    eqb-true p.result q.result (both (bytes_eq p.args q.args) (nat_eq p.result q.result) rest).1
 
-    of : (b : Bool) → same_profile p o.profile ≡ b → All (IsSaid count) (with_operator os p said)
-        → All (IsSaid count) (if b then record { profile = o.profile; attributes = joined o.attributes said } ∷ os else o ∷ with_operator os p said)
-    of true e more =
-        let a : AreAttributes (length o.profile.args) said = subst (λ (args : List ℕ). AreAttributes (length args) said) (same_args p o.profile e) one.attributes in
-        All-cons (IsSaid count) (record { profile = o.profile; attributes = joined o.attributes said }) os
-        (record { name = this.name; args = this.args; result = this.result; attributes = joined_known (length o.profile.args) o.attributes said this.attributes a })
-        (All-tail (IsSaid count) o os all)
-    of false e more = All-cons (IsSaid count) o (with_operator os p said) this more
+module _ (sig : Signature) where
+  -- a declaration of o under another profile that is the same
+  ranked_again : (o : Declared) (p : Profile) (d : Declaration) → same_profile p o.profile ≡ true → IsRanked sig p.args p.result d → IsRanked sig o.profile.args o.profile.result d
+  ranked_again o p d e h =
+      subst (λ (result : ℕ). IsRanked sig o.profile.args result d) (same_result p o.profile e) (subst (λ (args : List ℕ). IsRanked sig args p.result d) (same_args p o.profile e) h)
+
+  said_with : (os : List Declared) (p : Profile) (d : Declaration) (said : Attributes) → All (IsSaid sig) os → IsSaid sig (record { profile = p; declarations = d ∷ []; attributes = said })
+      → All (IsSaid sig) (with_operator os p d said)
+  said_with [] p d said all one = All-cons (IsSaid sig) (record { profile = p; declarations = d ∷ []; attributes = said }) [] one (All-nil (IsSaid sig))
+  said_with (o ∷ os) p d said all one = of (same_profile p o.profile) refl (said_with os p d said (All-tail (IsSaid sig) o os all) one)
+    where
+      this : IsSaid sig o
+      this = All-head (IsSaid sig) o os all
+
+      of : (b : Bool) → same_profile p o.profile ≡ b → All (IsSaid sig) (with_operator os p d said)
+          → All (IsSaid sig) (if b then declared_again o d said ∷ os else o ∷ with_operator os p d said)
+      of true e more =
+          let a : AreAttributes (length o.profile.args) said = subst (λ (args : List ℕ). AreAttributes (length args) said) (same_args p o.profile e) one.attributes in
+          let r : IsRanked sig o.profile.args o.profile.result d = ranked_again o p d e (All-head (IsRanked sig p.args p.result) d [] one.declarations) in
+          All-cons (IsSaid sig) (declared_again o d said) os
+          (record {
+            name = this.name;
+            args = this.args;
+            result = this.result;
+            declarations = All-append (IsRanked sig o.profile.args o.profile.result) o.declarations (d ∷ []) this.declarations
+                (All-cons (IsRanked sig o.profile.args o.profile.result) d [] r (All-nil (IsRanked sig o.profile.args o.profile.result)));
+            attributes = joined_known (length o.profile.args) o.attributes said this.attributes a;
+          })
+          (All-tail (IsSaid sig) o os all)
+      of false e more = All-cons (IsSaid sig) o (with_operator os p d said) this more
+
+-- a sort that is there as it is written, and its kind
+module _ (sig : Signature) (s : Sorting) (known : is_among sig.sorts (name_in s) ≡ true) where
+  written_there : IsSortOf sig (number_of sig.sorts (name_in s))
+  written_there = number_there sig.sorts (name_in s) known
+
+  kind_is_there : IsSortOf sig (kind_in (sorts_held sig) s)
+  kind_is_there = kind_there (sorts_held sig) (number_of sig.sorts (name_in s)) written_there
+
+  sorted_there : IsSortOf sig (number_of_sort (sorted_in (sorts_held sig) s))
+  sorted_there = of s.kind
+    where
+      of : (b : Bool) → IsSortOf sig (number_of_sort (if b then kind (kind_in (sorts_held sig) s) else sort (number_of sig.sorts (name_in s))))
+      of true = kind_is_there
+      of false = written_there
+
+  sorted_of_kind : SameKind sig (number_of_sort (sorted_in (sorts_held sig) s)) (kind_in (sorts_held sig) s)
+  sorted_of_kind = of s.kind
+    where
+      of : (b : Bool) → SameKind sig (number_of_sort (if b then kind (kind_in (sorts_held sig) s) else sort (number_of sig.sorts (name_in s)))) (kind_in (sorts_held sig) s)
+      of true = same
+      of false = kind_same (sorts_held sig) (number_of sig.sorts (name_in s)) written_there sig refl
+
+module _ (sig : Signature) where
+  kinds_there : (args : List Sorting) → unknown_among sig.sorts (map name_in args) ≡ None → All (IsSortOf sig) (map (kind_in (sorts_held sig)) args)
+  kinds_there [] e = All-nil (IsSortOf sig)
+  kinds_there (s ∷ args) e =
+      let k = known_front sig.sorts (name_in s) (map name_in args) e in
+      All-cons (IsSortOf sig) (kind_in (sorts_held sig) s) (map (kind_in (sorts_held sig)) args) (kind_is_there sig s k.0) (kinds_there args k.1)
+
+  all_of_kinds : (args : List Sorting) → unknown_among sig.sorts (map name_in args) ≡ None → AreOfKinds sig (map (sorted_in (sorts_held sig)) args) (map (kind_in (sorts_held sig)) args)
+  all_of_kinds [] e = tt
+  all_of_kinds (s ∷ args) e = let k = known_front sig.sorts (name_in s) (map name_in args) e in (sorted_of_kind sig s k.0, all_of_kinds args k.1)
+
+  all_there : (args : List Sorting) → unknown_among sig.sorts (map name_in args) ≡ None → (S : Sorted) → Member S (map (sorted_in (sorts_held sig)) args) → IsSortOf sig (number_of_sort S)
+  all_there [] e S m = absurd m
+  all_there (s ∷ args) e S (inl is) = let k = known_front sig.sorts (name_in s) (map name_in args) e in subst (λ (S : Sorted). IsSortOf sig (number_of_sort S)) is (sorted_there sig s k.0)
+  all_there (s ∷ args) e S (inr m) = let k = known_front sig.sorts (name_in s) (map name_in args) e in all_there args k.1 S m
+
+  -- a declaration that mentions no other sorts
+  module _ (args : List Sorting) (result : Sorting) (known : unknown_among sig.sorts (mentioned_by args result) ≡ None) where
+    args_known : unknown_among sig.sorts (map name_in args) ≡ None
+    args_known = (known_append sig.sorts (map name_in args) (name_in result ∷ []) known).0
+
+    result_known : is_among sig.sorts (name_in result) ≡ true
+    result_known = (known_front sig.sorts (name_in result) [] (known_append sig.sorts (map name_in args) (name_in result ∷ []) known).1).0
+
+    ranked : let rank = rank_of (sorts_held sig) args result in IsRanked sig rank.args rank.result rank.declaration
+    ranked = record {
+      args_of = all_of_kinds args args_known;
+      result_of = SameKind-sym (sorted_of_kind sig result result_known);
+      args_there = all_there args args_known;
+      result_there = sorted_there sig result result_known;
+    }
 
 -- the items of a name's prefix spelling
-spelled_items : (arity : ℕ) (name : List Seen) → IsNameFor arity name → AreItemsFor arity (items_of (profile_of name [] 0).spelling)
+spelled_items : (arity : ℕ) (name : List Seen) → IsNameFor arity name → AreItemsFor arity (items_of (name_of_tokens (texts name)))
 spelled_items arity name h = subst (AreItemsFor arity) (sym (spellings_read (texts name))) (record { some = h.some; no_hole = h.no_hole; fits = h.fits })
 
-said_named : (count : ℕ) (os : List Declared) (names : List (List Seen)) (args : List ℕ) (result : ℕ) (said : Attributes) → All (IsSaid count) os
-    → All (IsNameFor (length args)) names → All (IsUpTo count) args → result ≤ count → AreAttributes (length args) said → All (IsSaid count) (with_named os names args result said)
-said_named count os [] args result said all named within below known = all
-said_named count os (name ∷ names) args result said all named within below known =
-    let one : IsSaid count (record { profile = profile_of name args result; attributes = said }) =
-    record { name = spelled_items (length args) name (All-head (IsNameFor (length args)) name names named); args = within; result = below; attributes = known } in
-    said_named count (with_operator os (profile_of name args result) said) names args result said (said_with count os (profile_of name args result) said all one)
-    (All-tail (IsNameFor (length args)) name names named) within below known
+module _ (sig : Signature) where
+  said_named : (os : List Declared) (names : List (List Seen)) (rank : Rank) (said : Attributes) → All (IsSaid sig) os → All (IsNameFor (length rank.args)) names → All (IsSortOf sig) rank.args
+      → IsSortOf sig rank.result → IsRanked sig rank.args rank.result rank.declaration → AreAttributes (length rank.args) said → All (IsSaid sig) (with_named os names rank said)
+  said_named os [] rank said all named within below of known = all
+  said_named os (name ∷ names) rank said all named within below of known =
+      let one : IsSaid sig (record { profile = profile_of name rank; declarations = rank.declaration ∷ []; attributes = said }) =
+      record {
+        name = spelled_items (length rank.args) name (All-head (IsNameFor (length rank.args)) name names named);
+        args = within;
+        result = below;
+        declarations = All-cons (IsRanked sig rank.args rank.result) rank.declaration [] of (All-nil (IsRanked sig rank.args rank.result));
+        attributes = known;
+      } in
+      said_named (with_operator os (profile_of name rank) rank.declaration said) names rank said (said_with sig os (profile_of name rank) rank.declaration said all one)
+      (All-tail (IsNameFor (length rank.args)) name names named) within below of known
 
-said_operators : (sorts : List Name) (os : List Declared) (s : Shape) → All (IsSaid (length sorts)) os → IsKnown s → All (IsSaid (length sorts)) (with_operators sorts os s)
-said_operators sorts os (Sorts names) all known = all
-said_operators sorts os (Operators names args result said) all known =
-    let n : length args ≡ length (numbers_of sorts args) = sym (length-map args (λ (t : Seen). number_of sorts t.text)) in
-    said_named (length sorts) os names (numbers_of sorts args) (number_of sorts result.text) said all
-    (subst (λ (k : ℕ). All (IsNameFor k) names) n known.names)
-    (numbers_within sorts args)
-    (number_within sorts result.text)
-    (subst (λ (k : ℕ). AreAttributes k said) n known.attributes)
-said_operators sorts os (Variables names S) all known = all
-said_operators sorts os (Equation left right executable) all known = all
+  said_operators : (os : List Declared) (s : Shape) → All (IsSaid sig) os → IsKnown s → unknown_among sig.sorts (mentioned s) ≡ None → All (IsSaid sig) (with_operators (sorts_held sig) os s)
+  said_operators os (Sorts names) all known there = all
+  said_operators os (Subsorts groups) all known there = all
+  said_operators os (Operators names args result said) all known there =
+      let n : length args ≡ length (map (kind_in (sorts_held sig)) args) = sym (length-map args (kind_in (sorts_held sig))) in
+      said_named os names (rank_of (sorts_held sig) args result) said all
+      (subst (λ (k : ℕ). All (IsNameFor k) names) n known.names)
+      (kinds_there sig args (args_known sig args result there))
+      (kind_is_there sig result (result_known sig args result there))
+      (ranked sig args result there)
+      (subst (λ (k : ℕ). AreAttributes k said) n known.attributes)
+  said_operators os (Variables names S) all known there = all
+  said_operators os (Equation left right executable) all known there = all
 
 abbrev IsKnownLined : Lined → Type 0
 IsKnownLined s = IsKnown s.shape
 
-said_from : (sorts : List Name) (os : List Declared) (ss : List Lined) → All (IsSaid (length sorts)) os → All IsKnownLined ss → All (IsSaid (length sorts)) (operators_from sorts os ss)
-said_from sorts os [] all known = all
-said_from sorts os (s ∷ ss) all known =
-    said_from sorts (with_operators sorts os s.shape) ss (said_operators sorts os s.shape all (All-head IsKnownLined s ss known)) (All-tail IsKnownLined s ss known)
+said_from : (sig : Signature) (os : List Declared) (ss : List Lined) → All (IsSaid sig) os → All IsKnownLined ss → unknown_from sig.sorts ss ≡ None
+    → All (IsSaid sig) (operators_from (sorts_held sig) os ss)
+said_from sig os [] all known there = all
+said_from sig os (s ∷ ss) all known there =
+    let k = known_statement sig.sorts s ss there in
+    said_from sig (with_operators (sorts_held sig) os s.shape) ss (said_operators sig os s.shape all (All-head IsKnownLined s ss known) k.0) (All-tail IsKnownLined s ss known) k.1
 
 known_lined : (item : List Seen) → All IsKnownLined (lined (line_of item) (form_of item))
 known_lined item = of (form_of item) refl
   where
     of : (f : Formed) → form_of item ≡ f → All IsKnownLined (lined (line_of item) f)
     of (Ok shape) e = All-cons IsKnownLined (record { line = line_of item; shape = shape }) [] (formed_known item shape e) (All-nil IsKnownLined)
-    of (Err kind) e = All-nil IsKnownLined
+    of (Err why) e = All-nil IsKnownLined
 
 known_statements : (items : List (List Seen)) → All IsKnownLined (statements_in items)
 known_statements [] = All-nil IsKnownLined
@@ -156,31 +254,40 @@ marks arity (Some ms) items h fits = of (count_holes items) refl
         let some : count_holes items ≢ 0 = λ z. omega (arith, e, z) in
         ap length (with_holes (Some ms) ms refl items some) ∙ length-map ms gather_of_mark ∙ h.0 ∙ sym (⊎_elim (λ z. absurd (some z)) (λ k. k) fits)
 
--- An operator that a module declares, where there are so many sorts: its name has no holes or one for each argument, and a mark for each hole, its
--- sorts are declared, and its precedence is at most 127.
-pub record IsDeclared (count : ℕ) (o : Operator) : Type 0 where
+-- An operator that a module declares: its name has no holes or one for each argument, and a mark for each hole, its kinds and the sorts of its declarations
+-- are there, and its precedence is at most 127.
+pub record IsDeclared (sig : Signature) (o : Operator) : Type 0 where
   pub name : AreItemsFor (length o.args) (items_of o.spelling)
-  pub args : All (IsUpTo count) o.args
-  pub result : o.result ≤ count
+  pub args : All (IsSortOf sig) o.args
+  pub result : IsSortOf sig o.result
+  pub declarations : All (IsDeclarationOf sig o) o.declarations
   pub precedence : o.prec < 128
   pub gather : length o.gather ≡ count_holes (items_of o.spelling)
 
-is_declared : (count : ℕ) (o : Declared) → IsSaid count o → IsDeclared count (operator_of o)
-is_declared count o h = record {
+are_declarations : (sig : Signature) (o : Operator) (ds : List Declaration) → All (IsRanked sig o.args o.result) ds → All (IsDeclarationOf sig o) ds
+are_declarations sig o [] all = All-nil (IsDeclarationOf sig o)
+are_declarations sig o (d ∷ ds) all =
+    let h = All-head (IsRanked sig o.args o.result) d ds all in
+    All-cons (IsDeclarationOf sig o) d ds (record { args = h.args_of; result = h.result_of; args_there = h.args_there; result_there = h.result_there })
+    (are_declarations sig o ds (All-tail (IsRanked sig o.args o.result) d ds all))
+
+is_declared : (sig : Signature) (o : Declared) → IsSaid sig o → IsDeclared sig (operator_of o)
+is_declared sig o h = record {
   name = h.name;
   args = h.args;
   result = h.result;
+  declarations = are_declarations sig (operator_of o) o.declarations h.declarations;
   precedence = small o.attributes.precedence (items_of o.profile.spelling) h.attributes.precedence;
   gather = marks (length o.profile.args) o.attributes.gather (items_of o.profile.spelling) h.attributes.gather h.name.fits;
 }
 
-all_declared : (count : ℕ) (os : List Declared) → All (IsSaid count) os → All (IsDeclared count) (map operator_of os)
-all_declared count [] all = All-nil (IsDeclared count)
-all_declared count (o ∷ os) all =
-    All-cons (IsDeclared count) (operator_of o) (map operator_of os) (is_declared count o (All-head (IsSaid count) o os all)) (all_declared count os (All-tail (IsSaid count) o os all))
+all_declared : (sig : Signature) (os : List Declared) → All (IsSaid sig) os → All (IsDeclared sig) (map operator_of os)
+all_declared sig [] all = All-nil (IsDeclared sig)
+all_declared sig (o ∷ os) all =
+    All-cons (IsDeclared sig) (operator_of o) (map operator_of os) (is_declared sig o (All-head (IsSaid sig) o os all)) (all_declared sig os (All-tail (IsSaid sig) o os all))
 
--- the operators of a unit
-pub declared_operators : (u : SeenUnit) → All (IsDeclared (length (sorts_of (statements_of u)))) (map operator_of (operators_of (statements_of u)))
-declared_operators u =
-    let sorts = sorts_of (statements_of u) in
-    all_declared (length sorts) (operators_of (statements_of u)) (said_from sorts [] (statements_of u) (All-nil (IsSaid (length sorts))) (known_statements u.items))
+-- the operators of a unit whose sorts are all known
+pub declared_operators : (u : SeenUnit) → unknown_in_all (statements_of u) ≡ None → All (IsDeclared (signature_of (statements_of u))) (map operator_of (operators_of (statements_of u)))
+declared_operators u known =
+    let sig = signature_of (statements_of u) in
+    all_declared sig (operators_of (statements_of u)) (said_from sig [] (statements_of u) (All-nil (IsSaid sig)) (known_statements u.items) known)

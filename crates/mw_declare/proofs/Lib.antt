@@ -1,7 +1,11 @@
--- Laws of names, variables and operators that tables hold, of marks, of unknown sorts, and of what is declared.
+-- Laws of names, variables and operators that tables hold, of marks, of unknown sorts, kinds and pairs, and of what is declared.
 pub mod Held
 pub mod Typings
 pub mod Tables
 pub mod Holes
-pub mod Known
 pub mod Unknown
+pub mod LeastKinds
+pub mod Pairs
+pub mod Declaring
+pub mod OneDeclaration
+pub mod Known

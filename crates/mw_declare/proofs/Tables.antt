@@ -1,33 +1,46 @@
 -- Operators that a table holds.
-use Rattle.std.proofs.Common.{◌≡◌, ◌∙◌, List, [], ◌∷◌, map, Bool, true, false, cond, Option, Some, None, if◌then◌else◌, sym, ap}
-use Rattle.std.specs.Map.{lookup}
-use Rattle.std.specs.Option.{option_map_or}
+use Rattle.std.proofs.Common.{◌≡◌, ◌∙◌, List, [], ◌∷◌, map, Bool, true, false, cond, Some, None, if◌then◌else◌, sym, ap}
+use Rattle.std.proofs.lemmas.Option.{same_Some}
+use Rattle.std.specs.Map.{lookup, set_value}
 use Rattle.indexmap.specs.IndexMap.{insert_entry}
-use Rattle.mw_module.specs.declared.attribute.Attributes.{Attributes}
-use Rattle.mw_module.specs.Attributes.{seen_attributes, joined, Attributes as Said}
+use Rattle.mw_logic.specs.Signature.{Declaration}
+use Rattle.mw_module.specs.Attributes.{Attributes}
 use Rattle.mw_declare.specs.declared.operators.Profile.{Profile}
-use Rattle.mw_declare.specs.Operators.{Profile as ProfileOf, same_profile, Declared, with_operator}
+use Rattle.mw_declare.specs.declared.operators.Said.{Said}
+use Rattle.mw_declare.specs.Operators.{Profile as ProfileOf, same_profile, Declared, declared_again, with_operator}
 use Rattle.mw_declare.specs.Seen.{seen_profile, seen_operator}
 
-abbrev pub operators_held : List (Profile × Attributes) → List Declared
+abbrev pub operators_held : List (Profile × Said) → List Declared
 operators_held es = map seen_operator es
 
--- what is said of an operator, with what was said before
-abbrev pub said_with : Option Attributes → Said → Said
-said_with known said = option_map_or (λ (k : Attributes). joined (seen_attributes k) said) known said
+-- an operator is declared again where it is this one, or else one of those behind it is
+abbrev either_of : Declared → List Declared → ProfileOf → Declaration → Attributes → Bool → List Declared
+either_of o os p d said here = if here then declared_again o d said ∷ os else o ∷ with_operator os p d said
 
--- one more of an operator is said where it is this one, or else of those behind it
-abbrev either_of : Declared → List Declared → ProfileOf → Said → Bool → List Declared
-either_of o os p said here = if here then record { profile = o.profile; attributes = joined o.attributes said } ∷ os else o ∷ with_operator os p said
-
-module _ (eq : Profile → Profile → Bool) (same : (p q : Profile) → eq p q ≡ same_profile (seen_profile p) (seen_profile q)) (p : Profile) (said : Said) (joint : Attributes) where
-  pub held_insert : (es : List (Profile × Attributes)) → seen_attributes joint ≡ said_with (lookup (eq p) es) said
-      → operators_held (insert_entry eq es p joint) ≡ with_operator (operators_held es) (seen_profile p) said
-  held_insert [] h = ap (λ (a : Said). let o : Declared = record { profile = seen_profile p; attributes = a } in o ∷ []) h
-  held_insert (e ∷ es) h = of (eq p e.0) (sym (same p e.0)) h (held_insert es)
+module _ (eq : Profile → Profile → Bool) (same : (p q : Profile) → eq p q ≡ same_profile (seen_profile p) (seen_profile q)) (p : Profile) (d : Declaration) (said : Attributes) (w : Said) where
+  -- a declaration of an operator that is there
+  pub held_again : (v : Said) → ((q : Profile) → seen_operator (q, w) ≡ declared_again (seen_operator (q, v)) d said) → (es : List (Profile × Said)) → lookup (eq p) es ≡ Some v
+      → operators_held (set_value (eq p) es w) ≡ with_operator (operators_held es) (seen_profile p) d said
+  held_again v is [] found = cc
+  held_again v is (e ∷ es) found = of (eq p e.0) (sym (same p e.0)) found (held_again v is es)
     where
-      of : (b : Bool) → same_profile (seen_profile p) (seen_profile e.0) ≡ b → seen_attributes joint ≡ said_with (cond b (Some e.1) (lookup (eq p) es)) said
-          → (seen_attributes joint ≡ said_with (lookup (eq p) es) said → operators_held (insert_entry eq es p joint) ≡ with_operator (operators_held es) (seen_profile p) said)
-          → operators_held (if b then (e.0, joint) ∷ es else e ∷ insert_entry eq es p joint) ≡ with_operator (operators_held (e ∷ es)) (seen_profile p) said
-      of true s h more = ap (λ (a : Said). let o : Declared = record { profile = seen_profile e.0; attributes = a } in o ∷ operators_held es) h ∙ sym (ap (either_of (seen_operator e) (operators_held es) (seen_profile p) said) s)
-      of false s h more = ap (λ os. seen_operator e ∷ os) (more h) ∙ sym (ap (either_of (seen_operator e) (operators_held es) (seen_profile p) said) s)
+      of : (b : Bool) → same_profile (seen_profile p) (seen_profile e.0) ≡ b → cond b (Some e.1) (lookup (eq p) es) ≡ Some v
+          → (lookup (eq p) es ≡ Some v → operators_held (set_value (eq p) es w) ≡ with_operator (operators_held es) (seen_profile p) d said)
+          → operators_held (if b then (e.0, w) ∷ es else e ∷ set_value (eq p) es w) ≡ with_operator (operators_held (e ∷ es)) (seen_profile p) d said
+      of true s found more =
+          let old : e.1 ≡ v = same_Some e.1 v found in
+          ap (λ o. o ∷ operators_held es) (is e.0 ∙ ap (λ (k : Said). declared_again (seen_operator (e.0, k)) d said) (sym old))
+          ∙ sym (ap (either_of (seen_operator e) (operators_held es) (seen_profile p) d said) s)
+      of false s found more = ap (λ os. seen_operator e ∷ os) (more found) ∙ sym (ap (either_of (seen_operator e) (operators_held es) (seen_profile p) d said) s)
+
+  -- an operator that is new
+  pub held_new : seen_operator (p, w) ≡ record { profile = seen_profile p; declarations = d ∷ []; attributes = said } → (es : List (Profile × Said)) → lookup (eq p) es ≡ None
+      → operators_held (insert_entry eq es p w) ≡ with_operator (operators_held es) (seen_profile p) d said
+  held_new is [] none = ap (λ o. o ∷ []) is
+  held_new is (e ∷ es) none = of (eq p e.0) (sym (same p e.0)) none (held_new is es)
+    where
+      of : (b : Bool) → same_profile (seen_profile p) (seen_profile e.0) ≡ b → cond b (Some e.1) (lookup (eq p) es) ≡ None
+          → (lookup (eq p) es ≡ None → operators_held (insert_entry eq es p w) ≡ with_operator (operators_held es) (seen_profile p) d said)
+          → operators_held (if b then (e.0, w) ∷ es else e ∷ insert_entry eq es p w) ≡ with_operator (operators_held (e ∷ es)) (seen_profile p) d said
+      of true s none more = cc
+      of false s none more = ap (λ os. seen_operator e ∷ os) (more none) ∙ sym (ap (either_of (seen_operator e) (operators_held es) (seen_profile p) d said) s)

@@ -1,15 +1,14 @@
--- What is wrong with a module's declarations: a variable that is declared again with another sort, a sort that isn't declared, and an operator of which
--- two different precedences or two different gathers are said.
+-- What may be wrong with a module's declarations: a variable that is declared again with another sort, a sort that isn't declared, and an operator of
+-- which two different precedences or two different gathers are said.
 use Rattle.std.specs.Prelude.{ℕ, List, [], ◌∷◌, ◌++◌, map, Option, Some, None, Result, Ok, Err, bytes_eq, if◌then◌else◌}
-use Rattle.std.specs.Option.{option_or}
 use Rattle.mw_lex.specs.Lexing.{Seen}
 use Rattle.mw_logic.specs.Term.{Variable}
-use Rattle.mw_logic.specs.Signature.{Signature}
-use Rattle.mw_module.specs.Forms.{Shape, Sorts, Operators, Variables, Equation as EquationShape}
+use Rattle.mw_module.specs.Forms.{Shape, Sorts, Subsorts, Operators, Variables, Equation as EquationShape}
+use Rattle.mw_module.specs.Sortings.{Sorting}
 use Rattle.mw_module.specs.Refusals.{Refusal, already_defined, unknown_sort, attributes_disagree}
 use Rattle.mw_declare.specs.Statements.{Lined}
-use Rattle.mw_declare.specs.Meaning.{Name, texts, is_among, sorts_of, number_of, Sides, equations_of}
-use Rattle.mw_declare.specs.Operators.{Declared, operators_of, signature_of}
+use Rattle.mw_declare.specs.Meaning.{Name, texts, is_among, number_of}
+use Rattle.mw_declare.specs.Operators.{Declared}
 
 -- variables' names, each with the name of its sort
 abbrev pub Typing : Type 0
@@ -36,6 +35,7 @@ at_line line (Err n) = Err (record { line = line; cause = already_defined n })
 
 abbrev pub typed_by : Typing → ℕ → Shape → Result Typing Refusal
 typed_by es line (Sorts names) = Ok es
+typed_by es line (Subsorts groups) = Ok es
 typed_by es line (Operators names args result said) = Ok es
 typed_by es line (Variables names sort) = at_line line (typed (Ok es) names sort.text)
 typed_by es line (EquationShape left right executable) = Ok es
@@ -57,10 +57,21 @@ abbrev pub unknown_among : List Name → List Name → Option Name
 unknown_among sorts [] = None
 unknown_among sorts (n ∷ ns) = if is_among sorts n then unknown_among sorts ns else Some n
 
+abbrev pub mentioned_in : List (List Seen) → List Name
+mentioned_in [] = []
+mentioned_in (g ∷ gs) = texts g ++ mentioned_in gs
+
+abbrev pub name_in : Sorting → Name
+name_in s = s.name.text
+
+abbrev pub mentioned_by : List Sorting → Sorting → List Name
+mentioned_by args result = map name_in args ++ name_in result ∷ []
+
 -- the sorts that a statement mentions, from the left
 abbrev pub mentioned : Shape → List Name
 mentioned (Sorts names) = []
-mentioned (Operators names args result said) = texts args ++ result.text ∷ []
+mentioned (Subsorts groups) = mentioned_in groups
+mentioned (Operators names args result said) = mentioned_by args result
 mentioned (Variables names sort) = sort.text ∷ []
 mentioned (EquationShape left right executable) = []
 
@@ -68,7 +79,7 @@ abbrev pub unknown_in : Option Name → ℕ → Option Refusal → Option Refusa
 unknown_in None line other = other
 unknown_in (Some n) line other = Some (record { line = line; cause = unknown_sort n })
 
--- the first sort that is mentioned and isn't declared
+-- the first of these statements' sorts that isn't declared
 abbrev pub unknown_from : List Name → List Lined → Option Refusal
 unknown_from sorts [] = None
 unknown_from sorts (s ∷ ss) = unknown_in (unknown_among sorts (mentioned s.shape)) s.line (unknown_from sorts ss)
@@ -82,32 +93,3 @@ disagreeing (o ∷ os) = if o.attributes.clash then Some o.profile.spelling else
 abbrev pub disagreement : ℕ → Option Name → Option Refusal
 disagreement line None = None
 disagreement line (Some n) = Some (record { line = line; cause = attributes_disagree n })
-
--- what a module declares: its signature, its variables, and its equations as tokens
-pub record Declarations : Type 0 where
-  pub signature : Signature
-  pub variables : List Variable
-  pub equations : List Sides
-
--- unless there is a fault
-abbrev pub declared_unless : Option Refusal → Declarations → Result Declarations Refusal
-declared_unless None d = Ok d
-declared_unless (Some f) d = Err f
-
--- what is wrong with sorts, or else with operators, whose fault stands at the unit's line
-abbrev pub fault_with : ℕ → List Name → List Declared → List Lined → Option Refusal
-fault_with line sorts os ss = option_or (unknown_from sorts ss) (disagreement line (disagreeing os))
-
-abbrev pub fault_of : ℕ → List Lined → Option Refusal
-fault_of line ss = fault_with line (sorts_of ss) (operators_of ss) ss
-
--- by the variables of the module, or the refusal that comes first
-abbrev pub declared_with : ℕ → List Lined → Result Typing Refusal → Result Declarations Refusal
-declared_with line ss (Err f) = Err f
-declared_with line ss (Ok es) = declared_unless (fault_of line ss)
-    (record { signature = signature_of ss; variables = variables_with (sorts_of ss) es; equations = equations_of ss })
-
--- What a module declares, or the first fault of its declarations: first that of a variable, then that of a sort, then that of an operator, by the line of
--- the unit's first token.
-abbrev pub declarations_of : ℕ → List Lined → Result Declarations Refusal
-declarations_of line ss = declared_with line ss (typing_of ss)

@@ -1,7 +1,9 @@
 -- What a module's statements declare.
 pub mod Statements
 pub mod Meaning
+pub mod Hierarchy
 pub mod Grouping
 pub mod Operators
 pub mod Faults
+pub mod Declarations
 pub mod Seen

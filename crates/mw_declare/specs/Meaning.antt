@@ -4,7 +4,7 @@ pub use Rattle.mw_module.specs.Words.{texts}
 use Rattle.std.specs.Prelude.{ℕ, suc, List, [], ◌∷◌, ◌++◌, map, Bool, option_map, unwrap_or, position, bytes_eq, if◌then◌else◌}
 use Rattle.std.specs.List.{list_any}
 use Rattle.mw_lex.specs.Lexing.{Seen}
-use Rattle.mw_module.specs.Forms.{Shape, Sorts, Operators, Variables, Equation as EquationShape}
+use Rattle.mw_module.specs.Forms.{Shape, Sorts, Subsorts, Operators, Variables, Equation as EquationShape}
 use Rattle.mw_declare.specs.Statements.{Lined}
 
 abbrev pub Name : Type 0
@@ -24,6 +24,7 @@ with_names names (n ∷ ns) = with_names (with_name names n) ns
 -- the sorts, with those of a statement
 abbrev pub with_sorts : List Name → Shape → List Name
 with_sorts sorts (Sorts names) = with_names sorts (texts names)
+with_sorts sorts (Subsorts groups) = sorts
 with_sorts sorts (Operators names args result said) = sorts
 with_sorts sorts (Variables names S) = sorts
 with_sorts sorts (EquationShape left right executable) = sorts
@@ -52,6 +53,7 @@ pub record Sides : Type 0 where
 
 abbrev pub sides_in : ℕ → Shape → List Sides
 sides_in line (Sorts names) = []
+sides_in line (Subsorts groups) = []
 sides_in line (Operators names args result said) = []
 sides_in line (Variables names S) = []
 sides_in line (EquationShape left right executable) = record { line = line; left = left; right = right; executable = executable } ∷ []

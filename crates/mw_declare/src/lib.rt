@@ -1,9 +1,10 @@
-//! What the statements of a functional module declare: its sorts, operators, variables and equations, and what is
+//! What the statements of a functional module declare: its sorts in their order, operators, variables and equations, and what is
 //! wrong with its declarations.
 #![tactic(auto)]
 
 mod declarations;
 mod grouping;
+mod hierarchy;
 mod names;
 mod operators;
 mod sorts;
@@ -19,7 +20,7 @@ mod tests {
     use super::*;
     use mw_lex::tokens;
     use mw_module::{Fault, FaultKind, read_unit};
-    use mw_term::{Gather, Name, Operator, VarId};
+    use mw_term::{Gather, Name, Operator, SortId, Sorted, VarId};
     use std::alloc::{AllocError, Global};
     use std::process::Abort;
     use std::test::Fail;
@@ -69,7 +70,7 @@ mod tests {
         Ok(())
     }
 
-    /// An operator's name, the numbers of its arguments' sorts and of its value's sort, and how it groups.
+    /// An operator's name, the numbers of its arguments' kinds and of its value's kind, and how it groups.
     fn write_operator(
         rt: &impl Abort,
         out: &mut Vec<u8>,
@@ -84,6 +85,65 @@ mod tests {
         out.push(digit(rt, operator.result as usize))?;
         write_grouping(rt, out, operator)?;
         out.push(b' ')?;
+        Ok(())
+    }
+
+    fn write_pairs(
+        rt: &impl Abort,
+        out: &mut Vec<u8>,
+        pairs: &[(SortId, SortId)],
+    ) -> Result<(), AllocError> {
+        for (lower, upper) in pairs {
+            out.push(digit(rt, *lower as usize))?;
+            out.push(b'<')?;
+            out.push(digit(rt, *upper as usize))?;
+            out.push(b' ')?;
+        }
+        Ok(())
+    }
+
+    /// A sort's number, or a kind's behind a `k`.
+    fn write_sorted(rt: &impl Abort, out: &mut Vec<u8>, sorted: Sorted) -> Result<(), AllocError> {
+        match sorted {
+            Sorted::Sort(sort) => out.push(digit(rt, sort as usize))?,
+            Sorted::Kind(kind) => {
+                out.push(b'k')?;
+                out.push(digit(rt, kind as usize))?;
+            }
+        }
+        Ok(())
+    }
+
+    /// The sorts of an operator's declarations.
+    fn write_declared_sorts(
+        rt: &impl Abort,
+        out: &mut Vec<u8>,
+        operator: &Operator,
+    ) -> Result<(), AllocError> {
+        for declaration in operator.declarations.as_slice() {
+            out.push(b'|')?;
+            for arg in declaration.args.as_slice() {
+                write_sorted(rt, out, *arg)?;
+            }
+            out.push(b'>')?;
+            write_sorted(rt, out, declaration.result)?;
+        }
+        out.push(b' ')?;
+        Ok(())
+    }
+
+    /// Pairs of subsorts, and behind a semicolon operators, each with its declarations.
+    fn write_hierarchy(
+        rt: &impl Abort,
+        out: &mut Vec<u8>,
+        declared: &Declarations<'_>,
+    ) -> Result<(), AllocError> {
+        write_pairs(rt, out, declared.signature.pairs.as_slice())?;
+        out.push(b';')?;
+        for operator in declared.signature.operators.as_slice() {
+            write_operator(rt, out, operator)?;
+            write_declared_sorts(rt, out, operator)?;
+        }
         Ok(())
     }
 
@@ -151,6 +211,10 @@ mod tests {
                 out.extend_from_slice(b"!unknown ")?;
                 out.extend_from_slice(name.as_slice())?;
             }
+            FaultKind::SortCycle(name) => {
+                out.extend_from_slice(b"!cycle ")?;
+                out.extend_from_slice(name.as_slice())?;
+            }
             FaultKind::AttributesDisagree(name) => {
                 out.extend_from_slice(b"!disagree ")?;
                 out.extend_from_slice(name.as_slice())?;
@@ -161,14 +225,15 @@ mod tests {
     }
 
     /// What the module at the front of a source declares, or its fault.
-    fn told(rt: &impl Abort, alloc: Global, source: &[u8]) -> Result<Vec<u8>, Fail> {
+    fn told(rt: &impl Abort, alloc: Global, source: &[u8], whole: bool) -> Result<Vec<u8>, Fail> {
         assert!(rt; source.len() < 1000);
         let all = tokens(alloc, source)?;
         assert!(rt; 0 < all.len());
         let (unit, _) = read_unit(alloc, all.as_slice(), 0, false)?;
         let mut out = Vec::new(alloc);
         match declare(alloc, &unit) {
-            Ok(declared) => write_declarations(rt, &mut out, &declared)?,
+            Ok(declared) if whole => write_declarations(rt, &mut out, &declared)?,
+            Ok(declared) => write_hierarchy(rt, &mut out, &declared)?,
             Err(DeclareError::Fault(fault)) => write_fault(rt, &mut out, &fault)?,
             Err(DeclareError::Memory) => Err("memory")?,
         }
@@ -228,7 +293,7 @@ mod tests {
             ),
         ];
         for (source, want) in cases {
-            let got = told(&rt, alloc, source)?;
+            let got = told(&rt, alloc, source, true)?;
             assert_eq!(rt; got.as_slice(), want);
         }
         Ok(())
@@ -237,7 +302,11 @@ mod tests {
     #[test]
     fn operators_group(rt: HostRuntime) -> Result<(), Fail> {
         let alloc = rt.alloc();
-        let cases: [(&[u8], &[u8]); 12] = [
+        let cases: [(&[u8], &[u8]); 13] = [
+            (
+                b"fmod M is sorts A B . subsort A < B . op f_ : A -> A [prec 5] . op f_ : B -> B [prec 6] . endfm",
+                b"1!disagree f_",
+            ),
             (
                 b"fmod M is sort A . op _+_ : A A -> A . op s_ : A -> A . op _! : A -> A . op __ : A A -> A . endfm",
                 b"A ;_+_:11>1/41EE s_:1>1/15E _!:1>1/15E __:11>1/41EE ;;",
@@ -288,7 +357,71 @@ mod tests {
             ),
         ];
         for (source, want) in cases {
-            let got = told(&rt, alloc, source)?;
+            let got = told(&rt, alloc, source, true)?;
+            assert_eq!(rt; got.as_slice(), want);
+        }
+        Ok(())
+    }
+
+    #[test]
+    fn sorts_have_kinds(rt: HostRuntime) -> Result<(), Fail> {
+        let alloc = rt.alloc();
+        let cases: [(&[u8], &[u8]); 13] = [
+            (
+                b"fmod M is sorts A B C . subsort A < B . subsorts A B < C . endfm",
+                b"1<2 1<3 2<3 ;",
+            ),
+            (
+                b"fmod M is sorts A B C D . subsorts A B < C < D A . endfm",
+                b"1!cycle A",
+            ),
+            (
+                b"fmod M is sorts A B C D E . subsorts A B < C < D E . endfm",
+                b"1<3 2<3 3<4 3<5 ;",
+            ),
+            (
+                b"fmod M is subsort B < A . sort A . subsort B < A . sort B . endfm",
+                b"2<1 2<1 ;",
+            ),
+            (
+                b"fmod M is sorts A B . op f : A -> B . op g : -> B . endfm",
+                b";f:1>2 |1>2 g:>2 |>2 ",
+            ),
+            (
+                b"fmod M is sorts A B . subsort A < B . op f : A -> A . op f : B -> B . op g : A B -> B . endfm",
+                b"1<2 ;f:1>1 |1>1|2>2 g:11>1 |12>2 ",
+            ),
+            (
+                b"fmod M is sorts C B A . op f : A -> B . op f : C -> B . op f : B -> A . subsort A < C . endfm",
+                b"3<1 ;f:1>2 |3>2|1>2 f:2>1 |2>3 ",
+            ),
+            (
+                b"fmod M is sorts A B C . subsorts B < A . op f : B ~> C . op g : [B] A C -> [B] . endfm",
+                b"2<1 ;f:1>3 |k1>k3 g:113>1 |k113>k1 ",
+            ),
+            (
+                b"fmod M is sorts A B C D . subsort D < B . subsort D < C . op f : C -> D . op f : B -> B . endfm",
+                b"4<2 4<3 ;f:2>2 |3>4|2>2 ",
+            ),
+            (
+                b"fmod M is sort A . op f : A -> A . op f : A -> A . op f : [A] ~> A . endfm",
+                b";f:1>1 |1>1|1>1|k1>k1 ",
+            ),
+            (
+                b"fmod M is sorts A B . subsort A < B . ops f g : A -> A . ops g f : B -> B . endfm",
+                b"1<2 ;f:1>1 |1>1|2>2 g:1>1 |1>1|2>2 ",
+            ),
+            (
+                b"fmod M is sorts A B . subsort A < B . op f_ : A -> A . op f_ : B -> B [prec 3] . endfm",
+                b"1<2 ;f_:1>1/3E |1>1|2>2 ",
+            ),
+            (
+                b"fmod M is sorts A B C . subsort B < C . op f : A -> A . op f : B -> A . op f : -> A . op f : C -> A . op f : A -> B . endfm",
+                b"2<3 ;f:1>1 |1>1 f:2>1 |2>1|3>1 f:>1 |>1 f:1>2 |1>2 ",
+            ),
+        ];
+        for (source, want) in cases {
+            let got = told(&rt, alloc, source, false)?;
             assert_eq!(rt; got.as_slice(), want);
         }
         Ok(())
@@ -297,7 +430,45 @@ mod tests {
     #[test]
     fn declarations_have_faults(rt: HostRuntime) -> Result<(), Fail> {
         let alloc = rt.alloc();
-        let cases: [(&[u8], &[u8]); 12] = [
+        let cases: [(&[u8], &[u8]); 23] = [
+            (b"\nfmod M is sort A .\nsubsort A < A . endfm", b"2!cycle A"),
+            (
+                b"fmod M is sorts A B C . subsort C < B .\nsubsort B < C . endfm",
+                b"1!cycle B",
+            ),
+            (
+                b"fmod M is sorts D A B . subsort D < A . subsorts B < A < B . endfm",
+                b"1!cycle A",
+            ),
+            (
+                b"fmod M is sorts A B .\nsubsorts A < B < C D . endfm",
+                b"2!unknown C",
+            ),
+            (
+                b"fmod M is sorts A B . op f : A -> B .\nsubsort D < A .\nop f : E -> A . endfm",
+                b"2!unknown D",
+            ),
+            (
+                b"fmod M is sort A . var X : D .\nsubsort E < A . endfm",
+                b"1!unknown D",
+            ),
+            (
+                b"fmod M is sort A . op f : A [D] -> A . endfm",
+                b"1!unknown D",
+            ),
+            (b"fmod M is sort A . op f : A ~> D . endfm", b"1!unknown D"),
+            (
+                b"fmod M is sort A . subsort A < A .\nop f : A -> D . endfm",
+                b"2!unknown D",
+            ),
+            (
+                b"fmod M is sorts A B . subsort A < A .\nvar X : A . var X : B . endfm",
+                b"2!defined X",
+            ),
+            (
+                b"fmod M is sort A . op f_ : A -> A [prec 5 prec 6] . subsort A < A . endfm",
+                b"1!cycle A",
+            ),
             (
                 b"fmod M is sorts A B . var X : A .\nvars Y X : B . endfm",
                 b"2!defined X",
@@ -336,7 +507,7 @@ mod tests {
             (b"fmod M is sort A . op f : f -> A . endfm", b"1!unknown f"),
         ];
         for (source, want) in cases {
-            let got = told(&rt, alloc, source)?;
+            let got = told(&rt, alloc, source, true)?;
             assert_eq!(rt; got.as_slice(), want);
         }
         Ok(())

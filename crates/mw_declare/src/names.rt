@@ -1,5 +1,7 @@
 // Names, numbered in order of first mention.
-ghost use Rattle.std.specs.Prelude.{◌≡◌, List, [], suc, IfOk, IfSome, IfNone, OnOk, option_map, position, bytes_eq, None, Some};
+ghost use Rattle.std.specs.Prelude.{◌≡◌, ◌-◌, ◌<◌, ◌≤◌, ◌+◌, List, [], length, IfOk, OnOk, Some, position, bytes_eq};
+ghost use Rattle.mw_logic.specs.Signature.{at_number};
+ghost use Rattle.mw_poset.specs.Order.{IsSort};
 ghost use Rattle.mw_declare.specs.Meaning.{Name, is_among, with_name, number_of};
 
 use indexmap::IndexSet;
@@ -63,6 +65,25 @@ impl Names {
             Some(place) if place < u32::MAX as usize => Ok(place as u32 + 1),
             Some(_) => Err(AllocError),
         }
+    }
+
+    /// How many names there are. More than numbers can tell count as want of memory.
+    pub fn count(&self) -> Result<u32, AllocError>
+        ensures { IfOk result (λ n. n ≡ length self.now) }
+    {
+        let count = self.set.len();
+        if count > u32::MAX as usize {
+            return Err(AllocError);
+        }
+        Ok(count as u32)
+    }
+
+    /// The name of a number.
+    pub fn name(&self, number: u32) -> &[u8]
+        requires { IsSort (length self.now) number }
+        ensures { at_number self.now number ≡ Some result.now }
+    {
+        self.set.as_slice()[(number - 1) as usize].as_slice()
     }
 
     /// All names in order.

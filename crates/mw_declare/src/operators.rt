@@ -1,56 +1,66 @@
 // The operators of a module.
-ghost use Rattle.std.specs.Prelude.{◌≡◌, List, [], map, IfOk, OnOk, option_map};
-ghost use Rattle.mw_lex.specs.Lexing.{seen, seen_all};
-ghost use Rattle.mw_logic.specs.Signature.{sort};
+ghost use Rattle.std.specs.Prelude.{◌≡◌, List, [], map, IfOk, OnOk, None, option_map};
+ghost use Rattle.mw_lex.specs.Lexing.{seen_all};
 ghost use Rattle.mw_term.specs.Signatures.{sorted_of};
 ghost use Rattle.mw_module.specs.Attributes.{seen_attributes};
 ghost use Rattle.mw_module.specs.OperatorNames.{names_of};
 ghost use Rattle.mw_module.specs.Refusals.{refusal_of};
 ghost use Rattle.mw_declare.specs.Statements.{seen_statements};
 ghost use Rattle.mw_declare.specs.Operators.{profile_of as profile_with, with_operator, with_named, operators_from, operator_of as operator_with};
-ghost use Rattle.mw_declare.specs.Faults.{disagreeing, disagreement as disagreement_at};
-ghost use Rattle.mw_declare.specs.Seen.{seen_profile, seen_operator};
+ghost use Rattle.mw_declare.specs.Faults.{unknown_from, disagreeing, disagreement as disagreement_at};
+ghost use Rattle.mw_declare.specs.Seen.{seen_rank, seen_profile, seen_operator};
 
 use crate::grouping::{gather, precedence};
-use crate::names::Names;
-use crate::sorts::numbers;
+use crate::hierarchy::{Hierarchy, Rank};
 use crate::spelling::spelling_of;
 use crate::statement::Lined;
 use indexmap::IndexMap;
 use mw_lex::Token;
 use mw_module::{Attributes, Fault, FaultKind, Form, Names as OperatorNames};
-use mw_term::{Declaration, Name, Operator, Seq, SortId, Sorted};
+use mw_term::{Declaration, KindId, Name, Operator, Seq, Sorted};
 use std::alloc::{AllocError, Global};
 use std::marker::Model;
 
-/// A name, by its prefix spelling, with the sorts of its arguments and of its result.
+/// A name, by its prefix spelling, with the kinds of its arguments and of its result.
 #[derive(PartialEq, Eq, Hash, Drop)]
 pub struct Profile {
     pub spelling: Vec<u8>,
-    pub args: Vec<SortId>,
-    pub result: SortId,
+    pub args: Vec<KindId>,
+    pub result: KindId,
+}
+
+/// The declarations of an operator, and what they say of it.
+#[derive(Drop)]
+pub struct Said<'u> {
+    pub declarations: Vec<Declaration>,
+    pub attributes: Attributes<'u>,
 }
 
 /// The profile of a name that these tokens are.
-fn profile_of(
-    alloc: Global,
-    name: &[Token],
-    args: &[SortId],
-    value: SortId,
-) -> Result<Profile, AllocError>
-    ensures { IfOk result (λ p. seen_profile p ≡ profile_with (seen_all name.now) args.now value) }
+fn profile_of(alloc: Global, name: &[Token], rank: &Rank) -> Result<Profile, AllocError>
+    ensures { IfOk result (λ p. seen_profile p ≡ profile_with (seen_all name.now) (seen_rank rank.now)) }
 {
     Ok(Profile {
         spelling: spelling_of(alloc, name)?,
-        args: args.to_vec(alloc)?,
-        result: value,
+        args: rank.kinds.as_slice().to_vec(alloc)?,
+        result: rank.kind,
     })
 }
 
-/// Operators, each once with what its declarations say of it, in order of first mention.
+/// The declaration of these sorts.
+fn declaration_of(alloc: Global, rank: &Rank) -> Result<Declaration, AllocError>
+    ensures { IfOk result (λ d. d ≡ (seen_rank rank.now).declaration) }
+{
+    Ok(Declaration {
+        args: Seq::of(rank.args.as_slice().to_vec(alloc)?),
+        result: rank.result,
+    })
+}
+
+/// Operators, each once with its declarations and what they say of it, in order of first mention.
 #[derive(Drop)]
 pub struct Operators<'u> {
-    table: IndexMap<Profile, Attributes<'u>>,
+    table: IndexMap<Profile, Said<'u>>,
 }
 
 impl<'u> Model for Operators<'u> {
@@ -73,13 +83,26 @@ impl<'u> Operators<'u> {
         }
     }
 
-    /// Adds an operator behind the others; if it is there, what is said of it is joined.
-    fn add(&mut self, profile: Profile, attributes: Attributes<'u>) -> Result<(), AllocError>
-        ensures { OnOk result (self.new ≡ with_operator self.old (seen_profile profile) (seen_attributes attributes.entry)) }
+    /// Adds an operator behind the others; if it is there, it is declared again.
+    fn add(
+        &mut self,
+        alloc: Global,
+        profile: Profile,
+        declaration: Declaration,
+        attributes: Attributes<'u>,
+    ) -> Result<(), AllocError>
+        ensures { OnOk result (self.new ≡ with_operator self.old (seen_profile profile) declaration (seen_attributes attributes.entry)) }
     {
-        let said = match self.table.get(&profile) {
-            Some(known) => known.joined(attributes),
-            None => attributes,
+        if let Some(known) = self.table.get_mut(&profile) {
+            known.declarations.push(declaration)?;
+            known.attributes = known.attributes.joined(attributes);
+            return Ok(());
+        }
+        let mut declarations = Vec::new(alloc);
+        declarations.push(declaration)?;
+        let said = Said {
+            declarations,
+            attributes,
         };
         self.table.insert(profile, said)?;
         Ok(())
@@ -90,15 +113,16 @@ impl<'u> Operators<'u> {
         &mut self,
         alloc: Global,
         names: OperatorNames<'_>,
-        args: &[SortId],
-        value: SortId,
+        rank: &Rank,
         attributes: Attributes<'u>,
     ) -> Result<(), AllocError>
-        ensures { OnOk result (self.new ≡ with_named self.old (names_of names.entry) args.now value (seen_attributes attributes.entry)) }
+        ensures { OnOk result (self.new ≡ with_named self.old (names_of names.entry) (seen_rank rank.now) (seen_attributes attributes.entry)) }
     {
         let mut rest = names;
         while let Some((name, others)) = rest.first() {
-            self.add(profile_of(alloc, name, args, value)?, attributes)?;
+            let profile = profile_of(alloc, name, rank)?;
+            let declaration = declaration_of(alloc, rank)?;
+            self.add(alloc, profile, declaration, attributes)?;
             rest = others;
         }
         Ok(())
@@ -108,8 +132,8 @@ impl<'u> Operators<'u> {
     fn disagreeing(&self) -> Option<&Vec<u8>>
         ensures { option_map (λ n. n.now.items) result ≡ disagreeing self.now }
     {
-        for (profile, attributes) in self.table.iter() {
-            if attributes.clash {
+        for (profile, said) in self.table.iter() {
+            if said.attributes.clash {
                 return Some(&profile.spelling);
             }
         }
@@ -130,24 +154,25 @@ impl<'u> Operators<'u> {
     }
 
     /// The operators in order.
-    pub fn list(&self, alloc: Global) -> Result<Seq<Operator>, AllocError>
-        ensures { IfOk result (λ os. os ≡ map operator_with self.now) }
+    pub fn list(self, alloc: Global) -> Result<Seq<Operator>, AllocError>
+        ensures { IfOk result (λ os. os ≡ map operator_with self.entry) }
     {
         let mut operators = Vec::new(alloc);
-        for (profile, attributes) in self.table.iter() {
-            operators.push(operator_of(alloc, profile, attributes)?)?;
+        for (profile, said) in self.table {
+            operators.push(operator_of(alloc, profile, said)?)?;
         }
         Ok(Seq::of(operators))
     }
 }
 
-/// The operators that statements declare.
+/// The operators that statements declare which mention no other sorts.
 pub fn all_operators<'u>(
     alloc: Global,
-    sorts: &Names,
+    hierarchy: &Hierarchy,
     statements: &[Lined<'u>],
 ) -> Result<Operators<'u>, AllocError>
-    ensures { IfOk result (λ os. os ≡ operators_from sorts.now [] (seen_statements statements.now)) }
+    requires { unknown_from hierarchy.now.names (seen_statements statements.now) ≡ None }
+    ensures { IfOk result (λ os. os ≡ operators_from hierarchy.now [] (seen_statements statements.now)) }
 {
     let mut operators = Operators::new(alloc);
     let mut rest = statements;
@@ -159,54 +184,32 @@ pub fn all_operators<'u>(
             attributes,
         } = &statement.form
         {
-            let args = numbers(alloc, sorts, args)?;
-            let value = sorts.number(value.text.as_slice())?;
-            operators.add_all(alloc, *names, args.as_slice(), value, *attributes)?;
+            let rank = hierarchy.rank(alloc, *args, *value)?;
+            operators.add_all(alloc, *names, &rank, *attributes)?;
         }
         rest = after;
     }
     Ok(operators)
 }
 
-/// The sorts of arguments.
-fn declared_sorts(alloc: Global, args: &[SortId]) -> Result<Seq<Sorted>, AllocError>
-    ensures { IfOk result (λ s. map sorted_of s ≡ map sort args.now) }
-{
-    let mut sorts = Vec::with_capacity(alloc, args.len())?;
-    let mut rest = args;
-    while let [arg, after @ ..] = rest {
-        sorts.push(Sorted::Sort(*arg))?;
-        rest = after;
-    }
-    Ok(Seq::of(sorts))
-}
-
 /// The operator of a profile of which this is said.
-fn operator_of(
-    alloc: Global,
-    profile: &Profile,
-    said: &Attributes<'_>,
-) -> Result<Operator, AllocError>
-    ensures { IfOk result (λ o. o ≡ operator_with (record { profile = seen_profile profile.now; attributes = seen_attributes said.now })) }
+fn operator_of(alloc: Global, profile: Profile, said: Said<'_>) -> Result<Operator, AllocError>
+    ensures { IfOk result (λ o. o ≡ operator_with (seen_operator (profile, said.entry))) }
 {
     let spelling = profile.spelling.as_slice();
-    let args = profile.args.as_slice();
-    let mut declarations = Vec::new(alloc);
-    declarations.push(Declaration {
-        args: declared_sorts(alloc, args)?,
-        result: Sorted::Sort(profile.result),
-    })?;
+    let prec = precedence(said.attributes.precedence, spelling);
+    let gather = gather(alloc, said.attributes.gather, spelling)?;
     Ok(Operator {
-        spelling: Name::of(spelling.to_vec(alloc)?),
-        args: Seq::of(args.to_vec(alloc)?),
+        spelling: Name::of(profile.spelling),
+        args: Seq::of(profile.args),
         result: profile.result,
-        declarations: Seq::of(declarations),
+        declarations: Seq::of(said.declarations),
         assoc: false,
         comm: false,
         identity: None,
-        prec: precedence(said.precedence, spelling),
-        gather: gather(alloc, said.gather, spelling)?,
-        config: said.config,
+        prec,
+        gather,
+        config: said.attributes.config,
         built: false,
     })
 }

@@ -1,16 +1,18 @@
 // The sorts of a module.
-ghost use Rattle.std.specs.Prelude.{◌≡◌, List, [], ◌++◌, ◌∷◌, IfOk, OnOk, option_map};
+ghost use Rattle.std.specs.Prelude.{◌≡◌, List, [], ◌++◌, ◌∷◌, IfOk, OnOk, map, option_map};
 ghost use Rattle.mw_lex.specs.Lexing.{seen, seen_all};
 ghost use Rattle.mw_module.specs.Forms.{shape_of};
+ghost use Rattle.mw_module.specs.Groups.{groups_of};
+ghost use Rattle.mw_module.specs.Sortings.{sortings_of};
 ghost use Rattle.mw_module.specs.Refusals.{refusal_of};
 ghost use Rattle.mw_declare.specs.Statements.{seen_statement, seen_statements};
-ghost use Rattle.mw_declare.specs.Meaning.{texts, with_names, with_sorts, sorts_of, numbers_of};
-ghost use Rattle.mw_declare.specs.Faults.{unknown_among, mentioned, unknown_from};
+ghost use Rattle.mw_declare.specs.Meaning.{texts, with_names, with_sorts, sorts_of};
+ghost use Rattle.mw_declare.specs.Faults.{unknown_among, name_in, mentioned_in, mentioned, unknown_from};
 
 use crate::names::Names;
 use crate::statement::Lined;
 use mw_lex::Token;
-use mw_module::{Fault, FaultKind, Form};
+use mw_module::{Fault, FaultKind, Form, Groups, Sortings};
 use std::alloc::{AllocError, Global};
 
 /// Adds the names that these tokens are.
@@ -54,19 +56,48 @@ fn unknown_token<'t>(sorts: &Names, tokens: &'t [Token]) -> Option<&'t Token>
     None
 }
 
+/// The first sort of these groups that isn't declared.
+fn unknown_grouped<'t>(sorts: &Names, groups: Groups<'t>) -> Option<&'t Token>
+    ensures { option_map (λ t. t.now.text.items) result ≡ unknown_among sorts.now (mentioned_in (groups_of groups.entry)) }
+{
+    let mut rest = groups;
+    while let Some((group, others)) = rest.first() {
+        if let Some(token) = unknown_token(sorts, group) {
+            return Some(token);
+        }
+        rest = others;
+    }
+    None
+}
+
+/// The first of these sorts that isn't declared.
+fn unknown_sorting<'t>(sorts: &Names, sortings: Sortings<'t>) -> Option<&'t Token>
+    ensures { option_map (λ t. t.now.text.items) result ≡ unknown_among sorts.now (map name_in (sortings_of sortings.entry)) }
+{
+    let mut rest = sortings;
+    while let Some((sorting, others)) = rest.first() {
+        if !sorts.has(sorting.name.text.as_slice()) {
+            return Some(sorting.name);
+        }
+        rest = others;
+    }
+    None
+}
+
 /// The first sort that a statement mentions and that isn't declared.
 fn unknown_mentioned<'t>(sorts: &Names, form: &Form<'t>) -> Option<&'t Token>
     ensures { option_map (λ t. t.now.text.items) result ≡ unknown_among sorts.now (mentioned (shape_of form.now)) }
 {
     match form {
+        Form::Subsorts { groups } => unknown_grouped(sorts, *groups),
         Form::Operators {
             args,
             result: value,
             ..
-        } => match unknown_token(sorts, args) {
+        } => match unknown_sorting(sorts, *args) {
             Some(token) => Some(token),
-            None if sorts.has(value.text.as_slice()) => None,
-            None => Some(value),
+            None if sorts.has(value.name.text.as_slice()) => None,
+            None => Some(value.name),
         },
         Form::Variables { sort, .. } if !sorts.has(sort.text.as_slice()) => Some(sort),
         _ => None,
@@ -91,17 +122,4 @@ pub fn unknown_sort(
         rest = after;
     }
     Ok(None)
-}
-
-/// The numbers of sorts, in order.
-pub fn numbers(alloc: Global, sorts: &Names, tokens: &[Token]) -> Result<Vec<u32>, AllocError>
-    ensures { IfOk result (λ v. v.items ≡ numbers_of sorts.now (seen_all tokens.now)) }
-{
-    let mut numbers = Vec::new(alloc);
-    let mut rest = tokens;
-    while let [token, after @ ..] = rest {
-        numbers.push(sorts.number(token.text.as_slice())?)?;
-        rest = after;
-    }
-    Ok(numbers)
 }

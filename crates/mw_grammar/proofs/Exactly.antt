@@ -86,5 +86,6 @@ module _ (sig : Signature) (variables : List Variable) (kind : ℕ → ℕ) (ks 
         sound = sound;
         differ = λ wanted a b h k apart e. apart (same_tree wanted a b h k e);
         only = only;
+        kinds = λ K tree w d. ((meant K d.0 d.1.0 tree d.1.1 d.1.2).term w).1;
         raw = λ wanted t h. spelled_raw sig variables kind ks ok vs t h.precedence tokens h.spells;
       }

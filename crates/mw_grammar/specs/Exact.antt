@@ -1,7 +1,7 @@
 -- That the chart's trees over a grammar's table are the terms that tokens spell.
 use Rattle.std.specs.Prelude.{ℕ, ◌≡◌, ◌≢◌, ◌≤◌, List, length, Option, None, Some, ⊤}
 use Rattle.mw_logic.specs.Term.{Variable, RawTerm}
-use Rattle.mw_logic.specs.Signature.{Signature, IsRawTerm}
+use Rattle.mw_logic.specs.Signature.{Signature, HasKind, IsRawTerm}
 use Rattle.mw_chart.specs.Tree.{Tree}
 use Rattle.mw_chart.specs.Answer.{IsOf}
 use Rattle.mw_chart.specs.declared.table.Table.{Table}
@@ -33,5 +33,7 @@ pub record AreExact (sig : Signature) (variables : List Variable) (kind : ℕ �
   -- so the only tree is that of the only term
   pub only : (wanted : Option ℕ) (tree : Tree) → length tokens ≤ 1024 → IsTree sig kind g wanted words tree → ((u : Tree) → IsTree sig kind g wanted words u → u ≡ tree)
       → Reads sig variables wanted tokens (term_of leaves tree)
+  -- a tree's kind is its term's
+  pub kinds : (K : ℕ) (tree : Tree) → IsWithin sig K → IsOf g words K tree → HasKind sig (term_of leaves tree) K
   -- what is spelled is a raw term
   pub raw : (wanted : Option ℕ) (t : RawTerm) → IsSpelled sig variables wanted tokens t → IsRawTerm sig t

@@ -15,9 +15,10 @@ use crate::form::Form;
 use crate::forms::{MOST, forms};
 use crate::leaves::push_variables;
 use crate::names::Names;
+use crate::parts::kind_of;
 use mw_chart::{Leaf, Table, Word};
 use mw_lex::Token;
-use mw_term::{KindId, Name, Seq, Signature, VarId, copy_name};
+use mw_term::{KindId, Name, Seq, Signature, SortId, VarId, copy_name};
 use std::alloc::{AllocError, Global};
 
 /// The grammar of a signature, in which some variables are declared.
@@ -106,6 +107,13 @@ impl Grammar {
         ensures { result.now ≡ self.now.table }
     {
         &self.table
+    }
+
+    /// The kind of a sort; the number itself, where it is no sort's.
+    pub fn kind_of(&self, sort: SortId) -> KindId
+        ensures { result ≡ kind_in self.now.kinds sort }
+    {
+        kind_of(self.kinds.as_slice(), sort)
     }
 
     /// The word of a token.

@@ -1,6 +1,6 @@
 // The kinds of a signature's sorts.
-ghost use Rattle.std.specs.Prelude.{◌≡◌, ◌≤◌, length, IfOk};
-ghost use Rattle.mw_poset.specs.Order.{ArePairsOf};
+ghost use Rattle.std.specs.Prelude.{◌≡◌, IfOk};
+ghost use Rattle.mw_poset.specs.SortOrder.{order_of};
 ghost use Rattle.mw_grammar.specs.Readable.{kind_in, AreKinds};
 
 use mw_poset::Poset;
@@ -13,18 +13,12 @@ pub fn kinds_of(
     signature: &Signature,
     order: &Poset,
 ) -> Result<Vec<KindId>, AllocError>
-    requires sorts { order.now.sorts ≡ length signature.now.sorts }
-    requires pairs { order.now.pairs ≡ signature.now.pairs }
-    requires of { ArePairsOf order.now.sorts order.now.pairs }
+    requires { order.now ≡ order_of signature.now }
     ensures { IfOk result (λ v. AreKinds signature.now (kind_in v.items)) }
 {
-    let sorts = signature.sorts.as_slice().len();
-    if sorts > u32::MAX as usize {
-        return Err(AllocError);
-    }
     let mut kinds = Vec::new(alloc);
     kinds.push(0)?;
-    for k in 0..sorts as u32 {
+    for k in 0..order.sorts() {
         kinds.push(order.kind_of(k + 1))?;
     }
     Ok(kinds)

@@ -1,1 +1,3 @@
 pub mod Compilable
+pub mod Below
+pub mod Tops

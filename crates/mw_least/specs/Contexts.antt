@@ -1,9 +1,18 @@
--- A module with its equations by position.
+-- A module with the order of its sorts, its operators' tables, and its equations by position.
+use Rattle.std.specs.Prelude.{◌≡◌}
 use Rattle.mw_logic.specs.Module.{Module}
 use Rattle.mw_machine.specs.Simple.{IsSimpleModule}
 use Rattle.mw_pattern.specs.Compiled.{IsIndexOf}
 use Rattle.mw_pattern.specs.declared.equations.Equations.{Equations}
+use Rattle.mw_sorts.specs.Diagrams.{AreTablesOf}
+use Rattle.mw_poset.specs.SortOrder.{SortOrder, order_of}
+use Rattle.mw_sorts.specs.declared.tables.Tables.{Tables}
+use Rattle.mw_least.specs.declared.sure.Sure.{Sure}
+use Rattle.mw_least.specs.Sure.{AreSure}
 
-pub record IsContext (M : Module) (m : Equations) : Type 0 where
+pub record IsContext (M : Module) (sorts : SortOrder) (results : Tables) (sure : Sure) (m : Equations) : Type 0 where
   pub simple : IsSimpleModule M
+  pub order : sorts ≡ order_of M.signature
+  pub tables : AreTablesOf M.signature results
+  pub each_sure : AreSure M.signature sure
   pub index : IsIndexOf M.statements m

@@ -1,18 +1,33 @@
 // Modules that the engine works in.
-ghost use Rattle.std.specs.Prelude.{◌≡◌, IfOk};
+ghost use Rattle.std.specs.Prelude.{◌≡◌, ◌↔◌, IfOk, IsTrue};
+ghost use Rattle.mw_logic.specs.Parts.{nested};
+ghost use Rattle.mw_logic.specs.Signature.{sort as sort_of, Declaration as DeclarationOf, IsRawTerm, Member};
+ghost use Rattle.mw_logic.specs.Preregular.{IsSortOf};
+ghost use Rattle.mw_logic.specs.Sorts.{AtOrBelow, IsBelow, HasSort, IsLeastSort};
+ghost use Rattle.mw_logic.specs.Term.{is_ground};
 ghost use Rattle.mw_machine.specs.Simple.{IsSimpleModule};
 ghost use Rattle.mw_pattern.specs.Compiled.{IsIndexOf};
+ghost use Rattle.mw_sorts.specs.Diagrams.{AreTablesOf};
+ghost use Rattle.mw_poset.specs.SortOrder.{order_of};
+ghost use Rattle.mw_term.specs.Signatures.{sorted_of};
 
+use crate::sure::{Sure, sure_sorts};
 use mw_pattern::{Equations, index};
-use mw_term::{Seq, Signature, Statement};
+use mw_poset::Poset;
+use mw_sorts::{Tables, least_sort};
+use mw_term::{Declaration, Seq, Shape, Signature, SortId, Sorted, Statement, Term, numbered};
 use std::alloc::{AllocError, Global};
 use std::marker::Model;
 
-/// A signature and statements that were accepted, which contracts see as a module. Its executable equations are held
-/// by the operators on top of their left sides too, with positions for variables.
+/// A signature and statements that were accepted, which contracts see as a module. The order of its sorts and the
+/// least results of its operators are kept with it, and its executable equations are held by the operators on top of
+/// their left sides too, with positions for variables.
 #[derive(Drop)]
 pub struct Ctx {
     signature: Signature,
+    order: Poset,
+    tables: Tables,
+    sure: Sure,
     statements: Seq<Statement>,
     equations: Equations,
 }
@@ -30,22 +45,30 @@ impl Model for Ctx {
 
     ghost use Rattle.mw_least.specs.Contexts.{IsContext};
 
-    ghost invariant = { λ c. IsContext (record { signature = c.signature; statements = c.statements }) c.equations };
+    ghost invariant = { λ c. IsContext (record { signature = c.signature; statements = c.statements }) c.order c.tables c.sure c.equations };
 }
 
 impl Ctx {
-    /// The context of these operators and statements.
+    /// The context of these operators and statements, with the order of the sorts and the operators' tables.
     pub fn new(
         alloc: Global,
         signature: Signature,
+        order: Poset,
+        tables: Tables,
         statements: Seq<Statement>,
     ) -> Result<Ctx, AllocError>
-        requires { IsSimpleModule (record { signature = signature; statements = statements }) }
+        requires simple { IsSimpleModule (record { signature = signature; statements = statements }) }
+        requires order { order ≡ order_of signature }
+        requires tables { AreTablesOf signature tables }
         ensures { IfOk result (λ c. c ≡ record { signature = signature; statements = statements }) }
     {
         let equations = index(alloc, statements.as_slice())?;
+        let sure = sure_sorts(alloc, &signature, &order)?;
         Ok(Ctx {
             signature,
+            order,
+            tables,
+            sure,
             statements,
             equations,
         })
@@ -64,6 +87,13 @@ impl Ctx {
         &self.signature
     }
 
+    /// The order of its sorts.
+    pub fn order(&self) -> &Poset
+        ensures { result.now ≡ order_of self.now.signature }
+    {
+        &self.order
+    }
+
     pub fn statements(&self) -> &[Statement]
         ensures { result.now ≡ self.now.statements }
     {
@@ -75,5 +105,101 @@ impl Ctx {
         ensures { IsIndexOf self.now.statements result.now }
     {
         &self.equations
+    }
+
+    /// The least sort of a term, or its kind. It takes no memory, and one look-up for each argument in the term.
+    pub fn least_sort(&self, term: &Term) -> Sorted
+        ensures { let sig = self.now.signature in IsRawTerm sig (nested sig term.now) → IsTrue (is_ground term.now) → IsLeastSort sig (nested sig term.now) (sorted_of result) }
+    {
+        least_sort(&self.tables, term)
+    }
+
+    /// Whether a number is that of a sort.
+    fn is_there(&self, sort: SortId) -> bool
+        ensures { IsTrue result ↔ IsSortOf self.now.signature sort }
+    {
+        sort != 0 && sort as usize <= self.signature.sorts.as_slice().len()
+    }
+
+    fn are_there(&self, lower: SortId, upper: SortId) -> bool
+        ensures { IsTrue result ↔ IsSortOf self.now.signature lower × IsSortOf self.now.signature upper }
+    {
+        self.is_there(lower) && self.is_there(upper)
+    }
+
+    /// Whether a sort is at or below another.
+    fn is_below(&self, lower: SortId, upper: SortId) -> bool
+        ensures { IsTrue result ↔ AtOrBelow self.now.signature.pairs lower upper }
+    {
+        if self.are_there(lower, upper) {
+            self.order.le(lower, upper)
+        } else {
+            lower == upper
+        }
+    }
+
+    /// Whether a sort is one that a term has by its operators alone.
+    fn is_sure(&self, term: &Term, sort: SortId) -> bool
+        ensures { let sig = self.now.signature in IsRawTerm sig (nested sig term.now) → IsTrue (is_ground term.now) → IsTrue result → HasSort sig (nested sig term.now) (sort_of sort) }
+    {
+        let Shape::Op(operator, _) = term.shape() else {
+            return false;
+        };
+        if term.operators().meets(self.sure.partial) {
+            return false;
+        }
+        match numbered(self.sure.results.as_slice(), *operator) {
+            Some(result) => *result != 0 && self.is_below(*result, sort),
+            None => false,
+        }
+    }
+
+    /// Whether a sort or kind is at or below a sort.
+    fn is_at_most(&self, sorted: Sorted, sort: SortId) -> bool
+        ensures { IsTrue result ↔ IsBelow self.now.signature (sorted_of sorted) (sort_of sort) }
+    {
+        match sorted {
+            Sorted::Sort(lower) => self.is_below(lower, sort),
+            Sorted::Kind(_) => false,
+        }
+    }
+
+    /// Whether one of these declarations has a result at or below a sort.
+    fn some_gives(&self, declarations: &[Declaration], sort: SortId) -> bool
+        ensures { (d : DeclarationOf) → Member d declarations.now → IsBelow self.now.signature d.result (sort_of sort) → IsTrue result }
+    {
+        let mut rest = declarations;
+        while let [declaration, after @ ..] = rest {
+            if self.is_at_most(declaration.result, sort) {
+                return true;
+            }
+            rest = after;
+        }
+        false
+    }
+
+    /// Whether the operator on top of a term may give a sort, whatever its arguments are.
+    fn may_have(&self, term: &Term, sort: SortId) -> bool
+        ensures { let sig = self.now.signature in HasSort sig (nested sig term.now) (sort_of sort) → IsTrue result }
+    {
+        let Shape::Op(operator, _) = term.shape() else {
+            return true;
+        };
+        match numbered(self.signature.operators.as_slice(), *operator) {
+            Some(operator) => self.some_gives(operator.declarations.as_slice(), sort),
+            None => true,
+        }
+    }
+
+    /// Whether a term has a sort. It takes no memory. It is a look-up where the term's operators tell a yes, as they
+    /// do where each of them is total on its kind, and a look-up for each declaration of the operator on top where
+    /// they tell a no; else it takes the time of `least_sort`.
+    pub fn has_sort(&self, term: &Term, sort: SortId) -> bool
+        ensures { let sig = self.now.signature in IsRawTerm sig (nested sig term.now) → IsTrue (is_ground term.now) → (IsTrue result ↔ HasSort sig (nested sig term.now) (sort_of sort)) }
+    {
+        if self.is_sure(term, sort) {
+            return true;
+        }
+        self.may_have(term, sort) && self.is_at_most(self.least_sort(term), sort)
     }
 }

@@ -2,5 +2,6 @@
 #![tactic(auto)]
 
 mod context;
+mod sure;
 
 pub use context::Ctx;

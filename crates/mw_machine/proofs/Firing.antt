@@ -4,9 +4,10 @@ use Rattle.std.specs.List.{zip}
 use Rattle.std.proofs.Common.{sym, subst, ap, ◌∙◌, append-nil}
 use Rattle.std.proofs.lemmas.Bool.{both_ways}
 use Rattle.mw_logic.specs.Term.{Variable, RawTerm, is_ground}
-use Rattle.mw_logic.specs.Signature.{HasKind, IsRawTerm}
+use Rattle.mw_logic.specs.Signature.{sort, HasKind, IsRawTerm}
+use Rattle.mw_logic.specs.Sorts.{HasSort}
 use Rattle.mw_logic.specs.Axioms.{done}
-use Rattle.mw_logic.specs.Substitution.{Substitution, instance, occurs, is_bound, IsSubstitution, IsSolution}
+use Rattle.mw_logic.specs.Substitution.{Substitution, instance, occurs, is_bound, binds, IsSubstitution, IsSolution}
 use Rattle.mw_logic.specs.Module.{Module, Statement, IsStatement}
 use Rattle.mw_logic.specs.WellFormed.{IsWellFormed}
 use Rattle.mw_logic.proofs.InstanceLaws.{instance_kind}
@@ -14,12 +15,12 @@ use Rattle.mw_logic.proofs.SolutionLaws.{substitution_kinds, instance_raw}
 use Rattle.mw_machine.specs.Machine.{NoFlatLeft, Fires}
 use Rattle.mw_machine.specs.Plain.{IsFreeModule}
 use Rattle.mw_machine.specs.Positions.{fill, IsNumbered, counted}
-use Rattle.mw_machine.specs.Simple.{IsSimpleEquation, IsSimpleModule}
-use Rattle.mw_machine.specs.Variables.{is_in, met, AreDistinct, place, placed, IsPlaceable}
+use Rattle.mw_machine.specs.Simple.{IsSimpleEquation, IsSimpleModule, IsGround, HaveSorts}
+use Rattle.mw_machine.specs.Variables.{is_in, met, AreDistinct, sorts_of, place, placed, IsPlaceable}
 use Rattle.mw_logic.proofs.FreeSignature.{free_equal}
 use Rattle.mw_machine.proofs.Meeting.{is_in-met, AreDistinct-met, numbered_met}
-use Rattle.mw_machine.proofs.Discrete.{free, accepted, well_sorted, raw_again}
-use Rattle.mw_machine.proofs.Placing.{values_of, fill_placed, placeable, values_zip, bound_zip, binds_placed, instance_ground, IsGood, filled_kind, good_value, substitution_zip}
+use Rattle.mw_machine.proofs.Ordered.{free, accepted, well_sorted, raw_again}
+use Rattle.mw_machine.proofs.Placing.{values_of, fill_placed, placeable, values_zip, bound_zip, binds_placed, instance_ground, filled_kind, ground_value, bound_in, sort_of_value, sorts_of_values, substitution_zip}
 
 module _ (M : Module) (simple : IsSimpleModule M) where
   pub free_module : IsFreeModule M
@@ -35,8 +36,8 @@ module _ (M : Module) (simple : IsSimpleModule M) where
     accepted = accepted M.signature simple.signature;
     sorted = well_sorted M.signature simple.signature;
     statements = λ k e is. let s = simple.equations k e is in (s.left, s.right, s.kinds.0, s.kinds.1, s.kinds.2);
-    tests = λ f o is b h. absurd (both_ways _ (simple.signature.operators f o is).free.built b);
-    choices = λ f o is b h. absurd (both_ways _ (simple.signature.operators f o is).free.built b);
+    tests = λ f o is b h. absurd (both_ways _ (simple.signature.operators f o is).built b);
+    choices = λ f o is b h. absurd (both_ways _ (simple.signature.operators f o is).built b);
   }
 
   pub no_flat_left : NoFlatLeft M
@@ -62,12 +63,12 @@ module _ (M : Module) (simple : IsSimpleModule M) where
     left_numbered =
         let a = numbered_met [] e.left [] e.variables (here.variables ∙ sym (append-nil (met [] e.left))) in (a.0, a.1 ∙ sym (ap length here.variables))
 
-    module _ (vs : List RawTerm) (l : length vs ≡ length e.variables) (g : IsTrue (is_ground (fill vs (placed e.variables e.left)))) (r : IsRawTerm M.signature (fill vs (placed e.variables e.left))) where
+    module _ (vs : List RawTerm) (l : length vs ≡ length e.variables) (have : HaveSorts M.signature vs (sorts_of e.variables)) (g : IsTrue (is_ground (fill vs (placed e.variables e.left)))) (r : IsRawTerm M.signature (fill vs (placed e.variables e.left))) where
       left_kind : HasKind M.signature (fill vs (placed e.variables e.left)) here.kinds.0
-      left_kind = filled_kind M.signature simple.signature vs e.variables here.top here.kinds.1
+      left_kind = filled_kind M.signature vs e.variables here.top here.kinds.1
 
-      good : (x : Variable) (v : RawTerm) → IsTrue (is_in x e.variables) → slice_get vs (place x e.variables) ≡ Some v → IsGood M.signature simple.signature x.sort v
-      good x v h i = good_value M.signature simple.signature vs e.variables here.left here.kinds.1 g r left_kind x (sym (met_here x) ∙ h) v i
+      good : (x : Variable) (v : RawTerm) → IsTrue (is_in x e.variables) → slice_get vs (place x e.variables) ≡ Some v → IsGround M.signature v × HasSort M.signature v (sort x.sort)
+      good x v h i = (ground_value M.signature simple.signature vs e.variables here.left g r x (sym (met_here x) ∙ h) v i, sort_of_value M.signature vs e.variables have x v h i)
 
       substitution : IsSubstitution M.signature (zip e.variables vs)
       substitution = substitution_zip M.signature simple.signature e.variables vs distinct l good
@@ -112,3 +113,10 @@ module _ (M : Module) (simple : IsSimpleModule M) where
     -- a solution's values, in order
     pub solved : (t : RawTerm) (s : Substitution) → IsSolution M.signature e.left t [] s → fill (values_of s e.variables) (placed e.variables e.left) ≡ t
     solved t s sol = fill_placed s e.variables e.left left_placeable ∙ free_equal M.signature (free M.signature simple.signature) sol.matches
+
+    -- the values of a substitution that binds the left side have its variables' sorts
+    pub bound_sorts : (s : Substitution) → IsSubstitution M.signature s → IsTrue (binds s e.left) → HaveSorts M.signature (values_of s e.variables) (sorts_of e.variables)
+    bound_sorts s h b = sorts_of_values M.signature s h e.variables (λ x o. bound_in s e.left b x (sym (met_here x) ∙ o))
+
+    pub solved_sorts : (t : RawTerm) (s : Substitution) → IsSolution M.signature e.left t [] s → HaveSorts M.signature (values_of s e.variables) (sorts_of e.variables)
+    solved_sorts t s sol = sorts_of_values M.signature s sol.substitution e.variables (λ x h. sol.variables x ∙ sym (met_here x) ∙ h)

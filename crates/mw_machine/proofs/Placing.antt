@@ -1,18 +1,20 @@
 -- Instances by position are those by a statement's own variables.
-use Rattle.std.specs.Prelude.{◌≡◌, ℕ, suc, List, [], ◌∷◌, length, map, Bool, true, false, ◌&&◌, ◌||◌, cond, Some, unwrap_or, is_some, slice_get, IsTrue, refl}
+use Rattle.std.specs.Prelude.{◌≡◌, ℕ, zero, suc, List, [], ◌∷◌, length, map, Bool, true, false, ◌&&◌, ◌||◌, cond, Option, Some, None, unwrap_or, is_some, slice_get, IsTrue, refl}
 use Rattle.std.specs.List.{zip}
 use Rattle.std.proofs.Common.{sym, subst, ap, ◌∙◌, ⊎_elim, arith}
 use Rattle.std.proofs.lemmas.Bool.{and_parts, both_ways}
 use Rattle.mw_logic.specs.Term.{Variable, RawTerm, numeral, quoted, variable, apply, RawTerms, nil, cons, is_ground, are_ground}
-use Rattle.mw_logic.specs.Signature.{Signature, Operator, HasKind, of_numeral, of_quoted, of_variable, of_operator, IsRawTerm, a_numeral, a_quoted, a_variable, an_operator, AreRawTerms, end, next}
+use Rattle.mw_logic.specs.Signature.{Signature, Operator, sort, HasKind, of_numeral, of_quoted, of_variable, of_operator, IsRawTerm, a_numeral, a_quoted, a_variable, an_operator, AreRawTerms, end, next}
+use Rattle.mw_logic.specs.Sorts.{HasSort}
 use Rattle.mw_logic.specs.Substitution.{Substitution, same_variable, value, instance, instances, occurs, occurs_in, is_bound, binds, binds_all, IsSubstitution}
 use Rattle.mw_logic.proofs.Canonical.{same_operator}
+use Rattle.mw_logic.proofs.SolutionLaws.{substitution_value}
 use Rattle.mw_machine.specs.Machine.{IsFlat}
 use Rattle.mw_machine.specs.Positions.{fill, fill_all}
-use Rattle.mw_machine.specs.Simple.{IsSimpleSignature}
-use Rattle.mw_machine.specs.Variables.{is_in, AreDistinct, place, placed, all_placed, IsPlaceable, ArePlaceable}
+use Rattle.mw_machine.specs.Simple.{IsSimpleSignature, IsGround, HaveSorts}
+use Rattle.mw_machine.specs.Variables.{is_in, AreDistinct, sorts_of, place, placed, all_placed, IsPlaceable, ArePlaceable}
 use Rattle.mw_machine.proofs.Meeting.{same_is, same_itself, same_turned, neither}
-use Rattle.mw_machine.proofs.Discrete.{either, lone_kind, has_sort}
+use Rattle.mw_machine.proofs.Ordered.{either}
 
 -- the values of variables in order
 abbrev pub value_of : Substitution → Variable → RawTerm
@@ -125,51 +127,86 @@ apart x y xs h k = of (same_variable x y) refl
     of false e = refl
     of true e = absurd (both_ways _ h (subst (λ z. is_in z xs ≡ true) (sym (same_is x y e)) k))
 
+mutual
+  -- what binds a term binds each variable in it
+  pub bound_in : (s : Substitution) (t : RawTerm) → IsTrue (binds s t) → (x : Variable) → IsTrue (occurs x t) → IsTrue (is_bound s x)
+  bound_in s (numeral n) b x h = absurd (both_ways false refl h)
+  bound_in s (quoted q) b x h = absurd (both_ways false refl h)
+  bound_in s (variable y) b x h = subst (λ z. IsTrue (is_bound s z)) (same_is y x h) b
+  bound_in s (apply f ts) b x h = all_bound_in s ts b x h
+
+  all_bound_in : (s : Substitution) (ts : RawTerms) → IsTrue (binds_all s ts) → (x : Variable) → IsTrue (occurs_in x ts) → IsTrue (is_bound s x)
+  all_bound_in s nil b x h = absurd (both_ways false refl h)
+  all_bound_in s (cons t ts) b x h =
+      let p = and_parts _ _ b in ⊎_elim (λ o. bound_in s t p.0 x o) (λ o. all_bound_in s ts p.1 x o) (either (occurs x t) (occurs_in x ts) h)
+
+-- the sort at a variable's position is its own
+sort_at_place : (xs : List Variable) (x : Variable) → is_in x xs ≡ true → slice_get (sorts_of xs) (place x xs) ≡ Some x.sort
+sort_at_place [] x h = absurd (both_ways false refl h)
+sort_at_place (y ∷ ys) x h = of (sort_at_place ys x) (same_variable y x) refl h
+  where
+    of : (is_in x ys ≡ true → slice_get (sorts_of ys) (place x ys) ≡ Some x.sort) → (b : Bool) → same_variable y x ≡ b → (b || is_in x ys) ≡ true
+        → slice_get (y.sort ∷ sorts_of ys) (cond b 0 (suc (place x ys))) ≡ Some x.sort
+    of r true e h = ap (λ (z : Variable). Some z.sort) (same_is y x e)
+    of r false e h = r h
+
+pub sort_of_value : (sig : Signature) (vs : List RawTerm) (xs : List Variable) → HaveSorts sig vs (sorts_of xs) → (x : Variable) (v : RawTerm) → IsTrue (is_in x xs) → slice_get vs (place x xs) ≡ Some v
+    → HasSort sig v (sort x.sort)
+sort_of_value sig vs xs have x v h e = have (place x xs) v x.sort e (sort_at_place xs x h)
+
+-- the values of a substitution's variables have their sorts
+pub sorts_of_values : (sig : Signature) (s : Substitution) → IsSubstitution sig s → (xs : List Variable) → ((x : Variable) → IsTrue (is_in x xs) → IsTrue (is_bound s x)) → HaveSorts sig (values_of s xs) (sorts_of xs)
+sorts_of_values sig s h [] b i v S e k = cc
+sorts_of_values sig s h (x ∷ xs) b zero v S e k =
+    let bound : is_some (value s x) ≡ true = b x (or_left (same_variable x x) (is_in x xs) (same_itself x)) in
+    let f : value_of s x ≡ v = cc in
+    let g : x.sort ≡ S = cc in
+    subst (λ u. HasSort sig u (sort S)) f (subst (λ T. HasSort sig (value_of s x) (sort T)) g (of (value s x) refl bound))
+  where
+    of : (o : Option RawTerm) → value s x ≡ o → is_some o ≡ true → HasSort sig (unwrap_or o (variable x)) (sort x.sort)
+    of None q t = absurd (both_ways false refl t)
+    of (Some u) q t = (substitution_value sig s h x u q).2
+sorts_of_values sig s h (x ∷ xs) b (suc i) v S e k = sorts_of_values sig s h xs (λ y j. b y (or_right (same_variable x y) (is_in y xs) j)) i v S e k
+
+-- with values for its variables, a term with an operator on top has the kind that it had
+pub filled_kind : (sig : Signature) (vs : List RawTerm) (xs : List Variable) {p : RawTerm} {K : ℕ} → ¬ IsFlat p → HasKind sig p K → HasKind sig (fill vs (placed xs p)) K
+filled_kind sig vs xs h (of_numeral S n b k) = absurd (h tt)
+filled_kind sig vs xs h (of_quoted S n b k) = absurd (h tt)
+filled_kind sig vs xs h (of_variable k) = absurd (h tt)
+filled_kind sig vs xs h (of_operator o is k) = of_operator o is k
+
 module _ (sig : Signature) (simple : IsSimpleSignature sig) where
-  -- a ground raw term of this kind
-  abbrev pub IsGood : ℕ → RawTerm → Type 0
-  IsGood K t = IsTrue (is_ground t) × IsRawTerm sig t × HasKind sig t K
-
-  -- with values for its variables, a term with an operator on top has the kind that it had
-  pub filled_kind : (vs : List RawTerm) (xs : List Variable) {p : RawTerm} {K : ℕ} → ¬ IsFlat p → HasKind sig p K → HasKind sig (fill vs (placed xs p)) K
-  filled_kind vs xs h (of_numeral S n b k) = absurd (h tt)
-  filled_kind vs xs h (of_quoted S n b k) = absurd (h tt)
-  filled_kind vs xs h (of_variable k) = absurd (h tt)
-  filled_kind vs xs h (of_operator o is k) = of_operator o is k
-
   mutual
-    -- a value stands where its variable does, so it has the variable's kind
-    pub good_value : (vs : List RawTerm) (xs : List Variable) {p : RawTerm} {K : ℕ} → IsRawTerm sig p → HasKind sig p K
-        → IsTrue (is_ground (fill vs (placed xs p))) → IsRawTerm sig (fill vs (placed xs p)) → HasKind sig (fill vs (placed xs p)) K
-        → (x : Variable) → IsTrue (occurs x p) → (v : RawTerm) → slice_get vs (place x xs) ≡ Some v → IsGood x.sort v
-    good_value vs xs (a_numeral b l) k g r j x h v e = absurd (both_ways _ simple.nat b)
-    good_value vs xs (a_quoted b) k g r j x h v e = absurd (both_ways _ simple.qid b)
-    good_value vs xs {K = K} (a_variable {x = y}) (of_variable k) g r j x h v e =
+    -- a value stands where its variable does, so it is ground and raw where the whole is
+    pub ground_value : (vs : List RawTerm) (xs : List Variable) {p : RawTerm} → IsRawTerm sig p → IsTrue (is_ground (fill vs (placed xs p))) → IsRawTerm sig (fill vs (placed xs p))
+        → (x : Variable) → IsTrue (occurs x p) → (v : RawTerm) → slice_get vs (place x xs) ≡ Some v → IsGround sig v
+    ground_value vs xs (a_numeral b l) g r x h v e = absurd (both_ways _ simple.nat b)
+    ground_value vs xs (a_quoted b) g r x h v e = absurd (both_ways _ simple.qid b)
+    ground_value vs xs (a_variable {x = y}) g r x h v e =
         let same : y ≡ x = same_is y x h in
         let is : fill vs (placed xs (variable y)) ≡ v = rw (same, e) refl in
-        let K' : K ≡ x.sort = sym (lone_kind sig simple k) ∙ ap (λ (z : Variable). z.sort) same in
-        subst (IsGood x.sort) is (g, r, subst (HasKind sig (fill vs (placed xs (variable y)))) K' j)
-    good_value vs xs (an_operator {f} {ts} o is args) k g (an_operator p there filled) j x h v e =
-        good_values vs xs args g (subst (AreRawTerms sig (fill_all vs (all_placed xs ts))) (ap (λ (q : Operator). q.args) (same_operator sig f p o there is)) filled) x h v e
+        subst (IsGround sig) is (g, r)
+    ground_value vs xs (an_operator {f} {ts} o is args) g (an_operator p there filled) x h v e =
+        ground_values vs xs args g (subst (AreRawTerms sig (fill_all vs (all_placed xs ts))) (ap (λ (q : Operator). q.args) (same_operator sig f p o there is)) filled) x h v e
 
-    good_values : (vs : List RawTerm) (xs : List Variable) {ps : RawTerms} {Ks : List ℕ} → AreRawTerms sig ps Ks → IsTrue (are_ground (fill_all vs (all_placed xs ps)))
-        → AreRawTerms sig (fill_all vs (all_placed xs ps)) Ks → (x : Variable) → IsTrue (occurs_in x ps) → (v : RawTerm) → slice_get vs (place x xs) ≡ Some v → IsGood x.sort v
-    good_values vs xs end g r x h v e = absurd (both_ways _ refl h)
-    good_values vs xs (next {t = p} {ts = ps} r k rest) g (next s j more) x h v e =
+    ground_values : (vs : List RawTerm) (xs : List Variable) {ps : RawTerms} {Ks : List ℕ} → AreRawTerms sig ps Ks → IsTrue (are_ground (fill_all vs (all_placed xs ps)))
+        → AreRawTerms sig (fill_all vs (all_placed xs ps)) Ks → (x : Variable) → IsTrue (occurs_in x ps) → (v : RawTerm) → slice_get vs (place x xs) ≡ Some v → IsGround sig v
+    ground_values vs xs end g r x h v e = absurd (both_ways _ refl h)
+    ground_values vs xs (next {t = p} {ts = ps} r k rest) g (next s j more) x h v e =
         let a = and_parts _ _ g in
-        ⊎_elim (λ i. good_value vs xs r k a.0 s j x i v e) (λ i. good_values vs xs rest a.1 more x i v e) (either (occurs x p) (occurs_in x ps) h)
+        ⊎_elim (λ i. ground_value vs xs r a.0 s x i v e) (λ i. ground_values vs xs rest a.1 more x i v e) (either (occurs x p) (occurs_in x ps) h)
 
-  -- ground raw values of distinct variables, each of its variable's kind, are a substitution
+  -- ground raw values of distinct variables, each of its variable's sort, are a substitution
   pub substitution_zip : (xs : List Variable) (vs : List RawTerm) → AreDistinct xs → length vs ≡ length xs
-      → ((x : Variable) (v : RawTerm) → IsTrue (is_in x xs) → slice_get vs (place x xs) ≡ Some v → IsGood x.sort v) → IsSubstitution sig (zip xs vs)
+      → ((x : Variable) (v : RawTerm) → IsTrue (is_in x xs) → slice_get vs (place x xs) ≡ Some v → IsGround sig v × HasSort sig v (sort x.sort)) → IsSubstitution sig (zip xs vs)
   substitution_zip [] vs d l g = tt
   substitution_zip (x ∷ xs) [] d l g = tt
   substitution_zip (x ∷ xs) (v ∷ vs) d l g =
       let k : length vs ≡ length xs = omega (arith, l) in
       let w = g x v (or_left (same_variable x x) (is_in x xs) (same_itself x)) (rw (same_itself x) refl) in (
         bound_zip xs vs x k ∙ d.0,
-        w.0,
+        w.0.0,
+        w.0.1,
         w.1,
-        has_sort sig simple w.1 w.0 w.2,
         substitution_zip xs vs d.1 k (λ y u h e. g y u (or_right (same_variable x y) (is_in y xs) h) (rw (apart x y xs d.0 h) e)),
       )

@@ -1,20 +1,23 @@
 -- Lists of numbers, the module T: sorts N and L, z and s, nil and cons, and two operators of the name size, one on numbers and one on lists. What holds of it, and what doesn't.
 use Rattle.std.specs.Prelude.{◌≡◌, ℕ, zero, suc, List, [], ◌∷◌, map, Bool, true, false, ◌||◌, Some, None, IsTrue, codes, refl}
 use Rattle.std.specs.List.{AllByRecursion, slice_get}
-use Rattle.std.proofs.Common.{sym, subst, ap, ◌∙◌, arith}
+use Rattle.std.proofs.Common.{sym, subst, ap, ◌∙◌, arith, inl, ⊎_elim}
 use Rattle.std.proofs.lemmas.Bool.{false≢true}
-use Rattle.mw_logic.specs.Term.{Variable, RawTerm, variable, nil, cons, constant, unary, binary}
-use Rattle.mw_logic.specs.Signature.{Signature, Operator, at_number, sort, same, of_variable, of_operator, IsRawTerm, a_variable, an_operator, AreRawTerms, end, next}
-use Rattle.mw_logic.specs.Sorts.{HasSort, IsLeastSort}
+use Rattle.mw_logic.specs.Term.{Variable, RawTerm, RawTerms, variable, apply, nil, cons, constant, unary, binary}
+use Rattle.mw_logic.specs.Signature.{Signature, Operator, at_number, sort, same, Member, HasKind, of_variable, of_operator, IsRawTerm, a_variable, an_operator, AreRawTerms, end, next}
+use Rattle.mw_logic.specs.Sorts.{HasSort}
+use Rattle.mw_logic.specs.Preregular.{IsSortOf}
+use Rattle.mw_logic.proofs.SolutionLaws.{sort_kind}
 use Rattle.mw_logic.specs.Substitution.{same_variable, IsSubstitution}
 use Rattle.mw_logic.specs.Module.{Module, Statement, IsStatement}
 use Rattle.mw_logic.proofs.AcceptedTest.{is_accepted-sound}
 use Rattle.mw_logic.proofs.Canonical.{same_operator}
 use Rattle.mw_logic.proofs.RowsKit.{a_variable as variable_of, an_equation}
 use Rattle.mw_machine.specs.Machine.{Fires}
-use Rattle.mw_machine.specs.Simple.{IsSimpleOperator, IsSimpleSignature, IsSimpleEquation, IsSimpleModule}
+use Rattle.mw_machine.specs.Simple.{IsSimpleSignature, IsSimpleEquation, IsSimpleModule, HaveSorts}
 use Rattle.mw_machine.proofs.Meeting.{or_none}
-use Rattle.mw_machine.proofs.Discrete.{least_sort_of_top, only_sort, top_kind}
+use Rattle.mw_machine.proofs.Ordered.{accepted, well_sorted, applied_sort}
+use Rattle.mw_machine.proofs.ManySorted.{IsDeclaredOnce, lone_kind, simple_once}
 use Rattle.mw_machine.proofs.Firing.{fires}
 
 abbrev operator : List ℕ → List ℕ → ℕ → Operator
@@ -82,17 +85,24 @@ each {A} P xs all (suc k) x e = within xs all k e
     within (y ∷ ys) all zero e = let k : Some y ≡ Some x = e in let h : y ≡ x = cc in subst P h all.0
     within (y ∷ ys) all (suc i) e = within ys all.1 i e
 
-simple_operator : (name : List ℕ) (args : List ℕ) (result : ℕ) → IsSimpleOperator (operator name args result)
-simple_operator name args result = record { free = record { assoc = refl; comm = refl; identity = refl; built = refl }; declarations = refl }
+are_there : (Ks : List ℕ) → AllByRecursion (IsSortOf T_signature) Ks → (K : ℕ) → Member K Ks → IsSortOf T_signature K
+are_there [] all K m = absurd m
+are_there (L ∷ Ks) all K m = ⊎_elim (λ e. subst (IsSortOf T_signature) e all.0) (λ k. are_there Ks all.1 K k) m
+
+declared_once : (name : List ℕ) (args : List ℕ) (result : ℕ) → AllByRecursion (IsSortOf T_signature) args → IsSortOf T_signature result → IsDeclaredOnce T_signature (operator name args result)
+declared_once name args result a r = record { free = record { assoc = refl; comm = refl; identity = refl; built = refl }; declarations = refl; args = are_there args a; result = r }
+
+N : IsSortOf T_signature 1
+N = (omega arith, omega arith)
+
+L : IsSortOf T_signature 2
+L = (omega arith, omega arith)
 
 pub T_simple : IsSimpleSignature T_signature
-T_simple = record {
-  pairs = refl;
-  nat = refl;
-  qid = refl;
-  sorts_differ = (is_accepted-sound T_signature refl).sorts_differ;
-  operators = each IsSimpleOperator T_signature.operators (simple_operator _ _ _, (simple_operator _ _ _, (simple_operator _ _ _, (simple_operator _ _ _, (simple_operator _ _ _, (simple_operator _ _ _, tt))))));
-}
+T_simple = simple_once T_signature refl refl refl (is_accepted-sound T_signature refl).sorts_differ (each (IsDeclaredOnce T_signature) T_signature.operators (
+  declared_once _ _ _ tt N,
+  (declared_once _ _ _ (N, tt) N, (declared_once _ _ _ tt L, (declared_once _ _ _ (N, (L, tt)) L, (declared_once _ _ _ (N, tt) N, (declared_once _ _ _ (L, tt) N, tt))))),
+))
 
 bound_in_third : (a b : Bool) → ((b || false) || false) ≡ true → ((a || (b || false)) || false) ≡ true
 bound_in_third true b h = refl
@@ -149,22 +159,33 @@ T_module = record {
   equations = λ k e is. each (λ (s : Statement). IsTrue s.executable → IsSimpleEquation T_signature s) T.statements (λ h. first, (λ h. second, (λ h. third, (λ h. absurd (false≢true h), tt)))) k e is.is_there is.executable;
 }
 
--- cons(z, nil) has the least sort L; size(z) and size(nil) have N, by two operators
+-- cons(z, nil) has the sort L; size(z) and size(nil) have N, by two operators
 list_raw : IsRawTerm T_signature (binary 4 z empty)
 list_raw = an_operator _ refl (next z_raw (of_operator _ refl same) (next empty_raw (of_operator _ refl same) end))
 
-list_sort : IsLeastSort T_signature (binary 4 z empty) (sort 2)
-list_sort = least_sort_of_top T_signature T_simple 4 _ _ refl list_raw refl
+z_sort : HasSort T_signature z (sort 1)
+z_sort = applied_sort T_signature T_simple _ [] (sort 1) refl z_raw tt (inl (inl refl))
 
-number_size : IsLeastSort T_signature (unary 5 z) (sort 1)
-number_size = least_sort_of_top T_signature T_simple 5 _ _ refl (an_operator _ refl (next z_raw (of_operator _ refl same) end)) refl
+empty_sort : HasSort T_signature empty (sort 2)
+empty_sort = applied_sort T_signature T_simple _ [] (sort 2) refl empty_raw tt (inl (inl refl))
 
-list_size : IsLeastSort T_signature (unary 6 empty) (sort 1)
-list_size = least_sort_of_top T_signature T_simple 6 _ _ refl (an_operator _ refl (next empty_raw (of_operator _ refl same) end)) refl
+list_sort : HasSort T_signature (binary 4 z empty) (sort 2)
+list_sort = applied_sort T_signature T_simple _ (sort 1 ∷ sort 2 ∷ []) (sort 2) refl list_raw (z_sort, (empty_sort, tt)) (inl (inl refl))
+
+number_size : HasSort T_signature (unary 5 z) (sort 1)
+number_size = applied_sort T_signature T_simple _ (sort 1 ∷ []) (sort 1) refl (an_operator _ refl (next z_raw (of_operator _ refl same) end)) (z_sort, tt) (inl (inl refl))
+
+list_size : HasSort T_signature (unary 6 empty) (sort 1)
+list_size = applied_sort T_signature T_simple _ (sort 2 ∷ []) (sort 1) refl (an_operator _ refl (next empty_raw (of_operator _ refl same) end)) (empty_sort, tt) (inl (inl refl))
+
+two_sorts : HaveSorts T_signature (z ∷ empty ∷ []) (1 ∷ 2 ∷ [])
+two_sorts zero v S e k = let a : z ≡ v = cc in let b : 1 ≡ S = cc in subst (λ u. HasSort T_signature u (sort S)) a (subst (λ R. HasSort T_signature z (sort R)) b z_sort)
+two_sorts (suc zero) v S e k = let a : empty ≡ v = cc in let b : 2 ≡ S = cc in subst (λ u. HasSort T_signature u (sort S)) a (subst (λ R. HasSort T_signature empty (sort R)) b empty_sort)
+two_sorts (suc (suc i)) v S e k = cc
 
 -- the third equation makes size(cons(z, nil)) s(size(nil))
 third_fires : Fires T 3 ((X, z) ∷ (Y, empty) ∷ []) (unary 6 (binary 4 z empty)) (unary 2 (unary 6 empty))
-third_fires = fires T T_module 3 _ (record { is_there = refl; executable = refl }) (z ∷ empty ∷ []) refl refl (an_operator _ refl (next list_raw (of_operator _ refl same) end))
+third_fires = fires T T_module 3 _ (record { is_there = refl; executable = refl }) (z ∷ empty ∷ []) refl two_sorts refl (an_operator _ refl (next list_raw (of_operator _ refl same) end))
 
 -- the fourth statement never applies, so the module is simple with a variable on its left side, and one more on its right side
 fourth_never : (e : Statement) → IsStatement T 4 e → ⊥
@@ -173,9 +194,13 @@ fourth_never e is = let h : e.executable ≡ false = same_field is.is_there in f
     same_field : Some never ≡ Some e → e.executable ≡ false
     same_field h = let k : never ≡ e = cc in ap (λ (s : Statement). s.executable) (sym k)
 
+-- the kind of a term is that of its operator's result
+top_is : (f : ℕ) (o : Operator) → at_number T_signature.operators f ≡ Some o → {ts : RawTerms} {K : ℕ} → HasKind T_signature (apply f ts) K → o.result ≡ K
+top_is f o is (of_operator p there k) = ap (λ (q : Operator). q.result) (same_operator T_signature f o p is there) ∙ lone_kind T_signature refl k
+
 -- nil isn't of sort N, so it is no value of X
 empty_no_number : HasSort T_signature empty (sort 1) → ⊥
-empty_no_number h = let e : 2 ≡ 1 = only_sort T_signature T_simple empty_raw refl (of_operator _ refl same) h in omega (arith, e)
+empty_no_number h = let e : 2 ≡ 1 = top_is 3 _ refl (sort_kind T_signature (accepted T_signature T_simple) (well_sorted T_signature T_simple) empty_raw h) in omega (arith, e)
 
 no_value : IsSubstitution T_signature ((X, empty) ∷ []) → ⊥
 no_value h = empty_no_number h.3
@@ -185,16 +210,16 @@ no_size : IsRawTerm T_signature (unary 5 empty) → ⊥
 no_size (an_operator o is args) = stands (subst (λ (p : Operator). AreRawTerms T_signature (cons empty nil) p.args) (same_operator T_signature 5 o _ is refl) args)
   where
     stands : AreRawTerms T_signature (cons empty nil) (1 ∷ []) → ⊥
-    stands (next r k rest) = let e : 2 ≡ 1 = top_kind T_signature T_simple _ refl k in omega (arith, e)
+    stands (next r k rest) = let e : 2 ≡ 1 = top_is _ _ refl k in omega (arith, e)
 
 no_list : IsRawTerm T_signature (binary 4 z z) → ⊥
 no_list (an_operator o is args) = stands (subst (λ (p : Operator). AreRawTerms T_signature (cons z (cons z nil)) p.args) (same_operator T_signature 4 o _ is refl) args)
   where
     stands : AreRawTerms T_signature (cons z (cons z nil)) (1 ∷ 2 ∷ []) → ⊥
-    stands (next r k (next q j rest)) = let e : 1 ≡ 2 = top_kind T_signature T_simple _ refl j in omega (arith, e)
+    stands (next r k (next q j rest)) = let e : 1 ≡ 2 = top_is _ _ refl j in omega (arith, e)
 
 -- nil = z is no equation
 no_equation : IsSimpleEquation T_signature (an_equation empty z [] []) → ⊥
 no_equation e =
-    let l : 2 ≡ e.kinds.0 = top_kind T_signature T_simple _ refl e.kinds.1 in
-    let r : 1 ≡ e.kinds.0 = top_kind T_signature T_simple _ refl e.kinds.2 in omega (arith, l, r)
+    let l : 2 ≡ e.kinds.0 = top_is _ _ refl e.kinds.1 in
+    let r : 1 ≡ e.kinds.0 = top_is _ _ refl e.kinds.2 in omega (arith, l, r)

@@ -5,17 +5,18 @@ use Rattle.std.proofs.Common.{sym, subst, ap, ◌∙◌, ⊎_elim, arith, append
 use Rattle.std.proofs.lemmas.Bool.{both_ways, or_right}
 use Rattle.std.proofs.lemmas.List.{length-map, map-append}
 use Rattle.mw_logic.specs.Term.{Variable, RawTerm, is_ground}
-use Rattle.mw_logic.specs.Signature.{Signature, same, HasKind, of_variable, of_operator, IsRawTerm, a_numeral, a_quoted, a_variable, an_operator}
+use Rattle.mw_logic.specs.Signature.{Signature, sort, IsRawTerm}
+use Rattle.mw_logic.specs.Sorts.{HasSort}
 use Rattle.mw_logic.specs.Axioms.{done}
 use Rattle.mw_logic.specs.Substitution.{Substitution, same_variable, value, instance, occurs, is_bound, IsSubstitution, Extends, IsSolution, SameSolution}
 use Rattle.mw_logic.proofs.FreeSignature.{free_equal}
-use Rattle.mw_logic.proofs.SolutionLaws.{substitution_value, substitution_kinds}
+use Rattle.mw_logic.proofs.SolutionLaws.{substitution_value}
 use Rattle.mw_machine.specs.Positions.{fill, Begins, IsNumbered, counted}
-use Rattle.mw_machine.specs.Simple.{IsSimpleSignature}
-use Rattle.mw_machine.specs.Variables.{is_in, met, AreDistinct, place, placed, IsPlaceable, bound_variables, bound_values}
+use Rattle.mw_machine.specs.Simple.{IsSimpleSignature, IsGround, HaveSorts}
+use Rattle.mw_machine.specs.Variables.{is_in, met, AreDistinct, sorts_of, place, placed, IsPlaceable, bound_variables, bound_values}
 use Rattle.mw_machine.proofs.Meeting.{same_is, same_itself, is_in-met, met_grows, AreDistinct-met, numbered_met, place-append, place-within}
-use Rattle.mw_machine.proofs.Discrete.{either, free, accepted, well_sorted}
-use Rattle.mw_machine.proofs.Placing.{value_of, values_of, at_place, fill_placed, placeable, values_zip, bound_zip, IsGood, good_value, substitution_zip}
+use Rattle.mw_machine.proofs.Ordered.{either, free}
+use Rattle.mw_machine.proofs.Placing.{value_of, values_of, at_place, fill_placed, placeable, values_zip, bound_zip, ground_value, sort_of_value, sorts_of_values, substitution_zip}
 
 -- a substitution's variables and values stand in the same order
 pub is_bound_in : (s : Substitution) (x : Variable) → is_bound s x ≡ is_in x (bound_variables s)
@@ -52,7 +53,7 @@ distinct_variables sig [] h = tt
 distinct_variables sig (b ∷ s) h = (sym (is_bound_in s b.0) ∙ h.0, distinct_variables sig s h.4)
 
 -- where a longer list of values begins with those that were there
-begins_get : (vs us : List RawTerm) (i : ℕ) → Begins vs us → i < length vs → slice_get us i ≡ slice_get vs i
+pub begins_get : (vs us : List RawTerm) (i : ℕ) → Begins vs us → i < length vs → slice_get us i ≡ slice_get vs i
 begins_get [] us i b h = absurd (omega (arith, h))
 begins_get (v ∷ vs) [] i b h = absurd b
 begins_get (v ∷ vs) (u ∷ us) zero b h = ap Some (sym b.0)
@@ -76,12 +77,6 @@ some_bound : (o : Option RawTerm) (t : RawTerm) → o ≡ Some t → is_some o �
 some_bound o t e = rw e refl
 
 module _ (sig : Signature) (simple : IsSimpleSignature sig) where
-  raw_kind : {p : RawTerm} → IsRawTerm sig p → (K : ℕ) × HasKind sig p K
-  raw_kind (a_numeral b l) = absurd (both_ways _ simple.nat b)
-  raw_kind (a_quoted b) = absurd (both_ways _ simple.qid b)
-  raw_kind (a_variable {x}) = (x.sort, of_variable same)
-  raw_kind (an_operator o is args) = (o.result, of_operator o is same)
-
   values_given : (s s0 : Substitution) → IsSubstitution sig s0 → Extends s0 s → values_of s (bound_variables s0) ≡ bound_values s0
   values_given s [] h e = refl
   values_given s (b ∷ s0) h e =
@@ -125,13 +120,11 @@ module _ (sig : Signature) (simple : IsSimpleSignature sig) where
       extends_given : Extends s0 (zip variables vs)
       extends_given x t e = value_zip variables vs x l ∙ kept x (sym (is_bound_in s0 x) ∙ some_bound (value s0 x) t e) ∙ e
 
-      module _ (ground : IsTrue (is_ground (fill vs (placed variables p)))) (r : IsRawTerm sig (fill vs (placed variables p))) (k : (K : ℕ) → HasKind sig p K → HasKind sig (fill vs (placed variables p)) K) where
-        good : (x : Variable) (v : RawTerm) → IsTrue (is_in x variables) → slice_get vs (place x variables) ≡ Some v → IsGood sig simple x.sort v
+      module _ (ground : IsTrue (is_ground (fill vs (placed variables p)))) (r : IsRawTerm sig (fill vs (placed variables p))) (have : HaveSorts sig vs (sorts_of variables)) where
+        good : (x : Variable) (v : RawTerm) → IsTrue (is_in x variables) → slice_get vs (place x variables) ≡ Some v → IsGround sig v × HasSort sig v (sort x.sort)
         good x v h e = ⊎_elim
-            (λ a.
-            let i : value s0 x ≡ Some v = sym (kept x a) ∙ e in
-            let (g, w, S) = substitution_value sig s0 given x v i in (g, w, substitution_kinds sig (accepted sig simple) (well_sorted sig simple) s0 given x v i))
-            (λ o. let q = raw_kind raw in good_value sig simple vs variables raw q.1 ground r (k q.0 q.1) x o v e)
+            (λ a. let (g, w, S) = substitution_value sig s0 given x v (sym (kept x a) ∙ e) in ((g, w), S))
+            (λ o. (ground_value sig simple vs variables raw ground r x o v e, sort_of_value sig vs variables have x v h e))
             (either (is_in x (bound_variables s0)) (occurs x p) (sym (is_in-met x (bound_variables s0) p) ∙ h))
 
         -- so the variables with the values are a solution
@@ -153,6 +146,9 @@ module _ (sig : Signature) (simple : IsSimpleSignature sig) where
 
       pub values_length : length (values_of s variables) ≡ length variables
       values_length = length-map variables (value_of s)
+
+      pub values_sorts : HaveSorts sig (values_of s variables) (sorts_of variables)
+      values_sorts = sorts_of_values sig s sol.substitution variables (λ x h. sol.variables x ∙ sym (is_in_variables x) ∙ h)
 
       pub values_begin : Begins (bound_values s0) (values_of s variables)
       values_begin =

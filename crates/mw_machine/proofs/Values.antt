@@ -95,7 +95,7 @@ module _ (P : RawTerm → Type 0) (args : (f : ℕ) (ts : RawTerms) → P (apply
   HasAt vs i = (v : RawTerm) → slice_get vs i ≡ Some v → P v
 
   mutual
-    values_have : (vs : List RawTerm) (n : ℕ) (p t : RawTerm) → fill vs p ≡ t → IsNumbered n p → P t → ((i : ℕ) → i < n → HasAt vs i) → (i : ℕ) → i < counted n p → HasAt vs i
+    pub values_have : (vs : List RawTerm) (n : ℕ) (p t : RawTerm) → fill vs p ≡ t → IsNumbered n p → P t → ((i : ℕ) → i < n → HasAt vs i) → (i : ℕ) → i < counted n p → HasAt vs i
     values_have vs n (term.numeral m) t e a h b i l = b i l
     values_have vs n (term.quoted q) t e a h b i l = b i l
     values_have vs n (term.variable x) t e a h b i l = λ v k.

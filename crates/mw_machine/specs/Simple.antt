@@ -1,25 +1,34 @@
--- Modules in which no sort is below another, with free operators, and equations without conditions.
-use Rattle.std.specs.Prelude.{ℕ, ◌≡◌, List, [], ◌∷◌, map, false, IsTrue}
-use Rattle.mw_logic.specs.Term.{Variable}
+-- Modules over sorts in an order, with free operators, and equations without conditions.
+use Rattle.std.specs.Prelude.{ℕ, ◌≡◌, List, [], false, IsTrue, Some, slice_get}
+use Rattle.mw_logic.specs.Term.{Variable, RawTerm, is_ground}
 use Rattle.mw_logic.specs.Signature.{Signature, Operator, sort, IsOperator, IsSortNamed, HasKind, IsRawTerm}
+use Rattle.mw_logic.specs.Sorts.{HasSort}
 use Rattle.mw_logic.specs.Substitution.{occurs}
+use Rattle.mw_logic.specs.Preregular.{HasItsSorts, IsPreregular}
 use Rattle.mw_logic.specs.Module.{Module, Statement, IsStatement}
 use Rattle.mw_machine.specs.Machine.{IsFlat}
 use Rattle.mw_machine.specs.Plain.{IsFreeOperator}
 use Rattle.mw_machine.specs.Variables.{met}
 
--- an operator without axioms that is declared once, on sorts
-pub record IsSimpleOperator (o : Operator) : Type 0 where
-  pub free : IsFreeOperator o
-  pub declarations : o.declarations ≡ record { args = map sort o.args; result = sort o.result } ∷ []
-
--- No sort is below another, so each sort is its own kind. Operators may share a spelling: those on other sorts are other operators.
+-- Operators without axioms, on arguments of all sorts with a least result; no numbers and no quoted identifiers.
 pub record IsSimpleSignature (sig : Signature) : Type 0 where
-  pub pairs : sig.pairs ≡ []
   pub nat : sig.nat ≡ false
   pub qid : sig.qid ≡ false
   pub sorts_differ : (S T : ℕ) (name : List ℕ) → IsSortNamed sig S name → IsSortNamed sig T name → S ≡ T
-  pub operators : (f : ℕ) (o : Operator) → IsOperator sig f o → IsSimpleOperator o
+  pub operators : (f : ℕ) (o : Operator) → IsOperator sig f o → IsFreeOperator o
+  pub numbers : HasItsSorts sig
+  pub preregular : IsPreregular sig
+
+-- a ground raw term, and a list of such
+abbrev pub IsGround : Signature → RawTerm → Type 0
+IsGround sig t = IsTrue (is_ground t) × IsRawTerm sig t
+
+abbrev pub AreGround : Signature → List RawTerm → Type 0
+AreGround sig vs = (i : ℕ) (v : RawTerm) → slice_get vs i ≡ Some v → IsGround sig v
+
+-- the values have these sorts, one by one
+abbrev pub HaveSorts : Signature → List RawTerm → List ℕ → Type 0
+HaveSorts sig vs Ss = (i : ℕ) (v : RawTerm) (S : ℕ) → slice_get vs i ≡ Some v → slice_get Ss i ≡ Some S → HasSort sig v (sort S)
 
 -- An equation between terms of one kind, with an operator on top of its left side. The left side has each variable of the right side.
 pub record IsSimpleEquation (sig : Signature) (e : Statement) : Type 0 where

@@ -30,6 +30,10 @@ abbrev pub place : Variable → List Variable → ℕ
 place x [] = 0
 place x (y ∷ ys) = cond (same_variable y x) 0 (suc (place x ys))
 
+-- the sorts of variables
+abbrev pub sorts_of : List Variable → List ℕ
+sorts_of xs = map (λ (x : Variable). x.sort) xs
+
 -- the term with each variable's position in place of its name
 abbrev mutual
   pub placed : List Variable → RawTerm → RawTerm

@@ -1,26 +1,44 @@
 -- The small signature of the tests is simple.
 use Rattle.std.specs.Prelude.{◌≡◌, ℕ, zero, suc, List, [], ◌∷◌, Option, None, Some, Result, IfOk, refl}
-use Rattle.std.proofs.Common.{sym, subst, ap, ◌∙◌, arith}
+use Rattle.std.proofs.Common.{sym, subst, ap, ◌∙◌, arith, ⊎_elim}
 use Rattle.std.proofs.lemmas.Result.{IfOk-weaker}
 use Rattle.mw_logic.specs.Term.{Variable, RawTerm, variable, apply, nil, cons}
-use Rattle.mw_logic.specs.Signature.{Signature, Operator, at_number, same, of_variable, of_operator, a_variable, an_operator, end, next, IsOperator, IsSortNamed}
+use Rattle.mw_logic.specs.Signature.{Signature, Operator, at_number, same, of_variable, of_operator, a_variable, an_operator, end, next, IsOperator, IsSortNamed, Member}
 use Rattle.mw_logic.specs.Free.{IsFreeSignature}
 use Rattle.mw_logic.specs.Terms.{terms_of}
 use Rattle.mw_logic.specs.Module.{Statement}
 use Rattle.mw_logic.specs.Substitution.{IsSubstitution}
-use Rattle.mw_machine.specs.Simple.{IsSimpleOperator, IsSimpleSignature, IsSimpleModule}
-use Rattle.mw_machine.proofs.Discrete.{free, has_sort}
+use Rattle.mw_logic.specs.Preregular.{IsSortOf}
+use Rattle.mw_machine.specs.Simple.{IsSimpleSignature, IsSimpleModule}
+use Rattle.mw_machine.proofs.Ordered.{free}
+use Rattle.mw_machine.proofs.ManySorted.{IsDeclaredOnce, simple_once, kind_sort}
 use Rattle.mw_match.specs.Letters.{letter, letters, IsOf, IsGroundOf}
 
-simple_letter : (name : ℕ) (args : List ℕ) (result : ℕ) → IsSimpleOperator (letter name args result)
-simple_letter name args result = record { free = record { assoc = refl; comm = refl; identity = refl; built = refl }; declarations = refl }
+-- each of these is a sort of the letters
+abbrev AreSorts : List ℕ → Type 0
+AreSorts Ks = (K : ℕ) → Member K Ks → IsSortOf letters K
 
-one_of_letters : (f : ℕ) (o : Operator) → IsOperator letters f o → IsSimpleOperator o
+first_sort : IsSortOf letters 1
+first_sort = (omega arith, omega arith)
+
+second_sort : IsSortOf letters 2
+second_sort = (omega arith, omega arith)
+
+no_sorts : AreSorts []
+no_sorts K m = absurd m
+
+two_sorts : AreSorts (1 ∷ 1 ∷ [])
+two_sorts K m = subst (IsSortOf letters) (⊎_elim (λ e. e) (λ n. ⊎_elim (λ e. e) (λ k. absurd k) n) m) first_sort
+
+letter_once : (name : ℕ) (args : List ℕ) (result : ℕ) → AreSorts args → IsSortOf letters result → IsDeclaredOnce letters (letter name args result)
+letter_once name args result h k = record { free = record { assoc = refl; comm = refl; identity = refl; built = refl }; declarations = refl; args = h; result = k }
+
+one_of_letters : (f : ℕ) (o : Operator) → IsOperator letters f o → IsDeclaredOnce letters o
 one_of_letters zero o h = absurd (cc)
-one_of_letters (suc zero) o h = let e : letter 97 [] 1 ≡ o = cc in subst IsSimpleOperator e (simple_letter 97 [] 1)
-one_of_letters (suc (suc zero)) o h = let e : letter 98 [] 1 ≡ o = cc in subst IsSimpleOperator e (simple_letter 98 [] 1)
-one_of_letters (suc (suc (suc zero))) o h = let e : letter 99 [] 2 ≡ o = cc in subst IsSimpleOperator e (simple_letter 99 [] 2)
-one_of_letters (suc (suc (suc (suc zero)))) o h = let e : letter 102 (1 ∷ 1 ∷ []) 1 ≡ o = cc in subst IsSimpleOperator e (simple_letter 102 (1 ∷ 1 ∷ []) 1)
+one_of_letters (suc zero) o h = let e : letter 97 [] 1 ≡ o = cc in subst (IsDeclaredOnce letters) e (letter_once 97 [] 1 no_sorts first_sort)
+one_of_letters (suc (suc zero)) o h = let e : letter 98 [] 1 ≡ o = cc in subst (IsDeclaredOnce letters) e (letter_once 98 [] 1 no_sorts first_sort)
+one_of_letters (suc (suc (suc zero))) o h = let e : letter 99 [] 2 ≡ o = cc in subst (IsDeclaredOnce letters) e (letter_once 99 [] 2 no_sorts second_sort)
+one_of_letters (suc (suc (suc (suc zero)))) o h = let e : letter 102 (1 ∷ 1 ∷ []) 1 ≡ o = cc in subst (IsDeclaredOnce letters) e (letter_once 102 (1 ∷ 1 ∷ []) 1 two_sorts first_sort)
 one_of_letters (suc (suc (suc (suc (suc f))))) o h = absurd (cc)
 
 abbrev first : Option (List ℕ) → ℕ
@@ -44,7 +62,7 @@ names_differ (suc (suc zero)) (suc (suc (suc T))) name h k = absurd (cc)
 names_differ (suc (suc (suc S))) T name h k = absurd (cc)
 
 pub simple_letters : IsSimpleSignature letters
-simple_letters = record { pairs = refl; nat = refl; qid = refl; sorts_differ = names_differ; operators = one_of_letters }
+simple_letters = simple_once letters refl refl refl names_differ one_of_letters
 
 pub free_letters : IsFreeSignature letters
 free_letters = free letters simple_letters
@@ -75,7 +93,7 @@ pub ground_none : (f : ℕ) (name result : ℕ) → IsOperator letters f (letter
 ground_none f name result is = (refl, of_none f name result is)
 
 pub substitution_of : (x : Variable) (t : RawTerm) → IsGroundOf x.sort t → IsSubstitution letters ((x, t) ∷ [])
-substitution_of x t g = (refl, g.0, g.1.0, has_sort letters simple_letters g.1.0 g.0 g.1.1, tt)
+substitution_of x t g = (refl, g.0, g.1.0, kind_sort letters refl simple_letters one_of_letters g.1.0 g.0 g.1.1, tt)
 
 pub constant_made : {E : Type 0} (f name result : ℕ) → IsOperator letters f (letter name [] result) → (r : Result RawTerm E) (ts : List RawTerm) → ts ≡ [] → IfOk r (λ t. t ≡ apply f (terms_of ts)) → IfOk r (IsGroundOf result)
 constant_made f name result is r ts e h = IfOk-weaker r _ (IsGroundOf result) (λ t k. subst (IsGroundOf result) (sym (k ∙ ap (λ us. apply f (terms_of us)) e)) (ground_none f name result is)) h

@@ -2,3 +2,4 @@ pub mod Matching
 pub mod Solving
 pub mod Pairs
 pub mod Letters
+pub mod Sorting

@@ -1,58 +1,49 @@
 -- What a match by position says of solutions.
-use Rattle.std.specs.Prelude.{◌≡◌, ◌↔◌, ℕ, zero, suc, List, [], ◌∷◌, length, Bool, true, false, nat_eq, get_or, ◌-◌, Option, Some, None, unwrap_or, slice_get, IsTrue, refl}
+use Rattle.std.specs.Prelude.{◌≡◌, ◌↔◌, ℕ, zero, suc, List, [], ◌∷◌, length, Bool, true, false, Option, Some, None, slice_get, IsTrue, refl}
 use Rattle.std.specs.List.{zip}
 use Rattle.std.proofs.Common.{sym, subst, ap, ◌∙◌, inl, ⊎_elim, arith}
-use Rattle.std.proofs.lemmas.Bool.{both_ways, or_right, eqb-true}
-use Rattle.mw_logic.proofs.Canonical.{nat_eq-refl}
-use Rattle.mw_logic.specs.Term.{Variable, RawTerm, numeral, quoted, variable, apply, RawTerms, is_ground}
-use Rattle.mw_logic.specs.Signature.{Signature, Operator, at_number, sort, same, HasKind, of_numeral, of_quoted, of_variable, of_operator, IsRawTerm, an_operator}
+use Rattle.mw_logic.specs.Term.{Variable, RawTerm, is_ground}
+use Rattle.mw_logic.specs.Signature.{Signature, sort, IsRawTerm}
 use Rattle.mw_logic.specs.Sorts.{HasSort}
 use Rattle.mw_logic.specs.Free.{IsFreeSignature}
 use Rattle.mw_logic.specs.Parts.{nested}
 use Rattle.mw_canon.proofs.Free.{nested_free, meant_free}
-use Rattle.mw_logic.specs.Substitution.{Substitution, same_variable, value, is_bound, IsSubstitution, IsSolution, SameSolution}
-use Rattle.mw_logic.proofs.FreeSignature.{free_equal}
-use Rattle.mw_logic.proofs.SolutionLaws.{substitution_value, sort_kind}
+use Rattle.mw_logic.specs.Substitution.{Substitution, IsSubstitution, IsSolution, SameSolution}
 use Rattle.mw_machine.specs.Positions.{fill, counted, IsNumbered}
-use Rattle.mw_machine.specs.Simple.{IsSimpleSignature}
-use Rattle.mw_machine.specs.Variables.{placed, bound_values}
-use Rattle.mw_machine.proofs.Discrete.{free, accepted, well_sorted, lone_kind, has_sort, only_sort}
-use Rattle.mw_machine.proofs.Meeting.{same_itself}
+use Rattle.mw_machine.specs.Simple.{IsSimpleSignature, IsGround, AreGround, HaveSorts}
+use Rattle.mw_machine.specs.Variables.{sorts_of, placed, bound_values}
+use Rattle.mw_machine.proofs.Grounds.{ground_extended}
 use Rattle.mw_machine.proofs.Placing.{values_of}
-use Rattle.mw_machine.proofs.Starting.{variables, pattern_numbered, solution, solved_from, values_length, values_begin, same_solution, begins_whole}
+use Rattle.mw_machine.proofs.Starting.{variables, pattern_numbered, solution, solved_from, values_length, values_begin, values_sorts, same_solution, begins_whole}
 use Rattle.mw_match.proofs.Matching.{begins_same}
 use Rattle.mw_match.specs.Matching.{Decides}
-use Rattle.mw_match.specs.Solutions.{MayBe, IsOnlySolution, IsAllSolutions, listed}
+use Rattle.mw_match.specs.Solutions.{IsOnlySolution, IsAllSolutions, listed}
 use Rattle.mw_canon.specs.Canonical.{meant}
 use Rattle.mw_match.specs.declared.solutions.Solution.{Solution}
-
-module _ (sig : Signature) (simple : IsSimpleSignature sig) where
-  -- an instance that is t has the pattern's kind
-  kinds : (ys : List Variable) (vs : List RawTerm) (p t : RawTerm) → IsTrue (is_ground t) → IsRawTerm sig t → fill vs (placed ys p) ≡ t → MayBe sig p t → {K : ℕ} → HasKind sig p K → HasKind sig t K
-  kinds ys vs p t g r e m (of_numeral S n b k) = absurd (both_ways _ simple.nat b)
-  kinds ys vs p t g r e m (of_quoted S n b k) = absurd (both_ways _ simple.qid b)
-  kinds ys vs p t g r e m {K} (of_variable k) = subst (HasKind sig t) (lone_kind sig simple k) (sort_kind sig (accepted sig simple) (well_sorted sig simple) r m)
-  kinds ys vs p t g r e m {K} (of_operator o is k) = subst (λ u. HasKind sig u K) e (of_operator o is k)
-
-  -- a solution gives a variable a term of its sort
-  may_be_solved : (p t : RawTerm) (s0 s : Substitution) → IsSolution sig p t s0 s → MayBe sig p t
-  may_be_solved (numeral n) t s0 s sol = tt
-  may_be_solved (quoted q) t s0 s sol = tt
-  may_be_solved (variable x) t s0 s sol = of (value s x) refl
-    where
-      of : (o : Option RawTerm) → value s x ≡ o → HasSort sig t (sort x.sort)
-      of None e = absurd (both_ways _ (rw e refl) (sol.variables x ∙ or_right (is_bound s0 x) (same_variable x x) (same_itself x)))
-      of (Some v) e =
-          let w : v ≡ t = ap (λ o. unwrap_or o (variable x)) (sym e) ∙ free_equal sig (free sig simple) sol.matches in
-          subst (λ u. HasSort sig u (sort x.sort)) w (substitution_value sig s sol.substitution x v e).2
-  may_be_solved (apply f ts) t s0 s sol = tt
 
 module _ (sig : Signature) (simple : IsSimpleSignature sig) (p t : RawTerm) (raw : IsRawTerm sig p) (ground : IsTrue (is_ground t)) (subject : IsRawTerm sig t) (s0 : Substitution) (given : IsSubstitution sig s0) where
   abbrev pub xs : List Variable
   xs = variables sig simple p raw s0 given
 
-  -- where the values are those of the instance, they are the only solution
-  pub only_solution : (vs : List RawTerm) → MayBe sig p t → Decides true (length xs) (bound_values s0) vs (λ us. fill us (placed xs p) ≡ t) → length vs ≡ length xs → IsOnlySolution sig p t s0 (Some (zip xs vs))
+  -- each solution has the values that a match found
+  only_values : (vs : List RawTerm) → Decides true (length xs) (bound_values s0) vs (λ us. fill us (placed xs p) ≡ t) → length vs ≡ length xs → (s : Substitution) → IsSolution sig p t s0 s → vs ≡ values_of s xs
+  only_values vs d l s sol =
+      let n = values_length sig simple p raw s0 given t s sol in
+      let b = (d.1 (values_of s xs) (values_begin sig simple p raw s0 given t s sol) (omega (arith, n))).0 (solved_from sig simple p raw s0 given t s sol) in
+      begins_whole vs (values_of s xs) b (n ∙ sym l)
+
+  -- so there is none where they haven't the variables' sorts
+  pub not_of_sorts : (vs : List RawTerm) → (HaveSorts sig vs (sorts_of xs) → ⊥) → Decides true (length xs) (bound_values s0) vs (λ us. fill us (placed xs p) ≡ t) → length vs ≡ length xs → IsOnlySolution sig p t s0 None
+  not_of_sorts vs n d l s sol = n (subst (λ us. HaveSorts sig us (sorts_of xs)) (sym (only_values vs d l s sol)) (values_sorts sig simple p raw s0 given t s sol))
+
+  -- the values are ground and raw
+  pub ground_values : (vs : List RawTerm) → Decides true (length xs) (bound_values s0) vs (λ us. fill us (placed xs p) ≡ t) → length vs ≡ length xs → AreGround sig vs
+  ground_values vs d l =
+      let q = pattern_numbered sig simple p raw s0 given in
+      ground_extended sig s0 given vs (placed xs p) t d.0 ((d.1 vs d.0 (omega (arith, l))).1 (begins_same vs)) q.0 (l ∙ sym q.1) (ground, subject)
+
+  -- where the values are those of the instance, of the variables' sorts, they are the only solution
+  pub only_solution : (vs : List RawTerm) → HaveSorts sig vs (sorts_of xs) → Decides true (length xs) (bound_values s0) vs (λ us. fill us (placed xs p) ≡ t) → length vs ≡ length xs → IsOnlySolution sig p t s0 (Some (zip xs vs))
   only_solution vs m d l = (is_solution, is_only)
     where
       here : fill vs (placed xs p) ≡ t
@@ -61,13 +52,11 @@ module _ (sig : Signature) (simple : IsSimpleSignature sig) (p t : RawTerm) (raw
       is_solution : IsSolution sig p t s0 (zip xs vs)
       is_solution =
           subst (λ u. IsSolution sig p u s0 (zip xs vs)) here
-          (solution sig simple p raw s0 given vs d.0 l (subst (λ u. IsTrue (is_ground u)) (sym here) ground) (subst (IsRawTerm sig) (sym here) subject) (λ K k. subst (λ u. HasKind sig u K) (sym here) (kinds sig simple xs vs p t ground subject here m k)))
+          (solution sig simple p raw s0 given vs d.0 l (subst (λ u. IsTrue (is_ground u)) (sym here) ground) (subst (IsRawTerm sig) (sym here) subject) m)
 
       is_only : (s : Substitution) → IsSolution sig p t s0 s → SameSolution sig s (zip xs vs)
       is_only s sol =
-          let n = values_length sig simple p raw s0 given t s sol in
-          let b = (d.1 (values_of s xs) (values_begin sig simple p raw s0 given t s sol) (omega (arith, n))).0 (solved_from sig simple p raw s0 given t s sol) in
-          let e : vs ≡ values_of s xs = begins_whole vs (values_of s xs) b (n ∙ sym l) in
+          let e : vs ≡ values_of s xs = only_values vs d l s sol in
           subst (λ us. SameSolution sig s (zip xs us)) (sym e) (same_solution sig simple p raw s0 given t s sol)
 
   pub no_solution : (vs : List RawTerm) → Decides false (length xs) (bound_values s0) vs (λ us. fill us (placed xs p) ≡ t) → IsOnlySolution sig p t s0 None
@@ -92,32 +81,19 @@ module _ (sig : Signature) (simple : IsSimpleSignature sig) (p t : RawTerm) (raw
         let c : Decides b (length xs) (bound_values s0) new (λ us. fill us q ≡ t) = subst (λ vs. Decides b (length xs) vs new (λ us. fill us q ≡ t)) o a in
         subst (λ w. Decides b (length xs) (bound_values s0) new (λ us. fill us w ≡ t)) placed_here c
 
-  pub not_of_sort : (MayBe sig p t → ⊥) → IsOnlySolution sig p t s0 None
-  not_of_sort n s sol = n (may_be_solved sig simple p t s0 s sol)
+  -- the test of sorts, of what is read off the values and the places
+  pub sorted_here : (b : Bool) (us vs : List RawTerm) (Ss : List ℕ) (ys : List Variable) → us ≡ vs → Ss ≡ sorts_of ys → ys ≡ xs → (AreGround sig us → (IsTrue b ↔ HaveSorts sig us Ss))
+      → AreGround sig vs → (IsTrue b ↔ HaveSorts sig vs (sorts_of xs))
+  sorted_here b us vs Ss ys e f g h =
+      let k : AreGround sig vs → (IsTrue b ↔ HaveSorts sig vs Ss) = subst (λ ws. AreGround sig ws → (IsTrue b ↔ HaveSorts sig ws Ss)) e h in
+      subst (λ Rs. AreGround sig vs → (IsTrue b ↔ HaveSorts sig vs Rs)) (f ∙ ap sorts_of g) k
 
--- the kind of a term is the result of the operator on top
-get_at : {X : Type 0} (xs : List X) (i : ℕ) (x d : X) → slice_get xs i ≡ Some x → get_or xs i d ≡ x
-get_at [] i x d h = absurd (cc)
-get_at (y ∷ xs) zero x d h = cc
-get_at (y ∷ xs) (suc i) x d h = get_at xs i x d h
-
-operator_at : (os : List Operator) (f : ℕ) (o d : Operator) → at_number os f ≡ Some o → get_or os (f - 1) d ≡ o
-operator_at os zero o d h = absurd (cc)
-operator_at os (suc i) o d h = let e : suc i - 1 ≡ i = omega arith in rw e (get_at os i o d h)
-
-pub kind_here : (sig : Signature) (t : RawTerm) (f : ℕ) (ts : RawTerms) (o : Operator) → IsRawTerm sig t → t ≡ apply f ts → o ≡ get_or sig.operators (f - 1) o → HasKind sig t o.result
-kind_here sig t f ts o r e g = subst (λ u. HasKind sig u o.result) (sym e) (of (subst (IsRawTerm sig) e r))
-  where
-    of : IsRawTerm sig (apply f ts) → HasKind sig (apply f ts) o.result
-    of (an_operator o' is args) =
-        let q : o' ≡ o = sym (operator_at sig.operators f o' o is) ∙ sym g in
-        subst (λ (w : Operator). HasKind sig (apply f ts) w.result) q (of_operator o' is same)
-
-pub may_be_variable : (sig : Signature) → IsSimpleSignature sig → (x : Variable) (t : RawTerm) (K S : ℕ) → IsTrue (is_ground t) → IsRawTerm sig t → HasKind sig t K → S ≡ x.sort → IsTrue (nat_eq K S) ↔ HasSort sig t (sort x.sort)
-may_be_variable sig simple x t K S g r k e = (
-  (λ h. subst (λ T. HasSort sig t (sort T)) (eqb-true K S h ∙ e) (has_sort sig simple r g k)),
-  (λ h. let q : K ≡ S = only_sort sig simple r g k h ∙ sym e in rw q (nat_eq-refl S)),
-)
+-- whether a value has a sort, as the flattened term has it
+pub plain_sort : (sig : Signature) → IsFreeSignature sig → (v : RawTerm) (S : ℕ) (b : Bool) → (IsRawTerm sig (nested sig v) → IsTrue (is_ground v) → (IsTrue b ↔ HasSort sig (nested sig v) (sort S)))
+    → IsGround sig v → (IsTrue b ↔ HasSort sig v (sort S))
+plain_sort sig free v S b h g =
+    let e = nested_free sig free v in
+    subst (λ u. IsTrue b ↔ HasSort sig u (sort S)) e (h (subst (IsRawTerm sig) (sym e) g.1) g.0)
 
 -- the list of the only solution, if there is one, is that of all solutions
 module _ (sig : Signature) (p t : RawTerm) (s0 : Substitution) where

@@ -1,8 +1,7 @@
 -- All solutions of a pattern that extend a substitution, each once.
-use Rattle.std.specs.Prelude.{ℕ, ◌≡◌, List, [], ◌∷◌, Option, Some, None, slice_get, ⊤}
-use Rattle.mw_logic.specs.Term.{RawTerm, numeral, quoted, variable, apply}
-use Rattle.mw_logic.specs.Signature.{Signature, sort, Member}
-use Rattle.mw_logic.specs.Sorts.{HasSort}
+use Rattle.std.specs.Prelude.{ℕ, ◌≡◌, List, [], ◌∷◌, Option, Some, None, slice_get}
+use Rattle.mw_logic.specs.Term.{RawTerm}
+use Rattle.mw_logic.specs.Signature.{Signature, Member}
 use Rattle.mw_logic.specs.Substitution.{Substitution, IsSolution, SameSolution}
 use Rattle.mw_canon.specs.Canonical.{meant}
 use Rattle.mw_match.specs.declared.solutions.Solution.{Solution}
@@ -17,13 +16,6 @@ pub record IsAllSolutions (sig : Signature) (p t : RawTerm) (s0 : Substitution) 
 abbrev pub listed : Option Solution → List Solution
 listed None = []
 listed (Some r) = r ∷ []
-
--- a pattern that is a variable has a sort of t
-abbrev pub MayBe : Signature → RawTerm → RawTerm → Type 0
-MayBe sig (numeral n) t = ⊤
-MayBe sig (quoted q) t = ⊤
-MayBe sig (variable x) t = HasSort sig t (sort x.sort)
-MayBe sig (apply f ts) t = ⊤
 
 -- the only solution, if there is one
 abbrev pub IsOnlySolution : Signature → RawTerm → RawTerm → Substitution → Option Substitution → Type 0

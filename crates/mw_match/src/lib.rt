@@ -4,9 +4,11 @@
 mod bindings;
 mod by_position;
 mod solutions;
+mod sorts;
 
 pub use by_position::{all_match, matches};
 pub use solutions::{Solution, Solutions};
+pub use sorts::have_sorts;
 
 #[cfg(test)]
 mod tests;

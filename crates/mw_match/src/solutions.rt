@@ -1,19 +1,19 @@
 // The solutions of a pattern.
 ghost use Rattle.std.specs.Prelude.{◌≡◌, ◌↔◌, ◌∷◌, [], IfOk, OnErr, IsTrue, MatchOption};
 ghost use Rattle.mw_logic.specs.Parts.{nested};
-ghost use Rattle.mw_logic.specs.Signature.{HasKind, IsRawTerm};
+ghost use Rattle.mw_logic.specs.Signature.{IsRawTerm};
 ghost use Rattle.mw_logic.specs.Substitution.{IsSubstitution};
 ghost use Rattle.mw_logic.specs.Term.{is_ground};
-ghost use Rattle.mw_machine.specs.Simple.{IsSimpleSignature};
-ghost use Rattle.mw_match.specs.Solutions.{IsAllSolutions, IsOnlySolution, MayBe};
+ghost use Rattle.mw_match.specs.Solutions.{IsAllSolutions, IsOnlySolution};
 ghost use Rattle.mw_canon.specs.Canonical.{meant};
 ghost use Rattle.mw_term.specs.Raws.{raw_term};
 
 use crate::bindings::{bound, places_of, values_of};
 use crate::by_position::matches;
+use crate::sorts::have_sorts;
 use mw_least::Ctx;
 use mw_pattern::pattern_of;
-use mw_term::{Raw, Seq, Shape, Signature, SortId, Subst, Term};
+use mw_term::{Raw, Seq, Subst, Term};
 use std::alloc::{AllocError, Global};
 use std::marker::Model;
 
@@ -62,7 +62,7 @@ impl Solutions {
         ensures { let sig = context.now.signature in IfOk result (λ s. IsAllSolutions sig (nested sig (raw_term pattern.now)) (nested sig subject.now) (meant sig given.now) s) }
     {
         context.shows();
-        let found = solve(alloc, context.signature(), pattern, subject, given)?;
+        let found = solve(alloc, context, pattern, subject, given)?;
         let coming = match found {
             Some(subst) => Some(Solution { subst, take: None }),
             None => None,
@@ -79,57 +79,29 @@ impl Solutions {
     }
 }
 
-/// The kind of a term with an operator on top.
-fn kind_of(signature: &Signature, subject: &Term) -> SortId
-    requires simple { IsSimpleSignature signature.now }
-    requires ground { IsTrue (is_ground subject.now) }
-    requires subject { IsRawTerm signature.now subject.now }
-    ensures { HasKind signature.now subject.now result }
-{
-    match subject.shape() {
-        Shape::Op(f, _) => {
-            let operator = &signature.operators.as_slice()[*f as usize - 1];
-            operator.result
-        }
-        _ => unreachable!(),
-    }
-}
-
-/// Whether the pattern is no variable, or one of the subject's sort.
-fn may_be(signature: &Signature, pattern: &Raw, subject: &Term) -> bool
-    requires simple { IsSimpleSignature signature.now }
-    requires ground { IsTrue (is_ground subject.now) }
-    requires subject { IsRawTerm signature.now subject.now }
-    ensures { IsTrue result ↔ MayBe signature.now (raw_term pattern.now) subject.now }
-{
-    match pattern {
-        Raw::Var(x) => kind_of(signature, subject) == x.sort,
-        _ => true,
-    }
-}
-
-/// The only solution that there can be where no sort is below another and no operator has an axiom.
+/// The only solution that there can be where no operator has an axiom.
 fn solve(
     alloc: Global,
-    signature: &Signature,
+    context: &Ctx,
     pattern: &Raw,
     subject: &Term,
     given: &Subst,
 ) -> Result<Option<Subst>, AllocError>
-    requires simple { IsSimpleSignature signature.now }
-    requires pattern { IsRawTerm signature.now (raw_term pattern.now) }
+    requires pattern { IsRawTerm context.now.signature (raw_term pattern.now) }
     requires ground { IsTrue (is_ground subject.now) }
-    requires subject { IsRawTerm signature.now subject.now }
-    requires given { IsSubstitution signature.now given.now }
-    ensures { IfOk result (λ o. IsOnlySolution signature.now (raw_term pattern.now) subject.now given.now o) }
+    requires subject { IsRawTerm context.now.signature subject.now }
+    requires given { IsSubstitution context.now.signature given.now }
+    ensures { IfOk result (λ o. IsOnlySolution context.now.signature (raw_term pattern.now) subject.now given.now o) }
 {
-    if !may_be(signature, pattern, subject) {
-        return Ok(None);
-    }
+    context.shows();
     let places = places_of(alloc, given, pattern)?;
     let positions = pattern_of(alloc, pattern, &places)?;
     let mut values = values_of(alloc, given)?;
     if !matches(&positions, subject, &mut values)? {
+        return Ok(None);
+    }
+    let sorts = places.sorts(alloc)?;
+    if !have_sorts(context, values.as_slice(), sorts.as_slice()) {
         return Ok(None);
     }
     let subst = bound(alloc, &places, values.as_slice())?;

@@ -9,6 +9,8 @@ ghost use Rattle.mw_term.specs.Signatures.{sorted_of};
 
 use crate::{Solution, Solutions};
 use mw_least::Ctx;
+use mw_poset::Poset;
+use mw_sorts::Tables;
 use mw_term::{
     Binding, Declaration, Name, Operator, Raw, Raws, Seq, Shape, Signature, SortId, Sorted, Subst,
     Term, VarId,
@@ -90,7 +92,13 @@ fn context(alloc: Global) -> Result<Ctx, AllocError>
     ensures { IfOk result (λ c. c.signature ≡ letters) }
 {
     let signature = made_signature(alloc)?;
-    Ctx::new(alloc, signature, Seq::of(Vec::new(alloc)))
+    let Ok(order) = Poset::build(alloc, 2, &[]) else {
+        return Err(AllocError);
+    };
+    let Ok(tables) = Tables::build(alloc, &signature, &order) else {
+        return Err(AllocError);
+    };
+    Ctx::new(alloc, signature, order, tables, Seq::of(Vec::new(alloc)))
 }
 
 fn variable(alloc: Global, name: u8, number: SortId) -> Result<Raw, AllocError>

@@ -1,5 +1,5 @@
 -- What is known of a statement that has a form.
-use Rattle.std.proofs.Common.{◌≡◌, ◌≢◌, ◌<◌, ◌+◌, ◌-◌, ◌*◌, ◌==◌, ◌&&◌, ◌||◌, ◌⊎◌, inl, inr, not, nat_lt, nat_le, ℕ, zero, suc, Bool, true, false, if◌then◌else◌, List, [], ◌∷◌, length, take, drop, Option, Some, None, IfSome, IfOk, Result, Ok, Err, All, codes, refl, sym, ap, subst, arith}
+use Rattle.std.proofs.Common.{◌≡◌, ◌≢◌, ◌<◌, ◌+◌, ◌-◌, ◌*◌, ◌==◌, ◌&&◌, ◌||◌, ◌⊎◌, inl, inr, not, nat_lt, nat_le, min, ℕ, zero, suc, Bool, true, false, if◌then◌else◌, List, [], ◌∷◌, length, take, drop, Option, Some, None, IfSome, IfOk, Result, Ok, Err, All, codes, refl, ap, subst, arith}
 use Rattle.std.specs.Char.{is_ascii_digit}
 use Rattle.std.specs.List.{list_all}
 use Rattle.std.specs.Option.{option_or}
@@ -18,8 +18,10 @@ use Rattle.mw_module.specs.Faults.{fault_if, unless}
 use Rattle.mw_module.specs.Openings.{opening_of}
 use Rattle.mw_module.specs.OperatorNames.{items_in, is_name, all_names, are_names, fits, all_fit, names_from}
 use Rattle.mw_module.specs.Attributes.{Attributes, no_attributes, joined, Attribute, in_range, precedence_of, with_precedence, prec_attribute, is_mark, are_marks, gather_attribute, format_attribute, metadata_attribute, is_silent_word, attribute_at, Said, at_end, going_on, attributes_from, attribute_list, attributes_behind}
+use Rattle.mw_module.specs.Sortings.{Sorting, sort_behind, front_sorting, sortings_from}
+use Rattle.mw_module.specs.Groups.{divided_at_less}
 use Rattle.mw_module.specs.Equations.{unlabelled, attributes_len, group_at_end, executable_with, equals_at}
-use Rattle.mw_module.specs.Forms.{Shape, Sorts, Operators, Variables, Equation, Formed, text_fault, first_fault, names_fault, lone_sort, typed, variables_form, valued, value_form, arrow_form, operators_form, divided, equation_form, form_behind, form_of}
+use Rattle.mw_module.specs.Forms.{Shape, Sorts, Subsorts, Operators, Variables, Equation, Formed, names_fault, groups_fault, lone_sort, typed, variables_form, front_fault, sortings_fault, valued, value_form, arrow_form, operators_form, divided, equation_form, form_behind, form_of}
 
 -- a name is neither nothing nor a hole alone, and has no holes or one for each argument
 pub record IsNameFor (arity : ℕ) (name : List Seen) : Type 0 where
@@ -43,13 +45,14 @@ pub record AreAttributes (arity : ℕ) (a : Attributes) : Type 0 where
   pub gather : IfSome a.gather (IsGather arity)
 
 -- a declaration of operators
-pub record AreOperators (ns : List (List Seen)) (args : List Seen) (a : Attributes) : Type 0 where
+pub record AreOperators (ns : List (List Seen)) (args : List Sorting) (a : Attributes) : Type 0 where
   pub some : ns ≢ []
   pub names : All (IsNameFor (length args)) ns
   pub attributes : AreAttributes (length args) a
 
 abbrev pub IsKnown : Shape → Type 0
 IsKnown (Sorts names) = Unit {0}
+IsKnown (Subsorts groups) = Unit {0}
 IsKnown (Operators names args value a) = AreOperators names args a
 IsKnown (Variables names sort) = Unit {0}
 IsKnown (Equation left right executable) = Unit {0}
@@ -253,36 +256,32 @@ known_unless : (o : Option FaultKind) (f : Formed) → (o ≡ None → IsKnownWh
 known_unless None f h = h refl
 known_unless (Some kind) f h = tt
 
-valued_known : (names : List (List Seen)) (args : List Seen) (value : Seen) (said : Said) → names ≢ [] → All (IsNameFor (length args)) names → IfOk said (AreAttributes (length args))
+valued_known : (names : List (List Seen)) (args : List Sorting) (value : Sorting) (said : Said) → names ≢ [] → All (IsNameFor (length args)) names → IfOk said (AreAttributes (length args))
     → IsKnownWhereFormed (valued names args value said)
 valued_known names args value (Ok a) some all h = record { some = some; names = all; attributes = h }
 valued_known names args value (Err kind) some all h = tt
 
-value_known : (names : List (List Seen)) (args ts : List Seen) → names ≢ [] → All (IsNameFor (length args)) names → IsKnownWhereFormed (value_form names args ts)
-value_known names args [] some all = tt
-value_known names args (t ∷ behind) some all =
-    known_unless (text_fault role.Value t.text) (valued names args t (attributes_behind (length args) behind)) (λ e. valued_known names args t (attributes_behind (length args) behind) some all (behind_known (length args) behind))
-
-taken : (word : List ℕ) (ts : List Seen) → length (take (count_before word ts) ts) ≡ count_before word ts
-taken word [] = refl
-taken word (t ∷ ts) = of (is word t) (taken word ts)
-  where
-    of : (b : Bool) → length (take (count_before word ts) ts) ≡ count_before word ts
-        → length (take (if b then 0 else 1 + count_before word ts) (t ∷ ts)) ≡ (if b then 0 else 1 + count_before word ts)
-    of true e = refl
-    of false e = let more : 1 + count_before word ts ≡ suc (count_before word ts) = omega arith in rw more (ap suc e)
+value_known : (kinds : Bool) (names : List (List Seen)) (args : List Sorting) (ts : List Seen) → names ≢ [] → All (IsNameFor (length args)) names → IsKnownWhereFormed (value_form kinds names args ts)
+value_known kinds names args [] some all = tt
+value_known kinds names args (t ∷ behind) some all =
+    let said : Said = attributes_behind (length args) (drop (sort_behind t) behind) in
+    known_unless (front_fault t behind) (valued names args (front_sorting kinds t behind) said)
+    (λ e. valued_known names args (front_sorting kinds t behind) said some all (behind_known (length args) (drop (sort_behind t) behind)))
 
 arrow_known : (names : List (List Seen)) (ts : List Seen) → are_names names ≡ true → IsKnownWhereFormed (arrow_form names ts)
 arrow_known names ts named =
-    let arrow = count_before (codes "->") ts in
+    let total = count_before (codes "->") ts in
+    let partial = count_before (codes "~>") ts in
+    let arrow = min total partial in
+    let kinds = nat_lt partial total in
+    let args = sortings_from kinds 0 (take arrow ts) in
     let there = names_there names named in
-    let valued : Formed = value_form names (take arrow ts) (drop (arrow + 1) ts) in
-    let wrong : Bool = arrow == length ts || not (all_fit arrow names) in
-    known_unless (first_fault role.Argument (take arrow ts)) (unless (fault_if wrong BadStatement) valued)
+    let valued : Formed = value_form kinds names args (drop (arrow + 1) ts) in
+    let wrong : Bool = arrow == length ts || not (all_fit (length args) names) in
+    known_unless (sortings_fault 0 (take arrow ts)) (unless (fault_if wrong BadStatement) valued)
     (λ e. known_unless (fault_if wrong BadStatement) valued
-    (λ f. let fit : all_fit arrow names ≡ true = neither (arrow == length ts) (all_fit arrow names) (no_fault wrong BadStatement f) in
-    let all : All (IsNameFor (length (take arrow ts))) names = subst (λ (n : ℕ). All (IsNameFor n) names) (sym (taken (codes "->") ts)) (names_known arrow names there.1 fit) in
-    value_known names (take arrow ts) (drop (arrow + 1) ts) there.0 all))
+    (λ f. let fit : all_fit (length args) names ≡ true = neither (arrow == length ts) (all_fit (length args) names) (no_fault wrong BadStatement f) in
+    value_known kinds names args (drop (arrow + 1) ts) there.0 (names_known (length args) names there.1 fit)))
 
 operators_known : (single : Bool) (ts : List Seen) → IsKnownWhereFormed (operators_form single ts)
 operators_known single ts =
@@ -315,6 +314,9 @@ equation_known ts =
 
 behind_first_word : (o : Opening) (ts : List Seen) → IsKnownWhereFormed (form_behind o ts)
 behind_first_word opening.Sorts ts = known_unless (names_fault role.NewSort ts) (Ok (Sorts ts)) (λ e. tt)
+behind_first_word opening.Subsorts ts = known_unless (groups_fault (divided_at_less ts))
+    (unless (fault_if (count_before (codes "<") ts == length ts) BadStatement) (Ok (Subsorts (divided_at_less ts))))
+    (λ e. known_unless (fault_if (count_before (codes "<") ts == length ts) BadStatement) (Ok (Subsorts (divided_at_less ts))) (λ f. tt))
 behind_first_word opening.Operator ts = operators_known true ts
 behind_first_word opening.Operators ts = operators_known false ts
 behind_first_word opening.Variables ts = variables_known ts

@@ -1,6 +1,7 @@
 -- Laws of tokens, forms and units.
 pub mod Slices
 pub mod NameByName
+pub mod GroupByGroup
 pub mod Lists
 pub mod ItemByItem
 pub mod Formed

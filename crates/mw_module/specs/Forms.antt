@@ -1,5 +1,5 @@
 -- The forms of statements.
-use Rattle.std.specs.Prelude.{ℕ, Bool, true, false, List, [], ◌∷◌, ◌+◌, ◌-◌, ◌==◌, ◌||◌, not, length, take, drop, Option, None, Some, Result, Ok, Err, codes}
+use Rattle.std.specs.Prelude.{ℕ, zero, suc, Bool, true, false, List, [], ◌∷◌, ◌+◌, ◌-◌, ◌==◌, ◌||◌, not, nat_lt, min, length, take, drop, Option, None, Some, Result, Ok, Err, if◌then◌else◌, codes}
 use Rattle.std.specs.Str.{bytes_eq}
 use Rattle.mw_lex.specs.Lexing.{Seen, seen, seen_all}
 use Rattle.mw_module.specs.declared.faults.FaultKind.{FaultKind}
@@ -13,15 +13,19 @@ use Rattle.mw_module.specs.declared.openings.Opening.TheVariants as opening
 use Rattle.mw_module.specs.Faults.{first_of, fault_if, unless}
 use Rattle.mw_module.specs.Openings.{opening_of}
 use Rattle.mw_module.specs.OperatorNames.{names_of, names_from, are_names, all_fit}
+use Rattle.mw_module.specs.Sortings.{Sorting, seen_sorting, sort_behind, front_sorting, sortings_from, sortings_of}
+use Rattle.mw_module.specs.Groups.{divided_at_less, groups_of}
 use Rattle.mw_module.specs.Attributes.{Attributes, seen_attributes, Said, attributes_behind}
 use Rattle.mw_module.specs.Equations.{unlabelled, attributes_len, group_at_end, executable_with, equals_at}
-use Rattle.mw_module.specs.Words.{count_before, is_punctuation_word, is_quoted}
+use Rattle.mw_module.specs.Words.{is, count_before, is_punctuation_word, is_quoted}
 
 -- a statement by its form, with its parts
 pub data Shape : Type 0 where
   Sorts : List Seen → Shape
+  -- groups of sorts, each sort of a group below each of the next
+  Subsorts : List (List Seen) → Shape
   -- names, each as its tokens, sorts of arguments, the value's sort, and attributes
-  Operators : List (List Seen) → List Seen → Seen → Attributes → Shape
+  Operators : List (List Seen) → List Sorting → Sorting → Attributes → Shape
   Variables : List Seen → Seen → Shape
   -- the sides, and whether it is executable
   Equation : List Seen → List Seen → Bool → Shape
@@ -29,7 +33,8 @@ pub data Shape : Type 0 where
 -- a form as its readers see it
 abbrev pub shape_of : Form → Shape
 shape_of (form.Sorts names) = Sorts (seen_all names.now)
-shape_of (form.Operators names args result attributes) = Operators (names_of names) (seen_all args.now) (seen result.now) (seen_attributes attributes)
+shape_of (form.Subsorts groups) = Subsorts (groups_of groups)
+shape_of (form.Operators names args result attributes) = Operators (names_of names) (sortings_of args) (seen_sorting result) (seen_attributes attributes)
 shape_of (form.Variables names sort) = Variables (seen_all names.now) (seen sort.now)
 shape_of (form.Equation left right executable) = Equation (seen_all left.now) (seen_all right.now) executable
 
@@ -41,17 +46,13 @@ Formed = Result Shape FaultKind
 abbrev pub is_unread : Role → List ℕ → Bool
 is_unread role.NewSort text = bytes_eq text (codes "{")
 is_unread role.Variable text = false
-is_unread role.Argument text = bytes_eq text (codes "[") || bytes_eq text (codes "{") || bytes_eq text (codes "~>")
-is_unread role.Value text = bytes_eq text (codes "[") || bytes_eq text (codes "{")
-is_unread role.VariableSort text = bytes_eq text (codes "{")
+is_unread role.Sort text = bytes_eq text (codes "{")
 
 -- where a text can't stand in this role
 abbrev pub is_bad : Role → List ℕ → Bool
 is_bad role.NewSort text = is_punctuation_word text || is_quoted text
 is_bad role.Variable text = is_punctuation_word text || is_quoted text
-is_bad role.Argument text = is_punctuation_word text
-is_bad role.Value text = is_punctuation_word text
-is_bad role.VariableSort text = is_punctuation_word text
+is_bad role.Sort text = is_punctuation_word text
 
 -- what is wrong with a text in this role
 abbrev pub text_fault : Role → List ℕ → Option FaultKind
@@ -70,12 +71,22 @@ names_fault role (t ∷ rest) = first_fault role (t ∷ rest)
 -- a variable's sort and nothing more
 abbrev pub lone_sort : List Seen → Result Seen FaultKind
 lone_sort [] = Err BadStatement
-lone_sort (t ∷ []) = unless (text_fault role.VariableSort t.text) (Ok t)
-lone_sort (t ∷ u ∷ rest) = unless (first_fault role.VariableSort (t ∷ u ∷ [])) (Err BadStatement)
+lone_sort (t ∷ []) = unless (text_fault role.Sort t.text) (Ok t)
+lone_sort (t ∷ u ∷ rest) = unless (first_fault role.Sort (t ∷ u ∷ [])) (Err BadStatement)
 
 -- `sort` and `sorts`: names
 abbrev pub sorts_form : List Seen → Formed
 sorts_form names = unless (names_fault role.NewSort names) (Ok (Sorts names))
+
+-- what is wrong with groups of sorts: each has at least one
+abbrev pub groups_fault : List (List Seen) → Option FaultKind
+groups_fault [] = None
+groups_fault (group ∷ groups) = first_of (names_fault role.Sort group) (groups_fault groups)
+
+-- `subsort` and `subsorts`: groups of sorts, divided by one `<` at least
+abbrev pub subsorts_form : List Seen → Formed
+subsorts_form ts = unless (groups_fault (divided_at_less ts))
+    (unless (fault_if (count_before (codes "<") ts == length ts) BadStatement) (Ok (Subsorts (divided_at_less ts))))
 
 -- a variable's names and its sort
 abbrev pub typed : List Seen → Result Seen FaultKind → Formed
@@ -89,22 +100,48 @@ variables_form ts =
     unless (fault_if (colon == length ts) BadStatement)
     (unless (names_fault role.Variable (take colon ts)) (typed (take colon ts) (lone_sort (drop (colon + 1) ts))))
 
+-- what is wrong with the bracket that closes a kind
+abbrev pub closing_fault : List Seen → Option FaultKind
+closing_fault [] = Some BadStatement
+closing_fault (t ∷ rest) = if is (codes "]") t then None else if is (codes "{") t then Some NotInProfile else Some BadStatement
+
+-- what is wrong with a kind behind the bracket that opens it: a name, and the bracket that closes it
+abbrev pub kind_fault : List Seen → Option FaultKind
+kind_fault [] = Some BadStatement
+kind_fault (t ∷ rest) = first_of (text_fault role.Sort t.text) (closing_fault rest)
+
+-- what is wrong with the sort that begins with this token: a name, or a name in brackets
+abbrev pub front_fault : Seen → List Seen → Option FaultKind
+front_fault t rest = if is (codes "[") t then kind_fault rest else text_fault role.Sort t.text
+
+-- the first fault of sorts, where the first `skip` tokens belong to one that is read already
+abbrev pub sortings_fault : ℕ → List Seen → Option FaultKind
+sortings_fault skip [] = None
+sortings_fault (suc k) (t ∷ rest) = sortings_fault k rest
+sortings_fault zero (t ∷ rest) = first_of (front_fault t rest) (sortings_fault (sort_behind t) rest)
+
 -- an operator's names, argument sorts and value's sort, with its attributes
-abbrev pub valued : List (List Seen) → List Seen → Seen → Said → Formed
+abbrev pub valued : List (List Seen) → List Sorting → Sorting → Said → Formed
 valued names args value (Ok attributes) = Ok (Operators names args value attributes)
 valued names args value (Err kind) = Err kind
 
 -- what comes behind the arrow: a sort, and attributes
-abbrev pub value_form : List (List Seen) → List Seen → List Seen → Formed
-value_form names args [] = Err BadStatement
-value_form names args (t ∷ behind) = unless (text_fault role.Value t.text) (valued names args t (attributes_behind (length args) behind))
+abbrev pub value_form : Bool → List (List Seen) → List Sorting → List Seen → Formed
+value_form kinds names args [] = Err BadStatement
+value_form kinds names args (t ∷ behind) = unless (front_fault t behind)
+    (valued names args (front_sorting kinds t behind) (attributes_behind (length args) (drop (sort_behind t) behind)))
 
--- what comes behind an operator's names: sorts, one for each hole of a name with holes, the first arrow, and the rest
+-- what comes behind an operator's names: sorts, one for each hole of a name with holes, the first arrow, and the rest; with
+-- the arrow `~>` all sorts are kinds
 abbrev pub arrow_form : List (List Seen) → List Seen → Formed
 arrow_form names ts =
-    let arrow = count_before (codes "->") ts in
-    unless (first_fault role.Argument (take arrow ts))
-    (unless (fault_if (arrow == length ts || not (all_fit arrow names)) BadStatement) (value_form names (take arrow ts) (drop (arrow + 1) ts)))
+    let total = count_before (codes "->") ts in
+    let partial = count_before (codes "~>") ts in
+    let arrow = min total partial in
+    let kinds = nat_lt partial total in
+    let args = sortings_from kinds 0 (take arrow ts) in
+    unless (sortings_fault 0 (take arrow ts))
+    (unless (fault_if (arrow == length ts || not (all_fit (length args) names)) BadStatement) (value_form kinds names args (drop (arrow + 1) ts)))
 
 -- `op` and `ops`: names, the first colon, and what comes behind
 abbrev pub operators_form : Bool → List Seen → Formed
@@ -131,6 +168,7 @@ equation_form ts = sides_form (attributes_len (unlabelled ts)) (unlabelled ts)
 -- what stands behind the first word of a statement
 abbrev pub form_behind : Opening → List Seen → Formed
 form_behind opening.Sorts ts = sorts_form ts
+form_behind opening.Subsorts ts = subsorts_form ts
 form_behind opening.Operator ts = operators_form true ts
 form_behind opening.Operators ts = operators_form false ts
 form_behind opening.Variables ts = variables_form ts

@@ -3,6 +3,8 @@ pub mod Words
 pub mod Faults
 pub mod Openings
 pub mod OperatorNames
+pub mod Sortings
+pub mod Groups
 pub mod Attributes
 pub mod Equations
 pub mod Forms

@@ -12,6 +12,7 @@ is_elsewhere word = bytes_eq word (codes "rl") || bytes_eq word (codes "crl") ||
 -- what a statement's first word asks for
 abbrev pub opening_of : List ℕ → Opening
 opening_of word = if bytes_eq word (codes "sort") || bytes_eq word (codes "sorts") then opening.Sorts
+    else if bytes_eq word (codes "subsort") || bytes_eq word (codes "subsorts") then opening.Subsorts
     else if bytes_eq word (codes "op") then opening.Operator
     else if bytes_eq word (codes "ops") then opening.Operators
     else if bytes_eq word (codes "var") || bytes_eq word (codes "vars") then opening.Variables

@@ -6,10 +6,12 @@ ghost use Rattle.mw_module.specs.Forms as forms;
 use crate::attribute::Attributes;
 use crate::equations::equation_form;
 use crate::faults::FaultKind;
+use crate::groups::{Groups, groups_fault};
 use crate::names::{Role, lone_sort, names_fault};
 use crate::openings::{Opening, opening_of};
 use crate::operator_names::Names;
 use crate::operators::operators_form;
+use crate::sortings::{Sorting, Sortings};
 use crate::words::{count_before, tokens_from};
 use mw_lex::Token;
 
@@ -20,12 +22,16 @@ pub enum Form<'a> {
     Sorts {
         names: &'a [Token],
     },
+    /// Two groups of sorts or more, none empty.
+    Subsorts {
+        groups: Groups<'a>,
+    },
     /// Operators that are declared, at least one, each with these argument sorts, this value's sort and these
     /// attributes.
     Operators {
         names: Names<'a>,
-        args: &'a [Token],
-        result: &'a Token,
+        args: Sortings<'a>,
+        result: Sorting<'a>,
         attributes: Attributes<'a>,
     },
     /// Variables that are declared, at least one.
@@ -51,6 +57,22 @@ fn sorts_form<'a>(tokens: &'a [Token]) -> Result<Form<'a>, FaultKind>
         Some(kind) => Err(kind),
         None => Ok(Form::Sorts { names: tokens }),
     }
+}
+
+// Groups of sorts, divided by one `<` at least.
+fn subsorts_form<'a>(tokens: &'a [Token]) -> Result<Form<'a>, FaultKind>
+    ensures { MatchResult result
+        (λ f. forms.subsorts_form (seen_all tokens.now) ≡ Ok (forms.shape_of f))
+        (λ kind. forms.subsorts_form (seen_all tokens.now) ≡ Err kind) }
+{
+    let groups = Groups::among(tokens);
+    if let Some(kind) = groups_fault(groups) {
+        return Err(kind);
+    }
+    if count_before(tokens, b"<") == tokens.len() {
+        return Err(FaultKind::BadStatement);
+    }
+    Ok(Form::Subsorts { groups })
 }
 
 // Names of variables, a colon and a sort.
@@ -86,6 +108,7 @@ impl<'a> Form<'a> {
             [] => Err(FaultKind::NotInProfile),
             [word, rest @ ..] => match opening_of(word.text.as_slice()) {
                 Opening::Sorts => sorts_form(rest),
+                Opening::Subsorts => subsorts_form(rest),
                 Opening::Operator => operators_form(true, rest),
                 Opening::Operators => operators_form(false, rest),
                 Opening::Variables => variables_form(rest),

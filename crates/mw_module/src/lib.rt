@@ -11,18 +11,22 @@ mod attribute_list;
 mod equations;
 mod faults;
 mod forms;
+mod groups;
 mod kinds;
 mod names;
 mod openings;
 mod operator_names;
 mod operators;
+mod sortings;
 mod units;
 mod words;
 
 pub use attribute::Attributes;
 pub use faults::{Fault, FaultKind};
 pub use forms::Form;
+pub use groups::Groups;
 pub use operator_names::Names;
+pub use sortings::{Sorting, Sortings};
 pub use units::{Unit, UnitError, copies, read_unit};
 pub use words::{count_before, is_word, tokens_from};
 
@@ -104,7 +108,7 @@ mod tests {
     #[test]
     fn sources_are_cut_into_units(rt: HostRuntime) -> Result<(), Fail> {
         let alloc = rt.alloc();
-        let cases: [(&[u8], &[u8]); 24] = [
+        let cases: [(&[u8], &[u8]); 25] = [
             (b"", b""),
             (
                 b"fmod P is sort N .\nop s : N -> N . eq s(X) = X . endfm reduce in P : s(z) .",
@@ -122,7 +126,8 @@ mod tests {
             (b"fmod M is . endfm", b"1!6"),
             (b"fmod M is\nsort S .\n. endfm", b"3!6"),
             (b"fmod M is sort S .\nsort T endfm", b"2!7"),
-            (b"fmod M is sort S .\nsubsort S < T endfm", b"2!6"),
+            (b"fmod M is sort S .\nsubsort S < T endfm", b"2!7"),
+            (b"fmod M is sort S .\nceq S endfm", b"2!6"),
             (b"fmod M is sort S .\nsort .\nxyz . endfm", b"2!7"),
             (b"fmod endfm fmod M endfm", b"1!71!7"),
             (b"fmod M N is\n xyz . endfm red x .", b"1!72red<red x .>"),
@@ -186,6 +191,28 @@ mod tests {
         Ok(())
     }
 
+    /// For each group its number of sorts.
+    fn write_groups(rt: &impl Abort, out: &mut Vec<u8>, groups: Groups) -> Result<(), AllocError> {
+        let mut rest = groups;
+        while let Some((group, others)) = rest.first() {
+            out.push(digit(rt, group.len()))?;
+            rest = others;
+        }
+        Ok(())
+    }
+
+    /// A sort's name, in brackets where its kind is meant.
+    fn write_sorting(out: &mut Vec<u8>, sorting: Sorting) -> Result<(), AllocError> {
+        if sorting.kind {
+            out.push(b'[')?;
+        }
+        out.extend_from_slice(sorting.name.text.as_slice())?;
+        if sorting.kind {
+            out.push(b']')?;
+        }
+        Ok(())
+    }
+
     /// The letter of a statement's form and the numbers of tokens of its parts, or its fault's number. Behind an
     /// operator's names stand a colon, the number of arguments, the value's sort and the attributes.
     fn formed(rt: &impl Abort, alloc: Global, statement: &[u8]) -> Result<Vec<u8>, Fail> {
@@ -196,6 +223,10 @@ mod tests {
             Ok(Form::Sorts { names }) => {
                 out.push(b's')?;
                 out.push(digit(rt, names.len()))?;
+            }
+            Ok(Form::Subsorts { groups }) => {
+                out.push(b'<')?;
+                write_groups(rt, &mut out, groups)?;
             }
             Ok(
                 Form::Operators {
@@ -208,8 +239,8 @@ mod tests {
                 out.push(b'o')?;
                 write_names(rt, &mut out, names)?;
                 out.push(b':')?;
-                out.push(digit(rt, args.len()))?;
-                out.extend_from_slice(result.text.as_slice())?;
+                out.push(digit(rt, args.count()))?;
+                write_sorting(&mut out, result)?;
                 write_attributes(&mut out, attributes)?;
             }
             Ok(Form::Variables { names, sort }) => {
@@ -236,7 +267,7 @@ mod tests {
     #[test]
     fn statements_have_forms(rt: HostRuntime) -> Result<(), Fail> {
         let alloc = rt.alloc();
-        let cases: [(&[u8], &[u8]); 21] = [
+        let cases: [(&[u8], &[u8]); 36] = [
             (b"sort A B", b"s2"),
             (b"sorts A", b"s1"),
             (b"sort", b"7"),
@@ -252,7 +283,22 @@ mod tests {
             (b"var X : L{A}", b"6"),
             (b"var X : A B", b"7"),
             (b"var { : A", b"7"),
-            (b"subsort A < B", b"6"),
+            (b"subsort A < B", b"<11"),
+            (b"subsorts A B < C < D E F", b"<213"),
+            (b"subsort -> < ~>", b"<11"),
+            (b"subsort A<B < C", b"<11"),
+            (b"subsort \"a\" < B", b"<11"),
+            (b"subsort", b"7"),
+            (b"subsort A B", b"7"),
+            (b"subsort A <", b"7"),
+            (b"subsort < A", b"7"),
+            (b"subsort A < < B", b"7"),
+            (b"subsort A < < {", b"7"),
+            (b"subsort A < [B]", b"7"),
+            (b"subsort A, B < C", b"7"),
+            (b"subsort L{A} < B", b"6"),
+            (b"subsort A < B { <", b"6"),
+            (b"subsort ( < {", b"7"),
             (b"pr NAT", b"6"),
             (b"ceq X = Y if Z", b"6"),
             (b"rl X => Y", b"7"),
@@ -269,13 +315,13 @@ mod tests {
     #[test]
     fn operators_have_names(rt: HostRuntime) -> Result<(), Fail> {
         let alloc = rt.alloc();
-        let cases: [(&[u8], &[u8]); 50] = [
+        let cases: [(&[u8], &[u8]); 51] = [
             (b"op f : A B -> C", b"o1:2C"),
             (b"op f : -> C", b"o1:0C"),
             (b"ops f g : A -> C", b"o11:1C"),
-            (b"op f : A ~> B", b"6"),
-            (b"op f : [A] -> B", b"6"),
-            (b"op f : A -> [B]", b"6"),
+            (b"op f : A ~> B", b"o1:1[B]"),
+            (b"op f : [A] -> B", b"o1:1B"),
+            (b"op f : A -> [B]", b"o1:1[B]"),
             (b"op f : A -> L{B}", b"6"),
             (b"op f -> A", b"7"),
             (b"op : -> A", b"7"),
@@ -306,7 +352,8 @@ mod tests {
             (b"op _+_ : A -> A", b"7"),
             (b"op _+_ : -> A", b"7"),
             (b"op f_ : A A -> A", b"7"),
-            (b"op _+_ : A ~> A", b"6"),
+            (b"op _+_ : A ~> A", b"7"),
+            (b"op _+_ : [A] A ~> A", b"o1:2[A]"),
             (b"op _+_ : A -> [A]", b"7"),
             (b"op _ : [A] -> A", b"7"),
             (b"ops (f _) g : A -> A", b"o21:1A"),
@@ -323,6 +370,63 @@ mod tests {
         ];
         for (statement, want) in cases {
             let got = formed(&rt, alloc, statement)?;
+            assert_eq!(rt; got.as_slice(), want);
+        }
+        Ok(())
+    }
+
+    /// The sorts of an operator's arguments and value, each with a comma behind it; else the fault's number.
+    fn sorts_of(rt: &impl Abort, alloc: Global, statement: &[u8]) -> Result<Vec<u8>, Fail> {
+        assert!(rt; statement.len() < 1000);
+        let all = tokens(alloc, statement)?;
+        let mut out = Vec::new(alloc);
+        match Form::of(all.as_slice()) {
+            Ok(Form::Operators { args, result, .. }) => {
+                let mut rest = args;
+                while let Some((sorting, others)) = rest.first() {
+                    write_sorting(&mut out, sorting)?;
+                    out.push(b',')?;
+                    rest = others;
+                }
+                write_sorting(&mut out, result)?;
+            }
+            Ok(_) => out.push(b'?')?,
+            Err(kind) => out.push(mark(&kind))?,
+        }
+        Ok(out)
+    }
+
+    #[test]
+    fn operators_have_sorts(rt: HostRuntime) -> Result<(), Fail> {
+        let alloc = rt.alloc();
+        let cases: [(&[u8], &[u8]); 24] = [
+            (b"op f : A [B] C -> D", b"A,[B],C,D"),
+            (b"op f : [A] [B] -> [C]", b"[A],[B],[C]"),
+            (b"op f : A [B] ~> C", b"[A],[B],[C]"),
+            (b"op f : ~> A", b"[A]"),
+            (b"op f : -> [A] [ctor]", b"[A]"),
+            (b"op f : -> [ctor]", b"[ctor]"),
+            (b"op f : -> ->", b"->"),
+            (b"op f : [A] -> ~>", b"[A],~>"),
+            (b"op f : A ~> B -> C", b"7"),
+            (b"op f : A -> B ~> C", b"7"),
+            (b"op f : [A, B] -> C", b"7"),
+            (b"op f : [A B] -> C", b"7"),
+            (b"op f : [A -> C", b"7"),
+            (b"op f : [ -> C", b"7"),
+            (b"op f : [] -> C", b"7"),
+            (b"op f : [[A]] -> C", b"7"),
+            (b"op f : A] -> C", b"7"),
+            (b"op f : [A{ -> C", b"6"),
+            (b"op f : [{ -> C", b"6"),
+            (b"op f : A, { -> C", b"7"),
+            (b"op f : -> [A", b"7"),
+            (b"op f : -> [A, {", b"7"),
+            (b"op f : -> [L{A}]", b"6"),
+            (b"op f : -> [A] B", b"7"),
+        ];
+        for (statement, want) in cases {
+            let got = sorts_of(&rt, alloc, statement)?;
             assert_eq!(rt; got.as_slice(), want);
         }
         Ok(())

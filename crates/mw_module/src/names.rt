@@ -13,11 +13,8 @@ pub enum Role {
     /// The name of a sort that is declared.
     NewSort,
     Variable,
-    /// The sort of an operator's argument.
-    Argument,
-    /// The sort of an operator's value.
-    Value,
-    VariableSort,
+    /// A sort that is spoken of.
+    Sort,
 }
 
 // Whether a form begins here that isn't read yet.
@@ -25,10 +22,8 @@ fn is_unread(role: Role, text: &[u8]) -> bool
     ensures { result ≡ forms.is_unread role text.now }
 {
     match role {
-        Role::NewSort | Role::VariableSort => same(text, b"{"),
+        Role::NewSort | Role::Sort => same(text, b"{"),
         Role::Variable => false,
-        Role::Argument => same(text, b"[") || same(text, b"{") || same(text, b"~>"),
-        Role::Value => same(text, b"[") || same(text, b"{"),
     }
 }
 
@@ -38,7 +33,7 @@ fn is_bad(role: Role, text: &[u8]) -> bool
 {
     match role {
         Role::NewSort | Role::Variable => is_punctuation(text) || is_quoted(text),
-        Role::Argument | Role::Value | Role::VariableSort => is_punctuation(text),
+        Role::Sort => is_punctuation(text),
     }
 }
 
@@ -86,7 +81,7 @@ pub fn lone_sort(tokens: &[Token]) -> Result<&Token, FaultKind>
         (λ sort. forms.lone_sort (seen_all tokens.now) ≡ Ok (seen sort.now))
         (λ kind. forms.lone_sort (seen_all tokens.now) ≡ Err kind) }
 {
-    let role = Role::VariableSort;
+    let role = Role::Sort;
     match tokens {
         [] => Err(FaultKind::BadStatement),
         [sort] => match text_fault(role, sort.text.as_slice()) {

@@ -8,6 +8,7 @@ use crate::words::same;
 #[derive(Clone, Copy)]
 pub enum Opening {
     Sorts,
+    Subsorts,
     Operator,
     Operators,
     Variables,
@@ -37,6 +38,8 @@ pub fn opening_of(word: &[u8]) -> Opening
 {
     if same(word, b"sort") || same(word, b"sorts") {
         Opening::Sorts
+    } else if same(word, b"subsort") || same(word, b"subsorts") {
+        Opening::Subsorts
     } else if same(word, b"op") {
         Opening::Operator
     } else if same(word, b"ops") {

@@ -1,9 +1,9 @@
 -- What the chart's answers say of the terms that tokens spell.
-use Rattle.std.proofs.Common.{◌++◌, ◌≡◌, ◌≢◌, ◌≤◌, ◌<◌, ◌∙◌, ℕ, List, [], ◌∷◌, length, Option, None, Some, refl, sym, ap, subst, ⊎_elim, inl, inr}
+use Rattle.std.proofs.Common.{◌++◌, ◌≡◌, ◌≢◌, ◌≤◌, ◌<◌, ◌∙◌, ℕ, List, [], ◌∷◌, length, Option, None, Some, option_map, refl, sym, ap, subst, ⊎_elim, inl, inr}
 use Rattle.mw_lex.specs.declared.token.Token.{Token}
 use Rattle.mw_lex.specs.Lexing.{seen_all}
 use Rattle.mw_logic.specs.Term.{Variable, RawTerm, apply, nil, cons, join}
-use Rattle.mw_logic.specs.Signature.{Signature, SameKind, same, up, down, Member}
+use Rattle.mw_logic.specs.Signature.{Signature}
 use Rattle.mw_text.specs.Mixfix as mixfix
 use Rattle.mw_text.specs.Mixfix.{Reads}
 use Rattle.mw_text.specs.Readings.{ArePair, ReadsPair, NoneHas, BothHave}
@@ -16,7 +16,7 @@ use Rattle.mw_chart.specs.declared.word.Word.{Word}
 use Rattle.mw_chart.specs.declared.fault.Fault.{Fault}
 use Rattle.mw_chart.specs.declared.fault.Pair.{Pair}
 use Rattle.mw_chart.specs.declared.fault.PairFault.{PairFault}
-use Rattle.mw_grammar.specs.Readable.{kind_in, AreKinds}
+use Rattle.mw_grammar.specs.Readable.{kind_in}
 use Rattle.mw_grammar.specs.Worded.{AreWords}
 use Rattle.mw_grammar.specs.Meaning.{term_of, with_last}
 use Rattle.mw_grammar.specs.Grammars.{IsWordsOf, texts as tokens_texts}
@@ -39,48 +39,39 @@ pub texts_seen : (ts : List Token) → tokens_texts ts ≡ texts (seen_all ts)
 texts_seen [] = refl
 texts_seen (t ∷ ts) = ap (λ x. t.text.items ∷ x) (texts_seen ts)
 
--- where no sort is below another, each is its own kind
-lone : (sig : Signature) → sig.pairs ≡ [] → {S T : ℕ} → SameKind sig S T → S ≡ T
-lone sig none same = refl
-lone sig none (up {S} {T} m k) = absurd (subst (Member (S, T)) none m)
-lone sig none (down {S} {T} m k) = absurd (subst (Member (T, S)) none m)
-
-kinds : (sig : Signature) → sig.pairs ≡ [] → AreKinds sig (kind_in [])
-kinds sig none = record { same = λ S. SameKind.same; agree = λ S T k. lone sig none k; within = λ S h. h }
-
 pub exact_words : (sig : Signature) (variables : List Variable) (r : Reader) (tokens : List Token) (w : Words) → IsReaderOf sig variables r → IsWordsOf r.grammar tokens w
-    → AreExact sig variables (kind_in []) r.grammar.table w.leaves.items (texts (seen_all tokens)) w.words.items
+    → AreExact sig variables (kind_in r.grammar.kinds) r.grammar.table w.leaves.items (texts (seen_all tokens)) w.words.items
 exact_words sig variables r tokens w is words =
     let g = r.grammar in
+    let kind = kind_in g.kinds in
     let made = is.grammar in
     let ts = tokens_texts tokens in
-    let a = subst (λ (s : List (List ℕ)). AreWords s g.variables (kind_in g.kinds) g.names w.leaves.items ts w.words.items) made.sorts words in
-    let b = subst (λ (v : List Variable). AreWords sig.sorts v (kind_in g.kinds) g.names w.leaves.items ts w.words.items) made.variables_are a in
-    let d = subst (λ (k : List ℕ). AreWords sig.sorts variables (kind_in k) g.names w.leaves.items ts w.words.items) made.kinds_are b in
-    subst (λ x. AreExact sig variables (kind_in []) g.table w.leaves.items x w.words.items) (texts_seen tokens)
-    (exactly sig variables (kind_in []) (kinds sig is.discrete) is.readable is.declared g.names g.table made.compiled w.leaves.items ts w.words.items d)
+    let a = subst (λ (s : List (List ℕ)). AreWords s g.variables kind g.names w.leaves.items ts w.words.items) made.sorts words in
+    let b = subst (λ (v : List Variable). AreWords sig.sorts v kind g.names w.leaves.items ts w.words.items) made.variables_are a in
+    subst (λ x. AreExact sig variables kind g.table w.leaves.items x w.words.items) (texts_seen tokens)
+    (exactly sig variables kind is.kinds is.readable is.declared g.names g.table made.compiled w.leaves.items ts w.words.items b)
 
 pub count_words : (r : Reader) (tokens : List Token) (w : Words) → IsWordsOf r.grammar tokens w → length w.words.items ≡ length (texts (seen_all tokens))
 count_words r tokens w words = words.count ∙ ap length (texts_seen tokens)
 
-module _ (sig : Signature) (variables : List Variable) (g : Table) (terms : g.kinds ≡ length sig.sorts) (leaves : List Variable) (tokens : List (List ℕ)) (words : List Word)
-    (count : length words ≡ length tokens) (exact : AreExact sig variables (kind_in []) g leaves tokens words) where
+module _ (sig : Signature) (variables : List Variable) (kind : ℕ → ℕ) (g : Table) (terms : g.kinds ≡ length sig.sorts) (leaves : List Variable) (tokens : List (List ℕ)) (words : List Word)
+    (count : length words ≡ length tokens) (exact : AreExact sig variables kind g leaves tokens words) where
   -- the chart's trees of the wanted kind are the grammar's
-  tree : (wanted : Option ℕ) (t : Tree) → chart.IsSpelled g wanted words t → IsTree sig (kind_in []) g wanted words t
-  tree None t (kind, within, want, of) = record { K = kind; within = subst (λ n. kind ≤ n) terms within; is_wanted = tt; spelled = of }
-  tree (Some S) t (kind, within, want, of) = record { K = kind; within = subst (λ n. kind ≤ n) terms within; is_wanted = sym want; spelled = of }
+  tree : (wanted : Option ℕ) (t : Tree) → chart.IsSpelled g (option_map kind wanted) words t → IsTree sig kind g wanted words t
+  tree None t (K, within, want, of) = record { K = K; within = subst (λ n. K ≤ n) terms within; is_wanted = tt; spelled = of }
+  tree (Some S) t (K, within, want, of) = record { K = K; within = subst (λ n. K ≤ n) terms within; is_wanted = sym want; spelled = of }
 
-  spelled_by : (wanted : Option ℕ) (t : Tree) → IsTree sig (kind_in []) g wanted words t → chart.IsSpelled g wanted words t
+  spelled_by : (wanted : Option ℕ) (t : Tree) → IsTree sig kind g wanted words t → chart.IsSpelled g (option_map kind wanted) words t
   spelled_by None t h = (h.K, subst (λ n. h.K ≤ n) (sym terms) h.within, tt, h.spelled)
   spelled_by (Some S) t h = (h.K, subst (λ n. h.K ≤ n) (sym terms) h.within, sym h.is_wanted, h.spelled)
 
-  pub reads : (wanted : Option ℕ) (t : Tree) → chart.Reads g wanted words t → Reads sig variables wanted tokens (term_of leaves t)
+  pub reads : (wanted : Option ℕ) (t : Tree) → chart.Reads g (option_map kind wanted) words t → Reads sig variables wanted tokens (term_of leaves t)
   reads wanted t h = exact.only wanted t (subst (λ n. n ≤ 1024) count h.short) (tree wanted t h.spelled) (λ u k. h.only u (spelled_by wanted u k))
 
-  none : (wanted : Option ℕ) → ((u : Tree) → chart.IsSpelled g wanted words u → ⊥) → NoneHas (mixfix.IsSpelled sig variables wanted tokens)
+  none : (wanted : Option ℕ) → ((u : Tree) → chart.IsSpelled g (option_map kind wanted) words u → ⊥) → NoneHas (mixfix.IsSpelled sig variables wanted tokens)
   none wanted never t h = let r = exact.complete wanted t h in never r.0 (spelled_by wanted r.0 r.1)
 
-  two : (wanted : Option ℕ) (a b : Tree) → chart.IsSpelled g wanted words a → chart.IsSpelled g wanted words b → a ≢ b
+  two : (wanted : Option ℕ) (a b : Tree) → chart.IsSpelled g (option_map kind wanted) words a → chart.IsSpelled g (option_map kind wanted) words b → a ≢ b
       → BothHave (mixfix.IsSpelled sig variables wanted tokens) (term_of leaves a) (term_of leaves b)
   two wanted a b h k apart = (
     exact.sound wanted a (tree wanted a h),
@@ -88,11 +79,11 @@ module _ (sig : Signature) (variables : List Variable) (g : Table) (terms : g.ki
     exact.differ wanted a b (tree wanted a h) (tree wanted b k) apart,
   )
 
-  pub cause : (wanted : Option ℕ) (f : Fault) (e : ParseError) → chart.HasFault g wanted words f → IsTold leaves f e → HasCause sig variables wanted tokens e
-  cause wanted f error.TooLong h e = let k = subst (chart.HasFault g wanted words) e h in subst (λ n. 1024 < n) count k
-  cause wanted f error.NoParse h e = let k = subst (chart.HasFault g wanted words) e h in (subst (λ n. n ≤ 1024) count k.0, none wanted k.1)
+  pub cause : (wanted : Option ℕ) (f : Fault) (e : ParseError) → chart.HasFault g (option_map kind wanted) words f → IsTold leaves f e → HasCause sig variables wanted tokens e
+  cause wanted f error.TooLong h e = let k = subst (chart.HasFault g (option_map kind wanted) words) e h in subst (λ n. 1024 < n) count k
+  cause wanted f error.NoParse h e = let k = subst (chart.HasFault g (option_map kind wanted) words) e h in (subst (λ n. n ≤ 1024) count k.0, none wanted k.1)
   cause wanted f (error.Ambiguous t u) h (a, b, e, first, second) =
-      let k = subst (chart.HasFault g wanted words) e h in (
+      let k = subst (chart.HasFault g (option_map kind wanted) words) e h in (
         subst (λ n. n ≤ 1024) count k.0,
         subst (λ m. BothHave (mixfix.IsSpelled sig variables wanted tokens) m (raw_term u)) (sym first)
             (subst (λ m. BothHave (mixfix.IsSpelled sig variables wanted tokens) (term_of leaves a) m) (sym second) (two wanted a b k.1 k.2 k.3)),
@@ -100,17 +91,16 @@ module _ (sig : Signature) (variables : List Variable) (g : Table) (terms : g.ki
   cause wanted f error.Memory h e = tt
 
   -- a tree of a kind is a term of that kind, and a term of a kind is a tree of it
-  pub of_kind : (kind : ℕ) (t : Tree) → kind ≤ g.kinds → chart.IsOf g words kind t → mixfix.IsSpelled sig variables (Some kind) tokens (term_of leaves t)
-  of_kind kind t within of = exact.sound (Some kind) t (tree (Some kind) t (kind, within, refl, of))
+  pub of_kind : (K : ℕ) (t : Tree) → K ≤ g.kinds → chart.IsOf g words K t → mixfix.IsSpelled sig variables (Some K) tokens (term_of leaves t)
+  of_kind K t within of =
+      let s = exact.sound None t (tree None t (K, within, tt, of)) in
+      record { precedence = s.precedence; spells = s.spells; kind = exact.kinds K t (subst (λ n. K ≤ n) terms within) of }
 
-  pub in_kind : (kind : ℕ) (t : RawTerm) → mixfix.IsSpelled sig variables (Some kind) tokens t → (u : Tree) × (kind ≤ g.kinds) × chart.IsOf g words kind u × (term_of leaves u ≡ t)
-  in_kind kind t h =
-      let r = exact.complete (Some kind) t h in
-      let s = spelled_by (Some kind) r.0 r.1 in
+  pub in_kind : (K : ℕ) (t : RawTerm) → mixfix.IsSpelled sig variables (Some K) tokens t → (u : Tree) × (kind K ≤ g.kinds) × chart.IsOf g words (kind K) u × (term_of leaves u ≡ t)
+  in_kind K t h =
+      let r = exact.complete (Some K) t h in
+      let s = spelled_by (Some K) r.0 r.1 in
       (r.0, subst (λ n. n ≤ g.kinds) (sym s.2) s.1, subst (λ n. chart.IsOf g words n r.0) (sym s.2) s.3, r.2)
-
-  pub tell : (kind : ℕ) (a b : Tree) → kind ≤ g.kinds → chart.IsOf g words kind a → chart.IsOf g words kind b → a ≢ b → term_of leaves a ≢ term_of leaves b
-  tell kind a b within h k apart = exact.differ (Some kind) a b (tree (Some kind) a (kind, within, refl, h)) (tree (Some kind) b (kind, within, refl, k)) apart
 
 same_pair : (p q : RawTerm × RawTerm) → p.0 ≡ q.0 → p.1 ≡ q.1 → p ≡ q
 same_pair p q e f = ap (λ (x : RawTerm). let r : RawTerm × RawTerm = (x, p.1) in r) e ∙ ap (λ (y : RawTerm). let r : RawTerm × RawTerm = (q.0, y) in r) f
@@ -118,22 +108,22 @@ same_pair p q e f = ap (λ (x : RawTerm). let r : RawTerm × RawTerm = (x, p.1) 
 of_any : (sig : Signature) (variables : List Variable) (K : ℕ) (text : List (List ℕ)) (t : RawTerm) → mixfix.IsSpelled sig variables (Some K) text t → mixfix.IsSpelled sig variables None text t
 of_any sig variables K text t h = record { precedence = h.precedence; spells = h.spells; kind = tt }
 
-module _ (sig : Signature) (variables : List Variable) (g : Table) (terms : g.kinds ≡ length sig.sorts)
-    (ls : List Variable) (left : List (List ℕ)) (lw : List Word) (lc : length lw ≡ length left) (le : AreExact sig variables (kind_in []) g ls left lw)
-    (rs : List Variable) (right : List (List ℕ)) (rw : List Word) (rc : length rw ≡ length right) (re : AreExact sig variables (kind_in []) g rs right rw) where
+module _ (sig : Signature) (variables : List Variable) (kind : ℕ → ℕ) (g : Table) (terms : g.kinds ≡ length sig.sorts)
+    (ls : List Variable) (left : List (List ℕ)) (lw : List Word) (lc : length lw ≡ length left) (le : AreExact sig variables kind g ls left lw)
+    (rs : List Variable) (right : List (List ℕ)) (rw : List Word) (rc : length rw ≡ length right) (re : AreExact sig variables kind g rs right rw) where
   pair : (a b : Tree) → chart.IsPair g lw rw a b → ArePair sig variables left right (term_of ls a, term_of rs b)
-  pair a b (kind, within, h, k) =
-      let first = of_kind sig variables g terms ls left lw lc le kind a within h in
-      let second = of_kind sig variables g terms rs right rw rc re kind b within k in
-      record { first = of_any sig variables kind left _ first; second = of_any sig variables kind right _ second; kind = kind; of_first = first.kind; of_second = second.kind }
+  pair a b (K, within, h, k) =
+      let first = of_kind sig variables kind g terms ls left lw lc le K a within h in
+      let second = of_kind sig variables kind g terms rs right rw rc re K b within k in
+      record { first = of_any sig variables K left _ first; second = of_any sig variables K right _ second; kind = K; of_first = first.kind; of_second = second.kind }
 
   trees : (p : RawTerm × RawTerm) → ArePair sig variables left right p → (a : Tree) × (b : Tree) × chart.IsPair g lw rw a b × (term_of ls a ≡ p.0) × (term_of rs b ≡ p.1)
   trees p h =
       let first : mixfix.IsSpelled sig variables (Some h.kind) left p.0 = record { precedence = h.first.precedence; spells = h.first.spells; kind = h.of_first } in
       let second : mixfix.IsSpelled sig variables (Some h.kind) right p.1 = record { precedence = h.second.precedence; spells = h.second.spells; kind = h.of_second } in
-      let a = in_kind sig variables g terms ls left lw lc le h.kind p.0 first in
-      let b = in_kind sig variables g terms rs right rw rc re h.kind p.1 second in
-      (a.0, b.0, (h.kind, a.1, a.2, b.2), a.3, b.3)
+      let a = in_kind sig variables kind g terms ls left lw lc le h.kind p.0 first in
+      let b = in_kind sig variables kind g terms rs right rw rc re h.kind p.1 second in
+      (a.0, b.0, (kind h.kind, a.1, a.2, b.2), a.3, b.3)
 
   pub reads_pair : (p : RawTerm × RawTerm) (a b : Tree) → chart.AreShort lw rw → chart.IsPair g lw rw a b → ((c d : Tree) → chart.IsPair g lw rw c d → (c ≡ a) × (d ≡ b))
       → p.0 ≡ term_of ls a → p.1 ≡ term_of rs b → ReadsPair sig variables left right p
@@ -153,17 +143,17 @@ module _ (sig : Signature) (variables : List Variable) (g : Table) (terms : g.ki
   none_pair : ((a b : Tree) → chart.IsPair g lw rw a b → ⊥) → NoneHas (ArePair sig variables left right)
   none_pair never p h = let t = trees p h in never t.0 t.1 t.2
 
-module _ (sig : Signature) (variables : List Variable) (g : Table) (terms : g.kinds ≡ length sig.sorts)
-    (ls : List Variable) (left : List (List ℕ)) (lw : List Word) (lc : length lw ≡ length left) (le : AreExact sig variables (kind_in []) g ls left lw)
-    (rs : List Variable) (right : List (List ℕ)) (rw : List Word) (rc : length rw ≡ length right) (re : AreExact sig variables (kind_in []) g rs right rw) where
+module _ (sig : Signature) (variables : List Variable) (kind : ℕ → ℕ) (g : Table) (terms : g.kinds ≡ length sig.sorts)
+    (ls : List Variable) (left : List (List ℕ)) (lw : List Word) (lc : length lw ≡ length left) (le : AreExact sig variables kind g ls left lw)
+    (rs : List Variable) (right : List (List ℕ)) (rw : List Word) (rc : length rw ≡ length right) (re : AreExact sig variables kind g rs right rw) where
   same_trees : (p q : Pair) → p.left ≡ q.left → p.right ≡ q.right → p ≡ q
   same_trees p q e f = ap (λ (x : Tree). let r : Pair = record { left = x; right = p.right } in r) e ∙ ap (λ (y : Tree). let r : Pair = record { left = q.left; right = y } in r) f
 
   -- two pairs of trees are different ones of terms
   apart_pairs : (p q : Pair) → chart.IsPair g lw rw p.left p.right → chart.IsPair g lw rw q.left q.right → p ≢ q → term_of ls p.left ≡ term_of ls q.left → term_of rs p.right ≡ term_of rs q.right → ⊥
   apart_pairs p q h k apart e f =
-      let lt : (t : Tree) (kind : ℕ) → kind ≤ g.kinds → chart.IsOf g lw kind t → IsTree sig (kind_in []) g None lw t = λ t kind within of. record { K = kind; within = subst (λ n. kind ≤ n) terms within; is_wanted = tt; spelled = of } in
-      let rt : (t : Tree) (kind : ℕ) → kind ≤ g.kinds → chart.IsOf g rw kind t → IsTree sig (kind_in []) g None rw t = λ t kind within of. record { K = kind; within = subst (λ n. kind ≤ n) terms within; is_wanted = tt; spelled = of } in
+      let lt : (t : Tree) (K : ℕ) → K ≤ g.kinds → chart.IsOf g lw K t → IsTree sig kind g None lw t = λ t K within of. record { K = K; within = subst (λ n. K ≤ n) terms within; is_wanted = tt; spelled = of } in
+      let rt : (t : Tree) (K : ℕ) → K ≤ g.kinds → chart.IsOf g rw K t → IsTree sig kind g None rw t = λ t K within of. record { K = K; within = subst (λ n. K ≤ n) terms within; is_wanted = tt; spelled = of } in
       le.differ None p.left q.left (lt p.left h.0 h.1 h.2) (lt q.left k.0 k.1 k.2)
       (λ x. re.differ None p.right q.right (rt p.right h.0 h.1 h.3) (rt q.right k.0 k.1 k.3) (λ y. apart (same_trees p q x y)) f)
       e
@@ -171,8 +161,8 @@ module _ (sig : Signature) (variables : List Variable) (g : Table) (terms : g.ki
   apart : (p q : Pair) → chart.IsPair g lw rw p.left p.right → chart.IsPair g lw rw q.left q.right → p ≢ q
       → BothHave (ArePair sig variables left right) (term_of ls p.left, term_of rs p.right) (term_of ls q.left, term_of rs q.right)
   apart p q h k differ = (
-    pair sig variables g terms ls left lw lc le rs right rw rc re p.left p.right h,
-    pair sig variables g terms ls left lw lc le rs right rw rc re q.left q.right k,
+    pair sig variables kind g terms ls left lw lc le rs right rw rc re p.left p.right h,
+    pair sig variables kind g terms ls left lw lc le rs right rw rc re q.left q.right k,
     λ e. apart_pairs p q h k differ (ap (λ x. x.0) e) (ap (λ x. x.1) e),
   )
 
@@ -181,7 +171,7 @@ module _ (sig : Signature) (variables : List Variable) (g : Table) (terms : g.ki
       let k = subst (chart.HasPairFault g lw rw) e h in ⊎_elim (λ a. inl (subst (λ n. 1024 < n) lc a)) (λ a. inr (subst (λ n. 1024 < n) rc a)) k
   pair_cause f pair_error.NoParse h e =
       let k = subst (chart.HasPairFault g lw rw) e h in
-      (subst (λ n. n ≤ 1024) lc k.0.0, subst (λ n. n ≤ 1024) rc k.0.1, none_pair sig variables g terms ls left lw lc le rs right rw rc re k.1)
+      (subst (λ n. n ≤ 1024) lc k.0.0, subst (λ n. n ≤ 1024) rc k.0.1, none_pair sig variables kind g terms ls left lw lc le rs right rw rc re k.1)
   pair_cause f (pair_error.Ambiguous t u) h (p, q, e, first, second) =
       let k = subst (chart.HasPairFault g lw rw) e h in
       let same = same_pair (raw_term t.0, raw_term t.1) (term_of ls p.left, term_of rs p.right) first.0 first.1 in

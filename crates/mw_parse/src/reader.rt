@@ -1,9 +1,11 @@
 // Readers of texts.
-ghost use Rattle.std.specs.Prelude.{◌≡◌, [], IfOk};
+ghost use Rattle.std.specs.Prelude.{◌≡◌, IfOk};
+ghost use Rattle.mw_poset.specs.SortOrder.{order_of};
 ghost use Rattle.mw_grammar.specs.Readable.{IsReadable, AreVariables};
 ghost use Rattle.mw_parse.specs.Readers.{IsReaderOf, IsReading};
 
-use mw_grammar::Grammar;
+use mw_grammar::{Grammar, kinds_of};
+use mw_poset::Poset;
 use mw_term::{Signature, VarId};
 use std::alloc::{AllocError, Global};
 
@@ -14,19 +16,21 @@ pub struct Reader {
 }
 
 impl Reader {
-    /// The reader of a signature in which no sort is below another.
+    /// The reader of a signature, whose sorts have this order.
     pub fn of(
         alloc: Global,
         signature: &Signature,
+        order: &Poset,
         variables: &[VarId],
     ) -> Result<Reader, AllocError>
-        requires discrete { signature.now.pairs ≡ [] }
+        requires order { order.now ≡ order_of signature.now }
         requires readable { IsReadable signature.now }
         requires variables { AreVariables signature.now variables.now }
         ensures reader { IfOk result (IsReaderOf signature.now variables.now) }
         ensures reading { IfOk result IsReading }
     {
-        let grammar = Grammar::of(alloc, signature, &[], variables)?;
+        let kinds = kinds_of(alloc, signature, order)?;
+        let grammar = Grammar::of(alloc, signature, kinds.as_slice(), variables)?;
         Ok(Reader { grammar })
     }
 }

@@ -1,10 +1,11 @@
 // The one reading of a text.
-ghost use Rattle.std.specs.Prelude.{◌≡◌, List, IfOk, IfErr};
+ghost use Rattle.std.specs.Prelude.{◌≡◌, List, IfOk, IfErr, option_map};
 ghost use Rattle.mw_lex.specs.Lexing.{seen_all};
 ghost use Rattle.mw_logic.specs.Term.{Variable};
 ghost use Rattle.mw_logic.specs.Signature.{Signature as SignatureOf};
 ghost use Rattle.mw_term.specs.Raws.{raw_term};
 ghost use Rattle.mw_text.specs.Mixfix.{Reads};
+ghost use Rattle.mw_grammar.specs.Readable.{kind_in};
 ghost use Rattle.mw_declare.specs.Meaning.{texts};
 ghost use Rattle.mw_parse.specs.Readers.{IsReaderOf, IsReading};
 ghost use Rattle.mw_parse.specs.Answers.{HasCause};
@@ -16,7 +17,7 @@ use crate::reader::Reader;
 use crate::terms::raw;
 use mw_chart::{Fault, LIMIT, Term};
 use mw_lex::Token;
-use mw_term::{Raw, SortId, VarId};
+use mw_term::{KindId, Raw, SortId, VarId};
 use std::alloc::{AllocError, Global};
 
 /// Two different terms, from the chart's trees.
@@ -45,6 +46,13 @@ fn told(alloc: Global, fault: &Fault, leaves: &[VarId]) -> Result<ParseError, Al
     }
 }
 
+/// The kind of a wanted sort, where one is wanted.
+fn wanted_kind(reader: &Reader, wanted: Option<SortId>) -> Option<KindId>
+    ensures { result ≡ option_map (kind_in reader.now.grammar.kinds) wanted }
+{
+    wanted.map(|sort| reader.grammar.kind_of(sort))
+}
+
 /// The one term that the tokens spell, of this sort's kind if one is wanted.
 pub fn parse(
     alloc: Global,
@@ -66,7 +74,7 @@ pub fn parse(
         alloc,
         reader.grammar.table(),
         words.words.as_slice(),
-        wanted,
+        wanted_kind(reader, wanted),
     ) {
         Ok(term) => Ok(raw(alloc, term.body(), words.leaves.as_slice())?),
         Err(fault) => {

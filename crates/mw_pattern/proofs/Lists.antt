@@ -1,8 +1,11 @@
 -- Lists of terms and of patterns, item by item.
 use Rattle.std.proofs.Common.{◌≡◌, ℕ, zero, suc, ◌+◌, ◌<◌, ◌≤◌, List, [], ◌∷◌, ◌++◌, length, get_or, drop, ap, sym, ◌∙◌, refl, drop-cons, add-one, drop_of_length-le, subst}
-use Rattle.mw_logic.specs.Term.{RawTerm, RawTerms, cons, join}
+use Rattle.mw_logic.specs.Term.{Variable, RawTerm, RawTerms, cons, join}
 use Rattle.mw_logic.specs.Parts.{number_of_terms}
-use Rattle.std.specs.Prelude.{Some, slice_get}
+use Rattle.std.specs.Prelude.{Some, slice_get, take}
+use Rattle.std.proofs.lemmas.List.{take_more, map-append}
+use Rattle.std.proofs.lemmas.Option.{same_Some}
+use Rattle.mw_machine.specs.Variables.{sorts_of}
 use Rattle.mw_machine.specs.Positions.{fill, fill_all, IsWithin, AreWithin}
 use Rattle.mw_logic.specs.Terms.{terms_of}
 use Rattle.mw_machine.proofs.Trees.{join-assoc, join-nil}
@@ -37,3 +40,10 @@ pattern_within n (x ∷ ps) (suc k) p h w = pattern_within n ps k p h w.1
 
 pub got : {A : Type 0} (xs : List A) (k : ℕ) (x : A) → k < length xs → x ≡ get_or xs k x → slice_get xs k ≡ Some x
 got xs k x h e = slice_get-get_or xs k x h ∙ ap Some (sym e)
+
+-- a variable more, and its sort
+pub sorts_more : (xs : List Variable) (i : ℕ) (x : Variable) (old new : List ℕ) → i < length xs → slice_get xs i ≡ Some x → new ≡ old ++ x.sort ∷ [] → old ≡ sorts_of (take i xs) → new ≡ sorts_of (take (i + 1) xs)
+sorts_more xs i x old new h e n o =
+    let same : get_or xs i x ≡ x = same_Some _ _ (sym (slice_get-get_or xs i x h) ∙ e) in
+    let t : take (i + 1) xs ≡ take i xs ++ x ∷ [] = take_more xs i x h ∙ ap (λ y. take i xs ++ y ∷ []) same in
+    n ∙ ap (λ l. l ++ x.sort ∷ []) o ∙ sym (map-append (λ (y : Variable). y.sort) (take i xs) (x ∷ [])) ∙ ap sorts_of (sym t)

@@ -1,10 +1,10 @@
 -- Equations with positions in place of variables, and their index.
-use Rattle.std.specs.Prelude.{ℕ, ◌≡◌, List, Some, IsTrue, length, slice_get}
+use Rattle.std.specs.Prelude.{ℕ, ◌≡◌, List, Some, IsTrue, slice_get}
 use Rattle.mw_logic.specs.Term.{apply}
 use Rattle.mw_logic.specs.Signature.{at_number}
 use Rattle.mw_logic.specs.Module.{Statement}
 use Rattle.mw_machine.specs.Machine.{IsFlat}
-use Rattle.mw_machine.specs.Variables.{AreDistinct, placed, IsPlaceable}
+use Rattle.mw_machine.specs.Variables.{AreDistinct, sorts_of, placed, IsPlaceable}
 use Rattle.mw_pattern.specs.Clean.{clean}
 use Rattle.mw_pattern.specs.Equations.{listed}
 use Rattle.mw_pattern.specs.declared.equations.Equation.{Equation}
@@ -20,7 +20,7 @@ pub record IsCompilable (e : Statement) : Type 0 where
 -- st is the equation e of number k, with f on top of its left side
 pub record IsCompiled (k : ℕ) (e : Statement) (f : ℕ) (st : Equation) : Type 0 where
   pub number : st.number ≡ k
-  pub variables : st.variables ≡ length e.variables
+  pub sorts : st.sorts ≡ sorts_of e.variables
   pub left : apply f st.left ≡ placed e.variables e.left
   pub right : clean st.right ≡ placed e.variables e.right
 

@@ -1,5 +1,5 @@
 -- Equations whose variables stand by position.
-use Rattle.std.specs.Prelude.{ℕ, ◌≡◌, Some, slice_get}
+use Rattle.std.specs.Prelude.{ℕ, ◌≡◌, Some, length, slice_get}
 use Rattle.mw_machine.specs.Positions.{IsWithin, AreNumbered, counted_all}
 use Rattle.mw_pattern.specs.Clean.{clean}
 use Rattle.mw_pattern.specs.Equations.{listed}
@@ -9,8 +9,8 @@ use Rattle.mw_pattern.specs.declared.equations.Equations.{Equations}
 -- the equation's variables are numbered as they are met, and its right side has no others
 pub record IsWellNumbered (st : Equation) : Type 0 where
   pub left : AreNumbered 0 st.left
-  pub count : counted_all 0 st.left ≡ st.variables
-  pub right : IsWithin st.variables (clean st.right)
+  pub count : counted_all 0 st.left ≡ length st.sorts
+  pub right : IsWithin (length st.sorts) (clean st.right)
 
 abbrev pub AreWellNumbered : Equations → Type 0
 AreWellNumbered m = (f i : ℕ) (st : Equation) → slice_get (listed m f) i ≡ Some st → IsWellNumbered st

@@ -61,7 +61,7 @@ fn compile_equation(
                 number,
                 left,
                 right,
-                variables: places.len(),
+                sorts: places.sorts(alloc)?,
             };
             Ok((*op, equation))
         }

@@ -3,7 +3,7 @@ ghost use Rattle.std.specs.Prelude.{◌≡◌, ◌≢◌, ◌++◌, [], ◌∷�
 ghost use Rattle.mw_pattern.specs.Equations.{listed};
 
 use crate::pattern::{Pattern, Patterns};
-use mw_term::OpId;
+use mw_term::{OpId, Seq, SortId};
 use std::alloc::{AllocError, Global};
 
 /// An equation between terms whose variables stand by position.
@@ -14,8 +14,8 @@ pub struct Equation {
     /// The arguments of the operator on top of its left side.
     pub left: Patterns,
     pub right: Pattern,
-    /// How many variables there are.
-    pub variables: usize,
+    /// The sorts of its variables, by position.
+    pub sorts: Seq<SortId>,
 }
 
 /// The equations with one operator on top of their left sides, in order.

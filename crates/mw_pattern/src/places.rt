@@ -1,10 +1,10 @@
 // Where variables stand.
 ghost use Rattle.std.specs.Prelude.{◌≡◌, ◌<◌, [], IfOk, OnOk, OnErr, IsTrue, Some, length, slice_get};
 ghost use Rattle.mw_logic.specs.Term.{variable as a_variable};
-ghost use Rattle.mw_machine.specs.Variables.{is_in, AreDistinct, place, met};
+ghost use Rattle.mw_machine.specs.Variables.{is_in, AreDistinct, place, met, sorts_of};
 ghost use Rattle.mw_term.specs.Raws.{raw_term};
 
-use mw_term::{Raw, SortId, VarId};
+use mw_term::{Raw, Seq, SortId, VarId};
 use std::alloc::{AllocError, Global};
 use std::collections::HashMap;
 use std::marker::Model;
@@ -83,6 +83,17 @@ impl<'a> Places<'a> {
         ensures { slice_get self.now place ≡ Some result.now }
     {
         self.variables[place]
+    }
+
+    /// The sorts of the variables, in order.
+    pub fn sorts(&self, alloc: Global) -> Result<Seq<SortId>, AllocError>
+        ensures { IfOk result (λ s. s ≡ sorts_of self.now) }
+    {
+        let mut sorts = Vec::with_capacity(alloc, self.len())?;
+        for i in 0..self.len() {
+            sorts.push(self.variable(i).sort)?;
+        }
+        Ok(Seq::of(sorts))
     }
 
     /// How many of the variables stand before this one.

@@ -3,7 +3,7 @@ ghost use Rattle.std.specs.Prelude.{◌≡◌, ℕ, ◌+◌, ◌-◌, ◌<◌, �
 ghost use Rattle.mw_poset.specs.Order.{IsSort, ArePairsOf};
 ghost use Rattle.mw_poset.specs.Tables.{supersorts, turned_too, AreListsOf};
 
-use crate::SortId;
+use mw_term::SortId;
 use std::alloc::{AllocError, Global};
 use std::marker::Model;
 

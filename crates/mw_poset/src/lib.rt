@@ -15,15 +15,10 @@ ghost use Rattle.mw_logic.specs.Sorts.{AtOrBelow};
 ghost use Rattle.mw_poset.specs.Order.{IsSort, ArePairsOf, IsOnCycle, IsLeastOnCycle, IsKindOf, IsMaximalIn};
 
 use direct::{Links, both_ways};
+use mw_term::{KindId, SortId};
 use search::{is_marked_above, kinds_of, least_on_cycle, table_of};
 use std::alloc::{AllocError, Global};
 use std::marker::Model;
-
-/// A sort, by its number from 1.
-pub type SortId = u32;
-
-/// A kind, by the number of its least sort.
-pub type KindId = u32;
 
 /// Why there is no poset: the pairs have a cycle, with the least sort on one, or memory ran out.
 #[derive(Clone, Copy, Debug, PartialEq, Eq)]
@@ -85,6 +80,15 @@ impl Poset {
         })
     }
 
+    /// How many sorts there are. The sorts of the pairs are among them, and no pairs make a cycle.
+    pub fn sorts(&self) -> u32
+        ensures sorts { result ≡ self.now.sorts }
+        ensures within { ArePairsOf self.now.sorts self.now.pairs }
+        ensures acyclic { (S : ℕ) → ¬ IsOnCycle self.now.pairs S }
+    {
+        self.links.sorts()
+    }
+
     /// Whether a chain of pairs, maybe of none, leads from `lower` up to `upper`. It takes no memory and one look-up.
     pub fn le(&self, lower: SortId, upper: SortId) -> bool
         requires lower_is_there { IsSort self.now.sorts lower }
@@ -106,6 +110,7 @@ impl Poset {
     pub fn maximal(&self, alloc: Global, kind: KindId) -> Result<Vec<SortId>, AllocError>
         requires { IsSort self.now.sorts kind }
         ensures listed { IfOk result (λ found. (T : ℕ) → Member T found.items ↔ IsMaximalIn self.now.pairs kind T) }
+        ensures within { IfOk result (λ found. (T : ℕ) → Member T found.items → IsSort self.now.sorts T) }
         ensures in_order { IfOk result (λ found. IsStrictlyIncreasing found.items) }
     {
         let mut found = Vec::new(alloc);

@@ -7,7 +7,7 @@ ghost use Rattle.mw_poset.specs.Tables.{IsRow, IsTable, AreLeastReached, IsSymme
 ghost use Rattle.mw_poset.specs.Search.{Marks};
 
 use crate::direct::Links;
-use crate::{KindId, SortId};
+use mw_term::{KindId, SortId};
 use std::alloc::{AllocError, Global};
 
 // Marks each of these sorts, and has those wait that were not marked before.

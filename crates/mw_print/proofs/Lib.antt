@@ -9,3 +9,4 @@ pub mod Runs
 pub mod Lexed
 pub mod Digits
 pub mod Proper
+pub mod Maximal

@@ -1,6 +1,7 @@
--- Terms as texts.
+-- Terms, sorts and kinds as texts.
 pub mod Tokens
 pub mod Printing
+pub mod Sorts
 pub mod Writing
 pub mod Reading
 pub mod Laws

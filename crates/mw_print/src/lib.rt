@@ -1,13 +1,15 @@
-//! Terms as texts, in mixfix form.
+//! Terms as texts, in mixfix form; and sorts and kinds.
 #![tactic(auto)]
 
 mod laws;
 mod names;
 mod printing;
+mod sorts;
 mod writer;
 
 pub use laws::{printed_lexes, printed_proper, printed_spells};
-pub use printing::{mixfix, print_sort};
+pub use printing::mixfix;
+pub use sorts::{print_sort, print_sorted};
 
 #[cfg(test)]
 mod tests;

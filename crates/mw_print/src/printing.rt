@@ -11,8 +11,9 @@ ghost use Rattle.mw_print.specs.Printing.{printed, printed_all, mixfix_text};
 ghost use Rattle.mw_print.specs.Writing.{Writes};
 
 use crate::names::{Item, first_item, has_hole, holes};
+use crate::sorts::print_sort;
 use crate::writer::Writer;
-use mw_term::{Gather, OpId, Operator, Shape, Signature, SortId, Term, VarId};
+use mw_term::{Gather, OpId, Operator, Shape, Signature, Term, VarId};
 use std::alloc::{AllocError, Global};
 
 /// The text of a term.
@@ -305,17 +306,4 @@ fn sorted(alloc: Global, signature: &Signature, variable: &VarId) -> Result<Vec<
     token.push(b':')?;
     print_sort(signature, variable.sort, &mut token)?;
     Ok(token)
-}
-
-/// Writes a sort's name behind a text.
-pub fn print_sort(signature: &Signature, sort: SortId, text: &mut Vec<u8>) -> Result<(), AllocError>
-    ensures { OnOk result (text.new.items ≡ text.old.items ++ spec.sort_name signature.now sort) }
-{
-    if sort == 0 {
-        return Ok(());
-    }
-    match signature.sorts.as_slice().get(sort as usize - 1) {
-        Some(name) => text.extend_from_slice(name.as_slice()),
-        None => Ok(()),
-    }
 }

@@ -1,6 +1,12 @@
-// Terms and their texts.
+// Terms and their texts, and those of sorts and kinds.
+ghost use Rattle.std.specs.Prelude.{◌≡◌, ◌∷◌, [], IfOk};
+ghost use Rattle.mw_term.specs.Signatures.{sorted_of};
+ghost use Rattle.mw_poset.specs.SortOrder.{order_of};
+ghost use Rattle.mw_print.specs.Sorts.{IsKindThere};
+
 use super::*;
-use mw_term::{Gather, Name, Operator, Seq, Shape, Signature, Term, VarId};
+use mw_poset::Poset;
+use mw_term::{Gather, Name, Operator, Seq, Shape, Signature, Sorted, Term, VarId};
 use std::alloc::{AllocError, Global};
 use std::test::Fail;
 
@@ -172,5 +178,58 @@ fn terms_are_printed(rt: HostRuntime) -> Result<(), Fail> {
         let printed = mixfix(alloc, &signature, &term)?;
         assert_eq!(rt; printed.as_slice(), *text);
     }
+    Ok(())
+}
+
+fn name(alloc: Global, text: &[u8]) -> Result<Name, AllocError> {
+    Ok(Name::of(text.to_vec(alloc)?))
+}
+
+/// Zero and NzNat are below Nat; Bird is below Animal and Flyer.
+fn sorts(alloc: Global) -> Result<Signature, AllocError>
+    ensures { IfOk result (λ s. order_of s ≡ record { sorts = 6; pairs = (1, 3) ∷ (2, 3) ∷ (4, 5) ∷ (4, 6) ∷ [] }) }
+{
+    let sorts = vec![in alloc;
+        name(alloc, b"Zero")?,
+        name(alloc, b"NzNat")?,
+        name(alloc, b"Nat")?,
+        name(alloc, b"Bird")?,
+        name(alloc, b"Animal")?,
+        name(alloc, b"Flyer")?,
+    ]?;
+    Ok(Signature {
+        sorts: Seq::of(sorts),
+        pairs: Seq::of(vec![in alloc; (1, 3), (2, 3), (4, 5), (4, 6)]?),
+        operators: Seq::of(Vec::new(alloc)),
+        nat: false,
+        qid: false,
+    })
+}
+
+fn sorted_text(
+    alloc: Global,
+    signature: &Signature,
+    order: &Poset,
+    sorted: Sorted,
+) -> Result<Vec<u8>, AllocError>
+    requires order { order.now ≡ order_of signature.now }
+    requires kind { IsKindThere signature.now (sorted_of sorted) }
+{
+    let mut text = Vec::new(alloc);
+    print_sorted(alloc, signature, order, sorted, &mut text)?;
+    Ok(text)
+}
+
+#[test]
+fn sorts_and_kinds_are_printed(rt: HostRuntime) -> Result<(), Fail> {
+    let alloc = rt.alloc();
+    let signature = sorts(alloc)?;
+    let order = Poset::build(alloc, 6, &[(1, 3), (2, 3), (4, 5), (4, 6)])?;
+    let sort = sorted_text(alloc, &signature, &order, Sorted::Sort(2))?;
+    assert_eq!(rt; sort.as_slice(), b"NzNat".as_slice());
+    let one = sorted_text(alloc, &signature, &order, Sorted::Kind(1))?;
+    assert_eq!(rt; one.as_slice(), b"[Nat]".as_slice());
+    let two = sorted_text(alloc, &signature, &order, Sorted::Kind(4))?;
+    assert_eq!(rt; two.as_slice(), b"[Animal,Flyer]".as_slice());
     Ok(())
 }

@@ -6,10 +6,11 @@ use Rattle.std.proofs.lemmas.List.{length-map, take_all}
 use Rattle.mw_logic.specs.Term.{RawTerm, is_ground}
 use Rattle.mw_logic.specs.Signature.{Signature, at_number, IsRawTerm}
 use Rattle.mw_logic.specs.Free.{IsFreeSignature}
-use Rattle.mw_logic.specs.Substitution.{Substitution, instance}
+use Rattle.std.proofs.lemmas.Bool.{and_parts}
+use Rattle.mw_logic.specs.Substitution.{Substitution, instance, binds, IsSubstitution}
 use Rattle.mw_logic.specs.Parts.{nested, IsAdmitted}
 use Rattle.mw_logic.specs.NormalForm.{normal_form}
-use Rattle.mw_logic.specs.Module.{Fragment, Module, Statement, IsStatement}
+use Rattle.mw_logic.specs.Module.{Fragment, Module, Statement, IsStatement, binds_statement}
 use Rattle.mw_logic.specs.Proof.{Proof, reflexivity, transitivity, replacement, nil}
 use Rattle.mw_logic.specs.Judgements.{Leads, Replaces, AdmittedStep, Held, Fails, judgements_with}
 use Rattle.mw_logic.proofs.FreeSignature.{free_replaces, bare_from_free, bare_no_row}
@@ -19,7 +20,7 @@ use Rattle.mw_machine.specs.Positions.{fill}
 use Rattle.mw_machine.specs.Variables.{placed}
 use Rattle.mw_machine.specs.Simple.{IsSimpleModule}
 use Rattle.mw_machine.proofs.AtRank.{Proves_admitted, Proves_of, held_empty}
-use Rattle.mw_machine.proofs.Firing.{free_module, left_placeable, right_placeable, fires}
+use Rattle.mw_machine.proofs.Firing.{free_module, left_placeable, right_placeable, bound_sorts, fires}
 use Rattle.mw_machine.proofs.Placing.{values_of, fill_placed}
 use Rattle.mw_canon.specs.Canonical.{IsAdmittedTerm, meant}
 use Rattle.mw_canon.proofs.Free.{nested_free, normal_form_free, meant_free, of_admitted_term}
@@ -37,25 +38,25 @@ module _ (M : Module) (simple : IsSimpleModule M) where
   plain_module = free_module M simple
 
   module _ (k : ℕ) (e : Statement) (is : IsStatement M k e) (s : Substitution) where
-    instance_fires : IsTrue (is_ground (instance s e.left)) → IsRawTerm M.signature (instance s e.left) → Fires M k (bindings s e.variables) (instance s e.left) (instance s e.right)
-    instance_fires g r =
+    instance_fires : IsSubstitution M.signature s → IsTrue (binds s e.left) → IsTrue (is_ground (instance s e.left)) → IsRawTerm M.signature (instance s e.left) → Fires M k (bindings s e.variables) (instance s e.left) (instance s e.right)
+    instance_fires h b g r =
         let vs : List RawTerm = values_of s e.variables in
         let a : fill vs (placed e.variables e.left) ≡ instance s e.left = fill_placed s e.variables e.left (left_placeable M simple k e is) in
-        let b : fill vs (placed e.variables e.right) ≡ instance s e.right = fill_placed s e.variables e.right (right_placeable M simple k e is) in
+        let c : fill vs (placed e.variables e.right) ≡ instance s e.right = fill_placed s e.variables e.right (right_placeable M simple k e is) in
         let f : Fires M k (zip e.variables vs) (fill vs (placed e.variables e.left)) (fill vs (placed e.variables e.right)) =
-        fires M simple k e is vs (length-map e.variables _) (subst (λ t. IsTrue (is_ground t)) (sym a) g) (subst (IsRawTerm M.signature) (sym a) r) in
-        subst (λ t. Fires M k (bindings s e.variables) t (instance s e.right)) a (subst (λ u. Fires M k (bindings s e.variables) (fill vs (placed e.variables e.left)) u) b f)
+        fires M simple k e is vs (length-map e.variables _) (bound_sorts M simple k e is s h b) (subst (λ t. IsTrue (is_ground t)) (sym a) g) (subst (IsRawTerm M.signature) (sym a) r) in
+        subst (λ t. Fires M k (bindings s e.variables) t (instance s e.right)) a (subst (λ u. Fires M k (bindings s e.variables) (fill vs (placed e.variables e.left)) u) c f)
 
     -- it leads from the one instance to the other
-    pub deduction_applied : IsAdmittedTerm M.signature (instance s e.left) → IsAdmittedTerm M.signature (instance s e.right)
+    pub deduction_applied : IsSubstitution M.signature s → IsTrue (binds s e.left) → IsAdmittedTerm M.signature (instance s e.left) → IsAdmittedTerm M.signature (instance s e.right)
         → IsDeduction (record { over = M; from = instance s e.left; to = instance s e.right; proof = transitivity (replacement k false (bindings s e.variables) nil) reflexivity })
-    deduction_applied begins ends =
+    deduction_applied h b begins ends =
         let sig : Signature = M.signature in
         let t : RawTerm = instance s e.left in
         let u : RawTerm = instance s e.right in
         let z : Substitution = bindings s e.variables in
         let a = of_admitted_term sig plain_module.signature t begins in
-        let f : Fires M k z t u = instance_fires a.0 a.1 in
+        let f : Fires M k z t u = instance_fires h b a.0 a.1 in
         let r : Replaces M (Held M 63) (Fails M 63) k false z nil t u = record {
           statement = f.statement;
           is_there = f.is_there;
@@ -141,6 +142,14 @@ module _ (M : Module) (simple : IsSimpleModule M) (k : ℕ) (s : Substitution) (
   free : IsFreeSignature M.signature
   free = (plain_module M simple).signature
 
+  substitution : IsSubstitution M.signature s
+  substitution = subst (IsSubstitution M.signature) (meant_free M.signature free s) m.substitution
+
+  bound : IsTrue (binds s used.left)
+  bound =
+      let b : IsTrue (binds_statement s used) = subst (λ r. IsTrue (binds_statement r used)) (meant_free M.signature free s) m.bound in
+      (and_parts _ _ (and_parts _ _ b).0).0
+
   pub deduction_at : (t u : RawTerm) (w : Track) (vs : List RawTerm) → t ≡ normal_form M.signature (instance (meant M.signature s) used.left) → u ≡ normal_form M.signature (instance (meant M.signature s) used.right)
       → vs ≡ values_of s used.variables → w.items ≡ Apply k (length vs) ∷ [] → w.values ≡ vs → IsDeduction (record { over = M; from = t; to = u; proof = proof_of M w })
   deduction_at t u w vs a b e x y =
@@ -148,7 +157,7 @@ module _ (M : Module) (simple : IsSimpleModule M) (k : ℕ) (s : Substitution) (
       let g : u ≡ instance s used.right = b ∙ normal_instance M.signature free s used.right in
       let begins : IsAdmittedTerm M.signature (instance s used.left) = subst (IsAdmittedTerm M.signature) (normal_instance M.signature free s used.left) m.begins in
       let ends : IsAdmittedTerm M.signature (instance s used.right) = subst (IsAdmittedTerm M.signature) (normal_instance M.signature free s used.right) m.ends in
-      rw (f, g, proof_at w vs e x y) (deduction_applied M simple k used m.is_there s begins ends)
+      rw (f, g, proof_at w vs e x y) (deduction_applied M simple k used m.is_there s substitution bound begins ends)
 
   pub applies_at : (d : Deduction) (w : Track) (vs : List RawTerm) → d.from ≡ normal_form M.signature (instance (meant M.signature s) used.left) → d.to ≡ normal_form M.signature (instance (meant M.signature s) used.right) → d.proof ≡ proof_of M w
       → vs ≡ values_of s used.variables → w.items ≡ Apply k (length vs) ∷ [] → w.values ≡ vs → (st : Statement) → at_number M.statements k ≡ Some st → Applies M k s [] st d

@@ -1,15 +1,18 @@
 -- The tests' module is simple, and its terms meet what the calls require.
-use Rattle.std.specs.Prelude.{◌≡◌, ◌≤◌, Result, Ok, Err, IfOk, map, ℕ, zero, suc, List, [], ◌∷◌, Some, codes, refl}
-use Rattle.std.proofs.Common.{arith, ap, subst, sym, ◌∙◌}
+use Rattle.std.specs.Prelude.{◌≡◌, ◌≤◌, Result, Ok, Err, IfOk, map, ℕ, zero, suc, List, [], ◌∷◌, Some, codes, IsTrue, refl}
+use Rattle.std.proofs.Common.{arith, ap, subst, sym, ◌∙◌, ⊎_elim}
 use Rattle.std.proofs.lemmas.Bool.{or_right}
-use Rattle.mw_logic.specs.Term.{Variable, RawTerm, nil, cons, unary, binary}
-use Rattle.mw_logic.specs.Signature.{Signature, Operator, at_number, IsRawTerm, an_operator, a_variable, next, end, HasKind, of_operator, of_variable, same}
+use Rattle.mw_logic.specs.Term.{Variable, RawTerm, nil, cons, unary, binary, is_ground}
+use Rattle.mw_logic.specs.Signature.{Signature, Operator, sort, Member, at_number, IsRawTerm, an_operator, a_variable, next, end, HasKind, of_operator, of_variable, same}
 use Rattle.mw_logic.specs.Free.{IsFreeSignature}
 use Rattle.mw_logic.specs.Substitution.{Substitution, same_variable, occurs, IsSubstitution}
 use Rattle.mw_logic.specs.Module.{Module, Statement}
-use Rattle.mw_machine.specs.Simple.{IsSimpleOperator, IsSimpleSignature, IsSimpleEquation, IsSimpleModule}
+use Rattle.mw_logic.specs.Sorts.{HasSort}
+use Rattle.mw_logic.specs.Preregular.{IsSortOf}
+use Rattle.mw_machine.specs.Simple.{IsSimpleSignature, IsSimpleEquation, IsSimpleModule}
 use Rattle.mw_machine.proofs.AtRank.{held_empty}
-use Rattle.mw_machine.proofs.Discrete.{free, has_sort}
+use Rattle.mw_machine.proofs.Ordered.{free}
+use Rattle.mw_machine.proofs.ManySorted.{IsDeclaredOnce, simple_once, kind_sort}
 use Rattle.mw_canon.specs.Canonical.{IsAdmittedTerm, meant}
 use Rattle.mw_canon.proofs.Free.{admitted_term_free, applied_free, meant_free}
 use Rattle.mw_proof.specs.Tested.{tested, tested_signature, tested_operator, tested_equation, named, IsSmall, tested_zero, tested_one, pair_values, IsOnce}
@@ -27,24 +30,31 @@ only_sort zero name e = cc
 only_sort (suc zero) name e = refl
 only_sort (suc (suc n)) name e = cc
 
-simple_operator : (args : List ℕ) → IsSimpleOperator (tested_operator args)
-simple_operator args = record { free = record { assoc = refl; comm = refl; identity = refl; built = refl }; declarations = refl }
+the_sort : IsSortOf tested_signature 1
+the_sort = (omega arith, omega arith)
 
-operators_simple : (f : ℕ) (o : Operator) → at_number tested_signature.operators f ≡ Some o → IsSimpleOperator o
-operators_simple zero o e = cc
-operators_simple (suc zero) o e = subst IsSimpleOperator (some_is e) (simple_operator [])
-operators_simple (suc (suc zero)) o e = subst IsSimpleOperator (some_is e) (simple_operator (1 ∷ []))
-operators_simple (suc (suc (suc zero))) o e = subst IsSimpleOperator (some_is e) (simple_operator (1 ∷ 1 ∷ []))
-operators_simple (suc (suc (suc (suc n)))) o e = cc
+declared_once : (args : List ℕ) → ((K : ℕ) → Member K args → IsSortOf tested_signature K) → IsDeclaredOnce tested_signature (tested_operator args)
+declared_once args h = record { free = record { assoc = refl; comm = refl; identity = refl; built = refl }; declarations = refl; args = h; result = the_sort }
+
+-- each of these is the one sort
+abbrev AreTheSort : List ℕ → Type 0
+AreTheSort args = (K : ℕ) → Member K args → IsSortOf tested_signature K
+
+one_more : (args : List ℕ) → AreTheSort args → AreTheSort (1 ∷ args)
+one_more args h K m = ⊎_elim (λ e. subst (IsSortOf tested_signature) e the_sort) (h K) m
+
+operators_once : (f : ℕ) (o : Operator) → at_number tested_signature.operators f ≡ Some o → IsDeclaredOnce tested_signature o
+operators_once zero o e = cc
+operators_once (suc zero) o e = subst (IsDeclaredOnce tested_signature) (some_is e) (declared_once [] (λ K m. absurd m))
+operators_once (suc (suc zero)) o e = subst (IsDeclaredOnce tested_signature) (some_is e) (declared_once (1 ∷ []) (one_more [] (λ K m. absurd m)))
+operators_once (suc (suc (suc zero))) o e = subst (IsDeclaredOnce tested_signature) (some_is e) (declared_once (1 ∷ 1 ∷ []) (one_more (1 ∷ []) (one_more [] (λ K m. absurd m))))
+operators_once (suc (suc (suc (suc n)))) o e = cc
 
 simple_signature : IsSimpleSignature tested_signature
-simple_signature = record {
-  pairs = refl;
-  nat = refl;
-  qid = refl;
-  sorts_differ = λ m n name e f. only_sort m name e ∙ sym (only_sort n name f);
-  operators = operators_simple;
-}
+simple_signature = simple_once tested_signature refl refl refl (λ m n name e f. only_sort m name e ∙ sym (only_sort n name f)) operators_once
+
+small_sort : {t : RawTerm} → IsRawTerm tested_signature t → IsTrue (is_ground t) → HasKind tested_signature t 1 → HasSort tested_signature t (sort 1)
+small_sort r g k = kind_sort tested_signature refl simple_signature operators_once r g k
 
 unary_raw : {t : RawTerm} → IsRawTerm tested_signature t → HasKind tested_signature t 1 → IsRawTerm tested_signature (unary 2 t) × HasKind tested_signature (unary 2 t) 1
 unary_raw r k = (an_operator (tested_operator (1 ∷ [])) refl (next r k end), of_operator (tested_operator (1 ∷ [])) refl same)
@@ -104,7 +114,7 @@ may_apply t u h k =
       is_there = record { is_there = refl; executable = refl };
       values = (small_admitted 9 t (omega arith) h, (small_admitted 9 u (omega arith) k, tt));
       substitution = subst (IsSubstitution sig) (sym (meant_free sig plain s))
-          (refl, h.ground, h.raw, has_sort sig simple_signature h.raw h.ground h.has_kind, (refl, k.ground, k.raw, has_sort sig simple_signature k.raw k.ground k.has_kind, tt));
+          (refl, h.ground, h.raw, small_sort h.raw h.ground h.has_kind, (refl, k.ground, k.raw, small_sort k.raw k.ground k.has_kind, tt));
       bound = refl;
       condition = held_empty tested 63 (meant sig s);
       plain = λ e. cc;

@@ -7,6 +7,8 @@ ghost use Rattle.mw_proof.specs.Tested.{tested, tested_operator, tested_signatur
 
 use super::*;
 use mw_least::Ctx;
+use mw_poset::Poset;
+use mw_sorts::Tables;
 use mw_term::{
     Binding, Declaration, KindId, Name, OpId, Operator, Raw, Raws, Seq, Signature, Sorted,
     Statement, Subst, Term, VarId, same,
@@ -138,7 +140,13 @@ fn module(alloc: Global) -> Result<Ctx, AllocError>
 {
     let signature = signature(alloc)?;
     let statements = statements(alloc)?;
-    Ctx::new(alloc, signature, Seq::of(statements))
+    let Ok(order) = Poset::build(alloc, 1, &[]) else {
+        return Err(AllocError);
+    };
+    let Ok(tables) = Tables::build(alloc, &signature, &order) else {
+        return Err(AllocError);
+    };
+    Ctx::new(alloc, signature, order, tables, Seq::of(statements))
 }
 
 fn zero(alloc: Global) -> Result<Term, AllocError>

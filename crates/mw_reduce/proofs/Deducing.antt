@@ -19,7 +19,7 @@ use Rattle.mw_reduce.specs.State.{Describes}
 use Rattle.mw_reduce.specs.declared.progress.Reduced.{Reduced}
 use Rattle.mw_reduce.specs.declared.reducing.Budget.{Budget}
 
-module _ (M : Module) (m : Equations) (d : (n : ℕ) → Describes M n m) (t : RawTerm) (b : Budget) (r : Reduced) (h : (n : ℕ) → IsReduced M n t b.steps r) where
+module _ (M : Module) (m : Equations) (d : (n : ℕ) → Describes M n M.signature m) (t : RawTerm) (b : Budget) (r : Reduced) (h : (n : ℕ) → IsReduced M n t b.steps r) where
   free : IsFreeSignature M.signature
   free = (d 63).free.signature
 

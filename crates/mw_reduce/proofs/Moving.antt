@@ -3,7 +3,7 @@ use Rattle.std.specs.Prelude.{◌≡◌, ◌⊎◌, ◌≤◌, ◌<◌, ℕ, Lis
 use Rattle.std.proofs.Common.{sym, subst, ap, ◌∙◌, arith, ⊎_elim, append-nil}
 use Rattle.mw_logic.specs.Term.{RawTerm, apply, nil, cons, join, plug, is_ground}
 use Rattle.mw_logic.specs.Parts.{number_of_terms}
-use Rattle.mw_logic.specs.Signature.{IsRawTerm}
+use Rattle.mw_logic.specs.Signature.{Signature, IsRawTerm}
 use Rattle.mw_logic.specs.Proof.{steps}
 use Rattle.mw_logic.specs.Module.{Module}
 use Rattle.mw_logic.specs.Judgements.{Held, Fails, IsNormalBy}
@@ -88,7 +88,7 @@ module _ (M : Module) (n : ℕ) (t0 : RawTerm) where
   done_put ds ds' t e a b = rw (e, terms_of-append) (AreNormalBy-join M (Held M n) (Fails M n) (terms_of ds) (cons t nil) a (b, tt))
 
   -- a value
-  pub means_value : (eqs : Equations) → Describes M n eqs → (s : Running) (f' : Frame) (t : RawTerm) → f'.op ≡ s.top.op → f'.todo ≡ s.top.todo → f'.done.items ≡ s.top.done.items ++ t ∷ []
+  pub means_value : {sig : Signature} (eqs : Equations) → Describes M n sig eqs → (s : Running) (f' : Frame) (t : RawTerm) → f'.op ≡ s.top.op → f'.todo ≡ s.top.todo → f'.done.items ≡ s.top.done.items ++ t ∷ []
       → (opened s.kept.values s.top).rest ≡ cons t (rest_of (opened s.kept.values s.top).rest) → Stands s.kept.values t ⊎ IsFlat t → MeansRunning M n t0 s
       → MeansRunning M n t0 (record { below = s.below; top = f'; kept = s.kept })
   means_value eqs y s f' t o d m e st h =
@@ -159,7 +159,7 @@ module _ (M : Module) (n : ℕ) (t0 : RawTerm) where
         ends = λ side. rw o (k, IsNormal_of M n r.term x);
       }
 
-  pub means_full : (m : ℕ) (eqs : Equations) (k : Track) (r : Reduced) (below : List Frame) (t : RawTerm) → Describes M n eqs → r.outcome ≡ Stopped Rewrites → r.term ≡ plug (round (stack k.values below)) t → Counts k → stepped k.items ≡ m
+  pub means_full : {sig : Signature} (m : ℕ) (eqs : Equations) (k : Track) (r : Reduced) (below : List Frame) (t : RawTerm) → Describes M n sig eqs → r.outcome ≡ Stopped Rewrites → r.term ≡ plug (round (stack k.values below)) t → Counts k → stepped k.items ≡ m
       → Closed k r.kept (length below) → Holds M n t0 k.items k.values below t → IsReduced M n t0 m r
   means_full m eqs k r below t d o e c s y h =
       let ms : List Move = moves M k.items k.values in let j : ℕ = length below in
@@ -176,7 +176,7 @@ module _ (M : Module) (n : ℕ) (t0 : RawTerm) where
         ends = λ side. rw (o, w, e) (x side);
       }
 
-  pub means_deep : (m : ℕ) (eqs : Equations) (k : Track) (r : Reduced) (below : List Frame) (t : RawTerm) → Describes M n eqs → r.outcome ≡ Stopped Depth → r.term ≡ plug (round (stack k.values below)) t → Counts k → stepped k.items < m
+  pub means_deep : {sig : Signature} (m : ℕ) (eqs : Equations) (k : Track) (r : Reduced) (below : List Frame) (t : RawTerm) → Describes M n sig eqs → r.outcome ≡ Stopped Depth → r.term ≡ plug (round (stack k.values below)) t → Counts k → stepped k.items < m
       → Closed k r.kept (length below) → Holds M n t0 k.items k.values below t → GoesTooDeep M (length below) t → IsReduced M n t0 m r
   means_deep m eqs k r below t d o e c s y h g =
       let ms : List Move = moves M k.items k.values in let j : ℕ = length below in
@@ -218,14 +218,14 @@ means_start M n t s g w h i v b e d =
     }
 
 -- no step at all
-pub means_none : (M : Module) (n : ℕ) (eqs : Equations) (d : Describes M n eqs) (m : ℕ) (r : Reduced) (t : RawTerm) → IsTrue (is_ground t) → IsRawTerm M.signature t → height t ≤ 1000
+pub means_none : {sig : Signature} (M : Module) (n : ℕ) (eqs : Equations) (d : Describes M n sig eqs) (m : ℕ) (r : Reduced) (t : RawTerm) → IsTrue (is_ground t) → IsRawTerm M.signature t → height t ≤ 1000
     → r.outcome ≡ Stopped Rewrites → r.term ≡ t → r.kept.items ≡ [] → m ≡ 0 → IsReduced M n t m r
 means_none M n eqs d m r t g w h o e i z =
     let a = begins M (Held M n) (Fails M n) t g w h in
     record { leads = rw (i, e) a.leads; ground = rw e g; raw = rw e w; high = rw e h; balanced = rw i refl; ends = λ side. rw (o, i, e) (stops_by_rewrites M n m side d.free t [] [] t a.leads (sym z)) }
 
 -- nothing to be done at all
-pub means_flat : (M : Module) (n : ℕ) (eqs : Equations) (d : Describes M n eqs) (m : ℕ) (r : Reduced) (t : RawTerm) → IsFlat t → IsTrue (is_ground t) → IsRawTerm M.signature t → height t ≤ 1000
+pub means_flat : {sig : Signature} (M : Module) (n : ℕ) (eqs : Equations) (d : Describes M n sig eqs) (m : ℕ) (r : Reduced) (t : RawTerm) → IsFlat t → IsTrue (is_ground t) → IsRawTerm M.signature t → height t ≤ 1000
     → r.outcome ≡ Done → r.term ≡ t → r.kept.items ≡ [] → 0 < m → IsReduced M n t m r
 means_flat M n eqs d m r t f g w h o e i l =
     let a = begins M (Held M n) (Fails M n) t g w h in

@@ -4,7 +4,8 @@ use Rattle.std.proofs.Common.{sym, subst, ap, ◌∙◌, arith, inl, inr, ⊎_el
 use Rattle.std.proofs.lemmas.Option.{slice_get_within}
 use Rattle.mw_logic.specs.Term.{RawTerm, RawTerms, numeral, quoted, variable, apply, nil, cons, is_ground}
 use Rattle.std.specs.List.{zip}
-use Rattle.mw_logic.specs.Signature.{IsRawTerm}
+use Rattle.mw_logic.specs.Signature.{Signature, IsRawTerm}
+use Rattle.mw_machine.specs.Simple.{IsGround, HaveSorts}
 use Rattle.mw_logic.specs.Module.{Module}
 use Rattle.mw_logic.specs.Judgements.{Held, Fails, IsNormalBy}
 use Rattle.mw_logic.specs.Proof as proof
@@ -79,37 +80,41 @@ either_value [] ws i v h = inr (i, h)
 either_value (x ∷ vs) ws zero v h = inl h
 either_value (x ∷ vs) ws (suc i) v h = either_value vs ws i v h
 
-module _ (M : Module) (n : ℕ) (m : Equations) (d : Describes M n m) (t0 : RawTerm) (xs : List Item) (vs : List RawTerm) (below : List Frame) where
+module _ (M : Module) (n : ℕ) {sig : Signature} (m : Equations) (d : Describes M n sig m) (t0 : RawTerm) (xs : List Item) (vs : List RawTerm) (below : List Frame) where
   pub ground_here : (t : RawTerm) → Holds M n t0 xs vs below t → IsTrue (is_ground t)
   ground_here t h = part_ground (round (stack vs below)) t h.at.ground
 
   pub raw_here : (t : RawTerm) → Holds M n t0 xs vs below t → IsRawTerm M.signature t
   raw_here t h = raw_inside M.signature d.accepted (round (stack vs below)) t h.at.raw
 
-  pub turn_normal : (f : ℕ) (ts : RawTerms) (t : RawTerm) → NoneFits m f ts → t ≡ apply f ts → Holds M n t0 xs vs below (apply f ts) → AreNormalBy M (Fails M n) ts
+  -- so the term with its arguments is ground and raw in the signature
+  pub ground_whole : (t : RawTerm) → Holds M n t0 xs vs below t → IsGround sig t
+  ground_whole t h = (ground_here t h, subst (λ g. IsRawTerm g t) d.signature (raw_here t h))
+
+  pub turn_normal : (f : ℕ) (ts : RawTerms) (t : RawTerm) → NoneFits sig m f ts → t ≡ apply f ts → Holds M n t0 xs vs below (apply f ts) → AreNormalBy M (Fails M n) ts
       → Holds M n t0 xs vs below t × IsNormalBy M (Fails M n) t
   turn_normal f ts t none e h ns =
-      let x = normal_here M (Held M n) (Fails M n) d.free.signature t0 (moves M xs vs) (stack vs below) f ts h.at ns (d.none f ts (ground_here (apply f ts) h) none) in
+      let x = normal_here M (Held M n) (Fails M n) d.free.signature t0 (moves M xs vs) (stack vs below) f ts h.at ns (d.none f ts (ground_here (apply f ts) h) (subst (λ g. NoneFits g m f ts) (sym d.signature) none)) in
       rw e (h, x)
 
-  module _ (f i : ℕ) (st : Equation) (found : List RawTerm) (ts : RawTerms) (l : slice_get (listed m f) i ≡ Some st) (c : length found ≡ st.variables) (e : fill_all found st.left ≡ ts)
+  module _ (f i : ℕ) (st : Equation) (found : List RawTerm) (ts : RawTerms) (l : slice_get (listed m f) i ≡ Some st) (c : length found ≡ length st.sorts) (e : fill_all found st.left ≡ ts) (have : HaveSorts sig found st.sorts)
       (h : Holds M n t0 xs vs below (apply f ts)) where
     fires_here : Fires M st.number (zip (variables_of M st.number) found) (apply f ts) (fill found (clean st.right))
     fires_here =
         let g : IsTrue (is_ground (apply f (fill_all found st.left))) = rw e (ground_here (apply f ts) h) in
         let r : IsRawTerm M.signature (apply f (fill_all found st.left)) = rw e (raw_here (apply f ts) h) in
-        subst (λ us. Fires M st.number (zip (variables_of M st.number) found) (apply f us) (fill found (clean st.right))) e (d.fires f i st found l c g r)
+        subst (λ us. Fires M st.number (zip (variables_of M st.number) found) (apply f us) (fill found (clean st.right))) e (d.fires f i st found l c (subst (λ q. HaveSorts q found st.sorts) (sym d.signature) have) g r)
 
     pub turn_deep : (t : RawTerm) → t ≡ apply f ts → 1000 < length below + height (fill found (clean st.right)) → Holds M n t0 xs vs below t × GoesTooDeep M (length below) t
     turn_deep t k x = rw k (h, (st.number, zip (variables_of M st.number) found, fill found (clean st.right), fires_here, x))
 
     pub turn_applied : IsWellNumbered st → needed xs ≡ length vs → AllFit vs below → AreNormalBy M (Fails M n) ts → length below + height (fill found (clean st.right)) ≤ 1000
-        → Holds M n t0 (xs ++ Apply st.number st.variables ∷ []) (vs ++ found) below (fill found (clean st.right))
+        → Holds M n t0 (xs ++ Apply st.number (length st.sorts) ∷ []) (vs ++ found) below (fill found (clean st.right))
     turn_applied w q fit ns x =
         let k = length-stack vs below in
         let a = steps_on M (Held M n) (Fails M n) d.free (held_empty M n) t0 (moves M xs vs) (stack vs below) st.number (zip (variables_of M st.number) found) (apply f ts) (fill found (clean st.right)) h.at fires_here (omega (arith, x, k)) in
-        let o : moves M (xs ++ Apply st.number st.variables ∷ []) (vs ++ found) ≡ moves M xs vs ++ applies st.number false (zip (variables_of M st.number) found) proof.nil ∷ [] =
-        moves-append M xs (Apply st.number st.variables ∷ []) vs found q ∙ ap (λ us. moves M xs vs ++ applies st.number false (zip (variables_of M st.number) us) proof.nil ∷ []) (take_whole st.variables found (sym c)) in
+        let o : moves M (xs ++ Apply st.number (length st.sorts) ∷ []) (vs ++ found) ≡ moves M xs vs ++ applies st.number false (zip (variables_of M st.number) found) proof.nil ∷ [] =
+        moves-append M xs (Apply st.number (length st.sorts) ∷ []) vs found q ∙ ap (λ us. moves M xs vs ++ applies st.number false (zip (variables_of M st.number) us) proof.nil ∷ []) (take_whole (length st.sorts) found (sym c)) in
         let s = stack_more vs found below fit in
         record {
           at = rw (o, s) a;
@@ -131,12 +136,12 @@ after_fired M n t0 xs vs found below u (turn.Normal t) h b =
 after_fired M n t0 xs vs found below u (turn.Full t) h b = rw b h
 after_fired M n t0 xs vs found below u (turn.Deep t) h b = absurd b
 
-pub turn_fired : (M : Module) (n : ℕ) (m : Equations) (d : Describes M n m) (t0 : RawTerm) (old new : Track) (below : List Frame) (f i : ℕ) (st : Equation) (found : List RawTerm) (ts : RawTerms) (r : Turn)
-    → slice_get (listed m f) i ≡ Some st → length found ≡ st.variables → fill_all found st.left ≡ ts → IsWellNumbered st → needed old.items ≡ length old.values
+pub turn_fired : (M : Module) (n : ℕ) {sig : Signature} (m : Equations) (d : Describes M n sig m) (t0 : RawTerm) (old new : Track) (below : List Frame) (f i : ℕ) (st : Equation) (found : List RawTerm) (ts : RawTerms) (r : Turn)
+    → slice_get (listed m f) i ≡ Some st → length found ≡ length st.sorts → fill_all found st.left ≡ ts → HaveSorts sig found st.sorts → IsWellNumbered st → needed old.items ≡ length old.values
     → AllFit old.values below → Holds M n t0 old.items old.values below (apply f ts) → AreNormalBy M (Fails M n) ts → length below + height (fill found (clean st.right)) ≤ 1000
     → Fired old new st found → Becomes new.values found (fill found (clean st.right)) r → After M n t0 new.items new.values below r
-turn_fired M n m d t0 old new below f i st found ts r l c e w q fit h ns x y b =
-    let a = turn_applied M n m d t0 old.items old.values below f i st found ts l c e h w q fit ns x in
+turn_fired M n m d t0 old new below f i st found ts r l c e have w q fit h ns x y b =
+    let a = turn_applied M n m d t0 old.items old.values below f i st found ts l c e have h w q fit ns x in
     let b' = rw y.values at b in
     rw (y.items, y.values) (after_fired M n t0 _ old.values found below _ r a b')
 
@@ -146,14 +151,14 @@ counted_right m k full (turn.Normal t) i l e n = let d = n i in omega (arith, l,
 counted_right m k full (turn.Full t) i l e n = e i
 counted_right m k full (turn.Deep t) i l e n = absurd i
 
-pub counts_fired : (old new : Track) (st : Equation) (found : List RawTerm) → Fired old new st found → length found ≡ st.variables → Counts old → Counts new
+pub counts_fired : (old new : Track) (st : Equation) (found : List RawTerm) → Fired old new st found → length found ≡ length st.sorts → Counts old → Counts new
 counts_fired old new st found f l c =
-    let a = needed-append old.items (Apply st.number st.variables ∷ []) in let b = length-append old.values found in
-    let e : needed (old.items ++ Apply st.number st.variables ∷ []) ≡ length (old.values ++ found) = omega (arith, a, b, c, l) in
+    let a = needed-append old.items (Apply st.number (length st.sorts) ∷ []) in let b = length-append old.values found in
+    let e : needed (old.items ++ Apply st.number (length st.sorts) ∷ []) ≡ length (old.values ++ found) = omega (arith, a, b, c, l) in
     ap needed f.items ∙ e ∙ ap length (sym f.values)
 
 pub steps_fired : (old new : Track) (st : Equation) (found : List RawTerm) → Fired old new st found → stepped new.items ≡ stepped old.items + 1
-steps_fired old new st found f = let a = stepped-append old.items (Apply st.number st.variables ∷ []) in let e : stepped (old.items ++ Apply st.number st.variables ∷ []) ≡ stepped old.items + 1 = omega (arith, a) in ap stepped f.items ∙ e
+steps_fired old new st found f = let a = stepped-append old.items (Apply st.number (length st.sorts) ∷ []) in let e : stepped (old.items ++ Apply st.number (length st.sorts) ∷ []) ≡ stepped old.items + 1 = omega (arith, a) in ap stepped f.items ∙ e
 
 pub climbs_one : (old new : Track) (r : Turn) → stepped new.items ≡ stepped old.items + 1 → Climbs old new r
 climbs_one old new (turn.Open g) e = omega (arith, e)

@@ -2,7 +2,7 @@
 use Rattle.std.specs.Prelude.{◌≡◌, ◌⊎◌, ℕ, ◌+◌, ◌<◌, List, [], ◌∷◌, ◌++◌, length, slice_get, Some, IsTrue, Bool, true, false, ⊤}
 use Rattle.mw_logic.specs.Term.{RawTerm, RawTerms, apply, is_ground}
 use Rattle.std.specs.List.{zip}
-use Rattle.mw_logic.specs.Signature.{IsRawTerm}
+use Rattle.mw_logic.specs.Signature.{Signature, IsRawTerm}
 use Rattle.mw_logic.specs.Module.{Module}
 use Rattle.mw_logic.specs.Substitution.{Substitution}
 use Rattle.mw_logic.specs.Accepted.{IsAccepted}
@@ -11,6 +11,7 @@ use Rattle.mw_machine.specs.Plain.{IsFreeModule}
 use Rattle.mw_logic.specs.NormalForm.{height}
 use Rattle.mw_machine.specs.Machine.{here, Fires, NoneAtTop, NoFlatLeft, At}
 use Rattle.mw_machine.specs.Positions.{fill, fill_all}
+use Rattle.mw_machine.specs.Simple.{HaveSorts}
 use Rattle.mw_pattern.specs.Clean.{clean}
 use Rattle.mw_proof.specs.Trails.{variables_of, moves, needed, stepped}
 use Rattle.mw_pattern.specs.Equations.{listed}
@@ -24,18 +25,28 @@ use Rattle.mw_reduce.specs.declared.frame.Frame.{Frame}
 use Rattle.mw_reduce.specs.declared.frame.Turn.{Turn}
 use Rattle.mw_reduce.specs.declared.frame.Turn.TheVariants as turn
 
--- no equation's left side has the instance
-abbrev pub NoneFits : Equations → ℕ → RawTerms → Type 0
-NoneFits m f ts = (i : ℕ) (st : Equation) → slice_get (listed m f) i ≡ Some st → (us : List RawTerm) → length us ≡ st.variables → fill_all us st.left ≡ ts → ⊥
+-- the equation's left side doesn't have these arguments, by values of its variables' sorts
+abbrev pub Misses : Signature → RawTerms → Equation → Type 0
+Misses sig ts st = (us : List RawTerm) → length us ≡ length st.sorts → fill_all us st.left ≡ ts → HaveSorts sig us st.sorts → ⊥
 
--- The equations are those of the module M. (The numbering of variables, their sorts, and the index are in these two facts.)
-pub record Describes (M : Module) (n : ℕ) (m : Equations) : Type 0 where
+-- no equation for an operator has them
+abbrev pub NoneFits : Signature → Equations → ℕ → RawTerms → Type 0
+NoneFits sig m f ts = (i : ℕ) (st : Equation) → slice_get (listed m f) i ≡ Some st → Misses sig ts st
+
+-- the values have the sorts, or the equation doesn't have the arguments
+abbrev pub Fitting : Signature → RawTerms → Equation → List RawTerm → Bool → Type 0
+Fitting sig ts st found true = HaveSorts sig found st.sorts
+Fitting sig ts st found false = Misses sig ts st
+
+-- The equations are those of the module M, which has this signature. (The numbering of variables, their sorts, and the index are in the last two facts.)
+pub record Describes (M : Module) (n : ℕ) (sig : Signature) (m : Equations) : Type 0 where
+  pub signature : M.signature ≡ sig
   pub free : IsFreeModule M
   pub accepted : IsAccepted M.signature
   pub tops : NoFlatLeft M
-  pub fires : (f i : ℕ) (st : Equation) (vs : List RawTerm) → slice_get (listed m f) i ≡ Some st → length vs ≡ st.variables
+  pub fires : (f i : ℕ) (st : Equation) (vs : List RawTerm) → slice_get (listed m f) i ≡ Some st → length vs ≡ length st.sorts → HaveSorts M.signature vs st.sorts
       → IsTrue (is_ground (apply f (fill_all vs st.left))) → IsRawTerm M.signature (apply f (fill_all vs st.left)) → Fires M st.number (zip (variables_of M st.number) vs) (apply f (fill_all vs st.left)) (fill vs (clean st.right))
-  pub none : (f : ℕ) (ts : RawTerms) → IsTrue (is_ground (apply f ts)) → NoneFits m f ts → NoneAtTop M (Fails M n) (apply f ts)
+  pub none : (f : ℕ) (ts : RawTerms) → IsTrue (is_ground (apply f ts)) → NoneFits M.signature m f ts → NoneAtTop M (Fails M n) (apply f ts)
 
 -- the kept items lead from t0 to the frames round t, and each kept value is normal
 pub record Holds (M : Module) (n : ℕ) (t0 : RawTerm) (xs : List Item) (vs : List RawTerm) (below : List Frame) (t : RawTerm) : Type 0 where
@@ -71,7 +82,7 @@ Becomes vs found u (turn.Full t) = t ≡ u
 Becomes vs found u (turn.Deep t) = ⊥
 
 pub record Fired (old new : Track) (st : Equation) (found : List RawTerm) : Type 0 where
-  pub items : new.items ≡ old.items ++ Apply st.number st.variables ∷ []
+  pub items : new.items ≡ old.items ++ Apply st.number (length st.sorts) ∷ []
   pub values : new.values ≡ old.values ++ found
 
 -- the limit is met, or not; a new frame is fresh, and its variables have values

@@ -21,6 +21,7 @@ use crate::frame::{Frame, Next, Todo, Turn};
 use crate::next::{behind, next_of, open};
 use crate::progress::{End, Outcome, Reduced};
 use crate::turn::turn;
+use mw_least::Ctx;
 use mw_pattern::{Equations, Pattern, instance};
 use mw_proof::{Reason, Trail};
 use mw_term::{Shape, Term, copy};
@@ -156,6 +157,7 @@ fn go_out<'m>(
 /// What comes where all arguments of the frame in hand are done.
 fn complete<'m>(
     alloc: Global,
+    context: &Ctx,
     equations: &'m Equations,
     below: &mut Vec<Frame<'m>>,
     top: &mut Frame<'m>,
@@ -168,12 +170,14 @@ fn complete<'m>(
     requires done { (opened kept.old.values top.old).rest ≡ nil }
     ensures goes { IfOk result (Goes limit (record { below = below.new.items; top = top.new; kept = kept.new })) }
     ensures falls { IfOk result (Falls (record { below = below.old.items; top = top.old; kept = kept.old }) (record { below = below.new.items; top = top.new; kept = kept.new })) }
-    ensures means { (M : Module) (n : ℕ) (t0 : RawTerm) → Describes M n equations.now → MeansRunning M n t0 (record { below = below.old.items; top = top.old; kept = kept.old }) → IfOk result (MeansGoes M n t0 limit (record { below = below.new.items; top = top.new; kept = kept.new })) }
+    ensures means { (M : Module) (n : ℕ) (t0 : RawTerm) → Describes M n context.now.signature equations.now → MeansRunning M n t0 (record { below = below.old.items; top = top.old; kept = kept.old }) → IfOk result (MeansGoes M n t0 limit (record { below = below.new.items; top = top.new; kept = kept.new })) }
 {
     let op = top.op;
     let done = replace(&mut top.done, Vec::new(alloc));
     let level = below.len();
-    match turn(alloc, equations, op, done, level, kept, found, limit)? {
+    match turn(
+        alloc, context, equations, op, done, level, kept, found, limit,
+    )? {
         Turn::Open(frame) => {
             *top = frame;
             Ok(None)
@@ -187,6 +191,7 @@ fn complete<'m>(
 /// A value is the next argument of the frame in hand, or the machine goes into an argument, or all are done.
 fn step<'m>(
     alloc: Global,
+    context: &Ctx,
     equations: &'m Equations,
     below: &mut Vec<Frame<'m>>,
     top: &mut Frame<'m>,
@@ -198,7 +203,7 @@ fn step<'m>(
     requires running { IsRunning limit (record { below = below.old.items; top = top.old; kept = kept.old }) }
     ensures goes { IfOk result (Goes limit (record { below = below.new.items; top = top.new; kept = kept.new })) }
     ensures falls { IfOk result (Falls (record { below = below.old.items; top = top.old; kept = kept.old }) (record { below = below.new.items; top = top.new; kept = kept.new })) }
-    ensures means { (M : Module) (n : ℕ) (t0 : RawTerm) → Describes M n equations.now → MeansRunning M n t0 (record { below = below.old.items; top = top.old; kept = kept.old }) → IfOk result (MeansGoes M n t0 limit (record { below = below.new.items; top = top.new; kept = kept.new })) }
+    ensures means { (M : Module) (n : ℕ) (t0 : RawTerm) → Describes M n context.now.signature equations.now → MeansRunning M n t0 (record { below = below.old.items; top = top.old; kept = kept.old }) → IfOk result (MeansGoes M n t0 limit (record { below = below.new.items; top = top.new; kept = kept.new })) }
 {
     match next_of(alloc, top, kept.values())? {
         Next::Value(term) => {
@@ -211,13 +216,14 @@ fn step<'m>(
             below.push(outer)?;
             Ok(None)
         }
-        Next::Complete => complete(alloc, equations, below, top, kept, found, limit),
+        Next::Complete => complete(alloc, context, equations, below, top, kept, found, limit),
     }
 }
 
 /// Steps until an equation was applied, or the end.
 fn advance<'m>(
     alloc: Global,
+    context: &Ctx,
     equations: &'m Equations,
     below: &mut Vec<Frame<'m>>,
     top: &mut Frame<'m>,
@@ -229,11 +235,11 @@ fn advance<'m>(
     requires running { IsRunning limit (record { below = below.old.items; top = top.old; kept = kept.old }) }
     ensures goes { IfOk result (Goes limit (record { below = below.new.items; top = top.new; kept = kept.new })) }
     ensures climbed { IfOk result (Climbed (stepped kept.old.items) (record { below = below.new.items; top = top.new; kept = kept.new })) }
-    ensures means { (M : Module) (n : ℕ) (t0 : RawTerm) → Describes M n equations.now → MeansRunning M n t0 (record { below = below.old.items; top = top.old; kept = kept.old }) → IfOk result (MeansGoes M n t0 limit (record { below = below.new.items; top = top.new; kept = kept.new })) }
+    ensures means { (M : Module) (n : ℕ) (t0 : RawTerm) → Describes M n context.now.signature equations.now → MeansRunning M n t0 (record { below = below.old.items; top = top.old; kept = kept.old }) → IfOk result (MeansGoes M n t0 limit (record { below = below.new.items; top = top.new; kept = kept.new })) }
 {
     let before = kept.steps();
     loop {
-        let end = step(alloc, equations, below, top, kept, found, limit)?;
+        let end = step(alloc, context, equations, below, top, kept, found, limit)?;
         if end.is_some() || kept.steps() != before {
             return Ok(end);
         }
@@ -243,6 +249,7 @@ fn advance<'m>(
 /// Steps from this frame until the end.
 fn run<'m>(
     alloc: Global,
+    context: &Ctx,
     equations: &'m Equations,
     top: Frame<'m>,
     limit: u64,
@@ -251,7 +258,7 @@ fn run<'m>(
     requires fits { Fits [] top }
     requires fresh { top.done.items ≡ [] }
     requires limited { 0 < limit }
-    ensures { (M : Module) (n : ℕ) → Describes M n equations.now → IsTrue (is_ground (here (opened [] top.entry))) → IsRawTerm M.signature (here (opened [] top.entry)) → height (here (opened [] top.entry)) ≤ 1000 → IfOk result (IsReduced M n (here (opened [] top.entry)) limit) }
+    ensures { (M : Module) (n : ℕ) → Describes M n context.now.signature equations.now → IsTrue (is_ground (here (opened [] top.entry))) → IsRawTerm M.signature (here (opened [] top.entry)) → height (here (opened [] top.entry)) ≤ 1000 → IfOk result (IsReduced M n (here (opened [] top.entry)) limit) }
 {
     let mut below = Vec::new(alloc);
     let mut top = top;
@@ -259,7 +266,7 @@ fn run<'m>(
     let mut found = Vec::new(alloc);
     loop {
         let next = advance(
-            alloc, equations, &mut below, &mut top, &mut kept, &mut found, limit,
+            alloc, context, equations, &mut below, &mut top, &mut kept, &mut found, limit,
         )?;
         match next {
             None => {}
@@ -278,6 +285,7 @@ fn run<'m>(
 /// A term with its equations, from the start to the end.
 pub fn start(
     alloc: Global,
+    context: &Ctx,
     equations: &Equations,
     term: Term,
     limit: u64,
@@ -285,7 +293,7 @@ pub fn start(
     requires ground { IsTrue (is_ground term) }
     requires admitted { height term ≤ 1000 }
     requires numbered { AreWellNumbered equations.now }
-    ensures { (M : Module) (n : ℕ) → Describes M n equations.now → IsRawTerm M.signature term → IfOk result (IsReduced M n term limit) }
+    ensures { (M : Module) (n : ℕ) → Describes M n context.now.signature equations.now → IsRawTerm M.signature term → IfOk result (IsReduced M n term limit) }
 {
     if limit == 0 {
         return Ok(Reduced {
@@ -301,6 +309,6 @@ pub fn start(
             kept: Trail::new(alloc),
             outcome: Outcome::Done,
         }),
-        Some(top) => run(alloc, equations, top, limit),
+        Some(top) => run(alloc, context, equations, top, limit),
     }
 }

@@ -34,7 +34,7 @@ pub fn reduce<'m>(
 {
     context.shows();
     let from = copy(&term)?;
-    let reduced = start(alloc, context.equations(), term, budget.steps)?;
+    let reduced = start(alloc, context, context.equations(), term, budget.steps)?;
     let Reduced {
         term: to,
         kept,

@@ -2,3 +2,4 @@
 pub mod Terms
 pub mod RawLists
 pub mod Orders
+pub mod OperatorSets

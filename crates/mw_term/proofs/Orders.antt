@@ -2,8 +2,8 @@
 use Rattle.std.specs.Prelude.{◌≡◌, ◌<◌, ◌≤◌, ◌⊎◌, ℕ, List, [], ◌∷◌, length, drop, min, true, false, refl}
 use Rattle.std.specs.declared.cmp.Ordering.{Ordering}
 use Rattle.std.specs.declared.cmp.Ordering.TheVariants.{Less, Equal, Greater}
-use Rattle.std.specs.Ordering.{is_eq, is_ne, ordering_then, nat_cmp}
-use Rattle.std.proofs.Common.{inl, inr, ap, arith, sym, ◌∙◌, drop_of_length-le}
+use Rattle.std.specs.Ordering.{is_ne, ordering_then, nat_cmp}
+use Rattle.std.proofs.Common.{inl, inr, arith, sym, ◌∙◌, drop_of_length-le}
 use Rattle.std.proofs.lemmas.Bool.{cases_lt}
 use Rattle.mw_logic.specs.Term.{RawTerm, RawTerms, apply, nil, cons}
 use Rattle.mw_logic.specs.Terms.{terms_of}

@@ -5,3 +5,4 @@ pub mod Shapes
 pub mod TermFalls
 pub mod Signatures
 pub mod Statements
+pub mod OperatorSets

@@ -5,6 +5,10 @@
 //! operators are numbered from 1.
 #![tactic(auto)]
 
+ghost use Rattle.std.specs.Prelude.{◌≡◌, ◌+◌, IfOk, option_map};
+ghost use Rattle.mw_logic.specs.Signature.{at_number};
+
+mod operators;
 mod raw;
 mod seq;
 mod signature;
@@ -12,10 +16,12 @@ mod statement;
 mod subst;
 mod term;
 
+pub use operators::Operators;
 pub use raw::{Raw, Raws, VarId};
 pub use seq::{Name, Seq, copy_name};
 pub use signature::{Declaration, Gather, Identity, Operator, Signature, Sorted};
 pub use statement::{Fragment, Statement};
+use std::alloc::AllocError;
 pub use subst::{Binding, Subst};
 pub use term::{Shape, Term, compare, copy, depth, same};
 
@@ -28,10 +34,31 @@ pub type SortId = u32;
 /// A kind, named by the number of one of its sorts.
 pub type KindId = u32;
 
+/// The number of what stands at an index, counted from 1. More than numbers can tell counts as want of memory.
+pub fn number_at(index: usize) -> Result<u32, AllocError>
+    ensures { IfOk result (λ number. number ≡ index + 1) }
+{
+    if index < u32::MAX as usize {
+        Ok(index as u32 + 1)
+    } else {
+        Err(AllocError)
+    }
+}
+
+/// What has this number among items that count from 1.
+pub fn numbered<T>(items: &[T], number: u32) -> Option<&T>
+    ensures { option_map (λ x. x.now) result ≡ at_number items.now number }
+{
+    if number == 0 {
+        return None;
+    }
+    items.get(number as usize - 1)
+}
+
 #[cfg(test)]
 mod tests {
     use super::*;
-    use std::alloc::{AllocError, Global};
+    use std::alloc::Global;
     use std::test::Fail;
 
     #[test]
@@ -42,6 +69,15 @@ mod tests {
         let two = Term::apply(alloc, 2, vec![in alloc; copy(&one)?]?)?;
         assert_eq!(rt; depth(&zero), 1);
         assert_eq!(rt; depth(&two), 3);
+        assert!(rt; two.operators().meets(Operators::of(2)));
+        assert!(rt;
+            !zero
+                .operators()
+                .meets(Operators::of(2).with(Operators::none()))
+        );
+        assert_eq!(rt; number_at(2)?, 3);
+        assert!(rt; matches!(numbered(b"ab".as_slice(), 2), Some(b'b')));
+        assert!(rt; numbered(b"ab".as_slice(), 0).is_none());
         assert!(rt; same(&copy(&two)?, &two));
         assert!(rt; !same(&one, &two));
         let seven = Term::new(alloc, Shape::Nat(7))?;

@@ -4,8 +4,10 @@ ghost use Rattle.mw_logic.specs.Term.{RawTerm, numeral, quoted, variable, apply 
 ghost use Rattle.mw_logic.specs.Terms.{terms_of};
 ghost use Rattle.mw_logic.specs.TermOrder.{compare_terms, order_terms, order_lists, shape_number};
 ghost use Rattle.mw_logic.specs.NormalForm.{height, highest};
+ghost use Rattle.mw_term.specs.OperatorSets.{operators_in, operators_in_all};
 ghost use Rattle.mw_term.specs.Shapes.{shaped};
 
+use crate::operators::Operators;
 use crate::{Name, OpId, VarId};
 use std::alloc::{AllocError, Global};
 use std::cmp::Ordering;
@@ -14,7 +16,7 @@ use std::sync::Arc;
 
 /// A term in canonical form, ground or not: the arguments of an associative operator are flattened, those of a
 /// commutative one ascend. Its parts are shared, so a copy is one count, and it may go to another thread. Its
-/// depth is kept.
+/// depth is kept, and which operators it has.
 #[derive(Drop)]
 #[cycle(term)]
 pub struct Term {
@@ -25,6 +27,7 @@ pub struct Term {
 #[cycle(term)]
 struct Node {
     depth: u32,
+    operators: Operators,
     shape: Shape,
 }
 
@@ -52,11 +55,12 @@ impl Model for Term {
 
     ghost coded = { coded_term };
 
+    ghost use Rattle.mw_term.specs.OperatorSets.{operators_in};
     ghost use Rattle.mw_term.specs.Shapes.{shaped};
 
     ghost view = { λ t. shaped t.node.value.shape };
 
-    ghost invariant = { λ t. t.node.value.depth ≡ min (height (shaped t.node.value.shape)) (2 ^ 32 - 1) };
+    ghost invariant = { λ t. (t.node.value.depth ≡ min (height (shaped t.node.value.shape)) (2 ^ 32 - 1)) × (t.node.value.operators.word ≡ operators_in (shaped t.node.value.shape)) };
 
     ghost size = { λ t. 2 * height t };
 
@@ -71,8 +75,12 @@ impl Term {
     pub fn new(alloc: Global, shape: Shape) -> Result<Term, AllocError>
         ensures { IfOk result (λ t. t ≡ shaped shape) }
     {
-        let depth = depth_of(&shape);
-        let node = Arc::new(alloc, Node { depth, shape }).map_err(AllocError::from)?;
+        let node = Node {
+            depth: depth_of(&shape),
+            operators: operators_of(&shape),
+            shape,
+        };
+        let node = Arc::new(alloc, node).map_err(AllocError::from)?;
         Ok(Term { node })
     }
 
@@ -88,6 +96,13 @@ impl Term {
         ensures { self.now ≡ shaped result.now }
     {
         &self.node.shape
+    }
+
+    /// The operators that stand in it. They are kept, so this is no walk.
+    pub fn operators(&self) -> Operators
+        ensures { result.word ≡ operators_in self.now }
+    {
+        self.node.operators
     }
 }
 
@@ -194,4 +209,26 @@ fn deepest(args: &[Term]) -> u32
         most = most.max(depth(t));
     }
     most
+}
+
+fn operators_of(shape: &Shape) -> Operators
+    ensures { result.word ≡ operators_in (shaped shape.now) }
+{
+    match shape {
+        Shape::Op(operator, args) => {
+            let below = operators_of_all(args.as_slice());
+            Operators::of(*operator).with(below)
+        }
+        _ => Operators::none(),
+    }
+}
+
+fn operators_of_all(args: &[Term]) -> Operators
+    ensures { result.word ≡ operators_in_all (terms_of args.now) }
+{
+    let mut all = Operators::none();
+    for term in args {
+        all = all.with(term.operators());
+    }
+    all
 }

@@ -1,14 +1,19 @@
 -- The block of a kept deduction answers a command.
 use Rattle.std.specs.Prelude.{◌≡◌, ◌-◌, ◌^◌, ℕ, List, None, min, IsTrue, Result, Ok, Err, IfOk}
-use Rattle.std.proofs.Common.{◌∙◌, ap, subst, sym, refl}
-use Rattle.mw_logic.specs.Term.{RawTerm, RawTerms, apply, is_ground}
-use Rattle.mw_logic.specs.Signature.{Signature, Operator, sort, IsRawTerm, IsOperator}
-use Rattle.mw_logic.specs.Sorts.{IsLeastSort}
+use Rattle.std.proofs.Common.{◌∙◌, ap, subst, sym, refl, ⊎_elim}
+use Rattle.std.proofs.lemmas.Bool.{both_ways}
+use Rattle.mw_logic.specs.Term.{RawTerm, is_ground}
+use Rattle.mw_logic.specs.Signature.{Signature, Sorted, sort, kind, Operator, IsOperator, SameKind, same, up, down, IsRawTerm, a_numeral, a_quoted, a_variable, an_operator}
+use Rattle.mw_logic.specs.Sorts.{IsBelow, Takes, DeclaredSort, of_operator, of_kind, IsLeastSort}
+use Rattle.mw_logic.specs.Accepted.{number_of_sort}
+use Rattle.mw_logic.specs.Preregular.{IsSortOf, HasItsSorts}
+use Rattle.mw_logic.proofs.FreeSignature.{free_equal}
+use Rattle.mw_print.specs.Sorts.{IsKindThere}
 use Rattle.mw_logic.specs.Module.{Module}
 use Rattle.mw_logic.specs.Proof.{count, rules}
 use Rattle.mw_logic.specs.Judgements.{Proves}
 use Rattle.mw_machine.specs.Simple.{IsSimpleSignature, IsSimpleModule}
-use Rattle.mw_machine.proofs.Discrete.{free, ground_top, least_sort_of_top}
+use Rattle.mw_machine.proofs.Ordered.{free}
 use Rattle.mw_proof.specs.Deductions.{Deduction, IsDeduction}
 use Rattle.mw_reduce.specs.Reductions.{IsReductionOf}
 use Rattle.mw_reduce.specs.Run.{IsOutcome}
@@ -25,8 +30,8 @@ use Rattle.mw_module.specs.Refusals.{too_deep, number_too_large}
 use Rattle.mw_build.specs.Equations.{Oversized, deep, large}
 use Rattle.mw_build.specs.Modules.{Accepted}
 use Rattle.mw_build.proofs.Sides.{fits}
-use Rattle.mw_block.specs.Blocks.{block, parsed_block}
-use Rattle.mw_top.specs.Commands.{IsTerm, IsReduced, IsParsed, IsTrueWord, top_sort, sort_of_top}
+use Rattle.mw_block.specs.Blocks.{Word, block, parsed_block}
+use Rattle.mw_top.specs.Commands.{IsTerm, IsReduced, IsParsed, IsTrueWord}
 use Rattle.mw_top.specs.Seen.{word_of}
 
 module _ (M : Module) (simple : IsSimpleModule M) where
@@ -37,55 +42,63 @@ module _ (M : Module) (simple : IsSimpleModule M) where
   true_word t most d Done e r x = (r, x.0, x.1)
   true_word t most d (Stopped reason) e r x = (r, x)
 
-result_of : (sig : Signature) (f : ℕ) (o : Operator) → IsOperator sig f o → o.result ≡ top_sort sig f
-result_of sig f o is = rw is refl
+-- the least sort of an admitted term, as the flattened term has it
+pub least_here : (sig : Signature) → IsSimpleSignature sig → (t : RawTerm) → IsAdmittedTerm sig t → (S : Sorted) → (IsRawTerm sig (nested sig t) → IsTrue (is_ground t) → IsLeastSort sig (nested sig t) S) → IsLeastSort sig t S
+least_here sig simple t admitted S h =
+    let f = free sig simple in
+    let e = nested_free sig f t in
+    let raw = of_admitted_term sig f t admitted in
+    subst (λ u. IsLeastSort sig u S) e (h (subst (IsRawTerm sig) (sym e) raw.1) raw.0)
 
-least_of : (sig : Signature) → IsSimpleSignature sig → (t : RawTerm) → IsRawTerm sig t → IsTrue (is_ground t)
-    → ((f : ℕ) × (ts : RawTerms) × (o : Operator) × (t ≡ apply f ts) × IsOperator sig f o) → IsLeastSort sig t (sort (sort_of_top sig t))
-least_of sig simple t r g (f, ts, o, e, is) =
-    let r' : IsRawTerm sig (apply f ts) = subst (IsRawTerm sig) e r in
-    let g' : IsTrue (is_ground (apply f ts)) = subst (λ u. IsTrue (is_ground u)) e g in
-    let l : IsLeastSort sig (apply f ts) (sort (top_sort sig f)) = subst (λ S. IsLeastSort sig (apply f ts) (sort S)) (result_of sig f o is) (least_sort_of_top sig simple f ts o is r' g') in
-    subst (λ u. IsLeastSort sig u (sort (sort_of_top sig u))) (sym e) l
+module _ (sig : Signature) (numbers : HasItsSorts sig) where
+  there_along : {S T : ℕ} → IsSortOf sig S → SameKind sig S T → IsSortOf sig T
+  there_along h same = h
+  there_along h (up {S} {T} m k) = there_along (numbers.pairs S T m).1 k
+  there_along h (down {S} {T} m k) = there_along (numbers.pairs T S m).0 k
 
-pub least : (sig : Signature) → IsSimpleSignature sig → (t : RawTerm) → IsRawTerm sig t → IsTrue (is_ground t) → IsLeastSort sig t (sort (sort_of_top sig t))
-least sig simple t r g = least_of sig simple t r g (ground_top sig simple r g)
+  result_there : (f : ℕ) (o : Operator) → IsOperator sig f o → (R : Sorted) {Ss : List Sorted} → Takes sig o Ss R → IsSortOf sig (number_of_sort R)
+  result_there f o is R t = ⊎_elim (λ m. (numbers.declarations f o is _ m).result_there) (λ h. (numbers.declarations f o is _ h.1).result_there) t.declares
+
+  kind_above : (D : Sorted) (K : ℕ) → IsSortOf sig (number_of_sort D) → IsBelow sig D (kind K) → IsSortOf sig K
+  kind_above (sort S) K h b = there_along h b
+  kind_above (kind L) K h b = there_along h b
+
+  -- a kind that is the least sort of an operator's term is there
+  pub kind_there : (simple : IsSimpleSignature sig) (t : RawTerm) → IsAdmittedTerm sig t → (S : Sorted) → IsLeastSort sig t S → IsKindThere sig S
+  kind_there simple t admitted (sort S) least = tt
+  kind_there simple t admitted (kind K) least =
+      let f = free sig simple in
+      let raw = of_admitted_term sig f t admitted in
+      let e : t ≡ least.has.form = free_equal sig f least.has.equal in
+      kind_above least.has.declared K (of (subst (λ u. IsTrue (is_ground u)) e raw.0) (subst (IsRawTerm sig) e raw.1) least.has.is_declared) least.has.below
+    where
+      of : {u : RawTerm} {D : Sorted} → IsTrue (is_ground u) → IsRawTerm sig u → DeclaredSort sig u D → IsSortOf sig (number_of_sort D)
+      of g (a_numeral b l) d = absurd (both_ways _ simple.nat b)
+      of g (a_quoted b) d = absurd (both_ways _ simple.qid b)
+      of g a_variable d = absurd (both_ways _ refl g)
+      of {D = D} g (an_operator a is args) (of_operator {f} o io ds takes least) = result_there f o io D takes
+      of g (an_operator a is args) (of_kind {f} o io ds none) = numbers.results f o io
 
 pub reduced_by : (a : Accepted) (most : ℕ) (t : RawTerm) (b : Budget) (d : Deduction) (o : Outcome) (text : List ℕ)
     → IsSimpleModule a.module → b ≡ record { steps = most; side = most; nest = 63 } → IsReductionOf a.module t b d o → IsDeduction d
-    → text ≡ block a.module.signature a.name d.from (min (count d.proof) (2 ^ 64 - 1)) (sort_of_top a.module.signature d.to) d.to (word_of o)
+    → (S : Sorted) → IsLeastSort a.module.signature d.to S → text ≡ block a.module.signature a.name d.from (min (count d.proof) (2 ^ 64 - 1)) S d.to (word_of o)
     → IsReduced a most t text
-reduced_by a most t b d o text simple is r proved written =
+reduced_by a most t b d o text simple is r proved S least written =
     let free : IsFreeSignature a.module.signature = free_signature a.module simple in
     let same : (u : RawTerm) → nested a.module.signature u ≡ u = nested_free a.module.signature free in
     let budgeted = rw is at r.proves in let ended = rw is at r.ends in
     let proves : Proves a.module 63 d.proof d.from d.to = rw (same d.from, same d.to) at budgeted in
     let ends : IsOutcome a.module 63 most most d.from d.proof d.to o = rw (same d.from, same d.to) at ended in
-    let end : IsAdmittedTerm a.module.signature d.to = subst (λ (M : Module). IsAdmittedTerm M.signature d.to) r.over proved.ends in
-    let raw = of_admitted_term a.module.signature free d.to end in
     subst (λ u. IsReduced a most u text) r.from (record {
       to = d.to;
       proof = d.proof;
-      S = sort_of_top a.module.signature d.to;
+      S = S;
       word = word_of o;
       proves = proves;
-      least_sort = least a.module.signature simple.signature d.to raw.1 raw.0;
+      least_sort = least;
       true_word = true_word a.module simple t most d o r.over r.equational ends;
       written = written;
     })
-
-pub parsed_by : (a : Accepted) (t : RawTerm) (sig : Signature) (name : List ℕ) (S : ℕ) (text : List ℕ)
-    → IsSimpleModule a.module → IsAdmittedTerm a.module.signature t
-    → sig ≡ a.module.signature → name ≡ a.name → S ≡ sort_of_top sig t → text ≡ parsed_block sig name t S
-    → IsParsed a t text
-parsed_by a t sig name S text simple admitted is_signature is_name is_sort written = record {
-  S = sort_of_top a.module.signature t;
-  least_sort = let raw = of_admitted_term a.module.signature (free_signature a.module simple) t admitted in least a.module.signature simple.signature t raw.1 raw.0;
-  written = written
-      ∙ ap (λ g. parsed_block g name t S) is_signature
-      ∙ ap (λ n. parsed_block a.module.signature n t S) is_name
-      ∙ ap (parsed_block a.module.signature a.name t) (is_sort ∙ ap (λ g. sort_of_top g t) is_signature);
-}
 
 pub is_term : (a : Accepted) (words : List (List ℕ)) (t : RawTerm) → IsSimpleModule a.module → Reads a.module.signature a.variables None words t → IsAdmittedTerm a.module.signature t
     → IsTerm a words t
@@ -118,3 +131,25 @@ kept_out sig simple t h = deep (rw (nested_free sig (free sig simple) t) at h)
 
 pub number_kept_out : (sig : Signature) → IsSimpleSignature sig → (t : RawTerm) → IsTooLarge sig (nested sig t) → ¬ IsTooDeep sig (nested sig t) → Oversized sig t number_too_large
 number_kept_out sig simple t l h = let n = nested_free sig (free sig simple) t in large (λ d. h (rw n d)) (rw n at l)
+
+-- a kind that is the least sort of an admitted term is there, in the signature of a module that the engine works in
+pub kind_of_least : (M : Module) → IsSimpleModule M → (t : RawTerm) → IsAdmittedTerm M.signature t → (S : Sorted) → IsLeastSort M.signature t S → IsKindThere M.signature S
+kind_of_least M simple t admitted S least = kind_there M.signature simple.signature.numbers simple.signature t admitted S least
+
+-- the text of a term that is told, by what the module says of itself
+pub parsed_by : (a : Accepted) (M : Module) → M ≡ a.module → (sig : Signature) → sig ≡ M.signature → (name : List ℕ) → name ≡ a.name → (t : RawTerm) (S : Sorted) (text : List ℕ)
+    → IsLeastSort M.signature t S → text ≡ parsed_block sig name t S → IsParsed a t text
+parsed_by a M m sig s name n t S text least written = record {
+  S = S;
+  least_sort = subst (λ (M : Module). IsLeastSort M.signature t S) m least;
+  written = written ∙ ap (λ x. parsed_block x name t S) (s ∙ ap (λ (M : Module). M.signature) m) ∙ ap (λ x. parsed_block a.module.signature x t S) n;
+}
+
+-- and that of a kept deduction
+pub block_by : (a : Accepted) (M : Module) → M ≡ a.module → (sig : Signature) → sig ≡ M.signature → (name : List ℕ) → name ≡ a.name → (S : Sorted) (text : List ℕ)
+    → (from t : RawTerm) → from ≡ t → (count n : ℕ) → count ≡ n → (to u : RawTerm) → to ≡ u → (word w : Word) → word ≡ w
+    → text ≡ block sig name from count S to word → text ≡ block a.module.signature a.name t n S u w
+block_by a M m sig s name named S text from t f count n c to u e word w k written =
+    written ∙ ap (λ x. block x name from count S to word) (s ∙ ap (λ (N : Module). N.signature) m) ∙ ap (λ x. block a.module.signature x from count S to word) named
+    ∙ ap (λ x. block a.module.signature a.name x count S to word) f ∙ ap (λ x. block a.module.signature a.name t x S to word) c
+    ∙ ap (λ x. block a.module.signature a.name t n S x word) e ∙ ap (λ x. block a.module.signature a.name t n S u x) k

@@ -2,15 +2,18 @@
 use Rattle.std.proofs.Common.{◌≡◌, ◌∙◌, ℕ, zero, suc, Bool, List, [], ◌∷◌, length, slice_get, Some, Ok, refl, sym, ap, subst, arith, ⊎_elim}
 use Rattle.std.proofs.lemmas.Option.{none-some, slice_get_within}
 use Rattle.mw_logic.specs.Term.{Variable, RawTerm}
-use Rattle.mw_logic.specs.Signature.{Signature}
+use Rattle.mw_logic.specs.Signature.{Signature, Sorted, sort, kind, SameKind, same}
+use Rattle.mw_logic.specs.Preregular.{AreOfKinds, IsPreregular}
 use Rattle.mw_logic.specs.Module.{Statement}
 use Rattle.mw_module.specs.Refusals.{Cause, Refusal}
 use Rattle.mw_module.specs.Units.{SeenUnit}
 use Rattle.mw_declare.specs.Meaning.{Sides}
-use Rattle.mw_declare.specs.Statements.{statements_of}
-use Rattle.mw_declare.specs.Faults.{Declarations, declarations_of}
+use Rattle.mw_declare.specs.Declarations.{Declarations, Declares}
+use Rattle.mw_declare.proofs.OneDeclaration.{one_declaration, none_at_fault}
+use Rattle.mw_sorts.specs.Entries.{AreEntries}
+use Rattle.mw_build.specs.SignatureFaults.{SignatureFault}
 use Rattle.mw_build.specs.Equations.{FitsIn, Oversized, deep, large, statement_of, IsApplicable, ApplicationFault, lone, open_right, IsStatementOf, SidesFault, big_left, big_right, inapplicable, IsEquation, EquationFault, long, unread, unclear, sides, AreEquations, FirstFault}
-use Rattle.mw_build.specs.Modules.{Accepted, IsAccepted, IsRefused, by_declarations, by_equations}
+use Rattle.mw_build.specs.Modules.{Accepted, IsAccepted, IsRefused, by_declarations, by_signature, by_equations}
 use Rattle.mw_build.proofs.Reading.{there}
 
 -- lists as long as each other that agree at each place are one
@@ -69,6 +72,19 @@ module _ (sig : Signature) where
         let st = there sts f.place (omega (arith, w, p.count)) in
         equation_holds f.equation st.0 r.cause (p.each f.place f.equation st.0 f.is_there st.1) f.fault
 
+entries_of_kinds : (sig : Signature) (Ss : List Sorted) (Ks : List ℕ) → AreEntries sig Ss Ks → AreOfKinds sig Ss Ks
+entries_of_kinds sig [] [] a = tt
+entries_of_kinds sig [] (K ∷ Ks) a = absurd a
+entries_of_kinds sig (S ∷ Ss) [] a = absurd a
+entries_of_kinds sig (sort S ∷ Ss) (K ∷ Ks) a = (a.0, entries_of_kinds sig Ss Ks a.1)
+entries_of_kinds sig (kind L ∷ Ss) (K ∷ Ks) a = (subst (SameKind sig L) a.0 same, entries_of_kinds sig Ss Ks a.1)
+
+signature_holds : (line : ℕ) (sig : Signature) (r : Refusal) → IsPreregular sig → SignatureFault line sig r → ⊥
+signature_holds line sig r p f =
+    let lack = f.first.lack in
+    let R = p f.number f.first.operator f.first.is_there f.sorts (entries_of_kinds sig f.sorts f.first.operator.args lack.entries) lack.lacks.taken.0 lack.lacks.taken.1 in
+    lack.lacks.no_least R.0 R.1
+
 abbrev module_of : List ℕ → Signature → List Statement → List Variable → Accepted
 module_of name signature statements variables = record { name = name; «module» = record { signature = signature; statements = statements }; variables = variables }
 
@@ -79,23 +95,25 @@ same_module a b n s e v =
     ∙ ap (λ x. module_of b.name b.module.signature x a.variables) e ∙ ap (module_of b.name b.module.signature b.module.statements) v
 
 module _ (u : SeenUnit) (n : List ℕ) (a : Accepted) (p : IsAccepted u n a) where
-  same_declarations : (d : Declarations) → declarations_of u.line (statements_of u) ≡ Ok d → d ≡ p.declarations
-  same_declarations d e = cc (p.declared, e)
+  same_declarations : (d : Declarations) → Declares u d → d ≡ p.declarations
+  same_declarations d e = one_declaration u d p.declarations e p.declared
 
   -- a unit is one module
   pub one_module : (b : Accepted) → IsAccepted u n b → a ≡ b
   one_module b q =
       let d : q.declarations ≡ p.declarations = same_declarations q.declarations q.declared in
       let equations : AreEquations p.declarations.signature p.declarations.variables p.declarations.equations b.module.statements =
-      subst (λ (e : Declarations). AreEquations e.signature e.variables e.equations b.module.statements) d q.equations in
-      let name : a.name ≡ b.name = p.named ∙ sym q.named in
-      let signature : a.module.signature ≡ b.module.signature = p.signature ∙ ap (λ (e : Declarations). e.signature) (sym d) ∙ sym q.signature in
-      let variables : a.variables ≡ b.variables = p.variables ∙ ap (λ (e : Declarations). e.variables) (sym d) ∙ sym q.variables in
-      let statements = one_list p.declarations.signature p.declarations.variables p.declarations.equations a.module.statements b.module.statements p.equations equations in
+      subst (λ (e : Declarations). AreEquations e.signature e.variables e.equations b.module.statements) d q.holds.equations in
+      let name : a.name ≡ b.name = p.holds.named ∙ sym q.holds.named in
+      let signature : a.module.signature ≡ b.module.signature = p.holds.signature ∙ ap (λ (e : Declarations). e.signature) (sym d) ∙ sym q.holds.signature in
+      let variables : a.variables ≡ b.variables = p.holds.variables ∙ ap (λ (e : Declarations). e.variables) (sym d) ∙ sym q.holds.variables in
+      let statements = one_list p.declarations.signature p.declarations.variables p.declarations.equations a.module.statements b.module.statements p.holds.equations equations in
       same_module a b name signature statements variables
 
   -- and then it isn't refused
   pub not_refused : (r : Refusal) → IsRefused u r → ⊥
-  not_refused r (by_declarations e) = cc (p.declared, e)
-  not_refused r (by_equations d e f) = equations_hold p.declarations.signature p.declarations.variables p.declarations.equations a.module.statements r p.equations
+  not_refused r (by_declarations f) = none_at_fault u p.declarations r p.declared f
+  not_refused r (by_signature d e f) = signature_holds u.line p.declarations.signature r p.preregular
+      (subst (λ (k : Declarations). SignatureFault u.line k.signature r) (same_declarations d e) f)
+  not_refused r (by_equations d e preregular f) = equations_hold p.declarations.signature p.declarations.variables p.declarations.equations a.module.statements r p.holds.equations
       (subst (λ (k : Declarations). FirstFault k.signature k.variables k.equations r) (same_declarations d e) f)

@@ -1,7 +1,7 @@
 -- What the block of a command claims, and why a command is refused.
-use Rattle.std.specs.Prelude.{◌≡◌, ◌<◌, ◌-◌, ◌^◌, ℕ, List, [], ◌∷◌, length, min, bytes_eq, Option, Some, None, option_map, unwrap_or, IsTrue, IsFalse, if◌then◌else◌}
-use Rattle.mw_logic.specs.Term.{RawTerm, numeral, quoted, variable, apply, is_ground}
-use Rattle.mw_logic.specs.Signature.{Signature, Operator, sort, at_number}
+use Rattle.std.specs.Prelude.{◌≡◌, ◌<◌, ◌-◌, ◌^◌, ℕ, List, [], ◌∷◌, length, min, bytes_eq, Option, Some, None, IsTrue, IsFalse, if◌then◌else◌}
+use Rattle.mw_logic.specs.Term.{RawTerm, is_ground}
+use Rattle.mw_logic.specs.Signature.{Sorted}
 use Rattle.mw_logic.specs.Sorts.{IsLeastSort}
 use Rattle.mw_logic.specs.Module.{Module}
 use Rattle.mw_logic.specs.Proof.{Proof, rules, steps, count}
@@ -31,22 +31,22 @@ pub record IsTerm (a : Accepted) (words : List (List ℕ)) (t : RawTerm) : Type 
   pub ground : IsTrue (is_ground t)
   pub fits : FitsIn a.module.signature t
 
--- The text is the block of a proof in this module. It begins at this term and leads to the term that is printed, with its least sort; the count is
+-- The text is the block of a proof in this module. It begins at this term and leads to the term that is printed, with its least sort or kind; the count is
 -- that of the proof, and the status word is true of it.
 pub record IsReduced (a : Accepted) (most : ℕ) (from : RawTerm) (text : List ℕ) : Type 0 where
   pub to : RawTerm
   pub proof : Proof
-  pub S : ℕ
+  pub S : Sorted
   pub word : Word
   pub proves : Proves a.module 63 proof from to
-  pub least_sort : IsLeastSort a.module.signature to (sort S)
+  pub least_sort : IsLeastSort a.module.signature to S
   pub true_word : IsTrueWord a.module most from proof to word
   pub written : text ≡ block a.module.signature a.name from (min (count proof) (2 ^ 64 - 1)) S to word
 
--- The text tells this term, with its least sort.
+-- The text tells this term, with its least sort or kind.
 pub record IsParsed (a : Accepted) (term : RawTerm) (text : List ℕ) : Type 0 where
-  pub S : ℕ
-  pub least_sort : IsLeastSort a.module.signature term (sort S)
+  pub S : Sorted
+  pub least_sort : IsLeastSort a.module.signature term S
   pub written : text ≡ parsed_block a.module.signature a.name term S
 
 -- the text answers a command of this word
@@ -83,13 +83,3 @@ pub data CommandFault (ms : List Accepted) (c : SeenCommand) : Cause → Type 0 
   nowhere : c.module ≡ None → module_for ms c.module ≡ None → CommandFault ms c no_module
   unknown : (n : List ℕ) → c.module ≡ Some n → module_for ms c.module ≡ None → CommandFault ms c (unknown_module n)
   in_term : (a : Accepted) (cause : Cause) → module_for ms c.module ≡ Some a → TermFault a (texts c.term) cause → CommandFault ms c cause
-
--- the result sort of an operator, and of the one on top of a term
-abbrev pub top_sort : Signature → ℕ → ℕ
-top_sort sig f = unwrap_or (option_map (λ (o : Operator). o.result) (at_number sig.operators f)) 0
-
-abbrev pub sort_of_top : Signature → RawTerm → ℕ
-sort_of_top sig (numeral n) = 0
-sort_of_top sig (quoted q) = 0
-sort_of_top sig (variable x) = 0
-sort_of_top sig (apply f ts) = top_sort sig f

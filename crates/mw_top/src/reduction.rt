@@ -1,6 +1,8 @@
 // The answer of a command: its term is read, and reduced where the command asks for it, and its block is written.
 ghost use Rattle.std.specs.Prelude.{◌≡◌, ◌≤◌, ◌-◌, ◌^◌, ℕ, List, min, None, IfOk, MatchResult, IsTrue};
 ghost use Rattle.mw_logic.specs.Proof.{count};
+ghost use Rattle.mw_logic.specs.Signature.{Sorted as SortedOf};
+ghost use Rattle.mw_logic.specs.Sorts.{IsLeastSort};
 ghost use Rattle.mw_block.specs.Blocks.{block as block_of};
 ghost use Rattle.mw_lex.specs.Lexing.{seen_all};
 ghost use Rattle.mw_logic.specs.Term.{is_ground, are_ground};
@@ -9,7 +11,7 @@ ghost use Rattle.mw_text.specs.Mixfix.{Reads};
 ghost use Rattle.mw_module.specs.Refusals.{cause_of};
 ghost use Rattle.mw_declare.specs.Meaning.{texts};
 ghost use Rattle.mw_block.specs.Seen.{word_of as word_of_status};
-ghost use Rattle.mw_top.specs.Commands.{IsAnswer, IsReduced, IsParsed, TermFault, top_sort, sort_of_top};
+ghost use Rattle.mw_top.specs.Commands.{IsAnswer, IsReduced, IsParsed, TermFault};
 ghost use Rattle.mw_top.specs.Seen.{word_of};
 ghost use Rattle.mw_canon.specs.Canonical.{IsAdmittedTerm};
 
@@ -22,7 +24,7 @@ use mw_module::FaultKind;
 use mw_parse::ParseError;
 use mw_proof::Proved;
 use mw_reduce::{Budget, Outcome, reduce};
-use mw_term::{OpId, Raw, Shape, Signature, SortId, Term};
+use mw_term::{Raw, Term};
 use std::alloc::{AllocError, Global};
 
 /// Whether no variable stands in a term.
@@ -80,29 +82,6 @@ pub fn command_term(
     }
 }
 
-/// The result sort of an operator, or 0.
-fn result_sort(signature: &Signature, operator: OpId) -> SortId
-    ensures { result ≡ top_sort signature.now operator }
-{
-    if operator == 0 {
-        return 0;
-    }
-    match signature.operators.as_slice().get(operator as usize - 1) {
-        Some(found) => found.result,
-        None => 0,
-    }
-}
-
-/// The sort of a term without variables.
-fn sort_of(signature: &Signature, term: &Term) -> SortId
-    ensures { result ≡ sort_of_top signature.now term.now }
-{
-    match term.shape() {
-        Shape::Op(operator, _) => result_sort(signature, *operator),
-        _ => 0,
-    }
-}
-
 fn status_of(outcome: Outcome) -> Status
     ensures { word_of_status result ≡ word_of outcome }
 {
@@ -112,23 +91,33 @@ fn status_of(outcome: Outcome) -> Status
     }
 }
 
-/// The block for a kept deduction in a module.
+/// The block for a kept deduction in a module, with the least sort of its end.
 fn block(
     alloc: Global,
     accepted: &Module,
     proved: &Proved<'_>,
     outcome: Outcome,
 ) -> Result<Vec<u8>, AllocError>
-    ensures { IfOk result (λ text. text.items ≡ block_of accepted.now.module.signature accepted.now.name proved.now.from (min (count proved.now.proof) (2 ^ 64 - 1)) (sort_of_top accepted.now.module.signature proved.now.to) proved.now.to (word_of outcome)) }
+    requires { IsAdmittedTerm accepted.now.module.signature proved.now.to }
+    ensures { IfOk result (λ text. (S : SortedOf) × IsLeastSort accepted.now.module.signature proved.now.to S
+        × (text.items ≡ block_of accepted.now.module.signature accepted.now.name proved.now.from (min (count proved.now.proof) (2 ^ 64 - 1)) S proved.now.to (word_of outcome))) }
 {
-    let signature = accepted.context().signature();
+    let context = accepted.context();
+    context.shows();
     let reached = Reached {
         count: proved.count(),
-        sort: sort_of(signature, proved.to()),
+        sort: context.least_sort(proved.to()),
         term: proved.to(),
         status: status_of(outcome),
     };
-    reduction(alloc, signature, accepted.name(), proved.from(), &reached)
+    reduction(
+        alloc,
+        context.signature(),
+        context.order(),
+        accepted.name(),
+        proved.from(),
+        &reached,
+    )
 }
 
 /// Reduces a term by at most so many steps, and gives the block.
@@ -160,9 +149,15 @@ fn parsed_term(alloc: Global, accepted: &Module, term: &Term) -> Result<Vec<u8>,
 {
     let context = accepted.context();
     context.shows();
-    let signature = context.signature();
-    let sort = sort_of(signature, term);
-    parsed(alloc, signature, accepted.name(), term, sort)
+    let sort = context.least_sort(term);
+    parsed(
+        alloc,
+        context.signature(),
+        context.order(),
+        accepted.name(),
+        term,
+        sort,
+    )
 }
 
 /// The answer of a command of this word for its term, by at most so many steps where it reduces.

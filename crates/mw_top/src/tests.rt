@@ -80,6 +80,26 @@ fn commands_get_their_blocks(rt: HostRuntime) -> Result<(), Fail> {
             "reduce in N : f(b) .\nrewrites: 1\nresult S: a\nstatus: reduced\n",
         ),
         (
+            "fmod K is sorts A B . subsort A < B . op a : -> A . op b : -> B . op f : A -> A . endfm reduce f(b) . reduce f(a) . parse f(f(b)) .",
+            "reduce in K : f(b) .\nrewrites: 0\nresult [B]: f(b)\nstatus: reduced\nreduce in K : f(a) .\nrewrites: 0\nresult A: f(a)\nstatus: reduced\nparse in K : f(f(b)) .\nsort: [B]\n",
+        ),
+        (
+            "fmod H is sorts A B . subsort A < B . op a : -> A . op b : -> B . op g : B -> B . var X : A . eq g(X) = X . endfm red g(g(a)) . red g(b) .",
+            "reduce in H : g(g(a)) .\nrewrites: 2\nresult A: a\nstatus: reduced\nreduce in H : g(b) .\nrewrites: 0\nresult B: g(b)\nstatus: reduced\n",
+        ),
+        (
+            "fmod N is sorts Zero NzNat Nat . subsorts Zero NzNat < Nat . op z : -> Zero . op s_ : Nat -> NzNat . op p : NzNat -> Nat . op _+_ : Nat Nat -> Nat . vars M N : Nat . eq N + z = N . eq N + s M = s (N + M) . eq p(s N) = N . endfm red p(z) . red p(s z + z) . red s z + s z .",
+            "reduce in N : p(z) .\nrewrites: 0\nresult [Nat]: p(z)\nstatus: reduced\nreduce in N : p(s z + z) .\nrewrites: 2\nresult Zero: z\nstatus: reduced\nreduce in N : s z + s z .\nrewrites: 2\nresult NzNat: s s z\nstatus: reduced\n",
+        ),
+        (
+            "fmod P is sorts A B C . subsort A < B C . op a : -> A . op f : B ~> B . op f : A -> A . var X : B . eq f(X) = a . endfm parse f(f(a)) . red f(f(a)) .",
+            "parse in P : f(f(a)) .\nsort: A\nreduce in P : f(f(a)) .\nrewrites: 2\nresult A: a\nstatus: reduced\n",
+        ),
+        (
+            "fmod Q is sorts A B C . subsort A < B C . op a : -> A . op f : A ~> A . endfm red f(a) .",
+            "reduce in Q : f(a) .\nrewrites: 0\nresult [B,C]: f(a)\nstatus: reduced\n",
+        ),
+        (
             "*** a line\nfmod A is sort S . ***( over\n lines ) op a : -> S . endfm red a .",
             "reduce in A : a .\nrewrites: 0\nresult S: a\nstatus: reduced\n",
         ),
@@ -160,6 +180,18 @@ fn units_are_refused_in_one_line(rt: HostRuntime) -> Result<(), Fail> {
         (
             "\nfmod A is sort S .\nop _+_ : S S -> S [prec 3] . op _+_ : S S -> S [prec 4] . endfm",
             "line 2: refused: attributes disagree: _+_\n",
+        ),
+        (
+            "fmod Q is sorts A B C . subsorts C < A B . op f : A -> A . op f : B -> B . endfm",
+            "line 1: refused: not preregular: f C\n",
+        ),
+        (
+            "fmod Q is sorts A B C D .\nsubsorts D < B C < A . op f : [A] -> B . op f : [A] -> C . op f : A -> D . endfm",
+            "line 1: refused: not preregular: f [A]\n",
+        ),
+        (
+            "\nfmod Q is sorts A B . subsorts A < B < A . endfm",
+            "line 2: refused: sort cycle: A\n",
         ),
         ("red a .", "line 1: refused: no module\n"),
         (

@@ -1,4 +1,4 @@
-use Rattle.std.proofs.Common.{◌≡◌, ◌≢◌, ◌∙◌, ap, sym, map, arith}
+use Rattle.std.proofs.Common.{◌≡◌, ◌≢◌, ◌∙◌, ap, sym, map}
 use Rattle.mw_term.specs.Signatures.{gather_of}
 use Rattle.mw_text.specs.Names.{items_of, count_holes}
 use Rattle.mw_module.specs.Attributes.{gather_of as marks_of}

@@ -1,4 +1,5 @@
-use Rattle.std.proofs.Common.{ℕ, ◌≡◌, ◌∙◌, List, length, sym, ap, subst, arith}
+use Rattle.std.proofs.Common.{ℕ, ◌≡◌, ◌∙◌, length, sym, ap, subst, arith}
+use Rattle.mw_poset.specs.SortOrder.{SortOrder}
 use Rattle.mw_poset.specs.Order.{ArePairsOf}
 use Rattle.mw_grammar.proofs.KindsByOrder.{HasKindsOf, kinds_push, are_kinds}
 use Rattle.mw_grammar.proofs.kinds.kinds_of.Goals as goal
@@ -10,8 +11,8 @@ loop-k-preserved c =
 pub returns : goal.returns
 returns c =
     let sig = c.args.signature.now in
-    let all : length c.as_slice-sorts.result.now ≡ length sig.sorts = ap length c.as_slice-sorts.ensures ∙ ap (λ s. length s.sorts) c.signature.view_is in
-    let end : c.loop-k.k ≡ length sig.sorts = omega (arith, all) in
-    let pairs = subst (λ (ps : List (ℕ × ℕ)). ArePairsOf c.args.order.now.sorts ps) c.requires.pairs c.requires.of in
-    let of = subst (λ (n : ℕ). ArePairsOf n sig.pairs) (c.requires.sorts ∙ sym end) pairs in
-    are_kinds sig c.loop-k.k c.loop-k.kinds.items end of (subst (λ (ps : List (ℕ × ℕ)). HasKindsOf ps c.loop-k.k c.loop-k.kinds.items) c.requires.pairs c.loop-k.invariant)
+    let kinds = c.loop-k.kinds.items in
+    let all : c.sorts-k-end.result ≡ length sig.sorts = c.sorts-k-end.ensures.sorts ∙ ap (λ (o : SortOrder). o.sorts) c.requires in
+    let end : c.loop-k.k ≡ length sig.sorts = omega arith in
+    let within = subst (λ (o : SortOrder). ArePairsOf o.sorts o.pairs) c.requires c.sorts-k-end.ensures.within in
+    are_kinds sig c.loop-k.k kinds end (subst (λ (n : ℕ). ArePairsOf n sig.pairs) (sym end) within) (subst (λ (o : SortOrder). HasKindsOf o.pairs c.loop-k.k kinds) c.requires c.loop-k.invariant)

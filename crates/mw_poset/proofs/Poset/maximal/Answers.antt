@@ -26,3 +26,7 @@ returns-clause-listed c = λ T. (
       let f = c.loop-k-test.false in
       (c.loop-k.invariant.listed T).1 (omega arith, m)),
 )
+
+pub returns-clause-within : goal.returns-clause-within
+returns-clause-within c = λ T i.
+    maximal-within c.args.self.now c.args.kind T (subst (λ (o : SortOrder). ArePairsOf o.sorts o.pairs) c.self.view_is c.sorts-k-end.ensures.within) c.requires ((c.loop-k.invariant.listed T).0 i).1

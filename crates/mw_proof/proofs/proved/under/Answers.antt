@@ -1,5 +1,5 @@
 use Rattle.std.proofs.Common.{◌≡◌, ap, refl, arith}
-use Rattle.mw_machine.proofs.Discrete.{accepted, free}
+use Rattle.mw_machine.proofs.Ordered.{accepted, free}
 use Rattle.mw_proof.specs.Deductions.{Deduction}
 use Rattle.mw_proof.specs.Trails.{Walk}
 use Rattle.mw_proof.specs.declared.trail.Level.{Level}

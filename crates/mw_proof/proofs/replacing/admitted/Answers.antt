@@ -3,7 +3,7 @@ use Rattle.mw_logic.specs.Signature.{Signature, IsRawTerm}
 use Rattle.mw_logic.specs.Parts.{nested}
 use Rattle.mw_logic.specs.NormalForm.{normal_form}
 use Rattle.mw_logic.specs.Substitution.{instance as instance_of}
-use Rattle.mw_machine.proofs.Discrete.{accepted, free}
+use Rattle.mw_machine.proofs.Ordered.{accepted, free}
 use Rattle.mw_term.specs.Raws.{raw_term}
 use Rattle.mw_canon.specs.Canonical.{meant}
 use Rattle.mw_canon.specs.Causes.{HasCause}

@@ -13,7 +13,7 @@ use Rattle.mw_reduce.proofs.machine.run.Given as goal
 abbrev pub invariant-loop-found : goal.invariant-loop-found
 invariant-loop-found l =
     IsRunning l.limit (record { below = l.below.items; top = l.top; kept = l.kept })
-    × ((M : Module) (n : ℕ) → Describes M n l.equations → IsTrue (is_ground (here (opened [] l.fn.top))) → IsRawTerm M.signature (here (opened [] l.fn.top)) → height (here (opened [] l.fn.top)) ≤ 1000
+    × ((M : Module) (n : ℕ) → Describes M n l.context.signature l.equations → IsTrue (is_ground (here (opened [] l.fn.top))) → IsRawTerm M.signature (here (opened [] l.fn.top)) → height (here (opened [] l.fn.top)) ≤ 1000
     → MeansRunning M n (here (opened [] l.fn.top)) (record { below = l.below.items; top = l.top; kept = l.kept }))
 
 abbrev pub decreases-loop-found : goal.decreases-loop-found

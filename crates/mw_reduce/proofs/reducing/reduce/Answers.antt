@@ -1,4 +1,4 @@
-use Rattle.mw_machine.proofs.Discrete.{free}
+use Rattle.mw_machine.proofs.Ordered.{free}
 use Rattle.mw_canon.proofs.Free.{of_admitted_term}
 use Rattle.mw_reduce.proofs.Describing.{numbered_compiled, describes}
 use Rattle.mw_reduce.proofs.Deducing.{deduced, reduction}

@@ -1,15 +1,18 @@
+use Rattle.mw_logic.specs.Terms.{terms_of}
 use Rattle.mw_reduce.proofs.Finding.{numbered_at, one_more, none_left, first_found}
 use Rattle.mw_reduce.proofs.turn.find.Goals as goal
 
-pub returns-then-branch : goal.returns-then-branch
-returns-then-branch c =
-    let d = rw c.if-branch.true at c.in_ok-all_match.ensures.decides in
-    first_found c.args.equations.now c.args.op _ _ _ _ _ _ c.at-list.ensures c.loop-i-test.true c.index-list-i.is c.clear.ensures.items c.requires d (c.in_ok-all_match.ensures.count c.if-branch.true)
+pub fits-requires : goal.fits-requires
+fits-requires c = numbered_at c.args.equations.now c.args.op c.loop-i.i _ c.index-list-i.result c.at-list.ensures c.loop-i-test.true c.index-list-i.is c.requires
+
+pub returns-then-branch-clause-there : goal.returns-then-branch-clause-there
+returns-then-branch-clause-there c =
+    let h = c.in_ok-fits.ensures.there c.if-branch.true in (first_found c.args.equations.now c.args.op c.loop-i.i _ c.index-list-i.result c.at-list.ensures c.loop-i-test.true c.index-list-i.is, h.0, h.1)
 
 pub loop-i-preserved : goal.loop-i-preserved
-loop-i-preserved c =
-    let d = rw c.if-branch.false at c.in_ok-all_match.ensures.decides in
-    one_more _ _ _ _ _ c.all_match.new.values.items c.loop-i-test.true c.index-list-i.is c.clear.ensures.items (numbered_at c.args.equations.now c.args.op _ _ _ c.at-list.ensures c.loop-i-test.true c.index-list-i.is c.requires) d c.loop-i.invariant
+loop-i-preserved c = λ g.
+    let misses = rw c.if-branch.false at (c.in_ok-fits.ensures.sorts c.args.op g) in
+    one_more c.args.context.now.signature _ (terms_of c.args.done.now) c.loop-i.i c.index-list-i.result c.loop-i-test.true c.index-list-i.is misses (c.loop-i.invariant g)
 
-pub returns : goal.returns
-returns c = none_left c.args.equations.now c.args.op _ _ _ c.at-list.ensures c.loop-i-test.false c.loop-i.invariant
+pub returns-clause-first : goal.returns-clause-first
+returns-clause-first c = λ g. none_left c.args.context.now.signature c.args.equations.now c.args.op c.loop-i.i _ (terms_of c.args.done.now) c.at-list.ensures c.loop-i-test.false (c.loop-i.invariant g)

@@ -1,8 +1,6 @@
 use Rattle.std.proofs.Common.{◌≡◌, ◌∙◌, ◌≤◌, ◌<◌, min, length, get_or, arith, ap, sym, refl}
-use Rattle.mw_logic.specs.Term.{apply}
 use Rattle.mw_logic.specs.NormalForm.{height, highest}
 use Rattle.mw_logic.specs.Terms.{terms_of}
-use Rattle.mw_logic.specs.TermOrder.{order_terms, order_lists}
 use Rattle.mw_term.proofs.Terms.{element}
 use Rattle.mw_term.proofs.Orders.{by_tops, by_arguments, lists_past}
 use Rattle.mw_term.proofs.term.+ordered.Goals as goal

@@ -1,4 +1,4 @@
-use Rattle.std.proofs.Common.{◌≡◌, ◌∙◌, sym}
+use Rattle.std.proofs.Common.{◌∙◌, sym}
 use Rattle.mw_logic.proofs.CompareLaws.{compare_terms-order}
 use Rattle.mw_term.proofs.term.compare.Goals as goal
 

@@ -2,7 +2,7 @@ use Rattle.std.proofs.Common.{◌≡◌, ◌∙◌, ap, sym, subst, None}
 use Rattle.mw_logic.specs.Module.{Module}
 use Rattle.mw_term.specs.Raws.{raw_term}
 use Rattle.mw_text.specs.Mixfix.{Reads}
-use Rattle.mw_machine.proofs.Discrete.{free, accepted}
+use Rattle.mw_machine.proofs.Ordered.{free, accepted}
 use Rattle.mw_canon.proofs.Free.{nested_free}
 use Rattle.mw_lex.specs.Lexing.{seen_all}
 use Rattle.mw_machine.specs.Simple.{IsSimpleModule}

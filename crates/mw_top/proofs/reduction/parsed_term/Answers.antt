@@ -1,13 +1,31 @@
-use Rattle.std.proofs.Common.{◌∙◌, ap, subst}
+use Rattle.std.proofs.Common.{◌≡◌, ◌∙◌, ap, sym, subst}
 use Rattle.mw_logic.specs.Module.{Module}
-use Rattle.mw_machine.specs.Simple.{IsSimpleModule}
-use Rattle.mw_top.proofs.Answering.{parsed_by, if_ok}
+use Rattle.mw_logic.specs.Signature.{Signature}
+use Rattle.mw_poset.specs.SortOrder.{order_of}
+use Rattle.mw_term.specs.Signatures.{sorted_of}
+use Rattle.mw_print.specs.Sorts.{IsKindThere}
+use Rattle.mw_canon.specs.Canonical.{IsAdmittedTerm}
+use Rattle.mw_top.proofs.Answering.{least_here, kind_of_least, parsed_by, if_ok}
 use Rattle.mw_top.proofs.reduction.parsed_term.Goals as goal
+
+pub parsed-requires-clause-order : goal.parsed-requires-clause-order
+parsed-requires-clause-order c = c.order.ensures ∙ ap order_of (sym c.signature.ensures)
+
+pub parsed-requires-clause-kind : goal.parsed-requires-clause-kind
+parsed-requires-clause-kind c =
+    let M = c.context-context.result.now in
+    let t = c.args.term.now in
+    let S = sorted_of c.least_sort-sort.result in
+    let admitted : IsAdmittedTerm M.signature t = subst (λ (N : Module). IsAdmittedTerm N.signature t) (sym c.context-context.ensures) c.requires in
+    subst (λ (sig : Signature). IsKindThere sig S) (sym c.signature.ensures)
+    (kind_of_least M c.shows.ensures t admitted S (least_here M.signature c.shows.ensures.signature t admitted S c.least_sort-sort.ensures))
 
 pub returns : goal.returns
 returns c =
-    let simple = subst IsSimpleModule c.context-context.ensures c.shows.ensures in
-    let signature = c.signature-signature.ensures ∙ ap (λ (M : Module). M.signature) c.context-context.ensures in
+    let M = c.context-context.result.now in
+    let t = c.args.term.now in
+    let S = sorted_of c.least_sort-sort.result in
+    let admitted : IsAdmittedTerm M.signature t = subst (λ (N : Module). IsAdmittedTerm N.signature t) (sym c.context-context.ensures) c.requires in
     if_ok c.parsed.result c.parsed.ensures
-    (λ text written. parsed_by c.args.accepted.now c.args.term.now c.signature-signature.result.now c.name.result.now c.sort_of-sort.result text.items
-    simple c.requires signature c.name.ensures c.sort_of-sort.ensures written)
+    (λ text written. parsed_by c.args.accepted.now M c.context-context.ensures c.signature.result.now c.signature.ensures c.name.result.now c.name.ensures t S text.items
+    (least_here M.signature c.shows.ensures.signature t admitted S c.least_sort-sort.ensures) written)

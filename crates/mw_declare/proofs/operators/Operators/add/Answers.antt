@@ -1,19 +1,35 @@
-use Rattle.std.proofs.Common.{◌≡◌, ◌∙◌, ap, refl, sym, option_copied}
-use Rattle.std.specs.Map.{lookup}
-use Rattle.mw_module.specs.Attributes.{seen_attributes}
-use Rattle.mw_declare.specs.Operators.{with_operator}
+use Rattle.std.proofs.Common.{◌∙◌, [], ◌∷◌, ◌++◌, List, ap, refl, sym}
+use Rattle.indexmap.specs.IndexMap.{insert_entry}
+use Rattle.mw_logic.specs.Signature.{Declaration}
+use Rattle.mw_module.specs.Attributes.{seen_attributes, Attributes}
+use Rattle.mw_declare.specs.declared.operators.Profile.{Profile}
+use Rattle.mw_declare.specs.declared.operators.Said.{Said}
+use Rattle.mw_declare.specs.Operators.{Declared, same_profile, with_operator}
 use Rattle.mw_declare.specs.Seen.{seen_profile}
-use Rattle.mw_declare.proofs.Tables.{operators_held, said_with, held_insert}
+use Rattle.mw_declare.proofs.Tables.{operators_held, held_again, held_new}
 use Rattle.mw_declare.proofs.operators.Operators.add.Goals as goal
-use Rattle.mw_declare.proofs.operators.Operators.add.Goals.{in-Some, in-None}
+
+pub returns-in-Some : goal.returns-in-Some
+returns-in-Some c =
+    let said = seen_attributes c.args.attributes in
+    let w : Said = record { declarations = c.push.new.self; attributes = c.joined-known.result } in
+    ap operators_held (c.get_mut.follows.holds w).0
+    ∙ held_again _ (λ p q. refl) c.args.profile c.args.declaration said w c.in-Some.known.now
+    (λ q.
+    ap (λ (ds : List Declaration). let o : Declared = record { profile = seen_profile q; declarations = ds; attributes = seen_attributes c.joined-known.result } in o) c.in_ok-push.ensures.items
+    ∙ ap (λ (a : Attributes). let o : Declared = record { profile = seen_profile q; declarations = c.in-Some.known.now.declarations.items ++ c.args.declaration ∷ []; attributes = a } in o)
+    c.joined-known.ensures)
+    c.self.inside.table.entries (sym c.in-Some.ensures.value)
+    ∙ ap (λ os. with_operator os (seen_profile c.args.profile) c.args.declaration said) c.self.view_is
 
 pub returns : goal.returns
 returns c =
     let said = seen_attributes c.args.attributes in
-    let joint : seen_attributes c.match-get.said ≡ said_with (option_copied c.get.result) said = elim c.match-get.branch [
-      | in-Some w ↦ ap seen_attributes w.said-is ∙ w.joined-said.ensures ∙ sym (ap (λ o. said_with (option_copied o) said) w.in-Some.is)
-      | in-None w ↦ ap seen_attributes w.said-is ∙ sym (ap (λ o. said_with (option_copied o) said) w.in-None.is)
-    ] in
+    let w : Said = record { declarations = c.push-2.new.self; attributes = c.args.attributes } in
     ap operators_held c.in_ok-insert.ensures.entries
-    ∙ held_insert _ (λ p q. refl) c.args.profile said c.match-get.said c.self.inside.table.entries (joint ∙ ap (λ o. said_with o said) c.get.ensures.value)
-    ∙ ap (λ os. with_operator os (seen_profile c.args.profile) said) c.self.view_is
+    ∙ ap (λ es. operators_held (insert_entry (λ (p q : Profile). same_profile (seen_profile p) (seen_profile q)) es c.args.profile w)) (rw c.get_mut.follows.holds-at-none refl)
+    ∙ held_new _ (λ p q. refl) c.args.profile c.args.declaration said w
+    (ap (λ (ds : List Declaration). let o : Declared = record { profile = seen_profile c.args.profile; declarations = ds; attributes = said } in o)
+    (c.in_ok-push-2.ensures.items ∙ ap (λ ds. ds ++ c.args.declaration ∷ []) c.new-declarations.ensures.items))
+    c.self.inside.table.entries (sym c.in_default.ensures.value)
+    ∙ ap (λ os. with_operator os (seen_profile c.args.profile) c.args.declaration said) c.self.view_is

@@ -20,7 +20,7 @@ returns-then-is_taken c =
 
 pub accept-requires : goal.accept-requires
 accept-requires c =
-    let name = c.in-Ok.ensures.accepted.named ∙ c.of.ensures ∙ c.in_ok-to_vec-2.ensures.items_if_clones_equal (λ x y e. e) in
+    let name = c.in-Ok.ensures.accepted.holds.named ∙ c.of.ensures ∙ c.in_ok-to_vec-2.ensures.items_if_clones_equal (λ x y e. e) in
     is_untaken c.args.self.now c.in-Ok.module.name (λ k. both_ways _ c.if-is_taken.false (c.is_taken.ensures.1 (subst (IsTaken c.args.self.now) name k)))
 
 pub returns-in_ok-accept-in-Ok : goal.returns-in_ok-accept-in-Ok

@@ -1,0 +1,52 @@
+-- Sorts that ground terms have by their operators alone: sorts of whole kinds (tops), and results on arguments that have these.
+use Rattle.std.specs.Prelude.{ℕ, ◌≡◌, ◌≤◌, List, [], ◌∷◌, ⊤, slice_get, Some}
+use Rattle.mw_logic.specs.Signature.{Signature, Sorted, sort, kind, Operator, IsOperator, Member}
+use Rattle.mw_logic.specs.Sorts.{AtOrBelow}
+use Rattle.mw_poset.specs.Order.{IsKindOf}
+use Rattle.mw_term.specs.OperatorSets.{Lacks}
+use Rattle.mw_least.specs.declared.sure.Sure.{Sure}
+
+-- S stands in the list at the number of its kind
+pub record IsTop (pairs : List (ℕ × ℕ)) (tops : List ℕ) (S : ℕ) : Type 0 where
+  pub kind : ℕ
+  pub is_kind : IsKindOf pairs S kind
+  pub top : slice_get tops kind ≡ Some S
+  pub positive : 1 ≤ S
+
+abbrev pub IsTopOf : List (ℕ × ℕ) → List ℕ → Sorted → Type 0
+IsTopOf pairs tops (sort S) = IsTop pairs tops S
+IsTopOf pairs tops (kind K) = ⊥
+
+abbrev pub AreTops : List (ℕ × ℕ) → List ℕ → List Sorted → Type 0
+AreTops pairs tops [] = ⊤
+AreTops pairs tops (S ∷ Ss) = IsTopOf pairs tops S × AreTops pairs tops Ss
+
+-- a declaration of o takes tops to R
+pub record IsSupport (pairs : List (ℕ × ℕ)) (tops : List ℕ) (o : Operator) (R : ℕ) : Type 0 where
+  pub args : List Sorted
+  pub declared : Member (record { args = args; result = sort R }) o.declarations
+  pub are_tops : AreTops pairs tops args
+
+-- the top of kind K, where it has one, is at or above a result that o has on tops
+abbrev pub IsSupportedIn : List (ℕ × ℕ) → List ℕ → Operator → ℕ → Type 0
+IsSupportedIn pairs tops o K = (S : ℕ) → slice_get tops K ≡ Some S → 1 ≤ S → (R : ℕ) × IsSupport pairs tops o R × AtOrBelow pairs R S
+
+abbrev pub IsSupported : List (ℕ × ℕ) → List ℕ → Operator → Type 0
+IsSupported pairs tops o = (K : ℕ) → IsKindOf pairs o.result K → IsSupportedIn pairs tops o K
+
+-- so is each operator that the set lacks
+abbrev pub AreSupported : Signature → List ℕ → ℕ → Type 0
+AreSupported sig tops partial = (f : ℕ) (o : Operator) → IsOperator sig f o → Lacks partial f → IsSupported sig.pairs tops o
+
+-- of each operator a result on tops, or 0
+abbrev pub AreResults : List (ℕ × ℕ) → List ℕ → List Operator → List ℕ → Type 0
+AreResults pairs tops [] [] = ⊤
+AreResults pairs tops [] (R ∷ Rs) = ⊥
+AreResults pairs tops (o ∷ os) [] = ⊥
+AreResults pairs tops (o ∷ os) (R ∷ Rs) = (1 ≤ R → IsSupport pairs tops o R) × AreResults pairs tops os Rs
+
+-- Where no partial operator stands in a ground term, the sort at the place of the operator on top, if it isn't 0, is one that the term has.
+pub record AreSure (sig : Signature) (sure : Sure) : Type 0 where
+  pub tops : List ℕ
+  pub supported : AreSupported sig tops sure.partial.word
+  pub results : AreResults sig.pairs tops sig.operators sure.results

@@ -1,0 +1,173 @@
+// Sorts that ground terms have by their operators alone, whatever their arguments are.
+ghost use Rattle.std.specs.Prelude.{◌≡◌, ◌≤◌, ℕ, map, IfOk, IsTrue};
+ghost use Rattle.mw_logic.specs.Preregular.{HasItsSorts};
+ghost use Rattle.mw_logic.specs.Signature.{sort as sort_of};
+ghost use Rattle.mw_logic.specs.Sorts.{AtOrBelow};
+ghost use Rattle.mw_poset.specs.SortOrder.{order_of};
+ghost use Rattle.mw_term.specs.Signatures.{sorted_of};
+ghost use Rattle.mw_least.specs.Sure.{IsTopOf, AreTops, IsSupport, IsSupportedIn, AreSupported, AreResults, AreSure};
+
+use mw_poset::Poset;
+use mw_term::{
+    Declaration, KindId, Operator, Operators, Seq, Signature, SortId, Sorted, number_at,
+};
+use std::alloc::{AllocError, Global};
+
+/// What operators tell of the sorts of terms.
+#[derive(Drop)]
+pub struct Sure {
+    /// Where one of these stands in a term, its operators tell nothing.
+    pub partial: Operators,
+    /// Of each operator, by number, a sort that each other ground term has with it on top, or 0 for none.
+    pub results: Seq<SortId>,
+}
+
+fn is_there(order: &Poset, sort: SortId) -> bool
+    ensures { IsTrue result → (1 ≤ sort) × (sort ≤ order.now.sorts) }
+{
+    sort != 0 && sort <= order.sorts()
+}
+
+/// Whether a chain of subsort pairs leads from one sort up to another.
+fn reaches(order: &Poset, lower: SortId, upper: SortId) -> bool
+    ensures { IsTrue result → AtOrBelow order.now.pairs lower upper }
+{
+    is_there(order, lower) && is_there(order, upper) && order.le(lower, upper)
+}
+
+/// Whether a sort is the top of its kind, where `tops` has that of kind K at place K.
+fn is_top(order: &Poset, tops: &[SortId], sort: Sorted) -> bool
+    ensures { IsTrue result → IsTopOf order.now.pairs tops.now (sorted_of sort) }
+{
+    let Sorted::Sort(sort) = sort else {
+        return false;
+    };
+    if !is_there(order, sort) {
+        return false;
+    }
+    match tops.get(order.kind_of(sort) as usize) {
+        Some(top) => *top == sort,
+        None => false,
+    }
+}
+
+fn are_tops(order: &Poset, tops: &[SortId], sorts: &[Sorted]) -> bool
+    ensures { IsTrue result → AreTops order.now.pairs tops.now (map sorted_of sorts.now) }
+{
+    let mut rest = sorts;
+    while let [sort, after @ ..] = rest {
+        if !is_top(order, tops, *sort) {
+            return false;
+        }
+        rest = after;
+    }
+    true
+}
+
+/// The sort to which a declaration takes tops, or 0 where it doesn't.
+fn result_on_tops(order: &Poset, tops: &[SortId], declaration: &Declaration) -> SortId
+    ensures { 1 ≤ result → (declaration.now.result ≡ sort_of result) × AreTops order.now.pairs tops.now declaration.now.args }
+{
+    match declaration.result {
+        Sorted::Sort(result) if are_tops(order, tops, declaration.args.as_slice()) => result,
+        _ => 0,
+    }
+}
+
+/// The least sort to which an operator's declarations take tops, or 0 where none does.
+fn support(order: &Poset, tops: &[SortId], operator: &Operator) -> SortId
+    ensures { 1 ≤ result → IsSupport order.now.pairs tops.now operator.now result }
+{
+    let mut least = 0;
+    let mut rest = operator.declarations.as_slice();
+    while let [declaration, after @ ..] = rest {
+        let result = result_on_tops(order, tops, declaration);
+        if least == 0 || reaches(order, result, least) {
+            least = result;
+        }
+        rest = after;
+    }
+    least
+}
+
+fn is_supported(order: &Poset, tops: &[SortId], operator: &Operator, kind: KindId) -> bool
+    ensures { IsTrue result → IsSupportedIn order.now.pairs tops.now operator.now kind }
+{
+    match tops.get(kind as usize) {
+        Some(top) => *top == 0 || has_support(order, tops, operator, *top),
+        None => true,
+    }
+}
+
+fn has_support(order: &Poset, tops: &[SortId], operator: &Operator, top: SortId) -> bool
+    ensures { IsTrue result → (R : ℕ) × IsSupport order.now.pairs tops.now operator.now R × AtOrBelow order.now.pairs R top }
+{
+    let least = support(order, tops, operator);
+    least != 0 && reaches(order, least, top)
+}
+
+/// The operators that may take arguments with the tops of their kinds to a result without it.
+fn partial_operators(
+    order: &Poset,
+    tops: &[SortId],
+    signature: &Signature,
+) -> Result<Operators, AllocError>
+    requires order { order.now ≡ order_of signature.now }
+    requires numbers { HasItsSorts signature.now }
+    ensures { IfOk result (λ s. AreSupported signature.now tops.now s.word) }
+{
+    let mut partial = Operators::none();
+    for (index, operator) in signature.operators.as_slice().iter().enumerate() {
+        let kind = order.kind_of(operator.result);
+        if !is_supported(order, tops, operator, kind) {
+            partial = partial.with(Operators::of(number_at(index)?));
+        }
+    }
+    Ok(partial)
+}
+
+/// Of each kind a sort with none above it, at the kind's number.
+fn greatest(alloc: Global, order: &Poset) -> Result<Vec<SortId>, AllocError> {
+    let sorts = order.sorts();
+    let mut tops = vec![in alloc; 0; sorts as usize + 1]?;
+    for index in 0..sorts {
+        let sort = index + 1;
+        if let Some(top) = tops.get_mut(order.kind_of(sort) as usize) {
+            if *top == 0 || reaches(order, *top, sort) {
+                *top = sort;
+            }
+        }
+    }
+    Ok(tops)
+}
+
+/// Of each operator the least sort to which its declarations take tops, or 0.
+fn results_on_tops(
+    alloc: Global,
+    order: &Poset,
+    tops: &[SortId],
+    operators: &[Operator],
+) -> Result<Seq<SortId>, AllocError>
+    ensures { IfOk result (AreResults order.now.pairs tops.now operators.now) }
+{
+    let mut results = Vec::new(alloc);
+    let mut rest = operators;
+    while let [operator, after @ ..] = rest {
+        results.push(support(order, tops, operator))?;
+        rest = after;
+    }
+    Ok(Seq::of(results))
+}
+
+/// What a signature's operators tell of the sorts of terms.
+pub fn sure_sorts(alloc: Global, signature: &Signature, order: &Poset) -> Result<Sure, AllocError>
+    requires order { order.now ≡ order_of signature.now }
+    requires numbers { HasItsSorts signature.now }
+    ensures { IfOk result (AreSure signature.now) }
+{
+    let tops = greatest(alloc, order)?;
+    let tops = tops.as_slice();
+    let partial = partial_operators(order, tops, signature)?;
+    let results = results_on_tops(alloc, order, tops, signature.operators.as_slice())?;
+    Ok(Sure { partial, results })
+}

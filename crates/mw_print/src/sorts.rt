@@ -1,0 +1,81 @@
+// Sorts and kinds as they are printed.
+ghost use Rattle.std.specs.Prelude.{◌≡◌, ◌++◌, map, OnOk};
+ghost use Rattle.std.specs.List.{join_with_byte};
+ghost use Rattle.mw_logic.specs.Preregular.{IsSortOf};
+ghost use Rattle.mw_term.specs.Signatures.{sorted_of};
+ghost use Rattle.mw_poset.specs.SortOrder.{order_of};
+ghost use Rattle.mw_print.specs.Printing as spec;
+ghost use Rattle.mw_print.specs.Sorts.{IsKindThere, kind_name, sorted_name};
+
+use mw_poset::Poset;
+use mw_term::{KindId, Signature, SortId, Sorted};
+use std::alloc::{AllocError, Global};
+
+/// Writes a sort's name behind a text.
+pub fn print_sort(signature: &Signature, sort: SortId, text: &mut Vec<u8>) -> Result<(), AllocError>
+    ensures { OnOk result (text.new.items ≡ text.old.items ++ spec.sort_name signature.now sort) }
+{
+    if sort == 0 {
+        return Ok(());
+    }
+    match signature.sorts.as_slice().get(sort as usize - 1) {
+        Some(name) => text.extend_from_slice(name.as_slice()),
+        None => Ok(()),
+    }
+}
+
+/// Writes sorts' names, with commas between, behind a text.
+fn print_sorts(
+    signature: &Signature,
+    sorts: &[SortId],
+    text: &mut Vec<u8>,
+) -> Result<(), AllocError>
+    ensures { OnOk result (text.new.items ≡ text.old.items ++ join_with_byte 44 (map (spec.sort_name signature.now) sorts.now)) }
+{
+    let mut rest = sorts;
+    while let [sort, behind @ ..] = rest {
+        print_sort(signature, *sort, text)?;
+        if !behind.is_empty() {
+            text.push(b',')?;
+        }
+        rest = behind;
+    }
+    Ok(())
+}
+
+/// Writes a kind behind a text.
+fn print_kind(
+    alloc: Global,
+    signature: &Signature,
+    order: &Poset,
+    kind: KindId,
+    text: &mut Vec<u8>,
+) -> Result<(), AllocError>
+    requires order { order.now ≡ order_of signature.now }
+    requires kind { IsSortOf signature.now kind }
+    ensures { OnOk result (text.new.items ≡ text.old.items ++ kind_name signature.now kind) }
+{
+    let maximal = order.maximal(alloc, kind)?;
+    text.push(b'[')?;
+    print_sorts(signature, maximal.as_slice(), text)?;
+    text.push(b']')?;
+    Ok(())
+}
+
+/// Writes a sort's name, or a kind, behind a text. The signature's sorts have this order.
+pub fn print_sorted(
+    alloc: Global,
+    signature: &Signature,
+    order: &Poset,
+    sorted: Sorted,
+    text: &mut Vec<u8>,
+) -> Result<(), AllocError>
+    requires order { order.now ≡ order_of signature.now }
+    requires kind { IsKindThere signature.now (sorted_of sorted) }
+    ensures { OnOk result (text.new.items ≡ text.old.items ++ sorted_name signature.now (sorted_of sorted)) }
+{
+    match sorted {
+        Sorted::Sort(sort) => print_sort(signature, sort, text),
+        Sorted::Kind(kind) => print_kind(alloc, signature, order, kind, text),
+    }
+}

@@ -1,0 +1,16 @@
+pub mod Getting
+pub mod Below
+pub mod Taking
+pub mod Leading
+pub mod Declared
+pub mod Walks
+pub mod Choosing
+pub mod Connected
+pub mod Placing
+pub mod Numbering
+pub mod Growing
+pub mod Layers
+pub mod Marking
+pub mod Tabling
+pub mod Looking
+pub mod Testing

@@ -1,0 +1,8 @@
+pub mod Entries
+pub mod Results
+pub mod Diagrams
+pub mod Sorting
+pub mod States
+pub mod Marks
+pub mod Faults
+pub mod Tested

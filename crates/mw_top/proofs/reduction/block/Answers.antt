@@ -1,0 +1,37 @@
+use Rattle.std.proofs.Common.{◌≡◌, ◌∙◌, ap, sym, subst}
+use Rattle.mw_logic.specs.Module.{Module}
+use Rattle.mw_logic.specs.Signature.{Signature}
+use Rattle.mw_logic.specs.Sorts.{IsLeastSort}
+use Rattle.mw_poset.specs.SortOrder.{order_of}
+use Rattle.mw_term.specs.Signatures.{sorted_of}
+use Rattle.mw_print.specs.Sorts.{IsKindThere}
+use Rattle.mw_canon.specs.Canonical.{IsAdmittedTerm}
+use Rattle.mw_top.proofs.Answering.{least_here, kind_of_least, block_by, if_ok}
+use Rattle.mw_top.proofs.reduction.block.Goals as goal
+
+pub reduction-requires-clause-order : goal.reduction-requires-clause-order
+reduction-requires-clause-order c = c.order.ensures ∙ ap order_of (sym c.signature.ensures)
+
+pub reduction-requires-clause-kind : goal.reduction-requires-clause-kind
+reduction-requires-clause-kind c =
+    let M = c.context-context.result.now in
+    let t = c.to.result.now in
+    let S = sorted_of c.least_sort.result in
+    let admitted : IsAdmittedTerm M.signature t = rw (c.context-context.ensures, c.to.ensures) c.requires in
+    subst (λ (sig : Signature). IsKindThere sig S) (sym c.signature.ensures)
+    (kind_of_least M c.shows.ensures t admitted S (least_here M.signature c.shows.ensures.signature t admitted S c.least_sort.ensures))
+
+pub returns : goal.returns
+returns c =
+    let M = c.context-context.result.now in
+    let t = c.to.result.now in
+    let S = sorted_of c.least_sort.result in
+    let admitted : IsAdmittedTerm M.signature t = rw (c.context-context.ensures, c.to.ensures) c.requires in
+    let least : IsLeastSort M.signature t S = least_here M.signature c.shows.ensures.signature t admitted S c.least_sort.ensures in
+    if_ok c.reduction.result c.reduction.ensures
+    (λ text written. (
+      S,
+      rw (c.context-context.ensures, c.to.ensures) at least,
+      block_by c.args.accepted.now M c.context-context.ensures c.signature.result.now c.signature.ensures c.name.result.now c.name.ensures S text.items
+          _ _ c.from.ensures _ _ c.count.ensures _ _ c.to-2.ensures _ _ c.status_of.ensures written,
+    ))
