@@ -1,2 +1,0 @@
--- The listed parts are the parts.
-pub mod ListedParts

@@ -1,4 +1,0 @@
--- What trees stand for, and what is listed.
-pub mod Trees
-pub mod TreesFall
-pub mod AllParts
