@@ -2,4 +2,3 @@
 pub mod Free
 pub mod Instances
 pub mod Listing
-pub mod Tested

@@ -2,4 +2,3 @@
 pub mod Canonical
 pub mod Causes
 pub mod Tables
-pub mod Tested

@@ -38,6 +38,3 @@ impl<T: Drop> From<AllocFailed<T>> for CanonError {
         CanonError::Memory
     }
 }
-
-#[cfg(test)]
-mod tests;

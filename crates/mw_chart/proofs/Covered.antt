@@ -82,10 +82,6 @@ covers_nowhere Q g row end n kind below next v index past = λ j r got at k u x.
     let there : slice_get [] l.0 ≡ Some j = subst (λ (xs : List ℕ). slice_get xs l.0 ≡ Some j) (ap (λ m. inner row.places.items m) at ∙ inner_far row.places.items end past) l.1 in
     let bad : ⊥ = (cc) in absurd bad
 
-pub covers_more : (P Q : ℕ × ℕ → Tree → Type 0) (g : Table) (readings : List Reading) (n kind below next : ℕ) (v : Tree) (X : Reading → Type 0)
-    → ((k : ℕ × ℕ) (u : Tree) → P k u → Q k u) → Covers P g readings n kind below next v X → Covers Q g readings n kind below next v X
-covers_more P Q g readings n kind below next v X kept all = λ j r got at k u x. has_more (P k) (Q k) u (kept k) (all j r got at k u x)
-
 -- The readings of a word's ends, of which those in `left` are to come.
 abbrev pub IsDone : ℕ → ℕ → ℕ → Reading → Type 0
 IsDone index word left r = (i : ℕ) × (r.end ≡ index * 64 + i) × (bit_at word i ≡ 1) × (bit_at left i ≡ 1 → ⊥)

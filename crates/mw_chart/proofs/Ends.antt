@@ -67,12 +67,6 @@ no_row g text i wf = record {
   complete = λ e w kind precedence t low d wh. let f = whole_moves g text w kind precedence t i e wf d wh in absurd (omega (arith, f, low));
 }
 
-pub bare_push : (n : ℕ) (rows : List Row) (x : Row) → AreBare n rows → x.readings.items ≡ [] → AreBare (n + 1) (rows ++ x ∷ [])
-bare_push n rows x (len, none) e = (
-  length-append rows (x ∷ []) ∙ omega (arith, len),
-  λ k row got. elim (get_back rows x k row got) [ inl h ↦ none k row h | inr same ↦ ap (λ (r : Row). r.readings.items) (sym same) ∙ e ],
-)
-
 -- rows without readings are indexed
 no_index : (row : Row) → row.readings.items ≡ [] → IsIndexed row
 no_index row e j r got = let bad : slice_get [] j ≡ Some r = subst (λ (l : List Reading). slice_get l j ≡ Some r) e got in let h : ⊥ = (cc) in absurd h
@@ -118,15 +112,5 @@ popped_cells g text i at all front cell e shape is cells =
     front_cells g text i (at - 1) front cell
     (subst (λ (c : List (Vec Slot Global)). IsCells g text i (at - 1) c) e (subst (λ (m : ℕ). IsCells g text i m all) d cells))
 
-pub popped_row : (g : Table) (text : List Word) (i at : ℕ) (all front : List (Vec Slot Global)) (cell : Vec Slot Global) (row : List Reading) → all ≡ front ++ cell ∷ []
-    → i + length all ≤ length text → at ≡ length text - length front → IsRow g text i (length text - length all) row → IsRow g text i (at - 1) row
-popped_row g text i at all front cell row e shape is r =
-    let len : length all ≡ length front + 1 = ap length e ∙ length-append front (cell ∷ []) ∙ omega arith in
-    let d : length text - length all ≡ at - 1 = omega (arith, len, shape, is) in
-    subst (λ (m : ℕ). IsRow g text i m row) d r
-
 pub vec_length : {A : Type 0} → (v : Vec A Global) → vec_len v ≡ length v.items
 vec_length v = v.ok.0
-
-pub item_value : (row : List Reading) (k : ℕ) (r x : Reading) (t : Tree) → slice_get row k ≡ Some r → x ≡ get_or row k x → t ≡ x.value → t ≡ r.value
-item_value row k r x t got is same = same ∙ ap (λ (y : Reading). y.value) (is ∙ get_same row k r x got)

@@ -14,9 +14,6 @@ use Rattle.mw_chart.proofs.Cells.{two_more}
 use Rattle.mw_chart.proofs.Adding.{inner_same, inner_other, inner_is}
 use Rattle.mw_chart.proofs.Turned.{inner_front}
 
-pub none_set : (x : ℕ) → IsSet ([]) x → ⊥
-none_set x h = let z = bit_at-zero (x % 64) in omega (arith, h, z)
-
 -- more is held
 pub full_more : (n : ℕ) (full : List (Vec ℕ Global)) (cells more : List (Vec Slot Global)) → ((k : ℕ × ℕ) (u : Tree) → CellsHold cells k u → CellsHold more k u)
     → length more ≡ length cells → AreFull n full cells → AreFull n full more
@@ -27,9 +24,6 @@ pub full_front : (n : ℕ) (full : List (Vec ℕ Global)) (front : List (Vec Slo
 full_front n full front cell all = λ s e j marked at low.
     let len : length (front ++ cell ∷ []) ≡ length front + 1 = length-append front (cell ∷ []) in
     subst (λ (c : List Slot). HasTwo (Holds c s)) (inner_front front cell j low) (all s e j marked at (omega (arith, low, len)))
-
-pub full_none : (n m : ℕ) (full : List (Vec ℕ Global)) (cells : List (Vec Slot Global)) → AreEmpty m full → AreFull n full cells
-full_none n m full cells (len, none) = λ s e j marked at low. absurd (none_set e (subst (λ (l : List ℕ). IsSet l e) (none s) marked))
 
 -- an end is marked
 pub full_mark : (n end state : ℕ) (full : List (Vec ℕ Global)) (new : Vec ℕ Global) (cells : List (Vec Slot Global)) → state < length full

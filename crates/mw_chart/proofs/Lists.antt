@@ -61,11 +61,6 @@ eq_or (suc j) (suc k) = elim (eq_or j k) [ inl e ↦ inl (ap suc e) | inr h ↦ 
 pub get_item_of : {X : Type 0} → (ys xs : List X) (k : ℕ) (x : X) → ys ≡ xs → k < length ys → x ≡ get_or ys k x → slice_get xs k ≡ Some x
 get_item_of ys xs k x same h e = rw (← same) (get_item ys k x h e)
 
-pub get_past : {X : Type 0} → (xs : List X) (k : ℕ) → length xs ≤ k → slice_get xs k ≡ None
-get_past [] k h = refl
-get_past (x ∷ xs) zero h = absurd (omega arith)
-get_past (x ∷ xs) (suc k) h = get_past xs k (omega arith)
-
 pub get_at : {X : Type 0} → (ys xs : List X) (k : ℕ) (d : X) → ys ≡ xs → k < length ys → slice_get xs k ≡ Some (get_or ys k d)
 get_at ys xs k d same h = rw (← same) (get_is ys k d h)
 

@@ -10,18 +10,6 @@ use Rattle.mw_chart.specs.Bits.{IsSet}
 use Rattle.mw_chart.proofs.Lists.{eq_or}
 use Rattle.mw_chart.proofs.Begins.{le_or}
 
--- a word of zeros more
-index_push : (set : List ℕ) (j : ℕ) → slice_index (set ++ 0 ∷ []) j ≡ slice_index set j
-index_push [] zero = refl
-index_push [] (suc j) = refl
-index_push (x ∷ xs) zero = refl
-index_push (x ∷ xs) (suc j) = index_push xs j
-
-pub set_push : (set old : List ℕ) → ((y : ℕ) → IsSet set y ↔ IsSet old y) → (y : ℕ) → IsSet (set ++ 0 ∷ []) y ↔ IsSet old y
-set_push set old same y =
-    let e : slice_index (set ++ 0 ∷ []) (y / 64) ≡ slice_index set (y / 64) = index_push set (y / 64) in
-    (λ h. (same y).0 (subst (λ (w : ℕ). bit_at w (y % 64) ≡ 1) e h), λ h. subst (λ (w : ℕ). bit_at w (y % 64) ≡ 1) (sym e) ((same y).1 h))
-
 index_set : (xs : List ℕ) (k x : ℕ) → k < length xs → slice_index (set xs k x) k ≡ x
 index_set [] k x h = absurd (omega arith)
 index_set (y ∷ ys) zero x h = refl

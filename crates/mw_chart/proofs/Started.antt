@@ -72,19 +72,6 @@ opens_one P Q g text at kind precedence slot st free a =
       | inr e ↦ let bad : ⊥ = (let t = e.0 in cc) in absurd bad
     ])
 
--- a reading more
-pub row_push : (row : List Reading) (end state : ℕ) (v : Tree) → Adds (RowHolds row) (RowHolds (row ++ record { end = end; state = state; value = v } ∷ [])) (IsPut end state v)
-row_push row end state v =
-    let new : Reading = record { end = end; state = state; value = v } in
-    record {
-      kept = λ k u (j, r, got, x, y, z). (j, r, get_left row (new ∷ []) j r got, x, y, z);
-      sound = λ k u (j, r, got, x, y, z). elim (get_back row new j r got) [
-        | inl h ↦ inl (j, r, h, x, y, z)
-        | inr e ↦ inr (sym x ∙ sym (ap (λ (r : Reading). r.end) e), sym y ∙ sym (ap (λ (r : Reading). r.state) e), sym z ∙ sym (ap (λ (r : Reading). r.value) e))
-      ];
-      has = λ k u (x, y, z). inl (length row, new, get_last row new, sym x, sym y, sym z);
-    }
-
 pub keeps_two : (P Q R : ℕ × ℕ → Tree → Type 0) (g : Table) (at kind precedence : ℕ) (slot : Slot) → StepAt g slot.state (Whole kind precedence) → slot.full ≡ true
     → Adds P Q (IsPut at slot.state slot.value) → Adds Q R (IsPut at slot.state slot.twin) → Adds P R (KeepsSlot g at slot)
 keeps_two P Q R g at kind precedence slot st full a b =

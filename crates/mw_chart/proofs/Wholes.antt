@@ -38,10 +38,6 @@ list_put P Q g n r kind precedence t wh end within same a =
     (λ k u (x, y). (precedence, subst (λ (m : ℕ). StepAt g r.state (Whole m precedence)) x wh, end, subst (λ (m : ℕ). m ≤ g.kinds) x within, sym y ∙ same))
     (λ k u (precedence2, wh2, end2, within2, z). ((let q = one_there _ r.state _ _ wh2 wh in cc), same ∙ sym z))
 
-pub list_not : (P : ℕ → Tree → Type 0) (g : Table) (n : ℕ) (r : Reading) → ((kind precedence : ℕ) → StepAt g r.state (Whole kind precedence) → r.end ≡ n → kind ≤ g.kinds → ⊥)
-    → Adds P P (ListedBy g n r)
-list_not P g n r never = adds_none P (ListedBy g n r) (λ k u (precedence, wh, end, within, same). never k precedence wh end within)
-
 pub are_spelled : (g : Table) (text : List Word) (row : List Reading) (listed : List Spelled) → IsRow g text 0 (length text) row
     → Adds Nothing (Lists listed) (ListedAny g (length text) row) → AreSpelled g text listed
 are_spelled g text row listed is a = record {

@@ -58,7 +58,3 @@ IsOpening g s =
 -- No text begins whole, and none is a hole alone.
 abbrev pub IsTable : Table → Type 0
 IsTable g = (s op : ℕ) → IsStart g s op → IsOpening g s
-
--- the leaves of the text stand at whole states
-abbrev pub AreLeaves : Table → List Word → Type 0
-AreLeaves g text = (k s x : ℕ) → LeafAt text k s x → (kind : ℕ) × (precedence : ℕ) × StepAt g s (Whole kind precedence)

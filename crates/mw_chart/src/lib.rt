@@ -19,11 +19,8 @@ mod pair;
 mod reader;
 mod row;
 mod slot;
-mod starts;
 mod table;
 mod term;
-#[cfg(test)]
-mod tests;
 mod whole;
 mod word;
 
@@ -31,7 +28,6 @@ pub use body::{Body, Shape};
 pub use fault::{Fault, LIMIT, Pair, PairFault};
 pub use one::parse;
 pub use pair::parse_pair;
-pub use starts::is_table;
 pub use table::{Start, Step, Table};
 pub use term::Term;
 pub use whole::{Spelled, readings};

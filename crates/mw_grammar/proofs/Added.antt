@@ -9,25 +9,6 @@ use Rattle.mw_grammar.specs.Compiled.{Extends}
 use Rattle.mw_grammar.specs.Worded.{IsLeafOf, AllDiffer, Adds}
 use Rattle.mw_grammar.proofs.Made.{get_grows, Extends-trans, Extends-same}
 
--- one variable more, which is new
-pub differ_push : (xs : List Variable) (x : Variable) → ((k : ℕ) → slice_get xs k ≡ Some x → ⊥) → AllDiffer xs → AllDiffer (xs ++ x ∷ [])
-differ_push xs x new d v w y a b = elim (back xs x v y a) [
-  | inl p ↦ elim (back xs x w y b) [
-    | inl q ↦ d v w y p q
-    | inr (q, e) ↦ absurd (new v (p ∙ ap (λ m. Some m) (sym e)))
-  ]
-  | inr (p, e) ↦ elim (back xs x w y b) [
-    | inl q ↦ absurd (new w (q ∙ ap (λ m. Some m) (sym e)))
-    | inr (q, e2) ↦ p ∙ sym q
-  ]
-]
-  where
-    back : (xs : List Variable) (x : Variable) (k : ℕ) (y : Variable) → slice_get (xs ++ x ∷ []) k ≡ Some y → (slice_get xs k ≡ Some y) ⊎ ((k ≡ length xs) × (x ≡ y))
-    back [] x zero y e = inr (refl, (cc))
-    back [] x (suc k) y e = let bad : ⊥ = (cc) in absurd bad
-    back (z ∷ xs) x zero y e = inl e
-    back (z ∷ xs) x (suc k) y e = elim (back xs x k y e) [ inl p ↦ inl p | inr (p, q) ↦ inr (ap suc p, q) ]
-
 module _ (kind : ℕ → ℕ) where
   pub adds_one : (old new : List Variable) (before after : List Leaf) (l : Leaf) (x : Variable) → Extends old new → (AllDiffer old → AllDiffer new) → after ≡ before ++ l ∷ [] → IsLeafOf kind new l x
       → Adds kind old new before after (λ y. y ≡ x)

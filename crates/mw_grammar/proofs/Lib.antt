@@ -24,4 +24,3 @@ pub mod Opening
 pub mod RawSpelled
 pub mod Exactly
 pub mod KindsByOrder
-pub mod ByOperators

@@ -33,18 +33,6 @@ pub record IsReadable (sig : Signature) : Type 0 where
   pub precedences : (f : ℕ) (o : Operator) → IsOperator sig f o → o.prec < 128
   pub assoc : (f : ℕ) (o : Operator) → IsOperator sig f o → IsTrue o.assoc → (K : ℕ) × (L : ℕ) × (o.args ≡ K ∷ L ∷ []) × SameKind sig K o.result × SameKind sig L o.result
 
--- The same by a test, where `kind` gives each kind one of its numbers. These are two arguments of the result's kind.
-abbrev pub IsJoined : (ℕ → ℕ) → List ℕ → ℕ → Type 0
-IsJoined kind args result = (K : ℕ) × (L : ℕ) × (args ≡ K ∷ L ∷ []) × (kind K ≡ kind result) × (kind L ≡ kind result)
-
--- one operator is as it must be, with so many sorts
-pub record IsReadableOperator (kind : ℕ → ℕ) (sorts : ℕ) (o : Operator) : Type 0 where
-  pub name : IsName (items_of o.spelling)
-  pub args : All (λ K. K ≤ sorts) o.args
-  pub result : o.result ≤ sorts
-  pub precedence : o.prec < 128
-  pub assoc : IsTrue o.assoc → IsJoined kind o.args o.result
-
 -- variables have sorts that are declared
 abbrev pub AreVariables : Signature → List Variable → Type 0
 AreVariables sig variables = (x : Variable) → Member x variables → IsWithin sig x.sort

@@ -12,9 +12,7 @@ mod leaves;
 mod mixing;
 mod names;
 mod parts;
-mod readable;
 
 pub use form::{Form, Part};
 pub use grammar::{Grammar, Words, trees_are_terms};
 pub use kinds::kinds_of;
-pub use readable::is_readable;

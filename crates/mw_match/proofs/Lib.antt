@@ -1,5 +1,4 @@
 pub mod Matching
 pub mod Solving
 pub mod Pairs
-pub mod Letters
 pub mod Sorting

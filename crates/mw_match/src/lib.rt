@@ -9,6 +9,3 @@ mod sorts;
 pub use by_position::{all_match, matches};
 pub use solutions::{Solution, Solutions};
 pub use sorts::have_sorts;
-
-#[cfg(test)]
-mod tests;

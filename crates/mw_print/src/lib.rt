@@ -10,6 +10,3 @@ mod writer;
 pub use laws::{printed_lexes, printed_proper, printed_spells};
 pub use printing::mixfix;
 pub use sorts::{print_sort, print_sorted};
-
-#[cfg(test)]
-mod tests;

@@ -85,15 +85,6 @@ counted_track M k =
     let a = applied_moves M k.items k.values in
     (count_tree [] ms e ∙ a, steps_tree [] ms ∙ a, rules_tree [] ms e)
 
-outward-more : (n : ℕ) → outward n ++ Leave ∷ [] ≡ outward (suc n)
-outward-more zero = refl
-outward-more (suc n) = ap (λ xs. Leave ∷ xs) (outward-more n)
-
-pub outward_on : (xs ys zs : List Item) (n : ℕ) → ys ≡ xs ++ outward n → zs ≡ ys ++ Leave ∷ [] → zs ≡ xs ++ outward (n + 1)
-outward_on xs ys zs n e f =
-    let k : suc n ≡ n + 1 = omega arith in
-    f ∙ ap (λ us. us ++ Leave ∷ []) e ∙ append_assoc xs (outward n) (Leave ∷ []) ∙ ap (λ us. xs ++ us) (outward-more n) ∙ ap (λ j. xs ++ outward j) k
-
 -- leaving takes no values and applies nothing
 pub needed_outward : (n : ℕ) → needed (outward n) ≡ 0
 needed_outward zero = refl
@@ -129,7 +120,3 @@ keeps_applied xs xs' k c vs vs' ws n n' e f l m h =
     let w : stepped (xs ++ Apply k c ∷ []) ≡ stepped xs + 1 = omega (arith, q) in
     let z : n' ≡ min (stepped xs + 1) (2 ^ 64 - 1) = grind (arith, m, b) in
     (ap needed e ∙ u ∙ ap length (sym f), z ∙ ap (λ s. min s (2 ^ 64 - 1)) (sym w ∙ ap stepped (sym e)))
-
-pub keeps_left : {A B : Type 0} (r : Result A B) (xs xs' : List Item) (vs : List RawTerm) (n : ℕ) → IfOk r (λ _. Leaves xs xs') → IfErr r (λ _. xs' ≡ xs) → Keeps xs vs n → Keeps xs' vs n
-keeps_left (Ok a) xs xs' vs n l e k = ⊎_elim (λ h. keeps_more xs xs' (Leave ∷ []) vs n h refl refl k) (λ h. keeps_less xs xs' h.0 h.1 vs n h.2 k) l
-keeps_left (Err b) xs xs' vs n l e k = rw e k

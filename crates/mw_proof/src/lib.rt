@@ -10,6 +10,3 @@ pub use proved::{Proved, refl, then, under};
 pub use reason::Reason;
 pub use replacing::{By, replace};
 pub use trail::{Item, Level, Trail};
-
-#[cfg(test)]
-mod tests;

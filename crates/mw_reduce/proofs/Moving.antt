@@ -203,20 +203,6 @@ fit_grown vs vs' ws fs e a = rw e (all_fit_more vs ws fs a)
 pub means_open : (M : Module) (n : ℕ) (t0 : RawTerm) (s' : Running) → s'.top.done.items ≡ [] → Holds M n t0 s'.kept.items s'.kept.values s'.below (here (opened s'.kept.values s'.top)) → MeansRunning M n t0 s'
 means_open M n t0 s' e h = record { holds = h; done = rw e tt }
 
--- the start
-pub means_start : (M : Module) (n : ℕ) (t : RawTerm) (s : Running) → IsTrue (is_ground t) → IsRawTerm M.signature t → height t ≤ 1000 → s.kept.items ≡ [] → s.kept.values ≡ [] → s.below ≡ []
-    → t ≡ here (opened s.kept.values s.top) → s.top.done.items ≡ [] → MeansRunning M n t s
-means_start M n t s g w h i v b e d =
-    let a : At M (Held M n) (Fails M n) t [] [] t = begins M (Held M n) (Fails M n) t g w h in
-    let a' : At M (Held M n) (Fails M n) t (moves M s.kept.items s.kept.values) (stack s.kept.values s.below) t = rw (i, b) a in
-    record {
-      holds = record {
-        at = subst (λ x. At M (Held M n) (Fails M n) t (moves M s.kept.items s.kept.values) (stack s.kept.values s.below) x) e a';
-        values = λ j u k. let k' = rw v at k in cc;
-      };
-      done = rw d tt;
-    }
-
 -- no step at all
 pub means_none : {sig : Signature} (M : Module) (n : ℕ) (eqs : Equations) (d : Describes M n sig eqs) (m : ℕ) (r : Reduced) (t : RawTerm) → IsTrue (is_ground t) → IsRawTerm M.signature t → height t ≤ 1000
     → r.outcome ≡ Stopped Rewrites → r.term ≡ t → r.kept.items ≡ [] → m ≡ 0 → IsReduced M n t m r

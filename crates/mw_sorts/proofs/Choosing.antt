@@ -95,9 +95,6 @@ candidate-kept sig ds alive these R j d h e b = record {
   ];
 }
 
-pub results-below : (sig : Signature) (ds : List Declaration) (alive : List ℕ) (R : Sorted) → ((Q : Sorted) → IsResultAmong ds alive Q → IsBelow sig R Q) → IsBelowThese sig ds alive R
-results-below sig ds alive R h k d m e = h d.result (k, d, m, e, refl)
-
 -- where the candidate isn't the least result, there is none
 pub none_least : (sig : Signature) (ds : List Declaration) (K : ℕ) (alive : List ℕ) (R : Sorted) → IsResultAmong ds alive R → ((Q : Sorted) → IsLeastAmong sig ds alive Q → IsBelow sig R Q)
     → (((Q : Sorted) → IsResultAmong ds alive Q → IsBelow sig R Q) → ⊥) → IsEndOf sig ds K alive None

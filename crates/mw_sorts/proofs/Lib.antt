@@ -13,4 +13,3 @@ pub mod Layers
 pub mod Marking
 pub mod Tabling
 pub mod Looking
-pub mod Testing

@@ -5,4 +5,3 @@ pub mod Sorting
 pub mod States
 pub mod Marks
 pub mod Faults
-pub mod Tested

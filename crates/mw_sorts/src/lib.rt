@@ -12,8 +12,6 @@ mod narrow;
 mod sorting;
 mod states;
 mod tables;
-#[cfg(test)]
-mod tests;
 
 pub use least::least_sort;
 pub use tables::{Tables, TablesError};

@@ -28,10 +28,6 @@ pub last_in : (es : List (Vec ℕ × Module)) (e : Vec ℕ × Module) → slice_
 last_in [] e h = cc
 last_in (d ∷ es) e h = let n : length (d ∷ es) - 1 ≡ length es = omega arith in last_from d es e (ap (slice_get (d ∷ es)) (sym n) ∙ h)
 
-pub none_last : (es : List (Vec ℕ × Module)) → length es ≡ 0 → last_module (modules_in es) ≡ None
-none_last [] h = refl
-none_last (e ∷ es) h = absurd (omega (arith, h))
-
 pub modules_push : (es : List (Vec ℕ × Module)) (e : Vec ℕ × Module) → modules_in (es ++ e ∷ []) ≡ modules_in es ++ e.1 ∷ []
 modules_push [] e = refl
 modules_push (d ∷ es) e = ap (λ ms. d.1 ∷ ms) (modules_push es e)

@@ -14,8 +14,6 @@ ghost use Rattle.mw_top.specs.Outputs.{IsOutput, AgreeInRefusal, IsBegun, IsCut,
 mod reduction;
 mod session;
 mod streams;
-#[cfg(test)]
-mod tests;
 mod units;
 
 use mw_block::refusal;
