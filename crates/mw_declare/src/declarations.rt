@@ -54,16 +54,15 @@ fn all_declared<'u>(
     ensures declared { IfOk result (λ d. seen_declarations d ≡ declarations_with hierarchy operators.entry typing.now (seen_statements statements.now)) }
     ensures order { IfOk result (λ d. d.order ≡ record { sorts = length d.signature.sorts; pairs = d.signature.pairs }) }
 {
-    let Hierarchy {
-        names,
-        pairs,
-        order,
-    } = hierarchy;
-    let variables = typing.variables(alloc, &names)?;
+    let operators = operators.list(alloc)?;
+    let variables = typing.variables(alloc, &hierarchy.names)?;
+    let sorts = hierarchy.names.list(alloc)?;
+    let equations = equations(alloc, statements)?;
+    let Hierarchy { pairs, order, .. } = hierarchy;
     let signature = Signature {
-        sorts: names.list(alloc)?,
+        sorts,
         pairs: Seq::of(pairs),
-        operators: operators.list(alloc)?,
+        operators,
         nat: false,
         qid: false,
     };
@@ -71,7 +70,7 @@ fn all_declared<'u>(
         signature,
         order,
         variables,
-        equations: equations(alloc, statements)?,
+        equations,
     })
 }
 

@@ -12,7 +12,7 @@ use std::marker::Model;
 /// Names, each once, in order of first mention.
 #[derive(Drop)]
 pub struct Names {
-    set: IndexSet<Vec<u8>>,
+    set: Box<IndexSet<Vec<u8>>>,
 }
 
 impl Model for Names {
@@ -21,16 +21,15 @@ impl Model for Names {
 
     ghost Value = { List (List ℕ) };
 
-    ghost view = { λ m. map (λ (n : Vec ℕ). n.items) m.set.keys };
+    ghost view = { λ m. map (λ (n : Vec ℕ). n.items) m.set.value.keys };
 }
 
 impl Names {
-    pub fn new(alloc: Global) -> Names
-        ensures { result ≡ [] }
+    pub fn new(alloc: Global) -> Result<Names, AllocError>
+        ensures { IfOk result (λ names. names ≡ []) }
     {
-        Names {
-            set: IndexSet::new(alloc),
-        }
+        let set = Box::new(alloc, IndexSet::new(alloc))?;
+        Ok(Names { set })
     }
 
     /// Adds a name behind the others, unless it is there.

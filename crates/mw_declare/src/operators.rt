@@ -60,7 +60,7 @@ fn declaration_of(alloc: Global, rank: &Rank) -> Result<Declaration, AllocError>
 /// Operators, each once with its declarations and what they say of it, in order of first mention.
 #[derive(Drop)]
 pub struct Operators<'u> {
-    table: IndexMap<Profile, Said<'u>>,
+    table: Box<IndexMap<Profile, Said<'u>>>,
 }
 
 impl<'u> Model for Operators<'u> {
@@ -71,16 +71,15 @@ impl<'u> Model for Operators<'u> {
 
     ghost use Rattle.mw_declare.specs.Seen.{seen_operator};
 
-    ghost view = { λ m. map seen_operator m.table.entries };
+    ghost view = { λ m. map seen_operator m.table.value.entries };
 }
 
 impl<'u> Operators<'u> {
-    fn new(alloc: Global) -> Operators<'u>
-        ensures { result ≡ [] }
+    fn new(alloc: Global) -> Result<Operators<'u>, AllocError>
+        ensures { IfOk result (λ operators. operators ≡ []) }
     {
-        Operators {
-            table: IndexMap::new(alloc),
-        }
+        let table = Box::new(alloc, IndexMap::new(alloc))?;
+        Ok(Operators { table })
     }
 
     /// Adds an operator behind the others; if it is there, it is declared again.
@@ -93,7 +92,8 @@ impl<'u> Operators<'u> {
     ) -> Result<(), AllocError>
         ensures { OnOk result (self.new ≡ with_operator self.old (seen_profile profile) declaration (seen_attributes attributes.entry)) }
     {
-        if let Some(known) = self.table.get_mut(&profile) {
+        let table = &mut *self.table;
+        if let Some(known) = table.get_mut(&profile) {
             known.declarations.push(declaration)?;
             known.attributes = known.attributes.joined(attributes);
             return Ok(());
@@ -104,7 +104,7 @@ impl<'u> Operators<'u> {
             declarations,
             attributes,
         };
-        self.table.insert(profile, said)?;
+        table.insert(profile, said)?;
         Ok(())
     }
 
@@ -158,7 +158,7 @@ impl<'u> Operators<'u> {
         ensures { IfOk result (λ os. os ≡ map operator_with self.entry) }
     {
         let mut operators = Vec::new(alloc);
-        for (profile, said) in self.table {
+        for (profile, said) in Box::into_inner(self.table) {
             operators.push(operator_of(alloc, profile, said)?)?;
         }
         Ok(Seq::of(operators))
@@ -174,7 +174,7 @@ pub fn all_operators<'u>(
     requires { unknown_from hierarchy.now.names (seen_statements statements.now) ≡ None }
     ensures { IfOk result (λ os. os ≡ operators_from hierarchy.now [] (seen_statements statements.now)) }
 {
-    let mut operators = Operators::new(alloc);
+    let mut operators = Operators::new(alloc)?;
     let mut rest = statements;
     while let [statement, after @ ..] = rest {
         if let Form::Operators {

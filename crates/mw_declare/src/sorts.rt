@@ -31,7 +31,7 @@ fn add_names(alloc: Global, sorts: &mut Names, names: &[Token]) -> Result<(), Al
 pub fn all_sorts(alloc: Global, statements: &[Lined<'_>]) -> Result<Names, AllocError>
     ensures { IfOk result (λ names. names ≡ sorts_of (seen_statements statements.now)) }
 {
-    let mut sorts = Names::new(alloc);
+    let mut sorts = Names::new(alloc)?;
     let mut rest = statements;
     while let [statement, after @ ..] = rest {
         if let Form::Sorts { names } = &statement.form {

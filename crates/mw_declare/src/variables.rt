@@ -17,7 +17,7 @@ use std::marker::Model;
 /// Variables' names, each with the name of its sort, in order of first mention.
 #[derive(Drop)]
 pub struct Typing {
-    sorts: IndexMap<Vec<u8>, Vec<u8>>,
+    sorts: Box<IndexMap<Vec<u8>, Vec<u8>>>,
 }
 
 impl Model for Typing {
@@ -26,16 +26,15 @@ impl Model for Typing {
 
     ghost Value = { List (List ℕ × List ℕ) };
 
-    ghost view = { λ m. map (λ (e : Vec ℕ × Vec ℕ). (e.0.items, e.1.items)) m.sorts.entries };
+    ghost view = { λ m. map (λ (e : Vec ℕ × Vec ℕ). (e.0.items, e.1.items)) m.sorts.value.entries };
 }
 
 impl Typing {
-    fn new(alloc: Global) -> Typing
-        ensures { result ≡ [] }
+    fn new(alloc: Global) -> Result<Typing, AllocError>
+        ensures { IfOk result (λ typing. typing ≡ []) }
     {
-        Typing {
-            sorts: IndexMap::new(alloc),
-        }
+        let sorts = Box::new(alloc, IndexMap::new(alloc))?;
+        Ok(Typing { sorts })
     }
 
     /// The sort of a variable.
@@ -107,7 +106,7 @@ pub fn all_typed(
 ) -> Result<Result<Typing, Fault>, AllocError>
     ensures { IfOk result (λ r. seen_typing r ≡ typing_of (seen_statements statements.now)) }
 {
-    let mut typing = Typing::new(alloc);
+    let mut typing = Typing::new(alloc)?;
     let mut rest = statements;
     while let [statement, after @ ..] = rest {
         if let Form::Variables { names, sort } = &statement.form {

@@ -5,4 +5,4 @@ use Rattle.mw_declare.proofs.names.Names.list.Goals as goal
 pub returns : goal.returns
 returns c =
     c.of-2.ensures ∙ c.loop-name.invariant ∙ held_front c.as_slice-name-items.result.now c.loop-name.name-index c.loop-name-test.false
-    ∙ ap names_held c.as_slice-name-items.ensures.keys ∙ c.self.view_is
+    ∙ ap names_held c.as_slice-name-items.ensures.keys ∙ ap (λ s. names_held s.keys) c.deref.ensures ∙ c.self.view_is

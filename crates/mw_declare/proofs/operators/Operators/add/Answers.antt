@@ -19,7 +19,8 @@ returns-in-Some c =
     ap (λ (ds : List Declaration). let o : Declared = record { profile = seen_profile q; declarations = ds; attributes = seen_attributes c.joined-known.result } in o) c.in_ok-push.ensures.items
     ∙ ap (λ (a : Attributes). let o : Declared = record { profile = seen_profile q; declarations = c.in-Some.known.now.declarations.items ++ c.args.declaration ∷ []; attributes = a } in o)
     c.joined-known.ensures)
-    c.self.inside.table.entries (sym c.in-Some.ensures.value)
+    c.deref_mut-table.result.now.entries (sym c.in-Some.ensures.value)
+    ∙ ap (λ t. with_operator (operators_held t.entries) (seen_profile c.args.profile) c.args.declaration said) c.deref_mut-table.ensures.value
     ∙ ap (λ os. with_operator os (seen_profile c.args.profile) c.args.declaration said) c.self.view_is
 
 pub returns : goal.returns
@@ -31,5 +32,6 @@ returns c =
     ∙ held_new _ (λ p q. refl) c.args.profile c.args.declaration said w
     (ap (λ (ds : List Declaration). let o : Declared = record { profile = seen_profile c.args.profile; declarations = ds; attributes = said } in o)
     (c.in_ok-push-2.ensures.items ∙ ap (λ ds. ds ++ c.args.declaration ∷ []) c.new-declarations.ensures.items))
-    c.self.inside.table.entries (sym c.in_default.ensures.value)
+    c.deref_mut-table.result.now.entries (sym c.in_default.ensures.value)
+    ∙ ap (λ t. with_operator (operators_held t.entries) (seen_profile c.args.profile) c.args.declaration said) c.deref_mut-table.ensures.value
     ∙ ap (λ os. with_operator os (seen_profile c.args.profile) c.args.declaration said) c.self.view_is
