@@ -4,7 +4,7 @@ use Rattle.std.proofs.Common.{arith, subst, sym, ◌∙◌, append-nil}
 use Rattle.mw_logic.specs.Term.{RawTerm, RawTerms, nil, cons, join, Frame, Context, plug}
 use Rattle.mw_logic.specs.Axioms.{done}
 use Rattle.mw_logic.specs.Substitution.{Substitution}
-use Rattle.mw_logic.specs.Parts.{ReplacesPart}
+use Rattle.mw_logic.specs.Parts.{IsClean, ReplacesPart}
 use Rattle.mw_logic.specs.Module.{Fragment, Module, Row}
 use Rattle.mw_logic.specs.Proof.{Proof, reflexivity, equality, congruence, transitivity, replacement, row, Proofs, rules, rules_of, steps, steps_of, count, count_of}
 use Rattle.mw_logic.specs.Proof as proof
@@ -107,8 +107,8 @@ module _ (M : Module) (H : List Fragment → Substitution → Proofs → Substit
   replaces_leads k by_rule s es {w = w} {v = v} r x =
       around by_rule (replacement k by_rule s es) r (subst (λ C. Leads M (ReplacesPart M.signature) H F C (replacement k by_rule s es) w v) (sym (append-nil r.place)) (x, stepped by_rule r))
 
-  pub row_leads : {t w v u : RawTerm} (r : ReplacesPart M.signature false t w v u) → Row M.signature (IsNormalBy M F) w v → Leads M (ReplacesPart M.signature) H F [] (at_place r.place row) t u
-  row_leads {w = w} {v = v} r x = around false row r (subst (λ C. Leads M (ReplacesPart M.signature) H F C row w v) (sym (append-nil r.place)) (x, stepped false r))
+  pub row_leads : {t w v u : RawTerm} (r : ReplacesPart M.signature false t w v u) → Row M.signature (IsNormalBy M F) w v → IsClean M.signature w → Leads M (ReplacesPart M.signature) H F [] (at_place r.place row) t u
+  row_leads {w = w} {v = v} r x c = around false row r (subst (λ C. Leads M (ReplacesPart M.signature) H F C row w v) (sym (append-nil r.place)) (x, c, stepped false r))
 
 -- a statement that replaces a part of t proves what it makes of t
 pub Proves-replacement : (M : Module) (n k : ℕ) (by_rule : Bool) (s : Substitution) (es : Proofs) {t w v u : RawTerm} (r : ReplacesPart M.signature by_rule t w v u) →
@@ -118,7 +118,7 @@ Proves-replacement M zero k by_rule s es r x = replaces_leads M (Held M 0) (Fail
 Proves-replacement M (suc n) k by_rule s es r x = replaces_leads M (Held M (suc n)) (Fails M (suc n)) k by_rule s es r x
 
 -- and so does a row of the schemata
-pub Proves-row : (M : Module) (n : ℕ) {t w v u : RawTerm} (r : ReplacesPart M.signature false t w v u) → Row M.signature (IsNormal M n) w v → Proves M n (at_place r.place row) t u
+pub Proves-row : (M : Module) (n : ℕ) {t w v u : RawTerm} (r : ReplacesPart M.signature false t w v u) → Row M.signature (IsNormal M n) w v → IsClean M.signature w → Proves M n (at_place r.place row) t u
 unfolding judgements_with
-Proves-row M zero r x = row_leads M (Held M 0) (Fails M 0) r x
-Proves-row M (suc n) r x = row_leads M (Held M (suc n)) (Fails M (suc n)) r x
+Proves-row M zero r x c = row_leads M (Held M 0) (Fails M 0) r x c
+Proves-row M (suc n) r x c = row_leads M (Held M (suc n)) (Fails M (suc n)) r x c

@@ -195,7 +195,7 @@ module _ (M : Module) (well : IsWellFormed M) where
           kind : (f : ℕ) (ts us : RawTerms) (K : ℕ) → HasKind M.signature (apply f ts) K → HasKind M.signature (apply f us) K
           kind f ts us K (of_operator o e k) = of_operator o e k
       leads_raw (replacement k r s es) C t u (x, step) raw = replacement_led k r s es t u x raw
-      leads_raw row C t u (x, step) raw = row_led t u x raw
+      leads_raw row C t u (x, c, step) raw = row_led t u x raw
 
       arguments_raw : (ps : Proofs) (C : Context) (f : ℕ) (finished ts us : RawTerms) → LeadsIn M Step H F C f finished ps ts us → {Ks : List ℕ} → AreRawTerms M.signature ts Ks → AreRawTerms M.signature us Ks
       arguments_raw proof.nil C f finished ts us (a, b) {Ks} raw = subst (λ us. AreRawTerms M.signature us Ks) (sym b) (subst (λ ts. AreRawTerms M.signature ts Ks) a raw)

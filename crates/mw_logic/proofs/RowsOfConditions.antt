@@ -119,7 +119,7 @@ module _ (H : List Fragment → Substitution → proof.Proofs → Substitution �
   from_b : (p : Proof) (u : RawTerm) → Leads CE (ReplacesPart sig) H F [] p b u → b ≡ u
   from_b p u l =
       free_equal sig free
-      (led_to_equal CE (ReplacesPart sig) H F (λ t. b ≡ t) (λ t u e q. q ∙ free_equal sig free e) no_replacement (λ t w v u q r p. bare_no_row sig (bare_from_free sig free) r) p [] b u refl l)
+      (led_to_equal CE (ReplacesPart sig) H F (λ t. b ≡ t) (λ t u e q. q ∙ free_equal sig free e) no_replacement (λ t w v u q r c p. bare_no_row sig (bare_from_free sig free) r) p [] b u refl l)
 
 b_evaluates : (n : ℕ) (p : Proof) (u : RawTerm) → Proves CE n p b u → b ≡ u
 unfolding judgements_with

@@ -327,7 +327,7 @@ module _ (H : List Fragment → Substitution → Proofs → Substitution → Typ
       both_ways _ no_head (ap (has_operator 6) (normal_form-kept sig accepted e) ∙ head_at_part p.place p.part (instance s (variable Y)) t_raw p.is_part (trans e' p.same))
 
   from_abc : (p : Proof) (u : RawTerm) → Leads HD (ReplacesPart sig) H F [] p abc u → EqualModulo sig abc u
-  from_abc p u l = led_to_equal HD (ReplacesPart sig) H F IsAbc (λ t u e q. trans q e) no_replacement (λ t w v u q r p. bare_no_row sig bare r) p [] abc u done l
+  from_abc p u l = led_to_equal HD (ReplacesPart sig) H F IsAbc (λ t u e q. trans q e) no_replacement (λ t w v u q r c p. bare_no_row sig bare r) p [] abc u done l
 
 abc_evaluates : (n : ℕ) (p : Proof) (u : RawTerm) → Proves HD n p abc u → EqualModulo sig abc u
 unfolding judgements_with

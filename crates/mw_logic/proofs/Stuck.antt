@@ -6,6 +6,7 @@ use Rattle.mw_logic.specs.Term as term
 use Rattle.mw_logic.specs.Axioms.{EqualModulo, done}
 use Rattle.mw_logic.specs.Substitution.{Substitution}
 use Rattle.mw_logic.specs.Module.{Module, Fragment, Row}
+use Rattle.mw_logic.specs.Parts.{IsClean}
 use Rattle.mw_logic.specs.Proof.{Proof, reflexivity, equality, congruence, transitivity, replacement, row, Proofs}
 use Rattle.mw_logic.specs.Proof as proof
 use Rattle.mw_logic.specs.Judgements.{StepTest, Replaces, Leads, LeadsIn, IsNormalBy}
@@ -15,7 +16,7 @@ use Rattle.mw_logic.proofs.SortLaws.{join_assoc}
 module _ (M : Module) (Step : StepTest) (H : List Fragment → Substitution → Proofs → Substitution → Type 0) (F : List Fragment → Substitution → Type 0)
     (Q : RawTerm → Type 0) (kept : (t u : RawTerm) → EqualModulo M.signature t u → Q t → Q u)
     (no_statement : (k : ℕ) (by_rule : Bool) (s : Substitution) (es : Proofs) (t w v u : RawTerm) → Q t → Replaces M H F k by_rule s es w v → Step by_rule t w v u → ⊥)
-    (no_row : (t w v u : RawTerm) → Q t → Row M.signature (IsNormalBy M F) w v → Step false t w v u → ⊥) where
+    (no_row : (t w v u : RawTerm) → Q t → Row M.signature (IsNormalBy M F) w v → IsClean M.signature w → Step false t w v u → ⊥) where
   mutual
     pub led_to_equal : (p : Proof) (C : Context) (t u : RawTerm) → Q (plug C t) → Leads M Step H F C p t u → EqualModulo M.signature t u
     led_to_equal reflexivity C t u q l = subst (λ u. EqualModulo M.signature t u) l done
@@ -25,7 +26,7 @@ module _ (M : Module) (Step : StepTest) (H : List Fragment → Substitution → 
     led_to_equal (congruence ps) C t u q (f, ts, us, a, b, l) =
         subst (λ t. EqualModulo M.signature t u) (sym a) (subst (λ u. EqualModulo M.signature (apply f ts) u) (sym b) (arguments_led ps C f term.nil ts us (subst (λ t. Q (plug C t)) a q) l))
     led_to_equal (replacement k by_rule s es) C t u q (x, step) = absurd (no_statement k by_rule s es (plug C t) t u (plug C u) q x step)
-    led_to_equal row C t u q (x, step) = absurd (no_row (plug C t) t u (plug C u) q x step)
+    led_to_equal row C t u q (x, c, step) = absurd (no_row (plug C t) t u (plug C u) q x c step)
 
     arguments_led : (ps : Proofs) (C : Context) (f : ℕ) (finished ts us : RawTerms) → Q (plug C (apply f (join finished ts))) → LeadsIn M Step H F C f finished ps ts us →
         EqualModulo M.signature (apply f (join finished ts)) (apply f (join finished us))

@@ -29,7 +29,7 @@ module _ (M : Module) (Step Tep : StepTest) (j : (r : Bool) (t w v u : RawTerm) 
     weaker (congruence ps) C t u (f, ts, us, a, b, l) = (f, ts, us, a, b, weaker_in ps C f term.nil ts us l)
     weaker (transitivity p q) C t u (m, a, b) = (m, weaker p C t m a, weaker q C m u b)
     weaker (replacement k r s es) C t u (x, y) = (x, j _ _ _ _ _ y)
-    weaker row C t u (x, y) = (x, j _ _ _ _ _ y)
+    weaker row C t u (x, c, y) = (x, c, j _ _ _ _ _ y)
 
     weaker_in : (ps : Proofs) (C : Context) (f : ℕ) (d ts us : RawTerms) → LeadsIn M Step H F C f d ps ts us → LeadsIn M Tep H F C f d ps ts us
     weaker_in proof.nil C f d ts us l = l
@@ -61,7 +61,7 @@ module _ (M : Module) (free : IsFreeModule M) (Step : StepTest) (H I : List Frag
     leads_by (congruence ps) C t u (f, ts, us, a, b, l) = (f, ts, us, a, b, leads_by_in ps C f term.nil ts us l)
     leads_by (transitivity p q) C t u (m, a, b) = (m, leads_by p C t m a, leads_by q C m u b)
     leads_by (replacement k r s es) C t u (x, y) = (replaces_by k r s es t u x, y)
-    leads_by row C t u (x, y) = absurd (bare_no_row M.signature (bare_from_free M.signature free.signature) x)
+    leads_by row C t u (x, c, y) = absurd (bare_no_row M.signature (bare_from_free M.signature free.signature) x)
 
     leads_by_in : (ps : Proofs) (C : Context) (f : ℕ) (d ts us : RawTerms) → LeadsIn M Step H F C f d ps ts us → LeadsIn M Step I G C f d ps ts us
     leads_by_in proof.nil C f d ts us l = l
