@@ -226,6 +226,38 @@ pub struct Compiled {
     pub names: Names,
 }
 
+/// The table of these forms, by the numbers of names.
+fn table(
+    alloc: Global,
+    names: &mut Names,
+    sorts: u32,
+    kinds: u32,
+    forms: &[Form],
+) -> Result<Table, AllocError>
+    requires sorts { sorts < 2 ^ 31 }
+    requires kinds { sorts < kinds }
+    ensures { IfOk result (IsCompiled sorts forms.now names.new) }
+{
+    let groups = groups(alloc, sorts)?;
+    let open = token(alloc, names, b"(")?;
+    let close = token(alloc, names, b")")?;
+    let mut making = begin(alloc, kinds)?;
+    push_starts(alloc, &mut making, names, forms)?;
+    let Making {
+        steps,
+        wholes: _,
+        starts,
+    } = making;
+    Ok(Table {
+        steps,
+        starts,
+        groups,
+        open,
+        close,
+        kinds: sorts,
+    })
+}
+
 /// The table of these forms.
 pub fn compile(
     alloc: Global,
@@ -238,23 +270,6 @@ pub fn compile(
     ensures { IfOk result (λ r. IsCompiled sorts forms.now r.names r.table) }
 {
     let mut names = Names::new(alloc);
-    let open = token(alloc, &mut names, b"(")?;
-    let close = token(alloc, &mut names, b")")?;
-    let mut making = begin(alloc, kinds)?;
-    push_starts(alloc, &mut making, &mut names, forms)?;
-    let groups = groups(alloc, sorts)?;
-    let Making {
-        steps,
-        wholes: _,
-        starts,
-    } = making;
-    let table = Table {
-        steps,
-        starts,
-        groups,
-        open,
-        close,
-        kinds: sorts,
-    };
+    let table = table(alloc, &mut names, sorts, kinds, forms)?;
     Ok(Compiled { table, names })
 }

@@ -89,15 +89,15 @@ impl Grammar {
         ensures grammar { IfOk result (λ g. IsGrammarOf signature.now kinds.now variables.now g) }
         ensures table { IfOk result (λ g. IsTable g.table) }
     {
-        let Compiled { table, names } = table_of(alloc, signature, kinds)?;
         let sorts = copy_names(alloc, signature.sorts.as_slice())?;
-        let kinds = Seq::of(kinds.to_vec(alloc)?);
         let variables = copy_variables(alloc, variables)?;
+        let its_kinds = Seq::of(kinds.to_vec(alloc)?);
+        let Compiled { table, names } = table_of(alloc, signature, kinds)?;
         Ok(Grammar {
             table,
             names,
             sorts,
-            kinds,
+            kinds: its_kinds,
             variables,
         })
     }

@@ -10,6 +10,7 @@ ghost use Rattle.mw_pattern.specs.Compiled.{IsIndexOf};
 ghost use Rattle.mw_sorts.specs.Diagrams.{AreTablesOf};
 ghost use Rattle.mw_poset.specs.SortOrder.{order_of};
 ghost use Rattle.mw_term.specs.Signatures.{sorted_of};
+ghost use Rattle.mw_least.specs.Sure.{AreSure};
 
 use crate::sure::{Sure, sure_sorts};
 use mw_pattern::{Equations, index};
@@ -48,6 +49,30 @@ impl Model for Ctx {
     ghost invariant = { λ c. IsContext (record { signature = c.signature; statements = c.statements }) c.order c.tables c.sure c.equations };
 }
 
+/// What is kept with a module to work in it.
+#[derive(Drop)]
+struct Prepared {
+    sure: Sure,
+    equations: Equations,
+}
+
+/// What is kept with the module of this signature and these statements.
+fn prepare(
+    alloc: Global,
+    signature: &Signature,
+    order: &Poset,
+    statements: &[Statement],
+) -> Result<Prepared, AllocError>
+    requires simple { IsSimpleModule (record { signature = signature.now; statements = statements.now }) }
+    requires order { order.now ≡ order_of signature.now }
+    ensures sure { IfOk result (λ h. AreSure signature.now h.sure) }
+    ensures index { IfOk result (λ h. IsIndexOf statements.now h.equations) }
+{
+    let equations = index(alloc, statements)?;
+    let sure = sure_sorts(alloc, signature, order)?;
+    Ok(Prepared { sure, equations })
+}
+
 impl Ctx {
     /// The context of these operators and statements, with the order of the sorts and the operators' tables.
     pub fn new(
@@ -56,22 +81,22 @@ impl Ctx {
         order: Poset,
         tables: Tables,
         statements: Seq<Statement>,
-    ) -> Result<Ctx, AllocError>
+    ) -> Result<Box<Ctx>, AllocError>
         requires simple { IsSimpleModule (record { signature = signature; statements = statements }) }
         requires order { order ≡ order_of signature }
         requires tables { AreTablesOf signature tables }
-        ensures { IfOk result (λ c. c ≡ record { signature = signature; statements = statements }) }
+        ensures { IfOk result (λ c. c.value ≡ record { signature = signature; statements = statements }) }
     {
-        let equations = index(alloc, statements.as_slice())?;
-        let sure = sure_sorts(alloc, &signature, &order)?;
-        Ok(Ctx {
+        let prepared = prepare(alloc, &signature, &order, statements.as_slice())?;
+        let context = Ctx {
             signature,
             order,
             tables,
-            sure,
+            sure: prepared.sure,
             statements,
-            equations,
-        })
+            equations: prepared.equations,
+        };
+        Ok(Box::new(alloc, context)?)
     }
 
     /// The module is one that the engine works in.

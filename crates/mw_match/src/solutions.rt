@@ -4,6 +4,7 @@ ghost use Rattle.mw_logic.specs.Parts.{nested};
 ghost use Rattle.mw_logic.specs.Signature.{IsRawTerm};
 ghost use Rattle.mw_logic.specs.Substitution.{IsSubstitution};
 ghost use Rattle.mw_logic.specs.Term.{is_ground};
+ghost use Rattle.mw_machine.specs.Variables.{met, bound_variables};
 ghost use Rattle.mw_match.specs.Solutions.{IsAllSolutions, IsOnlySolution};
 ghost use Rattle.mw_canon.specs.Canonical.{meant};
 ghost use Rattle.mw_term.specs.Raws.{raw_term};
@@ -12,7 +13,7 @@ use crate::bindings::{bound, places_of, values_of};
 use crate::by_position::matches;
 use crate::sorts::have_sorts;
 use mw_least::Ctx;
-use mw_pattern::pattern_of;
+use mw_pattern::{Places, pattern_of};
 use mw_term::{Raw, Seq, Subst, Term};
 use std::alloc::{AllocError, Global};
 use std::marker::Model;
@@ -79,6 +80,37 @@ impl Solutions {
     }
 }
 
+/// The only solution that there can be where no operator has an axiom. `places` are those of the variables that were
+/// given, and behind them those of the pattern's others.
+fn solve_at(
+    alloc: Global,
+    context: &Ctx,
+    pattern: &Raw,
+    subject: &Term,
+    given: &Subst,
+    places: &Places<'_>,
+) -> Result<Option<Subst>, AllocError>
+    requires pattern { IsRawTerm context.now.signature (raw_term pattern.now) }
+    requires ground { IsTrue (is_ground subject.now) }
+    requires subject { IsRawTerm context.now.signature subject.now }
+    requires given { IsSubstitution context.now.signature given.now }
+    requires places { places.now ≡ met (bound_variables given.now) (raw_term pattern.now) }
+    ensures { IfOk result (λ o. IsOnlySolution context.now.signature (raw_term pattern.now) subject.now given.now o) }
+{
+    context.shows();
+    let positions = pattern_of(alloc, pattern, places)?;
+    let mut values = values_of(alloc, given)?;
+    if !matches(&positions, subject, &mut values)? {
+        return Ok(None);
+    }
+    let sorts = places.sorts(alloc)?;
+    if !have_sorts(context, values.as_slice(), sorts.as_slice()) {
+        return Ok(None);
+    }
+    let subst = bound(alloc, places, values.as_slice())?;
+    Ok(Some(subst))
+}
+
 /// The only solution that there can be where no operator has an axiom.
 fn solve(
     alloc: Global,
@@ -93,17 +125,6 @@ fn solve(
     requires given { IsSubstitution context.now.signature given.now }
     ensures { IfOk result (λ o. IsOnlySolution context.now.signature (raw_term pattern.now) subject.now given.now o) }
 {
-    context.shows();
     let places = places_of(alloc, given, pattern)?;
-    let positions = pattern_of(alloc, pattern, &places)?;
-    let mut values = values_of(alloc, given)?;
-    if !matches(&positions, subject, &mut values)? {
-        return Ok(None);
-    }
-    let sorts = places.sorts(alloc)?;
-    if !have_sorts(context, values.as_slice(), sorts.as_slice()) {
-        return Ok(None);
-    }
-    let subst = bound(alloc, &places, values.as_slice())?;
-    Ok(Some(subst))
+    solve_at(alloc, context, pattern, subject, given, &places)
 }

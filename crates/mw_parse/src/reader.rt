@@ -22,15 +22,15 @@ impl Reader {
         signature: &Signature,
         order: &Poset,
         variables: &[VarId],
-    ) -> Result<Reader, AllocError>
+    ) -> Result<Box<Reader>, AllocError>
         requires order { order.now ≡ order_of signature.now }
         requires readable { IsReadable signature.now }
         requires variables { AreVariables signature.now variables.now }
-        ensures reader { IfOk result (IsReaderOf signature.now variables.now) }
-        ensures reading { IfOk result IsReading }
+        ensures reader { IfOk result (λ r. IsReaderOf signature.now variables.now r.value) }
+        ensures reading { IfOk result (λ r. IsReading r.value) }
     {
         let kinds = kinds_of(alloc, signature, order)?;
         let grammar = Grammar::of(alloc, signature, kinds.as_slice(), variables)?;
-        Ok(Reader { grammar })
+        Ok(Box::new(alloc, Reader { grammar })?)
     }
 }

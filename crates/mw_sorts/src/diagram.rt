@@ -75,12 +75,12 @@ fn level(
     states: &States,
     place: usize,
     entries: &[Sorted],
-) -> Result<(Level, States), AllocError>
+) -> Result<(Level, Box<States>), AllocError>
     requires operator { IsOperatorOf sorting.now.signature operator.now }
     requires states { AreStatesOf operator.now.declarations states.now }
     requires kind { (K : ℕ) × (slice_get operator.now.args place ≡ Some K) × AreEntriesOf sorting.now K (map sorted_of entries.now) }
-    ensures states { IfOk result (λ r. AreStatesOf operator.now.declarations r.1) }
-    ensures level { IfOk result (λ r. IsLevelOf sorting.now.signature operator.now.declarations place (map sorted_of entries.now) states.now r.1 r.0) }
+    ensures states { IfOk result (λ r. AreStatesOf operator.now.declarations r.1.value) }
+    ensures level { IfOk result (λ r. IsLevelOf sorting.now.signature operator.now.declarations place (map sorted_of entries.now) states.now r.1.value r.0) }
 {
     let mut next = States::new(alloc);
     let mut rows = Vec::with_capacity(alloc, states.len())?;
@@ -88,12 +88,13 @@ fn level(
         let alive = states.get(number);
         rows.push(row(alloc, sorting, operator, alive, place, entries, &mut next)?)?;
     }
+    let next = Box::new(alloc, next)?;
     Ok((Seq::of(rows), next))
 }
 
 // All declarations.
-fn all_alive(alloc: Global, operator: &Operator) -> Result<States, AllocError>
-    ensures { IfOk result (IsStart operator.now.declarations) }
+fn all_alive(alloc: Global, operator: &Operator) -> Result<Box<States>, AllocError>
+    ensures { IfOk result (λ s. IsStart operator.now.declarations s.value) }
 {
     let mut all = Vec::with_capacity(alloc, operator.declarations.as_slice().len())?;
     for number in 0..operator.declarations.as_slice().len() {
@@ -101,7 +102,7 @@ fn all_alive(alloc: Global, operator: &Operator) -> Result<States, AllocError>
     }
     let mut states = States::new(alloc);
     states.number(all)?;
-    Ok(states)
+    Ok(Box::new(alloc, states)?)
 }
 
 // What stands behind the last argument.

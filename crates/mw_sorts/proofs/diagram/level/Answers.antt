@@ -1,4 +1,4 @@
-use Rattle.std.proofs.Common.{map, subst, sym, arith}
+use Rattle.std.proofs.Common.{ℕ, List, map, subst, sym, arith}
 use Rattle.mw_term.specs.Signatures.{sorted_of}
 use Rattle.mw_sorts.specs.Diagrams.{Level}
 use Rattle.mw_sorts.specs.States.{IsLevelOf}
@@ -15,6 +15,7 @@ returns-clause-level c =
     let high = c.loop-number-test.false in
     let low = c.loop-number.auto.number-end in
     let e = c.len-number-end.ensures in
-    subst (λ (l : Level). IsLevelOf c.args.sorting.now.signature c.args.operator.now.declarations c.args.place (map sorted_of c.args.entries.now) c.args.states.now c.loop-number.next l) (sym c.of.ensures)
+    subst (λ (ss : List (List ℕ)). IsLevelOf c.args.sorting.now.signature c.args.operator.now.declarations c.args.place (map sorted_of c.args.entries.now) c.args.states.now ss c.of.result) (sym c.in_ok-next.ensures.ok)
+    (subst (λ (l : Level). IsLevelOf c.args.sorting.now.signature c.args.operator.now.declarations c.args.place (map sorted_of c.args.entries.now) c.args.states.now c.loop-number.next l) (sym c.of.ensures)
     (level-done c.args.sorting.now.signature c.args.operator.now.declarations c.args.place (map sorted_of c.args.entries.now) c.loop-number.number c.args.states.now c.loop-number.next c.loop-number.rows.items (omega arith)
-    c.loop-number.invariant)
+    c.loop-number.invariant))

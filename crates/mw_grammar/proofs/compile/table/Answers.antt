@@ -3,7 +3,7 @@ use Rattle.mw_chart.specs.declared.table.Start.{Start}
 use Rattle.mw_chart.specs.declared.table.Step.TheVariants.{Whole}
 use Rattle.mw_grammar.specs.Compiled.{AreStartsOf}
 use Rattle.mw_grammar.proofs.Made.{number_grows, get_grows}
-use Rattle.mw_grammar.proofs.compile.compile.Goals as goal
+use Rattle.mw_grammar.proofs.compile.table.Goals as goal
 
 pub returns : goal.returns
 returns c =
