@@ -3,9 +3,9 @@
 //! `declare` answers the module's signature, the order of its sorts, its variables, and its equations as tokens with
 //! their lines and whether they are executable; or the first fault.
 //!
-//! - Sorts, operators and variables are numbered in the order of their first declaration, which may stand behind a use.
-//!   The pairs of a signature are those of all `subsort` statements, in the order of the text: for two groups side by
-//!   side each sort of the first below each of the second.
+//! - Sorts and operators are numbered, and variables stand, in the order of their first declaration, which may come
+//!   behind a use. The pairs of a signature are those of all `subsort` statements, in the order of the text: for two
+//!   groups side by side each sort of the first below each of the second.
 //! - An operator is a name with the kinds of its arguments and of its value, a kind being named by its least sort. Its
 //!   declarations are all those of that name and those kinds, each with its sorts; `[S]`, and each sort of a
 //!   declaration with `~>`, is the kind of S. A name is known by its prefix spelling, so `a b` and `` a`b `` are one.
