@@ -20,7 +20,7 @@
 //! `rebuild` ask besides (`free`) that the signature has no axiom, nothing built in and no numbers: the clauses are the
 //! general ones, and are kept for such signatures so far, in which a term is its own normal form (proofs/Free).
 //!
-//! Tested by mw_tests: that the calls answer with memory at hand. Neither: time.
+//! Tested by mw_tests: that calls answer with memory at hand. Neither: time.
 #![tactic(auto)]
 
 ghost use Rattle.std.specs.Prelude.{◌≡◌};

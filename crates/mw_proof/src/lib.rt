@@ -26,7 +26,7 @@
 //! so many arguments are open. Want of memory is the only error, also at a place among 2^32 arguments or more; after it
 //! a trail is as before.
 //!
-//! Tested by mw_tests: that the calls answer with memory at hand. Neither: time.
+//! Tested by mw_tests: that calls answer with memory at hand. Neither: time.
 #![tactic(auto)]
 
 mod proved;

@@ -12,9 +12,9 @@
 //! where they ask for nothing; `Memory` may come at any words, since clap allocates. The texts are those of
 //! specs/Texts. `number_in` parses, prints and compares, so that the text is the number's decimal form and no other.
 //!
-//! Tested by mw_tests, by a table of command lines: that the definition is the command set that is meant. Trusted: that
-//! clap's definitions (`fault_of`, `subcommand_of`) are what its users know as its behaviour; its code is proved to
-//! meet them.
+//! Tested by mw_tests, by a table of command lines, and by sources in cases/: that the definition is the command set
+//! that is meant. Trusted: that clap's definitions (`fault_of`, `subcommand_of`) are what its users know as its
+//! behaviour; its code is proved to meet them.
 //!
 //! A new option is a line in `run_command` and in `run_app` of specs/CommandLine, a field of `Run` and its clause in
 //! `Asks`; a new subcommand a function of `command_line`, an arm of `read_words`, and a line of `mw_app` and of `Asks`.
