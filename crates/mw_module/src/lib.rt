@@ -13,10 +13,10 @@
 //! - The end of a unit is looked at first, then its head, then its statements in order, and in a form the first place
 //!   from the left that is at fault decides. A missing full stop comes last.
 //! - `op` has one name of one or more tokens, `ops` one or more, each a token or the tokens of a group in parentheses,
-//!   of which only parentheses are counted. The names end at the first colon, the argument sorts at the first arrow. An
-//!   equation is divided at the first `=` that no `( [ {` or `if` encloses; the label in front and the attributes at
-//!   the end (the group from the `[` that matches a last `]`, only these two counted, if its second token is an
-//!   attribute's) are taken off before.
+//!   of which only parentheses are counted. The names end at the first colon, the argument sorts at the first arrow.
+//!   Before an equation is divided, its label and its attributes (the group from the `[` that matches a last `]`, only
+//!   these two counted, if its second token is an attribute's) are taken off; a counter of `( [ { if` and `) ] } fi`,
+//!   never below 0, finds the `=`.
 //! - `Attributes` holds what a list says: a precedence, a gather, `config`, and whether two precedences or gathers
 //!   differ (`clash`). `joined` is what two lists say together.
 //! - [`FaultKind`] has the faults of all layers, one kind for each refusal that the program prints.
