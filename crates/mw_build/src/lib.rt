@@ -1,4 +1,28 @@
 //! Modules that were accepted: what their units declare, with their equations read and held for reduction.
+//!
+//! `build` makes a [`Module`] of a unit: its declarations (mw_declare), its operators' tables (mw_sorts), the reader of
+//! its terms (mw_parse), its equations as statements, and all this as a context (mw_least). `Module::term` reads a term
+//! in which the module's variables may stand.
+//!
+//! Faults come in this order, and the first one decides: those of the declarations; an operator without a least result
+//! on some sorts, at the line of the unit's first token; then equation after equation, with the equation's line. Of one
+//! equation: a side of more than 1,024 tokens; sides that spell no pair of terms of one kind, or two; the left side,
+//! then the right one, of more than 1,000 levels; and where it is executable, a left side that is a variable, or the
+//! first variable of the right side, in order of mention, that the left one hasn't.
+//!
+//! Proved:
+//!
+//! - `accepted`: the module is what the unit declares, and for each equation in order the statement whose sides its
+//!   texts spell, and no others of one kind (`IsAccepted`, specs/Modules).
+//! - `fault`: a fault is answered only where the unit has it, and it is the first (`IsRefused`; `FirstFault` of
+//!   specs/Equations).
+//! - The module is simple, as mw_least asks, and its signature has a grammar, as mw_parse asks (their `requires`).
+//! - `Module::term`: the one term that the tokens spell, a term of the signature; no term only above 1,024 tokens,
+//!   where they spell none, or two.
+//!
+//! The definitions speak of levels and of a lone variable modulo the axioms, so they are the same for operators with
+//! axioms; without axioms the tests on terms say what they ask (proofs/Sides). `Memory` may come at any call. Only
+//! tested, by the sources in cases/: that the definitions are what is meant. Neither: time.
 #![tactic(auto)]
 
 mod equations;

@@ -1,7 +1,17 @@
-//! Reads the commands of a source.
+//! Reads the commands of a source: `reduce`, also written `red`, and `parse`.
 //!
-//! Of the commands `reduce`, also written `red`, and `parse` are read: behind the word `in M :` may name a module, and
-//! what follows is the term. A bracket behind the word would be a bound, which these commands don't take.
+//! - A unit with any other first word, a module too, isn't in the profile.
+//! - Behind the word exactly `in`, one token and `:` name a module, and what follows is the term, which may be empty.
+//!   Else all that stands behind the word is the term, `in` too.
+//! - `in`, a name and a group in braces (only braces counted) with a colon directly behind would name an instance of a
+//!   parameterised module, which isn't in the profile; nor is `in { :`.
+//! - A `[` directly behind the word would begin a bound, which these commands don't take. The module's name is looked
+//!   at first, behind the first `]`.
+//!
+//! Proved of `read`, over `command_of` of specs/Commands: the answer is exactly the unit's command, with its word,
+//! module and term; a fault is answered exactly where the unit has one, with the unit's line: the word first, then a
+//! name with braces, then the bound. `Memory` may come at any call. Only tested, by the sources in cases/: that the
+//! definition is the language that is meant.
 #![tactic(auto)]
 
 mod commands;

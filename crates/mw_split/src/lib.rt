@@ -1,8 +1,22 @@
-//! All cuts of a list into contiguous parts, and of a multiset into parts, one after another.
+//! All cuts of a list into contiguous parts, and of a multiset into parts, one after another. It stands on nothing, and
+//! the program doesn't use it yet.
 //!
-//! A list of n elements is cut as a multiset of one element that stands n times. The cuts come in rising order of
-//! their entries, read from the first to the last, as in Knuth, The Art of Computer Programming, volume 4A,
-//! section 7.2.1: one cut is made from the one before it in place.
+//! A cut of a multiset of m different elements into k parts is a list of k m numbers, part by part: how many of each
+//! element the part has ([`BagSplits`]). A cut of a list is the list of its parts' lengths ([`ListSplits`], which cuts
+//! one element that stands n times). Parts may be empty. The cuts come in rising order of their entries, as in Knuth,
+//! The Art of Computer Programming, volume 4A, section 7.2.1: from its last entry back the cut is walked until an entry
+//! can grow; it grows by one, and those behind it become the first completion, in place.
+//!
+//! Contracts see `current`, the cut that the enumeration stands at, and `remaining`, the list of those to come. Proved:
+//!
+//! - `new` stands before the first cut, and `remaining` has every cut once (`AllOnce`, over `IsBagCut` and
+//!   `IsListCut`), in the order of `bag_cuts` and `list_cuts` (specs/Cuts).
+//! - `advance` moves the first of `remaining` to `current`, or answers false exactly where none is left, and for ever
+//!   after. `cut` gives the current cut, and can be called only after an `advance` that was true. Neither takes memory.
+//!
+//! Want of memory is the one error, also where a cut would have 2^64 entries or more. Tested by mw_tests: that `new`
+//! answers with memory at hand. Cost: an `advance` takes time in k m + m; 9 ns a cut of a list of 40 into 6, 27 ns a
+//! cut of six elements, three of each, into 3.
 #![tactic(auto)]
 
 ghost use Rattle.std.specs.Prelude.{◌≡◌, ℕ, ◌+◌, ◌-◌, ◌*◌, ◌<◌, ◌≤◌, List, [], ◌∷◌, ◌++◌, length, take, drop, sum, IfOk, IsTrue, true, false, Some, None, is_some, suc};

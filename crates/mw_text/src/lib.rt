@@ -1,5 +1,20 @@
 //! Which terms the tokens of a text spell: definitions, which the contracts of the reader and of the program cite; and
 //! names as pieces and holes.
+//!
+//! - **Names** (specs/Names): an operator's spelling as pieces and holes (`items_of`), and a name's prefix spelling as
+//!   one token. `first_item` takes the first item off a spelling, without memory: it gives that item and what stands
+//!   behind it, and none exactly where there is none. The law `spellings_read`: the prefix spelling of a name reads
+//!   back as its items.
+//! - **Mixfix** (specs/Mixfix) says which terms tokens spell (`Spells`), as a family by cases on the term, with a
+//!   precedence: variables, texts in parentheses, constants, prefix forms, and mixfix forms whose holes take
+//!   precedences by their marks. `Reads`: this term is spelled, and no other one (of a wanted sort's kind, where one is
+//!   wanted).
+//! - **Readings** (specs/Readings) says the same of two texts whose terms have one kind (`ReadsPair`).
+//!
+//! What is spelled is a raw term of the signature (proofs/RawTerms, also for associative operators). The language is
+//! Maude's mixfix syntax (Maude Manual, chapter 3) without its preference among readings.
+//!
+//! Only tested, by the sources in cases/: that the definition is the language that is meant.
 #![tactic(auto)]
 
 mod items;

@@ -1,5 +1,33 @@
-//! The program as one call: from the words of the command line and the bytes of a source to the bytes of its
-//! answer and a status.
+//! The program as one call: from the words of the command line and the bytes of a source to the bytes of its answer and
+//! a status.
+//!
+//! `alone` is the call, on one thread; `top` is the same with what may wait. They read the source to its end, cut it
+//! into tokens and answer its units one after another; each unit's text is written whole before the next unit is read.
+//!
+//! The clause `did`, over the record `Did` (specs/Call), says of each status what stands after it:
+//!
+//! - 0: the words ask for a run, the source was read to its end, and the texts of its units, in order, were written,
+//!   none of them a refusal (`IsOutput`); or they ask for help or the version, nothing was read, and that text was
+//!   written.
+//! - 1: the same with a refusal among the texts, or the one line for bytes that aren't tokens.
+//! - 2: the words ask for nothing; nothing was read; the usage line was written.
+//! - 3: the words ask for a run; the source's count of faults rose, after at most 8,388,608 bytes; nothing was written.
+//! - 4: the sink's count rose; it holds the texts of the first units and a proper prefix of the next one's, or a proper
+//!   prefix of the other texts.
+//! - 5: want of memory: the sink holds the texts of the first units, or what it held.
+//! - 6: the words ask for a run; exactly 8,388,609 bytes were given; nothing was written.
+//!
+//! The status is one of these, no count of faults falls, and at most 8,388,609 bytes are taken. What a unit gives is
+//! `Gives` (specs/Sources) and, of a command, `IsAnswer` (specs/Commands); after a refusal the accepted modules are as
+//! before. The clause `exact` (`IsExactFor`) adds, for bytes that are known, words that ask for a run, no failure and
+//! memory that didn't run out: 0 exactly where the bytes have an output without a refusal, 1 exactly where they have
+//! one with a refusal, 6 exactly where they are too many, and never another status. The law `outputs_agree`: no two
+//! outputs of the same bytes, by the same limit, differ in whether something is refused. docs/PROOFS.md says what it
+//! all comes to.
+//!
+//! No clause ties want of memory to a cause. Tested by mw_tests (runs over memory, one of each status but 5, with
+//! sources and sinks that fail) and by the sources in cases/: that the definitions are the program that is meant.
+//! Neither: time. `alone` returns; `top` may wait, and so promises only for its return.
 #![tactic(auto)]
 
 ghost use Rattle.std.specs.Prelude.{◌≡◌, ◌≢◌, ◌⊎◌, ◌≤◌, ℕ, List, length, true, false, IfSome, IsSome};

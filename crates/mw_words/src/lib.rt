@@ -1,4 +1,23 @@
 //! The words of the command line, read by clap: what they ask for, and the texts that answer `--help` and `--version`.
+//!
+//! - The first word is the program's name, whatever it is. `run`, with `--max N` or `--max=N` at most once, is a run; N
+//!   is a number from 1 to 10,000,000 in digits, with no sign and no zero in front, 1,000,000 without the option.
+//! - `--help` and `-h`, of the program and of `run`, ask for help, `--version` and `-V` of the program for the version.
+//!   Clap reads from the left: words behind such a wish say nothing, a word in front that it refuses is refused. What N
+//!   is is looked at last: `mw run --max 007 --help` is help.
+//! - There is no subcommand `help`. `mw run --` is `mw run`. Other words ask for nothing (`Usage`).
+//!
+//! What words ask for is a definition made of clap's own meaning (specs/Asked, `Asks`; specs/CommandLine is what clap
+//! is told). Proved: `read_words` answers what the words ask for, they ask for nothing else, and `Usage` comes only
+//! where they ask for nothing; `Memory` may come at any words, since clap allocates. The texts are those of
+//! specs/Texts. `number_in` parses, prints and compares, so that the text is the number's decimal form and no other.
+//!
+//! Tested by mw_tests, by a table of command lines, and by sources in cases/: that the definition is the command set
+//! that is meant. Trusted: that clap's definitions (`fault_of`, `subcommand_of`) are what its users know as its
+//! behaviour; its code is proved to meet them.
+//!
+//! A new option is a line in `run_command` and in `run_app` of specs/CommandLine, a field of `Run` and its clause in
+//! `Asks`; a new subcommand a function of `command_line`, an arm of `read_words`, and a line of `mw_app` and of `Asks`.
 #![tactic(auto)]
 
 ghost use Rattle.std.specs.Prelude.{◌≡◌, ◌≢◌, ◌⊎◌, ℕ, IfOk, IsErrOf};
