@@ -14,7 +14,7 @@ module _ (most : ℕ) (bytes : List ℕ) (old new : Option (List ℕ)) where
   done_output tokens bad e h = (h.text, answered tokens h.modules h.text bad e h.answered, h.written)
 
   pub begun_output : (tokens : List Seen) → tokens_of bytes ≡ Ok tokens → AreBegun most tokens old new → Wrote old new (IsBegun most bytes)
-  begun_output tokens e h = (h.text, units tokens h.at h.modules h.text h.bad e h.answered, h.written)
+  begun_output tokens e h = (h.text, units tokens h.at h.modules h.text h.bad e h.undone h.answered, h.written)
 
   pub cut_output : (tokens : List Seen) → tokens_of bytes ≡ Ok tokens → AreCut most tokens old new → Wrote old new (IsCut most bytes)
   cut_output tokens e h = (

@@ -1,5 +1,5 @@
 -- What a call of the program did.
-use Rattle.std.specs.Prelude.{◌≡◌, ◌≤◌, ◌<◌, ◌⊎◌, ◌↔◌, ℕ, Bool, true, false, List, length, codes, Some}
+use Rattle.std.specs.Prelude.{◌≡◌, ◌≢◌, ◌≤◌, ◌<◌, ◌⊎◌, ◌↔◌, ℕ, Bool, true, false, List, length, codes, Some}
 use Rattle.std.specs.declared.option.Option.{Option}
 use Rattle.std.specs.Io.KnownBytes.{Appends, Consumes, IsAtEnd, Keeps}
 use Rattle.mw_outside.specs.Causes.{Rose}
@@ -51,6 +51,9 @@ pub record Did (words : List (List ℕ)) (left left_after : Option (List ℕ)) (
   pub known : status ≤ 6
   pub source_later : source ≤ source_after
   pub sink_later : sink ≤ sink_after
+  -- no fault is hidden: the source fails exactly at 3, the sink exactly at 4
+  pub source_kept : status ≢ 3 → source_after ≡ source
+  pub sink_kept : status ≢ 4 → sink_after ≡ sink
   -- no more than one byte above the limit is taken
   pub bounded : Gave left left_after (λ n. n ≤ 8388609)
   -- 0: each unit was answered, and none of them refused; or the words ask for help or the version
@@ -65,8 +68,8 @@ pub record Did (words : List (List ℕ)) (left left_after : Option (List ℕ)) (
   pub sink_failed : status ≡ 4 → Rose sink sink_after
   pub cut : status ≡ 4 → Ran words left left_after held held_after IsCut
       ⊎ ((text : List ℕ) × (AskText words text ⊎ (AskNothing words × (text ≡ usage))) × Keeps left left_after × Took held held_after text)
-  -- 5: want of memory; the sink holds the texts of the first units, or nothing was written
-  pub memory : status ≡ 5 → Ran words left left_after held held_after IsBegun ⊎ Keeps held held_after
+  -- 5: want of memory; the source was read to its end, and the sink holds the texts of the first units, of which one at least is undone; or nothing was written, and the source gave no more than the limit
+  pub memory : status ≡ 5 → Ran words left left_after held held_after IsBegun ⊎ (Keeps held held_after × Gave left left_after (λ n. n ≤ 8388608))
   -- 6: the source gave more than the limit, and nothing was written
   pub too_long : status ≡ 6 → ((most : ℕ) × Asks words (Run most)) × Gave left left_after (λ n. n ≡ 8388609) × Keeps held held_after
 

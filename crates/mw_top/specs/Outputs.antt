@@ -20,7 +20,7 @@ lexing_cause UnendedComment = unended_comment
 abbrev pub lexing_refusal : LexFault → Refusal
 lexing_refusal f = record { line = f.line; cause = lexing_cause f.kind }
 
--- What a sink has got of the texts of units: of all, of the first ones, or of the first ones and a proper prefix of the next one's.
+-- What a sink has got of the texts of units: of all, of the first ones and not all, or of the first ones and a proper prefix of the next one's.
 pub record AreDone (most : ℕ) (tokens : List Seen) (held held_after : Option (List ℕ)) (bad : Bool) : Type 0 where
   pub modules : List Accepted
   pub text : List ℕ
@@ -29,6 +29,7 @@ pub record AreDone (most : ℕ) (tokens : List Seen) (held held_after : Option (
 
 pub record AreBegun (most : ℕ) (tokens : List Seen) (held held_after : Option (List ℕ)) : Type 0 where
   pub at : ℕ
+  pub undone : at < length tokens
   pub modules : List Accepted
   pub text : List ℕ
   pub bad : Bool
@@ -62,10 +63,10 @@ pub data IsOutput (most : ℕ) (bytes : List ℕ) : List ℕ → Bool → Type 0
 abbrev pub AgreeInRefusal : Type 0
 AgreeInRefusal = (most : ℕ) (bytes text other : List ℕ) (bad worse : Bool) → IsOutput most bytes text bad → IsOutput most bytes other worse → bad ≡ worse
 
--- the texts of the first units, or nothing
+-- the texts of the first units, of which one at least is undone, or nothing
 pub data IsBegun (most : ℕ) (bytes : List ℕ) : List ℕ → Type 0 where
   nothing : IsBegun most bytes []
-  units : (tokens : List Seen) (at : ℕ) (modules : List Accepted) (text : List ℕ) (bad : Bool) → tokens_of bytes ≡ Ok tokens
+  units : (tokens : List Seen) (at : ℕ) (modules : List Accepted) (text : List ℕ) (bad : Bool) → tokens_of bytes ≡ Ok tokens → at < length tokens
       → Answered most tokens at modules text bad → IsBegun most bytes text
 
 -- the texts of the first units, and a proper prefix of the next one's

@@ -126,6 +126,7 @@ fn run<S: Source, K: Sink>(alloc: Global, words: &[String], source: &mut S, sink
 fn tell<K: Sink>(sink: &mut K, text: &str, status: u8) -> u8
     requires { status ≢ 4 }
     ensures later { K.faults sink.old ≤ K.faults sink.new }
+    ensures kept { result ≢ 4 → K.faults sink.new ≡ K.faults sink.old }
     ensures known { (result ≡ status) ⊎ (result ≡ 4) }
     ensures whole { result ≡ status → Appends (K.held sink.old) (K.held sink.new) text.now }
     ensures failed { result ≡ 4 → Rose (K.faults sink.old) (K.faults sink.new) }
@@ -155,6 +156,7 @@ fn answer_bytes<K: Sink>(alloc: Global, bytes: &[u8], most: u64, sink: &mut K) -
     requires { length bytes.now ≤ 8388608 }
     ensures known { (result ≤ 1) ⊎ ((result ≡ 4) ⊎ (result ≡ 5)) }
     ensures later { K.faults sink.old ≤ K.faults sink.new }
+    ensures kept { result ≢ 4 → K.faults sink.new ≡ K.faults sink.old }
     ensures answered { result ≡ 0 → Wrote (K.held sink.old) (K.held sink.new) (λ text. IsOutput most bytes.now text false) }
     ensures refused { result ≡ 1 → Wrote (K.held sink.old) (K.held sink.new) (λ text. IsOutput most bytes.now text true) }
     ensures failed { result ≡ 4 → Rose (K.faults sink.old) (K.faults sink.new) }
@@ -172,6 +174,7 @@ fn answer_bytes<K: Sink>(alloc: Global, bytes: &[u8], most: u64, sink: &mut K) -
 fn refuse_whole<K: Sink>(alloc: Global, fault: LexFault, sink: &mut K) -> u8
     ensures known { (result ≡ 1) ⊎ ((result ≡ 4) ⊎ (result ≡ 5)) }
     ensures later { K.faults sink.old ≤ K.faults sink.new }
+    ensures kept { result ≢ 4 → K.faults sink.new ≡ K.faults sink.old }
     ensures whole { result ≡ 1 → Appends (K.held sink.old) (K.held sink.new) (refusal_line (lexing_refusal fault)) }
     ensures failed { result ≡ 4 → Rose (K.faults sink.old) (K.faults sink.new) }
     ensures part { result ≡ 4 → Took (K.held sink.old) (K.held sink.new) (refusal_line (lexing_refusal fault)) }

@@ -46,25 +46,30 @@ pub fn read_to_end<S: Source>(alloc: Global, source: &mut S) -> Result<Vec<u8>, 
     ensures short { IfOk result (λ bytes. length bytes.items ≤ LIMIT) }
     ensures failed { IsErrOf result ReadError.Failed → Rose (S.faults source.old) (S.faults source.new) }
     ensures failed_before { IsErrOf result ReadError.Failed → Gave (S.left source.old) (S.left source.new) (λ n. n ≤ LIMIT) }
+    ensures memory { IsErrOf result ReadError.Memory → Gave (S.left source.old) (S.left source.new) (λ n. n ≤ LIMIT) }
     ensures too_long { IsErrOf result ReadError.TooLong → Gave (S.left source.old) (S.left source.new) (λ n. n ≡ LIMIT + 1) }
+    ensures kept { (IsErrOf result ReadError.Failed → ⊥) → S.faults source.new ≡ S.faults source.old }
 {
     let mut bytes = Vec::new(alloc);
     let mut buf = [0u8; 4096];
-    while bytes.len() <= LIMIT {
+    loop {
         let room = (LIMIT + 1 - bytes.len()).min(buf.len());
         let count = source.read(&mut buf[..room])?;
         if count == 0 {
             return Ok(bytes);
         }
+        if count > LIMIT - bytes.len() {
+            return Err(ReadError::TooLong);
+        }
         bytes.extend_from_slice(&buf[..count])?;
     }
-    Err(ReadError::TooLong)
 }
 
 /// Writes a text whole: it is offered whole, and then what is left of it.
 pub fn write_whole<K: Sink>(sink: &mut K, text: &[u8]) -> Result<(), Failed>
     ensures later { K.faults sink.old ≤ K.faults sink.new }
     ensures whole { OnOk result (Appends (K.held sink.old) (K.held sink.new) text.now) }
+    ensures kept { OnOk result (K.faults sink.new ≡ K.faults sink.old) }
     ensures failed { OnErr result (Rose (K.faults sink.old) (K.faults sink.new)) }
     // What it holds of the text is a proper prefix.
     ensures prefix { OnErr result (Took (K.held sink.old) (K.held sink.new) text.now) }

@@ -1,5 +1,5 @@
 // The units of a source, each answered in turn.
-ghost use Rattle.std.specs.Prelude.{◌≡◌, ◌<◌, ◌≤◌, ◌⊎◌, List, [], length, take, IfOk, true, false};
+ghost use Rattle.std.specs.Prelude.{◌≡◌, ◌≢◌, ◌<◌, ◌≤◌, ◌⊎◌, List, [], length, take, IfOk, true, false};
 ghost use Rattle.mw_outside.specs.Causes.{Rose};
 ghost use Rattle.mw_lex.specs.Lexing.{seen_all};
 ghost use Rattle.mw_module.specs.Units.{Outcome, Reads};
@@ -43,6 +43,7 @@ fn answer_next(
 pub fn answer_units<K: Sink>(alloc: Global, tokens: &[Token], most: u64, sink: &mut K) -> u8
     ensures status { (result ≤ 1) ⊎ (result ≡ 4) ⊎ (result ≡ 5) }
     ensures later { K.faults sink.old ≤ K.faults sink.new }
+    ensures kept { result ≢ 4 → K.faults sink.new ≡ K.faults sink.old }
     ensures answered { result ≡ 0 → AreDone most (seen_all tokens.now) (K.held sink.old) (K.held sink.new) false }
     ensures refused { result ≡ 1 → AreDone most (seen_all tokens.now) (K.held sink.old) (K.held sink.new) true }
     ensures failed { result ≡ 4 → Rose (K.faults sink.old) (K.faults sink.new) }

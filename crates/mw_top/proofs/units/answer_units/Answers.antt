@@ -1,4 +1,4 @@
-use Rattle.std.proofs.Common.{◌++◌, [], false, sym, subst, arith, take}
+use Rattle.std.proofs.Common.{◌++◌, ◌∙◌, [], false, refl, sym, subst, arith, take}
 use Rattle.std.specs.Io.KnownBytes.{Appends}
 use Rattle.mw_lex.specs.Lexing.{seen_all}
 use Rattle.mw_top.specs.Sources.{Answered, nothing_yet, one_more}
@@ -9,7 +9,7 @@ use Rattle.mw_top.proofs.units.answer_units.Goals as goal
 pub loop-at-init : goal.loop-at-init
 loop-at-init g c = record {
   within = omega arith;
-  later = omega arith;
+  same = refl;
   done = ([], subst (λ ms. Answered c.args.most (seen_all c.args.tokens.now) 0 ms [] false) (sym c.new-session.ensures) nothing_yet, appends_none (g.K.Sink.held c.args.sink.now));
 }
 
@@ -43,7 +43,7 @@ loop-at-preserved g c =
     let whole = subst (λ t. Appends (g.K.Sink.held c.loop-at.sink) (g.K.Sink.held c.write_whole.new.sink) t) c.as_slice.ensures.value c.in-Ok-write_whole.ensures.whole in
     record {
       within = c.in-Ok.ensures.further.1;
-      later = omega (arith, c.loop-at.invariant.later, c.write_whole.ensures.later);
+      same = c.in-Ok-write_whole.ensures.kept ∙ c.loop-at.invariant.same;
       done = (
         done.0 ++ c.in-Ok.answer.text.items,
         one_more c.loop-at.at c.loop-at.session done.0 c.loop-at.refused done.1 gives.0 c.in-Ok.next c.in-Ok.answer.text.items c.in-Ok.answer.refused c.answer_next.new.session gives.1 gives.2,
