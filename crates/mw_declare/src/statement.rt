@@ -44,7 +44,7 @@ pub fn statements<'u>(alloc: Global, items: &'u [Vec<Token>]) -> Result<Vec<Line
     let mut rest = items;
     while let [item, after @ ..] = rest {
         let tokens = item.as_slice();
-        if let Ok(form) = Form::of(tokens) {
+        if let Some(form) = Form::of(tokens).ok() {
             let line = line_of(tokens);
             found.push(Lined { line, form })?;
         }
