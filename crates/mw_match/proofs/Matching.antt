@@ -14,7 +14,7 @@ pub begins_same : (vs : List RawTerm) → Begins vs vs
 begins_same [] = tt
 begins_same (v ∷ vs) = (refl, begins_same vs)
 
-begins_then : (vs ws us : List RawTerm) → Begins vs ws → Begins ws us → Begins vs us
+pub begins_then : (vs ws us : List RawTerm) → Begins vs ws → Begins ws us → Begins vs us
 begins_then [] ws us a b = tt
 begins_then (v ∷ vs) [] us a b = absurd a
 begins_then (v ∷ vs) (w ∷ ws) [] a b = absurd b
@@ -38,7 +38,7 @@ begins_last [] (u ∷ us) t b = ap Some (sym b.0)
 begins_last (x ∷ vs) [] t b = absurd b
 begins_last (x ∷ vs) (u ∷ us) t b = begins_last vs us t b.1
 
-begins_more : (vs : List RawTerm) (t : RawTerm) → Begins vs (vs ++ t ∷ [])
+pub begins_more : (vs : List RawTerm) (t : RawTerm) → Begins vs (vs ++ t ∷ [])
 begins_more [] t = tt
 begins_more (v ∷ vs) t = (refl, begins_more vs t)
 

@@ -1,7 +1,7 @@
 // Matching by position.
 ghost use Rattle.std.specs.Prelude.{◌≡◌, IfOk, IsTrue, length};
 ghost use Rattle.mw_logic.specs.Terms.{terms_of};
-ghost use Rattle.mw_machine.specs.Positions.{fill, fill_all, IsNumbered, AreNumbered, counted, counted_all};
+ghost use Rattle.mw_machine.specs.Positions.{fill, fill_all, IsNumbered, AreNumbered, counted, counted_all, Begins};
 ghost use Rattle.mw_pattern.specs.Clean.{clean};
 ghost use Rattle.mw_match.specs.Matching.{Decides};
 
@@ -9,12 +9,14 @@ use mw_pattern::{Pattern, Patterns};
 use mw_term::{Shape, Term, copy, same};
 use std::alloc::AllocError;
 
-/// Whether the term is an instance, by the values that are there and those that are put behind them.
+/// Whether the term is an instance, by the values that are there and those that are put behind them. The former stay
+/// whatever is answered; what stands behind them counts after a yes alone.
 #[cycle(matches)]
 pub fn matches(pattern: &Pattern, term: &Term, values: &mut Vec<Term>) -> Result<bool, AllocError>
     requires { IsNumbered (length values.old.items) (clean pattern.now) }
     ensures decides { IfOk result (λ b. Decides b (counted (length values.old.items) (clean pattern.now)) values.old.items values.new.items (λ us. fill us (clean pattern.now) ≡ term.now)) }
     ensures count { IfOk result (λ b. IsTrue b → length values.new.items ≡ counted (length values.old.items) (clean pattern.now)) }
+    ensures kept { Begins values.old.items values.new.items }
 {
     match pattern {
         Pattern::Var(i) => match values.get(*i) {
@@ -37,7 +39,7 @@ pub fn matches(pattern: &Pattern, term: &Term, values: &mut Vec<Term>) -> Result
     }
 }
 
-/// Whether the terms are instances of the patterns, one by one.
+/// Whether the terms are instances of the patterns, one by one, with values as above.
 #[cycle(matches)]
 pub fn all_match(
     patterns: &Patterns,
@@ -47,6 +49,7 @@ pub fn all_match(
     requires { AreNumbered (length values.old.items) patterns.now }
     ensures decides { IfOk result (λ b. Decides b (counted_all (length values.old.items) patterns.now) values.old.items values.new.items (λ us. fill_all us patterns.now ≡ terms_of terms.now)) }
     ensures count { IfOk result (λ b. IsTrue b → length values.new.items ≡ counted_all (length values.old.items) patterns.now) }
+    ensures kept { Begins values.old.items values.new.items }
 {
     let list = patterns.slice();
     let n = list.len();

@@ -1,5 +1,5 @@
 // Equations, and an index of them by their top operators.
-ghost use Rattle.std.specs.Prelude.{◌≡◌, ◌≢◌, ◌++◌, [], ◌∷◌, ℕ, IfOk};
+ghost use Rattle.std.specs.Prelude.{◌≡◌, ◌≢◌, ◌++◌, [], ◌∷◌, ℕ, IfOk, OnErr};
 ghost use Rattle.mw_pattern.specs.Equations.{listed};
 
 use crate::pattern::{Pattern, Patterns};
@@ -44,6 +44,7 @@ impl Equations {
     pub fn add(&mut self, alloc: Global, op: OpId, equation: Equation) -> Result<(), AllocError>
         ensures here { IfOk result (λ _. listed self.new op ≡ listed self.old op ++ equation ∷ []) }
         ensures others { IfOk result (λ _. (f : ℕ) → f ≢ op → listed self.new f ≡ listed self.old f) }
+        ensures kept { OnErr result ((f : ℕ) → listed self.new f ≡ listed self.old f) }
     {
         while self.by_top.len() <= op as usize {
             let group = Group {

@@ -1,6 +1,6 @@
 // Where variables stand.
-ghost use Rattle.std.specs.Prelude.{◌≡◌, ◌<◌, [], IfOk, OnOk, OnErr, IsTrue, Some, length, slice_get};
-ghost use Rattle.mw_logic.specs.Term.{variable as a_variable};
+ghost use Rattle.std.specs.Prelude.{◌≡◌, ◌<◌, ◌++◌, List, [], IfOk, OnOk, OnErr, IsTrue, Some, length, slice_get};
+ghost use Rattle.mw_logic.specs.Term.{Variable, variable as a_variable};
 ghost use Rattle.mw_machine.specs.Variables.{is_in, AreDistinct, place, met, sorts_of};
 ghost use Rattle.mw_term.specs.Raws.{raw_term};
 
@@ -108,9 +108,11 @@ impl<'a> Places<'a> {
     }
 }
 
-/// Meets the variables of a term, from the left.
+/// Meets the variables of a term, from the left. Where memory is wanting, those that were met so far stand behind the
+/// places that were there.
 pub fn meet_all<'a>(places: &mut Places<'a>, term: &'a Raw) -> Result<(), AllocError>
-    ensures { OnOk result (places.new ≡ met places.old (raw_term term.now)) }
+    ensures met { OnOk result (places.new ≡ met places.old (raw_term term.now)) }
+    ensures kept { OnErr result ((xs : List Variable) × (places.new ≡ places.old ++ xs)) }
 {
     match term {
         Raw::Var(x) => places.meet(x),

@@ -1,5 +1,5 @@
 // Sorts and kinds as they are printed.
-ghost use Rattle.std.specs.Prelude.{◌≡◌, ◌++◌, map, OnOk};
+ghost use Rattle.std.specs.Prelude.{◌≡◌, ◌++◌, map, IfOk, OnOk, OnErr};
 ghost use Rattle.std.specs.List.{join_with_byte};
 ghost use Rattle.mw_logic.specs.Preregular.{IsSortOf};
 ghost use Rattle.mw_term.specs.Signatures.{sorted_of};
@@ -11,9 +11,10 @@ use mw_poset::Poset;
 use mw_term::{KindId, Signature, SortId, Sorted};
 use std::alloc::{AllocError, Global};
 
-/// Writes a sort's name behind a text.
+/// Writes a sort's name behind a text, which stays where memory is wanting.
 pub fn print_sort(signature: &Signature, sort: SortId, text: &mut Vec<u8>) -> Result<(), AllocError>
-    ensures { OnOk result (text.new.items ≡ text.old.items ++ spec.sort_name signature.now sort) }
+    ensures written { OnOk result (text.new.items ≡ text.old.items ++ spec.sort_name signature.now sort) }
+    ensures kept { OnErr result (text.new.items ≡ text.old.items) }
 {
     if sort == 0 {
         return Ok(());
@@ -43,26 +44,27 @@ fn print_sorts(
     Ok(())
 }
 
-/// Writes a kind behind a text.
-fn print_kind(
+/// The text of a kind.
+fn kind_text(
     alloc: Global,
     signature: &Signature,
     order: &Poset,
     kind: KindId,
-    text: &mut Vec<u8>,
-) -> Result<(), AllocError>
+) -> Result<Vec<u8>, AllocError>
     requires order { order.now ≡ order_of signature.now }
     requires kind { IsSortOf signature.now kind }
-    ensures { OnOk result (text.new.items ≡ text.old.items ++ kind_name signature.now kind) }
+    ensures { IfOk result (λ text. text.items ≡ kind_name signature.now kind) }
 {
     let maximal = order.maximal(alloc, kind)?;
+    let mut text = Vec::new(alloc);
     text.push(b'[')?;
-    print_sorts(signature, maximal.as_slice(), text)?;
+    print_sorts(signature, maximal.as_slice(), &mut text)?;
     text.push(b']')?;
-    Ok(())
+    Ok(text)
 }
 
-/// Writes a sort's name, or a kind, behind a text. The signature's sorts have this order.
+/// Writes a sort's name, or a kind, behind a text, which stays where memory is wanting. The signature's sorts have this
+/// order.
 pub fn print_sorted(
     alloc: Global,
     signature: &Signature,
@@ -72,10 +74,14 @@ pub fn print_sorted(
 ) -> Result<(), AllocError>
     requires order { order.now ≡ order_of signature.now }
     requires kind { IsKindThere signature.now (sorted_of sorted) }
-    ensures { OnOk result (text.new.items ≡ text.old.items ++ sorted_name signature.now (sorted_of sorted)) }
+    ensures written { OnOk result (text.new.items ≡ text.old.items ++ sorted_name signature.now (sorted_of sorted)) }
+    ensures kept { OnErr result (text.new.items ≡ text.old.items) }
 {
     match sorted {
         Sorted::Sort(sort) => print_sort(signature, sort, text),
-        Sorted::Kind(kind) => print_kind(alloc, signature, order, kind, text),
+        Sorted::Kind(kind) => {
+            let name = kind_text(alloc, signature, order, kind)?;
+            text.extend_from_slice(name.as_slice())
+        }
     }
 }

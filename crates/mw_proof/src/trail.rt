@@ -1,5 +1,5 @@
 // A proof as it is kept: a flat list of items, and the values of the statements' variables.
-ghost use Rattle.std.specs.Prelude.{◌≡◌, ◌≤◌, ◌+◌, ◌-◌, ◌^◌, ◌++◌, [], ◌∷◌, ℕ, min, length, IfOk, IfErr};
+ghost use Rattle.std.specs.Prelude.{◌≡◌, ◌≤◌, ◌+◌, ◌-◌, ◌^◌, ◌++◌, [], ◌∷◌, ℕ, min, length, IfOk, IfErr, OnOk, OnErr};
 ghost use Rattle.mw_proof.specs.Trails.{Leaves, outward, inward, left_open, stepped, IsWalk};
 ghost use Rattle.mw_proof.specs.declared.trail.Item.TheVariants.{Enter, Apply};
 
@@ -178,7 +178,9 @@ impl Trail {
     pub fn apply(&mut self, number: usize, values: &mut Vec<Term>) -> Result<(), AllocError>
         ensures items { IfOk result (λ _. self.new.items ≡ self.old.items ++ Apply number (length values.old.items) ∷ []) }
         ensures values { IfOk result (λ _. self.new.values ≡ self.old.values ++ values.old.items) }
+        ensures taken { OnOk result (values.new.items ≡ []) }
         ensures same { IfErr result (λ _. self.new ≡ self.old) }
+        ensures kept { OnErr result (values.new.items ≡ values.old.items) }
     {
         let number = narrow(number)?;
         let count = narrow(values.len())?;

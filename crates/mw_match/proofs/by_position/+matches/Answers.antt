@@ -1,12 +1,12 @@
 use Rattle.std.proofs.Common.{◌≡◌, ◌≤◌, ◌<◌, length, List, ap, sym, ◌∙◌, subst, arith, refl, get_or, true, false, ◌++◌, [], ◌∷◌}
 use Rattle.mw_logic.specs.Term.{RawTerm, RawTerms, variable}
 use Rattle.mw_logic.specs.NormalForm.{highest}
-use Rattle.mw_machine.specs.Positions.{position, fill, fill_all, counted, counted_all, AreNumbered, IsNumbered}
+use Rattle.mw_machine.specs.Positions.{position, fill, fill_all, counted, counted_all, AreNumbered, IsNumbered, Begins}
 use Rattle.mw_logic.specs.Terms.{terms_of}
 use Rattle.mw_pattern.specs.Clean.{clean, clean_all}
 use Rattle.mw_match.specs.Matching.{Decides}
 use Rattle.mw_pattern.proofs.Lists.{got}
-use Rattle.mw_match.proofs.Matching.{lengths_differ, matching_starts, numbered_here, pattern_height, matching_on, matching_fails, decides_var_old, decides_var_new}
+use Rattle.mw_match.proofs.Matching.{lengths_differ, matching_starts, numbered_here, pattern_height, matching_on, matching_fails, decides_var_old, decides_var_new, begins_same, begins_then, begins_more}
 use Rattle.mw_match.proofs.by_position.+matches.Goals as goal
 
 pub all_match-returns-then-n-terms-clause-decides : goal.all_match-returns-then-n-terms-clause-decides
@@ -58,3 +58,33 @@ all_match-returns-then-not-branch-clause-decides t c =
     let old : List RawTerm = c.args.values.now.items in
     let P : RawTerms → Type 0 = λ ps. Decides false (counted_all (length old) ps) old old (λ us. fill_all us ps ≡ terms_of c.args.terms.now) in
     subst P e (matching_fails old _ c.matches.new.values.items old _ _ _ _ _ c.loop-i-test.true c.index-list-i.is c.index-terms-i.is d c.loop-i.invariant.1)
+
+-- the values that were there stay in front
+pub all_match-returns-then-n-terms-clause-kept : goal.all_match-returns-then-n-terms-clause-kept
+all_match-returns-then-n-terms-clause-kept t c = begins_same c.args.values.now.items
+
+pub all_match-returns-in_err-matches-clause-kept : goal.all_match-returns-in_err-matches-clause-kept
+all_match-returns-in_err-matches-clause-kept t c = begins_then c.args.values.now.items c.loop-i.values.items c.matches.new.values.items c.loop-i.invariant.1.begins c.matches.ensures.kept
+
+pub all_match-returns-then-not-branch-clause-kept : goal.all_match-returns-then-not-branch-clause-kept
+all_match-returns-then-not-branch-clause-kept t c = begins_then c.args.values.now.items c.loop-i.values.items c.matches.new.values.items c.loop-i.invariant.1.begins c.matches.ensures.kept
+
+pub matches-returns-in_err-value-in-None-clause-kept : goal.matches-returns-in_err-value-in-None-clause-kept
+matches-returns-in_err-value-in-None-clause-kept t c = begins_same c.args.values.now.items
+
+pub matches-returns-in_err-push-in-None-clause-kept : goal.matches-returns-in_err-push-in-None-clause-kept
+matches-returns-in_err-push-in-None-clause-kept t c = subst (λ (vs : List RawTerm). Begins c.args.values.now.items vs) (sym c.in_err-push-in-None.ensures.items) (begins_same c.args.values.now.items)
+
+pub matches-returns-in_ok-push-in-None-clause-kept : goal.matches-returns-in_ok-push-in-None-clause-kept
+matches-returns-in_ok-push-in-None-clause-kept t c =
+    let items : c.push.new.self.items ≡ c.args.values.now.items ++ c.in_ok-value-in-None.value ∷ [] = c.in_ok-push-in-None.ensures.items in
+    subst (λ (vs : List RawTerm). Begins c.args.values.now.items vs) (sym items) (begins_more c.args.values.now.items c.in_ok-value-in-None.value)
+
+pub matches-returns-then-f-g-clause-kept : goal.matches-returns-then-f-g-clause-kept
+matches-returns-then-f-g-clause-kept t c = begins_same c.args.values.now.items
+
+pub matches-returns-in-Some-clause-kept : goal.matches-returns-in-Some-clause-kept
+matches-returns-in-Some-clause-kept t c = begins_same c.args.values.now.items
+
+pub matches-returns-in_default-clause-kept : goal.matches-returns-in_default-clause-kept
+matches-returns-in_default-clause-kept t c = begins_same c.args.values.now.items

@@ -1,4 +1,5 @@
-use Rattle.std.proofs.Common.{◌≡◌, ◌≤◌, ◌+◌, length}
+use Rattle.std.proofs.Common.{◌≡◌, ◌≤◌, ◌+◌, ◌++◌, List, length}
+use Rattle.mw_logic.specs.Term.{Variable}
 use Rattle.mw_logic.specs.NormalForm.{height, highest}
 use Rattle.mw_term.specs.Raws.{raw_term, raw_terms}
 use Rattle.mw_machine.specs.Variables.{met, all_met}
@@ -10,6 +11,7 @@ decreases-meet_all l = height (raw_term l.term.now)
 abbrev pub invariant-loop-rest : goal.invariant-loop-rest
 invariant-loop-rest l = record {
   met : all_met l.places (raw_terms l.rest) ≡ met l.fn.places (raw_term l.term);
+  front : (xs : List Variable) × (l.places ≡ l.fn.places ++ xs);
   high : highest (raw_terms l.rest) + 1 ≤ height (raw_term l.term);
 }
 
