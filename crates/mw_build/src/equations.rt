@@ -37,7 +37,7 @@ fn missing_from(
 
 /// The first variable of the right side that the left side hasn't.
 fn unbound(alloc: Global, left: &Raw, right: &Raw) -> Result<Option<VarId>, AllocError>
-    ensures { IfOk result (λ o. unbound_in (raw_term left.now) (raw_term right.now) ≡ o) }
+    ensures { IfOk result (λ o. o ≡ unbound_in (raw_term left.now) (raw_term right.now)) }
 {
     let bound = mentioned(alloc, left)?;
     missing_from(alloc, &bound, right)
