@@ -2,5 +2,8 @@ use Rattle.mw_lex.specs.Lexing.{seen_all}
 use Rattle.mw_declare.specs.Meaning.{texts}
 use Rattle.mw_top.proofs.reduction.command_term.Goals as goal
 
-pub returns-in-Ok-clause-read : goal.returns-in-Ok-clause-read
-returns-in-Ok-clause-read c = c.canonical.ensures (texts (seen_all c.args.tokens.now)) c.in-Ok.ensures.read
+pub returns-in-Ok : goal.returns-in-Ok
+returns-in-Ok c = record { read = c.canonical.ensures (texts (seen_all c.args.tokens.now)) c.in-Ok.ensures.read }
+
+pub returns-in_ok-unread-in-Err : goal.returns-in_ok-unread-in-Err
+returns-in_ok-unread-in-Err c = record { read = c.in_ok-unread-in-Err.ensures c.args.accepted.now (texts (seen_all c.args.tokens.now)) c.in-Err.ensures.cause }
