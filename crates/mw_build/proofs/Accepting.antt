@@ -1,9 +1,9 @@
 -- A module that was built, from what it declares.
-use Rattle.std.proofs.Common.{◌≡◌, ◌∙◌, List, Result, Ok, Err, IfErr, MatchResult, ap, refl, subst, sym}
+use Rattle.std.proofs.Common.{◌≡◌, List, Result, Ok, Err, IfErr, MatchResult, subst, sym}
 use Rattle.std.specs.Global.{Vec}
 use Rattle.mw_logic.specs.Preregular.{IsPreregular}
-use Rattle.mw_logic.specs.Module.{Module, Statement}
-use Rattle.mw_machine.specs.Simple.{IsSimpleSignature, IsSimpleModule}
+use Rattle.mw_logic.specs.Module.{Statement}
+use Rattle.mw_machine.specs.Simple.{IsSimpleSignature}
 use Rattle.mw_module.specs.declared.faults.Fault.{Fault}
 use Rattle.mw_module.specs.Refusals.{refusal_of}
 use Rattle.mw_module.specs.Units.{SeenUnit}
@@ -11,10 +11,9 @@ use Rattle.mw_declare.specs.declared.statement.Equation.{Equation}
 use Rattle.mw_declare.specs.Declarations.{Declarations, Declares}
 use Rattle.mw_declare.specs.Seen.{seen_equations}
 use Rattle.mw_build.specs.Equations.{AreEquations, FirstFault}
-use Rattle.mw_build.specs.Modules.{Accepted, IsDeclaredModule, by_signature, by_equations, HasSignatureCause, HasEquationCause, HasCause}
+use Rattle.mw_build.specs.Modules.{by_signature, by_equations, HasSignatureCause, HasEquationCause, HasCause}
 use Rattle.mw_build.specs.declared.modules.BuildError.{BuildError}
 use Rattle.mw_build.specs.declared.modules.BuildError.TheVariants as error
-use Rattle.mw_build.proofs.Sides.{simple_module}
 
 -- a fault of the signature or of the equations is the unit's
 module _ (u : SeenUnit) (d : Declarations) (declared : Declares u d) where

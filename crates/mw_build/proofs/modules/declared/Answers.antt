@@ -1,8 +1,6 @@
-use Rattle.std.proofs.Common.{subst, sym}
+use Rattle.std.proofs.Common.{subst}
 use Rattle.mw_module.specs.Units.{seen_unit}
-use Rattle.mw_poset.specs.SortOrder.{order_of}
-use Rattle.mw_declare.specs.Declarations.{Declares}
-use Rattle.mw_declare.specs.Seen.{seen_declarations, HasCause}
+use Rattle.mw_declare.specs.Seen.{HasCause}
 use Rattle.mw_build.specs.Modules.{by_declarations}
 use Rattle.mw_build.proofs.modules.declared.Goals as goal
 
