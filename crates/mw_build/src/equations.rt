@@ -62,6 +62,14 @@ fn application_fault(
     }
 }
 
+/// The variables of two terms in order of first mention.
+fn variables_of(alloc: Global, left: &Raw, right: &Raw) -> Result<Seq<VarId>, AllocError>
+    ensures { IfOk result (λ xs. xs ≡ met (met [] (raw_term left.now)) (raw_term right.now)) }
+{
+    let mentions = mentioned_in_both(alloc, left, right)?;
+    mentions.variables(alloc)
+}
+
 /// The variables of an equation's sides, in order of first mention, or what is wrong with the sides.
 fn sides_variables(
     alloc: Global,
@@ -81,8 +89,8 @@ fn sides_variables(
             return Ok(Err(kind));
         }
     }
-    let mentions = mentioned_in_both(alloc, left, right)?;
-    Ok(Ok(mentions.variables(alloc)?))
+    let variables = variables_of(alloc, left, right)?;
+    Ok(Ok(variables))
 }
 
 /// The statement of an equation's sides, or what is wrong with them.
@@ -110,14 +118,14 @@ fn sides_statement(
 }
 
 /// What is wrong with an equation whose texts aren't read.
-fn unread(error: &PairError) -> Result<FaultKind, AllocError>
+fn unread(error: &PairError) -> Result<Result<Statement, FaultKind>, AllocError>
     ensures { (sig : SignatureOf) (variables : List Variable) (e : Sides) → HasPairCause sig variables (texts e.left) (texts e.right) error.now
-        → IfOk result (λ kind. EquationFault sig variables e (cause_of kind)) }
+        → IfOk result (λ r. MatchResult r (IsEquation sig variables e) (λ kind. EquationFault sig variables e (cause_of kind))) }
 {
     match error {
-        PairError::TooLong => Ok(FaultKind::TermTooLong),
-        PairError::NoParse => Ok(FaultKind::NoParse),
-        PairError::Ambiguous { .. } => Ok(FaultKind::Ambiguous),
+        PairError::TooLong => Ok(Err(FaultKind::TermTooLong)),
+        PairError::NoParse => Ok(Err(FaultKind::NoParse)),
+        PairError::Ambiguous { .. } => Ok(Err(FaultKind::Ambiguous)),
         PairError::Memory => Err(AllocError),
     }
 }
@@ -135,7 +143,7 @@ fn statement(
 {
     match parse_pair(alloc, reader, equation.left, equation.right) {
         Ok((left, right)) => sides_statement(alloc, left, right, equation.executable),
-        Err(error) => Ok(Err(unread(&error)?)),
+        Err(error) => unread(&error),
     }
 }
 

@@ -56,13 +56,15 @@ fn have_no_variable(terms: &[Raw]) -> bool
 }
 
 /// What is wrong with a text that isn't read.
-fn unread(error: &ParseError) -> Result<FaultKind, AllocError>
-    ensures { (a : Accepted) (words : List (List ℕ)) → HasReadingCause a.module.signature a.variables None words error.now → IfOk result (λ kind. TermFault a words (cause_of kind)) }
+fn unread(error: &ParseError) -> Result<Result<Term, FaultKind>, AllocError>
+    ensures { (a : Accepted) (words : List (List ℕ)) → HasReadingCause a.module.signature a.variables None words error.now → IfOk result (λ r. MatchResult r
+        (λ t. Reads a.module.signature a.variables None words t × IsAdmittedTerm a.module.signature t)
+        (λ kind. TermFault a words (cause_of kind))) }
 {
     match error {
-        ParseError::TooLong => Ok(FaultKind::TermTooLong),
-        ParseError::NoParse => Ok(FaultKind::NoParse),
-        ParseError::Ambiguous { .. } => Ok(FaultKind::Ambiguous),
+        ParseError::TooLong => Ok(Err(FaultKind::TermTooLong)),
+        ParseError::NoParse => Ok(Err(FaultKind::NoParse)),
+        ParseError::Ambiguous { .. } => Ok(Err(FaultKind::Ambiguous)),
         ParseError::Memory => Err(AllocError),
     }
 }
@@ -102,7 +104,7 @@ pub fn command_term(
 {
     match accepted.term(alloc, tokens) {
         Ok(raw) => canonical(alloc, accepted, &raw),
-        Err(error) => Ok(Err(unread(&error)?)),
+        Err(error) => unread(&error),
     }
 }
 

@@ -1,4 +1,4 @@
-use Rattle.std.proofs.Common.{◌∙◌, Option, MatchOption, refl, subst}
+use Rattle.std.proofs.Common.{Option, MatchOption, refl, subst}
 use Rattle.std.proofs.lemmas.Bool.{both_ways}
 use Rattle.mw_term.specs.Raws.{raw_term}
 use Rattle.mw_module.specs.declared.faults.FaultKind.{FaultKind}
@@ -38,4 +38,4 @@ returns c = λ sig simple.
         | else-executable w ↦ λ h. absurd (both_ways _ w.if-executable.false h)
       ];
       statement = refl;
-    }, c.in_ok-variables.ensures ∙ c.in_ok-mentions.ensures)
+    }, c.in_ok-variables.ensures)

@@ -8,5 +8,5 @@ returns-in-Ok c = λ sig variables simple reader.
     of_sides sig variables (seen_equation c.args.equation.now) (raw_term c.in-Ok.left) (raw_term c.in-Ok.right) (c.in-Ok.ensures.read sig variables reader) c.sides_statement.result
     (c.sides_statement.ensures sig simple)
 
-pub returns-in_ok-unread-in-Err : goal.returns-in_ok-unread-in-Err
-returns-in_ok-unread-in-Err c = λ sig variables simple reader. c.in_ok-unread-in-Err.ensures sig variables (seen_equation c.args.equation.now) (c.in-Err.ensures.cause sig variables reader)
+pub returns-in-Err : goal.returns-in-Err
+returns-in-Err c = λ sig variables simple reader. c.unread.ensures sig variables (seen_equation c.args.equation.now) (c.in-Err.ensures.cause sig variables reader)

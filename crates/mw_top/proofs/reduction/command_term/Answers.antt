@@ -5,5 +5,5 @@ use Rattle.mw_top.proofs.reduction.command_term.Goals as goal
 pub returns-in-Ok : goal.returns-in-Ok
 returns-in-Ok c = record { read = c.canonical.ensures (texts (seen_all c.args.tokens.now)) c.in-Ok.ensures.read }
 
-pub returns-in_ok-unread-in-Err : goal.returns-in_ok-unread-in-Err
-returns-in_ok-unread-in-Err c = record { read = c.in_ok-unread-in-Err.ensures c.args.accepted.now (texts (seen_all c.args.tokens.now)) c.in-Err.ensures.cause }
+pub returns-in-Err : goal.returns-in-Err
+returns-in-Err c = record { read = c.unread.ensures c.args.accepted.now (texts (seen_all c.args.tokens.now)) c.in-Err.ensures.cause }
