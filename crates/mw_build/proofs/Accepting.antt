@@ -1,9 +1,9 @@
 -- A module that was built, from what it declares.
-use Rattle.std.proofs.Common.{◌≡◌, ◌∙◌, List, Result, Ok, Err, IfErr, MatchResult, ap, refl, subst, sym}
+use Rattle.std.proofs.Common.{◌≡◌, List, Result, Ok, Err, IfErr, MatchResult, subst, sym}
 use Rattle.std.specs.Global.{Vec}
 use Rattle.mw_logic.specs.Preregular.{IsPreregular}
-use Rattle.mw_logic.specs.Module.{Module, Statement}
-use Rattle.mw_machine.specs.Simple.{IsSimpleSignature, IsSimpleModule}
+use Rattle.mw_logic.specs.Module.{Statement}
+use Rattle.mw_machine.specs.Simple.{IsSimpleSignature}
 use Rattle.mw_module.specs.declared.faults.Fault.{Fault}
 use Rattle.mw_module.specs.Refusals.{refusal_of}
 use Rattle.mw_module.specs.Units.{SeenUnit}
@@ -11,10 +11,9 @@ use Rattle.mw_declare.specs.declared.statement.Equation.{Equation}
 use Rattle.mw_declare.specs.Declarations.{Declarations, Declares}
 use Rattle.mw_declare.specs.Seen.{seen_equations}
 use Rattle.mw_build.specs.Equations.{AreEquations, FirstFault}
-use Rattle.mw_build.specs.Modules.{Accepted, IsDeclaredModule, by_signature, by_equations, HasSignatureCause, HasEquationCause, HasCause}
+use Rattle.mw_build.specs.Modules.{by_signature, by_equations, HasSignatureCause, HasEquationCause, HasCause}
 use Rattle.mw_build.specs.declared.modules.BuildError.{BuildError}
 use Rattle.mw_build.specs.declared.modules.BuildError.TheVariants as error
-use Rattle.mw_build.proofs.Sides.{simple_module}
 
 -- a fault of the signature or of the equations is the unit's
 module _ (u : SeenUnit) (d : Declarations) (declared : Declares u d) where
@@ -22,7 +21,7 @@ module _ (u : SeenUnit) (d : Declarations) (declared : Declares u d) where
   signature_cause error.Memory h = tt
   signature_cause (error.Fault fault) h = by_signature d declared h
 
-  equation_cause : IsPreregular d.signature → (e : BuildError) → HasEquationCause d e → HasCause u e
+  pub equation_cause : IsPreregular d.signature → (e : BuildError) → HasEquationCause d e → HasCause u e
   equation_cause preregular error.Memory h = tt
   equation_cause preregular (error.Fault fault) h = by_equations d declared preregular h
 
@@ -40,20 +39,8 @@ module _ (d : Declarations) (simple : IsSimpleSignature d.signature) where
         subst (λ s. MatchResult s (λ sts. AreEquations d.signature d.variables (seen_equations es) sts.items) (λ f. FirstFault d.signature d.variables (seen_equations es) (refusal_of f))) e h in
         subst (λ xs. FirstFault d.signature d.variables xs (refusal_of fault)) (sym is) (subst (λ xs. FirstFault d.signature d.variables (seen_equations xs) (refusal_of fault)) same k)
 
-    are : (sts : Vec Statement) → r ≡ Ok sts → AreEquations d.signature d.variables d.equations sts.items
+    pub are : (sts : Vec Statement) → r ≡ Ok sts → AreEquations d.signature d.variables d.equations sts.items
     are sts e =
         let k : AreEquations d.signature d.variables (seen_equations es) sts.items =
         subst (λ s. MatchResult s (λ ts. AreEquations d.signature d.variables (seen_equations es) ts.items) (λ f. FirstFault d.signature d.variables (seen_equations es) (refusal_of f))) e h in
         subst (λ xs. AreEquations d.signature d.variables xs sts.items) (sym is) (subst (λ xs. AreEquations d.signature d.variables (seen_equations xs) sts.items) same k)
-
-    module _ (sts : Vec Statement) (e : r ≡ Ok sts) (held : List Statement) (of : held ≡ sts.items) where
-      pub is_simple : IsSimpleModule (record { signature = d.signature; statements = held })
-      is_simple = subst (λ ss. IsSimpleModule (record { signature = d.signature; statements = ss })) (sym of) (simple_module d.signature simple d.variables d.equations sts.items (are sts e))
-
-      pub is_declared : (a : Accepted) → a.module ≡ record { signature = d.signature; statements = held } → a.variables ≡ d.variables → IsDeclaredModule a.name d a
-      is_declared a m v = record {
-        named = refl;
-        signature = ap (λ (n : Module). n.signature) m;
-        variables = v;
-        equations = subst (AreEquations d.signature d.variables d.equations) (sym (ap (λ (n : Module). n.statements) m ∙ of)) (are sts e);
-      }

@@ -6,12 +6,16 @@ ghost use Rattle.mw_logic.specs.Signature.{IsRawTerm};
 ghost use Rattle.mw_term.specs.Raws.{raw_term};
 ghost use Rattle.mw_text.specs.Mixfix.{Reads};
 ghost use Rattle.mw_declare.specs.Meaning.{texts};
-ghost use Rattle.mw_declare.specs.Seen.{seen_declarations};
+ghost use Rattle.mw_declare.specs.Declarations.{Declares};
+ghost use Rattle.mw_declare.specs.Seen.{seen_declarations, seen_equations};
 ghost use Rattle.mw_grammar.specs.Readable.{IsReadable, AreVariables};
 ghost use Rattle.mw_machine.specs.Simple.{IsSimpleSignature};
 ghost use Rattle.mw_parse.specs.Answers.{HasCause as HasReadingCause};
 ghost use Rattle.mw_poset.specs.SortOrder.{order_of};
 ghost use Rattle.mw_sorts.specs.Diagrams.{AreTablesOf};
+ghost use Rattle.mw_logic.specs.Preregular.{IsPreregular};
+ghost use Rattle.mw_parse.specs.Readers.{IsReaderOf};
+ghost use Rattle.mw_build.specs.Equations.{AreEquations};
 ghost use Rattle.mw_build.specs.Modules.{IsDeclaredModule, IsAccepted, HasEquationCause, HasCause};
 ghost use Rattle.mw_build.specs.declared.modules.BuildError.TheVariants.{Memory};
 
@@ -23,7 +27,7 @@ use mw_lex::Token;
 use mw_module::{Fault, Unit};
 use mw_parse::{ParseError, Reader, parse};
 use mw_sorts::Tables;
-use mw_term::{Name, Raw, Seq, VarId};
+use mw_term::{Name, Raw, Seq, Statement, VarId};
 use std::alloc::{AllocError, Global};
 use std::marker::Model;
 
@@ -31,9 +35,9 @@ use std::marker::Model;
 #[derive(Drop)]
 pub struct Module {
     name: Name,
-    context: Ctx,
+    context: Box<Ctx>,
     variables: Seq<VarId>,
-    reader: Reader,
+    reader: Box<Reader>,
 }
 
 impl Model for Module {
@@ -45,11 +49,11 @@ impl Model for Module {
 
     ghost coded = { Prim.hlevel (codes, coded_term, coded_variable) };
 
-    ghost view = { λ m. record { name = m.name; «module» = m.context; variables = m.variables } };
+    ghost view = { λ m. record { name = m.name; «module» = m.context.value; variables = m.variables } };
 
     ghost use Rattle.mw_parse.specs.Readers.{IsReaderOf};
 
-    ghost invariant = { λ m. IsReaderOf m.context.signature m.variables m.reader };
+    ghost invariant = { λ m. IsReaderOf m.context.value.signature m.variables m.reader.value };
 }
 
 impl Module {
@@ -93,32 +97,101 @@ impl From<AllocError> for BuildError {
     }
 }
 
-/// The module of this name that was declared, or the first fault of its equations.
-fn declared_module(
+/// What a unit declares, or the first fault of its declarations.
+fn declared(alloc: Global, unit: &Unit) -> Result<Box<Declarations<'_>>, BuildError>
+    ensures declared { IfOk result (λ d. Declares (seen_unit unit.now) (seen_declarations d.value)) }
+    ensures order { IfOk result (λ d. d.value.order ≡ order_of d.value.signature) }
+    ensures fault { IfErr result (HasCause (seen_unit unit.now)) }
+{
+    match declare(alloc, unit) {
+        Ok(declarations) => Ok(Box::new(alloc, declarations).map_err(AllocError::from)?),
+        Err(DeclareError::Fault(fault)) => Err(BuildError::Fault(fault)),
+        Err(DeclareError::Memory) => Err(BuildError::Memory),
+    }
+}
+
+/// The statements that equations are, and what reads the module's texts.
+#[derive(Drop)]
+struct Readings {
+    reader: Box<Reader>,
+    statements: Seq<Statement>,
+}
+
+/// The statements that the equations of declarations are, or their first fault.
+fn read(alloc: Global, declarations: &Declarations<'_>) -> Result<Readings, BuildError>
+    requires simple { IsSimpleSignature declarations.now.signature }
+    requires readable { IsReadable declarations.now.signature }
+    requires variables { AreVariables declarations.now.signature declarations.now.variables }
+    requires order { declarations.now.order ≡ order_of declarations.now.signature }
+    ensures reader { IfOk result (λ r. IsReaderOf declarations.now.signature declarations.now.variables r.reader.value) }
+    ensures statements { IfOk result (λ r. AreEquations declarations.now.signature declarations.now.variables (seen_equations declarations.now.equations.items) r.statements) }
+    ensures fault { IfErr result (HasEquationCause (seen_declarations declarations.now)) }
+{
+    let reader = Reader::of(
+        alloc,
+        &declarations.signature,
+        &declarations.order,
+        declarations.variables.as_slice(),
+    )?;
+    match statements(alloc, &reader, declarations.equations.as_slice())? {
+        Ok(statements) => Ok(Readings {
+            reader,
+            statements: Seq::of(statements),
+        }),
+        Err(fault) => Err(BuildError::Fault(fault)),
+    }
+}
+
+/// What a module has besides its declarations.
+#[derive(Drop)]
+struct Parts {
+    tables: Tables,
+    readings: Readings,
+}
+
+/// What the module of a unit's declarations has besides them, or its first fault: of its signature, and then of its
+/// equations in order.
+fn checked(alloc: Global, unit: &Unit, declarations: &Declarations<'_>) -> Result<Parts, BuildError>
+    requires declared { Declares (seen_unit unit.now) (seen_declarations declarations.now) }
+    requires order { declarations.now.order ≡ order_of declarations.now.signature }
+    ensures preregular { IfOk result (λ _. IsPreregular declarations.now.signature) }
+    ensures tables { IfOk result (λ p. AreTablesOf declarations.now.signature p.tables) }
+    ensures reader { IfOk result (λ p. IsReaderOf declarations.now.signature declarations.now.variables p.readings.reader.value) }
+    ensures statements { IfOk result (λ p. AreEquations declarations.now.signature declarations.now.variables (seen_equations declarations.now.equations.items) p.readings.statements) }
+    ensures fault { IfErr result (HasCause (seen_unit unit.now)) }
+{
+    let tables = tables(
+        alloc,
+        unit.line,
+        &declarations.signature,
+        &declarations.order,
+    )?;
+    let readings = read(alloc, declarations)?;
+    Ok(Parts { tables, readings })
+}
+
+/// The module of this name that was declared.
+fn module_of(
     alloc: Global,
     name: Name,
     declarations: Declarations<'_>,
-    tables: Tables,
-) -> Result<Module, BuildError>
+    parts: Parts,
+) -> Result<Module, AllocError>
     requires simple { IsSimpleSignature declarations.signature }
-    requires readable { IsReadable declarations.signature }
-    requires variables { AreVariables declarations.signature declarations.variables }
     requires order { declarations.order ≡ order_of declarations.signature }
-    requires tables { AreTablesOf declarations.signature tables }
-    ensures holds { IfOk result (IsDeclaredModule name (seen_declarations declarations.entry)) }
-    ensures fault { IfErr result (HasEquationCause (seen_declarations declarations.entry)) }
+    requires tables { AreTablesOf declarations.signature parts.tables }
+    requires reader { IsReaderOf declarations.signature declarations.variables parts.readings.reader.value }
+    requires statements { AreEquations declarations.signature declarations.variables (seen_equations declarations.equations.items) parts.readings.statements }
+    ensures { IfOk result (IsDeclaredModule name (seen_declarations declarations.entry)) }
 {
     let Declarations {
         signature,
         order,
         variables,
-        equations,
+        equations: _,
     } = declarations;
-    let reader = Reader::of(alloc, &signature, &order, variables.as_slice())?;
-    let statements = match statements(alloc, &reader, equations.as_slice())? {
-        Ok(statements) => Seq::of(statements),
-        Err(fault) => return Err(BuildError::Fault(fault)),
-    };
+    let Parts { tables, readings } = parts;
+    let Readings { reader, statements } = readings;
     Ok(Module {
         name,
         context: Ctx::new(alloc, signature, order, tables, statements)?,
@@ -133,16 +206,7 @@ pub fn build(alloc: Global, unit: &Unit, name: Name) -> Result<Module, BuildErro
     ensures accepted { IfOk result (λ m. IsAccepted (seen_unit unit.now) name m) }
     ensures fault { IfErr result (HasCause (seen_unit unit.now)) }
 {
-    let declarations = match declare(alloc, unit) {
-        Ok(declarations) => declarations,
-        Err(DeclareError::Fault(fault)) => return Err(BuildError::Fault(fault)),
-        Err(DeclareError::Memory) => return Err(BuildError::Memory),
-    };
-    let tables = tables(
-        alloc,
-        unit.line,
-        &declarations.signature,
-        &declarations.order,
-    )?;
-    declared_module(alloc, name, declarations, tables)
+    let declarations = declared(alloc, unit)?;
+    let parts = checked(alloc, unit, &declarations)?;
+    Ok(module_of(alloc, name, Box::into_inner(declarations), parts)?)
 }

@@ -1,5 +1,5 @@
 // Kept deductions.
-ghost use Rattle.std.specs.Prelude.{◌≡◌, ◌-◌, ◌^◌, ◌++◌, [], ◌∷◌, List, length, map, min, IfOk};
+ghost use Rattle.std.specs.Prelude.{◌≡◌, ◌-◌, ◌^◌, ◌++◌, [], ◌∷◌, List, length, map, min, IfOk, OnOk};
 ghost use Rattle.mw_logic.specs.Terms.{terms_of};
 ghost use Rattle.mw_logic.specs.NormalForm.{applied_in};
 ghost use Rattle.mw_logic.specs.Proof.{count, rules, steps};
@@ -7,7 +7,7 @@ ghost use Rattle.mw_machine.specs.Moves.{reached};
 ghost use Rattle.mw_machine.specs.Replacements.{carried, within};
 ghost use Rattle.mw_canon.specs.Canonical.{IsAdmittedTerm};
 ghost use Rattle.mw_proof.specs.Deductions.{IsDeduction, IsLiftable, filled, frame_of};
-ghost use Rattle.mw_proof.specs.Trails.{moves, proof_of};
+ghost use Rattle.mw_proof.specs.Trails.{inward, moves, outward, proof_of};
 
 use crate::trail::{Item, Level, Parts, Trail, enter_all, leave_all, narrow};
 use mw_canon::rebuild;
@@ -135,6 +135,25 @@ pub fn refl<'m>(alloc: Global, context: &'m Ctx, term: &Term) -> Result<Proved<'
     Ok(Proved::of(context, from, to, Trail::new(alloc)))
 }
 
+/// Items and values that leave so many places, go into a place, and go on with others.
+fn join(
+    items: &mut Vec<Item>,
+    values: &mut Vec<Term>,
+    places: usize,
+    start: &[Level],
+    next_items: &mut Vec<Item>,
+    next_values: &mut Vec<Term>,
+) -> Result<(), AllocError>
+    ensures items { OnOk result (items.new.items ≡ ((items.old.items ++ outward places) ++ inward start.now) ++ next_items.old.items) }
+    ensures values { OnOk result (values.new.items ≡ values.old.items ++ next_values.old.items) }
+{
+    leave_all(items, places)?;
+    enter_all(items, start)?;
+    items.append(next_items)?;
+    values.append(next_values)?;
+    Ok(())
+}
+
 /// One proof and then another, which begins where the first one ends. It takes as long as the second one, and its places
 /// and those that the first one leaves open.
 pub fn then<'m>(first: Proved<'m>, second: Proved<'m>) -> Result<Proved<'m>, AllocError>
@@ -145,17 +164,95 @@ pub fn then<'m>(first: Proved<'m>, second: Proved<'m>) -> Result<Proved<'m>, All
     ensures to { IfOk result (λ p. p.to ≡ second.entry.to) }
     ensures carried { IfOk result (λ p. carried [] p.proof ≡ carried [] first.entry.proof ++ carried [] second.entry.proof) }
 {
-    let mut joined = first;
-    let mut next = second;
-    let places = joined.out;
-    leave_all(&mut joined.items, places)?;
-    enter_all(&mut joined.items, next.start.as_slice())?;
-    joined.items.append(&mut next.items)?;
-    joined.values.append(&mut next.values)?;
-    joined.steps = joined.steps.saturating_add(next.steps);
-    joined.out = next.out;
-    joined.to = next.to;
-    Ok(joined)
+    let Proved {
+        context,
+        from,
+        start,
+        mut items,
+        mut values,
+        steps,
+        out,
+        ..
+    } = first;
+    let Proved {
+        to,
+        start: place,
+        items: mut more,
+        values: mut others,
+        steps: count,
+        out: open,
+        ..
+    } = second;
+    join(
+        &mut items,
+        &mut values,
+        out,
+        place.as_slice(),
+        &mut more,
+        &mut others,
+    )?;
+    Ok(Proved {
+        context,
+        from,
+        to,
+        start,
+        items,
+        values,
+        steps: steps.saturating_add(count),
+        out: open,
+    })
+}
+
+/// An operator on terms before, a term, and terms after.
+fn applied_beside(
+    alloc: Global,
+    context: &Ctx,
+    operator: OpId,
+    before: &[Term],
+    term: &Term,
+    after: &[Term],
+) -> Result<Term, AllocError>
+    requires { IsAdmittedTerm context.now.signature (filled context.now.signature operator before.now term.now after.now) }
+    ensures { IfOk result (λ t. t ≡ filled context.now.signature operator before.now term.now after.now) }
+{
+    context.shows();
+    let args = beside(alloc, before, term, after)?;
+    rebuild(alloc, context.signature(), operator, args)
+}
+
+/// Puts a proof under an operator, beside terms that stay as they are.
+fn lift<'m>(
+    alloc: Global,
+    context: &'m Ctx,
+    operator: OpId,
+    before: &[Term],
+    inner: &mut Proved<'m>,
+    after: &[Term],
+) -> Result<(), AllocError>
+    requires module { inner.old.over ≡ context.now }
+    requires begins { IsAdmittedTerm context.now.signature (filled context.now.signature operator before.now inner.old.from after.now) }
+    requires ends { IsAdmittedTerm context.now.signature (filled context.now.signature operator before.now inner.old.to after.now) }
+    requires liftable { IsLiftable inner.old (frame_of context.now.signature operator before.now after.now) }
+    ensures over { OnOk result (inner.new.over ≡ context.now) }
+    ensures from { OnOk result (inner.new.from ≡ filled context.now.signature operator before.now inner.old.from after.now) }
+    ensures to { OnOk result (inner.new.to ≡ filled context.now.signature operator before.now inner.old.to after.now) }
+    ensures carried { OnOk result (carried [] inner.new.proof ≡ map (within (record { before = length before.now; after = length after.now })) (carried [] inner.old.proof)) }
+{
+    context.shows();
+    let level = Level {
+        before: narrow(before.len())?,
+        after: narrow(after.len())?,
+    };
+    let Some(out) = inner.out.checked_add(1) else {
+        return Err(AllocError);
+    };
+    let from = applied_beside(alloc, context, operator, before, &inner.from, after)?;
+    let to = applied_beside(alloc, context, operator, before, &inner.to, after)?;
+    inner.start.push(level)?;
+    inner.out = out;
+    inner.from = from;
+    inner.to = to;
+    Ok(())
 }
 
 /// A proof under an operator, beside terms that stay as they are. Each replacement of the proof must be one that may
@@ -178,20 +275,14 @@ pub fn under<'m>(
     ensures carried { IfOk result (λ p. carried [] p.proof ≡ map (within (record { before = length before.items; after = length after.items })) (carried [] inner.entry.proof)) }
 {
     let mut inner = inner;
-    context.shows();
-    let level = Level {
-        before: narrow(before.len())?,
-        after: narrow(after.len())?,
-    };
-    let Some(out) = inner.out.checked_add(1) else {
-        return Err(AllocError);
-    };
-    let from = beside(alloc, before.as_slice(), &inner.from, after.as_slice())?;
-    let to = beside(alloc, before.as_slice(), &inner.to, after.as_slice())?;
-    inner.start.push(level)?;
-    inner.out = out;
-    inner.from = rebuild(alloc, context.signature(), operator, from)?;
-    inner.to = rebuild(alloc, context.signature(), operator, to)?;
+    lift(
+        alloc,
+        context,
+        operator,
+        before.as_slice(),
+        &mut inner,
+        after.as_slice(),
+    )?;
     Ok(inner)
 }
 

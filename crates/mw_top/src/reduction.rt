@@ -1,7 +1,7 @@
 // The answer of a command: its term is read, and reduced where the command asks for it, and its block is written.
 ghost use Rattle.std.specs.Prelude.{◌≡◌, ◌≤◌, ◌-◌, ◌^◌, ℕ, List, min, None, IfOk, MatchResult, IsTrue};
 ghost use Rattle.mw_logic.specs.Proof.{count};
-ghost use Rattle.mw_logic.specs.Signature.{Sorted as SortedOf};
+ghost use Rattle.mw_logic.specs.Signature.{Sorted as SortedOf, IsRawTerm};
 ghost use Rattle.mw_logic.specs.Sorts.{IsLeastSort};
 ghost use Rattle.mw_block.specs.Blocks.{block as block_of};
 ghost use Rattle.mw_lex.specs.Lexing.{seen_all};
@@ -10,6 +10,8 @@ ghost use Rattle.mw_term.specs.Raws.{raw_term, raw_terms};
 ghost use Rattle.mw_text.specs.Mixfix.{Reads};
 ghost use Rattle.mw_module.specs.Refusals.{cause_of};
 ghost use Rattle.mw_declare.specs.Meaning.{texts};
+ghost use Rattle.mw_parse.specs.Answers.{HasCause as HasReadingCause};
+ghost use Rattle.mw_build.specs.Modules.{Accepted};
 ghost use Rattle.mw_block.specs.Seen.{word_of as word_of_status};
 ghost use Rattle.mw_top.specs.Commands.{IsAnswer, IsReduced, IsParsed, TermFault};
 ghost use Rattle.mw_top.specs.Seen.{word_of};
@@ -53,6 +55,43 @@ fn have_no_variable(terms: &[Raw]) -> bool
     true
 }
 
+/// What is wrong with a text that isn't read.
+fn unread(error: &ParseError) -> Result<Result<Term, FaultKind>, AllocError>
+    ensures { (a : Accepted) (words : List (List ℕ)) → HasReadingCause a.module.signature a.variables None words error.now → IfOk result (λ r. MatchResult r
+        (λ t. Reads a.module.signature a.variables None words t × IsAdmittedTerm a.module.signature t)
+        (λ kind. TermFault a words (cause_of kind))) }
+{
+    match error {
+        ParseError::TooLong => Ok(Err(FaultKind::TermTooLong)),
+        ParseError::NoParse => Ok(Err(FaultKind::NoParse)),
+        ParseError::Ambiguous { .. } => Ok(Err(FaultKind::Ambiguous)),
+        ParseError::Memory => Err(AllocError),
+    }
+}
+
+/// The canonical form of a term that was read, which has no variable and isn't too deep, or what is wrong with it.
+fn canonical(
+    alloc: Global,
+    accepted: &Module,
+    raw: &Raw,
+) -> Result<Result<Term, FaultKind>, AllocError>
+    requires { IsRawTerm accepted.now.module.signature (raw_term raw.now) }
+    ensures { (words : List (List ℕ)) → Reads accepted.now.module.signature accepted.now.variables None words (raw_term raw.now) → IfOk result (λ r. MatchResult r
+        (λ t. Reads accepted.now.module.signature accepted.now.variables None words t × IsAdmittedTerm accepted.now.module.signature t)
+        (λ kind. TermFault accepted.now words (cause_of kind))) }
+{
+    accepted.context().shows();
+    if !has_no_variable(raw) {
+        return Ok(Err(FaultKind::OpenTerm));
+    }
+    match canon(alloc, accepted.context().signature(), raw) {
+        Ok(term) => Ok(Ok(term)),
+        Err(CanonError::Deep) => Ok(Err(FaultKind::TooDeep)),
+        Err(CanonError::Nat) => Ok(Err(FaultKind::NumberTooLarge)),
+        Err(CanonError::Memory) => Err(AllocError),
+    }
+}
+
 /// The term of a command, which has no variable and isn't too deep, or what is wrong with it.
 pub fn command_term(
     alloc: Global,
@@ -63,22 +102,9 @@ pub fn command_term(
         (λ t. Reads accepted.now.module.signature accepted.now.variables None (texts (seen_all tokens.now)) t × IsAdmittedTerm accepted.now.module.signature t)
         (λ kind. TermFault accepted.now (texts (seen_all tokens.now)) (cause_of kind))) }
 {
-    accepted.context().shows();
-    let raw = match accepted.term(alloc, tokens) {
-        Ok(raw) => raw,
-        Err(ParseError::TooLong) => return Ok(Err(FaultKind::TermTooLong)),
-        Err(ParseError::NoParse) => return Ok(Err(FaultKind::NoParse)),
-        Err(ParseError::Ambiguous { .. }) => return Ok(Err(FaultKind::Ambiguous)),
-        Err(ParseError::Memory) => return Err(AllocError),
-    };
-    if !has_no_variable(&raw) {
-        return Ok(Err(FaultKind::OpenTerm));
-    }
-    match canon(alloc, accepted.context().signature(), &raw) {
-        Ok(term) => Ok(Ok(term)),
-        Err(CanonError::Deep) => Ok(Err(FaultKind::TooDeep)),
-        Err(CanonError::Nat) => Ok(Err(FaultKind::NumberTooLarge)),
-        Err(CanonError::Memory) => Err(AllocError),
+    match accepted.term(alloc, tokens) {
+        Ok(raw) => canonical(alloc, accepted, &raw),
+        Err(error) => unread(&error),
     }
 }
 

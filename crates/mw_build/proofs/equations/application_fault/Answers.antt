@@ -5,7 +5,7 @@ use Rattle.mw_term.specs.declared.raw.Raw.TheVariants.{Var}
 use Rattle.mw_term.specs.Raws.{raw_term}
 use Rattle.mw_module.specs.Refusals.{unbound_variable}
 use Rattle.mw_build.specs.Equations.{ApplicationFault, lone, open_right}
-use Rattle.mw_build.proofs.Sides.{is_lone, not_lone, first_unbound}
+use Rattle.mw_build.proofs.Sides.{is_lone, not_lone}
 use Rattle.mw_build.proofs.equations.application_fault.Goals as goal
 use Rattle.mw_build.proofs.equations.application_fault.Goals.{in-Var, in_default}
 
@@ -20,14 +20,14 @@ returns-in-Some c = λ sig simple.
     let left = raw_term c.args.left.now in
     let right = raw_term c.args.right.now in
     let none = elim c.match-matches.branch as (λ _. (x : Variable) → c.args.left.now ≡ Var x → ⊥) [ in-Var w ↦ absurd (both_ways _ c.if-matches.false w.matches-is) | in_default w ↦ w.in_default.not-Var ] in
-    let first = first_unbound left right c.in_ok-bound.bound c.in_ok-mentioned.field-0 c.in_ok-variable.field-0 c.in_ok-bound.ensures c.in_ok-mentioned.ensures c.in_ok-variable.ensures in
+    let first = sym c.in_ok-variable.ensures in
     let name : c.in-Some.variable.name ≡ c.into_vec.result.items = ap (λ (x : Variable). x.name) (sym c.variable.view_is) ∙ sym c.into_vec.ensures in
     subst (λ n. ApplicationFault sig left right (unbound_variable n)) name (open_right c.in-Some.variable (not_lone sig simple c.args.left.now none) (first ∙ c.in-Some.is))
 
-pub returns : goal.returns
-returns c = λ sig simple.
+pub returns-in-None : goal.returns-in-None
+returns-in-None c = λ sig simple.
     let left = raw_term c.args.left.now in
     let right = raw_term c.args.right.now in
     let none = elim c.match-matches.branch as (λ _. (x : Variable) → c.args.left.now ≡ Var x → ⊥) [ in-Var w ↦ absurd (both_ways _ c.if-matches.false w.matches-is) | in_default w ↦ w.in_default.not-Var ] in
-    let first = first_unbound left right c.in_ok-bound.bound c.in_ok-mentioned.field-0 c.in_ok-variable.field-0 c.in_ok-bound.ensures c.in_ok-mentioned.ensures c.in_ok-variable.ensures in
+    let first = sym c.in_ok-variable.ensures in
     record { not_lone = not_lone sig simple c.args.left.now none; bound = first ∙ c.in-None.is }

@@ -1,42 +1,32 @@
-use Rattle.std.proofs.Common.{◌∙◌, map, Option, MatchOption, ap, subst}
-use Rattle.std.proofs.lemmas.Bool.{both_ways}
+use Rattle.std.proofs.Common.{◌≡◌, ◌∙◌, List, [], Result, map, MatchResult, ap, subst}
+use Rattle.mw_logic.specs.Term.{Variable}
+use Rattle.mw_machine.specs.Variables.{met}
 use Rattle.mw_term.specs.Raws.{raw_term}
 use Rattle.mw_term.specs.Statements.{fragment_of}
 use Rattle.mw_module.specs.declared.faults.FaultKind.{FaultKind}
-use Rattle.mw_module.specs.Refusals.{too_deep, cause_of}
-use Rattle.mw_build.specs.Equations.{IsApplicable, ApplicationFault, big_left, big_right, inapplicable}
-use Rattle.mw_build.proofs.Sides.{within, above, fits, oversized, holds_none, made}
+use Rattle.mw_module.specs.Refusals.{cause_of}
+use Rattle.mw_build.specs.Equations.{IsStatementOf, SidesFault, statement_of}
+use Rattle.mw_build.proofs.Sides.{made}
 use Rattle.mw_build.proofs.equations.sides_statement.Goals as goal
-use Rattle.mw_build.proofs.equations.sides_statement.Goals.{then-not-is_within-via-then-not-is_within, then-not-is_within-via-else-not-is_within+then-not-is_within-2, then-executable+in_ok-kind+in_default, else-executable}
 
-pub returns-then-not-is_within : goal.returns-then-not-is_within
-returns-then-not-is_within c = λ sig simple. elim c.then-not-is_within.branch [
-  | then-not-is_within-via-then-not-is_within w ↦ big_left too_deep (oversized sig simple (raw_term c.args.left) (above _ _ _ c.is_within.ensures w.if-not-is_within.true))
-  | then-not-is_within-via-else-not-is_within+then-not-is_within-2 w ↦
-      big_right too_deep (fits sig simple (raw_term c.args.left) (within _ _ _ c.is_within.ensures w.if-not-is_within.false))
-      (oversized sig simple (raw_term c.args.right) (above _ _ _ w.is_within-else-not-is_within.ensures w.if-not-is_within-2.true))
-]
-
-pub returns-in-Some : goal.returns-in-Some
-returns-in-Some c = λ sig simple.
+pub returns-in-Ok : goal.returns-in-Ok
+returns-in-Ok c = λ sig simple.
     let left = raw_term c.args.left in
     let right = raw_term c.args.right in
-    inapplicable (cause_of c.in-Some.kind) (fits sig simple left (within _ _ _ c.is_within.ensures c.if-not-is_within.false))
-    (fits sig simple right (within _ _ _ c.is_within-else-not-is_within.ensures c.if-not-is_within-2.false))
-    c.if-executable.true
-    (subst (λ (o : Option FaultKind). MatchOption o (IsApplicable sig left right) (λ kind. ApplicationFault sig left right (cause_of kind))) c.in-Some.is (c.in_ok-kind.ensures sig simple))
-
-pub returns : goal.returns
-returns c = λ sig simple.
-    let left = raw_term c.args.left in
-    let right = raw_term c.args.right in
+    let found = subst (λ (r : Result (List Variable) FaultKind). MatchResult r
+        (λ xs. IsStatementOf sig left right c.args.executable (statement_of left right c.args.executable) × (xs ≡ met (met [] left) right))
+        (λ kind. SidesFault sig left right c.args.executable (cause_of kind))) c.in-Ok.is (c.in_ok-variables.ensures sig simple) in
     record {
-      left_fits = fits sig simple left (within _ _ _ c.is_within.ensures c.if-not-is_within.false);
-      right_fits = fits sig simple right (within _ _ _ c.is_within-else-not-is_within.ensures c.if-not-is_within-2.false);
-      applicable = elim c.if-executable.branch [
-        | then-executable+in_ok-kind+in_default w ↦ λ h.
-            subst (λ (o : Option FaultKind). MatchOption o (IsApplicable sig left right) (λ kind. ApplicationFault sig left right (cause_of kind))) (holds_none w.in_ok-kind.field-0 w.in_default.not-Some) (w.in_ok-kind.ensures sig simple)
-        | else-executable w ↦ λ h. absurd (both_ways _ w.if-executable.false h)
-      ];
-      statement = made left right c.args.executable (map fragment_of c.of.result) c.in_ok-variables.variables (ap (map fragment_of) (c.of.ensures ∙ c.new.ensures.items)) (c.in_ok-variables.ensures ∙ c.in_ok-mentioned_in_both.ensures);
+      left_fits = found.0.left_fits;
+      right_fits = found.0.right_fits;
+      applicable = found.0.applicable;
+      statement = made left right c.args.executable (map fragment_of c.of.result) c.in-Ok.variables (ap (map fragment_of) (c.of.ensures ∙ c.new.ensures.items)) found.1;
     }
+
+pub returns-in-Err : goal.returns-in-Err
+returns-in-Err c = λ sig simple.
+    let left = raw_term c.args.left in
+    let right = raw_term c.args.right in
+    subst (λ (r : Result (List Variable) FaultKind). MatchResult r
+        (λ xs. IsStatementOf sig left right c.args.executable (statement_of left right c.args.executable) × (xs ≡ met (met [] left) right))
+        (λ kind. SidesFault sig left right c.args.executable (cause_of kind))) c.in-Err.is (c.in_ok-variables.ensures sig simple)

@@ -1,39 +1,24 @@
-use Rattle.std.proofs.Common.{subst}
-use Rattle.std.proofs.lemmas.Result.{err_from_is_err_and}
+use Rattle.std.proofs.Common.{subst, sym}
+use Rattle.mw_logic.specs.Preregular.{IsPreregular}
+use Rattle.mw_machine.specs.Simple.{IsSimpleSignature}
 use Rattle.mw_module.specs.Units.{seen_unit}
-use Rattle.mw_declare.specs.Seen.{seen_declarations, HasCause}
-use Rattle.mw_build.specs.Modules.{by_declarations}
-use Rattle.mw_build.proofs.Readable.{readable_declared, variables_declared}
-use Rattle.mw_build.proofs.Accepting.{signature_cause, equation_fault}
-use Rattle.mw_build.proofs.Signatures.{numbers_declared, free_declared, simple_declared}
+use Rattle.mw_declare.specs.declared.declarations.Declarations.{Declarations}
+use Rattle.mw_declare.specs.Seen.{seen_declarations}
+use Rattle.mw_build.specs.Modules.{IsDeclaredModule}
+use Rattle.mw_build.proofs.Signatures.{simple_declared}
 use Rattle.mw_build.proofs.modules.build.Goals as goal
 
-pub returns-in-Err-Fault-clause-fault : goal.returns-in-Err-Fault-clause-fault
-returns-in-Err-Fault-clause-fault c =
-    let k = subst (HasCause (seen_unit c.args.unit.now)) c.in-Err-Fault.field-0-is c.in-Err-Fault.ensures.fault in
-    rw c.in-Err-Fault.field-0-is (by_declarations k)
+pub module_of-requires-clause-simple : goal.module_of-requires-clause-simple
+module_of-requires-clause-simple c =
+    let d = c.in_ok-declarations.declarations.value in
+    let preregular = subst (λ (x : Declarations). IsPreregular x.signature) c.deref.ensures c.in_ok-parts.ensures.preregular in
+    subst (λ (x : Declarations). IsSimpleSignature x.signature) (sym c.into_inner.ensures)
+    (simple_declared (seen_unit c.args.unit.now) (seen_declarations d) c.in_ok-declarations.ensures.declared preregular)
 
-pub tables-requires-clause-sorts : goal.tables-requires-clause-sorts
-tables-requires-clause-sorts c = numbers_declared (seen_unit c.args.unit.now) (seen_declarations c.in-Ok.declarations) c.in-Ok.ensures.declared
-
-pub tables-requires-clause-free : goal.tables-requires-clause-free
-tables-requires-clause-free c = free_declared (seen_unit c.args.unit.now) (seen_declarations c.in-Ok.declarations) c.in-Ok.ensures.declared
-
-pub returns-in_err-tables-clause-fault : goal.returns-in_err-tables-clause-fault
-returns-in_err-tables-clause-fault c =
-    let p = err_from_is_err_and c.from_residual.result c.from_residual.ensures.1 in
-    let h = signature_cause (seen_unit c.args.unit.now) (seen_declarations c.in-Ok.declarations) c.in-Ok.ensures.declared _ c.in_err-tables.ensures.fault in
-    rw (p.1, p.2) h
-
-pub declared_module-requires-clause-simple : goal.declared_module-requires-clause-simple
-declared_module-requires-clause-simple c = simple_declared (seen_unit c.args.unit.now) (seen_declarations c.in-Ok.declarations) c.in-Ok.ensures.declared c.in_ok-tables.ensures.preregular
-
-pub declared_module-requires-clause-readable : goal.declared_module-requires-clause-readable
-declared_module-requires-clause-readable c = readable_declared (seen_unit c.args.unit.now) (seen_declarations c.in-Ok.declarations) c.in-Ok.ensures.declared
-
-pub declared_module-requires-clause-variables : goal.declared_module-requires-clause-variables
-declared_module-requires-clause-variables c = variables_declared (seen_unit c.args.unit.now) (seen_declarations c.in-Ok.declarations) c.in-Ok.ensures.declared
-
-pub returns-clause-fault : goal.returns-clause-fault
-returns-clause-fault c =
-    equation_fault (seen_unit c.args.unit.now) (seen_declarations c.in-Ok.declarations) c.in-Ok.ensures.declared c.in_ok-tables.ensures.preregular c.declared_module.result c.declared_module.ensures.fault
+pub returns-clause-accepted : goal.returns-clause-accepted
+returns-clause-accepted c = record {
+  declarations = seen_declarations c.in_ok-declarations.declarations.value;
+  declared = c.in_ok-declarations.ensures.declared;
+  preregular = subst (λ (x : Declarations). IsPreregular x.signature) c.deref.ensures c.in_ok-parts.ensures.preregular;
+  holds = subst (λ (x : Declarations). IsDeclaredModule c.args.name (seen_declarations x) c.in_ok-module_of.field-0) c.into_inner.ensures c.in_ok-module_of.ensures;
+}
