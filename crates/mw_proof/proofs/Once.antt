@@ -75,7 +75,7 @@ module _ (M : Module) (simple : IsSimpleModule M) (H : List Fragment → Substit
         (λ n. let h = never M free H F Step Tep q ls C m u y n.1 in (m, once p ls r C t m a (ap (plug C) h.0 ∙ b) x n.0, h.1))
         (one_in (carried ls p) (carried ls q) r e)
     once (replacement k c s es) ls r C t u a b (x, y) e = (x, turned c (plug C t) t u (plug C u) (sym x.rule ∙ (simple.equations k x.statement x.is_there).equation) a b y)
-    once row ls r C t u a b (x, y) e = (x, turned false (plug C t) t u (plug C u) refl a b y)
+    once row ls r C t u a b (x, c, y) e = (x, c, turned false (plug C t) t u (plug C u) refl a b y)
 
     once_in : (ps : Proofs) (ls : Place) (i : ℕ) (r : Replacement) (C : Context) (f : ℕ) (done ts us : RawTerms) → plug C (apply f (join done ts)) ≡ T → plug C (apply f (join done us)) ≡ U
         → LeadsIn M Step H F C f done ps ts us → carried_in ls i ps ≡ r ∷ [] → LeadsIn M Tep H F C f done ps ts us

@@ -14,4 +14,4 @@ loop-binding-preserved c =
 pub returns : goal.returns
 returns c =
     let is : pairs_of c.as_slice-binding-items.result.now ≡ c.args.given.now = ap pairs_of c.as_slice-binding-items.ensures ∙ c.given.view_is in
-    c.in_ok-meet_all.ensures ∙ ap (λ xs. met xs (raw_term c.args.pattern.now)) (c.loop-binding.invariant ∙ variables_taken c.args.given.now c.as_slice-binding-items.result.now is c.loop-binding.binding-index c.loop-binding-test.false)
+    c.in_ok-meet_all.ensures.met ∙ ap (λ xs. met xs (raw_term c.args.pattern.now)) (c.loop-binding.invariant ∙ variables_taken c.args.given.now c.as_slice-binding-items.result.now is c.loop-binding.binding-index c.loop-binding-test.false)
