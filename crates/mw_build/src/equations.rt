@@ -24,11 +24,7 @@ use std::alloc::{AllocError, Global};
 const DEEPEST: u32 = 1000;
 
 /// The first variable of a term that isn't among the bound ones.
-fn missing_from(
-    alloc: Global,
-    bound: &Mentions,
-    term: &Raw,
-) -> Result<Option<VarId>, AllocError>
+fn missing_from(alloc: Global, bound: &Mentions, term: &Raw) -> Result<Option<VarId>, AllocError>
     ensures { IfOk result (λ o. o ≡ missing_in bound.now (met [] (raw_term term.now))) }
 {
     let used = mentioned(alloc, term)?;

@@ -1,5 +1,5 @@
 -- A unit is one module at most, and none where it is refused.
-use Rattle.std.proofs.Common.{◌≡◌, ◌∙◌, ℕ, zero, suc, Bool, List, [], ◌∷◌, length, slice_get, Some, Ok, refl, sym, ap, subst, arith, ⊎_elim}
+use Rattle.std.proofs.Common.{◌≡◌, ◌∙◌, ℕ, zero, suc, Bool, List, [], ◌∷◌, length, slice_get, Some, refl, sym, ap, subst, arith, ⊎_elim}
 use Rattle.std.proofs.lemmas.Option.{none-some, slice_get_within}
 use Rattle.mw_logic.specs.Term.{Variable, RawTerm}
 use Rattle.mw_logic.specs.Signature.{Signature, Sorted, sort, kind, SameKind, same}

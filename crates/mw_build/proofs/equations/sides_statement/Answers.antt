@@ -14,8 +14,8 @@ returns-in-Ok c = λ sig simple.
     let left = raw_term c.args.left in
     let right = raw_term c.args.right in
     let found = subst (λ (r : Result (List Variable) FaultKind). MatchResult r
-        (λ xs. IsStatementOf sig left right c.args.executable (statement_of left right c.args.executable) × (xs ≡ met (met [] left) right))
-        (λ kind. SidesFault sig left right c.args.executable (cause_of kind))) c.in-Ok.is (c.in_ok-variables.ensures sig simple) in
+    (λ xs. IsStatementOf sig left right c.args.executable (statement_of left right c.args.executable) × (xs ≡ met (met [] left) right))
+    (λ kind. SidesFault sig left right c.args.executable (cause_of kind))) c.in-Ok.is (c.in_ok-variables.ensures sig simple) in
     record {
       left_fits = found.0.left_fits;
       right_fits = found.0.right_fits;
@@ -28,5 +28,5 @@ returns-in-Err c = λ sig simple.
     let left = raw_term c.args.left in
     let right = raw_term c.args.right in
     subst (λ (r : Result (List Variable) FaultKind). MatchResult r
-        (λ xs. IsStatementOf sig left right c.args.executable (statement_of left right c.args.executable) × (xs ≡ met (met [] left) right))
-        (λ kind. SidesFault sig left right c.args.executable (cause_of kind))) c.in-Err.is (c.in_ok-variables.ensures sig simple)
+    (λ xs. IsStatementOf sig left right c.args.executable (statement_of left right c.args.executable) × (xs ≡ met (met [] left) right))
+    (λ kind. SidesFault sig left right c.args.executable (cause_of kind))) c.in-Err.is (c.in_ok-variables.ensures sig simple)

@@ -28,14 +28,16 @@ returns-in-Some c = λ sig simple.
 pub returns : goal.returns
 returns c = λ sig simple.
     let left = raw_term c.args.left.now in
-    let right = raw_term c.args.right.now in
-    (record {
-      left_fits = fits sig simple left (within _ _ _ c.is_within.ensures c.if-not-is_within.false);
-      right_fits = fits sig simple right (within _ _ _ c.is_within-else-not-is_within.ensures c.if-not-is_within-2.false);
-      applicable = elim c.if-executable.branch [
-        | then-executable+in_ok-kind+in_default w ↦ λ h.
-            subst (λ (o : Option FaultKind). MatchOption o (IsApplicable sig left right) (λ kind. ApplicationFault sig left right (cause_of kind))) (holds_none w.in_ok-kind.field-0 w.in_default.not-Some) (w.in_ok-kind.ensures sig simple)
-        | else-executable w ↦ λ h. absurd (both_ways _ w.if-executable.false h)
-      ];
-      statement = refl;
-    }, c.in_ok-variables.ensures)
+    let right = raw_term c.args.right.now in (
+      record {
+        left_fits = fits sig simple left (within _ _ _ c.is_within.ensures c.if-not-is_within.false);
+        right_fits = fits sig simple right (within _ _ _ c.is_within-else-not-is_within.ensures c.if-not-is_within-2.false);
+        applicable = elim c.if-executable.branch [
+          | then-executable+in_ok-kind+in_default w ↦ λ h.
+              subst (λ (o : Option FaultKind). MatchOption o (IsApplicable sig left right) (λ kind. ApplicationFault sig left right (cause_of kind))) (holds_none w.in_ok-kind.field-0 w.in_default.not-Some) (w.in_ok-kind.ensures sig simple)
+          | else-executable w ↦ λ h. absurd (both_ways _ w.if-executable.false h)
+        ];
+        statement = refl;
+      },
+      c.in_ok-variables.ensures,
+    )

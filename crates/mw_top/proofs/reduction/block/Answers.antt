@@ -1,5 +1,4 @@
-use Rattle.std.proofs.Common.{◌≡◌, ◌∙◌, ap, sym, subst}
-use Rattle.mw_logic.specs.Module.{Module}
+use Rattle.std.proofs.Common.{◌∙◌, ap, sym, subst}
 use Rattle.mw_logic.specs.Signature.{Signature}
 use Rattle.mw_logic.specs.Sorts.{IsLeastSort}
 use Rattle.mw_poset.specs.SortOrder.{order_of}
