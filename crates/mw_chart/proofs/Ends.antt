@@ -4,7 +4,6 @@ use Rattle.std.specs.List.{slice_get}
 use Rattle.std.specs.Global.{Global}
 use Rattle.std.specs.declared.vec.Vec.{Vec}
 use Rattle.std.proofs.Math.ListN.{set}
-use Rattle.mw_chart.specs.Tree.{Tree}
 use Rattle.mw_chart.specs.Spelling.{IsTable}
 use Rattle.mw_chart.specs.declared.table.Table.{Table}
 use Rattle.mw_chart.specs.Row.{IsIndexed, AreBare, AreRows}
@@ -12,7 +11,7 @@ use Rattle.mw_chart.specs.declared.row.Row.{Row}
 use Rattle.mw_chart.specs.declared.slot.Slot.{Slot}
 use Rattle.mw_chart.specs.declared.slot.Reading.{Reading}
 use Rattle.mw_chart.specs.Chart.{inner, IsCell, IsCells, IsRow, AreEmpty}
-use Rattle.mw_chart.proofs.Lists.{one_there, get_below, get_same, get_set_same, get_set_other, get_back, get_item, eq_or}
+use Rattle.mw_chart.proofs.Lists.{one_there, get_below, get_set_same, get_set_other, get_item, eq_or}
 use Rattle.std.specs.Vec.{vec_len}
 use Rattle.mw_chart.proofs.Begins.{le_or, whole_moves}
 use Rattle.mw_chart.proofs.Turned.{inner_front, inner_last}

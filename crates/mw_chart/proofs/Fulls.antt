@@ -1,12 +1,11 @@
 -- Ends that are full stay full.
-use Rattle.std.proofs.Common.{◌≡◌, ◌∙◌, ◌+◌, ◌%◌, ◌<◌, ◌≤◌, ◌⊎◌, ◌↔◌, get_or, ℕ, zero, suc, List, [], ◌∷◌, ◌++◌, length, refl, sym, ap, inl, inr, arith, subst, length-append}
+use Rattle.std.proofs.Common.{◌≡◌, ◌∙◌, ◌+◌, ◌<◌, ◌≤◌, ◌⊎◌, ◌↔◌, get_or, ℕ, zero, suc, List, [], ◌∷◌, ◌++◌, length, refl, sym, ap, inl, inr, arith, subst, length-append}
 use Rattle.std.specs.Global.{Global}
 use Rattle.std.specs.declared.vec.Vec.{Vec}
 use Rattle.std.proofs.Math.ListN.{set}
-use Rattle.std.proofs.lemmas.Nat.Bits.{bit_at-zero}
 use Rattle.mw_chart.specs.Tree.{Tree}
 use Rattle.mw_chart.specs.Bits.{IsSet}
-use Rattle.mw_chart.specs.Chart.{HasTwo, Holds, inner, CellsHold, AreEmpty}
+use Rattle.mw_chart.specs.Chart.{HasTwo, Holds, inner, CellsHold}
 use Rattle.mw_chart.specs.Row.{AreFull}
 use Rattle.mw_chart.specs.declared.slot.Slot.{Slot}
 use Rattle.mw_chart.proofs.Lists.{eq_or}

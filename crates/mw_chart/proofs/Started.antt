@@ -1,5 +1,5 @@
 -- What is opened and begun.
-use Rattle.std.proofs.Common.{◌≡◌, ◌∙◌, ◌-◌, ◌<◌, ℕ, List, [], ◌∷◌, ◌++◌, length, Some, true, false, refl, sym, ap, inl, inr, arith, subst}
+use Rattle.std.proofs.Common.{◌≡◌, ◌∙◌, ◌-◌, ◌<◌, ℕ, List, length, Some, true, false, refl, sym, inl, inr, arith, subst}
 use Rattle.std.specs.List.{slice_get}
 use Rattle.mw_chart.specs.Tree.{Tree, leaf, head, app}
 use Rattle.mw_chart.specs.Spelling.{TokenAt, StepAt}
@@ -8,8 +8,8 @@ use Rattle.mw_chart.specs.declared.table.Start.{Start}
 use Rattle.mw_chart.specs.declared.table.Step.TheVariants.{Token, Hole, Whole}
 use Rattle.mw_chart.specs.declared.slot.Slot.{Slot}
 use Rattle.mw_chart.specs.declared.slot.Reading.{Reading}
-use Rattle.mw_chart.specs.Chart.{HasTwo, Has, RowHolds, Puts, Adds, IsPut, IsLive, OpensFrom, OpensTerm, OpensSlot, KeepsSlot, BeginsFrom, BeginsAny, StandsBy, StandsAny, BeginsAt, GroupsBy}
-use Rattle.mw_chart.proofs.Lists.{one_there, get_below, get_left, get_last, get_back}
+use Rattle.mw_chart.specs.Chart.{HasTwo, Has, Puts, Adds, IsPut, IsLive, OpensFrom, OpensTerm, OpensSlot, KeepsSlot, BeginsFrom, BeginsAny, StandsBy, StandsAny, BeginsAt, GroupsBy}
+use Rattle.mw_chart.proofs.Lists.{one_there, get_below}
 use Rattle.mw_chart.proofs.Adding.{adds_as, adds_none, adds_already, adds_then}
 use Rattle.mw_chart.specs.declared.word.Leaf.{Leaf}
 use Rattle.mw_chart.specs.declared.word.Word.{Word}

@@ -15,7 +15,7 @@ use Rattle.mw_chart.specs.declared.word.Word.{Word}
 use Rattle.mw_chart.specs.Chart.{Has, HoldsReading, IsRow, Adds}
 use Rattle.mw_chart.proofs.Lists.{one_there, get_same, get_left, get_last, get_back}
 use Rattle.mw_chart.proofs.Cells.{has_each}
-use Rattle.mw_chart.proofs.Adding.{adds_as, adds_none}
+use Rattle.mw_chart.proofs.Adding.{adds_as}
 
 -- a term more
 pub lists_push : (listed : List Spelled) (kind : ℕ) (t : Tree)

@@ -1,6 +1,5 @@
 -- Leaves that are added.
-use Rattle.std.proofs.Common.{ℕ, zero, suc, ◌≡◌, ◌∙◌, ◌⊎◌, List, [], ◌∷◌, ◌++◌, length, Some, refl, sym, ap, subst, inl, inr}
-use Rattle.std.specs.List.{slice_get}
+use Rattle.std.proofs.Common.{ℕ, ◌≡◌, ◌⊎◌, List, [], ◌∷◌, ◌++◌, refl, sym, subst, inl, inr}
 use Rattle.mw_logic.specs.Term.{Variable}
 use Rattle.mw_logic.specs.Signature.{Member}
 use Rattle.mw_chart.specs.declared.word.Leaf.{Leaf}

@@ -1,5 +1,5 @@
 -- Which signatures have a grammar.
-use Rattle.std.specs.Prelude.{ℕ, ◌≡◌, ◌≢◌, ◌≤◌, ◌<◌, List, [], ◌∷◌, length, slice_index_or, IsTrue, All}
+use Rattle.std.specs.Prelude.{ℕ, ◌≡◌, ◌≢◌, ◌≤◌, ◌<◌, List, [], ◌∷◌, length, slice_index_or, IsTrue}
 use Rattle.mw_logic.specs.Term.{Variable}
 use Rattle.mw_logic.specs.Signature.{Signature, Operator, IsOperator, SameKind, Member}
 use Rattle.mw_text.specs.Names.{Item, hole, items_of}

@@ -1,10 +1,10 @@
 -- The values of a match are ground and raw where what was matched is.
-use Rattle.std.specs.Prelude.{◌≡◌, ◌<◌, ℕ, zero, suc, List, [], ◌∷◌, length, Some, slice_get, IsTrue}
-use Rattle.std.proofs.Common.{sym, subst, ap, ◌∙◌, arith}
+use Rattle.std.specs.Prelude.{◌≡◌, ℕ, zero, suc, List, [], ◌∷◌, length, IsTrue}
+use Rattle.std.proofs.Common.{sym, subst, ◌∙◌, arith}
 use Rattle.std.proofs.lemmas.Bool.{and_parts}
 use Rattle.std.proofs.lemmas.Option.{slice_get_within}
-use Rattle.mw_logic.specs.Term.{RawTerm, RawTerms, nil, cons, apply, is_ground, are_ground}
-use Rattle.mw_logic.specs.Signature.{Signature, IsRawTerm, an_operator, AreRawTerms, end, next}
+use Rattle.mw_logic.specs.Term.{RawTerm, RawTerms, apply, are_ground}
+use Rattle.mw_logic.specs.Signature.{Signature, an_operator, AreRawTerms, end, next}
 use Rattle.mw_logic.specs.Substitution.{Substitution, IsSubstitution}
 use Rattle.mw_logic.proofs.Canonical.{Each}
 use Rattle.mw_machine.specs.Positions.{fill, fill_all, Begins, IsNumbered, AreNumbered, counted, counted_all}

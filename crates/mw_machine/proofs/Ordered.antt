@@ -1,6 +1,6 @@
 -- Sorts in an order: what a simple signature is, the sort of an operator on arguments of declared sorts, and raw terms in which a part becomes another of
 -- its kind.
-use Rattle.std.specs.Prelude.{◌≡◌, ◌⊎◌, ℕ, List, [], ◌∷◌, Bool, true, false, ◌||◌, Option, Some, None, IsTrue, refl, ⊤}
+use Rattle.std.specs.Prelude.{◌≡◌, ◌⊎◌, ℕ, List, [], ◌∷◌, Bool, true, false, ◌||◌, Option, Some, None, refl, ⊤}
 use Rattle.std.proofs.Common.{sym, subst, inl, inr, ⊎_elim}
 use Rattle.std.proofs.lemmas.Bool.{both_ways}
 use Rattle.mw_logic.specs.Term.{RawTerm, RawTerms, nil, cons, Frame, Context, plug, join, apply}
@@ -11,7 +11,7 @@ use Rattle.mw_logic.specs.Accepted.{IsAccepted, IsWellSorted, number_of_sort}
 use Rattle.mw_logic.specs.Preregular.{AreOfKinds}
 use Rattle.mw_logic.specs.Free.{IsFreeSignature}
 use Rattle.mw_logic.proofs.Canonical.{same_operator}
-use Rattle.mw_logic.proofs.KindLaws.{SameKind-trans, SameKind-sym}
+use Rattle.mw_logic.proofs.KindLaws.{SameKind-trans}
 use Rattle.mw_logic.proofs.Soundness.{HasKind-same}
 use Rattle.mw_logic.proofs.SolutionLaws.{declared_kind}
 use Rattle.mw_logic.proofs.RawKept.{kind_unique}

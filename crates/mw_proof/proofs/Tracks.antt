@@ -1,7 +1,7 @@
 -- The moves of a kept proof, item by item.
-use Rattle.std.specs.Prelude.{◌≡◌, ◌≤◌, ◌+◌, ℕ, zero, suc, List, [], ◌∷◌, ◌++◌, length, take, drop, false, min, ◌^◌, ◌-◌, Result, Ok, Err, IfOk, IfErr, refl}
+use Rattle.std.specs.Prelude.{◌≡◌, ◌≤◌, ◌+◌, ℕ, zero, suc, List, [], ◌∷◌, ◌++◌, length, take, drop, false, min, ◌^◌, ◌-◌, refl}
 use Rattle.std.specs.List.{zip}
-use Rattle.std.proofs.Common.{sym, ap, ◌∙◌, arith, length-drop, length-append, append-nil, append_assoc, ⊎_elim}
+use Rattle.std.proofs.Common.{sym, ap, ◌∙◌, arith, length-drop, length-append, append-nil}
 use Rattle.mw_logic.specs.Term.{RawTerm}
 use Rattle.mw_logic.specs.Module.{Module}
 use Rattle.mw_logic.specs.Proof.{count, rules, steps}
@@ -9,7 +9,7 @@ use Rattle.mw_logic.specs.Proof as proof
 use Rattle.mw_machine.specs.Moves.{Move, enter, leave, apply as applies, applied, AreEquations}
 use Rattle.mw_machine.proofs.Closing.{leaves}
 use Rattle.mw_machine.proofs.AtRank.{steps_tree, rules_tree, count_tree}
-use Rattle.mw_proof.specs.Trails.{Track, variables_of, moves, proof_of, needed, stepped, Leaves, outward}
+use Rattle.mw_proof.specs.Trails.{Track, variables_of, moves, proof_of, needed, stepped, outward}
 use Rattle.mw_proof.specs.declared.trail.Item.{Item}
 use Rattle.mw_proof.specs.declared.trail.Item.TheVariants.{Enter, Leave, Apply}
 
