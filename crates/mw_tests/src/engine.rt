@@ -1,8 +1,9 @@
 // Matching, instances and proofs, in a module that the program's own front end made.
 ghost use Rattle.std.specs.Prelude.{◌≡◌, ◌∷◌, [], IfOk, IfSome, IsTrue};
 ghost use Rattle.mw_logic.specs.Signature.{IsRawTerm, IsAssociative};
-ghost use Rattle.mw_logic.specs.Substitution.{IsSubstitution, IsSolution};
-ghost use Rattle.mw_logic.specs.Term.{is_ground, are_ground};
+ghost use Rattle.mw_logic.specs.Module.{IsStatement};
+ghost use Rattle.mw_logic.specs.Substitution.{IsSubstitution, IsSolution, instance as instance_of};
+ghost use Rattle.mw_logic.specs.Term.{is_ground, are_ground, binary};
 ghost use Rattle.mw_machine.specs.Replacements.{Replacement, carried};
 ghost use Rattle.mw_canon.specs.Canonical.{IsAdmittedTerm, HasAdmittedValues};
 ghost use Rattle.mw_term.specs.Raws.{raw_term, raw_terms};
@@ -15,7 +16,8 @@ use mw_match::Solutions;
 use mw_module::read_unit;
 use mw_proof::{By, Proved, refl, replace, then, under};
 use mw_term::{
-    Identity, Name, Operator, Raw, Seq, Shape, Signature, Subst, Term, copy, depth, same,
+    Identity, Name, OpId, Operator, Raw, Seq, Shape, Signature, Statement, Subst, Term, copy,
+    depth, same,
 };
 use std::alloc::{AllocError, Global};
 use std::test::Fail;
@@ -47,9 +49,10 @@ fn raw(alloc: Global, module: &Module, text: &str) -> Result<Raw, Fail>
     ensures { IfOk result (λ r. IsRawTerm module.now.module.signature (raw_term r)) }
 {
     let tokens = lexed(alloc, text)?;
-    module
-        .term(alloc, tokens.as_slice())
-        .map_err(|_| Fail::from("no term"))
+    match module.term(alloc, tokens.as_slice()) {
+        Ok(raw) => Ok(raw),
+        Err(_) => Err(Fail::from("no term")),
+    }
 }
 
 #[cycle(ground)]
@@ -87,7 +90,10 @@ fn term(alloc: Global, module: &Module, text: &str) -> Result<Term, Fail>
     }
     let context = module.context();
     context.shows();
-    canon(alloc, context.signature(), &raw).map_err(|_| Fail::from("no canonical term"))
+    match canon(alloc, context.signature(), &raw) {
+        Ok(term) => Ok(term),
+        Err(_) => Err(Fail::from("no canonical term")),
+    }
 }
 
 fn nothing(alloc: Global) -> Subst
@@ -234,7 +240,36 @@ fn are_low(context: &Ctx, subst: &Subst) -> bool
     true
 }
 
-/// The proof that a term becomes another by the one equation, at the top.
+/// The one statement, if it is executable.
+fn equation(context: &Ctx) -> Option<&Statement>
+    ensures { IfSome result (λ e. IsStatement context.now 1 e.now) }
+{
+    match context.statements() {
+        [statement] if statement.executable => Some(statement),
+        _ => None,
+    }
+}
+
+/// The instance of the right side of the one statement.
+fn right_instance(
+    alloc: Global,
+    context: &Ctx,
+    statement: &Statement,
+    subst: &Subst,
+) -> Result<Term, Fail>
+    requires statement { IsStatement context.now 1 statement.now }
+    requires subst { IsSubstitution context.now.signature subst.now }
+    requires values { HasAdmittedValues context.now.signature subst.now }
+    ensures { IfOk result (λ t. t ≡ instance_of subst.now statement.now.right) }
+{
+    context.shows();
+    match instance(alloc, context.signature(), subst, &statement.right) {
+        Ok(right) => Ok(right),
+        Err(_) => Err(Fail::from("no instance")),
+    }
+}
+
+/// The proof that a term becomes another by the one statement, at the top.
 fn replaced<'m>(alloc: Global, context: &'m Ctx, from: &Term, to: &Term) -> Result<Proved<'m>, Fail>
     requires from { IsAdmittedTerm context.now.signature from.now }
     requires to { IsAdmittedTerm context.now.signature to.now }
@@ -244,12 +279,9 @@ fn replaced<'m>(alloc: Global, context: &'m Ctx, from: &Term, to: &Term) -> Resu
     ensures once { IfOk result (λ p. (r : Replacement) × (carried [] p.proof ≡ r ∷ [])) }
 {
     context.shows();
-    let [statement] = context.statements() else {
+    let Some(statement) = equation(context) else {
         return Err(Fail::from("not one equation"));
     };
-    if !statement.executable {
-        return Err(Fail::from("an equation that isn't applied"));
-    }
     let start = nothing(alloc);
     let Some(subst) = solved(alloc, context, &statement.left, from, &start)? else {
         return Err(Fail::from("no solution"));
@@ -257,14 +289,25 @@ fn replaced<'m>(alloc: Global, context: &'m Ctx, from: &Term, to: &Term) -> Resu
     if !are_low(context, &subst) {
         return Err(Fail::from("a deep value"));
     }
-    let Ok(right) = instance(alloc, context.signature(), &subst, &statement.right) else {
-        return Err(Fail::from("no instance"));
-    };
+    let right = right_instance(alloc, context, statement, &subst)?;
     if !same(&right, to) {
         return Err(Fail::from("another instance"));
     }
     let by = By::Statement(1, subst, Seq::of(Vec::new(alloc)));
     Ok(replace(alloc, context, by)?)
+}
+
+/// The operator on top of a term with two arguments, and these.
+fn pair_of(term: &Term) -> Option<(OpId, &Term, &Term)>
+    ensures { IfSome result (λ r. term.now ≡ binary r.0 r.1.now r.2.now) }
+{
+    match term.shape() {
+        Shape::Op(operator, args) => match args.as_slice() {
+            [first, second] => Some((*operator, first, second)),
+            _ => None,
+        },
+        _ => None,
+    }
 }
 
 /// The same proof for the second arguments of two terms.
@@ -279,14 +322,14 @@ fn lifted<'m>(
     requires once { (r : Replacement) × (carried [] inner.proof ≡ r ∷ []) }
     requires from { IsAdmittedTerm context.now.signature from.now }
     requires to { IsAdmittedTerm context.now.signature to.now }
-    ensures over { IfOk result (λ p. p.over ≡ context.now) }
+    ensures { IfOk result (λ p. p.over ≡ context.now) }
 {
     inner.shows();
     context.shows();
-    let (Shape::Op(operator, args), Shape::Op(other, others)) = (from.shape(), to.shape()) else {
-        return Err(Fail::from("no arguments"));
+    let Some((operator, first, second)) = pair_of(from) else {
+        return Err(Fail::from("not two arguments"));
     };
-    let ([first, second], [left, right]) = (args.as_slice(), others.as_slice()) else {
+    let Some((other, left, right)) = pair_of(to) else {
         return Err(Fail::from("not two arguments"));
     };
     if operator != other || !same(first, left) {
@@ -296,7 +339,7 @@ fn lifted<'m>(
         return Err(Fail::from("another proof"));
     }
     let before = vec![in alloc; copy(first)?]?;
-    Ok(under(alloc, context, *operator, before, inner, Vec::new(alloc))?)
+    Ok(under(alloc, context, operator, before, inner, Vec::new(alloc))?)
 }
 
 /// f(a, f(b, a)) becomes f(a, s(a)), and then s(s(a)).
