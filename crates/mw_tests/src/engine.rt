@@ -45,11 +45,11 @@ fn module(alloc: Global) -> Result<Module, Fail> {
 }
 
 /// The term that a text spells, in which variables may stand.
-fn raw(alloc: Global, module: &Module, text: &str) -> Result<Raw, Fail>
-    ensures { IfOk result (λ r. IsRawTerm module.now.module.signature (raw_term r)) }
+fn raw(alloc: Global, accepted: &Module, text: &str) -> Result<Raw, Fail>
+    ensures { IfOk result (λ r. IsRawTerm accepted.now.module.signature (raw_term r)) }
 {
     let tokens = lexed(alloc, text)?;
-    match module.term(alloc, tokens.as_slice()) {
+    match accepted.term(alloc, tokens.as_slice()) {
         Ok(raw) => Ok(raw),
         Err(_) => Err(Fail::from("no term")),
     }
@@ -81,14 +81,14 @@ fn are_closed(terms: &[Raw]) -> bool
 }
 
 /// The canonical term that a text spells.
-fn term(alloc: Global, module: &Module, text: &str) -> Result<Term, Fail>
-    ensures { IfOk result (IsAdmittedTerm module.now.module.signature) }
+fn term(alloc: Global, accepted: &Module, text: &str) -> Result<Term, Fail>
+    ensures { IfOk result (IsAdmittedTerm accepted.now.module.signature) }
 {
-    let raw = raw(alloc, module, text)?;
+    let raw = raw(alloc, accepted, text)?;
     if !is_closed(&raw) {
         return Err(Fail::from("a variable"));
     }
-    let context = module.context();
+    let context = accepted.context();
     context.shows();
     match canon(alloc, context.signature(), &raw) {
         Ok(term) => Ok(term),
@@ -127,99 +127,78 @@ fn solved(
     Ok(Some(first.subst))
 }
 
-/// A pattern and a subject.
-type Pair = (&'static str, &'static str);
+/// A pattern and a subject whose solution is given, or two empty texts; a pattern and a subject; and their solution, as
+/// each variable before its value, or an empty text for none.
+type Row = [&'static str; 5];
 
-/// What is given, as a pattern's solution, if something is; a pattern and a subject; and the solution, as each variable
-/// with its value, or none.
-type Row = (Option<Pair>, Pair, Option<&'static [Pair]>);
+static ROWS: [Row; 13] = [
+    ["", "", "f(f(X, Y), Z)", "f(f(a, b), a)", "X a Y b Z a"],
+    ["", "", "f(f(X, X), Y)", "f(f(a, a), s(b))", "X a Y s(b)"],
+    ["", "", "f(f(X, X), Y)", "f(f(a, b), b)", ""],
+    ["", "", "f(f(X, Y), X)", "f(f(a, b), a)", "X a Y b"],
+    ["", "", "f(f(X, Y), X)", "f(f(a, b), b)", ""],
+    ["Y", "b", "f(f(X, Y), Z)", "f(f(a, b), a)", "Y b X a Z a"],
+    ["X", "b", "f(f(X, Y), Z)", "f(f(a, b), a)", ""],
+    ["X", "a", "f(f(X, Y), X)", "f(f(a, b), a)", "X a Y b"],
+    ["W", "b", "f(X, X)", "f(a, a)", "W b X a"],
+    ["", "", "X", "a", "X a"],
+    ["", "", "X", "c", ""],
+    ["", "", "V", "c", "V c"],
+    ["", "", "V", "a", ""],
+];
 
-/// Whether the substitution has these values, in order.
-fn has_values(
-    alloc: Global,
-    module: &Module,
-    subst: &Subst,
-    values: &[Pair],
-) -> Result<bool, Fail> {
-    let pairs = subst.pairs.as_slice();
-    if pairs.len() != values.len() {
-        return Ok(false);
-    }
-    for (pair, (name, value)) in pairs.iter().zip(values) {
+/// Whether the substitution has these variables with these values, in order.
+fn has_values(alloc: Global, accepted: &Module, subst: &Subst, text: &str) -> Result<bool, Fail> {
+    let mut words = text.split(' ');
+    for pair in subst.pairs.as_slice() {
+        let (Some(name), Some(value)) = (words.next(), words.next()) else {
+            return Ok(false);
+        };
         let named = pair.variable.name.as_slice() == name.as_bytes();
-        if !named || !same(&pair.value, &term(alloc, module, value)?) {
+        if !named || !same(&pair.value, &term(alloc, accepted, value)?) {
             return Ok(false);
         }
     }
-    Ok(true)
+    Ok(words.next().is_none())
 }
 
-fn holds(alloc: Global, module: &Module, row: Row) -> Result<bool, Fail> {
-    let (given, (pattern, subject), wanted) = row;
-    let context = module.context();
+/// The solution for these texts, if there is one.
+fn solution(
+    alloc: Global,
+    accepted: &Module,
+    pattern: &str,
+    subject: &str,
+    given: &Subst,
+) -> Result<Option<Subst>, Fail>
+    requires { IsSubstitution accepted.now.module.signature given.now }
+    ensures { IfOk result (λ o. IfSome o (IsSubstitution accepted.now.module.signature)) }
+{
+    let pattern = raw(alloc, accepted, pattern)?;
+    let subject = term(alloc, accepted, subject)?;
+    solved(alloc, accepted.context(), &pattern, &subject, given)
+}
+
+fn holds(alloc: Global, accepted: &Module, row: Row) -> Result<bool, Fail> {
+    let [variable, value, pattern, subject, wanted] = row;
     let mut start = nothing(alloc);
-    if let Some((pattern, subject)) = given {
-        let pattern = raw(alloc, module, pattern)?;
-        let subject = term(alloc, module, subject)?;
-        let Some(found) = solved(alloc, context, &pattern, &subject, &start)? else {
+    if !variable.is_empty() {
+        let Some(found) = solution(alloc, accepted, variable, value, &start)? else {
             return Ok(false);
         };
         start = found;
     }
-    let pattern = raw(alloc, module, pattern)?;
-    let subject = term(alloc, module, subject)?;
-    match (solved(alloc, context, &pattern, &subject, &start)?, wanted) {
-        (Some(found), Some(values)) => has_values(alloc, module, &found, values),
-        (None, None) => Ok(true),
-        _ => Ok(false),
+    match solution(alloc, accepted, pattern, subject, &start)? {
+        Some(found) => has_values(alloc, accepted, &found, wanted),
+        None => Ok(wanted.is_empty()),
     }
 }
 
 #[test]
 fn patterns_have_one_solution_or_none(rt: HostRuntime) -> Result<(), Fail> {
     let alloc = rt.alloc();
-    let module = module(alloc)?;
-    let rows: [Row; 13] = [
-        (
-            None,
-            ("f(f(X, Y), Z)", "f(f(a, b), a)"),
-            Some(&[("X", "a"), ("Y", "b"), ("Z", "a")]),
-        ),
-        (
-            None,
-            ("f(f(X, X), Y)", "f(f(a, a), s(b))"),
-            Some(&[("X", "a"), ("Y", "s(b)")]),
-        ),
-        (None, ("f(f(X, X), Y)", "f(f(a, b), b)"), None),
-        (
-            None,
-            ("f(f(X, Y), X)", "f(f(a, b), a)"),
-            Some(&[("X", "a"), ("Y", "b")]),
-        ),
-        (None, ("f(f(X, Y), X)", "f(f(a, b), b)"), None),
-        (
-            Some(("Y", "b")),
-            ("f(f(X, Y), Z)", "f(f(a, b), a)"),
-            Some(&[("Y", "b"), ("X", "a"), ("Z", "a")]),
-        ),
-        (Some(("X", "b")), ("f(f(X, Y), Z)", "f(f(a, b), a)"), None),
-        (
-            Some(("X", "a")),
-            ("f(f(X, Y), X)", "f(f(a, b), a)"),
-            Some(&[("X", "a"), ("Y", "b")]),
-        ),
-        (
-            Some(("W", "b")),
-            ("f(X, X)", "f(a, a)"),
-            Some(&[("W", "b"), ("X", "a")]),
-        ),
-        (None, ("X", "a"), Some(&[("X", "a")])),
-        (None, ("X", "c"), None),
-        (None, ("V", "c"), Some(&[("V", "c")])),
-        (None, ("V", "a"), None),
-    ];
-    for row in rows {
-        assert!(rt; holds(alloc, &module, row)?, "{row:?}");
+    let accepted = module(alloc)?;
+    for row in &ROWS {
+        assert!(rt; holds(alloc, &accepted, *row)?, "{row:?}");
     }
     Ok(())
 }
@@ -342,17 +321,40 @@ fn lifted<'m>(
     Ok(under(alloc, context, operator, before, inner, Vec::new(alloc))?)
 }
 
-/// f(a, f(b, a)) becomes f(a, s(a)), and then s(s(a)).
-fn both<'m>(alloc: Global, module: &'m Module) -> Result<Proved<'m>, Fail> {
-    let context = module.context();
-    let start = term(alloc, module, "f(b, a)")?;
-    let end = term(alloc, module, "s(a)")?;
-    let inner = replaced(alloc, context, &start, &end)?;
-    let from = term(alloc, module, "f(a, f(b, a))")?;
-    let middle = term(alloc, module, "f(a, s(a))")?;
-    let to = term(alloc, module, "s(s(a))")?;
-    let first = lifted(alloc, context, inner, &from, &middle)?;
-    let second = replaced(alloc, context, &middle, &to)?;
+/// The proof that the term of one text becomes that of another, at the top.
+fn step<'m>(
+    alloc: Global,
+    accepted: &Module,
+    context: &'m Ctx,
+    from: &str,
+    to: &str,
+) -> Result<Proved<'m>, Fail>
+    requires { context.now ≡ accepted.now.module }
+    ensures over { IfOk result (λ p. p.over ≡ context.now) }
+    ensures once { IfOk result (λ p. (r : Replacement) × (carried [] p.proof ≡ r ∷ [])) }
+{
+    let from = term(alloc, accepted, from)?;
+    let to = term(alloc, accepted, to)?;
+    replaced(alloc, context, &from, &to)
+}
+
+/// f(a, f(b, a)) becomes f(a, s(a)).
+fn first_step<'m>(alloc: Global, accepted: &Module, context: &'m Ctx) -> Result<Proved<'m>, Fail>
+    requires { context.now ≡ accepted.now.module }
+    ensures { IfOk result (λ p. p.over ≡ context.now) }
+{
+    let inner = step(alloc, accepted, context, "f(b, a)", "s(a)")?;
+    let from = term(alloc, accepted, "f(a, f(b, a))")?;
+    let to = term(alloc, accepted, "f(a, s(a))")?;
+    lifted(alloc, context, inner, &from, &to)
+}
+
+/// And then it becomes s(s(a)).
+fn both<'m>(alloc: Global, accepted: &Module, context: &'m Ctx) -> Result<Proved<'m>, Fail>
+    requires { context.now ≡ accepted.now.module }
+{
+    let first = first_step(alloc, accepted, context)?;
+    let second = step(alloc, accepted, context, "f(a, s(a))", "s(s(a))")?;
     if !same(first.to(), second.from()) {
         return Err(Fail::from("proofs that don't meet"));
     }
@@ -362,12 +364,12 @@ fn both<'m>(alloc: Global, module: &'m Module) -> Result<Proved<'m>, Fail> {
 /// Whether the proof is between the terms of these texts, in so many replacements, none of them by a rule.
 fn leads(
     alloc: Global,
-    module: &Module,
+    accepted: &Module,
     proof: &Proved<'_>,
     (from, to, steps): (&str, &str, u64),
 ) -> Result<bool, Fail> {
-    let from = term(alloc, module, from)?;
-    let to = term(alloc, module, to)?;
+    let from = term(alloc, accepted, from)?;
+    let to = term(alloc, accepted, to)?;
     let ends = same(proof.from(), &from) && same(proof.to(), &to);
     let counts = proof.count() == steps && proof.steps() == steps && proof.rules() == 0;
     Ok(ends && counts && proof.context().statements().len() == 1)
@@ -376,11 +378,15 @@ fn leads(
 #[test]
 fn proofs_are_built(rt: HostRuntime) -> Result<(), Fail> {
     let alloc = rt.alloc();
-    let module = module(alloc)?;
-    let proof = both(alloc, &module)?;
-    assert!(rt; leads(alloc, &module, &proof, ("f(a, f(b, a))", "s(s(a))", 2))?);
-    let proof = refl(alloc, module.context(), &term(alloc, &module, "f(a, b)")?)?;
-    assert!(rt; leads(alloc, &module, &proof, ("f(a, b)", "f(a, b)", 0))?);
+    let accepted = module(alloc)?;
+    let proof = both(alloc, &accepted, accepted.context())?;
+    assert!(rt; leads(alloc, &accepted, &proof, ("f(a, f(b, a))", "s(s(a))", 2))?);
+    let proof = refl(
+        alloc,
+        accepted.context(),
+        &term(alloc, &accepted, "f(a, b)")?,
+    )?;
+    assert!(rt; leads(alloc, &accepted, &proof, ("f(a, b)", "f(a, b)", 0))?);
     Ok(())
 }
 

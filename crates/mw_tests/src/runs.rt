@@ -32,6 +32,23 @@ fn words(alloc: Global, line: &str) -> Result<Vec<String>, AllocError> {
 /// front of what is written.
 type Row = (&'static str, &'static str, u64, u64, u8, &'static str);
 
+static ROWS: [Row; 14] = [
+    ("mw run", "", 0, 0, 0, ""),
+    ("mw run", PEANO, 0, 0, 0, PEANO_BLOCK),
+    ("mw --version", PEANO, 1, 0, 0, "mw 0.1.0\n"),
+    ("mw run", "red a .", 0, 0, 1, "line 1: refused: no module\n"),
+    ("mw run", "\n\u{c8}", 0, 0, 1, "line 2: refused: bad byte\n"),
+    ("mw", PEANO, 1, 0, 2, USAGE),
+    ("mw walk", PEANO, 1, 0, 2, USAGE),
+    ("mw run --max 0", PEANO, 1, 0, 2, USAGE),
+    ("mw run --max 10000001", PEANO, 1, 0, 2, USAGE),
+    ("mw run --workers 65", PEANO, 1, 0, 2, USAGE),
+    ("mw run", PEANO, 2, 0, 3, ""),
+    ("mw run", PEANO, 0, 2, 4, "reduce "),
+    ("mw --version", PEANO, 0, 2, 4, "mw 0.1."),
+    ("mw", PEANO, 0, 1, 4, ""),
+];
+
 /// A row whose source gives 100 bytes a call, and whose sink takes seven.
 fn holds(alloc: Global, row: Row) -> Result<bool, Fail> {
     let (line, bytes, read, write, status, text) = row;
@@ -48,24 +65,8 @@ fn holds(alloc: Global, row: Row) -> Result<bool, Fail> {
 
 #[test]
 fn runs_end_with_their_statuses(rt: HostRuntime) -> Result<(), Fail> {
-    let rows: [Row; 14] = [
-        ("mw run", "", 0, 0, 0, ""),
-        ("mw run", PEANO, 0, 0, 0, PEANO_BLOCK),
-        ("mw --version", PEANO, 1, 0, 0, "mw 0.1.0\n"),
-        ("mw run", "red a .", 0, 0, 1, "line 1: refused: no module\n"),
-        ("mw run", "\n\u{c8}", 0, 0, 1, "line 2: refused: bad byte\n"),
-        ("mw", PEANO, 1, 0, 2, USAGE),
-        ("mw walk", PEANO, 1, 0, 2, USAGE),
-        ("mw run --max 0", PEANO, 1, 0, 2, USAGE),
-        ("mw run --max 10000001", PEANO, 1, 0, 2, USAGE),
-        ("mw run --workers 65", PEANO, 1, 0, 2, USAGE),
-        ("mw run", PEANO, 2, 0, 3, ""),
-        ("mw run", PEANO, 0, 2, 4, "reduce "),
-        ("mw --version", PEANO, 0, 2, 4, "mw 0.1."),
-        ("mw", PEANO, 0, 1, 4, ""),
-    ];
-    for row in rows {
-        assert!(rt; holds(rt.alloc(), row)?, "{row:?}");
+    for row in &ROWS {
+        assert!(rt; holds(rt.alloc(), *row)?, "{row:?}");
     }
     Ok(())
 }
