@@ -11,14 +11,14 @@ use Rattle.mw_tests.proofs.engine.term.Goals as goal
 pub canon-requires-clause-raw : goal.canon-requires-clause-raw
 canon-requires-clause-raw c =
     let M : Module = c.args.accepted.now.module in
-    let e : c.signature.result.now ≡ M.signature = c.signature.ensures ∙ ap (λ (N : Module). N.signature) c.context.ensures in
-    subst (λ z. IsRawTerm z (nested z (raw_term c.in_ok-raw.raw))) (sym e) (nested_raw M (subst IsSimpleModule c.context.ensures c.shows.ensures) (raw_term c.in_ok-raw.raw) c.in_ok-raw.ensures)
+    let e : c.signature.result.now ≡ M.signature = c.signature.ensures ∙ ap (λ (N : Module). N.signature) c.context-context.ensures in
+    subst (λ z. IsRawTerm z (nested z (raw_term c.in_ok-raw.raw))) (sym e) (nested_raw M (subst IsSimpleModule c.context-context.ensures c.shows.ensures) (raw_term c.in_ok-raw.raw) c.in_ok-raw.ensures)
 
 pub returns-in-Ok : goal.returns-in-Ok
 returns-in-Ok c =
     let M : Module = c.args.accepted.now.module in
-    let simple = subst IsSimpleModule c.context.ensures c.shows.ensures in
-    let e : c.signature.result.now ≡ M.signature = c.signature.ensures ∙ ap (λ (N : Module). N.signature) c.context.ensures in
+    let simple = subst IsSimpleModule c.context-context.ensures c.shows.ensures in
+    let e : c.signature.result.now ≡ M.signature = c.signature.ensures ∙ ap (λ (N : Module). N.signature) c.context-context.ensures in
     let ground = sym c.is_closed.ensures ∙ c.if-not-is_closed.false in
     let x = rw e at c.in-Ok.ensures in
     (admitted_by M.signature simple.signature (raw_term c.in_ok-raw.raw) c.in-Ok.term c.in_ok-raw.ensures ground x.canonical x.not_deep x.not_large).1
