@@ -1,0 +1,2 @@
+-- What the tests need to meet what the engine's calls require.
+mod Calls

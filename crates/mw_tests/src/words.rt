@@ -1,0 +1,75 @@
+// What the words of a command line ask for.
+use mw_words::{Asked, WordsError, read_words};
+use std::alloc::Global;
+use std::test::Fail;
+
+/// Words that are parted by single spaces.
+fn asked(alloc: Global, line: &str) -> Result<Result<Asked, WordsError>, Fail> {
+    let mut words = Vec::new(alloc);
+    for word in line.split(' ') {
+        words.push(String::from_str(alloc, word)?)?;
+    }
+    Ok(read_words(alloc, words.as_slice()))
+}
+
+#[test]
+fn words_are_read(rt: HostRuntime) -> Result<(), Fail> {
+    let alloc = rt.alloc();
+    for (line, max) in [
+        ("mw run", 1_000_000),
+        ("another run", 1_000_000),
+        ("mw run --", 1_000_000),
+        ("mw run --max 1", 1),
+        ("mw run --max 5", 5),
+        ("mw run --max=10000000", 10_000_000),
+    ] {
+        assert_eq!(rt; asked(alloc, line)?, Ok(Asked::Run { max }), "{line}");
+    }
+    for (line, want) in [
+        ("mw --help", Asked::Help),
+        ("mw -h", Asked::Help),
+        ("mw run --help", Asked::Help),
+        ("mw run -h", Asked::Help),
+        ("mw run --max 007 --help", Asked::Help),
+        ("mw --help more", Asked::Help),
+        ("mw --version", Asked::Version),
+        ("mw -V", Asked::Version),
+    ] {
+        assert_eq!(rt; asked(alloc, line)?, Ok(want), "{line}");
+    }
+    Ok(())
+}
+
+#[test]
+fn other_words_ask_for_nothing(rt: HostRuntime) -> Result<(), Fail> {
+    let alloc = rt.alloc();
+    for line in [
+        "mw",
+        "mw 5",
+        "mw help",
+        "mw Run",
+        "mw check",
+        "mw gen 2",
+        "mw --max 5 run",
+        "mw run 5",
+        "mw run --max",
+        "mw run --max=",
+        "mw run --max 0",
+        "mw run --max 007",
+        "mw run --max +5",
+        "mw run --max -5",
+        "mw run --max 5x",
+        "mw run --max 10000001",
+        "mw run --max 18446744073709551617",
+        "mw run --max 5 --max 5",
+        "mw run --proof",
+        "mw run --proof --help",
+        "mw run --workers 2",
+        "mw run --rounds",
+        "mw run --version",
+    ] {
+        assert_eq!(rt; asked(alloc, line)?, Err(WordsError::Usage), "{line}");
+    }
+    assert_eq!(rt; read_words(alloc, &[]), Err(WordsError::Usage));
+    Ok(())
+}
