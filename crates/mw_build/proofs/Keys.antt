@@ -6,10 +6,11 @@ use Rattle.indexmap.specs.IndexSet.{insert_key}
 use Rattle.mw_logic.specs.Term.{Variable}
 use Rattle.mw_logic.specs.Substitution.{same_variable}
 use Rattle.mw_machine.specs.Variables.{is_in}
-use Rattle.mw_machine.proofs.Meeting.{same_is, same_turned}
+use Rattle.mw_machine.proofs.Meeting.{same_turned}
 use Rattle.mw_build.specs.declared.mentions.Key.{Key}
 use Rattle.mw_build.specs.Seen.{seen_key}
 use Rattle.mw_build.specs.Equations.{with_variable}
+use Rattle.mw_logic.proofs.SameConditions.{same_variable-is}
 
 abbrev pub keys_held : List Key → List Variable
 keys_held ks = map seen_key ks
@@ -18,7 +19,7 @@ either_way : (x y : Variable) → same_variable x y ≡ same_variable y x
 either_way x y = of (same_variable x y) refl
   where
     of : (b : Bool) → same_variable x y ≡ b → same_variable x y ≡ same_variable y x
-    of true e = let k : x ≡ y = same_is x y e in rw k refl
+    of true e = let k : x ≡ y = same_variable-is x y e in rw k refl
     of false e = e ∙ sym (same_turned x y e)
 
 module _ (eq : Key → Key → Bool) (same : (k l : Key) → eq k l ≡ same_variable (seen_key k) (seen_key l)) where

@@ -6,3 +6,5 @@ pub mod Sides
 pub mod Reading
 pub mod Accepting
 pub mod Naming
+pub mod PrintedVariables
+pub mod Printing

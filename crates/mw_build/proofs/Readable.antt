@@ -1,16 +1,16 @@
 -- What a module declares has a grammar.
-use Rattle.std.proofs.Common.{◌≡◌, length, None, sym, subst}
+use Rattle.std.proofs.Common.{◌≡◌, None, sym, subst}
 use Rattle.std.proofs.lemmas.Bool.{both_ways}
+use Rattle.mw_logic.specs.Term.{Variable}
+use Rattle.mw_logic.specs.Signature.{Member}
 use Rattle.mw_logic.specs.Preregular.{IsSortOf}
 use Rattle.mw_poset.proofs.Members.{member-all}
 use Rattle.mw_grammar.specs.Readable.{IsReadable, AreVariables}
 use Rattle.mw_module.specs.Units.{SeenUnit}
 use Rattle.mw_declare.specs.Statements.{statements_of}
-use Rattle.mw_declare.specs.Meaning.{sorts_of}
 use Rattle.mw_declare.specs.Operators.{signature_of}
-use Rattle.mw_declare.specs.Faults.{variables_with}
 use Rattle.mw_declare.specs.Declarations.{Declarations, unknown_in_all, Declares}
-use Rattle.mw_declare.proofs.Known.{HasSort, variables_within}
+use Rattle.mw_declare.proofs.Proper.{declared_sorted}
 use Rattle.mw_build.proofs.Signatures.{free_operators, operator_known}
 
 readable_signature : (u : SeenUnit) → unknown_in_all (statements_of u) ≡ None → IsReadable (signature_of (statements_of u))
@@ -26,6 +26,9 @@ module _ (u : SeenUnit) (d : Declarations) (p : Declares u d) where
   pub readable_declared : IsReadable d.signature
   readable_declared = subst (λ (d : Declarations). IsReadable d.signature) (sym p.declared) (readable_signature u p.known)
 
+  -- the sorts of variables are there
+  pub sorted_variables : (x : Variable) → Member x d.variables → IsSortOf d.signature x.sort
+  sorted_variables = member-all (λ (x : Variable). IsSortOf d.signature x.sort) d.variables (declared_sorted u d p)
+
   pub variables_declared : AreVariables d.signature d.variables
-  variables_declared = subst (λ (d : Declarations). AreVariables d.signature d.variables) (sym p.declared)
-      (member-all (HasSort (length (sorts_of (statements_of u)))) (variables_with (sorts_of (statements_of u)) p.typing) (variables_within (sorts_of (statements_of u)) p.typing))
+  variables_declared x m = (sorted_variables x m).1

@@ -1,10 +1,12 @@
 -- Sides of equations in signatures in which no sort is below another.
-use Rattle.std.proofs.Common.{nat_le, ◌≡◌, ◌∙◌, ◌≤◌, ◌<◌, ◌||◌, ◌++◌, ℕ, zero, suc, List, [], ◌∷◌, Bool, true, false, cond, if◌then◌else◌, Option, Some, None, IsTrue, Result, Ok, Err, IfOk, refl, sym, ap, subst, arith}
-use Rattle.std.proofs.lemmas.Bool.{both_ways, or_left, or_right}
+use Rattle.std.proofs.Common.{nat_le, ◌≡◌, ◌∙◌, ◌≤◌, ◌<◌, ◌||◌, ◌++◌, ℕ, zero, suc, List, [], ◌∷◌, Bool, true, false, cond, if◌then◌else◌, Option, Some, None, IsTrue, Result, Ok, Err, IfOk, refl, sym, ap, subst, arith, inl, inr}
+use Rattle.std.specs.Prelude.{⊤}
+use Rattle.std.proofs.lemmas.Bool.{both_ways, or_left, or_right, or_cases}
 use Rattle.std.proofs.lemmas.Option.{slice_get_within}
 use Rattle.mw_logic.specs.Term.{Variable, RawTerm, numeral, quoted, variable, apply, RawTerms, nil, cons}
-use Rattle.mw_logic.specs.Signature.{Signature, IsRawTerm, a_numeral, a_quoted, a_variable, an_operator}
+use Rattle.mw_logic.specs.Signature.{Signature, Member, at_number, IsRawTerm, a_numeral, a_quoted, a_variable, an_operator}
 use Rattle.mw_logic.specs.Substitution.{same_variable, occurs, occurs_in}
+use Rattle.mw_logic.specs.Preregular.{IsSortOf}
 use Rattle.mw_logic.specs.Axioms.{done}
 use Rattle.mw_logic.specs.NormalForm.{height}
 use Rattle.mw_logic.specs.Parts.{depth}
@@ -14,17 +16,20 @@ use Rattle.mw_term.specs.declared.raw.Raw.{Raw}
 use Rattle.mw_term.specs.declared.raw.Raw.TheVariants.{Nat, Qid, Var, Op}
 use Rattle.mw_term.specs.Raws.{raw_term}
 use Rattle.mw_machine.specs.Machine.{IsFlat}
-use Rattle.mw_machine.specs.Simple.{IsSimpleSignature, IsSimpleEquation, IsSimpleModule}
+use Rattle.mw_machine.specs.Simple.{IsSimpleSignature, IsSimpleEquation, AreSides, IsSimpleModule}
 use Rattle.mw_machine.specs.Variables.{is_in, met, all_met}
 use Rattle.mw_machine.proofs.Ordered.{free, accepted}
 use Rattle.mw_machine.proofs.Depths.{depth_height}
-use Rattle.mw_machine.proofs.Meeting.{same_is, same_itself, is_in-met}
+use Rattle.mw_machine.proofs.Meeting.{is_in-met}
 use Rattle.mw_module.specs.Refusals.{too_deep}
-use Rattle.mw_text.specs.Mixfix.{Reads}
+use Rattle.mw_text.specs.Mixfix.{Reads, Spells}
 use Rattle.mw_text.proofs.RawTerms.{spelled_raw}
+use Rattle.mw_text.proofs.SpelledVariables.{spelled_variables}
 use Rattle.mw_declare.specs.Meaning.{Sides}
 use Rattle.mw_build.proofs.Reading.{there}
+use Rattle.mw_build.proofs.PrintedVariables.{named_there}
 use Rattle.mw_build.specs.Equations.{missing_in, unbound, FitsIn, Oversized, deep, IsLone, statement_of, IsApplicable, IsEquation, AreEquations}
+use Rattle.mw_logic.proofs.SameConditions.{same_variable-is, same_variable-refl}
 
 -- where none is missing, each is bound
 none_missing : (bound xs : List Variable) → missing_in bound xs ≡ None → (x : Variable) → is_in x xs ≡ true → is_in x bound ≡ true
@@ -32,7 +37,7 @@ none_missing bound [] h x i = absurd (both_ways _ refl i)
 none_missing bound (y ∷ xs) h x i = of (is_in y bound) refl h (λ n. none_missing bound xs n x)
   where
     here : (b : Bool) → same_variable y x ≡ b → is_in y bound ≡ true → (is_in x xs ≡ true → is_in x bound ≡ true) → (b || is_in x xs) ≡ true → is_in x bound ≡ true
-    here true e k rest j = subst (λ z. is_in z bound ≡ true) (same_is y x e) k
+    here true e k rest j = subst (λ z. is_in z bound ≡ true) (same_variable-is y x e) k
     here false e k rest j = rest j
 
     of : (b : Bool) → is_in y bound ≡ b → (if b then missing_in bound xs else Some y) ≡ None → (missing_in bound xs ≡ None → is_in x xs ≡ true → is_in x bound ≡ true) → is_in x bound ≡ true
@@ -49,10 +54,6 @@ within t n b e h = grind arith
 pub above : (t : RawTerm) (n : ℕ) (b : Bool) → b ≡ nat_le (height t) n → b ≡ false → n < height t
 above t n b e h = grind arith
 
--- the first variable that is missing, from the variables of both sides
-pub first_unbound : (left right : RawTerm) (bound xs : List Variable) (o : Option Variable) → bound ≡ met [] left → xs ≡ met [] right → o ≡ missing_in bound xs → unbound left right ≡ o
-first_unbound left right bound xs o b e h = sym (h ∙ ap (λ ys. missing_in ys xs) b ∙ ap (missing_in (met [] left)) e)
-
 -- an option that holds nothing
 pub holds_none : {X : Type 0} (o : Option X) → ((x : X) → o ≡ Some x → ⊥) → o ≡ None
 holds_none None h = refl
@@ -67,7 +68,7 @@ mutual
   met_again : (xs : List Variable) (t : RawTerm) → ((x : Variable) → IsTrue (occurs x t) → is_in x xs ≡ true) → met xs t ≡ xs
   met_again xs (numeral n) h = refl
   met_again xs (quoted q) h = refl
-  met_again xs (variable x) h = ap (λ b. cond b xs (xs ++ x ∷ [])) (h x (same_itself x))
+  met_again xs (variable x) h = ap (λ b. cond b xs (xs ++ x ∷ [])) (h x (same_variable-refl x))
   met_again xs (apply f ts) h = all_met_again xs ts h
 
   all_met_again : (xs : List Variable) (ts : RawTerms) → ((x : Variable) → IsTrue (occurs_in x ts) → is_in x xs ≡ true) → all_met xs ts ≡ xs
@@ -128,14 +129,37 @@ module _ (sig : Signature) (simple : IsSimpleSignature sig) where
         left_raw : IsRawTerm sig is.left
         left_raw = spelled_raw sig (accepted sig simple) variables is.read.only.0.first.spells
 
-    pub simple_module : (es : List Sides) (sts : List Statement) → AreEquations sig variables es sts → IsSimpleModule (record { signature = sig; statements = sts })
-    simple_module es sts all = record { signature = simple; equations = at_each }
-      where
-        at_each : (k : ℕ) (st : Statement) → IsStatement (record { signature = sig; statements = sts }) k st → IsSimpleEquation sig st
-        at_each zero st is = let h = is.is_there in cc
-        at_each (suc i) st is =
-            let w = slice_get_within sts i st is.is_there in
-            let e = there es i (omega (arith, w, all.count)) in simple_equation e.0 st (all.each i e.0 st e.1 is.is_there) is.executable
+    module _ (sorted : (x : Variable) → Member x variables → IsSortOf sig x.sort) where
+      -- the sorts of what tokens spell are there
+      sorts_there : {t : RawTerm} {p : ℕ} {text : List (List ℕ)} → Spells sig variables t p text → (x : Variable) → IsTrue (occurs x t) → IsSortOf sig x.sort
+      sorts_there s = spelled_variables sig variables (λ (x : Variable). IsSortOf sig x.sort) (λ w. ⊤) sorted (λ x S n v h. named_there sig x.sort S n) s (λ w m. tt)
+
+      -- the sides of a statement are those that its texts spell
+      sides_of : (e : Sides) (st : Statement) → IsEquation sig variables e st → AreSides sig st
+      sides_of e st is =
+          let first = is.read.only.0.first.spells in
+          let second = is.read.only.0.second.spells in
+          subst (AreSides sig) (sym is.sides.statement) (record {
+            left = spelled_raw sig (accepted sig simple) variables first;
+            right = spelled_raw sig (accepted sig simple) variables second;
+            kinds = (is.read.only.0.kind, is.read.only.0.of_first, is.read.only.0.of_second);
+            sorts = λ x o. elim (or_cases (occurs x is.left) (occurs x is.right) o) [ inl h ↦ sorts_there first x h | inr h ↦ sorts_there second x h ];
+          })
+
+      pub simple_module : (es : List Sides) (sts : List Statement) → AreEquations sig variables es sts → IsSimpleModule (record { signature = sig; statements = sts })
+      simple_module es sts all = record { signature = simple; sides = all_sides; equations = at_each }
+        where
+          all_sides : (k : ℕ) (st : Statement) → at_number sts k ≡ Some st → AreSides sig st
+          all_sides zero st is = cc
+          all_sides (suc i) st is =
+              let w = slice_get_within sts i st is in
+              let e = there es i (omega (arith, w, all.count)) in sides_of e.0 st (all.each i e.0 st e.1 is)
+
+          at_each : (k : ℕ) (st : Statement) → IsStatement (record { signature = sig; statements = sts }) k st → IsSimpleEquation sig st
+          at_each zero st is = let h = is.is_there in cc
+          at_each (suc i) st is =
+              let w = slice_get_within sts i st is.is_there in
+              let e = there es i (omega (arith, w, all.count)) in simple_equation e.0 st (all.each i e.0 st e.1 is.is_there) is.executable
 
 -- what a text is read as is a term of the signature
 pub raw_read : {E : Type 0} (sig : Signature) (variables : List Variable) (words : List (List ℕ)) → IsSimpleSignature sig → (r : Result Raw E)

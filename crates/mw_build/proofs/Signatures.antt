@@ -1,10 +1,9 @@
 -- What a module declares: sorts of different names, free operators, and declarations in the kinds of their operators.
-use Rattle.std.proofs.Common.{◌≡◌, ◌∙◌, ◌||◌, ℕ, zero, suc, List, [], ◌∷◌, ◌++◌, length, map, Bool, true, false, Some, None, All, slice_get, bytes_eq, cond, IsFalse, refl, sym, ap, subst}
+use Rattle.std.proofs.Common.{◌≡◌, ◌∙◌, ◌||◌, ℕ, zero, suc, List, [], ◌∷◌, ◌++◌, length, map, Bool, true, false, Some, None, slice_get, bytes_eq, cond, IsFalse, refl, sym, ap, subst}
 use Rattle.std.proofs.lemmas.Bool.{both_ways}
 use Rattle.std.proofs.lemmas.Option.{same_Some}
-use Rattle.std.proofs.lemmas.List.Elements.{All-head, All-tail}
 use Rattle.std.proofs.lemmas.Slice.Eq.{bytes_eq-Decides}
-use Rattle.mw_logic.specs.Signature.{Signature, Operator, IsOperator, IsSortNamed, at_number}
+use Rattle.mw_logic.specs.Signature.{Signature, Operator, IsOperator, IsSortNamed}
 use Rattle.mw_logic.specs.Free.{IsFreeSignature}
 use Rattle.mw_logic.specs.Preregular.{IsSortOf, IsDeclarationOf, HasItsSorts, IsPreregular}
 use Rattle.mw_poset.specs.Order.{IsSort}
@@ -20,6 +19,7 @@ use Rattle.mw_declare.specs.Operators.{Declared, operator_of, operators_of, sign
 use Rattle.mw_declare.specs.Declarations.{Declarations, unknown_in_all, Declares}
 use Rattle.mw_declare.proofs.Known.{IsDeclared, declared_operators}
 use Rattle.mw_declare.proofs.Pairs.{pairs_there}
+use Rattle.mw_declare.proofs.Proper.{all_at}
 
 -- no name stands twice
 abbrev AreDifferent : List Name → Type 0
@@ -96,12 +96,6 @@ sorts_apart : (ss : List Lined) (S T : ℕ) (n : List ℕ) → IsSortNamed (sign
 sorts_apart ss zero T n e k = cc
 sorts_apart ss (suc i) zero n e k = cc
 sorts_apart ss (suc i) (suc j) n e k = ap suc (different_at (sorts_of ss) (different_from [] ss tt) i j n e k)
-
-all_at : {X : Type 0} (P : X → Type 0) (xs : List X) → All P xs → (f : ℕ) (x : X) → at_number xs f ≡ Some x → P x
-all_at P xs all zero x e = cc
-all_at P [] all (suc i) x e = cc
-all_at P (y ∷ ys) all (suc zero) x e = subst P (same_Some y x e) (All-head P y ys all)
-all_at P (y ∷ ys) all (suc (suc i)) x e = all_at P ys (All-tail P y ys all) (suc i) x e
 
 abbrev pub signature_in : SeenUnit → Signature
 signature_in u = signature_of (statements_of u)

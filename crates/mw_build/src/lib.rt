@@ -17,6 +17,9 @@
 //! - `fault`: a fault is answered only where the unit has it, and it is the first (`IsRefused`; `FirstFault` of
 //!   specs/Equations).
 //! - The module is simple, as mw_least asks, and its signature has a grammar, as mw_parse asks (their `requires`).
+//! - The law `texts_read_back`: the text of each raw term of a module that a source's unit is, cut into tokens, spells
+//!   this term in the module, where the term's variables can be printed (specs/Printing). Ground terms have none, and
+//!   by `statements_are_printable` so it is for the variables of the module's statements.
 //! - `Module::term`: the one term that the tokens spell, a term of the signature; no term only above 1,024 tokens,
 //!   where they spell none, or two.
 //!
@@ -26,9 +29,11 @@
 #![tactic(auto)]
 
 mod equations;
+mod laws;
 mod mentions;
 mod modules;
 mod signature;
 mod size;
 
+pub use laws::{statements_are_printable, texts_read_back};
 pub use modules::{BuildError, Module, build};

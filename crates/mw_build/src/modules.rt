@@ -2,7 +2,8 @@
 ghost use Rattle.std.specs.Prelude.{◌≡◌, ℕ, List, IfOk, IfErr, IsSome, None};
 ghost use Rattle.mw_lex.specs.Lexing.{seen_all};
 ghost use Rattle.mw_module.specs.Units.{seen_unit};
-ghost use Rattle.mw_logic.specs.Signature.{IsRawTerm};
+ghost use Rattle.mw_logic.specs.Term.{Variable};
+ghost use Rattle.mw_logic.specs.Signature.{Member, IsRawTerm};
 ghost use Rattle.mw_term.specs.Raws.{raw_term};
 ghost use Rattle.mw_text.specs.Mixfix.{Reads};
 ghost use Rattle.mw_declare.specs.Meaning.{texts};
@@ -13,7 +14,7 @@ ghost use Rattle.mw_machine.specs.Simple.{IsSimpleSignature};
 ghost use Rattle.mw_parse.specs.Answers.{HasCause as HasReadingCause};
 ghost use Rattle.mw_poset.specs.SortOrder.{order_of};
 ghost use Rattle.mw_sorts.specs.Diagrams.{AreTablesOf};
-ghost use Rattle.mw_logic.specs.Preregular.{IsPreregular};
+ghost use Rattle.mw_logic.specs.Preregular.{IsSortOf, IsPreregular};
 ghost use Rattle.mw_parse.specs.Readers.{IsReaderOf};
 ghost use Rattle.mw_build.specs.Equations.{AreEquations};
 ghost use Rattle.mw_build.specs.Modules.{IsDeclaredModule, IsAccepted, HasEquationCause, HasCause};
@@ -178,6 +179,7 @@ fn module_of(
     parts: Parts,
 ) -> Result<Module, AllocError>
     requires simple { IsSimpleSignature declarations.signature }
+    requires sorted { (x : Variable) → Member x declarations.variables → IsSortOf declarations.signature x.sort }
     requires order { declarations.order ≡ order_of declarations.signature }
     requires tables { AreTablesOf declarations.signature parts.tables }
     requires reader { IsReaderOf declarations.signature declarations.variables parts.readings.reader.value }

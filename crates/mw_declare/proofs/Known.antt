@@ -1,12 +1,10 @@
 -- What is known of the operators and variables that a module declares.
-use Rattle.std.proofs.Common.{◌≡◌, ◌≢◌, ◌∙◌, ◌≤◌, ◌<◌, ◌⊎◌, ◌&&◌, ◌||◌, ◌==◌, ℕ, zero, suc, List, [], ◌∷◌, length, map, Bool, true, false, nat_lt, nat_eq, Option, Some, None, IfSome, option_map, unwrap_or, Ok, Err, All, bytes_eq, cond, if◌then◌else◌, refl, sym, ap, subst, inl, inr, ⊎_elim, arith}
-use Rattle.std.specs.List.{position_or_len}
-use Rattle.std.proofs.lemmas.Bool.{ltb-true, eqb-true}
+use Rattle.std.proofs.Common.{◌≡◌, ◌≢◌, ◌∙◌, ◌<◌, ◌⊎◌, ◌&&◌, ◌||◌, ◌==◌, ℕ, zero, suc, List, [], ◌∷◌, length, map, Bool, true, false, nat_eq, Option, Some, None, IfSome, Ok, Err, All, bytes_eq, if◌then◌else◌, refl, sym, ap, subst, inl, inr, ⊎_elim, arith}
+use Rattle.std.proofs.lemmas.Bool.{eqb-true}
 use Rattle.std.proofs.lemmas.List.{length-map}
 use Rattle.std.proofs.lemmas.List.Elements.{All-nil, All-cons, All-head, All-tail, All-append}
 use Rattle.std.proofs.lemmas.Slice.Eq.{bytes_eq-Decides}
 use Rattle.mw_lex.specs.Lexing.{Seen}
-use Rattle.mw_logic.specs.Term.{Variable}
 use Rattle.mw_logic.specs.Signature.{Signature, Operator, Declaration, Sorted, sort, kind, Member, SameKind, same}
 use Rattle.mw_logic.specs.Accepted.{number_of_sort}
 use Rattle.mw_logic.specs.Preregular.{IsSortOf, AreOfKinds, IsDeclarationOf}
@@ -20,32 +18,16 @@ use Rattle.mw_module.specs.Forms.{Shape, Sorts, Subsorts, Operators, Variables, 
 use Rattle.mw_module.specs.Units.{SeenUnit}
 use Rattle.mw_module.proofs.Formed.{IsNameFor, IsPrecedence, IsGather, AreAttributes, IsKnown, joined_known, formed_known}
 use Rattle.mw_declare.specs.Statements.{Lined, line_of, lined, statements_in, statements_of}
-use Rattle.mw_declare.specs.Meaning.{Name, is_among, number_of}
+use Rattle.mw_declare.specs.Meaning.{is_among, number_of}
 use Rattle.mw_declare.specs.Hierarchy.{Hierarchy, kind_in, sorted_in}
 use Rattle.mw_declare.specs.Grouping.{begins_open, ends_open, gather_behind, default_precedence, gather_of_mark, precedence_of, gather_of}
 use Rattle.mw_declare.specs.Operators.{Rank, rank_of, Profile, same_profile, Declared, declared_again, with_operator, profile_of, with_named, with_operators, operators_from, operators_of, operator_of, signature_of}
-use Rattle.mw_declare.specs.Faults.{Typing, variables_with, unknown_among, name_in, mentioned_by, mentioned, unknown_from}
+use Rattle.mw_declare.specs.Faults.{unknown_among, name_in, mentioned_by, mentioned, unknown_from}
 use Rattle.mw_declare.specs.Declarations.{unknown_in_all}
 use Rattle.mw_declare.proofs.Holes.{with_holes, without_holes}
 use Rattle.mw_declare.proofs.Unknown.{known_front, known_append, number_there}
 use Rattle.mw_declare.proofs.LeastKinds.{kind_there, kind_same}
 use Rattle.mw_declare.proofs.Pairs.{known_statement}
-
--- numbers of sorts are within their count
-number_within : (sorts : List Name) (n : Name) → number_of sorts n ≤ length sorts
-number_within sorts n = of (nat_lt (position_or_len (bytes_eq n) sorts) (length sorts)) refl
-  where
-    of : (b : Bool) → nat_lt (position_or_len (bytes_eq n) sorts) (length sorts) ≡ b → unwrap_or (option_map suc (cond b (Some (position_or_len (bytes_eq n) sorts)) None)) 0 ≤ length sorts
-    of true e = let h = ltb-true (position_or_len (bytes_eq n) sorts) (length sorts) e in omega (arith, h)
-    of false e = omega arith
-
-abbrev pub HasSort : ℕ → Variable → Type 0
-HasSort count x = x.sort ≤ count
-
-pub variables_within : (sorts : List Name) (es : Typing) → All (HasSort (length sorts)) (variables_with sorts es)
-variables_within sorts [] = All-nil (HasSort (length sorts))
-variables_within sorts (e ∷ es) =
-    All-cons (HasSort (length sorts)) (record { name = e.0; sort = number_of sorts e.1 }) (variables_with sorts es) (number_within sorts e.1) (variables_within sorts es)
 
 -- these are the items of a name: neither nothing nor a hole alone, with no holes or one for each argument
 pub record AreItemsFor (arity : ℕ) (items : List Item) : Type 0 where

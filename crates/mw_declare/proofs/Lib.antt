@@ -9,3 +9,4 @@ pub mod Pairs
 pub mod Declaring
 pub mod OneDeclaration
 pub mod Known
+pub mod Proper

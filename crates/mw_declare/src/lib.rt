@@ -19,7 +19,8 @@
 //! Proved: the answer is exactly what the statements declare (`Declares`, specs/Declarations), the order is that of its
 //! sorts and pairs, and a fault is answered exactly where there is one, and is the first (`DeclarationFault`). A unit
 //! declares one thing at most and has one first fault at most, and not both (proofs/OneDeclaration). `Memory` may come
-//! at any call. What the crates above know of a unit's operators stands in proofs/Known.
+//! at any call. What the crates above know of a unit's operators stands in proofs/Known, and of names as tokens in
+//! specs/Proper.
 //!
 //! How it works: each question is one loop over the statements' forms, which are read again. Tables of names, variables
 //! and operators keep the order of insertion, so a name is looked up once or twice for each mention, by its hash, and a

@@ -78,7 +78,7 @@ module _ (sig : Signature) where
   IsAdmitted-equal e a = record { ground = sym (ground_kept e) ∙ a.ground; not_deep = λ d. a.not_deep (IsTooDeep-equal e d); not_large = λ d. a.not_large (IsTooLarge-equal e d) }
 
 -- normal, plain and final terms
-normal_equal : (M : Module) (F : _) {t u : RawTerm} → EqualModulo M.signature t u → IsNormalBy M F t → IsNormalBy M F u
+pub normal_equal : (M : Module) (F : _) {t u : RawTerm} → EqualModulo M.signature t u → IsNormalBy M F t → IsNormalBy M F u
 normal_equal M F e n = record {
   admitted = IsAdmitted-equal M.signature e n.admitted;
   no_equation = λ C w p. n.no_equation C w (IsPart-equal M.signature e C w p);

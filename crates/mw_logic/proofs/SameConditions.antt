@@ -11,6 +11,7 @@ use Rattle.mw_logic.specs.Module.{Module, Fragment, equal, matches, has_sort, is
 use Rattle.mw_logic.specs.Proof.{Proof, Proofs, equality, transitivity}
 use Rattle.mw_logic.specs.Proof as proof
 use Rattle.mw_logic.specs.Judgements.{Evaluates, HoldsAbove, FailsAbove, Held, Fails, judgements, judgements_with}
+use Rattle.mw_logic.proofs.Canonical.{nat_eq-refl}
 use Rattle.mw_logic.proofs.AxiomLaws.{trans, sym as back}
 use Rattle.mw_logic.proofs.InstanceLaws.{instance_same}
 use Rattle.mw_logic.proofs.SameSolutions.{same_solution-sym}
@@ -22,7 +23,10 @@ abbrev pub merged : Substitution → Substitution → Substitution
 merged r [] = r
 merged r (b ∷ s) = cond (is_bound r b.0) (merged r s) (b ∷ merged r s)
 
-same_variable-is : (x y : Variable) → same_variable x y ≡ true → x ≡ y
+pub same_variable-refl : (x : Variable) → same_variable x x ≡ true
+same_variable-refl x = rw ((bytes_eq-Decides x.name x.name).1 refl, nat_eq-refl x.sort) refl
+
+pub same_variable-is : (x y : Variable) → same_variable x y ≡ true → x ≡ y
 same_variable-is x y h =
     let p : (bytes_eq x.name y.name ≡ true) × _ = and_parts _ _ h in
     let n : x.name ≡ y.name = (bytes_eq-Decides x.name y.name).0 p.0 in
@@ -62,7 +66,7 @@ merged-substitution sig r (b ∷ s) h k = by_bound (is_bound r b.0) refl (merged
 some_bound : (s : Substitution) (x : Variable) (t : RawTerm) → value s x ≡ Some t → is_bound s x ≡ true
 some_bound s x t e = ap is_some e
 
-bound_some : (s : Substitution) (x : Variable) → is_bound s x ≡ true → (t : RawTerm) × (value s x ≡ Some t)
+pub bound_some : (s : Substitution) (x : Variable) → is_bound s x ≡ true → (t : RawTerm) × (value s x ≡ Some t)
 bound_some s x h = by_value (value s x) refl h
   where
     by_value : (v : Option RawTerm) → value s x ≡ v → is_some v ≡ true → (t : RawTerm) × (value s x ≡ Some t)

@@ -1,29 +1,19 @@
 -- Variables in the order in which they are first met, and their positions.
 use Rattle.std.specs.Prelude.{◌≡◌, ◌<◌, ◌≤◌, ℕ, zero, suc, max, get_or, List, [], ◌∷◌, ◌++◌, length, Bool, true, false, ◌||◌, cond, refl}
 use Rattle.std.proofs.Common.{sym, ap, ◌∙◌, arith, append_assoc, append-nil, length-append}
-use Rattle.std.proofs.lemmas.Bool.{eqb-true, and_parts, both_ways}
-use Rattle.std.proofs.lemmas.Slice.Eq.{bytes_eq-Decides}
+use Rattle.std.proofs.lemmas.Bool.{both_ways}
 use Rattle.mw_logic.specs.Term.{Variable, RawTerm, numeral, quoted, variable, apply, RawTerms, nil, cons}
 use Rattle.mw_logic.specs.Substitution.{same_variable, occurs, occurs_in}
-use Rattle.mw_logic.proofs.Canonical.{nat_eq-refl}
 use Rattle.mw_machine.specs.Positions.{counted, counted_all, IsNumbered, AreNumbered, IsWithin, AreWithin}
 use Rattle.mw_machine.specs.Variables.{is_in, met, all_met, AreDistinct, place, placed, all_placed, IsPlaceable, ArePlaceable}
-
--- a variable is the same as itself alone
-pub same_is : (x y : Variable) → same_variable x y ≡ true → x ≡ y
-same_is x y h =
-    let p = and_parts _ _ h in
-    let n : x.name ≡ y.name = (bytes_eq-Decides x.name y.name).0 p.0 in let s : x.sort ≡ y.sort = eqb-true _ _ p.1 in rw (n, s) refl
-
-pub same_itself : (x : Variable) → same_variable x x ≡ true
-same_itself x = rw ((bytes_eq-Decides x.name x.name).1 refl, nat_eq-refl x.sort) refl
+use Rattle.mw_logic.proofs.SameConditions.{same_variable-is, same_variable-refl}
 
 pub same_turned : (x y : Variable) → same_variable x y ≡ false → same_variable y x ≡ false
 same_turned x y h = of (same_variable y x) refl
   where
     of : (b : Bool) → same_variable y x ≡ b → b ≡ false
     of false e = refl
-    of true e = absurd (both_ways _ h (let k : y ≡ x = same_is y x e in rw k (same_itself x)))
+    of true e = absurd (both_ways _ h (let k : y ≡ x = same_variable-is y x e in rw k (same_variable-refl x)))
 
 or_assoc : (a b c : Bool) → ((a || b) || c) ≡ (a || (b || c))
 or_assoc true b c = refl
@@ -50,7 +40,7 @@ mutual
     where
       again : (b : Bool) → same_variable y x ≡ b → is_in y xs ≡ true → is_in x xs ≡ (is_in x xs || b)
       again false e h = sym (or_none (is_in x xs))
-      again true e h = let k : y ≡ x = same_is y x e in let i : is_in x xs ≡ true = rw k at h in rw i refl
+      again true e h = let k : y ≡ x = same_variable-is y x e in let i : is_in x xs ≡ true = rw k at h in rw i refl
 
       of : (b : Bool) → is_in y xs ≡ b → is_in x (cond b xs (xs ++ y ∷ [])) ≡ (is_in x xs || same_variable y x)
       of true e = again (same_variable y x) refl e
@@ -117,12 +107,12 @@ place-append x (y ∷ xs) ys h = of (place-append x xs ys) (same_variable y x) h
     of r false e = ap suc (r e)
 
 pub place-put : (x : Variable) (xs ys : List Variable) → is_in x xs ≡ false → place x (xs ++ x ∷ ys) ≡ length xs
-place-put x [] ys h = rw (same_itself x) refl
+place-put x [] ys h = rw (same_variable-refl x) refl
 place-put x (y ∷ xs) ys h = let p = neither (same_variable y x) (is_in x xs) h in rw (p.0) (ap suc (place-put x xs ys p.1))
 
 in_at : (xs : List Variable) (i : ℕ) (x : Variable) → i < length xs → x ≡ get_or xs i x → is_in x xs ≡ true
 in_at [] i x h e = absurd (omega (arith, h))
-in_at (y ∷ ys) zero x h e = let k : y ≡ x = sym e in rw k (let s = same_itself x in rw s refl)
+in_at (y ∷ ys) zero x h e = let k : y ≡ x = sym e in rw k (let s = same_variable-refl x in rw s refl)
 in_at (y ∷ ys) (suc i) x h e = of (same_variable y x) (in_at ys i x (omega (arith, h)) e)
   where
     of : (b : Bool) → is_in x ys ≡ true → (b || is_in x ys) ≡ true
@@ -132,12 +122,12 @@ in_at (y ∷ ys) (suc i) x h e = of (same_variable y x) (in_at ys i x (omega (ar
 -- the variable at a position
 pub place_at : (xs : List Variable) (i : ℕ) (x : Variable) → AreDistinct xs → i < length xs → x ≡ get_or xs i x → place x xs ≡ i
 place_at [] i x d h e = absurd (omega (arith, h))
-place_at (y ∷ ys) zero x d h e = let k : y ≡ x = sym e in rw k (let s = same_itself x in rw s refl)
+place_at (y ∷ ys) zero x d h e = let k : y ≡ x = sym e in rw k (let s = same_variable-refl x in rw s refl)
 place_at (y ∷ ys) (suc i) x d h e = of (same_variable y x) refl (place_at ys i x d.1 (omega (arith, h)) e) (in_at ys i x (omega (arith, h)) e)
   where
     of : (b : Bool) → same_variable y x ≡ b → place x ys ≡ i → is_in x ys ≡ true → cond b 0 (suc (place x ys)) ≡ suc i
     of false s r k = ap suc r
-    of true s r k = absurd (both_ways _ d.0 (let w : y ≡ x = same_is y x s in rw w k))
+    of true s r k = absurd (both_ways _ d.0 (let w : y ≡ x = same_variable-is y x s in rw w k))
 
 mutual
   -- where the positions are those of first mention, patterns are numbered as the matcher wants them

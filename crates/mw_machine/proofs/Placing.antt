@@ -13,8 +13,9 @@ use Rattle.mw_machine.specs.Machine.{IsFlat}
 use Rattle.mw_machine.specs.Positions.{fill, fill_all}
 use Rattle.mw_machine.specs.Simple.{IsSimpleSignature, IsGround, HaveSorts}
 use Rattle.mw_machine.specs.Variables.{is_in, AreDistinct, sorts_of, place, placed, all_placed, IsPlaceable, ArePlaceable}
-use Rattle.mw_machine.proofs.Meeting.{same_is, same_itself, same_turned, neither}
+use Rattle.mw_machine.proofs.Meeting.{same_turned, neither}
 use Rattle.mw_machine.proofs.Ordered.{either}
+use Rattle.mw_logic.proofs.SameConditions.{same_variable-is, same_variable-refl}
 
 -- the values of variables in order
 abbrev pub value_of : Substitution → Variable → RawTerm
@@ -29,7 +30,7 @@ at_place s (y ∷ ys) x h = of (at_place s ys x) (same_variable y x) refl h
   where
     of : (is_in x ys ≡ true → slice_get (values_of s ys) (place x ys) ≡ Some (value_of s x)) → (b : Bool) → same_variable y x ≡ b → (b || is_in x ys) ≡ true
         → slice_get (value_of s y ∷ values_of s ys) (cond b 0 (suc (place x ys))) ≡ Some (value_of s x)
-    of r true e h = ap (λ z. Some (value_of s z)) (same_is y x e)
+    of r true e h = ap (λ z. Some (value_of s z)) (same_variable-is y x e)
     of r false e h = r h
 
 mutual
@@ -56,7 +57,7 @@ module _ (sig : Signature) (one : IsSimpleSignature sig) where
     pub placeable : {t : RawTerm} → IsRawTerm sig t → (xs : List Variable) → ((x : Variable) → IsTrue (occurs x t) → IsTrue (is_in x xs)) → IsPlaceable xs t
     placeable (a_numeral b l) xs h = both_ways _ one.nat b
     placeable (a_quoted b) xs h = both_ways _ one.qid b
-    placeable (a_variable {x}) xs h = h x (same_itself x)
+    placeable (a_variable {x}) xs h = h x (same_variable-refl x)
     placeable (an_operator o is args) xs h = all_placeable args xs h
 
     all_placeable : {ts : RawTerms} {Ks : List ℕ} → AreRawTerms sig ts Ks → (xs : List Variable) → ((x : Variable) → IsTrue (occurs_in x ts) → IsTrue (is_in x xs)) → ArePlaceable xs ts
@@ -73,7 +74,7 @@ pub values_zip : (xs : List Variable) (vs : List RawTerm) → AreDistinct xs →
 values_zip [] [] d l = refl
 values_zip [] (v ∷ vs) d l = absurd (omega (arith, l))
 values_zip (x ∷ xs) [] d l = absurd (omega (arith, l))
-values_zip (x ∷ xs) (v ∷ vs) d l = rw (same_itself x, values_skip x v (zip xs vs) xs d.0, values_zip xs vs d.1 (omega (arith, l))) refl
+values_zip (x ∷ xs) (v ∷ vs) d l = rw (same_variable-refl x, values_skip x v (zip xs vs) xs d.0, values_zip xs vs d.1 (omega (arith, l))) refl
 
 pub bound_zip : (xs : List Variable) (vs : List RawTerm) (x : Variable) → length vs ≡ length xs → is_bound (zip xs vs) x ≡ is_in x xs
 bound_zip [] vs x l = refl
@@ -125,14 +126,14 @@ apart x y xs h k = of (same_variable x y) refl
   where
     of : (b : Bool) → same_variable x y ≡ b → b ≡ false
     of false e = refl
-    of true e = absurd (both_ways _ h (subst (λ z. is_in z xs ≡ true) (sym (same_is x y e)) k))
+    of true e = absurd (both_ways _ h (subst (λ z. is_in z xs ≡ true) (sym (same_variable-is x y e)) k))
 
 mutual
   -- what binds a term binds each variable in it
   pub bound_in : (s : Substitution) (t : RawTerm) → IsTrue (binds s t) → (x : Variable) → IsTrue (occurs x t) → IsTrue (is_bound s x)
   bound_in s (numeral n) b x h = absurd (both_ways false refl h)
   bound_in s (quoted q) b x h = absurd (both_ways false refl h)
-  bound_in s (variable y) b x h = subst (λ z. IsTrue (is_bound s z)) (same_is y x h) b
+  bound_in s (variable y) b x h = subst (λ z. IsTrue (is_bound s z)) (same_variable-is y x h) b
   bound_in s (apply f ts) b x h = all_bound_in s ts b x h
 
   all_bound_in : (s : Substitution) (ts : RawTerms) → IsTrue (binds_all s ts) → (x : Variable) → IsTrue (occurs_in x ts) → IsTrue (is_bound s x)
@@ -147,7 +148,7 @@ sort_at_place (y ∷ ys) x h = of (sort_at_place ys x) (same_variable y x) refl 
   where
     of : (is_in x ys ≡ true → slice_get (sorts_of ys) (place x ys) ≡ Some x.sort) → (b : Bool) → same_variable y x ≡ b → (b || is_in x ys) ≡ true
         → slice_get (y.sort ∷ sorts_of ys) (cond b 0 (suc (place x ys))) ≡ Some x.sort
-    of r true e h = ap (λ (z : Variable). Some z.sort) (same_is y x e)
+    of r true e h = ap (λ (z : Variable). Some z.sort) (same_variable-is y x e)
     of r false e h = r h
 
 pub sort_of_value : (sig : Signature) (vs : List RawTerm) (xs : List Variable) → HaveSorts sig vs (sorts_of xs) → (x : Variable) (v : RawTerm) → IsTrue (is_in x xs) → slice_get vs (place x xs) ≡ Some v
@@ -158,7 +159,7 @@ sort_of_value sig vs xs have x v h e = have (place x xs) v x.sort e (sort_at_pla
 pub sorts_of_values : (sig : Signature) (s : Substitution) → IsSubstitution sig s → (xs : List Variable) → ((x : Variable) → IsTrue (is_in x xs) → IsTrue (is_bound s x)) → HaveSorts sig (values_of s xs) (sorts_of xs)
 sorts_of_values sig s h [] b i v S e k = cc
 sorts_of_values sig s h (x ∷ xs) b zero v S e k =
-    let bound : is_some (value s x) ≡ true = b x (or_left (same_variable x x) (is_in x xs) (same_itself x)) in
+    let bound : is_some (value s x) ≡ true = b x (or_left (same_variable x x) (is_in x xs) (same_variable-refl x)) in
     let f : value_of s x ≡ v = cc in
     let g : x.sort ≡ S = cc in
     subst (λ u. HasSort sig u (sort S)) f (subst (λ T. HasSort sig (value_of s x) (sort T)) g (of (value s x) refl bound))
@@ -183,7 +184,7 @@ module _ (sig : Signature) (simple : IsSimpleSignature sig) where
     ground_value vs xs (a_numeral b l) g r x h v e = absurd (both_ways _ simple.nat b)
     ground_value vs xs (a_quoted b) g r x h v e = absurd (both_ways _ simple.qid b)
     ground_value vs xs (a_variable {x = y}) g r x h v e =
-        let same : y ≡ x = same_is y x h in
+        let same : y ≡ x = same_variable-is y x h in
         let is : fill vs (placed xs (variable y)) ≡ v = rw (same, e) refl in
         subst (IsGround sig) is (g, r)
     ground_value vs xs (an_operator {f} {ts} o is args) g (an_operator p there filled) x h v e =
@@ -203,7 +204,7 @@ module _ (sig : Signature) (simple : IsSimpleSignature sig) where
   substitution_zip (x ∷ xs) [] d l g = tt
   substitution_zip (x ∷ xs) (v ∷ vs) d l g =
       let k : length vs ≡ length xs = omega (arith, l) in
-      let w = g x v (or_left (same_variable x x) (is_in x xs) (same_itself x)) (rw (same_itself x) refl) in (
+      let w = g x v (or_left (same_variable x x) (is_in x xs) (same_variable-refl x)) (rw (same_variable-refl x) refl) in (
         bound_zip xs vs x k ∙ d.0,
         w.0.0,
         w.0.1,

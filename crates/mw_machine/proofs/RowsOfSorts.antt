@@ -1,24 +1,25 @@
 -- Lists of numbers, the module T: sorts N and L, z and s, nil and cons, and two operators of the name size, one on numbers and one on lists. What holds of it, and what doesn't.
-use Rattle.std.specs.Prelude.{◌≡◌, ℕ, zero, suc, List, [], ◌∷◌, map, Bool, true, false, ◌||◌, Some, None, IsTrue, codes, refl}
+use Rattle.std.specs.Prelude.{◌≡◌, ⊤, ℕ, zero, suc, List, [], ◌∷◌, map, Bool, true, false, ◌||◌, Some, None, IsTrue, codes, refl}
 use Rattle.std.specs.List.{AllByRecursion, slice_get}
-use Rattle.std.proofs.Common.{sym, subst, ap, ◌∙◌, arith, inl, ⊎_elim}
-use Rattle.std.proofs.lemmas.Bool.{false≢true}
-use Rattle.mw_logic.specs.Term.{Variable, RawTerm, RawTerms, variable, apply, nil, cons, constant, unary, binary}
+use Rattle.std.proofs.Common.{sym, subst, ap, ◌∙◌, arith, inl, inr, ⊎_elim}
+use Rattle.std.proofs.lemmas.Bool.{false≢true, or_cases}
+use Rattle.mw_logic.specs.Term.{Variable, RawTerm, RawTerms, numeral, quoted, variable, apply, nil, cons, constant, unary, binary}
 use Rattle.mw_logic.specs.Signature.{Signature, Operator, at_number, sort, same, Member, HasKind, of_variable, of_operator, IsRawTerm, a_variable, an_operator, AreRawTerms, end, next}
 use Rattle.mw_logic.specs.Sorts.{HasSort}
 use Rattle.mw_logic.specs.Preregular.{IsSortOf}
 use Rattle.mw_logic.proofs.SolutionLaws.{sort_kind}
-use Rattle.mw_logic.specs.Substitution.{same_variable, IsSubstitution}
+use Rattle.mw_logic.specs.Substitution.{same_variable, occurs, occurs_in, IsSubstitution}
 use Rattle.mw_logic.specs.Module.{Module, Statement, IsStatement}
 use Rattle.mw_logic.proofs.AcceptedTest.{is_accepted-sound}
 use Rattle.mw_logic.proofs.Canonical.{same_operator}
 use Rattle.mw_logic.proofs.RowsKit.{a_variable as variable_of, an_equation}
 use Rattle.mw_machine.specs.Machine.{Fires}
-use Rattle.mw_machine.specs.Simple.{IsSimpleSignature, IsSimpleEquation, IsSimpleModule, HaveSorts}
+use Rattle.mw_machine.specs.Simple.{IsSimpleSignature, IsSimpleEquation, AreSides, IsSimpleModule, HaveSorts}
 use Rattle.mw_machine.proofs.Meeting.{or_none}
 use Rattle.mw_machine.proofs.Ordered.{accepted, well_sorted, applied_sort}
 use Rattle.mw_machine.proofs.ManySorted.{IsDeclaredOnce, lone_kind, simple_once}
 use Rattle.mw_machine.proofs.Firing.{fires}
+use Rattle.mw_logic.proofs.SameConditions.{same_variable-is}
 
 abbrev operator : List ℕ → List ℕ → ℕ → Operator
 operator name args result = record {
@@ -153,9 +154,56 @@ third = record {
   bound = λ x h. bound_in_third (same_variable X x) (same_variable Y x) h;
 }
 
+-- what each variable of a term has
+abbrev mutual
+  Each : (Variable → Type 0) → RawTerm → Type 0
+  Each P (numeral n) = ⊤
+  Each P (quoted q) = ⊤
+  Each P (variable x) = P x
+  Each P (apply f ts) = EachIn P ts
+
+  EachIn : (Variable → Type 0) → RawTerms → Type 0
+  EachIn P nil = ⊤
+  EachIn P (cons t ts) = Each P t × EachIn P ts
+
+mutual
+  each_occurring : (P : Variable → Type 0) (t : RawTerm) → Each P t → (x : Variable) → occurs x t ≡ true → P x
+  each_occurring P (numeral n) h x o = absurd (false≢true o)
+  each_occurring P (quoted q) h x o = absurd (false≢true o)
+  each_occurring P (variable y) h x o = subst P (same_variable-is y x o) h
+  each_occurring P (apply f ts) h x o = each_in P ts h x o
+
+  each_in : (P : Variable → Type 0) (ts : RawTerms) → EachIn P ts → (x : Variable) → occurs_in x ts ≡ true → P x
+  each_in P nil h x o = absurd (false≢true o)
+  each_in P (cons t ts) h x o = elim (or_cases (occurs x t) (occurs_in x ts) o) [ inl e ↦ each_occurring P t h.0 x e | inr e ↦ each_in P ts h.1 x e ]
+
+abbrev HasItsSort : Variable → Type 0
+HasItsSort x = IsSortOf T_signature x.sort
+
+sorts_of : (e : Statement) → Each HasItsSort e.left → Each HasItsSort e.right → (x : Variable) → (occurs x e.left || occurs x e.right) ≡ true → HasItsSort x
+sorts_of e l r x o = elim (or_cases (occurs x e.left) (occurs x e.right) o) [ inl h ↦ each_occurring HasItsSort e.left l x h | inr h ↦ each_occurring HasItsSort e.right r x h ]
+
+N_there : IsSortOf T_signature 1
+N_there = (omega arith, omega arith)
+
+L_there : IsSortOf T_signature 2
+L_there = (omega arith, omega arith)
+
+sides_of : (e : Statement) → IsSimpleEquation T_signature e → Each HasItsSort e.left → Each HasItsSort e.right → AreSides T_signature e
+sides_of e s l r = record { left = s.left; right = s.right; kinds = s.kinds; sorts = sorts_of e l r }
+
+never_sides : AreSides T_signature never
+never_sides = record {
+  left = a_variable;
+  right = an_operator _ refl (next a_variable (of_variable same) end);
+  kinds = (1, of_variable same, of_operator _ refl same);
+  sorts = sorts_of never N_there (L_there, tt);
+}
+
 pub T_module : IsSimpleModule T
 T_module = record {
   signature = T_simple;
+  sides = each (AreSides T_signature) T.statements (sides_of _ first (N_there, tt) N_there, (sides_of _ second (tt, tt) tt, (sides_of _ third ((N_there, (L_there, tt)), tt) ((L_there, tt), tt), (never_sides, tt))));
   equations = λ k e is. each (λ (s : Statement). IsTrue s.executable → IsSimpleEquation T_signature s) T.statements (λ h. first, (λ h. second, (λ h. third, (λ h. absurd (false≢true h), tt)))) k e is.is_there is.executable;
 }
 

@@ -14,9 +14,10 @@ use Rattle.mw_logic.proofs.SolutionLaws.{substitution_value}
 use Rattle.mw_machine.specs.Positions.{fill, Begins, IsNumbered, counted}
 use Rattle.mw_machine.specs.Simple.{IsSimpleSignature, IsGround, HaveSorts}
 use Rattle.mw_machine.specs.Variables.{is_in, met, AreDistinct, sorts_of, place, placed, IsPlaceable, bound_variables, bound_values}
-use Rattle.mw_machine.proofs.Meeting.{same_is, same_itself, is_in-met, met_grows, AreDistinct-met, numbered_met, place-append, place-within}
+use Rattle.mw_machine.proofs.Meeting.{is_in-met, met_grows, AreDistinct-met, numbered_met, place-append, place-within}
 use Rattle.mw_machine.proofs.Ordered.{either, free}
 use Rattle.mw_machine.proofs.Placing.{value_of, values_of, at_place, fill_placed, placeable, values_zip, bound_zip, ground_value, sort_of_value, sorts_of_values, substitution_zip}
+use Rattle.mw_logic.proofs.SameConditions.{same_variable-is, same_variable-refl}
 
 -- a substitution's variables and values stand in the same order
 pub is_bound_in : (s : Substitution) (x : Variable) → is_bound s x ≡ is_in x (bound_variables s)
@@ -80,7 +81,7 @@ module _ (sig : Signature) (simple : IsSimpleSignature sig) where
   values_given : (s s0 : Substitution) → IsSubstitution sig s0 → Extends s0 s → values_of s (bound_variables s0) ≡ bound_values s0
   values_given s [] h e = refl
   values_given s (b ∷ s0) h e =
-      let a : value s b.0 ≡ Some b.1 = e b.0 b.1 (rw (same_itself b.0) refl) in
+      let a : value s b.0 ≡ Some b.1 = e b.0 b.1 (rw (same_variable-refl b.0) refl) in
       let r = values_given s s0 h.4 (λ x t i. e x t (behind x t i)) in rw (a, r) refl
     where
       behind : (x : Variable) (t : RawTerm) → value s0 x ≡ Some t → cond (same_variable b.0 x) (Some b.1) (value s0 x) ≡ Some t
@@ -88,7 +89,7 @@ module _ (sig : Signature) (simple : IsSimpleSignature sig) where
         where
           of : (c : Bool) → same_variable b.0 x ≡ c → cond c (Some b.1) (value s0 x) ≡ Some t
           of false q = i
-          of true q = absurd (both_ways _ h.0 (ap (is_bound s0) (same_is b.0 x q) ∙ some_bound (value s0 x) t i))
+          of true q = absurd (both_ways _ h.0 (ap (is_bound s0) (same_variable-is b.0 x q) ∙ some_bound (value s0 x) t i))
 
   module _ (p : RawTerm) (raw : IsRawTerm sig p) (s0 : Substitution) (given : IsSubstitution sig s0) where
     abbrev pub variables : List Variable

@@ -1,10 +1,10 @@
 -- Modules over sorts in an order, with free operators, and equations without conditions.
-use Rattle.std.specs.Prelude.{ℕ, ◌≡◌, List, [], false, IsTrue, Some, slice_get}
+use Rattle.std.specs.Prelude.{ℕ, ◌≡◌, ◌||◌, List, [], false, IsTrue, Some, slice_get}
 use Rattle.mw_logic.specs.Term.{Variable, RawTerm, is_ground}
-use Rattle.mw_logic.specs.Signature.{Signature, Operator, sort, IsOperator, IsSortNamed, HasKind, IsRawTerm}
+use Rattle.mw_logic.specs.Signature.{Signature, Operator, at_number, sort, IsOperator, IsSortNamed, HasKind, IsRawTerm}
 use Rattle.mw_logic.specs.Sorts.{HasSort}
 use Rattle.mw_logic.specs.Substitution.{occurs}
-use Rattle.mw_logic.specs.Preregular.{HasItsSorts, IsPreregular}
+use Rattle.mw_logic.specs.Preregular.{IsSortOf, HasItsSorts, IsPreregular}
 use Rattle.mw_logic.specs.Module.{Module, Statement, IsStatement}
 use Rattle.mw_machine.specs.Machine.{IsFlat}
 use Rattle.mw_machine.specs.Plain.{IsFreeOperator}
@@ -42,7 +42,15 @@ pub record IsSimpleEquation (sig : Signature) (e : Statement) : Type 0 where
   pub variables : e.variables ≡ met [] e.left
   pub bound : (x : Variable) → IsTrue (occurs x e.right) → IsTrue (occurs x e.left)
 
--- Nothing is asked of statements that aren't executable, since none of them applies.
+-- The sides are raw terms of one kind, and the sorts of their variables are there.
+pub record AreSides (sig : Signature) (e : Statement) : Type 0 where
+  pub left : IsRawTerm sig e.left
+  pub right : IsRawTerm sig e.right
+  pub kinds : (K : ℕ) × HasKind sig e.left K × HasKind sig e.right K
+  pub sorts : (x : Variable) → IsTrue (occurs x e.left || occurs x e.right) → IsSortOf sig x.sort
+
+-- Of statements that aren't executable no more is asked than of their sides, since none of them applies.
 pub record IsSimpleModule (M : Module) : Type 0 where
   pub signature : IsSimpleSignature M.signature
+  pub sides : (k : ℕ) (e : Statement) → at_number M.statements k ≡ Some e → AreSides M.signature e
   pub equations : (k : ℕ) (e : Statement) → IsStatement M k e → IsSimpleEquation M.signature e

@@ -58,8 +58,7 @@ IsKnown (Variables names sort) = Unit {0}
 IsKnown (Equation left right executable) = Unit {0}
 
 abbrev IsKnownWhereFormed : Formed → Type 0
-IsKnownWhereFormed (Ok shape) = IsKnown shape
-IsKnownWhereFormed (Err kind) = Unit {0}
+IsKnownWhereFormed formed = IfOk formed IsKnown
 
 both : (a b : Bool) → (a && b) ≡ true → (a ≡ true) × (b ≡ true)
 both true b e = (refl, e)
@@ -87,7 +86,7 @@ names_known arity (name ∷ names) all fit =
     let n = named (items_in name) a.0 in
     All-cons (IsNameFor arity) name names (record { some = n.0; no_hole = n.1; fits = fitting arity (items_in name) f.0 }) (names_known arity names a.1 f.1)
 
-names_there : (names : List (List Seen)) → are_names names ≡ true → (names ≢ []) × (all_names names ≡ true)
+pub names_there : (names : List (List Seen)) → are_names names ≡ true → (names ≢ []) × (all_names names ≡ true)
 names_there [] e = cc
 names_there (name ∷ names) e = (λ (h : name ∷ names ≡ []). cc, e)
 
@@ -243,18 +242,22 @@ behind_known arity (t ∷ rest) = of (is (codes "[") t) (is (codes "{") t)
     of false false = tt
 
 -- forms
-no_fault : (b : Bool) (kind : FaultKind) → fault_if b kind ≡ None → b ≡ false
+pub no_fault : (b : Bool) (kind : FaultKind) → fault_if b kind ≡ None → b ≡ false
 no_fault true kind e = cc
 no_fault false kind e = refl
 
-neither : (a b : Bool) → (a || not b) ≡ false → b ≡ true
+pub neither : (a b : Bool) → (a || not b) ≡ false → b ≡ true
 neither true b e = cc
 neither false true e = refl
 neither false false e = cc
 
+-- what holds of an answer where there is no fault
+pub holds_unless : {A : Type 0} (P : A → Type 0) (o : Option FaultKind) (r : Result A FaultKind) → (o ≡ None → IfOk r P) → IfOk (unless o r) P
+holds_unless P None r h = h refl
+holds_unless P (Some kind) r h = tt
+
 known_unless : (o : Option FaultKind) (f : Formed) → (o ≡ None → IsKnownWhereFormed f) → IsKnownWhereFormed (unless o f)
-known_unless None f h = h refl
-known_unless (Some kind) f h = tt
+known_unless o f h = holds_unless IsKnown o f h
 
 valued_known : (names : List (List Seen)) (args : List Sorting) (value : Sorting) (said : Said) → names ≢ [] → All (IsNameFor (length args)) names → IfOk said (AreAttributes (length args))
     → IsKnownWhereFormed (valued names args value said)

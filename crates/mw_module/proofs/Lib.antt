@@ -8,3 +8,5 @@ pub mod Formed
 pub mod Clones
 pub mod Bodies
 pub mod Fronts
+pub mod Tokens
+pub mod ProperForms

@@ -10,4 +10,5 @@ pub mod Equations
 pub mod Forms
 pub mod Kinds
 pub mod Units
+pub mod Tokens
 pub mod Refusals

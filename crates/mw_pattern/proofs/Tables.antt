@@ -6,8 +6,9 @@ use denote.Ref.{Bor}
 use Rattle.mw_logic.specs.Term.{Variable, variable}
 use Rattle.mw_logic.specs.Substitution.{same_variable}
 use Rattle.mw_machine.specs.Variables.{is_in, met, AreDistinct, place}
-use Rattle.mw_machine.proofs.Meeting.{same_is, same_itself, or_none, is_in-append, place-append, place-put, place-within, place_at}
+use Rattle.mw_machine.proofs.Meeting.{or_none, is_in-append, place-append, place-put, place-within, place_at}
 use Rattle.mw_pattern.specs.Tables.{Key, same_key, variable_of, pointed, position_in}
+use Rattle.mw_logic.proofs.SameConditions.{same_variable-is, same_variable-refl}
 
 pub none_some : (i : ℕ) → None ≡ Some i → ⊥
 none_some i h = cc
@@ -41,8 +42,8 @@ position_more xs x q h = of (same_variable x q) refl
 
     of : (b : Bool) → same_variable x q ≡ b → position_in q (xs ++ x ∷ []) ≡ cond b (Some (length xs)) (position_in q xs)
     of true s =
-        let k : x ≡ q = same_is x q s in
-        let m : is_in x (xs ++ x ∷ []) ≡ true = is_in-append x xs (x ∷ []) ∙ rw (h, same_itself x) refl in
+        let k : x ≡ q = same_variable-is x q s in
+        let m : is_in x (xs ++ x ∷ []) ≡ true = is_in-append x xs (x ∷ []) ∙ rw (h, same_variable-refl x) refl in
         ap (λ z. position_in z (xs ++ x ∷ [])) (sym k) ∙ rw m (ap Some (place-put x xs [] h))
     of false s = old s (is_in q xs) refl
 

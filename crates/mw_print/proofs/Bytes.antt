@@ -1,9 +1,10 @@
 -- Bytes that begin tokens, and bytes that end them.
-use Rattle.std.proofs.Common.{◌≡◌, ◌≤◌, ◌==◌, ◌&&◌, inl, inr, ℕ, true, false, List, [], ◌∷◌, subst, sym, refl, arith}
+use Rattle.std.proofs.Common.{◌≡◌, ◌≤◌, ◌==◌, ◌&&◌, inl, inr, ℕ, true, false, List, ◌∷◌, subst, sym, refl, arith}
 use Rattle.std.specs.Prelude.{not, nat_le}
 use Rattle.std.proofs.lemmas.Bool.{or_cases, and_parts, not-true, eqb-true, ne_eqb, leb-true, lt-leb, or_from, and_right}
 use Rattle.mw_lex.specs.Bytes.{is_punctuation, is_run_byte, is_visible, is_blank}
 use Rattle.mw_lex.specs.Pieces.{opens_comment}
+use Rattle.mw_lex.proofs.Comments.{no_comment}
 
 -- what holds of each of the seven holds of a byte that is one of them
 pub seven : (P : ℕ → Type 0) → P 40 → P 41 → P 91 → P 93 → P 123 → P 125 → P 44 → (b : ℕ) → is_punctuation b ≡ true → P b
@@ -32,11 +33,6 @@ pub record IsSeven (b : ℕ) : Type 0 where
   pub apart : is_blank b ≡ false
   pub ends : is_run_byte b ≡ false
   pub starts : (rest : List ℕ) → opens_comment (b ∷ rest) ≡ false
-
-pub no_comment : (b : ℕ) → (b == 42) ≡ false → (b == 45) ≡ false → (rest : List ℕ) → opens_comment (b ∷ rest) ≡ false
-no_comment b h k [] = refl
-no_comment b h k (c ∷ []) = refl
-no_comment b h k (c ∷ d ∷ rest) = rw (h, k) refl
 
 seven_here : (b : ℕ) → is_visible b ≡ true → is_blank b ≡ false → is_run_byte b ≡ false → (b == 42) ≡ false → (b == 45) ≡ false → IsSeven b
 seven_here b v a e h k = record { visible = v; apart = a; ends = e; starts = no_comment b h k }

@@ -6,8 +6,9 @@ use Rattle.std.proofs.lemmas.Fmt.{decimal_by_steps_wide}
 use Rattle.std.proofs.lemmas.Bool.{cases_Bool, ne_eqb, le-leb, and_from}
 use Rattle.mw_lex.specs.Bytes.{is_punctuation, is_run_byte}
 use Rattle.mw_lex.specs.Pieces.{run_len}
-use Rattle.mw_print.specs.Laws.{IsProper}
-use Rattle.mw_print.proofs.Bytes.{seven, no_comment}
+use Rattle.mw_lex.specs.Texts.{IsProper}
+use Rattle.mw_lex.proofs.Comments.{no_comment}
+use Rattle.mw_print.proofs.Bytes.{seven}
 
 abbrev IsDigit : ℕ → Type 0
 IsDigit b = (48 ≤ b) × (b ≤ 57)

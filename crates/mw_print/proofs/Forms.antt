@@ -8,7 +8,7 @@ use Rattle.mw_logic.specs.Signature.{Signature, Operator, at_number}
 use Rattle.mw_logic.specs.Parts.{is_assoc}
 use Rattle.mw_logic.specs.Terms.{terms_of}
 use Rattle.mw_text.specs.Names.{items_of}
-use Rattle.mw_print.specs.Tokens.{Token, token, opening}
+use Rattle.mw_print.specs.Tokens.{Token, token, opening, comma}
 use Rattle.mw_print.specs.Printing.{Printed, is_mixfix, divided, called, has_arguments, spread, arguments_of, head, in_holes, printed, printed_all}
 
 pub length_printed : (sig : Signature) (ts : List RawTerm) → length (printed_all sig (terms_of ts)) ≡ length ts
@@ -40,13 +40,13 @@ arguments_some true f a [] = spread_some f a
 arguments_some false f a [] = omega arith
 arguments_some assoc f a (b ∷ ps) = omega arith
 
-pub divided_more : (x : List Token) (ys : List (List Token)) → 0 < length ys → divided (x ∷ ys) ≡ x ++ token (codes ",") ∷ divided ys
+pub divided_more : (x : List Token) (ys : List (List Token)) → 0 < length ys → divided (x ∷ ys) ≡ x ++ comma ∷ divided ys
 divided_more x [] h = absurd (omega arith)
 divided_more x (y ∷ ys) h = refl
 
 -- an argument before others
 pub list_more : (assoc : Bool) (f : ℕ) (a b : Printed) (ps : List Printed)
-    → divided (arguments_of assoc f (a ∷ b ∷ ps)) ≡ a.tokens ++ token (codes ",") ∷ divided (arguments_of assoc f (b ∷ ps))
+    → divided (arguments_of assoc f (a ∷ b ∷ ps)) ≡ a.tokens ++ comma ∷ divided (arguments_of assoc f (b ∷ ps))
 list_more assoc f a b ps = divided_more a.tokens (arguments_of assoc f (b ∷ ps)) (arguments_some assoc f b ps)
 
 -- arguments in parentheses

@@ -8,11 +8,14 @@ use Rattle.mw_lex.specs.Bytes.{is_punctuation, is_run_byte}
 use Rattle.mw_lex.specs.Pieces.{run_len, opens_comment, piece_of}
 use Rattle.mw_lex.specs.Lexing.{Seen, Lexed, with_front, token_at, meaning, lexed, line_after, line_behind}
 use Rattle.mw_lex.specs.declared.pieces.Piece.TheVariants as piece
-use Rattle.mw_print.specs.Tokens.{Token, token, opening, text_of, texts, opens, closes, ends_in_backquote, is_near, gap, spaced}
-use Rattle.mw_print.specs.Laws.{IsRun, IsProper, PrintedLexes}
+use Rattle.mw_print.specs.Tokens.{Token, token, opening, comma, text_of, texts, opens, closes, ends_in_backquote, is_near, is_apart, gap, spaced}
+use Rattle.mw_lex.specs.Texts.{IsRun, IsProper}
+use Rattle.mw_print.specs.Laws.{PrintedLexes}
 use Rattle.mw_print.specs.Printing.{printed}
-use Rattle.mw_print.proofs.Bytes.{no_comment, is_seven, run_byte}
-use Rattle.mw_print.proofs.Runs.{Stops, run_stops, run_first, run_no_comment}
+use Rattle.mw_lex.proofs.Comments.{no_comment}
+use Rattle.mw_print.proofs.Bytes.{is_seven, run_byte}
+use Rattle.mw_lex.proofs.Runs.{run_first}
+use Rattle.mw_print.proofs.Runs.{Stops, run_stops, run_no_comment}
 
 -- the bytes of a piece are passed over
 skipped : (x rest : List ℕ) (at line : ℕ) → lexed (length x) at line (x ++ rest) ≡ lexed 0 (at + length x) (line_behind x line) rest
@@ -68,12 +71,12 @@ token_found (b ∷ x) rest tokens (inr run) s found at line = found_front b x re
 passed : (s : List ℕ) (at line : ℕ) → lexed 0 at line (32 ∷ s) ≡ lexed 0 (at + 1) line s
 passed s at line = rw (no_comment 32 refl refl s) refl
 
-past_gap : (x : List ℕ) (y : Token) (s : List ℕ) (tokens : List (List ℕ)) → ((at line : ℕ) → Finds (lexed 0 at line s) tokens) → (at line : ℕ) → Finds (lexed 0 at line (gap x y ++ s)) tokens
+past_gap : (x y : Token) (s : List ℕ) (tokens : List (List ℕ)) → ((at line : ℕ) → Finds (lexed 0 at line s) tokens) → (at line : ℕ) → Finds (lexed 0 at line (gap x y ++ s)) tokens
 past_gap x y s tokens found at line =
     let wide : Finds (lexed 0 at line (32 ∷ s)) tokens = rw passed (found (at + 1) line) in
-    elim (cases_Bool (ends_in_backquote x)) [
+    elim (cases_Bool (is_apart x)) [
       | inl e ↦ rw e wide
-      | inr e ↦ elim (cases_Bool (opens x || is_near y)) [ inl f ↦ rw (e, f) (found at line) | inr f ↦ rw (e, f) wide ]
+      | inr e ↦ elim (cases_Bool (opens (text_of x) || is_near y)) [ inl f ↦ rw (e, f) (found at line) | inr f ↦ rw (e, f) wide ]
     ]
 
 -- a token that closes ends a run
@@ -89,6 +92,8 @@ closes_run c h =
     ]
 
 near_stops : (x : List ℕ) (y : Token) (ts : List Token) → ends_in_backquote x ≡ false → is_near y ≡ true → Stops x (spaced (y ∷ ts))
+near_stops x comma [] e h = (refl, λ q. absurd (true≢false (sym q ∙ e)))
+near_stops x comma (z ∷ ts) e h = (refl, λ q. absurd (true≢false (sym q ∙ e)))
 near_stops x opening [] e h = (refl, λ q. absurd (true≢false (sym q ∙ e)))
 near_stops x opening (z ∷ ts) e h = (refl, λ q. absurd (true≢false (sym q ∙ e)))
 near_stops x (token []) ts e h = absurd (true≢false (sym h))
@@ -105,14 +110,19 @@ run_opens (b ∷ []) run h =
     elim (or_cases _ (b == 123) h) [ inr e ↦ at 123 refl e | inl h ↦ elim (or_cases (b == 40) (b == 91) h) [ inl e ↦ at 40 refl e | inr e ↦ at 91 refl e ] ]
 run_opens (b ∷ c ∷ x) run h = true≢false (sym h)
 
+no_backquote : (x : Token) → is_apart x ≡ false → ends_in_backquote (text_of x) ≡ false
+no_backquote (token x) e = e
+no_backquote opening e = refl
+no_backquote comma e = refl
+
 -- what stands behind a run ends it
-gap_stops : (x : List ℕ) (y : Token) (ts : List Token) → IsRun x → Stops x (gap x y ++ spaced (y ∷ ts))
+gap_stops : (x y : Token) (ts : List Token) → IsRun (text_of x) → Stops (text_of x) (gap x y ++ spaced (y ∷ ts))
 gap_stops x y ts run =
-    let wide : Stops x (32 ∷ spaced (y ∷ ts)) = (refl, λ q. refl) in
-    elim (cases_Bool (ends_in_backquote x)) [
+    let wide : Stops (text_of x) (32 ∷ spaced (y ∷ ts)) = (refl, λ q. refl) in
+    elim (cases_Bool (is_apart x)) [
       | inl e ↦ rw e wide
-      | inr e ↦ elim (cases_Bool (opens x || is_near y)) [
-        | inl f ↦ rw (e, f) (elim (or_cases (opens x) (is_near y) f) [ inl o ↦ absurd (run_opens x run o) | inr n ↦ near_stops x y ts e n ])
+      | inr e ↦ elim (cases_Bool (opens (text_of x) || is_near y)) [
+        | inl f ↦ rw (e, f) (elim (or_cases (opens (text_of x)) (is_near y) f) [ inl o ↦ absurd (run_opens (text_of x) run o) | inr n ↦ near_stops (text_of x) y ts (no_backquote x e) n ])
         | inr f ↦ rw (e, f) wide
       ]
     ]
@@ -125,8 +135,8 @@ lexes (x ∷ []) h at line =
 lexes (x ∷ y ∷ ts) h at line =
     let z = text_of x in
     let behind = lexes (y ∷ ts) (All-tail IsProper z (texts (y ∷ ts)) h) in
-    rw (append_assoc z (gap z y) (spaced (y ∷ ts)))
-    (token_found z (gap z y ++ spaced (y ∷ ts)) (texts (y ∷ ts)) (All-head IsProper z (texts (y ∷ ts)) h) (gap_stops z y ts) (past_gap z y (spaced (y ∷ ts)) (texts (y ∷ ts)) behind) at line)
+    rw (append_assoc z (gap x y) (spaced (y ∷ ts)))
+    (token_found z (gap x y ++ spaced (y ∷ ts)) (texts (y ∷ ts)) (All-head IsProper z (texts (y ∷ ts)) h) (gap_stops x y ts) (past_gap x y (spaced (y ∷ ts)) (texts (y ∷ ts)) behind) at line)
 
 -- the tokens of a term's text are those that were printed
 pub printed_lexed : PrintedLexes

@@ -4,6 +4,7 @@ pub mod Items
 pub mod Forms
 pub mod Lists
 pub mod Spelled
+pub mod ReadBack
 pub mod Bytes
 pub mod Runs
 pub mod Lexed

@@ -6,10 +6,12 @@ use Rattle.std.proofs.lemmas.List.Elements.{All-nil, All-cons, All-head, All-tai
 use Rattle.mw_logic.specs.Term.{RawTerm, numeral, quoted, variable, apply, RawTerms, nil, cons}
 use Rattle.mw_logic.specs.Signature.{Signature, Operator, Gather, at_number}
 use Rattle.mw_logic.specs.Parts.{is_assoc}
+use Rattle.mw_lex.specs.Texts.{IsProper}
+use Rattle.mw_text.specs.Proper.{IsProperName, AreProperNames}
 use Rattle.mw_text.specs.Names.{Item, piece, hole, items_of, has_hole, pieces}
-use Rattle.mw_print.specs.Tokens.{Token, token, opening, text_of, texts}
+use Rattle.mw_print.specs.Tokens.{Token, token, opening, comma, text_of, texts}
 use Rattle.mw_print.specs.Printing.{Printed, is_mixfix, takes, in_parentheses, in_hole, in_holes, head, divided, called, spread, arguments_of, tokens_of, printed, printed_all}
-use Rattle.mw_print.specs.Laws.{IsProper, IsProperName, AreProperNames, HasProperLeaves, HaveProperLeaves, PrintedProper}
+use Rattle.mw_print.specs.Laws.{HasProperLeaves, HaveProperLeaves, PrintedProper}
 use Rattle.mw_print.proofs.Spelled.{spread_cases}
 use Rattle.mw_print.proofs.Digits.{decimal_proper}
 
@@ -36,7 +38,7 @@ AreAllProper (xs ∷ xss) = AreProper xs × AreAllProper xss
 divided_proper : (xss : List (List Token)) → AreAllProper xss → AreProper (divided xss)
 divided_proper [] h = tt
 divided_proper (xs ∷ []) h = h.0
-divided_proper (xs ∷ ys ∷ yss) h = both_proper xs (token (codes ",") ∷ divided (ys ∷ yss)) h.0 (inl refl, divided_proper (ys ∷ yss) h.1)
+divided_proper (xs ∷ ys ∷ yss) h = both_proper xs (comma ∷ divided (ys ∷ yss)) h.0 (inl refl, divided_proper (ys ∷ yss) h.1)
 
 called_proper : (h : List Token) (xss : List (List Token)) → AreProper h → AreAllProper xss → AreProper (called h xss)
 called_proper h [] p q = p

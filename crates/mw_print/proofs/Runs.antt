@@ -1,9 +1,11 @@
 -- How far a run reaches before other bytes.
 use Rattle.std.proofs.Common.{◌≡◌, ◌+◌, ◌==◌, ◌&&◌, inl, inr, ℕ, suc, true, false, List, [], ◌∷◌, ◌++◌, length, sym, refl, arith}
 use Rattle.std.specs.Prelude.{⊤}
-use Rattle.std.proofs.lemmas.Bool.{cases_Bool, and_parts, and_left, and_right, eqb-true, true≢false, ne_eqb, or_from}
+use Rattle.std.proofs.lemmas.Bool.{cases_Bool, and_left, and_right, true≢false, ne_eqb}
 use Rattle.mw_lex.specs.Bytes.{is_punctuation, is_run_byte}
 use Rattle.mw_lex.specs.Pieces.{run_len, opens_comment}
+use Rattle.mw_lex.proofs.Runs.{no_quote, takes_none, run_none}
+use Rattle.mw_lex.proofs.Comments.{IsApart, no_comment_before}
 use Rattle.mw_print.specs.Tokens.{ends_in_backquote}
 
 -- the bytes begin with one that ends a run which this is, if there is one
@@ -11,14 +13,10 @@ abbrev pub Stops : List ℕ → List ℕ → Type 0
 Stops x [] = ⊤
 Stops x (c ∷ rest) = (is_run_byte c ≡ false) × (ends_in_backquote x ≡ true → is_punctuation c ≡ false)
 
-no_quote : (c : ℕ) → is_run_byte c ≡ false → (c == 96) ≡ false
-no_quote c h = ne_eqb c 96 (λ e. true≢false (rw e at h))
-
 -- no run begins with such a byte
 none_here : (x rest : List ℕ) → Stops x rest → run_len rest ≡ 0
 none_here x [] s = refl
-none_here x (c ∷ []) s = rw s.0 refl
-none_here x (c ∷ d ∷ rest) s = rw (no_quote c s.0, s.0) refl
+none_here x (c ∷ rest) s = run_none c rest s.0 (takes_none c rest (no_quote c s.0))
 
 stops_behind : (b c : ℕ) (x rest : List ℕ) → Stops (b ∷ c ∷ x) rest → Stops (c ∷ x) rest
 stops_behind b c x [] s = tt
@@ -55,43 +53,16 @@ run_stops (b ∷ c ∷ x) rest h s =
       ]
     ]
 
--- a run begins with a byte of runs
-pub run_first : (b : ℕ) (x : List ℕ) → run_len (b ∷ x) ≡ length (b ∷ x) → is_run_byte b ≡ true
-run_first b [] h = elim (cases_Bool (is_run_byte b)) [ inl e ↦ e | inr e ↦ let none : ◌≡◌ {A = ℕ} 0 1 = rw e at h in absurd (omega arith) ]
-run_first b (c ∷ x) h =
-    elim (cases_Bool (b == 96 && is_punctuation c)) [
-      | inl e ↦ let is : b ≡ 96 = eqb-true b 96 (and_parts (b == 96) (is_punctuation c) e).0 in rw is refl
-      | inr e ↦ elim (cases_Bool (is_run_byte b)) [
-        | inl f ↦ f
-        | inr f ↦ let none : 0 ≡ suc (suc (length x)) = rw (e, f) at h in absurd (omega arith)
-      ]
-    ]
-
--- no three stars or dashes, where one of three bytes is neither
-no_first : (a b c : ℕ) → (a == 42) ≡ false → (a == 45) ≡ false → opens_comment (a ∷ b ∷ c ∷ []) ≡ false
-no_first a b c h k = rw (h, k) refl
-
-no_second : (a b c : ℕ) → (b == 42) ≡ false → (b == 45) ≡ false → opens_comment (a ∷ b ∷ c ∷ []) ≡ false
-no_second a b c h k = or_from _ _ (and_left _ (c == 42) (and_right (a == 42) (b == 42) h)) (and_left _ (c == 45) (and_right (a == 45) (b == 45) k))
-
-no_third : (a b c : ℕ) → (c == 42) ≡ false → (c == 45) ≡ false → opens_comment (a ∷ b ∷ c ∷ []) ≡ false
-no_third a b c h k = or_from _ _ (and_right (a == 42 && b == 42) (c == 42) h) (and_right (a == 45 && b == 45) (c == 45) k)
-
 no_star : (c : ℕ) → is_run_byte c ≡ false → (c == 42) ≡ false
 no_star c h = ne_eqb c 42 (λ e. true≢false (rw e at h))
 
 no_dash : (c : ℕ) → is_run_byte c ≡ false → (c == 45) ≡ false
 no_dash c h = ne_eqb c 45 (λ e. true≢false (rw e at h))
 
+stops_apart : (x rest : List ℕ) → Stops x rest → IsApart rest
+stops_apart x [] s = tt
+stops_apart x (c ∷ rest) s = (no_star c s.0, no_dash c s.0)
+
 -- no comment begins where none begins in the run
 pub run_no_comment : (x rest : List ℕ) → opens_comment x ≡ false → Stops x rest → opens_comment (x ++ rest) ≡ false
-run_no_comment [] [] h s = refl
-run_no_comment [] (c ∷ []) h s = refl
-run_no_comment [] (c ∷ d ∷ []) h s = refl
-run_no_comment [] (c ∷ d ∷ e ∷ rest) h s = no_first c d e (no_star c s.0) (no_dash c s.0)
-run_no_comment (a ∷ []) [] h s = refl
-run_no_comment (a ∷ []) (c ∷ []) h s = refl
-run_no_comment (a ∷ []) (c ∷ d ∷ rest) h s = no_second a c d (no_star c s.0) (no_dash c s.0)
-run_no_comment (a ∷ b ∷ []) [] h s = refl
-run_no_comment (a ∷ b ∷ []) (c ∷ rest) h s = no_third a b c (no_star c s.0) (no_dash c s.0)
-run_no_comment (a ∷ b ∷ c ∷ x) rest h s = h
+run_no_comment x rest h s = no_comment_before x rest h (stops_apart x rest s)

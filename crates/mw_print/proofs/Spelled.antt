@@ -8,7 +8,7 @@ use Rattle.mw_logic.specs.Signature.{Signature, Operator, Gather, less, most, an
 use Rattle.mw_logic.specs.Parts.{is_assoc}
 use Rattle.mw_text.specs.Names.{Item, piece, hole, items_of, has_hole, pieces}
 use Rattle.mw_text.specs.Mixfix.{IsTaken, IsHead, Spells, with_sort, grouped, a_constant, prefixed, flattened, mixfix, SpellsArguments, last, more, SpellsNested, two, another, SpellsItems, no_items, over_piece, over_hole}
-use Rattle.mw_print.specs.Tokens.{Token, token, opening, text_of, texts}
+use Rattle.mw_print.specs.Tokens.{Token, token, opening, text_of, texts, comma}
 use Rattle.mw_print.specs.Printing.{Printed, holes, has_less, is_mixfix, takes, in_hole, in_holes, head, divided, called, has_arguments, spread, arguments_of, printed, printed_all}
 use Rattle.mw_print.specs.Laws.{AreBinary, IsNamed, AreNamed, PrintedSpells}
 use Rattle.mw_print.proofs.Forms.{arguments_some, divided_more, list_more, called_some}
@@ -64,7 +64,7 @@ no_less p false h z = refl
 narrow : (h i : List Token) → texts (h ++ opening ∷ i ++ token (codes ")") ∷ []) ≡ texts h ++ codes "(" ∷ texts i ++ codes ")" ∷ []
 narrow h i = simp map-append
 
-wide : (h a i : List Token) → texts (h ++ opening ∷ (a ++ token (codes ",") ∷ i) ++ token (codes ")") ∷ []) ≡ texts h ++ codes "(" ∷ texts a ++ codes "," ∷ texts i ++ codes ")" ∷ []
+wide : (h a i : List Token) → texts (h ++ opening ∷ (a ++ comma ∷ i) ++ token (codes ")") ∷ []) ≡ texts h ++ codes "(" ∷ texts a ++ codes "," ∷ texts i ++ codes ")" ∷ []
 wide h a i = simp (map-append, append_assoc)
 
 module _ (sig : Signature) (variables : List Variable) where
@@ -114,18 +114,18 @@ module _ (sig : Signature) (variables : List Variable) where
   arguments_spelled f (and_part {t} {ts} {K} {Ks} part k (and_part {t = u} {ts = us} {K = L} {Ks = Ls} other l parts)) =
       let a = printed sig t in
       let inner = divided (arguments_of false f (printed_all sig (cons u us))) in
-      rw (list_more false f a (printed sig u) (printed_all sig us), texts_both a.tokens (token (codes ",") ∷ inner))
+      rw (list_more false f a (printed sig u) (printed_all sig us), texts_both a.tokens (comma ∷ inner))
       (more K (L ∷ Ls) t (cons u us) a.precedence (texts a.tokens) (texts inner) part.spells k (arguments_spelled f (and_part other l parts)))
 
   -- two arguments of an associative operator, of which the last one may be spread
   module _ (f : ℕ) (o : Operator) (t u : RawTerm) (K L : ℕ) (is : IsOperator sig f o) (joint : IsTrue o.assoc) (kinds : o.args ≡ K ∷ L ∷ [])
       (part : Part t) (k : HasKind sig t K) (other : Part u) (l : HasKind sig u L) where
     -- the last argument is not spread
-    pair_spelled : SpellsArguments sig variables o.args (cons t (cons u nil)) (texts ((printed sig t).tokens ++ token (codes ",") ∷ (printed sig u).tokens))
+    pair_spelled : SpellsArguments sig variables o.args (cons t (cons u nil)) (texts ((printed sig t).tokens ++ comma ∷ (printed sig u).tokens))
     pair_spelled =
         let a = printed sig t in
         let b = printed sig u in
-        rw (kinds, texts_both a.tokens (token (codes ",") ∷ b.tokens))
+        rw (kinds, texts_both a.tokens (comma ∷ b.tokens))
         (more K (L ∷ []) t (cons u nil) a.precedence (texts a.tokens) (texts b.tokens) part.spells k (last L u b.precedence (texts b.tokens) other.spells l))
 
     first_kind : Member K o.args
@@ -139,9 +139,9 @@ module _ (sig : Signature) (variables : List Variable) where
         let inner = divided b.arguments in
         elim (spread_cases f b) [
           | inl (e, h, s) ↦
-              rw (s, divided_more a.tokens b.arguments (has_some (length b.arguments) h), texts_both a.tokens (token (codes ",") ∷ inner))
+              rw (s, divided_more a.tokens b.arguments (has_some (length b.arguments) h), texts_both a.tokens (comma ∷ inner))
               (another f o t u a.precedence K (texts a.tokens) (texts inner) part.spells first_kind k (other.nested f o is joint e h))
-          | inr s ↦ rw s (two f o t u (texts (a.tokens ++ token (codes ",") ∷ b.tokens)) pair_spelled)
+          | inr s ↦ rw s (two f o t u (texts (a.tokens ++ comma ∷ b.tokens)) pair_spelled)
         ]
 
     -- and by itself
@@ -155,8 +155,8 @@ module _ (sig : Signature) (variables : List Variable) where
               rw (s, divided_more a.tokens b.arguments (has_some (length b.arguments) h), wide (head o) a.tokens inner)
               (flattened f o t u (texts (head o)) (texts inner) is joint (head_is o) a.precedence K (texts a.tokens) part.spells first_kind k (other.nested f o is joint e h))
           | inr s ↦
-              rw (s, narrow (head o) (a.tokens ++ token (codes ",") ∷ b.tokens))
-              (prefixed f o t (cons u nil) (texts (head o)) (texts (a.tokens ++ token (codes ",") ∷ b.tokens)) is (head_is o) pair_spelled)
+              rw (s, narrow (head o) (a.tokens ++ comma ∷ b.tokens))
+              (prefixed f o t (cons u nil) (texts (head o)) (texts (a.tokens ++ comma ∷ b.tokens)) is (head_is o) pair_spelled)
         ]
 
   module _ (f : ℕ) (o : Operator) (is : IsOperator sig f o) where

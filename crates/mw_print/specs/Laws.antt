@@ -1,12 +1,12 @@
 -- What is printed can be read.
-use Rattle.std.specs.Prelude.{◌≡◌, ◌≢◌, ◌⊎◌, ◌<◌, ◌^◌, ℕ, List, [], ◌∷◌, ◌++◌, map, length, codes, All, IsTrue, IsFalse, Ok, ⊤}
-use Rattle.mw_lex.specs.Bytes.{is_punctuation}
-use Rattle.mw_lex.specs.Pieces.{run_len, opens_comment}
+use Rattle.std.specs.Prelude.{◌≡◌, ◌<◌, ◌^◌, ℕ, List, ◌++◌, map, length, codes, All, IsTrue, IsFalse, Ok, ⊤}
 use Rattle.mw_lex.specs.Lexing.{Seen, tokens_of}
+use Rattle.mw_lex.specs.Texts.{IsProper}
 use Rattle.mw_logic.specs.Term.{Variable, RawTerm, numeral, quoted, variable, apply, RawTerms, nil, cons}
 use Rattle.mw_logic.specs.Signature.{Signature, Operator, IsOperator, IsSortNamed, IsRawTerm}
-use Rattle.mw_text.specs.Names.{items_of, has_hole, pieces}
+use Rattle.mw_logic.specs.Substitution.{occurs}
 use Rattle.mw_text.specs.Mixfix.{Spells, IsVariableName}
+use Rattle.mw_text.specs.Proper.{AreProperNames}
 use Rattle.mw_print.specs.Tokens.{texts}
 use Rattle.mw_print.specs.Printing.{printed, sort_name, mixfix_text}
 
@@ -31,19 +31,6 @@ abbrev pub PrintedSpells : Type 0
 PrintedSpells = (sig : Signature) (variables : List Variable) (t : RawTerm) → AreBinary sig → IsRawTerm sig t → IsNamed sig t
     → Spells sig variables t (printed sig t).precedence (texts (printed sig t).tokens)
 
--- A token as the lexer takes it: one of ( ) [ ] { } and the comma, or a run that is read to its end, where no string and no comment begins.
-abbrev pub IsMark : List ℕ → Type 0
-IsMark [] = ⊥
-IsMark (b ∷ []) = IsTrue (is_punctuation b)
-IsMark (b ∷ c ∷ x) = ⊥
-
-abbrev pub IsRun : List ℕ → Type 0
-IsRun [] = ⊥
-IsRun (b ∷ x) = (run_len (b ∷ x) ≡ length (b ∷ x)) × (b ≢ 34) × IsFalse (opens_comment (b ∷ x))
-
-abbrev pub IsProper : List ℕ → Type 0
-IsProper x = IsMark x ⊎ IsRun x
-
 -- the text has these tokens
 abbrev pub HasTokens : List ℕ → List (List ℕ) → Type 0
 HasTokens text tokens = (found : List Seen) × (tokens_of text ≡ Ok found) × (map (λ (t : Seen). t.text) found ≡ tokens)
@@ -51,13 +38,6 @@ HasTokens text tokens = (found : List Seen) × (tokens_of text ≡ Ok found) × 
 -- The tokens of a term's text are those that were printed, where each of these is proper.
 abbrev pub PrintedLexes : Type 0
 PrintedLexes = (sig : Signature) (t : RawTerm) → All IsProper (texts (printed sig t).tokens) → HasTokens (mixfix_text sig t) (texts (printed sig t).tokens)
-
--- Each piece of an operator's name is proper, and so is the whole name of one with holes.
-abbrev pub IsProperName : List ℕ → Type 0
-IsProperName name = All IsProper (pieces (items_of name)) × (IsTrue (has_hole (items_of name)) → IsProper name)
-
-abbrev pub AreProperNames : Signature → Type 0
-AreProperNames sig = (f : ℕ) (o : Operator) → IsOperator sig f o → IsProperName o.spelling
 
 -- Numerals are below 2^128; quoted identifiers are proper, and so are variables with their sorts.
 abbrev mutual
@@ -74,3 +54,26 @@ abbrev mutual
 -- The printed tokens are proper.
 abbrev pub PrintedProper : Type 0
 PrintedProper = (sig : Signature) (t : RawTerm) → AreProperNames sig → HasProperLeaves sig t → All IsProper (texts (printed sig t).tokens)
+
+-- The text, cut into tokens, spells the term.
+pub record ReadsBack (sig : Signature) (variables : List Variable) (t : RawTerm) (text : List ℕ) : Type 0 where
+  pub words : List (List ℕ)
+  pub cut : HasTokens text words
+  pub precedence : ℕ
+  pub spells : Spells sig variables t precedence words
+
+-- The variable's name may stand before a sort's, its sort has a name, and the two with a colon between are one token.
+pub record IsPrintable (sig : Signature) (x : Variable) : Type 0 where
+  pub named : IsVariableName x.name
+  pub sort : List ℕ
+  pub sorted : IsSortNamed sig x.sort sort
+  pub proper : IsProper (x.name ++ codes ":" ++ sort)
+
+abbrev pub ArePrintable : Signature → RawTerm → Type 0
+ArePrintable sig t = (x : Variable) → IsTrue (occurs x t) → IsPrintable sig x
+
+-- The text of a raw term reads back, where names of operators are proper, associative operators have two arguments, and the term's variables can be printed; in
+-- signatures without numbers and quoted identifiers, which no text spells yet.
+abbrev pub PrintedReadsBack : Type 0
+PrintedReadsBack = (sig : Signature) (variables : List Variable) (t : RawTerm) → AreBinary sig → AreProperNames sig → IsFalse sig.nat → IsFalse sig.qid → IsRawTerm sig t
+    → ArePrintable sig t → ReadsBack sig variables t (mixfix_text sig t)

@@ -5,7 +5,7 @@ use Rattle.mw_logic.specs.Term.{RawTerm, numeral, quoted, variable, apply, RawTe
 use Rattle.mw_logic.specs.Signature.{Signature, Operator, Gather, less, most, any, at_number}
 use Rattle.mw_logic.specs.Parts.{is_assoc}
 use Rattle.mw_text.specs.Names.{Item, piece, hole, items_of, has_hole, pieces}
-use Rattle.mw_print.specs.Tokens.{Token, token, opening, spaced}
+use Rattle.mw_print.specs.Tokens.{Token, token, opening, comma, spaced}
 
 -- A term as it is printed: its precedence and its tokens, and the operator on top (0 for none) with the arguments of its prefix form. Where it is the last
 -- argument of the same operator, and that is associative, these arguments are printed in its place: f(a, f(b, c)) is f(a, b, c).
@@ -66,7 +66,7 @@ head o = map token (if has_hole (items_of o.spelling) then o.spelling ∷ [] els
 abbrev pub divided : List (List Token) → List Token
 divided [] = []
 divided (a ∷ []) = a
-divided (a ∷ b ∷ args) = a ++ token (codes ",") ∷ divided (b ∷ args)
+divided (a ∷ b ∷ args) = a ++ comma ∷ divided (b ∷ args)
 
 -- a head, and arguments in parentheses where there are any
 abbrev pub called : List Token → List (List Token) → List Token

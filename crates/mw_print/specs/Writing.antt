@@ -1,19 +1,19 @@
 -- A text to which tokens are written one after another.
 use Rattle.std.specs.Prelude.{◌≡◌, List, [], ◌∷◌, ◌++◌, ℕ, Bool, codes, if◌then◌else◌}
-use Rattle.mw_print.specs.Tokens.{Token, is_near, opens, ends_in_backquote, spaced}
+use Rattle.mw_print.specs.Tokens.{Token, text_of, is_near, is_apart, opens, spaced}
 use Rattle.mw_print.specs.declared.writer.End.{End}
-use Rattle.mw_print.specs.declared.writer.End.TheVariants.{Empty, Opened, Quoted, Plain}
+use Rattle.mw_print.specs.declared.writer.End.TheVariants.{Empty, Opened, Apart, Plain}
 use Rattle.mw_print.specs.declared.writer.Writer.{Writer}
 
 -- how a text ends whose last token this is
-abbrev pub end_of : List ℕ → End
-end_of x = if ends_in_backquote x then Quoted else if opens x then Opened else Plain
+abbrev pub end_of : Token → End
+end_of x = if is_apart x then Apart else if opens (text_of x) then Opened else Plain
 
 -- the space between a text that ends so and the next token, which may be near
 abbrev pub space : End → Bool → List ℕ
 space Empty near = []
 space Opened near = []
-space Quoted near = codes " "
+space Apart near = codes " "
 space Plain near = if near then [] else codes " "
 
 abbrev pub behind : End → List Token → List ℕ

@@ -10,13 +10,13 @@
 //! - `mixfix`: the text of a term is the definition's, byte for byte. `print_sort`: so is the name of a sort.
 //!   `print_sorted`: so is a sort or a kind: its maximal sorts in order of number, with commas between, in brackets.
 //!   Conditions: the order is that of the signature's sorts, and a kind is named by the number of a sort.
-//! - The law `printed_spells`: the tokens of a printed term spell it, at the precedence at which it was printed,
-//!   whatever variables are declared; for raw terms of a signature whose associative operators have two arguments,
-//!   whose variables and their sorts have names, without numerals and quoted identifiers.
-//! - The law `printed_lexes`: the tokens of a term's text are those that were printed, where these are proper: each one
-//!   of the seven marks, or a run in which no string and no comment begins. The law `printed_proper`: they are, where
-//!   those of names are (pieces of operators' names, whole names with holes, quoted identifiers, variables with their
-//!   sorts) and numerals are below 2^128.
+//!   Where memory is wanting these two leave the text as it was.
+//! - The law `printed_reads_back`: the text of a raw term, cut into tokens, spells the term, whatever variables are
+//!   declared; where operators' names are proper tokens, associative operators have two arguments, and each variable of
+//!   the term has a name and a sort's name that make one token; in signatures without numbers and quoted identifiers.
+//!   mw_build shows the premises of the modules that it accepts. It has three parts (specs/Laws): the printed tokens
+//!   spell the term, at the precedence at which it was printed (`PrintedSpells`); they are proper (`PrintedProper`,
+//!   with numerals and quoted identifiers); and the text of proper tokens is cut into these (`PrintedLexes`).
 //!
 //! `Memory` may come at any call. Only tested, by the sources in cases/: that the definition is the form that is meant.
 //! Neither: time, and that a printed text has no second reading (two terms may be printed alike). Cost: the length of
@@ -29,6 +29,6 @@ mod printing;
 mod sorts;
 mod writer;
 
-pub use laws::{printed_lexes, printed_proper, printed_spells};
+pub use laws::printed_reads_back;
 pub use printing::mixfix;
 pub use sorts::{print_sort, print_sorted};

@@ -168,7 +168,7 @@ fn print_list(
             return print_last(alloc, signature, number, assoc, arg, writer);
         }
         print(alloc, signature, arg, writer)?;
-        writer.token(b",")?;
+        writer.comma()?;
         rest = behind;
     }
     Ok(())

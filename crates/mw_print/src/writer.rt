@@ -1,7 +1,7 @@
 // A text to which tokens are written one after another.
 ghost use Rattle.std.specs.Prelude.{◌≡◌, ◌∷◌, ◌++◌, List, [], OnOk};
 ghost use Rattle.mw_print.specs.Tokens as tokens;
-ghost use Rattle.mw_print.specs.Tokens.{Token, opening, spaced};
+ghost use Rattle.mw_print.specs.Tokens.{Token, opening, comma, spaced};
 ghost use Rattle.mw_print.specs.Writing as writing;
 ghost use Rattle.mw_print.specs.Writing.{written, Writes};
 
@@ -14,8 +14,8 @@ pub enum End {
     Empty,
     /// In `(`, `[` or `{`.
     Opened,
-    /// In a backquote.
-    Quoted,
+    /// In a token behind which a space always stands.
+    Apart,
     Plain,
 }
 
@@ -44,7 +44,7 @@ fn closes(token: &[u8]) -> bool
     }
 }
 
-fn ends_in_backquote(token: &[u8]) -> bool
+pub fn ends_in_backquote(token: &[u8]) -> bool
     ensures { result ≡ tokens.ends_in_backquote token.now }
 {
     match token {
@@ -55,10 +55,10 @@ fn ends_in_backquote(token: &[u8]) -> bool
 
 /// How a text ends whose last token this is.
 fn end_of(token: &[u8]) -> End
-    ensures { result ≡ writing.end_of token.now }
+    ensures { result ≡ writing.end_of (tokens.token token.now) }
 {
     if ends_in_backquote(token) {
-        End::Quoted
+        End::Apart
     } else if opens(token) {
         End::Opened
     } else {
@@ -109,6 +109,16 @@ impl Writer {
         self.space(true)?;
         self.text.push(b'(')?;
         self.end = End::Opened;
+        Ok(())
+    }
+
+    /// Writes the comma between two arguments of a prefix form.
+    pub fn comma(&mut self) -> Result<(), AllocError>
+        ensures { OnOk result (Writes self.old self.new (comma ∷ [])) }
+    {
+        self.space(true)?;
+        self.text.push(b',')?;
+        self.end = End::Apart;
         Ok(())
     }
 

@@ -7,7 +7,6 @@ use Rattle.mw_logic.specs.Terms.{terms_of}
 use Rattle.mw_logic.specs.Signature.{Signature}
 use Rattle.mw_logic.specs.Free.{IsFreeSignature}
 use Rattle.mw_logic.specs.Parts.{nested, all_nested, number_of_terms}
-use Rattle.mw_logic.specs.NormalForm.{applied_in}
 use Rattle.mw_logic.specs.Module.{Module}
 use Rattle.mw_logic.specs.Proof.{Proof, reflexivity, count, steps, rules}
 use Rattle.mw_logic.specs.Judgements.{Leads, StepTest, AdmittedStep, Held, Fails, judgements_with}
@@ -216,6 +215,3 @@ kept_raised M L simple w k l f xs ys t u a b d e m h r eb ea lift begins ends ia
 
 pub carried_under : (M : Module) (w k : Walk) (l : Kept) (x y : ℕ) (p : Proof) → k ≡ raised w l → IsWalk w → l.before ≡ x → l.after ≡ y → walked M w ≡ p → carried [] (walked M k) ≡ map (within (record { before = x; after = y })) (carried [] p)
 carried_under M w k l x y p r h eb ea e = ap (λ j. carried [] (walked M j)) r ∙ carried_raised M w l h ∙ rw (eb, ea, e) refl
-
-pub filled_is : (s sig : Signature) (f : ℕ) (is us xs vs ys : List RawTerm) (v t a : RawTerm) → a ≡ applied_in s f (terms_of is) → s ≡ sig → is ≡ us ++ v ∷ vs → us ≡ xs → v ≡ t → vs ≡ ys → a ≡ filled sig f xs t ys
-filled_is s sig f is us xs vs ys v t a e b c d g h = e ∙ ap (λ z. applied_in z f (terms_of is)) b ∙ ap (λ zs. applied_in sig f (terms_of zs)) c ∙ rw (d, g, h) refl

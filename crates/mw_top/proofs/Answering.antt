@@ -10,8 +10,7 @@ use Rattle.mw_logic.specs.Preregular.{IsSortOf, HasItsSorts}
 use Rattle.mw_logic.proofs.FreeSignature.{free_equal}
 use Rattle.mw_print.specs.Sorts.{IsKindThere}
 use Rattle.mw_logic.specs.Module.{Module}
-use Rattle.mw_logic.specs.Proof.{count, rules}
-use Rattle.mw_logic.specs.Judgements.{Proves}
+use Rattle.mw_logic.specs.Proof.{Proof, count, rules}
 use Rattle.mw_machine.specs.Simple.{IsSimpleSignature, IsSimpleModule}
 use Rattle.mw_machine.proofs.Ordered.{free}
 use Rattle.mw_proof.specs.Deductions.{Deduction, IsDeduction}
@@ -38,9 +37,10 @@ module _ (M : Module) (simple : IsSimpleModule M) where
   free_signature : IsFreeSignature M.signature
   free_signature = free M.signature simple.signature
 
-  true_word : (t : RawTerm) (most : ℕ) (d : Deduction) (o : Outcome) → d.over ≡ M → rules d.proof ≡ 0 → IsOutcome M 63 most most d.from d.proof d.to o → IsTrueWord M most d.from d.proof d.to (word_of o)
-  true_word t most d Done e r x = (r, x.0, x.1)
-  true_word t most d (Stopped reason) e r x = (r, x)
+-- the word for an outcome is true where the outcome is
+true_word : (M : Module) (most : ℕ) (t : RawTerm) (p : Proof) (u : RawTerm) (o : Outcome) → rules p ≡ 0 → IsOutcome M 63 most most t p u o → IsTrueWord M most t p u (word_of o)
+true_word M most t p u Done r x = (r, x.0, x.1)
+true_word M most t p u (Stopped reason) r x = (r, x)
 
 -- the least sort of an admitted term, as the flattened term has it
 pub least_here : (sig : Signature) → IsSimpleSignature sig → (t : RawTerm) → IsAdmittedTerm sig t → (S : Sorted) → (IsRawTerm sig (nested sig t) → IsTrue (is_ground t) → IsLeastSort sig (nested sig t) S) → IsLeastSort sig t S
@@ -84,21 +84,19 @@ pub reduced_by : (a : Accepted) (most : ℕ) (t : RawTerm) (b : Budget) (d : Ded
     → (S : Sorted) → IsLeastSort a.module.signature d.to S → text ≡ block a.module.signature a.name d.from (min (count d.proof) (2 ^ 64 - 1)) S d.to (word_of o)
     → IsReduced a most t text
 reduced_by a most t b d o text simple is r proved S least written =
-    let free : IsFreeSignature a.module.signature = free_signature a.module simple in
-    let same : (u : RawTerm) → nested a.module.signature u ≡ u = nested_free a.module.signature free in
-    let budgeted = rw is at r.proves in let ended = rw is at r.ends in
-    let proves : Proves a.module 63 d.proof d.from d.to = rw (same d.from, same d.to) at budgeted in
-    let ends : IsOutcome a.module 63 most most d.from d.proof d.to o = rw (same d.from, same d.to) at ended in
-    subst (λ u. IsReduced a most u text) r.from (record {
-      to = d.to;
-      proof = d.proof;
+    let sig : Signature = a.module.signature in
+    let free : IsFreeSignature sig = free_signature a.module simple in
+    record {
+      kept = d;
+      deduction = proved;
+      over = r.over;
+      begins = r.from ∙ sym (normal_form_free sig free t);
       S = S;
       word = word_of o;
-      proves = proves;
-      least_sort = least;
-      true_word = true_word a.module simple t most d o r.over r.equational ends;
+      least_sort = subst (λ u. IsLeastSort sig u S) (sym (nested_free sig free d.to)) least;
+      true_word = true_word a.module most (nested sig d.from) d.proof (nested sig d.to) o r.equational (rw is at r.ends);
       written = written;
-    })
+    }
 
 pub is_term : (a : Accepted) (words : List (List ℕ)) (t : RawTerm) → IsSimpleModule a.module → Reads a.module.signature a.variables None words t → IsAdmittedTerm a.module.signature t
     → IsTerm a words t
@@ -137,11 +135,13 @@ pub kind_of_least : (M : Module) → IsSimpleModule M → (t : RawTerm) → IsAd
 kind_of_least M simple t admitted S least = kind_there M.signature simple.signature.numbers simple.signature t admitted S least
 
 -- the text of a term that is told, by what the module says of itself
-pub parsed_by : (a : Accepted) (M : Module) → M ≡ a.module → (sig : Signature) → sig ≡ M.signature → (name : List ℕ) → name ≡ a.name → (t : RawTerm) (S : Sorted) (text : List ℕ)
+pub parsed_by : (a : Accepted) (M : Module) → IsSimpleModule M → M ≡ a.module → (sig : Signature) → sig ≡ M.signature → (name : List ℕ) → name ≡ a.name → (t : RawTerm) (S : Sorted) (text : List ℕ)
     → IsLeastSort M.signature t S → text ≡ parsed_block sig name t S → IsParsed a t text
-parsed_by a M m sig s name n t S text least written = record {
+parsed_by a M simple m sig s name n t S text least written = record {
+  shown = t;
+  canonical = subst (λ (N : Module). t ≡ normal_form N.signature t) m (sym (normal_form_free M.signature (free_signature M simple) t));
   S = S;
-  least_sort = subst (λ (M : Module). IsLeastSort M.signature t S) m least;
+  least_sort = subst (λ (N : Module). IsLeastSort N.signature (nested N.signature t) S) m (subst (λ u. IsLeastSort M.signature u S) (sym (nested_free M.signature (free_signature M simple) t)) least);
   written = written ∙ ap (λ x. parsed_block x name t S) (s ∙ ap (λ (M : Module). M.signature) m) ∙ ap (λ x. parsed_block a.module.signature x t S) n;
 }
 

@@ -4,8 +4,10 @@ use Rattle.mw_logic.specs.Term.{RawTerm, is_ground}
 use Rattle.mw_logic.specs.Signature.{Sorted}
 use Rattle.mw_logic.specs.Sorts.{IsLeastSort}
 use Rattle.mw_logic.specs.Module.{Module}
+use Rattle.mw_logic.specs.Parts.{nested}
+use Rattle.mw_logic.specs.NormalForm.{normal_form}
 use Rattle.mw_logic.specs.Proof.{Proof, rules, steps, count}
-use Rattle.mw_logic.specs.Judgements.{Proves, IsNormal}
+use Rattle.mw_logic.specs.Judgements.{IsNormal}
 use Rattle.mw_logic.specs.Ends.{limits_of, Stops}
 use Rattle.mw_text.specs.Mixfix.{IsSpelled, Reads}
 use Rattle.mw_text.specs.Readings.{NoneHas, TwoHave, IsShort}
@@ -16,6 +18,7 @@ use Rattle.mw_command.specs.declared.commands.Word.{Word as CommandWord}
 use Rattle.mw_command.specs.declared.commands.Word.TheVariants.{Reduce, Parse}
 use Rattle.mw_build.specs.Equations.{FitsIn, Oversized}
 use Rattle.mw_build.specs.Modules.{Accepted}
+use Rattle.mw_proof.specs.Deductions.{Deduction, IsDeduction}
 use Rattle.mw_block.specs.Blocks.{Word, reduced, limit, block, parsed_block}
 
 -- What the status word says of the proof from one term to another. `reduced`: it is by equations alone, has fewer steps than the limit, and
@@ -31,23 +34,27 @@ pub record IsTerm (a : Accepted) (words : List (List ℕ)) (t : RawTerm) : Type 
   pub ground : IsTrue (is_ground t)
   pub fits : FitsIn a.module.signature t
 
--- The text is the block of a proof in this module. It begins at this term and leads to the term that is printed, with its least sort or kind; the count is
--- that of the proof, and the status word is true of it.
-pub record IsReduced (a : Accepted) (most : ℕ) (from : RawTerm) (text : List ℕ) : Type 0 where
-  pub to : RawTerm
-  pub proof : Proof
+-- The text is the block of the kept deduction in this module: what the `Proved` that was made is seen as, with all that its type keeps of it (`IsDeduction`: its
+-- proof leads from the one canonical term to the other, through admitted terms alone). It begins at the canonical form of this term, which the block repeats, and leads to
+-- the canonical term that is printed, with its least sort or kind; the count is that of the proof, and the status word is true of it.
+pub record IsReduced (a : Accepted) (most : ℕ) (t : RawTerm) (text : List ℕ) : Type 0 where
+  pub kept : Deduction
+  pub deduction : IsDeduction kept
+  pub over : kept.over ≡ a.module
+  pub begins : kept.from ≡ normal_form a.module.signature t
   pub S : Sorted
   pub word : Word
-  pub proves : Proves a.module 63 proof from to
-  pub least_sort : IsLeastSort a.module.signature to S
-  pub true_word : IsTrueWord a.module most from proof to word
-  pub written : text ≡ block a.module.signature a.name from (min (count proof) (2 ^ 64 - 1)) S to word
+  pub least_sort : IsLeastSort a.module.signature (nested a.module.signature kept.to) S
+  pub true_word : IsTrueWord a.module most (nested a.module.signature kept.from) kept.proof (nested a.module.signature kept.to) word
+  pub written : text ≡ block a.module.signature a.name kept.from (min (count kept.proof) (2 ^ 64 - 1)) S kept.to word
 
--- The text tells this term, with its least sort or kind.
-pub record IsParsed (a : Accepted) (term : RawTerm) (text : List ℕ) : Type 0 where
+-- The text tells the canonical form of this term, with its least sort or kind.
+pub record IsParsed (a : Accepted) (t : RawTerm) (text : List ℕ) : Type 0 where
+  pub shown : RawTerm
+  pub canonical : shown ≡ normal_form a.module.signature t
   pub S : Sorted
-  pub least_sort : IsLeastSort a.module.signature term S
-  pub written : text ≡ parsed_block a.module.signature a.name term S
+  pub least_sort : IsLeastSort a.module.signature (nested a.module.signature shown) S
+  pub written : text ≡ parsed_block a.module.signature a.name shown S
 
 -- the text answers a command of this word
 pub data IsAnswer (a : Accepted) (most : ℕ) (words : List (List ℕ)) : CommandWord → List ℕ → Type 0 where

@@ -14,10 +14,11 @@
 //! - 3: the words ask for a run; the source's count of faults rose, after at most 8,388,608 bytes; nothing was written.
 //! - 4: the sink's count rose; it holds the texts of the first units and a proper prefix of the next one's, or a proper
 //!   prefix of the other texts.
-//! - 5: want of memory: the sink holds the texts of the first units, or what it held.
+//! - 5: want of memory: the sink holds the texts of the first units, of which one at least is undone, or what it held.
 //! - 6: the words ask for a run; exactly 8,388,609 bytes were given; nothing was written.
 //!
-//! The status is one of these, no count of faults falls, and at most 8,388,609 bytes are taken. What a unit gives is
+//! A fault is never hidden: a count of the source that rose gives 3, one of the sink 4. The status is one of these, no
+//! count of faults falls, and at most 8,388,609 bytes are taken. What a unit gives is
 //! `Gives` (specs/Sources) and, of a command, `IsAnswer` (specs/Commands); after a refusal the accepted modules are as
 //! before. The clause `exact` (`IsExactFor`) adds, for bytes that are known, words that ask for a run, no failure and
 //! memory that didn't run out: 0 exactly where the bytes have an output without a refusal, 1 exactly where they have

@@ -33,7 +33,7 @@ print_list-loop-rest-preserved t c =
     let some : 0 < length behind = some_of (length behind) (sym c.is_empty.ensures ∙ c.if-is_empty.false) in
     let lower = lower_behind rest arg behind is in
     record {
-      text = λ ts. past_argument sig c.args.assoc c.args.number c.loop-rest.writer c.print.new.writer c.token.new.self arg rest behind is some c.in_ok-print.ensures c.in_ok-token.ensures ts ∙ c.loop-rest.invariant.text ts;
+      text = λ ts. past_argument sig c.args.assoc c.args.number c.loop-rest.writer c.print.new.writer c.comma.new.self arg rest behind is some c.in_ok-print.ensures c.in_ok-comma.ensures ts ∙ c.loop-rest.invariant.text ts;
       lower = omega (arith, lower, c.loop-rest.invariant.lower);
     }
 

@@ -27,5 +27,5 @@ returns c =
     let S = sorted_of c.least_sort-sort.result in
     let admitted : IsAdmittedTerm M.signature t = subst (λ (N : Module). IsAdmittedTerm N.signature t) (sym c.context-context.ensures) c.requires in
     if_ok c.parsed.result c.parsed.ensures
-    (λ text written. parsed_by c.args.accepted.now M c.context-context.ensures c.signature.result.now c.signature.ensures c.name.result.now c.name.ensures t S text.items
+    (λ text written. parsed_by c.args.accepted.now M c.shows.ensures c.context-context.ensures c.signature.result.now c.signature.ensures c.name.result.now c.name.ensures t S text.items
     (least_here M.signature c.shows.ensures.signature t admitted S c.least_sort-sort.ensures) written)

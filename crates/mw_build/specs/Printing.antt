@@ -1,0 +1,31 @@
+-- What is printed of an accepted module's terms reads back.
+use Rattle.std.specs.Prelude.{◌≡◌, ℕ, false, List, Ok, Some}
+use Rattle.mw_lex.specs.Lexing.{Seen, tokens_of}
+use Rattle.mw_logic.specs.Term.{RawTerm}
+use Rattle.mw_logic.specs.Signature.{at_number, IsRawTerm}
+use Rattle.mw_logic.specs.Module.{Statement}
+use Rattle.mw_module.specs.Units.{SeenUnit, Reads}
+use Rattle.mw_print.specs.Printing.{mixfix_text}
+use Rattle.mw_print.specs.Laws.{ArePrintable, ReadsBack}
+use Rattle.mw_build.specs.Modules.{Accepted, IsAccepted}
+
+-- The module is that of a unit of this source.
+pub record IsOfSource (source : List ℕ) (a : Accepted) : Type 0 where
+  pub tokens : List Seen
+  pub cut : tokens_of source ≡ Ok tokens
+  pub at : ℕ
+  pub next : ℕ
+  pub unit : SeenUnit
+  pub read : Reads false tokens at (Ok unit) next
+  pub accepted : IsAccepted unit a.name a
+
+-- The text of each raw term of an accepted module, cut into tokens, spells this term in the module; where the term's variables can be printed. So it is for each
+-- ground term.
+abbrev pub TextsReadBack : Type 0
+TextsReadBack = (source : List ℕ) (a : Accepted) (t : RawTerm) → IsOfSource source a → IsRawTerm a.module.signature t → ArePrintable a.module.signature t
+    → ReadsBack a.module.signature a.variables t (mixfix_text a.module.signature t)
+
+-- The variables of an accepted module's statements can be printed.
+abbrev pub StatementsArePrintable : Type 0
+StatementsArePrintable = (source : List ℕ) (a : Accepted) (k : ℕ) (st : Statement) → IsOfSource source a → at_number a.module.statements k ≡ Some st
+    → ArePrintable a.module.signature st.left × ArePrintable a.module.signature st.right

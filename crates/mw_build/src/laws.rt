@@ -1,0 +1,12 @@
+// What is printed of accepted modules reads back.
+ghost use Rattle.mw_build.specs.Printing.{TextsReadBack, StatementsArePrintable};
+
+/// The law that the text of a raw term of an accepted module, cut into tokens, spells the term.
+pub fn texts_read_back()
+    ensures { TextsReadBack }
+{}
+
+/// The law that the variables of an accepted module's statements can be printed.
+pub fn statements_are_printable()
+    ensures { StatementsArePrintable }
+{}
