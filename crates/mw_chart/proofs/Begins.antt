@@ -33,13 +33,13 @@ at_start g text s v i k wf (over_token s2 next x v2 i2 k2 d st got) h = let f = 
 at_start g text s v i k wf (over_hole s2 next kind bound v2 i2 k2 d st w precedence t e r wh le) h =
     let f = spans g text s2 v2 i2 k2 d in
     let b = at_start g text w t k2 e wf r (omega (arith, f, h)) in
-    absurd ((wf w b.0 b.1).0 kind precedence wh)
+    absurd ((wf.opening w b.0 b.1).0 kind precedence wh)
 at_start g text s v i k wf (grouped w kind precedence t i2 e o r wh c s2 gr) h = let f = spans g text w t (i2 + 1) e r in absurd (omega (arith, f, h))
 at_start g text s v i k wf (alone s2 x i2 l) h = absurd (omega (arith, h))
 
 pub whole_moves : (g : Table) (text : List Word) (w kind precedence : ℕ) (t : Tree) (i k : ℕ) → IsTable g → Begun g text w t i k → StepAt g w (Whole kind precedence) → i < k
 whole_moves g text w kind precedence t i k wf d wh =
-    elim (le_or i k) [ inl h ↦ h | inr h ↦ let b = at_start g text w t i k wf d h in absurd ((wf w b.0 b.1).0 kind precedence wh) ]
+    elim (le_or i k) [ inl h ↦ h | inr h ↦ let b = at_start g text w t i k wf d h in absurd ((wf.opening w b.0 b.1).0 kind precedence wh) ]
 
 -- a text whose first hole was filled last
 abbrev pub OpensAt : Table → List Word → ℕ → ℕ → ℕ → Tree → Type 0
@@ -71,7 +71,7 @@ arrives g text s v i e done wf (grouped w kind precedence t i2 e2 o r wh c s2 gr
 arrives g text s v i e done wf (alone s2 x i2 l) h d1 = inl (by_leaf s2 x l)
 
 pub not_opens : (g : Table) (text : List Word) (i e s kind precedence : ℕ) (v : Tree) → IsTable g → OpensAt g text i e s v → StepAt g s (Whole kind precedence) → ⊥
-not_opens g text i e s kind precedence v wf (s0, op, k2, bound, w, p2, t, start, st, r, wh, le, is) whole = (wf s0 op start).1 k2 bound s st kind precedence whole
+not_opens g text i e s kind precedence v wf (s0, op, k2, bound, w, p2, t, start, st, r, wh, le, is) whole = (wf.opening s0 op start).1 k2 bound s st kind precedence whole
 
 pub is_live : (g : Table) (text : List Word) (k s next e : ℕ) (v u : Tree) → GoesOn g text k s v next u e → IsLive g text k s
 is_live g text k s next e v u (inl (x, st, got, end, is)) = λ y n st2. let q = one_there _ s _ _ st2 st in let same : y ≡ x = (cc) in rw same got

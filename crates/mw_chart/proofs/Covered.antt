@@ -8,7 +8,8 @@ use Rattle.std.proofs.lemmas.Nat.Bits.{bit_at-zero}
 use Rattle.mw_chart.specs.Tree.{Tree}
 use Rattle.mw_chart.specs.Bits.{IsSet}
 use Rattle.mw_chart.specs.Spelling.{StepAt}
-use Rattle.mw_chart.specs.Chart.{HasTwo, Has, Holds, inner, Adds, CellsHold, FillsBy, Fills, IsWithin}
+use Rattle.mw_chart.specs.Listed.{inner}
+use Rattle.mw_chart.specs.Chart.{HasTwo, Has, Holds, Adds, CellsHold, FillsBy, Fills, IsWithin}
 use Rattle.mw_chart.specs.Row.{IsIndexed, AreFull, FillsAt, FillsListed, IsInWord, Grows, Covers}
 use Rattle.mw_chart.specs.declared.row.Row.{Row}
 use Rattle.mw_chart.specs.declared.row.Strip.{Strip}

@@ -10,7 +10,8 @@ use Rattle.mw_chart.specs.Row.{IsIndexed, AreBare, AreRows}
 use Rattle.mw_chart.specs.declared.row.Row.{Row}
 use Rattle.mw_chart.specs.declared.slot.Slot.{Slot}
 use Rattle.mw_chart.specs.declared.slot.Reading.{Reading}
-use Rattle.mw_chart.specs.Chart.{inner, IsCell, IsCells, IsRow, AreEmpty}
+use Rattle.mw_chart.specs.Listed.{inner}
+use Rattle.mw_chart.specs.Chart.{IsCell, IsCells, IsRow, AreEmpty}
 use Rattle.mw_chart.proofs.Lists.{one_there, get_below, get_set_same, get_set_other, get_item, eq_or}
 use Rattle.std.specs.Vec.{vec_len}
 use Rattle.mw_chart.proofs.Begins.{le_or, whole_moves}

@@ -9,7 +9,8 @@ use Rattle.mw_chart.specs.declared.table.Table.{Table}
 use Rattle.mw_chart.specs.declared.table.Step.TheVariants.{Token, Hole, Whole}
 use Rattle.mw_chart.specs.declared.slot.Slot.{Slot}
 use Rattle.mw_chart.specs.declared.slot.Reading.{Reading}
-use Rattle.mw_chart.specs.Chart.{HasTwo, Holds, inner, Adds, CellsHold, IsPut, FillsBy, Fills, Advances, AdvancesSlot}
+use Rattle.mw_chart.specs.Listed.{inner}
+use Rattle.mw_chart.specs.Chart.{HasTwo, Holds, Adds, CellsHold, IsPut, FillsBy, Fills, Advances, AdvancesSlot}
 use Rattle.mw_chart.proofs.Adding.{adds_as, adds_none, adds_already, adds_then, inner_is}
 use Rattle.mw_chart.proofs.Lists.{one_there, get_below}
 use Rattle.mw_chart.specs.declared.word.Word.{Word}

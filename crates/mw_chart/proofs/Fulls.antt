@@ -5,7 +5,8 @@ use Rattle.std.specs.declared.vec.Vec.{Vec}
 use Rattle.std.proofs.Math.ListN.{set}
 use Rattle.mw_chart.specs.Tree.{Tree}
 use Rattle.mw_chart.specs.Bits.{IsSet}
-use Rattle.mw_chart.specs.Chart.{HasTwo, Holds, inner, CellsHold}
+use Rattle.mw_chart.specs.Listed.{inner}
+use Rattle.mw_chart.specs.Chart.{HasTwo, Holds, CellsHold}
 use Rattle.mw_chart.specs.Row.{AreFull}
 use Rattle.mw_chart.specs.declared.slot.Slot.{Slot}
 use Rattle.mw_chart.proofs.Lists.{eq_or}
@@ -23,6 +24,10 @@ pub full_front : (n : ℕ) (full : List (Vec ℕ Global)) (front : List (Vec Slo
 full_front n full front cell all = λ s e j marked at low.
     let len : length (front ++ cell ∷ []) ≡ length front + 1 = length-append front (cell ∷ []) in
     subst (λ (c : List Slot). HasTwo (Holds c s)) (inner_front front cell j low) (all s e j marked at (omega (arith, low, len)))
+
+-- there is room for more states
+pub full_grown : (n : ℕ) (full grown : List (Vec ℕ Global)) (cells : List (Vec Slot Global)) → ((s : ℕ) → inner grown s ≡ inner full s) → AreFull n full cells → AreFull n grown cells
+full_grown n full grown cells same all = λ s e j marked at low. all s e j (subst (λ (l : List ℕ). IsSet l e) (same s) marked) at low
 
 -- an end is marked
 pub full_mark : (n end state : ℕ) (full : List (Vec ℕ Global)) (new : Vec ℕ Global) (cells : List (Vec Slot Global)) → state < length full

@@ -2,6 +2,7 @@ pub mod Lists
 pub mod Cells
 pub mod Adding
 pub mod Filling
+pub mod Listings
 pub mod Started
 pub mod Begins
 pub mod Turned

@@ -5,8 +5,8 @@ use Rattle.std.specs.Global.{Global}
 use Rattle.std.specs.declared.vec.Vec.{Vec}
 use Rattle.std.proofs.Math.ListN.{set}
 use Rattle.mw_chart.specs.Bits.{IsSet}
-use Rattle.mw_chart.specs.Chart.{inner}
-use Rattle.mw_chart.specs.Row.{IsListed, IsInStrip}
+use Rattle.mw_chart.specs.Listed.{inner, IsListed}
+use Rattle.mw_chart.specs.Row.{IsInStrip}
 use Rattle.mw_chart.specs.declared.row.Strip.{Strip}
 use Rattle.mw_chart.specs.declared.slot.Reading.{Reading}
 use Rattle.mw_chart.proofs.Lists.{get_below, get_same, get_left, get_last, get_set_same, get_set_other, eq_or, one_there}

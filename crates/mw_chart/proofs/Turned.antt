@@ -10,7 +10,8 @@ use Rattle.mw_chart.specs.declared.table.Table.{Table}
 use Rattle.mw_chart.specs.declared.table.Step.TheVariants.{Token, Hole, Whole}
 use Rattle.mw_chart.specs.declared.slot.Slot.{Slot}
 use Rattle.mw_chart.specs.declared.slot.Reading.{Reading}
-use Rattle.mw_chart.specs.Chart.{Has, Holds, HoldsReading, RowHolds, inner, Adds, CellsHold, GoesOn, Goes, Arrives, by_token, by_leaf, by_group, by_step, IsLive, IsCell, IsCells, IsRow, OpensCell, AdvancesCell, KeepsCell, IsWithin, BeginsAt, GroupsAny}
+use Rattle.mw_chart.specs.Listed.{inner}
+use Rattle.mw_chart.specs.Chart.{Has, Holds, HoldsReading, RowHolds, Adds, CellsHold, GoesOn, Goes, Arrives, by_token, by_leaf, by_group, by_step, IsLive, IsCell, IsCells, IsRow, OpensCell, AdvancesCell, KeepsCell, IsWithin, BeginsAt, GroupsAny}
 use Rattle.mw_chart.proofs.Lists.{get_below}
 use Rattle.mw_chart.proofs.Cells.{has_more, has_each, app_left, app_right}
 use Rattle.mw_chart.proofs.Begins.{le_or, ends, whole_moves, arrives, not_opens, is_live}

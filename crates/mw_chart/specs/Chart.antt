@@ -1,9 +1,10 @@
 -- What the chart holds. Cells are counted from the end: the one at an index holds what ends so many tokens before the end of the text.
-use Rattle.std.specs.Prelude.{ℕ, zero, suc, ◌+◌, ◌≤◌, ◌<◌, ◌≡◌, ◌≢◌, ◌⊎◌, List, [], ◌∷◌, Some, IsTrue, length}
+use Rattle.std.specs.Prelude.{ℕ, ◌+◌, ◌≤◌, ◌<◌, ◌≡◌, ◌≢◌, ◌⊎◌, List, [], Some, IsTrue, length}
 use Rattle.std.specs.List.{slice_get}
 use Rattle.std.specs.Global.{Global}
 use Rattle.std.specs.declared.vec.Vec.{Vec}
 use Rattle.mw_chart.specs.Tree.{Tree, leaf, head, app}
+use Rattle.mw_chart.specs.Listed.{inner}
 use Rattle.mw_chart.specs.Spelling.{StepAt, TokenAt, LeafAt, IsStart, Begun}
 use Rattle.mw_chart.specs.declared.table.Step.TheVariants.{Token, Hole, Whole}
 use Rattle.mw_chart.specs.declared.table.Table.{Table}
@@ -30,12 +31,6 @@ Holds cell s v = (k : ℕ) × (slot : Slot) × (slice_get cell k ≡ Some slot) 
 
 abbrev pub HoldsReading : List Reading → ℕ → ℕ → Tree → Type 0
 HoldsReading row e w t = (k : ℕ) × (r : Reading) × (slice_get row k ≡ Some r) × (r.end ≡ e) × (r.state ≡ w) × (r.value ≡ t)
-
--- the list at an index of a list of lists
-abbrev pub inner : {A : Type 0} → List (Vec A Global) → ℕ → List A
-inner [] i = []
-inner (x ∷ xs) zero = x.items
-inner (x ∷ xs) (suc i) = inner xs i
 
 -- one step of a text begun, by the readings of a row
 abbrev pub Goes : Table → List Word → List Reading → ℕ → ℕ → Tree → ℕ → Tree → ℕ → Type 0

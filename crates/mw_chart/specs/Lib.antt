@@ -2,6 +2,7 @@
 pub mod Tree
 pub mod Shape
 pub mod Falls
+pub mod Listed
 pub mod Spelling
 pub mod Chart
 pub mod Nothing

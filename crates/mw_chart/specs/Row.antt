@@ -6,17 +6,14 @@ use Rattle.std.specs.Global.{Global}
 use Rattle.std.specs.declared.vec.Vec.{Vec}
 use Rattle.mw_chart.specs.Tree.{Tree}
 use Rattle.mw_chart.specs.Bits.{IsSet}
-use Rattle.mw_chart.specs.Chart.{HasTwo, Has, inner, CellsHold, FillsBy, IsRow}
+use Rattle.mw_chart.specs.Listed.{inner, IsListed}
+use Rattle.mw_chart.specs.Chart.{HasTwo, Has, CellsHold, FillsBy, IsRow}
 use Rattle.mw_chart.specs.declared.row.Row.{Row}
 use Rattle.mw_chart.specs.declared.row.Strip.{Strip}
 use Rattle.mw_chart.specs.declared.slot.Slot.{Slot}
 use Rattle.mw_chart.specs.declared.slot.Reading.{Reading}
 use Rattle.mw_chart.specs.declared.table.Table.{Table}
 use Rattle.mw_chart.specs.declared.word.Word.{Word}
-
--- the list at an end has the index
-abbrev pub IsListed : List (Vec ℕ Global) → ℕ → ℕ → Type 0
-IsListed places e j = (p : ℕ) × (slice_get (inner places e) p ≡ Some j)
 
 -- a strip of the state has the end
 abbrev pub IsInStrip : List Strip → ℕ → ℕ → Type 0

@@ -1,10 +1,12 @@
 -- Which term the tokens of a text spell, from a place to a place, by the states of a table.
 use Rattle.std.specs.Prelude.{ℕ, ◌+◌, ◌<◌, ◌≡◌, List, Some}
 use Rattle.std.specs.List.{slice_get}
+use Rattle.mw_chart.specs.Listed.{AreListed}
 use Rattle.mw_chart.specs.Tree.{Tree, leaf, head, app}
 use Rattle.mw_chart.specs.declared.table.Step.{Step}
 use Rattle.mw_chart.specs.declared.table.Step.TheVariants.{Token, Hole, Whole}
 use Rattle.mw_chart.specs.declared.table.Start.{Start}
+use Rattle.mw_chart.specs.declared.table.Index.{Index}
 use Rattle.mw_chart.specs.declared.table.Table.{Table}
 use Rattle.mw_chart.specs.declared.word.Leaf.{Leaf}
 use Rattle.mw_chart.specs.declared.word.Word.{Word}
@@ -55,6 +57,20 @@ IsOpening g s =
     ((kind precedence : ℕ) → StepAt g s (Whole kind precedence) → ⊥)
     × ((kind below next : ℕ) → StepAt g s (Hole kind below next) → (k p : ℕ) → StepAt g next (Whole k p) → ⊥)
 
--- No text begins whole, and none is a hole alone.
-abbrev pub IsTable : Table → Type 0
-IsTable g = (s op : ℕ) → IsStart g s op → IsOpening g s
+-- at the start's state comes a token
+abbrev pub BeginsWith : List Step → Start → ℕ → Type 0
+BeginsWith steps start x = (next : ℕ) × (slice_get steps start.state ≡ Some (Token x next))
+
+-- at the start's state comes a hole for texts of a kind
+abbrev pub OpensWith : List Step → Start → ℕ → Type 0
+OpensWith steps start kind = (below next : ℕ) × (slice_get steps start.state ≡ Some (Hole kind below next))
+
+-- The index has exactly the starts with a token in the list of the token, and those with a hole in the list of its kind.
+pub record IsIndexOf (steps : List Step) (starts : List Start) (index : Index) : Type 0 where
+  pub by_token : AreListed (BeginsWith steps) starts index.by_token.items
+  pub by_kind : AreListed (OpensWith steps) starts index.by_kind.items
+
+-- No text begins whole, none is a hole alone, and starts are found by what comes first.
+pub record IsTable (g : Table) : Type 0 where
+  pub opening : (s op : ℕ) → IsStart g s op → IsOpening g s
+  pub indexed : IsIndexOf g.steps.items g.starts.items g.index

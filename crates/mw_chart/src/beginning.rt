@@ -2,10 +2,11 @@
 ghost use Rattle.std.specs.Prelude.{◌≡◌, ◌≤◌, ◌<◌, ◌↔◌, ◌⊎◌, ◌-◌, ◌+◌, ℕ, IfOk, IfSome, IfNone, IsTrue, Some, length};
 ghost use Rattle.std.specs.List.{slice_get};
 ghost use Rattle.mw_chart.specs.declared.table.Step.TheVariants.{Whole};
-ghost use Rattle.mw_chart.specs.Spelling.{StepAt};
+ghost use Rattle.mw_chart.specs.Spelling.{StepAt, IsTable};
 ghost use Rattle.mw_chart.specs.Chart.{Holds, Adds, CellsHold, RowHolds, IsPut, KeepsSlot, KeepsCell, BeginsFrom, BeginsAny, StandsAny, BeginsAt, GroupsBy, GroupsAny, IsWithin};
 
 use crate::chart::{put_at, stands, step_of};
+use crate::listing::listed;
 use crate::slot::{Reading, Slot};
 use crate::table::{Start, Step, Table};
 use crate::term::Term;
@@ -97,12 +98,14 @@ fn begin_any(
     i: usize,
     cells: &mut Vec<Vec<Slot>>,
 ) -> Result<(), AllocError>
+    requires table { IsTable table.now }
     requires below { i < length text.now }
     requires shape { i + length cells.old.items ≡ length text.now }
     ensures len { length cells.new.items ≡ length cells.old.items }
     ensures ok { IfOk result (λ _. Adds (CellsHold cells.old.items) (CellsHold cells.new.items) (BeginsAny table.now text.now i)) }
 {
-    for start in &table.starts {
+    let starts = listed(&table.index.by_token, text[i].token);
+    for start in starts {
         begin_from(alloc, table, text, i, start, cells)?;
     }
     Ok(())
@@ -140,6 +143,7 @@ pub fn begin(
     i: usize,
     cells: &mut Vec<Vec<Slot>>,
 ) -> Result<(), AllocError>
+    requires table { IsTable table.now }
     requires below { i < length text.now }
     requires shape { i + length cells.old.items ≡ length text.now }
     ensures len { length cells.new.items ≡ length cells.old.items }

@@ -87,15 +87,22 @@ pub fn stands(text: &[Word], at: usize, token: u32) -> bool
     at < text.len() && text[at].token == token
 }
 
+/// What comes next at a state among these.
+pub fn step_in(steps: &[Step], state: usize) -> Option<Step>
+    ensures { result ≡ slice_get steps.now state }
+{
+    if state < steps.len() {
+        Some(steps[state])
+    } else {
+        None
+    }
+}
+
 /// What comes next at a state.
 pub fn step_of(table: &Table, state: usize) -> Option<Step>
     ensures { result ≡ slice_get table.now.steps.items state }
 {
-    if state < table.steps.len() {
-        Some(table.steps[state])
-    } else {
-        None
-    }
+    step_in(table.steps.as_slice(), state)
 }
 
 /// Whether a hole takes the texts of a state.

@@ -2,18 +2,21 @@
 ghost use Rattle.std.specs.Prelude.{◌≡◌, ◌≤◌, ◌<◌, ◌+◌, ◌-◌, ◌^◌, ℕ, IfOk, length, slice_index};
 ghost use Rattle.std.specs.Int.{bit_at};
 ghost use Rattle.mw_chart.specs.Bits.{IsSet};
-ghost use Rattle.mw_chart.specs.Chart.{Adds, CellsHold, FillsBy, Fills, IsWithin, inner};
+ghost use Rattle.mw_chart.specs.Listed.{inner};
+ghost use Rattle.mw_chart.specs.Chart.{Adds, CellsHold, FillsBy, Fills, IsWithin};
 ghost use Rattle.mw_chart.specs.Row.{IsIndexed, AreFull, FillsAt, FillsListed, IsInWord, Grows, Covers};
 
 use crate::bits::{insert, open_of, without_lowest, word_of};
 use crate::chart::{is_full, put_at, takes};
+use crate::empty::grow;
 use crate::row::{Row, Strip};
 use crate::slot::{Reading, Slot};
 use crate::table::Table;
 use crate::term::Term;
 use std::alloc::{AllocError, Global};
 
-/// What lies ahead of a place: the cells of the ends to come, and for each state ends that need no further term.
+/// What lies ahead of a place: the cells of the ends to come, and for each state, up to the largest that has some, ends
+/// that need no further term.
 #[derive(Drop)]
 pub struct Ahead {
     pub cells: Vec<Vec<Slot>>,
@@ -52,14 +55,22 @@ fn fill_by(
 }
 
 /// Marks an end where a state has two terms.
-fn mark(ahead: &mut Ahead, n: usize, end: usize, state: usize) -> Result<(), AllocError>
+fn mark(
+    alloc: Global,
+    table: &Table,
+    ahead: &mut Ahead,
+    n: usize,
+    end: usize,
+    state: usize,
+) -> Result<(), AllocError>
     requires end { end ≤ n }
     requires within { n < end + length ahead.old.cells.items }
     requires full { AreFull n ahead.old.full.items ahead.old.cells.items }
     ensures cells { ahead.new.cells ≡ ahead.old.cells }
     ensures full { IfOk result (λ _. AreFull n ahead.new.full.items ahead.new.cells.items) }
 {
-    if state < ahead.full.len() && is_full(&ahead.cells[n - end], state) {
+    if state < table.steps.len() && is_full(&ahead.cells[n - end], state) {
+        grow(alloc, &mut ahead.full, state + 1)?;
         insert(&mut ahead.full[state], end)?;
     }
     Ok(())
@@ -86,7 +97,7 @@ fn fill_at(
     if place < row.readings.len() {
         let reading = &row.readings[place];
         fill_by(alloc, table, reading, n, gap, value, &mut ahead.cells)?;
-        mark(ahead, n, reading.end, gap.next)?;
+        mark(alloc, table, ahead, n, reading.end, gap.next)?;
     }
     Ok(())
 }

@@ -15,21 +15,23 @@
 //!   above 1,024 tokens. So each comes exactly there, but for want of memory, which may come at any call. No reading is
 //!   preferred to another, and derivations that give one term are one reading.
 //!
-//! Condition: no text of the table begins whole, and none is a hole alone (`IsTable`).
+//! Condition: no text of the table begins whole, none is a hole alone, and the table's index has its starts by what
+//! comes first (`IsTable`). `Table::new` makes the index, in time linear in the starts and in the largest number of a
+//! token or kind that comes first.
 //!
 //! How it works: it is a chart parser of the family of J. Earley, "An efficient context-free parsing algorithm" (1970).
 //! Places are gone through from the last to the first. For each place there are cells, one for each end to come; a cell
-//! has for each state one term, or two different ones, which is enough. At each end what is whole becomes a reading of
-//! the place's row, and fills first holes; then each text begun goes one step on, over a token or over a hole by the
-//! readings of that row. Sets of ends as words of 64 bits say where two terms stand already, so a place, an end and a
-//! state are visited a few times and not once for each way. Terms share their parts, and have a number by which most
-//! are told apart. Each function adds exactly what is fresh (`Adds`), so loops compose; a row is sound and complete
-//! (`IsRow`).
+//! has for each state one term, or two different ones, which is enough. A place's token begins the texts whose starts
+//! are listed for it; at each end what is whole becomes a reading of the place's row, and fills the first holes of the
+//! starts that are listed for its kind; then each text begun goes one step on, over a token or over a hole by the
+//! readings of that row. So a text costs nothing for operators whose texts begin otherwise. Sets of ends as words of 64
+//! bits say where two terms stand already, so a place, an end and a state are visited a few times and not once for each
+//! way; only where there are two does a place take room for states that its texts do not reach. Terms share their
+//! parts, and have a number by which most are told apart. Each function adds exactly what is fresh (`Adds`), so loops
+//! compose; a row is sound and complete (`IsRow`).
 //!
-//! Only tested, by the sources in cases/: that `Begun` is the reading that is meant. Measured with the whole program:
-//! sums of 1,023 tokens 0.13 s, and 0.16 s where each grouping is a reading; 1,023 tokens over 125, 250 and 500
-//! operators 0.27, 0.50 and 0.62 s; 256, 512 and 1,024 tokens of juxtaposition with two and with three holes, where all
-//! is ambiguous, 0.05, 0.20 and 0.94 s.
+//! Only tested, by the sources in cases/: that `Begun` is the reading that is meant. Cost: for each place of a text a
+//! cell for each end behind it, so the square of its tokens at least, 1,024 at most; docs/PERFORMANCE.md has figures.
 #![tactic(auto)]
 
 mod advancing;
@@ -40,6 +42,7 @@ mod chart;
 mod empty;
 mod fault;
 mod gap;
+mod listing;
 mod mixing;
 mod one;
 mod opening;
@@ -56,7 +59,7 @@ pub use body::{Body, Shape};
 pub use fault::{Fault, LIMIT, Pair, PairFault};
 pub use one::parse;
 pub use pair::parse_pair;
-pub use table::{Start, Step, Table};
+pub use table::{Index, Start, Step, Table};
 pub use term::Term;
 pub use whole::{Spelled, readings};
 pub use word::{Leaf, Word};

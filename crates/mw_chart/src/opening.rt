@@ -2,8 +2,10 @@
 ghost use Rattle.std.specs.Prelude.{◌≡◌, ◌≤◌, ◌<◌, ◌↔◌, ◌⊎◌, ◌-◌, ◌+◌, ℕ, IfOk, IfSome, IsTrue, length};
 ghost use Rattle.mw_chart.specs.Chart.{Holds, Adds, IsLive, OpensFrom, OpensTerm, OpensSlot, OpensCell};
 ghost use Rattle.mw_chart.specs.Nothing.{Nothing};
+ghost use Rattle.mw_chart.specs.Spelling.{IsTable};
 
 use crate::chart::{is_full, put, stands, step_of};
+use crate::listing::listed;
 use crate::slot::Slot;
 use crate::table::{Start, Step, Table};
 use crate::term::Term;
@@ -67,9 +69,11 @@ fn open_term(
     value: &Term,
     opened: &mut Vec<Slot>,
 ) -> Result<(), AllocError>
+    requires { IsTable table.now }
     ensures { IfOk result (λ _. Adds (Holds opened.old.items) (Holds opened.new.items) (OpensTerm table.now text.now at kind precedence value.now)) }
 {
-    for start in &table.starts {
+    let starts = listed(&table.index.by_kind, kind);
+    for start in starts {
         open_from(
             alloc, table, text, at, kind, precedence, value, start, opened,
         )?;
@@ -85,6 +89,7 @@ fn open_slot(
     slot: &Slot,
     opened: &mut Vec<Slot>,
 ) -> Result<(), AllocError>
+    requires { IsTable table.now }
     ensures { IfOk result (λ _. Adds (Holds opened.old.items) (Holds opened.new.items) (OpensSlot table.now text.now at slot.now)) }
 {
     match step_of(table, slot.state) {
@@ -116,6 +121,7 @@ pub fn openings(
     at: usize,
     cell: &Vec<Slot>,
 ) -> Result<Vec<Slot>, AllocError>
+    requires { IsTable table.now }
     ensures { IfOk result (λ opened. Adds Nothing (Holds opened.items) (OpensCell table.now text.now at cell.now.items)) }
 {
     let mut opened = Vec::new(alloc);

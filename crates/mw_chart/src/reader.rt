@@ -17,12 +17,12 @@ use crate::word::Word;
 use std::alloc::{AllocError, Global};
 
 /// No ends are full yet.
-fn ahead_of(alloc: Global, table: &Table, cells: Vec<Vec<Slot>>) -> Result<Ahead, AllocError>
-    ensures cells { IfOk result (λ ahead. ahead.cells ≡ cells) }
-    ensures full { IfOk result (λ ahead. (n : ℕ) → AreFull n ahead.full.items ahead.cells.items) }
+fn ahead_of(alloc: Global, cells: Vec<Vec<Slot>>) -> Ahead
+    ensures cells { result.cells ≡ cells }
+    ensures full { (n : ℕ) → AreFull n result.full.items result.cells.items }
 {
-    let full = empty_lists(alloc, table.steps.len())?;
-    Ok(Ahead { cells, full })
+    let full = Vec::new(alloc);
+    Ahead { cells, full }
 }
 
 /// Rows without readings.
@@ -113,7 +113,7 @@ fn readings_at(
     ensures { IfOk result (λ readings. IsRow table.now text.now i (length text.now) readings.items) }
 {
     let cells = first_cells(alloc, table, text, rows, i)?;
-    let mut ahead = ahead_of(alloc, table, cells)?;
+    let mut ahead = ahead_of(alloc, cells);
     let mut readings = Vec::new(alloc);
     while let Some(cell) = ahead.cells.pop() {
         let at = text.len() - ahead.cells.len();

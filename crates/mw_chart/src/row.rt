@@ -2,7 +2,8 @@
 ghost use Rattle.std.specs.Prelude.{◌≡◌, ◌≤◌, ◌<◌, ℕ, Some, IfOk, IfSome, length};
 ghost use Rattle.std.specs.List.{slice_get};
 ghost use Rattle.mw_chart.specs.Bits.{IsSet};
-ghost use Rattle.mw_chart.specs.Row.{IsListed, IsInStrip, IsIndexed, EndBy};
+ghost use Rattle.mw_chart.specs.Listed.{IsListed};
+ghost use Rattle.mw_chart.specs.Row.{IsInStrip, IsIndexed, EndBy};
 ghost use Rattle.mw_chart.specs.declared.row.Strip.{Strip};
 
 use crate::bits::insert;

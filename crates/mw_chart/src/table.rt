@@ -1,4 +1,6 @@
 // A grammar as a table of states.
+use crate::listing::index_of;
+use std::alloc::{AllocError, Global};
 
 /// What comes next at a state.
 #[derive(Clone, Copy, Debug)]
@@ -18,15 +20,58 @@ pub struct Start {
     pub operator: u32,
 }
 
+/// Starts, found by what comes first: the lists of those with a token, at its number, and of those with a hole, at the
+/// number of its kind.
+#[derive(Drop)]
+pub struct Index {
+    pub by_token: Vec<Vec<Start>>,
+    pub by_kind: Vec<Vec<Start>>,
+}
+
 /// A grammar: what comes next at each state, and where texts begin.
 #[derive(Drop)]
 pub struct Table {
     pub steps: Vec<Step>,
     pub starts: Vec<Start>,
+    pub index: Index,
     /// For each kind the state of a text in parentheses.
     pub groups: Vec<usize>,
     pub open: u32,
     pub close: u32,
     /// Kinds up to this one are kinds of terms; those beyond are kinds of parts of texts.
     pub kinds: u32,
+}
+
+impl Table {
+    ghost use Rattle.std.specs.Prelude.{◌≡◌, IfOk};
+    ghost use Rattle.mw_chart.specs.Spelling.{IsIndexOf};
+
+    /// A table, with the index of its starts. The index has as many lists as the largest number that comes first.
+    pub fn new(
+        alloc: Global,
+        steps: Vec<Step>,
+        starts: Vec<Start>,
+        groups: Vec<usize>,
+        open_token: u32,
+        close_token: u32,
+        kinds: u32,
+    ) -> Result<Table, AllocError>
+        ensures steps { IfOk result (λ g. g.steps ≡ steps) }
+        ensures starts { IfOk result (λ g. g.starts ≡ starts) }
+        ensures indexed { IfOk result (λ g. IsIndexOf g.steps.items g.starts.items g.index) }
+        ensures groups { IfOk result (λ g. g.groups ≡ groups) }
+        ensures parentheses { IfOk result (λ g. (g.open ≡ open_token) × (g.close ≡ close_token)) }
+        ensures kinds { IfOk result (λ g. g.kinds ≡ kinds) }
+    {
+        let index = index_of(alloc, steps.as_slice(), starts.as_slice())?;
+        Ok(Table {
+            open: open_token,
+            close: close_token,
+            steps,
+            starts,
+            index,
+            groups,
+            kinds,
+        })
+    }
 }

@@ -30,7 +30,7 @@ pub held_number : (ks : List (Vec ℕ)) (n : List ℕ) → position_or_len (λ k
 held_number [] n = refl
 held_number (k ∷ ks) n = by_test (bytes_eq n k.items) _ _ (held_number ks n)
 
-number_within : (ns : List (List ℕ)) (n : List ℕ) → number_of ns n ≤ length ns
+pub number_within : (ns : List (List ℕ)) (n : List ℕ) → number_of ns n ≤ length ns
 number_within [] n = omega arith
 number_within (m ∷ ns) n = by_bool (bytes_eq n m) (number_within ns n)
   where

@@ -6,6 +6,7 @@ pub mod Spelled
 pub mod Means
 -- It is what the table's states spell.
 pub mod Numbers
+pub mod Numberings
 pub mod Joined
 pub mod Placed
 pub mod Read

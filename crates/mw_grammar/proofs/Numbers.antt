@@ -23,7 +23,7 @@ same_number ns x s t h e =
     let c : Some t ≡ Some s = sym b ∙ a in
     (cc)
 
-number-append : (ns ms : List (List ℕ)) (t : List ℕ) → number_of ns t < length ns → number_of (ns ++ ms) t ≡ number_of ns t
+pub number-append : (ns ms : List (List ℕ)) (t : List ℕ) → number_of ns t < length ns → number_of (ns ++ ms) t ≡ number_of ns t
 number-append [] ms t h = absurd (omega arith)
 number-append (n ∷ ns) ms t h = by_test (bytes_eq t n) h (λ k. number-append ns ms t k)
   where

@@ -12,13 +12,10 @@ use Rattle.mw_grammar.specs.Worded.{IsWord, AllDiffer, AreWords, Adds}
 use Rattle.mw_grammar.proofs.Made.{get_grows}
 
 -- the variables that were found are those of the word
-pub word_is : (sorts sorts2 names : List (List ℕ)) (variables variables2 old new : List Variable) (kinds kinds2 : List ℕ) (token : List ℕ) (before : List Leaf) (word : Word) → sorts2 ≡ sorts
-    → variables2 ≡ variables → kinds2 ≡ kinds → before ≡ [] → word.token ≡ number_of names token
-    → Adds (kind_in kinds2) old new before word.leaves.items (IsVariableToken sorts2 variables2 token) → IsWord sorts variables (kind_in kinds) names new token word
-word_is sorts sorts2 names variables variables2 old new kinds kinds2 token before word a b c none number adds =
-    let d = subst (λ (s : List (List ℕ)). Adds (kind_in kinds2) old new before word.leaves.items (IsVariableToken s variables2 token)) a adds in
-    let e = subst (λ (v : List Variable). Adds (kind_in kinds2) old new before word.leaves.items (IsVariableToken sorts v token)) b d in
-    let f = subst (λ (k : List ℕ). Adds (kind_in k) old new before word.leaves.items (IsVariableToken sorts variables token)) c e in
+pub word_is : (sorts names : List (List ℕ)) (variables old new : List Variable) (kinds kinds2 : List ℕ) (token : List ℕ) (before : List Leaf) (word : Word) → kinds2 ≡ kinds → before ≡ []
+    → word.token ≡ number_of names token → Adds (kind_in kinds2) old new before word.leaves.items (IsVariableToken sorts variables token) → IsWord sorts variables (kind_in kinds) names new token word
+word_is sorts names variables old new kinds kinds2 token before word same none number adds =
+    let f = subst (λ (k : List ℕ). Adds (kind_in k) old new before word.leaves.items (IsVariableToken sorts variables token)) same adds in
     record {
       number = number;
       sound = λ l m. elim (f.sound l m) [ inl h ↦ absurd (subst (Member l) none h) | inr h ↦ h ];

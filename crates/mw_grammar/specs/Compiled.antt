@@ -1,6 +1,7 @@
 -- A table of states that has certain forms.
 use Rattle.std.specs.Prelude.{ℕ, suc, ◌≡◌, ◌<◌, ◌≤◌, List, [], ◌∷◌, ◌++◌, length, codes, bytes_eq, if◌then◌else◌, Some, ⊤}
 use Rattle.std.specs.List.{slice_get, list_any}
+use Rattle.mw_chart.specs.Spelling.{IsIndexOf}
 use Rattle.mw_chart.specs.declared.table.Step.{Step}
 use Rattle.mw_chart.specs.declared.table.Step.TheVariants.{Token, Hole, Whole}
 use Rattle.mw_chart.specs.declared.table.Start.{Start}
@@ -61,3 +62,4 @@ pub record IsCompiled (sorts : ℕ) (forms : List Form) (names : List (List ℕ)
   pub opens : IsNumber names g.open (codes "(")
   pub closes : IsNumber names g.close (codes ")")
   pub of_terms : g.kinds ≡ sorts
+  pub indexed : IsIndexOf g.steps.items g.starts.items g.index

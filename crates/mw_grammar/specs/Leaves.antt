@@ -12,14 +12,6 @@ IsDeclared variables token x = Member x variables × (token ≡ x.name)
 abbrev pub IsWithSort : List (List ℕ) → List ℕ → Variable → Type 0
 IsWithSort sorts token x = (S : List ℕ) × (at_number sorts x.sort ≡ Some S) × IsVariableName x.name × (token ≡ x.name ++ codes ":" ++ S)
 
--- it is this variable, whose name the token is
-abbrev pub IsNamed : List ℕ → Variable → Variable → Type 0
-IsNamed token y x = (x ≡ y) × (token ≡ x.name)
-
--- the variable has this name and this sort, which is named so
-abbrev pub IsOfSort : List ℕ → List ℕ → ℕ → List ℕ → Variable → Type 0
-IsOfSort name S number its_name x = (x.name ≡ name) × (x.sort ≡ number) × (its_name ≡ S)
-
 -- the variable has this name, and a sort of this name
 abbrev pub IsSortOf : List (List ℕ) → List ℕ → List ℕ → Variable → Type 0
 IsSortOf sorts name S x = (x.name ≡ name) × (at_number sorts x.sort ≡ Some S)

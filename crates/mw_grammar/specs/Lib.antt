@@ -4,6 +4,7 @@ pub mod Forms
 pub mod Readable
 pub mod Leaves
 pub mod Compiled
+pub mod Numbering
 pub mod Worded
 pub mod Meaning
 pub mod Grammars

@@ -7,6 +7,7 @@ ghost use Rattle.mw_grammar.specs.Compiled.{Extends, IsNumber, Leads, IsStartOf,
 
 use crate::form::{Form, Part};
 use crate::names::Names;
+use indexmap::IndexMap;
 use mw_chart::{Start, Step, Table};
 use std::alloc::{AllocError, Global};
 
@@ -86,36 +87,37 @@ fn is_whole_of(steps: &[Step], state: usize, kind: u32, precedence: u32) -> bool
     }
 }
 
+/// States of whole texts by kind and precedence.
+type Wholes = IndexMap<(u32, u32), usize>;
+
 /// The state of whole texts of this kind and precedence among these, if it is there.
-fn found(steps: &[Step], wholes: &[usize], kind: u32, precedence: u32) -> Option<usize>
+fn found(steps: &[Step], wholes: &Wholes, kind: u32, precedence: u32) -> Option<usize>
     ensures { IfSome result (λ w. slice_get steps.now w ≡ Some (Whole kind precedence)) }
 {
     if is_whole_of(steps, kind as usize, kind, precedence) {
         return Some(kind as usize);
     }
-    for state in wholes {
-        if is_whole_of(steps, *state, kind, precedence) {
-            return Some(*state);
-        }
+    match wholes.get(&(kind, precedence)) {
+        Some(state) if is_whole_of(steps, *state, kind, precedence) => Some(*state),
+        _ => None,
     }
-    None
 }
 
 /// The state of whole texts of this kind and precedence.
 fn whole(
     steps: &mut Vec<Step>,
-    wholes: &mut Vec<usize>,
+    wholes: &mut Wholes,
     kind: u32,
     precedence: u32,
 ) -> Result<usize, AllocError>
     ensures steps { OnOk result (Extends steps.old.items steps.new.items) }
     ensures whole { IfOk result (λ w. slice_get steps.new.items w ≡ Some (Whole kind precedence)) }
 {
-    if let Some(state) = found(steps.as_slice(), wholes.as_slice(), kind, precedence) {
+    if let Some(state) = found(steps.as_slice(), wholes, kind, precedence) {
         return Ok(state);
     }
     let state = steps.len();
-    wholes.push(state)?;
+    wholes.insert((kind, precedence), state)?;
     steps.push(Step::Whole { kind, precedence })?;
     Ok(state)
 }
@@ -124,7 +126,7 @@ fn whole(
 #[derive(Drop)]
 pub struct Making {
     pub steps: Vec<Step>,
-    pub wholes: Vec<usize>,
+    pub wholes: Wholes,
     pub starts: Vec<Start>,
 }
 
@@ -202,7 +204,7 @@ fn begin(alloc: Global, kinds: u32) -> Result<Making, AllocError>
     }
     Ok(Making {
         steps,
-        wholes: Vec::new(alloc),
+        wholes: IndexMap::new(alloc),
         starts: Vec::new(alloc),
     })
 }
@@ -248,14 +250,8 @@ fn table(
         wholes: _,
         starts,
     } = making;
-    Ok(Table {
-        steps,
-        starts,
-        groups,
-        open,
-        close,
-        kinds: sorts,
-    })
+    let table = Table::new(alloc, steps, starts, groups, open, close, sorts)?;
+    Ok(table)
 }
 
 /// The table of these forms.

@@ -15,6 +15,7 @@ use crate::form::Form;
 use crate::forms::{MOST, forms};
 use crate::leaves::push_variables;
 use crate::names::Names;
+use crate::numbering::{Declared, Sorts};
 use crate::parts::kind_of;
 use mw_chart::{Leaf, Table, Word};
 use mw_lex::Token;
@@ -26,9 +27,9 @@ use std::alloc::{AllocError, Global};
 pub struct Grammar {
     pub(crate) table: Table,
     pub(crate) names: Names,
-    pub(crate) sorts: Seq<Name>,
+    pub(crate) sorts: Sorts,
     pub(crate) kinds: Seq<KindId>,
-    pub(crate) variables: Seq<VarId>,
+    pub(crate) variables: Declared,
 }
 
 /// The words of tokens, and the variables that their leaves are.
@@ -89,8 +90,8 @@ impl Grammar {
         ensures grammar { IfOk result (λ g. IsGrammarOf signature.now kinds.now variables.now g) }
         ensures table { IfOk result (λ g. IsTable g.table) }
     {
-        let sorts = copy_names(alloc, signature.sorts.as_slice())?;
-        let variables = copy_variables(alloc, variables)?;
+        let sorts = Sorts::of(alloc, copy_names(alloc, signature.sorts.as_slice())?)?;
+        let variables = Declared::of(alloc, copy_variables(alloc, variables)?)?;
         let its_kinds = Seq::of(kinds.to_vec(alloc)?);
         let Compiled { table, names } = table_of(alloc, signature, kinds)?;
         Ok(Grammar {
@@ -122,17 +123,16 @@ impl Grammar {
         ensures differ { OnOk result (AllDiffer leaves.old.items → AllDiffer leaves.new.items) }
         ensures word { IfOk result (λ w. IsWord self.now.sorts self.now.variables (kind_in self.now.kinds) self.now.names leaves.new.items token.now w) }
     {
-        let sorts = self.sorts.as_slice();
         let number = self.names.number(token);
-        if sorts.len() > MOST || number > u32::MAX as usize {
+        if number > u32::MAX as usize {
             return Err(AllocError);
         }
         let mut found = Vec::new(alloc);
         push_variables(
             alloc,
             self.kinds.as_slice(),
-            sorts,
-            self.variables.as_slice(),
+            &self.sorts,
+            &self.variables,
             leaves,
             &mut found,
             token,

@@ -1,12 +1,13 @@
 // Names as pieces and holes.
-ghost use Rattle.std.specs.Prelude.{◌≡◌, ◌++◌, ◌∷◌, ℕ, List, [], map, IfOk, OnOk};
+ghost use Rattle.std.specs.Prelude.{◌≡◌, map, IfOk};
 ghost use Rattle.mw_lex.specs.Bytes.{is_punctuation};
-ghost use Rattle.mw_text.specs.Names.{ended, items_of};
-ghost use Rattle.mw_grammar.specs.Items.{item_of, reading};
+ghost use Rattle.mw_text.specs.Names.{items_of};
+ghost use Rattle.mw_text.specs.Seen as seen;
+ghost use Rattle.mw_grammar.specs.Items.{item_of};
 
 use mw_term::Name;
+use mw_text::{Item as ItemRead, first_item};
 use std::alloc::{AllocError, Global};
-use std::mem;
 
 /// A piece of a name, which stands as one token, or a hole, where an argument stands.
 #[derive(Drop)]
@@ -15,44 +16,13 @@ pub enum Item {
     Hole,
 }
 
-/// A name that is being read: its items so far, and the bytes of the piece at its end.
-#[derive(Drop)]
-struct Reader {
-    items: Vec<Item>,
-    run: Vec<u8>,
-}
-
-impl Reader {
-    /// The piece at the end is whole, if there is one.
-    fn end_run(&mut self, alloc: Global) -> Result<(), AllocError>
-        ensures items { OnOk result (map item_of self.new.items.items ≡ map item_of self.old.items.items ++ ended self.old.run.items []) }
-        ensures run { OnOk result (self.new.run.items ≡ []) }
-    {
-        if self.run.is_empty() {
-            return Ok(());
-        }
-        let run = mem::replace(&mut self.run, Vec::new(alloc));
-        self.items.push(Item::Piece(Name::of(run)))?;
-        Ok(())
-    }
-
-    /// One byte more.
-    fn read(&mut self, alloc: Global, byte: u8) -> Result<(), AllocError>
-        ensures { OnOk result ((rest : List ℕ) → reading self.new rest ≡ reading self.old (byte ∷ rest)) }
-    {
-        if byte == b'_' {
-            self.end_run(alloc)?;
-            self.items.push(Item::Hole)?;
-        } else if byte == b'`' {
-            self.end_run(alloc)?;
-        } else if is_mark(byte) {
-            self.end_run(alloc)?;
-            let piece = vec![in alloc; byte]?;
-            self.items.push(Item::Piece(Name::of(piece)))?;
-        } else {
-            self.run.push(byte)?;
-        }
-        Ok(())
+/// An item with a name of its own.
+fn owned(alloc: Global, item: ItemRead<'_>) -> Result<Item, AllocError>
+    ensures { IfOk result (λ i. item_of i ≡ seen.item_of item.entry) }
+{
+    match item {
+        ItemRead::Piece(piece) => Ok(Item::Piece(Name::of(piece.to_vec(alloc)?))),
+        ItemRead::Hole => Ok(Item::Hole),
     }
 }
 
@@ -73,14 +43,11 @@ pub fn is_mark(byte: u8) -> bool
 pub fn items(alloc: Global, spelling: &[u8]) -> Result<Vec<Item>, AllocError>
     ensures { IfOk result (λ v. map item_of v.items ≡ items_of spelling.now) }
 {
-    let mut reader = Reader {
-        items: Vec::new(alloc),
-        run: Vec::new(alloc),
-    };
-    for byte in spelling {
-        reader.read(alloc, *byte)?;
+    let mut rest = spelling;
+    let mut items = Vec::new(alloc);
+    while let Some(front) = first_item(rest) {
+        items.push(owned(alloc, front.0)?)?;
+        rest = front.1;
     }
-    reader.end_run(alloc)?;
-    let Reader { items, run: _ } = reader;
     Ok(items)
 }

@@ -4,10 +4,12 @@ ghost use Rattle.mw_logic.specs.Term.{Variable};
 ghost use Rattle.mw_text.specs.Mixfix.{IsVariableName};
 ghost use Rattle.mw_grammar.specs.Readable.{kind_in};
 ghost use Rattle.mw_grammar.specs.Compiled.{Extends};
-ghost use Rattle.mw_grammar.specs.Leaves.{IsDeclared, IsWithSort, IsNamed, IsOfSort, IsSortOf, IsDivided, IsVariableToken};
+ghost use Rattle.mw_grammar.specs.Leaves.{IsDeclared, IsWithSort, IsSortOf, IsDivided, IsVariableToken};
+ghost use Rattle.mw_grammar.specs.Numbering.{IsOfOne};
 ghost use Rattle.mw_grammar.specs.Worded.{IsLeafOf, AllDiffer, Adds};
 
 use crate::items::is_mark;
+use crate::numbering::{Declared, Sorts};
 use crate::parts::kind_of;
 use mw_chart::Leaf;
 use mw_term::{KindId, Name, SortId, VarId};
@@ -89,63 +91,33 @@ fn push_leaf(
     Ok(())
 }
 
-fn is(text: &[u8], other: &[u8]) -> bool
-    ensures { IsTrue result ↔ (text.now ≡ other.now) }
-{
-    text == other
-}
-
-/// The variable, if it has this name.
-fn push_named(
-    alloc: Global,
-    kinds: &[KindId],
-    variable: &VarId,
-    leaves: &mut Vec<VarId>,
-    found: &mut Vec<Leaf>,
-    token: &[u8],
-) -> Result<(), AllocError>
-    ensures { OnOk result (Adds (kind_in kinds.now) leaves.old.items leaves.new.items found.old.items found.new.items (IsNamed token.now variable.now)) }
-{
-    if is(variable.name.as_slice(), token) {
-        push_leaf(alloc, kinds, leaves, found, token, variable.sort)?;
-        return Ok(());
-    }
-    Ok(())
-}
-
 /// The variables that are declared with this name.
 fn push_declared(
     alloc: Global,
     kinds: &[KindId],
-    variables: &[VarId],
+    variables: &Declared,
     leaves: &mut Vec<VarId>,
     found: &mut Vec<Leaf>,
     token: &[u8],
 ) -> Result<(), AllocError>
     ensures { OnOk result (Adds (kind_in kinds.now) leaves.old.items leaves.new.items found.old.items found.new.items (IsDeclared variables.now token.now)) }
 {
-    for variable in variables {
-        push_named(alloc, kinds, variable, leaves, found, token)?;
-    }
-    Ok(())
+    push_sorts(alloc, kinds, variables.sorts(token), leaves, found, token)
 }
 
-/// The variable of this name and of a sort, if that has a name.
-fn push_of_sort(
+/// The variables of this name, and of these sorts.
+fn push_sorts(
     alloc: Global,
     kinds: &[KindId],
-    number: SortId,
-    its_name: &Name,
+    sorts: &[SortId],
     leaves: &mut Vec<VarId>,
     found: &mut Vec<Leaf>,
     name: &[u8],
-    sort: &[u8],
 ) -> Result<(), AllocError>
-    ensures { OnOk result (Adds (kind_in kinds.now) leaves.old.items leaves.new.items found.old.items found.new.items (IsOfSort name.now sort.now number its_name.now)) }
+    ensures { OnOk result (Adds (kind_in kinds.now) leaves.old.items leaves.new.items found.old.items found.new.items (IsOfOne sorts.now name.now)) }
 {
-    if is(its_name.as_slice(), sort) {
-        push_leaf(alloc, kinds, leaves, found, name, number)?;
-        return Ok(());
+    for sort in sorts {
+        push_leaf(alloc, kinds, leaves, found, name, *sort)?;
     }
     Ok(())
 }
@@ -154,42 +126,28 @@ fn push_of_sort(
 fn push_sorted(
     alloc: Global,
     kinds: &[KindId],
-    sorts: &[Name],
+    sorts: &Sorts,
     leaves: &mut Vec<VarId>,
     found: &mut Vec<Leaf>,
     name: &[u8],
     sort: &[u8],
 ) -> Result<(), AllocError>
-    requires { length sorts.now < 2 ^ 31 }
     ensures { OnOk result (Adds (kind_in kinds.now) leaves.old.items leaves.new.items found.old.items found.new.items (IsSortOf sorts.now name.now sort.now)) }
 {
-    for (i, its_name) in sorts.iter().enumerate() {
-        push_of_sort(
-            alloc,
-            kinds,
-            i as u32 + 1,
-            its_name,
-            leaves,
-            found,
-            name,
-            sort,
-        )?;
-    }
-    Ok(())
+    push_sorts(alloc, kinds, sorts.named(sort), leaves, found, name)
 }
 
 /// The variables with their sorts, where the colon stands at a place.
 fn push_divided(
     alloc: Global,
     kinds: &[KindId],
-    sorts: &[Name],
+    sorts: &Sorts,
     leaves: &mut Vec<VarId>,
     found: &mut Vec<Leaf>,
     token: &[u8],
     colon: usize,
 ) -> Result<(), AllocError>
-    requires sorts { length sorts.now < 2 ^ 31 }
-    requires within { colon < length token.now }
+    requires { colon < length token.now }
     ensures { OnOk result (Adds (kind_in kinds.now) leaves.old.items leaves.new.items found.old.items found.new.items (IsDivided sorts.now token.now colon)) }
 {
     let name = &token[..colon];
@@ -211,12 +169,11 @@ fn push_divided(
 fn push_with_sorts(
     alloc: Global,
     kinds: &[KindId],
-    sorts: &[Name],
+    sorts: &Sorts,
     leaves: &mut Vec<VarId>,
     found: &mut Vec<Leaf>,
     token: &[u8],
 ) -> Result<(), AllocError>
-    requires { length sorts.now < 2 ^ 31 }
     ensures { OnOk result (Adds (kind_in kinds.now) leaves.old.items leaves.new.items found.old.items found.new.items (IsWithSort sorts.now token.now)) }
 {
     for colon in 0..token.len() {
@@ -229,13 +186,12 @@ fn push_with_sorts(
 pub fn push_variables(
     alloc: Global,
     kinds: &[KindId],
-    sorts: &[Name],
-    variables: &[VarId],
+    sorts: &Sorts,
+    variables: &Declared,
     leaves: &mut Vec<VarId>,
     found: &mut Vec<Leaf>,
     token: &[u8],
 ) -> Result<(), AllocError>
-    requires { length sorts.now < 2 ^ 31 }
     ensures { OnOk result (Adds (kind_in kinds.now) leaves.old.items leaves.new.items found.old.items found.new.items (IsVariableToken sorts.now variables.now token.now)) }
 {
     push_declared(alloc, kinds, variables, leaves, found, token)?;

@@ -15,10 +15,10 @@
 //! - **Trees as terms** (specs/Meaning): `term_of` is the term of a tree.
 //!
 //! Proved: `Grammar::of`: the table has exactly the forms of the signature, each leading to a whole state of its kind
-//! and precedence; no form is empty, none is a hole alone. `Grammar::words`: a word for each token, with exactly the
-//! variables that it spells. The law `trees_are_terms`: a term is spelled by tokens (`Spells` of mw_text) exactly where
-//! a tree that stands for it is spelled by their words, as a text of the term's kind; different trees stand for
-//! different terms; what is spelled is a raw term.
+//! and precedence; no form is empty, none is a hole alone, and each is found by what comes first in it.
+//! `Grammar::words`: a word for each token, with exactly the variables that it spells. The law `trees_are_terms`: a
+//! term is spelled by tokens (`Spells` of mw_text) exactly where a tree that stands for it is spelled by their words,
+//! as a text of the term's kind; different trees stand for different terms; what is spelled is a raw term.
 //!
 //! Conditions: names have a piece or more than one hole, sorts are declared, precedences are at most 127, associative
 //! operators have two arguments of their result's kind (`IsReadable`); of `trees_are_terms` that the kinds are the
@@ -26,8 +26,9 @@
 //! come at any call, also above 2^31 - 1 sorts or operators, or 2^32 - 1 names.
 //!
 //! How it is proved: what tokens spell is the least relation between kinds, precedences, terms and texts that
-//! variables, parentheses and forms keep (`IsClosed`), and so is what the states spell. Cost: the forms' parts, and for
-//! each token the declared variables, and for each colon in it the sorts.
+//! variables, parentheses and forms keep (`IsClosed`), and so is what the states spell. Sorts, declared variables and
+//! whole states are found by hash. Cost: the forms' parts; for each token a look-up, one more for each colon in it, and
+//! the variables that it spells, each compared with those of the text so far.
 #![tactic(auto)]
 
 mod compile;
@@ -40,6 +41,7 @@ mod kinds;
 mod leaves;
 mod mixing;
 mod names;
+mod numbering;
 mod parts;
 
 pub use form::{Form, Part};

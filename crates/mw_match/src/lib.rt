@@ -3,8 +3,8 @@
 //! - `matches` and `all_match` compare patterns by position (mw_pattern) with terms, and put the values of new
 //!   variables behind those that are there. `Decides` says what they found: of all lists of values that begin with the
 //!   old ones, those that give the term are those that begin with the new ones, or there are none. Whatever is
-//!   answered, the old values stand in front. `have_sorts` asks then whether each value has its variable's sort, by `has_sort` of mw_least; without axioms nothing is lost by
-//!   asking last, since one list of values is all there is.
+//!   answered, the old values stand in front. `have_sorts` asks then whether each value has its variable's sort, by
+//!   `has_sort` of mw_least; without axioms nothing is lost by asking last, since one list of values is all there is.
 //! - [`Solutions`] gives the solutions of a pattern for a ground term that extend a given substitution, one by one;
 //!   contracts see the list of those to come. `new`: each entry is a solution, each solution is an entry modulo the
 //!   axioms, no two entries are the same one (`IsAllSolutions`: `sound`, `complete`, `once`). `next` answers the first

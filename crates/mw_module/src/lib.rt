@@ -30,8 +30,8 @@
 //! Only tested, by the sources in cases/: that the definitions are the language that is meant.
 //!
 //! A new form is a case of `opening_of` and `form_behind`, a new attribute one of `attribute_at`, a new kind of unit
-//! one of `unit_with`. What crates above know of a statement that has a form stands in proofs/Formed, and of what tokens
-//! its parts and a unit are made in specs/Tokens.
+//! one of `unit_with`. What crates above know of a statement that has a form stands in proofs/Formed, and of what
+//! tokens its parts and a unit are made in specs/Tokens.
 #![tactic(auto)]
 
 mod attribute;

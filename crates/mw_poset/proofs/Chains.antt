@@ -50,6 +50,11 @@ member-turned_too ps S T m = (member-left (S, T) ps _ m, member-right (T, S) ps 
 pub turned_too-symmetric : (ps : List (ℕ × ℕ)) → IsSymmetric (turned_too ps)
 turned_too-symmetric ps S T m = elim (turned_too-member ps S T m) [ inl k ↦ (member-turned_too ps S T k).1 | inr k ↦ (member-turned_too ps T S k).0 ]
 
+-- a chain of pairs is one of pairs walked either way
+pub AtOrBelow-connected : (ps : List (ℕ × ℕ)) {S T : ℕ} → AtOrBelow ps S T → AtOrBelow (turned_too ps) S T
+AtOrBelow-connected ps AtOrBelow.same = AtOrBelow.same
+AtOrBelow-connected ps (AtOrBelow.above m p) = AtOrBelow.above (member-turned_too ps _ _ m).0 (AtOrBelow-connected ps p)
+
 SameKind-chain : (sig : Signature) {S T : ℕ} → SameKind sig S T → AtOrBelow (turned_too sig.pairs) S T
 SameKind-chain sig same = AtOrBelow.same
 SameKind-chain sig (up m p) = AtOrBelow.above (member-turned_too sig.pairs _ _ m).0 (SameKind-chain sig p)

@@ -1,6 +1,7 @@
 -- Membership in lists, and the sorts directly above one.
 use Rattle.std.specs.Prelude.{Bool, true, false, cond, nat_eq, All}
-use Rattle.std.proofs.Common.{◌≡◌, ◌⊎◌, ℕ, zero, suc, ◌<◌, List, [], ◌∷◌, ◌++◌, length, refl, ap, ◌∙◌, inl, inr, arith, get_or, subst}
+use Rattle.std.proofs.Common.{◌≡◌, ◌⊎◌, ℕ, zero, suc, ◌<◌, List, [], ◌∷◌, ◌++◌, length, refl, ap, ◌∙◌, inl, inr, arith, get_or, subst, take, drop}
+use Rattle.std.proofs.lemmas.List.{take_all, take-append-le}
 use Rattle.std.proofs.lemmas.Bool.{eqb-true, eq-eqb}
 use Rattle.mw_logic.specs.Signature.{Member}
 use Rattle.mw_poset.specs.Tables.{supersorts}
@@ -82,3 +83,9 @@ supersorts-push_other (p ∷ ps) S T U h = by_test (nat_eq p.0 U) (supersorts-pu
         → cond b (p.1 ∷ supersorts (ps ++ (S, T) ∷ []) U) (supersorts (ps ++ (S, T) ∷ []) U) ≡ cond b (p.1 ∷ supersorts ps U) (supersorts ps U)
     by_test true e = ap (λ l. p.1 ∷ l) e
     by_test false e = e
+
+-- a slice of the whole list was written
+pub written : (n : ℕ) (old lent new : List ℕ) → lent ≡ old → n ≡ length old → length new ≡ length lent → take n (new ++ drop (length new) old) ≡ new
+written n old lent new e en l =
+    let same : length new ≡ length old = l ∙ ap (λ (xs : List ℕ). length xs) e in
+    take-append-le n new (drop (length new) old) (omega arith) ∙ take_all n new (omega arith)

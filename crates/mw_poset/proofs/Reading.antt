@@ -1,43 +1,19 @@
--- What is read off the rows: the table, cycles, kinds and maximal sorts.
-use Rattle.std.specs.Prelude.{Bool, true, false, All, ◌↔◌, slice_index}
+-- What is read off the marks and the lists: cycles, kinds and maximal sorts.
+use Rattle.std.specs.Prelude.{All, ◌↔◌, false, slice_index}
 use Rattle.std.specs.List.Sorted.{IsStrictlyIncreasing}
-use Rattle.std.proofs.Common.{◌≡◌, ◌≢◌, ℕ, suc, ◌+◌, ◌-◌, ◌*◌, ◌<◌, ◌≤◌, List, [], ◌∷◌, ◌++◌, length, refl, ap, sym, ◌∙◌, inl, inr, arith, get_or, subst, length-append}
-use Rattle.std.proofs.lemmas.List.{get_or_append_left, get_or-append_right}
-use Rattle.std.proofs.lemmas.Bool.{cases_eq, cases_lt}
-use Rattle.std.proofs.Math.Nat.{mul-le-mul_right, suc-mul}
+use Rattle.std.proofs.Common.{◌≡◌, ◌≢◌, ℕ, suc, ◌+◌, ◌<◌, ◌≤◌, List, [], ◌∷◌, ◌++◌, length, refl, sym, ◌∙◌, inl, inr, arith, subst, take}
+use Rattle.std.proofs.lemmas.List.{take_more}
+use Rattle.std.proofs.lemmas.Bool.{cases_eq}
 use Rattle.mw_logic.specs.Signature.{Signature, Member, SameKind}
 use Rattle.mw_logic.specs.Sorts.{AtOrBelow}
 use Rattle.mw_logic.proofs.KindLaws.{SameKind-trans, SameKind-sym}
 use Rattle.mw_poset.specs.SortOrder.{SortOrder}
 use Rattle.mw_poset.specs.Order.{IsSort, ArePairsOf, IsOnCycle, IsKindOf, IsMaximalIn}
-use Rattle.mw_poset.specs.Tables.{IsRow, IsTable, IsSymmetric, NamesMarked, IsLeastReached, AreLeastReached, supersorts}
-use Rattle.mw_poset.proofs.Members.{member-at, member-all, member-left, member-last, member-push, supersorts-member, member-supersorts}
-use Rattle.mw_poset.proofs.Chains.{AtOrBelow-trans, AtOrBelow-turned, within-pair}
-
--- one more row
-pub table_more : (order : SortOrder) (rows : ℕ) (table row : List Bool) → IsTable order rows table → IsRow order (suc rows) row → IsTable order (rows + 1) (table ++ row)
-table_more order rows table row h r = record {
-  size = size;
-  exact = λ k j lk lj. elim (cases_lt k rows) [
-    | inl l ↦ subst (λ (b : Bool). (b ≡ true) ↔ AtOrBelow order.pairs (suc k) (suc j)) (sym (before k j l lj)) (h.exact k j l lj)
-    | inr g ↦ let e : k ≡ rows = omega arith in
-        subst (λ (i : ℕ). (get_or (table ++ row) (i * order.sorts + j) false ≡ true) ↔ AtOrBelow order.pairs (suc i) (suc j)) (sym e)
-        (subst (λ (b : Bool). (b ≡ true) ↔ AtOrBelow order.pairs (suc rows) (suc j)) (sym (within j)) (r.exact (suc j)))
-  ];
-}
-  where
-    size : length (table ++ row) ≡ (rows + 1) * order.sorts
-    size = let a = length-append table row in let p = h.size in let q = r.size in omega (arith, a, p, q)
-
-    before : (k j : ℕ) → k < rows → j < order.sorts → get_or (table ++ row) (k * order.sorts + j) false ≡ get_or table (k * order.sorts + j) false
-    before k j l lj =
-        let m : suc k * order.sorts ≤ rows * order.sorts = mul-le-mul_right order.sorts (let i : suc k ≤ rows = omega arith in i) in
-        let s = suc-mul k order.sorts in
-        let p = h.size in
-        get_or_append_left table row false (k * order.sorts + j) (omega (arith, m, s, p))
-
-    within : (j : ℕ) → get_or (table ++ row) (rows * order.sorts + j) false ≡ get_or row j false
-    within j = get_or-append_right table row (rows * order.sorts) (rows * order.sorts + j) false h.size (omega arith) ∙ ap (λ (i : ℕ). get_or row i false) (let e : rows * order.sorts + j - rows * order.sorts ≡ j = omega arith in e)
+use Rattle.mw_poset.specs.Search.{AreMarked}
+use Rattle.mw_poset.specs.Tables.{IsSymmetric, IsLeastReached, AreLeastReached, AreOfOneKind, supersorts}
+use Rattle.mw_poset.proofs.Members.{member-all, member-left, member-last, member-push, supersorts-member, member-supersorts}
+use Rattle.mw_poset.proofs.Chains.{AtOrBelow-trans, AtOrBelow-turned, SameKind-connected, passed_on, turned_too-member, within-pair}
+use Rattle.mw_poset.proofs.Grouping.{increasing-push}
 
 -- a cycle goes by one of the sorts directly above
 pub on_cycle : (ps : List (ℕ × ℕ)) (S T : ℕ) → Member T (supersorts ps S) → AtOrBelow ps T S → IsOnCycle ps S
@@ -74,37 +50,32 @@ kinds_passed order k kinds turn lk h n = record {
         omega arith
 
 -- the next sort has none: it is the least of those that it is connected with, and is named as the kind of each
-pub kinds_named : (order : SortOrder) (k : ℕ) (old new : List ℕ) (row : List Bool) → IsSymmetric order.pairs → k < order.sorts → KindsSoFar order k old → slice_index old k ≡ 0
-    → IsRow order (suc k) row → NamesMarked row (suc k) old new → length new ≡ length old → KindsSoFar order (k + 1) new
-kinds_named order k old new row turn lk h z r names ln = record {
+pub kinds_named : (order : SortOrder) (k : ℕ) (old new : List ℕ) → IsSymmetric order.pairs → k < order.sorts → KindsSoFar order k old → slice_index old k ≡ 0
+    → AreMarked order (suc k) old new → length new ≡ length old → KindsSoFar order (k + 1) new
+kinds_named order k old new turn lk h z m ln = record {
   size = ln ∙ h.size;
-  named = λ j l n. by_mark j l (get_or row j false) refl n;
-  unnamed = λ j l e T p. not_marked j l (get_or row j false) refl e T p;
-}
-  where
-    in_row : (j : ℕ) → j < order.sorts → j < length row
-    in_row j l = let s = r.size in omega arith
-
-    by_mark : (j : ℕ) → j < order.sorts → (b : Bool) → get_or row j false ≡ b → slice_index new j ≢ 0 → IsLeastReached order.pairs (suc j) (slice_index new j) × (slice_index new j ≤ k + 1)
-    by_mark j l true e n =
-        let up : AtOrBelow order.pairs (suc k) (suc j) = (r.exact (suc j)).0 e in
-        let q = names.marked j (in_row j l) e in
+  named = λ j l n. elim (m.others j) [
+    | inl q ↦
+        let up : AtOrBelow order.pairs (suc k) (suc j) = (m.reached (suc j)).0 q in
         let least : IsLeastReached order.pairs (suc j) (suc k) = record { reached = AtOrBelow-turned turn up; least = λ T p. h.unnamed k lk z T (AtOrBelow-trans up p) } in
         (subst (λ (K : ℕ). IsLeastReached order.pairs (suc j) K) (sym q) least, omega arith)
-    by_mark j l false e n =
-        let q = names.others j (in_row j l) e in
+    | inr q ↦
         let p = h.named j l (λ i. n (q ∙ i)) in
         (subst (λ (K : ℕ). IsLeastReached order.pairs (suc j) K) (sym q) p.0, let b = p.1 in omega arith)
-
-    not_marked : (j : ℕ) → j < order.sorts → (b : Bool) → get_or row j false ≡ b → slice_index new j ≡ 0 → (T : ℕ) → AtOrBelow order.pairs (suc j) T → k + 1 < T
-    not_marked j l true e i T p = absurd (let q = names.marked j (in_row j l) e in omega arith)
-    not_marked j l false e i T p =
-        let q = names.others j (in_row j l) e in
-        let b = h.unnamed j l (sym q ∙ i) T p in
+  ];
+  unnamed = λ j l e T p. elim (m.others j) [
+    | inl q ↦ absurd (omega arith)
+    | inr q ↦
+        let b = h.unnamed j l (sym q ∙ e) T p in
         elim (cases_eq T (suc k)) [
-          | inl s ↦ let m : get_or row j false ≡ true = (r.exact (suc j)).1 (AtOrBelow-turned turn (subst (λ (U : ℕ). AtOrBelow order.pairs (suc j) U) s p)) in cc
+          | inl s ↦ absurd (marked j e (AtOrBelow-turned turn (subst (λ (U : ℕ). AtOrBelow order.pairs (suc j) U) s p)))
           | inr d ↦ omega arith
         ]
+  ];
+}
+  where
+    marked : (j : ℕ) → slice_index new j ≡ 0 → AtOrBelow order.pairs (suc k) (suc j) → ⊥
+    marked j e p = let q : slice_index new j ≡ suc k = (m.reached (suc j)).1 p in omega arith
 
 pub kinds_done : (order : SortOrder) (kinds : List ℕ) → KindsSoFar order order.sorts kinds → AreLeastReached order kinds
 kinds_done order kinds h = record {
@@ -119,6 +90,13 @@ kinds_done order kinds h = record {
 abbrev pub some_signature : List (ℕ × ℕ) → Signature
 some_signature ps = record { sorts = []; pairs = ps; operators = []; nat = false; qid = false }
 
+-- what is of the kind of a sort that is there is there
+pub kind-within : (order : SortOrder) (S T : ℕ) → ArePairsOf order.sorts order.pairs → IsSort order.sorts S → AreOfOneKind order.pairs S T → IsSort order.sorts T
+kind-within order S T a s c =
+    passed_on (λ (S : ℕ). IsSort order.sorts S)
+    (λ A B i x. elim (turned_too-member order.pairs A B i) [ inl j ↦ (within-pair order.sorts order.pairs a A B j).1 | inr j ↦ (within-pair order.sorts order.pairs a B A j).0 ])
+    (SameKind-connected order.pairs (some_signature order.pairs) refl (c (some_signature order.pairs) refl)) s
+
 -- two sorts are of one kind where their kinds have one number
 pub kinds_agree : (ps : List (ℕ × ℕ)) (S T K : ℕ) → IsKindOf ps S K → IsKindOf ps T K → (sig : Signature) → sig.pairs ≡ ps → SameKind sig S T
 kinds_agree ps S T K p q sig e = SameKind-trans (p.same sig e) (SameKind-sym (q.same sig e))
@@ -129,21 +107,15 @@ kinds_same ps sig S T K L p q e s =
     let b = q.least sig e K (SameKind-trans (SameKind-sym s) (p.same sig e)) in
     omega arith
 
--- with nothing directly above it a sort is maximal in its kind
-pub is_maximal : (ps : List (ℕ × ℕ)) (S T K : ℕ) → IsKindOf ps S K → IsKindOf ps T K → supersorts ps T ≡ [] → IsMaximalIn ps S T
-is_maximal ps S T K p q e = record {
-  same = λ sig i. kinds_agree ps S T K p q sig i;
-  none_above = λ U c. top U c;
-}
+-- a sort of the kind with nothing directly above it is maximal
+pub is_maximal : (ps : List (ℕ × ℕ)) (S T : ℕ) → AreOfOneKind ps S T → supersorts ps T ≡ [] → IsMaximalIn ps S T
+is_maximal ps S T k e = record { same = k; none_above = λ U c. top U c }
   where
     top : (U : ℕ) → AtOrBelow ps T U → U ≡ T
     top U AtOrBelow.same = refl
     top U (AtOrBelow.above {T = V} m c) = absurd (subst (λ (l : List ℕ). Member V l) e (member-supersorts ps T V m))
 
 -- and only then, where there is no cycle
-pub maximal-kind : (ps : List (ℕ × ℕ)) (S T K L : ℕ) → IsKindOf ps S K → IsKindOf ps T L → IsMaximalIn ps S T → L ≡ K
-maximal-kind ps S T K L p q m = sym (kinds_same ps (some_signature ps) S T K L p q refl (m.same (some_signature ps) refl))
-
 pub maximal-top : (ps : List (ℕ × ℕ)) (S T : ℕ) → ((U : ℕ) → IsOnCycle ps U → ⊥) → IsMaximalIn ps S T → (l : List ℕ) → supersorts ps T ≡ l → length l ≡ 0
 maximal-top ps S T acyclic m [] e = refl
 maximal-top ps S T acyclic m (U ∷ l) e =
@@ -151,49 +123,45 @@ maximal-top ps S T acyclic m (U ∷ l) e =
     let q : U ≡ T = m.none_above U (AtOrBelow.above pair AtOrBelow.same) in
     absurd (acyclic T (record { next = U; pair = pair; back = subst (λ (V : ℕ). AtOrBelow ps U V) q AtOrBelow.same }))
 
--- the maximal sorts among the first ones, in order
-pub record MaximalSoFar (ps : List (ℕ × ℕ)) (kind k : ℕ) (found : List ℕ) : Type 0 where
-  pub listed : (T : ℕ) → Member T found ↔ ((T ≤ k) × IsMaximalIn ps kind T)
+-- the maximal sorts among the first ones of a kind, in order
+pub record MaximalSoFar (ps : List (ℕ × ℕ)) (kind i : ℕ) (group found : List ℕ) : Type 0 where
+  pub listed : (T : ℕ) → Member T found ↔ (Member T (take i group) × IsMaximalIn ps kind T)
+  pub below : (T : ℕ) → Member T found → i < length group → T < slice_index group i
   pub in_order : IsStrictlyIncreasing found
 
-increasing-push : (xs : List ℕ) (y : ℕ) → IsStrictlyIncreasing xs → ((T : ℕ) → Member T xs → T < y) → IsStrictlyIncreasing (xs ++ y ∷ [])
-increasing-push xs y h below k l =
-    let n = length-append xs (y ∷ []) in
-    elim (cases_lt (k + 1) (length xs)) [
-      | inl i ↦ let a = get_or_append_left xs (y ∷ []) 0 k (omega arith) in let b = get_or_append_left xs (y ∷ []) 0 (k + 1) i in let c = h k i in omega arith
-      | inr g ↦
-          let e : k + 1 ≡ length xs = omega arith in
-          let a = get_or_append_left xs (y ∷ []) 0 k (omega arith) in
-          let b = get_or-append_right xs (y ∷ []) (length xs) (k + 1) 0 refl g in
-          let z : k + 1 - length xs ≡ 0 = omega arith in
-          let f : get_or (y ∷ []) (k + 1 - length xs) 0 ≡ y = ap (λ (i : ℕ). get_or (y ∷ []) i 0) z in
-          let c = below (get_or xs k 0) (member-at xs k 0 (omega arith)) in
-          omega arith
-    ]
-
-pub maximal_found : (ps : List (ℕ × ℕ)) (kind k : ℕ) (found : List ℕ) → MaximalSoFar ps kind k found → IsMaximalIn ps kind (suc k) → MaximalSoFar ps kind (k + 1) (found ++ suc k ∷ [])
-maximal_found ps kind k found h m = record {
+pub maximal_found : (ps : List (ℕ × ℕ)) (kind i : ℕ) (group found : List ℕ) → IsStrictlyIncreasing group → i < length group → MaximalSoFar ps kind i group found
+    → IsMaximalIn ps kind (slice_index group i) → MaximalSoFar ps kind (i + 1) group (found ++ slice_index group i ∷ [])
+maximal_found ps kind i group found up l h m = record {
   listed = λ T. (
-    (λ i. elim (member-push T (suc k) found i) [
-      | inl o ↦ let p = (h.listed T).0 o in let l = p.0 in (omega arith, p.1)
-      | inr e ↦ (omega arith, subst (λ (U : ℕ). IsMaximalIn ps kind U) e m)
+    (λ w. elim (member-push T S found w) [
+      | inl o ↦ let p = (h.listed T).0 o in (more T (member-left T (take i group) (S ∷ []) p.0), p.1)
+      | inr e ↦ (more T (subst (λ (U : ℕ). Member U (take i group ++ S ∷ [])) e (member-last S (take i group))), subst (λ (U : ℕ). IsMaximalIn ps kind U) e m)
     ]),
-    (λ p. let l = p.0 in elim (cases_eq (suc k) T) [
-      | inl e ↦ subst (λ (U : ℕ). Member U (found ++ suc k ∷ [])) e (member-last (suc k) found)
-      | inr n ↦ member-left T found (suc k ∷ []) ((h.listed T).1 (omega arith, p.1))
+    (λ p. elim (member-push T S (take i group) (subst (λ (xs : List ℕ). Member T xs) (take_more group i 0 l) p.0)) [
+      | inl o ↦ member-left T found (S ∷ []) ((h.listed T).1 (o, p.1))
+      | inr e ↦ subst (λ (U : ℕ). Member U (found ++ S ∷ [])) e (member-last S found)
     ]),
   );
-  in_order = increasing-push found (suc k) h.in_order (λ T i. let p = (h.listed T).0 i in let l = p.0 in omega arith);
+  below = λ T w n. let next = up i n in elim (member-push T S found w) [ inl o ↦ let b = h.below T o l in omega arith | inr e ↦ omega arith ];
+  in_order = increasing-push found S h.in_order (λ T o. h.below T o l);
 }
+  where
+    S : ℕ
+    S = slice_index group i
 
-pub maximal_passed : (ps : List (ℕ × ℕ)) (kind k : ℕ) (found : List ℕ) → MaximalSoFar ps kind k found → (IsMaximalIn ps kind (suc k) → ⊥) → MaximalSoFar ps kind (k + 1) found
-maximal_passed ps kind k found h n = record {
+    more : (T : ℕ) → Member T (take i group ++ S ∷ []) → Member T (take (i + 1) group)
+    more T w = subst (λ (xs : List ℕ). Member T xs) (sym (take_more group i 0 l)) w
+
+pub maximal_passed : (ps : List (ℕ × ℕ)) (kind i : ℕ) (group found : List ℕ) → IsStrictlyIncreasing group → i < length group → MaximalSoFar ps kind i group found
+    → (IsMaximalIn ps kind (slice_index group i) → ⊥) → MaximalSoFar ps kind (i + 1) group found
+maximal_passed ps kind i group found up l h n = record {
   listed = λ T. (
-    (λ i. let p = (h.listed T).0 i in let l = p.0 in (omega arith, p.1)),
-    (λ p. let l = p.0 in elim (cases_eq (suc k) T) [
-      | inl e ↦ absurd (n (subst (λ (U : ℕ). IsMaximalIn ps kind U) (sym e) p.1))
-      | inr d ↦ (h.listed T).1 (omega arith, p.1)
+    (λ w. let p = (h.listed T).0 w in (subst (λ (xs : List ℕ). Member T xs) (sym (take_more group i 0 l)) (member-left T (take i group) (slice_index group i ∷ []) p.0), p.1)),
+    (λ p. elim (member-push T (slice_index group i) (take i group) (subst (λ (xs : List ℕ). Member T xs) (take_more group i 0 l) p.0)) [
+      | inl o ↦ (h.listed T).1 (o, p.1)
+      | inr e ↦ absurd (n (subst (λ (U : ℕ). IsMaximalIn ps kind U) (sym e) p.1))
     ]),
   );
+  below = λ T w k. let next = up i k in let b = h.below T w l in omega arith;
   in_order = h.in_order;
 }

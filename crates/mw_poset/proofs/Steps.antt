@@ -1,19 +1,21 @@
 -- The steps of the loops, in the words of their goals.
-use Rattle.std.specs.Prelude.{Bool, true, false, All, slice_index}
-use Rattle.std.proofs.Common.{◌≡◌, ℕ, suc, ◌+◌, ◌-◌, ◌<◌, ◌≤◌, List, [], ◌∷◌, ◌++◌, length, refl, ap, sym, ◌∙◌, inl, inr, arith, get_or, set, take, drop, replicate, subst, add-one, length-set, get_or-set_same, get_or-set_other}
-use Rattle.std.proofs.lemmas.List.{take_more, take_all, take-append-le, get_or_default, length-replicate, get_or-replicate}
+use Rattle.std.specs.Prelude.{All, slice_index}
+use Rattle.std.proofs.Common.{◌≡◌, ◌≢◌, ℕ, suc, ◌+◌, ◌-◌, ◌<◌, ◌≤◌, List, [], ◌∷◌, ◌++◌, length, refl, ap, sym, ◌∙◌, inl, inr, arith, get_or, set, take, drop, replicate, subst, add-one, length-set, get_or-set_same, get_or-set_other}
+use Rattle.std.proofs.lemmas.List.{take_more, take_all, get_or_default, length-replicate, get_or-replicate}
 use Rattle.std.proofs.lemmas.List.Elements.{All-more}
 use Rattle.std.proofs.lemmas.Bool.{cases_eq, ne_eqb}
 use Rattle.mw_logic.specs.Signature.{Member}
 use Rattle.mw_logic.specs.Sorts.{AtOrBelow}
 use Rattle.mw_poset.specs.SortOrder.{SortOrder}
-use Rattle.mw_poset.specs.Order.{IsSort, ArePairsOf, IsOnCycle, IsKindOf, IsMaximalIn}
-use Rattle.mw_poset.specs.Tables.{AreListsOf, AreLinks, IsMarked, IsRow, IsTable, IsSymmetric, NamesMarked, IsLeastReached, AreLeastReached, IsPoset, supersorts, turned_too}
-use Rattle.mw_poset.specs.Search.{Marks}
-use Rattle.mw_poset.proofs.Members.{member-at, member-last, supersorts-member, supersorts-push_same, supersorts-push_other}
-use Rattle.mw_poset.proofs.Chains.{within-pair, turned_too-member, within-chain, passed_on, SameKind-connected, least-kind}
+use Rattle.mw_poset.specs.Order.{IsSort, ArePairsOf, IsOnCycle, IsKindOf}
+use Rattle.mw_poset.specs.Tables.{AreListsOf, AreLinks, IsSymmetric, IsLeastReached, AreLeastReached, AreKinds, AreRows, IsOrder, supersorts, turned_too}
+use Rattle.mw_poset.specs.Groups.{AreGroups}
+use Rattle.mw_poset.specs.Search.{IsMarked, Marks, AreMarked}
+use Rattle.mw_poset.proofs.Members.{written, member-at, member-last, supersorts-member, supersorts-push_same, supersorts-push_other}
+use Rattle.mw_poset.proofs.Chains.{within-pair, turned_too-member, within-chain, least-kind}
 use Rattle.mw_poset.proofs.Marking.{Search, search_begun, search_step, marked-sort, marks_marked, marks_new}
-use Rattle.mw_poset.proofs.Reading.{some_signature, KindsSoFar, MaximalSoFar, maximal_found, maximal_passed, table_more, kinds_passed, kinds_named, on_cycle, no_cycle}
+use Rattle.mw_poset.proofs.Grouping.{groups_more}
+use Rattle.mw_poset.proofs.Reading.{kind-within, KindsSoFar, kinds_passed, kinds_named, on_cycle, no_cycle}
 
 -- what is directly above a sort is there
 pub above-within : (sorts : ℕ) (ps : List (ℕ × ℕ)) (above : List (List ℕ)) (S : ℕ) (list : List ℕ) → AreLinks sorts ps above → IsSort sorts S → list ≡ get_or above (S - 1) list → All (IsSort sorts) list
@@ -52,50 +54,46 @@ lists_more sorts ps i lists old new l s h e n =
     (lists_push sorts (take i ps) lists (get_or ps i (0, 0)).0 (get_or ps i (0, 0)).1 old new s h e n)
 
 -- a sort is marked and waits
-pub mark_new : (sorts : List ℕ) (i : ℕ) (old now new : List Bool) (waited waits waiting : List ℕ) → i < length sorts → IsSort (length old) (get_or sorts i 0) → length now ≡ length old
-    → Marks (take i sorts) old now waited waits → get_or now (get_or sorts i 0 - 1) false ≡ false → new ≡ set now (get_or sorts i 0 - 1) true → waiting ≡ waits ++ get_or sorts i 0 ∷ []
-    → Marks (take (i + 1) sorts) old new waited waiting
-mark_new sorts i old now new waited waits waiting l s n h e en ew =
+pub mark_new : (mark : ℕ) (sorts : List ℕ) (i : ℕ) (old now new waited waits waiting : List ℕ) → i < length sorts → IsSort (length old) (get_or sorts i 0) → length now ≡ length old
+    → Marks mark (take i sorts) old now waited waits → get_or now (get_or sorts i 0 - 1) 0 ≢ mark → new ≡ set now (get_or sorts i 0 - 1) mark → waiting ≡ waits ++ get_or sorts i 0 ∷ []
+    → Marks mark (take (i + 1) sorts) old new waited waiting
+mark_new mark sorts i old now new waited waits waiting l s n h e en ew =
     let low = s.0 in
     let high = s.1 in
     let S : ℕ = get_or sorts i 0 in
     let p : suc (S - 1) ≡ S = omega arith in
-    let m = subst (λ (T : ℕ). Marks (take i sorts ++ T ∷ []) old (set now (S - 1) true) waited (waits ++ T ∷ [])) p (marks_new (take i sorts) old now waited waits (S - 1) h (omega arith) e) in
+    let m = subst (λ (T : ℕ). Marks mark (take i sorts ++ T ∷ []) old (set now (S - 1) mark) waited (waits ++ T ∷ [])) p (marks_new mark (take i sorts) old now waited waits (S - 1) h (omega arith) e) in
     rw (take_more sorts i 0 l, en, ew) m
 
 -- a sort is marked already
-pub mark_old : (sorts : List ℕ) (i : ℕ) (old now new : List Bool) (waited waits waiting : List ℕ) → i < length sorts → IsSort (length old) (get_or sorts i 0)
-    → Marks (take i sorts) old now waited waits → get_or now (get_or sorts i 0 - 1) false ≡ true → new ≡ now → waiting ≡ waits
-    → Marks (take (i + 1) sorts) old new waited waiting
-mark_old sorts i old now new waited waits waiting l s h e en ew =
+pub mark_old : (mark : ℕ) (sorts : List ℕ) (i : ℕ) (old now new waited waits waiting : List ℕ) → i < length sorts → IsSort (length old) (get_or sorts i 0)
+    → Marks mark (take i sorts) old now waited waits → get_or now (get_or sorts i 0 - 1) 0 ≡ mark → new ≡ now → waiting ≡ waits
+    → Marks mark (take (i + 1) sorts) old new waited waiting
+mark_old mark sorts i old now new waited waits waiting l s h e en ew =
     let low = s.0 in
     let p : suc (get_or sorts i 0 - 1) ≡ get_or sorts i 0 = omega arith in
-    let m = marks_marked (take i sorts) old now waited waits (get_or sorts i 0) h (subst (λ (T : ℕ). IsMarked now T) p e) in
+    let m = marks_marked mark (take i sorts) old now waited waits (get_or sorts i 0) h (subst (λ (T : ℕ). IsMarked mark now T) p e) in
     rw (take_more sorts i 0 l, en, ew) m
 
 -- the search begins
-pub row_begun : (order : SortOrder) (from : ℕ) (row : List Bool) (waiting : List ℕ) → IsSort order.sorts from → row ≡ replicate order.sorts false → waiting ≡ from ∷ [] → Search order from (set row (from - 1) true) waiting
-row_begun order from row waiting s e w =
+pub search_from : (order : SortOrder) (from : ℕ) (marks waiting : List ℕ) → IsSort order.sorts from → length marks ≡ order.sorts → All (λ m. m ≢ from) marks → waiting ≡ from ∷ [] → Search order from marks (set marks (from - 1) from) waiting
+search_from order from marks waiting s n a w =
     let low = s.0 in
     let high = s.1 in
     let p : suc (from - 1) ≡ from = omega arith in
-    let b = search_begun order (from - 1) (set row (from - 1) true) (omega arith) (ap (λ (r : List Bool). set r (from - 1) true) e) in
-    rw w (subst (λ (S : ℕ). Search order S (set row (from - 1) true) (S ∷ [])) p b)
+    let b = search_begun order (from - 1) marks (omega arith) n (subst (λ (S : ℕ). All (λ m. m ≢ S) marks) (sym p) a) in
+    rw w (subst (λ (S : ℕ). Search order S marks (set marks (from - 1) S) (S ∷ [])) p b)
 
 -- what waits is there
-pub waits-sort : (order : SortOrder) (from : ℕ) (row : List Bool) (waiting rest : List ℕ) (S : ℕ) → Search order from row waiting → waiting ≡ rest ++ S ∷ [] → IsSort order.sorts S
-waits-sort order from row waiting rest S h e =
-    subst (λ (n : ℕ). IsSort n S) h.size (marked-sort row S (h.waits S (subst (λ (xs : List ℕ). Member S xs) (sym e) (member-last S rest))))
+pub waits-sort : (order : SortOrder) (from : ℕ) (old marks waiting rest : List ℕ) (S : ℕ) → IsSort order.sorts from → Search order from old marks waiting → waiting ≡ rest ++ S ∷ [] → IsSort order.sorts S
+waits-sort order from old marks waiting rest S s h e =
+    subst (λ (n : ℕ). IsSort n S) h.size (marked-sort from marks S s.0 (h.waits S (subst (λ (xs : List ℕ). Member S xs) (sym e) (member-last S rest))))
 
 -- one that waited has had its turn
-pub row_step : (order : SortOrder) (from S n : ℕ) (row marked : List Bool) (waiting rest waits above : List ℕ) (lent : List Bool) → Search order from row waiting → waiting ≡ rest ++ S ∷ []
-    → above ≡ supersorts order.pairs S → lent ≡ row → length marked ≡ length lent → n ≡ length row → Marks above lent marked rest waits → Search order from (take n (marked ++ drop (length marked) row)) waits
-row_step order from S n row marked waiting rest waits above lent h e ea el l en m =
-    let m1 = subst (λ (r : List Bool). Marks above r marked rest waits) el m in
-    let m2 = subst (λ (xs : List ℕ). Marks xs row marked rest waits) ea m1 in
-    let same : length marked ≡ length row = l ∙ ap (λ (r : List Bool). length r) el in
-    let whole : take n (marked ++ drop (length marked) row) ≡ marked = take-append-le n marked (drop (length marked) row) (omega arith) ∙ take_all n marked (omega arith) in
-    rw whole (search_step order from S row marked rest waits (subst (λ (xs : List ℕ). Search order from row xs) e h) m2 same)
+pub search_more : (order : SortOrder) (from S : ℕ) (old marks new waiting rest waits above : List ℕ) → Search order from old marks waiting → waiting ≡ rest ++ S ∷ []
+    → above ≡ supersorts order.pairs S → length new ≡ length marks → Marks from above marks new rest waits → Search order from old new waits
+search_more order from S old marks new waiting rest waits above h e ea l m =
+    search_step order from S old marks new rest waits (subst (λ (xs : List ℕ). Search order from old marks xs) e h) (subst (λ (xs : List ℕ). Marks from xs marks new rest waits) ea m) l
 
 pub cycle_found : (ps : List (ℕ × ℕ)) (S i : ℕ) (above : List ℕ) → above ≡ supersorts ps S → i < length above → AtOrBelow ps (get_or above i 0) S → IsOnCycle ps S
 cycle_found ps S i above e l p = on_cycle ps S (get_or above i 0) (subst (λ (xs : List ℕ). Member (get_or above i 0) xs) e (member-at above i 0 l)) p
@@ -130,57 +128,61 @@ kinds_old order k kinds new read turn l h e n q =
     let r : read ≡ get_or kinds k 0 = e ∙ get_or_default kinds k read 0 (omega arith) in
     rw q (kinds_passed order k kinds turn l h (λ i. n (r ∙ i)))
 
-pub kinds_new : (order : SortOrder) (k n : ℕ) (kinds lent named : List ℕ) (read : ℕ) (row lent_row : List Bool) → IsSymmetric order.pairs → k < order.sorts → KindsSoFar order k kinds → read ≡ get_or kinds k read → read ≡ 0
-    → IsRow order (k + 1) row → lent_row ≡ row → lent ≡ kinds → n ≡ length kinds → length named ≡ length lent → NamesMarked lent_row (k + 1) lent named
+-- no sort has the next number as its kind
+pub kind_free : (order : SortOrder) (k : ℕ) (kinds : List ℕ) → KindsSoFar order k kinds → All (λ m. m ≢ k + 1) kinds
+kind_free order k kinds h j d l e =
+    let z = h.size in
+    let q = get_or_default kinds j d 0 l in
+    let p = h.named j (omega arith) (λ i. absurd (omega arith)) in
+    let low = p.1 in
+    omega arith
+
+pub kinds_new : (order : SortOrder) (k n : ℕ) (kinds lent named : List ℕ) (read : ℕ) → IsSymmetric order.pairs → k < order.sorts → KindsSoFar order k kinds → read ≡ get_or kinds k read → read ≡ 0
+    → lent ≡ kinds → n ≡ length kinds → length named ≡ length lent → AreMarked order (k + 1) lent named
     → KindsSoFar order (k + 1) (take n (named ++ drop (length named) kinds))
-kinds_new order k n kinds lent named read row lent_row turn l h e z r er el en ln m =
+kinds_new order k n kinds lent named read turn l h e z el en ln m =
     let size = h.size in
     let zero_there : get_or kinds k 0 ≡ 0 = sym (get_or_default kinds k read 0 (omega arith)) ∙ sym e ∙ z in
-    let m1 = subst (λ (xs : List ℕ). NamesMarked lent_row (k + 1) xs named) el m in
-    let m2 = subst (λ (xs : List Bool). NamesMarked xs (k + 1) kinds named) er m1 in
-    let m3 = subst (λ (i : ℕ). NamesMarked row i kinds named) (add-one k) m2 in
-    let r1 = subst (λ (i : ℕ). IsRow order i row) (add-one k) r in
-    let same : length named ≡ length kinds = ln ∙ ap (λ (xs : List ℕ). length xs) el in
-    let whole : take n (named ++ drop (length named) kinds) ≡ named = take-append-le n named (drop (length named) kinds) (omega arith) ∙ take_all n named (omega arith) in
-    rw whole (kinds_named order k kinds named row turn l h zero_there r1 m3 same)
+    let m1 = subst (λ (xs : List ℕ). AreMarked order (k + 1) xs named) el m in
+    let m2 = subst (λ (i : ℕ). AreMarked order i kinds named) (add-one k) m1 in
+    rw (written n kinds lent named el en ln) (kinds_named order k kinds named turn l h zero_there m2 (ln ∙ ap (λ (xs : List ℕ). length xs) el))
 
--- one more row
-pub table_step : (order : SortOrder) (k : ℕ) (table new row lent : List Bool) → IsTable order k table → IsRow order (k + 1) row → lent ≡ row → new ≡ table ++ lent → IsTable order (k + 1) new
-table_step order k table new row lent h r e n =
-    rw (n, e) (table_more order k table row h (subst (λ (i : ℕ). IsRow order i row) (add-one k) r))
-
-pub maximal_new : (ps : List (ℕ × ℕ)) (kind k : ℕ) (found new : List ℕ) → MaximalSoFar ps kind k found → IsMaximalIn ps kind (k + 1) → new ≡ found ++ (k + 1) ∷ [] → MaximalSoFar ps kind (k + 1) new
-maximal_new ps kind k found new h m e =
-    rw (e, add-one k) (subst (λ (i : ℕ). MaximalSoFar ps kind i (found ++ suc k ∷ [])) (add-one k) (maximal_found ps kind k found h (subst (λ (i : ℕ). IsMaximalIn ps kind i) (add-one k) m)))
-
-pub maximal_old : (ps : List (ℕ × ℕ)) (kind k : ℕ) (found new : List ℕ) → MaximalSoFar ps kind k found → (IsMaximalIn ps kind (k + 1) → ⊥) → new ≡ found → MaximalSoFar ps kind (k + 1) new
-maximal_old ps kind k found new h n e = rw e (maximal_passed ps kind k found h (λ m. n (subst (λ (i : ℕ). IsMaximalIn ps kind i) (sym (add-one k)) m)))
-
-pub maximal_begun : (order : SortOrder) (kind : ℕ) (found : List ℕ) → ((T : ℕ) → IsMaximalIn order.pairs kind T → IsSort order.sorts T) → found ≡ [] → MaximalSoFar order.pairs kind 0 found
-maximal_begun order kind found within e = rw e none
-  where
-    none : MaximalSoFar order.pairs kind 0 []
-    none = record {
-      listed = λ T. ((λ m. absurd m), (λ p. let s = within T p.1 in let low = s.0 in let high = p.0 in absurd (omega arith)));
-      in_order = λ k l. absurd (omega arith);
-    }
-
--- a sort of the kind of one that is there is there
-pub maximal-within : (order : SortOrder) (kind T : ℕ) → ArePairsOf order.sorts order.pairs → IsSort order.sorts kind → IsMaximalIn order.pairs kind T → IsSort order.sorts T
-maximal-within order kind T a s m =
-    passed_on (λ (S : ℕ). IsSort order.sorts S)
-    (λ A B i x. elim (turned_too-member order.pairs A B i) [ inl j ↦ (within-pair order.sorts order.pairs a A B j).1 | inr j ↦ (within-pair order.sorts order.pairs a B A j).0 ])
-    (SameKind-connected order.pairs (some_signature order.pairs) refl (m.same (some_signature order.pairs) refl)) s
-
--- what a poset keeps, from what it was made of
-pub poset_kept : (links both : SortOrder) (sorts : ℕ) (ps : List (ℕ × ℕ)) (table : List Bool) (kinds : List ℕ) → links.sorts ≡ sorts → links.pairs ≡ ps → both.sorts ≡ sorts → both.pairs ≡ turned_too ps
-    → IsTable links links.sorts table → ((S : ℕ) → ¬ IsOnCycle links.pairs S) → AreLeastReached both kinds → IsPoset links table kinds
-poset_kept links both sorts ps table kinds n e m f t a k = record {
-  marks = t;
-  acyclic = a;
+-- the least that sorts are connected with are their kinds
+pub kinds_are : (links both : SortOrder) (sorts : ℕ) (ps : List (ℕ × ℕ)) (kinds : List ℕ) → ArePairsOf sorts ps → links.sorts ≡ sorts → links.pairs ≡ ps → both.sorts ≡ sorts → both.pairs ≡ turned_too ps
+    → AreLeastReached both kinds → AreKinds links kinds
+kinds_are links both sorts ps kinds a n e m f k = record {
   size = k.size ∙ m ∙ sym n;
-  least = λ j l.
-      let p : IsLeastReached (turned_too ps) (suc j) (slice_index kinds j) =
-      subst (λ (qs : List (ℕ × ℕ)). IsLeastReached qs (suc j) (slice_index kinds j)) f (k.exact j (omega (arith, n, m, l))) in
-      subst (λ (qs : List (ℕ × ℕ)). IsKindOf qs (suc j) (slice_index kinds j)) (sym e) (least-kind ps (suc j) (slice_index kinds j) p);
+  within = λ j d l.
+      let z = k.size in
+      let low : 1 ≤ suc j = omega arith in
+      let high : suc j ≤ links.sorts = omega arith in
+      let there : slice_index kinds j ≡ get_or kinds j d = get_or_default kinds j 0 d l in
+      subst (λ (K : ℕ). IsSort links.sorts K) there
+      (kind-within links (suc j) (slice_index kinds j) (subst (λ (qs : List (ℕ × ℕ)). ArePairsOf links.sorts qs) (sym e) (subst (λ (i : ℕ). ArePairsOf i ps) (sym n) a)) (low, high) (kind j (omega arith)).same);
+  exact = kind;
+}
+  where
+    kind : (j : ℕ) → j < links.sorts → IsKindOf links.pairs (suc j) (slice_index kinds j)
+    kind j l =
+        let p : IsLeastReached (turned_too ps) (suc j) (slice_index kinds j) =
+        subst (λ (qs : List (ℕ × ℕ)). IsLeastReached qs (suc j) (slice_index kinds j)) f (k.exact j (omega (arith, n, m, l))) in
+        subst (λ (qs : List (ℕ × ℕ)). IsKindOf qs (suc j) (slice_index kinds j)) (sym e) (least-kind ps (suc j) (slice_index kinds j) p)
+
+-- one more sort is put to its kind
+pub group_step : (k : ℕ) (kinds : List ℕ) (members : List (List ℕ)) (places new_places : List ℕ) (old list new : List ℕ) → All (IsSort (length kinds)) kinds → k < length kinds → AreGroups k kinds members places
+    → old ≡ get_or members (get_or kinds k 0 - 1) old → list ≡ old → new ≡ old ++ (k + 1) ∷ [] → new_places ≡ places ++ length list ∷ [] → AreGroups (k + 1) kinds (set members (get_or kinds k 0 - 1) new) new_places
+group_step k kinds members places new_places old list new a l h e ls n p =
+    subst (λ (xs : List ℕ). AreGroups (k + 1) kinds (set members (get_or kinds k 0 - 1) new) xs) (ap (λ (xs : List ℕ). places ++ length xs ∷ []) (sym ls) ∙ sym p)
+    (subst (λ (i : ℕ). AreGroups i kinds (set members (get_or kinds k 0 - 1) new) (places ++ length old ∷ [])) (sym (add-one k))
+    (groups_more k kinds members places (get_or kinds k 0) old new a l refl h e (n ∙ ap (λ (i : ℕ). old ++ i ∷ []) (add-one k))))
+
+-- what is kept, from what it was made of
+pub preorder_kept : (links both : SortOrder) (sorts : ℕ) (ps : List (ℕ × ℕ)) (kinds lent lent_again : List ℕ) (members : List (List ℕ)) (places : List ℕ) (rows : List (List ℕ)) → ArePairsOf sorts ps → links.sorts ≡ sorts → links.pairs ≡ ps
+    → both.sorts ≡ sorts → both.pairs ≡ turned_too ps → AreLeastReached both kinds → lent ≡ kinds → lent_again ≡ kinds → AreGroups sorts lent members places → AreRows links links.sorts lent_again members rows
+    → IsOrder links kinds members places rows
+preorder_kept links both sorts ps kinds lent lent_again members places rows a n e m f k l l_again g r = record {
+  within = subst (λ (qs : List (ℕ × ℕ)). ArePairsOf links.sorts qs) (sym e) (subst (λ (i : ℕ). ArePairsOf i ps) (sym n) a);
+  kinds_are = kinds_are links both sorts ps kinds a n e m f k;
+  groups = subst (λ (i : ℕ). AreGroups i kinds members places) (sym n) (subst (λ (xs : List ℕ). AreGroups sorts xs members places) l g);
+  rows_are = subst (λ (xs : List ℕ). AreRows links links.sorts xs members rows) l_again r;
 }

@@ -1,9 +1,11 @@
--- What a poset keeps: lists of direct supersorts, a table of marks, and the kinds.
-use Rattle.std.specs.Prelude.{ℕ, zero, suc, ◌≡◌, ◌+◌, ◌*◌, ◌<◌, ◌≤◌, ◌↔◌, List, [], ◌∷◌, ◌++◌, length, map, Bool, true, false, nat_eq, slice_index, slice_index_or, if◌then◌else◌}
-use Rattle.mw_logic.specs.Signature.{Member}
+-- What an order of sorts keeps: lists of direct supersorts, the kinds and their sorts, and rows of what is above.
+use Rattle.std.specs.Prelude.{ℕ, suc, ◌≡◌, ◌*◌, ◌<◌, ◌≤◌, ◌↔◌, List, [], ◌∷◌, ◌++◌, length, map, All, nat_eq, slice_index, slice_index_or, if◌then◌else◌}
+use Rattle.mw_logic.specs.Signature.{Signature, Member, SameKind}
 use Rattle.mw_logic.specs.Sorts.{AtOrBelow}
 use Rattle.mw_poset.specs.SortOrder.{SortOrder}
-use Rattle.mw_poset.specs.Order.{ArePairsOf, IsOnCycle, IsKindOf}
+use Rattle.mw_poset.specs.Order.{IsSort, ArePairsOf, IsKindOf}
+use Rattle.mw_poset.specs.Groups.{AreGroups, group_of}
+use Rattle.mw_poset.specs.Row.{HasPlace}
 
 -- the sorts directly above S, in the order of the pairs
 abbrev pub supersorts : List (ℕ × ℕ) → ℕ → List ℕ
@@ -28,26 +30,6 @@ pub record AreLinks (sorts : ℕ) (pairs : List (ℕ × ℕ)) (above : List (Lis
   pub lists : AreListsOf sorts pairs above
   pub within : ArePairsOf sorts pairs
 
--- S is marked in a row, which has a place for each sort
-abbrev pub IsMarked : List Bool → ℕ → Type 0
-IsMarked row zero = ⊥
-IsMarked row (suc k) = slice_index_or row k false ≡ true
-
--- the row marks what is at or above S
-pub record IsRow (order : SortOrder) (S : ℕ) (row : List Bool) : Type 0 where
-  pub size : length row ≡ order.sorts
-  pub exact : (T : ℕ) → IsMarked row T ↔ AtOrBelow order.pairs S T
-
--- the rows of the first sorts, one after another
-pub record IsTable (order : SortOrder) (rows : ℕ) (table : List Bool) : Type 0 where
-  pub size : length table ≡ rows * order.sorts
-  pub exact : (k j : ℕ) → k < rows → j < order.sorts → (slice_index_or table (k * order.sorts + j) false ≡ true) ↔ AtOrBelow order.pairs (suc k) (suc j)
-
--- the new kinds are `kind` where the row has a mark, and the old ones elsewhere
-pub record NamesMarked (row : List Bool) (kind : ℕ) (old new : List ℕ) : Type 0 where
-  pub marked : (k : ℕ) → k < length row → slice_index_or row k false ≡ true → slice_index new k ≡ kind
-  pub others : (k : ℕ) → k < length row → slice_index_or row k false ≡ false → slice_index new k ≡ slice_index old k
-
 -- K is the least that is at or above S
 pub record IsLeastReached (pairs : List (ℕ × ℕ)) (S K : ℕ) : Type 0 where
   pub reached : AtOrBelow pairs S K
@@ -58,9 +40,29 @@ pub record AreLeastReached (order : SortOrder) (kinds : List ℕ) : Type 0 where
   pub size : length kinds ≡ order.sorts
   pub exact : (k : ℕ) → k < order.sorts → IsLeastReached order.pairs (suc k) (slice_index kinds k)
 
--- what a poset keeps
-pub record IsPoset (order : SortOrder) (table : List Bool) (kinds : List ℕ) : Type 0 where
-  pub marks : IsTable order order.sorts table
-  pub acyclic : (S : ℕ) → ¬ IsOnCycle order.pairs S
+-- S and T are of one kind, in each signature that has these pairs
+abbrev pub AreOfOneKind : List (ℕ × ℕ) → ℕ → ℕ → Type 0
+AreOfOneKind pairs S T = (sig : Signature) → sig.pairs ≡ pairs → SameKind sig S T
+
+-- of each sort the least of its kind
+pub record AreKinds (order : SortOrder) (kinds : List ℕ) : Type 0 where
   pub size : length kinds ≡ order.sorts
-  pub least : (k : ℕ) → k < order.sorts → IsKindOf order.pairs (suc k) (slice_index kinds k)
+  pub within : All (IsSort order.sorts) kinds
+  pub exact : (k : ℕ) → k < order.sorts → IsKindOf order.pairs (suc k) (slice_index kinds k)
+
+-- a place for each sort of a kind; in the row are the places of those at or above S
+pub record IsRow (pairs : List (ℕ × ℕ)) (S : ℕ) (group row : List ℕ) : Type 0 where
+  pub room : length group < 64 * length row
+  pub exact : (i : ℕ) → i < length group → HasPlace row i ↔ AtOrBelow pairs S (slice_index group i)
+
+-- of each of the first sorts the row over its kind
+pub record AreRows (order : SortOrder) (sorts : ℕ) (kinds : List ℕ) (members rows : List (List ℕ)) : Type 0 where
+  pub size : length rows ≡ sorts
+  pub exact : (k : ℕ) → k < sorts → IsRow order.pairs (suc k) (group_of members (slice_index kinds k)) (slice_index_or rows k [])
+
+-- what is kept of an order
+pub record IsOrder (order : SortOrder) (kinds : List ℕ) (members : List (List ℕ)) (places : List ℕ) (rows : List (List ℕ)) : Type 0 where
+  pub within : ArePairsOf order.sorts order.pairs
+  pub kinds_are : AreKinds order kinds
+  pub groups : AreGroups order.sorts kinds members places
+  pub rows_are : AreRows order order.sorts kinds members rows

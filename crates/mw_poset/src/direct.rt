@@ -1,53 +1,19 @@
 // The sorts directly above each sort, as lists.
-ghost use Rattle.std.specs.Prelude.{◌≡◌, ℕ, ◌+◌, ◌-◌, ◌<◌, ◌≤◌, List, [], ◌∷◌, ◌++◌, length, All, IfOk, OnOk};
+ghost use Rattle.std.specs.Prelude.{◌≡◌, ℕ, ◌+◌, ◌-◌, ◌<◌, ◌≤◌, List, length, All, IfOk, OnOk};
 ghost use Rattle.mw_poset.specs.Order.{IsSort, ArePairsOf};
 ghost use Rattle.mw_poset.specs.Tables.{supersorts, turned_too, AreListsOf};
 
+use crate::list::{SortList, empty_lists};
 use mw_term::SortId;
 use std::alloc::{AllocError, Global};
 use std::marker::Model;
-
-// The sorts directly above one sort, in the order of the pairs.
-#[derive(Drop)]
-struct Supersorts {
-    sorts: Vec<SortId>,
-}
-
-impl Model for Supersorts {
-    ghost Value = { List ℕ };
-
-    ghost view = { λ s. s.sorts.items };
-}
-
-impl Supersorts {
-    fn new(alloc: Global) -> Self
-        ensures { result ≡ [] }
-    {
-        Supersorts {
-            sorts: Vec::new(alloc),
-        }
-    }
-
-    fn push(&mut self, sort: SortId) -> Result<(), AllocError>
-        ensures { OnOk result (self.new ≡ self.old ++ sort ∷ []) }
-    {
-        self.sorts.push(sort)?;
-        Ok(())
-    }
-
-    fn as_slice(&self) -> &[SortId]
-        ensures { result.now ≡ self.now }
-    {
-        self.sorts.as_slice()
-    }
-}
 
 // Subsort pairs, and by them what is directly above each sort.
 #[derive(Drop)]
 pub struct Links {
     sorts: u32,
     pairs: Vec<(SortId, SortId)>,
-    above: Vec<Supersorts>,
+    above: Vec<SortList>,
 }
 
 impl Model for Links {
@@ -93,27 +59,15 @@ impl Links {
     }
 }
 
-// No list has anything in it yet.
-fn empty_lists(alloc: Global, sorts: u32) -> Result<Vec<Supersorts>, AllocError>
-    ensures size { IfOk result (λ lists. length lists.items ≡ sorts) }
-    ensures empty { IfOk result (λ lists. All (λ l. l ≡ []) lists.items) }
-{
-    let mut lists = Vec::new(alloc);
-    for k in 0..sorts {
-        lists.push(Supersorts::new(alloc))?;
-    }
-    Ok(lists)
-}
-
 fn lists_of(
     alloc: Global,
     sorts: u32,
     pairs: &[(SortId, SortId)],
-) -> Result<Vec<Supersorts>, AllocError>
+) -> Result<Vec<SortList>, AllocError>
     requires { ArePairsOf sorts pairs.now }
     ensures { IfOk result (λ lists. AreListsOf sorts pairs.now lists.items) }
 {
-    let mut lists = empty_lists(alloc, sorts)?;
+    let mut lists = empty_lists(alloc, sorts as usize)?;
     for (lower, upper) in pairs {
         let list = &mut lists[(*lower - 1) as usize];
         list.push(*upper)?;

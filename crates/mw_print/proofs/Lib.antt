@@ -1,6 +1,5 @@
 -- Laws of names and of texts.
 pub mod Behind
-pub mod Items
 pub mod Forms
 pub mod Lists
 pub mod Spelled

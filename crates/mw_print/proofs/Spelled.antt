@@ -6,10 +6,10 @@ use Rattle.std.proofs.lemmas.List.{map-append}
 use Rattle.mw_logic.specs.Term.{Variable, RawTerm, apply, RawTerms, nil, cons}
 use Rattle.mw_logic.specs.Signature.{Signature, Operator, Gather, less, most, any, IsOperator, Member, HasKind, IsRawTerm, a_numeral, a_quoted, a_variable, an_operator, AreRawTerms, end, next}
 use Rattle.mw_logic.specs.Parts.{is_assoc}
-use Rattle.mw_text.specs.Names.{Item, piece, hole, items_of, has_hole, pieces}
+use Rattle.mw_text.specs.Names.{Item, piece, hole, items_of, has_hole, count_holes, pieces}
 use Rattle.mw_text.specs.Mixfix.{IsTaken, IsHead, Spells, with_sort, grouped, a_constant, prefixed, flattened, mixfix, SpellsArguments, last, more, SpellsNested, two, another, SpellsItems, no_items, over_piece, over_hole}
 use Rattle.mw_print.specs.Tokens.{Token, token, opening, text_of, texts, comma}
-use Rattle.mw_print.specs.Printing.{Printed, holes, has_less, is_mixfix, takes, in_hole, in_holes, head, divided, called, has_arguments, spread, arguments_of, printed, printed_all}
+use Rattle.mw_print.specs.Printing.{Printed, has_less, is_mixfix, takes, in_hole, in_holes, head, divided, called, has_arguments, spread, arguments_of, printed, printed_all}
 use Rattle.mw_print.specs.Laws.{AreBinary, IsNamed, AreNamed, PrintedSpells}
 use Rattle.mw_print.proofs.Forms.{arguments_some, divided_more, list_more, called_some}
 
@@ -92,7 +92,7 @@ module _ (sig : Signature) (variables : List Variable) where
         | inr e ↦ (0, rw (e, texts_both (token (codes "(") ∷ a.tokens)) (grouped t a.precedence (texts a.tokens) part.spells), grouped_taken g gs p h)
       ]
 
-  items_spelled : (p : ℕ) (items : List Item) (gather : List Gather) {ts : RawTerms} {Ks : List ℕ} → holes items ≡ length gather → holes items ≡ length Ks
+  items_spelled : (p : ℕ) (items : List Item) (gather : List Gather) {ts : RawTerms} {Ks : List ℕ} → count_holes items ≡ length gather → count_holes items ≡ length Ks
       → (p ≡ 0 → has_less gather ≡ false) → Parts ts Ks → SpellsItems sig variables p items gather Ks ts (texts (in_holes p items gather (printed_all sig ts)))
   items_spelled p [] [] e f h no_parts = no_items p
   items_spelled p [] [] e f h (and_part part k parts) = absurd (omega arith)
@@ -186,9 +186,9 @@ module _ (sig : Signature) (variables : List Variable) where
     mixfix_spelled {ts} m parts =
         let n = length (printed_all sig ts) in
         let open_parts = and_parts (has_hole (items_of o.spelling)) _ m in
-        let counted = and_parts (holes (items_of o.spelling) == n) _ open_parts.1 in
+        let counted = and_parts (count_holes (items_of o.spelling) == n) _ open_parts.1 in
         let marked = and_parts (length o.gather == n) _ counted.1 in
-        let holes_are : holes (items_of o.spelling) ≡ n = eqb-true _ _ counted.0 in
+        let holes_are : count_holes (items_of o.spelling) ≡ n = eqb-true _ _ counted.0 in
         let marks_are : length o.gather ≡ n = eqb-true _ _ marked.0 in
         let args_are : n ≡ length o.args = parts_length parts in
         mixfix f o ts (texts (in_holes o.prec (items_of o.spelling) o.gather (printed_all sig ts))) is open_parts.0

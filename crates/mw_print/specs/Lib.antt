@@ -3,5 +3,4 @@ pub mod Tokens
 pub mod Printing
 pub mod Sorts
 pub mod Writing
-pub mod Reading
 pub mod Laws

@@ -1,10 +1,10 @@
 -- Terms as they are printed, in mixfix form.
-use Rattle.std.specs.Prelude.{ℕ, suc, List, [], ◌∷◌, ◌++◌, map, length, codes, Bool, false, true, ◌==◌, ◌&&◌, not, nat_lt, nat_le, Option, None, Some, unwrap_or, if◌then◌else◌}
+use Rattle.std.specs.Prelude.{ℕ, List, [], ◌∷◌, ◌++◌, map, length, codes, Bool, false, true, ◌==◌, ◌&&◌, not, nat_lt, nat_le, Option, None, Some, unwrap_or, if◌then◌else◌}
 use Rattle.std.specs.Fmt.{decimal}
 use Rattle.mw_logic.specs.Term.{RawTerm, numeral, quoted, variable, apply, RawTerms, nil, cons}
 use Rattle.mw_logic.specs.Signature.{Signature, Operator, Gather, less, most, any, at_number}
 use Rattle.mw_logic.specs.Parts.{is_assoc}
-use Rattle.mw_text.specs.Names.{Item, piece, hole, items_of, has_hole, pieces}
+use Rattle.mw_text.specs.Names.{Item, piece, hole, items_of, has_hole, count_holes, pieces}
 use Rattle.mw_print.specs.Tokens.{Token, token, opening, comma, spaced}
 
 -- A term as it is printed: its precedence and its tokens, and the operator on top (0 for none) with the arguments of its prefix form. Where it is the last
@@ -19,13 +19,7 @@ pub record Printed : Type 0 where
 abbrev pub alone : List ℕ → Printed
 alone x = record { precedence = 0; tokens = token x ∷ []; operator = 0; arguments = [] }
 
--- Mixfix forms. How many holes a name has:
-abbrev pub holes : List Item → ℕ
-holes [] = 0
-holes (piece x ∷ items) = holes items
-holes (hole ∷ items) = suc (holes items)
-
--- some hole has the mark `less`
+-- Mixfix forms. Some hole has the mark `less`.
 abbrev pub has_less : List Gather → Bool
 has_less [] = false
 has_less (less ∷ gs) = true
@@ -35,7 +29,7 @@ has_less (any ∷ gs) = has_less gs
 -- The operator on so many arguments is printed in mixfix form: its name has holes, as many as there are arguments and marks. In a form of precedence 0 no
 -- text fills a hole with the mark `less`, so such a form isn't used.
 abbrev pub is_mixfix : Operator → ℕ → Bool
-is_mixfix o n = has_hole (items_of o.spelling) && (holes (items_of o.spelling) == n && (length o.gather == n && not (o.prec == 0 && has_less o.gather)))
+is_mixfix o n = has_hole (items_of o.spelling) && (count_holes (items_of o.spelling) == n && (length o.gather == n && not (o.prec == 0 && has_less o.gather)))
 
 -- a hole with this mark, in a form of precedence p, takes texts of precedence q (as IsTaken says)
 abbrev pub takes : Gather → ℕ → ℕ → Bool

@@ -10,10 +10,11 @@ ghost use Rattle.mw_print.specs.Printing as spec;
 ghost use Rattle.mw_print.specs.Printing.{printed, printed_all, mixfix_text};
 ghost use Rattle.mw_print.specs.Writing.{Writes};
 
-use crate::names::{Item, first_item, has_hole, holes};
+use crate::names::{has_hole, holes};
 use crate::sorts::print_sort;
 use crate::writer::Writer;
 use mw_term::{Gather, OpId, Operator, Shape, Signature, Term, VarId};
+use mw_text::{Item, first_item};
 use std::alloc::{AllocError, Global};
 
 /// The text of a term.
@@ -93,7 +94,7 @@ fn print_mixfix(
     let mut gather = operator.gather.as_slice();
     let mut args = args;
     while let Some(front) = first_item(name) {
-        match front.item {
+        match front.0 {
             Item::Piece(piece) => writer.token(piece)?,
             Item::Hole => {
                 if let ([mark, marks @ ..], [arg, behind @ ..]) = (gather, args) {
@@ -103,7 +104,7 @@ fn print_mixfix(
                 }
             }
         }
-        name = front.rest;
+        name = front.1;
     }
     Ok(())
 }
@@ -281,10 +282,10 @@ fn print_head(operator: &Operator, writer: &mut Writer) -> Result<(), AllocError
     }
     let mut name = spelling;
     while let Some(front) = first_item(name) {
-        if let Item::Piece(piece) = front.item {
+        if let Item::Piece(piece) = front.0 {
             writer.token(piece)?;
         }
-        name = front.rest;
+        name = front.1;
     }
     Ok(())
 }

@@ -4,7 +4,8 @@
 //! - **Names** (specs/Names): an operator's spelling as pieces and holes (`items_of`), and a name's prefix spelling as
 //!   one token. `first_item` takes the first item off a spelling, without memory: it gives that item and what stands
 //!   behind it, and none exactly where there is none. The law `spellings_read`: the prefix spelling of a name reads
-//!   back as its items. A name is proper (specs/Proper) where its pieces are tokens, and with holes its spelling is one.
+//!   back as its items. A name is proper (specs/Proper) where its pieces are tokens, and where it has holes, its
+//!   spelling is one too.
 //! - **Mixfix** (specs/Mixfix) says which terms tokens spell (`Spells`), as a family by cases on the term, with a
 //!   precedence: variables, texts in parentheses, constants, prefix forms, and mixfix forms whose holes take
 //!   precedences by their marks. `Reads`: this term is spelled, and no other one (of a wanted sort's kind, where one is

@@ -1,5 +1,5 @@
 use Rattle.std.proofs.Common.{◌∙◌, ◌-◌, sym, refl, arith, length}
-use Rattle.mw_chart.specs.Chart.{inner}
+use Rattle.mw_chart.specs.Listed.{inner}
 use Rattle.mw_chart.proofs.Ends.{vec_length}
 use Rattle.mw_chart.proofs.Covered.{grows_same, grows_then, within_same, covers_first, covers_word, covers_last, covers_none, opened}
 use Rattle.mw_chart.proofs.gap.fill_strip.Goals as goal

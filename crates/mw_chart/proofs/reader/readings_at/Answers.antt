@@ -13,11 +13,11 @@ loop-cell-init c =
     let first = c.in_ok-cells.ensures in
     let len = first.0 in
     let at : length c.args.text.now - length c.in_ok-cells.cells.items ≡ c.args.i = omega (arith, len) in
-    let same : c.in_ok-ahead.ahead.cells.items ≡ c.in_ok-cells.cells.items = ap (λ (v : Vec _ Global). v.items) c.in_ok-ahead.ensures.cells in
+    let same : c.ahead_of-ahead.result.cells.items ≡ c.in_ok-cells.cells.items = ap (λ (v : Vec _ Global). v.items) c.ahead_of-ahead.ensures.cells in
     record {
       shape = rw same (omega (arith, len));
       cells = rw same (subst (λ (m : ℕ). IsCells c.args.table.now c.args.text.now c.args.i m c.in_ok-cells.cells.items) (sym at) first.1);
-      full = c.in_ok-ahead.ensures.full (length c.args.text.now);
+      full = c.ahead_of-ahead.ensures.full (length c.args.text.now);
       readings = rw (same, c.new-readings.ensures.items) (subst (λ (m : ℕ). IsRow c.args.table.now c.args.text.now c.args.i m ([])) (sym at) (no_row c.args.table.now c.args.text.now c.args.i c.requires.table));
     }
 

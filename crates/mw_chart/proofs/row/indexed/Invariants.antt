@@ -1,6 +1,7 @@
 use Rattle.std.proofs.Common.{◌≡◌, ◌+◌, ◌<◌, ℕ, Some, length}
 use Rattle.std.specs.List.{slice_get}
-use Rattle.mw_chart.specs.Row.{IsListed, IsInStrip}
+use Rattle.mw_chart.specs.Listed.{IsListed}
+use Rattle.mw_chart.specs.Row.{IsInStrip}
 use Rattle.mw_chart.specs.declared.slot.Reading.{Reading}
 use Rattle.mw_chart.proofs.row.indexed.Given as goal
 

@@ -1,13 +1,12 @@
-use Rattle.std.proofs.Common.{arith}
-use Rattle.mw_chart.proofs.Lists.{get_item}
+use Rattle.std.proofs.lemmas.Result.{on_ok_weaker}
 use Rattle.mw_grammar.specs.Readable.{kind_in}
-use Rattle.mw_grammar.proofs.Added.{adds_then}
-use Rattle.mw_grammar.proofs.Tokens.{declared_to, declared_from}
+use Rattle.mw_grammar.proofs.Added.{adds_same}
+use Rattle.mw_grammar.proofs.Numberings.{declared_to, declared_from}
 use Rattle.mw_grammar.proofs.leaves.push_declared.Goals as goal
 
-pub loop-variable-preserved : goal.loop-variable-preserved
-loop-variable-preserved c =
-    let i = c.loop-variable.variable-index in
-    let got = get_item c.args.variables.now i c.variable-item.result (omega arith) c.variable-item.is in
-    adds_then (kind_in c.args.kinds.now) _ _ _ _ _ _ _ _ _ (declared_to c.args.variables.now i c.variable-item.result c.args.token.now got)
-    (declared_from c.args.variables.now i c.variable-item.result c.args.token.now got) c.loop-variable.invariant c.in_ok-push_named.ensures
+pub returns : goal.returns
+returns c =
+    let vs = c.args.variables.now in
+    let token = c.args.token.now in
+    on_ok_weaker c.push_sorts.result
+    (adds_same (kind_in c.args.kinds.now) _ _ _ _ _ _ (declared_to vs c.sorts.result.now token c.sorts.ensures) (declared_from vs c.sorts.result.now token c.sorts.ensures)) c.push_sorts.ensures

@@ -12,7 +12,7 @@ use Rattle.mw_grammar.proofs.leaves.push_divided.Goals as goal
 pub returns-in_ok-push_sorted : goal.returns-in_ok-push_sorted
 returns-in_ok-push_sorted c =
     let token = c.args.token.now in
-    let colon : slice_get token c.args.colon ≡ Some 58 = get_is token c.args.colon 0 c.requires.within ∙ ap (λ m. Some m) c.if-token-colon-eq58.true in
+    let colon : slice_get token c.args.colon ≡ Some 58 = get_is token c.args.colon 0 c.requires ∙ ap (λ m. Some m) c.if-token-colon-eq58.true in
     let name : IsVariableName (take c.args.colon token) = c.if-is_name.ensures.0 refl in
     let found = subst (λ (S : List ℕ). Adds (kind_in c.args.kinds.now) c.args.leaves.now.items c.push_sorted.new.leaves.items c.args.found.now.items c.push_sorted.new.found.items
     (IsSortOf c.args.sorts.now (take c.args.colon token) S)) (rest_is token (c.args.colon + 1)) c.in_ok-push_sorted.ensures in

@@ -3,4 +3,4 @@ use Rattle.mw_poset.specs.Search.{Marks}
 use Rattle.mw_poset.proofs.search.mark.Given as goal
 
 abbrev pub invariant-loop-sort : goal.invariant-loop-sort
-invariant-loop-sort l = Marks (take l.sort-index l.sorts) l.initial.row l.row l.initial.waiting.items l.waiting.items
+invariant-loop-sort l = Marks l.from (take l.sort-index l.sorts) l.initial.marks l.marks l.initial.waiting.items l.waiting.items

@@ -1,8 +1,0 @@
-use Rattle.std.proofs.Common.{take}
-use Rattle.std.specs.Prelude.{All}
-use Rattle.mw_logic.specs.Sorts.{AtOrBelow}
-use Rattle.mw_poset.specs.Tables.{supersorts}
-use Rattle.mw_poset.proofs.search.is_on_cycle.Given as goal
-
-abbrev pub invariant-loop-next : goal.invariant-loop-next
-invariant-loop-next l = All (λ T. AtOrBelow l.links.pairs T l.sort → ⊥) (take l.next-index (supersorts l.links.pairs l.sort))

@@ -1,6 +1,0 @@
-use Rattle.std.proofs.Common.{ℕ, ◌<◌}
-use Rattle.mw_poset.specs.Order.{IsOnCycle}
-use Rattle.mw_poset.proofs.search.least_on_cycle.Given as goal
-
-abbrev pub invariant-loop-k : goal.invariant-loop-k
-invariant-loop-k l = (S : ℕ) → IsOnCycle l.links.pairs S → l.k < S
