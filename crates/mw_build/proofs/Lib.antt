@@ -1,10 +1,9 @@
 -- Laws of modules that are accepted.
-pub mod Keys
 pub mod Signatures
 pub mod Readable
+pub mod Mentioned
 pub mod Sides
 pub mod Reading
-pub mod Accepting
 pub mod Naming
 pub mod PrintedVariables
 pub mod Printing

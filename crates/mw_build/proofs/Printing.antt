@@ -3,7 +3,7 @@ use Rattle.std.proofs.Common.{◌≡◌, ◌∙◌, ℕ, zero, suc, List, false,
 use Rattle.std.proofs.lemmas.Bool.{both_ways}
 use Rattle.std.proofs.lemmas.Option.{slice_get_within}
 use Rattle.std.proofs.lemmas.List.Elements.{All-map}
-use Rattle.mw_lex.specs.Lexing.{Seen}
+use Rattle.mw_lex.specs.declared.token.Token.{Token}
 use Rattle.mw_lex.specs.Texts.{IsTokenText, AreTokens}
 use Rattle.mw_lex.proofs.Texts.{lexed_are_tokens}
 use Rattle.mw_logic.specs.Term.{RawTerm}
@@ -15,7 +15,8 @@ use Rattle.mw_text.specs.Mixfix.{Spells}
 use Rattle.mw_text.proofs.SpelledVariables.{Each, spelled_variables}
 use Rattle.mw_module.specs.Words.{texts}
 use Rattle.mw_module.proofs.Tokens.{units_are_of_tokens}
-use Rattle.mw_declare.specs.Meaning.{Sides}
+use Rattle.mw_build.specs.Sides.{Sides, equations_of}
+use Rattle.mw_build.proofs.SidesOfTokens.{equations_proper}
 use Rattle.mw_declare.specs.Declarations.{Declarations}
 use Rattle.mw_declare.specs.Proper.{IsProperVariable, AreProper}
 use Rattle.mw_declare.proofs.Proper.{all_at, declarations_are_proper}
@@ -52,9 +53,9 @@ module _ (source : List ℕ) (a : Accepted) (of : IsOfSource source a) where
   qid = ap (λ (s : Signature). s.qid) signature_is ∙ qid_declared of.unit d of.accepted.declared
 
   -- the variables of what tokens spell
-  side_printable : (ts : List Seen) (t : RawTerm) (p : ℕ) → AreTokens ts → Spells d.signature d.variables t p (texts ts) → ArePrintable d.signature t
+  side_printable : (ts : List Token) (t : RawTerm) (p : ℕ) → AreTokens ts → Spells d.signature d.variables t p (texts ts) → ArePrintable d.signature t
   side_printable ts t p tokens s x o =
-      let each : Each IsTokenText (texts ts) = member-all IsTokenText (texts ts) (All-map IsTokenText (λ (t : Seen). t.text) ts tokens) in
+      let each : Each IsTokenText (texts ts) = member-all IsTokenText (texts ts) (All-map IsTokenText (λ (t : Token). t.text) ts tokens) in
       spelled_variables d.signature d.variables (IsPrintable d.signature) IsTokenText
       (λ y m. declared_printable d.signature proper.sorts y (member-all (IsProperVariable d.signature) d.variables proper.variables y m))
       (with_sort_printable d.signature) s each x o

@@ -32,17 +32,17 @@ fn lexed(alloc: Global, text: &str) -> Result<Vec<Token>, Fail> {
     tokens(alloc, text.as_bytes()).map_err(|_| Fail::from("no tokens"))
 }
 
-fn unit(alloc: Global, tokens: &[Token]) -> Result<Box<Unit>, Fail> {
+fn unit(alloc: Global, tokens: &[Token]) -> Result<Box<Unit<'_>>, Fail> {
     if tokens.is_empty() {
         return Err(Fail::from("no token"));
     }
-    match read_unit(alloc, tokens, 0, false) {
-        Ok((unit, _)) => Ok(Box::new(alloc, unit)?),
-        Err(_) => Err(Fail::from("no unit")),
+    match read_unit(alloc, tokens, 0, false)? {
+        (Ok(unit), _) => Ok(Box::new(alloc, unit)?),
+        (Err(_), _) => Err(Fail::from("no unit")),
     }
 }
 
-fn built(alloc: Global, unit: &Unit) -> Result<Box<Module>, Fail> {
+fn built(alloc: Global, unit: &Unit<'_>) -> Result<Box<Module>, Fail> {
     let name = Name::of(b"L".to_vec(alloc)?);
     match build(alloc, unit, name) {
         Ok(module) => Ok(Box::new(alloc, module)?),

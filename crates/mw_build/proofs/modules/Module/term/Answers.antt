@@ -5,7 +5,6 @@ use Rattle.mw_machine.specs.Simple.{IsSimpleSignature}
 use Rattle.mw_parse.specs.declared.reader.Reader.{Reader}
 use Rattle.mw_parse.specs.Readers.{IsReaderOf, IsReading}
 use Rattle.mw_build.proofs.Sides.{raw_read}
-use Rattle.mw_lex.specs.Lexing.{seen_all}
 use Rattle.mw_term.specs.declared.raw.Raw.{Raw}
 use Rattle.mw_term.specs.Raws.{raw_term}
 use Rattle.mw_text.specs.Mixfix.{Reads}
@@ -16,18 +15,18 @@ use Rattle.mw_build.proofs.modules.Module.term.Goals as goal
 
 pub returns-clause-read : goal.returns-clause-read
 returns-clause-read c =
-    subst (λ (a : Accepted). IfOk c.parse.result (λ (t : Raw). Reads a.module.signature a.variables None (texts (seen_all c.args.tokens.now)) (raw_term t))) c.self.view_is
+    subst (λ (a : Accepted). IfOk c.parse.result (λ (t : Raw). Reads a.module.signature a.variables None (texts c.args.tokens.now) (raw_term t))) c.self.view_is
     (c.parse.ensures.read c.self.inside.context.value.signature c.self.inside.variables (subst (λ (r : Reader). IsReaderOf c.self.inside.context.value.signature c.self.inside.variables r) (sym c.deref-2.ensures) c.self.invariant))
 
 pub returns-clause-cause : goal.returns-clause-cause
 returns-clause-cause c =
-    subst (λ (a : Accepted). IfErr c.parse.result (HasCause a.module.signature a.variables None (texts (seen_all c.args.tokens.now)))) c.self.view_is
+    subst (λ (a : Accepted). IfErr c.parse.result (HasCause a.module.signature a.variables None (texts c.args.tokens.now))) c.self.view_is
     (c.parse.ensures.cause c.self.inside.context.value.signature c.self.inside.variables (subst (λ (r : Reader). IsReaderOf c.self.inside.context.value.signature c.self.inside.variables r) (sym c.deref-2.ensures) c.self.invariant))
 
 pub returns-clause-raw : goal.returns-clause-raw
 returns-clause-raw c =
     subst (λ (a : Accepted). IfOk c.parse.result (λ (t : Raw). IsRawTerm a.module.signature (raw_term t))) c.self.view_is
-    (raw_read c.self.inside.context.value.signature c.self.inside.variables (texts (seen_all c.args.tokens.now)) (subst (λ (M : Module). IsSimpleSignature M.signature) c.deref.ensures c.shows.ensures.signature) c.parse.result
+    (raw_read c.self.inside.context.value.signature c.self.inside.variables (texts c.args.tokens.now) (subst (λ (M : Module). IsSimpleSignature M.signature) c.deref.ensures c.shows.ensures.signature) c.parse.result
     (c.parse.ensures.read c.self.inside.context.value.signature c.self.inside.variables (subst (λ (r : Reader). IsReaderOf c.self.inside.context.value.signature c.self.inside.variables r) (sym c.deref-2.ensures) c.self.invariant)))
 
 pub parse-requires : goal.parse-requires

@@ -1,6 +1,6 @@
 use Rattle.std.proofs.Common.{◌∙◌, sym, ap, subst, Ok, Some, [], ◌∷◌, ◌++◌, false}
 use Rattle.std.proofs.lemmas.Bool.{both_ways}
-use Rattle.mw_module.specs.Refusals.{already_defined, refusal_of}
+use Rattle.mw_module.specs.declared.faults.FaultKind.TheVariants.{AlreadyDefined}
 use Rattle.mw_module.specs.Units.{seen_unit}
 use Rattle.mw_build.specs.Modules.{IsAccepted, HasCause}
 use Rattle.mw_top.specs.Sources.{IsTaken, Gives, taken, refused, accepted}
@@ -15,7 +15,7 @@ returns-then-is_taken c =
     let named = name_seen c.args.unit.now.name c.args.name.now c.requires ∙ ap Some (sym copied) in
     let is = subst (IsTaken c.args.self.now) (c.as_slice-name.ensures.value ∙ sym copied) (c.is_taken.ensures.0 c.if-is_taken.true) in
     if_ok c.refused.result c.refused.ensures
-    (λ a h. refused_gives c.args.most c.args.self.now (Ok (seen_unit c.args.unit.now)) (record { line = c.args.unit.now.line; cause = already_defined c.in_ok-to_vec.field-0.items }) a.text.items a.refused
+    (λ a h. refused_gives c.args.most c.args.self.now (Ok (seen_unit c.args.unit.now)) (record { line = c.args.unit.now.line; kind = AlreadyDefined c.in_ok-to_vec.field-0.items }) a.text.items a.refused
     (taken (seen_unit c.args.unit.now) c.in_ok-to_vec.field-0.items named is) h)
 
 pub accept-requires : goal.accept-requires
@@ -38,5 +38,5 @@ returns-in-Err-Fault c =
     let named = name_seen c.args.unit.now.name c.args.name.now c.requires in
     let free : IsTaken c.args.self.now c.args.name.now.text.items → ⊥ = λ k. both_ways _ c.if-is_taken.false (c.is_taken.ensures.1 (subst (IsTaken c.args.self.now) (sym c.as_slice-name.ensures.value) k)) in
     if_ok c.refused_by.result c.refused_by.ensures
-    (λ a h. refused_gives c.args.most c.args.self.now (Ok (seen_unit c.args.unit.now)) (refusal_of c.in-Err-Fault.fault) a.text.items a.refused
-    (refused (seen_unit c.args.unit.now) c.args.name.now.text.items (refusal_of c.in-Err-Fault.fault) named free (subst (HasCause (seen_unit c.args.unit.now)) c.in-Err-Fault.field-0-is c.in-Err-Fault.ensures.fault)) h)
+    (λ a h. refused_gives c.args.most c.args.self.now (Ok (seen_unit c.args.unit.now)) c.in-Err-Fault.fault a.text.items a.refused
+    (refused (seen_unit c.args.unit.now) c.args.name.now.text.items c.in-Err-Fault.fault named free (subst (HasCause (seen_unit c.args.unit.now)) c.in-Err-Fault.field-0-is c.in-Err-Fault.ensures.fault)) h)
