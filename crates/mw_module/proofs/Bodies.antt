@@ -9,7 +9,6 @@ use Rattle.mw_module.specs.declared.faults.Fault.{Fault}
 use Rattle.mw_module.proofs.Slices.{seen_take, seen_length}
 use Rattle.std.specs.Prelude.{codes, All, IsOk}
 use Rattle.std.proofs.lemmas.List.Elements.{All-append, All-nil, All-cons}
-use Rattle.mw_lex.specs.Lexing.{Seen, seen_all}
 use Rattle.mw_module.specs.declared.faults.FaultKind.{FaultKind}
 use Rattle.mw_module.specs.declared.faults.FaultKind.TheVariants.{BadStatement}
 use Rattle.mw_module.specs.Forms.{Shape, form_of}
@@ -17,15 +16,15 @@ use Rattle.mw_module.specs.Words.{is, count_before}
 use Rattle.mw_module.specs.Units.{Cut, with_token, cut, Body, with_items, statements_before, kind_unended, left_of, body_of, seen_items, IsFormed}
 
 -- the line of the first token
-abbrev pub first_line : List Seen → ℕ
+abbrev pub first_line : List Token → ℕ
 first_line [] = 0
 first_line (t ∷ rest) = t.line
 
 -- a body whose first statement has this line and these tokens, before these others
-abbrev pub cut_before : ℕ → List Seen → List Seen → Cut
+abbrev pub cut_before : ℕ → List Token → List Token → Cut
 cut_before line ts others = record { statements = record { line = line; tokens = ts } ∷ (cut others).statements; left = (cut others).left }
 
-cut_case : (b : Bool) (t : Seen) (rest : List Seen) (n : ℕ) → (n < length rest → cut rest ≡ cut_before (first_line rest) (take n rest) (drop (n + 1) rest)) → cond b 0 (1 + n) < length (t ∷ rest)
+cut_case : (b : Bool) (t : Token) (rest : List Token) (n : ℕ) → (n < length rest → cut rest ≡ cut_before (first_line rest) (take n rest) (drop (n + 1) rest)) → cond b 0 (1 + n) < length (t ∷ rest)
     → cond b (cut_before t.line [] rest) (with_token t (cut rest).statements (cut rest).left) ≡ cut_before t.line (take (cond b 0 (1 + n)) (t ∷ rest)) (drop (cond b 0 (1 + n) + 1) (t ∷ rest))
 cut_case true t rest n next h = refl
 cut_case false t rest n next h =
@@ -34,17 +33,17 @@ cut_case false t rest n next h =
     let met : cut rest ≡ cut_before (first_line rest) (take n rest) (drop (n + 1) rest) = next (omega arith) in
     rw (past, more, met) refl
 
-pub cut_at : (ts : List Seen) → count_before (codes ".") ts < length ts
+pub cut_at : (ts : List Token) → count_before (codes ".") ts < length ts
     → cut ts ≡ cut_before (first_line ts) (take (count_before (codes ".") ts) ts) (drop (count_before (codes ".") ts + 1) ts)
 cut_at [] h = absurd (omega arith)
 cut_at (t ∷ rest) h = cut_case (is (codes ".") t) t rest (count_before (codes ".") rest) (cut_at rest) h
 
-whole_case : (b : Bool) (t : Seen) (rest : List Seen) (n : ℕ) → (n ≡ length rest → cut rest ≡ record { statements = []; left = rest }) → cond b 0 (1 + n) ≡ length (t ∷ rest)
+whole_case : (b : Bool) (t : Token) (rest : List Token) (n : ℕ) → (n ≡ length rest → cut rest ≡ record { statements = []; left = rest }) → cond b 0 (1 + n) ≡ length (t ∷ rest)
     → cond b (cut_before t.line [] rest) (with_token t (cut rest).statements (cut rest).left) ≡ record { statements = []; left = t ∷ rest }
 whole_case true t rest n next h = absurd (omega arith)
 whole_case false t rest n next h = let met : cut rest ≡ record { statements = []; left = rest } = next (omega arith) in rw met refl
 
-pub cut_whole : (ts : List Seen) → count_before (codes ".") ts ≡ length ts → cut ts ≡ record { statements = []; left = ts }
+pub cut_whole : (ts : List Token) → count_before (codes ".") ts ≡ length ts → cut ts ≡ record { statements = []; left = ts }
 cut_whole [] h = refl
 cut_whole (t ∷ rest) h = whole_case (is (codes ".") t) t rest (count_before (codes ".") rest) (cut_whole rest) h
 
@@ -53,21 +52,21 @@ abbrev body_by : Cut → Body
 body_by c = statements_before c.statements (left_of c.left)
 
 -- a statement of a form, and the others
-pub body_step : (ts : List Seen) (n : ℕ) (shape : Shape) → n ≡ count_before (codes ".") ts → n < length ts → form_of (take n ts) ≡ Ok shape
+pub body_step : (ts : List Token) (n : ℕ) (shape : Shape) → n ≡ count_before (codes ".") ts → n < length ts → form_of (take n ts) ≡ Ok shape
     → body_of ts ≡ with_items (take n ts ∷ []) (body_of (drop (n + 1) ts))
 body_step ts n shape e h f =
-    let met : cut ts ≡ cut_before (first_line ts) (take n ts) (drop (n + 1) ts) = rw (e) (cut_at ts (omega arith)) in
+    let met : cut ts ≡ cut_before (first_line ts) (take n ts) (drop (n + 1) ts) = rw e (cut_at ts (omega arith)) in
     ap body_by met ∙ rw f refl
 
 -- a statement that is at fault, and that a full stop ends
-body_bad : (ts : List Seen) (n : ℕ) (kind : FaultKind) → n ≡ count_before (codes ".") ts → n < length ts → form_of (take n ts) ≡ Err kind
+body_bad : (ts : List Token) (n : ℕ) (kind : FaultKind) → n ≡ count_before (codes ".") ts → n < length ts → form_of (take n ts) ≡ Err kind
     → body_of ts ≡ Err (record { line = first_line ts; kind = kind })
 body_bad ts n kind e h f =
-    let met : cut ts ≡ cut_before (first_line ts) (take n ts) (drop (n + 1) ts) = rw (e) (cut_at ts (omega arith)) in
+    let met : cut ts ≡ cut_before (first_line ts) (take n ts) (drop (n + 1) ts) = rw e (cut_at ts (omega arith)) in
     ap body_by met ∙ rw f refl
 
 -- a statement that no full stop ends
-body_left : (ts : List Seen) (n : ℕ) → n ≡ count_before (codes ".") ts → n ≡ length ts → 0 < length ts
+body_left : (ts : List Token) (n : ℕ) → n ≡ count_before (codes ".") ts → n ≡ length ts → 0 < length ts
     → body_of ts ≡ Err (record { line = first_line ts; kind = kind_unended (form_of (take n ts)) })
 body_left [] n e whole some = absurd (omega arith)
 body_left (t ∷ rest) n e whole some =
@@ -76,54 +75,54 @@ body_left (t ∷ rest) n e whole some =
     ap body_by met ∙ rw all refl
 
 -- the first token of those that are seen
-first_line_is : (ts : List Token) (t : Token) → 0 < length ts → t ≡ get_or ts 0 t → first_line (seen_all ts) ≡ t.line
+first_line_is : (ts : List Token) (t : Token) → 0 < length ts → t ≡ get_or ts 0 t → first_line ts ≡ t.line
 first_line_is [] t some head = absurd (omega arith)
 first_line_is (u ∷ us) t some head = ap (λ (x : Token). x.line) (sym head)
 
 -- a body whose first statement is at fault
-pub body_fault : (ts : List Token) (t : Token) (n : ℕ) (kind : FaultKind) → 0 < length ts → t ≡ get_or ts 0 t → n ≡ count_before (codes ".") (seen_all ts) → n ≤ length ts
-    → form_of (seen_all (take n ts)) ≡ Err kind → body_of (seen_all ts) ≡ Err (record { line = t.line; kind = kind })
+pub body_fault : (ts : List Token) (t : Token) (n : ℕ) (kind : FaultKind) → 0 < length ts → t ≡ get_or ts 0 t → n ≡ count_before (codes ".") ts → n ≤ length ts
+    → form_of ((take n ts)) ≡ Err kind → body_of ts ≡ Err (record { line = t.line; kind = kind })
 body_fault ts t n kind some head e within f =
-    let size : length (seen_all ts) ≡ length ts = seen_length ts in
-    let line : first_line (seen_all ts) ≡ t.line = first_line_is ts t some head in
-    let form : form_of (take n (seen_all ts)) ≡ Err kind = ap form_of (sym (seen_take n ts)) ∙ f in
+    let size : length ts ≡ length ts = seen_length ts in
+    let line : first_line ts ≡ t.line = first_line_is ts t some head in
+    let form : form_of (take n ts) ≡ Err kind = ap form_of (sym (seen_take n ts)) ∙ f in
     elim (eq-or-lt_of_le within) [
-      | inr short ↦ rw line at (body_bad (seen_all ts) n kind e (omega arith) form)
-      | inl whole ↦ rw (line, form) at (body_left (seen_all ts) n e (whole ∙ sym size) (omega arith))
+      | inr short ↦ rw line at (body_bad ts n kind e (omega arith) form)
+      | inl whole ↦ rw (line, form) at (body_left ts n e (whole ∙ sym size) (omega arith))
     ]
 
 -- a body whose first statement has no end, and nothing else that is wrong
-pub body_unended : (ts : List Token) (t : Token) (n : ℕ) (shape : Shape) → 0 < length ts → t ≡ get_or ts 0 t → n ≡ count_before (codes ".") (seen_all ts) → n ≡ length ts
-    → form_of (seen_all (take n ts)) ≡ Ok shape → body_of (seen_all ts) ≡ Err (record { line = t.line; kind = BadStatement })
+pub body_unended : (ts : List Token) (t : Token) (n : ℕ) (shape : Shape) → 0 < length ts → t ≡ get_or ts 0 t → n ≡ count_before (codes ".") ts → n ≡ length ts
+    → form_of ((take n ts)) ≡ Ok shape → body_of ts ≡ Err (record { line = t.line; kind = BadStatement })
 body_unended ts t n shape some head e whole f =
-    let size : length (seen_all ts) ≡ length ts = seen_length ts in
-    let line : first_line (seen_all ts) ≡ t.line = first_line_is ts t some head in
-    let form : form_of (take n (seen_all ts)) ≡ Ok shape = ap form_of (sym (seen_take n ts)) ∙ f in
-    rw (line, form) at (body_left (seen_all ts) n e (whole ∙ sym size) (omega arith))
+    let size : length ts ≡ length ts = seen_length ts in
+    let line : first_line ts ≡ t.line = first_line_is ts t some head in
+    let form : form_of (take n ts) ≡ Ok shape = ap form_of (sym (seen_take n ts)) ∙ f in
+    rw (line, form) at (body_left ts n e (whole ∙ sym size) (omega arith))
 
 -- a fault stays what it is behind items that came before
-pub fault_kept : (items : List (List Seen)) (b w : Body) (f : Fault) → with_items items b ≡ w → b ≡ Err f → Err f ≡ w
+pub fault_kept : (items : List (List Token)) (b w : Body) (f : Fault) → with_items items b ≡ w → b ≡ Err f → Err f ≡ w
 fault_kept items b w f kept e = ap (with_items items) (sym e) ∙ kept
 
-items_twice : (xs ys : List (List Seen)) (b : Body) → with_items (xs ++ ys) b ≡ with_items xs (with_items ys b)
+items_twice : (xs ys : List (List Token)) (b : Body) → with_items (xs ++ ys) b ≡ with_items xs (with_items ys b)
 items_twice xs ys (Ok others) = ap Ok (append_assoc xs ys others)
 items_twice xs ys (Err fault) = refl
 
 -- one more item came to those before
-pub items_kept : (xs : List (Vec Token)) (v : Vec Token) (ts behind : List Token) (n : ℕ) (shape : Shape) (w : Body) → n ≡ count_before (codes ".") (seen_all ts) → n < length ts
-    → form_of (seen_all (take n ts)) ≡ Ok shape → seen_all v.items ≡ seen_all (take n ts) → seen_all behind ≡ drop (n + 1) (seen_all ts)
-    → with_items (seen_items xs) (body_of (seen_all ts)) ≡ w → with_items (seen_items (xs ++ v ∷ [])) (body_of (seen_all behind)) ≡ w
+pub items_kept : (xs : List (Vec Token)) (v : Vec Token) (ts behind : List Token) (n : ℕ) (shape : Shape) (w : Body) → n ≡ count_before (codes ".") ts → n < length ts
+    → form_of ((take n ts)) ≡ Ok shape → v.items ≡ (take n ts) → behind ≡ drop (n + 1) ts
+    → with_items (seen_items xs) (body_of ts) ≡ w → with_items (seen_items (xs ++ v ∷ [])) (body_of behind) ≡ w
 items_kept xs v ts behind n shape w e short f same next kept =
-    let size : length (seen_all ts) ≡ length ts = seen_length ts in
-    let form : form_of (take n (seen_all ts)) ≡ Ok shape = ap form_of (sym (seen_take n ts)) ∙ f in
-    let step : body_of (seen_all ts) ≡ with_items (take n (seen_all ts) ∷ []) (body_of (drop (n + 1) (seen_all ts))) = body_step (seen_all ts) n shape e (omega arith) form in
-    let item : seen_all v.items ≡ take n (seen_all ts) = same ∙ seen_take n ts in
-    rw (map-append, next, item) (items_twice (seen_items xs) (take n (seen_all ts) ∷ []) (body_of (drop (n + 1) (seen_all ts))) ∙ ap (with_items (seen_items xs)) (sym step) ∙ kept)
+    let size : length ts ≡ length ts = seen_length ts in
+    let form : form_of (take n ts) ≡ Ok shape = ap form_of (sym (seen_take n ts)) ∙ f in
+    let step : body_of ts ≡ with_items (take n ts ∷ []) (body_of (drop (n + 1) ts)) = body_step ts n shape e (omega arith) form in
+    let item : v.items ≡ take n ts = same ∙ seen_take n ts in
+    rw (map-append, next, item) (items_twice (seen_items xs) (take n ts ∷ []) (body_of (drop (n + 1) ts)) ∙ ap (with_items (seen_items xs)) (sym step) ∙ kept)
 
 -- one more item with a form
-pub formed_more : (xs : List (Vec Token)) (v : Vec Token) (ts : List Token) (shape : Shape) → form_of (seen_all ts) ≡ Ok shape → seen_all v.items ≡ seen_all ts
+pub formed_more : (xs : List (Vec Token)) (v : Vec Token) (ts : List Token) (shape : Shape) → form_of ts ≡ Ok shape → v.items ≡ ts
     → All IsFormed (seen_items xs) → All IsFormed (seen_items (xs ++ v ∷ []))
 formed_more xs v ts shape form same formed =
-    let met : form_of (seen_all v.items) ≡ Ok shape = ap form_of same ∙ form in
-    let here : IsFormed (seen_all v.items) = subst IsOk (sym met) refl in
-    rw map-append (All-append IsFormed (seen_items xs) (seen_all v.items ∷ []) formed (All-cons IsFormed (seen_all v.items) [] here (All-nil IsFormed)))
+    let met : form_of v.items ≡ Ok shape = ap form_of same ∙ form in
+    let here : IsFormed v.items = subst IsOk (sym met) refl in
+    rw map-append (All-append IsFormed (seen_items xs) (v.items ∷ []) formed (All-cons IsFormed v.items [] here (All-nil IsFormed)))

@@ -1,6 +1,6 @@
 -- Of what tokens units and statements are made.
 use Rattle.std.specs.Prelude.{◌≡◌, ℕ, Bool, List, All, Ok, ⊤}
-use Rattle.mw_lex.specs.Lexing.{Seen}
+use Rattle.mw_lex.specs.declared.token.Token.{Token}
 use Rattle.mw_lex.specs.Texts.{IsRun, AreTokens}
 use Rattle.mw_text.specs.Names.{name_of_tokens}
 use Rattle.mw_text.specs.Proper.{IsProperName}
@@ -14,16 +14,16 @@ IsOfTokens u = All AreTokens u.items
 
 -- A unit of a source that is made of tokens is made of tokens.
 abbrev pub UnitsAreOfTokens : Type 0
-UnitsAreOfTokens = (proofs : Bool) (tokens : List Seen) (at next : ℕ) (u : SeenUnit) → AreTokens tokens → Reads proofs tokens at (Ok u) next → IsOfTokens u
+UnitsAreOfTokens = (proofs : Bool) (tokens : List Token) (at next : ℕ) (u : SeenUnit) → AreTokens tokens → Reads proofs tokens at (Ok u) next → IsOfTokens u
 
 -- Names of sorts and variables are runs, names of operators are proper, and sides are made of tokens.
 abbrev pub HasProperParts : Shape → Type 0
 HasProperParts (Sorts names) = All IsRun (texts names)
 HasProperParts (Subsorts groups) = ⊤
-HasProperParts (Operators names args result said) = All (λ (name : List Seen). IsProperName (name_of_tokens (texts name))) names
+HasProperParts (Operators names args result said) = All (λ (name : List Token). IsProperName (name_of_tokens (texts name))) names
 HasProperParts (Variables names sort) = All IsRun (texts names)
 HasProperParts (Equation left right executable) = AreTokens left × AreTokens right
 
 -- The parts of a statement that is made of tokens are proper.
 abbrev pub FormsAreProper : Type 0
-FormsAreProper = (ts : List Seen) (shape : Shape) → AreTokens ts → form_of ts ≡ Ok shape → HasProperParts shape
+FormsAreProper = (ts : List Token) (shape : Shape) → AreTokens ts → form_of ts ≡ Ok shape → HasProperParts shape

@@ -2,7 +2,6 @@
 use Rattle.std.specs.Prelude.{◌≡◌, ◌<◌, ◌≤◌, ℕ, Bool, List, [], ◌∷◌, ◌++◌, ◌+◌, ◌-◌, ◌==◌, nat_lt, length, take, drop, map, All, IsOk, IsSome, Option, None, Some, option_map, Result, Ok, Err, if◌then◌else◌, codes}
 use Rattle.std.specs.Global.{Vec}
 use Rattle.mw_lex.specs.declared.token.Token.{Token}
-use Rattle.mw_lex.specs.Lexing.{Seen, seen, seen_all}
 use Rattle.mw_module.specs.declared.faults.Fault.{Fault}
 use Rattle.mw_module.specs.declared.faults.FaultKind.{FaultKind}
 use Rattle.mw_module.specs.declared.faults.FaultKind.TheVariants.{NotInProfile, BadStatement}
@@ -19,12 +18,12 @@ use Rattle.mw_module.specs.Words.{is, begins, count_before}
 pub record SeenUnit : Type 0 where
   pub line : ℕ
   pub word : List ℕ
-  pub name : Option Seen
-  pub items : List (List Seen)
+  pub name : Option Token
+  pub items : List (List Token)
 
 -- the tokens of several items
-abbrev pub seen_items : List (Vec Token) → List (List Seen)
-seen_items items = map (λ item. seen_all item.items) items
+abbrev pub seen_items : List (Vec Token) → List (List Token)
+seen_items items = map (λ item. item.items) items
 
 -- a unit as its readers see it
 abbrev pub seen_unit : SourceUnit → SeenUnit
@@ -33,19 +32,19 @@ seen_unit u = record { line = u.line; word = u.word.items; name = option_map see
 -- a statement by the line of its first token, and its tokens before the full stop
 pub record Statement : Type 0 where
   pub line : ℕ
-  pub tokens : List Seen
+  pub tokens : List Token
 
 -- a body's statements, each up to the first full stop, and what stands behind the last full stop
 pub record Cut : Type 0 where
   pub statements : List Statement
-  pub left : List Seen
+  pub left : List Token
 
 -- a token before the first statement, or before what is left where there is none
-abbrev pub with_token : Seen → List Statement → List Seen → Cut
+abbrev pub with_token : Token → List Statement → List Token → Cut
 with_token t [] left = record { statements = []; left = t ∷ left }
 with_token t (s ∷ ss) left = record { statements = record { line = t.line; tokens = t ∷ s.tokens } ∷ ss; left = left }
 
-abbrev pub cut : List Seen → Cut
+abbrev pub cut : List Token → Cut
 cut [] = record { statements = []; left = [] }
 cut (t ∷ rest) = let behind = cut rest in
     if is (codes ".") t then record { statements = record { line = t.line; tokens = [] } ∷ behind.statements; left = behind.left }
@@ -53,7 +52,7 @@ cut (t ∷ rest) = let behind = cut rest in
 
 -- a body's statements by their tokens, or its first fault
 abbrev pub Body : Type 0
-Body = Result (List (List Seen)) Fault
+Body = Result (List (List Token)) Fault
 
 -- the items, or the fault, as their readers see them
 abbrev pub seen_body : Result (Vec (Vec Token)) Fault → Body
@@ -61,7 +60,7 @@ seen_body (Ok items) = Ok (seen_items items.items)
 seen_body (Err fault) = Err fault
 
 -- these items before the others; a fault stays
-abbrev pub with_items : List (List Seen) → Body → Body
+abbrev pub with_items : List (List Token) → Body → Body
 with_items items (Ok others) = Ok (items ++ others)
 with_items items (Err fault) = Err fault
 
@@ -79,20 +78,20 @@ abbrev pub kind_unended : Formed → FaultKind
 kind_unended (Ok shape) = BadStatement
 kind_unended (Err kind) = kind
 
-abbrev pub left_of : List Seen → Body
+abbrev pub left_of : List Token → Body
 left_of [] = Ok []
 left_of (t ∷ rest) = Err (record { line = t.line; kind = kind_unended (form_of (t ∷ rest)) })
 
 -- a body: its statements one after the other
-abbrev pub body_of : List Seen → Body
+abbrev pub body_of : List Token → Body
 body_of ts = statements_before (cut ts).statements (left_of (cut ts).left)
 
 -- a brace stands before the first `is`
-abbrev pub has_brace : List Seen → Bool
+abbrev pub has_brace : List Token → Bool
 has_brace ts = nat_lt (count_before (codes "{") ts) (count_before (codes "is") ts)
 
 -- what is wrong with a module's name and what stands behind it
-abbrev pub head_fault : Seen → List Seen → Option FaultKind
+abbrev pub head_fault : Token → List Token → Option FaultKind
 head_fault name behind = if is (codes "{") name then Some NotInProfile
     else if begins (codes "is") behind then None
     else if has_brace behind then Some NotInProfile else Some BadStatement
@@ -107,22 +106,22 @@ seen_outcome (Ok unit) = Ok (seen_unit unit)
 seen_outcome (Err fault) = Err fault
 
 -- a module with this body
-abbrev pub module_with : Seen → Seen → Body → Outcome
+abbrev pub module_with : Token → Token → Body → Outcome
 module_with first name (Ok items) = Ok (record { line = first.line; word = first.text; name = Some name; items = items })
 module_with first name (Err fault) = Err fault
 
 -- a module with a name, where nothing is wrong with it and `is`
-abbrev pub module_named : Seen → Seen → List Seen → Option FaultKind → Outcome
+abbrev pub module_named : Token → Token → List Token → Option FaultKind → Outcome
 module_named first name behind None = module_with first name (body_of (drop 1 behind))
 module_named first name behind (Some kind) = Err (record { line = first.line; kind = kind })
 
 -- a module: its first word, its name, `is`, and statements
-abbrev pub module_of : Seen → List Seen → Outcome
+abbrev pub module_of : Token → List Token → Outcome
 module_of first [] = Err (record { line = first.line; kind = BadStatement })
 module_of first (name ∷ behind) = module_named first name behind (head_fault name behind)
 
 -- a unit of this kind, by its first token and all its tokens before the last
-abbrev pub unit_with : Kind → Seen → List Seen → Outcome
+abbrev pub unit_with : Kind → Token → List Token → Outcome
 unit_with kind.Functional first ts = module_of first (drop 1 ts)
 unit_with kind.System first ts = Err (record { line = first.line; kind = NotInProfile })
 unit_with kind.Object first ts = Err (record { line = first.line; kind = NotInProfile })
@@ -135,7 +134,7 @@ unit_with kind.Proof first ts = Err (record { line = first.line; kind = NotInPro
 unit_with kind.Command first ts = Ok (record { line = first.line; word = first.text; name = None; items = ts ∷ [] })
 
 -- a statement that has a form
-abbrev pub IsFormed : List Seen → Type 0
+abbrev pub IsFormed : List Token → Type 0
 IsFormed ts = IsOk (form_of ts)
 
 -- each of a module's statements has a form
@@ -148,23 +147,23 @@ pub record Reading : Type 0 where
   pub len : ℕ
 
 -- a unit of this kind goes to the first token that ends it; else the input ends in it
-abbrev pub reading_of : Kind → Seen → List Seen → Reading
+abbrev pub reading_of : Kind → Token → List Token → Reading
 reading_of kind first ts = let n = count_before (end_word kind) ts in
     if n == length ts then record { outcome = Err (record { line = first.line; kind = unended kind }); len = n }
     else record { outcome = unit_with kind first (take n ts); len = n + 1 }
 
 -- the unit at the front of these tokens, if there are any
-abbrev pub front_unit : Bool → List Seen → Option Reading
+abbrev pub front_unit : Bool → List Token → Option Reading
 front_unit proofs [] = None
 front_unit proofs (t ∷ rest) = Some (reading_of (kind_of proofs t.text) t (t ∷ rest))
 
 -- the unit at this place is this one, or at fault so, and the next one begins there
-pub record Reads (proofs : Bool) (tokens : List Seen) (at : ℕ) (outcome : Outcome) (next : ℕ) : Type 0 where
+pub record Reads (proofs : Bool) (tokens : List Token) (at : ℕ) (outcome : Outcome) (next : ℕ) : Type 0 where
   pub reading : front_unit proofs (drop at tokens) ≡ Some (record { outcome = outcome; len = next - at })
   pub further : at < next
   pub within : next ≤ length tokens
 
 -- why there is no unit at this place: want of memory, which is free, or its fault
-abbrev pub HasCause : Bool → List Seen → ℕ → UnitError → Type 0
+abbrev pub HasCause : Bool → List Token → ℕ → UnitError → Type 0
 HasCause proofs tokens at error.Memory = Unit {0}
 HasCause proofs tokens at (error.Fault fault next) = Reads proofs tokens at (Err fault) next

@@ -1,6 +1,5 @@
 // The units of a source.
 ghost use Rattle.std.specs.Prelude.{◌≡◌, ◌<◌, ◌≤◌, ◌+◌, ℕ, List, length, drop, map, All, IfOk, IfErr, Ok, Err, Some};
-ghost use Rattle.mw_lex.specs.Lexing.{seen, seen_all};
 ghost use Rattle.mw_module.specs.Units as units;
 ghost use Rattle.mw_module.specs.declared.units.UnitError.TheVariants.{Memory};
 ghost use Rattle.mw_module.specs.declared.kinds.Kind.TheVariants as kinds;
@@ -42,7 +41,7 @@ impl From<AllocError> for UnitError {
 /// The same tokens once more.
 #[tactic(auto, using(crate::proofs::Clones::seen_copies))]
 pub fn copies(alloc: Global, tokens: &[Token]) -> Result<Vec<Token>, AllocError>
-    ensures { IfOk result (λ v. seen_all v.items ≡ seen_all tokens.now) }
+    ensures { IfOk result (λ v. v.items ≡ tokens.now) }
 {
     let copies = tokens.to_vec(alloc)?;
     Ok(copies)
@@ -50,7 +49,7 @@ pub fn copies(alloc: Global, tokens: &[Token]) -> Result<Vec<Token>, AllocError>
 
 // The statements of a body, or its first fault.
 fn read_body(alloc: Global, body: &[Token]) -> Result<Result<Vec<Vec<Token>>, Fault>, AllocError>
-    ensures body { IfOk result (λ r. units.seen_body r ≡ units.body_of (seen_all body.now)) }
+    ensures body { IfOk result (λ r. units.seen_body r ≡ units.body_of body.now) }
     ensures formed { IfOk result (λ r. IfOk r (λ items. All units.IsFormed (units.seen_items items.items))) }
 {
     let mut items = Vec::new(alloc);
@@ -78,7 +77,7 @@ fn read_body(alloc: Global, body: &[Token]) -> Result<Result<Vec<Vec<Token>>, Fa
 
 // What is wrong with a module's name and what stands behind it.
 fn head_fault(name: &Token, behind: &[Token]) -> Option<FaultKind>
-    ensures { result ≡ units.head_fault (seen name.now) (seen_all behind.now) }
+    ensures { result ≡ units.head_fault name.now behind.now }
 {
     if is_word(name, b"{") {
         return Some(FaultKind::NotInProfile);
@@ -98,7 +97,7 @@ fn read_module(
     first: &Token,
     tokens: &[Token],
 ) -> Result<Result<Unit, Fault>, AllocError>
-    ensures unit { IfOk result (λ r. units.seen_outcome r ≡ units.module_of (seen first.now) (seen_all tokens.now)) }
+    ensures unit { IfOk result (λ r. units.seen_outcome r ≡ units.module_of first.now tokens.now) }
     ensures formed { IfOk result (λ r. IfOk r (λ u. units.AreFormed (units.seen_unit u))) }
 {
     let line = first.line;
@@ -126,7 +125,7 @@ fn read_module(
 
 // A command, whose tokens are one item.
 fn read_command(alloc: Global, first: &Token, tokens: &[Token]) -> Result<Unit, AllocError>
-    ensures unit { IfOk result (λ u. Ok (units.seen_unit u) ≡ units.unit_with kinds.Command (seen first.now) (seen_all tokens.now)) }
+    ensures unit { IfOk result (λ u. Ok (units.seen_unit u) ≡ units.unit_with kinds.Command first.now tokens.now) }
     ensures formed { IfOk result (λ u. units.AreFormed (units.seen_unit u)) }
 {
     let mut items = Vec::new(alloc);
@@ -146,7 +145,7 @@ fn read_whole(
     first: &Token,
     tokens: &[Token],
 ) -> Result<Result<Unit, Fault>, AllocError>
-    ensures unit { IfOk result (λ r. units.seen_outcome r ≡ units.unit_with kind (seen first.now) (seen_all tokens.now)) }
+    ensures unit { IfOk result (λ r. units.seen_outcome r ≡ units.unit_with kind first.now tokens.now) }
     ensures formed { IfOk result (λ r. IfOk r (λ u. units.AreFormed (units.seen_unit u))) }
 {
     match kind {
@@ -171,9 +170,9 @@ pub fn read_unit(
     proofs: bool,
 ) -> Result<(Unit, usize), UnitError>
     requires { at < length tokens.now }
-    ensures unit { IfOk result (λ r. units.Reads proofs (seen_all tokens.now) at (Ok (units.seen_unit r.0)) r.1) }
+    ensures unit { IfOk result (λ r. units.Reads proofs tokens.now at (Ok (units.seen_unit r.0)) r.1) }
     ensures formed { IfOk result (λ r. units.AreFormed (units.seen_unit r.0)) }
-    ensures fault { IfErr result (λ e. units.HasCause proofs (seen_all tokens.now) at e) }
+    ensures fault { IfErr result (λ e. units.HasCause proofs tokens.now at e) }
 {
     let rest = tokens_from(tokens, at);
     let first = &rest[0];
