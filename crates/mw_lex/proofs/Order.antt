@@ -7,7 +7,7 @@ use Rattle.std.proofs.lemmas.List.Elements.{All-append, All-nil, All-cons}
 use Rattle.std.proofs.lemmas.List.Quantifiers.{all_pairs_push}
 use Rattle.std.proofs.lemmas.List.Sums.{sum_by-append}
 use Rattle.mw_lex.specs.declared.token.Token.{Token}
-use Rattle.mw_lex.specs.Lexing.{Seen, seen, token_at, line_after, line_behind}
+use Rattle.mw_lex.specs.Lexing.{token_at, line_after, line_behind}
 use Rattle.mw_lex.specs.Places.{line_feeds, IsPlaced, IsBefore, AreInOrder, Adds}
 
 -- the tokens so far, before this place and line of the text, and what is left from there
@@ -40,12 +40,12 @@ seam text at len h =
 
 -- a token that is the first bytes of what is left
 placed_next : (text : List ℕ) (t : Token) (at line len : ℕ) (rest : List ℕ) → rest ≡ drop at text → at ≤ length text → line ≡ 1 + line_feeds (take at text)
-    → 0 < len → len ≤ length rest → seen t ≡ token_at len at line rest → IsPlaced text t
+    → 0 < len → len ≤ length rest → t ≡ token_at len at line rest → IsPlaced text t
 placed_next text t at line len rest left within counted some short is =
-    let from : t.from ≡ at = ap (λ (s : Seen). s.from) is in
-    let to : t.to ≡ at + len = ap (λ (s : Seen). s.to) is in
-    let copied : t.text.items ≡ take len rest = ap (λ (s : Seen). s.text) is in
-    let on : t.line ≡ line = ap (λ (s : Seen). s.line) is in
+    let from : t.from ≡ at = ap (λ (s : Token). s.from) is in
+    let to : t.to ≡ at + len = ap (λ (s : Token). s.to) is in
+    let copied : t.text ≡ take len rest = ap (λ (s : Token). s.text) is in
+    let on : t.line ≡ line = ap (λ (s : Token). s.line) is in
     let long : t.to - t.from ≡ len = omega arith in
     record {
       some = omega arith;
@@ -73,8 +73,8 @@ kept_more text found found' at line line' len rest k adds some short next =
     elim adds [
       | inl same ↦ subst (λ (ts : List Token). Kept text ts (at + len) line' (drop len rest)) (sym same) (kept found k.order earlier)
       | inr (t, more, is) ↦
-          let from : t.from ≡ at = ap (λ (s : Seen). s.from) is in
-          let to : t.to ≡ at + len = ap (λ (s : Seen). s.to) is in
+          let from : t.from ≡ at = ap (λ (s : Token). s.from) is in
+          let to : t.to ≡ at + len = ap (λ (s : Token). s.to) is in
           let placed : IsPlaced text t = placed_next text t at line len rest k.left k.within k.counted some short is in
           subst (λ (ts : List Token). Kept text ts (at + len) line' (drop len rest)) (sym more) (kept (found ++ t ∷ [])
           (record {

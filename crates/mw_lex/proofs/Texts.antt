@@ -3,9 +3,10 @@ use Rattle.std.proofs.Common.{◌≡◌, ◌<◌, ◌+◌, ◌-◌, ◌==◌, in
 use Rattle.std.specs.Prelude.{⊤}
 use Rattle.std.proofs.lemmas.Bool.{cond_both, eqb-true, eqb-false}
 use Rattle.std.proofs.lemmas.List.Elements.{All-nil, All-cons}
+use Rattle.mw_lex.specs.declared.token.Token.{Token}
 use Rattle.mw_lex.specs.Bytes.{is_blank, is_visible, is_punctuation}
 use Rattle.mw_lex.specs.Pieces.{run_len, line_len, string_len, block_len, opens_comment, closed, comment_piece, quoted, word_piece, plain_piece, piece_of}
-use Rattle.mw_lex.specs.Lexing.{Seen, Lexed, with_front, token_at, meaning, lexed, line_after}
+use Rattle.mw_lex.specs.Lexing.{Lexed, with_front, token_at, meaning, lexed, line_after}
 use Rattle.mw_lex.specs.Texts.{IsRun, IsQuoted, IsTokenText, AreTokens, LexedAreTokens}
 use Rattle.mw_lex.specs.declared.pieces.Piece.{Piece}
 use Rattle.mw_lex.specs.declared.pieces.Piece.TheVariants as piece
@@ -66,8 +67,8 @@ abbrev HasTokens : Lexed → Type 0
 HasTokens (Ok ts) = AreTokens ts
 HasTokens (Err e) = ⊤
 
-front_tokens : (t : Seen) (r : Lexed) → IsTokenText t.text → HasTokens r → HasTokens (with_front (t ∷ []) r)
-front_tokens t (Ok ts) h k = All-cons (λ (t : Seen). IsTokenText t.text) t ts h k
+front_tokens : (t : Token) (r : Lexed) → IsTokenText t.text → HasTokens r → HasTokens (with_front (t ∷ []) r)
+front_tokens t (Ok ts) h k = All-cons (λ (t : Token). IsTokenText t.text) t ts h k
 front_tokens t (Err e) h k = tt
 
 -- a piece, and what is lexed behind it
@@ -78,7 +79,7 @@ meant piece.Bad at line s next h k = tt
 meant piece.Unended at line s next h k = tt
 
 lexed_tokens : (skip at line : ℕ) (s : List ℕ) → HasTokens (lexed skip at line s)
-lexed_tokens skip at line [] = All-nil (λ (t : Seen). IsTokenText t.text)
+lexed_tokens skip at line [] = All-nil (λ (t : Token). IsTokenText t.text)
 lexed_tokens (suc k) at line (b ∷ rest) = lexed_tokens k (at + 1) (line_after b line) rest
 lexed_tokens zero at line (b ∷ rest) =
     meant (piece_of b rest) at line (b ∷ rest) (λ k. lexed k (at + 1) (line_after b line) rest) (front_cuts b rest) (λ k. lexed_tokens k (at + 1) (line_after b line) rest)

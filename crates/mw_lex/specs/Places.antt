@@ -1,7 +1,7 @@
 -- Where the tokens of a text lie in it.
 use Rattle.std.specs.Prelude.{◌≡◌, ◌<◌, ◌≤◌, ◌+◌, ◌==◌, ◌⊎◌, ℕ, List, [], ◌∷◌, ◌++◌, length, take, count_by, All, AllPairs, slice_range}
 use Rattle.mw_lex.specs.declared.token.Token.{Token}
-use Rattle.mw_lex.specs.Lexing.{seen, token_at}
+use Rattle.mw_lex.specs.Lexing.{token_at}
 
 -- how many line feeds a text has
 abbrev pub line_feeds : List ℕ → ℕ
@@ -11,7 +11,7 @@ line_feeds text = count_by (λ b. b == 10) text
 pub record IsPlaced (text : List ℕ) (t : Token) : Type 0 where
   pub some : t.from < t.to
   pub within : t.to ≤ length text
-  pub copied : t.text.items ≡ slice_range text t.from t.to
+  pub copied : t.text ≡ slice_range text t.from t.to
   pub line : t.line ≡ 1 + line_feeds (take t.from text)
 
 -- the first token ends before the other begins
@@ -25,4 +25,4 @@ pub record AreInOrder (text : List ℕ) (tokens : List Token) : Type 0 where
 
 -- at most one token came to the others: the first `len` bytes of what is left, at this place and line
 abbrev pub Adds : List Token → List Token → ℕ → ℕ → ℕ → List ℕ → Type 0
-Adds old new at line len rest = (new ≡ old) ⊎ ((t : Token) × (new ≡ old ++ t ∷ []) × (seen t ≡ token_at len at line rest))
+Adds old new at line len rest = (new ≡ old) ⊎ ((t : Token) × (new ≡ old ++ t ∷ []) × (t ≡ token_at len at line rest))

@@ -1,8 +1,9 @@
 -- Texts that are cut out as tokens.
 use Rattle.std.specs.Prelude.{◌≡◌, ◌≢◌, ◌⊎◌, ℕ, List, [], ◌∷◌, length, All, Ok, IsTrue, IsFalse}
+use Rattle.mw_lex.specs.declared.token.Token.{Token}
 use Rattle.mw_lex.specs.Bytes.{is_punctuation}
 use Rattle.mw_lex.specs.Pieces.{run_len, opens_comment}
-use Rattle.mw_lex.specs.Lexing.{Seen, tokens_of}
+use Rattle.mw_lex.specs.Lexing.{tokens_of}
 
 -- one of ( ) [ ] { } and the comma
 abbrev pub IsMark : List ℕ → Type 0
@@ -27,9 +28,9 @@ IsQuoted (b ∷ x) = b ≡ 34
 abbrev pub IsTokenText : List ℕ → Type 0
 IsTokenText x = IsProper x ⊎ IsQuoted x
 
-abbrev pub AreTokens : List Seen → Type 0
-AreTokens = All (λ (t : Seen). IsTokenText t.text)
+abbrev pub AreTokens : List Token → Type 0
+AreTokens = All (λ (t : Token). IsTokenText t.text)
 
 -- What a text is cut into are tokens.
 abbrev pub LexedAreTokens : Type 0
-LexedAreTokens = (text : List ℕ) (tokens : List Seen) → tokens_of text ≡ Ok tokens → AreTokens tokens
+LexedAreTokens = (text : List ℕ) (tokens : List Token) → tokens_of text ≡ Ok tokens → AreTokens tokens

@@ -4,3 +4,4 @@ pub mod RawTerms
 pub mod Spellings
 pub mod Proper
 pub mod SpelledVariables
+mod Held

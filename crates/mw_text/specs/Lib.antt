@@ -5,3 +5,4 @@ pub mod Runs
 pub mod Seen
 pub mod Mixfix
 pub mod Readings
+pub mod Interned

@@ -1,9 +1,11 @@
 // Names as pieces and holes.
 ghost use Rattle.std.specs.Prelude.{◌≡◌, ◌≤◌, ◌<◌, ◌∷◌, [], length, true, IfSome, IfNone};
-ghost use Rattle.mw_lex.specs.Bytes.{is_punctuation};
 ghost use Rattle.mw_text.specs.Names.{items_of, SpellingsRead};
 ghost use Rattle.mw_text.specs.Runs.{is_plain as is_plain_byte, run_len as run_length};
 ghost use Rattle.mw_text.specs.Seen.{item_of};
+ghost use Rattle.mw_text.specs.Names as names;
+
+use mw_lex::is_punctuation;
 
 /// A piece of a name, which stands as one token, or a hole, where an argument stands.
 #[derive(Clone, Copy)]
@@ -12,18 +14,11 @@ pub enum Item<'t> {
     Hole,
 }
 
-/// Whether it is one of the punctuation bytes.
-fn is_mark(byte: u8) -> bool
-    ensures { result ≡ is_punctuation byte }
-{
-    matches!(byte, b'(' | b')' | b'[' | b']' | b'{' | b'}' | b',')
-}
-
 /// Whether a piece goes on with this byte.
 fn is_plain(byte: u8) -> bool
     ensures { result ≡ is_plain_byte byte }
 {
-    !(byte == b'_' || byte == b'`' || is_mark(byte))
+    !(byte == b'_' || byte == b'`' || is_punctuation(byte))
 }
 
 /// How many bytes of the front stand in a piece.
@@ -67,7 +62,7 @@ pub fn first_item(text: &[u8]) -> Option<(Item<'_>, &[u8])>
         if *byte == b'_' {
             return Some((Item::Hole, after));
         }
-        if is_mark(*byte) {
+        if is_punctuation(*byte) {
             return Some((Item::Piece(&rest[..1]), after));
         }
         if *byte != b'`' {
@@ -76,6 +71,35 @@ pub fn first_item(text: &[u8]) -> Option<(Item<'_>, &[u8])>
         rest = after;
     }
     None
+}
+
+/// Whether a name has a hole.
+pub fn has_hole(name: &[u8]) -> bool
+    ensures { result ≡ names.has_hole (items_of name.now) }
+{
+    let mut name = name;
+    while let Some(front) = first_item(name) {
+        if let Item::Hole = front.0 {
+            return true;
+        }
+        name = front.1;
+    }
+    false
+}
+
+/// How many holes a name has.
+pub fn holes(name: &[u8]) -> usize
+    ensures { result ≡ names.count_holes (items_of name.now) }
+{
+    let mut name = name;
+    let mut holes = 0;
+    while let Some(front) = first_item(name) {
+        if let Item::Hole = front.0 {
+            holes += 1;
+        }
+        name = front.1;
+    }
+    holes
 }
 
 /// The law that a name's prefix spelling reads back as the name.

@@ -18,6 +18,8 @@
 //! Only tested, by the sources in cases/: that the definition is the language that is meant.
 #![tactic(auto)]
 
+mod interned;
 mod items;
 
-pub use items::{Item, first_item, spellings_read};
+pub use interned::Names;
+pub use items::{Item, first_item, has_hole, holes, spellings_read};
