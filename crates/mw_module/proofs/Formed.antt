@@ -1,5 +1,5 @@
 -- What is known of a statement that has a form.
-use Rattle.std.proofs.Common.{◌≡◌, ◌≢◌, ◌<◌, ◌+◌, ◌-◌, ◌*◌, ◌==◌, ◌&&◌, ◌||◌, ◌⊎◌, inl, inr, not, nat_lt, nat_le, min, ℕ, zero, suc, Bool, true, false, if◌then◌else◌, List, [], ◌∷◌, length, take, drop, Option, Some, None, IfSome, IfOk, Result, Ok, Err, All, codes, refl, ap, subst, arith}
+use Rattle.std.proofs.Common.{◌≡◌, ◌≢◌, ◌<◌, ◌+◌, ◌-◌, ◌*◌, ◌==◌, ◌&&◌, ◌||◌, ◌⊎◌, inl, inr, not, nat_lt, nat_le, min, ℕ, zero, suc, Bool, true, false, if◌then◌else◌, List, [], ◌∷◌, length, take, drop, Option, Some, None, IfSome, IfOk, Result, Ok, Err, All, codes, refl, ap, arith}
 use Rattle.std.specs.Char.{is_ascii_digit}
 use Rattle.std.specs.List.{list_all}
 use Rattle.std.specs.Option.{option_or}
@@ -21,43 +21,10 @@ use Rattle.mw_module.specs.Attributes.{Attributes, no_attributes, joined, Attrib
 use Rattle.mw_module.specs.Sortings.{Sorting, sort_behind, front_sorting, sortings_from}
 use Rattle.mw_module.specs.Groups.{divided_at_less}
 use Rattle.mw_module.specs.Equations.{unlabelled, attributes_len, group_at_end, executable_with, equals_at}
-use Rattle.mw_module.specs.Forms.{Shape, Sorts, Subsorts, Operators, Variables, Equation, Formed, names_fault, groups_fault, lone_sort, typed, variables_form, front_fault, sortings_fault, valued, value_form, arrow_form, operators_form, divided, equation_form, form_behind, form_of}
+use Rattle.mw_module.specs.Known.{IsNameFor, IsMark, IsPrecedence, IsGather, AreAttributes, IsKnown}
+use Rattle.mw_module.specs.Forms.{Sorts, Subsorts, Formed, names_fault, groups_fault, lone_sort, typed, variables_form, front_fault, sortings_fault, Value, valued, value_form, Profile, profiled, profile_form, declared, operators_form, divided, equation_form, form_behind, form_of}
 
--- a name is neither nothing nor a hole alone, and has no holes or one for each argument
-pub record IsNameFor (arity : ℕ) (name : List Token) : Type 0 where
-  pub some : items_in name ≢ []
-  pub no_hole : items_in name ≢ hole ∷ []
-  pub fits : (count_holes (items_in name) ≡ 0) ⊎ (count_holes (items_in name) ≡ arity)
-
-abbrev pub IsMark : List ℕ → Type 0
-IsMark text = (text ≡ codes "e") ⊎ ((text ≡ codes "E") ⊎ (text ≡ codes "&"))
-
-abbrev pub IsPrecedence : ℕ → Type 0
-IsPrecedence n = n < 128
-
--- one mark for each argument
-abbrev pub IsGather : ℕ → List (List ℕ) → Type 0
-IsGather arity marks = (length marks ≡ arity) × All IsMark marks
-
--- what is said of an operator of so many arguments
-pub record AreAttributes (arity : ℕ) (a : Attributes) : Type 0 where
-  pub precedence : IfSome a.precedence IsPrecedence
-  pub gather : IfSome a.gather (IsGather arity)
-
--- a declaration of operators
-pub record AreOperators (ns : List (List Token)) (args : List Sorting) (a : Attributes) : Type 0 where
-  pub some : ns ≢ []
-  pub names : All (IsNameFor (length args)) ns
-  pub attributes : AreAttributes (length args) a
-
-abbrev pub IsKnown : Shape → Type 0
-IsKnown (Sorts names) = Unit {0}
-IsKnown (Subsorts groups) = Unit {0}
-IsKnown (Operators names args value a) = AreOperators names args a
-IsKnown (Variables names sort) = Unit {0}
-IsKnown (Equation left right executable) = Unit {0}
-
-abbrev IsKnownWhereFormed : Formed → Type 0
+abbrev pub IsKnownWhereFormed : Formed → Type 0
 IsKnownWhereFormed formed = IfOk formed IsKnown
 
 both : (a b : Bool) → (a && b) ≡ true → (a ≡ true) × (b ≡ true)
@@ -259,39 +226,56 @@ holds_unless P (Some kind) r h = tt
 known_unless : (o : Option FaultKind) (f : Formed) → (o ≡ None → IsKnownWhereFormed f) → IsKnownWhereFormed (unless o f)
 known_unless o f h = holds_unless IsKnown o f h
 
-valued_known : (names : List (List Token)) (args : List Sorting) (value : Sorting) (said : Said) → names ≢ [] → All (IsNameFor (length args)) names → IfOk said (AreAttributes (length args))
-    → IsKnownWhereFormed (valued names args value said)
-valued_known names args value (Ok a) some all h = record { some = some; names = all; attributes = h }
-valued_known names args value (Err kind) some all h = tt
+-- what stands behind names
+abbrev IsKnownProfile : List (List Token) → Profile → Type 0
+IsKnownProfile names p = All (IsNameFor (length p.args)) names × AreAttributes (length p.args) p.value.attributes
 
-value_known : (kinds : Bool) (names : List (List Token)) (args : List Sorting) (ts : List Token) → names ≢ [] → All (IsNameFor (length args)) names → IsKnownWhereFormed (value_form kinds names args ts)
-value_known kinds names args [] some all = tt
-value_known kinds names args (t ∷ behind) some all =
-    let said : Said = attributes_behind (length args) (drop (sort_behind t) behind) in
-    known_unless (front_fault t behind) (valued names args (front_sorting kinds t behind) said)
-    (λ e. valued_known names args (front_sorting kinds t behind) said some all (behind_known (length args) (drop (sort_behind t) behind)))
+abbrev IsKnownValue : ℕ → Value → Type 0
+IsKnownValue arity v = AreAttributes arity v.attributes
 
-arrow_known : (names : List (List Token)) (ts : List Token) → are_names names ≡ true → IsKnownWhereFormed (arrow_form names ts)
-arrow_known names ts named =
+valued_known : (arity : ℕ) (sort : Sorting) (said : Said) → IfOk said (AreAttributes arity) → IfOk (valued sort said) (IsKnownValue arity)
+valued_known arity sort (Ok a) h = h
+valued_known arity sort (Err kind) h = tt
+
+value_known : (kinds : Bool) (arity : ℕ) (ts : List Token) → IfOk (value_form kinds arity ts) (IsKnownValue arity)
+value_known kinds arity [] = tt
+value_known kinds arity (t ∷ behind) =
+    let rest = drop (sort_behind t) behind in
+    holds_unless (IsKnownValue arity) (front_fault t behind) (valued (front_sorting kinds t behind) (attributes_behind arity rest))
+    (λ e. valued_known arity (front_sorting kinds t behind) (attributes_behind arity rest) (behind_known arity rest))
+
+profiled_known : (names : List (List Token)) (args : List Sorting) (r : Result Value FaultKind) → All (IsNameFor (length args)) names → IfOk r (IsKnownValue (length args))
+    → IfOk (profiled args r) (IsKnownProfile names)
+profiled_known names args (Ok value) all h = (all, h)
+profiled_known names args (Err kind) all h = tt
+
+profile_known : (names : List (List Token)) (ts : List Token) → all_names names ≡ true → IfOk (profile_form names ts) (IsKnownProfile names)
+profile_known names ts named =
     let total = count_before (codes "->") ts in
     let partial = count_before (codes "~>") ts in
     let arrow = min total partial in
     let kinds = nat_lt partial total in
     let args = sortings_from kinds 0 (take arrow ts) in
-    let there = names_there names named in
-    let valued : Formed = value_form kinds names args (drop (arrow + 1) ts) in
+    let value = value_form kinds (length args) (drop (arrow + 1) ts) in
     let wrong : Bool = arrow == length ts || not (all_fit (length args) names) in
-    known_unless (sortings_fault 0 (take arrow ts)) (unless (fault_if wrong BadStatement) valued)
-    (λ e. known_unless (fault_if wrong BadStatement) valued
+    holds_unless (IsKnownProfile names) (sortings_fault 0 (take arrow ts)) (unless (fault_if wrong BadStatement) (profiled args value))
+    (λ e. holds_unless (IsKnownProfile names) (fault_if wrong BadStatement) (profiled args value)
     (λ f. let fit : all_fit (length args) names ≡ true = neither (arrow == length ts) (all_fit (length args) names) (no_fault wrong BadStatement f) in
-    value_known kinds names args (drop (arrow + 1) ts) there.0 (names_known (length args) names there.1 fit)))
+    profiled_known names args value (names_known (length args) names named fit) (value_known kinds (length args) (drop (arrow + 1) ts))))
+
+declared_known : (names : List (List Token)) (r : Result Profile FaultKind) → names ≢ [] → IfOk r (IsKnownProfile names) → IsKnownWhereFormed (declared names r)
+declared_known names (Ok p) some h = record { some = some; names = h.0; attributes = h.1 }
+declared_known names (Err kind) some h = tt
 
 operators_known : (single : Bool) (ts : List Token) → IsKnownWhereFormed (operators_form single ts)
 operators_known single ts =
     let colon = count_before (codes ":") ts in
     let names = names_from single 0 (take colon ts) in
+    let profile = profile_form names (drop (colon + 1) ts) in
     let wrong : Bool = colon == length ts || not (are_names names) in
-    known_unless (fault_if wrong BadStatement) (arrow_form names (drop (colon + 1) ts)) (λ e. arrow_known names (drop (colon + 1) ts) (neither (colon == length ts) (are_names names) (no_fault wrong BadStatement e)))
+    known_unless (fault_if wrong BadStatement) (declared names profile)
+    (λ e. let there = names_there names (neither (colon == length ts) (are_names names) (no_fault wrong BadStatement e)) in
+    declared_known names profile there.0 (profile_known names (drop (colon + 1) ts) there.1))
 
 typed_known : (names : List Token) (r : Result Token FaultKind) → IsKnownWhereFormed (typed names r)
 typed_known names (Ok sort) = tt
@@ -327,10 +311,6 @@ behind_first_word opening.Equation ts = equation_known ts
 behind_first_word opening.Elsewhere ts = tt
 behind_first_word opening.Unread ts = tt
 
-form_known : (ts : List Token) → IsKnownWhereFormed (form_of ts)
+pub form_known : (ts : List Token) → IsKnownWhereFormed (form_of ts)
 form_known [] = tt
 form_known (t ∷ ts) = behind_first_word (opening_of t.text) ts
-
--- a statement of this form
-pub formed_known : (ts : List Token) (shape : Shape) → form_of ts ≡ Ok shape → IsKnown shape
-formed_known ts shape e = subst IsKnownWhereFormed e (form_known ts)

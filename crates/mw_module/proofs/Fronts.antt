@@ -6,7 +6,6 @@ use Rattle.mw_module.specs.declared.kinds.Kind.{Kind}
 use Rattle.mw_module.specs.Kinds.{kind_of, end_word}
 use Rattle.mw_module.specs.Words.{count_before}
 use Rattle.mw_module.specs.Units.{Outcome, unit_with, reading_of, front_unit, Reads}
-use Rattle.mw_module.proofs.Slices.{seen_take, seen_length}
 
 -- the reading at the front of tokens that begin with this one
 front_is : (proofs : Bool) (rest : List Token) (first : Token) → 0 < length rest → first ≡ get_or rest 0 first
@@ -19,13 +18,10 @@ pub unit_read : (proofs : Bool) (tokens rest : List Token) (at : ℕ) (first : T
     → length rest + at ≡ length tokens → 0 < length rest → first ≡ get_or rest 0 first → kind ≡ kind_of proofs first.text → n ≡ count_before (end_word kind) rest
     → n < length rest → outcome ≡ unit_with kind first ((take n rest)) → Reads proofs tokens at outcome (at + n + 1)
 unit_read proofs tokens rest at first kind n outcome left size some head of count short out =
-    let all : length tokens ≡ length tokens = seen_length tokens in
-    let here : length rest ≡ length rest = seen_length rest in
     let open_ : (n == length rest) ≡ false = ne_eqb _ _ (λ whole. omega arith) in
     let step : at + n + 1 - at ≡ n + 1 = omega arith in
-    let inside : outcome ≡ unit_with kind first (take n rest) = out ∙ ap (unit_with kind first) (seen_take n rest) in
     record {
-      reading = rw (← left, step, inside) (front_is proofs rest first some head ∙ rw (← of, ← count, open_) refl);
+      reading = rw (← left, step, out) (front_is proofs rest first some head ∙ rw (← of, ← count, open_) refl);
       further = omega arith;
       within = omega arith;
     }

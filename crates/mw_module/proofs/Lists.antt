@@ -1,21 +1,19 @@
 -- Lists of attributes of operators.
-use Rattle.std.proofs.Common.{◌≡◌, ◌∙◌, ◌≤◌, ◌<◌, ◌+◌, ◌-◌, ◌&&◌, nat_lt, ℕ, zero, suc, Bool, true, false, List, [], ◌∷◌, length, take, drop, get_or, Some, Result, Ok, refl, sym, ap, arith, codes}
+use Rattle.std.proofs.Common.{◌≡◌, ◌∙◌, ◌≤◌, ◌<◌, ◌+◌, ◌-◌, ◌&&◌, nat_lt, ℕ, zero, suc, Bool, true, false, List, [], ◌∷◌, length, take, drop, get_or, Some, Result, Ok, refl, sym, ap, codes}
 use Rattle.std.specs.List.{list_all}
 use Rattle.std.proofs.lemmas.Bool.{lt-ltb}
 use Rattle.std.proofs.lemmas.List.{drop_all}
-use Rattle.std.proofs.lemmas.List.Folds.{list_all-map}
 use Rattle.mw_lex.specs.declared.token.Token.{Token}
 use Rattle.mw_module.specs.declared.attribute.Attributes.{Attributes as HeldAttributes}
 use Rattle.mw_module.specs.declared.faults.FaultKind.{FaultKind}
 use Rattle.mw_module.specs.Words.{is, begins, texts}
 use Rattle.mw_module.specs.Attributes.{Attributes, seen_attributes, no_attributes, joined, Attribute, is_mark, are_marks, gather_attribute, attribute_at, attributes_from}
-use Rattle.mw_module.proofs.Slices.{seen_take, seen_length, parted}
+use Rattle.mw_module.proofs.Slices.{parted}
 
 -- where there are too few tokens, no parenthesis closes the marks
 pub far_marks : (arity : ℕ) (ts : List Token) → length ts ≤ arity → are_marks arity ts ≡ false
 far_marks arity ts few =
-    let size : length ts ≡ length ts = seen_length ts in
-    let gone : drop arity ts ≡ [] = drop_all arity ts (omega arith) in
+    let gone : drop arity ts ≡ [] = drop_all arity ts few in
     rw gone (never (nat_lt 0 arity) (list_all is_mark (take arity ts)))
   where
     never : (a b : Bool) → (a && b && false) ≡ false
@@ -24,8 +22,8 @@ far_marks arity ts few =
     never false b = refl
 
 pub near_marks : (arity : ℕ) (ts : List Token) → 0 < arity
-    → are_marks arity ts ≡ (list_all (λ t. is_mark t) (take arity ts) && begins (codes ")") (drop arity ts))
-near_marks arity ts some = rw (lt-ltb 0 arity some, ← seen_take, list_all-map) refl
+    → are_marks arity ts ≡ (list_all is_mark (take arity ts) && begins (codes ")") (drop arity ts))
+near_marks arity ts some = rw (lt-ltb 0 arity some) refl
 
 -- to pass over tokens is to drop them
 attributes_from_skip : (arity k : ℕ) (said : Attributes) (ts : List Token) → attributes_from arity k said ts ≡ attributes_from arity 0 said (drop k ts)
@@ -52,7 +50,7 @@ gather_read arity ts open_ a some head opens closed silent =
     let both : (is (codes "(") open_ && are_marks arity rest) ≡ true = rw (opens, closed) refl in
     let read : gather_attribute arity ((open_ ∷ rest)) ≡ said_so arity (record no_attributes { gather = Some (texts (take arity rest)) }) = rw both refl in
     let says : record (seen_attributes a) { gather = Some (texts ((take arity rest))) } ≡ record no_attributes { gather = Some (texts (take arity rest)) } =
-    ap (λ (x : Attributes). record x { gather = Some (texts ((take arity rest))) }) silent ∙ ap (λ us. record no_attributes { gather = Some (texts us) }) (seen_take arity rest) in
+    ap (λ (x : Attributes). record x { gather = Some (texts ((take arity rest))) }) silent in
     ap (said_so arity) says ∙ sym read ∙ ap (λ us. gather_attribute arity us) (sym (parted ts open_ some head))
 
 -- one attribute more is said

@@ -1,5 +1,5 @@
 -- The parts of a statement that is made of tokens are proper.
-use Rattle.std.proofs.Common.{◌≡◌, ◌∙◌, ℕ, zero, suc, ◌+◌, ◌-◌, ◌==◌, ◌&&◌, ◌||◌, not, min, nat_lt, if◌then◌else◌, Bool, true, false, List, [], ◌∷◌, length, take, drop, Option, Some, None, Result, Ok, Err, IfOk, All, codes, inl, inr, refl, sym, subst}
+use Rattle.std.proofs.Common.{◌≡◌, ◌∙◌, ℕ, zero, suc, ◌+◌, ◌-◌, ◌==◌, ◌&&◌, ◌||◌, not, if◌then◌else◌, Bool, true, false, List, [], ◌∷◌, length, take, drop, Option, Some, None, Result, Ok, Err, IfOk, All, codes, inl, inr, refl, sym}
 use Rattle.std.specs.List.{list_all}
 use Rattle.std.proofs.lemmas.Bool.{both_ways, and_parts, or_parts, not-true, eqb-false}
 use Rattle.std.proofs.lemmas.List.Elements.{All-nil, All-cons, All-head, All-tail, All-take, All-drop, All-map}
@@ -17,18 +17,18 @@ use Rattle.mw_module.specs.declared.openings.Opening.TheVariants as opening
 use Rattle.mw_module.specs.Words.{is, texts, count_before, is_punctuation_word, is_quoted, is_no_piece}
 use Rattle.mw_module.specs.Faults.{first_of, fault_if, unless}
 use Rattle.mw_module.specs.Openings.{opening_of}
-use Rattle.mw_module.specs.OperatorNames.{group_len, in_group, one_of_several, front_name, names_from, items_in, is_fine, is_name, all_names, are_names, all_fit}
-use Rattle.mw_module.specs.Attributes.{Said, attributes_behind}
-use Rattle.mw_module.specs.Sortings.{Sorting, sort_behind, front_sorting, sortings_from}
+use Rattle.mw_module.specs.OperatorNames.{group_len, in_group, one_of_several, front_name, names_from, items_in, is_fine, is_name, all_names, are_names}
 use Rattle.mw_module.specs.Groups.{divided_at_less}
 use Rattle.mw_module.specs.Equations.{has_label, unlabelled, attributes_len, group_at_end, executable_with, equals_at}
-use Rattle.mw_module.specs.Forms.{Sorts, Subsorts, Formed, is_unread, is_bad, text_fault, first_fault, names_fault, groups_fault, lone_sort, typed, variables_form, front_fault, sortings_fault, valued, value_form, arrow_form, operators_form, divided, equation_form, form_behind, form_of}
-use Rattle.mw_module.specs.Tokens.{HasProperParts, FormsAreProper}
+use Rattle.mw_module.specs.Forms.{Sorts, Subsorts, Formed, is_unread, is_bad, text_fault, first_fault, names_fault, groups_fault, lone_sort, typed, variables_form, Profile, profile_form, declared, operators_form, divided, equation_form, form_behind, form_of}
+use Rattle.mw_module.specs.Tokens.{HasProperParts}
 use Rattle.mw_module.proofs.Formed.{names_there, no_fault, neither, holds_unless}
-use Rattle.mw_module.proofs.Tokens.{IsToken}
+
+abbrev pub IsToken : Token → Type 0
+IsToken t = IsTokenText t.text
 
 -- a form's parts are proper, where there is nothing wrong with it
-abbrev IsProperWhereFormed : Formed → Type 0
+abbrev pub IsProperWhereFormed : Formed → Type 0
 IsProperWhereFormed f = IfOk f HasProperParts
 
 proper_unless : (o : Option FaultKind) (f : Formed) → (o ≡ None → IsProperWhereFormed f) → IsProperWhereFormed (unless o f)
@@ -127,37 +127,20 @@ names_tokens single zero (t ∷ rest) all =
     All-cons AreTokens front.name (names_from single front.behind rest) (front_tokens single (t ∷ rest) all) (names_tokens single front.behind rest (All-tail IsToken t rest all))
 
 -- declarations of operators
-valued_proper : (names : List (List Token)) (args : List Sorting) (value : Sorting) (said : Said) → All IsProperlyNamed names → IsProperWhereFormed (valued names args value said)
-valued_proper names args value (Ok a) all = all
-valued_proper names args value (Err kind) all = tt
-
-value_proper : (kinds : Bool) (names : List (List Token)) (args : List Sorting) (ts : List Token) → All IsProperlyNamed names → IsProperWhereFormed (value_form kinds names args ts)
-value_proper kinds names args [] all = tt
-value_proper kinds names args (t ∷ behind) all =
-    let said : Said = attributes_behind (length args) (drop (sort_behind t) behind) in
-    proper_unless (front_fault t behind) (valued names args (front_sorting kinds t behind) said) (λ e. valued_proper names args (front_sorting kinds t behind) said all)
-
-arrow_proper : (names : List (List Token)) (ts : List Token) → All IsProperlyNamed names → IsProperWhereFormed (arrow_form names ts)
-arrow_proper names ts all =
-    let total = count_before (codes "->") ts in
-    let partial = count_before (codes "~>") ts in
-    let arrow = min total partial in
-    let kinds = nat_lt partial total in
-    let args = sortings_from kinds 0 (take arrow ts) in
-    let valued : Formed = value_form kinds names args (drop (arrow + 1) ts) in
-    let wrong : Bool = arrow == length ts || not (all_fit (length args) names) in
-    proper_unless (sortings_fault 0 (take arrow ts)) (unless (fault_if wrong BadStatement) valued)
-    (λ e. proper_unless (fault_if wrong BadStatement) valued (λ f. value_proper kinds names args (drop (arrow + 1) ts) all))
+declared_proper : (names : List (List Token)) (r : Result Profile FaultKind) → All IsProperlyNamed names → IsProperWhereFormed (declared names r)
+declared_proper names (Ok p) all = all
+declared_proper names (Err kind) all = tt
 
 operators_proper : NamesAreProper → (single : Bool) (ts : List Token) → AreTokens ts → IsProperWhereFormed (operators_form single ts)
 operators_proper law single ts all =
     let colon = count_before (codes ":") ts in
     let names = names_from single 0 (take colon ts) in
+    let profile = profile_form names (drop (colon + 1) ts) in
     let wrong : Bool = colon == length ts || not (are_names names) in
-    proper_unless (fault_if wrong BadStatement) (arrow_form names (drop (colon + 1) ts))
+    proper_unless (fault_if wrong BadStatement) (declared names profile)
     (λ e. let named : are_names names ≡ true = neither (colon == length ts) (are_names names) (no_fault wrong BadStatement e) in
     let made : All AreTokens names = names_tokens single 0 (take colon ts) (All-take IsToken colon ts all) in
-    arrow_proper names (drop (colon + 1) ts) (proper_names law names made (names_there names named).1))
+    declared_proper names profile (proper_names law names made (names_there names named).1))
 
 -- variables
 typed_proper : (names : List Token) (r : Result Token FaultKind) → All IsRun (texts names) → IsProperWhereFormed (typed names r)
@@ -207,10 +190,6 @@ behind_first_word law opening.Equation ts all = equation_proper ts all
 behind_first_word law opening.Elsewhere ts all = tt
 behind_first_word law opening.Unread ts all = tt
 
-form_proper : NamesAreProper → (ts : List Token) → AreTokens ts → IsProperWhereFormed (form_of ts)
+pub form_proper : NamesAreProper → (ts : List Token) → AreTokens ts → IsProperWhereFormed (form_of ts)
 form_proper law [] all = tt
 form_proper law (t ∷ rest) all = behind_first_word law (opening_of t.text) rest (All-tail IsToken t rest all)
-
--- a statement that has a form and is made of tokens has proper parts
-pub forms_are_proper : NamesAreProper → FormsAreProper
-forms_are_proper law ts shape all e = subst IsProperWhereFormed e (form_proper law ts all)

@@ -8,16 +8,18 @@ use Rattle.mw_module.specs.declared.forms.Form.{Form}
 use Rattle.mw_module.specs.declared.forms.Form.TheVariants as form
 use Rattle.mw_module.specs.declared.names.Role.{Role}
 use Rattle.mw_module.specs.declared.names.Role.TheVariants as role
+use Rattle.mw_module.specs.declared.operators.Value.{Value as HeldValue}
+use Rattle.mw_module.specs.declared.operators.Profile.{Profile as HeldProfile}
 use Rattle.mw_module.specs.declared.openings.Opening.{Opening}
 use Rattle.mw_module.specs.declared.openings.Opening.TheVariants as opening
 use Rattle.mw_module.specs.Faults.{first_of, fault_if, unless}
 use Rattle.mw_module.specs.Openings.{opening_of}
-use Rattle.mw_module.specs.OperatorNames.{names_of, names_from, are_names, all_fit}
-use Rattle.mw_module.specs.Sortings.{Sorting, seen_sorting, sort_behind, front_sorting, sortings_from, sortings_of}
-use Rattle.mw_module.specs.Groups.{divided_at_less, groups_of}
+use Rattle.mw_module.specs.OperatorNames.{names_from, are_names, all_fit}
+use Rattle.mw_module.specs.Sortings.{Sorting, seen_sorting, seen_sortings, sort_behind, front_sorting, sortings_from}
+use Rattle.mw_module.specs.Groups.{divided_at_less}
 use Rattle.mw_module.specs.Attributes.{Attributes, seen_attributes, Said, attributes_behind}
 use Rattle.mw_module.specs.Equations.{unlabelled, attributes_len, group_at_end, executable_with, equals_at}
-use Rattle.mw_module.specs.Words.{is, count_before, is_punctuation_word, is_quoted}
+use Rattle.mw_module.specs.Words.{is, seen_lists, count_before, is_punctuation_word, is_quoted}
 
 -- a statement by its form, with its parts
 pub data Shape : Type 0 where
@@ -33,14 +35,19 @@ pub data Shape : Type 0 where
 -- a form as its readers see it
 abbrev pub shape_of : Form → Shape
 shape_of (form.Sorts names) = Sorts names.now
-shape_of (form.Subsorts groups) = Subsorts (groups_of groups)
-shape_of (form.Operators names args result attributes) = Operators (names_of names) (sortings_of args) (seen_sorting result) (seen_attributes attributes)
+shape_of (form.Subsorts groups) = Subsorts (seen_lists groups.items)
+shape_of (form.Operators names args result attributes) = Operators (seen_lists names.items) (seen_sortings args.items) (seen_sorting result) (seen_attributes attributes)
 shape_of (form.Variables names sort) = Variables names.now sort.now
 shape_of (form.Equation left right executable) = Equation left.now right.now executable
 
 -- the form, or what is wrong
 abbrev pub Formed : Type 0
 Formed = Result Shape FaultKind
+
+-- the form, or what is wrong, as its readers see it
+abbrev pub seen_formed : Result Form FaultKind → Formed
+seen_formed (Ok form) = Ok (shape_of form)
+seen_formed (Err kind) = Err kind
 
 -- where a text in this role begins a form that isn't read
 abbrev pub is_unread : Role → List ℕ → Bool
@@ -120,35 +127,61 @@ sortings_fault skip [] = None
 sortings_fault (suc k) (t ∷ rest) = sortings_fault k rest
 sortings_fault zero (t ∷ rest) = first_of (front_fault t rest) (sortings_fault (sort_behind t) rest)
 
--- an operator's names, argument sorts and value's sort, with its attributes
-abbrev pub valued : List (List Token) → List Sorting → Sorting → Said → Formed
-valued names args value (Ok attributes) = Ok (Operators names args value attributes)
-valued names args value (Err kind) = Err kind
+-- a value's sort and what is said of the operators
+pub record Value : Type 0 where
+  pub sort : Sorting
+  pub attributes : Attributes
 
--- what comes behind the arrow: a sort, and attributes
-abbrev pub value_form : Bool → List (List Token) → List Sorting → List Token → Formed
-value_form kinds names args [] = Err BadStatement
-value_form kinds names args (t ∷ behind) = unless (front_fault t behind)
-    (valued names args (front_sorting kinds t behind) (attributes_behind (length args) (drop (sort_behind t) behind)))
+-- the value as its readers see it
+abbrev pub seen_value : HeldValue → Value
+seen_value v = record { sort = seen_sorting v.sort; attributes = seen_attributes v.attributes }
 
--- what comes behind an operator's names: sorts, one for each hole of a name with holes, the first arrow, and the rest; with
+abbrev pub valued : Sorting → Said → Result Value FaultKind
+valued sort (Ok attributes) = Ok (record { sort = sort; attributes = attributes })
+valued sort (Err kind) = Err kind
+
+-- what comes behind the arrow: a sort, and attributes, of operators with so many arguments
+abbrev pub value_form : Bool → ℕ → List Token → Result Value FaultKind
+value_form kinds arity [] = Err BadStatement
+value_form kinds arity (t ∷ behind) = unless (front_fault t behind)
+    (valued (front_sorting kinds t behind) (attributes_behind arity (drop (sort_behind t) behind)))
+
+-- what comes behind the names
+pub record Profile : Type 0 where
+  pub args : List Sorting
+  pub value : Value
+
+-- the same as its readers see it
+abbrev pub seen_profile : HeldProfile → Profile
+seen_profile p = record { args = seen_sortings p.args.items; value = seen_value p.value }
+
+abbrev pub profiled : List Sorting → Result Value FaultKind → Result Profile FaultKind
+profiled args (Ok value) = Ok (record { args = args; value = value })
+profiled args (Err kind) = Err kind
+
+-- what comes behind operators' names: sorts, one for each hole of a name with holes, the first arrow, and the rest; with
 -- the arrow `~>` all sorts are kinds
-abbrev pub arrow_form : List (List Token) → List Token → Formed
-arrow_form names ts =
+abbrev pub profile_form : List (List Token) → List Token → Result Profile FaultKind
+profile_form names ts =
     let total = count_before (codes "->") ts in
     let partial = count_before (codes "~>") ts in
     let arrow = min total partial in
     let kinds = nat_lt partial total in
     let args = sortings_from kinds 0 (take arrow ts) in
     unless (sortings_fault 0 (take arrow ts))
-    (unless (fault_if (arrow == length ts || not (all_fit (length args) names)) BadStatement) (value_form kinds names args (drop (arrow + 1) ts)))
+    (unless (fault_if (arrow == length ts || not (all_fit (length args) names)) BadStatement)
+    (profiled args (value_form kinds (length args) (drop (arrow + 1) ts))))
+
+abbrev pub declared : List (List Token) → Result Profile FaultKind → Formed
+declared names (Ok p) = Ok (Operators names p.args p.value.sort p.value.attributes)
+declared names (Err kind) = Err kind
 
 -- `op` and `ops`: names, the first colon, and what comes behind
 abbrev pub operators_form : Bool → List Token → Formed
 operators_form single ts =
     let colon = count_before (codes ":") ts in
     let names = names_from single 0 (take colon ts) in
-    unless (fault_if (colon == length ts || not (are_names names)) BadStatement) (arrow_form names (drop (colon + 1) ts))
+    unless (fault_if (colon == length ts || not (are_names names)) BadStatement) (declared names (profile_form names (drop (colon + 1) ts)))
 
 -- an equation's sides, where an equals sign divides them, by whether it is executable; what is wrong with its attributes
 -- comes last

@@ -75,7 +75,7 @@ fn is_mark(token: &Token) -> bool
 
 // Whether these are marks.
 fn are_all_marks(tokens: &[Token]) -> bool
-    ensures { result ≡ list_all (λ t. attributes.is_mark t) tokens.now }
+    ensures { result ≡ list_all attributes.is_mark tokens.now }
 {
     tokens.iter().all(is_mark)
 }

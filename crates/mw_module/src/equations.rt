@@ -72,7 +72,6 @@ fn begins_attributes(group: &[Token]) -> bool
 }
 
 // How many tokens the attributes at the end have.
-#[tactic(auto, using(crate::proofs::Slices::seen_take, crate::proofs::Slices::seen_length))]
 fn attributes_len(tokens: &[Token]) -> usize
     ensures len { result ≡ equations.attributes_len tokens.now }
     ensures within { result ≤ length tokens.now }
@@ -175,12 +174,9 @@ fn equals_at(tokens: &[Token]) -> Option<usize>
 }
 
 // Two sides, and the group of attributes behind them that has so many tokens.
-#[tactic(auto, using(crate::proofs::Slices::seen_take, crate::proofs::Slices::seen_length))]
 fn sides_form<'a>(len: usize, tokens: &'a [Token]) -> Result<Form<'a>, FaultKind>
     requires { len ≤ length tokens.now }
-    ensures { MatchResult result
-        (λ f. forms.sides_form len tokens.now ≡ Ok (forms.shape_of f))
-        (λ kind. forms.sides_form len tokens.now ≡ Err kind) }
+    ensures { forms.seen_formed result ≡ forms.sides_form len tokens.now }
 {
     let sides = &tokens[..tokens.len() - len];
     let Some(at) = equals_at(sides) else {
@@ -198,9 +194,7 @@ fn sides_form<'a>(len: usize, tokens: &'a [Token]) -> Result<Form<'a>, FaultKind
 
 // A label, two sides, and attributes.
 pub fn equation_form<'a>(tokens: &'a [Token]) -> Result<Form<'a>, FaultKind>
-    ensures { MatchResult result
-        (λ f. forms.equation_form tokens.now ≡ Ok (forms.shape_of f))
-        (λ kind. forms.equation_form tokens.now ≡ Err kind) }
+    ensures { forms.seen_formed result ≡ forms.equation_form tokens.now }
 {
     let behind = unlabelled(tokens);
     match sides_form(attributes_len(behind), behind) {

@@ -38,20 +38,11 @@ pub enum FaultKind {
     /// Two identities, precedences or gathers of one operator.
     AttributesDisagree(Name),
     /// An operator that has no least result at these argument sorts.
-    NotPreregular {
-        operator: Name,
-        sorts: Seq<Name>,
-    },
+    NotPreregular { operator: Name, sorts: Seq<Name> },
     /// An associative operator whose two nestings differ in sort at these sorts.
-    NotAssociative {
-        operator: Name,
-        sorts: Seq<Name>,
-    },
+    NotAssociative { operator: Name, sorts: Seq<Name> },
     /// An operator whose identity lowers this sort.
-    LowIdentity {
-        operator: Name,
-        sort: Name,
-    },
+    LowIdentity { operator: Name, sort: Name },
     /// A term of too many tokens.
     TermTooLong,
     /// No term is spelled so.

@@ -48,9 +48,7 @@ pub enum Form<'s> {
 
 // Names of sorts.
 fn sorts_form<'a>(tokens: &'a [Token]) -> Result<Form<'a>, FaultKind>
-    ensures { MatchResult result
-        (λ f. forms.sorts_form tokens.now ≡ Ok (forms.shape_of f))
-        (λ kind. forms.sorts_form tokens.now ≡ Err kind) }
+    ensures { forms.seen_formed result ≡ forms.sorts_form tokens.now }
 {
     match names_fault(Role::NewSort, tokens) {
         Some(kind) => Err(kind),
@@ -60,9 +58,7 @@ fn sorts_form<'a>(tokens: &'a [Token]) -> Result<Form<'a>, FaultKind>
 
 // Names of variables, a colon and a sort.
 fn variables_form<'a>(tokens: &'a [Token]) -> Result<Form<'a>, FaultKind>
-    ensures { MatchResult result
-        (λ f. forms.variables_form tokens.now ≡ Ok (forms.shape_of f))
-        (λ kind. forms.variables_form tokens.now ≡ Err kind) }
+    ensures { forms.seen_formed result ≡ forms.variables_form tokens.now }
 {
     let colon = count_before(tokens, b":");
     if colon == tokens.len() {
@@ -85,9 +81,7 @@ impl<'s> Form<'s> {
         alloc: Global,
         statement: &'s [Token],
     ) -> Result<Result<Form<'s>, FaultKind>, AllocError>
-        ensures { IfOk result (λ r. MatchResult r
-            (λ f. forms.form_of statement.now ≡ Ok (forms.shape_of f))
-            (λ kind. forms.form_of statement.now ≡ Err kind)) }
+        ensures { IfOk result (λ r. forms.seen_formed r ≡ forms.form_of statement.now) }
     {
         match statement {
             [] => Ok(Err(FaultKind::NotInProfile)),

@@ -47,9 +47,7 @@ pub fn subsorts_form<'s>(
     alloc: Global,
     tokens: &'s [Token],
 ) -> Result<Result<Form<'s>, FaultKind>, AllocError>
-    ensures { IfOk result (λ r. MatchResult r
-        (λ f. forms.subsorts_form tokens.now ≡ Ok (forms.shape_of f))
-        (λ kind. forms.subsorts_form tokens.now ≡ Err kind)) }
+    ensures { IfOk result (λ r. forms.seen_formed r ≡ forms.subsorts_form tokens.now) }
 {
     let groups = groups_among(alloc, tokens)?;
     if let Some(kind) = groups_fault(groups.as_slice()) {

@@ -7,7 +7,7 @@ ghost use Rattle.mw_module.specs.OperatorNames as spec;
 
 use crate::words::{is_no_piece, is_word, tokens_from};
 use mw_lex::Token;
-use mw_text::{Item, first_item};
+use mw_text::{Item, first_item, holes as holes_in};
 use std::alloc::{AllocError, Global};
 
 // A name, and how many tokens belong to it behind the first.
@@ -42,7 +42,6 @@ fn group_len(tokens: &[Token]) -> Option<usize>
 }
 
 // The tokens of a group behind the parenthesis that opens it. A group that isn't closed stands for an empty name.
-#[tactic(auto, using(crate::proofs::Slices::seen_take))]
 fn in_group<'a>(tokens: &'a [Token]) -> FrontName<'a>
     ensures front { spec.seen_front result ≡ spec.in_group tokens.now (spec.group_len 1 tokens.now) }
     ensures within { result.behind ≤ length tokens.now }
@@ -141,21 +140,6 @@ fn has_piece(text: &[u8]) -> bool
     false
 }
 
-// How many holes a token has.
-fn holes_in(text: &[u8]) -> usize
-    ensures { result ≡ count_holes (items_of text.now) }
-{
-    let mut rest = text;
-    let mut holes = 0;
-    while let Some((item, after)) = first_item(rest) {
-        if let Item::Hole = item {
-            holes += 1;
-        }
-        rest = after;
-    }
-    holes
-}
-
 // How many holes a name has, or the greatest number where it has more.
 fn holes_of(name: &[Token]) -> usize
     ensures { result ≡ min (count_holes (spec.items_in name.now)) (2 ^ 64 - 1) }
@@ -208,6 +192,7 @@ pub fn are_names(names: &[&[Token]]) -> bool
     !names.is_empty() && are_all_names(names)
 }
 
+// Whether all are names.
 fn are_all_names(names: &[&[Token]]) -> bool
     ensures { result ≡ list_all (λ name. spec.is_name (spec.items_in name.now)) names.now }
 {
@@ -218,6 +203,13 @@ fn are_all_names(names: &[&[Token]]) -> bool
 pub fn all_fit(arity: usize, names: &[&[Token]]) -> bool
     requires { arity < 2 ^ 64 - 1 }
     ensures { result ≡ spec.all_fit arity (seen_lists names.now) }
+{
+    each_fits(arity, names)
+}
+
+fn each_fits(arity: usize, names: &[&[Token]]) -> bool
+    requires { arity < 2 ^ 64 - 1 }
+    ensures { result ≡ list_all (λ name. spec.fits arity (spec.items_in name.now)) names.now }
 {
     names.iter().all(|name| fits(arity, name))
 }

@@ -9,7 +9,9 @@ use crate::attribute_list::attributes_behind;
 use crate::faults::FaultKind;
 use crate::forms::Form;
 use crate::operator_names::{all_fit, are_names, names_among};
-use crate::sortings::{Sorting, behind_sort, front_fault, front_sorting, sortings_among, sortings_fault};
+use crate::sortings::{
+    Sorting, behind_sort, front_fault, front_sorting, sortings_among, sortings_fault,
+};
 use crate::words::{count_before, tokens_from};
 use mw_lex::Token;
 use std::alloc::{AllocError, Global};
@@ -80,9 +82,7 @@ pub fn operators_form<'s>(
     single: bool,
     tokens: &'s [Token],
 ) -> Result<Result<Form<'s>, FaultKind>, AllocError>
-    ensures { IfOk result (λ r. MatchResult r
-        (λ f. forms.operators_form single tokens.now ≡ Ok (forms.shape_of f))
-        (λ kind. forms.operators_form single tokens.now ≡ Err kind)) }
+    ensures { IfOk result (λ r. forms.seen_formed r ≡ forms.operators_form single tokens.now) }
 {
     let colon = count_before(tokens, b":");
     if colon == tokens.len() {

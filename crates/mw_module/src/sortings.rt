@@ -40,6 +40,7 @@ pub fn front_sorting<'a>(kinds: bool, token: &'a Token, behind: &'a [Token]) -> 
 }
 
 // The sorts that stand side by side.
+#[tactic(auto, using(crate::proofs::NameByName::sortings_kept))]
 pub fn sortings_among<'s>(
     alloc: Global,
     kinds: bool,

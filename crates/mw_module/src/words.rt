@@ -46,7 +46,6 @@ pub fn count_before(tokens: &[Token], word: &[u8]) -> usize
 }
 
 // The tokens from this one on.
-#[tactic(auto, using(crate::proofs::Slices::seen_drop))]
 pub fn tokens_from(tokens: &[Token], at: usize) -> &[Token]
     requires { at ≤ length tokens.now }
     ensures seen { result.now ≡ drop at tokens.now }
