@@ -31,12 +31,9 @@
 mod declarations;
 mod grouping;
 mod hierarchy;
-mod names;
 mod operators;
 mod sorts;
 mod spelling;
-mod statement;
 mod variables;
 
-pub use declarations::{Declarations, DeclareError, declare};
-pub use statement::Equation;
+pub use declarations::{Declarations, declare};
