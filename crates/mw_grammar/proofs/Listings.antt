@@ -98,6 +98,12 @@ module _ (first more : List Name) (name : Name) (lists room put : List (Vec ℕ 
     own = listed_put;
   }
 
+pub lists_none : (ns : List Name) (lists : List (Vec ℕ Global)) (Own : Name → ℕ → Type 0) → lists ≡ [] → ((n : Name) (S : ℕ) → Own n S → ⊥) → Lists ns lists Own
+lists_none ns lists Own e none = record {
+  are = record { none = ap (λ (ls : List (Vec ℕ Global)). inner ls 0) e; count = (let l = ap length e in omega (arith, l)) };
+  own = λ n S. ((λ h. absurd (subst (λ (ls : List (Vec ℕ Global)). Member S (inner ls (number_of ns n))) e h)), (λ h. absurd (none n S h)));
+}
+
 -- the sorts so far, and one more, are the next ones
 pub listed_next : (first more : List Name) (lists put : List (Vec ℕ Global)) (name : Name) (T : ℕ) (Own Next : Name → ℕ → Type 0) → Lists first lists Own
     → Lists more put (OneMore first lists name T) → ((n : Name) (S : ℕ) → (Own n S ⊎ ((n ≡ name) × (S ≡ T))) ↔ Next n S) → Lists more put Next

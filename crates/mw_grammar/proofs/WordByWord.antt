@@ -32,11 +32,11 @@ word_is sig variables g kind old new token before word is none number f = record
 
     to : (x : Variable) → IsOfOne (inner g.declared.items (number_of g.names token)) token x ⊎ IsWithSort (IsListed g.names g.named.items) token x → IsVariableToken sig.sorts variables token x
     to x (inl h) = inl (declared_to variables _ token own x h)
-    to x (inr (S, h, k)) = inr (S, (is.sorts.own S x.sort).0 h, k)
+    to x (inr (S, h, k, e)) = inr (S, (is.sorts.own S x.sort).0 h, k, e)
 
     from : (x : Variable) → IsVariableToken sig.sorts variables token x → IsOfOne (inner g.declared.items (number_of g.names token)) token x ⊎ IsWithSort (IsListed g.names g.named.items) token x
     from x (inl h) = inl (declared_from variables _ token own x h)
-    from x (inr (S, h, k)) = inr (S, (is.sorts.own S x.sort).1 h, k)
+    from x (inr (S, h, k, e)) = inr (S, (is.sorts.own S x.sort).1 h, k, e)
 
 module _ (sorts names : List (List ℕ)) (variables : List Variable) (kind : ℕ → ℕ) where
   word_grows : (old new : List Variable) (token : List ℕ) (word : Word) → Extends old new → IsWord sorts variables kind names old token word → IsWord sorts variables kind names new token word

@@ -49,7 +49,8 @@ fn put(
     names.add(alloc, name)?;
     let number = names.number(name)? as usize;
     room(alloc, lists, number)?;
-    push_sort(lists, number, sort)
+    push_sort(lists, number, sort)?;
+    Ok(())
 }
 
 /// The list of a number.
