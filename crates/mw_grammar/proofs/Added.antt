@@ -1,5 +1,11 @@
 -- Leaves that are added.
-use Rattle.std.proofs.Common.{ℕ, ◌≡◌, ◌⊎◌, List, [], ◌∷◌, ◌++◌, refl, sym, subst, inl, inr}
+use Rattle.std.proofs.Common.{ℕ, zero, suc, ◌≡◌, ◌∙◌, ◌⊎◌, ◌||◌, List, [], ◌∷◌, ◌++◌, Bool, true, false, Some, if◌then◌else◌, refl, sym, ap, subst, inl, inr, append-nil}
+use Rattle.std.specs.List.{slice_get}
+use Rattle.std.proofs.lemmas.Bool.{true≢false}
+use Rattle.mw_logic.specs.Substitution.{same_variable}
+use Rattle.mw_logic.proofs.SameConditions.{same_variable-refl}
+use Rattle.mw_text.specs.Mentions.{is_met, with_variable}
+use Rattle.mw_grammar.proofs.Writing.{back}
 use Rattle.mw_logic.specs.Term.{Variable}
 use Rattle.mw_logic.specs.Signature.{Member}
 use Rattle.mw_chart.specs.declared.word.Leaf.{Leaf}
@@ -8,8 +14,32 @@ use Rattle.mw_grammar.specs.Compiled.{Extends}
 use Rattle.mw_grammar.specs.Worded.{IsLeafOf, AllDiffer, Adds}
 use Rattle.mw_grammar.proofs.Made.{get_grows, Extends-trans, Extends-same}
 
+still_differ : (xs : List Variable) (x : Variable) → is_met xs x ≡ false → AllDiffer xs → AllDiffer (xs ++ x ∷ [])
+still_differ xs x new d v w y a b = elim (back xs x v y a) [
+  | inl p ↦ elim (back xs x w y b) [
+    | inl q ↦ d v w y p q
+    | inr (q, e) ↦ absurd (is_new v (p ∙ ap (λ m. Some m) (sym e)))
+  ]
+  | inr (p, e) ↦ elim (back xs x w y b) [
+    | inl q ↦ absurd (is_new w (q ∙ ap (λ m. Some m) (sym e)))
+    | inr (q, f) ↦ p ∙ sym q
+  ]
+]
+  where
+    found : (ys : List Variable) (k : ℕ) → slice_get ys k ≡ Some x → is_met ys x ≡ true
+    found [] k e = let bad : ⊥ = (cc) in absurd bad
+    found (z ∷ ys) zero e = let same : z ≡ x = (cc) in rw (same, same_variable-refl x) refl
+    found (z ∷ ys) (suc k) e = or_true (same_variable x z) (found ys k e)
+      where
+        or_true : (b : Bool) → is_met ys x ≡ true → (b || is_met ys x) ≡ true
+        or_true true h = refl
+        or_true false h = h
+
+    is_new : (k : ℕ) → slice_get xs k ≡ Some x → ⊥
+    is_new k e = true≢false (sym (found xs k e) ∙ new)
+
 module _ (kind : ℕ → ℕ) where
-  pub adds_one : (old new : List Variable) (before after : List Leaf) (l : Leaf) (x : Variable) → Extends old new → (AllDiffer old → AllDiffer new) → after ≡ before ++ l ∷ [] → IsLeafOf kind new l x
+  adds_one : (old new : List Variable) (before after : List Leaf) (l : Leaf) (x : Variable) → Extends old new → (AllDiffer old → AllDiffer new) → after ≡ before ++ l ∷ [] → IsLeafOf kind new l x
       → Adds kind old new before after (λ y. y ≡ x)
   adds_one old new before after l x e d is leaf = record {
     leaves = e;
@@ -22,6 +52,15 @@ module _ (kind : ℕ → ℕ) where
     ];
     complete = λ y a. (l, subst (Member l) (sym is) (Member-right l before (l ∷ []) (inl refl)), subst (IsLeafOf kind new l) (sym a) leaf);
   }
+
+  -- a variable that was met, and a leaf for it
+  pub adds_met : (old new : List Variable) (before after : List Leaf) (l : Leaf) (x : Variable) → new ≡ with_variable old x → after ≡ before ++ l ∷ [] → IsLeafOf kind new l x
+      → Adds kind old new before after (λ y. y ≡ x)
+  adds_met old new before after l x met is leaf = by_test (is_met old x) refl met
+    where
+      by_test : (b : Bool) → is_met old x ≡ b → new ≡ (if b then old else old ++ x ∷ []) → Adds kind old new before after (λ y. y ≡ x)
+      by_test true e same = adds_one old new before after l x ([], same ∙ sym (append-nil old)) (λ d. subst AllDiffer (sym same) d) is leaf
+      by_test false e same = adds_one old new before after l x (x ∷ [], same) (λ d. subst AllDiffer (sym same) (still_differ old x e d)) is leaf
 
   grown : (old new : List Variable) (l : Leaf) (x : Variable) → Extends old new → IsLeafOf kind old l x → IsLeafOf kind new l x
   grown old new l x e h = (get_grows old new l.value x e h.0, h.1)

@@ -1,9 +1,9 @@
 -- What is closed under the forms of a signature.
 use Rattle.std.proofs.Common.{ℕ, List, [], ◌∷◌, ◌++◌, codes}
 use Rattle.mw_logic.specs.Term.{Variable, RawTerm, variable, apply, RawTerms}
-use Rattle.mw_logic.specs.Signature.{Signature, Member}
-use Rattle.mw_grammar.specs.declared.form.Form.{Form}
-use Rattle.mw_grammar.specs.Forms.{forms_of}
+use Rattle.mw_logic.specs.Signature.{Signature}
+use Rattle.mw_grammar.specs.declared.notation.Notation.{Notation}
+use Rattle.mw_grammar.specs.Notations.{IsNotation}
 use Rattle.mw_grammar.specs.Readable.{IsWithin}
 use Rattle.mw_grammar.specs.Leaves.{IsVariableToken}
 use Rattle.mw_grammar.proofs.Over.{Over}
@@ -13,4 +13,4 @@ use Rattle.mw_grammar.proofs.Over.{Over}
 pub record IsClosed (sig : Signature) (variables : List Variable) (kind : ℕ → ℕ) (S : ℕ → ℕ → RawTerm → List (List ℕ) → Type 0) : Type 0 where
   pub alone : (x : Variable) (token : List ℕ) → IsVariableToken sig.sorts variables token x → S (kind x.sort) 0 (variable x) (token ∷ [])
   pub enclosed : (K p : ℕ) (t : RawTerm) (text : List (List ℕ)) → IsWithin sig K → S K p t text → S K 0 t (codes "(" ∷ text ++ codes ")" ∷ [])
-  pub formed : (F : Form) (ts : RawTerms) (text : List (List ℕ)) → Member F (forms_of kind sig) → Over S F.parts ts text → S F.kind F.precedence (apply F.operator ts) text
+  pub formed : (F : Notation) (ts : RawTerms) (text : List (List ℕ)) → IsNotation kind sig F → Over S F.parts ts text → S F.kind F.precedence (apply F.operator ts) text

@@ -10,7 +10,7 @@ use Rattle.mw_chart.specs.declared.table.Step.TheVariants.{Whole}
 use Rattle.mw_chart.specs.declared.table.Table.{Table}
 use Rattle.mw_chart.specs.declared.word.Word.{Word}
 use Rattle.mw_text.specs.Mixfix.{Spells, declared, with_sort, grouped, a_constant, prefixed, flattened, mixfix, IsWanted, IsSpelled, Reads}
-use Rattle.mw_grammar.specs.Forms.{forms_of}
+use Rattle.mw_grammar.specs.Notations.{IsNotation}
 use Rattle.mw_grammar.specs.Readable.{AreKinds, IsReadable, AreVariables}
 use Rattle.mw_grammar.specs.Compiled.{IsCompiled}
 use Rattle.mw_grammar.specs.Worded.{AreWords}
@@ -39,7 +39,7 @@ module _ (sig : Signature) (variables : List Variable) (kind : ℕ → ℕ) (ks 
   chosen_kind None t p text d w = let r = some_kind t p text d in (r.0, r.1, tt)
   chosen_kind (Some S) t p text d w = (S, w, refl)
 
-  module _ (names : List (List ℕ)) (g : Table) (compiled : IsCompiled (length sig.sorts) (forms_of kind sig) names g) where
+  module _ (names : List (List ℕ)) (g : Table) (compiled : IsCompiled (length sig.sorts) (IsNotation kind sig) names g) where
     module _ (leaves : List Variable) (tokens : List (List ℕ)) (words : List Word) (worded : AreWords sig.sorts variables kind names leaves tokens words) where
       complete : (wanted : Option ℕ) (t : RawTerm) → IsSpelled sig variables wanted tokens t → (tree : Tree) × IsTree sig kind g wanted words tree × (term_of leaves tree ≡ t)
       complete wanted t h =

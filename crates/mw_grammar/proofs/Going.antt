@@ -1,11 +1,11 @@
 -- Lists of parts, as loops make them.
 use Rattle.std.proofs.Common.{ℕ, ◌≡◌, List, [], ◌∷◌, codes, Bool, true, false, refl, ap}
-use Rattle.mw_grammar.specs.declared.form.Part.{Part}
-use Rattle.mw_grammar.specs.declared.form.Part.TheVariants.{Piece, Hole}
-use Rattle.mw_grammar.specs.Forms.{arguments}
+use Rattle.mw_grammar.specs.declared.notation.Symbol.{Symbol}
+use Rattle.mw_grammar.specs.declared.notation.Symbol.TheVariants.{Piece, Hole}
+use Rattle.mw_grammar.specs.Notations.{arguments}
 
 -- more arguments, where the first of them comes behind a comma or not
-abbrev pub arguments_from : (ℕ → ℕ) → Bool → List ℕ → List Part
+abbrev pub arguments_from : (ℕ → ℕ) → Bool → List ℕ → List Symbol
 arguments_from kind b [] = []
 arguments_from kind true (K ∷ Ks) = Hole (kind K) 128 ∷ arguments_from kind false Ks
 arguments_from kind false (K ∷ Ks) = Piece (codes ",") ∷ Hole (kind K) 128 ∷ arguments_from kind false Ks
@@ -13,4 +13,4 @@ arguments_from kind false (K ∷ Ks) = Piece (codes ",") ∷ Hole (kind K) 128 �
 pub arguments_are : (kind : ℕ → ℕ) (Ks : List ℕ) → arguments_from kind true Ks ≡ arguments kind Ks
 arguments_are kind [] = refl
 arguments_are kind (K ∷ []) = refl
-arguments_are kind (K ∷ L ∷ Ks) = ap (λ (m : List Part). Hole (kind K) 128 ∷ Piece (codes ",") ∷ m) (arguments_are kind (L ∷ Ks))
+arguments_are kind (K ∷ L ∷ Ks) = ap (λ (m : List Symbol). Hole (kind K) 128 ∷ Piece (codes ",") ∷ m) (arguments_are kind (L ∷ Ks))

@@ -1,22 +1,20 @@
--- The language of forms is that of mixfix texts.
+-- The language of notations is that of mixfix texts.
 pub mod Over
-pub mod Members
 pub mod Closed
 pub mod Spelled
 pub mod Means
 -- It is what the table's states spell.
 pub mod Numbers
-pub mod Numberings
 pub mod Joined
 pub mod Placed
 pub mod Read
 pub mod Telling
 -- What the code holds.
-pub mod Keys
+pub mod Listings
 pub mod Going
 pub mod ItemByItem
-pub mod OneByOne
 pub mod Made
+pub mod Writing
 pub mod Added
 pub mod Tokens
 pub mod WordByWord

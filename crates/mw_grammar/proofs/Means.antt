@@ -8,14 +8,13 @@ use Rattle.mw_logic.proofs.Soundness.{HasKind-same}
 use Rattle.mw_text.specs.Names.{Item, piece, hole, items_of}
 use Rattle.mw_text.specs.Mixfix as text
 use Rattle.mw_text.specs.Mixfix.{IsHead, IsTaken, Spells, declared, with_sort, grouped, a_constant, prefixed, flattened, mixfix, SpellsArguments, last, more, SpellsNested, two, another, SpellsItems, no_items}
-use Rattle.mw_grammar.specs.declared.form.Part.{Part}
-use Rattle.mw_grammar.specs.declared.form.Part.TheVariants.{Piece, Hole}
-use Rattle.mw_grammar.specs.declared.form.Form.{Form}
-use Rattle.mw_grammar.specs.Forms.{pieces_as, arguments, prefix_parts, in_parentheses, bound, mixfix_parts, two_parts}
+use Rattle.mw_grammar.specs.declared.notation.Symbol.{Symbol}
+use Rattle.mw_grammar.specs.declared.notation.Symbol.TheVariants.{Piece, Hole}
+use Rattle.mw_grammar.specs.declared.notation.Notation.{Notation}
+use Rattle.mw_grammar.specs.Notations.{pieces_as, arguments, prefix_parts, in_parentheses, bound, mixfix_parts, two_parts, IsNotationOf, is_prefix, is_mixfix, is_flattened, is_tail}
 use Rattle.mw_grammar.specs.Readable.{IsWithin, AreKinds, IsReadable, AreVariables}
 use Rattle.mw_grammar.specs.Leaves.{IsVariableToken}
 use Rattle.mw_grammar.proofs.Over.{Over, pieces_back, alone_back, none_back, piece_back, hole_back, last_back, Held}
-use Rattle.mw_grammar.proofs.Members.{IsFormOf, is_prefix, is_mixfix, is_flattened, is_tail, of_form}
 use Rattle.mw_grammar.proofs.Closed.{IsClosed}
 use Rattle.mw_grammar.proofs.Spelled.{sort_within, two_are}
 
@@ -52,7 +51,7 @@ module _ (sig : Signature) (variables : List Variable) (kind : ℕ → ℕ) (ks 
   means_enclosed K p t words h m = let r = m.term h in of_term K 0 t (codes "(" ∷ words ++ codes ")" ∷ []) h (grouped t p words r.0) r.1
 
   -- an argument's hole, and what comes behind it
-  argument_back : (K below : ℕ) (parts : List Part) (ts : RawTerms) (words : List (List ℕ)) → IsWithin sig K → (h : Held Means (kind K) below parts ts words)
+  argument_back : (K below : ℕ) (parts : List Symbol) (ts : RawTerms) (words : List (List ℕ)) → IsWithin sig K → (h : Held Means (kind K) below parts ts words)
       → Spells sig variables h.first h.precedence h.front × HasKind sig h.first K
   argument_back K below parts ts words w h = as_kind K h.precedence h.first h.front w h.says
 
@@ -76,12 +75,12 @@ module _ (sig : Signature) (variables : List Variable) (kind : ℕ → ℕ) (ks 
       (subst (λ (m : List (List ℕ)). SpellsArguments sig variables (K ∷ L ∷ Ks) (cons h.first h.others) m) (sym all) (more K (L ∷ Ks) h.first h.others h.precedence h.front c.0 a.0 a.1 r))
 
   -- what stands in parentheses behind a head
-  record Inside (head : List (List ℕ)) (parts : List Part) (ts : RawTerms) (words : List (List ℕ)) : Type 0 where
+  record Inside (head : List (List ℕ)) (parts : List Symbol) (ts : RawTerms) (words : List (List ℕ)) : Type 0 where
     pub inner : List (List ℕ)
     pub whole : words ≡ head ++ codes "(" ∷ inner ++ codes ")" ∷ []
     pub parts_over : Over Means parts ts inner
 
-  inside_back : (head : List (List ℕ)) (parts : List Part) (ts : RawTerms) (words : List (List ℕ)) → Over Means (pieces_as head ++ in_parentheses kind parts) ts words → Inside head parts ts words
+  inside_back : (head : List (List ℕ)) (parts : List Symbol) (ts : RawTerms) (words : List (List ℕ)) → Over Means (pieces_as head ++ in_parentheses kind parts) ts words → Inside head parts ts words
   inside_back head parts ts words d =
       let r = pieces_back Means head (in_parentheses kind parts) ts words d in
       let s = piece_back Means (parts ++ Piece (codes ")") ∷ []) ts r.0 (codes "(") r.2 in
@@ -115,27 +114,27 @@ module _ (sig : Signature) (variables : List Variable) (kind : ℕ → ℕ) (ks 
   taken most p q h = omega arith
   taken any p q h = tt
 
-  none_mapped : (F : List Part → List Part) (r : Option (List Part)) (parts : List Part) → option_map F r ≡ Some parts → (ps : List Part) × (r ≡ Some ps) × (F ps ≡ parts)
+  none_mapped : (F : List Symbol → List Symbol) (r : Option (List Symbol)) (parts : List Symbol) → option_map F r ≡ Some parts → (ps : List Symbol) × (r ≡ Some ps) × (F ps ≡ parts)
   none_mapped F None parts e = let bad : ⊥ = (cc) in absurd bad
   none_mapped F (Some ps) parts e = (ps, refl, (cc))
 
-  items_back : (p : ℕ) (items : List Item) (gather : List Gather) (Ks : List ℕ) (parts : List Part) (ts : RawTerms) (words : List (List ℕ)) → ((L : ℕ) → Member L Ks → IsWithin sig L)
+  items_back : (p : ℕ) (items : List Item) (gather : List Gather) (Ks : List ℕ) (parts : List Symbol) (ts : RawTerms) (words : List (List ℕ)) → ((L : ℕ) → Member L Ks → IsWithin sig L)
       → mixfix_parts kind p items gather Ks ≡ Some parts → Over Means parts ts words → SpellsItems sig variables p items gather Ks ts words
   items_back p [] [] [] parts ts words w e d =
       let no : [] ≡ parts = (cc) in
-      let r = none_back Means ts words (subst (λ (m : List Part). Over Means m ts words) (sym no) d) in
+      let r = none_back Means ts words (subst (λ (m : List Symbol). Over Means m ts words) (sym no) d) in
       subst (λ (m : RawTerms). SpellsItems sig variables p [] [] [] m words) (sym r.0) (subst (λ (m : List (List ℕ)). SpellsItems sig variables p [] [] [] nil m) (sym r.1) (no_items p))
   items_back p [] [] (K ∷ Ks) parts ts words w e d = let bad : ⊥ = (cc) in absurd bad
   items_back p [] (g ∷ gs) Ks parts ts words w e d = let bad : ⊥ = (cc) in absurd bad
   items_back p (piece x ∷ items) gs Ks parts ts words w e d =
       let r = none_mapped (λ ps. Piece x ∷ ps) (mixfix_parts kind p items gs Ks) parts e in
-      let s = piece_back Means r.0 ts words x (subst (λ (m : List Part). Over Means m ts words) (sym r.2) d) in
+      let s = piece_back Means r.0 ts words x (subst (λ (m : List Symbol). Over Means m ts words) (sym r.2) d) in
       subst (λ (m : List (List ℕ)). SpellsItems sig variables p (piece x ∷ items) gs Ks ts m) (sym s.1) (text.over_piece p x items gs Ks ts s.0 (items_back p items gs Ks r.0 ts s.0 w r.1 s.2))
   items_back p (hole ∷ items) [] Ks parts ts words w e d = let bad : ⊥ = (cc) in absurd bad
   items_back p (hole ∷ items) (g ∷ gs) [] parts ts words w e d = let bad : ⊥ = (cc) in absurd bad
   items_back p (hole ∷ items) (g ∷ gs) (K ∷ Ks) parts ts words w e d =
       let r = none_mapped (λ ps. Hole (kind K) (bound kind g p) ∷ ps) (mixfix_parts kind p items gs Ks) parts e in
-      let h = hole_back Means r.0 ts words (kind K) (bound kind g p) (subst (λ (m : List Part). Over Means m ts words) (sym r.2) d) in
+      let h = hole_back Means r.0 ts words (kind K) (bound kind g p) (subst (λ (m : List Symbol). Over Means m ts words) (sym r.2) d) in
       let a = argument_back K (bound kind g p) r.0 ts words (w K (inl refl)) h in
       let others = items_back p items gs Ks r.0 h.others h.rest (λ L m. w L (inr m)) r.1 h.goes_on in
       subst (λ (m : RawTerms). SpellsItems sig variables p (hole ∷ items) (g ∷ gs) (K ∷ Ks) m words) (sym h.terms)
@@ -177,7 +176,7 @@ module _ (sig : Signature) (variables : List Variable) (kind : ℕ → ℕ) (ks 
   tail_back : (f : ℕ) (o : Operator) (rest : ℕ) (ts : RawTerms) (words : List (List ℕ)) → IsOperator sig f o → IsTrue o.assoc → (rest ≡ kind o.result) ⊎ (rest ≡ length sig.sorts + f)
       → Over Means (two_parts kind o rest) ts words → SpellsNested sig variables f o (apply f ts) words
   tail_back f o rest ts words is a (inl e) d =
-      let d2 : Over Means (arguments kind o.args) ts words = subst (λ (m : List Part). Over Means m ts words) (ap (two_parts kind o) e ∙ sym (two_are sig variables kind ks ok vs f o is a)) d in
+      let d2 : Over Means (arguments kind o.args) ts words = subst (λ (m : List Symbol). Over Means m ts words) (ap (two_parts kind o) e ∙ sym (two_are sig variables kind ks ok vs f o is a)) d in
       let r = ok.assoc f o is a in
       let within : (L : ℕ) → Member L (r.0 ∷ r.1 ∷ []) → IsWithin sig L = λ L m. ok.args f o L is (subst (Member L) (sym r.2) m) in
       let args = arguments_back r.0 (r.1 ∷ []) ts words within (subst (λ (m : List ℕ). Over Means (arguments kind m) ts words) r.2 d2) in
@@ -222,7 +221,7 @@ module _ (sig : Signature) (variables : List Variable) (kind : ℕ → ℕ) (ks 
         subst (λ (m : ℕ). SpellsNested sig variables m q t words) same (subst (λ (m : Operator). SpellsNested sig variables f m t words) (same_operator sig f o q is here) d);
   }
 
-  means_form : (f : ℕ) (o : Operator) (F : Form) (ts : RawTerms) (words : List (List ℕ)) → IsOperator sig f o → IsFormOf kind (length sig.sorts + f) f o F → Over Means F.parts ts words
+  means_form : (f : ℕ) (o : Operator) (F : Notation) (ts : RawTerms) (words : List (List ℕ)) → IsOperator sig f o → IsNotationOf kind (length sig.sorts + f) f o F → Over Means F.parts ts words
       → Means F.kind F.precedence (apply F.operator ts) words
   means_form f o F ts words is (is_prefix head h) d = of_result f o 0 ts words is (prefix_back f o head o.args ts words is h refl d)
   means_form f o F ts words is (is_mixfix parts h e) d =
@@ -234,5 +233,5 @@ module _ (sig : Signature) (variables : List Variable) (kind : ℕ → ℕ) (ks 
   means_closed = record {
     alone = means_alone;
     enclosed = means_enclosed;
-    formed = λ F ts words m d. let r = of_form kind sig F m in means_form r.0 r.1 F ts words r.2 r.3 d;
+    formed = λ F ts words m d. means_form m.0 m.1 F ts words m.2 m.3 d;
   }

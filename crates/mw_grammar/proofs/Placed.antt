@@ -11,12 +11,12 @@ use Rattle.mw_chart.specs.declared.table.Step.TheVariants.{Whole}
 use Rattle.mw_chart.specs.declared.table.Start.{Start}
 use Rattle.mw_chart.specs.declared.table.Table.{Table}
 use Rattle.mw_chart.specs.declared.word.Word.{Word}
-use Rattle.mw_grammar.specs.declared.form.Part.{Part}
-use Rattle.mw_grammar.specs.declared.form.Form.{Form}
-use Rattle.mw_grammar.specs.Forms.{forms_of}
+use Rattle.mw_grammar.specs.declared.notation.Symbol.{Symbol}
+use Rattle.mw_grammar.specs.declared.notation.Notation.{Notation}
+use Rattle.mw_grammar.specs.Notations.{IsNotation}
 use Rattle.mw_grammar.specs.Readable.{IsWithin, AreKinds, AreVariables}
 use Rattle.mw_grammar.specs.Leaves.{IsVariableToken}
-use Rattle.mw_grammar.specs.Compiled.{IsNumber, Leads, there, past_piece, past_hole, IsStartOf, AreStartsOf, IsCompiled}
+use Rattle.mw_grammar.specs.Compiled.{IsNumber, Leads, there, past_piece, past_hole, IsCompiled}
 use Rattle.mw_grammar.specs.Worded.{IsWord, AreWords}
 use Rattle.mw_grammar.specs.Meaning.{variable_at, with_last, term_of}
 use Rattle.mw_grammar.proofs.Over.{Over, done, over_piece, over_hole}
@@ -47,17 +47,8 @@ member_at [] n x e = let bad : ⊥ = (cc) in absurd bad
 member_at (y ∷ xs) zero x e = inl (cc)
 member_at (y ∷ xs) (suc n) x e = inr (member_at xs n x e)
 
--- the start of a form of the list
-start_of : (steps : List Step) (names : List (List ℕ)) (ss : List Start) (Fs : List Form) → AreStartsOf steps names ss Fs → (F : Form) → Member F Fs
-    → (n : ℕ) × (s : Start) × (slice_get ss n ≡ Some s) × IsStartOf steps names s F
-start_of steps names [] [] a F m = absurd m
-start_of steps names [] (G ∷ Fs) a F m = absurd a
-start_of steps names (s ∷ ss) [] a F m = absurd a
-start_of steps names (s ∷ ss) (G ∷ Fs) a F (inl e) = (0, s, refl, subst (IsStartOf steps names s) e a.0)
-start_of steps names (s ∷ ss) (G ∷ Fs) a F (inr m) = let r = start_of steps names ss Fs a.1 F m in (suc r.0, r.1, r.2, r.3)
-
 module _ (sig : Signature) (variables : List Variable) (kind : ℕ → ℕ) (ks : AreKinds sig kind) (vs : AreVariables sig variables) where
-  module _ (names : List (List ℕ)) (g : Table) (compiled : IsCompiled (length sig.sorts) (forms_of kind sig) names g) where
+  module _ (names : List (List ℕ)) (g : Table) (compiled : IsCompiled (length sig.sorts) (IsNotation kind sig) names g) where
     module _ (leaves : List Variable) (full : List (List ℕ)) (words : List Word) (worded : AreWords sig.sorts variables kind names leaves full words) where
       -- between any two places where the text stands, a tree stands that is the term
       abbrev pub Stands : ℕ → ℕ → RawTerm → List (List ℕ) → Type 0
@@ -110,7 +101,7 @@ module _ (sig : Signature) (variables : List Variable) (kind : ℕ → ℕ) (ks 
             inner.4,
           )
 
-      over_parts : (parts : List Part) (ts : RawTerms) (text : List (List ℕ)) → Over Stands parts ts text → (pre post : List (List ℕ)) → full ≡ pre ++ (text ++ post)
+      over_parts : (parts : List Symbol) (ts : RawTerms) (text : List (List ℕ)) → Over Stands parts ts text → (pre post : List (List ℕ)) → full ≡ pre ++ (text ++ post)
           → (s w i f : ℕ) (v : Tree) (us : RawTerms) → Begun g words s v i (length pre) → term_of leaves v ≡ apply f us → Leads g.steps.items names s parts w
           → (u : Tree) × Begun g words w u i (length pre + length text) × (term_of leaves u ≡ apply f (join us ts))
       over_parts parts ts text done pre post e s w i f v us b is (there s2) = (v, subst (λ (m : ℕ). Begun g words s v i m) (omega arith) b, is ∙ ap (apply f) (sym (join-nil us)))
@@ -132,9 +123,9 @@ module _ (sig : Signature) (variables : List Variable) (kind : ℕ → ℕ) (ks 
           (app v reading.1) (join us (cons t nil)) c2 now rest in
           (r.0, subst (λ (m : ℕ). Begun g words w r.0 i m) (omega (arith, one, two)) r.1, r.2 ∙ ap (apply f) (join-one us t ts2))
 
-      stands_formed : (F : Form) (ts : RawTerms) (text : List (List ℕ)) → Member F (forms_of kind sig) → Over Stands F.parts ts text → Stands F.kind F.precedence (apply F.operator ts) text
+      stands_formed : (F : Notation) (ts : RawTerms) (text : List (List ℕ)) → IsNotation kind sig F → Over Stands F.parts ts text → Stands F.kind F.precedence (apply F.operator ts) text
       stands_formed F ts text m d pre post e =
-          let st = start_of g.steps.items names g.starts.items (forms_of kind sig) compiled.starts F m in
+          let st = compiled.complete F m in
           let is : IsStart g st.1.state F.operator = (st.0, st.1, st.2, refl, st.3.operator) in
           let r = over_parts F.parts ts text d pre post e st.1.state st.3.last (length pre) F.operator (head F.operator) nil (opened st.1.state F.operator (length pre) is) refl st.3.leads in
           (st.3.last, r.0, r.1, st.3.whole, r.2)

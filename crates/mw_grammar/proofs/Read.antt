@@ -10,13 +10,13 @@ use Rattle.mw_chart.specs.declared.table.Step.TheVariants.{Token, Hole, Whole}
 use Rattle.mw_chart.specs.declared.table.Start.{Start}
 use Rattle.mw_chart.specs.declared.table.Table.{Table}
 use Rattle.mw_chart.specs.declared.word.Word.{Word}
-use Rattle.mw_grammar.specs.declared.form.Part.{Part}
-use Rattle.mw_grammar.specs.declared.form.Part.TheVariants as part
-use Rattle.mw_grammar.specs.declared.form.Form.{Form}
-use Rattle.mw_grammar.specs.Forms.{forms_of}
+use Rattle.mw_grammar.specs.declared.notation.Symbol.{Symbol}
+use Rattle.mw_grammar.specs.declared.notation.Symbol.TheVariants as part
+use Rattle.mw_grammar.specs.declared.notation.Notation.{Notation}
+use Rattle.mw_grammar.specs.Notations.{IsNotation}
 use Rattle.mw_grammar.specs.Readable.{AreKinds, AreVariables}
 use Rattle.mw_grammar.specs.Leaves.{IsVariableToken}
-use Rattle.mw_grammar.specs.Compiled.{IsNumber, Leads, there, past_piece, past_hole, IsStartOf, AreStartsOf, IsCompiled}
+use Rattle.mw_grammar.specs.Compiled.{IsNumber, Leads, there, past_piece, past_hole, IsCompiled}
 use Rattle.mw_grammar.specs.Worded.{AreWords}
 use Rattle.mw_grammar.specs.Meaning.{variable_at, with_last, term_of}
 use Rattle.mw_grammar.proofs.Over.{Over, done, snoc_piece, snoc_hole}
@@ -33,8 +33,8 @@ below (y ∷ xs) zero x e = omega arith
 below (y ∷ xs) (suc k) x e = let h = below xs k x e in omega arith
 
 -- from a state that leads over parts to a whole one, a step goes over the first part
-leads_token : (steps : List Step) (names : List (List ℕ)) (s x next w kind p : ℕ) (parts : List Part) → Leads steps names s parts w → slice_get steps s ≡ Some (Token x next)
-    → slice_get steps w ≡ Some (Whole kind p) → (name : List ℕ) × (rest : List Part) × (parts ≡ part.Piece name ∷ rest) × IsNumber names x name × Leads steps names next rest w
+leads_token : (steps : List Step) (names : List (List ℕ)) (s x next w kind p : ℕ) (parts : List Symbol) → Leads steps names s parts w → slice_get steps s ≡ Some (Token x next)
+    → slice_get steps w ≡ Some (Whole kind p) → (name : List ℕ) × (rest : List Symbol) × (parts ≡ part.Piece name ∷ rest) × IsNumber names x name × Leads steps names next rest w
 leads_token steps names s x next w kind p parts (there s2) st wh = let bad : ⊥ = (let q = one_there steps s _ _ st wh in cc) in absurd bad
 leads_token steps names s x next w kind p parts (past_piece s2 y n2 w2 name rest st2 num d) st wh =
     let q = one_there steps s _ _ st2 st in
@@ -43,8 +43,8 @@ leads_token steps names s x next w kind p parts (past_piece s2 y n2 w2 name rest
     (name, rest, refl, subst (λ (m : ℕ). IsNumber names m name) same2 num, subst (λ (m : ℕ). Leads steps names m rest w) same d)
 leads_token steps names s x next w kind p parts (past_hole s2 k2 b2 n2 w2 rest st2 d) st wh = let bad : ⊥ = (let q = one_there steps s _ _ st2 st in cc) in absurd bad
 
-pub leads_hole : (steps : List Step) (names : List (List ℕ)) (s k3 b3 next w kind p : ℕ) (parts : List Part) → Leads steps names s parts w → slice_get steps s ≡ Some (Hole k3 b3 next)
-    → slice_get steps w ≡ Some (Whole kind p) → (rest : List Part) × (parts ≡ part.Hole k3 b3 ∷ rest) × Leads steps names next rest w
+pub leads_hole : (steps : List Step) (names : List (List ℕ)) (s k3 b3 next w kind p : ℕ) (parts : List Symbol) → Leads steps names s parts w → slice_get steps s ≡ Some (Hole k3 b3 next)
+    → slice_get steps w ≡ Some (Whole kind p) → (rest : List Symbol) × (parts ≡ part.Hole k3 b3 ∷ rest) × Leads steps names next rest w
 leads_hole steps names s k3 b3 next w kind p parts (there s2) st wh = let bad : ⊥ = (let q = one_there steps s _ _ st wh in cc) in absurd bad
 leads_hole steps names s k3 b3 next w kind p parts (past_piece s2 y n2 w2 name rest st2 num d) st wh = let bad : ⊥ = (let q = one_there steps s _ _ st2 st in cc) in absurd bad
 leads_hole steps names s k3 b3 next w kind p parts (past_hole s2 k2 b2 n2 w2 rest st2 d) st wh =
@@ -54,18 +54,10 @@ leads_hole steps names s k3 b3 next w kind p parts (past_hole s2 k2 b2 n2 w2 res
     let b : b2 ≡ b3 = (cc) in
     (rest, ap (λ m. part.Hole m b2 ∷ rest) a ∙ ap (λ m. part.Hole k3 m ∷ rest) b, subst (λ (m : ℕ). Leads steps names m rest w) same d)
 
-pub leads_whole : (steps : List Step) (names : List (List ℕ)) (s w kind p : ℕ) (parts : List Part) → Leads steps names s parts w → slice_get steps s ≡ Some (Whole kind p) → (parts ≡ []) × (s ≡ w)
+pub leads_whole : (steps : List Step) (names : List (List ℕ)) (s w kind p : ℕ) (parts : List Symbol) → Leads steps names s parts w → slice_get steps s ≡ Some (Whole kind p) → (parts ≡ []) × (s ≡ w)
 leads_whole steps names s w kind p parts (there s2) st = (refl, refl)
 leads_whole steps names s w kind p parts (past_piece s2 y n2 w2 name rest st2 num d) st = let bad : ⊥ = (let q = one_there steps s _ _ st2 st in cc) in absurd bad
 leads_whole steps names s w kind p parts (past_hole s2 k2 b2 n2 w2 rest st2 d) st = let bad : ⊥ = (let q = one_there steps s _ _ st2 st in cc) in absurd bad
-
--- a start is that of a form
-pub form_at : (steps : List Step) (names : List (List ℕ)) (ss : List Start) (Fs : List Form) → AreStartsOf steps names ss Fs → (n : ℕ) (s : Start) → slice_get ss n ≡ Some s
-    → (F : Form) × Member F Fs × IsStartOf steps names s F
-form_at steps names [] Fs a n s e = let bad : ⊥ = (cc) in absurd bad
-form_at steps names (r ∷ ss) [] a n s e = absurd a
-form_at steps names (r ∷ ss) (F ∷ Fs) a zero s e = let same : r ≡ s = (cc) in (F, inl refl, subst (λ (m : Start). IsStartOf steps names m F) same a.0)
-form_at steps names (r ∷ ss) (F ∷ Fs) a (suc n) s e = let q = form_at steps names ss Fs a.1 n s e in (q.0, inr q.1, q.2)
 
 head_of : (a post : List (List ℕ)) (x : List ℕ) → slice_get (a ++ post) (length a) ≡ Some x → (rest : List (List ℕ)) × (post ≡ x ∷ rest)
 head_of [] [] x e = let bad : ⊥ = (cc) in absurd bad
@@ -114,15 +106,15 @@ pub record Between (full text : List (List ℕ)) (i k : ℕ) : Type 0 where
   pub to : i + length text ≡ k
 
 module _ (sig : Signature) (variables : List Variable) (kind : ℕ → ℕ) (ks : AreKinds sig kind) (vs : AreVariables sig variables) where
-  module _ (names : List (List ℕ)) (g : Table) (compiled : IsCompiled (length sig.sorts) (forms_of kind sig) names g) where
+  module _ (names : List (List ℕ)) (g : Table) (compiled : IsCompiled (length sig.sorts) (IsNotation kind sig) names g) where
     module _ (leaves : List Variable) (full : List (List ℕ)) (words : List Word) (worded : AreWords sig.sorts variables kind names leaves full words) where
       module _ (S : ℕ → ℕ → RawTerm → List (List ℕ) → Type 0) (closed : IsClosed sig variables kind S) where
         -- how far a form's text has come
         pub record Progress (s : ℕ) (v : Tree) (text : List (List ℕ)) : Type 0 where
-          pub form : Form
-          pub member : Member form (forms_of kind sig)
-          pub front : List Part
-          pub back : List Part
+          pub form : Notation
+          pub member : IsNotation kind sig form
+          pub front : List Symbol
+          pub back : List Symbol
           pub terms : RawTerms
           pub parts : form.parts ≡ front ++ back
           pub over : Over S front terms text
@@ -142,7 +134,7 @@ module _ (sig : Signature) (variables : List Variable) (kind : ℕ → ℕ) (ks 
             let q = one_there g.steps.items s _ _ wh2 wh in
             let a : r.form.kind ≡ K = (cc) in
             let b : r.form.precedence ≡ p = (cc) in
-            let d = closed.formed r.form r.terms text r.member (subst (λ (m : List Part). Over S m r.terms text) (sym parts) r.over) in
+            let d = closed.formed r.form r.terms text r.member (subst (λ (m : List Symbol). Over S m r.terms text) (sym parts) r.over) in
             subst (λ (m : RawTerm). S K p m text) (sym r.value)
             (subst (λ (m : ℕ). S K m (apply r.form.operator r.terms) text) b (subst (λ (m : ℕ). S m r.form.precedence (apply r.form.operator r.terms) text) a d))
         whole_read s K p v text (inr (k2, wh2, d)) wh =
@@ -166,7 +158,7 @@ module _ (sig : Signature) (variables : List Variable) (kind : ℕ → ℕ) (ks 
 
         opened_read : (s op i : ℕ) → IsStart g s op → i ≤ length full → Readable s (head op) i i
         opened_read s op i start h =
-            let f = form_at g.steps.items names g.starts.items (forms_of kind sig) compiled.starts start.0 start.1 start.2 in (
+            let f = compiled.sound start.0 start.1 start.2 in (
               [],
               record { before = take i full; behind = drop i full; parts = sym (parted full i); from = length_front full i h; to = omega arith },
               inl (record {

@@ -6,13 +6,12 @@ use Rattle.mw_logic.specs.Signature.{Signature, Operator, Gather, less, most, an
 use Rattle.mw_logic.proofs.Canonical.{same_operator}
 use Rattle.mw_text.specs.Names.{Item, items_of}
 use Rattle.mw_text.specs.Mixfix.{IsTaken, Spells, declared, with_sort, grouped, a_constant, prefixed, flattened, mixfix, SpellsArguments, last, more, SpellsNested, two, another, SpellsItems, no_items, over_piece, over_hole}
-use Rattle.mw_grammar.specs.declared.form.Part.{Part}
-use Rattle.mw_grammar.specs.declared.form.Part.TheVariants.{Piece, Hole}
-use Rattle.mw_grammar.specs.Forms.{pieces_as, arguments, in_parentheses, prefix_parts, prefix_form, bound, mixfix_parts, two_parts, flattened_form, tail_form}
+use Rattle.mw_grammar.specs.declared.notation.Symbol.{Symbol}
+use Rattle.mw_grammar.specs.declared.notation.Symbol.TheVariants.{Piece, Hole}
+use Rattle.mw_grammar.specs.Notations.{pieces_as, arguments, in_parentheses, prefix_parts, prefix_notation, bound, mixfix_parts, two_parts, flattened_notation, tail_notation, is_prefix, is_mixfix, is_flattened, is_tail}
 use Rattle.mw_grammar.specs.Readable.{IsWithin, AreKinds, IsReadable, AreVariables}
 use Rattle.mw_grammar.proofs.Over as over
 use Rattle.mw_grammar.proofs.Over.{Over, pieces_over, pieces_alone, snoc_piece}
-use Rattle.mw_grammar.proofs.Members.{is_prefix, is_mixfix, is_flattened, is_tail, form_of}
 use Rattle.mw_grammar.proofs.Closed.{IsClosed}
 
 pub sort_within : (sig : Signature) (S : ℕ) (name : List ℕ) → IsSortNamed sig S name → IsWithin sig S
@@ -98,7 +97,7 @@ module _ (sig : Signature) (variables : List Variable) (kind : ℕ → ℕ) (ks 
     more_over K (L ∷ Ks) t ts p text rest d h ds o =
         over.over_hole (kind K) 128 p t (Piece (codes ",") ∷ arguments kind (L ∷ Ks)) ts text (codes "," ∷ rest) d h (over.over_piece (codes ",") (arguments kind (L ∷ Ks)) ts rest o)
 
-    parenthesized : (head text inner : List (List ℕ)) (parts : List Part) (ts : RawTerms) → Over S parts ts (text ++ codes "," ∷ inner)
+    parenthesized : (head text inner : List (List ℕ)) (parts : List Symbol) (ts : RawTerms) → Over S parts ts (text ++ codes "," ∷ inner)
         → Over S (pieces_as head ++ in_parentheses kind parts) ts (head ++ codes "(" ∷ text ++ codes "," ∷ inner ++ codes ")" ∷ [])
     parenthesized head text inner parts ts d =
         let e = ap (λ (m : List (List ℕ)). m ++ codes ")" ∷ []) (append_assoc head (codes "(" ∷ text) (codes "," ∷ inner)) ∙ append_assoc head (codes "(" ∷ text ++ codes "," ∷ inner) (codes ")" ∷ []) in
@@ -114,11 +113,11 @@ module _ (sig : Signature) (variables : List Variable) (kind : ℕ → ℕ) (ks 
       spelled t p text (grouped u q text2 d) K h = closed.enclosed (kind K) q u text2 (kind_within u q text2 d K h) (spelled u q text2 d K h)
       spelled t p text (a_constant f o head is none isHead) K h =
           at_kind o.result K 0 (apply f nil) head (operator_kind sig f o nil K is h)
-          (closed.formed (prefix_form kind f o head) nil head (form_of kind sig f o _ is (is_prefix head isHead))
+          (closed.formed (prefix_notation kind f o head) nil head (f, o, is, (is_prefix head isHead))
           (subst (λ (m : List ℕ). Over S (prefix_parts kind head m) nil head) (sym none) (pieces_alone S head)))
       spelled t p text (prefixed f o u us head inner is isHead d) K h =
           at_kind o.result K 0 (apply f (cons u us)) _ (operator_kind sig f o (cons u us) K is h)
-          (closed.formed (prefix_form kind f o head) (cons u us) _ (form_of kind sig f o _ is (is_prefix head isHead))
+          (closed.formed (prefix_notation kind f o head) (cons u us) _ (f, o, is, (is_prefix head isHead))
           (prefix_over head inner o.args u us d (spelled_arguments o.args (cons u us) inner d)))
       spelled t p text (flattened f o u v head inner is a isHead q L text2 d m k n) K h =
           let first = at_kind L o.result q u text2 (argument_kind f o L is a m) (spelled u q text2 d L k) in
@@ -126,11 +125,11 @@ module _ (sig : Signature) (variables : List Variable) (kind : ℕ → ℕ) (ks 
           let both = over.over_hole (kind o.result) 128 q u (Piece (codes ",") ∷ Hole (length sig.sorts + f) 128 ∷ []) (cons v nil) text2 (codes "," ∷ inner) first (precedence_below u q text2 d)
           (over.over_piece (codes ",") (Hole (length sig.sorts + f) 128 ∷ []) (cons v nil) inner (last_hole (length sig.sorts + f) 0 v inner second (lit< tt))) in
           at_kind o.result K 0 (apply f (cons u (cons v nil))) _ (operator_kind sig f o (cons u (cons v nil)) K is h)
-          (closed.formed (flattened_form kind (length sig.sorts + f) f o head) (cons u (cons v nil)) _ (form_of kind sig f o _ is (is_flattened head a isHead)) (parenthesized head text2 inner (two_parts kind o (length sig.sorts + f)) (cons u (cons v nil)) both))
+          (closed.formed (flattened_notation kind (length sig.sorts + f) f o head) (cons u (cons v nil)) _ (f, o, is, (is_flattened head a isHead)) (parenthesized head text2 inner (two_parts kind o (length sig.sorts + f)) (cons u (cons v nil)) both))
       spelled t p text (mixfix f o ts text2 is holes d) K h =
           let r = spelled_items o.prec (items_of o.spelling) o.gather o.args ts text2 d in
           at_kind o.result K o.prec (apply f ts) text2 (operator_kind sig f o ts K is h)
-          (closed.formed (record { kind = kind o.result; precedence = o.prec; operator = f; parts = r.0 }) ts text2 (form_of kind sig f o _ is (is_mixfix r.0 holes r.1)) r.2)
+          (closed.formed (record { kind = kind o.result; precedence = o.prec; operator = f; parts = r.0 }) ts text2 (f, o, is, (is_mixfix r.0 holes r.1)) r.2)
 
       spelled_arguments : (Ks : List ℕ) (ts : RawTerms) (inner : List (List ℕ)) → SpellsArguments sig variables Ks ts inner → Over S (arguments kind Ks) ts inner
       spelled_arguments Ks ts inner (last K t p text d h) = last_hole (kind K) p t text (spelled t p text d K h) (precedence_below t p text d)
@@ -140,17 +139,17 @@ module _ (sig : Signature) (variables : List Variable) (kind : ℕ → ℕ) (ks 
       spelled_nested : (f : ℕ) (o : Operator) (u : RawTerm) (inner : List (List ℕ)) → SpellsNested sig variables f o u inner → IsOperator sig f o → IsTrue o.assoc
           → S (length sig.sorts + f) 0 u inner
       spelled_nested f o u inner (two g p v w text d) is a =
-          closed.formed (tail_form kind (length sig.sorts + g) g p (kind p.result)) (cons v (cons w nil)) text (form_of kind sig g p _ is (is_tail (kind p.result) a (inl refl)))
-          (subst (λ (m : List Part). Over S m (cons v (cons w nil)) text) (two_are g p is a) (spelled_arguments p.args (cons v (cons w nil)) text d))
+          closed.formed (tail_notation kind (length sig.sorts + g) g p (kind p.result)) (cons v (cons w nil)) text (g, p, is, (is_tail (kind p.result) a (inl refl)))
+          (subst (λ (m : List Symbol). Over S m (cons v (cons w nil)) text) (two_are g p is a) (spelled_arguments p.args (cons v (cons w nil)) text d))
       spelled_nested f o u inner (another g p v w q L text rest d m k n) is a =
           let first = at_kind L p.result q v text (argument_kind g p L is a m) (spelled v q text d L k) in
           let second = spelled_nested g p w rest n is a in
-          closed.formed (tail_form kind (length sig.sorts + g) g p (length sig.sorts + g)) (cons v (cons w nil)) (text ++ codes "," ∷ rest) (form_of kind sig g p _ is (is_tail (length sig.sorts + g) a (inr refl)))
+          closed.formed (tail_notation kind (length sig.sorts + g) g p (length sig.sorts + g)) (cons v (cons w nil)) (text ++ codes "," ∷ rest) (g, p, is, (is_tail (length sig.sorts + g) a (inr refl)))
           (over.over_hole (kind p.result) 128 q v (Piece (codes ",") ∷ Hole (length sig.sorts + g) 128 ∷ []) (cons w nil) text (codes "," ∷ rest) first (precedence_below v q text d)
           (over.over_piece (codes ",") (Hole (length sig.sorts + g) 128 ∷ []) (cons w nil) rest (last_hole (length sig.sorts + g) 0 w rest second (lit< tt))))
 
       spelled_items : (p : ℕ) (items : List Item) (gather : List Gather) (Ks : List ℕ) (ts : RawTerms) (text : List (List ℕ)) → SpellsItems sig variables p items gather Ks ts text
-          → (parts : List Part) × (mixfix_parts kind p items gather Ks ≡ Some parts) × Over S parts ts text
+          → (parts : List Symbol) × (mixfix_parts kind p items gather Ks ≡ Some parts) × Over S parts ts text
       spelled_items p items gather Ks ts text (no_items q) = ([], refl, over.done)
       spelled_items p items gather Ks ts text (over_piece q x items2 gather2 Ls us rest d) =
           let r = spelled_items q items2 gather2 Ls us rest d in

@@ -8,7 +8,7 @@ use Rattle.mw_chart.specs.Spelling.{StepAt, Begun, opened, over_token, over_hole
 use Rattle.mw_chart.specs.declared.table.Step.TheVariants.{Whole}
 use Rattle.mw_chart.specs.declared.table.Table.{Table}
 use Rattle.mw_chart.specs.declared.word.Word.{Word}
-use Rattle.mw_grammar.specs.Forms.{forms_of}
+use Rattle.mw_grammar.specs.Notations.{IsNotation}
 use Rattle.mw_grammar.specs.Readable.{AreKinds, AreVariables}
 use Rattle.mw_grammar.specs.Compiled.{IsCompiled}
 use Rattle.mw_grammar.specs.Worded.{AreWords}
@@ -82,7 +82,7 @@ module _ (leaves : List Variable) (differ : (v w : ℕ) (x : Variable) → slice
     same_value a b (of_leaf v x h) (of_leaf w y k) e = ap leaf (same_variable v w x y h k e)
 
 module _ (sig : Signature) (variables : List Variable) (kind : ℕ → ℕ) (ks : AreKinds sig kind) (vs : AreVariables sig variables) where
-  module _ (names : List (List ℕ)) (g : Table) (compiled : IsCompiled (length sig.sorts) (forms_of kind sig) names g) where
+  module _ (names : List (List ℕ)) (g : Table) (compiled : IsCompiled (length sig.sorts) (IsNotation kind sig) names g) where
     module _ (leaves : List Variable) (full : List (List ℕ)) (words : List Word) (worded : AreWords sig.sorts variables kind names leaves full words) where
       abbrev IsStage : ℕ → Tree → Type 0
       IsStage s v = IsSpine leaves worded.differ v ⊎ (IsValue leaves worded.differ v × ((K : ℕ) × (p : ℕ) × StepAt g s (Whole K p)))

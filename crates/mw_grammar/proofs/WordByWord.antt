@@ -2,25 +2,41 @@
 use Rattle.std.proofs.Common.{ℕ, zero, suc, ◌≡◌, ◌∙◌, ◌⊎◌, ◌+◌, List, [], ◌∷◌, ◌++◌, length, Some, refl, ap, subst, inl, inr, arith, length-append}
 use Rattle.std.specs.List.{slice_get}
 use Rattle.mw_logic.specs.Term.{Variable}
-use Rattle.mw_logic.specs.Signature.{Member}
+use Rattle.std.specs.Prelude.{◌↔◌}
+use Rattle.mw_logic.specs.Signature.{Signature, Member}
+use Rattle.mw_chart.specs.Listed.{inner}
+use Rattle.mw_text.specs.Interned.{number_of}
 use Rattle.mw_chart.specs.declared.word.Leaf.{Leaf}
 use Rattle.mw_chart.specs.declared.word.Word.{Word}
-use Rattle.mw_grammar.specs.Readable.{kind_in}
-use Rattle.mw_grammar.specs.Leaves.{IsVariableToken}
-use Rattle.mw_grammar.specs.Compiled.{number_of, Extends}
+use Rattle.mw_grammar.specs.Leaves.{IsVariableToken, IsOfOne, IsWithSort}
+use Rattle.mw_grammar.specs.Listing.{IsListed}
+use Rattle.mw_grammar.specs.Grammars.{IsGrammarOf}
+use Rattle.mw_grammar.specs.declared.grammar.Grammar.{Grammar}
+use Rattle.mw_grammar.specs.Compiled.{Extends}
+use Rattle.mw_grammar.proofs.Listings.{declared_to, declared_from}
 use Rattle.mw_grammar.specs.Worded.{IsWord, AllDiffer, AreWords, Adds}
 use Rattle.mw_grammar.proofs.Made.{get_grows}
 
 -- the variables that were found are those of the word
-pub word_is : (sorts names : List (List ℕ)) (variables old new : List Variable) (kinds kinds2 : List ℕ) (token : List ℕ) (before : List Leaf) (word : Word) → kinds2 ≡ kinds → before ≡ []
-    → word.token ≡ number_of names token → Adds (kind_in kinds2) old new before word.leaves.items (IsVariableToken sorts variables token) → IsWord sorts variables (kind_in kinds) names new token word
-word_is sorts names variables old new kinds kinds2 token before word same none number adds =
-    let f = subst (λ (k : List ℕ). Adds (kind_in k) old new before word.leaves.items (IsVariableToken sorts variables token)) same adds in
-    record {
-      number = number;
-      sound = λ l m. elim (f.sound l m) [ inl h ↦ absurd (subst (Member l) none h) | inr h ↦ h ];
-      complete = f.complete;
-    }
+pub word_is : (sig : Signature) (variables : List Variable) (g : Grammar) (kind : ℕ → ℕ) (old new : List Variable) (token : List ℕ) (before : List Leaf) (word : Word) → IsGrammarOf sig variables g → before ≡ []
+    → word.token ≡ number_of g.names token → Adds kind old new before word.leaves.items (λ x. IsOfOne (inner g.declared.items (number_of g.names token)) token x ⊎ IsWithSort (IsListed g.names g.named.items) token x)
+    → IsWord sig.sorts variables kind g.names new token word
+word_is sig variables g kind old new token before word is none number f = record {
+  number = number;
+  sound = λ l m. elim (f.sound l m) [ inl h ↦ absurd (subst (Member l) none h) | inr (x, h, k) ↦ (x, h, to x k) ];
+  complete = λ x h. f.complete x (from x h);
+}
+  where
+    own : (S : ℕ) → IsListed g.names g.declared.items token S ↔ Member {X = Variable} (record { name = token; sort = S }) variables
+    own S = is.variables_are.own token S
+
+    to : (x : Variable) → IsOfOne (inner g.declared.items (number_of g.names token)) token x ⊎ IsWithSort (IsListed g.names g.named.items) token x → IsVariableToken sig.sorts variables token x
+    to x (inl h) = inl (declared_to variables _ token own x h)
+    to x (inr (S, h, k, e)) = inr (S, (is.sorts.own S x.sort).0 h, k, e)
+
+    from : (x : Variable) → IsVariableToken sig.sorts variables token x → IsOfOne (inner g.declared.items (number_of g.names token)) token x ⊎ IsWithSort (IsListed g.names g.named.items) token x
+    from x (inl h) = inl (declared_from variables _ token own x h)
+    from x (inr (S, h, k, e)) = inr (S, (is.sorts.own S x.sort).1 h, k, e)
 
 module _ (sorts names : List (List ℕ)) (variables : List Variable) (kind : ℕ → ℕ) where
   word_grows : (old new : List Variable) (token : List ℕ) (word : Word) → Extends old new → IsWord sorts variables kind names old token word → IsWord sorts variables kind names new token word

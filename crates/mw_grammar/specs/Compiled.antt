@@ -1,49 +1,35 @@
--- A table of states that has certain forms.
-use Rattle.std.specs.Prelude.{ℕ, suc, ◌≡◌, ◌<◌, ◌≤◌, List, [], ◌∷◌, ◌++◌, length, codes, bytes_eq, if◌then◌else◌, Some, ⊤}
-use Rattle.std.specs.List.{slice_get, list_any}
+-- A table of states that has certain notations.
+use Rattle.std.specs.Prelude.{ℕ, ◌≡◌, ◌<◌, ◌≤◌, ◌⊎◌, List, [], ◌∷◌, ◌++◌, codes, Some}
+use Rattle.std.specs.List.{slice_get}
 use Rattle.mw_chart.specs.Spelling.{IsIndexOf}
 use Rattle.mw_chart.specs.declared.table.Step.{Step}
 use Rattle.mw_chart.specs.declared.table.Step.TheVariants.{Token, Hole, Whole}
 use Rattle.mw_chart.specs.declared.table.Start.{Start}
 use Rattle.mw_chart.specs.declared.table.Table.{Table}
-use Rattle.mw_grammar.specs.declared.form.Part.{Part}
-use Rattle.mw_grammar.specs.declared.form.Part.TheVariants as part
-use Rattle.mw_grammar.specs.declared.form.Form.{Form}
+use Rattle.mw_grammar.specs.declared.notation.Symbol.{Symbol}
+use Rattle.mw_grammar.specs.declared.notation.Symbol.TheVariants as part
+use Rattle.mw_grammar.specs.declared.notation.Notation.{Notation}
+use Rattle.mw_grammar.specs.declared.compile.Making.{Making}
+use Rattle.mw_text.specs.Interned.{number_of}
 
--- a name's place among names; that behind them, where it isn't there
-abbrev pub number_of : List (List ℕ) → List ℕ → ℕ
-number_of [] name = 0
-number_of (n ∷ ns) name = if bytes_eq name n then 0 else suc (number_of ns name)
-
--- the names, and this one behind them where it is new
-abbrev pub with_name : List (List ℕ) → List ℕ → List (List ℕ)
-with_name ns name = if list_any (bytes_eq name) ns then ns else ns ++ name ∷ []
-
--- the name is there, and x is its place
+-- the name is there, and x is its number
 abbrev pub IsNumber : List (List ℕ) → ℕ → List ℕ → Type 0
-IsNumber names x name = (number_of names name ≡ x) × (x < length names)
+IsNumber names x name = (number_of names name ≡ x) × (0 < x)
 
 -- from a state, the parts lead to another one, where tokens are numbered by names
-pub data Leads (steps : List Step) (names : List (List ℕ)) : ℕ → List Part → ℕ → Type 0 where
+pub data Leads (steps : List Step) (names : List (List ℕ)) : ℕ → List Symbol → ℕ → Type 0 where
   there : (s : ℕ) → Leads steps names s [] s
-  past_piece : (s x next last : ℕ) (name : List ℕ) (parts : List Part) → slice_get steps s ≡ Some (Token x next) → IsNumber names x name → Leads steps names next parts last
+  past_piece : (s x next last : ℕ) (name : List ℕ) (parts : List Symbol) → slice_get steps s ≡ Some (Token x next) → IsNumber names x name → Leads steps names next parts last
       → Leads steps names s (part.Piece name ∷ parts) last
-  past_hole : (s kind below next last : ℕ) (parts : List Part) → slice_get steps s ≡ Some (Hole kind below next) → Leads steps names next parts last
+  past_hole : (s kind below next last : ℕ) (parts : List Symbol) → slice_get steps s ≡ Some (Hole kind below next) → Leads steps names next parts last
       → Leads steps names s (part.Hole kind below ∷ parts) last
 
--- the start is that of the form: its parts lead from there to a whole state of its kind and precedence
-pub record IsStartOf (steps : List Step) (names : List (List ℕ)) (start : Start) (F : Form) : Type 0 where
+-- the start is that of the notation: its parts lead from there to a whole state of its kind and precedence
+pub record IsStartOf (steps : List Step) (names : List (List ℕ)) (start : Start) (F : Notation) : Type 0 where
   pub operator : start.operator ≡ F.operator
   pub last : ℕ
   pub leads : Leads steps names start.state F.parts last
   pub whole : slice_get steps last ≡ Some (Whole F.kind F.precedence)
-
--- one start for each form
-abbrev pub AreStartsOf : List Step → List (List ℕ) → List Start → List Form → Type 0
-AreStartsOf steps names [] [] = ⊤
-AreStartsOf steps names [] (F ∷ Fs) = ⊥
-AreStartsOf steps names (s ∷ ss) [] = ⊥
-AreStartsOf steps names (s ∷ ss) (F ∷ Fs) = IsStartOf steps names s F × AreStartsOf steps names ss Fs
 
 -- the list goes on
 abbrev pub Extends : {X : Type 0} → List X → List X → Type 0
@@ -54,9 +40,19 @@ pub record AreGroups (sorts : ℕ) (groups : List ℕ) : Type 0 where
   pub there : (K : ℕ) → K ≤ sorts → slice_get groups K ≡ Some K
   pub only : (K s : ℕ) → slice_get groups K ≡ Some s → (K ≤ sorts) × (s ≡ K)
 
--- The table has these forms, of kinds of which those up to the number of sorts are kinds of terms, with texts in parentheses. The state of texts in parentheses has the kind's number.
-pub record IsCompiled (sorts : ℕ) (forms : List Form) (names : List (List ℕ)) (g : Table) : Type 0 where
-  pub starts : AreStartsOf g.steps.items names g.starts.items forms
+-- From old to new, starts of the fresh notations were added, and no others.
+pub record AddsNotations (old new : Making) (ns ms : List (List ℕ)) (Fresh : Notation → Type 0) : Type 0 where
+  pub steps : Extends old.steps.items new.steps.items
+  pub names : Extends ns ms
+  pub starts : Extends old.starts.items new.starts.items
+  pub sound : (n : ℕ) (s : Start) → slice_get new.starts.items n ≡ Some s → (slice_get old.starts.items n ≡ Some s) ⊎ ((F : Notation) × Fresh F × IsStartOf new.steps.items ms s F)
+  pub complete : (F : Notation) → Fresh F → (n : ℕ) × (s : Start) × (slice_get new.starts.items n ≡ Some s) × IsStartOf new.steps.items ms s F
+
+-- The table has exactly these notations, of kinds of which those up to the number of sorts are kinds of terms, with texts in parentheses. The state of texts
+-- in parentheses has the kind's number.
+pub record IsCompiled (sorts : ℕ) (Notations : Notation → Type 0) (names : List (List ℕ)) (g : Table) : Type 0 where
+  pub sound : (n : ℕ) (s : Start) → slice_get g.starts.items n ≡ Some s → (F : Notation) × Notations F × IsStartOf g.steps.items names s F
+  pub complete : (F : Notation) → Notations F → (n : ℕ) × (s : Start) × (slice_get g.starts.items n ≡ Some s) × IsStartOf g.steps.items names s F
   pub kinds : (K : ℕ) → K ≤ sorts → slice_get g.steps.items K ≡ Some (Whole K 0)
   pub groups : AreGroups sorts g.groups.items
   pub opens : IsNumber names g.open (codes "(")

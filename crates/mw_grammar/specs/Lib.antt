@@ -1,10 +1,9 @@
 -- The grammar of a signature.
-pub mod Items
-pub mod Forms
+pub mod Notations
 pub mod Readable
 pub mod Leaves
+pub mod Listing
 pub mod Compiled
-pub mod Numbering
 pub mod Worded
 pub mod Meaning
 pub mod Grammars

@@ -6,7 +6,8 @@ use Rattle.mw_logic.specs.Signature.{Member}
 use Rattle.mw_chart.specs.declared.word.Leaf.{Leaf}
 use Rattle.mw_chart.specs.declared.word.Word.{Word}
 use Rattle.mw_grammar.specs.Leaves.{IsVariableToken}
-use Rattle.mw_grammar.specs.Compiled.{number_of, Extends}
+use Rattle.mw_text.specs.Interned.{number_of}
+use Rattle.mw_grammar.specs.Compiled.{Extends}
 
 -- the leaf is the variable, by its place in a list, at the state of its sort's kind
 abbrev pub IsLeafOf : (ℕ → ℕ) → List Variable → Leaf → Variable → Type 0

@@ -1,47 +1,48 @@
-// Forms as the states of a table.
-ghost use Rattle.std.specs.Prelude.{◌≡◌, ◌<◌, ◌≤◌, ◌+◌, ◌^◌, ◌++◌, ◌∷◌, ℕ, List, [], Some, length, slice_get, IfOk, OnOk, IfSome, IsTrue};
+// Notations as the states of a table.
+ghost use Rattle.std.specs.Prelude.{◌≡◌, ◌<◌, ◌≤◌, ◌+◌, ◌^◌, ◌∷◌, ℕ, List, [], Some, length, slice_get, IfOk, OnOk, IfSome, IsTrue};
 ghost use Rattle.mw_chart.specs.declared.table.Step.TheVariants.{Whole};
-ghost use Rattle.mw_grammar.specs.declared.form.Part.{Part as PartOf};
-ghost use Rattle.mw_grammar.specs.declared.form.Form.{Form as FormOf};
-ghost use Rattle.mw_grammar.specs.Compiled.{Extends, IsNumber, Leads, IsStartOf, AreStartsOf, AreGroups, IsCompiled};
+ghost use Rattle.mw_grammar.specs.declared.notation.Symbol.{Symbol as SymbolOf};
+ghost use Rattle.mw_grammar.specs.Readable.{kind_in, IsReadable};
+ghost use Rattle.mw_grammar.specs.Notations.{IsNotation};
+ghost use Rattle.mw_grammar.specs.Compiled.{Extends, IsNumber, Leads, IsStartOf, AddsNotations, AreGroups, IsCompiled};
 
-use crate::form::{Form, Part};
-use crate::names::Names;
+use crate::notation::{Notation, Symbol};
+use crate::notations::add_all;
 use indexmap::IndexMap;
 use mw_chart::{Start, Step, Table};
+use mw_term::{KindId, Signature};
+use mw_text::Names;
 use std::alloc::{AllocError, Global};
 
-/// The number of a token.
-pub fn token(alloc: Global, names: &mut Names, name: &[u8]) -> Result<u32, AllocError>
+/// The number of a token, which has one from now on.
+fn token(alloc: Global, names: &mut Names, text: &[u8]) -> Result<u32, AllocError>
     ensures names { OnOk result (Extends names.old names.new) }
-    ensures number { IfOk result (λ x. IsNumber names.new x name.now) }
+    ensures number { IfOk result (λ x. IsNumber names.new x text.now) }
 {
-    let number = names.add(alloc, name)?;
-    if number > u32::MAX as usize {
-        return Err(AllocError);
-    }
-    Ok(number as u32)
+    names.add(alloc, text)?;
+    let number = names.number(text)?;
+    Ok(number)
 }
 
-/// The state before a part, where this one stands behind it.
+/// The state before a symbol, where this one stands behind it.
 fn push_step(
     alloc: Global,
     steps: &mut Vec<Step>,
     names: &mut Names,
-    part: &Part,
+    part: &Symbol,
     next: usize,
 ) -> Result<usize, AllocError>
     ensures steps { OnOk result (Extends steps.old.items steps.new.items) }
     ensures names { OnOk result (Extends names.old names.new) }
-    ensures leads { IfOk result (λ s. (parts : List PartOf) (last : ℕ) → Leads steps.new.items names.new next parts last → Leads steps.new.items names.new s (part.now ∷ parts) last) }
+    ensures leads { IfOk result (λ s. (parts : List SymbolOf) (last : ℕ) → Leads steps.new.items names.new next parts last → Leads steps.new.items names.new s (part.now ∷ parts) last) }
 {
     let state = steps.len();
     let step = match part {
-        Part::Piece(name) => Step::Token {
+        Symbol::Piece(name) => Step::Token {
             token: token(alloc, names, name.as_slice())?,
             next,
         },
-        Part::Hole { kind, below } => Step::Hole {
+        Symbol::Hole { kind, below } => Step::Hole {
             kind: *kind,
             below: *below,
             next,
@@ -51,12 +52,12 @@ fn push_step(
     Ok(state)
 }
 
-/// The state before parts, where this one stands behind them.
+/// The state before symbols, where this one stands behind them.
 fn lead(
     alloc: Global,
     steps: &mut Vec<Step>,
     names: &mut Names,
-    parts: &[Part],
+    parts: &[Symbol],
     last: usize,
 ) -> Result<usize, AllocError>
     ensures steps { OnOk result (Extends steps.old.items steps.new.items) }
@@ -90,6 +91,14 @@ fn is_whole_of(steps: &[Step], state: usize, kind: u32, precedence: u32) -> bool
 /// States of whole texts by kind and precedence.
 type Wholes = IndexMap<(u32, u32), usize>;
 
+/// A table that is being made: its states, those of them that are whole and were made for notations, and its starts.
+#[derive(Drop)]
+pub struct Making {
+    pub steps: Vec<Step>,
+    pub wholes: Box<Wholes>,
+    pub starts: Vec<Start>,
+}
+
 /// The state of whole texts of this kind and precedence among these, if it is there.
 fn found(steps: &[Step], wholes: &Wholes, kind: u32, precedence: u32) -> Option<usize>
     ensures { IfSome result (λ w. slice_get steps.now w ≡ Some (Whole kind precedence)) }
@@ -104,93 +113,38 @@ fn found(steps: &[Step], wholes: &Wholes, kind: u32, precedence: u32) -> Option<
 }
 
 /// The state of whole texts of this kind and precedence.
-fn whole(
-    steps: &mut Vec<Step>,
-    wholes: &mut Wholes,
-    kind: u32,
-    precedence: u32,
-) -> Result<usize, AllocError>
-    ensures steps { OnOk result (Extends steps.old.items steps.new.items) }
-    ensures whole { IfOk result (λ w. slice_get steps.new.items w ≡ Some (Whole kind precedence)) }
+fn whole(making: &mut Making, kind: u32, precedence: u32) -> Result<usize, AllocError>
+    ensures steps { OnOk result (Extends making.old.steps.items making.new.steps.items) }
+    ensures starts { making.new.starts ≡ making.old.starts }
+    ensures whole { IfOk result (λ w. slice_get making.new.steps.items w ≡ Some (Whole kind precedence)) }
 {
-    if let Some(state) = found(steps.as_slice(), wholes, kind, precedence) {
+    if let Some(state) = found(making.steps.as_slice(), &making.wholes, kind, precedence) {
         return Ok(state);
     }
-    let state = steps.len();
-    wholes.insert((kind, precedence), state)?;
-    steps.push(Step::Whole { kind, precedence })?;
+    let state = making.steps.len();
+    making.wholes.insert((kind, precedence), state)?;
+    making.steps.push(Step::Whole { kind, precedence })?;
     Ok(state)
 }
 
-/// A table that is being made: its states, those of them that are whole and were made for forms, and its starts.
-#[derive(Drop)]
-pub struct Making {
-    pub steps: Vec<Step>,
-    pub wholes: Wholes,
-    pub starts: Vec<Start>,
-}
-
-/// The start of a form.
-fn start_of(
+/// Adds a notation.
+pub fn add(
     alloc: Global,
     making: &mut Making,
     names: &mut Names,
-    form: &Form,
-) -> Result<Start, AllocError>
-    ensures steps { OnOk result (Extends making.old.steps.items making.new.steps.items) }
-    ensures names { OnOk result (Extends names.old names.new) }
-    ensures starts { making.new.starts ≡ making.old.starts }
-    ensures start { IfOk result (λ s. IsStartOf making.new.steps.items names.new s form.now) }
-{
-    let last = whole(
-        &mut making.steps,
-        &mut making.wholes,
-        form.kind,
-        form.precedence,
-    )?;
-    let state = lead(alloc, &mut making.steps, names, form.parts.as_slice(), last)?;
-    Ok(Start {
-        state,
-        operator: form.operator,
-    })
-}
-
-/// A form more.
-fn push_start(
-    alloc: Global,
-    making: &mut Making,
-    names: &mut Names,
-    form: &Form,
+    notation: &Notation,
 ) -> Result<(), AllocError>
-    ensures steps { OnOk result (Extends making.old.steps.items making.new.steps.items) }
-    ensures names { OnOk result (Extends names.old names.new) }
-    ensures starts { OnOk result ((Fs : List FormOf) → AreStartsOf making.old.steps.items names.old making.old.starts.items Fs
-        → AreStartsOf making.new.steps.items names.new making.new.starts.items (Fs ++ form.now ∷ [])) }
+    ensures { OnOk result (AddsNotations making.old making.new names.old names.new (λ F. F ≡ notation.now)) }
 {
-    let start = start_of(alloc, making, names, form)?;
-    making.starts.push(start)?;
+    let last = whole(making, notation.kind, notation.precedence)?;
+    let parts = notation.parts.as_slice();
+    let state = lead(alloc, &mut making.steps, names, parts, last)?;
+    let operator = notation.operator;
+    making.starts.push(Start { state, operator })?;
     Ok(())
 }
 
-/// These forms more.
-fn push_starts(
-    alloc: Global,
-    making: &mut Making,
-    names: &mut Names,
-    forms: &[Form],
-) -> Result<(), AllocError>
-    ensures steps { OnOk result (Extends making.old.steps.items making.new.steps.items) }
-    ensures names { OnOk result (Extends names.old names.new) }
-    ensures starts { OnOk result (AreStartsOf making.old.steps.items names.old making.old.starts.items []
-        → AreStartsOf making.new.steps.items names.new making.new.starts.items forms.now) }
-{
-    for form in forms {
-        push_start(alloc, making, names, form)?;
-    }
-    Ok(())
-}
-
-/// A table with no form yet, for so many kinds.
+/// A table with no notation yet, for so many kinds.
 fn begin(alloc: Global, kinds: u32) -> Result<Making, AllocError>
     ensures kinds { IfOk result (λ m. (K : ℕ) → K < kinds → slice_get m.steps.items K ≡ Some (Whole K 0)) }
     ensures starts { IfOk result (λ m. m.starts.items ≡ []) }
@@ -204,7 +158,7 @@ fn begin(alloc: Global, kinds: u32) -> Result<Making, AllocError>
     }
     Ok(Making {
         steps,
-        wholes: IndexMap::new(alloc),
+        wholes: Box::new(alloc, IndexMap::new(alloc))?,
         starts: Vec::new(alloc),
     })
 }
@@ -221,51 +175,56 @@ fn groups(alloc: Global, sorts: u32) -> Result<Vec<usize>, AllocError>
     Ok(groups)
 }
 
-/// A table, and the numbers of the names that it reads.
-#[derive(Drop)]
-pub struct Compiled {
-    pub table: Table,
-    pub names: Names,
-}
-
-/// The table of these forms, by the numbers of names.
+/// The table of a signature's notations, for so many sorts and so many kinds.
 fn table(
     alloc: Global,
     names: &mut Names,
+    signature: &Signature,
+    kinds: &[KindId],
     sorts: u32,
-    kinds: u32,
-    forms: &[Form],
+    last: u32,
 ) -> Result<Table, AllocError>
-    requires sorts { sorts < 2 ^ 31 }
-    requires kinds { sorts < kinds }
-    ensures { IfOk result (IsCompiled sorts forms.now names.new) }
+    requires readable { IsReadable signature.now }
+    requires sorts { sorts ≡ length signature.now.sorts }
+    requires few { sorts < 2 ^ 31 }
+    requires count { length signature.now.operators < 2 ^ 31 }
+    requires last { sorts < last }
+    ensures names { OnOk result (Extends names.old names.new) }
+    ensures table { IfOk result (IsCompiled sorts (IsNotation (kind_in kinds.now) signature.now) names.new) }
 {
-    let groups = groups(alloc, sorts)?;
     let open = token(alloc, names, b"(")?;
     let close = token(alloc, names, b")")?;
-    let mut making = begin(alloc, kinds)?;
-    push_starts(alloc, &mut making, names, forms)?;
+    let mut making = begin(alloc, last)?;
+    add_all(alloc, &mut making, names, kinds, sorts, signature)?;
+    let groups = groups(alloc, sorts)?;
     let Making {
         steps,
         wholes: _,
         starts,
     } = making;
-    let table = Table::new(alloc, steps, starts, groups, open, close, sorts)?;
-    Ok(table)
+    Table::new(alloc, steps, starts, groups, open, close, sorts)
 }
 
-/// The table of these forms.
+/// So many sorts and so many operators at most.
+pub const MOST: usize = 0x7fff_ffff;
+
+/// The table of a signature's notations, by the kinds of its sorts.
 pub fn compile(
     alloc: Global,
-    sorts: u32,
-    kinds: u32,
-    forms: &[Form],
-) -> Result<Compiled, AllocError>
-    requires sorts { sorts < 2 ^ 31 }
-    requires kinds { sorts < kinds }
-    ensures { IfOk result (λ r. IsCompiled sorts forms.now r.names r.table) }
+    names: &mut Names,
+    signature: &Signature,
+    kinds: &[KindId],
+) -> Result<Table, AllocError>
+    requires { IsReadable signature.now }
+    ensures names { OnOk result (Extends names.old names.new) }
+    ensures table { IfOk result (IsCompiled (length signature.now.sorts) (IsNotation (kind_in kinds.now) signature.now) names.new) }
 {
-    let mut names = Names::new(alloc);
-    let table = table(alloc, &mut names, sorts, kinds, forms)?;
-    Ok(Compiled { table, names })
+    let sorts = signature.sorts.as_slice().len();
+    let operators = signature.operators.as_slice().len();
+    if sorts > MOST || operators > MOST {
+        return Err(AllocError);
+    }
+    let sorts = sorts as u32;
+    let last = sorts + operators as u32 + 1;
+    table(alloc, names, signature, kinds, sorts, last)
 }

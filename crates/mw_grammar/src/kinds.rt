@@ -4,8 +4,18 @@ ghost use Rattle.mw_poset.specs.SortOrder.{order_of};
 ghost use Rattle.mw_grammar.specs.Readable.{kind_in, AreKinds};
 
 use mw_poset::Poset;
-use mw_term::{KindId, Signature};
+use mw_term::{KindId, Signature, SortId};
 use std::alloc::{AllocError, Global};
+
+/// The number of the kind of a sort.
+pub fn kind_of(kinds: &[KindId], sort: SortId) -> KindId
+    ensures { result ≡ kind_in kinds.now sort }
+{
+    match kinds.get(sort as usize) {
+        Some(kind) => *kind,
+        None => sort,
+    }
+}
 
 /// The kinds of a signature's sorts, each at its sort's number, by the order of these sorts.
 pub fn kinds_of(

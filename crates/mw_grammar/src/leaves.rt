@@ -1,18 +1,21 @@
 // Tokens that are variables.
-ghost use Rattle.std.specs.Prelude.{◌≡◌, ◌↔◌, ◌<◌, ◌^◌, ℕ, List, length, [], Some, slice_get, IfOk, OnOk, IfSome, IfNone, MatchOption, IsTrue};
+ghost use Rattle.std.specs.Prelude.{◌≡◌, ◌<◌, List, length, ◌↔◌, IfOk, OnOk, IsTrue};
 ghost use Rattle.mw_logic.specs.Term.{Variable};
+ghost use Rattle.mw_logic.specs.Signature.{Signature as SignatureOf};
 ghost use Rattle.mw_text.specs.Mixfix.{IsVariableName};
 ghost use Rattle.mw_grammar.specs.Readable.{kind_in};
 ghost use Rattle.mw_grammar.specs.Compiled.{Extends};
-ghost use Rattle.mw_grammar.specs.Leaves.{IsDeclared, IsWithSort, IsSortOf, IsDivided, IsVariableToken};
-ghost use Rattle.mw_grammar.specs.Numbering.{IsOfOne};
-ghost use Rattle.mw_grammar.specs.Worded.{IsLeafOf, AllDiffer, Adds};
+ghost use Rattle.mw_grammar.specs.Leaves.{IsWithSort, IsDivided, IsOfOne};
+ghost use Rattle.mw_grammar.specs.Listing.{IsListed};
+ghost use Rattle.mw_grammar.specs.Worded.{IsWord, AllDiffer, Adds};
+ghost use Rattle.mw_grammar.specs.Grammars.{IsGrammarOf};
 
-use crate::items::is_mark;
-use crate::numbering::{Declared, Sorts};
-use crate::parts::kind_of;
-use mw_chart::Leaf;
-use mw_term::{KindId, Name, SortId, VarId};
+use crate::grammar::Grammar;
+use crate::listing::list_of;
+use mw_chart::{Leaf, Word};
+use mw_lex::is_punctuation;
+use mw_term::SortId;
+use mw_text::Variables;
 use std::alloc::{AllocError, Global};
 
 /// Whether it may be the name of a variable with its sort.
@@ -21,180 +24,106 @@ fn is_name(name: &[u8]) -> bool
 {
     match name {
         [] => false,
-        [byte] => !is_mark(*byte) && *byte != b'"',
+        [byte] => !is_punctuation(*byte) && *byte != b'"',
         [byte, ..] => *byte != b'"',
     }
 }
 
-fn is_variable(variable: &VarId, name: &[u8], sort: SortId) -> bool
-    ensures { IsTrue result ↔ (variable.now ≡ record { name = name.now; sort = sort }) }
-{
-    variable.sort == sort && variable.name.as_slice() == name
-}
-
-/// The place of a variable.
-fn place_of(leaves: &[VarId], name: &[u8], sort: SortId) -> Option<usize>
-    ensures { MatchOption result
-        ((k : ℕ) → slice_get leaves.now k ≡ Some (record { name = name.now; sort = sort }) → ⊥)
-        (λ k. slice_get leaves.now k ≡ Some (record { name = name.now; sort = sort })) }
-{
-    let mut place = 0;
-    for variable in leaves {
-        if is_variable(variable, name, sort) {
-            return Some(place);
+impl Grammar {
+    /// A variable more.
+    fn push_leaf(
+        &self,
+        alloc: Global,
+        leaves: &mut Variables,
+        found: &mut Vec<Leaf>,
+        name: &[u8],
+        sort: SortId,
+    ) -> Result<(), AllocError>
+        ensures { OnOk result (Adds (kind_in self.now.kinds) leaves.old leaves.new found.old.items found.new.items (λ x. x ≡ record { name = name.now; sort = sort })) }
+    {
+        let place = leaves.meet(alloc, name, sort)?;
+        if place > u32::MAX as usize {
+            return Err(AllocError);
         }
-        place += 1;
+        found.push(Leaf {
+            state: self.kind_of(sort) as usize,
+            value: place as u32,
+        })?;
+        Ok(())
     }
-    None
-}
 
-/// The place of a variable, which is there from now on.
-fn meet(
-    alloc: Global,
-    leaves: &mut Vec<VarId>,
-    name: &[u8],
-    sort: SortId,
-) -> Result<usize, AllocError>
-    ensures leaves { OnOk result (Extends leaves.old.items leaves.new.items) }
-    ensures differ { OnOk result (AllDiffer leaves.old.items → AllDiffer leaves.new.items) }
-    ensures place { IfOk result (λ k. slice_get leaves.new.items k ≡ Some (record { name = name.now; sort = sort })) }
-{
-    if let Some(place) = place_of(leaves.as_slice(), name, sort) {
-        return Ok(place);
+    /// The variables of this name, and of these sorts.
+    fn push_sorts(
+        &self,
+        alloc: Global,
+        sorts: &[SortId],
+        leaves: &mut Variables,
+        found: &mut Vec<Leaf>,
+        name: &[u8],
+    ) -> Result<(), AllocError>
+        ensures { OnOk result (Adds (kind_in self.now.kinds) leaves.old leaves.new found.old.items found.new.items (IsOfOne sorts.now name.now)) }
+    {
+        for sort in sorts {
+            self.push_leaf(alloc, leaves, found, name, *sort)?;
+        }
+        Ok(())
     }
-    let place = leaves.len();
-    let name = Name::of(name.to_vec(alloc)?);
-    leaves.push(VarId { name, sort })?;
-    Ok(place)
-}
 
-/// A variable more.
-fn push_leaf(
-    alloc: Global,
-    kinds: &[KindId],
-    leaves: &mut Vec<VarId>,
-    found: &mut Vec<Leaf>,
-    name: &[u8],
-    sort: SortId,
-) -> Result<(), AllocError>
-    ensures { OnOk result (Adds (kind_in kinds.now) leaves.old.items leaves.new.items found.old.items found.new.items (λ x. x ≡ record { name = name.now; sort = sort })) }
-{
-    let place = meet(alloc, leaves, name, sort)?;
-    if place > u32::MAX as usize {
-        return Err(AllocError);
+    /// The variables with their sorts, where the colon stands at a place.
+    fn push_divided(
+        &self,
+        alloc: Global,
+        leaves: &mut Variables,
+        found: &mut Vec<Leaf>,
+        token: &[u8],
+        colon: usize,
+    ) -> Result<(), AllocError>
+        requires { colon < length token.now }
+        ensures { OnOk result (Adds (kind_in self.now.kinds) leaves.old leaves.new found.old.items found.new.items (IsDivided (IsListed self.now.names self.now.named.items) token.now colon)) }
+    {
+        let name = &token[..colon];
+        if token[colon] == b':' && is_name(name) {
+            let number = self.names.number(&token[colon + 1..])?;
+            self.push_sorts(alloc, list_of(&self.named, number), leaves, found, name)?;
+        }
+        Ok(())
     }
-    let state = kind_of(kinds, sort) as usize;
-    found.push(Leaf {
-        state,
-        value: place as u32,
-    })?;
-    Ok(())
-}
 
-/// The variables that are declared with this name.
-fn push_declared(
-    alloc: Global,
-    kinds: &[KindId],
-    variables: &Declared,
-    leaves: &mut Vec<VarId>,
-    found: &mut Vec<Leaf>,
-    token: &[u8],
-) -> Result<(), AllocError>
-    ensures { OnOk result (Adds (kind_in kinds.now) leaves.old.items leaves.new.items found.old.items found.new.items (IsDeclared variables.now token.now)) }
-{
-    push_sorts(alloc, kinds, variables.sorts(token), leaves, found, token)
-}
-
-/// The variables of this name, and of these sorts.
-fn push_sorts(
-    alloc: Global,
-    kinds: &[KindId],
-    sorts: &[SortId],
-    leaves: &mut Vec<VarId>,
-    found: &mut Vec<Leaf>,
-    name: &[u8],
-) -> Result<(), AllocError>
-    ensures { OnOk result (Adds (kind_in kinds.now) leaves.old.items leaves.new.items found.old.items found.new.items (IsOfOne sorts.now name.now)) }
-{
-    for sort in sorts {
-        push_leaf(alloc, kinds, leaves, found, name, *sort)?;
+    /// The variables with their sorts.
+    fn push_with_sorts(
+        &self,
+        alloc: Global,
+        leaves: &mut Variables,
+        found: &mut Vec<Leaf>,
+        token: &[u8],
+    ) -> Result<(), AllocError>
+        ensures { OnOk result (Adds (kind_in self.now.kinds) leaves.old leaves.new found.old.items found.new.items (IsWithSort (IsListed self.now.names self.now.named.items) token.now)) }
+    {
+        for colon in 0..token.len() {
+            self.push_divided(alloc, leaves, found, token, colon)?;
+        }
+        Ok(())
     }
-    Ok(())
-}
 
-/// The variables of this name, and of a sort of this name.
-fn push_sorted(
-    alloc: Global,
-    kinds: &[KindId],
-    sorts: &Sorts,
-    leaves: &mut Vec<VarId>,
-    found: &mut Vec<Leaf>,
-    name: &[u8],
-    sort: &[u8],
-) -> Result<(), AllocError>
-    ensures { OnOk result (Adds (kind_in kinds.now) leaves.old.items leaves.new.items found.old.items found.new.items (IsSortOf sorts.now name.now sort.now)) }
-{
-    push_sorts(alloc, kinds, sorts.named(sort), leaves, found, name)
-}
-
-/// The variables with their sorts, where the colon stands at a place.
-fn push_divided(
-    alloc: Global,
-    kinds: &[KindId],
-    sorts: &Sorts,
-    leaves: &mut Vec<VarId>,
-    found: &mut Vec<Leaf>,
-    token: &[u8],
-    colon: usize,
-) -> Result<(), AllocError>
-    requires { colon < length token.now }
-    ensures { OnOk result (Adds (kind_in kinds.now) leaves.old.items leaves.new.items found.old.items found.new.items (IsDivided sorts.now token.now colon)) }
-{
-    let name = &token[..colon];
-    if token[colon] == b':' && is_name(name) {
-        push_sorted(
-            alloc,
-            kinds,
-            sorts,
-            leaves,
-            found,
-            name,
-            &token[colon + 1..],
-        )?;
+    /// The word of a token.
+    pub(crate) fn word(
+        &self,
+        alloc: Global,
+        leaves: &mut Variables,
+        token: &[u8],
+    ) -> Result<Word, AllocError>
+        ensures leaves { OnOk result (Extends leaves.old leaves.new) }
+        ensures differ { OnOk result (AllDiffer leaves.old → AllDiffer leaves.new) }
+        ensures word { (sig : SignatureOf) (variables : List Variable) → IsGrammarOf sig variables self.now
+            → IfOk result (IsWord sig.sorts variables (kind_in self.now.kinds) self.now.names leaves.new token.now) }
+    {
+        let number = self.names.number(token)?;
+        let mut found = Vec::new(alloc);
+        self.push_sorts(alloc, list_of(&self.declared, number), leaves, &mut found, token)?;
+        self.push_with_sorts(alloc, leaves, &mut found, token)?;
+        Ok(Word {
+            token: number,
+            leaves: found,
+        })
     }
-    Ok(())
-}
-
-/// The variables with their sorts.
-fn push_with_sorts(
-    alloc: Global,
-    kinds: &[KindId],
-    sorts: &Sorts,
-    leaves: &mut Vec<VarId>,
-    found: &mut Vec<Leaf>,
-    token: &[u8],
-) -> Result<(), AllocError>
-    ensures { OnOk result (Adds (kind_in kinds.now) leaves.old.items leaves.new.items found.old.items found.new.items (IsWithSort sorts.now token.now)) }
-{
-    for colon in 0..token.len() {
-        push_divided(alloc, kinds, sorts, leaves, found, token, colon)?;
-    }
-    Ok(())
-}
-
-/// The variables that a token spells.
-pub fn push_variables(
-    alloc: Global,
-    kinds: &[KindId],
-    sorts: &Sorts,
-    variables: &Declared,
-    leaves: &mut Vec<VarId>,
-    found: &mut Vec<Leaf>,
-    token: &[u8],
-) -> Result<(), AllocError>
-    ensures { OnOk result (Adds (kind_in kinds.now) leaves.old.items leaves.new.items found.old.items found.new.items (IsVariableToken sorts.now variables.now token.now)) }
-{
-    push_declared(alloc, kinds, variables, leaves, found, token)?;
-    push_with_sorts(alloc, kinds, sorts, leaves, found, token)?;
-    Ok(())
 }

@@ -32,18 +32,12 @@
 #![tactic(auto)]
 
 mod compile;
-mod form;
-mod forms;
 mod grammar;
-mod heads;
-mod items;
 mod kinds;
 mod leaves;
-mod mixing;
-mod names;
-mod numbering;
+mod listing;
+mod notation;
+mod notations;
 mod parts;
 
-pub use form::{Form, Part};
 pub use grammar::{Grammar, Words, trees_are_terms};
-pub use kinds::kinds_of;

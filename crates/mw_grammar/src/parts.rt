@@ -1,63 +1,72 @@
-// The parts of forms.
-ghost use Rattle.std.specs.Prelude.{◌≡◌, ◌<◌, ◌++◌, ◌∷◌, List, [], map, codes, option_map, IfOk, OnOk};
+// The parts of notations.
+ghost use Rattle.std.specs.Prelude.{◌≡◌, ◌<◌, ◌++◌, ◌∷◌, ℕ, List, [], map, codes, option_map, None, MatchOption, IfOk, OnOk, if◌then◌else◌};
 ghost use Rattle.mw_term.specs.Signatures.{gather_of};
-ghost use Rattle.mw_grammar.specs.declared.form.Part.TheVariants.{Piece, Hole};
+ghost use Rattle.mw_text.specs.Names.{Item as ItemOf, items_of, pieces};
+ghost use Rattle.mw_text.specs.Seen.{item_of};
+ghost use Rattle.mw_grammar.specs.declared.notation.Symbol.TheVariants.{Piece, Hole};
 ghost use Rattle.mw_grammar.specs.Readable.{kind_in};
-ghost use Rattle.mw_grammar.specs.Items.{item_of};
-ghost use Rattle.mw_grammar.specs.Forms.{above_all, pieces_as, arguments, prefix_parts, in_parentheses, two_parts, bound, mixfix_parts};
+ghost use Rattle.mw_grammar.specs.Notations.{above_all, pieces_as, head_of, arguments, prefix_parts, in_parentheses, bound, mixfix_parts, mixing};
 
-use crate::form::Part;
-use crate::items::Item;
-use mw_term::{Gather, KindId, Name, copy_name};
+use crate::kinds::kind_of;
+use crate::notation::Symbol;
+use mw_term::{Gather, KindId, Name};
+use mw_text::{Item, first_item};
 use std::alloc::{AllocError, Global};
 
 /// A number above all precedences, which are up to 127.
-pub const ABOVE_ALL: u32 = 128;
-
-/// The number of the kind of a sort.
-pub fn kind_of(kinds: &[KindId], sort: KindId) -> KindId
-    ensures { result ≡ kind_in kinds.now sort }
-{
-    match kinds.get(sort as usize) {
-        Some(kind) => *kind,
-        None => sort,
-    }
-}
+const ABOVE_ALL: u32 = 128;
 
 /// One token more.
-fn push_piece(alloc: Global, parts: &mut Vec<Part>, text: &[u8]) -> Result<(), AllocError>
+fn push_piece(alloc: Global, parts: &mut Vec<Symbol>, text: &[u8]) -> Result<(), AllocError>
     ensures { OnOk result (parts.new.items ≡ parts.old.items ++ Piece text.now ∷ []) }
 {
     let text = text.to_vec(alloc)?;
-    parts.push(Part::Piece(Name::of(text)))?;
+    parts.push(Symbol::Piece(Name::of(text)))?;
     Ok(())
 }
 
 /// A hole more, for texts of any precedence.
-fn push_hole(parts: &mut Vec<Part>, kind: KindId) -> Result<(), AllocError>
+fn push_hole(parts: &mut Vec<Symbol>, kind: KindId) -> Result<(), AllocError>
     ensures { OnOk result (parts.new.items ≡ parts.old.items ++ Hole kind above_all ∷ []) }
 {
-    parts.push(Part::Hole {
+    parts.push(Symbol::Hole {
         kind,
         below: ABOVE_ALL,
     })?;
     Ok(())
 }
 
-/// These tokens more.
-fn push_head(alloc: Global, parts: &mut Vec<Part>, head: &[Name]) -> Result<(), AllocError>
-    ensures { OnOk result (parts.new.items ≡ parts.old.items ++ pieces_as head.now) }
+/// The pieces of a name more.
+fn push_pieces(alloc: Global, parts: &mut Vec<Symbol>, name: &[u8]) -> Result<(), AllocError>
+    ensures { OnOk result (parts.new.items ≡ parts.old.items ++ pieces_as (pieces (items_of name.now))) }
 {
-    for piece in head {
-        push_piece(alloc, parts, piece.as_slice())?;
+    let mut rest = name;
+    while let Some((item, behind)) = first_item(rest) {
+        if let Item::Piece(piece) = item {
+            push_piece(alloc, parts, piece)?;
+        }
+        rest = behind;
     }
     Ok(())
+}
+
+/// What stands before the parentheses of a prefix form: a name's pieces, or the name as one token.
+fn head(alloc: Global, name: &[u8], in_pieces: bool) -> Result<Vec<Symbol>, AllocError>
+    ensures { IfOk result (λ v. v.items ≡ pieces_as (head_of name.now in_pieces)) }
+{
+    let mut parts = Vec::new(alloc);
+    if in_pieces {
+        push_pieces(alloc, &mut parts, name)?;
+    } else {
+        push_piece(alloc, &mut parts, name)?;
+    }
+    Ok(parts)
 }
 
 /// Arguments more, divided by commas.
 fn push_arguments(
     alloc: Global,
-    parts: &mut Vec<Part>,
+    parts: &mut Vec<Symbol>,
     kinds: &[KindId],
     args: &[KindId],
 ) -> Result<(), AllocError>
@@ -78,13 +87,13 @@ fn push_arguments(
 pub fn prefix(
     alloc: Global,
     kinds: &[KindId],
-    head: &[Name],
+    name: &[u8],
+    in_pieces: bool,
     args: &[KindId],
-) -> Result<Vec<Part>, AllocError>
-    ensures { IfOk result (λ v. v.items ≡ prefix_parts (kind_in kinds.now) head.now args.now) }
+) -> Result<Vec<Symbol>, AllocError>
+    ensures { IfOk result (λ v. v.items ≡ prefix_parts (kind_in kinds.now) (head_of name.now in_pieces) args.now) }
 {
-    let mut parts = Vec::new(alloc);
-    push_head(alloc, &mut parts, head)?;
+    let mut parts = head(alloc, name, in_pieces)?;
     if !args.is_empty() {
         push_piece(alloc, &mut parts, b"(")?;
         push_arguments(alloc, &mut parts, kinds, args)?;
@@ -96,7 +105,7 @@ pub fn prefix(
 /// An argument of an associative operator, and more arguments.
 fn push_two(
     alloc: Global,
-    parts: &mut Vec<Part>,
+    parts: &mut Vec<Symbol>,
     first: KindId,
     rest: KindId,
 ) -> Result<(), AllocError>
@@ -104,12 +113,11 @@ fn push_two(
 {
     push_hole(parts, first)?;
     push_piece(alloc, parts, b",")?;
-    push_hole(parts, rest)?;
-    Ok(())
+    push_hole(parts, rest)
 }
 
 /// The parts of two or more last arguments of an associative operator.
-pub fn tail(alloc: Global, first: KindId, rest: KindId) -> Result<Vec<Part>, AllocError>
+pub fn tail(alloc: Global, first: KindId, rest: KindId) -> Result<Vec<Symbol>, AllocError>
     ensures { IfOk result (λ v. v.items ≡ Hole first above_all ∷ Piece (codes ",") ∷ Hole rest above_all ∷ []) }
 {
     let mut parts = Vec::new(alloc);
@@ -120,16 +128,97 @@ pub fn tail(alloc: Global, first: KindId, rest: KindId) -> Result<Vec<Part>, All
 /// The parts of the prefix form of an associative operator on more than two arguments.
 pub fn flattened(
     alloc: Global,
-    head: &[Name],
+    name: &[u8],
+    in_pieces: bool,
     first: KindId,
     rest: KindId,
-) -> Result<Vec<Part>, AllocError>
-    ensures { IfOk result (λ v. v.items ≡ pieces_as head.now ++ (Piece (codes "(") ∷ Hole first above_all ∷ Piece (codes ",") ∷ Hole rest above_all ∷ Piece (codes ")") ∷ [])) }
+) -> Result<Vec<Symbol>, AllocError>
+    ensures { IfOk result (λ v. v.items ≡ pieces_as (head_of name.now in_pieces) ++ (Piece (codes "(") ∷ Hole first above_all ∷ Piece (codes ",") ∷ Hole rest above_all ∷ Piece (codes ")") ∷ [])) }
 {
-    let mut parts = Vec::new(alloc);
-    push_head(alloc, &mut parts, head)?;
+    let mut parts = head(alloc, name, in_pieces)?;
     push_piece(alloc, &mut parts, b"(")?;
     push_two(alloc, &mut parts, first, rest)?;
     push_piece(alloc, &mut parts, b")")?;
     Ok(parts)
+}
+
+/// A number above the precedences that a hole takes.
+fn bound_of(gather: Gather, precedence: u32) -> u32
+    requires { precedence < 128 }
+    ensures { (kind : ℕ → ℕ) → result ≡ bound kind (gather_of gather) precedence }
+{
+    match gather {
+        Gather::Less => precedence,
+        Gather::Most => precedence + 1,
+        Gather::Any => ABOVE_ALL,
+    }
+}
+
+/// One item more, where so many holes stand before it; the number of holes with it, or that there is no mark or
+/// argument for it.
+fn push_item(
+    alloc: Global,
+    parts: &mut Vec<Symbol>,
+    kinds: &[KindId],
+    precedence: u32,
+    gather: &[Gather],
+    args: &[KindId],
+    item: Item<'_>,
+    holes: usize,
+) -> Result<Option<usize>, AllocError>
+    requires { precedence < 128 }
+    ensures { IfOk result (λ o. (items : List ItemOf) → MatchOption o
+        (mixing (kind_in kinds.now) precedence (map gather_of gather.now) args.now parts.old.items (item_of item.entry ∷ items) holes ≡ None)
+        (λ n. mixing (kind_in kinds.now) precedence (map gather_of gather.now) args.now parts.new.items items n
+        ≡ mixing (kind_in kinds.now) precedence (map gather_of gather.now) args.now parts.old.items (item_of item.entry ∷ items) holes)) }
+{
+    match item {
+        Item::Piece(piece) => {
+            push_piece(alloc, parts, piece)?;
+            Ok(Some(holes))
+        }
+        Item::Hole => {
+            let Some(mark) = gather.get(holes) else {
+                return Ok(None);
+            };
+            let Some(sort) = args.get(holes) else {
+                return Ok(None);
+            };
+            let kind = kind_of(kinds, *sort);
+            let below = bound_of(*mark, precedence);
+            parts.push(Symbol::Hole { kind, below })?;
+            Ok(Some(holes + 1))
+        }
+    }
+}
+
+/// The parts of a mixfix form, where the name has as many holes as there are marks and arguments.
+pub fn mixfix(
+    alloc: Global,
+    kinds: &[KindId],
+    precedence: u32,
+    name: &[u8],
+    gather: &[Gather],
+    args: &[KindId],
+) -> Result<Option<Vec<Symbol>>, AllocError>
+    requires { precedence < 128 }
+    ensures { IfOk result (λ o. option_map (λ v. v.items) o ≡ mixfix_parts (kind_in kinds.now) precedence (items_of name.now) (map gather_of gather.now) args.now) }
+{
+    let mut parts = Vec::new(alloc);
+    let mut holes = 0;
+    let mut rest = name;
+    while let Some((item, behind)) = first_item(rest) {
+        let read = push_item(
+            alloc, &mut parts, kinds, precedence, gather, args, item, holes,
+        )?;
+        match read {
+            Some(more) => holes = more,
+            None => return Ok(None),
+        }
+        rest = behind;
+    }
+    if holes < gather.len() || holes < args.len() {
+        return Ok(None);
+    }
+    Ok(Some(parts))
 }

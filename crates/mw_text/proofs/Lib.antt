@@ -5,3 +5,4 @@ pub mod Spellings
 pub mod Proper
 pub mod SpelledVariables
 mod Held
+pub mod Keys

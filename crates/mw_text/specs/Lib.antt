@@ -6,3 +6,4 @@ pub mod Seen
 pub mod Mixfix
 pub mod Readings
 pub mod Interned
+pub mod Mentions

@@ -20,6 +20,8 @@
 
 mod interned;
 mod items;
+mod variables;
 
 pub use interned::Names;
 pub use items::{Item, first_item, has_hole, holes, spellings_read};
+pub use variables::Variables;

@@ -1,7 +1,7 @@
 use Rattle.std.proofs.Common.{ℕ, ◌≡◌, ◌∙◌, ◌-◌, ◌+◌, List, [], ◌∷◌, length, drop, sym, ap, subst, arith}
 use Rattle.std.proofs.lemmas.Grind.{common_steps}
 use Rattle.mw_chart.proofs.Lists.{get_item}
-use Rattle.mw_grammar.specs.declared.form.Part.{Part}
+use Rattle.mw_grammar.specs.declared.notation.Symbol.{Symbol}
 use Rattle.mw_grammar.specs.Compiled.{Leads, there}
 use Rattle.mw_grammar.proofs.ItemByItem.{drop-got}
 use Rattle.mw_grammar.proofs.Made.{leads_grow, Extends-same, Extends-trans}
@@ -14,7 +14,7 @@ loop-left-init c =
       within = omega arith;
       steps = Extends-same c.args.steps.now.items;
       names = Extends-same c.args.names.now;
-      leads = subst (λ (ps : List Part). Leads c.args.steps.now.items c.args.names.now c.args.last ps c.args.last) (sym none) (there c.args.last);
+      leads = subst (λ (ps : List Symbol). Leads c.args.steps.now.items c.args.names.now c.args.last ps c.args.last) (sym none) (there c.args.last);
     }
 
 pub loop-left-preserved : goal.loop-left-preserved
@@ -31,5 +31,5 @@ loop-left-preserved c =
       within = omega arith;
       steps = Extends-trans c.args.steps.now.items c.loop-left.steps.items c.push_step.new.steps.items c.loop-left.invariant.steps c.in_ok-state.ensures.steps;
       names = Extends-trans c.args.names.now c.loop-left.names c.push_step.new.names c.loop-left.invariant.names c.in_ok-state.ensures.names;
-      leads = subst (λ (ps : List Part). Leads c.push_step.new.steps.items c.push_step.new.names c.in_ok-state.state ps c.args.last) (sym rest) led;
+      leads = subst (λ (ps : List Symbol). Leads c.push_step.new.steps.items c.push_step.new.names c.in_ok-state.state ps c.args.last) (sym rest) led;
     }

@@ -1,11 +1,13 @@
-use Rattle.std.proofs.Common.{ℕ, sym, subst}
-use Rattle.mw_grammar.specs.Compiled.{number_of, IsNumber}
-use Rattle.mw_grammar.proofs.Made.{named}
+use Rattle.std.proofs.Common.{List, ℕ, ◌∙◌, ◌<◌, sym, ap, subst}
+use Rattle.mw_text.specs.Interned.{number_of}
+use Rattle.mw_grammar.specs.Compiled.{Extends, IsNumber}
+use Rattle.mw_grammar.proofs.Numbers.{number_added, adding_extends}
 use Rattle.mw_grammar.proofs.compile.token.Goals as goal
+
+pub returns-clause-names : goal.returns-clause-names
+returns-clause-names c = subst (Extends c.args.names.now) (sym c.in_ok-add.ensures) (adding_extends c.args.names.now c.args.text.now)
 
 pub returns-clause-number : goal.returns-clause-number
 returns-clause-number c =
-    let e = c.in_ok-number.ensures.names in
-    let n = named c.args.names.now c.args.name.now in
-    subst (λ (m : ℕ). IsNumber c.add.new.self m c.args.name.now) (sym c.in_ok-number.ensures.number)
-    (subst (λ ns. IsNumber ns (number_of c.args.names.now c.args.name.now) c.args.name.now) (sym e) n)
+    let n = subst (λ (ns : List (List ℕ)). 0 < number_of ns c.args.text.now) (sym c.in_ok-add.ensures) (number_added c.args.names.now c.args.text.now) in
+    (sym c.in_ok-number.ensures, subst (λ (k : ℕ). 0 < k) (sym c.in_ok-number.ensures) n)
