@@ -6,4 +6,5 @@ pub mod Sides
 pub mod Reading
 pub mod Naming
 pub mod PrintedVariables
+pub mod SidesOfTokens
 pub mod Printing

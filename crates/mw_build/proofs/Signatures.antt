@@ -12,10 +12,12 @@ use Rattle.mw_machine.specs.Plain.{IsFreeOperator}
 use Rattle.mw_machine.specs.Simple.{IsSimpleSignature}
 use Rattle.mw_machine.proofs.Meeting.{neither}
 use Rattle.mw_module.specs.Forms.{Shape, Sorts, Subsorts, Operators, Variables, Equation}
+use Rattle.mw_module.specs.Known.{AreKnown}
 use Rattle.mw_module.specs.Units.{SeenLined}
 use Rattle.mw_declare.specs.Meaning.{Name, texts, is_among, with_name, with_names, with_sorts, sorts_from, sorts_of}
 use Rattle.mw_declare.specs.Operators.{Declared, operator_of, operators_of, signature_of}
-use Rattle.mw_declare.specs.Declarations.{Declarations, unknown_in_all, Declares}
+use Rattle.mw_declare.specs.declared.declarations.Declarations.{Declarations}
+use Rattle.mw_declare.specs.Declarations.{unknown_in_all, Declares}
 use Rattle.mw_declare.proofs.Known.{IsDeclared, declared_operators}
 use Rattle.mw_declare.proofs.Pairs.{pairs_there}
 use Rattle.mw_declare.proofs.Proper.{all_at}
@@ -96,13 +98,13 @@ sorts_apart ss zero T n e k = cc
 sorts_apart ss (suc i) zero n e k = cc
 sorts_apart ss (suc i) (suc j) n e k = ap suc (different_at (sorts_of ss) (different_from [] ss tt) i j n e k)
 
-abbrev pub signature_in : SeenUnit → Signature
+abbrev pub signature_in : List SeenLined → Signature
 signature_in ss = signature_of ss
 
--- the operators of a unit whose sorts are all known
-module _ (ss : List SeenLined) (known : unknown_in_all ss ≡ None) where
+-- the operators of statements whose sorts are all known
+module _ (ss : List SeenLined) (formed : AreKnown ss) (known : unknown_in_all ss ≡ None) where
   pub operator_known : (f : ℕ) (o : Operator) → IsOperator (signature_in ss) f o → IsDeclared (signature_in ss) o
-  operator_known f o e = all_at (IsDeclared (signature_in ss)) (map operator_of (operators_of ss)) (declared_operators ss known) f o e
+  operator_known f o e = all_at (IsDeclared (signature_in ss)) (map operator_of (operators_of ss)) (declared_operators ss formed known) f o e
 
   its_sorts : HasItsSorts (signature_in ss)
   its_sorts = record {
@@ -113,7 +115,7 @@ module _ (ss : List SeenLined) (known : unknown_in_all ss ≡ None) where
     declarations = λ f o e d m. member-all (IsDeclarationOf (signature_in ss) o) o.declarations (operator_known f o e).declarations d m;
   }
 
--- what a unit declares
+-- what statements declare
 module _ (ss : List SeenLined) (d : Declarations) (p : Declares ss d) where
   pub signature_is : d.signature ≡ signature_of ss
   signature_is = ap (λ (d : Declarations). d.signature) p.declared
@@ -130,8 +132,8 @@ module _ (ss : List SeenLined) (d : Declarations) (p : Declares ss d) where
   pub operators_declared : (f : ℕ) (o : Operator) → IsOperator d.signature f o → IsFreeOperator o
   operators_declared = subst (λ (s : Signature). (f : ℕ) (o : Operator) → IsOperator s f o → IsFreeOperator o) (sym signature_is) (free_operators ss)
 
-  pub numbers_declared : HasItsSorts d.signature
-  numbers_declared = subst HasItsSorts (sym signature_is) (its_sorts ss p.known)
+  pub numbers_declared : AreKnown ss → HasItsSorts d.signature
+  numbers_declared formed = subst HasItsSorts (sym signature_is) (its_sorts ss formed p.known)
 
   pub free_declared : IsFreeSignature d.signature
   free_declared = record {
@@ -142,5 +144,5 @@ module _ (ss : List SeenLined) (d : Declarations) (p : Declares ss d) where
     nat = nat_declared;
   }
 
-  pub simple_declared : IsPreregular d.signature → IsSimpleSignature d.signature
-  simple_declared preregular = record { nat = nat_declared; qid = qid_declared; sorts_differ = sorts_declared; operators = operators_declared; numbers = numbers_declared; preregular = preregular }
+  pub simple_declared : AreKnown ss → IsPreregular d.signature → IsSimpleSignature d.signature
+  simple_declared formed preregular = record { nat = nat_declared; qid = qid_declared; sorts_differ = sorts_declared; operators = operators_declared; numbers = numbers_declared formed; preregular = preregular }

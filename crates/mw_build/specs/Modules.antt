@@ -6,7 +6,8 @@ use Rattle.mw_logic.specs.Signature.{Signature}
 use Rattle.mw_logic.specs.Module.{Module}
 use Rattle.mw_module.specs.Units.{SeenUnit}
 use Rattle.mw_module.specs.declared.faults.Fault.{Fault}
-use Rattle.mw_declare.specs.Declarations.{Declarations, Declares, DeclarationFault}
+use Rattle.mw_declare.specs.declared.declarations.Declarations.{Declarations}
+use Rattle.mw_declare.specs.Declarations.{Declares, DeclarationFault}
 use Rattle.mw_build.specs.Sides.{Sides, equations_of}
 use Rattle.mw_build.specs.Equations.{AreEquations, FirstFault}
 use Rattle.mw_build.specs.SignatureFaults.{SignatureFault}

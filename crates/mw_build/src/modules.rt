@@ -5,6 +5,7 @@ ghost use Rattle.mw_logic.specs.Signature.{Signature as SignatureOf, IsRawTerm};
 ghost use Rattle.mw_term.specs.Raws.{raw_term};
 ghost use Rattle.mw_text.specs.Mixfix.{Reads};
 ghost use Rattle.mw_module.specs.Causes.{HasCause};
+ghost use Rattle.mw_module.specs.Known.{AreKnown};
 ghost use Rattle.mw_module.specs.Units.{seen_statements, seen_unit};
 ghost use Rattle.mw_module.specs.Words.{texts};
 ghost use Rattle.mw_grammar.specs.Grammars.{IsGrammarOf, IsReading};
@@ -131,6 +132,7 @@ fn module_of(
 /// The module that a unit is, or its first fault: of its declarations, then of its signature, and then of its
 /// equations in order.
 pub fn build(alloc: Global, unit: &Unit<'_>, name: Name) -> Result<Module, UnitError>
+    requires { AreKnown (seen_unit unit.now).statements }
     ensures accepted { IfOk result (IsAccepted (seen_unit unit.now) name) }
     ensures fault { IfErr result (HasCause (IsRefused (seen_unit unit.now))) }
 {
