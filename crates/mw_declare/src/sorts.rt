@@ -1,9 +1,10 @@
 // The sorts of a module.
 ghost use Rattle.std.specs.Prelude.{◌≡◌, List, [], ◌++◌, ◌∷◌, Some, None, IfOk, IfErr, OnOk, map, option_map};
 ghost use Rattle.mw_module.specs.Forms.{shape_of};
-ghost use Rattle.mw_module.specs.Units.{seen_lined};
-ghost use Rattle.mw_module.specs.Sortings.{seen_sorting};
+ghost use Rattle.mw_module.specs.Units.{seen_statements};
+ghost use Rattle.mw_module.specs.Sortings.{seen_sorting, seen_sortings};
 ghost use Rattle.mw_module.specs.Causes.{HasCause};
+ghost use Rattle.mw_module.specs.Words.{seen_lists};
 ghost use Rattle.mw_declare.specs.Meaning.{texts, with_names, sorts_of};
 ghost use Rattle.mw_declare.specs.Faults.{unknown_among, mentioned_in, mentioned_by, mentioned, unknown_from};
 
@@ -25,7 +26,7 @@ fn add_names(alloc: Global, sorts: &mut Names, names: &[Token]) -> Result<(), Al
 
 /// The sorts that statements declare, in order of first mention.
 pub fn all_sorts(alloc: Global, statements: &[Lined<'_>]) -> Result<Names, AllocError>
-    ensures { IfOk result (λ names. names ≡ sorts_of (map seen_lined statements.now)) }
+    ensures { IfOk result (λ names. names ≡ sorts_of (seen_statements statements.now)) }
 {
     let mut sorts = Names::new(alloc)?;
     for statement in statements {
@@ -38,10 +39,11 @@ pub fn all_sorts(alloc: Global, statements: &[Lined<'_>]) -> Result<Names, Alloc
 
 /// The first sort of these groups that isn't declared.
 fn unknown_grouped<'t>(sorts: &Names, groups: &[&'t [Token]]) -> Option<&'t Token>
-    ensures { option_map (λ t. t.now.text) result ≡ unknown_among sorts.now (mentioned_in (map (λ g. g.now) groups.now)) }
+    ensures { option_map (λ t. t.now.text) result ≡ unknown_among sorts.now (mentioned_in (seen_lists groups.now)) }
 {
     for group in groups {
-        for token in *group {
+        let tokens = *group;
+        for token in tokens {
             if !sorts.has(token.text.as_slice()) {
                 return Some(token);
             }
@@ -56,7 +58,7 @@ fn unknown_ranked<'t>(
     args: &[Sorting<'t>],
     value: Sorting<'t>,
 ) -> Option<&'t Token>
-    ensures { option_map (λ t. t.now.text) result ≡ unknown_among sorts.now (mentioned_by (map seen_sorting args.now) (seen_sorting value.entry)) }
+    ensures { option_map (λ t. t.now.text) result ≡ unknown_among sorts.now (mentioned_by (seen_sortings args.now) (seen_sorting value.entry)) }
 {
     for arg in args {
         if !sorts.has(arg.name.text.as_slice()) {
@@ -88,8 +90,8 @@ pub fn all_known(
     sorts: &Names,
     statements: &[Lined<'_>],
 ) -> Result<(), UnitError>
-    ensures known { OnOk result (unknown_from sorts.now (map seen_lined statements.now) ≡ None) }
-    ensures fault { IfErr result (HasCause (λ fault. unknown_from sorts.now (map seen_lined statements.now) ≡ Some fault)) }
+    ensures known { OnOk result (unknown_from sorts.now (seen_statements statements.now) ≡ None) }
+    ensures fault { IfErr result (HasCause (λ fault. unknown_from sorts.now (seen_statements statements.now) ≡ Some fault)) }
 {
     for statement in statements {
         if let Some(token) = unknown_mentioned(sorts, &statement.form) {
