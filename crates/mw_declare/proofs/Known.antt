@@ -15,7 +15,8 @@ use Rattle.mw_module.specs.Words.{texts}
 use Rattle.mw_module.specs.Sortings.{Sorting}
 use Rattle.mw_module.specs.Attributes.{Attributes}
 use Rattle.mw_module.specs.Forms.{Shape, Sorts, Subsorts, Operators, Variables, Equation}
-use Rattle.mw_module.proofs.Formed.{IsNameFor, IsPrecedence, IsGather, AreAttributes, IsKnown, joined_known}
+use Rattle.mw_module.specs.Known.{IsNameFor, IsPrecedence, IsGather, AreAttributes, IsKnown, AreKnown}
+use Rattle.mw_module.proofs.Formed.{joined_known}
 use Rattle.mw_module.specs.Units.{SeenLined}
 use Rattle.mw_declare.specs.Meaning.{is_among, number_of}
 use Rattle.mw_declare.specs.Hierarchy.{Hierarchy, kind_in, sorted_in}
@@ -186,7 +187,7 @@ module _ (sig : Signature) where
   said_operators os (Variables names S) all known there = all
   said_operators os (Equation left right executable) all known there = all
 
-abbrev pub IsKnownLined : SeenLined → Type 0
+abbrev IsKnownLined : SeenLined → Type 0
 IsKnownLined s = IsKnown s.shape
 
 said_from : (sig : Signature) (os : List Declared) (ss : List SeenLined) → All (IsSaid sig) os → All IsKnownLined ss → unknown_from sig.sorts ss ≡ None
@@ -257,7 +258,7 @@ all_declared sig (o ∷ os) all =
     All-cons (IsDeclared sig) (operator_of o) (map operator_of os) (is_declared sig o (All-head (IsSaid sig) o os all)) (all_declared sig os (All-tail (IsSaid sig) o os all))
 
 -- the operators of statements whose sorts are all known
-pub declared_operators : (ss : List SeenLined) → All IsKnownLined ss → unknown_in_all ss ≡ None → All (IsDeclared (signature_of ss)) (map operator_of (operators_of ss))
+pub declared_operators : (ss : List SeenLined) → AreKnown ss → unknown_in_all ss ≡ None → All (IsDeclared (signature_of ss)) (map operator_of (operators_of ss))
 declared_operators ss formed known =
     let sig = signature_of ss in
     all_declared sig (operators_of ss) (said_from sig [] ss (All-nil (IsSaid sig)) formed known)

@@ -22,7 +22,7 @@ use Rattle.mw_declare.specs.Hierarchy.{Hierarchy, hierarchy_of}
 use Rattle.mw_declare.specs.Faults.{Typing, sort_in, joined, typed, typed_by, typing_from, typing_of, variables_with, unknown_among, mentioned, unknown_from}
 use Rattle.mw_declare.specs.declared.declarations.Declarations.{Declarations}
 use Rattle.mw_declare.specs.Declarations.{Declares}
-use Rattle.mw_declare.specs.Proper.{IsProperVariable, AreProper, IsProperLined, DeclarationsAreProper}
+use Rattle.mw_declare.specs.Proper.{IsProperVariable, AreProper, DeclarationsAreProper}
 use Rattle.mw_declare.proofs.Unknown.{known_front, number_there}
 use Rattle.mw_declare.proofs.Pairs.{known_statement}
 
@@ -32,6 +32,9 @@ all_at P xs all zero x e = cc
 all_at P [] all (suc i) x e = cc
 all_at P (y ∷ ys) all (suc zero) x e = subst P (same_Some y x e) (All-head P y ys all)
 all_at P (y ∷ ys) all (suc (suc i)) x e = all_at P ys (All-tail P y ys all) (suc i) x e
+
+abbrev IsProperLined : SeenLined → Type 0
+IsProperLined s = HasProperParts s.shape
 
 -- names of sorts
 module _ (P : Name → Type 0) where

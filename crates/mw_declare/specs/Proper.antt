@@ -6,7 +6,7 @@ use Rattle.mw_logic.specs.Signature.{Signature}
 use Rattle.mw_logic.specs.Preregular.{IsSortOf}
 use Rattle.mw_text.specs.Proper.{AreProperNames}
 use Rattle.mw_module.specs.Units.{SeenLined}
-use Rattle.mw_module.specs.Tokens.{HasProperParts}
+use Rattle.mw_module.specs.Tokens.{AreProperStatements}
 use Rattle.mw_declare.specs.declared.declarations.Declarations.{Declarations}
 use Rattle.mw_declare.specs.Declarations.{Declares}
 
@@ -20,9 +20,6 @@ pub record AreProper (d : Declarations) : Type 0 where
   pub sorts : All IsRun d.signature.sorts
   pub variables : All (IsProperVariable d.signature) d.variables
 
-abbrev pub IsProperLined : SeenLined → Type 0
-IsProperLined s = HasProperParts s.shape
-
 -- What statements of proper parts declare is proper.
 abbrev pub DeclarationsAreProper : Type 0
-DeclarationsAreProper = (ss : List SeenLined) (d : Declarations) → All IsProperLined ss → Declares ss d → AreProper d
+DeclarationsAreProper = (ss : List SeenLined) (d : Declarations) → AreProperStatements ss → Declares ss d → AreProper d

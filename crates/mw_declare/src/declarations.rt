@@ -1,6 +1,6 @@
 // What a module declares.
 ghost use Rattle.std.specs.Prelude.{◌≡◌, length, map, IfOk, IfErr};
-ghost use Rattle.mw_module.specs.Units.{seen_lined};
+ghost use Rattle.mw_module.specs.Units.{seen_statements};
 ghost use Rattle.mw_module.specs.Causes.{HasCause};
 ghost use Rattle.mw_declare.specs.Declarations.{Declares, DeclarationFault, declarations_with};
 
@@ -56,9 +56,9 @@ pub fn declare(
     line: u32,
     statements: &[Lined<'_>],
 ) -> Result<Box<Declarations>, UnitError>
-    ensures declared { IfOk result (λ d. Declares (map seen_lined statements.now) d.value) }
+    ensures declared { IfOk result (λ d. Declares (seen_statements statements.now) d.value) }
     ensures order { IfOk result (λ d. d.value.order ≡ record { sorts = length d.value.signature.sorts; pairs = d.value.signature.pairs }) }
-    ensures fault { IfErr result (HasCause (DeclarationFault line (map seen_lined statements.now))) }
+    ensures fault { IfErr result (HasCause (DeclarationFault line (seen_statements statements.now))) }
 {
     let typing = all_typed(alloc, statements)?;
     let hierarchy = order_sorts(alloc, line, statements)?;

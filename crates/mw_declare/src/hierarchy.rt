@@ -3,10 +3,11 @@ ghost use Rattle.std.specs.Prelude.{◌≡◌, ◌≤◌, ◌++◌, ◌∷◌, �
 ghost use Rattle.mw_logic.specs.Signature.{at_number};
 ghost use Rattle.mw_term.specs.Signatures.{sorted_of};
 ghost use Rattle.mw_module.specs.declared.faults.FaultKind.TheVariants.{SortCycle};
-ghost use Rattle.mw_module.specs.Sortings.{seen_sorting};
-ghost use Rattle.mw_module.specs.Units.{seen_lined};
+ghost use Rattle.mw_module.specs.Sortings.{seen_sorting, seen_sortings};
+ghost use Rattle.mw_module.specs.Units.{seen_statements};
 ghost use Rattle.mw_module.specs.Causes.{HasCause};
 ghost use Rattle.mw_poset.specs.Order.{IsSort};
+ghost use Rattle.mw_module.specs.Words.{seen_lists};
 ghost use Rattle.mw_declare.specs.Meaning.{Name, is_among, numbers_of};
 ghost use Rattle.mw_declare.specs.Hierarchy.{pairs_between, pairs_behind, pairs_from, hierarchy_of, kind_in, sorted_in};
 ghost use Rattle.mw_declare.specs.Operators.{rank_of};
@@ -84,7 +85,7 @@ fn add_groups(
     names: &Names,
     groups: &[&[Token]],
 ) -> Result<(), AllocError>
-    ensures { OnOk result (pairs.new.items ≡ pairs.old.items ++ pairs_behind names.now [] (map (λ g. g.now) groups.now)) }
+    ensures { OnOk result (pairs.new.items ≡ pairs.old.items ++ pairs_behind names.now [] (seen_lists groups.now)) }
 {
     let mut lowers = Vec::new(alloc);
     for group in groups {
@@ -101,7 +102,7 @@ fn all_pairs(
     names: &Names,
     statements: &[Lined<'_>],
 ) -> Result<Vec<(SortId, SortId)>, AllocError>
-    ensures { IfOk result (λ v. v.items ≡ pairs_from names.now (map seen_lined statements.now)) }
+    ensures { IfOk result (λ v. v.items ≡ pairs_from names.now (seen_statements statements.now)) }
 {
     let mut pairs = Vec::new(alloc);
     for statement in statements {
@@ -127,10 +128,10 @@ pub fn order_sorts(
     line: u32,
     statements: &[Lined<'_>],
 ) -> Result<Box<Hierarchy>, UnitError>
-    ensures same { IfOk result (λ h. h.value ≡ hierarchy_of (map seen_lined statements.now)) }
-    ensures known { IfOk result (λ _. unknown_in_all (map seen_lined statements.now) ≡ None) }
-    ensures acyclic { IfOk result (λ _. IsAcyclic (hierarchy_of (map seen_lined statements.now))) }
-    ensures fault { IfErr result (HasCause (SortFault line (map seen_lined statements.now))) }
+    ensures same { IfOk result (λ h. h.value ≡ hierarchy_of (seen_statements statements.now)) }
+    ensures known { IfOk result (λ _. unknown_in_all (seen_statements statements.now) ≡ None) }
+    ensures acyclic { IfOk result (λ _. IsAcyclic (hierarchy_of (seen_statements statements.now))) }
+    ensures fault { IfErr result (HasCause (SortFault line (seen_statements statements.now))) }
 {
     let names = all_sorts(alloc, statements)?;
     all_known(alloc, &names, statements)?;
@@ -174,8 +175,8 @@ impl Hierarchy {
         args: &[Sorting<'_>],
         value: Sorting<'_>,
     ) -> Result<Rank, AllocError>
-        requires { unknown_among self.now.names (mentioned_by (map seen_sorting args.now) (seen_sorting value)) ≡ None }
-        ensures { IfOk result (λ r. seen_rank r ≡ rank_of self.now (map seen_sorting args.now) (seen_sorting value.entry)) }
+        requires { unknown_among self.now.names (mentioned_by (seen_sortings args.now) (seen_sorting value)) ≡ None }
+        ensures { IfOk result (λ r. seen_rank r ≡ rank_of self.now (seen_sortings args.now) (seen_sorting value.entry)) }
     {
         let mut sorts = Vec::new(alloc);
         let mut kinds = Vec::new(alloc);

@@ -2,8 +2,9 @@
 ghost use Rattle.std.specs.Prelude.{◌≡◌, List, [], map, IfOk, IfErr, OnOk, Some, None, option_map};
 ghost use Rattle.mw_term.specs.Signatures.{sorted_of};
 ghost use Rattle.mw_module.specs.Attributes.{seen_attributes};
-ghost use Rattle.mw_module.specs.Units.{seen_lined};
+ghost use Rattle.mw_module.specs.Units.{seen_statements};
 ghost use Rattle.mw_module.specs.Causes.{HasCause};
+ghost use Rattle.mw_module.specs.Words.{seen_lists};
 ghost use Rattle.mw_declare.specs.Operators.{profile_of as profile_with, with_operator, with_named, operators_from, operator_of as operator_with};
 ghost use Rattle.mw_declare.specs.Faults.{unknown_from, disagreeing, disagreement};
 ghost use Rattle.mw_declare.specs.Seen.{seen_rank, seen_profile, seen_operator};
@@ -113,7 +114,7 @@ impl<'u> Operators<'u> {
         rank: &Rank,
         attributes: Attributes<'u>,
     ) -> Result<(), AllocError>
-        ensures { OnOk result (self.new ≡ with_named self.old (map (λ n. n.now) names.now) (seen_rank rank.now) (seen_attributes attributes.entry)) }
+        ensures { OnOk result (self.new ≡ with_named self.old (seen_lists names.now) (seen_rank rank.now) (seen_attributes attributes.entry)) }
     {
         for name in names {
             let profile = profile_of(alloc, name, rank)?;
@@ -166,8 +167,8 @@ pub fn all_operators<'u>(
     hierarchy: &Hierarchy,
     statements: &[Lined<'u>],
 ) -> Result<Operators<'u>, AllocError>
-    requires { unknown_from hierarchy.now.names (map seen_lined statements.now) ≡ None }
-    ensures { IfOk result (λ os. os ≡ operators_from hierarchy.now [] (map seen_lined statements.now)) }
+    requires { unknown_from hierarchy.now.names (seen_statements statements.now) ≡ None }
+    ensures { IfOk result (λ os. os ≡ operators_from hierarchy.now [] (seen_statements statements.now)) }
 {
     let mut operators = Operators::new(alloc)?;
     for statement in statements {

@@ -1,11 +1,12 @@
 // The sorts of a module.
 ghost use Rattle.std.specs.Prelude.{◌≡◌, List, [], ◌++◌, ◌∷◌, Some, None, IfOk, IfErr, OnOk, map, option_map};
 ghost use Rattle.mw_module.specs.Forms.{shape_of};
-ghost use Rattle.mw_module.specs.Units.{seen_lined};
-ghost use Rattle.mw_module.specs.Sortings.{seen_sorting};
+ghost use Rattle.mw_module.specs.Units.{seen_statements};
+ghost use Rattle.mw_module.specs.Sortings.{seen_sorting, seen_sortings};
 ghost use Rattle.mw_module.specs.Causes.{HasCause};
+ghost use Rattle.mw_module.specs.Words.{seen_lists};
 ghost use Rattle.mw_declare.specs.Meaning.{texts, with_names, sorts_of};
-ghost use Rattle.mw_declare.specs.Faults.{unknown_among, name_in, mentioned_in, mentioned, unknown_from};
+ghost use Rattle.mw_declare.specs.Faults.{unknown_among, mentioned_in, mentioned_by, mentioned, unknown_from};
 
 use mw_lex::Token;
 use mw_module::{Fault, FaultKind, Form, Lined, Sorting, UnitError};
@@ -25,7 +26,7 @@ fn add_names(alloc: Global, sorts: &mut Names, names: &[Token]) -> Result<(), Al
 
 /// The sorts that statements declare, in order of first mention.
 pub fn all_sorts(alloc: Global, statements: &[Lined<'_>]) -> Result<Names, AllocError>
-    ensures { IfOk result (λ names. names ≡ sorts_of (map seen_lined statements.now)) }
+    ensures { IfOk result (λ names. names ≡ sorts_of (seen_statements statements.now)) }
 {
     let mut sorts = Names::new(alloc)?;
     for statement in statements {
@@ -36,41 +37,39 @@ pub fn all_sorts(alloc: Global, statements: &[Lined<'_>]) -> Result<Names, Alloc
     Ok(sorts)
 }
 
-/// The first of these tokens that isn't a sort.
-fn unknown_token<'t>(sorts: &Names, tokens: &'t [Token]) -> Option<&'t Token>
-    ensures { option_map (λ t. t.now.text) result ≡ unknown_among sorts.now (texts tokens.entry.now) }
-{
-    for token in tokens {
-        if !sorts.has(token.text.as_slice()) {
-            return Some(token);
-        }
-    }
-    None
-}
-
 /// The first sort of these groups that isn't declared.
-#[tactic(auto, using(crate::proofs::Unknown::unknown_append))]
 fn unknown_grouped<'t>(sorts: &Names, groups: &[&'t [Token]]) -> Option<&'t Token>
-    ensures { option_map (λ t. t.now.text) result ≡ unknown_among sorts.now (mentioned_in (map (λ g. g.now) groups.now)) }
+    ensures { option_map (λ t. t.now.text) result ≡ unknown_among sorts.now (mentioned_in (seen_lists groups.now)) }
 {
     for group in groups {
-        if let Some(token) = unknown_token(sorts, group) {
-            return Some(token);
+        let tokens = *group;
+        for token in tokens {
+            if !sorts.has(token.text.as_slice()) {
+                return Some(token);
+            }
         }
     }
     None
 }
 
-/// The first of these sorts that isn't declared.
-fn unknown_sorting<'t>(sorts: &Names, sortings: &[Sorting<'t>]) -> Option<&'t Token>
-    ensures { option_map (λ t. t.now.text) result ≡ unknown_among sorts.now (map name_in (map seen_sorting sortings.now)) }
+/// The first sort of a declaration that isn't declared.
+fn unknown_ranked<'t>(
+    sorts: &Names,
+    args: &[Sorting<'t>],
+    value: Sorting<'t>,
+) -> Option<&'t Token>
+    ensures { option_map (λ t. t.now.text) result ≡ unknown_among sorts.now (mentioned_by (seen_sortings args.now) (seen_sorting value.entry)) }
 {
-    for sorting in sortings {
-        if !sorts.has(sorting.name.text.as_slice()) {
-            return Some(sorting.name);
+    for arg in args {
+        if !sorts.has(arg.name.text.as_slice()) {
+            return Some(arg.name);
         }
     }
-    None
+    if sorts.has(value.name.text.as_slice()) {
+        None
+    } else {
+        Some(value.name)
+    }
 }
 
 /// The first sort that a statement mentions and that isn't declared.
@@ -79,15 +78,7 @@ fn unknown_mentioned<'t>(sorts: &Names, form: &Form<'t>) -> Option<&'t Token>
 {
     match form {
         Form::Subsorts { groups } => unknown_grouped(sorts, groups.as_slice()),
-        Form::Operators {
-            args,
-            result: value,
-            ..
-        } => match unknown_sorting(sorts, args.as_slice()) {
-            Some(token) => Some(token),
-            None if sorts.has(value.name.text.as_slice()) => None,
-            None => Some(value.name),
-        },
+        Form::Operators { args, result, .. } => unknown_ranked(sorts, args.as_slice(), *result),
         Form::Variables { sort, .. } if !sorts.has(sort.text.as_slice()) => Some(sort),
         _ => None,
     }
@@ -99,8 +90,8 @@ pub fn all_known(
     sorts: &Names,
     statements: &[Lined<'_>],
 ) -> Result<(), UnitError>
-    ensures known { OnOk result (unknown_from sorts.now (map seen_lined statements.now) ≡ None) }
-    ensures fault { IfErr result (HasCause (λ fault. unknown_from sorts.now (map seen_lined statements.now) ≡ Some fault)) }
+    ensures known { OnOk result (unknown_from sorts.now (seen_statements statements.now) ≡ None) }
+    ensures fault { IfErr result (HasCause (λ fault. unknown_from sorts.now (seen_statements statements.now) ≡ Some fault)) }
 {
     for statement in statements {
         if let Some(token) = unknown_mentioned(sorts, &statement.form) {

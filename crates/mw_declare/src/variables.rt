@@ -1,6 +1,6 @@
 // The variables of a module, with their sorts.
 ghost use Rattle.std.specs.Prelude.{◌≡◌, ◌++◌, ◌∷◌, List, [], Ok, Err, None, IfOk, IfErr, OnOk, map, option_map};
-ghost use Rattle.mw_module.specs.Units.{seen_lined};
+ghost use Rattle.mw_module.specs.Units.{seen_statements};
 ghost use Rattle.mw_module.specs.Causes.{HasCause};
 ghost use Rattle.mw_declare.specs.Faults.{sort_in, joined, typed, typing_of, variables_with};
 
@@ -108,8 +108,8 @@ impl Typing {
 
 /// The variables that statements declare, or the fault of the first that is declared again with another sort.
 pub fn all_typed(alloc: Global, statements: &[Lined<'_>]) -> Result<Typing, UnitError>
-    ensures typed { IfOk result (λ typing. typing_of (map seen_lined statements.now) ≡ Ok typing) }
-    ensures fault { IfErr result (HasCause (λ fault. typing_of (map seen_lined statements.now) ≡ Err fault)) }
+    ensures typed { IfOk result (λ typing. typing_of (seen_statements statements.now) ≡ Ok typing) }
+    ensures fault { IfErr result (HasCause (λ fault. typing_of (seen_statements statements.now) ≡ Err fault)) }
 {
     let mut typing = Typing::new(alloc)?;
     for statement in statements {

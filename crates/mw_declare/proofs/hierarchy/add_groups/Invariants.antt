@@ -1,6 +1,7 @@
 use Rattle.std.proofs.Common.{◌≡◌, ◌++◌, [], drop, map}
+use Rattle.mw_module.specs.Words.{seen_lists}
 use Rattle.mw_declare.specs.Hierarchy.{pairs_behind}
 use Rattle.mw_declare.proofs.hierarchy.add_groups.Given as goal
 
 abbrev pub invariant-loop-group : goal.invariant-loop-group
-invariant-loop-group l = l.pairs.items ++ pairs_behind l.names l.lowers.items (map (λ g. g.now) (drop l.group-index l.groups)) ≡ l.fn.pairs.items ++ pairs_behind l.names [] (map (λ g. g.now) l.groups)
+invariant-loop-group l = l.pairs.items ++ pairs_behind l.names l.lowers.items (seen_lists (drop l.group-index l.groups)) ≡ l.fn.pairs.items ++ pairs_behind l.names [] (seen_lists l.groups)
