@@ -4,6 +4,7 @@ pub mod Readable
 pub mod Mentioned
 pub mod Sides
 pub mod Reading
+pub mod Accepting
 pub mod Naming
 pub mod PrintedVariables
 pub mod SidesOfTokens

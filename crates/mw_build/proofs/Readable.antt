@@ -1,5 +1,5 @@
 -- What a module declares has a grammar.
-use Rattle.std.proofs.Common.{◌≡◌, None, sym, subst}
+use Rattle.std.proofs.Common.{◌≡◌, List, None, sym, subst}
 use Rattle.std.proofs.lemmas.Bool.{both_ways}
 use Rattle.mw_logic.specs.Term.{Variable}
 use Rattle.mw_logic.specs.Signature.{Member}

@@ -113,8 +113,8 @@ fn module_of(
     requires tables { AreTablesOf declarations.value.signature tables.value }
     requires grammar { IsGrammarOf declarations.value.signature declarations.value.variables grammar.value }
     ensures { IfOk result (λ m. m ≡ record { name = name;
-        «module» = record { signature = declarations.entry.value.signature; statements = statements };
-        variables = declarations.entry.value.variables }) }
+        «module» = record { signature = declarations.value.signature; statements = statements };
+        variables = declarations.value.variables }) }
 {
     let Declarations {
         signature,

@@ -54,7 +54,7 @@ fn names(
 }
 
 /// The fault of an operator that lacks a least result on these sorts, at a line.
-fn NotPreregular(
+fn not_preregular(
     alloc: Global,
     line: u32,
     signature: &Signature,
@@ -92,7 +92,7 @@ pub fn tables(
         Ok(tables) => Ok(Box::new(alloc, tables).map_err(AllocError::from)?),
         Err(TablesError::NotPreregular { operator, sorts }) => {
             let sorts = sorts.as_slice();
-            let fault = NotPreregular(alloc, line, signature, order, operator, sorts)?;
+            let fault = not_preregular(alloc, line, signature, order, operator, sorts)?;
             Err(UnitError::Fault(fault))
         }
         Err(TablesError::Memory) => Err(UnitError::Memory),

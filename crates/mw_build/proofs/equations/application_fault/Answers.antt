@@ -21,7 +21,7 @@ returns-in-Some c = λ sig simple.
     let right = raw_term c.args.right.now in
     let none = elim c.match-matches.branch as (λ _. (x : Variable) → c.args.left.now ≡ Var x → ⊥) [ in-Var w ↦ absurd (both_ways _ c.if-matches.false w.matches-is) | in_default w ↦ w.in_default.not-Var ] in
     let first = sym c.in_ok-variable.ensures in
-    let name : c.in-Some.variable.name ≡ c.into_vec.result.items = ap (λ (x : Variable). x.name) (sym c.variable.view_is) ∙ sym c.into_vec.ensures in
+    let name : c.in-Some.variable.name ≡ c.variable.inside.name = ap (λ (x : Variable). x.name) (sym c.variable.view_is) in
     subst (λ n. ApplicationFault sig left right (UnboundVariable n)) name (open_right c.in-Some.variable (not_lone sig simple c.args.left.now none) (first ∙ c.in-Some.is))
 
 pub returns-in-None : goal.returns-in-None
