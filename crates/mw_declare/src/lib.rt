@@ -1,7 +1,7 @@
 //! What the statements of a functional module declare, and what is wrong with its declarations.
 //!
-//! `declare` answers the module's signature, the order of its sorts, and its variables; or the first fault. It reads the
-//! forms of statements as `mw_module` has them, of one unit or of several one after the other.
+//! `declare` answers the module's signature, the order of its sorts, and its variables; or the first fault. It takes
+//! statements with their forms, of one unit or of several one after the other.
 //!
 //! - Sorts and operators are numbered, and variables stand, in the order of their first declaration, which may come
 //!   behind a use. The pairs of a signature are those of all `subsort` statements, in the order of the text: for two
