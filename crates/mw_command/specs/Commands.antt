@@ -1,10 +1,10 @@
 -- What a unit asks for, as a command.
-use Rattle.std.specs.Prelude.{◌≡◌, ℕ, Bool, false, List, [], ◌∷◌, ◌+◌, ◌-◌, ◌==◌, ◌&&◌, ◌||◌, drop, Option, None, Some, option_map, Result, Ok, Err, if◌then◌else◌, codes}
+use Rattle.std.specs.Prelude.{ℕ, Bool, false, List, [], ◌∷◌, ◌+◌, ◌-◌, ◌==◌, ◌&&◌, ◌||◌, drop, Option, None, Some, option_map, Result, Ok, Err, if◌then◌else◌, codes}
 use Rattle.std.specs.Str.{bytes_eq}
 use Rattle.mw_lex.specs.declared.token.Token.{Token}
 use Rattle.mw_module.specs.declared.faults.Fault.{Fault}
 use Rattle.mw_module.specs.declared.faults.FaultKind.TheVariants.{NotInProfile, BadBound}
-use Rattle.mw_module.specs.Words.{is, count_before}
+use Rattle.mw_module.specs.Words.{is, begins, count_before}
 use Rattle.mw_module.specs.Units.{SeenUnit}
 use Rattle.mw_command.specs.declared.commands.Command.{Command}
 use Rattle.mw_command.specs.declared.commands.Word.{Word}
@@ -21,19 +21,14 @@ pub record SeenCommand : Type 0 where
 abbrev pub seen_command : Command → SeenCommand
 seen_command c = record { word = c.word; bound = c.bound; «module» = option_map (λ name. name.now.text) c.module; term = c.term.now; subject = option_map (λ ts. ts.now) c.subject }
 
--- the first token has this text
-abbrev pub begins_with : List ℕ → List Token → Bool
-begins_with word [] = false
-begins_with word (t ∷ rest) = is word t
-
 -- what stands behind a bound, if there is one: it goes to the first bracket that closes
 abbrev pub behind_bound : List Token → List Token
-behind_bound ts = if begins_with (codes "[") ts then drop (count_before (codes "]") ts + 1) ts else ts
+behind_bound ts = if begins (codes "[") ts then drop (count_before (codes "]") ts + 1) ts else ts
 
 -- of `depth` open braces the last is closed, and a colon follows directly
 abbrev pub closes_before_colon : ℕ → List Token → Bool
 closes_before_colon depth [] = false
-closes_before_colon depth (t ∷ rest) = if is (codes "}") t then (if depth == 1 then begins_with (codes ":") rest else closes_before_colon (depth - 1) rest)
+closes_before_colon depth (t ∷ rest) = if is (codes "}") t then (if depth == 1 then begins (codes ":") rest else closes_before_colon (depth - 1) rest)
     else if is (codes "{") t then closes_before_colon (depth + 1) rest else closes_before_colon depth rest
 
 -- an open brace that is closed, with a colon directly behind
@@ -46,7 +41,7 @@ abbrev pub names_with_braces : List Token → Bool
 names_with_braces [] = false
 names_with_braces (a ∷ []) = false
 names_with_braces (a ∷ b ∷ rest) =
-    is (codes "in") a && ((is (codes "{") b && begins_with (codes ":") rest) || has_braces_before_colon rest)
+    is (codes "in") a && ((is (codes "{") b && begins (codes ":") rest) || has_braces_before_colon rest)
 
 -- a command of this word for this term, in this module
 abbrev pub for_term : Word → Option (List ℕ) → List Token → SeenCommand
@@ -66,7 +61,7 @@ Outcome = Result SeenCommand Fault
 -- what a command is behind its word; a module's name comes before the bound, which none of these commands takes
 abbrev pub outcome_behind : Word → ℕ → List Token → Outcome
 outcome_behind word line ts = if names_with_braces (behind_bound ts) then Err (record { line = line; kind = NotInProfile })
-    else if begins_with (codes "[") ts then Err (record { line = line; kind = BadBound }) else Ok (named_behind word ts)
+    else if begins (codes "[") ts then Err (record { line = line; kind = BadBound }) else Ok (named_behind word ts)
 
 -- the command that a first word asks for
 abbrev pub word_of : List ℕ → Option Word

@@ -1,5 +1,6 @@
 // What stands between a command's word and its term.
 ghost use Rattle.std.specs.Prelude.{◌≡◌, ◌≤◌, length};
+ghost use Rattle.mw_module.specs.Words.{begins};
 ghost use Rattle.mw_command.specs.Commands as commands;
 
 use mw_lex::Token;
@@ -7,7 +8,7 @@ use mw_module::{count_before, is_word, tokens_from};
 
 /// Whether the first token has this text.
 pub fn begins_with(tokens: &[Token], word: &[u8]) -> bool
-    ensures { result ≡ commands.begins_with word.now tokens.now }
+    ensures { result ≡ begins word.now tokens.now }
 {
     match tokens {
         [token, ..] => is_word(token, word),

@@ -1,5 +1,5 @@
 -- What an error says, where one property follows from another.
-use Rattle.std.proofs.Common.{◌≡◌, Result, Err, IfErr, sym, subst}
+use Rattle.std.proofs.Common.{◌≡◌, Result, IfErr, sym, subst}
 use Rattle.std.specs.Result.{IsErrAnd}
 use Rattle.std.proofs.lemmas.Result.{err_from_is_err_and}
 use Rattle.mw_module.specs.declared.faults.Fault.{Fault}

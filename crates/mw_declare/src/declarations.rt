@@ -57,7 +57,8 @@ pub fn declare(
     statements: &[Lined<'_>],
 ) -> Result<Box<Declarations>, UnitError>
     ensures declared { IfOk result (λ d. Declares (seen_statements statements.now) d.value) }
-    ensures order { IfOk result (λ d. d.value.order ≡ record { sorts = length d.value.signature.sorts; pairs = d.value.signature.pairs }) }
+    ensures order { IfOk result (λ d. let sig = d.value.signature in
+        d.value.order ≡ record { sorts = length sig.sorts; pairs = sig.pairs }) }
     ensures fault { IfErr result (HasCause (DeclarationFault line (seen_statements statements.now))) }
 {
     let typing = all_typed(alloc, statements)?;

@@ -53,12 +53,9 @@ fn unknown_grouped<'t>(sorts: &Names, groups: &[&'t [Token]]) -> Option<&'t Toke
 }
 
 /// The first sort of a declaration that isn't declared.
-fn unknown_ranked<'t>(
-    sorts: &Names,
-    args: &[Sorting<'t>],
-    value: Sorting<'t>,
-) -> Option<&'t Token>
-    ensures { option_map (λ t. t.now.text) result ≡ unknown_among sorts.now (mentioned_by (seen_sortings args.now) (seen_sorting value.entry)) }
+fn unknown_ranked<'t>(sorts: &Names, args: &[Sorting<'t>], value: Sorting<'t>) -> Option<&'t Token>
+    ensures { let names = mentioned_by (seen_sortings args.now) (seen_sorting value.entry) in
+        option_map (λ t. t.now.text) result ≡ unknown_among sorts.now names }
 {
     for arg in args {
         if !sorts.has(arg.name.text.as_slice()) {
@@ -85,13 +82,10 @@ fn unknown_mentioned<'t>(sorts: &Names, form: &Form<'t>) -> Option<&'t Token>
 }
 
 /// Whether each sort that statements mention is declared, or else the fault of the first that isn't.
-pub fn all_known(
-    alloc: Global,
-    sorts: &Names,
-    statements: &[Lined<'_>],
-) -> Result<(), UnitError>
+pub fn all_known(alloc: Global, sorts: &Names, statements: &[Lined<'_>]) -> Result<(), UnitError>
     ensures known { OnOk result (unknown_from sorts.now (seen_statements statements.now) ≡ None) }
-    ensures fault { IfErr result (HasCause (λ fault. unknown_from sorts.now (seen_statements statements.now) ≡ Some fault)) }
+    ensures fault { IfErr result
+        (HasCause (λ fault. unknown_from sorts.now (seen_statements statements.now) ≡ Some fault)) }
 {
     for statement in statements {
         if let Some(token) = unknown_mentioned(sorts, &statement.form) {

@@ -54,15 +54,10 @@ impl Typing {
     }
 
     /// Adds a variable, unless it is there with this sort; with another one it is a fault at this line.
-    fn join(
-        &mut self,
-        alloc: Global,
-        line: u32,
-        name: &[u8],
-        sort: &[u8],
-    ) -> Result<(), UnitError>
+    fn join(&mut self, alloc: Global, line: u32, name: &[u8], sort: &[u8]) -> Result<(), UnitError>
         ensures added { OnOk result (joined line (sort_in self.old name.now) self.old name.now sort.now ≡ Ok self.new) }
-        ensures fault { IfErr result (HasCause (λ fault. joined line (sort_in self.old name.now) self.old name.now sort.now ≡ Err fault)) }
+        ensures fault { IfErr result
+            (HasCause (λ fault. joined line (sort_in self.old name.now) self.old name.now sort.now ≡ Err fault)) }
     {
         if let Some(known) = self.sort(name) {
             if known.as_slice() == sort {

@@ -1,4 +1,4 @@
-use Rattle.std.proofs.Common.{◌≡◌, ◌++◌, [], drop, map}
+use Rattle.std.proofs.Common.{◌≡◌, ◌++◌, [], drop}
 use Rattle.mw_module.specs.Words.{seen_lists}
 use Rattle.mw_declare.specs.Hierarchy.{pairs_behind}
 use Rattle.mw_declare.proofs.hierarchy.add_groups.Given as goal

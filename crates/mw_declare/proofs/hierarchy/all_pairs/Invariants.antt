@@ -1,4 +1,4 @@
-use Rattle.std.proofs.Common.{◌≡◌, ◌++◌, drop, map}
+use Rattle.std.proofs.Common.{◌≡◌, ◌++◌, drop}
 use Rattle.mw_module.specs.Units.{seen_statements}
 use Rattle.mw_declare.specs.Hierarchy.{pairs_from}
 use Rattle.mw_declare.proofs.hierarchy.all_pairs.Given as goal

@@ -1,4 +1,4 @@
-use Rattle.std.proofs.Common.{◌≡◌, [], None, drop, map}
+use Rattle.std.proofs.Common.{◌≡◌, [], None, drop}
 use Rattle.mw_module.specs.Units.{seen_statements}
 use Rattle.mw_declare.specs.Operators.{operators_from}
 use Rattle.mw_declare.specs.Faults.{unknown_from}

@@ -1,4 +1,4 @@
-use Rattle.std.proofs.Common.{◌≡◌, drop, map}
+use Rattle.std.proofs.Common.{◌≡◌, drop}
 use Rattle.mw_module.specs.Units.{seen_statements}
 use Rattle.mw_declare.specs.Faults.{unknown_from}
 use Rattle.mw_declare.proofs.sorts.all_known.Given as goal

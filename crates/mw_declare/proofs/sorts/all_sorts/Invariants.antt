@@ -1,4 +1,4 @@
-use Rattle.std.proofs.Common.{◌≡◌, drop, map}
+use Rattle.std.proofs.Common.{◌≡◌, drop}
 use Rattle.mw_module.specs.Units.{seen_statements}
 use Rattle.mw_declare.specs.Meaning.{sorts_from, sorts_of}
 use Rattle.mw_declare.proofs.sorts.all_sorts.Given as goal

@@ -1,4 +1,4 @@
-use Rattle.std.proofs.Common.{◌≡◌, ◌+◌, ◌++◌, drop, map}
+use Rattle.std.proofs.Common.{◌≡◌, ◌+◌, ◌++◌, drop}
 use Rattle.mw_module.specs.Words.{seen_lists}
 use Rattle.mw_declare.specs.Meaning.{texts}
 use Rattle.mw_declare.specs.Faults.{unknown_among, mentioned_in}

@@ -1,4 +1,4 @@
-use Rattle.std.proofs.Common.{◌≡◌, drop, map}
+use Rattle.std.proofs.Common.{◌≡◌, drop}
 use Rattle.mw_module.specs.Sortings.{seen_sorting, seen_sortings}
 use Rattle.mw_declare.specs.Faults.{unknown_among, mentioned_by}
 use Rattle.mw_declare.proofs.sorts.unknown_ranked.Given as goal

@@ -1,4 +1,4 @@
-use Rattle.std.proofs.Common.{◌≡◌, Ok, drop, map}
+use Rattle.std.proofs.Common.{◌≡◌, Ok, drop}
 use Rattle.mw_module.specs.Units.{seen_statements}
 use Rattle.mw_declare.specs.Faults.{typing_from, typing_of}
 use Rattle.mw_declare.proofs.variables.all_typed.Given as goal
