@@ -1,5 +1,5 @@
 -- Words, one after another.
-use Rattle.std.proofs.Common.{ℕ, zero, suc, ◌≡◌, ◌∙◌, ◌⊎◌, ◌+◌, List, [], ◌∷◌, ◌++◌, length, Some, refl, ap, subst, inl, inr, arith, length-append}
+use Rattle.std.proofs.Common.{ℕ, zero, suc, ◌≡◌, ◌∙◌, ◌⊎◌, ◌+◌, List, [], ◌∷◌, ◌++◌, length, Some, refl, sym, ap, subst, inl, inr, arith, length-append}
 use Rattle.std.specs.List.{slice_get}
 use Rattle.mw_logic.specs.Term.{Variable}
 use Rattle.std.specs.Prelude.{◌↔◌}
@@ -16,6 +16,7 @@ use Rattle.mw_grammar.specs.Compiled.{Extends}
 use Rattle.mw_grammar.proofs.Listings.{declared_to, declared_from}
 use Rattle.mw_grammar.specs.Worded.{IsWord, AllDiffer, AreWords, Adds}
 use Rattle.mw_grammar.proofs.Made.{get_grows}
+use Rattle.mw_grammar.proofs.Writing.{back}
 
 -- the variables that were found are those of the word
 pub word_is : (sig : Signature) (variables : List Variable) (g : Grammar) (kind : ℕ → ℕ) (old new : List Variable) (token : List ℕ) (before : List Leaf) (word : Word) → IsGrammarOf sig variables g → before ≡ []
@@ -52,11 +53,15 @@ module _ (sorts names : List (List ℕ)) (variables : List Variable) (kind : ℕ
     pub each : (k : ℕ) (token : List ℕ) (word : Word) → slice_get tokens k ≡ Some token → slice_get words k ≡ Some word → IsWord sorts variables kind names leaves token word
     pub differ : AllDiffer leaves
 
-  back : (words : List Word) (w : Word) (k : ℕ) (word : Word) → slice_get (words ++ w ∷ []) k ≡ Some word → (slice_get words k ≡ Some word) ⊎ ((k ≡ length words) × (w ≡ word))
-  back [] w zero word e = inr (refl, (cc))
-  back [] w (suc k) word e = let bad : ⊥ = (cc) in absurd bad
-  back (v ∷ words) w zero word e = inl e
-  back (v ∷ words) w (suc k) word e = elim (back words w k word e) [ inl p ↦ inl p | inr (p, q) ↦ inr (ap suc p, q) ]
+  pub no_words : (leaves : List Variable) (tokens : List (List ℕ)) (words : List Word) → leaves ≡ [] → words ≡ [] → HasWords leaves tokens 0 words
+  no_words leaves tokens words none empty = record {
+    count = ap length empty;
+    each = λ k t w at got. absurd (nothing words k w empty got);
+    differ = λ v w x a b. absurd (nothing leaves v x none a);
+  }
+    where
+      nothing : {A : Type 0} (xs : List A) (k : ℕ) (x : A) → xs ≡ [] → slice_get xs k ≡ Some x → ⊥
+      nothing {A} xs k x e h = let bad : slice_get {X = A} [] k ≡ Some x = sym (ap (λ ys. slice_get ys k) e) ∙ h in cc
 
   same_token : (tokens : List (List ℕ)) (k : ℕ) (s t : List ℕ) → slice_get tokens k ≡ Some s → slice_get tokens k ≡ Some t → s ≡ t
   same_token tokens k s t a b = cc

@@ -202,7 +202,8 @@ fn table(
         wholes: _,
         starts,
     } = making;
-    Table::new(alloc, steps, starts, groups, open, close, sorts)
+    let table = Table::new(alloc, steps, starts, groups, open, close, sorts)?;
+    Ok(table)
 }
 
 /// So many sorts and so many operators at most.

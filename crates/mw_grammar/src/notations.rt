@@ -3,8 +3,7 @@ ghost use Rattle.std.specs.Prelude.{◌≡◌, ◌<◌, ◌^◌, ◌∷◌, ℕ,
 ghost use Rattle.mw_logic.specs.Signature.{Operator as OperatorOf, IsOperator};
 ghost use Rattle.mw_text.specs.Names.{items_of, pieces};
 ghost use Rattle.mw_grammar.specs.Readable.{kind_in};
-ghost use Rattle.mw_grammar.specs.Notations as spec;
-ghost use Rattle.mw_grammar.specs.Notations.{head_of, IsHeaded, IsMixfix, IsWhole, IsNotationOf, IsNotation};
+ghost use Rattle.mw_grammar.specs.Notations.{head_of, prefix_notation, flattened_notation, tail_notation, IsHeaded, IsMixfix, IsWhole, IsNotationOf, IsNotation};
 ghost use Rattle.mw_grammar.specs.Compiled.{AddsNotations};
 
 use crate::compile::{Making, add};
@@ -15,46 +14,52 @@ use mw_term::{KindId, OpId, Operator, Seq, Signature};
 use mw_text::{Item, Names, first_item, has_hole};
 use std::alloc::{AllocError, Global};
 
-/// A constant, or the prefix form, of operator number `f`.
-fn prefix_notation(
+/// Adds a constant, or the prefix form, with this head, of operator number `f`.
+fn add_prefix(
     alloc: Global,
+    making: &mut Making,
+    names: &mut Names,
     kinds: &[KindId],
     f: OpId,
     operator: &Operator,
     in_pieces: bool,
-) -> Result<Notation, AllocError>
-    ensures { IfOk result (λ F. F ≡ spec.prefix_notation (kind_in kinds.now) f operator.now (head_of operator.now.spelling in_pieces)) }
+) -> Result<(), AllocError>
+    ensures { OnOk result (AddsNotations making.old making.new names.old names.new (λ F. F ≡ prefix_notation (kind_in kinds.now) f operator.now (head_of operator.now.spelling in_pieces))) }
 {
     let name = operator.spelling.as_slice();
     let parts = prefix(alloc, kinds, name, in_pieces, operator.args.as_slice())?;
-    Ok(Notation {
+    let notation = Notation {
         kind: kind_of(kinds, operator.result),
         precedence: 0,
         operator: f,
         parts: Seq::of(parts),
-    })
+    };
+    add(alloc, making, names, &notation)
 }
 
-/// The prefix form of an associative operator on more than two arguments.
-fn flattened_notation(
+/// Adds the prefix form of an associative operator on more than two arguments.
+fn add_flattened(
     alloc: Global,
+    making: &mut Making,
+    names: &mut Names,
     kinds: &[KindId],
     last: KindId,
     f: OpId,
     operator: &Operator,
     in_pieces: bool,
-) -> Result<Notation, AllocError>
-    ensures { IfOk result (λ F. F ≡ spec.flattened_notation (kind_in kinds.now) last f operator.now (head_of operator.now.spelling in_pieces)) }
+) -> Result<(), AllocError>
+    ensures { OnOk result (AddsNotations making.old making.new names.old names.new (λ F. F ≡ flattened_notation (kind_in kinds.now) last f operator.now (head_of operator.now.spelling in_pieces))) }
 {
     let kind = kind_of(kinds, operator.result);
     let name = operator.spelling.as_slice();
     let parts = flattened(alloc, name, in_pieces, kind, last)?;
-    Ok(Notation {
+    let notation = Notation {
         kind,
         precedence: 0,
         operator: f,
         parts: Seq::of(parts),
-    })
+    };
+    add(alloc, making, names, &notation)
 }
 
 /// Adds the prefix forms with this head.
@@ -70,11 +75,9 @@ fn add_headed(
 ) -> Result<(), AllocError>
     ensures { OnOk result (AddsNotations making.old making.new names.old names.new (IsHeaded (kind_in kinds.now) last f operator.now (head_of operator.now.spelling in_pieces))) }
 {
-    let notation = prefix_notation(alloc, kinds, f, operator, in_pieces)?;
-    add(alloc, making, names, &notation)?;
+    add_prefix(alloc, making, names, kinds, f, operator, in_pieces)?;
     if operator.assoc {
-        let notation = flattened_notation(alloc, kinds, last, f, operator, in_pieces)?;
-        add(alloc, making, names, &notation)?;
+        add_flattened(alloc, making, names, kinds, last, f, operator, in_pieces)?;
     }
     Ok(())
 }
@@ -90,7 +93,7 @@ fn add_tail(
     operator: &Operator,
     rest: KindId,
 ) -> Result<(), AllocError>
-    ensures { OnOk result (AddsNotations making.old making.new names.old names.new (λ F. F ≡ spec.tail_notation (kind_in kinds.now) last f operator.now rest)) }
+    ensures { OnOk result (AddsNotations making.old making.new names.old names.new (λ F. F ≡ tail_notation (kind_in kinds.now) last f operator.now rest)) }
 {
     let parts = tail(alloc, kind_of(kinds, operator.result), rest)?;
     let notation = Notation {

@@ -1,22 +1,34 @@
-use Rattle.std.proofs.Common.{List, [], codes, sym, subst, arith}
+use Rattle.std.proofs.Common.{◌≡◌, ◌∙◌, ℕ, zero, suc, List, [], ◌∷◌, Some, codes, sym, ap, inl, inr, arith}
+use Rattle.std.specs.List.{slice_get}
 use Rattle.mw_chart.specs.declared.table.Start.{Start}
+use Rattle.mw_chart.specs.declared.table.Step.{Step}
 use Rattle.mw_chart.specs.declared.table.Step.TheVariants.{Whole}
-use Rattle.mw_grammar.specs.Compiled.{AreStartsOf}
-use Rattle.mw_grammar.proofs.Made.{number_grows, get_grows}
+use Rattle.mw_grammar.specs.declared.notation.Notation.{Notation}
+use Rattle.mw_grammar.specs.Readable.{kind_in}
+use Rattle.mw_grammar.specs.Notations.{IsNotation}
+use Rattle.mw_grammar.specs.Compiled.{IsStartOf}
+use Rattle.mw_grammar.proofs.Made.{get_grows}
+use Rattle.mw_grammar.proofs.Numbers.{number_grows}
 use Rattle.mw_grammar.proofs.compile.table.Goals as goal
 
-pub returns : goal.returns
-returns c =
-    let none : AreStartsOf c.in_ok-making.making.steps.items c.token-2.new.names c.in_ok-making.making.starts.items [] =
-    subst (λ (ss : List Start). AreStartsOf c.in_ok-making.making.steps.items c.token-2.new.names ss []) (sym c.in_ok-making.ensures.starts) tt in
+nothing_there : (ss : List Start) (n : ℕ) (s : Start) → ss ≡ [] → slice_get ss n ≡ Some s → ⊥
+nothing_there ss n s e h = let bad : slice_get [] n ≡ Some s = sym (ap (λ (xs : List Start). slice_get xs n) e) ∙ h in cc
+
+pub returns-clause-table : goal.returns-clause-table
+returns-clause-table c =
     let opened = number_grows c.token.new.names c.token-2.new.names c.in_ok-open.open (codes "(") c.in_ok-close.ensures.names c.in_ok-open.ensures.number in
+    let added = c.in_ok-add_all.ensures in
     let made = c.in_ok-table.ensures in
+    let Fs : Notation → Type 0 = IsNotation (kind_in c.args.kinds.now) c.args.signature.now in
+    let sound : (n : ℕ) (s : Start) → slice_get c.add_all.new.making.starts.items n ≡ Some s → (F : Notation) × Fs F × IsStartOf c.add_all.new.making.steps.items c.add_all.new.names s F =
+    λ n s got. elim (added.sound n s got) [ inl h ↦ absurd (nothing_there c.in_ok-making.making.starts.items n s c.in_ok-making.ensures.starts h) | inr h ↦ h ] in
     record {
-      starts = rw (made.steps, made.starts) (c.in_ok-push_starts.ensures.starts none);
-      kinds = λ K h. rw made.steps (get_grows c.in_ok-making.making.steps.items c.push_starts.new.making.steps.items K (Whole K 0) c.in_ok-push_starts.ensures.steps (c.in_ok-making.ensures.kinds K (omega arith)));
+      sound = rw (made.steps, made.starts) sound;
+      complete = rw (made.steps, made.starts) added.complete;
+      kinds = λ K h. rw made.steps (get_grows c.in_ok-making.making.steps.items c.add_all.new.making.steps.items K (Whole K 0) added.steps (c.in_ok-making.ensures.kinds K (omega arith)));
       groups = rw made.groups c.in_ok-groups.ensures;
-      opens = rw made.parentheses.0 (number_grows c.token-2.new.names c.push_starts.new.names c.in_ok-open.open (codes "(") c.in_ok-push_starts.ensures.names opened);
+      opens = rw made.parentheses.0 (number_grows c.token-2.new.names c.add_all.new.names c.in_ok-open.open (codes "(") added.names opened);
+      closes = rw made.parentheses.1 (number_grows c.token-2.new.names c.add_all.new.names c.in_ok-close.close (codes ")") added.names c.in_ok-close.ensures.number);
       of_terms = made.kinds;
       indexed = made.indexed;
-      closes = rw made.parentheses.1 (number_grows c.token-2.new.names c.push_starts.new.names c.in_ok-close.close (codes ")") c.in_ok-push_starts.ensures.names c.in_ok-close.ensures.number);
     }
