@@ -8,11 +8,12 @@ use Rattle.mw_logic.specs.Module.{Statement}
 use Rattle.mw_module.specs.declared.faults.Fault.{Fault}
 use Rattle.mw_module.specs.declared.faults.FaultKind.{FaultKind}
 use Rattle.mw_module.specs.Units.{SeenUnit}
-use Rattle.mw_declare.specs.Meaning.{Sides}
-use Rattle.mw_declare.specs.Declarations.{Declarations, Declares}
+use Rattle.mw_declare.specs.declared.declarations.Declarations.{Declarations}
+use Rattle.mw_declare.specs.Declarations.{Declares}
 use Rattle.mw_declare.proofs.OneDeclaration.{one_declaration, none_at_fault}
 use Rattle.mw_sorts.specs.Entries.{AreEntries}
 use Rattle.mw_build.specs.SignatureFaults.{SignatureFault}
+use Rattle.mw_build.specs.Sides.{Sides, equations_of}
 use Rattle.mw_build.specs.Equations.{FitsIn, Oversized, deep, large, statement_of, IsApplicable, ApplicationFault, lone, open_right, IsStatementOf, SidesFault, big_left, big_right, inapplicable, IsEquation, EquationFault, long, unread, unclear, sides, AreEquations, FirstFault}
 use Rattle.mw_build.specs.Modules.{Accepted, IsAccepted, IsRefused, by_declarations, by_signature, by_equations}
 use Rattle.mw_build.proofs.Reading.{there}
@@ -96,25 +97,25 @@ same_module a b n s e v =
     ∙ ap (λ x. module_of b.name b.module.signature x a.variables) e ∙ ap (module_of b.name b.module.signature b.module.statements) v
 
 module _ (u : SeenUnit) (n : List ℕ) (a : Accepted) (p : IsAccepted u n a) where
-  same_declarations : (d : Declarations) → Declares u d → d ≡ p.declarations
-  same_declarations d e = one_declaration u d p.declarations e p.declared
+  same_declarations : (d : Declarations) → Declares u.statements d → d ≡ p.declarations
+  same_declarations d e = one_declaration u.statements d p.declarations e p.declared
 
   -- a unit is one module
   pub one_module : (b : Accepted) → IsAccepted u n b → a ≡ b
   one_module b q =
       let d : q.declarations ≡ p.declarations = same_declarations q.declarations q.declared in
-      let equations : AreEquations p.declarations.signature p.declarations.variables p.declarations.equations b.module.statements =
-      subst (λ (e : Declarations). AreEquations e.signature e.variables e.equations b.module.statements) d q.holds.equations in
+      let equations : AreEquations p.declarations.signature p.declarations.variables (equations_of u.statements) b.module.statements =
+      subst (λ (e : Declarations). AreEquations e.signature e.variables (equations_of u.statements) b.module.statements) d q.holds.equations_are in
       let name : a.name ≡ b.name = p.holds.named ∙ sym q.holds.named in
       let signature : a.module.signature ≡ b.module.signature = p.holds.signature ∙ ap (λ (e : Declarations). e.signature) (sym d) ∙ sym q.holds.signature in
       let variables : a.variables ≡ b.variables = p.holds.variables ∙ ap (λ (e : Declarations). e.variables) (sym d) ∙ sym q.holds.variables in
-      let statements = one_list p.declarations.signature p.declarations.variables p.declarations.equations a.module.statements b.module.statements p.holds.equations equations in
+      let statements = one_list p.declarations.signature p.declarations.variables (equations_of u.statements) a.module.statements b.module.statements p.holds.equations_are equations in
       same_module a b name signature statements variables
 
   -- and then it isn't refused
   pub not_refused : (r : Fault) → IsRefused u r → ⊥
-  not_refused r (by_declarations f) = none_at_fault u p.declarations r p.declared f
+  not_refused r (by_declarations f) = none_at_fault u.line u.statements p.declarations r p.declared f
   not_refused r (by_signature d e f) = signature_holds u.line p.declarations.signature r p.preregular
       (subst (λ (k : Declarations). SignatureFault u.line k.signature r) (same_declarations d e) f)
-  not_refused r (by_equations d e preregular f) = equations_hold p.declarations.signature p.declarations.variables p.declarations.equations a.module.statements r p.holds.equations
-      (subst (λ (k : Declarations). FirstFault k.signature k.variables k.equations r) (same_declarations d e) f)
+  not_refused r (by_equations d e preregular f) = equations_hold p.declarations.signature p.declarations.variables (equations_of u.statements) a.module.statements r p.holds.equations_are
+      (subst (λ (k : Declarations). FirstFault k.signature k.variables (equations_of u.statements) r) (same_declarations d e) f)

@@ -6,7 +6,7 @@ use Rattle.mw_logic.specs.Term.{RawTerm, is_ground}
 use Rattle.mw_lex.specs.declared.token.Token.{Token}
 use Rattle.mw_module.specs.declared.faults.FaultKind.{FaultKind}
 use Rattle.mw_module.specs.Units.{SeenUnit, Outcome, Reading, Reads}
-use Rattle.mw_declare.specs.Meaning.{texts}
+use Rattle.mw_module.specs.Words.{texts}
 use Rattle.mw_command.specs.Commands.{SeenCommand, command_of}
 use Rattle.mw_build.specs.Equations.{Oversized}
 use Rattle.mw_build.specs.Modules.{Accepted, IsAccepted, IsRefused}

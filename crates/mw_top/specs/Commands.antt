@@ -13,7 +13,7 @@ use Rattle.mw_text.specs.Mixfix.{IsSpelled, Reads}
 use Rattle.mw_text.specs.Readings.{NoneHas, TwoHave, IsShort}
 use Rattle.mw_module.specs.declared.faults.FaultKind.{FaultKind}
 use Rattle.mw_module.specs.declared.faults.FaultKind.TheVariants.{TermTooLong, NoParse, Ambiguous, OpenTerm, NoModule, UnknownModule}
-use Rattle.mw_declare.specs.Meaning.{texts}
+use Rattle.mw_module.specs.Words.{texts}
 use Rattle.mw_command.specs.Commands.{SeenCommand}
 use Rattle.mw_command.specs.declared.commands.Word.{Word as CommandWord}
 use Rattle.mw_command.specs.declared.commands.Word.TheVariants.{Reduce, Parse}

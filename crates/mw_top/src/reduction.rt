@@ -7,7 +7,7 @@ ghost use Rattle.mw_block.specs.Blocks.{block as block_of};
 ghost use Rattle.mw_logic.specs.Term.{is_ground, are_ground};
 ghost use Rattle.mw_term.specs.Raws.{raw_term, raw_terms};
 ghost use Rattle.mw_text.specs.Mixfix.{Reads};
-ghost use Rattle.mw_declare.specs.Meaning.{texts};
+ghost use Rattle.mw_module.specs.Words.{texts};
 ghost use Rattle.mw_parse.specs.Answers.{HasCause as HasReadingCause};
 ghost use Rattle.mw_build.specs.Modules.{Accepted};
 ghost use Rattle.mw_block.specs.Seen.{word_of as word_of_status};

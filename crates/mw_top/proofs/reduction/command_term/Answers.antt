@@ -1,4 +1,4 @@
-use Rattle.mw_declare.specs.Meaning.{texts}
+use Rattle.mw_module.specs.Words.{texts}
 use Rattle.mw_top.proofs.reduction.command_term.Goals as goal
 
 pub returns-in-Ok : goal.returns-in-Ok
