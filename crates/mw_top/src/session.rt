@@ -1,6 +1,7 @@
 // The modules that were accepted, and what a unit gives among them.
 ghost use Rattle.std.specs.Prelude.{◌≡◌, ◌↔◌, ◌++◌, ◌∷◌, List, [], Some, None, Ok, IfOk, OnOk, option_map, true, IsTrue};
 ghost use Rattle.mw_logic.specs.Signature.{Member};
+ghost use Rattle.mw_module.specs.Known.{AreKnown};
 ghost use Rattle.mw_module.specs.Units.{SeenUnit, seen_unit};
 ghost use Rattle.mw_command.specs.Commands.{command_of, seen_command};
 ghost use Rattle.mw_block.specs.Refused.{refusal_line};
@@ -131,7 +132,8 @@ impl Session {
         name: &Token,
         most: u64,
     ) -> Result<Answer, AllocError>
-        requires { unit.now.name ≡ Some name.now }
+        requires named { name_of (seen_unit unit.now) ≡ Some name.now.text }
+        requires known { AreKnown (seen_unit unit.now).statements }
         ensures { IfOk result (λ a. Gives most self.old (Ok (seen_unit unit.now)) a.text.items a.refused self.new) }
     {
         let name = copy_name(alloc, &name.text)?;
@@ -191,9 +193,10 @@ impl Session {
         unit: &Unit<'_>,
         most: u64,
     ) -> Result<Answer, AllocError>
+        requires { AreKnown (seen_unit unit.now).statements }
         ensures { IfOk result (λ a. Gives most self.old (Ok (seen_unit unit.now)) a.text.items a.refused self.new) }
     {
-        if let Some(name) = &unit.name {
+        if let Some(name) = unit.name {
             return self.answer_module(alloc, unit, name, most);
         }
         match read(unit) {
