@@ -1,7 +1,6 @@
 -- What leads to a state still does as the states and names grow.
-use Rattle.std.proofs.Common.{ℕ, suc, ◌≡◌, ◌∙◌, ◌<◌, ◌≤◌, List, [], ◌∷◌, ◌++◌, length, Bool, true, false, ◌||◌, bytes_eq, if◌then◌else◌, Some, refl, sym, ap, subst, arith, length-append, append_assoc, append-nil}
-use Rattle.std.specs.List.{slice_get, list_any}
-use Rattle.std.proofs.lemmas.Slice.Eq.{bytes_eq-Decides}
+use Rattle.std.proofs.Common.{ℕ, ◌≡◌, ◌∙◌, List, [], ◌∷◌, ◌++◌, length, Some, sym, ap, subst, append_assoc, append-nil}
+use Rattle.std.specs.List.{slice_get}
 use Rattle.mw_chart.specs.declared.table.Step.{Step}
 use Rattle.mw_chart.specs.declared.table.Step.TheVariants.{Token, Hole, Whole}
 use Rattle.mw_chart.specs.declared.table.Start.{Start}

@@ -6,9 +6,7 @@ use Rattle.mw_logic.specs.Signature.{Signature, Member}
 use Rattle.mw_chart.specs.Tree.{Tree, leaf, head, app}
 use Rattle.mw_chart.specs.Spelling as chart
 use Rattle.mw_chart.specs.Spelling.{StepAt, IsStart, TokenAt, LeafAt, Begun, opened, over_token, grouped}
-use Rattle.mw_chart.specs.declared.table.Step.{Step}
 use Rattle.mw_chart.specs.declared.table.Step.TheVariants.{Whole}
-use Rattle.mw_chart.specs.declared.table.Start.{Start}
 use Rattle.mw_chart.specs.declared.table.Table.{Table}
 use Rattle.mw_chart.specs.declared.word.Word.{Word}
 use Rattle.mw_grammar.specs.declared.notation.Symbol.{Symbol}

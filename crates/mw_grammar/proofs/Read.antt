@@ -2,12 +2,11 @@
 use Rattle.std.proofs.Common.{ℕ, zero, suc, ◌≡◌, ◌<◌, ◌≤◌, ◌⊎◌, ◌∙◌, ◌+◌, List, [], ◌∷◌, ◌++◌, length, take, drop, codes, Some, refl, sym, ap, subst, inl, inr, arith, append_assoc, append-nil, length-append}
 use Rattle.std.specs.List.{slice_get}
 use Rattle.mw_logic.specs.Term.{Variable, RawTerm, variable, apply, RawTerms, nil, cons, join}
-use Rattle.mw_logic.specs.Signature.{Signature, Member}
+use Rattle.mw_logic.specs.Signature.{Signature}
 use Rattle.mw_chart.specs.Tree.{Tree, leaf, head, app}
 use Rattle.mw_chart.specs.Spelling.{StepAt, IsStart, TokenAt, Begun, opened, over_token, over_hole, grouped, alone}
 use Rattle.mw_chart.specs.declared.table.Step.{Step}
 use Rattle.mw_chart.specs.declared.table.Step.TheVariants.{Token, Hole, Whole}
-use Rattle.mw_chart.specs.declared.table.Start.{Start}
 use Rattle.mw_chart.specs.declared.table.Table.{Table}
 use Rattle.mw_chart.specs.declared.word.Word.{Word}
 use Rattle.mw_grammar.specs.declared.notation.Symbol.{Symbol}

@@ -119,7 +119,13 @@ impl Grammar {
     {
         let number = self.names.number(token)?;
         let mut found = Vec::new(alloc);
-        self.push_sorts(alloc, list_of(&self.declared, number), leaves, &mut found, token)?;
+        self.push_sorts(
+            alloc,
+            list_of(&self.declared, number),
+            leaves,
+            &mut found,
+            token,
+        )?;
         self.push_with_sorts(alloc, leaves, &mut found, token)?;
         Ok(Word {
             token: number,

@@ -95,7 +95,13 @@ pub fn variables_by_name(
 {
     let mut lists = Vec::new(alloc);
     for variable in variables {
-        put(alloc, names, &mut lists, variable.name.as_slice(), variable.sort)?;
+        put(
+            alloc,
+            names,
+            &mut lists,
+            variable.name.as_slice(),
+            variable.sort,
+        )?;
     }
     Ok(lists)
 }

@@ -1,7 +1,6 @@
 -- What the chart's answers say of the terms that tokens spell.
 use Rattle.std.proofs.Common.{◌++◌, ◌≡◌, ◌≢◌, ◌≤◌, ◌<◌, ◌∙◌, ℕ, List, [], ◌∷◌, length, Option, None, Some, option_map, refl, sym, ap, subst, ⊎_elim, inl, inr}
 use Rattle.mw_lex.specs.declared.token.Token.{Token}
-use Rattle.mw_lex.specs.Lexing.{seen_all}
 use Rattle.mw_logic.specs.Term.{Variable, RawTerm, apply, nil, cons, join}
 use Rattle.mw_logic.specs.Signature.{Signature}
 use Rattle.mw_text.specs.Mixfix as mixfix
@@ -17,15 +16,12 @@ use Rattle.mw_chart.specs.declared.fault.Fault.{Fault}
 use Rattle.mw_chart.specs.declared.fault.Pair.{Pair}
 use Rattle.mw_chart.specs.declared.fault.PairFault.{PairFault}
 use Rattle.mw_grammar.specs.Readable.{kind_in}
-use Rattle.mw_grammar.specs.Worded.{AreWords}
 use Rattle.mw_grammar.specs.Meaning.{term_of, with_last}
-use Rattle.mw_grammar.specs.Grammars.{IsWordsOf, texts as tokens_texts}
+use Rattle.mw_grammar.specs.Grammars.{IsGrammarOf, IsWordsOf, texts}
 use Rattle.mw_grammar.specs.Exact.{IsTree, AreExact}
 use Rattle.mw_grammar.specs.declared.grammar.Words.{Words}
 use Rattle.mw_grammar.proofs.Exactly.{exactly}
-use Rattle.mw_declare.specs.Meaning.{texts}
-use Rattle.mw_parse.specs.declared.reader.Reader.{Reader}
-use Rattle.mw_parse.specs.Readers.{IsReaderOf}
+use Rattle.mw_grammar.specs.declared.grammar.Grammar.{Grammar}
 use Rattle.mw_parse.specs.Answers.{HasCause, HasPairCause}
 use Rattle.mw_parse.specs.Tops.{IsTop, IsTold, IsPairTold}
 use Rattle.mw_parse.specs.declared.fault.ParseError.{ParseError}
@@ -35,24 +31,10 @@ use Rattle.mw_parse.specs.declared.fault.PairError.TheVariants as pair_error
 use Rattle.mw_parse.specs.declared.terms.Top.{Top}
 use Rattle.mw_parse.specs.declared.terms.Top.TheVariants.{Operator, Variable as VariableTop}
 
-pub texts_seen : (ts : List Token) → tokens_texts ts ≡ texts (seen_all ts)
-texts_seen [] = refl
-texts_seen (t ∷ ts) = ap (λ x. t.text.items ∷ x) (texts_seen ts)
-
-pub exact_words : (sig : Signature) (variables : List Variable) (r : Reader) (tokens : List Token) (w : Words) → IsReaderOf sig variables r → IsWordsOf r.grammar tokens w
-    → AreExact sig variables (kind_in r.grammar.kinds) r.grammar.table w.leaves.items (texts (seen_all tokens)) w.words.items
-exact_words sig variables r tokens w is words =
-    let g = r.grammar in
-    let kind = kind_in g.kinds in
-    let made = is.grammar in
-    let ts = tokens_texts tokens in
-    let a = subst (λ (s : List (List ℕ)). AreWords s g.variables kind g.names w.leaves.items ts w.words.items) made.sorts words in
-    let b = subst (λ (v : List Variable). AreWords sig.sorts v kind g.names w.leaves.items ts w.words.items) made.variables_are a in
-    subst (λ x. AreExact sig variables kind g.table w.leaves.items x w.words.items) (texts_seen tokens)
-    (exactly sig variables kind is.kinds is.readable is.declared g.names g.table made.compiled w.leaves.items ts w.words.items b)
-
-pub count_words : (r : Reader) (tokens : List Token) (w : Words) → IsWordsOf r.grammar tokens w → length w.words.items ≡ length (texts (seen_all tokens))
-count_words r tokens w words = words.count ∙ ap length (texts_seen tokens)
+pub exact_words : (sig : Signature) (variables : List Variable) (g : Grammar) (tokens : List Token) (w : Words) → IsGrammarOf sig variables g → IsWordsOf sig variables g tokens w
+    → AreExact sig variables (kind_in g.kinds) g.table w.leaves (texts tokens) w.words.items
+exact_words sig variables g tokens w is words =
+    exactly sig variables (kind_in g.kinds) is.kinds is.readable is.declared g.names g.table is.compiled w.leaves (texts tokens) w.words.items words
 
 module _ (sig : Signature) (variables : List Variable) (kind : ℕ → ℕ) (g : Table) (terms : g.kinds ≡ length sig.sorts) (leaves : List Variable) (tokens : List (List ℕ)) (words : List Word)
     (count : length words ≡ length tokens) (exact : AreExact sig variables kind g leaves tokens words) where

@@ -6,7 +6,8 @@ ghost use Rattle.std.specs.List.{slice_get};
 ghost use Rattle.mw_parse.specs.Tops.{IsTop};
 
 use mw_chart::{Body, Shape};
-use mw_term::{Name, OpId, Raw, Raws, VarId, copy_name};
+use mw_term::{Name, OpId, Raw, Raws, VarId};
+use mw_text::Variables;
 use std::alloc::{AllocError, Global};
 
 /// What stands on top of a term.
@@ -17,14 +18,11 @@ pub enum Top {
 }
 
 /// The variable at a place; one without a name, where there is none.
-fn variable(alloc: Global, leaves: &[VarId], place: u32) -> Result<VarId, AllocError>
+fn variable(alloc: Global, leaves: &Variables, place: u32) -> Result<VarId, AllocError>
     ensures { IfOk result (λ x. x ≡ variable_at (slice_get leaves.now place)) }
 {
-    match leaves.get(place as usize) {
-        Some(found) => Ok(VarId {
-            name: copy_name(alloc, &found.name)?,
-            sort: found.sort,
-        }),
+    match leaves.at(alloc, place as usize)? {
+        Some(found) => Ok(found),
         None => Ok(VarId {
             name: Name::of(Vec::new(alloc)),
             sort: 0,
@@ -37,7 +35,7 @@ fn variable(alloc: Global, leaves: &[VarId], place: u32) -> Result<VarId, AllocE
 fn spine(
     alloc: Global,
     body: &Body,
-    leaves: &[VarId],
+    leaves: &Variables,
     args: &mut Vec<Raw>,
 ) -> Result<Top, AllocError>
     requires { args.old.items ≡ [] }
@@ -57,7 +55,7 @@ fn spine(
 
 /// The term of a tree.
 #[cycle(terms)]
-pub fn raw(alloc: Global, body: &Body, leaves: &[VarId]) -> Result<Raw, AllocError>
+pub fn raw(alloc: Global, body: &Body, leaves: &Variables) -> Result<Raw, AllocError>
     ensures { IfOk result (λ t. raw_term t ≡ term_of leaves.now body.now) }
 {
     let mut args = Vec::new(alloc);

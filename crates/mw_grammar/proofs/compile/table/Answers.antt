@@ -1,7 +1,6 @@
-use Rattle.std.proofs.Common.{◌≡◌, ◌∙◌, ℕ, zero, suc, List, [], ◌∷◌, Some, codes, sym, ap, inl, inr, arith}
+use Rattle.std.proofs.Common.{◌≡◌, ◌∙◌, ℕ, List, [], Some, codes, sym, ap, inl, inr, arith}
 use Rattle.std.specs.List.{slice_get}
 use Rattle.mw_chart.specs.declared.table.Start.{Start}
-use Rattle.mw_chart.specs.declared.table.Step.{Step}
 use Rattle.mw_chart.specs.declared.table.Step.TheVariants.{Whole}
 use Rattle.mw_grammar.specs.declared.notation.Notation.{Notation}
 use Rattle.mw_grammar.specs.Readable.{kind_in}

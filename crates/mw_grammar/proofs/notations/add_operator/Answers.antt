@@ -1,4 +1,4 @@
-use Rattle.std.proofs.Common.{◌≡◌, ◌∙◌, ◌⊎◌, inl, inr, sym, ap, subst}
+use Rattle.std.proofs.Common.{◌≡◌, ◌∙◌, ◌⊎◌, inl, inr, sym, ap}
 use Rattle.mw_logic.specs.Signature.{Operator}
 use Rattle.mw_grammar.specs.declared.notation.Notation.{Notation}
 use Rattle.mw_grammar.specs.Notations.{tail_notation}

@@ -1,7 +1,4 @@
-use Rattle.std.proofs.Common.{sym, subst}
-use Rattle.mw_logic.specs.Term.{Variable}
 use Rattle.mw_grammar.specs.Readable.{kind_in}
-use Rattle.mw_grammar.specs.Worded.{Adds}
 use Rattle.mw_grammar.proofs.Added.{adds_met}
 use Rattle.mw_grammar.proofs.grammar.Grammar.push_leaf.Goals as goal
 

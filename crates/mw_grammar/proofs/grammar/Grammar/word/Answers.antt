@@ -1,4 +1,4 @@
-use Rattle.std.proofs.Common.{List, ℕ, ◌⊎◌, ◌∙◌, ap, inl, inr, subst}
+use Rattle.std.proofs.Common.{List, ℕ, ◌⊎◌, ◌∙◌, ap, subst}
 use Rattle.mw_logic.specs.Term.{Variable}
 use Rattle.mw_chart.specs.Listed.{inner}
 use Rattle.mw_text.specs.Interned.{number_of}

@@ -1,12 +1,10 @@
-use Rattle.std.proofs.Common.{◌≡◌, ◌∙◌, ℕ, zero, suc, ◌+◌, List, [], length, Some, sym, subst, ap, arith}
-use Rattle.std.specs.List.{slice_get}
+use Rattle.std.proofs.Common.{ℕ, ◌+◌, List, sym, subst, arith}
 use Rattle.std.proofs.lemmas.List.{length-map}
-use Rattle.mw_logic.specs.Term.{Variable}
 use Rattle.mw_chart.proofs.Lists.{get_item}
 use Rattle.mw_chart.specs.declared.word.Word.{Word}
 use Rattle.mw_lex.specs.declared.token.Token.{Token}
 use Rattle.mw_grammar.specs.Readable.{kind_in}
-use Rattle.mw_grammar.specs.Worded.{IsWord, AllDiffer}
+use Rattle.mw_grammar.specs.Worded.{IsWord}
 use Rattle.mw_grammar.specs.Grammars.{texts}
 use Rattle.mw_grammar.proofs.ItemByItem.{get-map}
 use Rattle.mw_grammar.proofs.WordByWord.{HasWords, no_words, words_push, words_are}
