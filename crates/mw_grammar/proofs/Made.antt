@@ -2,9 +2,9 @@
 use Rattle.std.proofs.Common.{ℕ, suc, ◌≡◌, ◌∙◌, ◌<◌, ◌≤◌, List, [], ◌∷◌, ◌++◌, length, Bool, true, false, ◌||◌, bytes_eq, if◌then◌else◌, Some, refl, sym, ap, subst, arith, length-append, append_assoc, append-nil}
 use Rattle.std.specs.List.{slice_get, list_any}
 use Rattle.std.proofs.lemmas.Slice.Eq.{bytes_eq-Decides}
-use Rattle.mw_chart.specs.declared.table.Step.{Step}
-use Rattle.mw_chart.specs.declared.table.Step.TheVariants.{Token, Hole, Whole}
-use Rattle.mw_chart.specs.declared.table.Start.{Start}
+use Rattle.mw_chart.specs.declared.table.Next.{Next}
+use Rattle.mw_chart.specs.declared.table.Next.TheVariants.{Token, Hole, Whole}
+use Rattle.mw_chart.specs.declared.table.Production.{Production}
 use Rattle.mw_chart.proofs.Lists.{get_left, get_last}
 use Rattle.mw_grammar.specs.declared.form.Part.{Part}
 use Rattle.mw_grammar.specs.declared.form.Part.TheVariants as part
@@ -51,7 +51,7 @@ number_grows ns ms x n (zs, e) h = subst (λ (m : List (List ℕ)). IsNumber m x
 pub get_grows : {X : Type 0} (xs ys : List X) (k : ℕ) (x : X) → Extends xs ys → slice_get xs k ≡ Some x → slice_get ys k ≡ Some x
 get_grows xs ys k x (zs, e) h = ap (λ m. slice_get m k) e ∙ get_left xs zs k x h
 
-pub leads_grow : (steps steps2 : List Step) (names names2 : List (List ℕ)) (s last : ℕ) (parts : List Part) → Extends steps steps2 → Extends names names2
+pub leads_grow : (steps steps2 : List Next) (names names2 : List (List ℕ)) (s last : ℕ) (parts : List Part) → Extends steps steps2 → Extends names names2
     → Leads steps names s parts last → Leads steps2 names2 s parts last
 leads_grow steps steps2 names names2 s last parts a b (there s2) = there s
 leads_grow steps steps2 names names2 s last parts a b (past_piece s2 x next last2 name parts2 st num d) =
@@ -59,7 +59,7 @@ leads_grow steps steps2 names names2 s last parts a b (past_piece s2 x next last
 leads_grow steps steps2 names names2 s last parts a b (past_hole s2 kind below next last2 parts2 st d) =
     past_hole s kind below next last parts2 (get_grows steps steps2 s (Hole kind below next) a st) (leads_grow steps steps2 names names2 next last parts2 a b d)
 
-start_grows : (steps steps2 : List Step) (names names2 : List (List ℕ)) (s : Start) (F : Form) → Extends steps steps2 → Extends names names2 → IsStartOf steps names s F → IsStartOf steps2 names2 s F
+start_grows : (steps steps2 : List Next) (names names2 : List (List ℕ)) (s : Production) (F : Form) → Extends steps steps2 → Extends names names2 → IsStartOf steps names s F → IsStartOf steps2 names2 s F
 start_grows steps steps2 names names2 s F a b h = record {
   operator = h.operator;
   last = h.last;
@@ -68,7 +68,7 @@ start_grows steps steps2 names names2 s F a b h = record {
 }
 
 -- one start and one form more
-pub starts_push : (steps steps2 : List Step) (names names2 : List (List ℕ)) (ss : List Start) (Fs : List Form) (s : Start) (F : Form) → Extends steps steps2 → Extends names names2
+pub starts_push : (steps steps2 : List Next) (names names2 : List (List ℕ)) (ss : List Production) (Fs : List Form) (s : Production) (F : Form) → Extends steps steps2 → Extends names names2
     → AreStartsOf steps names ss Fs → IsStartOf steps2 names2 s F → AreStartsOf steps2 names2 (ss ++ s ∷ []) (Fs ++ F ∷ [])
 starts_push steps steps2 names names2 [] [] s F a b h is = (is, tt)
 starts_push steps steps2 names names2 [] (G ∷ Fs) s F a b h is = absurd h
@@ -77,13 +77,13 @@ starts_push steps steps2 names names2 (r ∷ ss) (G ∷ Fs) s F a b h is =
     (start_grows steps steps2 names names2 r G a b h.0, starts_push steps steps2 names names2 ss Fs s F a b h.1 is)
 
 -- a step that was pushed goes over its part
-pub piece_leads : (steps steps2 : List Step) (names : List (List ℕ)) (step : Step) (x next state : ℕ) (name : List ℕ) (p : Part) → steps2 ≡ steps ++ step ∷ [] → step ≡ Token x next
+pub piece_leads : (steps steps2 : List Next) (names : List (List ℕ)) (step : Next) (x next state : ℕ) (name : List ℕ) (p : Part) → steps2 ≡ steps ++ step ∷ [] → step ≡ Token x next
     → p ≡ part.Piece name → state ≡ length steps → IsNumber names x name → (parts : List Part) (last : ℕ) → Leads steps2 names next parts last → Leads steps2 names state (p ∷ parts) last
 piece_leads steps steps2 names step x next state name p e is q at num parts last d =
     subst (λ (m : Part). Leads steps2 names state (m ∷ parts) last) (sym q)
     (past_piece state x next last name parts (ap (λ m. slice_get m state) e ∙ ap (slice_get (steps ++ step ∷ [])) at ∙ get_last steps step ∙ ap (λ m. Some m) is) num d)
 
-pub hole_leads : (steps steps2 : List Step) (names : List (List ℕ)) (step : Step) (kind below next state : ℕ) (p : Part) → steps2 ≡ steps ++ step ∷ [] → step ≡ Hole kind below next
+pub hole_leads : (steps steps2 : List Next) (names : List (List ℕ)) (step : Next) (kind below next state : ℕ) (p : Part) → steps2 ≡ steps ++ step ∷ [] → step ≡ Hole kind below next
     → p ≡ part.Hole kind below → state ≡ length steps → (parts : List Part) (last : ℕ) → Leads steps2 names next parts last → Leads steps2 names state (p ∷ parts) last
 hole_leads steps steps2 names step kind below next state p e is q at parts last d =
     subst (λ (m : Part). Leads steps2 names state (m ∷ parts) last) (sym q)

@@ -1,7 +1,7 @@
 -- No form is empty, and none is a hole alone.
 use Rattle.std.proofs.Common.{ℕ, ◌≡◌, ◌≢◌, ◌∙◌, ◌+◌, List, [], ◌∷◌, ◌++◌, length, Option, None, Some, option_map, IsFalse, refl, sym, ap, subst, inl, inr}
 use Rattle.mw_logic.specs.Signature.{Signature, Operator, Gather}
-use Rattle.mw_chart.specs.Spelling.{IsStart, IsOpening, IsTable}
+use Rattle.mw_chart.specs.Spelling.{IsProduction, IsOpening, IsTable}
 use Rattle.mw_chart.specs.declared.table.Table.{Table}
 use Rattle.mw_text.specs.Names.{Item, piece, hole, items_of, has_hole, pieces}
 use Rattle.mw_text.specs.Mixfix.{IsHead}
@@ -75,9 +75,9 @@ module _ (kind : ℕ → ℕ) where
   not_alone parts rest k b o e n = subst Opens (e ∙ ap (λ ps. Hole k b ∷ ps) n) o
 
   -- where a form starts, there is no whole text, and no hole alone
-  opening_at : (sig : Signature) (names : List (List ℕ)) (g : Table) → IsReadable sig → IsCompiled (length sig.sorts) (forms_of kind sig) names g → (s op : ℕ) → IsStart g s op → IsOpening g s
+  opening_at : (sig : Signature) (names : List (List ℕ)) (g : Table) → IsReadable sig → IsCompiled (length sig.sorts) (forms_of kind sig) names g → (s op : ℕ) → IsProduction g s op → IsOpening g s
   opening_at sig names g ok compiled s op start =
-      let f = form_at g.steps.items names g.starts.items (forms_of kind sig) compiled.starts start.0 start.1 start.2 in
+      let f = form_at g.steps.items names g.productions.items (forms_of kind sig) compiled.productions start.0 start.1 start.2 in
       let of = of_form kind sig f.0 f.1 in
       let named = ok.names of.0 of.1 of.2 in
       let opens = form_opens (length sig.sorts + of.0) of.0 of.1 f.0 named.0 named.1 of.3 in
@@ -88,7 +88,7 @@ module _ (kind : ℕ → ℕ) where
             not_alone f.0.parts r.0 K b opens r.1 (leads_whole g.steps.items names next f.2.last k p r.0 r.2 wh).0,
       )
 
-  -- the table of a signature's forms has no form that is empty or a hole alone, and an index of its starts
+  -- the table of a signature's forms has no form that is empty or a hole alone, and an index of its productions
   pub table_opens : (sig : Signature) (names : List (List ℕ)) (g : Table) → IsReadable sig → IsCompiled (length sig.sorts) (forms_of kind sig) names g → IsTable g
   table_opens sig names g ok compiled = record {
     opening = opening_at sig names g ok compiled;

@@ -1,10 +1,10 @@
 -- A table of states that has certain forms.
 use Rattle.std.specs.Prelude.{ℕ, suc, ◌≡◌, ◌<◌, ◌≤◌, List, [], ◌∷◌, ◌++◌, length, codes, bytes_eq, if◌then◌else◌, Some, ⊤}
 use Rattle.std.specs.List.{slice_get, list_any}
-use Rattle.mw_chart.specs.Spelling.{IsIndexOf}
-use Rattle.mw_chart.specs.declared.table.Step.{Step}
-use Rattle.mw_chart.specs.declared.table.Step.TheVariants.{Token, Hole, Whole}
-use Rattle.mw_chart.specs.declared.table.Start.{Start}
+use Rattle.mw_chart.specs.Spelling.{AreCornersOf}
+use Rattle.mw_chart.specs.declared.table.Next.{Next}
+use Rattle.mw_chart.specs.declared.table.Next.TheVariants.{Token, Hole, Whole}
+use Rattle.mw_chart.specs.declared.table.Production.{Production}
 use Rattle.mw_chart.specs.declared.table.Table.{Table}
 use Rattle.mw_grammar.specs.declared.form.Part.{Part}
 use Rattle.mw_grammar.specs.declared.form.Part.TheVariants as part
@@ -24,7 +24,7 @@ abbrev pub IsNumber : List (List ℕ) → ℕ → List ℕ → Type 0
 IsNumber names x name = (number_of names name ≡ x) × (x < length names)
 
 -- from a state, the parts lead to another one, where tokens are numbered by names
-pub data Leads (steps : List Step) (names : List (List ℕ)) : ℕ → List Part → ℕ → Type 0 where
+pub data Leads (steps : List Next) (names : List (List ℕ)) : ℕ → List Part → ℕ → Type 0 where
   there : (s : ℕ) → Leads steps names s [] s
   past_piece : (s x next last : ℕ) (name : List ℕ) (parts : List Part) → slice_get steps s ≡ Some (Token x next) → IsNumber names x name → Leads steps names next parts last
       → Leads steps names s (part.Piece name ∷ parts) last
@@ -32,14 +32,14 @@ pub data Leads (steps : List Step) (names : List (List ℕ)) : ℕ → List Part
       → Leads steps names s (part.Hole kind below ∷ parts) last
 
 -- the start is that of the form: its parts lead from there to a whole state of its kind and precedence
-pub record IsStartOf (steps : List Step) (names : List (List ℕ)) (start : Start) (F : Form) : Type 0 where
+pub record IsStartOf (steps : List Next) (names : List (List ℕ)) (start : Production) (F : Form) : Type 0 where
   pub operator : start.operator ≡ F.operator
   pub last : ℕ
   pub leads : Leads steps names start.state F.parts last
   pub whole : slice_get steps last ≡ Some (Whole F.kind F.precedence)
 
 -- one start for each form
-abbrev pub AreStartsOf : List Step → List (List ℕ) → List Start → List Form → Type 0
+abbrev pub AreStartsOf : List Next → List (List ℕ) → List Production → List Form → Type 0
 AreStartsOf steps names [] [] = ⊤
 AreStartsOf steps names [] (F ∷ Fs) = ⊥
 AreStartsOf steps names (s ∷ ss) [] = ⊥
@@ -56,10 +56,10 @@ pub record AreGroups (sorts : ℕ) (groups : List ℕ) : Type 0 where
 
 -- The table has these forms, of kinds of which those up to the number of sorts are kinds of terms, with texts in parentheses. The state of texts in parentheses has the kind's number.
 pub record IsCompiled (sorts : ℕ) (forms : List Form) (names : List (List ℕ)) (g : Table) : Type 0 where
-  pub starts : AreStartsOf g.steps.items names g.starts.items forms
+  pub productions : AreStartsOf g.steps.items names g.productions.items forms
   pub kinds : (K : ℕ) → K ≤ sorts → slice_get g.steps.items K ≡ Some (Whole K 0)
   pub groups : AreGroups sorts g.groups.items
   pub opens : IsNumber names g.open (codes "(")
   pub closes : IsNumber names g.close (codes ")")
   pub of_terms : g.kinds ≡ sorts
-  pub indexed : IsIndexOf g.steps.items g.starts.items g.index
+  pub indexed : AreCornersOf g.steps.items g.productions.items g.corners

@@ -1,6 +1,6 @@
 // Forms as the states of a table.
 ghost use Rattle.std.specs.Prelude.{◌≡◌, ◌<◌, ◌≤◌, ◌+◌, ◌^◌, ◌++◌, ◌∷◌, ℕ, List, [], Some, length, slice_get, IfOk, OnOk, IfSome, IsTrue};
-ghost use Rattle.mw_chart.specs.declared.table.Step.TheVariants.{Whole};
+ghost use Rattle.mw_chart.specs.declared.table.Next.TheVariants.{Whole};
 ghost use Rattle.mw_grammar.specs.declared.form.Part.{Part as PartOf};
 ghost use Rattle.mw_grammar.specs.declared.form.Form.{Form as FormOf};
 ghost use Rattle.mw_grammar.specs.Compiled.{Extends, IsNumber, Leads, IsStartOf, AreStartsOf, AreGroups, IsCompiled};
@@ -8,7 +8,7 @@ ghost use Rattle.mw_grammar.specs.Compiled.{Extends, IsNumber, Leads, IsStartOf,
 use crate::form::{Form, Part};
 use crate::names::Names;
 use indexmap::IndexMap;
-use mw_chart::{Start, Step, Table};
+use mw_chart::{Next, Production, Table};
 use std::alloc::{AllocError, Global};
 
 /// The number of a token.
@@ -26,7 +26,7 @@ pub fn token(alloc: Global, names: &mut Names, name: &[u8]) -> Result<u32, Alloc
 /// The state before a part, where this one stands behind it.
 fn push_step(
     alloc: Global,
-    steps: &mut Vec<Step>,
+    steps: &mut Vec<Next>,
     names: &mut Names,
     part: &Part,
     next: usize,
@@ -37,11 +37,11 @@ fn push_step(
 {
     let state = steps.len();
     let step = match part {
-        Part::Piece(name) => Step::Token {
+        Part::Piece(name) => Next::Token {
             token: token(alloc, names, name.as_slice())?,
             next,
         },
-        Part::Hole { kind, below } => Step::Hole {
+        Part::Hole { kind, below } => Next::Hole {
             kind: *kind,
             below: *below,
             next,
@@ -54,7 +54,7 @@ fn push_step(
 /// The state before parts, where this one stands behind them.
 fn lead(
     alloc: Global,
-    steps: &mut Vec<Step>,
+    steps: &mut Vec<Next>,
     names: &mut Names,
     parts: &[Part],
     last: usize,
@@ -73,12 +73,12 @@ fn lead(
 }
 
 /// Whether a state is that of whole texts of this kind and precedence.
-fn is_whole_of(steps: &[Step], state: usize, kind: u32, precedence: u32) -> bool
+fn is_whole_of(steps: &[Next], state: usize, kind: u32, precedence: u32) -> bool
     ensures { IsTrue result → slice_get steps.now state ≡ Some (Whole kind precedence) }
 {
     match steps.get(state) {
         Some(
-            Step::Whole {
+            Next::Whole {
                 kind: its_kind,
                 precedence: its_precedence,
             },
@@ -91,7 +91,7 @@ fn is_whole_of(steps: &[Step], state: usize, kind: u32, precedence: u32) -> bool
 type Wholes = IndexMap<(u32, u32), usize>;
 
 /// The state of whole texts of this kind and precedence among these, if it is there.
-fn found(steps: &[Step], wholes: &Wholes, kind: u32, precedence: u32) -> Option<usize>
+fn found(steps: &[Next], wholes: &Wholes, kind: u32, precedence: u32) -> Option<usize>
     ensures { IfSome result (λ w. slice_get steps.now w ≡ Some (Whole kind precedence)) }
 {
     if is_whole_of(steps, kind as usize, kind, precedence) {
@@ -105,7 +105,7 @@ fn found(steps: &[Step], wholes: &Wholes, kind: u32, precedence: u32) -> Option<
 
 /// The state of whole texts of this kind and precedence.
 fn whole(
-    steps: &mut Vec<Step>,
+    steps: &mut Vec<Next>,
     wholes: &mut Wholes,
     kind: u32,
     precedence: u32,
@@ -118,16 +118,16 @@ fn whole(
     }
     let state = steps.len();
     wholes.insert((kind, precedence), state)?;
-    steps.push(Step::Whole { kind, precedence })?;
+    steps.push(Next::Whole { kind, precedence })?;
     Ok(state)
 }
 
-/// A table that is being made: its states, those of them that are whole and were made for forms, and its starts.
+/// A table that is being made: its states, those of them that are whole and were made for forms, and its productions.
 #[derive(Drop)]
 pub struct Making {
-    pub steps: Vec<Step>,
+    pub steps: Vec<Next>,
     pub wholes: Wholes,
-    pub starts: Vec<Start>,
+    pub productions: Vec<Production>,
 }
 
 /// The start of a form.
@@ -136,10 +136,10 @@ fn start_of(
     making: &mut Making,
     names: &mut Names,
     form: &Form,
-) -> Result<Start, AllocError>
+) -> Result<Production, AllocError>
     ensures steps { OnOk result (Extends making.old.steps.items making.new.steps.items) }
     ensures names { OnOk result (Extends names.old names.new) }
-    ensures starts { making.new.starts ≡ making.old.starts }
+    ensures productions { making.new.productions ≡ making.old.productions }
     ensures start { IfOk result (λ s. IsStartOf making.new.steps.items names.new s form.now) }
 {
     let last = whole(
@@ -149,7 +149,7 @@ fn start_of(
         form.precedence,
     )?;
     let state = lead(alloc, &mut making.steps, names, form.parts.as_slice(), last)?;
-    Ok(Start {
+    Ok(Production {
         state,
         operator: form.operator,
     })
@@ -164,11 +164,11 @@ fn push_start(
 ) -> Result<(), AllocError>
     ensures steps { OnOk result (Extends making.old.steps.items making.new.steps.items) }
     ensures names { OnOk result (Extends names.old names.new) }
-    ensures starts { OnOk result ((Fs : List FormOf) → AreStartsOf making.old.steps.items names.old making.old.starts.items Fs
-        → AreStartsOf making.new.steps.items names.new making.new.starts.items (Fs ++ form.now ∷ [])) }
+    ensures productions { OnOk result ((Fs : List FormOf) → AreStartsOf making.old.steps.items names.old making.old.productions.items Fs
+        → AreStartsOf making.new.steps.items names.new making.new.productions.items (Fs ++ form.now ∷ [])) }
 {
     let start = start_of(alloc, making, names, form)?;
-    making.starts.push(start)?;
+    making.productions.push(start)?;
     Ok(())
 }
 
@@ -181,8 +181,8 @@ fn push_starts(
 ) -> Result<(), AllocError>
     ensures steps { OnOk result (Extends making.old.steps.items making.new.steps.items) }
     ensures names { OnOk result (Extends names.old names.new) }
-    ensures starts { OnOk result (AreStartsOf making.old.steps.items names.old making.old.starts.items []
-        → AreStartsOf making.new.steps.items names.new making.new.starts.items forms.now) }
+    ensures productions { OnOk result (AreStartsOf making.old.steps.items names.old making.old.productions.items []
+        → AreStartsOf making.new.steps.items names.new making.new.productions.items forms.now) }
 {
     for form in forms {
         push_start(alloc, making, names, form)?;
@@ -193,11 +193,11 @@ fn push_starts(
 /// A table with no form yet, for so many kinds.
 fn begin(alloc: Global, kinds: u32) -> Result<Making, AllocError>
     ensures kinds { IfOk result (λ m. (K : ℕ) → K < kinds → slice_get m.steps.items K ≡ Some (Whole K 0)) }
-    ensures starts { IfOk result (λ m. m.starts.items ≡ []) }
+    ensures productions { IfOk result (λ m. m.productions.items ≡ []) }
 {
     let mut steps = Vec::new(alloc);
     for kind in 0..kinds {
-        steps.push(Step::Whole {
+        steps.push(Next::Whole {
             kind,
             precedence: 0,
         })?;
@@ -205,7 +205,7 @@ fn begin(alloc: Global, kinds: u32) -> Result<Making, AllocError>
     Ok(Making {
         steps,
         wholes: IndexMap::new(alloc),
-        starts: Vec::new(alloc),
+        productions: Vec::new(alloc),
     })
 }
 
@@ -248,9 +248,9 @@ fn table(
     let Making {
         steps,
         wholes: _,
-        starts,
+        productions,
     } = making;
-    let table = Table::new(alloc, steps, starts, groups, open, close, sorts)?;
+    let table = Table::new(alloc, steps, productions, groups, open, close, sorts)?;
     Ok(table)
 }
 

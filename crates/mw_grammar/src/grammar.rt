@@ -1,6 +1,6 @@
 // The grammar of a signature, and the words of tokens.
 ghost use Rattle.std.specs.Prelude.{◌≡◌, ◌<◌, ◌+◌, ◌^◌, ℕ, List, [], length, map, IfOk, OnOk};
-ghost use Rattle.mw_chart.specs.declared.word.Word.{Word as WordOf};
+ghost use Rattle.mw_chart.specs.declared.terminal.Terminal.{Terminal as WordOf};
 ghost use Rattle.mw_chart.specs.Spelling.{IsTable};
 ghost use Rattle.mw_lex.specs.declared.token.Token.{Token as TokenOf};
 ghost use Rattle.mw_grammar.specs.Readable.{kind_in, AreKinds, IsReadable, AreVariables};
@@ -17,7 +17,7 @@ use crate::leaves::push_variables;
 use crate::names::Names;
 use crate::numbering::{Declared, Sorts};
 use crate::parts::kind_of;
-use mw_chart::{Leaf, Table, Word};
+use mw_chart::{Leaf, Table, Terminal};
 use mw_lex::Token;
 use mw_term::{KindId, Name, Seq, Signature, SortId, VarId, copy_name};
 use std::alloc::{AllocError, Global};
@@ -35,7 +35,7 @@ pub struct Grammar {
 /// The words of tokens, and the variables that their leaves are.
 #[derive(Drop)]
 pub struct Words {
-    pub words: Vec<Word>,
+    pub words: Vec<Terminal>,
     pub leaves: Vec<VarId>,
 }
 
@@ -118,7 +118,12 @@ impl Grammar {
     }
 
     /// The word of a token.
-    fn word(&self, alloc: Global, leaves: &mut Vec<VarId>, token: &[u8]) -> Result<Word, AllocError>
+    fn word(
+        &self,
+        alloc: Global,
+        leaves: &mut Vec<VarId>,
+        token: &[u8],
+    ) -> Result<Terminal, AllocError>
         ensures leaves { OnOk result (Extends leaves.old.items leaves.new.items) }
         ensures differ { OnOk result (AllDiffer leaves.old.items → AllDiffer leaves.new.items) }
         ensures word { IfOk result (λ w. IsWord self.now.sorts self.now.variables (kind_in self.now.kinds) self.now.names leaves.new.items token.now w) }
@@ -137,7 +142,7 @@ impl Grammar {
             &mut found,
             token,
         )?;
-        Ok(Word {
+        Ok(Terminal {
             token: number as u32,
             leaves: found,
         })

@@ -8,13 +8,13 @@ ghost use Rattle.mw_text.specs.Readings.{ReadsPair};
 ghost use Rattle.mw_declare.specs.Meaning.{texts};
 ghost use Rattle.mw_parse.specs.Readers.{IsReaderOf, IsReading};
 ghost use Rattle.mw_parse.specs.Answers.{HasPairCause};
-ghost use Rattle.mw_chart.specs.declared.fault.PairFault.TheVariants.{Ambiguous};
+ghost use Rattle.mw_chart.specs.declared.fault.NoPair.TheVariants.{Ambiguous};
 ghost use Rattle.mw_parse.specs.Tops.{ArePairOf, IsPairTold};
 
 use crate::fault::PairError;
 use crate::reader::Reader;
 use crate::terms::raw;
-use mw_chart::{LIMIT, Pair, PairFault};
+use mw_chart::{LIMIT, NoPair, TreePair};
 use mw_lex::Token;
 use mw_term::{Raw, VarId};
 use std::alloc::{AllocError, Global};
@@ -22,22 +22,22 @@ use std::alloc::{AllocError, Global};
 /// The terms of a pair of trees.
 fn terms(
     alloc: Global,
-    pair: &Pair,
+    pair: &TreePair,
     lefts: &[VarId],
     rights: &[VarId],
 ) -> Result<(Raw, Raw), AllocError>
     ensures { IfOk result (ArePairOf lefts.now rights.now pair.now) }
 {
-    let left = raw(alloc, pair.left.body(), lefts)?;
-    let right = raw(alloc, pair.right.body(), rights)?;
+    let left = raw(alloc, pair.left.node(), lefts)?;
+    let right = raw(alloc, pair.right.node(), rights)?;
     Ok((left, right))
 }
 
 /// Two different pairs of terms, from the chart's trees.
 fn unclear(
     alloc: Global,
-    first: &Pair,
-    second: &Pair,
+    first: &TreePair,
+    second: &TreePair,
     lefts: &[VarId],
     rights: &[VarId],
 ) -> Result<PairError, AllocError>
@@ -51,17 +51,17 @@ fn unclear(
 /// What the chart's fault tells.
 fn told(
     alloc: Global,
-    fault: &PairFault,
+    fault: &NoPair,
     lefts: &[VarId],
     rights: &[VarId],
 ) -> Result<PairError, AllocError>
     ensures { IfOk result (IsPairTold lefts.now rights.now fault.now) }
 {
     match fault {
-        PairFault::NoParse => Ok(PairError::NoParse),
-        PairFault::Ambiguous { first, second } => unclear(alloc, first, second, lefts, rights),
-        PairFault::TooLong => Ok(PairError::TooLong),
-        PairFault::Memory => Ok(PairError::Memory),
+        NoPair::NoParse => Ok(PairError::NoParse),
+        NoPair::Ambiguous { first, second } => unclear(alloc, first, second, lefts, rights),
+        NoPair::TooLong => Ok(PairError::TooLong),
+        NoPair::Memory => Ok(PairError::Memory),
     }
 }
 

@@ -9,13 +9,13 @@ ghost use Rattle.mw_grammar.specs.Readable.{kind_in};
 ghost use Rattle.mw_declare.specs.Meaning.{texts};
 ghost use Rattle.mw_parse.specs.Readers.{IsReaderOf, IsReading};
 ghost use Rattle.mw_parse.specs.Answers.{HasCause};
-ghost use Rattle.mw_chart.specs.declared.fault.Fault.TheVariants.{Ambiguous};
+ghost use Rattle.mw_chart.specs.declared.fault.NoReading.TheVariants.{Ambiguous};
 ghost use Rattle.mw_parse.specs.Tops.{IsTold};
 
 use crate::fault::ParseError;
 use crate::reader::Reader;
 use crate::terms::raw;
-use mw_chart::{Fault, LIMIT, Term};
+use mw_chart::{LIMIT, NoReading, Tree};
 use mw_lex::Token;
 use mw_term::{KindId, Raw, SortId, VarId};
 use std::alloc::{AllocError, Global};
@@ -23,26 +23,26 @@ use std::alloc::{AllocError, Global};
 /// Two different terms, from the chart's trees.
 fn unclear(
     alloc: Global,
-    first: &Term,
-    second: &Term,
+    first: &Tree,
+    second: &Tree,
     leaves: &[VarId],
 ) -> Result<ParseError, AllocError>
     ensures { IfOk result (IsTold leaves.now (Ambiguous first.now second.now)) }
 {
-    let first = raw(alloc, first.body(), leaves)?;
-    let second = raw(alloc, second.body(), leaves)?;
+    let first = raw(alloc, first.node(), leaves)?;
+    let second = raw(alloc, second.node(), leaves)?;
     Ok(ParseError::Ambiguous { first, second })
 }
 
 /// What the chart's fault tells.
-fn told(alloc: Global, fault: &Fault, leaves: &[VarId]) -> Result<ParseError, AllocError>
+fn told(alloc: Global, fault: &NoReading, leaves: &[VarId]) -> Result<ParseError, AllocError>
     ensures { IfOk result (IsTold leaves.now fault.now) }
 {
     match fault {
-        Fault::NoParse => Ok(ParseError::NoParse),
-        Fault::Ambiguous { first, second } => unclear(alloc, first, second, leaves),
-        Fault::TooLong => Ok(ParseError::TooLong),
-        Fault::Memory => Ok(ParseError::Memory),
+        NoReading::NoParse => Ok(ParseError::NoParse),
+        NoReading::Ambiguous { first, second } => unclear(alloc, first, second, leaves),
+        NoReading::TooLong => Ok(ParseError::TooLong),
+        NoReading::Memory => Ok(ParseError::Memory),
     }
 }
 
@@ -76,7 +76,7 @@ pub fn parse(
         words.words.as_slice(),
         wanted_kind(reader, wanted),
     ) {
-        Ok(term) => Ok(raw(alloc, term.body(), words.leaves.as_slice())?),
+        Ok(term) => Ok(raw(alloc, term.node(), words.leaves.as_slice())?),
         Err(fault) => {
             let error = told(alloc, &fault, words.leaves.as_slice())?;
             Err(error)

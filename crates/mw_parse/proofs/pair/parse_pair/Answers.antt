@@ -31,8 +31,8 @@ returns-clause-cause c = λ sig variables is.
     let r = c.args.reader.now in
     let l = c.in_ok-lefts.lefts in
     let w = c.in_ok-rights.rights in
-    let h = subst (λ g. chart.HasPairFault g l.words.items w.words.items c.in-Err.fault) c.table-table.ensures
-    (subst (λ ws. chart.HasPairFault c.table-table.result.now l.words.items ws c.in-Err.fault) c.as_slice-2.ensures.value (subst (λ ws. chart.HasPairFault c.table-table.result.now ws c.as_slice-2.result.now c.in-Err.fault) c.as_slice.ensures.value c.in-Err.ensures.fault)) in
+    let h = subst (λ g. chart.HasNoPair g l.words.items w.words.items c.in-Err.fault) c.table-table.ensures
+    (subst (λ ws. chart.HasNoPair c.table-table.result.now l.words.items ws c.in-Err.fault) c.as_slice-2.ensures.value (subst (λ ws. chart.HasNoPair c.table-table.result.now ws c.as_slice-2.result.now c.in-Err.fault) c.as_slice.ensures.value c.in-Err.ensures.fault)) in
     let told = subst (λ ls. IsPairTold ls w.leaves.items c.in-Err.fault c.in_ok-error-in-Err.error) c.as_slice-in-Err.ensures.value
     (subst (λ ls. IsPairTold c.as_slice-in-Err.result.now ls c.in-Err.fault c.in_ok-error-in-Err.error) c.as_slice-in-Err-2.ensures.value c.in_ok-error-in-Err.ensures) in
     pair_cause sig variables (kind_in r.grammar.kinds) r.grammar.table is.grammar.compiled.of_terms
