@@ -12,7 +12,7 @@ ghost use Rattle.mw_grammar.specs.Grammars.{IsGrammarOf};
 
 use crate::grammar::Grammar;
 use crate::listing::list_of;
-use mw_chart::{Leaf, Word};
+use mw_chart::{Leaf, Terminal};
 use mw_lex::is_punctuation;
 use mw_term::SortId;
 use mw_text::Variables;
@@ -111,7 +111,7 @@ impl Grammar {
         alloc: Global,
         leaves: &mut Variables,
         token: &[u8],
-    ) -> Result<Word, AllocError>
+    ) -> Result<Terminal, AllocError>
         ensures leaves { OnOk result (Extends leaves.old leaves.new) }
         ensures differ { OnOk result (AllDiffer leaves.old → AllDiffer leaves.new) }
         ensures word { (sig : SignatureOf) (variables : List Variable) → IsGrammarOf sig variables self.now
@@ -127,7 +127,7 @@ impl Grammar {
             token,
         )?;
         self.push_with_sorts(alloc, leaves, &mut found, token)?;
-        Ok(Word {
+        Ok(Terminal {
             token: number,
             leaves: found,
         })

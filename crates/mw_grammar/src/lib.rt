@@ -36,7 +36,6 @@ mod grammar;
 mod kinds;
 mod leaves;
 mod listing;
-mod notation;
 mod notations;
 mod parts;
 

@@ -8,9 +8,8 @@ ghost use Rattle.mw_grammar.specs.Compiled.{AddsNotations};
 
 use crate::compile::{Making, add};
 use crate::kinds::kind_of;
-use crate::notation::Notation;
-use crate::parts::{flattened, mixfix, prefix, tail};
-use mw_term::{KindId, OpId, Operator, Seq, Signature};
+use crate::parts::{flattened, mixfix, prefix, push_two};
+use mw_term::{KindId, OpId, Operator, Signature};
 use mw_text::{Item, Names, first_item, has_hole};
 use std::alloc::{AllocError, Global};
 
@@ -28,13 +27,8 @@ fn add_prefix(
 {
     let name = operator.spelling.as_slice();
     let parts = prefix(alloc, kinds, name, in_pieces, operator.args.as_slice())?;
-    let notation = Notation {
-        kind: kind_of(kinds, operator.result),
-        precedence: 0,
-        operator: f,
-        parts: Seq::of(parts),
-    };
-    add(alloc, making, names, &notation)
+    let kind = kind_of(kinds, operator.result);
+    add(alloc, making, names, kind, 0, f, parts.as_slice())
 }
 
 /// Adds the prefix form of an associative operator on more than two arguments.
@@ -53,13 +47,7 @@ fn add_flattened(
     let kind = kind_of(kinds, operator.result);
     let name = operator.spelling.as_slice();
     let parts = flattened(alloc, name, in_pieces, kind, last)?;
-    let notation = Notation {
-        kind,
-        precedence: 0,
-        operator: f,
-        parts: Seq::of(parts),
-    };
-    add(alloc, making, names, &notation)
+    add(alloc, making, names, kind, 0, f, parts.as_slice())
 }
 
 /// Adds the prefix forms with this head.
@@ -95,14 +83,9 @@ fn add_tail(
 ) -> Result<(), AllocError>
     ensures { OnOk result (AddsNotations making.old making.new names.old names.new (λ F. F ≡ tail_notation (kind_in kinds.now) last f operator.now rest)) }
 {
-    let parts = tail(alloc, kind_of(kinds, operator.result), rest)?;
-    let notation = Notation {
-        kind: last,
-        precedence: 0,
-        operator: f,
-        parts: Seq::of(parts),
-    };
-    add(alloc, making, names, &notation)
+    let mut parts = Vec::new(alloc);
+    push_two(alloc, &mut parts, kind_of(kinds, operator.result), rest)?;
+    add(alloc, making, names, last, 0, f, parts.as_slice())
 }
 
 /// Adds the mixfix form, if there is one.
@@ -121,13 +104,16 @@ fn add_mixfix(
     let args = operator.args.as_slice();
     let name = operator.spelling.as_slice();
     if let Some(parts) = mixfix(alloc, kinds, operator.prec, name, gather, args)? {
-        let notation = Notation {
-            kind: kind_of(kinds, operator.result),
-            precedence: operator.prec,
-            operator: f,
-            parts: Seq::of(parts),
-        };
-        add(alloc, making, names, &notation)?;
+        let kind = kind_of(kinds, operator.result);
+        add(
+            alloc,
+            making,
+            names,
+            kind,
+            operator.prec,
+            f,
+            parts.as_slice(),
+        )?;
     }
     Ok(())
 }

@@ -10,7 +10,7 @@ ghost use Rattle.mw_parse.specs.Tops.{ArePairOf, IsPairTold};
 
 use crate::fault::PairError;
 use crate::terms::raw;
-use mw_chart::{LIMIT, Pair, PairFault};
+use mw_chart::{LIMIT, NoPair, TreePair};
 use mw_grammar::Grammar;
 use mw_lex::Token;
 use mw_term::Raw;
@@ -20,31 +20,31 @@ use std::alloc::{AllocError, Global};
 /// The terms of a pair of trees.
 fn terms(
     alloc: Global,
-    pair: &Pair,
+    pair: &TreePair,
     lefts: &Variables,
     rights: &Variables,
 ) -> Result<(Raw, Raw), AllocError>
     ensures { IfOk result (ArePairOf lefts.now rights.now pair.now) }
 {
-    let left = raw(alloc, pair.left.body(), lefts)?;
-    let right = raw(alloc, pair.right.body(), rights)?;
+    let left = raw(alloc, pair.left.node(), lefts)?;
+    let right = raw(alloc, pair.right.node(), rights)?;
     Ok((left, right))
 }
 
 /// What the chart's fault tells.
 fn told(
     alloc: Global,
-    fault: &PairFault,
+    fault: &NoPair,
     lefts: &Variables,
     rights: &Variables,
 ) -> Result<PairError, AllocError>
     ensures { IfOk result (IsPairTold lefts.now rights.now fault.now) }
 {
     match fault {
-        PairFault::NoParse => Ok(PairError::NoParse),
-        PairFault::TooLong => Ok(PairError::TooLong),
-        PairFault::Memory => Ok(PairError::Memory),
-        PairFault::Ambiguous { first, second } => {
+        NoPair::NoParse => Ok(PairError::NoParse),
+        NoPair::TooLong => Ok(PairError::TooLong),
+        NoPair::Memory => Ok(PairError::Memory),
+        NoPair::Ambiguous { first, second } => {
             let first = terms(alloc, first, lefts, rights)?;
             let second = terms(alloc, second, lefts, rights)?;
             Ok(PairError::Ambiguous { first, second })

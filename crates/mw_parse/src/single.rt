@@ -11,7 +11,7 @@ ghost use Rattle.mw_parse.specs.Tops.{IsTold};
 
 use crate::fault::ParseError;
 use crate::terms::raw;
-use mw_chart::{Fault, LIMIT};
+use mw_chart::{LIMIT, NoReading};
 use mw_grammar::Grammar;
 use mw_lex::Token;
 use mw_term::{KindId, Raw, SortId};
@@ -19,16 +19,16 @@ use mw_text::Variables;
 use std::alloc::{AllocError, Global};
 
 /// What the chart's fault tells.
-fn told(alloc: Global, fault: &Fault, leaves: &Variables) -> Result<ParseError, AllocError>
+fn told(alloc: Global, fault: &NoReading, leaves: &Variables) -> Result<ParseError, AllocError>
     ensures { IfOk result (IsTold leaves.now fault.now) }
 {
     match fault {
-        Fault::NoParse => Ok(ParseError::NoParse),
-        Fault::TooLong => Ok(ParseError::TooLong),
-        Fault::Memory => Ok(ParseError::Memory),
-        Fault::Ambiguous { first, second } => {
-            let first = raw(alloc, first.body(), leaves)?;
-            let second = raw(alloc, second.body(), leaves)?;
+        NoReading::NoParse => Ok(ParseError::NoParse),
+        NoReading::TooLong => Ok(ParseError::TooLong),
+        NoReading::Memory => Ok(ParseError::Memory),
+        NoReading::Ambiguous { first, second } => {
+            let first = raw(alloc, first.node(), leaves)?;
+            let second = raw(alloc, second.node(), leaves)?;
             Ok(ParseError::Ambiguous { first, second })
         }
     }
@@ -60,7 +60,7 @@ pub fn parse(
     let words = grammar.words(alloc, tokens)?;
     let kind = wanted_kind(grammar, wanted);
     match mw_chart::parse(alloc, grammar.table(), words.words.as_slice(), kind) {
-        Ok(term) => Ok(raw(alloc, term.body(), &words.leaves)?),
+        Ok(term) => Ok(raw(alloc, term.node(), &words.leaves)?),
         Err(fault) => Err(told(alloc, &fault, &words.leaves)?),
     }
 }

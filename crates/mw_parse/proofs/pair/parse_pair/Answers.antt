@@ -31,8 +31,8 @@ returns-clause-cause c = λ sig variables is.
     let w = c.in_ok-rights.rights in
     let left = c.in_ok-lefts.ensures sig variables is in
     let right = c.in_ok-rights.ensures sig variables is in
-    let h = subst (λ g. chart.HasPairFault g l.words.items w.words.items c.in-Err.fault) c.table-table.ensures
-    (subst (λ ws. chart.HasPairFault c.table-table.result.now l.words.items ws c.in-Err.fault) c.as_slice-second.ensures.value (subst (λ ws. chart.HasPairFault c.table-table.result.now ws c.as_slice-second.result.now c.in-Err.fault) c.as_slice-first.ensures.value c.in-Err.ensures.fault)) in
+    let h = subst (λ g. chart.HasNoPair g l.words.items w.words.items c.in-Err.fault) c.table-table.ensures
+    (subst (λ ws. chart.HasNoPair c.table-table.result.now l.words.items ws c.in-Err.fault) c.as_slice-second.ensures.value (subst (λ ws. chart.HasNoPair c.table-table.result.now ws c.as_slice-second.result.now c.in-Err.fault) c.as_slice-first.ensures.value c.in-Err.ensures.fault)) in
     pair_cause sig variables (kind_in g.kinds) g.table is.compiled.of_terms
     l.leaves (texts c.args.left.now) l.words.items left.count (exact_words sig variables g c.args.left.now l is left)
     w.leaves (texts c.args.right.now) w.words.items right.count (exact_words sig variables g c.args.right.now w is right)
