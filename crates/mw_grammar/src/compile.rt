@@ -99,27 +99,18 @@ pub struct Making {
     pub productions: Vec<Production>,
 }
 
-/// The state of whole texts of this kind and precedence among these, if it is there.
-fn found(steps: &[Next], wholes: &Wholes, kind: u32, precedence: u32) -> Option<usize>
-    ensures { IfSome result (λ w. slice_get steps.now w ≡ Some (Whole kind precedence)) }
-{
-    if is_whole_of(steps, kind as usize, kind, precedence) {
-        return Some(kind as usize);
-    }
-    match wholes.get(&(kind, precedence)) {
-        Some(state) if is_whole_of(steps, *state, kind, precedence) => Some(*state),
-        _ => None,
-    }
-}
-
 /// The state of whole texts of this kind and precedence.
 fn whole(making: &mut Making, kind: u32, precedence: u32) -> Result<usize, AllocError>
     ensures steps { OnOk result (Extends making.old.steps.items making.new.steps.items) }
     ensures productions { making.new.productions ≡ making.old.productions }
     ensures whole { IfOk result (λ w. slice_get making.new.steps.items w ≡ Some (Whole kind precedence)) }
 {
-    if let Some(state) = found(making.steps.as_slice(), &making.wholes, kind, precedence) {
-        return Ok(state);
+    let known = match making.wholes.get(&(kind, precedence)) {
+        Some(state) => *state,
+        None => kind as usize,
+    };
+    if is_whole_of(making.steps.as_slice(), known, kind, precedence) {
+        return Ok(known);
     }
     let state = making.steps.len();
     making.wholes.insert((kind, precedence), state)?;

@@ -30,28 +30,6 @@ fn is_name(name: &[u8]) -> bool
 }
 
 impl Grammar {
-    /// A variable more.
-    fn push_leaf(
-        &self,
-        alloc: Global,
-        leaves: &mut Variables,
-        found: &mut Vec<Leaf>,
-        name: &[u8],
-        sort: SortId,
-    ) -> Result<(), AllocError>
-        ensures { OnOk result (Adds (kind_in self.now.kinds) leaves.old leaves.new found.old.items found.new.items (λ x. x ≡ record { name = name.now; sort = sort })) }
-    {
-        let place = leaves.meet(alloc, name, sort)?;
-        if place > u32::MAX as usize {
-            return Err(AllocError);
-        }
-        found.push(Leaf {
-            state: self.kind_of(sort) as usize,
-            value: place as u32,
-        })?;
-        Ok(())
-    }
-
     /// The variables of this name, and of these sorts.
     fn push_sorts(
         &self,
@@ -64,7 +42,13 @@ impl Grammar {
         ensures { OnOk result (Adds (kind_in self.now.kinds) leaves.old leaves.new found.old.items found.new.items (IsOfOne sorts.now name.now)) }
     {
         for sort in sorts {
-            self.push_leaf(alloc, leaves, found, name, *sort)?;
+            let place = leaves.meet(alloc, name, *sort)?;
+            if place > u32::MAX as usize {
+                return Err(AllocError);
+            }
+            let state = self.kind_of(*sort) as usize;
+            let value = place as u32;
+            found.push(Leaf { state, value })?;
         }
         Ok(())
     }

@@ -23,17 +23,6 @@ fn room(alloc: Global, lists: &mut Vec<Vec<SortId>>, number: usize) -> Result<()
     Ok(())
 }
 
-/// Puts a sort behind those in the list of a number.
-fn push_sort(lists: &mut Vec<Vec<SortId>>, number: usize, sort: SortId) -> Result<(), AllocError>
-    requires { number < length lists.old.items }
-    ensures len { length lists.new.items ≡ length lists.old.items }
-    ensures here { OnOk result (inner lists.new.items number ≡ inner lists.old.items number ++ sort ∷ []) }
-    ensures others { OnOk result ((k : ℕ) → k ≢ number → inner lists.new.items k ≡ inner lists.old.items k) }
-{
-    lists[number].push(sort)?;
-    Ok(())
-}
-
 /// Lists a sort by a name.
 fn put(
     alloc: Global,
@@ -49,7 +38,7 @@ fn put(
     names.add(alloc, name)?;
     let number = names.number(name)? as usize;
     room(alloc, lists, number)?;
-    push_sort(lists, number, sort)?;
+    lists[number].push(sort)?;
     Ok(())
 }
 
