@@ -1,10 +1,10 @@
 // Notations as the states of a table.
-ghost use Rattle.std.specs.Prelude.{◌≡◌, ◌<◌, ◌≤◌, ◌+◌, ◌^◌, ◌∷◌, ℕ, List, [], Some, length, slice_get, IfOk, OnOk, IfSome, IsTrue};
+ghost use Rattle.std.specs.Prelude.{◌≡◌, ◌<◌, ◌^◌, ◌∷◌, ℕ, List, [], Some, length, slice_get, IfOk, OnOk, IsTrue};
 ghost use Rattle.mw_chart.specs.declared.table.Next.TheVariants.{Whole};
 ghost use Rattle.mw_grammar.specs.declared.parts.Symbol.{Symbol as SymbolOf};
 ghost use Rattle.mw_grammar.specs.Readable.{kind_in, IsReadable};
 ghost use Rattle.mw_grammar.specs.Notations.{IsNotation};
-ghost use Rattle.mw_grammar.specs.Compiled.{Extends, IsNumber, Leads, IsProductionOf, AddsNotations, AreGroups, IsCompiled};
+ghost use Rattle.mw_grammar.specs.Compiled.{Extends, IsNumber, Leads, AddsNotations, AreGroups, IsCompiled};
 
 use crate::notations::add_all;
 use crate::parts::Symbol;
@@ -73,17 +73,12 @@ fn lead(
     Ok(state)
 }
 
-/// Whether a state is that of whole texts of this kind and precedence.
-fn is_whole_of(steps: &[Next], state: usize, kind: u32, precedence: u32) -> bool
-    ensures { IsTrue result → slice_get steps.now state ≡ Some (Whole kind precedence) }
+/// Whether a state is that of whole texts of this kind, at this precedence.
+fn is_whole_of(steps: &[Next], state: usize, its_kind: u32, at: u32) -> bool
+    ensures { IsTrue result → slice_get steps.now state ≡ Some (Whole its_kind at) }
 {
     match steps.get(state) {
-        Some(
-            Next::Whole {
-                kind: its_kind,
-                precedence: its_precedence,
-            },
-        ) => *its_kind == kind && *its_precedence == precedence,
+        Some(Next::Whole { kind, precedence }) => *kind == its_kind && *precedence == at,
         _ => false,
     }
 }
@@ -91,7 +86,7 @@ fn is_whole_of(steps: &[Next], state: usize, kind: u32, precedence: u32) -> bool
 /// States of whole texts by kind and precedence.
 type Wholes = IndexMap<(u32, u32), usize>;
 
-/// A table that is being made: its states, those of them that are whole and were made for notations, and its productions.
+/// A table that is being made: its states, those that are whole and were made for notations, and its productions.
 #[derive(Drop)]
 pub struct Making {
     pub steps: Vec<Next>,
@@ -128,7 +123,8 @@ pub fn add(
     operator: OpId,
     parts: &[Symbol],
 ) -> Result<(), AllocError>
-    ensures { OnOk result (AddsNotations making.old making.new names.old names.new (λ F. F ≡ record { kind = kind; precedence = precedence; operator = operator; parts = parts.now })) }
+    ensures { OnOk result (AddsNotations making.old making.new names.old names.new
+        (λ F. F ≡ record { kind = kind; precedence = precedence; operator = operator; parts = parts.now })) }
 {
     let last = whole(making, kind, precedence)?;
     let state = lead(alloc, &mut making.steps, names, parts, last)?;
@@ -141,12 +137,10 @@ fn begin(alloc: Global, kinds: u32) -> Result<Making, AllocError>
     ensures kinds { IfOk result (λ m. (K : ℕ) → K < kinds → slice_get m.steps.items K ≡ Some (Whole K 0)) }
     ensures productions { IfOk result (λ m. m.productions.items ≡ []) }
 {
+    let precedence = 0;
     let mut steps = Vec::new(alloc);
     for kind in 0..kinds {
-        steps.push(Next::Whole {
-            kind,
-            precedence: 0,
-        })?;
+        steps.push(Next::Whole { kind, precedence })?;
     }
     Ok(Making {
         steps,
@@ -179,7 +173,8 @@ pub fn compile(
 ) -> Result<Table, AllocError>
     requires { IsReadable signature.now }
     ensures names { OnOk result (Extends names.old names.new) }
-    ensures table { IfOk result (IsCompiled (length signature.now.sorts) (IsNotation (kind_in kinds.now) signature.now) names.new) }
+    ensures table { IfOk result (IsCompiled (length signature.now.sorts)
+        (IsNotation (kind_in kinds.now) signature.now) names.new) }
 {
     let sorts = signature.sorts.as_slice().len();
     let operators = signature.operators.as_slice().len();
@@ -192,11 +187,7 @@ pub fn compile(
     let mut making = begin(alloc, sorts + operators as u32 + 1)?;
     add_all(alloc, &mut making, names, kinds, sorts, signature)?;
     let groups = groups(alloc, sorts)?;
-    let Making {
-        steps,
-        wholes: _,
-        productions,
-    } = making;
+    let (steps, productions) = (making.steps, making.productions);
     let table = Table::new(alloc, steps, productions, groups, open, close, sorts)?;
     Ok(table)
 }

@@ -83,7 +83,8 @@ impl Grammar {
 
     /// The words of tokens.
     pub fn words(&self, alloc: Global, tokens: &[Token]) -> Result<Words, AllocError>
-        ensures { (sig : SignatureOf) (variables : List Variable) → IsGrammarOf sig variables self.now → IfOk result (IsWordsOf sig variables self.now tokens.now) }
+        ensures { (sig : SignatureOf) (variables : List Variable) → IsGrammarOf sig variables self.now
+            → IfOk result (IsWordsOf sig variables self.now tokens.now) }
     {
         let mut leaves = Variables::new(alloc)?;
         let mut words = Vec::new(alloc);

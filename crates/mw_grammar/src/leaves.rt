@@ -39,7 +39,8 @@ impl Grammar {
         found: &mut Vec<Leaf>,
         name: &[u8],
     ) -> Result<(), AllocError>
-        ensures { OnOk result (Adds (kind_in self.now.kinds) leaves.old leaves.new found.old.items found.new.items (IsOfOne sorts.now name.now)) }
+        ensures { OnOk result (Adds (kind_in self.now.kinds) leaves.old leaves.new found.old.items found.new.items
+            (IsOfOne sorts.now name.now)) }
     {
         for sort in sorts {
             let place = leaves.meet(alloc, name, *sort)?;
@@ -63,7 +64,8 @@ impl Grammar {
         colon: usize,
     ) -> Result<(), AllocError>
         requires { colon < length token.now }
-        ensures { OnOk result (Adds (kind_in self.now.kinds) leaves.old leaves.new found.old.items found.new.items (IsDivided (IsListed self.now.names self.now.named.items) token.now colon)) }
+        ensures { OnOk result (Adds (kind_in self.now.kinds) leaves.old leaves.new found.old.items found.new.items
+            (IsDivided (IsListed self.now.names self.now.named.items) token.now colon)) }
     {
         let name = &token[..colon];
         if token[colon] == b':' && is_name(name) {
@@ -81,7 +83,8 @@ impl Grammar {
         found: &mut Vec<Leaf>,
         token: &[u8],
     ) -> Result<(), AllocError>
-        ensures { OnOk result (Adds (kind_in self.now.kinds) leaves.old leaves.new found.old.items found.new.items (IsWithSort (IsListed self.now.names self.now.named.items) token.now)) }
+        ensures { OnOk result (Adds (kind_in self.now.kinds) leaves.old leaves.new found.old.items found.new.items
+            (IsWithSort (IsListed self.now.names self.now.named.items) token.now)) }
     {
         for colon in 0..token.len() {
             self.push_divided(alloc, leaves, found, token, colon)?;
@@ -103,13 +106,8 @@ impl Grammar {
     {
         let number = self.names.number(token)?;
         let mut found = Vec::new(alloc);
-        self.push_sorts(
-            alloc,
-            list_of(&self.declared, number),
-            leaves,
-            &mut found,
-            token,
-        )?;
+        let sorts = list_of(&self.declared, number);
+        self.push_sorts(alloc, sorts, leaves, &mut found, token)?;
         self.push_with_sorts(alloc, leaves, &mut found, token)?;
         Ok(Terminal {
             token: number,

@@ -1,5 +1,5 @@
 // Sorts listed by the numbers of names.
-ghost use Rattle.std.specs.Prelude.{◌≡◌, ◌≢◌, ◌++◌, ◌∷◌, ◌<◌, ◌≤◌, ◌+◌, ◌^◌, [], max, ℕ, length, IfOk, OnOk};
+ghost use Rattle.std.specs.Prelude.{◌≡◌, ◌+◌, max, ℕ, length, IfOk, OnOk};
 ghost use Rattle.mw_logic.specs.Term.{Variable};
 ghost use Rattle.mw_logic.specs.Signature.{Member};
 ghost use Rattle.mw_chart.specs.Listed.{inner};
@@ -80,17 +80,13 @@ pub fn variables_by_name(
     variables: &[VarId],
 ) -> Result<Vec<Vec<SortId>>, AllocError>
     ensures names { OnOk result (Extends names.old names.new) }
-    ensures listed { IfOk result (λ v. Lists names.new v.items (λ n S. Member {X = Variable} (record { name = n; sort = S }) variables.now)) }
+    ensures listed { IfOk result (λ v. Lists names.new v.items
+        (λ n S. Member {X = Variable} (record { name = n; sort = S }) variables.now)) }
 {
     let mut lists = Vec::new(alloc);
     for variable in variables {
-        put(
-            alloc,
-            names,
-            &mut lists,
-            variable.name.as_slice(),
-            variable.sort,
-        )?;
+        let name = variable.name.as_slice();
+        put(alloc, names, &mut lists, name, variable.sort)?;
     }
     Ok(lists)
 }

@@ -3,7 +3,8 @@ ghost use Rattle.std.specs.Prelude.{◌≡◌, ◌<◌, ◌^◌, ◌∷◌, ℕ,
 ghost use Rattle.mw_logic.specs.Signature.{Operator as OperatorOf, IsOperator};
 ghost use Rattle.mw_text.specs.Names.{items_of, pieces};
 ghost use Rattle.mw_grammar.specs.Readable.{kind_in};
-ghost use Rattle.mw_grammar.specs.Notations.{head_of, prefix_notation, flattened_notation, tail_notation, IsHeaded, IsMixfix, IsWhole, IsNotationOf, IsNotation};
+ghost use Rattle.mw_grammar.specs.Notations.{head_of, prefix_notation, flattened_notation, tail_notation};
+ghost use Rattle.mw_grammar.specs.Notations.{IsHeaded, IsMixfix, IsWhole, IsNotationOf, IsNotation};
 ghost use Rattle.mw_grammar.specs.Compiled.{AddsNotations};
 
 use crate::compile::{Making, add};
@@ -23,7 +24,8 @@ fn add_prefix(
     operator: &Operator,
     in_pieces: bool,
 ) -> Result<(), AllocError>
-    ensures { OnOk result (AddsNotations making.old making.new names.old names.new (λ F. F ≡ prefix_notation (kind_in kinds.now) f operator.now (head_of operator.now.spelling in_pieces))) }
+    ensures { OnOk result (AddsNotations making.old making.new names.old names.new
+        (λ F. F ≡ prefix_notation (kind_in kinds.now) f operator.now (head_of operator.now.spelling in_pieces))) }
 {
     let name = operator.spelling.as_slice();
     let parts = prefix(alloc, kinds, name, in_pieces, operator.args.as_slice())?;
@@ -42,7 +44,9 @@ fn add_flattened(
     operator: &Operator,
     in_pieces: bool,
 ) -> Result<(), AllocError>
-    ensures { OnOk result (AddsNotations making.old making.new names.old names.new (λ F. F ≡ flattened_notation (kind_in kinds.now) last f operator.now (head_of operator.now.spelling in_pieces))) }
+    ensures { OnOk result (AddsNotations making.old making.new names.old names.new
+        (λ F. F ≡ flattened_notation (kind_in kinds.now) last f operator.now
+        (head_of operator.now.spelling in_pieces))) }
 {
     let kind = kind_of(kinds, operator.result);
     let name = operator.spelling.as_slice();
@@ -61,7 +65,8 @@ fn add_headed(
     operator: &Operator,
     in_pieces: bool,
 ) -> Result<(), AllocError>
-    ensures { OnOk result (AddsNotations making.old making.new names.old names.new (IsHeaded (kind_in kinds.now) last f operator.now (head_of operator.now.spelling in_pieces))) }
+    ensures { OnOk result (AddsNotations making.old making.new names.old names.new
+        (IsHeaded (kind_in kinds.now) last f operator.now (head_of operator.now.spelling in_pieces))) }
 {
     add_prefix(alloc, making, names, kinds, f, operator, in_pieces)?;
     if operator.assoc {
@@ -81,7 +86,8 @@ fn add_tail(
     operator: &Operator,
     rest: KindId,
 ) -> Result<(), AllocError>
-    ensures { OnOk result (AddsNotations making.old making.new names.old names.new (λ F. F ≡ tail_notation (kind_in kinds.now) last f operator.now rest)) }
+    ensures { OnOk result (AddsNotations making.old making.new names.old names.new
+        (λ F. F ≡ tail_notation (kind_in kinds.now) last f operator.now rest)) }
 {
     let mut parts = Vec::new(alloc);
     push_two(alloc, &mut parts, kind_of(kinds, operator.result), rest)?;
@@ -98,22 +104,16 @@ fn add_mixfix(
     operator: &Operator,
 ) -> Result<(), AllocError>
     requires { operator.now.prec < 128 }
-    ensures { OnOk result (AddsNotations making.old making.new names.old names.new (IsMixfix (kind_in kinds.now) f operator.now)) }
+    ensures { OnOk result (AddsNotations making.old making.new names.old names.new
+        (IsMixfix (kind_in kinds.now) f operator.now)) }
 {
     let gather = operator.gather.as_slice();
     let args = operator.args.as_slice();
     let name = operator.spelling.as_slice();
     if let Some(parts) = mixfix(alloc, kinds, operator.prec, name, gather, args)? {
         let kind = kind_of(kinds, operator.result);
-        add(
-            alloc,
-            making,
-            names,
-            kind,
-            operator.prec,
-            f,
-            parts.as_slice(),
-        )?;
+        let precedence = operator.prec;
+        add(alloc, making, names, kind, precedence, f, parts.as_slice())?;
     }
     Ok(())
 }
@@ -139,7 +139,8 @@ fn add_whole(
     operator: &Operator,
 ) -> Result<(), AllocError>
     requires { operator.now.prec < 128 }
-    ensures { OnOk result (AddsNotations making.old making.new names.old names.new (IsWhole (kind_in kinds.now) last f operator.now)) }
+    ensures { OnOk result (AddsNotations making.old making.new names.old names.new
+        (IsWhole (kind_in kinds.now) last f operator.now)) }
 {
     let name = operator.spelling.as_slice();
     add_headed(alloc, making, names, kinds, last, f, operator, false)?;
@@ -162,7 +163,8 @@ fn add_operator(
     operator: &Operator,
 ) -> Result<(), AllocError>
     requires { operator.now.prec < 128 }
-    ensures { OnOk result (AddsNotations making.old making.new names.old names.new (IsNotationOf (kind_in kinds.now) last f operator.now)) }
+    ensures { OnOk result (AddsNotations making.old making.new names.old names.new
+        (IsNotationOf (kind_in kinds.now) last f operator.now)) }
 {
     add_whole(alloc, making, names, kinds, last, f, operator)?;
     if operator.assoc {
@@ -186,7 +188,8 @@ pub fn add_all(
     requires sorts { sorts ≡ length signature.now.sorts }
     requires few { sorts < 2 ^ 31 }
     requires count { length signature.now.operators < 2 ^ 31 }
-    ensures { OnOk result (AddsNotations making.old making.new names.old names.new (IsNotation (kind_in kinds.now) signature.now)) }
+    ensures { OnOk result (AddsNotations making.old making.new names.old names.new
+        (IsNotation (kind_in kinds.now) signature.now)) }
 {
     for (i, operator) in signature.operators.as_slice().iter().enumerate() {
         let f = i as u32 + 1;

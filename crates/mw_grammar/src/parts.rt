@@ -1,11 +1,13 @@
 // The parts of notations.
-ghost use Rattle.std.specs.Prelude.{◌≡◌, ◌<◌, ◌++◌, ◌∷◌, ℕ, List, [], map, codes, option_map, None, MatchOption, IfOk, OnOk, if◌then◌else◌};
+ghost use Rattle.std.specs.Prelude.{◌≡◌, ◌<◌, ◌++◌, ◌∷◌, ℕ, List, [], map, codes, option_map};
+ghost use Rattle.std.specs.Prelude.{None, MatchOption, IfOk, OnOk};
 ghost use Rattle.mw_term.specs.Signatures.{gather_of};
 ghost use Rattle.mw_text.specs.Names.{Item as ItemOf, items_of, pieces};
 ghost use Rattle.mw_text.specs.Seen.{item_of};
 ghost use Rattle.mw_grammar.specs.declared.parts.Symbol.TheVariants.{Piece, Hole};
 ghost use Rattle.mw_grammar.specs.Readable.{kind_in};
-ghost use Rattle.mw_grammar.specs.Notations.{above_all, pieces_as, head_of, arguments, prefix_parts, in_parentheses, bound, mixfix_parts, mixing};
+ghost use Rattle.mw_grammar.specs.Notations.{above_all, pieces_as, head_of, arguments, prefix_parts};
+ghost use Rattle.mw_grammar.specs.Notations.{bound, mixfix_parts, mixing};
 
 use crate::kinds::kind_of;
 use mw_term::{Gather, KindId, Name};
@@ -35,10 +37,8 @@ fn push_piece(alloc: Global, parts: &mut Vec<Symbol>, text: &[u8]) -> Result<(),
 fn push_hole(parts: &mut Vec<Symbol>, kind: KindId) -> Result<(), AllocError>
     ensures { OnOk result (parts.new.items ≡ parts.old.items ++ Hole kind above_all ∷ []) }
 {
-    parts.push(Symbol::Hole {
-        kind,
-        below: ABOVE_ALL,
-    })?;
+    let below = ABOVE_ALL;
+    parts.push(Symbol::Hole { kind, below })?;
     Ok(())
 }
 
