@@ -1,4 +1,4 @@
--- Filling a hole from the readings of a row, end by end.
+-- Filling a hole from the constituents of a row, end by end.
 use Rattle.std.proofs.Common.{◌≡◌, ◌∙◌, ◌+◌, ◌*◌, ◌/◌, ◌%◌, ◌-◌, ◌<◌, ◌≤◌, ◌⊎◌, ℕ, zero, suc, List, [], ◌∷◌, length, get_or, Some, refl, sym, ap, inl, inr, arith, subst, slice_index}
 use Rattle.std.specs.List.{slice_get}
 use Rattle.std.specs.Global.{Global}
@@ -7,16 +7,16 @@ use Rattle.std.specs.Int.{bit_at}
 use Rattle.std.proofs.lemmas.Nat.Bits.{bit_at-zero}
 use Rattle.mw_chart.specs.Tree.{Tree}
 use Rattle.mw_chart.specs.Bits.{IsSet}
-use Rattle.mw_chart.specs.Spelling.{StepAt}
+use Rattle.mw_chart.specs.Spelling.{NextAt}
 use Rattle.mw_chart.specs.Listed.{inner}
-use Rattle.mw_chart.specs.Chart.{HasTwo, Has, Holds, Adds, CellsHold, FillsBy, Fills, IsWithin}
-use Rattle.mw_chart.specs.Row.{IsIndexed, AreFull, FillsAt, FillsListed, IsInWord, Grows, Covers}
-use Rattle.mw_chart.specs.declared.row.Row.{Row}
+use Rattle.mw_chart.specs.Chart.{HasTwo, Has, Holds, Adds, CellsHold, CompletesBy, Completes, IsWithin}
+use Rattle.mw_chart.specs.Row.{IsIndexed, AreFull, CompletesAt, CompletesListed, IsInWord, Grows, Covers}
+use Rattle.mw_chart.specs.declared.row.ChartRow.{ChartRow}
 use Rattle.mw_chart.specs.declared.row.Strip.{Strip}
 use Rattle.mw_chart.specs.declared.table.Table.{Table}
-use Rattle.mw_chart.specs.declared.table.Step.TheVariants.{Whole}
-use Rattle.mw_chart.specs.declared.slot.Slot.{Slot}
-use Rattle.mw_chart.specs.declared.slot.Reading.{Reading}
+use Rattle.mw_chart.specs.declared.table.Next.TheVariants.{Whole}
+use Rattle.mw_chart.specs.declared.item.Item.{Item}
+use Rattle.mw_chart.specs.declared.item.Constituent.{Constituent}
 use Rattle.mw_chart.proofs.Lists.{get_below, one_there, eq_or}
 use Rattle.mw_chart.proofs.Begins.{le_or}
 use Rattle.mw_chart.proofs.Cells.{has_more}
@@ -41,31 +41,31 @@ grows_adds P Q F G a to = record {
 pub adds_grows : {K : Type 0} → (P Q F : K → Tree → Type 0) → Grows P Q F → ((k : K) (u : Tree) → F k u → Has (Q k) u) → Adds P Q F
 adds_grows P Q F a has = record { kept = a.kept; sound = a.sound; has = has }
 
-pub within_same : (readings : List Reading) (n a b : ℕ) → a ≡ b → IsWithin readings (n - a) n → IsWithin readings (n - b) n
-within_same readings n a b same all = λ j r got. let w = all j r got in (let low = w.0 in omega (arith, low, same), w.1)
+pub within_same : (constituents : List Constituent) (n a b : ℕ) → a ≡ b → IsWithin constituents (n - a) n → IsWithin constituents (n - b) n
+within_same constituents n a b same all = λ j r got. let w = all j r got in (let low = w.0 in omega (arith, low, same), w.1)
 
--- the reading at an index
-pub fills_at : (P Q : ℕ × ℕ → Tree → Type 0) (g : Table) (readings : List Reading) (n kind below next : ℕ) (v : Tree) (place : ℕ) (r : Reading)
-    → slice_get readings place ≡ Some r → Adds P Q (FillsBy g r n kind below next v) → Adds P Q (FillsAt g readings n kind below next v place)
-fills_at P Q g readings n kind below next v place r got a =
-    adds_as P Q (FillsBy g r n kind below next v) (FillsAt g readings n kind below next v place) a
+-- the constituent at an index
+pub fills_at : (P Q : ℕ × ℕ → Tree → Type 0) (g : Table) (constituents : List Constituent) (n kind below next : ℕ) (v : Tree) (place : ℕ) (r : Constituent)
+    → slice_get constituents place ≡ Some r → Adds P Q (CompletesBy g r n kind below next v) → Adds P Q (CompletesAt g constituents n kind below next v place)
+fills_at P Q g constituents n kind below next v place r got a =
+    adds_as P Q (CompletesBy g r n kind below next v) (CompletesAt g constituents n kind below next v place) a
     (λ k u x. (r, got, x))
-    (λ k u (r2, got2, x). subst (λ (s : Reading). FillsBy g s n kind below next v k u) (one_there readings place r2 r got2 got) x)
+    (λ k u (r2, got2, x). subst (λ (s : Constituent). CompletesBy g s n kind below next v k u) (one_there constituents place r2 r got2 got) x)
 
-pub fills_nowhere : (P : ℕ × ℕ → Tree → Type 0) (g : Table) (readings : List Reading) (n kind below next : ℕ) (v : Tree) (place : ℕ)
-    → length readings ≤ place → Adds P P (FillsAt g readings n kind below next v place)
-fills_nowhere P g readings n kind below next v place past =
-    adds_none P (FillsAt g readings n kind below next v place) (λ k u (r, got, x). let b = get_below readings place r got in omega (arith, b, past))
+pub fills_nowhere : (P : ℕ × ℕ → Tree → Type 0) (g : Table) (constituents : List Constituent) (n kind below next : ℕ) (v : Tree) (place : ℕ)
+    → length constituents ≤ place → Adds P P (CompletesAt g constituents n kind below next v place)
+fills_nowhere P g constituents n kind below next v place past =
+    adds_none P (CompletesAt g constituents n kind below next v place) (λ k u (r, got, x). let b = get_below constituents place r got in omega (arith, b, past))
 
--- the readings at an end
-pub grows_listed : (P Q : ℕ × ℕ → Tree → Type 0) (g : Table) (readings : List Reading) (places : List ℕ) (n kind below next : ℕ) (v : Tree)
-    → Adds P Q (FillsListed g readings places n kind below next v) → Grows P Q (Fills g readings n kind below next v)
-grows_listed P Q g readings places n kind below next v a =
-    grows_adds P Q (Fills g readings n kind below next v) (FillsListed g readings places n kind below next v) a (λ k u (p, place, got, (r, at, x)). (place, r, at, x))
+-- the constituents at an end
+pub grows_listed : (P Q : ℕ × ℕ → Tree → Type 0) (g : Table) (constituents : List Constituent) (places : List ℕ) (n kind below next : ℕ) (v : Tree)
+    → Adds P Q (CompletesListed g constituents places n kind below next v) → Grows P Q (Completes g constituents n kind below next v)
+grows_listed P Q g constituents places n kind below next v a =
+    grows_adds P Q (Completes g constituents n kind below next v) (CompletesListed g constituents places n kind below next v) a (λ k u (p, place, got, (r, at, x)). (place, r, at, x))
 
-pub covers_listed : (P Q : ℕ × ℕ → Tree → Type 0) (g : Table) (row : Row) (list : Vec ℕ Global) (end n kind below next : ℕ) (v : Tree) → IsIndexed row → end < length row.places.items
-    → list ≡ get_or row.places.items end list → Adds P Q (FillsListed g row.readings.items list.items n kind below next v)
-    → Covers Q g row.readings.items n kind below next v (λ r. r.end ≡ end)
+pub covers_listed : (P Q : ℕ × ℕ → Tree → Type 0) (g : Table) (row : ChartRow) (list : Vec ℕ Global) (end n kind below next : ℕ) (v : Tree) → IsIndexed row → end < length row.places.items
+    → list ≡ get_or row.places.items end list → Adds P Q (CompletesListed g row.constituents.items list.items n kind below next v)
+    → Covers Q g row.constituents.items n kind below next v (λ r. r.end ≡ end)
 covers_listed P Q g row list end n kind below next v index low is a = λ j r got at k u x.
     let l = (index j r got).0 in
     let there : slice_get list.items l.0 ≡ Some j = subst (λ (xs : List ℕ). slice_get xs l.0 ≡ Some j) (ap (λ m. inner row.places.items m) at ∙ inner_is row.places.items end list low is) l.1 in
@@ -76,22 +76,22 @@ inner_far [] k h = refl
 inner_far (x ∷ xs) zero h = absurd (omega arith)
 inner_far (x ∷ xs) (suc k) h = inner_far xs k (omega arith)
 
-pub covers_nowhere : (Q : ℕ × ℕ → Tree → Type 0) (g : Table) (row : Row) (end n kind below next : ℕ) (v : Tree) → IsIndexed row → length row.places.items ≤ end
-    → Covers Q g row.readings.items n kind below next v (λ r. r.end ≡ end)
+pub covers_nowhere : (Q : ℕ × ℕ → Tree → Type 0) (g : Table) (row : ChartRow) (end n kind below next : ℕ) (v : Tree) → IsIndexed row → length row.places.items ≤ end
+    → Covers Q g row.constituents.items n kind below next v (λ r. r.end ≡ end)
 covers_nowhere Q g row end n kind below next v index past = λ j r got at k u x.
     let l = (index j r got).0 in
     let there : slice_get [] l.0 ≡ Some j = subst (λ (xs : List ℕ). slice_get xs l.0 ≡ Some j) (ap (λ m. inner row.places.items m) at ∙ inner_far row.places.items end past) l.1 in
     let bad : ⊥ = (cc) in absurd bad
 
--- The readings of a word's ends, of which those in `left` are to come.
-abbrev pub IsDone : ℕ → ℕ → ℕ → Reading → Type 0
+-- The constituents of a word's ends, of which those in `left` are to come.
+abbrev pub IsDone : ℕ → ℕ → ℕ → Constituent → Type 0
 IsDone index word left r = (i : ℕ) × (r.end ≡ index * 64 + i) × (bit_at word i ≡ 1) × (bit_at left i ≡ 1 → ⊥)
 
-pub covers_bit : (P Q : ℕ × ℕ → Tree → Type 0) (g : Table) (readings : List Reading) (n kind below next : ℕ) (v : Tree) (index word left rest bit : ℕ)
+pub covers_bit : (P Q : ℕ × ℕ → Tree → Type 0) (g : Table) (constituents : List Constituent) (n kind below next : ℕ) (v : Tree) (index word left rest bit : ℕ)
     → ((i : ℕ) → bit_at left i ≡ 1 → (bit_at rest i ≡ 1) ⊎ (i ≡ bit)) → ((k : ℕ × ℕ) (u : Tree) → P k u → Q k u)
-    → Covers P g readings n kind below next v (IsDone index word left) → Covers Q g readings n kind below next v (λ r. r.end ≡ index * 64 + bit)
-    → Covers Q g readings n kind below next v (IsDone index word rest)
-covers_bit P Q g readings n kind below next v index word left rest bit split kept before here = λ j r got (i, at, set, gone) k u x.
+    → Covers P g constituents n kind below next v (IsDone index word left) → Covers Q g constituents n kind below next v (λ r. r.end ≡ index * 64 + bit)
+    → Covers Q g constituents n kind below next v (IsDone index word rest)
+covers_bit P Q g constituents n kind below next v index word left rest bit split kept before here = λ j r got (i, at, set, gone) k u x.
     elim (eq_or (bit_at left i) 1) [
       | inl still ↦ elim (split i still) [
         | inl rests ↦ absurd (gone rests)
@@ -100,26 +100,26 @@ covers_bit P Q g readings n kind below next v index word left rest bit split kep
       | inr done ↦ has_more (P k) (Q k) u (kept k) (before j r got (i, at, set, done) k u x)
     ]
 
-pub done_none : (P : ℕ × ℕ → Tree → Type 0) (g : Table) (readings : List Reading) (n kind below next : ℕ) (v : Tree) (index word : ℕ)
-    → Covers P g readings n kind below next v (IsDone index word word)
-done_none P g readings n kind below next v index word = λ j r got (i, at, set, gone) k u x. absurd (gone set)
+pub done_none : (P : ℕ × ℕ → Tree → Type 0) (g : Table) (constituents : List Constituent) (n kind below next : ℕ) (v : Tree) (index word : ℕ)
+    → Covers P g constituents n kind below next v (IsDone index word word)
+done_none P g constituents n kind below next v index word = λ j r got (i, at, set, gone) k u x. absurd (gone set)
 
-pub done_all : (P : ℕ × ℕ → Tree → Type 0) (g : Table) (readings : List Reading) (n kind below next : ℕ) (v : Tree) (index word left : ℕ) → left ≡ 0
-    → Covers P g readings n kind below next v (IsDone index word left) → Covers P g readings n kind below next v (IsInWord index word)
-done_all P g readings n kind below next v index word left none all = λ j r got (i, at, set) k u x.
+pub done_all : (P : ℕ × ℕ → Tree → Type 0) (g : Table) (constituents : List Constituent) (n kind below next : ℕ) (v : Tree) (index word left : ℕ) → left ≡ 0
+    → Covers P g constituents n kind below next v (IsDone index word left) → Covers P g constituents n kind below next v (IsInWord index word)
+done_all P g constituents n kind below next v index word left none all = λ j r got (i, at, set) k u x.
     all j r got (i, at, set, λ still. let z = bit_at-zero i in let s : bit_at 0 i ≡ 1 = subst (λ (m : ℕ). bit_at m i ≡ 1) none still in omega (arith, z, s)) k u x
 
--- A strip's readings whose ends lie before a word.
-abbrev pub IsBefore : Strip → ℕ → Reading → Type 0
+-- A strip's constituents whose ends lie before a word.
+abbrev pub IsBefore : Strip → ℕ → Constituent → Type 0
 IsBefore strip index r = (strip.state ≡ r.state) × IsSet strip.ends.items r.end × (r.end < index * 64)
 
-pub covers_word : (cells more : List (Vec Slot Global)) (g : Table) (readings : List Reading) (n kind below next : ℕ) (v : Tree) (strip : Strip) (full : List (Vec ℕ Global)) (index word : ℕ)
-    → length cells ≤ n → IsWithin readings (n - length cells) n → AreFull n full cells
+pub covers_word : (cells more : List (Vec Item Global)) (g : Table) (constituents : List Constituent) (n kind below next : ℕ) (v : Tree) (strip : Strip) (full : List (Vec ℕ Global)) (index word : ℕ)
+    → length cells ≤ n → IsWithin constituents (n - length cells) n → AreFull n full cells
     → ((i : ℕ) → bit_at (slice_index strip.ends.items index) i ≡ 1 → (bit_at word i ≡ 1) ⊎ (bit_at (slice_index (inner full next) index) i ≡ 1))
     → ((k : ℕ × ℕ) (u : Tree) → CellsHold cells k u → CellsHold more k u)
-    → Covers (CellsHold cells) g readings n kind below next v (IsBefore strip index) → Covers (CellsHold more) g readings n kind below next v (IsInWord index word)
-    → Covers (CellsHold more) g readings n kind below next v (IsBefore strip (index + 1))
-covers_word cells more g readings n kind below next v strip full index word shape within fulls opens kept before here = λ j r got (state, set, low) k u x.
+    → Covers (CellsHold cells) g constituents n kind below next v (IsBefore strip index) → Covers (CellsHold more) g constituents n kind below next v (IsInWord index word)
+    → Covers (CellsHold more) g constituents n kind below next v (IsBefore strip (index + 1))
+covers_word cells more g constituents n kind below next v strip full index word shape within fulls opens kept before here = λ j r got (state, set, low) k u x.
     elim (le_or r.end (index * 64)) [
       | inl f ↦ has_more (CellsHold cells k) (CellsHold more k) u (kept k) (before j r got (state, set, f) k u x)
       | inr f ↦
@@ -137,32 +137,32 @@ covers_word cells more g readings n kind below next v strip full index word shap
           ]
     ]
 
-pub covers_first : (Q : ℕ × ℕ → Tree → Type 0) (g : Table) (readings : List Reading) (n a kind below next : ℕ) (v : Tree) (strip : Strip) (index : ℕ)
-    → IsWithin readings a n → index * 64 ≤ a → Covers Q g readings n kind below next v (IsBefore strip index)
-covers_first Q g readings n a kind below next v strip index within low = λ j r got (state, set, before) k u x.
+pub covers_first : (Q : ℕ × ℕ → Tree → Type 0) (g : Table) (constituents : List Constituent) (n a kind below next : ℕ) (v : Tree) (strip : Strip) (index : ℕ)
+    → IsWithin constituents a n → index * 64 ≤ a → Covers Q g constituents n kind below next v (IsBefore strip index)
+covers_first Q g constituents n a kind below next v strip index within low = λ j r got (state, set, before) k u x.
     let w = (within j r got).0 in absurd (omega (arith, w, low, before))
 
-pub covers_last : (Q : ℕ × ℕ → Tree → Type 0) (g : Table) (readings : List Reading) (n a kind below next : ℕ) (v : Tree) (strip : Strip) (index : ℕ)
-    → IsWithin readings a n → n < index * 64 → Covers Q g readings n kind below next v (IsBefore strip index)
-    → Covers Q g readings n kind below next v (λ r. (strip.state ≡ r.state) × IsSet strip.ends.items r.end)
-covers_last Q g readings n a kind below next v strip index within high all = λ j r got (state, set) k u x.
+pub covers_last : (Q : ℕ × ℕ → Tree → Type 0) (g : Table) (constituents : List Constituent) (n a kind below next : ℕ) (v : Tree) (strip : Strip) (index : ℕ)
+    → IsWithin constituents a n → n < index * 64 → Covers Q g constituents n kind below next v (IsBefore strip index)
+    → Covers Q g constituents n kind below next v (λ r. (strip.state ≡ r.state) × IsSet strip.ends.items r.end)
+covers_last Q g constituents n a kind below next v strip index within high all = λ j r got (state, set) k u x.
     all j r got (state, set, let w = (within j r got).1 in omega (arith, w, high)) k u x
 
 -- a strip that the hole doesn't take
-pub covers_none : (Q : ℕ × ℕ → Tree → Type 0) (g : Table) (readings : List Reading) (n kind below next : ℕ) (v : Tree) (strip : Strip) → (Takes g strip.state kind below → ⊥)
-    → Covers Q g readings n kind below next v (λ r. (strip.state ≡ r.state) × IsSet strip.ends.items r.end)
-covers_none Q g readings n kind below next v strip never = λ j r got (state, set) k u (precedence, st, lt, end, key, same).
-    absurd (never (precedence, subst (λ (m : ℕ). StepAt g m (Whole kind precedence)) (sym state) st, lt))
+pub covers_none : (Q : ℕ × ℕ → Tree → Type 0) (g : Table) (constituents : List Constituent) (n kind below next : ℕ) (v : Tree) (strip : Strip) → (Takes g strip.state kind below → ⊥)
+    → Covers Q g constituents n kind below next v (λ r. (strip.state ≡ r.state) × IsSet strip.ends.items r.end)
+covers_none Q g constituents n kind below next v strip never = λ j r got (state, set) k u (precedence, st, lt, end, key, same).
+    absurd (never (precedence, subst (λ (m : ℕ). NextAt g m (Whole kind precedence)) (sym state) st, lt))
 
--- the readings of the strips before an index
-abbrev pub IsInSome : List Strip → ℕ → Reading → Type 0
+-- the constituents of the strips before an index
+abbrev pub IsInSome : List Strip → ℕ → Constituent → Type 0
 IsInSome strips index r = (p : ℕ) × (strip : Strip) × (slice_get strips p ≡ Some strip) × (p < index) × (strip.state ≡ r.state) × IsSet strip.ends.items r.end
 
-pub covers_strip : (P Q : ℕ × ℕ → Tree → Type 0) (g : Table) (readings : List Reading) (n kind below next : ℕ) (v : Tree) (strips : List Strip) (index : ℕ) (strip : Strip)
+pub covers_strip : (P Q : ℕ × ℕ → Tree → Type 0) (g : Table) (constituents : List Constituent) (n kind below next : ℕ) (v : Tree) (strips : List Strip) (index : ℕ) (strip : Strip)
     → slice_get strips index ≡ Some strip → ((k : ℕ × ℕ) (u : Tree) → P k u → Q k u)
-    → Covers P g readings n kind below next v (IsInSome strips index) → Covers Q g readings n kind below next v (λ r. (strip.state ≡ r.state) × IsSet strip.ends.items r.end)
-    → Covers Q g readings n kind below next v (IsInSome strips (index + 1))
-covers_strip P Q g readings n kind below next v strips index strip at kept before here = λ j r got (p, other, there, low, state, set) k u x.
+    → Covers P g constituents n kind below next v (IsInSome strips index) → Covers Q g constituents n kind below next v (λ r. (strip.state ≡ r.state) × IsSet strip.ends.items r.end)
+    → Covers Q g constituents n kind below next v (IsInSome strips (index + 1))
+covers_strip P Q g constituents n kind below next v strips index strip at kept before here = λ j r got (p, other, there, low, state, set) k u x.
     elim (eq_or p index) [
       | inl e ↦
           let same : other ≡ strip = one_there strips index other strip (subst (λ (m : ℕ). slice_get strips m ≡ Some other) e there) at in
@@ -170,25 +170,25 @@ covers_strip P Q g readings n kind below next v strips index strip at kept befor
       | inr ne ↦ has_more (P k) (Q k) u (kept k) (before j r got (p, other, there, omega (arith, low, ne), state, set) k u x)
     ]
 
-pub fills_row : (P Q : ℕ × ℕ → Tree → Type 0) (g : Table) (row : Row) (n kind below next : ℕ) (v : Tree) (index : ℕ) → IsIndexed row → length row.strips.items ≤ index
-    → Grows P Q (Fills g row.readings.items n kind below next v) → Covers Q g row.readings.items n kind below next v (IsInSome row.strips.items index)
-    → Adds P Q (Fills g row.readings.items n kind below next v)
+pub fills_row : (P Q : ℕ × ℕ → Tree → Type 0) (g : Table) (row : ChartRow) (n kind below next : ℕ) (v : Tree) (index : ℕ) → IsIndexed row → length row.strips.items ≤ index
+    → Grows P Q (Completes g row.constituents.items n kind below next v) → Covers Q g row.constituents.items n kind below next v (IsInSome row.strips.items index)
+    → Adds P Q (Completes g row.constituents.items n kind below next v)
 fills_row P Q g row n kind below next v index indexed all grows covers =
-    adds_grows P Q (Fills g row.readings.items n kind below next v) grows
+    adds_grows P Q (Completes g row.constituents.items n kind below next v) grows
     (λ k u (j, r, got, x).
     let s = (indexed j r got).1 in
     covers j r got (s.0, s.1, s.2, let b = get_below row.strips.items s.0 s.1 s.2 in omega (arith, b, all), s.3, s.4) k u x)
 
 -- the open ends of a word, as code found them
-pub opened : (index i a b word : ℕ) (ends full : List ℕ) → a ≡ slice_index ends index → b ≡ slice_index full index
+pub predicted : (index i a b word : ℕ) (ends full : List ℕ) → a ≡ slice_index ends index → b ≡ slice_index full index
     → ((j : ℕ) → bit_at a j ≡ 1 → (bit_at word j ≡ 1) ⊎ (bit_at b j ≡ 1)) → bit_at (slice_index ends index) i ≡ 1
     → (bit_at word i ≡ 1) ⊎ (bit_at (slice_index full index) i ≡ 1)
-opened index i a b word ends full is is2 split set =
+predicted index i a b word ends full is is2 split set =
     elim (split i (subst (λ (m : ℕ). bit_at m i ≡ 1) (sym is) set)) [ inl x ↦ inl x | inr x ↦ inr (subst (λ (m : ℕ). bit_at m i ≡ 1) is2 x) ]
 
-pub covers_nothing : (Q : ℕ × ℕ → Tree → Type 0) (g : Table) (readings : List Reading) (n kind below next : ℕ) (v : Tree) (strips : List Strip)
-    → Covers Q g readings n kind below next v (IsInSome strips 0)
-covers_nothing Q g readings n kind below next v strips = λ j r got (p, strip, there, low, state, set) k u x. absurd (omega (arith, low))
+pub covers_nothing : (Q : ℕ × ℕ → Tree → Type 0) (g : Table) (constituents : List Constituent) (n kind below next : ℕ) (v : Tree) (strips : List Strip)
+    → Covers Q g constituents n kind below next v (IsInSome strips 0)
+covers_nothing Q g constituents n kind below next v strips = λ j r got (p, strip, there, low, state, set) k u x. absurd (omega (arith, low))
 
-pub within_ahead : (readings : List Reading) (n at len : ℕ) → at + len ≡ n → IsWithin readings at n → IsWithin readings (n - len) n
-within_ahead readings n at len shape all = λ j r got. let w = all j r got in (let low = w.0 in omega (arith, low, shape), w.1)
+pub within_ahead : (constituents : List Constituent) (n at len : ℕ) → at + len ≡ n → IsWithin constituents at n → IsWithin constituents (n - len) n
+within_ahead constituents n at len shape all = λ j r got. let w = all j r got in (let low = w.0 in omega (arith, low, shape), w.1)

@@ -1,59 +1,59 @@
--- What the readings of a row add.
+-- What the constituents of a row add.
 use Rattle.std.proofs.Common.{◌≡◌, ◌∙◌, ◌+◌, ◌-◌, ◌<◌, ◌≤◌, ℕ, List, length, get_or, None, true, false, refl, sym, ap, inl, inr, arith, subst}
 use Rattle.std.specs.List.{slice_get}
 use Rattle.std.specs.Global.{Global}
 use Rattle.std.specs.declared.vec.Vec.{Vec}
 use Rattle.mw_chart.specs.Tree.{Tree, app}
-use Rattle.mw_chart.specs.Spelling.{TokenAt, StepAt}
+use Rattle.mw_chart.specs.Spelling.{TokenAt, NextAt}
 use Rattle.mw_chart.specs.declared.table.Table.{Table}
-use Rattle.mw_chart.specs.declared.table.Step.TheVariants.{Token, Hole, Whole}
-use Rattle.mw_chart.specs.declared.slot.Slot.{Slot}
-use Rattle.mw_chart.specs.declared.slot.Reading.{Reading}
+use Rattle.mw_chart.specs.declared.table.Next.TheVariants.{Token, Hole, Whole}
+use Rattle.mw_chart.specs.declared.item.Item.{Item}
+use Rattle.mw_chart.specs.declared.item.Constituent.{Constituent}
 use Rattle.mw_chart.specs.Listed.{inner}
-use Rattle.mw_chart.specs.Chart.{HasTwo, Holds, Adds, CellsHold, IsPut, FillsBy, Fills, Advances, AdvancesSlot}
+use Rattle.mw_chart.specs.Chart.{HasTwo, Holds, Adds, CellsHold, IsPut, CompletesBy, Completes, Advances, AdvancesItem}
 use Rattle.mw_chart.proofs.Adding.{adds_as, adds_none, adds_already, adds_then, inner_is}
 use Rattle.mw_chart.proofs.Lists.{one_there, get_below}
-use Rattle.mw_chart.specs.declared.word.Word.{Word}
+use Rattle.mw_chart.specs.declared.terminal.Terminal.{Terminal}
 
 abbrev pub Takes : Table → ℕ → ℕ → ℕ → Type 0
-Takes g s kind bound = (precedence : ℕ) × StepAt g s (Whole kind precedence) × (precedence < bound)
+Takes g s kind bound = (precedence : ℕ) × NextAt g s (Whole kind precedence) × (precedence < bound)
 
-pub fills_put : (P Q : ℕ × ℕ → Tree → Type 0) (g : Table) (r : Reading) (n kind bound next : ℕ) (v whole : Tree) → r.end ≤ n → Takes g r.state kind bound
-    → whole ≡ app v r.value → Adds P Q (IsPut (n - r.end) next whole) → Adds P Q (FillsBy g r n kind bound next v)
+pub fills_put : (P Q : ℕ × ℕ → Tree → Type 0) (g : Table) (r : Constituent) (n kind bound next : ℕ) (v whole : Tree) → r.end ≤ n → Takes g r.state kind bound
+    → whole ≡ app v r.tree → Adds P Q (IsPut (n - r.end) next whole) → Adds P Q (CompletesBy g r n kind bound next v)
 fills_put P Q g r n kind bound next v whole h (precedence, at, le) is a =
-    adds_as P Q (IsPut (n - r.end) next whole) (FillsBy g r n kind bound next v) a
+    adds_as P Q (IsPut (n - r.end) next whole) (CompletesBy g r n kind bound next v) a
     (λ k u (x, y, z). (precedence, at, le, omega (arith, x, h), y, z ∙ is))
     (λ k u (p, x, y, z, s, e). (omega (arith, z, h), s, e ∙ sym is))
 
-pub fills_not : (P : ℕ × ℕ → Tree → Type 0) (g : Table) (r : Reading) (n kind bound next : ℕ) (v : Tree) → (Takes g r.state kind bound → ⊥)
-    → Adds P P (FillsBy g r n kind bound next v)
-fills_not P g r n kind bound next v never = adds_none P (FillsBy g r n kind bound next v) (λ k u (p, x, y, z, s, e). never (p, x, y))
+pub fills_not : (P : ℕ × ℕ → Tree → Type 0) (g : Table) (r : Constituent) (n kind bound next : ℕ) (v : Tree) → (Takes g r.state kind bound → ⊥)
+    → Adds P P (CompletesBy g r n kind bound next v)
+fills_not P g r n kind bound next v never = adds_none P (CompletesBy g r n kind bound next v) (λ k u (p, x, y, z, s, e). never (p, x, y))
 
-pub fills_full : (cells : List (Vec Slot Global)) (g : Table) (r : Reading) (n kind bound next : ℕ) (v : Tree) (cell : Vec Slot Global)
+pub fills_full : (cells : List (Vec Item Global)) (g : Table) (r : Constituent) (n kind bound next : ℕ) (v : Tree) (cell : Vec Item Global)
     → n - r.end < length cells → r.end ≤ n → cell ≡ get_or cells (n - r.end) cell
-    → HasTwo (Holds cell.items next) → Adds (CellsHold cells) (CellsHold cells) (FillsBy g r n kind bound next v)
+    → HasTwo (Holds cell.items next) → Adds (CellsHold cells) (CellsHold cells) (CompletesBy g r n kind bound next v)
 fills_full cells g r n kind bound next v cell below h is two =
-    adds_already (CellsHold cells) (FillsBy g r n kind bound next v)
+    adds_already (CellsHold cells) (CompletesBy g r n kind bound next v)
     (λ k u (p, x, y, z, s, e).
     let at : k.0 ≡ n - r.end = omega (arith, z, h) in
     inr (subst (λ (j : ℕ). HasTwo (Holds (inner cells k.0) j)) (sym s)
-    (subst (λ (c : List Slot). HasTwo (Holds c next)) (sym (ap (λ j. inner cells j) at ∙ inner_is cells (n - r.end) cell below is)) two)))
+    (subst (λ (c : List Item). HasTwo (Holds c next)) (sym (ap (λ j. inner cells j) at ∙ inner_is cells (n - r.end) cell below is)) two)))
 
 -- one step on
-pub advances_token : (P Q : ℕ × ℕ → Tree → Type 0) (g : Table) (text : List Word) (row : List Reading) (at s token next : ℕ) (v w : Tree)
-    → StepAt g s (Token token next) → TokenAt text at token → w ≡ v
+pub advances_token : (P Q : ℕ × ℕ → Tree → Type 0) (g : Table) (text : List Terminal) (row : List Constituent) (at s token next : ℕ) (v w : Tree)
+    → NextAt g s (Token token next) → TokenAt text at token → w ≡ v
     → Adds P Q (IsPut (length text - at - 1) next w) → Adds P Q (Advances g text row at s v)
 advances_token P Q g text row at s token next v w st is same a =
     let below = get_below text at is.0 is.1 in
     adds_as P Q (IsPut (length text - at - 1) next w) (Advances g text row at s v) a
-    (λ k u (x, y, z). (at + 1, omega (arith, x, below), inl (token, subst (λ (n : ℕ). StepAt g s (Token token n)) (sym y) st, is, refl, z ∙ same)))
+    (λ k u (x, y, z). (at + 1, omega (arith, x, below), inl (token, subst (λ (n : ℕ). NextAt g s (Token token n)) (sym y) st, is, refl, z ∙ same)))
     (λ k u (e, x, go). elim go [
       | inl (token2, st2, there, end, z) ↦ (omega (arith, x, end, below), (let q = one_there _ s _ _ st2 st in cc), z ∙ sym same)
       | inr (kind, bound, w2, precedence, t, st2, hr, wh, le, z) ↦ let bad : ⊥ = (let q = one_there _ s _ _ st2 st in cc) in absurd bad
     ])
 
-pub advances_not : (P : ℕ × ℕ → Tree → Type 0) (g : Table) (text : List Word) (row : List Reading) (at s token next : ℕ) (v : Tree)
-    → StepAt g s (Token token next) → (TokenAt text at token → ⊥) → Adds P P (Advances g text row at s v)
+pub advances_not : (P : ℕ × ℕ → Tree → Type 0) (g : Table) (text : List Terminal) (row : List Constituent) (at s token next : ℕ) (v : Tree)
+    → NextAt g s (Token token next) → (TokenAt text at token → ⊥) → Adds P P (Advances g text row at s v)
 advances_not P g text row at s token next v st never =
     adds_none P (Advances g text row at s v)
     (λ k u (e, x, go). elim go [
@@ -61,24 +61,24 @@ advances_not P g text row at s token next v st never =
       | inr (kind, bound, w2, precedence, t, st2, hr, wh, le, z) ↦ let bad : ⊥ = (let q = one_there _ s _ _ st2 st in cc) in absurd bad
     ])
 
-pub advances_hole : (P Q : ℕ × ℕ → Tree → Type 0) (g : Table) (text : List Word) (row : List Reading) (at s kind bound next : ℕ) (v : Tree)
-    → StepAt g s (Hole kind bound next) → Adds P Q (Fills g row (length text) kind bound next v) → Adds P Q (Advances g text row at s v)
+pub advances_hole : (P Q : ℕ × ℕ → Tree → Type 0) (g : Table) (text : List Terminal) (row : List Constituent) (at s kind bound next : ℕ) (v : Tree)
+    → NextAt g s (Hole kind bound next) → Adds P Q (Completes g row (length text) kind bound next v) → Adds P Q (Advances g text row at s v)
 advances_hole P Q g text row at s kind bound next v st a =
-    adds_as P Q (Fills g row (length text) kind bound next v) (Advances g text row at s v) a
+    adds_as P Q (Completes g row (length text) kind bound next v) (Advances g text row at s v) a
     (λ k u (j, r, got, (precedence, x, y, z, n, e)).
-    (r.end, z, inr (kind, bound, r.state, precedence, r.value, subst (λ (m : ℕ). StepAt g s (Hole kind bound m)) (sym n) st, (j, r, got, refl, refl, refl), x, y, e)))
+    (r.end, z, inr (kind, bound, r.state, precedence, r.tree, subst (λ (m : ℕ). NextAt g s (Hole kind bound m)) (sym n) st, (j, r, got, refl, refl, refl), x, y, e)))
     (λ k u (e, x, go). elim go [
       | inl (token2, st2, there, end, z) ↦ let bad : ⊥ = (let q = one_there _ s _ _ st2 st in cc) in absurd bad
-      | inr (kind2, bound2, w, precedence, t, st2, (j, r, got, ends, state, value), wh, le, z) ↦
+      | inr (kind2, bound2, w, precedence, t, st2, (j, r, got, ends, state, tree), wh, le, z) ↦
           let q = one_there _ s _ _ st2 st in
           let ek : kind2 ≡ kind = (cc) in
           let eb : bound2 ≡ bound = (cc) in
           let en : k.1 ≡ next = (cc) in
-          (j, r, got, (precedence, rw (state, ← ek) wh, omega (arith, le, eb), omega (arith, x, ends), en, z ∙ ap (λ y. app v y) (sym value)))
+          (j, r, got, (precedence, rw (state, ← ek) wh, omega (arith, le, eb), omega (arith, x, ends), en, z ∙ ap (λ y. app v y) (sym tree)))
     ])
 
-pub advances_whole : (P : ℕ × ℕ → Tree → Type 0) (g : Table) (text : List Word) (row : List Reading) (at s kind precedence : ℕ) (v : Tree)
-    → StepAt g s (Whole kind precedence) → Adds P P (Advances g text row at s v)
+pub advances_whole : (P : ℕ × ℕ → Tree → Type 0) (g : Table) (text : List Terminal) (row : List Constituent) (at s kind precedence : ℕ) (v : Tree)
+    → NextAt g s (Whole kind precedence) → Adds P P (Advances g text row at s v)
 advances_whole P g text row at s kind precedence v st =
     adds_none P (Advances g text row at s v)
     (λ k u (e, x, go). elim go [
@@ -86,7 +86,7 @@ advances_whole P g text row at s kind precedence v st =
       | inr (kind2, bound, w2, precedence2, t, st2, hr, wh, le, z) ↦ let bad : ⊥ = (let q = one_there _ s _ _ st2 st in cc) in bad
     ])
 
-pub advances_none : (P : ℕ × ℕ → Tree → Type 0) (g : Table) (text : List Word) (row : List Reading) (at s : ℕ) (v : Tree)
+pub advances_none : (P : ℕ × ℕ → Tree → Type 0) (g : Table) (text : List Terminal) (row : List Constituent) (at s : ℕ) (v : Tree)
     → slice_get g.steps.items s ≡ None → Adds P P (Advances g text row at s v)
 advances_none P g text row at s v st =
     adds_none P (Advances g text row at s v)
@@ -95,24 +95,24 @@ advances_none P g text row at s v st =
       | inr (kind2, bound, w2, precedence2, t, st2, hr, wh, le, z) ↦ let bad : ⊥ = (cc) in bad
     ])
 
--- both terms of a slot
-pub advances_two : (P Q R : ℕ × ℕ → Tree → Type 0) (g : Table) (text : List Word) (row : List Reading) (at : ℕ) (slot : Slot) → slot.full ≡ true
-    → Adds P Q (Advances g text row at slot.state slot.value) → Adds Q R (Advances g text row at slot.state slot.twin)
-    → Adds P R (AdvancesSlot g text row at slot)
-advances_two P Q R g text row at slot full a b =
-    adds_then P Q R (Advances g text row at slot.state slot.value) (Advances g text row at slot.state slot.twin) (AdvancesSlot g text row at slot) a b
-    (λ k u x. (slot.state, slot.value, (refl, inl refl), x))
-    (λ k u x. (slot.state, slot.twin, (refl, inr (full, refl)), x))
+-- both trees of an item
+pub advances_two : (P Q R : ℕ × ℕ → Tree → Type 0) (g : Table) (text : List Terminal) (row : List Constituent) (at : ℕ) (item : Item) → item.full ≡ true
+    → Adds P Q (Advances g text row at item.state item.tree) → Adds Q R (Advances g text row at item.state item.other)
+    → Adds P R (AdvancesItem g text row at item)
+advances_two P Q R g text row at item full a b =
+    adds_then P Q R (Advances g text row at item.state item.tree) (Advances g text row at item.state item.other) (AdvancesItem g text row at item) a b
+    (λ k u x. (item.state, item.tree, (refl, inl refl), x))
+    (λ k u x. (item.state, item.other, (refl, inr (full, refl)), x))
     (λ k u (s, v, i, x). elim i.1 [
       | inl e ↦ inl (rw (i.0, e) x)
       | inr e ↦ inr (let q = e.1 in rw (i.0, q) x)
     ])
 
-pub advances_one : (P Q : ℕ × ℕ → Tree → Type 0) (g : Table) (text : List Word) (row : List Reading) (at : ℕ) (slot : Slot) → slot.full ≡ false
-    → Adds P Q (Advances g text row at slot.state slot.value) → Adds P Q (AdvancesSlot g text row at slot)
-advances_one P Q g text row at slot free a =
-    adds_as P Q (Advances g text row at slot.state slot.value) (AdvancesSlot g text row at slot) a
-    (λ k u x. (slot.state, slot.value, (refl, inl refl), x))
+pub advances_one : (P Q : ℕ × ℕ → Tree → Type 0) (g : Table) (text : List Terminal) (row : List Constituent) (at : ℕ) (item : Item) → item.full ≡ false
+    → Adds P Q (Advances g text row at item.state item.tree) → Adds P Q (AdvancesItem g text row at item)
+advances_one P Q g text row at item free a =
+    adds_as P Q (Advances g text row at item.state item.tree) (AdvancesItem g text row at item) a
+    (λ k u x. (item.state, item.tree, (refl, inl refl), x))
     (λ k u (s, v, i, x). elim i.1 [
       | inl e ↦ rw (i.0, e) x
       | inr e ↦ let bad : ⊥ = (let q = e.0 in cc) in absurd bad

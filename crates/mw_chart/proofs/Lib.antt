@@ -7,7 +7,7 @@ pub mod Started
 pub mod Begins
 pub mod Turned
 pub mod Ends
-pub mod Wholes
+pub mod Answers
 pub mod Fulls
 pub mod Sets
 pub mod Rows

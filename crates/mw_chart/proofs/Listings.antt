@@ -6,13 +6,13 @@ use Rattle.std.specs.declared.vec.Vec.{Vec}
 use Rattle.std.proofs.Math.ListN.{set}
 use Rattle.mw_chart.specs.Tree.{Tree}
 use Rattle.mw_chart.specs.Listed.{inner, IsListed, AreListed, Joins}
-use Rattle.mw_chart.specs.Spelling.{StepAt, BeginsWith, OpensWith, IsTable}
+use Rattle.mw_chart.specs.Spelling.{NextAt, BeginsWith, OpensWith, IsTable}
 use Rattle.mw_chart.specs.declared.table.Table.{Table}
-use Rattle.mw_chart.specs.declared.table.Start.{Start}
-use Rattle.mw_chart.specs.declared.table.Step.{Step}
-use Rattle.mw_chart.specs.declared.table.Step.TheVariants.{Token, Hole}
-use Rattle.mw_chart.specs.declared.word.Word.{Word}
-use Rattle.mw_chart.specs.Chart.{Adds, BeginsFrom, BeginsAny, OpensFrom, OpensTerm}
+use Rattle.mw_chart.specs.declared.table.Production.{Production}
+use Rattle.mw_chart.specs.declared.table.Next.{Next}
+use Rattle.mw_chart.specs.declared.table.Next.TheVariants.{Token, Hole}
+use Rattle.mw_chart.specs.declared.terminal.Terminal.{Terminal}
+use Rattle.mw_chart.specs.Chart.{Adds, ScansProduction, ScansProductions, PredictsProduction, PredictsBy}
 use Rattle.mw_chart.proofs.Lists.{one_there, get_below, get_left, get_last, get_back, eq_or}
 use Rattle.mw_chart.proofs.Adding.{Each, adds_as, inner_same, inner_other, inner_is}
 
@@ -72,28 +72,28 @@ joins_none G x lists never = record {
   only = λ i y l. inl l;
 }
 
--- the start joins the list of the token that comes first, or of the kind of the hole that does, and otherwise none
-pub joins_token : (steps : List Step) (start : Start) (token next : ℕ) (old new : List (Vec Start Global)) → slice_get steps start.state ≡ Some (Token token next)
-    → Joins (λ i. i ≡ token) start old new → Joins (BeginsWith steps start) start old new
-joins_token steps start token next old new st j =
-    joins_as (λ i. i ≡ token) (BeginsWith steps start) start old new
-    (λ i e. (next, subst (λ (m : ℕ). slice_get steps start.state ≡ Some (Token m next)) (sym e) st))
-    (λ i (n, st2). let q = one_there steps start.state (Token i n) (Token token next) st2 st in cc) j
+-- the production joins the list of the token that comes first, or of the kind of the hole that does, and otherwise none
+pub joins_token : (steps : List Next) (production : Production) (token next : ℕ) (old new : List (Vec Production Global)) → slice_get steps production.state ≡ Some (Token token next)
+    → Joins (λ i. i ≡ token) production old new → Joins (BeginsWith steps production) production old new
+joins_token steps production token next old new st j =
+    joins_as (λ i. i ≡ token) (BeginsWith steps production) production old new
+    (λ i e. (next, subst (λ (m : ℕ). slice_get steps production.state ≡ Some (Token m next)) (sym e) st))
+    (λ i (n, st2). let q = one_there steps production.state (Token i n) (Token token next) st2 st in cc) j
 
-pub joins_kind : (steps : List Step) (start : Start) (kind below next : ℕ) (old new : List (Vec Start Global)) → slice_get steps start.state ≡ Some (Hole kind below next)
-    → Joins (λ i. i ≡ kind) start old new → Joins (OpensWith steps start) start old new
-joins_kind steps start kind below next old new st j =
-    joins_as (λ i. i ≡ kind) (OpensWith steps start) start old new
-    (λ i e. (below, next, subst (λ (m : ℕ). slice_get steps start.state ≡ Some (Hole m below next)) (sym e) st))
-    (λ i (b, n, st2). let q = one_there steps start.state (Hole i b n) (Hole kind below next) st2 st in cc) j
+pub joins_kind : (steps : List Next) (production : Production) (kind below next : ℕ) (old new : List (Vec Production Global)) → slice_get steps production.state ≡ Some (Hole kind below next)
+    → Joins (λ i. i ≡ kind) production old new → Joins (OpensWith steps production) production old new
+joins_kind steps production kind below next old new st j =
+    joins_as (λ i. i ≡ kind) (OpensWith steps production) production old new
+    (λ i e. (below, next, subst (λ (m : ℕ). slice_get steps production.state ≡ Some (Hole m below next)) (sym e) st))
+    (λ i (b, n, st2). let q = one_there steps production.state (Hole i b n) (Hole kind below next) st2 st in cc) j
 
-pub joins_no_token : (steps : List Step) (start : Start) (step : Option Step) (lists : List (Vec Start Global)) → slice_get steps start.state ≡ step
-    → ((token next : ℕ) → step ≡ Some (Token token next) → ⊥) → Joins (BeginsWith steps start) start lists lists
-joins_no_token steps start step lists st never = joins_none (BeginsWith steps start) start lists (λ i (n, st2). never i n (sym st ∙ st2))
+pub joins_no_token : (steps : List Next) (production : Production) (step : Option Next) (lists : List (Vec Production Global)) → slice_get steps production.state ≡ step
+    → ((token next : ℕ) → step ≡ Some (Token token next) → ⊥) → Joins (BeginsWith steps production) production lists lists
+joins_no_token steps production step lists st never = joins_none (BeginsWith steps production) production lists (λ i (n, st2). never i n (sym st ∙ st2))
 
-pub joins_no_kind : (steps : List Step) (start : Start) (step : Option Step) (lists : List (Vec Start Global)) → slice_get steps start.state ≡ step
-    → ((kind below next : ℕ) → step ≡ Some (Hole kind below next) → ⊥) → Joins (OpensWith steps start) start lists lists
-joins_no_kind steps start step lists st never = joins_none (OpensWith steps start) start lists (λ i (b, n, st2). never i b n (sym st ∙ st2))
+pub joins_no_kind : (steps : List Next) (production : Production) (step : Option Next) (lists : List (Vec Production Global)) → slice_get steps production.state ≡ step
+    → ((kind below next : ℕ) → step ≡ Some (Hole kind below next) → ⊥) → Joins (OpensWith steps production) production lists lists
+joins_no_kind steps production step lists st never = joins_none (OpensWith steps production) production lists (λ i (b, n, st2). never i b n (sym st ∙ st2))
 
 -- the elements before an index are listed
 pub record AreListedTo {A : Type 0} (Key : A → ℕ → Type 0) (elements : List A) (k : ℕ) (lists : List (Vec A Global)) : Type 0 where
@@ -122,21 +122,21 @@ listed_all Key elements k lists all l = record {
   only = l.only;
 }
 
--- What the starts in the list of a token begin is what all begin where it stands: a start of another token begins nothing there.
-pub begins_listed : (P Q : ℕ × ℕ → Tree → Type 0) (g : Table) (text : List Word) (i : ℕ) (word : Word) → IsTable g → slice_get text i ≡ Some word
-    → Adds P Q (Each (inner g.index.by_token.items word.token) (BeginsFrom g text i)) → Adds P Q (BeginsAny g text i)
+-- What the productions in the list of a token begin is what all begin where it stands: a production of another token begins nothing there.
+pub begins_listed : (P Q : ℕ × ℕ → Tree → Type 0) (g : Table) (text : List Terminal) (i : ℕ) (word : Terminal) → IsTable g → slice_get text i ≡ Some word
+    → Adds P Q (Each (inner g.corners.by_token.items word.token) (ScansProduction g text i)) → Adds P Q (ScansProductions g text i)
 begins_listed P Q g text i word wf there a =
-    adds_as P Q (Each (inner g.index.by_token.items word.token) (BeginsFrom g text i)) (BeginsAny g text i) a
-    (λ k u (j, start, got, f). let l = (wf.indexed.by_token.only word.token start (j, got)).1 in (l.0, start, l.1, f))
-    (λ k u (j, start, got, (x, st, (other, at, is), e, z)).
-    let same : x ≡ word.token = sym is ∙ ap (λ (w : Word). w.token) (one_there text i other word at there) in
-    let l : IsListed g.index.by_token.items word.token start = wf.indexed.by_token.listed j word.token start got (k.1, subst (λ (m : ℕ). StepAt g start.state (Token m k.1)) same st) in
-    (l.0, start, l.1, (x, st, (other, at, is), e, z)))
+    adds_as P Q (Each (inner g.corners.by_token.items word.token) (ScansProduction g text i)) (ScansProductions g text i) a
+    (λ k u (j, production, got, f). let l = (wf.indexed.by_token.only word.token production (j, got)).1 in (l.0, production, l.1, f))
+    (λ k u (j, production, got, (x, st, (other, at, is), e, z)).
+    let same : x ≡ word.token = sym is ∙ ap (λ (w : Terminal). w.token) (one_there text i other word at there) in
+    let l : IsListed g.corners.by_token.items word.token production = wf.indexed.by_token.listed j word.token production got (k.1, subst (λ (m : ℕ). NextAt g production.state (Token m k.1)) same st) in
+    (l.0, production, l.1, (x, st, (other, at, is), e, z)))
 
--- What the starts in the list of a kind open with a term of it is what all open: a start of another kind opens nothing.
-pub opens_listed : (P Q : ℕ → Tree → Type 0) (g : Table) (text : List Word) (at kind precedence : ℕ) (v : Tree) → IsTable g
-    → Adds P Q (Each (inner g.index.by_kind.items kind) (OpensFrom g text at kind precedence v)) → Adds P Q (OpensTerm g text at kind precedence v)
+-- What the productions in the list of a kind open with a tree of it is what all open: a production of another kind opens nothing.
+pub opens_listed : (P Q : ℕ → Tree → Type 0) (g : Table) (text : List Terminal) (at kind precedence : ℕ) (v : Tree) → IsTable g
+    → Adds P Q (Each (inner g.corners.by_kind.items kind) (PredictsProduction g text at kind precedence v)) → Adds P Q (PredictsBy g text at kind precedence v)
 opens_listed P Q g text at kind precedence v wf a =
-    adds_as P Q (Each (inner g.index.by_kind.items kind) (OpensFrom g text at kind precedence v)) (OpensTerm g text at kind precedence v) a
-    (λ k u (j, start, got, f). let l = (wf.indexed.by_kind.only kind start (j, got)).1 in (l.0, start, l.1, f))
-    (λ k u (j, start, got, f). let l = wf.indexed.by_kind.listed j kind start got (f.0, k, f.1) in (l.0, start, l.1, f))
+    adds_as P Q (Each (inner g.corners.by_kind.items kind) (PredictsProduction g text at kind precedence v)) (PredictsBy g text at kind precedence v) a
+    (λ k u (j, production, got, f). let l = (wf.indexed.by_kind.only kind production (j, got)).1 in (l.0, production, l.1, f))
+    (λ k u (j, production, got, f). let l = wf.indexed.by_kind.listed j kind production got (f.0, k, f.1) in (l.0, production, l.1, f))

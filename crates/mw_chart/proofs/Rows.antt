@@ -1,4 +1,4 @@
--- How the readings of a row are found.
+-- How the constituents of a row are found.
 use Rattle.std.proofs.Common.{◌≡◌, ◌∙◌, ◌+◌, ◌<◌, ◌≤◌, arith, ℕ, List, [], ◌∷◌, ◌++◌, length, get_or, Some, sym, ap, inl, inr, subst}
 use Rattle.std.specs.List.{slice_get}
 use Rattle.std.specs.Global.{Global}
@@ -8,7 +8,7 @@ use Rattle.mw_chart.specs.Bits.{IsSet}
 use Rattle.mw_chart.specs.Listed.{inner, IsListed}
 use Rattle.mw_chart.specs.Row.{IsInStrip}
 use Rattle.mw_chart.specs.declared.row.Strip.{Strip}
-use Rattle.mw_chart.specs.declared.slot.Reading.{Reading}
+use Rattle.mw_chart.specs.declared.item.Constituent.{Constituent}
 use Rattle.mw_chart.proofs.Lists.{get_below, get_same, get_left, get_last, get_set_same, get_set_other, eq_or, one_there}
 use Rattle.mw_chart.proofs.Adding.{inner_same, inner_other, inner_is}
 
@@ -51,23 +51,23 @@ strip_item strips p strip old got is = got ∙ ap (λ (s : Strip). Some s) (sym 
 pub strip_state : (strips : List Strip) (p : ℕ) (strip old : Strip) → slice_get strips p ≡ Some strip → slice_get strips p ≡ Some old → old.state ≡ strip.state
 strip_state strips p strip old got at = ap (λ (s : Strip). s.state) (one_there strips p old strip at got)
 
--- the next reading is listed too
-pub index_next : (readings : List Reading) (k : ℕ) (x : Reading) (places more : List (Vec ℕ Global)) (strips others : List Strip) → slice_get readings k ≡ Some x
+-- the next constituent is listed too
+pub index_next : (constituents : List Constituent) (k : ℕ) (x : Constituent) (places more : List (Vec ℕ Global)) (strips others : List Strip) → slice_get constituents k ≡ Some x
     → ((e j : ℕ) → IsListed places e j → IsListed more e j) → IsListed more x.end k
     → ((w e : ℕ) → IsInStrip strips w e → IsInStrip others w e) → IsInStrip others x.state x.end
-    → ((j : ℕ) (r : Reading) → j < k → slice_get readings j ≡ Some r → IsListed places r.end j × IsInStrip strips r.state r.end)
-    → (j : ℕ) (r : Reading) → j < k + 1 → slice_get readings j ≡ Some r → IsListed more r.end j × IsInStrip others r.state r.end
-index_next readings k x places more strips others at kept new kept2 new2 before j r low got =
+    → ((j : ℕ) (r : Constituent) → j < k → slice_get constituents j ≡ Some r → IsListed places r.end j × IsInStrip strips r.state r.end)
+    → (j : ℕ) (r : Constituent) → j < k + 1 → slice_get constituents j ≡ Some r → IsListed more r.end j × IsInStrip others r.state r.end
+index_next constituents k x places more strips others at kept new kept2 new2 before j r low got =
     elim (eq_or j k) [
       | inl e ↦
-          let same : x ≡ r = one_there readings k x r at (subst (λ (m : ℕ). slice_get readings m ≡ Some r) e got) in
-          rw e (subst (λ (y : Reading). IsListed more y.end k × IsInStrip others y.state y.end) same (new, new2))
+          let same : x ≡ r = one_there constituents k x r at (subst (λ (m : ℕ). slice_get constituents m ≡ Some r) e got) in
+          rw e (subst (λ (y : Constituent). IsListed more y.end k × IsInStrip others y.state y.end) same (new, new2))
       | inr n ↦ let b = before j r (omega (arith, low, n)) got in (kept r.end j b.0, kept2 r.state r.end b.1)
     ]
 
-pub index_done : (readings items : List Reading) (k : ℕ) (places : List (Vec ℕ Global)) (strips : List Strip) → items ≡ readings → length items ≤ k
-    → ((j : ℕ) (r : Reading) → j < k → slice_get items j ≡ Some r → IsListed places r.end j × IsInStrip strips r.state r.end)
-    → (j : ℕ) (r : Reading) → slice_get readings j ≡ Some r → IsListed places r.end j × IsInStrip strips r.state r.end
-index_done readings items k places strips same all before j r got =
-    let there : slice_get items j ≡ Some r = subst (λ (l : List Reading). slice_get l j ≡ Some r) (sym same) got in
+pub index_done : (constituents items : List Constituent) (k : ℕ) (places : List (Vec ℕ Global)) (strips : List Strip) → items ≡ constituents → length items ≤ k
+    → ((j : ℕ) (r : Constituent) → j < k → slice_get items j ≡ Some r → IsListed places r.end j × IsInStrip strips r.state r.end)
+    → (j : ℕ) (r : Constituent) → slice_get constituents j ≡ Some r → IsListed places r.end j × IsInStrip strips r.state r.end
+index_done constituents items k places strips same all before j r got =
+    let there : slice_get items j ≡ Some r = subst (λ (l : List Constituent). slice_get l j ≡ Some r) (sym same) got in
     before j r (let b = get_below items j r there in omega (arith, b, all)) there

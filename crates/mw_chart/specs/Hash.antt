@@ -1,4 +1,4 @@
--- A number for each term, the same wherever terms are the same.
+-- A number for each tree, the same wherever trees are the same.
 use Rattle.std.specs.Prelude.{ℕ, ◌*◌, ◌%◌, ◌^◌, bit_xor}
 use Rattle.mw_chart.specs.Tree.{Tree, leaf, head, app}
 

@@ -19,7 +19,7 @@ size_of (leaf x) = 1
 size_of (head f) = 1
 size_of (app t u) = 1 + (size_of t + size_of u)
 
--- how a ghost value stores a tree
+-- how a ghost tree stores a tree
 abbrev pub code_of : Tree → Gv
 code_of (leaf x) = gcons gnil (gnum x)
 code_of (head f) = gnum f

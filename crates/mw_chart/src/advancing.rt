@@ -1,50 +1,50 @@
 // Goes one step on from texts begun.
 ghost use Rattle.std.specs.Prelude.{◌≡◌, ◌≤◌, ◌<◌, ◌+◌, ℕ, IfOk, length};
-ghost use Rattle.mw_chart.specs.Chart.{Adds, CellsHold, Advances, AdvancesSlot, AdvancesCell, IsWithin};
+ghost use Rattle.mw_chart.specs.Chart.{Adds, CellsHold, Advances, AdvancesItem, AdvancesCell, IsWithin};
 ghost use Rattle.mw_chart.specs.Row.{IsIndexed, AreFull};
 
-use crate::chart::{put_at, stands, step_of};
-use crate::gap::{Ahead, Gap, fill};
-use crate::row::Row;
-use crate::slot::Slot;
-use crate::table::{Step, Table};
-use crate::term::Term;
-use crate::word::Word;
+use crate::cell::{next_of, put_at, stands};
+use crate::completing::{Agenda, Hole, complete};
+use crate::item::Item;
+use crate::row::ChartRow;
+use crate::table::{Next, Table};
+use crate::terminal::Terminal;
+use crate::tree::Tree;
 use std::alloc::{AllocError, Global};
 
 /// Goes one step on from a text begun.
 fn advance(
     alloc: Global,
     table: &Table,
-    text: &[Word],
-    row: &Row,
+    text: &[Terminal],
+    row: &ChartRow,
     at: usize,
     state: usize,
-    value: &Term,
-    ahead: &mut Ahead,
+    tree: &Tree,
+    agenda: &mut Agenda,
 ) -> Result<(), AllocError>
-    requires shape { at + length ahead.old.cells.items ≡ length text.now }
+    requires shape { at + length agenda.old.cells.items ≡ length text.now }
     requires short { length text.now ≤ 1024 }
     requires indexed { IsIndexed row.now }
-    requires full { AreFull (length text.now) ahead.old.full.items ahead.old.cells.items }
-    requires within { IsWithin row.now.readings.items at (length text.now) }
-    ensures len { length ahead.new.cells.items ≡ length ahead.old.cells.items }
-    ensures ok { IfOk result (λ _. Adds (CellsHold ahead.old.cells.items) (CellsHold ahead.new.cells.items) (Advances table.now text.now row.now.readings.items at state value.now)) }
-    ensures full { IfOk result (λ _. AreFull (length text.now) ahead.new.full.items ahead.new.cells.items) }
+    requires full { AreFull (length text.now) agenda.old.full.items agenda.old.cells.items }
+    requires within { IsWithin row.now.constituents.items at (length text.now) }
+    ensures len { length agenda.new.cells.items ≡ length agenda.old.cells.items }
+    ensures ok { IfOk result (λ _. Adds (CellsHold agenda.old.cells.items) (CellsHold agenda.new.cells.items) (Advances table.now text.now row.now.constituents.items at state tree.now)) }
+    ensures full { IfOk result (λ _. AreFull (length text.now) agenda.new.full.items agenda.new.cells.items) }
 {
-    match step_of(table, state) {
-        Some(Step::Token { token, next }) => {
+    match next_of(table, state) {
+        Some(Next::Token { token, next }) => {
             if stands(text, at, token) {
-                put_at(&mut ahead.cells, text.len() - at - 1, next, value.again()?)?;
+                put_at(&mut agenda.cells, text.len() - at - 1, next, tree.again()?)?;
             }
             Ok(())
         }
-        Some(Step::Hole { kind, below, next }) => {
-            let gap = Gap { kind, below, next };
-            fill(alloc, table, row, text.len(), gap, value, ahead)
+        Some(Next::Hole { kind, below, next }) => {
+            let hole = Hole { kind, below, next };
+            complete(alloc, table, row, text.len(), hole, tree, agenda)
         }
         Some(
-            Step::Whole {
+            Next::Whole {
                 kind: _kind,
                 precedence: _precedence,
             },
@@ -53,27 +53,27 @@ fn advance(
     }
 }
 
-fn advance_slot(
+fn advance_item(
     alloc: Global,
     table: &Table,
-    text: &[Word],
-    row: &Row,
+    text: &[Terminal],
+    row: &ChartRow,
     at: usize,
-    slot: &Slot,
-    ahead: &mut Ahead,
+    item: &Item,
+    agenda: &mut Agenda,
 ) -> Result<(), AllocError>
-    requires shape { at + length ahead.old.cells.items ≡ length text.now }
+    requires shape { at + length agenda.old.cells.items ≡ length text.now }
     requires short { length text.now ≤ 1024 }
     requires indexed { IsIndexed row.now }
-    requires full { AreFull (length text.now) ahead.old.full.items ahead.old.cells.items }
-    requires within { IsWithin row.now.readings.items at (length text.now) }
-    ensures len { length ahead.new.cells.items ≡ length ahead.old.cells.items }
-    ensures ok { IfOk result (λ _. Adds (CellsHold ahead.old.cells.items) (CellsHold ahead.new.cells.items) (AdvancesSlot table.now text.now row.now.readings.items at slot.now)) }
-    ensures full { IfOk result (λ _. AreFull (length text.now) ahead.new.full.items ahead.new.cells.items) }
+    requires full { AreFull (length text.now) agenda.old.full.items agenda.old.cells.items }
+    requires within { IsWithin row.now.constituents.items at (length text.now) }
+    ensures len { length agenda.new.cells.items ≡ length agenda.old.cells.items }
+    ensures ok { IfOk result (λ _. Adds (CellsHold agenda.old.cells.items) (CellsHold agenda.new.cells.items) (AdvancesItem table.now text.now row.now.constituents.items at item.now)) }
+    ensures full { IfOk result (λ _. AreFull (length text.now) agenda.new.full.items agenda.new.cells.items) }
 {
-    advance(alloc, table, text, row, at, slot.state, &slot.value, ahead)?;
-    if slot.full {
-        advance(alloc, table, text, row, at, slot.state, &slot.twin, ahead)?;
+    advance(alloc, table, text, row, at, item.state, &item.tree, agenda)?;
+    if item.full {
+        advance(alloc, table, text, row, at, item.state, &item.other, agenda)?;
     }
     Ok(())
 }
@@ -81,23 +81,23 @@ fn advance_slot(
 pub fn advance_cell(
     alloc: Global,
     table: &Table,
-    text: &[Word],
-    row: &Row,
+    text: &[Terminal],
+    row: &ChartRow,
     at: usize,
-    cell: &Vec<Slot>,
-    ahead: &mut Ahead,
+    cell: &Vec<Item>,
+    agenda: &mut Agenda,
 ) -> Result<(), AllocError>
-    requires shape { at + length ahead.old.cells.items ≡ length text.now }
+    requires shape { at + length agenda.old.cells.items ≡ length text.now }
     requires short { length text.now ≤ 1024 }
     requires indexed { IsIndexed row.now }
-    requires full { AreFull (length text.now) ahead.old.full.items ahead.old.cells.items }
-    requires within { IsWithin row.now.readings.items at (length text.now) }
-    ensures len { length ahead.new.cells.items ≡ length ahead.old.cells.items }
-    ensures ok { IfOk result (λ _. Adds (CellsHold ahead.old.cells.items) (CellsHold ahead.new.cells.items) (AdvancesCell table.now text.now row.now.readings.items at cell.now.items)) }
-    ensures full { IfOk result (λ _. AreFull (length text.now) ahead.new.full.items ahead.new.cells.items) }
+    requires full { AreFull (length text.now) agenda.old.full.items agenda.old.cells.items }
+    requires within { IsWithin row.now.constituents.items at (length text.now) }
+    ensures len { length agenda.new.cells.items ≡ length agenda.old.cells.items }
+    ensures ok { IfOk result (λ _. Adds (CellsHold agenda.old.cells.items) (CellsHold agenda.new.cells.items) (AdvancesCell table.now text.now row.now.constituents.items at cell.now.items)) }
+    ensures full { IfOk result (λ _. AreFull (length text.now) agenda.new.full.items agenda.new.cells.items) }
 {
-    for slot in cell {
-        advance_slot(alloc, table, text, row, at, slot, ahead)?;
+    for item in cell {
+        advance_item(alloc, table, text, row, at, item, agenda)?;
     }
     Ok(())
 }

@@ -1,121 +1,174 @@
-// The chart: at each place the readings that begin there, found from the last place to the first.
-ghost use Rattle.std.specs.Prelude.{◌≡◌, ◌≤◌, ◌<◌, ◌↔◌, ◌⊎◌, ◌-◌, ◌+◌, ℕ, IfOk, IfSome, IsTrue, length};
-ghost use Rattle.std.specs.List.{slice_get};
-ghost use Rattle.mw_chart.specs.declared.slot.Slot.{Slot};
-ghost use Rattle.mw_chart.specs.declared.table.Step.TheVariants.{Whole};
-ghost use Rattle.mw_chart.specs.Tree.{Tree};
-ghost use Rattle.mw_chart.specs.Spelling.{StepAt, TokenAt};
-ghost use Rattle.mw_chart.specs.Chart.{Has, HasTwo, IsIn, Holds, Puts, Adds, CellsHold, IsPut, FillsBy, Fills, Advances, AdvancesSlot, AdvancesCell, IsWithin};
+// Rows: the constituents that begin at each place.
+ghost use Rattle.std.specs.Prelude.{◌≡◌, ◌≤◌, ◌<◌, ◌-◌, ◌+◌, ℕ, IfOk, length};
+ghost use Rattle.mw_chart.specs.Chart.{IsRow, IsCell, IsCells, AreFirst};
+ghost use Rattle.mw_chart.specs.Row.{IsIndexed, AreFull, AreBare, AreRows};
+ghost use Rattle.mw_chart.specs.Spelling.{IsTable};
 
-use crate::slot::{Reading, Slot};
-use crate::table::{Step, Table};
-use crate::term::Term;
-use crate::word::Word;
+use crate::advancing::advance_cell;
+use crate::cell::stands;
+use crate::completing::Agenda;
+use crate::empty::empty_lists;
+use crate::item::{Constituent, Item};
+use crate::predicting::predict;
+use crate::row::{ChartRow, indexed};
+use crate::scanning::{group, keep_cell, scan};
+use crate::table::Table;
+use crate::terminal::Terminal;
 use std::alloc::{AllocError, Global};
 
-/// Whether a cell needs no further term at a state.
-pub fn is_full(cell: &Vec<Slot>, state: usize) -> bool
-    ensures { IsTrue result → HasTwo (Holds cell.now.items state) }
+/// No ends are full yet.
+fn agenda_of(alloc: Global, cells: Vec<Vec<Item>>) -> Agenda
+    ensures cells { result.cells ≡ cells }
+    ensures full { (n : ℕ) → AreFull n result.full.items result.cells.items }
 {
-    for slot in cell {
-        if slot.state == state && slot.full {
-            return true;
-        }
-    }
-    false
+    let full = Vec::new(alloc);
+    Agenda { cells, full }
 }
 
-/// Where a state's slot is.
-fn slot_of(cell: &Vec<Slot>, state: usize) -> Option<usize>
-    ensures { IfSome result (λ k. (slot : Slot) × (slice_get cell.now.items k ≡ Some slot) × (slot.state ≡ state)) }
+/// Rows without constituents.
+fn empty_rows(alloc: Global, count: usize) -> Result<Vec<ChartRow>, AllocError>
+    ensures { IfOk result (λ rows. AreBare count rows.items) }
 {
-    for (i, slot) in cell.iter().enumerate() {
-        if slot.state == state {
-            return Some(i);
-        }
+    let mut rows = Vec::with_capacity(alloc, count)?;
+    for i in 0..count {
+        rows.push(ChartRow {
+            constituents: Vec::new(alloc),
+            places: Vec::new(alloc),
+            strips: Vec::new(alloc),
+        })?;
     }
-    None
+    Ok(rows)
 }
 
-/// Puts a term into its state's slot, unless it is there or two are.
-fn join(slot: &mut Slot, value: Term)
-    ensures { Puts (IsIn slot.old) (IsIn slot.new) slot.old.state value }
+/// The cells of a place with the texts that begin with a token or a parenthesis.
+fn first_cells(
+    alloc: Global,
+    table: &Table,
+    text: &[Terminal],
+    rows: &Vec<ChartRow>,
+    i: usize,
+) -> Result<Vec<Vec<Item>>, AllocError>
+    requires table { IsTable table.now }
+    requires below { i < length text.now }
+    requires count { length rows.now.items ≡ length text.now + 1 }
+    requires rows { AreRows table.now text.now (i + 1) rows.now.items }
+    ensures { IfOk result (λ cells. AreFirst table.now text.now i cells.items) }
 {
-    if !slot.full && !slot.value.same(&value) {
-        slot.twin = value;
-        slot.full = true;
+    let mut cells = empty_lists(alloc, text.len() - i)?;
+    scan(alloc, table, text, i, &mut cells)?;
+    if stands(text, i, table.open) {
+        group(table, text, i, &rows[i + 1].constituents, &mut cells)?;
     }
+    Ok(cells)
 }
 
-/// Puts a term into a cell, unless it is there or two are.
-pub fn put(cell: &mut Vec<Slot>, state: usize, value: Term) -> Result<(), AllocError>
-    ensures { IfOk result (λ _. Puts (Holds cell.old.items) (Holds cell.new.items) state value) }
+/// Goes on from the texts that end at a place.
+fn turn(
+    alloc: Global,
+    table: &Table,
+    text: &[Terminal],
+    next: &ChartRow,
+    i: usize,
+    at: usize,
+    cell: &Vec<Item>,
+    agenda: &mut Agenda,
+    constituents: &mut Vec<Constituent>,
+) -> Result<(), AllocError>
+    requires table { IsTable table.now }
+    requires short { length text.now ≤ 1024 }
+    requires begin { i < at }
+    requires shape { at + length agenda.old.cells.items ≡ length text.now }
+    requires next { IsRow table.now text.now at (length text.now) next.now.constituents.items }
+    requires indexed { IsIndexed next.now }
+    requires cell { IsCell table.now text.now i (at - 1) at cell.now.items }
+    requires cells { IsCells table.now text.now i (at - 1) agenda.old.cells.items }
+    requires full { AreFull (length text.now) agenda.old.full.items agenda.old.cells.items }
+    requires constituents { IsRow table.now text.now i (at - 1) constituents.old.items }
+    ensures len { IfOk result (λ _. length agenda.new.cells.items ≡ length agenda.old.cells.items) }
+    ensures cells { IfOk result (λ _. IsCells table.now text.now i at agenda.new.cells.items) }
+    ensures full { IfOk result (λ _. AreFull (length text.now) agenda.new.full.items agenda.new.cells.items) }
+    ensures constituents { IfOk result (λ _. IsRow table.now text.now i at constituents.new.items) }
 {
-    match slot_of(cell, state) {
-        Some(k) => join(&mut cell[k], value),
-        None => {
-            let twin = value.again()?;
-            let full = false;
-            cell.push(Slot {
-                state,
-                value,
-                twin,
-                full,
-            })?;
-        }
-    }
+    prove!(i < at);
+    keep_cell(table, at, cell, constituents)?;
+    let predicted = predict(alloc, table, text, at, cell)?;
+    advance_cell(alloc, table, text, next, at, cell, agenda)?;
+    advance_cell(alloc, table, text, next, at, &predicted, agenda)?;
     Ok(())
 }
 
-pub fn put_at(
-    cells: &mut Vec<Vec<Slot>>,
-    at: usize,
-    state: usize,
-    value: Term,
-) -> Result<(), AllocError>
-    requires { at < length cells.old.items }
-    ensures len { length cells.new.items ≡ length cells.old.items }
-    ensures ok { IfOk result (λ _. Adds (CellsHold cells.old.items) (CellsHold cells.new.items) (IsPut at state value)) }
+/// The constituents that begin at a place, from those that begin behind it.
+fn constituents_at(
+    alloc: Global,
+    table: &Table,
+    text: &[Terminal],
+    rows: &Vec<ChartRow>,
+    i: usize,
+) -> Result<Vec<Constituent>, AllocError>
+    requires table { IsTable table.now }
+    requires short { length text.now ≤ 1024 }
+    requires below { i < length text.now }
+    requires count { length rows.now.items ≡ length text.now + 1 }
+    requires rows { AreRows table.now text.now (i + 1) rows.now.items }
+    ensures { IfOk result (λ constituents. IsRow table.now text.now i (length text.now) constituents.items) }
 {
-    put(&mut cells[at], state, value)
-}
-
-/// Whether a token stands at a place.
-pub fn stands(text: &[Word], at: usize, token: u32) -> bool
-    ensures { IsTrue result ↔ TokenAt text.now at token }
-{
-    at < text.len() && text[at].token == token
-}
-
-/// What comes next at a state among these.
-pub fn step_in(steps: &[Step], state: usize) -> Option<Step>
-    ensures { result ≡ slice_get steps.now state }
-{
-    if state < steps.len() {
-        Some(steps[state])
-    } else {
-        None
+    let cells = first_cells(alloc, table, text, rows, i)?;
+    let mut agenda = agenda_of(alloc, cells);
+    let mut constituents = Vec::new(alloc);
+    while let Some(cell) = agenda.cells.pop() {
+        let at = text.len() - agenda.cells.len();
+        turn(
+            alloc,
+            table,
+            text,
+            &rows[at],
+            i,
+            at,
+            &cell,
+            &mut agenda,
+            &mut constituents,
+        )?;
     }
+    Ok(constituents)
 }
 
-/// What comes next at a state.
-pub fn step_of(table: &Table, state: usize) -> Option<Step>
-    ensures { result ≡ slice_get table.now.steps.items state }
+/// The row of a place, from those behind it.
+fn row_at(
+    alloc: Global,
+    table: &Table,
+    text: &[Terminal],
+    rows: &Vec<ChartRow>,
+    i: usize,
+) -> Result<ChartRow, AllocError>
+    requires table { IsTable table.now }
+    requires short { length text.now ≤ 1024 }
+    requires below { i < length text.now }
+    requires count { length rows.now.items ≡ length text.now + 1 }
+    requires rows { AreRows table.now text.now (i + 1) rows.now.items }
+    ensures row { IfOk result (λ row. IsRow table.now text.now i (length text.now) row.constituents.items) }
+    ensures indexed { IfOk result IsIndexed }
 {
-    step_in(table.steps.as_slice(), state)
+    let constituents = constituents_at(alloc, table, text, rows, i)?;
+    indexed(alloc, constituents, text.len())
 }
 
-/// Whether a hole takes the texts of a state.
-pub fn takes(table: &Table, state: usize, kind: u32, below: u32) -> bool
-    ensures { IsTrue result ↔ ((precedence : ℕ) × StepAt table.now state (Whole kind precedence) × (precedence < below)) }
+/// The constituents at each place.
+pub fn chart_of(
+    alloc: Global,
+    table: &Table,
+    text: &[Terminal],
+) -> Result<Vec<ChartRow>, AllocError>
+    requires table { IsTable table.now }
+    requires short { length text.now ≤ 1024 }
+    ensures count { IfOk result (λ rows. length rows.items ≡ length text.now + 1) }
+    ensures rows { IfOk result (λ rows. AreRows table.now text.now 0 rows.items) }
 {
-    match step_of(table, state) {
-        Some(
-            Step::Whole {
-                kind: given,
-                precedence,
-            },
-        ) => given == kind && precedence < below,
-        _ => false,
+    let mut rows = empty_rows(alloc, text.len() + 1)?;
+    let mut i = text.len();
+    while i > 0 {
+        i -= 1;
+        let row = row_at(alloc, table, text, &rows, i)?;
+        rows[i] = row;
     }
+    Ok(rows)
 }

@@ -1,56 +1,56 @@
-// Why texts have no one reading.
+// Why texts have no one constituent.
 
-use crate::term::Term;
+use crate::tree::Tree;
 use std::alloc::AllocError;
 
 /// The most tokens of a text.
 pub const LIMIT: usize = 1024;
 
-/// Why a text has no one term.
+/// Why a text has no one tree.
 #[derive(Drop)]
-pub enum Fault {
+pub enum NoReading {
     NoParse,
-    /// Two different terms.
-    Ambiguous { first: Term, second: Term },
+    /// Two different trees.
+    Ambiguous { first: Tree, second: Tree },
     TooLong,
     Memory,
 }
 
-impl From<AllocError> for Fault {
+impl From<AllocError> for NoReading {
     ghost use Rattle.std.specs.Prelude.{◌≡◌};
-    ghost use Rattle.mw_chart.specs.declared.fault.Fault.TheVariants.{Memory};
+    ghost use Rattle.mw_chart.specs.declared.fault.NoReading.TheVariants.{Memory};
 
     ghost from_gives = { λ _ e. e ≡ Memory };
 
     fn from(_: AllocError) -> Self {
-        Fault::Memory
+        NoReading::Memory
     }
 }
 
-/// The terms of two texts.
+/// The trees of two texts.
 #[derive(Drop)]
-pub struct Pair {
-    pub left: Term,
-    pub right: Term,
+pub struct TreePair {
+    pub left: Tree,
+    pub right: Tree,
 }
 
-/// Why two texts have no one pair of terms of one kind.
+/// Why two texts have no one pair of trees of one kind.
 #[derive(Drop)]
-pub enum PairFault {
+pub enum NoPair {
     NoParse,
     /// Two different pairs.
-    Ambiguous { first: Pair, second: Pair },
+    Ambiguous { first: TreePair, second: TreePair },
     TooLong,
     Memory,
 }
 
-impl From<AllocError> for PairFault {
+impl From<AllocError> for NoPair {
     ghost use Rattle.std.specs.Prelude.{◌≡◌};
-    ghost use Rattle.mw_chart.specs.declared.fault.PairFault.TheVariants.{Memory};
+    ghost use Rattle.mw_chart.specs.declared.fault.NoPair.TheVariants.{Memory};
 
     ghost from_gives = { λ _ e. e ≡ Memory };
 
     fn from(_: AllocError) -> Self {
-        PairFault::Memory
+        NoPair::Memory
     }
 }

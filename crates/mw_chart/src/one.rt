@@ -1,15 +1,15 @@
-// The one term of a text.
+// The one tree of a text.
 ghost use Rattle.std.specs.Prelude.{◌≡◌, ◌≢◌, ◌≤◌, ◌↔◌, ℕ, Some, IfOk, IfErr, IfSome, IfNone, IsTrue};
 ghost use Rattle.std.specs.List.{slice_get};
 ghost use Rattle.mw_chart.specs.Spelling.{IsTable};
-ghost use Rattle.mw_chart.specs.Answer.{IsWanted, Reads, HasFault};
-ghost use Rattle.mw_chart.specs.declared.whole.Spelled.{Spelled};
+ghost use Rattle.mw_chart.specs.Answer.{IsWanted, Reads, HasNoReading};
+ghost use Rattle.mw_chart.specs.declared.reading.Reading.{Reading};
 
-use crate::fault::{Fault, LIMIT};
+use crate::fault::{LIMIT, NoReading};
+use crate::reading::{Reading, readings};
 use crate::table::Table;
-use crate::term::Term;
-use crate::whole::{Spelled, readings};
-use crate::word::Word;
+use crate::terminal::Terminal;
+use crate::tree::Tree;
 use std::alloc::Global;
 
 /// Whether a kind is the wanted one, where one is wanted.
@@ -22,10 +22,10 @@ fn is_wanted(wanted: Option<u32>, kind: u32) -> bool
     }
 }
 
-/// The first term of the wanted kind.
-pub fn first_of(listed: &Vec<Spelled>, wanted: Option<u32>) -> Option<usize>
-    ensures some { IfSome result (λ k. (x : Spelled) × (slice_get listed.now.items k ≡ Some x) × IsWanted wanted x.kind) }
-    ensures none { IfNone result ((k : ℕ) (x : Spelled) → slice_get listed.now.items k ≡ Some x → IsWanted wanted x.kind → ⊥) }
+/// The first tree of the wanted kind.
+pub fn first_of(listed: &Vec<Reading>, wanted: Option<u32>) -> Option<usize>
+    ensures some { IfSome result (λ k. (x : Reading) × (slice_get listed.now.items k ≡ Some x) × IsWanted wanted x.kind) }
+    ensures none { IfNone result ((k : ℕ) (x : Reading) → slice_get listed.now.items k ≡ Some x → IsWanted wanted x.kind → ⊥) }
 {
     for (k, found) in listed.iter().enumerate() {
         if is_wanted(wanted, found.kind) {
@@ -36,42 +36,42 @@ pub fn first_of(listed: &Vec<Spelled>, wanted: Option<u32>) -> Option<usize>
 }
 
 /// One that isn't this one.
-pub fn other_of(listed: &Vec<Spelled>, wanted: Option<u32>, first: &Term) -> Option<usize>
-    ensures some { IfSome result (λ k. (x : Spelled) × (slice_get listed.now.items k ≡ Some x) × IsWanted wanted x.kind × (x.term ≢ first.now)) }
-    ensures none { IfNone result ((k : ℕ) (x : Spelled) → slice_get listed.now.items k ≡ Some x → IsWanted wanted x.kind → x.term ≡ first.now) }
+pub fn other_of(listed: &Vec<Reading>, wanted: Option<u32>, first: &Tree) -> Option<usize>
+    ensures some { IfSome result (λ k. (x : Reading) × (slice_get listed.now.items k ≡ Some x) × IsWanted wanted x.kind × (x.tree ≢ first.now)) }
+    ensures none { IfNone result ((k : ℕ) (x : Reading) → slice_get listed.now.items k ≡ Some x → IsWanted wanted x.kind → x.tree ≡ first.now) }
 {
     for (k, found) in listed.iter().enumerate() {
-        if is_wanted(wanted, found.kind) && !found.term.same(first) {
+        if is_wanted(wanted, found.kind) && !found.tree.same(first) {
             return Some(k);
         }
     }
     None
 }
 
-/// The one term that a text spells, of a kind where one is wanted.
+/// The one tree that a text spells, of a kind where one is wanted.
 pub fn parse(
     alloc: Global,
     table: &Table,
-    text: &[Word],
+    text: &[Terminal],
     wanted: Option<u32>,
-) -> Result<Term, Fault>
+) -> Result<Tree, NoReading>
     requires { IsTable table.now }
     ensures one { IfOk result (Reads table.now wanted text.now) }
-    ensures fault { IfErr result (HasFault table.now wanted text.now) }
+    ensures fault { IfErr result (HasNoReading table.now wanted text.now) }
 {
     if text.len() > LIMIT {
-        return Err(Fault::TooLong);
+        return Err(NoReading::TooLong);
     }
     let listed = readings(alloc, table, text)?;
     match first_of(&listed, wanted) {
-        None => Err(Fault::NoParse),
+        None => Err(NoReading::NoParse),
         Some(k) => {
-            let first = listed[k].term.again()?;
+            let first = listed[k].tree.again()?;
             match other_of(&listed, wanted, &first) {
                 None => Ok(first),
                 Some(j) => {
-                    let second = listed[j].term.again()?;
-                    Err(Fault::Ambiguous { first, second })
+                    let second = listed[j].tree.again()?;
+                    Err(NoReading::Ambiguous { first, second })
                 }
             }
         }

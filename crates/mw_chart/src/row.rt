@@ -1,4 +1,4 @@
-// The readings that begin at a place, found by state and end.
+// The constituents that begin at a place, found by state and end.
 ghost use Rattle.std.specs.Prelude.{◌≡◌, ◌≤◌, ◌<◌, ℕ, Some, IfOk, IfSome, length};
 ghost use Rattle.std.specs.List.{slice_get};
 ghost use Rattle.mw_chart.specs.Bits.{IsSet};
@@ -8,7 +8,7 @@ ghost use Rattle.mw_chart.specs.declared.row.Strip.{Strip};
 
 use crate::bits::insert;
 use crate::empty::empty_lists;
-use crate::slot::Reading;
+use crate::item::Constituent;
 use std::alloc::{AllocError, Global};
 
 /// The ends of the texts that have come to a whole state.
@@ -18,11 +18,11 @@ pub struct Strip {
     pub ends: Vec<u64>,
 }
 
-/// The readings that begin at a place.
+/// The constituents that begin at a place.
 #[derive(Drop)]
-pub struct Row {
-    pub readings: Vec<Reading>,
-    /// For each end the indexes of its readings.
+pub struct ChartRow {
+    pub constituents: Vec<Constituent>,
+    /// For each end the indexes of its constituents.
     pub places: Vec<Vec<usize>>,
     pub strips: Vec<Strip>,
 }
@@ -77,21 +77,25 @@ fn list_end(
     }
 }
 
-/// The row of readings that end by a place.
-pub fn indexed(alloc: Global, readings: Vec<Reading>, n: usize) -> Result<Row, AllocError>
-    requires ends { EndBy n readings.items }
+/// The row of constituents that end by a place.
+pub fn indexed(
+    alloc: Global,
+    constituents: Vec<Constituent>,
+    n: usize,
+) -> Result<ChartRow, AllocError>
+    requires ends { EndBy n constituents.items }
     requires short { n ≤ 1024 }
-    ensures readings { IfOk result (λ row. row.readings ≡ readings) }
+    ensures constituents { IfOk result (λ row. row.constituents ≡ constituents) }
     ensures indexed { IfOk result IsIndexed }
 {
     let mut places = empty_lists(alloc, n + 1)?;
     let mut strips = Vec::new(alloc);
-    for (k, reading) in readings.iter().enumerate() {
-        list_place(&mut places, reading.end, k)?;
-        list_end(alloc, &mut strips, reading.state, reading.end)?;
+    for (k, constituent) in constituents.iter().enumerate() {
+        list_place(&mut places, constituent.end, k)?;
+        list_end(alloc, &mut strips, constituent.state, constituent.end)?;
     }
-    Ok(Row {
-        readings,
+    Ok(ChartRow {
+        constituents,
         places,
         strips,
     })

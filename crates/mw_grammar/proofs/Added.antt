@@ -8,7 +8,7 @@ use Rattle.mw_text.specs.Mentions.{is_met, with_variable}
 use Rattle.mw_grammar.proofs.Writing.{back}
 use Rattle.mw_logic.specs.Term.{Variable}
 use Rattle.mw_logic.specs.Signature.{Member}
-use Rattle.mw_chart.specs.declared.word.Leaf.{Leaf}
+use Rattle.mw_chart.specs.declared.terminal.Leaf.{Leaf}
 use Rattle.mw_text.proofs.Joined.{Member-cases, Member-left, Member-right}
 use Rattle.mw_grammar.specs.Compiled.{Extends}
 use Rattle.mw_grammar.specs.Worded.{IsLeafOf, AllDiffer, Adds}

@@ -2,7 +2,7 @@
 use Rattle.std.proofs.Common.{ℕ, List, [], ◌∷◌, ◌++◌, codes}
 use Rattle.mw_logic.specs.Term.{Variable, RawTerm, variable, apply, RawTerms}
 use Rattle.mw_logic.specs.Signature.{Signature}
-use Rattle.mw_grammar.specs.declared.notation.Notation.{Notation}
+use Rattle.mw_grammar.specs.Notations.{Notation}
 use Rattle.mw_grammar.specs.Notations.{IsNotation}
 use Rattle.mw_grammar.specs.Readable.{IsWithin}
 use Rattle.mw_grammar.specs.Leaves.{IsVariableToken}

@@ -5,10 +5,10 @@ use Rattle.mw_logic.specs.Signature.{Signature, HasKind, of_variable, of_operato
 use Rattle.mw_logic.proofs.KindLaws.{SameKind-sym}
 use Rattle.mw_logic.proofs.Soundness.{HasKind-same}
 use Rattle.mw_chart.specs.Tree.{Tree}
-use Rattle.mw_chart.specs.Spelling.{StepAt, Begun}
-use Rattle.mw_chart.specs.declared.table.Step.TheVariants.{Whole}
+use Rattle.mw_chart.specs.Spelling.{NextAt, IsItem}
+use Rattle.mw_chart.specs.declared.table.Next.TheVariants.{Whole}
 use Rattle.mw_chart.specs.declared.table.Table.{Table}
-use Rattle.mw_chart.specs.declared.word.Word.{Word}
+use Rattle.mw_chart.specs.declared.terminal.Terminal.{Terminal}
 use Rattle.mw_text.specs.Mixfix.{Spells, declared, with_sort, grouped, a_constant, prefixed, flattened, mixfix, IsWanted, IsSpelled, Reads}
 use Rattle.mw_grammar.specs.Notations.{IsNotation}
 use Rattle.mw_grammar.specs.Readable.{AreKinds, IsReadable, AreVariables}
@@ -40,7 +40,7 @@ module _ (sig : Signature) (variables : List Variable) (kind : ℕ → ℕ) (ks 
   chosen_kind (Some S) t p text d w = (S, w, refl)
 
   module _ (names : List (List ℕ)) (g : Table) (compiled : IsCompiled (length sig.sorts) (IsNotation kind sig) names g) where
-    module _ (leaves : List Variable) (tokens : List (List ℕ)) (words : List Word) (worded : AreWords sig.sorts variables kind names leaves tokens words) where
+    module _ (leaves : List Variable) (tokens : List (List ℕ)) (words : List Terminal) (worded : AreWords sig.sorts variables kind names leaves tokens words) where
       complete : (wanted : Option ℕ) (t : RawTerm) → IsSpelled sig variables wanted tokens t → (tree : Tree) × IsTree sig kind g wanted words tree × (term_of leaves tree ≡ t)
       complete wanted t h =
           let S = chosen_kind wanted t h.precedence tokens h.spells h.kind in
@@ -48,13 +48,13 @@ module _ (sig : Signature) (variables : List Variable) (kind : ℕ → ℕ) (ks 
           t h.precedence tokens h.spells S.0 S.1 in
           let r = stands ([]) ([]) (sym (append-nil tokens)) in
           let len : length words ≡ 0 + length tokens = worded.count ∙ omega arith in
-          let b : Begun g words r.0 r.1 0 (length words) = subst (λ (n : ℕ). Begun g words r.0 r.1 0 n) (sym len) r.2 in (
+          let b : IsItem g words r.0 r.1 0 (length words) = subst (λ (n : ℕ). IsItem g words r.0 r.1 0 n) (sym len) r.2 in (
             r.1,
             record { K = kind S.0; within = kind_within sig variables kind ks ok vs t h.precedence tokens h.spells S.0 S.1; is_wanted = S.2; spelled = (h.precedence, (r.0, b, r.3)) },
             r.4,
           )
 
-      meant : (K p w : ℕ) (tree : Tree) → Begun g words w tree 0 (length words) → StepAt g w (Whole K p) → Means sig variables kind ks ok vs K p (term_of leaves tree) tokens
+      meant : (K p w : ℕ) (tree : Tree) → IsItem g words w tree 0 (length words) → NextAt g w (Whole K p) → Means sig variables kind ks ok vs K p (term_of leaves tree) tokens
       meant K p w tree b wh =
           read_all sig variables kind ks vs names g compiled leaves tokens words worded (Means sig variables kind ks ok vs) (means_closed sig variables kind ks ok vs) w K p tree b wh
 

@@ -1,7 +1,7 @@
 -- Lists of parts, as loops make them.
 use Rattle.std.proofs.Common.{ℕ, ◌≡◌, List, [], ◌∷◌, codes, Bool, true, false, refl, ap}
-use Rattle.mw_grammar.specs.declared.notation.Symbol.{Symbol}
-use Rattle.mw_grammar.specs.declared.notation.Symbol.TheVariants.{Piece, Hole}
+use Rattle.mw_grammar.specs.declared.parts.Symbol.{Symbol}
+use Rattle.mw_grammar.specs.declared.parts.Symbol.TheVariants.{Piece, Hole}
 use Rattle.mw_grammar.specs.Notations.{arguments}
 
 -- more arguments, where the first of them comes behind a comma or not

@@ -3,8 +3,8 @@ use Rattle.std.proofs.Common.{ℕ, zero, suc, ◌≡◌, ◌∙◌, ◌<◌, ◌
 use Rattle.std.specs.List.{slice_get}
 use Rattle.mw_logic.specs.Signature.{Gather}
 use Rattle.mw_text.specs.Names.{Item, hole}
-use Rattle.mw_grammar.specs.declared.notation.Symbol.{Symbol}
-use Rattle.mw_grammar.specs.declared.notation.Symbol.TheVariants.{Hole}
+use Rattle.mw_grammar.specs.declared.parts.Symbol.{Symbol}
+use Rattle.mw_grammar.specs.declared.parts.Symbol.TheVariants.{Hole}
 use Rattle.mw_grammar.specs.Notations.{bound, mixfix_parts, mixing}
 
 pub get-map : {A B : Type 0} (f : A → B) (xs : List A) (n : ℕ) (x : A) → slice_get xs n ≡ Some x → slice_get (map f xs) n ≡ Some (f x)

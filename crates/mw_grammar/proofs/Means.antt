@@ -8,9 +8,9 @@ use Rattle.mw_logic.proofs.Soundness.{HasKind-same}
 use Rattle.mw_text.specs.Names.{Item, piece, hole, items_of}
 use Rattle.mw_text.specs.Mixfix as text
 use Rattle.mw_text.specs.Mixfix.{IsHead, IsTaken, Spells, declared, with_sort, grouped, a_constant, prefixed, flattened, mixfix, SpellsArguments, last, more, SpellsNested, two, another, SpellsItems, no_items}
-use Rattle.mw_grammar.specs.declared.notation.Symbol.{Symbol}
-use Rattle.mw_grammar.specs.declared.notation.Symbol.TheVariants.{Piece, Hole}
-use Rattle.mw_grammar.specs.declared.notation.Notation.{Notation}
+use Rattle.mw_grammar.specs.declared.parts.Symbol.{Symbol}
+use Rattle.mw_grammar.specs.declared.parts.Symbol.TheVariants.{Piece, Hole}
+use Rattle.mw_grammar.specs.Notations.{Notation}
 use Rattle.mw_grammar.specs.Notations.{pieces_as, arguments, prefix_parts, in_parentheses, bound, mixfix_parts, two_parts, IsNotationOf, is_prefix, is_mixfix, is_flattened, is_tail}
 use Rattle.mw_grammar.specs.Readable.{IsWithin, AreKinds, IsReadable, AreVariables}
 use Rattle.mw_grammar.specs.Leaves.{IsVariableToken}

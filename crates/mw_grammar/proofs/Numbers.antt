@@ -1,6 +1,6 @@
 -- The numbers of names.
-use Rattle.std.proofs.Common.{ℕ, zero, suc, ◌≡◌, ◌≢◌, ◌<◌, ◌≤◌, ◌+◌, ◌⊎◌, ◌∙◌, ◌||◌, List, [], ◌∷◌, ◌++◌, length, Bool, true, false, bytes_eq, cond, not, nat_lt, if◌then◌else◌, Option, None, Some, option_map, unwrap_or, refl, sym, ap, subst, inl, inr, arith, length-append}
-use Rattle.std.specs.List.{slice_get, list_any, position_or_len}
+use Rattle.std.proofs.Common.{ℕ, zero, suc, ◌≡◌, ◌<◌, ◌≤◌, ◌+◌, ◌⊎◌, ◌∙◌, ◌||◌, List, [], ◌∷◌, ◌++◌, length, Bool, true, false, bytes_eq, cond, not, nat_lt, if◌then◌else◌, None, Some, option_map, unwrap_or, refl, sym, ap, subst, inl, inr, arith}
+use Rattle.std.specs.List.{slice_get, position_or_len}
 use Rattle.std.proofs.lemmas.Bool.{cases_Bool, lt-ltb, le-ltb, ltb-true, ltb-false}
 use Rattle.std.proofs.lemmas.Slice.Eq.{bytes_eq-Decides}
 use Rattle.mw_text.specs.Interned.{number_of, is_among, with_name}

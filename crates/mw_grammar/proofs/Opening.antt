@@ -1,13 +1,13 @@
 -- No form is empty, and none is a hole alone.
 use Rattle.std.proofs.Common.{ℕ, ◌≡◌, ◌≢◌, ◌∙◌, ◌+◌, List, [], ◌∷◌, ◌++◌, length, Option, None, Some, option_map, IsFalse, refl, sym, ap, subst, inl, inr}
 use Rattle.mw_logic.specs.Signature.{Signature, Operator, Gather}
-use Rattle.mw_chart.specs.Spelling.{IsStart, IsOpening, IsTable}
+use Rattle.mw_chart.specs.Spelling.{IsProduction, IsOpening, IsTable}
 use Rattle.mw_chart.specs.declared.table.Table.{Table}
 use Rattle.mw_text.specs.Names.{Item, piece, hole, items_of, has_hole, pieces}
 use Rattle.mw_text.specs.Mixfix.{IsHead}
-use Rattle.mw_grammar.specs.declared.notation.Symbol.{Symbol}
-use Rattle.mw_grammar.specs.declared.notation.Symbol.TheVariants.{Piece, Hole}
-use Rattle.mw_grammar.specs.declared.notation.Notation.{Notation}
+use Rattle.mw_grammar.specs.declared.parts.Symbol.{Symbol}
+use Rattle.mw_grammar.specs.declared.parts.Symbol.TheVariants.{Piece, Hole}
+use Rattle.mw_grammar.specs.Notations.{Notation}
 use Rattle.mw_grammar.specs.Notations.{pieces_as, prefix_parts, in_parentheses, bound, mixfix_parts, two_parts, IsNotationOf, is_prefix, is_mixfix, is_flattened, is_tail, IsNotation}
 use Rattle.mw_grammar.specs.Readable.{IsReadable}
 use Rattle.mw_grammar.specs.Compiled.{Leads, IsCompiled}
@@ -74,7 +74,7 @@ module _ (kind : ℕ → ℕ) where
   not_alone parts rest k b o e n = subst Opens (e ∙ ap (λ ps. Hole k b ∷ ps) n) o
 
   -- where a form starts, there is no whole text, and no hole alone
-  opening_at : (sig : Signature) (names : List (List ℕ)) (g : Table) → IsReadable sig → IsCompiled (length sig.sorts) (IsNotation kind sig) names g → (s op : ℕ) → IsStart g s op → IsOpening g s
+  opening_at : (sig : Signature) (names : List (List ℕ)) (g : Table) → IsReadable sig → IsCompiled (length sig.sorts) (IsNotation kind sig) names g → (s op : ℕ) → IsProduction g s op → IsOpening g s
   opening_at sig names g ok compiled s op start =
       let f = compiled.sound start.0 start.1 start.2 in
       let of = f.1 in
@@ -87,7 +87,7 @@ module _ (kind : ℕ → ℕ) where
             not_alone f.0.parts r.0 K b opens r.1 (leads_whole g.steps.items names next f.2.last k p r.0 r.2 wh).0,
       )
 
-  -- the table of a signature's forms has no form that is empty or a hole alone, and an index of its starts
+  -- the table of a signature's forms has no form that is empty or a hole alone, and an index of its productions
   pub table_opens : (sig : Signature) (names : List (List ℕ)) (g : Table) → IsReadable sig → IsCompiled (length sig.sorts) (IsNotation kind sig) names g → IsTable g
   table_opens sig names g ok compiled = record {
     opening = opening_at sig names g ok compiled;

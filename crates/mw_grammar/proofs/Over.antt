@@ -1,8 +1,8 @@
 -- Texts over the parts of a form.
 use Rattle.std.proofs.Common.{ℕ, ◌≡◌, ◌<◌, ◌∙◌, List, [], ◌∷◌, ◌++◌, refl, sym, ap, subst, append_assoc, append-nil}
 use Rattle.mw_logic.specs.Term.{RawTerm, RawTerms, nil, cons, join}
-use Rattle.mw_grammar.specs.declared.notation.Symbol.{Symbol}
-use Rattle.mw_grammar.specs.declared.notation.Symbol.TheVariants.{Piece, Hole}
+use Rattle.mw_grammar.specs.declared.parts.Symbol.{Symbol}
+use Rattle.mw_grammar.specs.declared.parts.Symbol.TheVariants.{Piece, Hole}
 use Rattle.mw_grammar.specs.Notations.{pieces_as}
 
 module _ (S : ℕ → ℕ → RawTerm → List (List ℕ) → Type 0) where

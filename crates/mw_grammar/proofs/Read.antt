@@ -2,17 +2,16 @@
 use Rattle.std.proofs.Common.{ℕ, zero, suc, ◌≡◌, ◌<◌, ◌≤◌, ◌⊎◌, ◌∙◌, ◌+◌, List, [], ◌∷◌, ◌++◌, length, take, drop, codes, Some, refl, sym, ap, subst, inl, inr, arith, append_assoc, append-nil, length-append}
 use Rattle.std.specs.List.{slice_get}
 use Rattle.mw_logic.specs.Term.{Variable, RawTerm, variable, apply, RawTerms, nil, cons, join}
-use Rattle.mw_logic.specs.Signature.{Signature, Member}
+use Rattle.mw_logic.specs.Signature.{Signature}
 use Rattle.mw_chart.specs.Tree.{Tree, leaf, head, app}
-use Rattle.mw_chart.specs.Spelling.{StepAt, IsStart, TokenAt, Begun, opened, over_token, over_hole, grouped, alone}
-use Rattle.mw_chart.specs.declared.table.Step.{Step}
-use Rattle.mw_chart.specs.declared.table.Step.TheVariants.{Token, Hole, Whole}
-use Rattle.mw_chart.specs.declared.table.Start.{Start}
+use Rattle.mw_chart.specs.Spelling.{NextAt, IsProduction, TokenAt, IsItem, predicted, scanned, completed, grouped, alone}
+use Rattle.mw_chart.specs.declared.table.Next.{Next}
+use Rattle.mw_chart.specs.declared.table.Next.TheVariants.{Token, Hole, Whole}
 use Rattle.mw_chart.specs.declared.table.Table.{Table}
-use Rattle.mw_chart.specs.declared.word.Word.{Word}
-use Rattle.mw_grammar.specs.declared.notation.Symbol.{Symbol}
-use Rattle.mw_grammar.specs.declared.notation.Symbol.TheVariants as part
-use Rattle.mw_grammar.specs.declared.notation.Notation.{Notation}
+use Rattle.mw_chart.specs.declared.terminal.Terminal.{Terminal}
+use Rattle.mw_grammar.specs.declared.parts.Symbol.{Symbol}
+use Rattle.mw_grammar.specs.declared.parts.Symbol.TheVariants as part
+use Rattle.mw_grammar.specs.Notations.{Notation}
 use Rattle.mw_grammar.specs.Notations.{IsNotation}
 use Rattle.mw_grammar.specs.Readable.{AreKinds, AreVariables}
 use Rattle.mw_grammar.specs.Leaves.{IsVariableToken}
@@ -33,7 +32,7 @@ below (y ∷ xs) zero x e = omega arith
 below (y ∷ xs) (suc k) x e = let h = below xs k x e in omega arith
 
 -- from a state that leads over parts to a whole one, a step goes over the first part
-leads_token : (steps : List Step) (names : List (List ℕ)) (s x next w kind p : ℕ) (parts : List Symbol) → Leads steps names s parts w → slice_get steps s ≡ Some (Token x next)
+leads_token : (steps : List Next) (names : List (List ℕ)) (s x next w kind p : ℕ) (parts : List Symbol) → Leads steps names s parts w → slice_get steps s ≡ Some (Token x next)
     → slice_get steps w ≡ Some (Whole kind p) → (name : List ℕ) × (rest : List Symbol) × (parts ≡ part.Piece name ∷ rest) × IsNumber names x name × Leads steps names next rest w
 leads_token steps names s x next w kind p parts (there s2) st wh = let bad : ⊥ = (let q = one_there steps s _ _ st wh in cc) in absurd bad
 leads_token steps names s x next w kind p parts (past_piece s2 y n2 w2 name rest st2 num d) st wh =
@@ -43,7 +42,7 @@ leads_token steps names s x next w kind p parts (past_piece s2 y n2 w2 name rest
     (name, rest, refl, subst (λ (m : ℕ). IsNumber names m name) same2 num, subst (λ (m : ℕ). Leads steps names m rest w) same d)
 leads_token steps names s x next w kind p parts (past_hole s2 k2 b2 n2 w2 rest st2 d) st wh = let bad : ⊥ = (let q = one_there steps s _ _ st2 st in cc) in absurd bad
 
-pub leads_hole : (steps : List Step) (names : List (List ℕ)) (s k3 b3 next w kind p : ℕ) (parts : List Symbol) → Leads steps names s parts w → slice_get steps s ≡ Some (Hole k3 b3 next)
+pub leads_hole : (steps : List Next) (names : List (List ℕ)) (s k3 b3 next w kind p : ℕ) (parts : List Symbol) → Leads steps names s parts w → slice_get steps s ≡ Some (Hole k3 b3 next)
     → slice_get steps w ≡ Some (Whole kind p) → (rest : List Symbol) × (parts ≡ part.Hole k3 b3 ∷ rest) × Leads steps names next rest w
 leads_hole steps names s k3 b3 next w kind p parts (there s2) st wh = let bad : ⊥ = (let q = one_there steps s _ _ st wh in cc) in absurd bad
 leads_hole steps names s k3 b3 next w kind p parts (past_piece s2 y n2 w2 name rest st2 num d) st wh = let bad : ⊥ = (let q = one_there steps s _ _ st2 st in cc) in absurd bad
@@ -54,7 +53,7 @@ leads_hole steps names s k3 b3 next w kind p parts (past_hole s2 k2 b2 n2 w2 res
     let b : b2 ≡ b3 = (cc) in
     (rest, ap (λ m. part.Hole m b2 ∷ rest) a ∙ ap (λ m. part.Hole k3 m ∷ rest) b, subst (λ (m : ℕ). Leads steps names m rest w) same d)
 
-pub leads_whole : (steps : List Step) (names : List (List ℕ)) (s w kind p : ℕ) (parts : List Symbol) → Leads steps names s parts w → slice_get steps s ≡ Some (Whole kind p) → (parts ≡ []) × (s ≡ w)
+pub leads_whole : (steps : List Next) (names : List (List ℕ)) (s w kind p : ℕ) (parts : List Symbol) → Leads steps names s parts w → slice_get steps s ≡ Some (Whole kind p) → (parts ≡ []) × (s ≡ w)
 leads_whole steps names s w kind p parts (there s2) st = (refl, refl)
 leads_whole steps names s w kind p parts (past_piece s2 y n2 w2 name rest st2 num d) st = let bad : ⊥ = (let q = one_there steps s _ _ st2 st in cc) in absurd bad
 leads_whole steps names s w kind p parts (past_hole s2 k2 b2 n2 w2 rest st2 d) st = let bad : ⊥ = (let q = one_there steps s _ _ st2 st in cc) in absurd bad
@@ -107,7 +106,7 @@ pub record Between (full text : List (List ℕ)) (i k : ℕ) : Type 0 where
 
 module _ (sig : Signature) (variables : List Variable) (kind : ℕ → ℕ) (ks : AreKinds sig kind) (vs : AreVariables sig variables) where
   module _ (names : List (List ℕ)) (g : Table) (compiled : IsCompiled (length sig.sorts) (IsNotation kind sig) names g) where
-    module _ (leaves : List Variable) (full : List (List ℕ)) (words : List Word) (worded : AreWords sig.sorts variables kind names leaves full words) where
+    module _ (leaves : List Variable) (full : List (List ℕ)) (words : List Terminal) (worded : AreWords sig.sorts variables kind names leaves full words) where
       module _ (S : ℕ → ℕ → RawTerm → List (List ℕ) → Type 0) (closed : IsClosed sig variables kind S) where
         -- how far a form's text has come
         pub record Progress (s : ℕ) (v : Tree) (text : List (List ℕ)) : Type 0 where
@@ -121,16 +120,16 @@ module _ (sig : Signature) (variables : List Variable) (kind : ℕ → ℕ) (ks 
           pub value : term_of leaves v ≡ apply form.operator terms
           pub last : ℕ
           pub leads : Leads g.steps.items names s back last
-          pub whole : StepAt g last (Whole form.kind form.precedence)
+          pub whole : NextAt g last (Whole form.kind form.precedence)
 
         abbrev pub IsComplete : ℕ → Tree → List (List ℕ) → Type 0
-        IsComplete s v text = (K : ℕ) × StepAt g s (Whole K 0) × S K 0 (term_of leaves v) text
+        IsComplete s v text = (K : ℕ) × NextAt g s (Whole K 0) × S K 0 (term_of leaves v) text
 
-        pub whole_read : (s K p : ℕ) (v : Tree) (text : List (List ℕ)) → Progress s v text ⊎ IsComplete s v text → StepAt g s (Whole K p) → S K p (term_of leaves v) text
+        pub whole_read : (s K p : ℕ) (v : Tree) (text : List (List ℕ)) → Progress s v text ⊎ IsComplete s v text → NextAt g s (Whole K p) → S K p (term_of leaves v) text
         whole_read s K p v text (inl r) wh =
             let e = leads_whole g.steps.items names s r.last K p r.back r.leads wh in
             let parts : r.form.parts ≡ r.front = r.parts ∙ ap (λ m. r.front ++ m) e.0 ∙ append-nil r.front in
-            let wh2 : StepAt g s (Whole r.form.kind r.form.precedence) = subst (λ (m : ℕ). StepAt g m (Whole r.form.kind r.form.precedence)) (sym e.1) r.whole in
+            let wh2 : NextAt g s (Whole r.form.kind r.form.precedence) = subst (λ (m : ℕ). NextAt g m (Whole r.form.kind r.form.precedence)) (sym e.1) r.whole in
             let q = one_there g.steps.items s _ _ wh2 wh in
             let a : r.form.kind ≡ K = (cc) in
             let b : r.form.precedence ≡ p = (cc) in
@@ -156,7 +155,7 @@ module _ (sig : Signature) (variables : List Variable) (kind : ℕ → ℕ) (ks 
             let same : r.0 ≡ name = same_number names n name r.0 num (sym w.number ∙ at.2) in
             r.1 ∙ ap (λ m. Some m) same
 
-        opened_read : (s op i : ℕ) → IsStart g s op → i ≤ length full → Readable s (head op) i i
+        opened_read : (s op i : ℕ) → IsProduction g s op → i ≤ length full → Readable s (head op) i i
         opened_read s op i start h =
             let f = compiled.sound start.0 start.1 start.2 in (
               [],
@@ -177,7 +176,7 @@ module _ (sig : Signature) (variables : List Variable) (kind : ℕ → ℕ) (ks 
             )
 
         -- one token more
-        token_read : (s next x : ℕ) (v : Tree) (i k : ℕ) → StepAt g s (Token x next) → TokenAt words k x → Readable s v i k → Readable next v i (k + 1)
+        token_read : (s next x : ℕ) (v : Tree) (i k : ℕ) → NextAt g s (Token x next) → TokenAt words k x → Readable s v i k → Readable next v i (k + 1)
         token_read s next x v i k st got (text, between, inr (k3, wh, sp)) = let bad : ⊥ = (let q = one_there g.steps.items s _ _ wh st in cc) in absurd bad
         token_read s next x v i k st got (text, between, inl p) =
             let way = leads_token g.steps.items names s x next p.last p.form.kind p.form.precedence p.back p.leads st p.whole in
@@ -208,7 +207,7 @@ module _ (sig : Signature) (variables : List Variable) (kind : ℕ → ℕ) (ks 
             )
 
         -- one hole more
-        hole_read : (s next K b : ℕ) (v : Tree) (i k : ℕ) → StepAt g s (Hole K b next) → (w p : ℕ) (t : Tree) (e : ℕ) → StepAt g w (Whole K p) → p < b → Readable w t k e → Readable s v i k
+        hole_read : (s next K b : ℕ) (v : Tree) (i k : ℕ) → NextAt g s (Hole K b next) → (w p : ℕ) (t : Tree) (e : ℕ) → NextAt g w (Whole K p) → p < b → Readable w t k e → Readable s v i k
             → Readable next (app v t) i e
         hole_read s next K b v i k st w p t e wh le two (text, between, inr (k3, wh3, sp)) = let bad : ⊥ = (let q = one_there g.steps.items s _ _ wh3 st in cc) in absurd bad
         hole_read s next K b v i k st w p t e wh le (text2, between2, r2) (text, between, inl r) =
@@ -238,7 +237,7 @@ module _ (sig : Signature) (variables : List Variable) (kind : ℕ → ℕ) (ks 
               }),
             )
 
-        group_read : (w K p : ℕ) (t : Tree) (i e : ℕ) → TokenAt words i g.open → StepAt g w (Whole K p) → TokenAt words e g.close → (s : ℕ) → slice_get g.groups.items K ≡ Some s
+        group_read : (w K p : ℕ) (t : Tree) (i e : ℕ) → TokenAt words i g.open → NextAt g w (Whole K p) → TokenAt words e g.close → (s : ℕ) → slice_get g.groups.items K ≡ Some s
             → Readable w t (i + 1) e → Readable s t i (e + 1)
         group_read w K p t i e o wh c s gr (text, between, r) =
             let sp = whole_read w K p t text r wh in
@@ -255,13 +254,13 @@ module _ (sig : Signature) (variables : List Variable) (kind : ℕ → ℕ) (ks 
             ∙ ap (λ m. first.0 ++ (codes "(" ∷ text ++ m)) next_one.1 ∙ ap (λ m. first.0 ++ (codes "(" ∷ m)) (sym (append_assoc text (codes ")" ∷ []) next_one.0)) in
             let len : i + length (codes "(" ∷ text ++ codes ")" ∷ []) ≡ e + 1 = (let a = length-append text (codes ")" ∷ []) in let b = between.to in omega (arith, a, b)) in
             let q = compiled.groups.only K s gr in
-            let state : StepAt g s (Whole K 0) = subst (λ (m : ℕ). StepAt g m (Whole K 0)) (sym q.1) (compiled.kinds K q.0) in (
+            let state : NextAt g s (Whole K 0) = subst (λ (m : ℕ). NextAt g m (Whole K 0)) (sym q.1) (compiled.kinds K q.0) in (
               codes "(" ∷ text ++ codes ")" ∷ [],
               record { before = first.0; behind = next_one.0; parts = inner; from = first.2; to = len },
               inr (K, state, closed.enclosed K p (term_of leaves t) text q.0 sp),
             )
 
-        leaf_read : (s x i : ℕ) (word : Word) → slice_get words i ≡ Some word → (token : List ℕ) → slice_get full i ≡ Some token
+        leaf_read : (s x i : ℕ) (word : Terminal) → slice_get words i ≡ Some word → (token : List ℕ) → slice_get full i ≡ Some token
             → (y : Variable) → slice_get leaves x ≡ Some y → IsVariableToken sig.sorts variables token y → s ≡ kind y.sort → Readable s (leaf x) i (i + 1)
         leaf_read s x i word at token here y is h e =
             let n = below full i token here in
@@ -272,13 +271,13 @@ module _ (sig : Signature) (variables : List Variable) (kind : ℕ → ℕ) (ks 
             let value : variable y ≡ term_of leaves (leaf x) = ap (λ m. variable (variable_at m)) (sym is) in (
               token ∷ [],
               record { before = take i full; behind = rest.0; parts = sym split ∙ ap (λ m. take i full ++ m) rest.1; from = l; to = omega arith },
-              inr (kind y.sort, subst (λ (m : ℕ). StepAt g m (Whole (kind y.sort) 0)) (sym e) whole, subst (λ (m : RawTerm). S (kind y.sort) 0 m (token ∷ [])) value (closed.alone y token h)),
+              inr (kind y.sort, subst (λ (m : ℕ). NextAt g m (Whole (kind y.sort) 0)) (sym e) whole, subst (λ (m : RawTerm). S (kind y.sort) 0 m (token ∷ [])) value (closed.alone y token h)),
             )
 
-        pub read : (s : ℕ) (v : Tree) (i k : ℕ) → Begun g words s v i k → i ≤ length full → Readable s v i k
-        read s v i k (opened s2 op i2 start) h = opened_read s op i start h
-        read s v i k (over_token s2 next x v2 i2 k2 d st got) h = token_read s2 next x v2 i2 k2 st got (read s2 v2 i2 k2 d h)
-        read s v i k (over_hole s2 next K b v2 i2 k2 d st w p t e2 rd wh le) h =
+        pub read : (s : ℕ) (v : Tree) (i k : ℕ) → IsItem g words s v i k → i ≤ length full → Readable s v i k
+        read s v i k (predicted s2 op i2 start) h = opened_read s op i start h
+        read s v i k (scanned s2 next x v2 i2 k2 d st got) h = token_read s2 next x v2 i2 k2 st got (read s2 v2 i2 k2 d h)
+        read s v i k (completed s2 next K b v2 i2 k2 d st w p t e2 rd wh le) h =
             let r = read s2 v2 i2 k2 d h in
             hole_read s2 next K b v2 i2 k2 st w p t e2 wh le (read w t k2 e2 rd (end_within k2 r.0 i2 r.1)) r
           where
@@ -307,7 +306,7 @@ module _ (sig : Signature) (variables : List Variable) (kind : ℕ → ℕ) (ks 
         none_left (x ∷ xs) e = absurd (omega (arith, e))
 
         -- a whole text
-        pub read_all : (s K p : ℕ) (v : Tree) → Begun g words s v 0 (length words) → StepAt g s (Whole K p) → S K p (term_of leaves v) full
+        pub read_all : (s K p : ℕ) (v : Tree) → IsItem g words s v 0 (length words) → NextAt g s (Whole K p) → S K p (term_of leaves v) full
         read_all s K p v d wh =
             let r = read s v 0 (length words) d (omega arith) in
             let b = r.1 in

@@ -6,8 +6,8 @@ use Rattle.mw_logic.specs.Signature.{Signature, Operator, Gather, less, most, an
 use Rattle.mw_logic.proofs.Canonical.{same_operator}
 use Rattle.mw_text.specs.Names.{Item, items_of}
 use Rattle.mw_text.specs.Mixfix.{IsTaken, Spells, declared, with_sort, grouped, a_constant, prefixed, flattened, mixfix, SpellsArguments, last, more, SpellsNested, two, another, SpellsItems, no_items, over_piece, over_hole}
-use Rattle.mw_grammar.specs.declared.notation.Symbol.{Symbol}
-use Rattle.mw_grammar.specs.declared.notation.Symbol.TheVariants.{Piece, Hole}
+use Rattle.mw_grammar.specs.declared.parts.Symbol.{Symbol}
+use Rattle.mw_grammar.specs.declared.parts.Symbol.TheVariants.{Piece, Hole}
 use Rattle.mw_grammar.specs.Notations.{pieces_as, arguments, in_parentheses, prefix_parts, prefix_notation, bound, mixfix_parts, two_parts, flattened_notation, tail_notation, is_prefix, is_mixfix, is_flattened, is_tail}
 use Rattle.mw_grammar.specs.Readable.{IsWithin, AreKinds, IsReadable, AreVariables}
 use Rattle.mw_grammar.proofs.Over as over

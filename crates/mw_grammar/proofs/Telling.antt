@@ -4,10 +4,10 @@ use Rattle.std.specs.List.{slice_get}
 use Rattle.mw_logic.specs.Term.{Variable, RawTerm, variable, apply, RawTerms, nil, cons, join}
 use Rattle.mw_logic.specs.Signature.{Signature}
 use Rattle.mw_chart.specs.Tree.{Tree, leaf, head, app}
-use Rattle.mw_chart.specs.Spelling.{StepAt, Begun, opened, over_token, over_hole, grouped, alone}
-use Rattle.mw_chart.specs.declared.table.Step.TheVariants.{Whole}
+use Rattle.mw_chart.specs.Spelling.{NextAt, IsItem, predicted, scanned, completed, grouped, alone}
+use Rattle.mw_chart.specs.declared.table.Next.TheVariants.{Whole}
 use Rattle.mw_chart.specs.declared.table.Table.{Table}
-use Rattle.mw_chart.specs.declared.word.Word.{Word}
+use Rattle.mw_chart.specs.declared.terminal.Terminal.{Terminal}
 use Rattle.mw_grammar.specs.Notations.{IsNotation}
 use Rattle.mw_grammar.specs.Readable.{AreKinds, AreVariables}
 use Rattle.mw_grammar.specs.Compiled.{IsCompiled}
@@ -83,27 +83,27 @@ module _ (leaves : List Variable) (differ : (v w : ℕ) (x : Variable) → slice
 
 module _ (sig : Signature) (variables : List Variable) (kind : ℕ → ℕ) (ks : AreKinds sig kind) (vs : AreVariables sig variables) where
   module _ (names : List (List ℕ)) (g : Table) (compiled : IsCompiled (length sig.sorts) (IsNotation kind sig) names g) where
-    module _ (leaves : List Variable) (full : List (List ℕ)) (words : List Word) (worded : AreWords sig.sorts variables kind names leaves full words) where
+    module _ (leaves : List Variable) (full : List (List ℕ)) (words : List Terminal) (worded : AreWords sig.sorts variables kind names leaves full words) where
       abbrev IsStage : ℕ → Tree → Type 0
-      IsStage s v = IsSpine leaves worded.differ v ⊎ (IsValue leaves worded.differ v × ((K : ℕ) × (p : ℕ) × StepAt g s (Whole K p)))
+      IsStage s v = IsSpine leaves worded.differ v ⊎ (IsValue leaves worded.differ v × ((K : ℕ) × (p : ℕ) × NextAt g s (Whole K p)))
 
       value_of : (s : ℕ) (v : Tree) → IsStage s v → IsValue leaves worded.differ v
       value_of s v (inl a) = of_spine v a
       value_of s v (inr (a, w)) = a
 
-      stage : (s : ℕ) (v : Tree) (i k : ℕ) → Begun g words s v i k → IsStage s v
-      stage s v i k (opened s2 op i2 start) = inl (spine_head op)
-      stage s v i k (over_token s2 next x v2 i2 k2 d st got) = elim (stage s2 v2 i2 k2 d) [
+      stage : (s : ℕ) (v : Tree) (i k : ℕ) → IsItem g words s v i k → IsStage s v
+      stage s v i k (predicted s2 op i2 start) = inl (spine_head op)
+      stage s v i k (scanned s2 next x v2 i2 k2 d st got) = elim (stage s2 v2 i2 k2 d) [
         | inl a ↦ inl a
         | inr (a, (K, p, w)) ↦ let bad : ⊥ = (let q = one_there g.steps.items s2 _ _ w st in cc) in absurd bad
       ]
-      stage s v i k (over_hole s2 next K b v2 i2 k2 d st w p t e2 rd wh le) = elim (stage s2 v2 i2 k2 d) [
+      stage s v i k (completed s2 next K b v2 i2 k2 d st w p t e2 rd wh le) = elim (stage s2 v2 i2 k2 d) [
         | inl a ↦ inl (spine_app v2 t a (value_of w t (stage w t k2 e2 rd)))
         | inr (a, (K2, p2, w2)) ↦ let bad : ⊥ = (let q = one_there g.steps.items s2 _ _ w2 st in cc) in absurd bad
       ]
       stage s v i k (grouped w K p t i2 e2 o rd wh c s2 gr) =
           let q = compiled.groups.only K s2 gr in
-          inr (value_of w t (stage w t (i2 + 1) e2 rd), (K, 0, subst (λ (m : ℕ). StepAt g m (Whole K 0)) (sym q.1) (compiled.kinds K q.0)))
+          inr (value_of w t (stage w t (i2 + 1) e2 rd), (K, 0, subst (λ (m : ℕ). NextAt g m (Whole K 0)) (sym q.1) (compiled.kinds K q.0)))
       stage s v i k (alone s2 x i2 (word, at, leafs)) =
           let b = below words i2 word at in
           let n = worded.count in
@@ -111,8 +111,8 @@ module _ (sig : Signature) (variables : List Variable) (kind : ℕ → ℕ) (ks 
           let w = worded.each i2 r.0 word r.1 at in
           let y = w.sound leafs.1 (member_at word.leaves.items leafs.0 leafs.1 leafs.2) in
           let whole = compiled.kinds (kind y.0.sort) (ks.within y.0.sort (token_within sig variables vs y.0 r.0 y.2)) in
-          inr (of_leaf x y.0 (ap (slice_get leaves) (sym leafs.4) ∙ y.1.0), (kind y.0.sort, 0, subst (λ (m : ℕ). StepAt g m (Whole (kind y.0.sort) 0)) (sym (sym leafs.3 ∙ y.1.1)) whole))
+          inr (of_leaf x y.0 (ap (slice_get leaves) (sym leafs.4) ∙ y.1.0), (kind y.0.sort, 0, subst (λ (m : ℕ). NextAt g m (Whole (kind y.0.sort) 0)) (sym (sym leafs.3 ∙ y.1.1)) whole))
 
       -- trees that stand for one term are one
-      pub told : (s r : ℕ) (v u : Tree) (i k j l : ℕ) → Begun g words s v i k → Begun g words r u j l → term_of leaves v ≡ term_of leaves u → v ≡ u
+      pub told : (s r : ℕ) (v u : Tree) (i k j l : ℕ) → IsItem g words s v i k → IsItem g words r u j l → term_of leaves v ≡ term_of leaves u → v ≡ u
       told s r v u i k j l d e same = same_value leaves worded.differ v u (value_of s v (stage s v i k d)) (value_of r u (stage r u j l e)) same

@@ -5,7 +5,7 @@ use Rattle.mw_logic.specs.Signature.{Signature, HasKind, IsRawTerm}
 use Rattle.mw_chart.specs.Tree.{Tree}
 use Rattle.mw_chart.specs.Answer.{IsOf}
 use Rattle.mw_chart.specs.declared.table.Table.{Table}
-use Rattle.mw_chart.specs.declared.word.Word.{Word}
+use Rattle.mw_chart.specs.declared.terminal.Terminal.{Terminal}
 use Rattle.mw_text.specs.Mixfix.{IsSpelled, Reads}
 use Rattle.mw_grammar.specs.Readable.{IsWithin}
 use Rattle.mw_grammar.specs.Meaning.{term_of}
@@ -16,14 +16,14 @@ IsWantedKind kind None K = ⊤
 IsWantedKind kind (Some S) K = K ≡ kind S
 
 -- The words spell the tree, by the table's states, as one of the wanted sort's kind. Kinds beyond the sorts are no kinds of terms.
-pub record IsTree (sig : Signature) (kind : ℕ → ℕ) (g : Table) (wanted : Option ℕ) (words : List Word) (tree : Tree) : Type 0 where
+pub record IsTree (sig : Signature) (kind : ℕ → ℕ) (g : Table) (wanted : Option ℕ) (words : List Terminal) (tree : Tree) : Type 0 where
   pub K : ℕ
   pub within : IsWithin sig K
   pub is_wanted : IsWantedKind kind wanted K
   pub spelled : IsOf g words K tree
 
 -- The words' trees are the terms that the tokens spell.
-pub record AreExact (sig : Signature) (variables : List Variable) (kind : ℕ → ℕ) (g : Table) (leaves : List Variable) (tokens : List (List ℕ)) (words : List Word) : Type 0 where
+pub record AreExact (sig : Signature) (variables : List Variable) (kind : ℕ → ℕ) (g : Table) (leaves : List Variable) (tokens : List (List ℕ)) (words : List Terminal) : Type 0 where
   -- each term that they spell is that of a tree
   pub complete : (wanted : Option ℕ) (t : RawTerm) → IsSpelled sig variables wanted tokens t → (tree : Tree) × IsTree sig kind g wanted words tree × (term_of leaves tree ≡ t)
   -- each tree's term is spelled

@@ -4,9 +4,15 @@ use Rattle.std.specs.Prelude.{ℕ, suc, ◌≡◌, ◌⊎◌, ◌+◌, List, [],
 use Rattle.mw_logic.specs.Signature.{Signature, Operator, Gather, less, most, any, IsOperator}
 use Rattle.mw_text.specs.Names.{Item, piece, hole, items_of, has_hole, pieces}
 use Rattle.mw_text.specs.Mixfix.{IsHead}
-use Rattle.mw_grammar.specs.declared.notation.Symbol.{Symbol}
-use Rattle.mw_grammar.specs.declared.notation.Symbol.TheVariants.{Piece, Hole}
-use Rattle.mw_grammar.specs.declared.notation.Notation.{Notation}
+use Rattle.mw_grammar.specs.declared.parts.Symbol.{Symbol}
+use Rattle.mw_grammar.specs.declared.parts.Symbol.TheVariants.{Piece, Hole}
+
+-- a way to write an operator's terms, as texts of a kind and a precedence
+pub record Notation : Type 0 where
+  pub kind : ℕ
+  pub precedence : ℕ
+  pub operator : ℕ
+  pub parts : List Symbol
 
 -- above all precedences, which are up to 127
 abbrev pub above_all : ℕ

@@ -1,16 +1,16 @@
 // Notations as the states of a table.
-ghost use Rattle.std.specs.Prelude.{◌≡◌, ◌<◌, ◌≤◌, ◌+◌, ◌^◌, ◌∷◌, ℕ, List, [], Some, length, slice_get, IfOk, OnOk, IfSome, IsTrue};
-ghost use Rattle.mw_chart.specs.declared.table.Step.TheVariants.{Whole};
-ghost use Rattle.mw_grammar.specs.declared.notation.Symbol.{Symbol as SymbolOf};
+ghost use Rattle.std.specs.Prelude.{◌≡◌, ◌<◌, ◌^◌, ◌∷◌, ℕ, List, [], Some, length, slice_get, IfOk, OnOk, IsTrue};
+ghost use Rattle.mw_chart.specs.declared.table.Next.TheVariants.{Whole};
+ghost use Rattle.mw_grammar.specs.declared.parts.Symbol.{Symbol as SymbolOf};
 ghost use Rattle.mw_grammar.specs.Readable.{kind_in, IsReadable};
 ghost use Rattle.mw_grammar.specs.Notations.{IsNotation};
-ghost use Rattle.mw_grammar.specs.Compiled.{Extends, IsNumber, Leads, IsStartOf, AddsNotations, AreGroups, IsCompiled};
+ghost use Rattle.mw_grammar.specs.Compiled.{Extends, IsNumber, Leads, AddsNotations, AreGroups, IsCompiled};
 
-use crate::notation::{Notation, Symbol};
 use crate::notations::add_all;
+use crate::parts::Symbol;
 use indexmap::IndexMap;
-use mw_chart::{Start, Step, Table};
-use mw_term::{KindId, Signature};
+use mw_chart::{Next, Production, Table};
+use mw_term::{KindId, OpId, Signature};
 use mw_text::Names;
 use std::alloc::{AllocError, Global};
 
@@ -27,7 +27,7 @@ fn token(alloc: Global, names: &mut Names, text: &[u8]) -> Result<u32, AllocErro
 /// The state before a symbol, where this one stands behind it.
 fn push_step(
     alloc: Global,
-    steps: &mut Vec<Step>,
+    steps: &mut Vec<Next>,
     names: &mut Names,
     part: &Symbol,
     next: usize,
@@ -38,11 +38,11 @@ fn push_step(
 {
     let state = steps.len();
     let step = match part {
-        Symbol::Piece(name) => Step::Token {
+        Symbol::Piece(name) => Next::Token {
             token: token(alloc, names, name.as_slice())?,
             next,
         },
-        Symbol::Hole { kind, below } => Step::Hole {
+        Symbol::Hole { kind, below } => Next::Hole {
             kind: *kind,
             below: *below,
             next,
@@ -55,7 +55,7 @@ fn push_step(
 /// The state before symbols, where this one stands behind them.
 fn lead(
     alloc: Global,
-    steps: &mut Vec<Step>,
+    steps: &mut Vec<Next>,
     names: &mut Names,
     parts: &[Symbol],
     last: usize,
@@ -73,17 +73,12 @@ fn lead(
     Ok(state)
 }
 
-/// Whether a state is that of whole texts of this kind and precedence.
-fn is_whole_of(steps: &[Step], state: usize, kind: u32, precedence: u32) -> bool
-    ensures { IsTrue result → slice_get steps.now state ≡ Some (Whole kind precedence) }
+/// Whether a state is that of whole texts of this kind, at this precedence.
+fn is_whole_of(steps: &[Next], state: usize, its_kind: u32, at: u32) -> bool
+    ensures { IsTrue result → slice_get steps.now state ≡ Some (Whole its_kind at) }
 {
     match steps.get(state) {
-        Some(
-            Step::Whole {
-                kind: its_kind,
-                precedence: its_precedence,
-            },
-        ) => *its_kind == kind && *its_precedence == precedence,
+        Some(Next::Whole { kind, precedence }) => *kind == its_kind && *precedence == at,
         _ => false,
     }
 }
@@ -91,75 +86,66 @@ fn is_whole_of(steps: &[Step], state: usize, kind: u32, precedence: u32) -> bool
 /// States of whole texts by kind and precedence.
 type Wholes = IndexMap<(u32, u32), usize>;
 
-/// A table that is being made: its states, those of them that are whole and were made for notations, and its starts.
+/// A table that is being made: its states, those that are whole and were made for notations, and its productions.
 #[derive(Drop)]
 pub struct Making {
-    pub steps: Vec<Step>,
+    pub steps: Vec<Next>,
     pub wholes: Box<Wholes>,
-    pub starts: Vec<Start>,
-}
-
-/// The state of whole texts of this kind and precedence among these, if it is there.
-fn found(steps: &[Step], wholes: &Wholes, kind: u32, precedence: u32) -> Option<usize>
-    ensures { IfSome result (λ w. slice_get steps.now w ≡ Some (Whole kind precedence)) }
-{
-    if is_whole_of(steps, kind as usize, kind, precedence) {
-        return Some(kind as usize);
-    }
-    match wholes.get(&(kind, precedence)) {
-        Some(state) if is_whole_of(steps, *state, kind, precedence) => Some(*state),
-        _ => None,
-    }
+    pub productions: Vec<Production>,
 }
 
 /// The state of whole texts of this kind and precedence.
 fn whole(making: &mut Making, kind: u32, precedence: u32) -> Result<usize, AllocError>
     ensures steps { OnOk result (Extends making.old.steps.items making.new.steps.items) }
-    ensures starts { making.new.starts ≡ making.old.starts }
+    ensures productions { making.new.productions ≡ making.old.productions }
     ensures whole { IfOk result (λ w. slice_get making.new.steps.items w ≡ Some (Whole kind precedence)) }
 {
-    if let Some(state) = found(making.steps.as_slice(), &making.wholes, kind, precedence) {
-        return Ok(state);
+    let known = match making.wholes.get(&(kind, precedence)) {
+        Some(state) => *state,
+        None => kind as usize,
+    };
+    if is_whole_of(making.steps.as_slice(), known, kind, precedence) {
+        return Ok(known);
     }
     let state = making.steps.len();
     making.wholes.insert((kind, precedence), state)?;
-    making.steps.push(Step::Whole { kind, precedence })?;
+    making.steps.push(Next::Whole { kind, precedence })?;
     Ok(state)
 }
 
-/// Adds a notation.
+/// Adds the notation of these parts.
 pub fn add(
     alloc: Global,
     making: &mut Making,
     names: &mut Names,
-    notation: &Notation,
+    kind: KindId,
+    precedence: u32,
+    operator: OpId,
+    parts: &[Symbol],
 ) -> Result<(), AllocError>
-    ensures { OnOk result (AddsNotations making.old making.new names.old names.new (λ F. F ≡ notation.now)) }
+    ensures { OnOk result (AddsNotations making.old making.new names.old names.new
+        (λ F. F ≡ record { kind = kind; precedence = precedence; operator = operator; parts = parts.now })) }
 {
-    let last = whole(making, notation.kind, notation.precedence)?;
-    let parts = notation.parts.as_slice();
+    let last = whole(making, kind, precedence)?;
     let state = lead(alloc, &mut making.steps, names, parts, last)?;
-    let operator = notation.operator;
-    making.starts.push(Start { state, operator })?;
+    making.productions.push(Production { state, operator })?;
     Ok(())
 }
 
 /// A table with no notation yet, for so many kinds.
 fn begin(alloc: Global, kinds: u32) -> Result<Making, AllocError>
     ensures kinds { IfOk result (λ m. (K : ℕ) → K < kinds → slice_get m.steps.items K ≡ Some (Whole K 0)) }
-    ensures starts { IfOk result (λ m. m.starts.items ≡ []) }
+    ensures productions { IfOk result (λ m. m.productions.items ≡ []) }
 {
+    let precedence = 0;
     let mut steps = Vec::new(alloc);
     for kind in 0..kinds {
-        steps.push(Step::Whole {
-            kind,
-            precedence: 0,
-        })?;
+        steps.push(Next::Whole { kind, precedence })?;
     }
     Ok(Making {
         steps,
         wholes: Box::new(alloc, IndexMap::new(alloc))?,
-        starts: Vec::new(alloc),
+        productions: Vec::new(alloc),
     })
 }
 
@@ -175,37 +161,6 @@ fn groups(alloc: Global, sorts: u32) -> Result<Vec<usize>, AllocError>
     Ok(groups)
 }
 
-/// The table of a signature's notations, for so many sorts and so many kinds.
-fn table(
-    alloc: Global,
-    names: &mut Names,
-    signature: &Signature,
-    kinds: &[KindId],
-    sorts: u32,
-    last: u32,
-) -> Result<Table, AllocError>
-    requires readable { IsReadable signature.now }
-    requires sorts { sorts ≡ length signature.now.sorts }
-    requires few { sorts < 2 ^ 31 }
-    requires count { length signature.now.operators < 2 ^ 31 }
-    requires last { sorts < last }
-    ensures names { OnOk result (Extends names.old names.new) }
-    ensures table { IfOk result (IsCompiled sorts (IsNotation (kind_in kinds.now) signature.now) names.new) }
-{
-    let open = token(alloc, names, b"(")?;
-    let close = token(alloc, names, b")")?;
-    let mut making = begin(alloc, last)?;
-    add_all(alloc, &mut making, names, kinds, sorts, signature)?;
-    let groups = groups(alloc, sorts)?;
-    let Making {
-        steps,
-        wholes: _,
-        starts,
-    } = making;
-    let table = Table::new(alloc, steps, starts, groups, open, close, sorts)?;
-    Ok(table)
-}
-
 /// So many sorts and so many operators at most.
 pub const MOST: usize = 0x7fff_ffff;
 
@@ -218,7 +173,8 @@ pub fn compile(
 ) -> Result<Table, AllocError>
     requires { IsReadable signature.now }
     ensures names { OnOk result (Extends names.old names.new) }
-    ensures table { IfOk result (IsCompiled (length signature.now.sorts) (IsNotation (kind_in kinds.now) signature.now) names.new) }
+    ensures table { IfOk result (IsCompiled (length signature.now.sorts)
+        (IsNotation (kind_in kinds.now) signature.now) names.new) }
 {
     let sorts = signature.sorts.as_slice().len();
     let operators = signature.operators.as_slice().len();
@@ -226,6 +182,12 @@ pub fn compile(
         return Err(AllocError);
     }
     let sorts = sorts as u32;
-    let last = sorts + operators as u32 + 1;
-    table(alloc, names, signature, kinds, sorts, last)
+    let open = token(alloc, names, b"(")?;
+    let close = token(alloc, names, b")")?;
+    let mut making = begin(alloc, sorts + operators as u32 + 1)?;
+    add_all(alloc, &mut making, names, kinds, sorts, signature)?;
+    let groups = groups(alloc, sorts)?;
+    let (steps, productions) = (making.steps, making.productions);
+    let table = Table::new(alloc, steps, productions, groups, open, close, sorts)?;
+    Ok(table)
 }

@@ -11,7 +11,7 @@ ghost use Rattle.mw_grammar.specs.Exact.{AreExact};
 use crate::compile::compile;
 use crate::kinds::{kind_of, kinds_of};
 use crate::listing::{sorts_by_name, variables_by_name};
-use mw_chart::{Table, Word};
+use mw_chart::{Table, Terminal};
 use mw_lex::Token;
 use mw_poset::Poset;
 use mw_term::{KindId, Seq, Signature, SortId, VarId};
@@ -34,7 +34,7 @@ pub struct Grammar {
 /// The words of tokens, and the variables that their leaves are.
 #[derive(Drop)]
 pub struct Words {
-    pub words: Vec<Word>,
+    pub words: Vec<Terminal>,
     pub leaves: Variables,
 }
 
@@ -83,7 +83,8 @@ impl Grammar {
 
     /// The words of tokens.
     pub fn words(&self, alloc: Global, tokens: &[Token]) -> Result<Words, AllocError>
-        ensures { (sig : SignatureOf) (variables : List Variable) → IsGrammarOf sig variables self.now → IfOk result (IsWordsOf sig variables self.now tokens.now) }
+        ensures { (sig : SignatureOf) (variables : List Variable) → IsGrammarOf sig variables self.now
+            → IfOk result (IsWordsOf sig variables self.now tokens.now) }
     {
         let mut leaves = Variables::new(alloc)?;
         let mut words = Vec::new(alloc);

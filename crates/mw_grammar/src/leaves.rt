@@ -12,7 +12,7 @@ ghost use Rattle.mw_grammar.specs.Grammars.{IsGrammarOf};
 
 use crate::grammar::Grammar;
 use crate::listing::list_of;
-use mw_chart::{Leaf, Word};
+use mw_chart::{Leaf, Terminal};
 use mw_lex::is_punctuation;
 use mw_term::SortId;
 use mw_text::Variables;
@@ -30,28 +30,6 @@ fn is_name(name: &[u8]) -> bool
 }
 
 impl Grammar {
-    /// A variable more.
-    fn push_leaf(
-        &self,
-        alloc: Global,
-        leaves: &mut Variables,
-        found: &mut Vec<Leaf>,
-        name: &[u8],
-        sort: SortId,
-    ) -> Result<(), AllocError>
-        ensures { OnOk result (Adds (kind_in self.now.kinds) leaves.old leaves.new found.old.items found.new.items (λ x. x ≡ record { name = name.now; sort = sort })) }
-    {
-        let place = leaves.meet(alloc, name, sort)?;
-        if place > u32::MAX as usize {
-            return Err(AllocError);
-        }
-        found.push(Leaf {
-            state: self.kind_of(sort) as usize,
-            value: place as u32,
-        })?;
-        Ok(())
-    }
-
     /// The variables of this name, and of these sorts.
     fn push_sorts(
         &self,
@@ -61,10 +39,17 @@ impl Grammar {
         found: &mut Vec<Leaf>,
         name: &[u8],
     ) -> Result<(), AllocError>
-        ensures { OnOk result (Adds (kind_in self.now.kinds) leaves.old leaves.new found.old.items found.new.items (IsOfOne sorts.now name.now)) }
+        ensures { OnOk result (Adds (kind_in self.now.kinds) leaves.old leaves.new found.old.items found.new.items
+            (IsOfOne sorts.now name.now)) }
     {
         for sort in sorts {
-            self.push_leaf(alloc, leaves, found, name, *sort)?;
+            let place = leaves.meet(alloc, name, *sort)?;
+            if place > u32::MAX as usize {
+                return Err(AllocError);
+            }
+            let state = self.kind_of(*sort) as usize;
+            let value = place as u32;
+            found.push(Leaf { state, value })?;
         }
         Ok(())
     }
@@ -79,7 +64,8 @@ impl Grammar {
         colon: usize,
     ) -> Result<(), AllocError>
         requires { colon < length token.now }
-        ensures { OnOk result (Adds (kind_in self.now.kinds) leaves.old leaves.new found.old.items found.new.items (IsDivided (IsListed self.now.names self.now.named.items) token.now colon)) }
+        ensures { OnOk result (Adds (kind_in self.now.kinds) leaves.old leaves.new found.old.items found.new.items
+            (IsDivided (IsListed self.now.names self.now.named.items) token.now colon)) }
     {
         let name = &token[..colon];
         if token[colon] == b':' && is_name(name) {
@@ -97,7 +83,8 @@ impl Grammar {
         found: &mut Vec<Leaf>,
         token: &[u8],
     ) -> Result<(), AllocError>
-        ensures { OnOk result (Adds (kind_in self.now.kinds) leaves.old leaves.new found.old.items found.new.items (IsWithSort (IsListed self.now.names self.now.named.items) token.now)) }
+        ensures { OnOk result (Adds (kind_in self.now.kinds) leaves.old leaves.new found.old.items found.new.items
+            (IsWithSort (IsListed self.now.names self.now.named.items) token.now)) }
     {
         for colon in 0..token.len() {
             self.push_divided(alloc, leaves, found, token, colon)?;
@@ -111,7 +98,7 @@ impl Grammar {
         alloc: Global,
         leaves: &mut Variables,
         token: &[u8],
-    ) -> Result<Word, AllocError>
+    ) -> Result<Terminal, AllocError>
         ensures leaves { OnOk result (Extends leaves.old leaves.new) }
         ensures differ { OnOk result (AllDiffer leaves.old → AllDiffer leaves.new) }
         ensures word { (sig : SignatureOf) (variables : List Variable) → IsGrammarOf sig variables self.now
@@ -119,9 +106,10 @@ impl Grammar {
     {
         let number = self.names.number(token)?;
         let mut found = Vec::new(alloc);
-        self.push_sorts(alloc, list_of(&self.declared, number), leaves, &mut found, token)?;
+        let sorts = list_of(&self.declared, number);
+        self.push_sorts(alloc, sorts, leaves, &mut found, token)?;
         self.push_with_sorts(alloc, leaves, &mut found, token)?;
-        Ok(Word {
+        Ok(Terminal {
             token: number,
             leaves: found,
         })

@@ -1,5 +1,5 @@
 // Sorts listed by the numbers of names.
-ghost use Rattle.std.specs.Prelude.{◌≡◌, ◌≢◌, ◌++◌, ◌∷◌, ◌<◌, ◌≤◌, ◌+◌, ◌^◌, [], max, ℕ, length, IfOk, OnOk};
+ghost use Rattle.std.specs.Prelude.{◌≡◌, ◌+◌, max, ℕ, length, IfOk, OnOk};
 ghost use Rattle.mw_logic.specs.Term.{Variable};
 ghost use Rattle.mw_logic.specs.Signature.{Member};
 ghost use Rattle.mw_chart.specs.Listed.{inner};
@@ -23,17 +23,6 @@ fn room(alloc: Global, lists: &mut Vec<Vec<SortId>>, number: usize) -> Result<()
     Ok(())
 }
 
-/// Puts a sort behind those in the list of a number.
-fn push_sort(lists: &mut Vec<Vec<SortId>>, number: usize, sort: SortId) -> Result<(), AllocError>
-    requires { number < length lists.old.items }
-    ensures len { length lists.new.items ≡ length lists.old.items }
-    ensures here { OnOk result (inner lists.new.items number ≡ inner lists.old.items number ++ sort ∷ []) }
-    ensures others { OnOk result ((k : ℕ) → k ≢ number → inner lists.new.items k ≡ inner lists.old.items k) }
-{
-    lists[number].push(sort)?;
-    Ok(())
-}
-
 /// Lists a sort by a name.
 fn put(
     alloc: Global,
@@ -49,7 +38,7 @@ fn put(
     names.add(alloc, name)?;
     let number = names.number(name)? as usize;
     room(alloc, lists, number)?;
-    push_sort(lists, number, sort)?;
+    lists[number].push(sort)?;
     Ok(())
 }
 
@@ -91,11 +80,13 @@ pub fn variables_by_name(
     variables: &[VarId],
 ) -> Result<Vec<Vec<SortId>>, AllocError>
     ensures names { OnOk result (Extends names.old names.new) }
-    ensures listed { IfOk result (λ v. Lists names.new v.items (λ n S. Member {X = Variable} (record { name = n; sort = S }) variables.now)) }
+    ensures listed { IfOk result (λ v. Lists names.new v.items
+        (λ n S. Member {X = Variable} (record { name = n; sort = S }) variables.now)) }
 {
     let mut lists = Vec::new(alloc);
     for variable in variables {
-        put(alloc, names, &mut lists, variable.name.as_slice(), variable.sort)?;
+        let name = variable.name.as_slice();
+        put(alloc, names, &mut lists, name, variable.sort)?;
     }
     Ok(lists)
 }

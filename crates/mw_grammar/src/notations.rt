@@ -3,14 +3,14 @@ ghost use Rattle.std.specs.Prelude.{◌≡◌, ◌<◌, ◌^◌, ◌∷◌, ℕ,
 ghost use Rattle.mw_logic.specs.Signature.{Operator as OperatorOf, IsOperator};
 ghost use Rattle.mw_text.specs.Names.{items_of, pieces};
 ghost use Rattle.mw_grammar.specs.Readable.{kind_in};
-ghost use Rattle.mw_grammar.specs.Notations.{head_of, prefix_notation, flattened_notation, tail_notation, IsHeaded, IsMixfix, IsWhole, IsNotationOf, IsNotation};
+ghost use Rattle.mw_grammar.specs.Notations.{head_of, prefix_notation, flattened_notation, tail_notation};
+ghost use Rattle.mw_grammar.specs.Notations.{IsHeaded, IsMixfix, IsWhole, IsNotationOf, IsNotation};
 ghost use Rattle.mw_grammar.specs.Compiled.{AddsNotations};
 
 use crate::compile::{Making, add};
 use crate::kinds::kind_of;
-use crate::notation::Notation;
-use crate::parts::{flattened, mixfix, prefix, tail};
-use mw_term::{KindId, OpId, Operator, Seq, Signature};
+use crate::parts::{flattened, mixfix, prefix, push_two};
+use mw_term::{KindId, OpId, Operator, Signature};
 use mw_text::{Item, Names, first_item, has_hole};
 use std::alloc::{AllocError, Global};
 
@@ -24,17 +24,13 @@ fn add_prefix(
     operator: &Operator,
     in_pieces: bool,
 ) -> Result<(), AllocError>
-    ensures { OnOk result (AddsNotations making.old making.new names.old names.new (λ F. F ≡ prefix_notation (kind_in kinds.now) f operator.now (head_of operator.now.spelling in_pieces))) }
+    ensures { OnOk result (AddsNotations making.old making.new names.old names.new
+        (λ F. F ≡ prefix_notation (kind_in kinds.now) f operator.now (head_of operator.now.spelling in_pieces))) }
 {
     let name = operator.spelling.as_slice();
     let parts = prefix(alloc, kinds, name, in_pieces, operator.args.as_slice())?;
-    let notation = Notation {
-        kind: kind_of(kinds, operator.result),
-        precedence: 0,
-        operator: f,
-        parts: Seq::of(parts),
-    };
-    add(alloc, making, names, &notation)
+    let kind = kind_of(kinds, operator.result);
+    add(alloc, making, names, kind, 0, f, parts.as_slice())
 }
 
 /// Adds the prefix form of an associative operator on more than two arguments.
@@ -48,18 +44,14 @@ fn add_flattened(
     operator: &Operator,
     in_pieces: bool,
 ) -> Result<(), AllocError>
-    ensures { OnOk result (AddsNotations making.old making.new names.old names.new (λ F. F ≡ flattened_notation (kind_in kinds.now) last f operator.now (head_of operator.now.spelling in_pieces))) }
+    ensures { OnOk result (AddsNotations making.old making.new names.old names.new
+        (λ F. F ≡ flattened_notation (kind_in kinds.now) last f operator.now
+        (head_of operator.now.spelling in_pieces))) }
 {
     let kind = kind_of(kinds, operator.result);
     let name = operator.spelling.as_slice();
     let parts = flattened(alloc, name, in_pieces, kind, last)?;
-    let notation = Notation {
-        kind,
-        precedence: 0,
-        operator: f,
-        parts: Seq::of(parts),
-    };
-    add(alloc, making, names, &notation)
+    add(alloc, making, names, kind, 0, f, parts.as_slice())
 }
 
 /// Adds the prefix forms with this head.
@@ -73,7 +65,8 @@ fn add_headed(
     operator: &Operator,
     in_pieces: bool,
 ) -> Result<(), AllocError>
-    ensures { OnOk result (AddsNotations making.old making.new names.old names.new (IsHeaded (kind_in kinds.now) last f operator.now (head_of operator.now.spelling in_pieces))) }
+    ensures { OnOk result (AddsNotations making.old making.new names.old names.new
+        (IsHeaded (kind_in kinds.now) last f operator.now (head_of operator.now.spelling in_pieces))) }
 {
     add_prefix(alloc, making, names, kinds, f, operator, in_pieces)?;
     if operator.assoc {
@@ -93,16 +86,12 @@ fn add_tail(
     operator: &Operator,
     rest: KindId,
 ) -> Result<(), AllocError>
-    ensures { OnOk result (AddsNotations making.old making.new names.old names.new (λ F. F ≡ tail_notation (kind_in kinds.now) last f operator.now rest)) }
+    ensures { OnOk result (AddsNotations making.old making.new names.old names.new
+        (λ F. F ≡ tail_notation (kind_in kinds.now) last f operator.now rest)) }
 {
-    let parts = tail(alloc, kind_of(kinds, operator.result), rest)?;
-    let notation = Notation {
-        kind: last,
-        precedence: 0,
-        operator: f,
-        parts: Seq::of(parts),
-    };
-    add(alloc, making, names, &notation)
+    let mut parts = Vec::new(alloc);
+    push_two(alloc, &mut parts, kind_of(kinds, operator.result), rest)?;
+    add(alloc, making, names, last, 0, f, parts.as_slice())
 }
 
 /// Adds the mixfix form, if there is one.
@@ -115,19 +104,16 @@ fn add_mixfix(
     operator: &Operator,
 ) -> Result<(), AllocError>
     requires { operator.now.prec < 128 }
-    ensures { OnOk result (AddsNotations making.old making.new names.old names.new (IsMixfix (kind_in kinds.now) f operator.now)) }
+    ensures { OnOk result (AddsNotations making.old making.new names.old names.new
+        (IsMixfix (kind_in kinds.now) f operator.now)) }
 {
     let gather = operator.gather.as_slice();
     let args = operator.args.as_slice();
     let name = operator.spelling.as_slice();
     if let Some(parts) = mixfix(alloc, kinds, operator.prec, name, gather, args)? {
-        let notation = Notation {
-            kind: kind_of(kinds, operator.result),
-            precedence: operator.prec,
-            operator: f,
-            parts: Seq::of(parts),
-        };
-        add(alloc, making, names, &notation)?;
+        let kind = kind_of(kinds, operator.result);
+        let precedence = operator.prec;
+        add(alloc, making, names, kind, precedence, f, parts.as_slice())?;
     }
     Ok(())
 }
@@ -153,7 +139,8 @@ fn add_whole(
     operator: &Operator,
 ) -> Result<(), AllocError>
     requires { operator.now.prec < 128 }
-    ensures { OnOk result (AddsNotations making.old making.new names.old names.new (IsWhole (kind_in kinds.now) last f operator.now)) }
+    ensures { OnOk result (AddsNotations making.old making.new names.old names.new
+        (IsWhole (kind_in kinds.now) last f operator.now)) }
 {
     let name = operator.spelling.as_slice();
     add_headed(alloc, making, names, kinds, last, f, operator, false)?;
@@ -176,7 +163,8 @@ fn add_operator(
     operator: &Operator,
 ) -> Result<(), AllocError>
     requires { operator.now.prec < 128 }
-    ensures { OnOk result (AddsNotations making.old making.new names.old names.new (IsNotationOf (kind_in kinds.now) last f operator.now)) }
+    ensures { OnOk result (AddsNotations making.old making.new names.old names.new
+        (IsNotationOf (kind_in kinds.now) last f operator.now)) }
 {
     add_whole(alloc, making, names, kinds, last, f, operator)?;
     if operator.assoc {
@@ -200,7 +188,8 @@ pub fn add_all(
     requires sorts { sorts ≡ length signature.now.sorts }
     requires few { sorts < 2 ^ 31 }
     requires count { length signature.now.operators < 2 ^ 31 }
-    ensures { OnOk result (AddsNotations making.old making.new names.old names.new (IsNotation (kind_in kinds.now) signature.now)) }
+    ensures { OnOk result (AddsNotations making.old making.new names.old names.new
+        (IsNotation (kind_in kinds.now) signature.now)) }
 {
     for (i, operator) in signature.operators.as_slice().iter().enumerate() {
         let f = i as u32 + 1;

@@ -1,17 +1,25 @@
 // The parts of notations.
-ghost use Rattle.std.specs.Prelude.{◌≡◌, ◌<◌, ◌++◌, ◌∷◌, ℕ, List, [], map, codes, option_map, None, MatchOption, IfOk, OnOk, if◌then◌else◌};
+ghost use Rattle.std.specs.Prelude.{◌≡◌, ◌<◌, ◌++◌, ◌∷◌, ℕ, List, [], map, codes, option_map};
+ghost use Rattle.std.specs.Prelude.{None, MatchOption, IfOk, OnOk};
 ghost use Rattle.mw_term.specs.Signatures.{gather_of};
 ghost use Rattle.mw_text.specs.Names.{Item as ItemOf, items_of, pieces};
 ghost use Rattle.mw_text.specs.Seen.{item_of};
-ghost use Rattle.mw_grammar.specs.declared.notation.Symbol.TheVariants.{Piece, Hole};
+ghost use Rattle.mw_grammar.specs.declared.parts.Symbol.TheVariants.{Piece, Hole};
 ghost use Rattle.mw_grammar.specs.Readable.{kind_in};
-ghost use Rattle.mw_grammar.specs.Notations.{above_all, pieces_as, head_of, arguments, prefix_parts, in_parentheses, bound, mixfix_parts, mixing};
+ghost use Rattle.mw_grammar.specs.Notations.{above_all, pieces_as, head_of, arguments, prefix_parts};
+ghost use Rattle.mw_grammar.specs.Notations.{bound, mixfix_parts, mixing};
 
 use crate::kinds::kind_of;
-use crate::notation::Symbol;
 use mw_term::{Gather, KindId, Name};
 use mw_text::{Item, first_item};
 use std::alloc::{AllocError, Global};
+
+/// A token, or a hole for texts of a kind, of a precedence below a number.
+#[derive(Drop)]
+pub enum Symbol {
+    Piece(Name),
+    Hole { kind: u32, below: u32 },
+}
 
 /// A number above all precedences, which are up to 127.
 const ABOVE_ALL: u32 = 128;
@@ -29,10 +37,8 @@ fn push_piece(alloc: Global, parts: &mut Vec<Symbol>, text: &[u8]) -> Result<(),
 fn push_hole(parts: &mut Vec<Symbol>, kind: KindId) -> Result<(), AllocError>
     ensures { OnOk result (parts.new.items ≡ parts.old.items ++ Hole kind above_all ∷ []) }
 {
-    parts.push(Symbol::Hole {
-        kind,
-        below: ABOVE_ALL,
-    })?;
+    let below = ABOVE_ALL;
+    parts.push(Symbol::Hole { kind, below })?;
     Ok(())
 }
 
@@ -102,8 +108,8 @@ pub fn prefix(
     Ok(parts)
 }
 
-/// An argument of an associative operator, and more arguments.
-fn push_two(
+/// Two or more last arguments of an associative operator more: one, and what is of a kind.
+pub fn push_two(
     alloc: Global,
     parts: &mut Vec<Symbol>,
     first: KindId,
@@ -114,15 +120,6 @@ fn push_two(
     push_hole(parts, first)?;
     push_piece(alloc, parts, b",")?;
     push_hole(parts, rest)
-}
-
-/// The parts of two or more last arguments of an associative operator.
-pub fn tail(alloc: Global, first: KindId, rest: KindId) -> Result<Vec<Symbol>, AllocError>
-    ensures { IfOk result (λ v. v.items ≡ Hole first above_all ∷ Piece (codes ",") ∷ Hole rest above_all ∷ []) }
-{
-    let mut parts = Vec::new(alloc);
-    push_two(alloc, &mut parts, first, rest)?;
-    Ok(parts)
 }
 
 /// The parts of the prefix form of an associative operator on more than two arguments.

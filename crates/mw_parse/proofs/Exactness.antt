@@ -1,7 +1,6 @@
 -- What the chart's answers say of the terms that tokens spell.
 use Rattle.std.proofs.Common.{◌++◌, ◌≡◌, ◌≢◌, ◌≤◌, ◌<◌, ◌∙◌, ℕ, List, [], ◌∷◌, length, Option, None, Some, option_map, refl, sym, ap, subst, ⊎_elim, inl, inr}
 use Rattle.mw_lex.specs.declared.token.Token.{Token}
-use Rattle.mw_lex.specs.Lexing.{seen_all}
 use Rattle.mw_logic.specs.Term.{Variable, RawTerm, apply, nil, cons, join}
 use Rattle.mw_logic.specs.Signature.{Signature}
 use Rattle.mw_text.specs.Mixfix as mixfix
@@ -12,20 +11,17 @@ use Rattle.mw_term.specs.Raws.{raw_term, raw_terms}
 use Rattle.mw_chart.specs.Tree.{Tree, app}
 use Rattle.mw_chart.specs.Answer as chart
 use Rattle.mw_chart.specs.declared.table.Table.{Table}
-use Rattle.mw_chart.specs.declared.word.Word.{Word}
-use Rattle.mw_chart.specs.declared.fault.Fault.{Fault}
-use Rattle.mw_chart.specs.declared.fault.Pair.{Pair}
-use Rattle.mw_chart.specs.declared.fault.PairFault.{PairFault}
+use Rattle.mw_chart.specs.declared.terminal.Terminal.{Terminal}
+use Rattle.mw_chart.specs.declared.fault.NoReading.{NoReading}
+use Rattle.mw_chart.specs.declared.fault.TreePair.{TreePair}
+use Rattle.mw_chart.specs.declared.fault.NoPair.{NoPair}
 use Rattle.mw_grammar.specs.Readable.{kind_in}
-use Rattle.mw_grammar.specs.Worded.{AreWords}
 use Rattle.mw_grammar.specs.Meaning.{term_of, with_last}
-use Rattle.mw_grammar.specs.Grammars.{IsWordsOf, texts as tokens_texts}
+use Rattle.mw_grammar.specs.Grammars.{IsGrammarOf, IsWordsOf, texts}
 use Rattle.mw_grammar.specs.Exact.{IsTree, AreExact}
 use Rattle.mw_grammar.specs.declared.grammar.Words.{Words}
 use Rattle.mw_grammar.proofs.Exactly.{exactly}
-use Rattle.mw_declare.specs.Meaning.{texts}
-use Rattle.mw_parse.specs.declared.reader.Reader.{Reader}
-use Rattle.mw_parse.specs.Readers.{IsReaderOf}
+use Rattle.mw_grammar.specs.declared.grammar.Grammar.{Grammar}
 use Rattle.mw_parse.specs.Answers.{HasCause, HasPairCause}
 use Rattle.mw_parse.specs.Tops.{IsTop, IsTold, IsPairTold}
 use Rattle.mw_parse.specs.declared.fault.ParseError.{ParseError}
@@ -35,26 +31,12 @@ use Rattle.mw_parse.specs.declared.fault.PairError.TheVariants as pair_error
 use Rattle.mw_parse.specs.declared.terms.Top.{Top}
 use Rattle.mw_parse.specs.declared.terms.Top.TheVariants.{Operator, Variable as VariableTop}
 
-pub texts_seen : (ts : List Token) → tokens_texts ts ≡ texts (seen_all ts)
-texts_seen [] = refl
-texts_seen (t ∷ ts) = ap (λ x. t.text.items ∷ x) (texts_seen ts)
+pub exact_words : (sig : Signature) (variables : List Variable) (g : Grammar) (tokens : List Token) (w : Words) → IsGrammarOf sig variables g → IsWordsOf sig variables g tokens w
+    → AreExact sig variables (kind_in g.kinds) g.table w.leaves (texts tokens) w.words.items
+exact_words sig variables g tokens w is words =
+    exactly sig variables (kind_in g.kinds) is.kinds is.readable is.declared g.names g.table is.compiled w.leaves (texts tokens) w.words.items words
 
-pub exact_words : (sig : Signature) (variables : List Variable) (r : Reader) (tokens : List Token) (w : Words) → IsReaderOf sig variables r → IsWordsOf r.grammar tokens w
-    → AreExact sig variables (kind_in r.grammar.kinds) r.grammar.table w.leaves.items (texts (seen_all tokens)) w.words.items
-exact_words sig variables r tokens w is words =
-    let g = r.grammar in
-    let kind = kind_in g.kinds in
-    let made = is.grammar in
-    let ts = tokens_texts tokens in
-    let a = subst (λ (s : List (List ℕ)). AreWords s g.variables kind g.names w.leaves.items ts w.words.items) made.sorts words in
-    let b = subst (λ (v : List Variable). AreWords sig.sorts v kind g.names w.leaves.items ts w.words.items) made.variables_are a in
-    subst (λ x. AreExact sig variables kind g.table w.leaves.items x w.words.items) (texts_seen tokens)
-    (exactly sig variables kind is.kinds is.readable is.declared g.names g.table made.compiled w.leaves.items ts w.words.items b)
-
-pub count_words : (r : Reader) (tokens : List Token) (w : Words) → IsWordsOf r.grammar tokens w → length w.words.items ≡ length (texts (seen_all tokens))
-count_words r tokens w words = words.count ∙ ap length (texts_seen tokens)
-
-module _ (sig : Signature) (variables : List Variable) (kind : ℕ → ℕ) (g : Table) (terms : g.kinds ≡ length sig.sorts) (leaves : List Variable) (tokens : List (List ℕ)) (words : List Word)
+module _ (sig : Signature) (variables : List Variable) (kind : ℕ → ℕ) (g : Table) (terms : g.kinds ≡ length sig.sorts) (leaves : List Variable) (tokens : List (List ℕ)) (words : List Terminal)
     (count : length words ≡ length tokens) (exact : AreExact sig variables kind g leaves tokens words) where
   -- the chart's trees of the wanted kind are the grammar's
   tree : (wanted : Option ℕ) (t : Tree) → chart.IsSpelled g (option_map kind wanted) words t → IsTree sig kind g wanted words t
@@ -79,11 +61,11 @@ module _ (sig : Signature) (variables : List Variable) (kind : ℕ → ℕ) (g :
     exact.differ wanted a b (tree wanted a h) (tree wanted b k) apart,
   )
 
-  pub cause : (wanted : Option ℕ) (f : Fault) (e : ParseError) → chart.HasFault g (option_map kind wanted) words f → IsTold leaves f e → HasCause sig variables wanted tokens e
-  cause wanted f error.TooLong h e = let k = subst (chart.HasFault g (option_map kind wanted) words) e h in subst (λ n. 1024 < n) count k
-  cause wanted f error.NoParse h e = let k = subst (chart.HasFault g (option_map kind wanted) words) e h in (subst (λ n. n ≤ 1024) count k.0, none wanted k.1)
+  pub cause : (wanted : Option ℕ) (f : NoReading) (e : ParseError) → chart.HasNoReading g (option_map kind wanted) words f → IsTold leaves f e → HasCause sig variables wanted tokens e
+  cause wanted f error.TooLong h e = let k = subst (chart.HasNoReading g (option_map kind wanted) words) e h in subst (λ n. 1024 < n) count k
+  cause wanted f error.NoParse h e = let k = subst (chart.HasNoReading g (option_map kind wanted) words) e h in (subst (λ n. n ≤ 1024) count k.0, none wanted k.1)
   cause wanted f (error.Ambiguous t u) h (a, b, e, first, second) =
-      let k = subst (chart.HasFault g (option_map kind wanted) words) e h in (
+      let k = subst (chart.HasNoReading g (option_map kind wanted) words) e h in (
         subst (λ n. n ≤ 1024) count k.0,
         subst (λ m. BothHave (mixfix.IsSpelled sig variables wanted tokens) m (raw_term u)) (sym first)
             (subst (λ m. BothHave (mixfix.IsSpelled sig variables wanted tokens) (term_of leaves a) m) (sym second) (two wanted a b k.1 k.2 k.3)),
@@ -109,8 +91,8 @@ of_any : (sig : Signature) (variables : List Variable) (K : ℕ) (text : List (L
 of_any sig variables K text t h = record { precedence = h.precedence; spells = h.spells; kind = tt }
 
 module _ (sig : Signature) (variables : List Variable) (kind : ℕ → ℕ) (g : Table) (terms : g.kinds ≡ length sig.sorts)
-    (ls : List Variable) (left : List (List ℕ)) (lw : List Word) (lc : length lw ≡ length left) (le : AreExact sig variables kind g ls left lw)
-    (rs : List Variable) (right : List (List ℕ)) (rw : List Word) (rc : length rw ≡ length right) (re : AreExact sig variables kind g rs right rw) where
+    (ls : List Variable) (left : List (List ℕ)) (lw : List Terminal) (lc : length lw ≡ length left) (le : AreExact sig variables kind g ls left lw)
+    (rs : List Variable) (right : List (List ℕ)) (rw : List Terminal) (rc : length rw ≡ length right) (re : AreExact sig variables kind g rs right rw) where
   pair : (a b : Tree) → chart.IsPair g lw rw a b → ArePair sig variables left right (term_of ls a, term_of rs b)
   pair a b (K, within, h, k) =
       let first = of_kind sig variables kind g terms ls left lw lc le K a within h in
@@ -144,13 +126,13 @@ module _ (sig : Signature) (variables : List Variable) (kind : ℕ → ℕ) (g :
   none_pair never p h = let t = trees p h in never t.0 t.1 t.2
 
 module _ (sig : Signature) (variables : List Variable) (kind : ℕ → ℕ) (g : Table) (terms : g.kinds ≡ length sig.sorts)
-    (ls : List Variable) (left : List (List ℕ)) (lw : List Word) (lc : length lw ≡ length left) (le : AreExact sig variables kind g ls left lw)
-    (rs : List Variable) (right : List (List ℕ)) (rw : List Word) (rc : length rw ≡ length right) (re : AreExact sig variables kind g rs right rw) where
-  same_trees : (p q : Pair) → p.left ≡ q.left → p.right ≡ q.right → p ≡ q
-  same_trees p q e f = ap (λ (x : Tree). let r : Pair = record { left = x; right = p.right } in r) e ∙ ap (λ (y : Tree). let r : Pair = record { left = q.left; right = y } in r) f
+    (ls : List Variable) (left : List (List ℕ)) (lw : List Terminal) (lc : length lw ≡ length left) (le : AreExact sig variables kind g ls left lw)
+    (rs : List Variable) (right : List (List ℕ)) (rw : List Terminal) (rc : length rw ≡ length right) (re : AreExact sig variables kind g rs right rw) where
+  same_trees : (p q : TreePair) → p.left ≡ q.left → p.right ≡ q.right → p ≡ q
+  same_trees p q e f = ap (λ (x : Tree). let r : TreePair = record { left = x; right = p.right } in r) e ∙ ap (λ (y : Tree). let r : TreePair = record { left = q.left; right = y } in r) f
 
   -- two pairs of trees are different ones of terms
-  apart_pairs : (p q : Pair) → chart.IsPair g lw rw p.left p.right → chart.IsPair g lw rw q.left q.right → p ≢ q → term_of ls p.left ≡ term_of ls q.left → term_of rs p.right ≡ term_of rs q.right → ⊥
+  apart_pairs : (p q : TreePair) → chart.IsPair g lw rw p.left p.right → chart.IsPair g lw rw q.left q.right → p ≢ q → term_of ls p.left ≡ term_of ls q.left → term_of rs p.right ≡ term_of rs q.right → ⊥
   apart_pairs p q h k apart e f =
       let lt : (t : Tree) (K : ℕ) → K ≤ g.kinds → chart.IsOf g lw K t → IsTree sig kind g None lw t = λ t K within of. record { K = K; within = subst (λ n. K ≤ n) terms within; is_wanted = tt; spelled = of } in
       let rt : (t : Tree) (K : ℕ) → K ≤ g.kinds → chart.IsOf g rw K t → IsTree sig kind g None rw t = λ t K within of. record { K = K; within = subst (λ n. K ≤ n) terms within; is_wanted = tt; spelled = of } in
@@ -158,7 +140,7 @@ module _ (sig : Signature) (variables : List Variable) (kind : ℕ → ℕ) (g :
       (λ x. re.differ None p.right q.right (rt p.right h.0 h.1 h.3) (rt q.right k.0 k.1 k.3) (λ y. apart (same_trees p q x y)) f)
       e
 
-  apart : (p q : Pair) → chart.IsPair g lw rw p.left p.right → chart.IsPair g lw rw q.left q.right → p ≢ q
+  apart : (p q : TreePair) → chart.IsPair g lw rw p.left p.right → chart.IsPair g lw rw q.left q.right → p ≢ q
       → BothHave (ArePair sig variables left right) (term_of ls p.left, term_of rs p.right) (term_of ls q.left, term_of rs q.right)
   apart p q h k differ = (
     pair sig variables kind g terms ls left lw lc le rs right rw rc re p.left p.right h,
@@ -166,14 +148,14 @@ module _ (sig : Signature) (variables : List Variable) (kind : ℕ → ℕ) (g :
     λ e. apart_pairs p q h k differ (ap (λ x. x.0) e) (ap (λ x. x.1) e),
   )
 
-  pub pair_cause : (f : PairFault) (e : PairError) → chart.HasPairFault g lw rw f → IsPairTold ls rs f e → HasPairCause sig variables left right e
+  pub pair_cause : (f : NoPair) (e : PairError) → chart.HasNoPair g lw rw f → IsPairTold ls rs f e → HasPairCause sig variables left right e
   pair_cause f pair_error.TooLong h e =
-      let k = subst (chart.HasPairFault g lw rw) e h in ⊎_elim (λ a. inl (subst (λ n. 1024 < n) lc a)) (λ a. inr (subst (λ n. 1024 < n) rc a)) k
+      let k = subst (chart.HasNoPair g lw rw) e h in ⊎_elim (λ a. inl (subst (λ n. 1024 < n) lc a)) (λ a. inr (subst (λ n. 1024 < n) rc a)) k
   pair_cause f pair_error.NoParse h e =
-      let k = subst (chart.HasPairFault g lw rw) e h in
+      let k = subst (chart.HasNoPair g lw rw) e h in
       (subst (λ n. n ≤ 1024) lc k.0.0, subst (λ n. n ≤ 1024) rc k.0.1, none_pair sig variables kind g terms ls left lw lc le rs right rw rc re k.1)
   pair_cause f (pair_error.Ambiguous t u) h (p, q, e, first, second) =
-      let k = subst (chart.HasPairFault g lw rw) e h in
+      let k = subst (chart.HasNoPair g lw rw) e h in
       let same = same_pair (raw_term t.0, raw_term t.1) (term_of ls p.left, term_of rs p.right) first.0 first.1 in
       let other = same_pair (raw_term u.0, raw_term u.1) (term_of ls q.left, term_of rs q.right) second.0 second.1 in (
         subst (λ n. n ≤ 1024) lc k.0.0,

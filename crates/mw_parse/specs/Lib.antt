@@ -1,4 +1,3 @@
 -- What texts are read as.
-pub mod Readers
 pub mod Answers
 pub mod Tops

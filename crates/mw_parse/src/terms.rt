@@ -5,8 +5,9 @@ ghost use Rattle.mw_grammar.specs.Meaning.{term_of, variable_at};
 ghost use Rattle.std.specs.List.{slice_get};
 ghost use Rattle.mw_parse.specs.Tops.{IsTop};
 
-use mw_chart::{Body, Shape};
-use mw_term::{Name, OpId, Raw, Raws, VarId, copy_name};
+use mw_chart::{Node, TreeTop};
+use mw_term::{Name, OpId, Raw, Raws, VarId};
+use mw_text::Variables;
 use std::alloc::{AllocError, Global};
 
 /// What stands on top of a term.
@@ -17,14 +18,11 @@ pub enum Top {
 }
 
 /// The variable at a place; one without a name, where there is none.
-fn variable(alloc: Global, leaves: &[VarId], place: u32) -> Result<VarId, AllocError>
+fn variable(alloc: Global, leaves: &Variables, place: u32) -> Result<VarId, AllocError>
     ensures { IfOk result (λ x. x ≡ variable_at (slice_get leaves.now place)) }
 {
-    match leaves.get(place as usize) {
-        Some(found) => Ok(VarId {
-            name: copy_name(alloc, &found.name)?,
-            sort: found.sort,
-        }),
+    match leaves.at(alloc, place as usize)? {
+        Some(found) => Ok(found),
         None => Ok(VarId {
             name: Name::of(Vec::new(alloc)),
             sort: 0,
@@ -36,17 +34,17 @@ fn variable(alloc: Global, leaves: &[VarId], place: u32) -> Result<VarId, AllocE
 #[cycle(terms)]
 fn spine(
     alloc: Global,
-    body: &Body,
-    leaves: &[VarId],
+    node: &Node,
+    leaves: &Variables,
     args: &mut Vec<Raw>,
 ) -> Result<Top, AllocError>
     requires { args.old.items ≡ [] }
-    ensures { IfOk result (λ top. IsTop top args.new.items (term_of leaves.now body.now)) }
+    ensures { IfOk result (λ top. IsTop top args.new.items (term_of leaves.now node.now)) }
 {
-    match body.shape() {
-        Shape::Leaf(place) => Ok(Top::Variable(variable(alloc, leaves, place)?)),
-        Shape::Head(operator) => Ok(Top::Operator(operator)),
-        Shape::App(first, last) => {
+    match node.top() {
+        TreeTop::Leaf(place) => Ok(Top::Variable(variable(alloc, leaves, place)?)),
+        TreeTop::Head(operator) => Ok(Top::Operator(operator)),
+        TreeTop::App(first, last) => {
             let top = spine(alloc, first, leaves, args)?;
             let last = raw(alloc, last, leaves)?;
             args.push(last)?;
@@ -57,11 +55,11 @@ fn spine(
 
 /// The term of a tree.
 #[cycle(terms)]
-pub fn raw(alloc: Global, body: &Body, leaves: &[VarId]) -> Result<Raw, AllocError>
-    ensures { IfOk result (λ t. raw_term t ≡ term_of leaves.now body.now) }
+pub fn raw(alloc: Global, node: &Node, leaves: &Variables) -> Result<Raw, AllocError>
+    ensures { IfOk result (λ t. raw_term t ≡ term_of leaves.now node.now) }
 {
     let mut args = Vec::new(alloc);
-    match spine(alloc, body, leaves, &mut args)? {
+    match spine(alloc, node, leaves, &mut args)? {
         Top::Operator(operator) => Ok(Raw::Op(operator, Raws::of(args))),
         Top::Variable(variable) => Ok(Raw::Var(variable)),
     }

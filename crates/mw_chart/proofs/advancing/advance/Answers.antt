@@ -7,31 +7,31 @@ use Rattle.mw_chart.proofs.advancing.advance.Goals as goal
 
 pub returns-in_ok-put_at-in-Some-Token-clause-ok : goal.returns-in_ok-put_at-in-Some-Token-clause-ok
 returns-in_ok-put_at-in-Some-Token-clause-ok c =
-    advances_token _ _ c.args.table.now c.args.text.now c.args.row.now.readings.items c.args.at c.args.state c.in-Some-Token.token c.in-Some-Token.next c.args.value.now _
+    advances_token _ _ c.args.table.now c.args.text.now c.args.row.now.constituents.items c.args.at c.args.state c.in-Some-Token.token c.in-Some-Token.next c.args.tree.now _
     (sym (rw c.in-Some-Token.field-0-is at c.in-Some-Token.ensures)) (c.if-stands.ensures.0 refl) c.in_ok-again-in-Some-Token.ensures c.in_ok-put_at-in-Some-Token.ensures.ok
 
 pub returns-else-stands-clause-ok : goal.returns-else-stands-clause-ok
 returns-else-stands-clause-ok c =
-    advances_not _ c.args.table.now c.args.text.now c.args.row.now.readings.items c.args.at c.args.state c.in-Some-Token.token c.in-Some-Token.next c.args.value.now
+    advances_not _ c.args.table.now c.args.text.now c.args.row.now.constituents.items c.args.at c.args.state c.in-Some-Token.token c.in-Some-Token.next c.args.tree.now
     (sym (rw c.in-Some-Token.field-0-is at c.in-Some-Token.ensures)) (λ e. let bad = c.if-stands.ensures.1 e in let h : ⊥ = (cc) in h)
 
 pub returns-in-Some-Hole-clause-ok : goal.returns-in-Some-Hole-clause-ok
 returns-in-Some-Hole-clause-ok c =
-    if_ok_more c.fill.result _ _
-    (λ x p. advances_hole _ _ c.args.table.now c.args.text.now c.args.row.now.readings.items c.args.at c.args.state c.in-Some-Hole.kind c.in-Some-Hole.below c.in-Some-Hole.next c.args.value.now
-    (sym (rw c.in-Some-Hole.field-0-is at c.in-Some-Hole.ensures)) p) c.fill.ensures.ok
+    if_ok_more c.complete.result _ _
+    (λ x p. advances_hole _ _ c.args.table.now c.args.text.now c.args.row.now.constituents.items c.args.at c.args.state c.in-Some-Hole.kind c.in-Some-Hole.below c.in-Some-Hole.next c.args.tree.now
+    (sym (rw c.in-Some-Hole.field-0-is at c.in-Some-Hole.ensures)) p) c.complete.ensures.ok
 
 pub returns-in-Some-Whole-clause-ok : goal.returns-in-Some-Whole-clause-ok
 returns-in-Some-Whole-clause-ok c =
-    advances_whole _ c.args.table.now c.args.text.now c.args.row.now.readings.items c.args.at c.args.state c.in-Some-Whole._kind c.in-Some-Whole._precedence c.args.value.now
+    advances_whole _ c.args.table.now c.args.text.now c.args.row.now.constituents.items c.args.at c.args.state c.in-Some-Whole._kind c.in-Some-Whole._precedence c.args.tree.now
     (sym (rw c.in-Some-Whole.field-0-is at c.in-Some-Whole.ensures))
 
 pub returns-in-None-clause-ok : goal.returns-in-None-clause-ok
-returns-in-None-clause-ok c = advances_none _ c.args.table.now c.args.text.now c.args.row.now.readings.items c.args.at c.args.state c.args.value.now (sym c.in-None.ensures)
+returns-in-None-clause-ok c = advances_none _ c.args.table.now c.args.text.now c.args.row.now.constituents.items c.args.at c.args.state c.args.tree.now (sym c.in-None.ensures)
 
-pub fill-requires-clause-within : goal.fill-requires-clause-within
-fill-requires-clause-within c = within_ahead c.args.row.now.readings.items (length c.args.text.now) c.args.at _ c.requires.shape c.requires.within
+pub complete-requires-clause-within : goal.complete-requires-clause-within
+complete-requires-clause-within c = within_ahead c.args.row.now.constituents.items (length c.args.text.now) c.args.at _ c.requires.shape c.requires.within
 
 pub returns-in_ok-put_at-in-Some-Token-clause-full : goal.returns-in_ok-put_at-in-Some-Token-clause-full
 returns-in_ok-put_at-in-Some-Token-clause-full c =
-    full_more (length c.args.text.now) c.args.ahead.now.full.items c.args.ahead.now.cells.items _ c.in_ok-put_at-in-Some-Token.ensures.ok.kept c.in_ok-put_at-in-Some-Token.ensures.len c.requires.full
+    full_more (length c.args.text.now) c.args.agenda.now.full.items c.args.agenda.now.cells.items _ c.in_ok-put_at-in-Some-Token.ensures.ok.kept c.in_ok-put_at-in-Some-Token.ensures.len c.requires.full

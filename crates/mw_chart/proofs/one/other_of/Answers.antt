@@ -7,7 +7,7 @@ use Rattle.mw_chart.proofs.one.other_of.Goals.{else-is_wanted-via-then-is_wanted
 
 pub loop-k-preserved : goal.loop-k-preserved
 loop-k-preserved c =
-    all_next c.args.listed.now.items c.loop-k.k c.found-item.result (λ x. IsWanted c.args.wanted x.kind → x.term ≡ c.args.first.now) c.loop-k.invariant
+    all_next c.args.listed.now.items c.loop-k.k c.found-item.result (λ x. IsWanted c.args.wanted x.kind → x.tree ≡ c.args.first.now) c.loop-k.invariant
     (get_item_of _ _ _ _ c.deref-found-items.ensures.value c.loop-k-test.true c.found-item.is)
     (λ m. elim c.else-is_wanted.branch [
       | else-is_wanted-via-then-is_wanted+else-not-same w ↦ w.same.ensures.0 w.if-not-same.false
@@ -16,5 +16,5 @@ loop-k-preserved c =
 
 pub returns-clause-none : goal.returns-clause-none
 returns-clause-none c =
-    all_done c.args.listed.now.items c.loop-k.k (λ x. IsWanted c.args.wanted x.kind → x.term ≡ c.args.first.now)
+    all_done c.args.listed.now.items c.loop-k.k (λ x. IsWanted c.args.wanted x.kind → x.tree ≡ c.args.first.now)
     (let p = c.deref-found-items.ensures.value in let q = c.loop-k-test.false in rw p at q) c.loop-k.invariant

@@ -1,7 +1,7 @@
 use Rattle.std.proofs.Common.{sym, ap, ◌∙◌}
-use Rattle.mw_chart.specs.declared.fault.Pair.{Pair}
+use Rattle.mw_chart.specs.declared.fault.TreePair.{TreePair}
 use Rattle.mw_chart.proofs.Lists.{get_below}
-use Rattle.mw_chart.proofs.Wholes.{pair_is, pair_spelled, no_pair, one_pair}
+use Rattle.mw_chart.proofs.Answers.{pair_is, pair_spelled, no_pair, one_pair}
 use Rattle.mw_chart.proofs.pair.parse_pair.Goals as goal
 
 pub returns-in-None-clause-fault : goal.returns-in-None-clause-fault
@@ -44,5 +44,5 @@ returns-clause-fault c =
       (c.if-left-gt-LIMIT.false, c.if-right-gt-LIMIT.false),
       pair_spelled c.args.table.now c.args.left.now c.args.right.now c.in_ok-lefts.lefts.items c.in_ok-rights.rights.items c.in-Some.found f.0 f.1 p.left p.right c.in_ok-lefts.ensures c.in_ok-rights.ensures f.2 is.0 is.1,
       pair_spelled c.args.table.now c.args.left.now c.args.right.now c.in_ok-lefts.lefts.items c.in_ok-rights.rights.items c.in-Some-other_pair.other o.0 o.1 q.left q.right c.in_ok-lefts.ensures c.in_ok-rights.ensures o.2 is2.0 is2.1,
-      λ same. o.3 (sym is2.0 ∙ sym (ap (λ (r : Pair). r.left) same)) (sym is2.1 ∙ sym (ap (λ (r : Pair). r.right) same)),
+      λ same. o.3 (sym is2.0 ∙ sym (ap (λ (r : TreePair). r.left) same)) (sym is2.1 ∙ sym (ap (λ (r : TreePair). r.right) same)),
     )

@@ -1,6 +1,6 @@
 use Rattle.std.proofs.Common.{ℕ, ◌≡◌, ◌<◌, Some, length}
 use Rattle.std.specs.List.{slice_get}
-use Rattle.mw_chart.specs.declared.table.Step.TheVariants.{Whole}
+use Rattle.mw_chart.specs.declared.table.Next.TheVariants.{Whole}
 use Rattle.mw_grammar.proofs.compile.begin.Given as goal
 
 -- the kinds so far have their states

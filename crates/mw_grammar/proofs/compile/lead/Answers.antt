@@ -1,7 +1,7 @@
 use Rattle.std.proofs.Common.{ℕ, ◌≡◌, ◌∙◌, ◌-◌, ◌+◌, List, [], ◌∷◌, length, drop, sym, ap, subst, arith}
 use Rattle.std.proofs.lemmas.Grind.{common_steps}
 use Rattle.mw_chart.proofs.Lists.{get_item}
-use Rattle.mw_grammar.specs.declared.notation.Symbol.{Symbol}
+use Rattle.mw_grammar.specs.declared.parts.Symbol.{Symbol}
 use Rattle.mw_grammar.specs.Compiled.{Leads, there}
 use Rattle.mw_grammar.proofs.ItemByItem.{drop-got}
 use Rattle.mw_grammar.proofs.Made.{leads_grow, Extends-same, Extends-trans}

@@ -1,6 +1,6 @@
-use Rattle.std.proofs.Common.{List, ℕ, ◌∙◌, ◌<◌, sym, ap, subst}
+use Rattle.std.proofs.Common.{List, ℕ, ◌<◌, sym, subst}
 use Rattle.mw_text.specs.Interned.{number_of}
-use Rattle.mw_grammar.specs.Compiled.{Extends, IsNumber}
+use Rattle.mw_grammar.specs.Compiled.{Extends}
 use Rattle.mw_grammar.proofs.Numbers.{number_added, adding_extends}
 use Rattle.mw_grammar.proofs.compile.token.Goals as goal
 

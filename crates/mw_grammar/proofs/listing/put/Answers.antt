@@ -1,4 +1,6 @@
-use Rattle.std.proofs.Common.{List, ℕ, ◌<◌, sym, subst}
+use Rattle.std.proofs.Common.{◌∙◌, ◌++◌, ◌∷◌, [], List, ℕ, ◌<◌, length, sym, ap, subst, arith}
+use Rattle.std.proofs.Math.ListN.{length-set}
+use Rattle.mw_chart.proofs.Adding.{inner_same, inner_other, inner_is}
 use Rattle.mw_text.specs.Interned.{number_of}
 use Rattle.mw_grammar.specs.Compiled.{Extends}
 use Rattle.mw_grammar.proofs.Numbers.{number_added, adding_extends}
@@ -10,7 +12,12 @@ returns-clause-names c = subst (Extends c.args.names.now) (sym c.in_ok-add.ensur
 
 pub returns-clause-listed : goal.returns-clause-listed
 returns-clause-listed c =
-    put_listed c.args.names.now c.add.new.self c.args.name.now c.args.lists.now.items c.room.new.lists.items c.push_sort.new.lists.items c.in_ok-number.field-0 c.args.sort
+    let room = c.room.new.lists.items in
+    let k = c.in_ok-number.field-0 in
+    let low : k < length room = omega (arith, c.in_ok-room.ensures.len) in
+    let old = inner_is room k c.index_mut.result.now low c.index_mut.ensures.value in
+    put_listed c.args.names.now c.add.new.self c.args.name.now c.args.lists.now.items room _ k c.args.sort
     (subst (Extends c.args.names.now) (sym c.in_ok-add.ensures) (adding_extends c.args.names.now c.args.name.now))
     c.in_ok-number.ensures (subst (λ (ns : List (List ℕ)). 0 < number_of ns c.args.name.now) (sym c.in_ok-add.ensures) (number_added c.args.names.now c.args.name.now))
-    c.requires c.in_ok-room.ensures.len c.in_ok-room.ensures.same c.push_sort.ensures.len c.in_ok-push_sort.ensures.here c.in_ok-push_sort.ensures.others
+    c.requires c.in_ok-room.ensures.len c.in_ok-room.ensures.same (length-set room k c.push.new.self)
+    (inner_same room k c.push.new.self low ∙ c.in_ok-push.ensures.items ∙ ap (λ ks. ks ++ c.args.sort ∷ []) (sym old)) (λ i other. inner_other room i k c.push.new.self other)

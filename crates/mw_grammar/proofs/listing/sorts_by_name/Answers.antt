@@ -1,5 +1,4 @@
-use Rattle.std.proofs.Common.{◌≡◌, ◌+◌, ℕ, zero, suc, List, [], ◌∷◌, Some, take, refl, subst}
-use Rattle.mw_logic.specs.Signature.{at_number}
+use Rattle.std.proofs.Common.{◌+◌, ℕ, zero, suc, List, [], ◌∷◌, take, subst}
 use Rattle.mw_chart.proofs.Lists.{get_item}
 use Rattle.mw_grammar.specs.Leaves.{IsNamed}
 use Rattle.mw_grammar.specs.Listing.{Lists, OneMore}

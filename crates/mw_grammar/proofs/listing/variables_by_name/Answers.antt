@@ -27,10 +27,10 @@ loop-variable-preserved c =
     let i = c.loop-variable.variable-index in
     let v : Variable = c.variable-item.result in
     let old = c.loop-variable in
-    let name : c.as_slice.result.now ≡ v.name = c.as_slice.ensures ∙ ap (λ (x : Variable). x.name) c.variable.view_is in
+    let name : c.as_slice-name.result.now ≡ v.name = c.as_slice-name.ensures ∙ ap (λ (x : Variable). x.name) c.variable.view_is in
     let sort : c.variable.inside.sort ≡ v.sort = ap (λ (x : Variable). x.sort) c.variable.view_is in
     let put = subst (λ (n : List ℕ). Lists c.put.new.names c.put.new.lists.items (OneMore old.names old.lists.items n v.sort)) name
-    (subst (λ (S : ℕ). Lists c.put.new.names c.put.new.lists.items (OneMore old.names old.lists.items c.as_slice.result.now S)) sort c.in_ok-put.ensures.listed) in
+    (subst (λ (S : ℕ). Lists c.put.new.names c.put.new.lists.items (OneMore old.names old.lists.items c.as_slice-name.result.now S)) sort c.in_ok-put.ensures.listed) in
     record {
       names = Extends-trans c.args.names.now old.names c.put.new.names old.invariant.names c.in_ok-put.ensures.names;
       listed = listed_next old.names c.put.new.names old.lists.items c.put.new.lists.items v.name v.sort (λ n S. Member {X = Variable} (record { name = n; sort = S }) (take i vs))

@@ -1,12 +1,11 @@
-use Rattle.std.proofs.Common.{◌≡◌, ◌∙◌, ◌+◌, ◌≤◌, ◌⊎◌, ℕ, suc, List, length, Some, sym, ap, subst, arith}
+use Rattle.std.proofs.Common.{◌≡◌, ◌∙◌, ◌+◌, ◌≤◌, ℕ, suc, List, length, Some, sym, ap, subst, arith}
 use Rattle.std.specs.List.{slice_get}
 use Rattle.mw_logic.specs.Signature.{Signature, Operator, IsOperator}
 use Rattle.mw_chart.proofs.Lists.{get_item}
-use Rattle.mw_grammar.specs.declared.notation.Notation.{Notation}
 use Rattle.mw_grammar.specs.Notations.{IsNotationOf}
 use Rattle.mw_grammar.specs.Readable.{kind_in}
 use Rattle.mw_grammar.specs.Compiled.{AddsNotations}
-use Rattle.mw_grammar.proofs.Writing.{IsEarly, adds_nothing, adds_notations, adds_more, none_early, early_next, early_from, all_early, early_all}
+use Rattle.mw_grammar.proofs.Writing.{adds_nothing, adds_notations, adds_more, none_early, early_next, early_from, all_early, early_all}
 use Rattle.mw_grammar.proofs.notations.add_all.Goals as goal
 
 pub loop-i-init : goal.loop-i-init

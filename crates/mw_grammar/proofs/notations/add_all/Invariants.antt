@@ -1,6 +1,3 @@
-use Rattle.std.proofs.Common.{ℕ, ◌≤◌, ◌+◌, length}
-use Rattle.mw_logic.specs.Signature.{Operator, IsOperator}
-use Rattle.mw_grammar.specs.declared.notation.Notation.{Notation}
 use Rattle.mw_grammar.specs.Readable.{kind_in}
 use Rattle.mw_grammar.specs.Compiled.{AddsNotations}
 use Rattle.mw_grammar.proofs.Writing.{IsEarly}

@@ -1,6 +1,6 @@
-use Rattle.std.proofs.Common.{◌≡◌, ◌∙◌, ◌⊎◌, inl, inr, sym, ap, subst}
+use Rattle.std.proofs.Common.{◌≡◌, ◌∙◌, ◌⊎◌, inl, inr, sym, ap}
 use Rattle.mw_logic.specs.Signature.{Operator}
-use Rattle.mw_grammar.specs.declared.notation.Notation.{Notation}
+use Rattle.mw_grammar.specs.Notations.{Notation}
 use Rattle.mw_grammar.specs.Notations.{tail_notation}
 use Rattle.mw_grammar.specs.Readable.{kind_in}
 use Rattle.mw_grammar.proofs.Writing.{Tails, adds_more, adds_notations, of_whole, whole_alone, tails_to, tails_from}

@@ -1,4 +1,4 @@
-use Rattle.std.proofs.Common.{◌≡◌, ◌∙◌, ◌∷◌, [], List, ℕ, Bool, true, false, sym, ap, subst}
+use Rattle.std.proofs.Common.{◌≡◌, ◌∙◌, ◌∷◌, [], List, ℕ, true, false, sym, ap, subst}
 use Rattle.mw_logic.specs.Signature.{Operator}
 use Rattle.mw_text.specs.Names.{items_of, has_hole, pieces}
 use Rattle.mw_grammar.specs.Readable.{kind_in}

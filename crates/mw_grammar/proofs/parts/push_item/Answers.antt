@@ -2,8 +2,8 @@ use Rattle.std.proofs.Common.{ℕ, ◌≡◌, ◌∙◌, ◌+◌, List, [], ◌�
 use Rattle.std.specs.List.{slice_get}
 use Rattle.mw_term.specs.Signatures.{gather_of}
 use Rattle.mw_text.specs.Names.{Item}
-use Rattle.mw_grammar.specs.declared.notation.Symbol.{Symbol}
-use Rattle.mw_grammar.specs.declared.notation.Symbol.TheVariants.{Hole}
+use Rattle.mw_grammar.specs.declared.parts.Symbol.{Symbol}
+use Rattle.mw_grammar.specs.declared.parts.Symbol.TheVariants.{Hole}
 use Rattle.mw_grammar.specs.Readable.{kind_in}
 use Rattle.mw_text.specs.Seen.{item_of}
 use Rattle.mw_grammar.specs.Notations.{mixing}

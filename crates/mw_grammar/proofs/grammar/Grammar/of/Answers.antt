@@ -6,7 +6,7 @@ use Rattle.mw_grammar.specs.Notations.{IsNotation}
 use Rattle.mw_grammar.specs.Compiled.{IsCompiled}
 use Rattle.mw_grammar.specs.Leaves.{IsNamed}
 use Rattle.mw_grammar.specs.Listing.{Lists}
-use Rattle.mw_grammar.specs.Grammars.{IsGrammarOf, IsReading}
+use Rattle.mw_grammar.specs.Grammars.{IsGrammarOf}
 use Rattle.mw_grammar.proofs.Opening.{table_opens}
 use Rattle.mw_grammar.proofs.Made.{Extends-trans}
 use Rattle.mw_grammar.proofs.Listings.{listing_grows}

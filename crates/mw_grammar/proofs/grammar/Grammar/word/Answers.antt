@@ -1,4 +1,4 @@
-use Rattle.std.proofs.Common.{List, ℕ, ◌⊎◌, ◌∙◌, ap, inl, inr, subst}
+use Rattle.std.proofs.Common.{List, ℕ, ◌⊎◌, ◌∙◌, ap, subst}
 use Rattle.mw_logic.specs.Term.{Variable}
 use Rattle.mw_chart.specs.Listed.{inner}
 use Rattle.mw_text.specs.Interned.{number_of}
@@ -21,7 +21,7 @@ module _ (c : In_ok-push_with_sorts) where
   unfolding Spelled
   found =
       let g = c.args.self.now in
-      let its = c.list_of.ensures ∙ ap (inner g.declared.items) c.in_ok-number.ensures in
+      let its = c.list_of-sorts.ensures ∙ ap (inner g.declared.items) c.in_ok-number.ensures in
       adds_then (kind_in g.kinds) _ _ _ _ _ _ _ _ _ (λ x h. h) (λ x h. h)
       (subst (λ (Ss : List ℕ). Adds (kind_in g.kinds) c.args.leaves.now c.push_sorts.new.leaves c.new-found.result.items c.push_sorts.new.found.items (IsOfOne Ss c.args.token.now)) its c.in_ok-push_sorts.ensures)
       c.in_ok-push_with_sorts.ensures

@@ -1,12 +1,10 @@
-use Rattle.std.proofs.Common.{◌≡◌, ◌∙◌, ℕ, zero, suc, ◌+◌, List, [], length, Some, sym, subst, ap, arith}
-use Rattle.std.specs.List.{slice_get}
+use Rattle.std.proofs.Common.{ℕ, ◌+◌, List, sym, subst, arith}
 use Rattle.std.proofs.lemmas.List.{length-map}
-use Rattle.mw_logic.specs.Term.{Variable}
 use Rattle.mw_chart.proofs.Lists.{get_item}
-use Rattle.mw_chart.specs.declared.word.Word.{Word}
+use Rattle.mw_chart.specs.declared.terminal.Terminal.{Terminal}
 use Rattle.mw_lex.specs.declared.token.Token.{Token}
 use Rattle.mw_grammar.specs.Readable.{kind_in}
-use Rattle.mw_grammar.specs.Worded.{IsWord, AllDiffer}
+use Rattle.mw_grammar.specs.Worded.{IsWord}
 use Rattle.mw_grammar.specs.Grammars.{texts}
 use Rattle.mw_grammar.proofs.ItemByItem.{get-map}
 use Rattle.mw_grammar.proofs.WordByWord.{HasWords, no_words, words_push, words_are}
@@ -24,7 +22,7 @@ loop-token-preserved c = λ sig variables is.
     let got = get_item c.args.tokens.now i c.token-item.result c.loop-token-test.true c.token-item.is in
     let there = get-map (λ (t : Token). t.text) c.args.tokens.now i c.token-item.result got in
     let word = subst (λ (t : List ℕ). IsWord sig.sorts variables kind g.names c.word.new.leaves t c.in_ok-word.field-0) c.as_slice.ensures (c.in_ok-word.ensures.word sig variables is) in
-    subst (λ (ws : List Word). HasWords sig.sorts g.names variables kind c.word.new.leaves (texts c.args.tokens.now) (i + 1) ws) (sym c.in_ok-push.ensures.items)
+    subst (λ (ws : List Terminal). HasWords sig.sorts g.names variables kind c.word.new.leaves (texts c.args.tokens.now) (i + 1) ws) (sym c.in_ok-push.ensures.items)
     (words_push sig.sorts g.names variables kind c.loop-token.leaves c.word.new.leaves (texts c.args.tokens.now) i c.loop-token.words.items c.token-item.result.text
     c.in_ok-word.field-0 c.in_ok-word.ensures.leaves c.in_ok-word.ensures.differ there word (c.loop-token.invariant sig variables is))
 

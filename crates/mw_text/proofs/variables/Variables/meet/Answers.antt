@@ -1,11 +1,10 @@
-use Rattle.std.proofs.Common.{◌≡◌, ◌∙◌, List, ℕ, Some, option_map, sym, ap, refl, slice_get}
+use Rattle.std.proofs.Common.{◌∙◌, List, ℕ, Some, option_map, sym, ap, refl}
 use Rattle.std.proofs.lemmas.Option.{slice_get-map}
 use Rattle.mw_logic.specs.Term.{Variable}
 use Rattle.mw_logic.proofs.SameConditions.{same_variable-is}
 use Rattle.mw_text.specs.Mentions.{seen_key, with_variable}
 use Rattle.mw_text.proofs.Keys.{held_insert, keys_held}
 use Rattle.mw_text.proofs.variables.Variables.meet.Goals as goal
-
 
 pub returns-clause-variables : goal.returns-clause-variables
 returns-clause-variables c =

@@ -1,5 +1,0 @@
-use Rattle.mw_chart.specs.Row.{AreBare}
-use Rattle.mw_chart.proofs.reader.empty_rows.Given as goal
-
-abbrev pub invariant-loop-i : goal.invariant-loop-i
-invariant-loop-i l = AreBare l.i l.rows.items

@@ -1,0 +1,134 @@
+// Texts whose first hole is filled.
+ghost use Rattle.std.specs.Prelude.{◌≡◌, ◌≤◌, ◌<◌, ◌↔◌, ◌⊎◌, ◌-◌, ◌+◌, ℕ, IfOk, IfSome, IsTrue, length};
+ghost use Rattle.mw_chart.specs.Chart.{Holds, Adds, IsLive, PredictsProduction, PredictsBy, PredictsItem, Predicts};
+ghost use Rattle.mw_chart.specs.Nothing.{Nothing};
+ghost use Rattle.mw_chart.specs.Spelling.{IsTable};
+
+use crate::cell::{is_full, next_of, put, stands};
+use crate::corners::listed;
+use crate::item::Item;
+use crate::table::{Next, Production, Table};
+use crate::terminal::Terminal;
+use crate::tree::Tree;
+use std::alloc::{AllocError, Global};
+
+/// Whether no other token has to come next at a state.
+fn is_live(table: &Table, text: &[Terminal], at: usize, state: usize) -> bool
+    ensures { IsTrue result ↔ IsLive table.now text.now at state }
+{
+    match next_of(table, state) {
+        Some(Next::Token { token, .. }) => stands(text, at, token),
+        _ => true,
+    }
+}
+
+/// Opens an operator's text with a tree of a kind and precedence.
+fn predict_production(
+    alloc: Global,
+    table: &Table,
+    text: &[Terminal],
+    at: usize,
+    kind: u32,
+    precedence: u32,
+    tree: &Tree,
+    production: &Production,
+    predicted: &mut Vec<Item>,
+) -> Result<(), AllocError>
+    ensures { IfOk result (λ _. Adds (Holds predicted.old.items) (Holds predicted.new.items) (PredictsProduction table.now text.now at kind precedence tree.now production.now)) }
+{
+    match next_of(table, production.state) {
+        Some(
+            Next::Hole {
+                kind: given,
+                below,
+                next,
+            },
+        ) => {
+            if given == kind
+                && precedence < below
+                && is_live(table, text, at, next)
+                && !is_full(predicted, next)
+            {
+                let first = Tree::head(alloc, production.operator)?;
+                let whole = first.with(alloc, tree)?;
+                put(predicted, next, whole)?;
+            }
+            Ok(())
+        }
+        _ => Ok(()),
+    }
+}
+
+fn predict_by(
+    alloc: Global,
+    table: &Table,
+    text: &[Terminal],
+    at: usize,
+    kind: u32,
+    precedence: u32,
+    tree: &Tree,
+    predicted: &mut Vec<Item>,
+) -> Result<(), AllocError>
+    requires { IsTable table.now }
+    ensures { IfOk result (λ _. Adds (Holds predicted.old.items) (Holds predicted.new.items) (PredictsBy table.now text.now at kind precedence tree.now)) }
+{
+    let productions = listed(&table.corners.by_kind, kind);
+    for production in productions {
+        predict_production(
+            alloc, table, text, at, kind, precedence, tree, production, predicted,
+        )?;
+    }
+    Ok(())
+}
+
+fn predict_item(
+    alloc: Global,
+    table: &Table,
+    text: &[Terminal],
+    at: usize,
+    item: &Item,
+    predicted: &mut Vec<Item>,
+) -> Result<(), AllocError>
+    requires { IsTable table.now }
+    ensures { IfOk result (λ _. Adds (Holds predicted.old.items) (Holds predicted.new.items) (PredictsItem table.now text.now at item.now)) }
+{
+    match next_of(table, item.state) {
+        Some(Next::Whole { kind, precedence }) => {
+            predict_by(
+                alloc, table, text, at, kind, precedence, &item.tree, predicted,
+            )?;
+            if item.full {
+                predict_by(
+                    alloc,
+                    table,
+                    text,
+                    at,
+                    kind,
+                    precedence,
+                    &item.other,
+                    predicted,
+                )?;
+            }
+            Ok(())
+        }
+        _ => Ok(()),
+    }
+}
+
+/// The texts whose first hole is filled by what a cell holds.
+pub fn predict(
+    alloc: Global,
+    table: &Table,
+    text: &[Terminal],
+    at: usize,
+    cell: &Vec<Item>,
+) -> Result<Vec<Item>, AllocError>
+    requires { IsTable table.now }
+    ensures { IfOk result (λ predicted. Adds Nothing (Holds predicted.items) (Predicts table.now text.now at cell.now.items)) }
+{
+    let mut predicted = Vec::new(alloc);
+    for item in cell {
+        predict_item(alloc, table, text, at, item, &mut predicted)?;
+    }
+    Ok(predicted)
+}

@@ -1,0 +1,218 @@
+// Texts that begin with a token, and the whole ones.
+ghost use Rattle.std.specs.Prelude.{◌≡◌, ◌≤◌, ◌<◌, ◌↔◌, ◌⊎◌, ◌-◌, ◌+◌, ℕ, IfOk, IfSome, IfNone, IsTrue, Some, length};
+ghost use Rattle.std.specs.List.{slice_get};
+ghost use Rattle.mw_chart.specs.declared.table.Next.TheVariants.{Whole};
+ghost use Rattle.mw_chart.specs.Spelling.{NextAt, IsTable};
+ghost use Rattle.mw_chart.specs.Chart.{Holds, Adds, CellsHold, RowHolds, IsPut, KeepsItem, KeepsCell, ScansProduction, ScansProductions, ScansLeaves, Scans, GroupsBy, GroupsAny, IsWithin};
+
+use crate::cell::{next_of, put_at, stands};
+use crate::corners::listed;
+use crate::item::{Constituent, Item};
+use crate::table::{Next, Production, Table};
+use crate::terminal::Terminal;
+use crate::tree::Tree;
+use std::alloc::{AllocError, Global};
+
+fn keep(row: &mut Vec<Constituent>, end: usize, state: usize, tree: &Tree) -> Result<(), AllocError>
+    ensures { IfOk result (λ _. Adds (RowHolds row.old.items) (RowHolds row.new.items) (IsPut end state tree.now)) }
+{
+    let tree = tree.again()?;
+    row.push(Constituent { end, state, tree })?;
+    Ok(())
+}
+
+fn keep_item(
+    table: &Table,
+    at: usize,
+    item: &Item,
+    row: &mut Vec<Constituent>,
+) -> Result<(), AllocError>
+    ensures { IfOk result (λ _. Adds (RowHolds row.old.items) (RowHolds row.new.items) (KeepsItem table.now at item.now)) }
+{
+    match next_of(table, item.state) {
+        Some(
+            Next::Whole {
+                kind: _kind,
+                precedence: _precedence,
+            },
+        ) => {
+            keep(row, at, item.state, &item.tree)?;
+            if item.full {
+                keep(row, at, item.state, &item.other)?;
+            }
+            Ok(())
+        }
+        _ => Ok(()),
+    }
+}
+
+/// Keeps the whole texts of a cell as constituents.
+pub fn keep_cell(
+    table: &Table,
+    at: usize,
+    cell: &Vec<Item>,
+    row: &mut Vec<Constituent>,
+) -> Result<(), AllocError>
+    ensures { IfOk result (λ _. Adds (RowHolds row.old.items) (RowHolds row.new.items) (KeepsCell table.now at cell.now.items)) }
+{
+    for item in cell {
+        keep_item(table, at, item, row)?;
+    }
+    Ok(())
+}
+
+fn scan_production(
+    alloc: Global,
+    table: &Table,
+    text: &[Terminal],
+    i: usize,
+    production: &Production,
+    cells: &mut Vec<Vec<Item>>,
+) -> Result<(), AllocError>
+    requires below { i < length text.now }
+    requires shape { i + length cells.old.items ≡ length text.now }
+    ensures len { length cells.new.items ≡ length cells.old.items }
+    ensures ok { IfOk result (λ _. Adds (CellsHold cells.old.items) (CellsHold cells.new.items) (ScansProduction table.now text.now i production.now)) }
+{
+    match next_of(table, production.state) {
+        Some(Next::Token { token, next }) => {
+            if stands(text, i, token) {
+                put_at(
+                    cells,
+                    text.len() - i - 1,
+                    next,
+                    Tree::head(alloc, production.operator)?,
+                )?;
+            }
+            Ok(())
+        }
+        _ => Ok(()),
+    }
+}
+
+/// Begins the operators' texts whose first token stands at the place.
+fn scan_productions(
+    alloc: Global,
+    table: &Table,
+    text: &[Terminal],
+    i: usize,
+    cells: &mut Vec<Vec<Item>>,
+) -> Result<(), AllocError>
+    requires table { IsTable table.now }
+    requires below { i < length text.now }
+    requires shape { i + length cells.old.items ≡ length text.now }
+    ensures len { length cells.new.items ≡ length cells.old.items }
+    ensures ok { IfOk result (λ _. Adds (CellsHold cells.old.items) (CellsHold cells.new.items) (ScansProductions table.now text.now i)) }
+{
+    let productions = listed(&table.corners.by_token, text[i].token);
+    for production in productions {
+        scan_production(alloc, table, text, i, production, cells)?;
+    }
+    Ok(())
+}
+
+/// Puts what a terminal spells by itself.
+fn scan_leaves(
+    alloc: Global,
+    text: &[Terminal],
+    i: usize,
+    terminal: &Terminal,
+    cells: &mut Vec<Vec<Item>>,
+) -> Result<(), AllocError>
+    requires below { i < length text.now }
+    requires shape { i + length cells.old.items ≡ length text.now }
+    ensures len { length cells.new.items ≡ length cells.old.items }
+    ensures ok { IfOk result (λ _. Adds (CellsHold cells.old.items) (CellsHold cells.new.items) (ScansLeaves text.now i terminal.now)) }
+{
+    for leaf in &terminal.leaves {
+        put_at(
+            cells,
+            text.len() - i - 1,
+            leaf.state,
+            Tree::leaf(alloc, leaf.value)?,
+        )?;
+    }
+    Ok(())
+}
+
+/// Begins the texts whose first token stands at the place.
+pub fn scan(
+    alloc: Global,
+    table: &Table,
+    text: &[Terminal],
+    i: usize,
+    cells: &mut Vec<Vec<Item>>,
+) -> Result<(), AllocError>
+    requires table { IsTable table.now }
+    requires below { i < length text.now }
+    requires shape { i + length cells.old.items ≡ length text.now }
+    ensures len { length cells.new.items ≡ length cells.old.items }
+    ensures ok { IfOk result (λ _. Adds (CellsHold cells.old.items) (CellsHold cells.new.items) (Scans table.now text.now i)) }
+{
+    scan_productions(alloc, table, text, i, cells)?;
+    scan_leaves(alloc, text, i, &text[i], cells)
+}
+
+/// The state of a text in parentheses.
+fn group_of(table: &Table, state: usize) -> Option<usize>
+    ensures some { IfSome result (λ s. (kind precedence : ℕ) × NextAt table.now state (Whole kind precedence) × (slice_get table.now.groups.items kind ≡ Some s)) }
+    ensures none { IfNone result ((kind precedence s : ℕ) → NextAt table.now state (Whole kind precedence) → slice_get table.now.groups.items kind ≡ Some s → ⊥) }
+{
+    match next_of(table, state) {
+        Some(Next::Whole { kind, .. }) => {
+            let kind = kind as usize;
+            if kind < table.groups.len() {
+                Some(table.groups[kind])
+            } else {
+                None
+            }
+        }
+        _ => None,
+    }
+}
+
+fn group_by(
+    table: &Table,
+    text: &[Terminal],
+    i: usize,
+    constituent: &Constituent,
+    cells: &mut Vec<Vec<Item>>,
+) -> Result<(), AllocError>
+    requires begin { i < constituent.now.end }
+    requires shape { i + length cells.old.items ≡ length text.now }
+    ensures len { length cells.new.items ≡ length cells.old.items }
+    ensures ok { IfOk result (λ _. Adds (CellsHold cells.old.items) (CellsHold cells.new.items) (GroupsBy table.now text.now constituent.now)) }
+{
+    if stands(text, constituent.end, table.close) {
+        match group_of(table, constituent.state) {
+            Some(state) => put_at(
+                cells,
+                text.len() - constituent.end - 1,
+                state,
+                constituent.tree.again()?,
+            ),
+            None => Ok(()),
+        }
+    } else {
+        Ok(())
+    }
+}
+
+/// Puts the constituents of a row that stand in parentheses.
+pub fn group(
+    table: &Table,
+    text: &[Terminal],
+    i: usize,
+    row: &Vec<Constituent>,
+    cells: &mut Vec<Vec<Item>>,
+) -> Result<(), AllocError>
+    requires within { IsWithin row.now.items i (length text.now) }
+    requires shape { i + length cells.old.items ≡ length text.now }
+    ensures len { length cells.new.items ≡ length cells.old.items }
+    ensures ok { IfOk result (λ _. Adds (CellsHold cells.old.items) (CellsHold cells.new.items) (GroupsAny table.now text.now row.now.items)) }
+{
+    for constituent in row {
+        group_by(table, text, i, constituent, cells)?;
+    }
+    Ok(())
+}
