@@ -1,6 +1,6 @@
 -- That the kinds of a fault are there.
-use Rattle.std.specs.Prelude.{ℕ, zero, suc, ◌≡◌, ◌-◌, List, [], ◌∷◌, ◌++◌, map, get_or, slice_get, Some, refl}
-use Rattle.std.proofs.Common.{sym, subst, ap, ◌∙◌, inl, inr, arith, append_assoc}
+use Rattle.std.specs.Prelude.{ℕ, zero, suc, ◌≡◌, ◌-◌, List, [], ◌∷◌, map, get_or, slice_get, Some, refl}
+use Rattle.std.proofs.Common.{sym, subst, ap, ◌∙◌, inl, inr, arith}
 use Rattle.mw_logic.specs.Signature.{Signature, Sorted, sort, kind, Operator, IsOperator, Member, at_number}
 use Rattle.mw_logic.specs.Preregular.{IsSortOf, HasItsSorts}
 use Rattle.mw_print.specs.Sorts.{sorted_name}

@@ -2,7 +2,6 @@
 use Rattle.std.specs.Prelude.{◌≡◌, ℕ, List}
 use Rattle.mw_logic.specs.Term.{Variable}
 use Rattle.mw_logic.specs.Preregular.{IsPreregular}
-use Rattle.mw_logic.specs.Signature.{Signature}
 use Rattle.mw_logic.specs.Module.{Module}
 use Rattle.mw_module.specs.Units.{SeenUnit}
 use Rattle.mw_module.specs.declared.faults.Fault.{Fault}

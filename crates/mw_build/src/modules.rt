@@ -112,9 +112,11 @@ fn module_of(
     requires order { declarations.value.order ≡ order_of declarations.value.signature }
     requires tables { AreTablesOf declarations.value.signature tables.value }
     requires grammar { IsGrammarOf declarations.value.signature declarations.value.variables grammar.value }
-    ensures { IfOk result (λ m. m ≡ record { name = name;
-        «module» = record { signature = declarations.value.signature; statements = statements };
-        variables = declarations.value.variables }) }
+    ensures { IfOk result (λ m. m ≡ record {
+      name = name;
+      «module» = record { signature = declarations.value.signature; statements = statements };
+      variables = declarations.value.variables;
+    }) }
 {
     let Declarations {
         signature,
@@ -150,12 +152,5 @@ pub fn build(alloc: Global, unit: &Unit<'_>, name: Name) -> Result<Module, UnitE
         declarations.variables.as_slice(),
     )?;
     let statements = read(alloc, &grammar, unit.statements.as_slice())?;
-    Ok(module_of(
-        alloc,
-        name,
-        declarations,
-        tables,
-        grammar,
-        statements,
-    )?)
+    Ok(module_of(alloc, name, declarations, tables, grammar, statements)?)
 }

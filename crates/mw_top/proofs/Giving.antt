@@ -1,5 +1,5 @@
 -- What a unit gives, from what is known of its text.
-use Rattle.std.proofs.Common.{◌≡◌, ℕ, List, Bool, true, subst, sym, ap, refl, Option, Some, None, option_map, Result, Ok, Err, MatchResult}
+use Rattle.std.proofs.Common.{◌≡◌, ℕ, List, Bool, true, subst, sym, refl, Option, Some, None, option_map, Result, Ok, Err, MatchResult}
 use Rattle.std.specs.Borrow.{Bor}
 use Rattle.mw_lex.specs.declared.token.Token.{Token}
 use Rattle.mw_module.specs.declared.faults.Fault.{Fault}

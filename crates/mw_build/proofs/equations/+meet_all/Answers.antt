@@ -1,4 +1,4 @@
-use Rattle.std.proofs.Common.{◌≡◌, ◌∙◌, ℕ, List, sym, ap}
+use Rattle.std.proofs.Common.{◌∙◌, ℕ, List, sym, ap}
 use Rattle.mw_term.specs.Raws.{raw_term}
 use Rattle.mw_machine.specs.Variables.{met}
 use Rattle.mw_text.specs.Mentions.{with_variable}

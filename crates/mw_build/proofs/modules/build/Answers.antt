@@ -1,10 +1,9 @@
-use Rattle.std.proofs.Common.{◌≡◌, ◌∙◌, List, map, sym, ap, subst}
+use Rattle.std.proofs.Common.{◌∙◌, List, map, sym, ap, subst}
 use Rattle.mw_logic.specs.Term.{Variable}
-use Rattle.mw_logic.specs.Signature.{Signature}
 use Rattle.mw_logic.specs.Free.{IsFreeSignature}
 use Rattle.mw_logic.specs.Preregular.{HasItsSorts, IsPreregular}
 use Rattle.mw_grammar.specs.Readable.{IsReadable, AreVariables}
-use Rattle.mw_grammar.specs.Grammars.{IsGrammarOf, IsReading}
+use Rattle.mw_grammar.specs.Grammars.{IsGrammarOf}
 use Rattle.mw_grammar.specs.declared.grammar.Grammar.{Grammar}
 use Rattle.mw_module.specs.declared.units.Lined.{Lined}
 use Rattle.mw_module.specs.Units.{seen_lined, seen_unit}
@@ -14,7 +13,7 @@ use Rattle.mw_declare.proofs.Causes.{passed_on}
 use Rattle.mw_build.specs.Sides.{equations_of}
 use Rattle.mw_build.specs.SignatureFaults.{SignatureFault}
 use Rattle.mw_build.specs.Equations.{AreEquations, FirstFault}
-use Rattle.mw_build.specs.Modules.{Accepted, IsAccepted, IsRefused, by_declarations, by_signature, by_equations}
+use Rattle.mw_build.specs.Modules.{IsRefused, by_declarations, by_signature, by_equations}
 use Rattle.mw_build.proofs.Accepting.{accepted_by}
 use Rattle.mw_build.proofs.Signatures.{numbers_declared, free_declared, simple_declared}
 use Rattle.mw_build.proofs.Readable.{readable_declared, sorted_variables, variables_declared}

@@ -1,4 +1,4 @@
-use Rattle.std.proofs.Common.{◌≡◌, ◌∙◌, Result, MatchResult, sym, ap, subst}
+use Rattle.std.proofs.Common.{◌∙◌, Result, MatchResult, sym, ap, subst}
 use Rattle.std.specs.Global.{Vec}
 use Rattle.mw_logic.specs.Module.{Statement}
 use Rattle.mw_module.specs.declared.faults.Fault.{Fault}

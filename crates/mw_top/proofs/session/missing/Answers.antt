@@ -1,4 +1,4 @@
-use Rattle.std.proofs.Common.{◌∙◌, sym, ap, subst, option_map}
+use Rattle.std.proofs.Common.{sym, ap, subst, option_map}
 use Rattle.std.specs.Borrow.{Bor}
 use Rattle.mw_lex.specs.declared.token.Token.{Token}
 use Rattle.mw_module.specs.declared.faults.FaultKind.TheVariants.{UnknownModule}

@@ -1,7 +1,7 @@
-use Rattle.std.proofs.Common.{sym, subst, Ok}
+use Rattle.std.proofs.Common.{sym, Ok}
 use Rattle.mw_module.specs.Words.{texts}
 use Rattle.mw_command.specs.Commands.{seen_command}
-use Rattle.mw_top.specs.Commands.{IsAnswer, TermFault, in_term}
+use Rattle.mw_top.specs.Commands.{in_term}
 use Rattle.mw_top.specs.Sources.{faulty, answered}
 use Rattle.mw_top.proofs.Answering.{if_ok}
 use Rattle.mw_top.proofs.Giving.{refused_gives, none_there, match_ok, match_err}

@@ -3,7 +3,7 @@ use Rattle.std.proofs.lemmas.Bool.{both_ways}
 use Rattle.mw_module.specs.declared.faults.FaultKind.TheVariants.{AlreadyDefined}
 use Rattle.mw_module.specs.Causes.{HasCause}
 use Rattle.mw_module.specs.Units.{seen_unit}
-use Rattle.mw_build.specs.Modules.{IsAccepted, IsRefused}
+use Rattle.mw_build.specs.Modules.{IsRefused}
 use Rattle.mw_top.specs.Sources.{IsTaken, Gives, taken, refused, accepted}
 use Rattle.mw_top.proofs.Answering.{if_ok}
 use Rattle.mw_top.proofs.Giving.{refused_gives}
