@@ -1,10 +1,10 @@
 // The line of a refusal.
-ghost use Rattle.std.specs.Prelude.{◌≡◌, ◌++◌, IfOk, OnOk, map};
-ghost use Rattle.mw_module.specs.Refusals.{cause_of, refusal_of};
+ghost use Rattle.std.specs.Prelude.{◌≡◌, ◌++◌, IfOk, OnOk};
 ghost use Rattle.mw_block.specs.Refused.{detail_text, kind_text, refusal_line, spaced};
 
 use crate::printing::print_number;
 use mw_module::{Fault, FaultKind};
+use mw_term::Name;
 use std::alloc::{AllocError, Global};
 
 /// Writes a text and a name behind another text.
@@ -16,8 +16,8 @@ fn write_named(before: &str, name: &[u8], text: &mut Vec<u8>) -> Result<(), Allo
 }
 
 /// Writes names, each with a space before it.
-fn write_spaced(names: &[Vec<u8>], text: &mut Vec<u8>) -> Result<(), AllocError>
-    ensures { OnOk result (text.new.items ≡ text.old.items ++ spaced (map (λ n. n.items) names.now)) }
+fn write_spaced(names: &[Name], text: &mut Vec<u8>) -> Result<(), AllocError>
+    ensures { OnOk result (text.new.items ≡ text.old.items ++ spaced names.now) }
 {
     let mut rest = names;
     while let [name, after @ ..] = rest {
@@ -29,7 +29,7 @@ fn write_spaced(names: &[Vec<u8>], text: &mut Vec<u8>) -> Result<(), AllocError>
 
 /// The kind of a fault.
 fn kind_words(kind: &FaultKind) -> &'static str
-    ensures { result.now ≡ kind_text (cause_of kind.now) }
+    ensures { result.now ≡ kind_text kind.now }
 {
     match kind {
         FaultKind::BadByte => "bad byte",
@@ -65,7 +65,7 @@ fn kind_words(kind: &FaultKind) -> &'static str
 
 /// Writes a fault's detail behind a colon, where it has one.
 fn write_detail(kind: &FaultKind, text: &mut Vec<u8>) -> Result<(), AllocError>
-    ensures { OnOk result (text.new.items ≡ text.old.items ++ detail_text (cause_of kind.now)) }
+    ensures { OnOk result (text.new.items ≡ text.old.items ++ detail_text kind.now) }
 {
     match kind {
         FaultKind::AlreadyDefined(name)
@@ -91,7 +91,7 @@ fn write_detail(kind: &FaultKind, text: &mut Vec<u8>) -> Result<(), AllocError>
 
 /// The line of a refusal.
 pub fn refusal(alloc: Global, fault: &Fault) -> Result<Vec<u8>, AllocError>
-    ensures { IfOk result (λ text. text.items ≡ refusal_line (refusal_of fault.now)) }
+    ensures { IfOk result (λ text. text.items ≡ refusal_line fault.now) }
 {
     let mut text = Vec::new(alloc);
     text.extend_from_slice(b"line ")?;

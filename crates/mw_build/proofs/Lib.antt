@@ -1,10 +1,11 @@
 -- Laws of modules that are accepted.
-pub mod Keys
 pub mod Signatures
 pub mod Readable
+pub mod Mentioned
 pub mod Sides
 pub mod Reading
 pub mod Accepting
 pub mod Naming
 pub mod PrintedVariables
+pub mod SidesOfTokens
 pub mod Printing

@@ -1,23 +1,14 @@
--- The names of sorts, one by one; and that the kinds of a fault are there.
+-- That the kinds of a fault are there.
 use Rattle.std.specs.Prelude.{ℕ, zero, suc, ◌≡◌, ◌-◌, List, [], ◌∷◌, ◌++◌, map, get_or, slice_get, Some, refl}
 use Rattle.std.proofs.Common.{sym, subst, ap, ◌∙◌, inl, inr, arith, append_assoc}
-use Rattle.std.proofs.lemmas.List.{map-append}
-use Rattle.std.specs.Global.{Vec}
 use Rattle.mw_logic.specs.Signature.{Signature, Sorted, sort, kind, Operator, IsOperator, Member, at_number}
 use Rattle.mw_logic.specs.Preregular.{IsSortOf, HasItsSorts}
 use Rattle.mw_print.specs.Sorts.{sorted_name}
-use Rattle.mw_module.specs.Refusals.{Refusal, not_preregular}
+use Rattle.mw_module.specs.declared.faults.Fault.{Fault}
+use Rattle.mw_module.specs.declared.faults.FaultKind.TheVariants.{NotPreregular}
 use Rattle.mw_sorts.specs.Entries.{AreEntries}
 use Rattle.mw_sorts.specs.Faults.{IsFirstFault}
 use Rattle.mw_build.specs.SignatureFaults.{AreThere, SignatureFault}
-
-abbrev pub texts_of : List (Vec ℕ) → List (List ℕ)
-texts_of ns = map (λ (n : Vec ℕ). n.items) ns
-
--- a name that was put behind the others
-pub named : (old new : List (Vec ℕ)) (n : Vec ℕ) (name : List ℕ) (rest all : List (List ℕ)) → new ≡ old ++ n ∷ [] → n.items ≡ name → texts_of old ++ name ∷ rest ≡ all → texts_of new ++ rest ≡ all
-named old new n name rest all e t h =
-    ap (λ ns. texts_of ns ++ rest) e ∙ ap (λ ns. ns ++ rest) (map-append (λ (n : Vec ℕ). n.items) old (n ∷ [])) ∙ append_assoc (texts_of old) (n.items ∷ []) rest ∙ ap (λ m. texts_of old ++ m ∷ rest) t ∙ h
 
 -- the kinds among an operator's entries are there
 entries_there : (sig : Signature) (Ss : List Sorted) (Ks : List ℕ) → ((K : ℕ) → Member K Ks → IsSortOf sig K) → AreEntries sig Ss Ks → AreThere sig Ss
@@ -40,10 +31,10 @@ operator_there os (suc i) o p e h = let j : suc i - 1 ≡ i = omega arith in e �
 
 -- the fault of what was found, by its name and the names of the sorts
 pub refused_so : (line f : ℕ) (sig : Signature) (Ss : List Sorted) → IsFirstFault sig f Ss → (o : Operator) → o ≡ get_or sig.operators (f - 1) o → (spelling : List ℕ) (names : List (List ℕ)) → spelling ≡ o.spelling → names ≡ map (sorted_name sig) Ss
-    → SignatureFault line sig (record { line = line; cause = not_preregular spelling names })
+    → SignatureFault line sig (record { line = line; kind = NotPreregular spelling names })
 refused_so line f sig Ss first o e spelling names s n =
     let p : o ≡ first.operator = operator_there sig.operators f o first.operator e first.is_there in
     record { number = f; sorts = Ss; first = first; refusal = refused (s ∙ ap (λ (q : Operator). q.spelling) p) }
   where
-    refused : spelling ≡ first.operator.spelling → ◌≡◌ {A = Refusal} (record { line = line; cause = not_preregular spelling names }) (record { line = line; cause = not_preregular first.operator.spelling (map (sorted_name sig) Ss) })
+    refused : spelling ≡ first.operator.spelling → ◌≡◌ {A = Fault} (record { line = line; kind = NotPreregular spelling names }) (record { line = line; kind = NotPreregular first.operator.spelling (map (sorted_name sig) Ss) })
     refused k = rw (k, n) refl

@@ -3,7 +3,7 @@ use Rattle.std.proofs.Common.{◌≡◌, ◌∙◌, ℕ, zero, suc, List, false,
 use Rattle.std.proofs.lemmas.Bool.{both_ways}
 use Rattle.std.proofs.lemmas.Option.{slice_get_within}
 use Rattle.std.proofs.lemmas.List.Elements.{All-map}
-use Rattle.mw_lex.specs.Lexing.{Seen}
+use Rattle.mw_lex.specs.declared.token.Token.{Token}
 use Rattle.mw_lex.specs.Texts.{IsTokenText, AreTokens}
 use Rattle.mw_lex.proofs.Texts.{lexed_are_tokens}
 use Rattle.mw_logic.specs.Term.{RawTerm}
@@ -14,9 +14,11 @@ use Rattle.mw_text.specs.Proper.{AreProperNames}
 use Rattle.mw_text.specs.Mixfix.{Spells}
 use Rattle.mw_text.proofs.SpelledVariables.{Each, spelled_variables}
 use Rattle.mw_module.specs.Words.{texts}
-use Rattle.mw_module.proofs.Tokens.{units_are_of_tokens}
-use Rattle.mw_declare.specs.Meaning.{Sides}
-use Rattle.mw_declare.specs.Declarations.{Declarations}
+use Rattle.mw_module.specs.Tokens.{IsOfTokens}
+use Rattle.mw_module.proofs.Sources.{units_are_of_tokens}
+use Rattle.mw_build.specs.Sides.{Sides, equations_of}
+use Rattle.mw_build.proofs.SidesOfTokens.{AreSides, equations_proper}
+use Rattle.mw_declare.specs.declared.declarations.Declarations.{Declarations}
 use Rattle.mw_declare.specs.Proper.{IsProperVariable, AreProper}
 use Rattle.mw_declare.proofs.Proper.{all_at, declarations_are_proper}
 use Rattle.mw_print.specs.Laws.{AreBinary, ArePrintable, IsPrintable}
@@ -32,29 +34,32 @@ module _ (source : List ℕ) (a : Accepted) (of : IsOfSource source a) where
   abbrev d : Declarations
   d = of.accepted.declarations
 
+  made : IsOfTokens of.unit
+  made = units_are_of_tokens false of.tokens of.at of.next of.unit (lexed_are_tokens source of.tokens of.cut) of.read
+
   proper : AreProper d
-  proper = declarations_are_proper of.unit d (units_are_of_tokens false of.tokens of.at of.next of.unit (lexed_are_tokens source of.tokens of.cut) of.read) of.accepted.declared
+  proper = declarations_are_proper of.unit.statements d made.statements of.accepted.declared
 
   -- the signature and the variables are those that are declared
   signature_is : a.module.signature ≡ d.signature
   signature_is = of.accepted.holds.signature
 
   binary : AreBinary a.module.signature
-  binary = subst AreBinary (sym signature_is) (λ f o e h. absurd (both_ways _ (operators_declared of.unit d of.accepted.declared f o e).assoc h))
+  binary = subst AreBinary (sym signature_is) (λ f o e h. absurd (both_ways _ (operators_declared of.unit.statements d of.accepted.declared f o e).assoc h))
 
   names : AreProperNames a.module.signature
   names = subst AreProperNames (sym signature_is) proper.operators
 
   nat : IsFalse a.module.signature.nat
-  nat = ap (λ (s : Signature). s.nat) signature_is ∙ nat_declared of.unit d of.accepted.declared
+  nat = ap (λ (s : Signature). s.nat) signature_is ∙ nat_declared of.unit.statements d of.accepted.declared
 
   qid : IsFalse a.module.signature.qid
-  qid = ap (λ (s : Signature). s.qid) signature_is ∙ qid_declared of.unit d of.accepted.declared
+  qid = ap (λ (s : Signature). s.qid) signature_is ∙ qid_declared of.unit.statements d of.accepted.declared
 
   -- the variables of what tokens spell
-  side_printable : (ts : List Seen) (t : RawTerm) (p : ℕ) → AreTokens ts → Spells d.signature d.variables t p (texts ts) → ArePrintable d.signature t
+  side_printable : (ts : List Token) (t : RawTerm) (p : ℕ) → AreTokens ts → Spells d.signature d.variables t p (texts ts) → ArePrintable d.signature t
   side_printable ts t p tokens s x o =
-      let each : Each IsTokenText (texts ts) = member-all IsTokenText (texts ts) (All-map IsTokenText (λ (t : Seen). t.text) ts tokens) in
+      let each : Each IsTokenText (texts ts) = member-all IsTokenText (texts ts) (All-map IsTokenText (λ (t : Token). t.text) ts tokens) in
       spelled_variables d.signature d.variables (IsPrintable d.signature) IsTokenText
       (λ y m. declared_printable d.signature proper.sorts y (member-all (IsProperVariable d.signature) d.variables proper.variables y m))
       (with_sort_printable d.signature) s each x o
@@ -68,10 +73,11 @@ module _ (source : List ℕ) (a : Accepted) (of : IsOfSource source a) where
   statements_printable : (k : ℕ) (st : Statement) → at_number a.module.statements k ≡ Some st → ArePrintable d.signature st.left × ArePrintable d.signature st.right
   statements_printable zero st is = cc
   statements_printable (suc i) st is =
-      let all : AreEquations d.signature d.variables d.equations a.module.statements = of.accepted.holds.equations in
+      let es = equations_of of.unit.statements in
+      let all : AreEquations d.signature d.variables es a.module.statements = of.accepted.holds.equations_are in
       let w = slice_get_within a.module.statements i st is in
-      let e = there d.equations i (omega (arith, w, all.count)) in
-      statement_printable e.0 st (all_at (λ (e : Sides). AreTokens e.left × AreTokens e.right) d.equations proper.equations (suc i) e.0 e.1) (all.each i e.0 st e.1 is)
+      let e = there es i (omega (arith, w, all.count)) in
+      statement_printable e.0 st (all_at AreSides es (equations_proper of.unit.statements made.statements) (suc i) e.0 e.1) (all.each i e.0 st e.1 is)
 
 pub texts_read_back : TextsReadBack
 texts_read_back source a t of raw printable =

@@ -6,21 +6,20 @@ use Rattle.mw_logic.specs.Term.{Variable, RawTerm}
 use Rattle.mw_logic.specs.Signature.{Signature}
 use Rattle.mw_logic.specs.Module.{Statement}
 use Rattle.mw_module.specs.declared.faults.FaultKind.{FaultKind}
-use Rattle.mw_module.specs.Refusals.{cause_of}
 use Rattle.mw_text.specs.Readings.{ReadsPair}
-use Rattle.mw_declare.specs.Meaning.{Sides, texts}
-use Rattle.mw_declare.specs.declared.statement.Equation.{Equation}
-use Rattle.mw_declare.specs.Seen.{seen_equation, seen_equations}
+use Rattle.mw_module.specs.Words.{texts}
+use Rattle.mw_build.specs.declared.equations.Equation.{Equation}
+use Rattle.mw_build.specs.Sides.{Sides, seen_equation, seen_equations}
 use Rattle.mw_build.specs.Equations.{IsStatementOf, SidesFault, IsEquation, EquationFault, sides, AreEquations, FirstFault}
 
 module _ (sig : Signature) (variables : List Variable) (e : Sides) where
   -- an equation whose sides spell these terms
   pub of_sides : {E : Type 0} (left right : RawTerm) → ReadsPair sig variables (texts e.left) (texts e.right) (left, right) → (r : Result (Result Statement FaultKind) E)
-      → IfOk r (λ s. MatchResult s (IsStatementOf sig left right e.executable) (λ kind. SidesFault sig left right e.executable (cause_of kind)))
-      → IfOk r (λ s. MatchResult s (IsEquation sig variables e) (λ kind. EquationFault sig variables e (cause_of kind)))
+      → IfOk r (λ s. MatchResult s (IsStatementOf sig left right e.executable) (λ kind. SidesFault sig left right e.executable kind))
+      → IfOk r (λ s. MatchResult s (IsEquation sig variables e) (λ kind. EquationFault sig variables e kind))
   of_sides left right read (Err x) h = h
   of_sides left right read (Ok (Ok st)) h = record { left = left; right = right; read = read; sides = h }
-  of_sides left right read (Ok (Err kind)) h = sides left right (cause_of kind) read h
+  of_sides left right read (Ok (Err kind)) h = sides left right kind read h
 
 get_pushed : {X : Type 0} (xs : List X) (y : X) (i : ℕ) (z : X) → slice_get (xs ++ y ∷ []) i ≡ Some z → (slice_get xs i ≡ Some z) ⊎ ((i ≡ length xs) × (y ≡ z))
 get_pushed [] y zero z e = inr (refl, same_Some y z e)
@@ -64,8 +63,8 @@ module _ (sig : Signature) (variables : List Variable) where
         subst (λ es. AreEquations sig variables es (sts ++ st ∷ [])) (sym more) (are_pushed (seen_equations (take i xs)) sts (seen_equation x) st all is)
 
     -- this one is at fault, and none before
-    pub first_fault : (sts : List Statement) (kind : FaultKind) → AreEquations sig variables (seen_equations (take i xs)) sts → EquationFault sig variables (seen_equation x) (cause_of kind)
-        → FirstFault sig variables (seen_equations xs) (record { line = x.line; cause = cause_of kind })
+    pub first_fault : (sts : List Statement) (kind : FaultKind) → AreEquations sig variables (seen_equations (take i xs)) sts → EquationFault sig variables (seen_equation x) kind
+        → FirstFault sig variables (seen_equations xs) (record { line = x.line; kind = kind })
     first_fault sts kind all wrong = record {
       place = i;
       equation = seen_equation x;

@@ -21,31 +21,33 @@ use Rattle.mw_machine.specs.Variables.{is_in, met, all_met}
 use Rattle.mw_machine.proofs.Ordered.{free, accepted}
 use Rattle.mw_machine.proofs.Depths.{depth_height}
 use Rattle.mw_machine.proofs.Meeting.{is_in-met}
-use Rattle.mw_module.specs.Refusals.{too_deep}
+use Rattle.mw_module.specs.declared.faults.FaultKind.TheVariants.{TooDeep}
 use Rattle.mw_text.specs.Mixfix.{Reads, Spells}
 use Rattle.mw_text.proofs.RawTerms.{spelled_raw}
 use Rattle.mw_text.proofs.SpelledVariables.{spelled_variables}
-use Rattle.mw_declare.specs.Meaning.{Sides}
+use Rattle.mw_text.specs.Mentions.{is_met, missing_in}
+use Rattle.mw_build.specs.Sides.{Sides}
+use Rattle.mw_build.proofs.Mentioned.{is_met-is}
 use Rattle.mw_build.proofs.Reading.{there}
 use Rattle.mw_build.proofs.PrintedVariables.{named_there}
-use Rattle.mw_build.specs.Equations.{missing_in, unbound, FitsIn, Oversized, deep, IsLone, statement_of, IsApplicable, IsEquation, AreEquations}
+use Rattle.mw_build.specs.Equations.{unbound, FitsIn, Oversized, deep, IsLone, statement_of, IsApplicable, IsEquation, AreEquations}
 use Rattle.mw_logic.proofs.SameConditions.{same_variable-is, same_variable-refl}
 
 -- where none is missing, each is bound
-none_missing : (bound xs : List Variable) → missing_in bound xs ≡ None → (x : Variable) → is_in x xs ≡ true → is_in x bound ≡ true
+none_missing : (bound xs : List Variable) → missing_in bound xs ≡ None → (x : Variable) → is_in x xs ≡ true → is_met bound x ≡ true
 none_missing bound [] h x i = absurd (both_ways _ refl i)
-none_missing bound (y ∷ xs) h x i = of (is_in y bound) refl h (λ n. none_missing bound xs n x)
+none_missing bound (y ∷ xs) h x i = of (is_met bound y) refl h (λ n. none_missing bound xs n x)
   where
-    here : (b : Bool) → same_variable y x ≡ b → is_in y bound ≡ true → (is_in x xs ≡ true → is_in x bound ≡ true) → (b || is_in x xs) ≡ true → is_in x bound ≡ true
-    here true e k rest j = subst (λ z. is_in z bound ≡ true) (same_variable-is y x e) k
+    here : (b : Bool) → same_variable y x ≡ b → is_met bound y ≡ true → (is_in x xs ≡ true → is_met bound x ≡ true) → (b || is_in x xs) ≡ true → is_met bound x ≡ true
+    here true e k rest j = subst (λ z. is_met bound z ≡ true) (same_variable-is y x e) k
     here false e k rest j = rest j
 
-    of : (b : Bool) → is_in y bound ≡ b → (if b then missing_in bound xs else Some y) ≡ None → (missing_in bound xs ≡ None → is_in x xs ≡ true → is_in x bound ≡ true) → is_in x bound ≡ true
+    of : (b : Bool) → is_met bound y ≡ b → (if b then missing_in bound xs else Some y) ≡ None → (missing_in bound xs ≡ None → is_in x xs ≡ true → is_met bound x ≡ true) → is_met bound x ≡ true
     of true k n rest = here (same_variable y x) refl k (rest n) i
     of false k n rest = cc
 
 pub all_bound : (left right : RawTerm) → unbound left right ≡ None → (x : Variable) → IsTrue (occurs x right) → IsTrue (occurs x left)
-all_bound left right h x i = sym (is_in-met x [] left) ∙ none_missing (met [] left) (met [] right) h x (is_in-met x [] right ∙ i)
+all_bound left right h x i = sym (is_in-met x [] left) ∙ sym (is_met-is (met [] left) x) ∙ none_missing (met [] left) (met [] right) h x (is_in-met x [] right ∙ i)
 
 -- what a test of the levels says
 pub within : (t : RawTerm) (n : ℕ) (b : Bool) → b ≡ nat_le (height t) n → b ≡ true → height t ≤ n
@@ -84,7 +86,7 @@ module _ (sig : Signature) (simple : IsSimpleSignature sig) where
     not_large = λ k. both_ways _ simple.nat k.successor.nat;
   }
 
-  pub oversized : (t : RawTerm) → 1000 < height t → Oversized sig t too_deep
+  pub oversized : (t : RawTerm) → 1000 < height t → Oversized sig t TooDeep
   oversized t h = deep (record {
     form = t;
     clean = record { clean = free_clean sig (free sig simple) t; equal = done };

@@ -12,11 +12,12 @@ use Rattle.mw_machine.specs.Plain.{IsFreeOperator}
 use Rattle.mw_machine.specs.Simple.{IsSimpleSignature}
 use Rattle.mw_machine.proofs.Meeting.{neither}
 use Rattle.mw_module.specs.Forms.{Shape, Sorts, Subsorts, Operators, Variables, Equation}
-use Rattle.mw_module.specs.Units.{SeenUnit}
-use Rattle.mw_declare.specs.Statements.{Lined, statements_of}
+use Rattle.mw_module.specs.Known.{AreKnown}
+use Rattle.mw_module.specs.Units.{SeenLined}
 use Rattle.mw_declare.specs.Meaning.{Name, texts, is_among, with_name, with_names, with_sorts, sorts_from, sorts_of}
 use Rattle.mw_declare.specs.Operators.{Declared, operator_of, operators_of, signature_of}
-use Rattle.mw_declare.specs.Declarations.{Declarations, unknown_in_all, Declares}
+use Rattle.mw_declare.specs.declared.declarations.Declarations.{Declarations}
+use Rattle.mw_declare.specs.Declarations.{unknown_in_all, Declares}
 use Rattle.mw_declare.proofs.Known.{IsDeclared, declared_operators}
 use Rattle.mw_declare.proofs.Pairs.{pairs_there}
 use Rattle.mw_declare.proofs.Proper.{all_at}
@@ -60,7 +61,7 @@ different_sorts ns (Operators names args result said) d = d
 different_sorts ns (Variables names S) d = d
 different_sorts ns (Equation left right executable) d = d
 
-different_from : (ns : List Name) (ss : List Lined) → AreDifferent ns → AreDifferent (sorts_from ns ss)
+different_from : (ns : List Name) (ss : List SeenLined) → AreDifferent ns → AreDifferent (sorts_from ns ss)
 different_from ns [] d = d
 different_from ns (s ∷ ss) d = different_from (with_sorts ns s.shape) ss (different_sorts ns s.shape d)
 
@@ -88,35 +89,35 @@ mapped_at g (x ∷ xs) (suc i) b e = mapped_at g xs i b e
 free_operator : (o : Declared) → IsFreeOperator (operator_of o)
 free_operator o = record { assoc = refl; comm = refl; identity = refl; built = refl }
 
-pub free_operators : (ss : List Lined) (f : ℕ) (o : Operator) → IsOperator (signature_of ss) f o → IsFreeOperator o
+pub free_operators : (ss : List SeenLined) (f : ℕ) (o : Operator) → IsOperator (signature_of ss) f o → IsFreeOperator o
 free_operators ss zero o e = cc
 free_operators ss (suc i) o e = let p = mapped_at operator_of (operators_of ss) i o e in subst IsFreeOperator (sym p.1) (free_operator p.0)
 
-sorts_apart : (ss : List Lined) (S T : ℕ) (n : List ℕ) → IsSortNamed (signature_of ss) S n → IsSortNamed (signature_of ss) T n → S ≡ T
+sorts_apart : (ss : List SeenLined) (S T : ℕ) (n : List ℕ) → IsSortNamed (signature_of ss) S n → IsSortNamed (signature_of ss) T n → S ≡ T
 sorts_apart ss zero T n e k = cc
 sorts_apart ss (suc i) zero n e k = cc
 sorts_apart ss (suc i) (suc j) n e k = ap suc (different_at (sorts_of ss) (different_from [] ss tt) i j n e k)
 
-abbrev pub signature_in : SeenUnit → Signature
-signature_in u = signature_of (statements_of u)
+abbrev pub signature_in : List SeenLined → Signature
+signature_in ss = signature_of ss
 
--- the operators of a unit whose sorts are all known
-module _ (u : SeenUnit) (known : unknown_in_all (statements_of u) ≡ None) where
-  pub operator_known : (f : ℕ) (o : Operator) → IsOperator (signature_in u) f o → IsDeclared (signature_in u) o
-  operator_known f o e = all_at (IsDeclared (signature_in u)) (map operator_of (operators_of (statements_of u))) (declared_operators u known) f o e
+-- the operators of statements whose sorts are all known
+module _ (ss : List SeenLined) (formed : AreKnown ss) (known : unknown_in_all ss ≡ None) where
+  pub operator_known : (f : ℕ) (o : Operator) → IsOperator (signature_in ss) f o → IsDeclared (signature_in ss) o
+  operator_known f o e = all_at (IsDeclared (signature_in ss)) (map operator_of (operators_of ss)) (declared_operators ss formed known) f o e
 
-  its_sorts : HasItsSorts (signature_in u)
+  its_sorts : HasItsSorts (signature_in ss)
   its_sorts = record {
-    pairs = λ S T m. let n = length (signature_in u).sorts in
-        member-all (λ (p : ℕ × ℕ). IsSort n p.0 × IsSort n p.1) (signature_in u).pairs (pairs_there (signature_in u).sorts (statements_of u) known) (S, T) m;
-    args = λ f o e K m. member-all (IsSortOf (signature_in u)) o.args (operator_known f o e).args K m;
+    pairs = λ S T m. let n = length (signature_in ss).sorts in
+        member-all (λ (p : ℕ × ℕ). IsSort n p.0 × IsSort n p.1) (signature_in ss).pairs (pairs_there (signature_in ss).sorts ss known) (S, T) m;
+    args = λ f o e K m. member-all (IsSortOf (signature_in ss)) o.args (operator_known f o e).args K m;
     results = λ f o e. (operator_known f o e).result;
-    declarations = λ f o e d m. member-all (IsDeclarationOf (signature_in u) o) o.declarations (operator_known f o e).declarations d m;
+    declarations = λ f o e d m. member-all (IsDeclarationOf (signature_in ss) o) o.declarations (operator_known f o e).declarations d m;
   }
 
--- what a unit declares
-module _ (u : SeenUnit) (d : Declarations) (p : Declares u d) where
-  pub signature_is : d.signature ≡ signature_of (statements_of u)
+-- what statements declare
+module _ (ss : List SeenLined) (d : Declarations) (p : Declares ss d) where
+  pub signature_is : d.signature ≡ signature_of ss
   signature_is = ap (λ (d : Declarations). d.signature) p.declared
 
   pub nat_declared : d.signature.nat ≡ false
@@ -126,13 +127,13 @@ module _ (u : SeenUnit) (d : Declarations) (p : Declares u d) where
   qid_declared = ap (λ (s : Signature). s.qid) signature_is
 
   pub sorts_declared : (S T : ℕ) (name : List ℕ) → IsSortNamed d.signature S name → IsSortNamed d.signature T name → S ≡ T
-  sorts_declared = subst (λ (s : Signature). (S T : ℕ) (name : List ℕ) → IsSortNamed s S name → IsSortNamed s T name → S ≡ T) (sym signature_is) (sorts_apart (statements_of u))
+  sorts_declared = subst (λ (s : Signature). (S T : ℕ) (name : List ℕ) → IsSortNamed s S name → IsSortNamed s T name → S ≡ T) (sym signature_is) (sorts_apart ss)
 
   pub operators_declared : (f : ℕ) (o : Operator) → IsOperator d.signature f o → IsFreeOperator o
-  operators_declared = subst (λ (s : Signature). (f : ℕ) (o : Operator) → IsOperator s f o → IsFreeOperator o) (sym signature_is) (free_operators (statements_of u))
+  operators_declared = subst (λ (s : Signature). (f : ℕ) (o : Operator) → IsOperator s f o → IsFreeOperator o) (sym signature_is) (free_operators ss)
 
-  pub numbers_declared : HasItsSorts d.signature
-  numbers_declared = subst HasItsSorts (sym signature_is) (its_sorts u p.known)
+  pub numbers_declared : AreKnown ss → HasItsSorts d.signature
+  numbers_declared formed = subst HasItsSorts (sym signature_is) (its_sorts ss formed p.known)
 
   pub free_declared : IsFreeSignature d.signature
   free_declared = record {
@@ -143,5 +144,5 @@ module _ (u : SeenUnit) (d : Declarations) (p : Declares u d) where
     nat = nat_declared;
   }
 
-  pub simple_declared : IsPreregular d.signature → IsSimpleSignature d.signature
-  simple_declared preregular = record { nat = nat_declared; qid = qid_declared; sorts_differ = sorts_declared; operators = operators_declared; numbers = numbers_declared; preregular = preregular }
+  pub simple_declared : AreKnown ss → IsPreregular d.signature → IsSimpleSignature d.signature
+  simple_declared formed preregular = record { nat = nat_declared; qid = qid_declared; sorts_differ = sorts_declared; operators = operators_declared; numbers = numbers_declared formed; preregular = preregular }

@@ -1,23 +1,18 @@
 -- Which statement an equation is, and what is wrong with one. (Maude Manual, chapter 4, "Unconditional equations".)
-use Rattle.std.specs.Prelude.{◌≡◌, ◌<◌, ◌⊎◌, ◌++◌, ℕ, List, [], ◌∷◌, length, slice_get, cond, Bool, false, IsTrue, Option, Some, None, if◌then◌else◌}
+use Rattle.std.specs.Prelude.{◌≡◌, ◌<◌, ◌⊎◌, ℕ, List, [], length, slice_get, Bool, false, IsTrue, Option, Some, None}
 use Rattle.mw_logic.specs.Term.{Variable, RawTerm, variable}
 use Rattle.mw_logic.specs.Signature.{Signature}
 use Rattle.mw_logic.specs.Axioms.{EqualModulo}
 use Rattle.mw_logic.specs.Parts.{IsTooDeep, IsTooLarge}
 use Rattle.mw_logic.specs.Module.{Statement}
-use Rattle.mw_machine.specs.Variables.{is_in, met}
-use Rattle.mw_module.specs.Refusals.{Cause, Refusal, term_too_long, no_parse, ambiguous, too_deep, number_too_large, lone_variable, unbound_variable}
+use Rattle.mw_machine.specs.Variables.{met}
+use Rattle.mw_text.specs.Mentions.{missing_in}
+use Rattle.mw_module.specs.declared.faults.Fault.{Fault}
+use Rattle.mw_module.specs.declared.faults.FaultKind.{FaultKind}
+use Rattle.mw_module.specs.declared.faults.FaultKind.TheVariants.{TermTooLong, NoParse, Ambiguous, TooDeep, NumberTooLarge, LoneVariable, UnboundVariable}
 use Rattle.mw_text.specs.Readings.{NoneHas, TwoHave, IsShort, ArePair, ReadsPair}
-use Rattle.mw_declare.specs.Meaning.{Sides, texts}
-
--- the variables, and this one behind them where it is new
-abbrev pub with_variable : List Variable → Variable → List Variable
-with_variable xs x = cond (is_in x xs) xs (xs ++ x ∷ [])
-
--- the first of these variables that isn't among the bound ones
-abbrev pub missing_in : List Variable → List Variable → Option Variable
-missing_in bound [] = None
-missing_in bound (x ∷ xs) = if is_in x bound then missing_in bound xs else Some x
+use Rattle.mw_module.specs.Words.{texts}
+use Rattle.mw_build.specs.Sides.{Sides}
 
 -- the first variable of the right side that the left side hasn't
 abbrev pub unbound : RawTerm → RawTerm → Option Variable
@@ -29,9 +24,9 @@ pub record FitsIn (sig : Signature) (t : RawTerm) : Type 0 where
   pub not_large : IsTooLarge sig t → ⊥
 
 -- what keeps a term out: that it is too deep, or else a number
-pub data Oversized (sig : Signature) (t : RawTerm) : Cause → Type 0 where
-  deep : IsTooDeep sig t → Oversized sig t too_deep
-  large : (IsTooDeep sig t → ⊥) → IsTooLarge sig t → Oversized sig t number_too_large
+pub data Oversized (sig : Signature) (t : RawTerm) : FaultKind → Type 0 where
+  deep : IsTooDeep sig t → Oversized sig t TooDeep
+  large : (IsTooDeep sig t → ⊥) → IsTooLarge sig t → Oversized sig t NumberTooLarge
 
 -- in the canonical form it is a variable
 abbrev pub IsLone : Signature → RawTerm → Type 0
@@ -55,9 +50,9 @@ pub record IsApplicable (sig : Signature) (left right : RawTerm) : Type 0 where
   pub bound : unbound left right ≡ None
 
 -- why it can't, in this order
-pub data ApplicationFault (sig : Signature) (left right : RawTerm) : Cause → Type 0 where
-  lone : IsLone sig left → ApplicationFault sig left right lone_variable
-  open_right : (x : Variable) → (IsLone sig left → ⊥) → unbound left right ≡ Some x → ApplicationFault sig left right (unbound_variable x.name)
+pub data ApplicationFault (sig : Signature) (left right : RawTerm) : FaultKind → Type 0 where
+  lone : IsLone sig left → ApplicationFault sig left right LoneVariable
+  open_right : (x : Variable) → (IsLone sig left → ⊥) → unbound left right ≡ Some x → ApplicationFault sig left right (UnboundVariable x.name)
 
 -- The sides are those of this statement: they fit in, and it can be applied where it is executable.
 pub record IsStatementOf (sig : Signature) (left right : RawTerm) (executable : Bool) (st : Statement) : Type 0 where
@@ -67,10 +62,10 @@ pub record IsStatementOf (sig : Signature) (left right : RawTerm) (executable : 
   pub statement : st ≡ statement_of left right executable
 
 -- what is wrong with sides, in this order; nothing else is with those of an equation that isn't executable
-pub data SidesFault (sig : Signature) (left right : RawTerm) (executable : Bool) : Cause → Type 0 where
-  big_left : (cause : Cause) → Oversized sig left cause → SidesFault sig left right executable cause
-  big_right : (cause : Cause) → FitsIn sig left → Oversized sig right cause → SidesFault sig left right executable cause
-  inapplicable : (cause : Cause) → FitsIn sig left → FitsIn sig right → IsTrue executable → ApplicationFault sig left right cause → SidesFault sig left right executable cause
+pub data SidesFault (sig : Signature) (left right : RawTerm) (executable : Bool) : FaultKind → Type 0 where
+  big_left : (cause : FaultKind) → Oversized sig left cause → SidesFault sig left right executable cause
+  big_right : (cause : FaultKind) → FitsIn sig left → Oversized sig right cause → SidesFault sig left right executable cause
+  inapplicable : (cause : FaultKind) → FitsIn sig left → FitsIn sig right → IsTrue executable → ApplicationFault sig left right cause → SidesFault sig left right executable cause
 
 module _ (sig : Signature) (variables : List Variable) where
   -- the equation is this statement: its texts spell these sides, and no others of one kind
@@ -81,11 +76,11 @@ module _ (sig : Signature) (variables : List Variable) where
     pub sides : IsStatementOf sig left right e.executable st
 
   -- what is wrong with an equation, in this order
-  pub data EquationFault (e : Sides) : Cause → Type 0 where
-    long : (1024 < length (texts e.left)) ⊎ (1024 < length (texts e.right)) → EquationFault e term_too_long
-    unread : IsShort (texts e.left) → IsShort (texts e.right) → NoneHas (ArePair sig variables (texts e.left) (texts e.right)) → EquationFault e no_parse
-    unclear : IsShort (texts e.left) → IsShort (texts e.right) → TwoHave (ArePair sig variables (texts e.left) (texts e.right)) → EquationFault e ambiguous
-    sides : (left right : RawTerm) (cause : Cause) → ReadsPair sig variables (texts e.left) (texts e.right) (left, right) → SidesFault sig left right e.executable cause
+  pub data EquationFault (e : Sides) : FaultKind → Type 0 where
+    long : (1024 < length (texts e.left)) ⊎ (1024 < length (texts e.right)) → EquationFault e TermTooLong
+    unread : IsShort (texts e.left) → IsShort (texts e.right) → NoneHas (ArePair sig variables (texts e.left) (texts e.right)) → EquationFault e NoParse
+    unclear : IsShort (texts e.left) → IsShort (texts e.right) → TwoHave (ArePair sig variables (texts e.left) (texts e.right)) → EquationFault e Ambiguous
+    sides : (left right : RawTerm) (cause : FaultKind) → ReadsPair sig variables (texts e.left) (texts e.right) (left, right) → SidesFault sig left right e.executable cause
         → EquationFault e cause
 
   -- the equations are these statements, one for one
@@ -94,10 +89,10 @@ module _ (sig : Signature) (variables : List Variable) where
     pub each : (i : ℕ) (e : Sides) (st : Statement) → slice_get es i ≡ Some e → slice_get sts i ≡ Some st → IsEquation e st
 
   -- the first equation that isn't a statement is at fault
-  pub record FirstFault (es : List Sides) (r : Refusal) : Type 0 where
+  pub record FirstFault (es : List Sides) (r : Fault) : Type 0 where
     pub place : ℕ
     pub equation : Sides
     pub is_there : slice_get es place ≡ Some equation
-    pub fault : EquationFault equation r.cause
+    pub fault : EquationFault equation r.kind
     pub line : r.line ≡ equation.line
     pub before : (i : ℕ) (e : Sides) → i < place → slice_get es i ≡ Some e → (st : Statement) × IsEquation e st

@@ -1,6 +1,6 @@
 -- Modules that were accepted, and why others are refused.
+pub mod Sides
 pub mod Equations
 pub mod Modules
 pub mod Printing
 pub mod SignatureFaults
-pub mod Seen

@@ -1,6 +1,7 @@
 -- What is printed of an accepted module's terms reads back.
 use Rattle.std.specs.Prelude.{◌≡◌, ℕ, false, List, Ok, Some}
-use Rattle.mw_lex.specs.Lexing.{Seen, tokens_of}
+use Rattle.mw_lex.specs.declared.token.Token.{Token}
+use Rattle.mw_lex.specs.Lexing.{tokens_of}
 use Rattle.mw_logic.specs.Term.{RawTerm}
 use Rattle.mw_logic.specs.Signature.{at_number, IsRawTerm}
 use Rattle.mw_logic.specs.Module.{Statement}
@@ -11,7 +12,7 @@ use Rattle.mw_build.specs.Modules.{Accepted, IsAccepted}
 
 -- The module is that of a unit of this source.
 pub record IsOfSource (source : List ℕ) (a : Accepted) : Type 0 where
-  pub tokens : List Seen
+  pub tokens : List Token
   pub cut : tokens_of source ≡ Ok tokens
   pub at : ℕ
   pub next : ℕ

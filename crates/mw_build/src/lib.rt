@@ -1,7 +1,7 @@
 //! Modules that were accepted: what their units declare, with their equations read and held for reduction.
 //!
-//! `build` makes a [`Module`] of a unit: its declarations (mw_declare), its operators' tables (mw_sorts), the reader of
-//! its terms (mw_parse), its equations as statements, and all this as a context (mw_least). `Module::term` reads a term
+//! `build` makes a [`Module`] of a unit: its declarations (mw_declare), its operators' tables (mw_sorts), its grammar
+//! (mw_grammar), its equations as statements, and all this as a context (mw_least). `Module::term` reads a term
 //! in which the module's variables may stand.
 //!
 //! Faults come in this order, and the first one decides: those of the declarations; an operator without a least result
@@ -30,10 +30,9 @@
 
 mod equations;
 mod laws;
-mod mentions;
 mod modules;
 mod signature;
 mod size;
 
 pub use laws::{statements_are_printable, texts_read_back};
-pub use modules::{BuildError, Module, build};
+pub use modules::{Module, build};

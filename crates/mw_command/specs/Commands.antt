@@ -1,14 +1,12 @@
 -- What a unit asks for, as a command.
-use Rattle.std.specs.Prelude.{◌≡◌, ℕ, Bool, false, List, [], ◌∷◌, ◌+◌, ◌-◌, ◌==◌, ◌&&◌, ◌||◌, drop, Option, None, Some, option_map, Result, Ok, Err, if◌then◌else◌, codes}
+use Rattle.std.specs.Prelude.{ℕ, Bool, false, List, [], ◌∷◌, ◌+◌, ◌-◌, ◌==◌, ◌&&◌, ◌||◌, drop, Option, None, Some, option_map, Result, Ok, Err, if◌then◌else◌, codes}
 use Rattle.std.specs.Str.{bytes_eq}
-use Rattle.mw_lex.specs.Lexing.{Seen, seen_all}
+use Rattle.mw_lex.specs.declared.token.Token.{Token}
 use Rattle.mw_module.specs.declared.faults.Fault.{Fault}
 use Rattle.mw_module.specs.declared.faults.FaultKind.TheVariants.{NotInProfile, BadBound}
-use Rattle.mw_module.specs.Words.{is, count_before}
+use Rattle.mw_module.specs.Words.{is, begins, count_before}
 use Rattle.mw_module.specs.Units.{SeenUnit}
 use Rattle.mw_command.specs.declared.commands.Command.{Command}
-use Rattle.mw_command.specs.declared.commands.CommandError.{CommandError}
-use Rattle.mw_command.specs.declared.commands.CommandError.TheVariants as error
 use Rattle.mw_command.specs.declared.commands.Word.{Word}
 use Rattle.mw_command.specs.declared.commands.Word.TheVariants.{Reduce, Parse}
 
@@ -17,45 +15,40 @@ pub record SeenCommand : Type 0 where
   pub word : Word
   pub bound : Option ℕ
   pub «module» : Option (List ℕ)
-  pub term : List Seen
-  pub subject : Option (List Seen)
+  pub term : List Token
+  pub subject : Option (List Token)
 
 abbrev pub seen_command : Command → SeenCommand
-seen_command c = record { word = c.word; bound = c.bound; «module» = option_map (λ m. m.items) c.module; term = seen_all c.term.items; subject = option_map (λ s. seen_all s.items) c.subject }
-
--- the first token has this text
-abbrev pub begins_with : List ℕ → List Seen → Bool
-begins_with word [] = false
-begins_with word (t ∷ rest) = is word t
+seen_command c = record { word = c.word; bound = c.bound; «module» = option_map (λ name. name.now.text) c.module; term = c.term.now; subject = option_map (λ ts. ts.now) c.subject }
 
 -- what stands behind a bound, if there is one: it goes to the first bracket that closes
-abbrev pub behind_bound : List Seen → List Seen
-behind_bound ts = if begins_with (codes "[") ts then drop (count_before (codes "]") ts + 1) ts else ts
+abbrev pub behind_bound : List Token → List Token
+behind_bound ts = if begins (codes "[") ts then drop (count_before (codes "]") ts + 1) ts else ts
 
 -- of `depth` open braces the last is closed, and a colon follows directly
-abbrev pub closes_before_colon : ℕ → List Seen → Bool
+abbrev pub closes_before_colon : ℕ → List Token → Bool
 closes_before_colon depth [] = false
-closes_before_colon depth (t ∷ rest) = if is (codes "}") t then (if depth == 1 then begins_with (codes ":") rest else closes_before_colon (depth - 1) rest)
+closes_before_colon depth (t ∷ rest) = if is (codes "}") t then (if depth == 1 then begins (codes ":") rest else closes_before_colon (depth - 1) rest)
     else if is (codes "{") t then closes_before_colon (depth + 1) rest else closes_before_colon depth rest
 
 -- an open brace that is closed, with a colon directly behind
-abbrev pub has_braces_before_colon : List Seen → Bool
+abbrev pub has_braces_before_colon : List Token → Bool
 has_braces_before_colon [] = false
 has_braces_before_colon (t ∷ rest) = is (codes "{") t && closes_before_colon 1 rest
 
 -- a module is named whose name has braces, behind it or as itself
-abbrev pub names_with_braces : List Seen → Bool
+abbrev pub names_with_braces : List Token → Bool
 names_with_braces [] = false
 names_with_braces (a ∷ []) = false
 names_with_braces (a ∷ b ∷ rest) =
-    is (codes "in") a && ((is (codes "{") b && begins_with (codes ":") rest) || has_braces_before_colon rest)
+    is (codes "in") a && ((is (codes "{") b && begins (codes ":") rest) || has_braces_before_colon rest)
 
 -- a command of this word for this term, in this module
-abbrev pub for_term : Word → Option (List ℕ) → List Seen → SeenCommand
+abbrev pub for_term : Word → Option (List ℕ) → List Token → SeenCommand
 for_term word name term = record { word = word; bound = None; «module» = name; term = term; subject = None }
 
 -- a command behind its word: exactly `in`, a name and a colon name a module, and what follows is the term
-abbrev pub named_behind : Word → List Seen → SeenCommand
+abbrev pub named_behind : Word → List Token → SeenCommand
 named_behind word [] = for_term word None []
 named_behind word (a ∷ []) = for_term word None (a ∷ [])
 named_behind word (a ∷ b ∷ []) = for_term word None (a ∷ b ∷ [])
@@ -66,14 +59,9 @@ abbrev pub Outcome : Type 0
 Outcome = Result SeenCommand Fault
 
 -- what a command is behind its word; a module's name comes before the bound, which none of these commands takes
-abbrev pub outcome_behind : Word → ℕ → List Seen → Outcome
+abbrev pub outcome_behind : Word → ℕ → List Token → Outcome
 outcome_behind word line ts = if names_with_braces (behind_bound ts) then Err (record { line = line; kind = NotInProfile })
-    else if begins_with (codes "[") ts then Err (record { line = line; kind = BadBound }) else Ok (named_behind word ts)
-
--- the tokens of the first item behind its first
-abbrev pub behind_word : List (List Seen) → List Seen
-behind_word [] = []
-behind_word (item ∷ items) = drop 1 item
+    else if begins (codes "[") ts then Err (record { line = line; kind = BadBound }) else Ok (named_behind word ts)
 
 -- the command that a first word asks for
 abbrev pub word_of : List ℕ → Option Word
@@ -82,13 +70,8 @@ word_of text = if bytes_eq text (codes "reduce") || bytes_eq text (codes "red") 
 
 abbrev pub outcome_of : Option Word → SeenUnit → Outcome
 outcome_of None u = Err (record { line = u.line; kind = NotInProfile })
-outcome_of (Some word) u = outcome_behind word u.line (behind_word u.items)
+outcome_of (Some word) u = outcome_behind word u.line (drop 1 u.tokens)
 
 -- the command that a unit is, by its first word
 abbrev pub command_of : SeenUnit → Outcome
 command_of u = outcome_of (word_of u.word) u
-
--- why there is no command: want of memory, which is free, or the unit's fault
-abbrev pub HasCause : CommandError → Outcome → Type 0
-HasCause error.Memory outcome = Unit {0}
-HasCause (error.Fault fault) outcome = outcome ≡ Err fault

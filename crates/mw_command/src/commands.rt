@@ -1,14 +1,11 @@
 // The commands of a source.
-ghost use Rattle.std.specs.Prelude.{◌≡◌, IfOk, IfErr, Ok, option_map};
-ghost use Rattle.mw_lex.specs.Lexing.{seen_all};
-ghost use Rattle.mw_module.specs.Units.{seen_unit, seen_items};
+ghost use Rattle.std.specs.Prelude.{◌≡◌, IfOk, IfErr, Ok, Err, drop};
+ghost use Rattle.mw_module.specs.Units.{seen_unit};
 ghost use Rattle.mw_command.specs.Commands as commands;
-ghost use Rattle.mw_command.specs.declared.commands.CommandError.TheVariants.{Memory};
 
 use crate::naming::{begins_with, has_braced_name};
 use mw_lex::Token;
-use mw_module::{Fault, FaultKind, Unit, copies, is_word};
-use std::alloc::{AllocError, Global};
+use mw_module::{Fault, FaultKind, Unit, is_word};
 
 /// What a command does.
 #[derive(Clone, Copy, Debug, PartialEq, Eq)]
@@ -19,34 +16,18 @@ pub enum Word {
     Parse,
 }
 
-/// A command.
-#[derive(Debug, Drop)]
-pub struct Command {
+/// A command, whose parts are tokens of its source.
+#[derive(Drop)]
+pub struct Command<'s> {
     pub word: Word,
     /// How many rules are applied at most.
     pub bound: Option<u64>,
-    /// The module in which the command stands; without it the last accepted one.
-    pub module: Option<Vec<u8>>,
+    /// The name of the module in which the command stands; without it the last accepted one.
+    pub module: Option<&'s Token>,
     /// The term, which may be empty.
-    pub term: Vec<Token>,
+    pub term: &'s [Token],
     /// What the term is matched against.
-    pub subject: Option<Vec<Token>>,
-}
-
-/// Why there is no command.
-#[derive(Debug, Drop)]
-pub enum CommandError {
-    /// What is wrong with the unit, at its line.
-    Fault(Fault),
-    Memory,
-}
-
-impl From<AllocError> for CommandError {
-    ghost from_gives = { λ _ e. e ≡ Memory };
-
-    fn from(_: AllocError) -> Self {
-        CommandError::Memory
-    }
+    pub subject: Option<&'s [Token]>,
 }
 
 // The command that a first word asks for.
@@ -62,68 +43,53 @@ fn word_of(text: &[u8]) -> Option<Word>
     }
 }
 
-// The tokens of the first item behind its first.
-fn behind_word(unit: &Unit) -> &[Token]
-    ensures { seen_all result.now ≡ commands.behind_word (seen_items unit.now.items.items) }
+// What stands behind the first token.
+fn behind_word(tokens: &[Token]) -> &[Token]
+    ensures { result.now ≡ drop 1 tokens.now }
 {
-    match unit.items.as_slice() {
-        [item, ..] => match item.as_slice() {
-            [_, behind @ ..] => behind,
-            [] => &[],
-        },
-        [] => &[],
+    match tokens {
+        [_, behind @ ..] => behind,
+        [] => tokens,
     }
-}
-
-// A command for this term.
-fn for_term(
-    alloc: Global,
-    word: Word,
-    module: Option<Vec<u8>>,
-    term: &[Token],
-) -> Result<Command, AllocError>
-    ensures { IfOk result (λ c. commands.seen_command c ≡ commands.for_term word (option_map (λ m. m.items) «module») (seen_all term.now)) }
-{
-    Ok(Command {
-        word,
-        bound: None,
-        module,
-        term: copies(alloc, term)?,
-        subject: None,
-    })
 }
 
 // A command behind its word.
-fn named_behind(alloc: Global, word: Word, tokens: &[Token]) -> Result<Command, AllocError>
-    ensures { IfOk result (λ c. commands.seen_command c ≡ commands.named_behind word (seen_all tokens.now)) }
+fn named_behind<'s>(word: Word, tokens: &'s [Token]) -> Command<'s>
+    ensures { commands.seen_command result ≡ commands.named_behind word tokens.entry.now }
 {
-    match tokens {
+    let (module, term) = match tokens {
         [first, name, colon, term @ ..] if is_word(first, b"in") && is_word(colon, b":") => {
-            let name = name.text.as_slice().to_vec(alloc)?;
-            for_term(alloc, word, Some(name), term)
+            (Some(name), term)
         }
-        _ => for_term(alloc, word, None, tokens),
+        _ => (None, tokens),
+    };
+    Command {
+        word,
+        bound: None,
+        module,
+        term,
+        subject: None,
     }
 }
 
-/// The command that a unit is, if it is one.
-pub fn read(alloc: Global, unit: &Unit) -> Result<Command, CommandError>
+/// The command that a unit is, or its fault.
+pub fn read<'s>(unit: &Unit<'s>) -> Result<Command<'s>, Fault>
     ensures command { IfOk result (λ c. commands.command_of (seen_unit unit.now) ≡ Ok (commands.seen_command c)) }
-    ensures fault { IfErr result (λ e. commands.HasCause e (commands.command_of (seen_unit unit.now))) }
+    ensures fault { IfErr result (λ fault. commands.command_of (seen_unit unit.now) ≡ Err fault) }
 {
     let line = unit.line;
-    let tokens = behind_word(unit);
-    match word_of(unit.word.as_slice()) {
+    let tokens = behind_word(unit.tokens);
+    match word_of(unit.word) {
         Some(word) if !has_braced_name(tokens) => {
             if begins_with(tokens, b"[") {
                 let kind = FaultKind::BadBound;
-                return Err(CommandError::Fault(Fault { line, kind }));
+                return Err(Fault { line, kind });
             }
-            Ok(named_behind(alloc, word, tokens)?)
+            Ok(named_behind(word, tokens))
         }
         _ => {
             let kind = FaultKind::NotInProfile;
-            Err(CommandError::Fault(Fault { line, kind }))
+            Err(Fault { line, kind })
         }
     }
 }

@@ -10,11 +10,11 @@
 //!
 //! Proved of `read`, over `command_of` of specs/Commands: the answer is exactly the unit's command, with its word,
 //! module and term; a fault is answered exactly where the unit has one, with the unit's line: the word first, then a
-//! name with braces, then the bound. `Memory` may come at any call. Only tested, by the sources in cases/: that the
-//! definition is the language that is meant.
+//! name with braces, then the bound. No memory is asked for: a command's parts are tokens of its source. Only tested,
+//! by the sources in cases/: that the definition is the language that is meant.
 #![tactic(auto)]
 
 mod commands;
 mod naming;
 
-pub use commands::{Command, CommandError, Word, read};
+pub use commands::{Command, Word, read};

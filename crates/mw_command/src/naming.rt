@@ -1,6 +1,6 @@
 // What stands between a command's word and its term.
 ghost use Rattle.std.specs.Prelude.{◌≡◌, ◌≤◌, length};
-ghost use Rattle.mw_lex.specs.Lexing.{seen, seen_all};
+ghost use Rattle.mw_module.specs.Words.{begins};
 ghost use Rattle.mw_command.specs.Commands as commands;
 
 use mw_lex::Token;
@@ -8,7 +8,7 @@ use mw_module::{count_before, is_word, tokens_from};
 
 /// Whether the first token has this text.
 pub fn begins_with(tokens: &[Token], word: &[u8]) -> bool
-    ensures { result ≡ commands.begins_with word.now (seen_all tokens.now) }
+    ensures { result ≡ begins word.now tokens.now }
 {
     match tokens {
         [token, ..] => is_word(token, word),
@@ -18,7 +18,7 @@ pub fn begins_with(tokens: &[Token], word: &[u8]) -> bool
 
 // What stands behind a bound, if there is one.
 fn behind_bound(tokens: &[Token]) -> &[Token]
-    ensures { seen_all result.now ≡ commands.behind_bound (seen_all tokens.now) }
+    ensures { result.now ≡ commands.behind_bound tokens.now }
 {
     if !begins_with(tokens, b"[") {
         return tokens;
@@ -33,7 +33,7 @@ fn behind_bound(tokens: &[Token]) -> &[Token]
 
 // Whether the brace that is open is closed, and a colon follows directly.
 fn closes_before_colon(tokens: &[Token]) -> bool
-    ensures { result ≡ commands.closes_before_colon 1 (seen_all tokens.now) }
+    ensures { result ≡ commands.closes_before_colon 1 tokens.now }
 {
     let mut rest = tokens;
     let mut depth = 1usize;
@@ -53,7 +53,7 @@ fn closes_before_colon(tokens: &[Token]) -> bool
 
 // Whether a brace stands here that is closed, and a colon follows directly.
 fn has_braces_before_colon(tokens: &[Token]) -> bool
-    ensures { result ≡ commands.has_braces_before_colon (seen_all tokens.now) }
+    ensures { result ≡ commands.has_braces_before_colon tokens.now }
 {
     match tokens {
         [open, rest @ ..] => is_word(open, b"{") && closes_before_colon(rest),
@@ -63,7 +63,7 @@ fn has_braces_before_colon(tokens: &[Token]) -> bool
 
 // Whether a module is named here whose name has braces.
 fn names_with_braces(tokens: &[Token]) -> bool
-    ensures { result ≡ commands.names_with_braces (seen_all tokens.now) }
+    ensures { result ≡ commands.names_with_braces tokens.now }
 {
     match tokens {
         [word, name, rest @ ..] if is_word(word, b"in") => {
@@ -78,7 +78,7 @@ fn names_with_braces(tokens: &[Token]) -> bool
 
 /// Whether the command names a module whose name has braces, behind a bound if there is one.
 pub fn has_braced_name(tokens: &[Token]) -> bool
-    ensures { result ≡ commands.names_with_braces (commands.behind_bound (seen_all tokens.now)) }
+    ensures { result ≡ commands.names_with_braces (commands.behind_bound tokens.now) }
 {
     names_with_braces(behind_bound(tokens))
 }

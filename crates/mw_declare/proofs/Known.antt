@@ -1,10 +1,10 @@
 -- What is known of the operators and variables that a module declares.
-use Rattle.std.proofs.Common.{◌≡◌, ◌≢◌, ◌∙◌, ◌<◌, ◌⊎◌, ◌&&◌, ◌||◌, ◌==◌, ℕ, zero, suc, List, [], ◌∷◌, length, map, Bool, true, false, nat_eq, Option, Some, None, IfSome, Ok, Err, All, bytes_eq, if◌then◌else◌, refl, sym, ap, subst, inl, inr, ⊎_elim, arith}
+use Rattle.std.proofs.Common.{◌≡◌, ◌≢◌, ◌∙◌, ◌<◌, ◌⊎◌, ◌&&◌, ◌||◌, ◌==◌, ℕ, zero, suc, List, [], ◌∷◌, length, map, Bool, true, false, nat_eq, Option, Some, None, IfSome, All, bytes_eq, if◌then◌else◌, refl, sym, ap, subst, inl, inr, ⊎_elim, arith}
 use Rattle.std.proofs.lemmas.Bool.{eqb-true}
 use Rattle.std.proofs.lemmas.List.{length-map}
 use Rattle.std.proofs.lemmas.List.Elements.{All-nil, All-cons, All-head, All-tail, All-append}
 use Rattle.std.proofs.lemmas.Slice.Eq.{bytes_eq-Decides}
-use Rattle.mw_lex.specs.Lexing.{Seen}
+use Rattle.mw_lex.specs.declared.token.Token.{Token}
 use Rattle.mw_logic.specs.Signature.{Signature, Operator, Declaration, Sorted, sort, kind, Member, SameKind, same}
 use Rattle.mw_logic.specs.Accepted.{number_of_sort}
 use Rattle.mw_logic.specs.Preregular.{IsSortOf, AreOfKinds, IsDeclarationOf}
@@ -14,10 +14,10 @@ use Rattle.mw_text.proofs.Spellings.{spellings_read}
 use Rattle.mw_module.specs.Words.{texts}
 use Rattle.mw_module.specs.Sortings.{Sorting}
 use Rattle.mw_module.specs.Attributes.{Attributes}
-use Rattle.mw_module.specs.Forms.{Shape, Sorts, Subsorts, Operators, Variables, Equation, Formed, form_of}
-use Rattle.mw_module.specs.Units.{SeenUnit}
-use Rattle.mw_module.proofs.Formed.{IsNameFor, IsPrecedence, IsGather, AreAttributes, IsKnown, joined_known, formed_known}
-use Rattle.mw_declare.specs.Statements.{Lined, line_of, lined, statements_in, statements_of}
+use Rattle.mw_module.specs.Forms.{Shape, Sorts, Subsorts, Operators, Variables, Equation}
+use Rattle.mw_module.specs.Known.{IsNameFor, IsPrecedence, IsGather, AreAttributes, IsKnown, AreKnown}
+use Rattle.mw_module.proofs.Formed.{joined_known}
+use Rattle.mw_module.specs.Units.{SeenLined}
 use Rattle.mw_declare.specs.Meaning.{is_among, number_of}
 use Rattle.mw_declare.specs.Hierarchy.{Hierarchy, kind_in, sorted_in}
 use Rattle.mw_declare.specs.Grouping.{begins_open, ends_open, gather_behind, default_precedence, gather_of_mark, precedence_of, gather_of}
@@ -154,11 +154,11 @@ module _ (sig : Signature) where
     }
 
 -- the items of a name's prefix spelling
-spelled_items : (arity : ℕ) (name : List Seen) → IsNameFor arity name → AreItemsFor arity (items_of (name_of_tokens (texts name)))
+spelled_items : (arity : ℕ) (name : List Token) → IsNameFor arity name → AreItemsFor arity (items_of (name_of_tokens (texts name)))
 spelled_items arity name h = subst (AreItemsFor arity) (sym (spellings_read (texts name))) (record { some = h.some; no_hole = h.no_hole; fits = h.fits })
 
 module _ (sig : Signature) where
-  said_named : (os : List Declared) (names : List (List Seen)) (rank : Rank) (said : Attributes) → All (IsSaid sig) os → All (IsNameFor (length rank.args)) names → All (IsSortOf sig) rank.args
+  said_named : (os : List Declared) (names : List (List Token)) (rank : Rank) (said : Attributes) → All (IsSaid sig) os → All (IsNameFor (length rank.args)) names → All (IsSortOf sig) rank.args
       → IsSortOf sig rank.result → IsRanked sig rank.args rank.result rank.declaration → AreAttributes (length rank.args) said → All (IsSaid sig) (with_named os names rank said)
   said_named os [] rank said all named within below of known = all
   said_named os (name ∷ names) rank said all named within below of known =
@@ -187,26 +187,15 @@ module _ (sig : Signature) where
   said_operators os (Variables names S) all known there = all
   said_operators os (Equation left right executable) all known there = all
 
-abbrev IsKnownLined : Lined → Type 0
+abbrev IsKnownLined : SeenLined → Type 0
 IsKnownLined s = IsKnown s.shape
 
-said_from : (sig : Signature) (os : List Declared) (ss : List Lined) → All (IsSaid sig) os → All IsKnownLined ss → unknown_from sig.sorts ss ≡ None
+said_from : (sig : Signature) (os : List Declared) (ss : List SeenLined) → All (IsSaid sig) os → All IsKnownLined ss → unknown_from sig.sorts ss ≡ None
     → All (IsSaid sig) (operators_from (sorts_held sig) os ss)
 said_from sig os [] all known there = all
 said_from sig os (s ∷ ss) all known there =
     let k = known_statement sig.sorts s ss there in
     said_from sig (with_operators (sorts_held sig) os s.shape) ss (said_operators sig os s.shape all (All-head IsKnownLined s ss known) k.0) (All-tail IsKnownLined s ss known) k.1
-
-known_lined : (item : List Seen) → All IsKnownLined (lined (line_of item) (form_of item))
-known_lined item = of (form_of item) refl
-  where
-    of : (f : Formed) → form_of item ≡ f → All IsKnownLined (lined (line_of item) f)
-    of (Ok shape) e = All-cons IsKnownLined (record { line = line_of item; shape = shape }) [] (formed_known item shape e) (All-nil IsKnownLined)
-    of (Err why) e = All-nil IsKnownLined
-
-known_statements : (items : List (List Seen)) → All IsKnownLined (statements_in items)
-known_statements [] = All-nil IsKnownLined
-known_statements (item ∷ items) = All-append IsKnownLined (lined (line_of item) (form_of item)) (statements_in items) (known_lined item) (known_statements items)
 
 -- how a mixfix form groups
 default_small : (items : List Item) → default_precedence items < 128
@@ -268,8 +257,8 @@ all_declared sig [] all = All-nil (IsDeclared sig)
 all_declared sig (o ∷ os) all =
     All-cons (IsDeclared sig) (operator_of o) (map operator_of os) (is_declared sig o (All-head (IsSaid sig) o os all)) (all_declared sig os (All-tail (IsSaid sig) o os all))
 
--- the operators of a unit whose sorts are all known
-pub declared_operators : (u : SeenUnit) → unknown_in_all (statements_of u) ≡ None → All (IsDeclared (signature_of (statements_of u))) (map operator_of (operators_of (statements_of u)))
-declared_operators u known =
-    let sig = signature_of (statements_of u) in
-    all_declared sig (operators_of (statements_of u)) (said_from sig [] (statements_of u) (All-nil (IsSaid sig)) (known_statements u.items) known)
+-- the operators of statements whose sorts are all known
+pub declared_operators : (ss : List SeenLined) → AreKnown ss → unknown_in_all ss ≡ None → All (IsDeclared (signature_of ss)) (map operator_of (operators_of ss))
+declared_operators ss formed known =
+    let sig = signature_of ss in
+    all_declared sig (operators_of ss) (said_from sig [] ss (All-nil (IsSaid sig)) formed known)

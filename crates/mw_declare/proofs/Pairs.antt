@@ -1,12 +1,12 @@
 -- The pairs of statements whose sorts are all known are pairs of sorts.
 use Rattle.std.proofs.Common.{◌≡◌, ℕ, List, [], ◌∷◌, length, map, Option, Some, None, All, refl}
 use Rattle.std.proofs.lemmas.List.Elements.{All-nil, All-cons, All-head, All-tail, All-append}
-use Rattle.mw_lex.specs.Lexing.{Seen}
+use Rattle.mw_lex.specs.declared.token.Token.{Token}
 use Rattle.mw_poset.specs.Order.{IsSort, ArePairsOf, IsOnCycle}
 use Rattle.mw_poset.proofs.Members.{member-all}
 use Rattle.mw_module.specs.Forms.{Shape, Sorts, Subsorts, Operators, Variables, Equation}
-use Rattle.mw_module.specs.Refusals.{Refusal}
-use Rattle.mw_declare.specs.Statements.{Lined}
+use Rattle.mw_module.specs.declared.faults.Fault.{Fault}
+use Rattle.mw_module.specs.Units.{SeenLined}
 use Rattle.mw_declare.specs.Meaning.{Name, texts, number_of, numbers_of}
 use Rattle.mw_declare.specs.Hierarchy.{pairs_between, pairs_behind, pairs_in, pairs_from}
 use Rattle.mw_declare.specs.Faults.{unknown_among, mentioned_in, mentioned, unknown_in, unknown_from}
@@ -16,14 +16,14 @@ abbrev IsPairOf : ℕ → ℕ × ℕ → Type 0
 IsPairOf n p = IsSort n p.0 × IsSort n p.1
 
 -- where no sort is unknown, none of the first statement is, and none of the others
-pub known_statement : (sorts : List Name) (s : Lined) (ss : List Lined) → unknown_from sorts (s ∷ ss) ≡ None → (unknown_among sorts (mentioned s.shape) ≡ None) × (unknown_from sorts ss ≡ None)
+pub known_statement : (sorts : List Name) (s : SeenLined) (ss : List SeenLined) → unknown_from sorts (s ∷ ss) ≡ None → (unknown_among sorts (mentioned s.shape) ≡ None) × (unknown_from sorts ss ≡ None)
 known_statement sorts s ss e = of (unknown_among sorts (mentioned s.shape)) (unknown_from sorts ss) e
   where
-    of : (o : Option Name) (p : Option Refusal) → unknown_in o s.line p ≡ None → (o ≡ None) × (p ≡ None)
+    of : (o : Option Name) (p : Option Fault) → unknown_in o s.line p ≡ None → (o ≡ None) × (p ≡ None)
     of None p k = (refl, k)
     of (Some n) p k = cc
 
-numbers_there : (sorts : List Name) (ts : List Seen) → unknown_among sorts (texts ts) ≡ None → All (IsSort (length sorts)) (numbers_of sorts ts)
+numbers_there : (sorts : List Name) (ts : List Token) → unknown_among sorts (texts ts) ≡ None → All (IsSort (length sorts)) (numbers_of sorts ts)
 numbers_there sorts [] e = All-nil (IsSort (length sorts))
 numbers_there sorts (t ∷ ts) e =
     let k = known_front sorts t.text (texts ts) e in
@@ -40,7 +40,7 @@ between_there n (S ∷ lowers) uppers low all =
     All-append (IsPairOf n) (map (λ (T : ℕ). (S, T)) uppers) (pairs_between lowers uppers) (below_there n S uppers (All-head (IsSort n) S lowers low) all)
     (between_there n lowers uppers (All-tail (IsSort n) S lowers low) all)
 
-behind_there : (sorts : List Name) (lowers : List ℕ) (gs : List (List Seen)) → All (IsSort (length sorts)) lowers → unknown_among sorts (mentioned_in gs) ≡ None
+behind_there : (sorts : List Name) (lowers : List ℕ) (gs : List (List Token)) → All (IsSort (length sorts)) lowers → unknown_among sorts (mentioned_in gs) ≡ None
     → ArePairsOf (length sorts) (pairs_behind sorts lowers gs)
 behind_there sorts lowers [] low e = All-nil (IsPairOf (length sorts))
 behind_there sorts lowers (g ∷ gs) low e =
@@ -56,7 +56,7 @@ in_there sorts (Operators names args result said) e = All-nil (IsPairOf (length 
 in_there sorts (Variables names S) e = All-nil (IsPairOf (length sorts))
 in_there sorts (Equation left right executable) e = All-nil (IsPairOf (length sorts))
 
-pub pairs_there : (sorts : List Name) (ss : List Lined) → unknown_from sorts ss ≡ None → ArePairsOf (length sorts) (pairs_from sorts ss)
+pub pairs_there : (sorts : List Name) (ss : List SeenLined) → unknown_from sorts ss ≡ None → ArePairsOf (length sorts) (pairs_from sorts ss)
 pairs_there sorts [] e = All-nil (IsPairOf (length sorts))
 pairs_there sorts (s ∷ ss) e =
     let k = known_statement sorts s ss e in

@@ -1,28 +1,27 @@
--- What a unit that is made of tokens declares is proper.
-use Rattle.std.proofs.Common.{◌≡◌, ℕ, zero, suc, List, [], ◌∷◌, ◌++◌, map, Bool, true, false, Option, Some, None, Result, Ok, Err, All, bytes_eq, if◌then◌else◌, refl, sym, subst}
+-- What statements of proper parts declare is proper.
+use Rattle.std.proofs.Common.{◌≡◌, ℕ, zero, suc, List, [], ◌∷◌, ◌++◌, map, Bool, true, false, Option, Some, None, Result, Ok, Err, All, bytes_eq, if◌then◌else◌, sym, subst}
 use Rattle.std.specs.Prelude.{⊤}
 use Rattle.std.proofs.lemmas.Option.{same_Some}
 use Rattle.std.proofs.lemmas.List.Elements.{All-nil, All-cons, All-head, All-tail, All-append, All-map}
-use Rattle.mw_lex.specs.Lexing.{Seen}
-use Rattle.mw_lex.specs.Texts.{IsRun, AreTokens}
+use Rattle.mw_lex.specs.declared.token.Token.{Token}
+use Rattle.mw_lex.specs.Texts.{IsRun}
 use Rattle.mw_logic.specs.Term.{Variable}
 use Rattle.mw_logic.specs.Signature.{Signature, Operator, Declaration, at_number}
 use Rattle.mw_logic.specs.Preregular.{IsSortOf}
 use Rattle.mw_text.specs.Names.{name_of_tokens}
 use Rattle.mw_text.specs.Proper.{IsProperName}
-use Rattle.mw_text.proofs.Proper.{names_are_proper}
 use Rattle.mw_module.specs.Attributes.{Attributes}
-use Rattle.mw_module.specs.Forms.{Shape, Sorts, Subsorts, Operators, Variables, Equation, Formed, form_of}
-use Rattle.mw_module.specs.Refusals.{Refusal}
-use Rattle.mw_module.specs.Units.{SeenUnit}
+use Rattle.mw_module.specs.Forms.{Shape, Sorts, Subsorts, Operators, Variables, Equation}
+use Rattle.mw_module.specs.declared.faults.Fault.{Fault}
+use Rattle.mw_module.specs.declared.faults.FaultKind.TheVariants.{AlreadyDefined}
 use Rattle.mw_module.specs.Tokens.{HasProperParts}
-use Rattle.mw_module.proofs.ProperForms.{forms_are_proper}
-use Rattle.mw_declare.specs.Statements.{Lined, line_of, lined, statements_in, statements_of}
-use Rattle.mw_declare.specs.Meaning.{Name, texts, is_among, with_name, with_names, with_sorts, sorts_from, sorts_of, number_of, Sides, sides_in, equations_of}
+use Rattle.mw_module.specs.Units.{SeenLined}
+use Rattle.mw_declare.specs.Meaning.{Name, texts, is_among, with_name, with_names, with_sorts, sorts_from, sorts_of, number_of}
 use Rattle.mw_declare.specs.Operators.{Rank, Profile, same_profile, Declared, declared_again, with_operator, profile_of, with_named, with_operators, operators_from, operators_of, operator_of, signature_of}
 use Rattle.mw_declare.specs.Hierarchy.{Hierarchy, hierarchy_of}
-use Rattle.mw_declare.specs.Faults.{Typing, sort_in, joined, typed, at_line, typed_by, typing_from, typing_of, variables_with, unknown_among, mentioned, unknown_from}
-use Rattle.mw_declare.specs.Declarations.{Declarations, Declares}
+use Rattle.mw_declare.specs.Faults.{Typing, sort_in, joined, typed, typed_by, typing_from, typing_of, variables_with, unknown_among, mentioned, unknown_from}
+use Rattle.mw_declare.specs.declared.declarations.Declarations.{Declarations}
+use Rattle.mw_declare.specs.Declarations.{Declares}
 use Rattle.mw_declare.specs.Proper.{IsProperVariable, AreProper, DeclarationsAreProper}
 use Rattle.mw_declare.proofs.Unknown.{known_front, number_there}
 use Rattle.mw_declare.proofs.Pairs.{known_statement}
@@ -34,22 +33,8 @@ all_at P [] all (suc i) x e = cc
 all_at P (y ∷ ys) all (suc zero) x e = subst P (same_Some y x e) (All-head P y ys all)
 all_at P (y ∷ ys) all (suc (suc i)) x e = all_at P ys (All-tail P y ys all) (suc i) x e
 
--- statements
-abbrev IsProperLined : Lined → Type 0
+abbrev IsProperLined : SeenLined → Type 0
 IsProperLined s = HasProperParts s.shape
-
-proper_lined : (item : List Seen) → AreTokens item → All IsProperLined (lined (line_of item) (form_of item))
-proper_lined item tokens = of (form_of item) refl
-  where
-    of : (f : Formed) → form_of item ≡ f → All IsProperLined (lined (line_of item) f)
-    of (Ok shape) e = All-cons IsProperLined (record { line = line_of item; shape = shape }) [] (forms_are_proper names_are_proper item shape tokens e) (All-nil IsProperLined)
-    of (Err why) e = All-nil IsProperLined
-
-proper_statements : (items : List (List Seen)) → All AreTokens items → All IsProperLined (statements_in items)
-proper_statements [] all = All-nil IsProperLined
-proper_statements (item ∷ items) all =
-    All-append IsProperLined (lined (line_of item) (form_of item)) (statements_in items) (proper_lined item (All-head AreTokens item items all))
-    (proper_statements items (All-tail AreTokens item items all))
 
 -- names of sorts
 module _ (P : Name → Type 0) where
@@ -71,7 +56,7 @@ sorts_with ns (Operators names args result said) all p = all
 sorts_with ns (Variables names S) all p = all
 sorts_with ns (Equation left right executable) all p = all
 
-sorts_proper : (ns : List Name) (ss : List Lined) → All IsRun ns → All IsProperLined ss → All IsRun (sorts_from ns ss)
+sorts_proper : (ns : List Name) (ss : List SeenLined) → All IsRun ns → All IsProperLined ss → All IsRun (sorts_from ns ss)
 sorts_proper ns [] all p = all
 sorts_proper ns (s ∷ ss) all p = sorts_proper (with_sorts ns s.shape) ss (sorts_with ns s.shape all (All-head IsProperLined s ss p)) (All-tail IsProperLined s ss p)
 
@@ -79,7 +64,7 @@ sorts_proper ns (s ∷ ss) all p = sorts_proper (with_sorts ns s.shape) ss (sort
 abbrev IsProperDeclared : Declared → Type 0
 IsProperDeclared o = IsProperName o.profile.spelling
 
-abbrev IsNamed : List Seen → Type 0
+abbrev IsNamed : List Token → Type 0
 IsNamed name = IsProperName (name_of_tokens (texts name))
 
 operator_with : (os : List Declared) (p : Profile) (d : Declaration) (said : Attributes) → All IsProperDeclared os → IsProperName p.spelling → All IsProperDeclared (with_operator os p d said)
@@ -93,7 +78,7 @@ operator_with (o ∷ os) p d said all n = of (same_profile p o.profile) (operato
     of true more = All-cons IsProperDeclared (declared_again o d said) os this (All-tail IsProperDeclared o os all)
     of false more = All-cons IsProperDeclared o (with_operator os p d said) this more
 
-named_with : (os : List Declared) (names : List (List Seen)) (rank : Rank) (said : Attributes) → All IsProperDeclared os → All IsNamed names → All IsProperDeclared (with_named os names rank said)
+named_with : (os : List Declared) (names : List (List Token)) (rank : Rank) (said : Attributes) → All IsProperDeclared os → All IsNamed names → All IsProperDeclared (with_named os names rank said)
 named_with os [] rank said all n = all
 named_with os (name ∷ names) rank said all n =
     named_with (with_operator os (profile_of name rank) rank.declaration said) names rank said
@@ -106,7 +91,7 @@ operators_with h os (Operators names args result said) all p = named_with os nam
 operators_with h os (Variables names S) all p = all
 operators_with h os (Equation left right executable) all p = all
 
-operators_proper : (h : Hierarchy) (os : List Declared) (ss : List Lined) → All IsProperDeclared os → All IsProperLined ss → All IsProperDeclared (operators_from h os ss)
+operators_proper : (h : Hierarchy) (os : List Declared) (ss : List SeenLined) → All IsProperDeclared os → All IsProperLined ss → All IsProperDeclared (operators_from h os ss)
 operators_proper h os [] all p = all
 operators_proper h os (s ∷ ss) all p =
     operators_proper h (with_operators h os s.shape) ss (operators_with h os s.shape all (All-head IsProperLined s ss p)) (All-tail IsProperLined s ss p)
@@ -117,56 +102,52 @@ module _ (Q : Name × Name → Type 0) where
   HasVariables (Sorts names) = ⊤
   HasVariables (Subsorts groups) = ⊤
   HasVariables (Operators names args result said) = ⊤
-  HasVariables (Variables names S) = All (λ (t : Seen). Q (t.text, S.text)) names
+  HasVariables (Variables names S) = All (λ (t : Token). Q (t.text, S.text)) names
   HasVariables (Equation left right executable) = ⊤
 
-  abbrev HaveVariables : List Lined → Type 0
-  HaveVariables ss = All (λ (s : Lined). HasVariables s.shape) ss
+  abbrev HaveVariables : List SeenLined → Type 0
+  HaveVariables ss = All (λ (s : SeenLined). HasVariables s.shape) ss
 
   -- where a typing comes out, all in it has the property
-  abbrev AllTyped : {E : Type 0} → Result Typing E → Type 0
-  AllTyped {E} (Ok es) = All Q es
-  AllTyped {E} (Err n) = ⊤
+  abbrev AllTyped : Result Typing Fault → Type 0
+  AllTyped (Ok es) = All Q es
+  AllTyped (Err f) = ⊤
 
-  joined_typed : (o : Option Name) (es : Typing) (n S : Name) → All Q es → Q (n, S) → AllTyped (joined o es n S)
-  joined_typed None es n S all q = All-append Q es ((n, S) ∷ []) all (All-cons Q (n, S) [] q (All-nil Q))
-  joined_typed (Some T) es n S all q = of (bytes_eq T S)
+  joined_typed : (line : ℕ) (o : Option Name) (es : Typing) (n S : Name) → All Q es → Q (n, S) → AllTyped (joined line o es n S)
+  joined_typed line None es n S all q = All-append Q es ((n, S) ∷ []) all (All-cons Q (n, S) [] q (All-nil Q))
+  joined_typed line (Some T) es n S all q = of (bytes_eq T S)
     where
-      of : (b : Bool) → AllTyped (if b then Ok es else Err n)
+      of : (b : Bool) → AllTyped (if b then Ok es else Err (record { line = line; kind = AlreadyDefined n }))
       of true = all
       of false = tt
 
-  all_typed : (r : Result Typing Name) (ts : List Seen) (S : Name) → AllTyped r → All (λ (t : Seen). Q (t.text, S)) ts → AllTyped (typed r ts S)
-  all_typed (Err n) ts S all q = tt
-  all_typed (Ok es) [] S all q = all
-  all_typed (Ok es) (t ∷ ts) S all q =
-      all_typed (joined (sort_in es t.text) es t.text S) ts S (joined_typed (sort_in es t.text) es t.text S all (All-head (λ (t : Seen). Q (t.text, S)) t ts q))
-      (All-tail (λ (t : Seen). Q (t.text, S)) t ts q)
-
-  line_typed : (line : ℕ) (r : Result Typing Name) → AllTyped r → AllTyped (at_line line r)
-  line_typed line (Ok es) all = all
-  line_typed line (Err n) all = tt
+  all_typed : (line : ℕ) (r : Result Typing Fault) (ts : List Token) (S : Name) → AllTyped r → All (λ (t : Token). Q (t.text, S)) ts → AllTyped (typed line r ts S)
+  all_typed line (Err f) ts S all q = tt
+  all_typed line (Ok es) [] S all q = all
+  all_typed line (Ok es) (t ∷ ts) S all q =
+      all_typed line (joined line (sort_in es t.text) es t.text S) ts S (joined_typed line (sort_in es t.text) es t.text S all (All-head (λ (t : Token). Q (t.text, S)) t ts q))
+      (All-tail (λ (t : Token). Q (t.text, S)) t ts q)
 
   shape_typed : (es : Typing) (line : ℕ) (s : Shape) → All Q es → HasVariables s → AllTyped (typed_by es line s)
   shape_typed es line (Sorts names) all q = all
   shape_typed es line (Subsorts groups) all q = all
   shape_typed es line (Operators names args result said) all q = all
-  shape_typed es line (Variables names S) all q = line_typed line (typed (Ok es) names S.text) (all_typed (Ok es) names S.text all q)
+  shape_typed es line (Variables names S) all q = all_typed line (Ok es) names S.text all q
   shape_typed es line (Equation left right executable) all q = all
 
-  from_typed : (r : Result Typing Refusal) (ss : List Lined) → AllTyped r → HaveVariables ss → AllTyped (typing_from r ss)
+  from_typed : (r : Result Typing Fault) (ss : List SeenLined) → AllTyped r → HaveVariables ss → AllTyped (typing_from r ss)
   from_typed (Err f) ss all q = tt
   from_typed (Ok es) [] all q = all
   from_typed (Ok es) (s ∷ ss) all q =
-      from_typed (typed_by es s.line s.shape) ss (shape_typed es s.line s.shape all (All-head (λ (s : Lined). HasVariables s.shape) s ss q)) (All-tail (λ (s : Lined). HasVariables s.shape) s ss q)
+      from_typed (typed_by es s.line s.shape) ss (shape_typed es s.line s.shape all (All-head (λ (s : SeenLined). HasVariables s.shape) s ss q)) (All-tail (λ (s : SeenLined). HasVariables s.shape) s ss q)
 
-  typing_has : (ss : List Lined) (typing : Typing) → typing_of ss ≡ Ok typing → HaveVariables ss → All Q typing
+  typing_has : (ss : List SeenLined) (typing : Typing) → typing_of ss ≡ Ok typing → HaveVariables ss → All Q typing
   typing_has ss typing e q = subst AllTyped e (from_typed (Ok []) ss (All-nil Q) q)
 
 -- their names are runs
-run_names : (names : List Seen) (S : Name) → All IsRun (texts names) → All (λ (t : Seen). IsRun t.text) names
-run_names [] S all = All-nil (λ (t : Seen). IsRun t.text)
-run_names (t ∷ names) S all = All-cons (λ (t : Seen). IsRun t.text) t names (All-head IsRun t.text (texts names) all) (run_names names S (All-tail IsRun t.text (texts names) all))
+run_names : (names : List Token) (S : Name) → All IsRun (texts names) → All (λ (t : Token). IsRun t.text) names
+run_names [] S all = All-nil (λ (t : Token). IsRun t.text)
+run_names (t ∷ names) S all = All-cons (λ (t : Token). IsRun t.text) t names (All-head IsRun t.text (texts names) all) (run_names names S (All-tail IsRun t.text (texts names) all))
 
 abbrev RunNamed : Name × Name → Type 0
 RunNamed e = IsRun e.0
@@ -178,21 +159,21 @@ variables_in (Operators names args result said) p = tt
 variables_in (Variables names S) p = run_names names S.text p
 variables_in (Equation left right executable) p = tt
 
-variables_run : (ss : List Lined) → All IsProperLined ss → HaveVariables RunNamed ss
-variables_run [] p = All-nil (λ (s : Lined). HasVariables RunNamed s.shape)
+variables_run : (ss : List SeenLined) → All IsProperLined ss → HaveVariables RunNamed ss
+variables_run [] p = All-nil (λ (s : SeenLined). HasVariables RunNamed s.shape)
 variables_run (s ∷ ss) p =
-    All-cons (λ (s : Lined). HasVariables RunNamed s.shape) s ss (variables_in s.shape (All-head IsProperLined s ss p)) (variables_run ss (All-tail IsProperLined s ss p))
+    All-cons (λ (s : SeenLined). HasVariables RunNamed s.shape) s ss (variables_in s.shape (All-head IsProperLined s ss p)) (variables_run ss (All-tail IsProperLined s ss p))
 
 -- their sorts are there
 module _ (sorts : List Name) where
   abbrev SortThere : Name × Name → Type 0
   SortThere e = is_among sorts e.1 ≡ true
 
-  all_there : (names : List Seen) (S : Name) → is_among sorts S ≡ true → All (λ (t : Seen). SortThere (t.text, S)) names
-  all_there [] S e = All-nil (λ (t : Seen). SortThere (t.text, S))
-  all_there (t ∷ names) S e = All-cons (λ (t : Seen). SortThere (t.text, S)) t names e (all_there names S e)
+  all_there : (names : List Token) (S : Name) → is_among sorts S ≡ true → All (λ (t : Token). SortThere (t.text, S)) names
+  all_there [] S e = All-nil (λ (t : Token). SortThere (t.text, S))
+  all_there (t ∷ names) S e = All-cons (λ (t : Token). SortThere (t.text, S)) t names e (all_there names S e)
 
-  there_in : (s : Lined) (ss : List Lined) → unknown_from sorts (s ∷ ss) ≡ None → HasVariables SortThere s.shape
+  there_in : (s : SeenLined) (ss : List SeenLined) → unknown_from sorts (s ∷ ss) ≡ None → HasVariables SortThere s.shape
   there_in s ss e = of s.shape (known_statement sorts s ss e).0
     where
       of : (shape : Shape) → unknown_among sorts (mentioned shape) ≡ None → HasVariables SortThere shape
@@ -202,9 +183,9 @@ module _ (sorts : List Name) where
       of (Variables names S) k = all_there names S.text (known_front sorts S.text [] k).0
       of (Equation left right executable) k = tt
 
-  variables_there : (ss : List Lined) → unknown_from sorts ss ≡ None → HaveVariables SortThere ss
-  variables_there [] e = All-nil (λ (s : Lined). HasVariables SortThere s.shape)
-  variables_there (s ∷ ss) e = All-cons (λ (s : Lined). HasVariables SortThere s.shape) s ss (there_in s ss e) (variables_there ss (known_statement sorts s ss e).1)
+  variables_there : (ss : List SeenLined) → unknown_from sorts ss ≡ None → HaveVariables SortThere ss
+  variables_there [] e = All-nil (λ (s : SeenLined). HasVariables SortThere s.shape)
+  variables_there (s ∷ ss) e = All-cons (λ (s : SeenLined). HasVariables SortThere s.shape) s ss (there_in s ss e) (variables_there ss (known_statement sorts s ss e).1)
 
 -- variables with their sorts
 module _ (sig : Signature) where
@@ -224,40 +205,19 @@ module _ (sig : Signature) where
       (All-head RunNamed e es run, number_there sig.sorts e.1 (All-head (SortThere sig.sorts) e es all))
       (proper_variables es (All-tail RunNamed e es run) (All-tail (SortThere sig.sorts) e es all))
 
--- the sides of equations
-abbrev AreSides : Sides → Type 0
-AreSides e = AreTokens e.left × AreTokens e.right
-
-sides_proper : (line : ℕ) (s : Shape) → HasProperParts s → All AreSides (sides_in line s)
-sides_proper line (Sorts names) p = All-nil AreSides
-sides_proper line (Subsorts groups) p = All-nil AreSides
-sides_proper line (Operators names args result said) p = All-nil AreSides
-sides_proper line (Variables names S) p = All-nil AreSides
-sides_proper line (Equation left right executable) p =
-    All-cons AreSides (record { line = line; left = left; right = right; executable = executable }) [] p (All-nil AreSides)
-
-equations_proper : (ss : List Lined) → All IsProperLined ss → All AreSides (equations_of ss)
-equations_proper [] p = All-nil AreSides
-equations_proper (s ∷ ss) p =
-    All-append AreSides (sides_in s.line s.shape) (equations_of ss) (sides_proper s.line s.shape (All-head IsProperLined s ss p)) (equations_proper ss (All-tail IsProperLined s ss p))
-
--- the sorts of a unit's variables are there
-pub declared_sorted : (u : SeenUnit) (d : Declarations) → Declares u d → All (λ (x : Variable). IsSortOf d.signature x.sort) d.variables
-declared_sorted u d h =
-    let ss = statements_of u in
+-- the sorts of variables are there
+pub declared_sorted : (ss : List SeenLined) (d : Declarations) → Declares ss d → All (λ (x : Variable). IsSortOf d.signature x.sort) d.variables
+declared_sorted ss d h =
     subst (λ (d : Declarations). All (λ (x : Variable). IsSortOf d.signature x.sort) d.variables) (sym h.declared)
     (sorted_variables (signature_of ss) h.typing (typing_has (SortThere (sorts_of ss)) ss h.typing h.typed (variables_there (sorts_of ss) ss h.known)))
 
 pub declarations_are_proper : DeclarationsAreProper
-declarations_are_proper u d tokens h =
-    let ss = statements_of u in
+declarations_are_proper ss d proper h =
     let sig = signature_of ss in
-    let proper = proper_statements u.items tokens in
     let names = All-map (λ (o : Operator). IsProperName o.spelling) operator_of (operators_of ss) (operators_proper (hierarchy_of ss) [] ss (All-nil IsProperDeclared) proper) in
     subst AreProper (sym h.declared) (record {
       operators = all_at (λ (o : Operator). IsProperName o.spelling) (map operator_of (operators_of ss)) names;
       sorts = sorts_proper [] ss (All-nil IsRun) proper;
       variables = proper_variables sig h.typing (typing_has RunNamed ss h.typing h.typed (variables_run ss proper))
           (typing_has (SortThere (sorts_of ss)) ss h.typing h.typed (variables_there (sorts_of ss) ss h.known));
-      equations = equations_proper ss proper;
     })

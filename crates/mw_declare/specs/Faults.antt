@@ -1,12 +1,13 @@
 -- What may be wrong with a module's declarations: a variable that is declared again with another sort, a sort that isn't declared, and an operator of
 -- which two different precedences or two different gathers are said.
 use Rattle.std.specs.Prelude.{ℕ, List, [], ◌∷◌, ◌++◌, map, Option, Some, None, Result, Ok, Err, bytes_eq, if◌then◌else◌}
-use Rattle.mw_lex.specs.Lexing.{Seen}
+use Rattle.mw_lex.specs.declared.token.Token.{Token}
 use Rattle.mw_logic.specs.Term.{Variable}
-use Rattle.mw_module.specs.Forms.{Shape, Sorts, Subsorts, Operators, Variables, Equation as EquationShape}
+use Rattle.mw_module.specs.Forms.{Shape, Sorts, Subsorts, Operators, Variables, Equation}
 use Rattle.mw_module.specs.Sortings.{Sorting}
-use Rattle.mw_module.specs.Refusals.{Refusal, already_defined, unknown_sort, attributes_disagree}
-use Rattle.mw_declare.specs.Statements.{Lined}
+use Rattle.mw_module.specs.declared.faults.Fault.{Fault}
+use Rattle.mw_module.specs.declared.faults.FaultKind.TheVariants.{AlreadyDefined, UnknownSort, AttributesDisagree}
+use Rattle.mw_module.specs.Units.{SeenLined}
 use Rattle.mw_declare.specs.Meaning.{Name, texts, is_among, number_of}
 use Rattle.mw_declare.specs.Operators.{Declared}
 
@@ -18,35 +19,31 @@ abbrev pub sort_in : Typing → Name → Option Name
 sort_in [] n = None
 sort_in (e ∷ es) n = if bytes_eq n e.0 then Some e.1 else sort_in es n
 
--- with one variable more, unless it is there; its name, where it is there with another sort
-abbrev pub joined : Option Name → Typing → Name → Name → Result Typing Name
-joined None es n S = Ok (es ++ (n, S) ∷ [])
-joined (Some T) es n S = if bytes_eq T S then Ok es else Err n
+-- with one variable more, unless it is there; a fault at a line, where it is there with another sort
+abbrev pub joined : ℕ → Option Name → Typing → Name → Name → Result Typing Fault
+joined line None es n S = Ok (es ++ (n, S) ∷ [])
+joined line (Some T) es n S = if bytes_eq T S then Ok es else Err (record { line = line; kind = AlreadyDefined n })
 
--- with variables of one sort, or the first of them that has another
-abbrev pub typed : Result Typing Name → List Seen → Name → Result Typing Name
-typed (Err n) ts S = Err n
-typed (Ok es) [] S = Ok es
-typed (Ok es) (t ∷ ts) S = typed (joined (sort_in es t.text) es t.text S) ts S
+-- with variables of one sort
+abbrev pub typed : ℕ → Result Typing Fault → List Token → Name → Result Typing Fault
+typed line (Err f) ts S = Err f
+typed line (Ok es) [] S = Ok es
+typed line (Ok es) (t ∷ ts) S = typed line (joined line (sort_in es t.text) es t.text S) ts S
 
-abbrev pub at_line : ℕ → Result Typing Name → Result Typing Refusal
-at_line line (Ok es) = Ok es
-at_line line (Err n) = Err (record { line = line; cause = already_defined n })
-
-abbrev pub typed_by : Typing → ℕ → Shape → Result Typing Refusal
+abbrev pub typed_by : Typing → ℕ → Shape → Result Typing Fault
 typed_by es line (Sorts names) = Ok es
 typed_by es line (Subsorts groups) = Ok es
 typed_by es line (Operators names args result said) = Ok es
-typed_by es line (Variables names sort) = at_line line (typed (Ok es) names sort.text)
-typed_by es line (EquationShape left right executable) = Ok es
+typed_by es line (Variables names sort) = typed line (Ok es) names sort.text
+typed_by es line (Equation left right executable) = Ok es
 
-abbrev pub typing_from : Result Typing Refusal → List Lined → Result Typing Refusal
+abbrev pub typing_from : Result Typing Fault → List SeenLined → Result Typing Fault
 typing_from (Err f) ss = Err f
 typing_from (Ok es) [] = Ok es
 typing_from (Ok es) (s ∷ ss) = typing_from (typed_by es s.line s.shape) ss
 
 -- the variables of a module, or the first that is declared again with another sort
-abbrev pub typing_of : List Lined → Result Typing Refusal
+abbrev pub typing_of : List SeenLined → Result Typing Fault
 typing_of ss = typing_from (Ok []) ss
 
 abbrev pub variables_with : List Name → Typing → List Variable
@@ -57,7 +54,7 @@ abbrev pub unknown_among : List Name → List Name → Option Name
 unknown_among sorts [] = None
 unknown_among sorts (n ∷ ns) = if is_among sorts n then unknown_among sorts ns else Some n
 
-abbrev pub mentioned_in : List (List Seen) → List Name
+abbrev pub mentioned_in : List (List Token) → List Name
 mentioned_in [] = []
 mentioned_in (g ∷ gs) = texts g ++ mentioned_in gs
 
@@ -73,14 +70,14 @@ mentioned (Sorts names) = []
 mentioned (Subsorts groups) = mentioned_in groups
 mentioned (Operators names args result said) = mentioned_by args result
 mentioned (Variables names sort) = sort.text ∷ []
-mentioned (EquationShape left right executable) = []
+mentioned (Equation left right executable) = []
 
-abbrev pub unknown_in : Option Name → ℕ → Option Refusal → Option Refusal
+abbrev pub unknown_in : Option Name → ℕ → Option Fault → Option Fault
 unknown_in None line other = other
-unknown_in (Some n) line other = Some (record { line = line; cause = unknown_sort n })
+unknown_in (Some n) line other = Some (record { line = line; kind = UnknownSort n })
 
 -- the first of these statements' sorts that isn't declared
-abbrev pub unknown_from : List Name → List Lined → Option Refusal
+abbrev pub unknown_from : List Name → List SeenLined → Option Fault
 unknown_from sorts [] = None
 unknown_from sorts (s ∷ ss) = unknown_in (unknown_among sorts (mentioned s.shape)) s.line (unknown_from sorts ss)
 
@@ -90,6 +87,6 @@ disagreeing [] = None
 disagreeing (o ∷ os) = if o.attributes.clash then Some o.profile.spelling else disagreeing os
 
 -- that fault, at a line
-abbrev pub disagreement : ℕ → Option Name → Option Refusal
+abbrev pub disagreement : ℕ → Option Name → Option Fault
 disagreement line None = None
-disagreement line (Some n) = Some (record { line = line; cause = attributes_disagree n })
+disagreement line (Some n) = Some (record { line = line; kind = AttributesDisagree n })

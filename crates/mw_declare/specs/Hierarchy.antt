@@ -1,13 +1,13 @@
 -- The sorts of a module in the order of its subsort statements, and their kinds. (Maude Manual, chapter 3, "Sorts and subsorts" and "Kinds".)
 use Rattle.std.specs.Prelude.{◌≡◌, ℕ, zero, suc, List, [], ◌∷◌, ◌++◌, map, length, Bool, nat_eq, if◌then◌else◌}
-use Rattle.mw_lex.specs.Lexing.{Seen}
+use Rattle.mw_lex.specs.declared.token.Token.{Token}
 use Rattle.mw_logic.specs.Signature.{Sorted, sort, kind}
 use Rattle.mw_logic.specs.Kinds.{renamed_sort, joining_kinds}
 use Rattle.mw_poset.specs.SortOrder.{SortOrder}
 use Rattle.mw_poset.specs.Order.{ArePairsOf}
-use Rattle.mw_module.specs.Forms.{Shape, Sorts, Subsorts, Operators, Variables, Equation as EquationShape}
+use Rattle.mw_module.specs.Forms.{Shape, Sorts, Subsorts, Operators, Variables, Equation}
 use Rattle.mw_module.specs.Sortings.{Sorting}
-use Rattle.mw_declare.specs.Statements.{Lined}
+use Rattle.mw_module.specs.Units.{SeenLined}
 use Rattle.mw_declare.specs.Meaning.{Name, sorts_of, number_of, numbers_of}
 
 -- The sorts of a module by name, with the pairs of its subsort statements: a sort and one directly above it.
@@ -21,7 +21,7 @@ pairs_between [] uppers = []
 pairs_between (S ∷ lowers) uppers = map (λ (T : ℕ). (S, T)) uppers ++ pairs_between lowers uppers
 
 -- each sort of a group with each of the next, where `lowers` is the group before
-abbrev pub pairs_behind : List Name → List ℕ → List (List Seen) → List (ℕ × ℕ)
+abbrev pub pairs_behind : List Name → List ℕ → List (List Token) → List (ℕ × ℕ)
 pairs_behind sorts lowers [] = []
 pairs_behind sorts lowers (g ∷ gs) = pairs_between lowers (numbers_of sorts g) ++ pairs_behind sorts (numbers_of sorts g) gs
 
@@ -31,13 +31,13 @@ pairs_in sorts (Sorts names) = []
 pairs_in sorts (Subsorts groups) = pairs_behind sorts [] groups
 pairs_in sorts (Operators names args result said) = []
 pairs_in sorts (Variables names S) = []
-pairs_in sorts (EquationShape left right executable) = []
+pairs_in sorts (Equation left right executable) = []
 
-abbrev pub pairs_from : List Name → List Lined → List (ℕ × ℕ)
+abbrev pub pairs_from : List Name → List SeenLined → List (ℕ × ℕ)
 pairs_from sorts [] = []
 pairs_from sorts (s ∷ rest) = pairs_in sorts s.shape ++ pairs_from sorts rest
 
-abbrev pub hierarchy_of : List Lined → Hierarchy
+abbrev pub hierarchy_of : List SeenLined → Hierarchy
 hierarchy_of statements = record { names = sorts_of statements; pairs = pairs_from (sorts_of statements) statements }
 
 -- the first of so many numbers, counted from this one, that passes a test; where none does, the one behind them

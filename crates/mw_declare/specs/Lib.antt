@@ -1,5 +1,4 @@
 -- What a module's statements declare.
-pub mod Statements
 pub mod Meaning
 pub mod Hierarchy
 pub mod Grouping

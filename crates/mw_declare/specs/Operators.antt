@@ -1,13 +1,13 @@
 -- The operators that statements declare. (Maude Manual, chapter 3, "Operator declarations" and "Kinds"; that an operator has the attributes of all its
 -- declarations together is this project's own.)
 use Rattle.std.specs.Prelude.{ℕ, List, [], ◌∷◌, ◌++◌, map, Bool, false, ◌&&◌, None, bytes_eq, nat_eq, if◌then◌else◌}
-use Rattle.mw_lex.specs.Lexing.{Seen}
+use Rattle.mw_lex.specs.declared.token.Token.{Token}
 use Rattle.mw_logic.specs.Signature.{Signature, Operator, Declaration}
 use Rattle.mw_text.specs.Names.{name_of_tokens, items_of}
 use Rattle.mw_module.specs.Attributes.{Attributes, joined}
-use Rattle.mw_module.specs.Forms.{Shape, Sorts, Subsorts, Operators, Variables, Equation as EquationShape}
+use Rattle.mw_module.specs.Forms.{Shape, Sorts, Subsorts, Operators, Variables, Equation}
 use Rattle.mw_module.specs.Sortings.{Sorting}
-use Rattle.mw_declare.specs.Statements.{Lined}
+use Rattle.mw_module.specs.Units.{SeenLined}
 use Rattle.mw_declare.specs.Meaning.{Name, texts}
 use Rattle.mw_declare.specs.Hierarchy.{Hierarchy, hierarchy_of, kind_in, sorted_in}
 use Rattle.mw_declare.specs.Grouping.{precedence_of, gather_of}
@@ -50,11 +50,11 @@ with_operator [] p d said = record { profile = p; declarations = d ∷ []; attri
 with_operator (o ∷ os) p d said = if same_profile p o.profile then declared_again o d said ∷ os else o ∷ with_operator os p d said
 
 -- the profile of a name that these tokens are
-abbrev pub profile_of : List Seen → Rank → Profile
+abbrev pub profile_of : List Token → Rank → Profile
 profile_of name rank = record { spelling = name_of_tokens (texts name); args = rank.args; result = rank.result }
 
 -- one operator for each of these names
-abbrev pub with_named : List Declared → List (List Seen) → Rank → Attributes → List Declared
+abbrev pub with_named : List Declared → List (List Token) → Rank → Attributes → List Declared
 with_named os [] rank said = os
 with_named os (name ∷ names) rank said = with_named (with_operator os (profile_of name rank) rank.declaration said) names rank said
 
@@ -64,14 +64,14 @@ with_operators h os (Sorts names) = os
 with_operators h os (Subsorts groups) = os
 with_operators h os (Operators names args result said) = with_named os names (rank_of h args result) said
 with_operators h os (Variables names S) = os
-with_operators h os (EquationShape left right executable) = os
+with_operators h os (Equation left right executable) = os
 
-abbrev pub operators_from : Hierarchy → List Declared → List Lined → List Declared
+abbrev pub operators_from : Hierarchy → List Declared → List SeenLined → List Declared
 operators_from h os [] = os
 operators_from h os (s ∷ rest) = operators_from h (with_operators h os s.shape) rest
 
 -- operators are numbered from 1, in the order in which they are first declared; one that is declared again is the same one
-abbrev pub operators_of : List Lined → List Declared
+abbrev pub operators_of : List SeenLined → List Declared
 operators_of statements = operators_from (hierarchy_of statements) [] statements
 
 -- the operator, without axioms
@@ -94,5 +94,5 @@ operator_of o = record {
 abbrev pub signature_with : Hierarchy → List Declared → Signature
 signature_with h os = record { sorts = h.names; pairs = h.pairs; operators = map operator_of os; nat = false; qid = false }
 
-abbrev pub signature_of : List Lined → Signature
+abbrev pub signature_of : List SeenLined → Signature
 signature_of statements = signature_with (hierarchy_of statements) (operators_of statements)

@@ -1,15 +1,14 @@
 // How the mixfix form of an operator groups.
 ghost use Rattle.std.specs.Prelude.{◌≡◌, map, IfOk};
-ghost use Rattle.mw_lex.specs.Lexing.{seen, seen_all};
 ghost use Rattle.mw_term.specs.Signatures.{gather_of as mark_of};
-ghost use Rattle.mw_text.specs.Names.{items_of, count_holes, has_hole as has_a_hole};
+ghost use Rattle.mw_text.specs.Names.{items_of};
 ghost use Rattle.mw_module.specs.Attributes.{gather_of as marks_of};
 ghost use Rattle.mw_declare.specs.Meaning.{texts};
 ghost use Rattle.mw_declare.specs.Grouping as grouping;
 
 use mw_lex::Token;
 use mw_term::{Gather, Seq};
-use mw_text::{Item, first_item};
+use mw_text::{Item, first_item, holes};
 use std::alloc::{AllocError, Global};
 
 /// Whether a name begins with a hole.
@@ -30,21 +29,6 @@ fn ends_open(spelling: &[u8]) -> bool
         rest = behind;
     }
     open
-}
-
-/// How many holes a name has.
-fn holes(spelling: &[u8]) -> usize
-    ensures { result ≡ count_holes (items_of spelling.now) }
-{
-    let mut holes = 0;
-    let mut rest = spelling;
-    while let Some((item, behind)) = first_item(rest) {
-        if matches!(item, Item::Hole) {
-            holes += 1;
-        }
-        rest = behind;
-    }
-    holes
 }
 
 /// The precedence of a name of which none is said.
@@ -103,13 +87,11 @@ fn gather_of_mark(mark: &[u8]) -> Gather
 
 /// The marks that are said.
 fn said_gather(alloc: Global, said: &[Token]) -> Result<Vec<Gather>, AllocError>
-    ensures { IfOk result (λ marks. map mark_of marks.items ≡ map grouping.gather_of_mark (texts (seen_all said.now))) }
+    ensures { IfOk result (λ marks. map mark_of marks.items ≡ map grouping.gather_of_mark (texts said.now)) }
 {
     let mut marks = Vec::with_capacity(alloc, said.len())?;
-    let mut rest = said;
-    while let [mark, after @ ..] = rest {
+    for mark in said {
         marks.push(gather_of_mark(mark.text.as_slice()))?;
-        rest = after;
     }
     Ok(marks)
 }

@@ -1,26 +1,26 @@
 // The sorts of a module in the order of its subsort statements.
-ghost use Rattle.std.specs.Prelude.{◌≡◌, ◌++◌, ◌∷◌, ◌-◌, ℕ, List, [], length, map, true, Some, None, IfOk, OnOk, MatchResult};
-ghost use Rattle.mw_lex.specs.Lexing.{seen_all};
+ghost use Rattle.std.specs.Prelude.{◌≡◌, ◌≤◌, ◌++◌, ◌∷◌, ◌-◌, ℕ, List, [], length, map, true, Some, None, IfOk, IfErr, OnOk};
 ghost use Rattle.mw_logic.specs.Signature.{at_number};
-ghost use Rattle.mw_poset.specs.Order.{IsSort};
 ghost use Rattle.mw_term.specs.Signatures.{sorted_of};
-ghost use Rattle.mw_module.specs.Groups.{groups_of};
-ghost use Rattle.mw_module.specs.Sortings.{seen_sorting, sortings_of};
-ghost use Rattle.mw_module.specs.Refusals.{refusal_of, sort_cycle};
-ghost use Rattle.mw_declare.specs.Statements.{seen_statements};
+ghost use Rattle.mw_module.specs.declared.faults.FaultKind.TheVariants.{SortCycle};
+ghost use Rattle.mw_module.specs.Sortings.{seen_sorting, seen_sortings};
+ghost use Rattle.mw_module.specs.Units.{seen_statements};
+ghost use Rattle.mw_module.specs.Causes.{HasCause};
+ghost use Rattle.mw_poset.specs.Order.{IsSort};
+ghost use Rattle.mw_module.specs.Words.{seen_lists};
 ghost use Rattle.mw_declare.specs.Meaning.{Name, is_among, numbers_of};
-ghost use Rattle.mw_declare.specs.Hierarchy.{Hierarchy as HierarchyOf, pairs_between, pairs_behind, pairs_from, kind_in, sorted_in};
+ghost use Rattle.mw_declare.specs.Hierarchy.{pairs_between, pairs_behind, pairs_from, hierarchy_of, kind_in, sorted_in};
 ghost use Rattle.mw_declare.specs.Operators.{rank_of};
-ghost use Rattle.mw_declare.specs.Faults.{unknown_among, unknown_from, mentioned_by};
-ghost use Rattle.mw_declare.specs.Declarations.{IsAcyclic, CycleFault};
+ghost use Rattle.mw_declare.specs.Faults.{unknown_among, mentioned_by};
+ghost use Rattle.mw_declare.specs.Declarations.{unknown_in_all, IsAcyclic, SortFault};
 ghost use Rattle.mw_declare.specs.Seen.{seen_rank};
 
-use crate::names::Names;
-use crate::statement::Lined;
+use crate::sorts::{all_known, all_sorts};
 use mw_lex::Token;
-use mw_module::{Fault, FaultKind, Form, Groups, Sorting, Sortings};
+use mw_module::{Fault, FaultKind, Form, Lined, Sorting, UnitError};
 use mw_poset::{Poset, PosetError};
-use mw_term::{KindId, SortId, Sorted};
+use mw_term::{KindId, Name, SortId, Sorted};
+use mw_text::Names;
 use std::alloc::{AllocError, Global};
 use std::marker::Model;
 
@@ -51,22 +51,6 @@ pub struct Rank {
     pub kind: KindId,
 }
 
-/// Adds a sort below each of these.
-fn add_below(
-    pairs: &mut Vec<(SortId, SortId)>,
-    lower: SortId,
-    uppers: &[SortId],
-) -> Result<(), AllocError>
-    ensures { OnOk result (pairs.new.items ≡ pairs.old.items ++ map (λ (T : ℕ). (lower, T)) uppers.now) }
-{
-    let mut rest = uppers;
-    while let [upper, after @ ..] = rest {
-        pairs.push((lower, *upper))?;
-        rest = after;
-    }
-    Ok(())
-}
-
 /// Adds each of the first sorts below each of the second.
 fn add_between(
     pairs: &mut Vec<(SortId, SortId)>,
@@ -75,12 +59,23 @@ fn add_between(
 ) -> Result<(), AllocError>
     ensures { OnOk result (pairs.new.items ≡ pairs.old.items ++ pairs_between lowers.now uppers.now) }
 {
-    let mut rest = lowers;
-    while let [lower, after @ ..] = rest {
-        add_below(pairs, *lower, uppers)?;
-        rest = after;
+    for lower in lowers {
+        for upper in uppers {
+            pairs.push((*lower, *upper))?;
+        }
     }
     Ok(())
+}
+
+/// The numbers of sorts, in order.
+fn numbers(alloc: Global, names: &Names, tokens: &[Token]) -> Result<Vec<SortId>, AllocError>
+    ensures { IfOk result (λ v. v.items ≡ numbers_of names.now tokens.now) }
+{
+    let mut numbers = Vec::with_capacity(alloc, tokens.len())?;
+    for token in tokens {
+        numbers.push(names.number(token.text.as_slice())?)?;
+    }
+    Ok(numbers)
 }
 
 /// Adds each sort of a group below each of the next.
@@ -88,32 +83,17 @@ fn add_groups(
     alloc: Global,
     pairs: &mut Vec<(SortId, SortId)>,
     names: &Names,
-    groups: Groups<'_>,
+    groups: &[&[Token]],
 ) -> Result<(), AllocError>
-    ensures { OnOk result (pairs.new.items ≡ pairs.old.items ++ pairs_behind names.now [] (groups_of groups.entry)) }
+    ensures { OnOk result (pairs.new.items ≡ pairs.old.items ++ pairs_behind names.now [] (seen_lists groups.now)) }
 {
     let mut lowers = Vec::new(alloc);
-    let mut rest = groups;
-    while let Some((group, others)) = rest.first() {
+    for group in groups {
         let uppers = numbers(alloc, names, group)?;
         add_between(pairs, lowers.as_slice(), uppers.as_slice())?;
         lowers = uppers;
-        rest = others;
     }
     Ok(())
-}
-
-/// The numbers of sorts, in order.
-fn numbers(alloc: Global, names: &Names, tokens: &[Token]) -> Result<Vec<SortId>, AllocError>
-    ensures { IfOk result (λ v. v.items ≡ numbers_of names.now (seen_all tokens.now)) }
-{
-    let mut numbers = Vec::new(alloc);
-    let mut rest = tokens;
-    while let [token, after @ ..] = rest {
-        numbers.push(names.number(token.text.as_slice())?)?;
-        rest = after;
-    }
-    Ok(numbers)
 }
 
 /// The pairs of subsort statements.
@@ -125,12 +105,10 @@ fn all_pairs(
     ensures { IfOk result (λ v. v.items ≡ pairs_from names.now (seen_statements statements.now)) }
 {
     let mut pairs = Vec::new(alloc);
-    let mut rest = statements;
-    while let [statement, after @ ..] = rest {
+    for statement in statements {
         if let Form::Subsorts { groups } = &statement.form {
-            add_groups(alloc, &mut pairs, names, *groups)?;
+            add_groups(alloc, &mut pairs, names, groups.as_slice())?;
         }
-        rest = after;
     }
     Ok(pairs)
 }
@@ -138,32 +116,39 @@ fn all_pairs(
 /// The fault of a sort that is on a cycle, at a line.
 fn cycle_fault(alloc: Global, line: u32, names: &Names, sort: SortId) -> Result<Fault, AllocError>
     requires { IsSort (length names.now) sort }
-    ensures { IfOk result (λ f. (name : Name) × (at_number names.now sort ≡ Some name) × (refusal_of f ≡ record { line = line; cause = sort_cycle name })) }
+    ensures { IfOk result (λ fault. (name : Name) × (at_number names.now sort ≡ Some name) × (fault ≡ record { line = line; kind = SortCycle name })) }
 {
-    let kind = FaultKind::SortCycle(names.name(sort).to_vec(alloc)?);
+    let kind = FaultKind::SortCycle(Name::of(names.name(sort).to_vec(alloc)?));
     Ok(Fault { line, kind })
 }
 
-/// The sorts in the order of statements that mention no others, or the fault of a cycle, at a line.
+/// The sorts of statements in order; or the fault of a sort that isn't declared, or else of a cycle, at this line.
 pub fn order_sorts(
     alloc: Global,
     line: u32,
-    names: Names,
     statements: &[Lined<'_>],
-) -> Result<Result<Hierarchy, Fault>, AllocError>
-    requires { unknown_from names (seen_statements statements.now) ≡ None }
-    ensures { let h : HierarchyOf = record { names = names; pairs = pairs_from names (seen_statements statements.now) } in
-        IfOk result (λ r. MatchResult r (λ held. (held ≡ h) × IsAcyclic h) (λ fault. CycleFault line h (refusal_of fault))) }
+) -> Result<Box<Hierarchy>, UnitError>
+    ensures same { IfOk result (λ h. h.value ≡ hierarchy_of (seen_statements statements.now)) }
+    ensures known { IfOk result (λ _. unknown_in_all (seen_statements statements.now) ≡ None) }
+    ensures acyclic { IfOk result (λ _. IsAcyclic (hierarchy_of (seen_statements statements.now))) }
+    ensures fault { IfErr result (HasCause (SortFault line (seen_statements statements.now))) }
 {
+    let names = all_sorts(alloc, statements)?;
+    all_known(alloc, &names, statements)?;
     let pairs = all_pairs(alloc, &names, statements)?;
     match Poset::build(alloc, names.count()?, pairs.as_slice()) {
-        Ok(order) => Ok(Ok(Hierarchy {
-            names,
-            pairs,
-            order,
-        })),
-        Err(PosetError::Cycle(sort)) => Ok(Err(cycle_fault(alloc, line, &names, sort)?)),
-        Err(PosetError::Memory) => Err(AllocError),
+        Ok(order) => Ok(Box::new(
+            alloc,
+            Hierarchy {
+                names,
+                pairs,
+                order,
+            },
+        )?),
+        Err(PosetError::Cycle(sort)) => {
+            Err(UnitError::Fault(cycle_fault(alloc, line, &names, sort)?))
+        }
+        Err(PosetError::Memory) => Err(UnitError::Memory),
     }
 }
 
@@ -187,20 +172,18 @@ impl Hierarchy {
     pub fn rank(
         &self,
         alloc: Global,
-        args: Sortings<'_>,
+        args: &[Sorting<'_>],
         value: Sorting<'_>,
     ) -> Result<Rank, AllocError>
-        requires { unknown_among self.now.names (mentioned_by (sortings_of args) (seen_sorting value)) ≡ None }
-        ensures { IfOk result (λ r. seen_rank r ≡ rank_of self.now (sortings_of args.entry) (seen_sorting value.entry)) }
+        requires { unknown_among self.now.names (mentioned_by (seen_sortings args.now) (seen_sorting value)) ≡ None }
+        ensures { IfOk result (λ r. seen_rank r ≡ rank_of self.now (seen_sortings args.now) (seen_sorting value.entry)) }
     {
         let mut sorts = Vec::new(alloc);
         let mut kinds = Vec::new(alloc);
-        let mut rest = args;
-        while let Some((arg, others)) = rest.first() {
-            let (sort, kind) = self.sorted(arg)?;
+        for arg in args {
+            let (sort, kind) = self.sorted(*arg)?;
             sorts.push(sort)?;
             kinds.push(kind)?;
-            rest = others;
         }
         let (result, kind) = self.sorted(value)?;
         Ok(Rank {

@@ -1,7 +1,7 @@
 //! What the statements of a functional module declare, and what is wrong with its declarations.
 //!
-//! `declare` answers the module's signature, the order of its sorts, its variables, and its equations as tokens with
-//! their lines and whether they are executable; or the first fault.
+//! `declare` answers the module's signature, the order of its sorts, and its variables; or the first fault. It takes
+//! statements with their forms, of one unit or of several one after the other.
 //!
 //! - Sorts and operators are numbered, and variables stand, in the order of their first declaration, which may come
 //!   behind a use. The pairs of a signature are those of all `subsort` statements, in the order of the text: for two
@@ -14,29 +14,25 @@
 //! - Faults, of which each kind's first in the text decides: a variable that is declared again with another sort; then
 //!   a sort that isn't declared, of a `subsort` statement, an operator or a variable, both with the line of the
 //!   statement; then the least sort that is below itself; then the operator of least number with two different
-//!   precedences or gathers, both with the line of the unit's first token.
+//!   precedences or gathers, both with the line that `declare` is given, of the unit's first token.
 //!
-//! Proved: the answer is exactly what the statements declare (`Declares`, specs/Declarations), the order is that of its
-//! sorts and pairs, and a fault is answered exactly where there is one, and is the first (`DeclarationFault`). A unit
-//! declares one thing at most and has one first fault at most, and not both (proofs/OneDeclaration). `Memory` may come
-//! at any call. What the crates above know of a unit's operators stands in proofs/Known, and of names as tokens in
-//! specs/Proper.
+//! Proved: the answer is exactly what the statements declare, with the order of its sorts and pairs (`Declares`,
+//! specs/Declarations), and a fault is answered exactly where there is one, and is the first (`DeclarationFault`).
+//! Statements declare one thing at most and have one first fault at most, and not both (proofs/OneDeclaration).
+//! `Memory` may come at any call. What the crates above know of the operators stands in proofs/Known, and of names as
+//! tokens in specs/Proper.
 //!
-//! How it works: each question is one loop over the statements' forms, which are read again. Tables of names, variables
-//! and operators keep the order of insertion, so a name is looked up once or twice for each mention, by its hash, and a
-//! sort's kind once more. Only tested, by the sources in cases/: that the definitions are the declarations that are
-//! meant.
+//! How it works: each question is one loop over the statements. Tables of names, variables and operators keep the order
+//! of insertion, so a name is looked up once or twice for each mention, by its hash, and a sort's kind once more. Only
+//! tested, by the sources in cases/: that the definitions are the declarations that are meant.
 #![tactic(auto)]
 
 mod declarations;
 mod grouping;
 mod hierarchy;
-mod names;
 mod operators;
 mod sorts;
 mod spelling;
-mod statement;
 mod variables;
 
-pub use declarations::{Declarations, DeclareError, declare};
-pub use statement::Equation;
+pub use declarations::{Declarations, declare};

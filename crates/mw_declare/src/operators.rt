@@ -1,22 +1,20 @@
 // The operators of a module.
-ghost use Rattle.std.specs.Prelude.{◌≡◌, List, [], map, IfOk, OnOk, None, option_map};
-ghost use Rattle.mw_lex.specs.Lexing.{seen_all};
+ghost use Rattle.std.specs.Prelude.{◌≡◌, List, [], map, IfOk, IfErr, OnOk, Some, None, option_map};
 ghost use Rattle.mw_term.specs.Signatures.{sorted_of};
 ghost use Rattle.mw_module.specs.Attributes.{seen_attributes};
-ghost use Rattle.mw_module.specs.OperatorNames.{names_of};
-ghost use Rattle.mw_module.specs.Refusals.{refusal_of};
-ghost use Rattle.mw_declare.specs.Statements.{seen_statements};
+ghost use Rattle.mw_module.specs.Units.{seen_statements};
+ghost use Rattle.mw_module.specs.Causes.{HasCause};
+ghost use Rattle.mw_module.specs.Words.{seen_lists};
 ghost use Rattle.mw_declare.specs.Operators.{profile_of as profile_with, with_operator, with_named, operators_from, operator_of as operator_with};
-ghost use Rattle.mw_declare.specs.Faults.{unknown_from, disagreeing, disagreement as disagreement_at};
+ghost use Rattle.mw_declare.specs.Faults.{unknown_from, disagreeing, disagreement};
 ghost use Rattle.mw_declare.specs.Seen.{seen_rank, seen_profile, seen_operator};
 
 use crate::grouping::{gather, precedence};
 use crate::hierarchy::{Hierarchy, Rank};
 use crate::spelling::spelling_of;
-use crate::statement::Lined;
 use indexmap::IndexMap;
 use mw_lex::Token;
-use mw_module::{Attributes, Fault, FaultKind, Form, Names as OperatorNames};
+use mw_module::{Attributes, Fault, FaultKind, Form, Lined, UnitError};
 use mw_term::{Declaration, KindId, Name, Operator, Seq, Sorted};
 use std::alloc::{AllocError, Global};
 use std::marker::Model;
@@ -38,7 +36,7 @@ pub struct Said<'u> {
 
 /// The profile of a name that these tokens are.
 fn profile_of(alloc: Global, name: &[Token], rank: &Rank) -> Result<Profile, AllocError>
-    ensures { IfOk result (λ p. seen_profile p ≡ profile_with (seen_all name.now) (seen_rank rank.now)) }
+    ensures { IfOk result (λ p. seen_profile p ≡ profile_with name.now (seen_rank rank.now)) }
 {
     Ok(Profile {
         spelling: spelling_of(alloc, name)?,
@@ -112,18 +110,16 @@ impl<'u> Operators<'u> {
     fn add_all(
         &mut self,
         alloc: Global,
-        names: OperatorNames<'_>,
+        names: &[&[Token]],
         rank: &Rank,
         attributes: Attributes<'u>,
     ) -> Result<(), AllocError>
-        ensures { OnOk result (self.new ≡ with_named self.old (names_of names.entry) (seen_rank rank.now) (seen_attributes attributes.entry)) }
+        ensures { OnOk result (self.new ≡ with_named self.old (seen_lists names.now) (seen_rank rank.now) (seen_attributes attributes.entry)) }
     {
-        let mut rest = names;
-        while let Some((name, others)) = rest.first() {
+        for name in names {
             let profile = profile_of(alloc, name, rank)?;
             let declaration = declaration_of(alloc, rank)?;
             self.add(alloc, profile, declaration, attributes)?;
-            rest = others;
         }
         Ok(())
     }
@@ -140,17 +136,17 @@ impl<'u> Operators<'u> {
         None
     }
 
-    /// That operator's fault, at a line.
-    pub fn disagreement(&self, alloc: Global, line: u32) -> Result<Option<Fault>, AllocError>
-        ensures { IfOk result (λ o. option_map refusal_of o ≡ disagreement_at line (disagreeing self.now)) }
+    /// Whether what is said of each operator agrees, or else the fault of the first of which it doesn't, at a line.
+    pub fn agree(&self, alloc: Global, line: u32) -> Result<(), UnitError>
+        ensures agree { OnOk result (disagreeing self.now ≡ None) }
+        ensures fault { IfErr result (HasCause (λ fault. disagreement line (disagreeing self.now) ≡ Some fault)) }
     {
-        match self.disagreeing() {
-            Some(name) => {
-                let kind = FaultKind::AttributesDisagree(name.as_slice().to_vec(alloc)?);
-                Ok(Some(Fault { line, kind }))
-            }
-            None => Ok(None),
+        if let Some(name) = self.disagreeing() {
+            let name = Name::of(name.as_slice().to_vec(alloc)?);
+            let kind = FaultKind::AttributesDisagree(name);
+            return Err(UnitError::Fault(Fault { line, kind }));
         }
+        Ok(())
     }
 
     /// The operators in order.
@@ -175,8 +171,7 @@ pub fn all_operators<'u>(
     ensures { IfOk result (λ os. os ≡ operators_from hierarchy.now [] (seen_statements statements.now)) }
 {
     let mut operators = Operators::new(alloc)?;
-    let mut rest = statements;
-    while let [statement, after @ ..] = rest {
+    for statement in statements {
         if let Form::Operators {
             names,
             args,
@@ -184,10 +179,9 @@ pub fn all_operators<'u>(
             attributes,
         } = &statement.form
         {
-            let rank = hierarchy.rank(alloc, *args, *value)?;
-            operators.add_all(alloc, *names, &rank, *attributes)?;
+            let rank = hierarchy.rank(alloc, args.as_slice(), *value)?;
+            operators.add_all(alloc, names.as_slice(), &rank, *attributes)?;
         }
-        rest = after;
     }
     Ok(operators)
 }

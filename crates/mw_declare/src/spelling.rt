@@ -1,12 +1,10 @@
 // The prefix spellings of names.
 ghost use Rattle.std.specs.Prelude.{◌≡◌, ◌++◌, ◌∷◌, List, IfOk};
-ghost use Rattle.mw_lex.specs.Bytes.{is_punctuation};
-ghost use Rattle.mw_lex.specs.Lexing.{seen_all};
 ghost use Rattle.mw_text.specs.Names.{Item as ItemOf, items_of, spelled_behind, name_of_tokens, is_mark as is_mark_text};
 ghost use Rattle.mw_text.specs.Seen.{item_of};
 ghost use Rattle.mw_declare.specs.Meaning.{texts};
 
-use mw_lex::Token;
+use mw_lex::{Token, is_punctuation};
 use mw_text::{Item, first_item};
 use std::alloc::{AllocError, Global};
 
@@ -15,7 +13,7 @@ fn is_mark(piece: &[u8]) -> bool
     ensures { result ≡ is_mark_text piece.now }
 {
     match piece {
-        [byte] => matches!(byte, b'(' | b')' | b'[' | b']' | b'{' | b'}' | b','),
+        [byte] => is_punctuation(*byte),
         _ => false,
     }
 }
@@ -56,14 +54,12 @@ fn write_token(spelling: &mut Vec<u8>, touching: bool, text: &[u8]) -> Result<bo
 
 /// The prefix spelling of the name that these tokens are.
 pub fn spelling_of(alloc: Global, name: &[Token]) -> Result<Vec<u8>, AllocError>
-    ensures { IfOk result (λ spelling. spelling.items ≡ name_of_tokens (texts (seen_all name.now))) }
+    ensures { IfOk result (λ spelling. spelling.items ≡ name_of_tokens (texts name.now)) }
 {
     let mut spelling = Vec::new(alloc);
     let mut touching = false;
-    let mut rest = name;
-    while let [token, after @ ..] = rest {
+    for token in name {
         touching = write_token(&mut spelling, touching, token.text.as_slice())?;
-        rest = after;
     }
     Ok(spelling)
 }

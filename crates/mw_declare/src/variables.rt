@@ -1,16 +1,14 @@
 // The variables of a module, with their sorts.
-ghost use Rattle.std.specs.Prelude.{◌≡◌, ◌++◌, ◌∷◌, List, [], Ok, Err, None, IfOk, OnOk, IfSome, map, option_map};
-ghost use Rattle.mw_lex.specs.Lexing.{seen, seen_all};
-ghost use Rattle.mw_declare.specs.Statements.{seen_statements};
+ghost use Rattle.std.specs.Prelude.{◌≡◌, ◌++◌, ◌∷◌, List, [], Ok, Err, None, IfOk, IfErr, OnOk, map, option_map};
+ghost use Rattle.mw_module.specs.Units.{seen_statements};
+ghost use Rattle.mw_module.specs.Causes.{HasCause};
 ghost use Rattle.mw_declare.specs.Faults.{sort_in, joined, typed, typing_of, variables_with};
-ghost use Rattle.mw_declare.specs.Seen.{ended_by, ended, seen_typing};
 
-use crate::names::Names;
-use crate::statement::Lined;
 use indexmap::IndexMap;
 use mw_lex::Token;
-use mw_module::{Fault, FaultKind, Form};
+use mw_module::{Fault, FaultKind, Form, Lined, UnitError};
 use mw_term::{Name, Seq, VarId};
+use mw_text::Names;
 use std::alloc::{AllocError, Global};
 use std::marker::Model;
 
@@ -55,34 +53,38 @@ impl Typing {
         Ok(())
     }
 
-    /// Adds a variable, unless it is there; whether it has this sort then.
-    fn join(&mut self, alloc: Global, name: &[u8], sort: &[u8]) -> Result<bool, AllocError>
-        ensures { IfOk result (λ same. joined (sort_in self.old name.now) self.old name.now sort.now ≡ ended_by same self.new name.now) }
+    /// Adds a variable, unless it is there with this sort; with another one it is a fault at this line.
+    fn join(&mut self, alloc: Global, line: u32, name: &[u8], sort: &[u8]) -> Result<(), UnitError>
+        ensures added { OnOk result (joined line (sort_in self.old name.now) self.old name.now sort.now ≡ Ok self.new) }
+        ensures fault { IfErr result
+            (HasCause (λ fault. joined line (sort_in self.old name.now) self.old name.now sort.now ≡ Err fault)) }
     {
         if let Some(known) = self.sort(name) {
-            return Ok(known.as_slice() == sort);
+            if known.as_slice() == sort {
+                return Ok(());
+            }
+            let kind = FaultKind::AlreadyDefined(Name::of(name.to_vec(alloc)?));
+            return Err(UnitError::Fault(Fault { line, kind }));
         }
         self.insert(alloc, name, sort)?;
-        Ok(true)
+        Ok(())
     }
 
-    /// Adds variables of one sort, up to the first that has another, which is answered.
-    fn join_all<'t>(
+    /// Adds variables of one sort.
+    fn join_all(
         &mut self,
         alloc: Global,
-        names: &'t [Token],
+        line: u32,
+        names: &[Token],
         sort: &[u8],
-    ) -> Result<Option<&'t Token>, AllocError>
-        ensures { IfOk result (λ o. typed (Ok self.old) (seen_all names.entry.now) sort.now ≡ ended self.new (option_map (λ t. t.now.text.items) o)) }
+    ) -> Result<(), UnitError>
+        ensures added { OnOk result (typed line (Ok self.old) names.now sort.now ≡ Ok self.new) }
+        ensures fault { IfErr result (HasCause (λ fault. typed line (Ok self.old) names.now sort.now ≡ Err fault)) }
     {
-        let mut rest = names;
-        while let [name, after @ ..] = rest {
-            if !self.join(alloc, name.text.as_slice(), sort)? {
-                return Ok(Some(name));
-            }
-            rest = after;
+        for name in names {
+            self.join(alloc, line, name.text.as_slice(), sort)?;
         }
-        Ok(None)
+        Ok(())
     }
 
     /// The variables, each with its sort's number.
@@ -99,24 +101,16 @@ impl Typing {
     }
 }
 
-/// The variables that statements declare, or the first that is declared again with another sort.
-pub fn all_typed(
-    alloc: Global,
-    statements: &[Lined<'_>],
-) -> Result<Result<Typing, Fault>, AllocError>
-    ensures { IfOk result (λ r. seen_typing r ≡ typing_of (seen_statements statements.now)) }
+/// The variables that statements declare, or the fault of the first that is declared again with another sort.
+pub fn all_typed(alloc: Global, statements: &[Lined<'_>]) -> Result<Typing, UnitError>
+    ensures typed { IfOk result (λ typing. typing_of (seen_statements statements.now) ≡ Ok typing) }
+    ensures fault { IfErr result (HasCause (λ fault. typing_of (seen_statements statements.now) ≡ Err fault)) }
 {
     let mut typing = Typing::new(alloc)?;
-    let mut rest = statements;
-    while let [statement, after @ ..] = rest {
+    for statement in statements {
         if let Form::Variables { names, sort } = &statement.form {
-            if let Some(token) = typing.join_all(alloc, names, sort.text.as_slice())? {
-                let kind = FaultKind::AlreadyDefined(token.text.as_slice().to_vec(alloc)?);
-                let line = statement.line;
-                return Ok(Err(Fault { line, kind }));
-            }
+            typing.join_all(alloc, statement.line, names, sort.text.as_slice())?;
         }
-        rest = after;
     }
-    Ok(Ok(typing))
+    Ok(typing)
 }

@@ -65,15 +65,6 @@ module _ (kind : ℕ → ℕ) where
   grown : (old new : List Variable) (l : Leaf) (x : Variable) → Extends old new → IsLeafOf kind old l x → IsLeafOf kind new l x
   grown old new l x e h = (get_grows old new l.value x e h.0, h.1)
 
-  pub adds_none : (old : List Variable) (before : List Leaf) (F : Variable → Type 0) → ((x : Variable) → F x → ⊥) → Adds kind old old before before F
-  adds_none old before F none = record {
-    leaves = Extends-same old;
-    differ = λ d. d;
-    kept = λ l h. h;
-    sound = λ l h. inl h;
-    complete = λ x h. absurd (none x h);
-  }
-
   pub adds_same : (old new : List Variable) (before after : List Leaf) (F G : Variable → Type 0) → ((x : Variable) → F x → G x) → ((x : Variable) → G x → F x) → Adds kind old new before after F
       → Adds kind old new before after G
   adds_same old new before after F G to from a = record {

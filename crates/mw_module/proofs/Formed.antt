@@ -1,12 +1,12 @@
 -- What is known of a statement that has a form.
-use Rattle.std.proofs.Common.{◌≡◌, ◌≢◌, ◌<◌, ◌+◌, ◌-◌, ◌*◌, ◌==◌, ◌&&◌, ◌||◌, ◌⊎◌, inl, inr, not, nat_lt, nat_le, min, ℕ, zero, suc, Bool, true, false, if◌then◌else◌, List, [], ◌∷◌, length, take, drop, Option, Some, None, IfSome, IfOk, Result, Ok, Err, All, codes, refl, ap, subst, arith}
+use Rattle.std.proofs.Common.{◌≡◌, ◌≢◌, ◌<◌, ◌+◌, ◌-◌, ◌*◌, ◌==◌, ◌&&◌, ◌||◌, ◌⊎◌, inl, inr, not, nat_lt, nat_le, min, ℕ, zero, suc, Bool, true, false, if◌then◌else◌, List, [], ◌∷◌, length, take, drop, Option, Some, None, IfSome, IfOk, Result, Ok, Err, All, codes, refl, ap, arith}
 use Rattle.std.specs.Char.{is_ascii_digit}
 use Rattle.std.specs.List.{list_all}
 use Rattle.std.specs.Option.{option_or}
 use Rattle.std.proofs.lemmas.Bool.{ltb-true, leb-true, eqb-true}
 use Rattle.std.proofs.lemmas.List.Elements.{All-nil, All-cons}
 use Rattle.std.proofs.lemmas.Slice.Eq.{bytes_eq-Decides}
-use Rattle.mw_lex.specs.Lexing.{Seen}
+use Rattle.mw_lex.specs.declared.token.Token.{Token}
 use Rattle.mw_text.specs.Names.{Item, piece, hole, count_holes}
 use Rattle.mw_module.specs.declared.faults.FaultKind.{FaultKind}
 use Rattle.mw_module.specs.declared.faults.FaultKind.TheVariants.{NotInProfile, BadStatement}
@@ -21,43 +21,10 @@ use Rattle.mw_module.specs.Attributes.{Attributes, no_attributes, joined, Attrib
 use Rattle.mw_module.specs.Sortings.{Sorting, sort_behind, front_sorting, sortings_from}
 use Rattle.mw_module.specs.Groups.{divided_at_less}
 use Rattle.mw_module.specs.Equations.{unlabelled, attributes_len, group_at_end, executable_with, equals_at}
-use Rattle.mw_module.specs.Forms.{Shape, Sorts, Subsorts, Operators, Variables, Equation, Formed, names_fault, groups_fault, lone_sort, typed, variables_form, front_fault, sortings_fault, valued, value_form, arrow_form, operators_form, divided, equation_form, form_behind, form_of}
+use Rattle.mw_module.specs.Known.{IsNameFor, IsMark, IsPrecedence, IsGather, AreAttributes, IsKnown}
+use Rattle.mw_module.specs.Forms.{Sorts, Subsorts, Formed, names_fault, groups_fault, lone_sort, typed, variables_form, front_fault, sortings_fault, Value, valued, value_form, Profile, profiled, profile_form, declared, operators_form, divided, equation_form, form_behind, form_of}
 
--- a name is neither nothing nor a hole alone, and has no holes or one for each argument
-pub record IsNameFor (arity : ℕ) (name : List Seen) : Type 0 where
-  pub some : items_in name ≢ []
-  pub no_hole : items_in name ≢ hole ∷ []
-  pub fits : (count_holes (items_in name) ≡ 0) ⊎ (count_holes (items_in name) ≡ arity)
-
-abbrev pub IsMark : List ℕ → Type 0
-IsMark text = (text ≡ codes "e") ⊎ ((text ≡ codes "E") ⊎ (text ≡ codes "&"))
-
-abbrev pub IsPrecedence : ℕ → Type 0
-IsPrecedence n = n < 128
-
--- one mark for each argument
-abbrev pub IsGather : ℕ → List (List ℕ) → Type 0
-IsGather arity marks = (length marks ≡ arity) × All IsMark marks
-
--- what is said of an operator of so many arguments
-pub record AreAttributes (arity : ℕ) (a : Attributes) : Type 0 where
-  pub precedence : IfSome a.precedence IsPrecedence
-  pub gather : IfSome a.gather (IsGather arity)
-
--- a declaration of operators
-pub record AreOperators (ns : List (List Seen)) (args : List Sorting) (a : Attributes) : Type 0 where
-  pub some : ns ≢ []
-  pub names : All (IsNameFor (length args)) ns
-  pub attributes : AreAttributes (length args) a
-
-abbrev pub IsKnown : Shape → Type 0
-IsKnown (Sorts names) = Unit {0}
-IsKnown (Subsorts groups) = Unit {0}
-IsKnown (Operators names args value a) = AreOperators names args a
-IsKnown (Variables names sort) = Unit {0}
-IsKnown (Equation left right executable) = Unit {0}
-
-abbrev IsKnownWhereFormed : Formed → Type 0
+abbrev pub IsKnownWhereFormed : Formed → Type 0
 IsKnownWhereFormed formed = IfOk formed IsKnown
 
 both : (a b : Bool) → (a && b) ≡ true → (a ≡ true) × (b ≡ true)
@@ -78,7 +45,7 @@ named (hole ∷ (i ∷ items)) e = (λ (h : hole ∷ (i ∷ items) ≡ []). cc, 
 fitting : (arity : ℕ) (items : List Item) → fits arity items ≡ true → (count_holes items ≡ 0) ⊎ (count_holes items ≡ arity)
 fitting arity items e = elim (either (count_holes items == 0) (count_holes items == arity) e) [ inl h ↦ inl (eqb-true (count_holes items) 0 h) | inr h ↦ inr (eqb-true (count_holes items) arity h) ]
 
-names_known : (arity : ℕ) (names : List (List Seen)) → all_names names ≡ true → all_fit arity names ≡ true → All (IsNameFor arity) names
+names_known : (arity : ℕ) (names : List (List Token)) → all_names names ≡ true → all_fit arity names ≡ true → All (IsNameFor arity) names
 names_known arity [] all fit = All-nil (IsNameFor arity)
 names_known arity (name ∷ names) all fit =
     let a = both (is_name (items_in name)) (all_names names) all in
@@ -86,7 +53,7 @@ names_known arity (name ∷ names) all fit =
     let n = named (items_in name) a.0 in
     All-cons (IsNameFor arity) name names (record { some = n.0; no_hole = n.1; fits = fitting arity (items_in name) f.0 }) (names_known arity names a.1 f.1)
 
-pub names_there : (names : List (List Seen)) → are_names names ≡ true → (names ≢ []) × (all_names names ≡ true)
+pub names_there : (names : List (List Token)) → are_names names ≡ true → (names ≢ []) × (all_names names ≡ true)
 names_there [] e = cc
 names_there (name ∷ names) e = (λ (h : name ∷ names ≡ []). cc, e)
 
@@ -127,7 +94,7 @@ IsKnownAttribute arity a = AreAttributes arity a.says
 pub none_known : (arity : ℕ) → AreAttributes arity no_attributes
 none_known arity = record { precedence = tt; gather = tt }
 
-prec_known : (arity : ℕ) (ts : List Seen) → IfOk (prec_attribute ts) (IsKnownAttribute arity)
+prec_known : (arity : ℕ) (ts : List Token) → IfOk (prec_attribute ts) (IsKnownAttribute arity)
 prec_known arity [] = tt
 prec_known arity (t ∷ rest) = of (precedence_of t.text) (precedence_known t.text)
   where
@@ -135,22 +102,22 @@ prec_known arity (t ∷ rest) = of (precedence_of t.text) (precedence_known t.te
     of None h = tt
     of (Some n) h = record { precedence = h; gather = tt }
 
-mark_known : (t : Seen) → is_mark t ≡ true → IsMark t.text
+mark_known : (t : Token) → is_mark t ≡ true → IsMark t.text
 mark_known t e = elim (either (is (codes "e") t || is (codes "E") t) (is (codes "&") t) e) [
   | inl h ↦ elim (either (is (codes "e") t) (is (codes "E") t) h) [ inl k ↦ inl ((bytes_eq-Decides t.text (codes "e")).0 k) | inr k ↦ inr (inl ((bytes_eq-Decides t.text (codes "E")).0 k)) ]
   | inr h ↦ inr (inr ((bytes_eq-Decides t.text (codes "&")).0 h))
 ]
 
-all_marks_known : (ts : List Seen) → list_all is_mark ts ≡ true → All IsMark (texts ts)
+all_marks_known : (ts : List Token) → list_all is_mark ts ≡ true → All IsMark (texts ts)
 all_marks_known [] e = All-nil IsMark
 all_marks_known (t ∷ ts) e = let h = both (is_mark t) (list_all is_mark ts) e in All-cons IsMark t.text (texts ts) (mark_known t h.0) (all_marks_known ts h.1)
 
-enough : (n : ℕ) (ts : List Seen) → begins (codes ")") (drop n ts) ≡ true → length (texts (take n ts)) ≡ n
+enough : (n : ℕ) (ts : List Token) → begins (codes ")") (drop n ts) ≡ true → length (texts (take n ts)) ≡ n
 enough zero ts e = refl
 enough (suc n) [] e = cc
 enough (suc n) (t ∷ ts) e = ap suc (enough n ts e)
 
-gather_known : (arity : ℕ) (ts : List Seen) → IfOk (gather_attribute arity ts) (IsKnownAttribute arity)
+gather_known : (arity : ℕ) (ts : List Token) → IfOk (gather_attribute arity ts) (IsKnownAttribute arity)
 gather_known arity [] = tt
 gather_known arity (t ∷ rest) = of (is (codes "(") t && are_marks arity rest) refl
   where
@@ -163,7 +130,7 @@ gather_known arity (t ∷ rest) = of (is (codes "(") t && are_marks arity rest) 
         record { precedence = tt; gather = (enough arity rest h.1, all_marks_known (take arity rest) k) }
     of false e = tt
 
-format_known : (arity : ℕ) (ts : List Seen) → IfOk (format_attribute ts) (IsKnownAttribute arity)
+format_known : (arity : ℕ) (ts : List Token) → IfOk (format_attribute ts) (IsKnownAttribute arity)
 format_known arity [] = tt
 format_known arity (t ∷ rest) = of (is (codes "(") t && nat_lt (count_before (codes ")") rest) (length rest))
   where
@@ -171,14 +138,14 @@ format_known arity (t ∷ rest) = of (is (codes "(") t && nat_lt (count_before (
     of true = none_known arity
     of false = tt
 
-metadata_known : (arity : ℕ) (ts : List Seen) → IfOk (metadata_attribute ts) (IsKnownAttribute arity)
+metadata_known : (arity : ℕ) (ts : List Token) → IfOk (metadata_attribute ts) (IsKnownAttribute arity)
 metadata_known arity ts = of (begins_string ts)
   where
     of : (b : Bool) → IfOk (if b then Ok (record { says = no_attributes; behind = 1 }) else Err BadStatement) (IsKnownAttribute arity)
     of true = none_known arity
     of false = tt
 
-attribute_known : (arity : ℕ) (t : Seen) (rest : List Seen) → IfOk (attribute_at arity t rest) (IsKnownAttribute arity)
+attribute_known : (arity : ℕ) (t : Token) (rest : List Token) → IfOk (attribute_at arity t rest) (IsKnownAttribute arity)
 attribute_known arity t rest = of (is_silent_word t) (is (codes "config") t) (is (codes "prec") t) (is (codes "gather") t) (is (codes "format") t) (is (codes "metadata") t)
   where
     of : (silent config prec gather format metadata : Bool) → IfOk (if silent then Ok (record { says = no_attributes; behind = 0 })
@@ -204,7 +171,7 @@ joined_known arity a b h k = record {
   gather = first_known (IsGather arity) a.gather b.gather h.gather k.gather;
 }
 
-end_known : (arity : ℕ) (said : Attributes) (ts : List Seen) → AreAttributes arity said → IfOk (at_end said ts) (AreAttributes arity)
+end_known : (arity : ℕ) (said : Attributes) (ts : List Token) → AreAttributes arity said → IfOk (at_end said ts) (AreAttributes arity)
 end_known arity said [] h = h
 end_known arity said (t ∷ rest) h = tt
 
@@ -213,7 +180,7 @@ going_known : (arity : ℕ) (r : Result Attribute FaultKind) (next : Attribute �
 going_known arity (Ok a) next h k = k a h
 going_known arity (Err kind) next h k = tt
 
-from_known : (arity k : ℕ) (said : Attributes) (ts : List Seen) → AreAttributes arity said → IfOk (attributes_from arity k said ts) (AreAttributes arity)
+from_known : (arity k : ℕ) (said : Attributes) (ts : List Token) → AreAttributes arity said → IfOk (attributes_from arity k said ts) (AreAttributes arity)
 from_known arity k said [] h = tt
 from_known arity (suc k) said (t ∷ rest) h = from_known arity k said rest h
 from_known arity zero said (t ∷ rest) h = of (is (codes "]") t)
@@ -225,14 +192,14 @@ from_known arity zero said (t ∷ rest) h = of (is (codes "]") t)
     of true more = end_known arity said rest h
     of false more = more
 
-list_known : (arity : ℕ) (ts : List Seen) → IfOk (attribute_list arity ts) (AreAttributes arity)
+list_known : (arity : ℕ) (ts : List Token) → IfOk (attribute_list arity ts) (AreAttributes arity)
 list_known arity ts = of (begins (codes "]") ts)
   where
     of : (b : Bool) → IfOk (if b then Err BadStatement else attributes_from arity 0 no_attributes ts) (AreAttributes arity)
     of true = tt
     of false = from_known arity 0 no_attributes ts (none_known arity)
 
-behind_known : (arity : ℕ) (ts : List Seen) → IfOk (attributes_behind arity ts) (AreAttributes arity)
+behind_known : (arity : ℕ) (ts : List Token) → IfOk (attributes_behind arity ts) (AreAttributes arity)
 behind_known arity [] = none_known arity
 behind_known arity (t ∷ rest) = of (is (codes "[") t) (is (codes "{") t)
   where
@@ -259,63 +226,80 @@ holds_unless P (Some kind) r h = tt
 known_unless : (o : Option FaultKind) (f : Formed) → (o ≡ None → IsKnownWhereFormed f) → IsKnownWhereFormed (unless o f)
 known_unless o f h = holds_unless IsKnown o f h
 
-valued_known : (names : List (List Seen)) (args : List Sorting) (value : Sorting) (said : Said) → names ≢ [] → All (IsNameFor (length args)) names → IfOk said (AreAttributes (length args))
-    → IsKnownWhereFormed (valued names args value said)
-valued_known names args value (Ok a) some all h = record { some = some; names = all; attributes = h }
-valued_known names args value (Err kind) some all h = tt
+-- what stands behind names
+abbrev IsKnownProfile : List (List Token) → Profile → Type 0
+IsKnownProfile names p = All (IsNameFor (length p.args)) names × AreAttributes (length p.args) p.value.attributes
 
-value_known : (kinds : Bool) (names : List (List Seen)) (args : List Sorting) (ts : List Seen) → names ≢ [] → All (IsNameFor (length args)) names → IsKnownWhereFormed (value_form kinds names args ts)
-value_known kinds names args [] some all = tt
-value_known kinds names args (t ∷ behind) some all =
-    let said : Said = attributes_behind (length args) (drop (sort_behind t) behind) in
-    known_unless (front_fault t behind) (valued names args (front_sorting kinds t behind) said)
-    (λ e. valued_known names args (front_sorting kinds t behind) said some all (behind_known (length args) (drop (sort_behind t) behind)))
+abbrev IsKnownValue : ℕ → Value → Type 0
+IsKnownValue arity v = AreAttributes arity v.attributes
 
-arrow_known : (names : List (List Seen)) (ts : List Seen) → are_names names ≡ true → IsKnownWhereFormed (arrow_form names ts)
-arrow_known names ts named =
+valued_known : (arity : ℕ) (sort : Sorting) (said : Said) → IfOk said (AreAttributes arity) → IfOk (valued sort said) (IsKnownValue arity)
+valued_known arity sort (Ok a) h = h
+valued_known arity sort (Err kind) h = tt
+
+value_known : (kinds : Bool) (arity : ℕ) (ts : List Token) → IfOk (value_form kinds arity ts) (IsKnownValue arity)
+value_known kinds arity [] = tt
+value_known kinds arity (t ∷ behind) =
+    let rest = drop (sort_behind t) behind in
+    holds_unless (IsKnownValue arity) (front_fault t behind) (valued (front_sorting kinds t behind) (attributes_behind arity rest))
+    (λ e. valued_known arity (front_sorting kinds t behind) (attributes_behind arity rest) (behind_known arity rest))
+
+profiled_known : (names : List (List Token)) (args : List Sorting) (r : Result Value FaultKind) → All (IsNameFor (length args)) names → IfOk r (IsKnownValue (length args))
+    → IfOk (profiled args r) (IsKnownProfile names)
+profiled_known names args (Ok value) all h = (all, h)
+profiled_known names args (Err kind) all h = tt
+
+profile_known : (names : List (List Token)) (ts : List Token) → all_names names ≡ true → IfOk (profile_form names ts) (IsKnownProfile names)
+profile_known names ts named =
     let total = count_before (codes "->") ts in
     let partial = count_before (codes "~>") ts in
     let arrow = min total partial in
     let kinds = nat_lt partial total in
     let args = sortings_from kinds 0 (take arrow ts) in
-    let there = names_there names named in
-    let valued : Formed = value_form kinds names args (drop (arrow + 1) ts) in
+    let value = value_form kinds (length args) (drop (arrow + 1) ts) in
     let wrong : Bool = arrow == length ts || not (all_fit (length args) names) in
-    known_unless (sortings_fault 0 (take arrow ts)) (unless (fault_if wrong BadStatement) valued)
-    (λ e. known_unless (fault_if wrong BadStatement) valued
+    holds_unless (IsKnownProfile names) (sortings_fault 0 (take arrow ts)) (unless (fault_if wrong BadStatement) (profiled args value))
+    (λ e. holds_unless (IsKnownProfile names) (fault_if wrong BadStatement) (profiled args value)
     (λ f. let fit : all_fit (length args) names ≡ true = neither (arrow == length ts) (all_fit (length args) names) (no_fault wrong BadStatement f) in
-    value_known kinds names args (drop (arrow + 1) ts) there.0 (names_known (length args) names there.1 fit)))
+    profiled_known names args value (names_known (length args) names named fit) (value_known kinds (length args) (drop (arrow + 1) ts))))
 
-operators_known : (single : Bool) (ts : List Seen) → IsKnownWhereFormed (operators_form single ts)
+declared_known : (names : List (List Token)) (r : Result Profile FaultKind) → names ≢ [] → IfOk r (IsKnownProfile names) → IsKnownWhereFormed (declared names r)
+declared_known names (Ok p) some h = record { some = some; names = h.0; attributes = h.1 }
+declared_known names (Err kind) some h = tt
+
+operators_known : (single : Bool) (ts : List Token) → IsKnownWhereFormed (operators_form single ts)
 operators_known single ts =
     let colon = count_before (codes ":") ts in
     let names = names_from single 0 (take colon ts) in
+    let profile = profile_form names (drop (colon + 1) ts) in
     let wrong : Bool = colon == length ts || not (are_names names) in
-    known_unless (fault_if wrong BadStatement) (arrow_form names (drop (colon + 1) ts)) (λ e. arrow_known names (drop (colon + 1) ts) (neither (colon == length ts) (are_names names) (no_fault wrong BadStatement e)))
+    known_unless (fault_if wrong BadStatement) (declared names profile)
+    (λ e. let there = names_there names (neither (colon == length ts) (are_names names) (no_fault wrong BadStatement e)) in
+    declared_known names profile there.0 (profile_known names (drop (colon + 1) ts) there.1))
 
-typed_known : (names : List Seen) (r : Result Seen FaultKind) → IsKnownWhereFormed (typed names r)
+typed_known : (names : List Token) (r : Result Token FaultKind) → IsKnownWhereFormed (typed names r)
 typed_known names (Ok sort) = tt
 typed_known names (Err kind) = tt
 
-variables_known : (ts : List Seen) → IsKnownWhereFormed (variables_form ts)
+variables_known : (ts : List Token) → IsKnownWhereFormed (variables_form ts)
 variables_known ts =
     let colon = count_before (codes ":") ts in
     let formed = typed (take colon ts) (lone_sort (drop (colon + 1) ts)) in
     known_unless (fault_if (colon == length ts) BadStatement) (unless (names_fault role.Variable (take colon ts)) formed)
     (λ e. known_unless (names_fault role.Variable (take colon ts)) formed (λ f. typed_known (take colon ts) (lone_sort (drop (colon + 1) ts))))
 
-divided_known : (sides : List Seen) (o : Option ℕ) (r : Result Bool FaultKind) → IsKnownWhereFormed (divided sides o r)
+divided_known : (sides : List Token) (o : Option ℕ) (r : Result Bool FaultKind) → IsKnownWhereFormed (divided sides o r)
 divided_known sides None r = tt
 divided_known sides (Some n) (Ok executable) = tt
 divided_known sides (Some n) (Err kind) = tt
 
-equation_known : (ts : List Seen) → IsKnownWhereFormed (equation_form ts)
+equation_known : (ts : List Token) → IsKnownWhereFormed (equation_form ts)
 equation_known ts =
     let us = unlabelled ts in
     let n = attributes_len us in
     divided_known (take (length us - n) us) (equals_at 0 (take (length us - n) us)) (executable_with (group_at_end n us))
 
-behind_first_word : (o : Opening) (ts : List Seen) → IsKnownWhereFormed (form_behind o ts)
+behind_first_word : (o : Opening) (ts : List Token) → IsKnownWhereFormed (form_behind o ts)
 behind_first_word opening.Sorts ts = known_unless (names_fault role.NewSort ts) (Ok (Sorts ts)) (λ e. tt)
 behind_first_word opening.Subsorts ts = known_unless (groups_fault (divided_at_less ts))
     (unless (fault_if (count_before (codes "<") ts == length ts) BadStatement) (Ok (Subsorts (divided_at_less ts))))
@@ -327,10 +311,6 @@ behind_first_word opening.Equation ts = equation_known ts
 behind_first_word opening.Elsewhere ts = tt
 behind_first_word opening.Unread ts = tt
 
-form_known : (ts : List Seen) → IsKnownWhereFormed (form_of ts)
+pub form_known : (ts : List Token) → IsKnownWhereFormed (form_of ts)
 form_known [] = tt
 form_known (t ∷ ts) = behind_first_word (opening_of t.text) ts
-
--- a statement of this form
-pub formed_known : (ts : List Seen) (shape : Shape) → form_of ts ≡ Ok shape → IsKnown shape
-formed_known ts shape e = subst IsKnownWhereFormed e (form_known ts)

@@ -2,31 +2,26 @@
 use Rattle.std.proofs.Common.{◌≡◌, ◌∙◌, ◌<◌, ◌+◌, ◌-◌, ◌==◌, ℕ, Bool, false, List, [], ◌∷◌, length, take, drop, get_or, Some, refl, sym, ap, arith}
 use Rattle.std.proofs.lemmas.Bool.{ne_eqb}
 use Rattle.mw_lex.specs.declared.token.Token.{Token}
-use Rattle.mw_lex.specs.Lexing.{seen, seen_all}
 use Rattle.mw_module.specs.declared.kinds.Kind.{Kind}
 use Rattle.mw_module.specs.Kinds.{kind_of, end_word}
 use Rattle.mw_module.specs.Words.{count_before}
 use Rattle.mw_module.specs.Units.{Outcome, unit_with, reading_of, front_unit, Reads}
-use Rattle.mw_module.proofs.Slices.{seen_take, seen_length}
 
 -- the reading at the front of tokens that begin with this one
 front_is : (proofs : Bool) (rest : List Token) (first : Token) → 0 < length rest → first ≡ get_or rest 0 first
-    → front_unit proofs (seen_all rest) ≡ Some (reading_of (kind_of proofs first.text.items) (seen first) (seen_all rest))
+    → front_unit proofs rest ≡ Some (reading_of (kind_of proofs first.text) first rest)
 front_is proofs [] first some head = absurd (omega arith)
-front_is proofs (t ∷ ts) first some head = ap (λ (x : Token). Some (reading_of (kind_of proofs x.text.items) (seen x) (seen_all (t ∷ ts)))) (sym head)
+front_is proofs (t ∷ ts) first some head = ap (λ (x : Token). Some (reading_of (kind_of proofs x.text) x ((t ∷ ts)))) (sym head)
 
 -- a unit that has its end
-pub unit_read : (proofs : Bool) (tokens rest : List Token) (at : ℕ) (first : Token) (kind : Kind) (n : ℕ) (outcome : Outcome) → seen_all rest ≡ drop at (seen_all tokens)
-    → length rest + at ≡ length tokens → 0 < length rest → first ≡ get_or rest 0 first → kind ≡ kind_of proofs first.text.items → n ≡ count_before (end_word kind) (seen_all rest)
-    → n < length rest → outcome ≡ unit_with kind (seen first) (seen_all (take n rest)) → Reads proofs (seen_all tokens) at outcome (at + n + 1)
+pub unit_read : (proofs : Bool) (tokens rest : List Token) (at : ℕ) (first : Token) (kind : Kind) (n : ℕ) (outcome : Outcome) → rest ≡ drop at tokens
+    → length rest + at ≡ length tokens → 0 < length rest → first ≡ get_or rest 0 first → kind ≡ kind_of proofs first.text → n ≡ count_before (end_word kind) rest
+    → n < length rest → outcome ≡ unit_with kind first ((take n rest)) → Reads proofs tokens at outcome (at + n + 1)
 unit_read proofs tokens rest at first kind n outcome left size some head of count short out =
-    let all : length (seen_all tokens) ≡ length tokens = seen_length tokens in
-    let here : length (seen_all rest) ≡ length rest = seen_length rest in
-    let open_ : (n == length (seen_all rest)) ≡ false = ne_eqb _ _ (λ whole. omega arith) in
+    let open_ : (n == length rest) ≡ false = ne_eqb _ _ (λ whole. omega arith) in
     let step : at + n + 1 - at ≡ n + 1 = omega arith in
-    let inside : outcome ≡ unit_with kind (seen first) (take n (seen_all rest)) = out ∙ ap (unit_with kind (seen first)) (seen_take n rest) in
     record {
-      reading = rw (← left, step, inside) (front_is proofs rest first some head ∙ rw (← of, ← count, open_) refl);
+      reading = rw (← left, step, out) (front_is proofs rest first some head ∙ rw (← of, ← count, open_) refl);
       further = omega arith;
       within = omega arith;
     }

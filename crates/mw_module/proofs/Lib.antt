@@ -5,8 +5,7 @@ pub mod GroupByGroup
 pub mod Lists
 pub mod ItemByItem
 pub mod Formed
-pub mod Clones
 pub mod Bodies
 pub mod Fronts
-pub mod Tokens
 pub mod ProperForms
+pub mod Sources

@@ -1,10 +1,10 @@
 -- The parts of a statement that is made of tokens are proper.
-use Rattle.std.proofs.Common.{◌≡◌, ◌∙◌, ℕ, zero, suc, ◌+◌, ◌-◌, ◌==◌, ◌&&◌, ◌||◌, not, min, nat_lt, if◌then◌else◌, Bool, true, false, List, [], ◌∷◌, length, take, drop, Option, Some, None, Result, Ok, Err, IfOk, All, codes, inl, inr, refl, sym, subst}
+use Rattle.std.proofs.Common.{◌≡◌, ◌∙◌, ℕ, zero, suc, ◌+◌, ◌-◌, ◌==◌, ◌&&◌, ◌||◌, not, if◌then◌else◌, Bool, true, false, List, [], ◌∷◌, length, take, drop, Option, Some, None, Result, Ok, Err, IfOk, All, codes, inl, inr, refl, sym}
 use Rattle.std.specs.List.{list_all}
 use Rattle.std.proofs.lemmas.Bool.{both_ways, and_parts, or_parts, not-true, eqb-false}
 use Rattle.std.proofs.lemmas.List.Elements.{All-nil, All-cons, All-head, All-tail, All-take, All-drop, All-map}
 use Rattle.mw_lex.specs.Bytes.{is_punctuation}
-use Rattle.mw_lex.specs.Lexing.{Seen}
+use Rattle.mw_lex.specs.declared.token.Token.{Token}
 use Rattle.mw_lex.specs.Texts.{IsRun, IsTokenText, AreTokens}
 use Rattle.mw_text.specs.Names.{Item, piece, hole, pieces, name_of_tokens}
 use Rattle.mw_text.specs.Proper.{IsProperName, BeginsNothing, NamesAreProper}
@@ -17,18 +17,18 @@ use Rattle.mw_module.specs.declared.openings.Opening.TheVariants as opening
 use Rattle.mw_module.specs.Words.{is, texts, count_before, is_punctuation_word, is_quoted, is_no_piece}
 use Rattle.mw_module.specs.Faults.{first_of, fault_if, unless}
 use Rattle.mw_module.specs.Openings.{opening_of}
-use Rattle.mw_module.specs.OperatorNames.{group_len, in_group, one_of_several, front_name, names_from, items_in, is_fine, is_name, all_names, are_names, all_fit}
-use Rattle.mw_module.specs.Attributes.{Said, attributes_behind}
-use Rattle.mw_module.specs.Sortings.{Sorting, sort_behind, front_sorting, sortings_from}
+use Rattle.mw_module.specs.OperatorNames.{group_len, in_group, one_of_several, front_name, names_from, items_in, is_fine, is_name, all_names, are_names}
 use Rattle.mw_module.specs.Groups.{divided_at_less}
 use Rattle.mw_module.specs.Equations.{has_label, unlabelled, attributes_len, group_at_end, executable_with, equals_at}
-use Rattle.mw_module.specs.Forms.{Sorts, Subsorts, Formed, is_unread, is_bad, text_fault, first_fault, names_fault, groups_fault, lone_sort, typed, variables_form, front_fault, sortings_fault, valued, value_form, arrow_form, operators_form, divided, equation_form, form_behind, form_of}
-use Rattle.mw_module.specs.Tokens.{HasProperParts, FormsAreProper}
+use Rattle.mw_module.specs.Forms.{Sorts, Subsorts, Formed, is_unread, is_bad, text_fault, first_fault, names_fault, groups_fault, lone_sort, typed, variables_form, Profile, profile_form, declared, operators_form, divided, equation_form, form_behind, form_of}
+use Rattle.mw_module.specs.Tokens.{HasProperParts}
 use Rattle.mw_module.proofs.Formed.{names_there, no_fault, neither, holds_unless}
-use Rattle.mw_module.proofs.Tokens.{IsToken}
+
+abbrev pub IsToken : Token → Type 0
+IsToken t = IsTokenText t.text
 
 -- a form's parts are proper, where there is nothing wrong with it
-abbrev IsProperWhereFormed : Formed → Type 0
+abbrev pub IsProperWhereFormed : Formed → Type 0
 IsProperWhereFormed f = IfOk f HasProperParts
 
 proper_unless : (o : Option FaultKind) (f : Formed) → (o ≡ None → IsProperWhereFormed f) → IsProperWhereFormed (unless o f)
@@ -57,13 +57,13 @@ run_in r x bad one e =
     let h = or_parts (is_punctuation_word x) (is_quoted x) (sym (bad x) ∙ no_fault (is_bad r x) BadStatement f.1) in
     run_alone x one h.0 h.1
 
-runs_in : (r : Role) (ts : List Seen) → IsForRuns r → AreTokens ts → first_fault r ts ≡ None → All IsRun (texts ts)
+runs_in : (r : Role) (ts : List Token) → IsForRuns r → AreTokens ts → first_fault r ts ≡ None → All IsRun (texts ts)
 runs_in r [] bad all e = All-nil IsRun
 runs_in r (t ∷ ts) bad all e =
     let f = neither_fault (text_fault r t.text) (first_fault r ts) e in
     All-cons IsRun t.text (texts ts) (run_in r t.text bad (All-head IsToken t ts all) f.0) (runs_in r ts bad (All-tail IsToken t ts all) f.1)
 
-some_runs : (r : Role) (ts : List Seen) → IsForRuns r → AreTokens ts → names_fault r ts ≡ None → All IsRun (texts ts)
+some_runs : (r : Role) (ts : List Token) → IsForRuns r → AreTokens ts → names_fault r ts ≡ None → All IsRun (texts ts)
 some_runs r [] bad all e = cc
 some_runs r (t ∷ ts) bad all e = runs_in r (t ∷ ts) bad all e
 
@@ -86,26 +86,26 @@ fine_pieces (piece x ∷ items) e =
     All-cons BeginsNothing x (pieces items) (fine_piece x (not-true (is_no_piece x) h.0)) (fine_pieces items h.1)
 fine_pieces (hole ∷ items) e = fine_pieces items e
 
-abbrev IsProperlyNamed : List Seen → Type 0
+abbrev IsProperlyNamed : List Token → Type 0
 IsProperlyNamed name = IsProperName (name_of_tokens (texts name))
 
-proper_name : NamesAreProper → (name : List Seen) → AreTokens name → is_name (items_in name) ≡ true → IsProperlyNamed name
+proper_name : NamesAreProper → (name : List Token) → AreTokens name → is_name (items_in name) ≡ true → IsProperlyNamed name
 proper_name law name all e =
     let h = and_parts (list_all is_fine (items_in name)) _ e in
-    law (texts name) (All-map IsTokenText (λ (t : Seen). t.text) name all) (fine_pieces (items_in name) h.0)
+    law (texts name) (All-map IsTokenText (λ (t : Token). t.text) name all) (fine_pieces (items_in name) h.0)
 
-proper_names : NamesAreProper → (names : List (List Seen)) → All AreTokens names → all_names names ≡ true → All IsProperlyNamed names
+proper_names : NamesAreProper → (names : List (List Token)) → All AreTokens names → all_names names ≡ true → All IsProperlyNamed names
 proper_names law [] all e = All-nil IsProperlyNamed
 proper_names law (name ∷ names) all e =
     let h = and_parts (is_name (items_in name)) (all_names names) e in
     All-cons IsProperlyNamed name names (proper_name law name (All-head AreTokens name names all) h.0) (proper_names law names (All-tail AreTokens name names all) h.1)
 
 -- names are made of the tokens that they are read from
-group_tokens : (rest : List Seen) (o : Option ℕ) → AreTokens rest → AreTokens (in_group rest o).name
+group_tokens : (rest : List Token) (o : Option ℕ) → AreTokens rest → AreTokens (in_group rest o).name
 group_tokens rest None all = All-nil IsToken
 group_tokens rest (Some n) all = All-take IsToken (n - 1) rest all
 
-one_tokens : (ts : List Seen) → AreTokens ts → AreTokens (one_of_several ts).name
+one_tokens : (ts : List Token) → AreTokens ts → AreTokens (one_of_several ts).name
 one_tokens [] all = All-nil IsToken
 one_tokens (t ∷ rest) all = of (is (codes "(") t) (is (codes ")") t)
   where
@@ -115,11 +115,11 @@ one_tokens (t ∷ rest) all = of (is (codes "(") t) (is (codes ")") t)
     of false true = All-nil IsToken
     of false false = All-cons IsToken t [] (All-head IsToken t rest all) (All-nil IsToken)
 
-front_tokens : (single : Bool) (ts : List Seen) → AreTokens ts → AreTokens (front_name single ts).name
+front_tokens : (single : Bool) (ts : List Token) → AreTokens ts → AreTokens (front_name single ts).name
 front_tokens true ts all = all
 front_tokens false ts all = one_tokens ts all
 
-names_tokens : (single : Bool) (skip : ℕ) (ts : List Seen) → AreTokens ts → All AreTokens (names_from single skip ts)
+names_tokens : (single : Bool) (skip : ℕ) (ts : List Token) → AreTokens ts → All AreTokens (names_from single skip ts)
 names_tokens single skip [] all = All-nil AreTokens
 names_tokens single (suc k) (t ∷ rest) all = names_tokens single k rest (All-tail IsToken t rest all)
 names_tokens single zero (t ∷ rest) all =
@@ -127,44 +127,27 @@ names_tokens single zero (t ∷ rest) all =
     All-cons AreTokens front.name (names_from single front.behind rest) (front_tokens single (t ∷ rest) all) (names_tokens single front.behind rest (All-tail IsToken t rest all))
 
 -- declarations of operators
-valued_proper : (names : List (List Seen)) (args : List Sorting) (value : Sorting) (said : Said) → All IsProperlyNamed names → IsProperWhereFormed (valued names args value said)
-valued_proper names args value (Ok a) all = all
-valued_proper names args value (Err kind) all = tt
+declared_proper : (names : List (List Token)) (r : Result Profile FaultKind) → All IsProperlyNamed names → IsProperWhereFormed (declared names r)
+declared_proper names (Ok p) all = all
+declared_proper names (Err kind) all = tt
 
-value_proper : (kinds : Bool) (names : List (List Seen)) (args : List Sorting) (ts : List Seen) → All IsProperlyNamed names → IsProperWhereFormed (value_form kinds names args ts)
-value_proper kinds names args [] all = tt
-value_proper kinds names args (t ∷ behind) all =
-    let said : Said = attributes_behind (length args) (drop (sort_behind t) behind) in
-    proper_unless (front_fault t behind) (valued names args (front_sorting kinds t behind) said) (λ e. valued_proper names args (front_sorting kinds t behind) said all)
-
-arrow_proper : (names : List (List Seen)) (ts : List Seen) → All IsProperlyNamed names → IsProperWhereFormed (arrow_form names ts)
-arrow_proper names ts all =
-    let total = count_before (codes "->") ts in
-    let partial = count_before (codes "~>") ts in
-    let arrow = min total partial in
-    let kinds = nat_lt partial total in
-    let args = sortings_from kinds 0 (take arrow ts) in
-    let valued : Formed = value_form kinds names args (drop (arrow + 1) ts) in
-    let wrong : Bool = arrow == length ts || not (all_fit (length args) names) in
-    proper_unless (sortings_fault 0 (take arrow ts)) (unless (fault_if wrong BadStatement) valued)
-    (λ e. proper_unless (fault_if wrong BadStatement) valued (λ f. value_proper kinds names args (drop (arrow + 1) ts) all))
-
-operators_proper : NamesAreProper → (single : Bool) (ts : List Seen) → AreTokens ts → IsProperWhereFormed (operators_form single ts)
+operators_proper : NamesAreProper → (single : Bool) (ts : List Token) → AreTokens ts → IsProperWhereFormed (operators_form single ts)
 operators_proper law single ts all =
     let colon = count_before (codes ":") ts in
     let names = names_from single 0 (take colon ts) in
+    let profile = profile_form names (drop (colon + 1) ts) in
     let wrong : Bool = colon == length ts || not (are_names names) in
-    proper_unless (fault_if wrong BadStatement) (arrow_form names (drop (colon + 1) ts))
+    proper_unless (fault_if wrong BadStatement) (declared names profile)
     (λ e. let named : are_names names ≡ true = neither (colon == length ts) (are_names names) (no_fault wrong BadStatement e) in
     let made : All AreTokens names = names_tokens single 0 (take colon ts) (All-take IsToken colon ts all) in
-    arrow_proper names (drop (colon + 1) ts) (proper_names law names made (names_there names named).1))
+    declared_proper names profile (proper_names law names made (names_there names named).1))
 
 -- variables
-typed_proper : (names : List Seen) (r : Result Seen FaultKind) → All IsRun (texts names) → IsProperWhereFormed (typed names r)
+typed_proper : (names : List Token) (r : Result Token FaultKind) → All IsRun (texts names) → IsProperWhereFormed (typed names r)
 typed_proper names (Ok sort) all = all
 typed_proper names (Err kind) all = tt
 
-variables_proper : (ts : List Seen) → AreTokens ts → IsProperWhereFormed (variables_form ts)
+variables_proper : (ts : List Token) → AreTokens ts → IsProperWhereFormed (variables_form ts)
 variables_proper ts all =
     let colon = count_before (codes ":") ts in
     let sort = lone_sort (drop (colon + 1) ts) in
@@ -174,19 +157,19 @@ variables_proper ts all =
     (λ f. typed_proper (take colon ts) sort (some_runs role.Variable (take colon ts) (λ x. refl) (All-take IsToken colon ts all) f)))
 
 -- equations
-unlabelled_tokens : (ts : List Seen) → AreTokens ts → AreTokens (unlabelled ts)
+unlabelled_tokens : (ts : List Token) → AreTokens ts → AreTokens (unlabelled ts)
 unlabelled_tokens ts all = of (has_label ts)
   where
     of : (b : Bool) → AreTokens (if b then drop 4 ts else ts)
     of true = All-drop IsToken 4 ts all
     of false = all
 
-divided_proper : (sides : List Seen) (o : Option ℕ) (r : Result Bool FaultKind) → AreTokens sides → IsProperWhereFormed (divided sides o r)
+divided_proper : (sides : List Token) (o : Option ℕ) (r : Result Bool FaultKind) → AreTokens sides → IsProperWhereFormed (divided sides o r)
 divided_proper sides None r all = tt
 divided_proper sides (Some n) (Ok executable) all = (All-take IsToken n sides all, All-drop IsToken (n + 1) sides all)
 divided_proper sides (Some n) (Err kind) all = tt
 
-equation_proper : (ts : List Seen) → AreTokens ts → IsProperWhereFormed (equation_form ts)
+equation_proper : (ts : List Token) → AreTokens ts → IsProperWhereFormed (equation_form ts)
 equation_proper ts all =
     let us = unlabelled ts in
     let n = attributes_len us in
@@ -194,7 +177,7 @@ equation_proper ts all =
     divided_proper sides (equals_at 0 sides) (executable_with (group_at_end n us)) (All-take IsToken (length us - n) us (unlabelled_tokens ts all))
 
 -- forms
-behind_first_word : NamesAreProper → (o : Opening) (ts : List Seen) → AreTokens ts → IsProperWhereFormed (form_behind o ts)
+behind_first_word : NamesAreProper → (o : Opening) (ts : List Token) → AreTokens ts → IsProperWhereFormed (form_behind o ts)
 behind_first_word law opening.Sorts ts all = proper_unless (names_fault role.NewSort ts) (Ok (Sorts ts)) (λ e. some_runs role.NewSort ts (λ x. refl) all e)
 behind_first_word law opening.Subsorts ts all =
     let groups = divided_at_less ts in
@@ -207,10 +190,6 @@ behind_first_word law opening.Equation ts all = equation_proper ts all
 behind_first_word law opening.Elsewhere ts all = tt
 behind_first_word law opening.Unread ts all = tt
 
-form_proper : NamesAreProper → (ts : List Seen) → AreTokens ts → IsProperWhereFormed (form_of ts)
+pub form_proper : NamesAreProper → (ts : List Token) → AreTokens ts → IsProperWhereFormed (form_of ts)
 form_proper law [] all = tt
 form_proper law (t ∷ rest) all = behind_first_word law (opening_of t.text) rest (All-tail IsToken t rest all)
-
--- a statement that has a form and is made of tokens has proper parts
-pub forms_are_proper : NamesAreProper → FormsAreProper
-forms_are_proper law ts shape all e = subst IsProperWhereFormed e (form_proper law ts all)

@@ -1,18 +1,8 @@
--- Tokens as they are seen, in parts of slices.
+-- Tokens in parts of slices.
 use Rattle.std.proofs.Common.{◌≡◌, ◌≤◌, ◌-◌, ℕ, List, [], ◌∷◌, length, take, drop, get_or, refl, sym, ap, arith}
-use Rattle.std.proofs.lemmas.List.{take-map, drop-map, length-map, take_all, drop-drop}
+use Rattle.std.proofs.lemmas.List.{take_all, drop-drop}
 use Rattle.mw_lex.specs.declared.token.Token.{Token}
-use Rattle.mw_lex.specs.Lexing.{seen, seen_all}
 use Rattle.mw_module.specs.Equations.{group_at_end}
-
-pub seen_take : (n : ℕ) (ts : List Token) → seen_all (take n ts) ≡ take n (seen_all ts)
-seen_take n ts = sym (take-map seen n ts)
-
-pub seen_drop : (n : ℕ) (ts : List Token) → seen_all (drop n ts) ≡ drop n (seen_all ts)
-seen_drop n ts = sym (drop-map seen n ts)
-
-pub seen_length : (ts : List Token) → length (seen_all ts) ≡ length ts
-seen_length ts = length-map ts seen
 
 -- what stands behind the first
 pub behind_first : (t : Token) (ts : List Token) → take (length (t ∷ ts) - 1) ts ≡ ts
@@ -24,7 +14,7 @@ parted [] first some head = absurd (omega arith)
 parted (t ∷ ts) first some head = rw (behind_first t ts) (ap (λ (x : Token). x ∷ ts) (sym head))
 
 -- a group at the end without its brackets
-pub group_read : (n : ℕ) (ts group : List Token) → seen_all group ≡ drop (length ts - n) (seen_all ts) → seen_all (take (n - 1 - 1) (drop 1 group)) ≡ group_at_end n (seen_all ts)
+pub group_read : (n : ℕ) (ts group : List Token) → group ≡ drop (length ts - n) ts → take (n - 1 - 1) (drop 1 group) ≡ group_at_end n ts
 group_read n ts group at =
     let two : n - 1 - 1 ≡ n - 2 = omega arith in
-    rw (seen_take, seen_drop, at, drop-drop, two, seen_length) refl
+    rw (at, drop-drop, two) refl

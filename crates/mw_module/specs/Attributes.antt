@@ -5,7 +5,6 @@ use Rattle.std.specs.Char.{is_ascii_digit}
 use Rattle.std.specs.List.{list_all}
 use Rattle.std.specs.Option.{option_or}
 use Rattle.std.specs.Str.{bytes_eq}
-use Rattle.mw_lex.specs.Lexing.{Seen, seen_all}
 use Rattle.mw_lex.specs.declared.token.Token.{Token}
 use Rattle.mw_module.specs.declared.attribute.Attributes.{Attributes as HeldAttributes}
 use Rattle.mw_module.specs.declared.attribute_list.Attribute.{Attribute as HeldAttribute}
@@ -24,7 +23,7 @@ pub record Attributes : Type 0 where
 
 -- the texts of a gather's marks
 abbrev pub gather_of : Option (Bor (List Token)) → Option (List (List ℕ))
-gather_of gather = option_map (λ marks. texts (seen_all marks.now)) gather
+gather_of gather = option_map (λ marks. texts marks.now) gather
 
 -- attributes as their readers see them
 abbrev pub seen_attributes : HeldAttributes → Attributes
@@ -90,40 +89,40 @@ with_precedence None = Err BadStatement
 with_precedence (Some n) = Ok (record { says = record no_attributes { precedence = Some n }; behind = 1 })
 
 -- what stands behind `prec`: a precedence
-abbrev pub prec_attribute : List Seen → Result Attribute FaultKind
+abbrev pub prec_attribute : List Token → Result Attribute FaultKind
 prec_attribute [] = Err BadStatement
 prec_attribute (t ∷ rest) = with_precedence (precedence_of t.text)
 
 -- a mark of a gather
-abbrev pub is_mark : Seen → Bool
+abbrev pub is_mark : Token → Bool
 is_mark t = is (codes "e") t || is (codes "E") t || is (codes "&") t
 
 -- marks in number of the arguments, which are one at least, and the parenthesis that closes them
-abbrev pub are_marks : ℕ → List Seen → Bool
+abbrev pub are_marks : ℕ → List Token → Bool
 are_marks arity ts = nat_lt 0 arity && list_all is_mark (take arity ts) && begins (codes ")") (drop arity ts)
 
 -- what stands behind `gather`: marks in parentheses
-abbrev pub gather_attribute : ℕ → List Seen → Result Attribute FaultKind
+abbrev pub gather_attribute : ℕ → List Token → Result Attribute FaultKind
 gather_attribute arity [] = Err BadStatement
 gather_attribute arity (t ∷ rest) = if is (codes "(") t && are_marks arity rest
     then Ok (record { says = record no_attributes { gather = Some (texts (take arity rest)) }; behind = arity + 2 }) else Err BadStatement
 
 -- what stands behind `format`: tokens in parentheses, up to the first that closes one
-abbrev pub format_attribute : List Seen → Result Attribute FaultKind
+abbrev pub format_attribute : List Token → Result Attribute FaultKind
 format_attribute [] = Err BadStatement
 format_attribute (t ∷ rest) = let n = count_before (codes ")") rest in
     if is (codes "(") t && nat_lt n (length rest) then Ok (silent (n + 2)) else Err BadStatement
 
 -- what stands behind `metadata`: a string
-abbrev pub metadata_attribute : List Seen → Result Attribute FaultKind
+abbrev pub metadata_attribute : List Token → Result Attribute FaultKind
 metadata_attribute ts = if begins_string ts then Ok (silent 1) else Err BadStatement
 
 -- an attribute that is a word alone and says nothing
-abbrev pub is_silent_word : Seen → Bool
+abbrev pub is_silent_word : Token → Bool
 is_silent_word t = is (codes "ctor") t || is (codes "ditto") t || is (codes "memo") t || is (codes "object") t || is (codes "message") t
 
 -- the attribute with this word and these tokens behind it, of an operator with so many arguments
-abbrev pub attribute_at : ℕ → Seen → List Seen → Result Attribute FaultKind
+abbrev pub attribute_at : ℕ → Token → List Token → Result Attribute FaultKind
 attribute_at arity t rest = if is_silent_word t then Ok (silent 0)
     else if is (codes "config") t then Ok (record { says = record no_attributes { config = true }; behind = 0 })
     else if is (codes "prec") t then prec_attribute rest
@@ -142,7 +141,7 @@ seen_said (Ok a) = Ok (seen_attributes a)
 seen_said (Err kind) = Err kind
 
 -- nothing stands behind the closing bracket
-abbrev pub at_end : Attributes → List Seen → Said
+abbrev pub at_end : Attributes → List Token → Said
 at_end said [] = Ok said
 at_end said (t ∷ rest) = Err BadStatement
 
@@ -153,18 +152,18 @@ going_on (Err kind) next = Err kind
 
 -- what attributes say up to the closing bracket, joined with what was said before; the first `skip` tokens belong to an
 -- attribute that is read already
-abbrev pub attributes_from : ℕ → ℕ → Attributes → List Seen → Said
+abbrev pub attributes_from : ℕ → ℕ → Attributes → List Token → Said
 attributes_from arity skip said [] = Err BadStatement
 attributes_from arity (suc k) said (t ∷ rest) = attributes_from arity k said rest
 attributes_from arity zero said (t ∷ rest) = if is (codes "]") t then at_end said rest
     else going_on (attribute_at arity t rest) (λ (a : Attribute). attributes_from arity a.behind (joined said a.says) rest)
 
 -- what stands behind an opening bracket: one attribute or more
-abbrev pub attribute_list : ℕ → List Seen → Said
+abbrev pub attribute_list : ℕ → List Token → Said
 attribute_list arity ts = if begins (codes "]") ts then Err BadStatement else attributes_from arity 0 no_attributes ts
 
 -- what stands behind the value's sort: nothing, or a list of attributes; a brace goes on with the sort
-abbrev pub attributes_behind : ℕ → List Seen → Said
+abbrev pub attributes_behind : ℕ → List Token → Said
 attributes_behind arity [] = Ok no_attributes
 attributes_behind arity (t ∷ rest) = if is (codes "[") t then attribute_list arity rest
     else if is (codes "{") t then Err NotInProfile else Err BadStatement

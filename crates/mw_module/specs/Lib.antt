@@ -1,6 +1,7 @@
 -- Units of a source.
 pub mod Words
 pub mod Faults
+pub mod Causes
 pub mod Openings
 pub mod OperatorNames
 pub mod Sortings
@@ -10,5 +11,5 @@ pub mod Equations
 pub mod Forms
 pub mod Kinds
 pub mod Units
+pub mod Known
 pub mod Tokens
-pub mod Refusals

@@ -1,29 +1,29 @@
 -- Of what tokens units and statements are made.
-use Rattle.std.specs.Prelude.{◌≡◌, ℕ, Bool, List, All, Ok, ⊤}
-use Rattle.mw_lex.specs.Lexing.{Seen}
+use Rattle.std.specs.Prelude.{ℕ, Bool, List, All, Ok, ⊤}
+use Rattle.mw_lex.specs.declared.token.Token.{Token}
 use Rattle.mw_lex.specs.Texts.{IsRun, AreTokens}
 use Rattle.mw_text.specs.Names.{name_of_tokens}
 use Rattle.mw_text.specs.Proper.{IsProperName}
 use Rattle.mw_module.specs.Words.{texts}
-use Rattle.mw_module.specs.Forms.{Shape, Sorts, Subsorts, Operators, Variables, Equation, form_of}
-use Rattle.mw_module.specs.Units.{SeenUnit, Reads}
-
--- each item is made of tokens
-abbrev pub IsOfTokens : SeenUnit → Type 0
-IsOfTokens u = All AreTokens u.items
-
--- A unit of a source that is made of tokens is made of tokens.
-abbrev pub UnitsAreOfTokens : Type 0
-UnitsAreOfTokens = (proofs : Bool) (tokens : List Seen) (at next : ℕ) (u : SeenUnit) → AreTokens tokens → Reads proofs tokens at (Ok u) next → IsOfTokens u
+use Rattle.mw_module.specs.Forms.{Shape, Sorts, Subsorts, Operators, Variables, Equation}
+use Rattle.mw_module.specs.Units.{SeenLined, SeenUnit, Reads}
 
 -- Names of sorts and variables are runs, names of operators are proper, and sides are made of tokens.
 abbrev pub HasProperParts : Shape → Type 0
 HasProperParts (Sorts names) = All IsRun (texts names)
 HasProperParts (Subsorts groups) = ⊤
-HasProperParts (Operators names args result said) = All (λ (name : List Seen). IsProperName (name_of_tokens (texts name))) names
+HasProperParts (Operators names args result said) = All (λ (name : List Token). IsProperName (name_of_tokens (texts name))) names
 HasProperParts (Variables names sort) = All IsRun (texts names)
 HasProperParts (Equation left right executable) = AreTokens left × AreTokens right
 
--- The parts of a statement that is made of tokens are proper.
-abbrev pub FormsAreProper : Type 0
-FormsAreProper = (ts : List Seen) (shape : Shape) → AreTokens ts → form_of ts ≡ Ok shape → HasProperParts shape
+abbrev pub AreProperStatements : List SeenLined → Type 0
+AreProperStatements = All (λ (s : SeenLined). HasProperParts s.shape)
+
+-- a unit whose statements have proper parts, and that is made of tokens
+pub record IsOfTokens (u : SeenUnit) : Type 0 where
+  pub statements : AreProperStatements u.statements
+  pub tokens : AreTokens u.tokens
+
+-- A unit of a source that is made of tokens is made of tokens.
+abbrev pub UnitsAreOfTokens : Type 0
+UnitsAreOfTokens = (proofs : Bool) (tokens : List Token) (at next : ℕ) (u : SeenUnit) → AreTokens tokens → Reads proofs tokens at (Ok u) next → IsOfTokens u

@@ -1,24 +1,25 @@
 -- What single tokens say.
 use Rattle.std.specs.Prelude.{ℕ, Bool, List, [], ◌∷◌, ◌+◌, ◌-◌, ◌==◌, ◌&&◌, ◌||◌, not, nat_le, map, length, slice_index, true, false, if◌then◌else◌}
+use Rattle.std.specs.Borrow.{Bor}
 use Rattle.std.specs.Str.{bytes_eq}
 use Rattle.mw_lex.specs.Bytes.{is_punctuation}
-use Rattle.mw_lex.specs.Lexing.{Seen}
+use Rattle.mw_lex.specs.declared.token.Token.{Token}
 
 -- the token has this text
-abbrev pub is : List ℕ → Seen → Bool
+abbrev pub is : List ℕ → Token → Bool
 is word t = bytes_eq t.text word
 
 -- the first token has this text
-abbrev pub begins : List ℕ → List Seen → Bool
+abbrev pub begins : List ℕ → List Token → Bool
 begins word [] = false
 begins word (t ∷ rest) = is word t
 
 -- the texts of tokens
-abbrev pub texts : List Seen → List (List ℕ)
-texts ts = map (λ (t : Seen). t.text) ts
+abbrev pub texts : List Token → List (List ℕ)
+texts ts = map (λ (t : Token). t.text) ts
 
 -- how many tokens come before the first with this text: all where none has it
-abbrev pub count_before : List ℕ → List Seen → ℕ
+abbrev pub count_before : List ℕ → List Token → ℕ
 count_before word [] = 0
 count_before word (t ∷ rest) = if is word t then 0 else 1 + count_before word rest
 
@@ -45,6 +46,10 @@ abbrev pub is_whole_string : List ℕ → Bool
 is_whole_string text = nat_le 2 (length text) && slice_index text 0 == 34 && slice_index text (length text - 1) == 34 && not (slice_index text (length text - 2) == 92)
 
 -- the first token is such a string
-abbrev pub begins_string : List Seen → Bool
+abbrev pub begins_string : List Token → Bool
 begins_string [] = false
 begins_string (t ∷ rest) = is_whole_string t.text
+
+-- slices of tokens as lists
+abbrev pub seen_lists : List (Bor (List Token)) → List (List Token)
+seen_lists = map (λ (ts : Bor (List Token)). ts.now)

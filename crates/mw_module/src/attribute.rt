@@ -1,6 +1,5 @@
 // What attributes of operators say.
 ghost use Rattle.std.specs.Prelude.{◌≡◌, nat_eq};
-ghost use Rattle.mw_lex.specs.Lexing.{seen_all};
 ghost use Rattle.mw_module.specs.Words.{texts};
 ghost use Rattle.mw_module.specs.Attributes.{seen_attributes, no_attributes, gather_of, joined as joined_attributes, differ, same_texts};
 
@@ -19,7 +18,7 @@ pub struct Attributes<'a> {
 
 // Whether the tokens have the same texts.
 fn same_marks(marks: &[Token], others: &[Token]) -> bool
-    ensures { result ≡ same_texts (texts (seen_all marks.now)) (texts (seen_all others.now)) }
+    ensures { result ≡ same_texts (texts marks.now) (texts others.now) }
 {
     let mut left = marks;
     let mut right = others;

@@ -2,7 +2,6 @@
 ghost use Rattle.std.specs.Prelude.{◌≡◌, ◌<◌, ◌≤◌, length, IsTrue, IfOk};
 ghost use Rattle.std.specs.Char.{is_ascii_digit};
 ghost use Rattle.std.specs.List.{list_all};
-ghost use Rattle.mw_lex.specs.Lexing.{seen, seen_all};
 ghost use Rattle.mw_module.specs.Attributes as attributes;
 
 use crate::attribute::Attributes;
@@ -52,7 +51,7 @@ fn precedence_of(text: &[u8]) -> Option<u32>
 
 // What stands behind `prec`.
 fn prec_attribute<'a>(tokens: &'a [Token]) -> Result<Attribute<'a>, FaultKind>
-    ensures said { attributes.seen_one result ≡ attributes.prec_attribute (seen_all tokens.now) }
+    ensures said { attributes.seen_one result ≡ attributes.prec_attribute tokens.now }
     ensures within { IfOk result (λ a. a.behind ≤ length tokens.now) }
 {
     let [number, ..] = tokens else {
@@ -69,14 +68,14 @@ fn prec_attribute<'a>(tokens: &'a [Token]) -> Result<Attribute<'a>, FaultKind>
 
 // Whether this is a mark of a gather.
 fn is_mark(token: &Token) -> bool
-    ensures { result ≡ attributes.is_mark (seen token.now) }
+    ensures { result ≡ attributes.is_mark token.now }
 {
     is_word(token, b"e") || is_word(token, b"E") || is_word(token, b"&")
 }
 
 // Whether these are marks.
 fn are_all_marks(tokens: &[Token]) -> bool
-    ensures { result ≡ list_all (λ t. attributes.is_mark (seen t)) tokens.now }
+    ensures { result ≡ list_all attributes.is_mark tokens.now }
 {
     tokens.iter().all(is_mark)
 }
@@ -84,7 +83,7 @@ fn are_all_marks(tokens: &[Token]) -> bool
 // Whether marks stand here in number of the arguments, with the parenthesis that closes them.
 #[tactic(auto, using(crate::proofs::Lists::far_marks, crate::proofs::Lists::near_marks))]
 fn are_marks(arity: usize, tokens: &[Token]) -> bool
-    ensures marks { result ≡ attributes.are_marks arity (seen_all tokens.now) }
+    ensures marks { result ≡ attributes.are_marks arity tokens.now }
     ensures within { IsTrue result → arity < length tokens.now }
 {
     if arity == 0 || tokens.len() <= arity {
@@ -95,7 +94,7 @@ fn are_marks(arity: usize, tokens: &[Token]) -> bool
 
 // What stands behind `gather`.
 fn gather_attribute<'a>(arity: usize, tokens: &'a [Token]) -> Result<Attribute<'a>, FaultKind>
-    ensures said { attributes.seen_one result ≡ attributes.gather_attribute arity (seen_all tokens.now) }
+    ensures said { attributes.seen_one result ≡ attributes.gather_attribute arity tokens.now }
     ensures within { IfOk result (λ a. a.behind ≤ length tokens.now) }
 {
     match tokens {
@@ -113,7 +112,7 @@ fn gather_attribute<'a>(arity: usize, tokens: &'a [Token]) -> Result<Attribute<'
 
 // What stands behind `format`.
 fn format_attribute<'a>(tokens: &'a [Token]) -> Result<Attribute<'a>, FaultKind>
-    ensures said { attributes.seen_one result ≡ attributes.format_attribute (seen_all tokens.now) }
+    ensures said { attributes.seen_one result ≡ attributes.format_attribute tokens.now }
     ensures within { IfOk result (λ a. a.behind ≤ length tokens.now) }
 {
     let [open, rest @ ..] = tokens else {
@@ -129,7 +128,7 @@ fn format_attribute<'a>(tokens: &'a [Token]) -> Result<Attribute<'a>, FaultKind>
 
 // What stands behind `metadata`.
 fn metadata_attribute<'a>(tokens: &'a [Token]) -> Result<Attribute<'a>, FaultKind>
-    ensures said { attributes.seen_one result ≡ attributes.metadata_attribute (seen_all tokens.now) }
+    ensures said { attributes.seen_one result ≡ attributes.metadata_attribute tokens.now }
     ensures within { IfOk result (λ a. a.behind ≤ length tokens.now) }
 {
     if begins_string(tokens) {
@@ -141,7 +140,7 @@ fn metadata_attribute<'a>(tokens: &'a [Token]) -> Result<Attribute<'a>, FaultKin
 
 // An attribute that is a word alone and says nothing.
 fn is_silent_word(token: &Token) -> bool
-    ensures { result ≡ attributes.is_silent_word (seen token.now) }
+    ensures { result ≡ attributes.is_silent_word token.now }
 {
     is_word(token, b"ctor")
         || is_word(token, b"ditto")
@@ -156,7 +155,7 @@ fn attribute_at<'a>(
     word: &Token,
     tokens: &'a [Token],
 ) -> Result<Attribute<'a>, FaultKind>
-    ensures said { attributes.seen_one result ≡ attributes.attribute_at arity (seen word.now) (seen_all tokens.now) }
+    ensures said { attributes.seen_one result ≡ attributes.attribute_at arity word.now tokens.now }
     ensures within { IfOk result (λ a. a.behind ≤ length tokens.now) }
 {
     if is_silent_word(word) {
@@ -180,7 +179,7 @@ fn attribute_at<'a>(
 
 // What was said, where nothing stands behind the closing bracket.
 fn at_end<'a>(said: Attributes<'a>, tokens: &[Token]) -> Result<Attributes<'a>, FaultKind>
-    ensures { attributes.seen_said result ≡ attributes.at_end (attributes.seen_attributes said.entry) (seen_all tokens.now) }
+    ensures { attributes.seen_said result ≡ attributes.at_end (attributes.seen_attributes said.entry) tokens.now }
 {
     if tokens.is_empty() {
         Ok(said)
@@ -191,7 +190,7 @@ fn at_end<'a>(said: Attributes<'a>, tokens: &[Token]) -> Result<Attributes<'a>, 
 
 // What a list of attributes says behind its opening bracket.
 fn attribute_list<'a>(arity: usize, tokens: &'a [Token]) -> Result<Attributes<'a>, FaultKind>
-    ensures { attributes.seen_said result ≡ attributes.attribute_list arity (seen_all tokens.now) }
+    ensures { attributes.seen_said result ≡ attributes.attribute_list arity tokens.now }
 {
     if begins(tokens, b"]") {
         return Err(FaultKind::BadStatement);
@@ -214,7 +213,7 @@ fn attribute_list<'a>(arity: usize, tokens: &'a [Token]) -> Result<Attributes<'a
 
 // What stands behind the value's sort of an operator with so many arguments.
 pub fn attributes_behind<'a>(arity: usize, tokens: &'a [Token]) -> Result<Attributes<'a>, FaultKind>
-    ensures { attributes.seen_said result ≡ attributes.attributes_behind arity (seen_all tokens.now) }
+    ensures { attributes.seen_said result ≡ attributes.attributes_behind arity tokens.now }
 {
     match tokens {
         [] => Ok(Attributes::none()),

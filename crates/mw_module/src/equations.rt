@@ -1,6 +1,5 @@
 // Equations.
 ghost use Rattle.std.specs.Prelude.{◌≡◌, ◌<◌, ◌≤◌, ◌+◌, ◌-◌, ◌^◌, ℕ, true, length, reverse, IfNone, IfSome, MatchResult, Ok, Err};
-ghost use Rattle.mw_lex.specs.Lexing.{seen, seen_all};
 ghost use Rattle.mw_module.specs.Equations as equations;
 ghost use Rattle.mw_module.specs.Forms as forms;
 
@@ -11,7 +10,7 @@ use mw_lex::Token;
 
 // Whether a label stands in front.
 fn has_label(tokens: &[Token]) -> bool
-    ensures { result ≡ equations.has_label (seen_all tokens.now) }
+    ensures { result ≡ equations.has_label tokens.now }
 {
     match tokens {
         [open, _, close, colon, ..] => {
@@ -23,7 +22,7 @@ fn has_label(tokens: &[Token]) -> bool
 
 // What stands behind the label, or all where there is none.
 fn unlabelled(tokens: &[Token]) -> &[Token]
-    ensures { seen_all result.now ≡ equations.unlabelled (seen_all tokens.now) }
+    ensures { result.now ≡ equations.unlabelled tokens.now }
 {
     if has_label(tokens) {
         tokens_from(tokens, 4)
@@ -34,7 +33,7 @@ fn unlabelled(tokens: &[Token]) -> &[Token]
 
 // How many tokens the group has that a bracket at the end closes.
 fn bracket_len(tokens: &[Token]) -> Option<usize>
-    ensures len { result ≡ equations.bracket_len 0 (reverse (seen_all tokens.now)) }
+    ensures len { result ≡ equations.bracket_len 0 (reverse tokens.now) }
     ensures within { IfSome result (λ n. n ≤ length tokens.now) }
 {
     let mut rest = tokens;
@@ -59,7 +58,7 @@ fn bracket_len(tokens: &[Token]) -> Option<usize>
 
 // Whether a group begins with a word of attributes.
 fn begins_attributes(group: &[Token]) -> bool
-    ensures { result ≡ equations.begins_attributes (seen_all group.now) }
+    ensures { result ≡ equations.begins_attributes group.now }
 {
     match group {
         [_, word, ..] => {
@@ -73,9 +72,8 @@ fn begins_attributes(group: &[Token]) -> bool
 }
 
 // How many tokens the attributes at the end have.
-#[tactic(auto, using(crate::proofs::Slices::seen_take, crate::proofs::Slices::seen_length))]
 fn attributes_len(tokens: &[Token]) -> usize
-    ensures len { result ≡ equations.attributes_len (seen_all tokens.now) }
+    ensures len { result ≡ equations.attributes_len tokens.now }
     ensures within { result ≤ length tokens.now }
 {
     match bracket_len(tokens) {
@@ -87,7 +85,7 @@ fn attributes_len(tokens: &[Token]) -> usize
 // The tokens of a group of this length at the end, without its brackets.
 fn group_at_end(len: usize, tokens: &[Token]) -> &[Token]
     requires { len ≤ length tokens.now }
-    ensures { seen_all result.now ≡ equations.group_at_end len (seen_all tokens.now) }
+    ensures { result.now ≡ equations.group_at_end len tokens.now }
 {
     if len < 2 {
         return &tokens[..0];
@@ -98,7 +96,7 @@ fn group_at_end(len: usize, tokens: &[Token]) -> &[Token]
 
 // What is wrong with an attribute that has one token behind its word.
 fn value_fault(word: &Token, tokens: &[Token]) -> Option<FaultKind>
-    ensures fault { result ≡ equations.value_fault (seen word.now) (seen_all tokens.now) }
+    ensures fault { result ≡ equations.value_fault word.now tokens.now }
     ensures some { IfNone result (0 < length tokens.now) }
 {
     let is_label = is_word(word, b"label");
@@ -115,7 +113,7 @@ fn value_fault(word: &Token, tokens: &[Token]) -> Option<FaultKind>
 // Whether an equation with these attributes is executable, or what is wrong with them.
 #[tactic(auto, using(crate::proofs::Slices::behind_first))]
 fn executable_with(attributes: &[Token]) -> Result<bool, FaultKind>
-    ensures { result ≡ equations.executable_with (seen_all attributes.now) }
+    ensures { result ≡ equations.executable_with attributes.now }
 {
     let mut executable = true;
     let mut rest = attributes;
@@ -136,7 +134,7 @@ fn executable_with(attributes: &[Token]) -> Result<bool, FaultKind>
 // How many are open behind this token.
 fn depth_after(token: &Token, depth: usize) -> usize
     requires { depth < 2 ^ 64 - 1 }
-    ensures depth { result ≡ equations.depth_after (seen token.now) depth }
+    ensures depth { result ≡ equations.depth_after token.now depth }
     ensures most { result ≤ depth + 1 }
 {
     let opens = is_word(token, b"(")
@@ -158,7 +156,7 @@ fn depth_after(token: &Token, depth: usize) -> usize
 
 // How many tokens come before the first equals sign that nothing encloses.
 fn equals_at(tokens: &[Token]) -> Option<usize>
-    ensures at { result ≡ equations.equals_at 0 (seen_all tokens.now) }
+    ensures at { result ≡ equations.equals_at 0 tokens.now }
     ensures within { IfSome result (λ n. n < length tokens.now) }
 {
     let mut rest = tokens;
@@ -176,12 +174,9 @@ fn equals_at(tokens: &[Token]) -> Option<usize>
 }
 
 // Two sides, and the group of attributes behind them that has so many tokens.
-#[tactic(auto, using(crate::proofs::Slices::seen_take, crate::proofs::Slices::seen_length))]
 fn sides_form<'a>(len: usize, tokens: &'a [Token]) -> Result<Form<'a>, FaultKind>
     requires { len ≤ length tokens.now }
-    ensures { MatchResult result
-        (λ f. forms.sides_form len (seen_all tokens.now) ≡ Ok (forms.shape_of f))
-        (λ kind. forms.sides_form len (seen_all tokens.now) ≡ Err kind) }
+    ensures { forms.seen_formed result ≡ forms.sides_form len tokens.now }
 {
     let sides = &tokens[..tokens.len() - len];
     let Some(at) = equals_at(sides) else {
@@ -199,9 +194,7 @@ fn sides_form<'a>(len: usize, tokens: &'a [Token]) -> Result<Form<'a>, FaultKind
 
 // A label, two sides, and attributes.
 pub fn equation_form<'a>(tokens: &'a [Token]) -> Result<Form<'a>, FaultKind>
-    ensures { MatchResult result
-        (λ f. forms.equation_form (seen_all tokens.now) ≡ Ok (forms.shape_of f))
-        (λ kind. forms.equation_form (seen_all tokens.now) ≡ Err kind) }
+    ensures { forms.seen_formed result ≡ forms.equation_form tokens.now }
 {
     let behind = unlabelled(tokens);
     match sides_form(attributes_len(behind), behind) {

@@ -1,8 +1,13 @@
 // What is wrong with a unit.
+ghost use Rattle.std.specs.Prelude.{◌≡◌};
+ghost use Rattle.mw_module.specs.declared.faults.UnitError.TheVariants.{Memory};
+
+use mw_term::{Name, Seq};
+use std::alloc::{AllocError, AllocFailed};
 
 /// The kinds of faults, in the order in which they are looked for in a source. A name, sort or operator is held as
 /// it is spelled.
-#[derive(Debug, PartialEq, Eq, Drop)]
+#[derive(Debug, Drop)]
 pub enum FaultKind {
     /// A byte that stands in no token.
     BadByte,
@@ -19,34 +24,25 @@ pub enum FaultKind {
     /// A statement that begins as one that is read, and isn't of its form.
     BadStatement,
     /// A name that is taken: a module's, or a variable's with another sort.
-    AlreadyDefined(Vec<u8>),
+    AlreadyDefined(Name),
     /// No accepted module has this name.
-    UnknownModule(Vec<u8>),
+    UnknownModule(Name),
     /// A module that imports itself.
-    CircularImport(Vec<u8>),
+    CircularImport(Name),
     /// No sort has this name.
-    UnknownSort(Vec<u8>),
+    UnknownSort(Name),
     /// The least sort that is below itself.
-    SortCycle(Vec<u8>),
+    SortCycle(Name),
     /// Axioms that don't go together, or don't fit the operator.
-    BadAxioms(Vec<u8>),
+    BadAxioms(Name),
     /// Two identities, precedences or gathers of one operator.
-    AttributesDisagree(Vec<u8>),
+    AttributesDisagree(Name),
     /// An operator that has no least result at these argument sorts.
-    NotPreregular {
-        operator: Vec<u8>,
-        sorts: Vec<Vec<u8>>,
-    },
+    NotPreregular { operator: Name, sorts: Seq<Name> },
     /// An associative operator whose two nestings differ in sort at these sorts.
-    NotAssociative {
-        operator: Vec<u8>,
-        sorts: Vec<Vec<u8>>,
-    },
+    NotAssociative { operator: Name, sorts: Seq<Name> },
     /// An operator whose identity lowers this sort.
-    LowIdentity {
-        operator: Vec<u8>,
-        sort: Vec<u8>,
-    },
+    LowIdentity { operator: Name, sort: Name },
     /// A term of too many tokens.
     TermTooLong,
     /// No term is spelled so.
@@ -60,7 +56,7 @@ pub enum FaultKind {
     /// A left side that is a variable.
     LoneVariable,
     /// A variable that nothing binds.
-    UnboundVariable(Vec<u8>),
+    UnboundVariable(Name),
     /// A variable in a term that must have none.
     OpenTerm,
     /// Objects that a rule can't rewrite.
@@ -72,8 +68,31 @@ pub enum FaultKind {
 }
 
 /// A fault, with the line of the statement's first token, or else of the unit's.
-#[derive(Debug, PartialEq, Eq, Drop)]
+#[derive(Debug, Drop)]
 pub struct Fault {
     pub line: u32,
     pub kind: FaultKind,
+}
+
+/// Why there is no answer for a unit.
+#[derive(Debug, Drop)]
+pub enum UnitError {
+    Fault(Fault),
+    Memory,
+}
+
+impl From<AllocError> for UnitError {
+    ghost from_gives = { λ _ e. e ≡ Memory };
+
+    fn from(_: AllocError) -> Self {
+        UnitError::Memory
+    }
+}
+
+impl<T: Drop> From<AllocFailed<T>> for UnitError {
+    ghost from_gives = { λ _ e. e ≡ Memory };
+
+    fn from(_: AllocFailed<T>) -> Self {
+        UnitError::Memory
+    }
 }

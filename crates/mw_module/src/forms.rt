@@ -1,57 +1,54 @@
 // The forms of statements.
-ghost use Rattle.std.specs.Prelude.{◌≡◌, true, false, MatchResult, Ok, Err};
-ghost use Rattle.mw_lex.specs.Lexing.{seen, seen_all};
+ghost use Rattle.std.specs.Prelude.{◌≡◌, true, false, MatchResult, IfOk, Ok, Err};
 ghost use Rattle.mw_module.specs.Forms as forms;
 
 use crate::attribute::Attributes;
 use crate::equations::equation_form;
 use crate::faults::FaultKind;
-use crate::groups::{Groups, groups_fault};
+use crate::groups::subsorts_form;
 use crate::names::{Role, lone_sort, names_fault};
 use crate::openings::{Opening, opening_of};
-use crate::operator_names::Names;
 use crate::operators::operators_form;
-use crate::sortings::{Sorting, Sortings};
+use crate::sortings::Sorting;
 use crate::words::{count_before, tokens_from};
 use mw_lex::Token;
+use std::alloc::{AllocError, Global};
 
 /// A statement by its form, with its parts.
-#[derive(Clone, Copy)]
-pub enum Form<'a> {
+#[derive(Drop)]
+pub enum Form<'s> {
     /// Sorts that are declared, at least one.
     Sorts {
-        names: &'a [Token],
+        names: &'s [Token],
     },
-    /// Two groups of sorts or more, none empty.
+    /// Two groups of sorts or more, none empty: each sort of a group is below each of the next.
     Subsorts {
-        groups: Groups<'a>,
+        groups: Vec<&'s [Token]>,
     },
     /// Operators that are declared, at least one, each with these argument sorts, this value's sort and these
     /// attributes.
     Operators {
-        names: Names<'a>,
-        args: Sortings<'a>,
-        result: Sorting<'a>,
-        attributes: Attributes<'a>,
+        names: Vec<&'s [Token]>,
+        args: Vec<Sorting<'s>>,
+        result: Sorting<'s>,
+        attributes: Attributes<'s>,
     },
     /// Variables that are declared, at least one.
     Variables {
-        names: &'a [Token],
-        sort: &'a Token,
+        names: &'s [Token],
+        sort: &'s Token,
     },
     /// The two sides of an equation, each of which may be empty.
     Equation {
-        left: &'a [Token],
-        right: &'a [Token],
+        left: &'s [Token],
+        right: &'s [Token],
         executable: bool,
     },
 }
 
 // Names of sorts.
 fn sorts_form<'a>(tokens: &'a [Token]) -> Result<Form<'a>, FaultKind>
-    ensures { MatchResult result
-        (λ f. forms.sorts_form (seen_all tokens.now) ≡ Ok (forms.shape_of f))
-        (λ kind. forms.sorts_form (seen_all tokens.now) ≡ Err kind) }
+    ensures { forms.seen_formed result ≡ forms.sorts_form tokens.now }
 {
     match names_fault(Role::NewSort, tokens) {
         Some(kind) => Err(kind),
@@ -59,28 +56,9 @@ fn sorts_form<'a>(tokens: &'a [Token]) -> Result<Form<'a>, FaultKind>
     }
 }
 
-// Groups of sorts, divided by one `<` at least.
-fn subsorts_form<'a>(tokens: &'a [Token]) -> Result<Form<'a>, FaultKind>
-    ensures { MatchResult result
-        (λ f. forms.subsorts_form (seen_all tokens.now) ≡ Ok (forms.shape_of f))
-        (λ kind. forms.subsorts_form (seen_all tokens.now) ≡ Err kind) }
-{
-    let groups = Groups::among(tokens);
-    if let Some(kind) = groups_fault(groups) {
-        return Err(kind);
-    }
-    if count_before(tokens, b"<") == tokens.len() {
-        return Err(FaultKind::BadStatement);
-    }
-    Ok(Form::Subsorts { groups })
-}
-
 // Names of variables, a colon and a sort.
-#[tactic(auto, using(crate::proofs::Slices::seen_take, crate::proofs::Slices::seen_length))]
 fn variables_form<'a>(tokens: &'a [Token]) -> Result<Form<'a>, FaultKind>
-    ensures { MatchResult result
-        (λ f. forms.variables_form (seen_all tokens.now) ≡ Ok (forms.shape_of f))
-        (λ kind. forms.variables_form (seen_all tokens.now) ≡ Err kind) }
+    ensures { forms.seen_formed result ≡ forms.variables_form tokens.now }
 {
     let colon = count_before(tokens, b":");
     if colon == tokens.len() {
@@ -96,25 +74,26 @@ fn variables_form<'a>(tokens: &'a [Token]) -> Result<Form<'a>, FaultKind>
     }
 }
 
-impl<'a> Form<'a> {
+impl<'s> Form<'s> {
     /// The form of a statement of a functional module, or what is wrong with it: `NotInProfile` or `BadStatement`.
     /// The full stop that ends the statement isn't among the tokens.
-    pub fn of(statement: &'a [Token]) -> Result<Form<'a>, FaultKind>
-        ensures { MatchResult result
-            (λ f. forms.form_of (seen_all statement.now) ≡ Ok (forms.shape_of f))
-            (λ kind. forms.form_of (seen_all statement.now) ≡ Err kind) }
+    pub fn of(
+        alloc: Global,
+        statement: &'s [Token],
+    ) -> Result<Result<Form<'s>, FaultKind>, AllocError>
+        ensures { IfOk result (λ r. forms.seen_formed r ≡ forms.form_of statement.now) }
     {
         match statement {
-            [] => Err(FaultKind::NotInProfile),
+            [] => Ok(Err(FaultKind::NotInProfile)),
             [word, rest @ ..] => match opening_of(word.text.as_slice()) {
-                Opening::Sorts => sorts_form(rest),
-                Opening::Subsorts => subsorts_form(rest),
-                Opening::Operator => operators_form(true, rest),
-                Opening::Operators => operators_form(false, rest),
-                Opening::Variables => variables_form(rest),
-                Opening::Equation => equation_form(rest),
-                Opening::Elsewhere => Err(FaultKind::BadStatement),
-                Opening::Unread => Err(FaultKind::NotInProfile),
+                Opening::Sorts => Ok(sorts_form(rest)),
+                Opening::Subsorts => subsorts_form(alloc, rest),
+                Opening::Operator => operators_form(alloc, true, rest),
+                Opening::Operators => operators_form(alloc, false, rest),
+                Opening::Variables => Ok(variables_form(rest)),
+                Opening::Equation => Ok(equation_form(rest)),
+                Opening::Elsewhere => Ok(Err(FaultKind::BadStatement)),
+                Opening::Unread => Ok(Err(FaultKind::NotInProfile)),
             },
         }
     }

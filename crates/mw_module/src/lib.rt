@@ -7,9 +7,8 @@
 //! the profile. Where the input ends first, a module, command or proof is unended; theories, views and strategy modules
 //! aren't in the profile.
 //!
-//! - `read_unit` answers the unit that begins at a token and the place of the next one, or its fault and that place.
-//!   `Form::of` answers the form of a statement, with slices for its parts, or what is wrong with it; readers take
-//!   lists one by one by `Names::first`, `Sortings::first`, `Groups::first`.
+//! - `read_unit` answers the unit that begins at a token, with its statements, or its fault; and the place of the next
+//!   one. Each statement is read once, by `Form::of`: its form, with slices of the source's tokens for its parts.
 //! - The end of a unit is looked at first, then its head, then its statements in order, and in a form the first place
 //!   from the left that is at fault decides. A missing full stop comes last.
 //! - `op` has one name of one or more tokens, `ops` one or more, each a token or the tokens of a group in parentheses,
@@ -21,7 +20,7 @@
 //!   differ (`clash`). `joined` is what two lists say together.
 //! - [`FaultKind`] has the faults of all layers, one kind for each refusal that the program prints.
 //!
-//! Proved: the unit at a place, exactly, with the next place; each of its statements has a form; a fault exactly where
+//! Proved: the unit at a place, exactly, with the next place; a fault exactly where
 //! there is one, and the first; the next place is the same with a fault and without (`Reads`, specs/Units). A form with
 //! its parts, or exactly what is wrong (`form_of`, specs/Forms); what two lists of attributes say together. `read_unit`
 //! asks for a place at which a token stands. `Memory` may come at any call.
@@ -30,8 +29,9 @@
 //! Only tested, by the sources in cases/: that the definitions are the language that is meant.
 //!
 //! A new form is a case of `opening_of` and `form_behind`, a new attribute one of `attribute_at`, a new kind of unit
-//! one of `unit_with`. What crates above know of a statement that has a form stands in proofs/Formed, and of what
-//! tokens its parts and a unit are made in specs/Tokens.
+//! one of `unit_with`. What crates above know of the statements of a unit that was read stands in specs/Known, and of
+//! what tokens they are made in specs/Tokens; proofs/Sources has the two laws. Crates above answer a `UnitError`, whose
+//! fault has the property that `HasCause` names (specs/Causes).
 #![tactic(auto)]
 
 mod attribute;
@@ -50,10 +50,8 @@ mod units;
 mod words;
 
 pub use attribute::Attributes;
-pub use faults::{Fault, FaultKind};
+pub use faults::{Fault, FaultKind, UnitError};
 pub use forms::Form;
-pub use groups::Groups;
-pub use operator_names::Names;
-pub use sortings::{Sorting, Sortings};
-pub use units::{Unit, UnitError, copies, read_unit};
+pub use sortings::Sorting;
+pub use units::{Lined, Unit, read_unit};
 pub use words::{count_before, is_word, tokens_from};

@@ -1,6 +1,5 @@
 // What may be wrong with names and sorts.
 ghost use Rattle.std.specs.Prelude.{◌≡◌, MatchResult, Ok, Err};
-ghost use Rattle.mw_lex.specs.Lexing.{seen, seen_all};
 ghost use Rattle.mw_module.specs.Forms as forms;
 
 use crate::faults::FaultKind;
@@ -52,7 +51,7 @@ pub fn text_fault(role: Role, text: &[u8]) -> Option<FaultKind>
 
 // The first fault of tokens in one role.
 pub fn first_fault(role: Role, tokens: &[Token]) -> Option<FaultKind>
-    ensures { result ≡ forms.first_fault role (seen_all tokens.now) }
+    ensures { result ≡ forms.first_fault role tokens.now }
 {
     let mut rest = tokens;
     while let [token, after @ ..] = rest {
@@ -67,7 +66,7 @@ pub fn first_fault(role: Role, tokens: &[Token]) -> Option<FaultKind>
 
 // The same where at least one name is wanted.
 pub fn names_fault(role: Role, tokens: &[Token]) -> Option<FaultKind>
-    ensures { result ≡ forms.names_fault role (seen_all tokens.now) }
+    ensures { result ≡ forms.names_fault role tokens.now }
 {
     if tokens.is_empty() {
         return Some(FaultKind::BadStatement);
@@ -78,8 +77,8 @@ pub fn names_fault(role: Role, tokens: &[Token]) -> Option<FaultKind>
 // A variable's sort and nothing more.
 pub fn lone_sort(tokens: &[Token]) -> Result<&Token, FaultKind>
     ensures { MatchResult result
-        (λ sort. forms.lone_sort (seen_all tokens.now) ≡ Ok (seen sort.now))
-        (λ kind. forms.lone_sort (seen_all tokens.now) ≡ Err kind) }
+        (λ sort. forms.lone_sort tokens.now ≡ Ok sort.now)
+        (λ kind. forms.lone_sort tokens.now ≡ Err kind) }
 {
     let role = Role::Sort;
     match tokens {

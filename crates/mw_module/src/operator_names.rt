@@ -1,20 +1,14 @@
 // Names of operators.
-ghost use Rattle.std.specs.Prelude.{◌≡◌, ◌<◌, ◌≤◌, ◌-◌, ◌^◌, ◌∷◌, [], length, min, IfNone, IfSome};
+ghost use Rattle.std.specs.Prelude.{◌≡◌, ◌<◌, ◌≤◌, ◌-◌, ◌^◌, length, min, IfOk, IfSome};
 ghost use Rattle.std.specs.List.{list_any, list_all};
-ghost use Rattle.mw_lex.specs.Lexing.{seen, seen_all};
 ghost use Rattle.mw_text.specs.Names.{items_of, count_holes};
+ghost use Rattle.mw_module.specs.Words.{seen_lists};
 ghost use Rattle.mw_module.specs.OperatorNames as spec;
 
 use crate::words::{is_no_piece, is_word, tokens_from};
 use mw_lex::Token;
-use mw_text::{Item, first_item};
-
-/// Names of operators: all tokens are a single one, or there are several, each a token or a group in parentheses.
-#[derive(Clone, Copy)]
-pub struct Names<'a> {
-    pub single: bool,
-    pub tokens: &'a [Token],
-}
+use mw_text::{Item, first_item, holes as holes_in};
+use std::alloc::{AllocError, Global};
 
 // A name, and how many tokens belong to it behind the first.
 #[derive(Clone, Copy)]
@@ -25,7 +19,7 @@ struct FrontName<'a> {
 
 // How many tokens a group has behind the parenthesis that opens it, with the one that closes it.
 fn group_len(tokens: &[Token]) -> Option<usize>
-    ensures len { result ≡ spec.group_len 1 (seen_all tokens.now) }
+    ensures len { result ≡ spec.group_len 1 tokens.now }
     ensures some { IfSome result (λ n. 0 < n) }
     ensures within { IfSome result (λ n. n ≤ length tokens.now) }
 {
@@ -48,9 +42,8 @@ fn group_len(tokens: &[Token]) -> Option<usize>
 }
 
 // The tokens of a group behind the parenthesis that opens it. A group that isn't closed stands for an empty name.
-#[tactic(auto, using(crate::proofs::Slices::seen_take))]
 fn in_group<'a>(tokens: &'a [Token]) -> FrontName<'a>
-    ensures front { spec.seen_front result ≡ spec.in_group (seen_all tokens.now) (spec.group_len 1 (seen_all tokens.now)) }
+    ensures front { spec.seen_front result ≡ spec.in_group tokens.now (spec.group_len 1 tokens.now) }
     ensures within { result.behind ≤ length tokens.now }
 {
     match group_len(tokens) {
@@ -67,7 +60,7 @@ fn in_group<'a>(tokens: &'a [Token]) -> FrontName<'a>
 
 // The first of several names. A parenthesis that closes nothing stands for an empty name.
 fn one_of_several<'a>(tokens: &'a [Token]) -> FrontName<'a>
-    ensures front { spec.seen_front result ≡ spec.one_of_several (seen_all tokens.now) }
+    ensures front { spec.seen_front result ≡ spec.one_of_several tokens.now }
     ensures within { 0 < length tokens.now → result.behind < length tokens.now }
 {
     match tokens {
@@ -85,7 +78,7 @@ fn one_of_several<'a>(tokens: &'a [Token]) -> FrontName<'a>
 
 // The first name, where there are several or where all tokens are a single one.
 fn front_name<'a>(single: bool, tokens: &'a [Token]) -> FrontName<'a>
-    ensures front { spec.seen_front result ≡ spec.front_name single (seen_all tokens.now) }
+    ensures front { spec.seen_front result ≡ spec.front_name single tokens.now }
     ensures within { 0 < length tokens.now → result.behind < length tokens.now }
 {
     if single {
@@ -98,23 +91,23 @@ fn front_name<'a>(single: bool, tokens: &'a [Token]) -> FrontName<'a>
     }
 }
 
-impl<'a> Names<'a> {
-    /// The first name as its tokens, and the others. A parenthesis that has no partner stands for a name of no tokens.
-    pub fn first(self) -> Option<(&'a [Token], Names<'a>)>
-        ensures first { IfSome result (λ r. spec.names_of self.entry ≡ seen_all r.0.now ∷ spec.names_of r.1) }
-        ensures shorter { IfSome result (λ r. length r.1.tokens.now < length self.entry.tokens.now) }
-        ensures none { IfNone result (spec.names_of self.entry ≡ []) }
-    {
-        let [_, rest @ ..] = self.tokens else {
-            return None;
-        };
-        let front = front_name(self.single, self.tokens);
-        let others = Names {
-            single: self.single,
-            tokens: tokens_from(rest, front.behind),
-        };
-        Some((front.name, others))
+// The names, each as its tokens: one of all tokens, or several. A parenthesis that has no partner stands for a name of
+// no tokens.
+pub fn names_among<'s>(
+    alloc: Global,
+    single: bool,
+    tokens: &'s [Token],
+) -> Result<Vec<&'s [Token]>, AllocError>
+    ensures { IfOk result (λ v. seen_lists v.items ≡ spec.names_from single 0 tokens.now) }
+{
+    let mut names = Vec::new(alloc);
+    let mut rest = tokens;
+    while let [_, behind @ ..] = rest {
+        let front = front_name(single, rest);
+        names.push(front.name)?;
+        rest = tokens_from(behind, front.behind);
     }
+    Ok(names)
 }
 
 // Whether the pieces of a token may stand in a name.
@@ -147,24 +140,9 @@ fn has_piece(text: &[u8]) -> bool
     false
 }
 
-// How many holes a token has.
-fn holes_in(text: &[u8]) -> usize
-    ensures { result ≡ count_holes (items_of text.now) }
-{
-    let mut rest = text;
-    let mut holes = 0;
-    while let Some((item, after)) = first_item(rest) {
-        if let Item::Hole = item {
-            holes += 1;
-        }
-        rest = after;
-    }
-    holes
-}
-
 // How many holes a name has, or the greatest number where it has more.
 fn holes_of(name: &[Token]) -> usize
-    ensures { result ≡ min (count_holes (spec.items_in (seen_all name.now))) (2 ^ 64 - 1) }
+    ensures { result ≡ min (count_holes (spec.items_in name.now)) (2 ^ 64 - 1) }
 {
     let mut rest = name;
     let mut holes = 0usize;
@@ -177,7 +155,7 @@ fn holes_of(name: &[Token]) -> usize
 
 // Whether the pieces of a name may stand in one.
 fn is_fine(name: &[Token]) -> bool
-    ensures { result ≡ list_all (λ t. list_all spec.is_fine (items_of t.text.items)) name.now }
+    ensures { result ≡ list_all (λ t. list_all spec.is_fine (items_of t.text)) name.now }
 {
     name.iter()
         .all(|token| has_fine_pieces(token.text.as_slice()))
@@ -185,7 +163,7 @@ fn is_fine(name: &[Token]) -> bool
 
 // Whether a name has a piece.
 fn has_some_piece(name: &[Token]) -> bool
-    ensures { result ≡ list_any (λ t. list_any spec.is_piece (items_of t.text.items)) name.now }
+    ensures { result ≡ list_any (λ t. list_any spec.is_piece (items_of t.text)) name.now }
 {
     name.iter().any(|token| has_piece(token.text.as_slice()))
 }
@@ -193,7 +171,7 @@ fn has_some_piece(name: &[Token]) -> bool
 // Whether these tokens are a name.
 #[tactic(auto, using(crate::proofs::ItemByItem::is_name_by_token))]
 fn is_name(name: &[Token]) -> bool
-    ensures { result ≡ spec.is_name (spec.items_in (seen_all name.now)) }
+    ensures { result ≡ spec.is_name (spec.items_in name.now) }
 {
     is_fine(name) && (has_some_piece(name) || 2 <= holes_of(name))
 }
@@ -201,37 +179,37 @@ fn is_name(name: &[Token]) -> bool
 // Whether a name has no holes, or one for each argument.
 fn fits(arity: usize, name: &[Token]) -> bool
     requires { arity < 2 ^ 64 - 1 }
-    ensures { result ≡ spec.fits arity (spec.items_in (seen_all name.now)) }
+    ensures { result ≡ spec.fits arity (spec.items_in name.now) }
 {
     let holes = holes_of(name);
     holes == 0 || holes == arity
 }
 
 // Whether there is at least one name, and all are names.
-pub fn are_names(names: Names) -> bool
-    ensures { result ≡ spec.are_names (spec.names_of names.entry) }
+pub fn are_names(names: &[&[Token]]) -> bool
+    ensures { result ≡ spec.are_names (seen_lists names.now) }
 {
-    let mut rest = names;
-    while let Some((name, others)) = rest.first() {
-        if !is_name(name) {
-            return false;
-        }
-        rest = others;
-    }
-    !names.tokens.is_empty()
+    !names.is_empty() && are_all_names(names)
+}
+
+// Whether all are names.
+fn are_all_names(names: &[&[Token]]) -> bool
+    ensures { result ≡ list_all (λ name. spec.is_name (spec.items_in name.now)) names.now }
+{
+    names.iter().all(|name| is_name(name))
 }
 
 // Whether each of the names with holes has one for each argument.
-pub fn all_fit(arity: usize, names: Names) -> bool
+pub fn all_fit(arity: usize, names: &[&[Token]]) -> bool
     requires { arity < 2 ^ 64 - 1 }
-    ensures { result ≡ spec.all_fit arity (spec.names_of names.entry) }
+    ensures { result ≡ spec.all_fit arity (seen_lists names.now) }
 {
-    let mut rest = names;
-    while let Some((name, others)) = rest.first() {
-        if !fits(arity, name) {
-            return false;
-        }
-        rest = others;
-    }
-    true
+    each_fits(arity, names)
+}
+
+fn each_fits(arity: usize, names: &[&[Token]]) -> bool
+    requires { arity < 2 ^ 64 - 1 }
+    ensures { result ≡ list_all (λ name. spec.fits arity (spec.items_in name.now)) names.now }
+{
+    names.iter().all(|name| fits(arity, name))
 }

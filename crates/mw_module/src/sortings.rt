@@ -1,6 +1,5 @@
 // The sorts of operators' arguments and values.
-ghost use Rattle.std.specs.Prelude.{◌≡◌, ◌<◌, ◌≤◌, ◌∷◌, [], length, drop, IfNone, IfSome};
-ghost use Rattle.mw_lex.specs.Lexing.{seen, seen_all};
+ghost use Rattle.std.specs.Prelude.{◌≡◌, ◌≤◌, length, drop, IfOk};
 ghost use Rattle.mw_module.specs.Sortings as spec;
 ghost use Rattle.mw_module.specs.Forms as forms;
 
@@ -8,6 +7,7 @@ use crate::faults::FaultKind;
 use crate::names::{Role, text_fault};
 use crate::words::{is_word, tokens_from};
 use mw_lex::Token;
+use std::alloc::{AllocError, Global};
 
 /// A sort as it is written in a declaration of an operator.
 #[derive(Clone, Copy)]
@@ -17,17 +17,9 @@ pub struct Sorting<'a> {
     pub kind: bool,
 }
 
-/// Sorts that stand side by side, each a name or a name in brackets.
-#[derive(Clone, Copy)]
-pub struct Sortings<'a> {
-    /// Whether the kinds of all are meant.
-    pub kinds: bool,
-    pub tokens: &'a [Token],
-}
-
 // What stands behind the sort that begins with this token.
 pub fn behind_sort<'a>(token: &Token, behind: &'a [Token]) -> &'a [Token]
-    ensures seen { seen_all result.now ≡ drop (spec.sort_behind (seen token.now)) (seen_all behind.now) }
+    ensures seen { result.now ≡ drop (spec.sort_behind token.now) behind.now }
     ensures within { length result.now ≤ length behind.now }
 {
     let len = if is_word(token, b"[") { 2 } else { 0 };
@@ -36,7 +28,7 @@ pub fn behind_sort<'a>(token: &Token, behind: &'a [Token]) -> &'a [Token]
 
 // The sort that begins with this token.
 pub fn front_sorting<'a>(kinds: bool, token: &'a Token, behind: &'a [Token]) -> Sorting<'a>
-    ensures { spec.seen_sorting result ≡ spec.front_sorting kinds (seen token.now) (seen_all behind.now) }
+    ensures { spec.seen_sorting result ≡ spec.front_sorting kinds token.now behind.now }
 {
     match behind {
         [name, ..] if is_word(token, b"[") => Sorting { name, kind: true },
@@ -47,41 +39,27 @@ pub fn front_sorting<'a>(kinds: bool, token: &'a Token, behind: &'a [Token]) -> 
     }
 }
 
-impl<'a> Sortings<'a> {
-    /// The first sort, and the others.
-    pub fn first(self) -> Option<(Sorting<'a>, Sortings<'a>)>
-        ensures first { IfSome result (λ r. spec.sortings_of self.entry ≡ spec.seen_sorting r.0 ∷ spec.sortings_of r.1) }
-        ensures shorter { IfSome result (λ r. length r.1.tokens.now < length self.entry.tokens.now) }
-        ensures none { IfNone result (spec.sortings_of self.entry ≡ []) }
-    {
-        let [token, behind @ ..] = self.tokens else {
-            return None;
-        };
-        let others = Sortings {
-            kinds: self.kinds,
-            tokens: behind_sort(token, behind),
-        };
-        Some((front_sorting(self.kinds, token, behind), others))
+// The sorts that stand side by side.
+#[tactic(auto, using(crate::proofs::NameByName::sortings_kept))]
+pub fn sortings_among<'s>(
+    alloc: Global,
+    kinds: bool,
+    tokens: &'s [Token],
+) -> Result<Vec<Sorting<'s>>, AllocError>
+    ensures { IfOk result (λ v. spec.seen_sortings v.items ≡ spec.sortings_from kinds 0 tokens.now) }
+{
+    let mut sortings = Vec::new(alloc);
+    let mut rest = tokens;
+    while let [token, behind @ ..] = rest {
+        sortings.push(front_sorting(kinds, token, behind))?;
+        rest = behind_sort(token, behind);
     }
-
-    /// How many sorts these are.
-    pub fn count(self) -> usize
-        ensures count { result ≡ length (spec.sortings_of self.entry) }
-        ensures within { result ≤ length self.entry.tokens.now }
-    {
-        let mut rest = self;
-        let mut count = 0;
-        while let Some((_, others)) = rest.first() {
-            count += 1;
-            rest = others;
-        }
-        count
-    }
+    Ok(sortings)
 }
 
 // What is wrong with the bracket that closes a kind.
 fn closing_fault(tokens: &[Token]) -> Option<FaultKind>
-    ensures { result ≡ forms.closing_fault (seen_all tokens.now) }
+    ensures { result ≡ forms.closing_fault tokens.now }
 {
     match tokens {
         [token, ..] if is_word(token, b"]") => None,
@@ -92,7 +70,7 @@ fn closing_fault(tokens: &[Token]) -> Option<FaultKind>
 
 // What is wrong with a kind behind the bracket that opens it.
 fn kind_fault(tokens: &[Token]) -> Option<FaultKind>
-    ensures { result ≡ forms.kind_fault (seen_all tokens.now) }
+    ensures { result ≡ forms.kind_fault tokens.now }
 {
     let [name, behind @ ..] = tokens else {
         return Some(FaultKind::BadStatement);
@@ -105,7 +83,7 @@ fn kind_fault(tokens: &[Token]) -> Option<FaultKind>
 
 // What is wrong with the sort that begins with this token.
 pub fn front_fault(token: &Token, behind: &[Token]) -> Option<FaultKind>
-    ensures { result ≡ forms.front_fault (seen token.now) (seen_all behind.now) }
+    ensures { result ≡ forms.front_fault token.now behind.now }
 {
     if is_word(token, b"[") {
         kind_fault(behind)
@@ -116,7 +94,7 @@ pub fn front_fault(token: &Token, behind: &[Token]) -> Option<FaultKind>
 
 // The first fault of sorts that stand side by side.
 pub fn sortings_fault(tokens: &[Token]) -> Option<FaultKind>
-    ensures { result ≡ forms.sortings_fault 0 (seen_all tokens.now) }
+    ensures { result ≡ forms.sortings_fault 0 tokens.now }
 {
     let mut rest = tokens;
     while let [token, behind @ ..] = rest {

@@ -1,9 +1,6 @@
 // The units of a source.
-ghost use Rattle.std.specs.Prelude.{◌≡◌, ◌<◌, ◌≤◌, ◌+◌, ℕ, List, length, drop, map, All, IfOk, IfErr, Ok, Err, Some};
-ghost use Rattle.mw_lex.specs.Lexing.{seen, seen_all};
+ghost use Rattle.std.specs.Prelude.{◌≡◌, ◌<◌, length, IfOk, Ok};
 ghost use Rattle.mw_module.specs.Units as units;
-ghost use Rattle.mw_module.specs.declared.units.UnitError.TheVariants.{Memory};
-ghost use Rattle.mw_module.specs.declared.kinds.Kind.TheVariants as kinds;
 
 use crate::faults::{Fault, FaultKind};
 use crate::forms::Form;
@@ -12,73 +9,55 @@ use crate::words::{count_before, is_word, tokens_from};
 use mw_lex::Token;
 use std::alloc::{AllocError, Global};
 
-/// A unit of a source, with the line of its first token and that token's text.
-#[derive(Debug, Drop)]
-pub struct Unit {
+/// A statement's form, with the line of the statement's first token.
+#[derive(Drop)]
+pub struct Lined<'s> {
     pub line: u32,
-    pub word: Vec<u8>,
+    pub form: Form<'s>,
+}
+
+/// A unit of a source, with the line of its first token and that token's text.
+#[derive(Drop)]
+pub struct Unit<'s> {
+    pub line: u32,
+    pub word: &'s [u8],
     /// A module's name.
-    pub name: Option<Token>,
-    /// A module's statements, or a command's tokens as one item, without the full stops that end them.
-    pub items: Vec<Vec<Token>>,
-}
-
-/// Why there is no unit.
-#[derive(Debug, Drop)]
-pub enum UnitError {
-    /// What is wrong with the unit, and the place where the next one begins.
-    Fault { fault: Fault, next: usize },
-    Memory,
-}
-
-impl From<AllocError> for UnitError {
-    ghost from_gives = { λ _ e. e ≡ Memory };
-
-    fn from(_: AllocError) -> Self {
-        UnitError::Memory
-    }
-}
-
-/// The same tokens once more.
-#[tactic(auto, using(crate::proofs::Clones::seen_copies))]
-pub fn copies(alloc: Global, tokens: &[Token]) -> Result<Vec<Token>, AllocError>
-    ensures { IfOk result (λ v. seen_all v.items ≡ seen_all tokens.now) }
-{
-    let copies = tokens.to_vec(alloc)?;
-    Ok(copies)
+    pub name: Option<&'s Token>,
+    /// A module's statements, in their order.
+    pub statements: Vec<Lined<'s>>,
+    /// All tokens before the one that ends the unit, the first word too.
+    pub tokens: &'s [Token],
 }
 
 // The statements of a body, or its first fault.
-fn read_body(alloc: Global, body: &[Token]) -> Result<Result<Vec<Vec<Token>>, Fault>, AllocError>
-    ensures body { IfOk result (λ r. units.seen_body r ≡ units.body_of (seen_all body.now)) }
-    ensures formed { IfOk result (λ r. IfOk r (λ items. All units.IsFormed (units.seen_items items.items))) }
+fn read_body<'s>(
+    alloc: Global,
+    body: &'s [Token],
+) -> Result<Result<Vec<Lined<'s>>, Fault>, AllocError>
+    ensures { IfOk result (λ r. units.seen_body r ≡ units.body_of body.now) }
 {
-    let mut items = Vec::new(alloc);
+    let mut statements = Vec::new(alloc);
     let mut rest = body;
     while let [first, ..] = rest {
+        let line = first.line;
         let len = count_before(rest, b".");
-        let statement = &rest[..len];
-        if let Err(kind) = Form::of(statement) {
-            return Ok(Err(Fault {
-                line: first.line,
-                kind,
-            }));
-        }
+        let form = match Form::of(alloc, &rest[..len])? {
+            Ok(form) => form,
+            Err(kind) => return Ok(Err(Fault { line, kind })),
+        };
         if len == rest.len() {
-            return Ok(Err(Fault {
-                line: first.line,
-                kind: FaultKind::BadStatement,
-            }));
+            let kind = FaultKind::BadStatement;
+            return Ok(Err(Fault { line, kind }));
         }
-        items.push(copies(alloc, statement)?)?;
+        statements.push(Lined { line, form })?;
         rest = tokens_from(rest, len + 1);
     }
-    Ok(Ok(items))
+    Ok(Ok(statements))
 }
 
 // What is wrong with a module's name and what stands behind it.
 fn head_fault(name: &Token, behind: &[Token]) -> Option<FaultKind>
-    ensures { result ≡ units.head_fault (seen name.now) (seen_all behind.now) }
+    ensures { result ≡ units.head_fault name.now behind.now }
 {
     if is_word(name, b"{") {
         return Some(FaultKind::NotInProfile);
@@ -92,69 +71,56 @@ fn head_fault(name: &Token, behind: &[Token]) -> Option<FaultKind>
     }
 }
 
-// A module behind its first word.
-fn read_module(
+// A module, by its first token, what stands behind it, and all its tokens.
+fn read_module<'s>(
     alloc: Global,
-    first: &Token,
-    tokens: &[Token],
-) -> Result<Result<Unit, Fault>, AllocError>
-    ensures unit { IfOk result (λ r. units.seen_outcome r ≡ units.module_of (seen first.now) (seen_all tokens.now)) }
-    ensures formed { IfOk result (λ r. IfOk r (λ u. units.AreFormed (units.seen_unit u))) }
+    tokens: &'s [Token],
+    first: &'s Token,
+    behind_word: &'s [Token],
+) -> Result<Result<Unit<'s>, Fault>, AllocError>
+    ensures { IfOk result (λ r. units.seen_outcome r ≡ units.module_behind tokens.now first.now behind_word.now) }
 {
     let line = first.line;
-    match tokens {
-        [] => Ok(Err(Fault {
+    let [name, behind @ ..] = behind_word else {
+        let kind = FaultKind::BadStatement;
+        return Ok(Err(Fault { line, kind }));
+    };
+    if let Some(kind) = head_fault(name, behind) {
+        return Ok(Err(Fault { line, kind }));
+    }
+    match read_body(alloc, &behind[1..])? {
+        Err(fault) => Ok(Err(fault)),
+        Ok(statements) => Ok(Ok(Unit {
             line,
-            kind: FaultKind::BadStatement,
+            word: first.text.as_slice(),
+            name: Some(name),
+            statements,
+            tokens,
         })),
-        [name, behind @ ..] => {
-            if let Some(kind) = head_fault(name, behind) {
-                return Ok(Err(Fault { line, kind }));
-            }
-            match read_body(alloc, &behind[1..])? {
-                Err(fault) => Ok(Err(fault)),
-                Ok(items) => Ok(Ok(Unit {
-                    line,
-                    word: first.text.as_slice().to_vec(alloc)?,
-                    name: Some(name.clone()?),
-                    items,
-                })),
-            }
-        }
     }
 }
 
-// A command, whose tokens are one item.
-fn read_command(alloc: Global, first: &Token, tokens: &[Token]) -> Result<Unit, AllocError>
-    ensures unit { IfOk result (λ u. Ok (units.seen_unit u) ≡ units.unit_with kinds.Command (seen first.now) (seen_all tokens.now)) }
-    ensures formed { IfOk result (λ u. units.AreFormed (units.seen_unit u)) }
-{
-    let mut items = Vec::new(alloc);
-    items.push(copies(alloc, tokens)?)?;
-    Ok(Unit {
-        line: first.line,
-        word: first.text.as_slice().to_vec(alloc)?,
-        name: None,
-        items,
-    })
-}
-
 // A unit of this kind, by its first token and all its tokens before the last.
-fn read_whole(
+fn read_whole<'s>(
     alloc: Global,
     kind: Kind,
-    first: &Token,
-    tokens: &[Token],
-) -> Result<Result<Unit, Fault>, AllocError>
-    ensures unit { IfOk result (λ r. units.seen_outcome r ≡ units.unit_with kind (seen first.now) (seen_all tokens.now)) }
-    ensures formed { IfOk result (λ r. IfOk r (λ u. units.AreFormed (units.seen_unit u))) }
+    first: &'s Token,
+    tokens: &'s [Token],
+) -> Result<Result<Unit<'s>, Fault>, AllocError>
+    ensures { IfOk result (λ r. units.seen_outcome r ≡ units.unit_with kind first.now tokens.now) }
 {
     match kind {
         Kind::Functional => match tokens {
-            [_, behind @ ..] => read_module(alloc, first, behind),
-            [] => read_module(alloc, first, tokens),
+            [_, behind @ ..] => read_module(alloc, tokens, first, behind),
+            [] => read_module(alloc, tokens, first, tokens),
         },
-        Kind::Command => Ok(Ok(read_command(alloc, first, tokens)?)),
+        Kind::Command => Ok(Ok(Unit {
+            line: first.line,
+            word: first.text.as_slice(),
+            name: None,
+            statements: Vec::new(alloc),
+            tokens,
+        })),
         _ => Ok(Err(Fault {
             line: first.line,
             kind: FaultKind::NotInProfile,
@@ -162,18 +128,16 @@ fn read_whole(
     }
 }
 
-/// The unit that begins at this place, and the place where the next one does. With `proofs` a unit that begins with
-/// `proof` is one of its own; else it is a command.
-pub fn read_unit(
+/// The unit that begins at this place, or what is wrong with it; and the place where the next one begins. With `proofs`
+/// a unit that begins with `proof` is one of its own; else it is a command.
+pub fn read_unit<'s>(
     alloc: Global,
-    tokens: &[Token],
+    tokens: &'s [Token],
     at: usize,
     proofs: bool,
-) -> Result<(Unit, usize), UnitError>
+) -> Result<(Result<Unit<'s>, Fault>, usize), AllocError>
     requires { at < length tokens.now }
-    ensures unit { IfOk result (λ r. units.Reads proofs (seen_all tokens.now) at (Ok (units.seen_unit r.0)) r.1) }
-    ensures formed { IfOk result (λ r. units.AreFormed (units.seen_unit r.0)) }
-    ensures fault { IfErr result (λ e. units.HasCause proofs (seen_all tokens.now) at e) }
+    ensures { IfOk result (λ r. units.Reads proofs tokens.now at (units.seen_outcome r.0) r.1) }
 {
     let rest = tokens_from(tokens, at);
     let first = &rest[0];
@@ -184,14 +148,8 @@ pub fn read_unit(
             line: first.line,
             kind: unended(kind),
         };
-        return Err(UnitError::Fault {
-            fault,
-            next: tokens.len(),
-        });
+        return Ok((Err(fault), tokens.len()));
     }
     let next = at + len + 1;
-    match read_whole(alloc, kind, first, &rest[..len])? {
-        Ok(unit) => Ok((unit, next)),
-        Err(fault) => Err(UnitError::Fault { fault, next }),
-    }
+    Ok((read_whole(alloc, kind, first, &rest[..len])?, next))
 }

@@ -1,7 +1,6 @@
 // What single tokens say.
 ghost use Rattle.std.specs.Prelude.{◌≡◌, ◌≤◌, ◌+◌, length, drop, ℕ, List, ◌∷◌, []};
 ghost use Rattle.std.specs.Str.{bytes_eq};
-ghost use Rattle.mw_lex.specs.Lexing.{seen, seen_all};
 ghost use Rattle.mw_module.specs.Words as words;
 
 use mw_lex::Token;
@@ -14,14 +13,14 @@ pub fn same(text: &[u8], word: &[u8]) -> bool
 
 /// Whether the token has this text.
 pub fn is_word(token: &Token, word: &[u8]) -> bool
-    ensures { result ≡ words.is word.now (seen token.now) }
+    ensures { result ≡ words.is word.now token.now }
 {
     same(token.text.as_slice(), word)
 }
 
 // Whether the first token has this text.
 pub fn begins(tokens: &[Token], word: &[u8]) -> bool
-    ensures { result ≡ words.begins word.now (seen_all tokens.now) }
+    ensures { result ≡ words.begins word.now tokens.now }
 {
     match tokens {
         [token, ..] => is_word(token, word),
@@ -31,7 +30,7 @@ pub fn begins(tokens: &[Token], word: &[u8]) -> bool
 
 /// How many tokens come before the first that has this text: all where none has it.
 pub fn count_before(tokens: &[Token], word: &[u8]) -> usize
-    ensures count { result ≡ words.count_before word.now (seen_all tokens.now) }
+    ensures count { result ≡ words.count_before word.now tokens.now }
     ensures within { result ≤ length tokens.now }
 {
     let mut rest = tokens;
@@ -47,10 +46,9 @@ pub fn count_before(tokens: &[Token], word: &[u8]) -> usize
 }
 
 // The tokens from this one on.
-#[tactic(auto, using(crate::proofs::Slices::seen_drop))]
 pub fn tokens_from(tokens: &[Token], at: usize) -> &[Token]
     requires { at ≤ length tokens.now }
-    ensures seen { seen_all result.now ≡ drop at (seen_all tokens.now) }
+    ensures seen { result.now ≡ drop at tokens.now }
     ensures len { length result.now + at ≡ length tokens.now }
 {
     let (_, behind) = tokens.split_at(at);
@@ -101,7 +99,7 @@ fn is_whole_string(text: &[u8]) -> bool
 
 // Whether the first token is such a string.
 pub fn begins_string(tokens: &[Token]) -> bool
-    ensures { result ≡ words.begins_string (seen_all tokens.now) }
+    ensures { result ≡ words.begins_string tokens.now }
 {
     match tokens {
         [token, ..] => is_whole_string(token.text.as_slice()),

@@ -6,7 +6,8 @@ use Rattle.std.proofs.lemmas.List.{append-nil, take_at}
 use Rattle.std.proofs.lemmas.List.Elements.{All-head, All-tail}
 use Rattle.mw_lex.specs.Bytes.{is_punctuation, is_run_byte}
 use Rattle.mw_lex.specs.Pieces.{run_len, opens_comment, piece_of}
-use Rattle.mw_lex.specs.Lexing.{Seen, Lexed, with_front, token_at, meaning, lexed, line_after, line_behind}
+use Rattle.mw_lex.specs.declared.token.Token.{Token as LexedToken}
+use Rattle.mw_lex.specs.Lexing.{Lexed, with_front, token_at, meaning, lexed, line_after, line_behind}
 use Rattle.mw_lex.specs.declared.pieces.Piece.TheVariants as piece
 use Rattle.mw_print.specs.Tokens.{Token, token, opening, comma, text_of, texts, opens, closes, ends_in_backquote, is_near, is_apart, gap, spaced}
 use Rattle.mw_lex.specs.Texts.{IsRun, IsProper}
@@ -37,7 +38,7 @@ module _ (b : ℕ) (x rest : List ℕ) (at line : ℕ) where
 
 -- the lexer finds these tokens
 abbrev Finds : Lexed → List (List ℕ) → Type 0
-Finds lexed tokens = (found : List Seen) × (lexed ≡ Ok found) × (map (λ (t : Seen). t.text) found ≡ tokens)
+Finds lexed tokens = (found : List LexedToken) × (lexed ≡ Ok found) × (map (λ (t : LexedToken). t.text) found ≡ tokens)
 
 -- a token before what the lexer finds behind it
 found_front : (b : ℕ) (x rest : List ℕ) (at line : ℕ) (tokens : List (List ℕ)) → piece_of b (x ++ rest) ≡ piece.Token (suc (length x))

@@ -1,6 +1,7 @@
 -- What is printed can be read.
 use Rattle.std.specs.Prelude.{◌≡◌, ◌<◌, ◌^◌, ℕ, List, ◌++◌, map, length, codes, All, IsTrue, IsFalse, Ok, ⊤}
-use Rattle.mw_lex.specs.Lexing.{Seen, tokens_of}
+use Rattle.mw_lex.specs.declared.token.Token.{Token}
+use Rattle.mw_lex.specs.Lexing.{tokens_of}
 use Rattle.mw_lex.specs.Texts.{IsProper}
 use Rattle.mw_logic.specs.Term.{Variable, RawTerm, numeral, quoted, variable, apply, RawTerms, nil, cons}
 use Rattle.mw_logic.specs.Signature.{Signature, Operator, IsOperator, IsSortNamed, IsRawTerm}
@@ -33,7 +34,7 @@ PrintedSpells = (sig : Signature) (variables : List Variable) (t : RawTerm) → 
 
 -- the text has these tokens
 abbrev pub HasTokens : List ℕ → List (List ℕ) → Type 0
-HasTokens text tokens = (found : List Seen) × (tokens_of text ≡ Ok found) × (map (λ (t : Seen). t.text) found ≡ tokens)
+HasTokens text tokens = (found : List Token) × (tokens_of text ≡ Ok found) × (map (λ (t : Token). t.text) found ≡ tokens)
 
 -- The tokens of a term's text are those that were printed, where each of these is proper.
 abbrev pub PrintedLexes : Type 0

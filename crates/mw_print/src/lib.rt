@@ -24,7 +24,6 @@
 #![tactic(auto)]
 
 mod laws;
-mod names;
 mod printing;
 mod sorts;
 mod writer;

@@ -10,11 +10,10 @@ ghost use Rattle.mw_print.specs.Printing as spec;
 ghost use Rattle.mw_print.specs.Printing.{printed, printed_all, mixfix_text};
 ghost use Rattle.mw_print.specs.Writing.{Writes};
 
-use crate::names::{has_hole, holes};
 use crate::sorts::print_sort;
 use crate::writer::Writer;
 use mw_term::{Gather, OpId, Operator, Shape, Signature, Term, VarId};
-use mw_text::{Item, first_item};
+use mw_text::{Item, first_item, has_hole, holes};
 use std::alloc::{AllocError, Global};
 
 /// The text of a term.

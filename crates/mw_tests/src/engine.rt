@@ -7,6 +7,8 @@ ghost use Rattle.mw_logic.specs.Term.{is_ground, are_ground, binary};
 ghost use Rattle.mw_machine.specs.Replacements.{Replacement, carried};
 ghost use Rattle.mw_canon.specs.Canonical.{IsAdmittedTerm, HasAdmittedValues};
 ghost use Rattle.mw_term.specs.Raws.{raw_term, raw_terms};
+ghost use Rattle.mw_module.specs.Known.{AreKnown};
+ghost use Rattle.mw_module.specs.Units.{seen_unit};
 
 use mw_build::{Module, build};
 use mw_canon::{canon, instance, parts};
@@ -32,17 +34,21 @@ fn lexed(alloc: Global, text: &str) -> Result<Vec<Token>, Fail> {
     tokens(alloc, text.as_bytes()).map_err(|_| Fail::from("no tokens"))
 }
 
-fn unit(alloc: Global, tokens: &[Token]) -> Result<Box<Unit>, Fail> {
+fn unit(alloc: Global, tokens: &[Token]) -> Result<Box<Unit<'_>>, Fail>
+    ensures { IfOk result (λ u. AreKnown (seen_unit u.value).statements) }
+{
     if tokens.is_empty() {
         return Err(Fail::from("no token"));
     }
-    match read_unit(alloc, tokens, 0, false) {
-        Ok((unit, _)) => Ok(Box::new(alloc, unit)?),
-        Err(_) => Err(Fail::from("no unit")),
+    match read_unit(alloc, tokens, 0, false)? {
+        (Ok(unit), _) => Ok(Box::new(alloc, unit)?),
+        (Err(_), _) => Err(Fail::from("no unit")),
     }
 }
 
-fn built(alloc: Global, unit: &Unit) -> Result<Box<Module>, Fail> {
+fn built(alloc: Global, unit: &Unit<'_>) -> Result<Box<Module>, Fail>
+    requires { AreKnown (seen_unit unit.now).statements }
+{
     let name = Name::of(b"L".to_vec(alloc)?);
     match build(alloc, unit, name) {
         Ok(module) => Ok(Box::new(alloc, module)?),

@@ -25,7 +25,7 @@ use Rattle.mw_reduce.specs.declared.progress.Outcome.{Outcome}
 use Rattle.mw_reduce.specs.declared.progress.Outcome.TheVariants.{Done, Stopped}
 use Rattle.mw_text.specs.Mixfix.{Reads}
 use Rattle.mw_logic.specs.NormalForm.{normal_form}
-use Rattle.mw_module.specs.Refusals.{too_deep, number_too_large}
+use Rattle.mw_module.specs.declared.faults.FaultKind.TheVariants.{TooDeep, NumberTooLarge}
 use Rattle.mw_build.specs.Equations.{Oversized, deep, large}
 use Rattle.mw_build.specs.Modules.{Accepted}
 use Rattle.mw_build.proofs.Sides.{fits}
@@ -124,10 +124,10 @@ admitted_by sig simple t u raw ground is not_deep not_large =
     (e, rw e a)
 
 -- what is too deep or too large keeps a term out
-pub kept_out : (sig : Signature) → IsSimpleSignature sig → (t : RawTerm) → IsTooDeep sig (nested sig t) → Oversized sig t too_deep
+pub kept_out : (sig : Signature) → IsSimpleSignature sig → (t : RawTerm) → IsTooDeep sig (nested sig t) → Oversized sig t TooDeep
 kept_out sig simple t h = deep (rw (nested_free sig (free sig simple) t) at h)
 
-pub number_kept_out : (sig : Signature) → IsSimpleSignature sig → (t : RawTerm) → IsTooLarge sig (nested sig t) → ¬ IsTooDeep sig (nested sig t) → Oversized sig t number_too_large
+pub number_kept_out : (sig : Signature) → IsSimpleSignature sig → (t : RawTerm) → IsTooLarge sig (nested sig t) → ¬ IsTooDeep sig (nested sig t) → Oversized sig t NumberTooLarge
 number_kept_out sig simple t l h = let n = nested_free sig (free sig simple) t in large (λ d. h (rw n d)) (rw n at l)
 
 -- a kind that is the least sort of an admitted term is there, in the signature of a module that the engine works in

@@ -1,27 +1,25 @@
 -- What a unit gives, from what is known of its text.
 use Rattle.std.proofs.Common.{◌≡◌, ℕ, List, Bool, true, subst, sym, ap, refl, Option, Some, None, option_map, Result, Ok, Err, MatchResult}
-use Rattle.mw_lex.specs.Lexing.{Seen, seen}
+use Rattle.std.specs.Borrow.{Bor}
 use Rattle.mw_lex.specs.declared.token.Token.{Token}
-use Rattle.mw_module.specs.Refusals.{Refusal}
+use Rattle.mw_module.specs.declared.faults.Fault.{Fault}
 use Rattle.mw_module.specs.Units.{Outcome}
 use Rattle.mw_build.specs.Modules.{Accepted}
 use Rattle.mw_block.specs.Refused.{refusal_line}
 use Rattle.mw_top.specs.Sources.{Gives}
 
-pub refused_gives : (most : ℕ) (before : List Accepted) (out : Outcome) (r : Refusal) (text : List ℕ) (refused : Bool) → Gives most before out (refusal_line r) true before
+pub refused_gives : (most : ℕ) (before : List Accepted) (out : Outcome) (r : Fault) (text : List ℕ) (refused : Bool) → Gives most before out (refusal_line r) true before
     → (text ≡ refusal_line r) × (refused ≡ true) → Gives most before out text refused before
 refused_gives most before out r text refused g h =
     subst (λ b. Gives most before out text b before) (sym h.1) (subst (λ t. Gives most before out t true before) (sym h.0) g)
-
-pub name_seen : (o : Option Token) (t : Token) → o ≡ Some t → option_map (λ (x : Seen). x.text) (option_map seen o) ≡ Some t.text.items
-name_seen o t e = ap (λ x. option_map (λ (y : Seen). y.text) (option_map seen x)) e
 
 -- where no value is there
 pub none_there : {A B : Type 0} (f : A → B) (r : Option A) (o : Option B) → ((x : A) → r ≡ Some x → ⊥) → option_map f r ≡ o → o ≡ None
 none_there f None o h e = sym e
 none_there f (Some x) o h e = absurd (h x refl)
 
-pub none_named : (o : Option Token) → ((t : Token) → o ≡ Some t → ⊥) → option_map (λ (x : Seen). x.text) (option_map seen o) ≡ None
+pub none_named : (o : Option (Bor Token)) → ((t : Bor Token) → o ≡ Some t → ⊥)
+    → option_map (λ (x : Token). x.text) (option_map (λ (t : Bor Token). t.now) o) ≡ None
 none_named None h = refl
 none_named (Some t) h = absurd (h t refl)
 

@@ -5,13 +5,15 @@ use Rattle.mw_logic.specs.Term.{Variable, RawTerm}
 use Rattle.mw_logic.specs.Signature.{Signature, Sorted, sort, kind, SameKind, same}
 use Rattle.mw_logic.specs.Preregular.{AreOfKinds, IsPreregular}
 use Rattle.mw_logic.specs.Module.{Statement}
-use Rattle.mw_module.specs.Refusals.{Cause, Refusal}
+use Rattle.mw_module.specs.declared.faults.Fault.{Fault}
+use Rattle.mw_module.specs.declared.faults.FaultKind.{FaultKind}
 use Rattle.mw_module.specs.Units.{SeenUnit}
-use Rattle.mw_declare.specs.Meaning.{Sides}
-use Rattle.mw_declare.specs.Declarations.{Declarations, Declares}
+use Rattle.mw_declare.specs.declared.declarations.Declarations.{Declarations}
+use Rattle.mw_declare.specs.Declarations.{Declares}
 use Rattle.mw_declare.proofs.OneDeclaration.{one_declaration, none_at_fault}
 use Rattle.mw_sorts.specs.Entries.{AreEntries}
 use Rattle.mw_build.specs.SignatureFaults.{SignatureFault}
+use Rattle.mw_build.specs.Sides.{Sides, equations_of}
 use Rattle.mw_build.specs.Equations.{FitsIn, Oversized, deep, large, statement_of, IsApplicable, ApplicationFault, lone, open_right, IsStatementOf, SidesFault, big_left, big_right, inapplicable, IsEquation, EquationFault, long, unread, unclear, sides, AreEquations, FirstFault}
 use Rattle.mw_build.specs.Modules.{Accepted, IsAccepted, IsRefused, by_declarations, by_signature, by_equations}
 use Rattle.mw_build.proofs.Reading.{there}
@@ -26,16 +28,16 @@ same_lists (x ∷ xs) (y ∷ ys) n h =
     let rest = same_lists xs ys (omega (arith, n)) (λ i a b. h (suc i) a b) in
     cc
 
-pub not_big : (sig : Signature) (t : RawTerm) (cause : Cause) → FitsIn sig t → Oversized sig t cause → ⊥
+pub not_big : (sig : Signature) (t : RawTerm) (cause : FaultKind) → FitsIn sig t → Oversized sig t cause → ⊥
 not_big sig t cause f (deep k) = f.not_deep k
 not_big sig t cause f (large s k) = f.not_large k
 
 module _ (sig : Signature) where
-  application_holds : (left right : RawTerm) (cause : Cause) → IsApplicable sig left right → ApplicationFault sig left right cause → ⊥
+  application_holds : (left right : RawTerm) (cause : FaultKind) → IsApplicable sig left right → ApplicationFault sig left right cause → ⊥
   application_holds left right cause a (lone is) = a.not_lone is
   application_holds left right cause a (open_right x not is) = absurd (none-some x (sym a.bound ∙ is))
 
-  sides_hold : (left right : RawTerm) (executable : Bool) (st : Statement) (cause : Cause) → IsStatementOf sig left right executable st → SidesFault sig left right executable cause → ⊥
+  sides_hold : (left right : RawTerm) (executable : Bool) (st : Statement) (cause : FaultKind) → IsStatementOf sig left right executable st → SidesFault sig left right executable cause → ⊥
   sides_hold left right executable st cause s (big_left why big) = not_big sig left why s.left_fits big
   sides_hold left right executable st cause s (big_right why fits big) = not_big sig right why s.right_fits big
   sides_hold left right executable st cause s (inapplicable why f g is fault) = application_holds left right why (s.applicable is) fault
@@ -51,7 +53,7 @@ module _ (sig : Signature) where
         let right : p.right ≡ q.right = ap (λ (s : RawTerm × RawTerm). s.1) (same_sides e st other p q) in
         p.sides.statement ∙ ap (λ t. statement_of t p.right e.executable) left ∙ ap (λ t. statement_of q.left t e.executable) right ∙ sym q.sides.statement
 
-    equation_holds : (e : Sides) (st : Statement) (cause : Cause) → IsEquation sig variables e st → EquationFault sig variables e cause → ⊥
+    equation_holds : (e : Sides) (st : Statement) (cause : FaultKind) → IsEquation sig variables e st → EquationFault sig variables e cause → ⊥
     equation_holds e st cause p (long h) = ⊎_elim (λ k. omega (arith, k, p.read.short_left)) (λ k. omega (arith, k, p.read.short_right)) h
     equation_holds e st cause p (unread f g none) = none (p.left, p.right) p.read.only.0
     equation_holds e st cause p (unclear f g (x, y, (of_x, of_y, differ))) = differ (p.read.only.1 x of_x ∙ sym (p.read.only.1 y of_y))
@@ -66,11 +68,11 @@ module _ (sig : Signature) where
         let e = there es i (omega (arith, w, p.count)) in
         one_statement e.0 st other (p.each i e.0 st e.1 a) (q.each i e.0 other e.1 b))
 
-    equations_hold : (es : List Sides) (sts : List Statement) (r : Refusal) → AreEquations sig variables es sts → FirstFault sig variables es r → ⊥
+    equations_hold : (es : List Sides) (sts : List Statement) (r : Fault) → AreEquations sig variables es sts → FirstFault sig variables es r → ⊥
     equations_hold es sts r p f =
         let w = slice_get_within es f.place f.equation f.is_there in
         let st = there sts f.place (omega (arith, w, p.count)) in
-        equation_holds f.equation st.0 r.cause (p.each f.place f.equation st.0 f.is_there st.1) f.fault
+        equation_holds f.equation st.0 r.kind (p.each f.place f.equation st.0 f.is_there st.1) f.fault
 
 entries_of_kinds : (sig : Signature) (Ss : List Sorted) (Ks : List ℕ) → AreEntries sig Ss Ks → AreOfKinds sig Ss Ks
 entries_of_kinds sig [] [] a = tt
@@ -79,7 +81,7 @@ entries_of_kinds sig (S ∷ Ss) [] a = absurd a
 entries_of_kinds sig (sort S ∷ Ss) (K ∷ Ks) a = (a.0, entries_of_kinds sig Ss Ks a.1)
 entries_of_kinds sig (kind L ∷ Ss) (K ∷ Ks) a = (subst (SameKind sig L) a.0 same, entries_of_kinds sig Ss Ks a.1)
 
-signature_holds : (line : ℕ) (sig : Signature) (r : Refusal) → IsPreregular sig → SignatureFault line sig r → ⊥
+signature_holds : (line : ℕ) (sig : Signature) (r : Fault) → IsPreregular sig → SignatureFault line sig r → ⊥
 signature_holds line sig r p f =
     let lack = f.first.lack in
     let R = p f.number f.first.operator f.first.is_there f.sorts (entries_of_kinds sig f.sorts f.first.operator.args lack.entries) lack.lacks.taken.0 lack.lacks.taken.1 in
@@ -95,25 +97,25 @@ same_module a b n s e v =
     ∙ ap (λ x. module_of b.name b.module.signature x a.variables) e ∙ ap (module_of b.name b.module.signature b.module.statements) v
 
 module _ (u : SeenUnit) (n : List ℕ) (a : Accepted) (p : IsAccepted u n a) where
-  same_declarations : (d : Declarations) → Declares u d → d ≡ p.declarations
-  same_declarations d e = one_declaration u d p.declarations e p.declared
+  same_declarations : (d : Declarations) → Declares u.statements d → d ≡ p.declarations
+  same_declarations d e = one_declaration u.statements d p.declarations e p.declared
 
   -- a unit is one module
   pub one_module : (b : Accepted) → IsAccepted u n b → a ≡ b
   one_module b q =
       let d : q.declarations ≡ p.declarations = same_declarations q.declarations q.declared in
-      let equations : AreEquations p.declarations.signature p.declarations.variables p.declarations.equations b.module.statements =
-      subst (λ (e : Declarations). AreEquations e.signature e.variables e.equations b.module.statements) d q.holds.equations in
+      let equations : AreEquations p.declarations.signature p.declarations.variables (equations_of u.statements) b.module.statements =
+      subst (λ (e : Declarations). AreEquations e.signature e.variables (equations_of u.statements) b.module.statements) d q.holds.equations_are in
       let name : a.name ≡ b.name = p.holds.named ∙ sym q.holds.named in
       let signature : a.module.signature ≡ b.module.signature = p.holds.signature ∙ ap (λ (e : Declarations). e.signature) (sym d) ∙ sym q.holds.signature in
       let variables : a.variables ≡ b.variables = p.holds.variables ∙ ap (λ (e : Declarations). e.variables) (sym d) ∙ sym q.holds.variables in
-      let statements = one_list p.declarations.signature p.declarations.variables p.declarations.equations a.module.statements b.module.statements p.holds.equations equations in
+      let statements = one_list p.declarations.signature p.declarations.variables (equations_of u.statements) a.module.statements b.module.statements p.holds.equations_are equations in
       same_module a b name signature statements variables
 
   -- and then it isn't refused
-  pub not_refused : (r : Refusal) → IsRefused u r → ⊥
-  not_refused r (by_declarations f) = none_at_fault u p.declarations r p.declared f
+  pub not_refused : (r : Fault) → IsRefused u r → ⊥
+  not_refused r (by_declarations f) = none_at_fault u.line u.statements p.declarations r p.declared f
   not_refused r (by_signature d e f) = signature_holds u.line p.declarations.signature r p.preregular
       (subst (λ (k : Declarations). SignatureFault u.line k.signature r) (same_declarations d e) f)
-  not_refused r (by_equations d e preregular f) = equations_hold p.declarations.signature p.declarations.variables p.declarations.equations a.module.statements r p.holds.equations
-      (subst (λ (k : Declarations). FirstFault k.signature k.variables k.equations r) (same_declarations d e) f)
+  not_refused r (by_equations d e preregular f) = equations_hold p.declarations.signature p.declarations.variables (equations_of u.statements) a.module.statements r p.holds.equations_are
+      (subst (λ (k : Declarations). FirstFault k.signature k.variables (equations_of u.statements) r) (same_declarations d e) f)

@@ -3,10 +3,10 @@ use Rattle.std.proofs.Common.{◌≡◌, ◌∙◌, ◌≤◌, ◌<◌, ◌+◌,
 use Rattle.std.proofs.lemmas.Bool.{both_ways, cases_order}
 use Rattle.std.proofs.lemmas.Option.{none-some, same_Some}
 use Rattle.mw_logic.specs.Term.{RawTerm, is_ground}
-use Rattle.mw_lex.specs.Lexing.{Seen}
-use Rattle.mw_module.specs.Refusals.{Cause}
+use Rattle.mw_lex.specs.declared.token.Token.{Token}
+use Rattle.mw_module.specs.declared.faults.FaultKind.{FaultKind}
 use Rattle.mw_module.specs.Units.{SeenUnit, Outcome, Reading, Reads}
-use Rattle.mw_declare.specs.Meaning.{texts}
+use Rattle.mw_module.specs.Words.{texts}
 use Rattle.mw_command.specs.Commands.{SeenCommand, command_of}
 use Rattle.mw_build.specs.Equations.{Oversized}
 use Rattle.mw_build.specs.Modules.{Accepted, IsAccepted, IsRefused}
@@ -22,7 +22,7 @@ term_of a most words word text (reduction from block is reduced) = (from, is)
 term_of a most words word text (parsing term block is parsed) = (term, is)
 
 -- it has no fault
-term_holds : (a : Accepted) (words : List (List ℕ)) (term : RawTerm) → IsTerm a words term → (cause : Cause) → TermFault a words cause → ⊥
+term_holds : (a : Accepted) (words : List (List ℕ)) (term : RawTerm) → IsTerm a words term → (cause : FaultKind) → TermFault a words cause → ⊥
 term_holds a words term is cause (long h) = omega (arith, h, is.read.short)
 term_holds a words term is cause (unread s none) = none term is.read.spelled
 term_holds a words term is cause (unclear s (x, y, (of_x, of_y, differ))) = differ (is.read.only x of_x ∙ sym (is.read.only y of_y))
@@ -31,7 +31,7 @@ term_holds a words term is cause (big t why read g h) =
     not_big a.module.signature term why is.fits (subst (λ u. Oversized a.module.signature u why) (is.read.only t read.spelled) h)
 
 -- nor has the command
-command_holds : (a : Accepted) (term : RawTerm) (ms : List Accepted) (c : SeenCommand) (cause : Cause) → module_for ms c.module ≡ Some a
+command_holds : (a : Accepted) (term : RawTerm) (ms : List Accepted) (c : SeenCommand) (cause : FaultKind) → module_for ms c.module ≡ Some a
     → IsTerm a (texts c.term) term → CommandFault ms c cause → ⊥
 command_holds a term ms c cause m is (nowhere e none) = none-some a (sym none ∙ m)
 command_holds a term ms c cause m is (unknown n e none) = none-some a (sym none ∙ m)
@@ -97,7 +97,7 @@ module _ (most : ℕ) (before : List Accepted) where
   gives_one o text other bad worse after later p q = (refl, refl)
 
 -- the unit at a place, and the place of the next one, are determined
-one_unit : (tokens : List Seen) (at : ℕ) (o other : Outcome) (next behind : ℕ) → Reads false tokens at o next → Reads false tokens at other behind → (o ≡ other) × (next ≡ behind)
+one_unit : (tokens : List Token) (at : ℕ) (o other : Outcome) (next behind : ℕ) → Reads false tokens at o next → Reads false tokens at other behind → (o ≡ other) × (next ≡ behind)
 one_unit tokens at o other next behind p q =
     let first : Reading = record { outcome = o; len = next - at } in
     let second : Reading = record { outcome = other; len = behind - at } in
@@ -105,7 +105,7 @@ one_unit tokens at o other next behind p q =
     let length : next - at ≡ behind - at = ap (λ (r : Reading). r.len) same in
     (ap (λ (r : Reading). r.outcome) same, omega (arith, length, p.further, q.further))
 
-module _ (most : ℕ) (tokens : List Seen) where
+module _ (most : ℕ) (tokens : List Token) where
   -- no place within a unit is reached
   none_within : (fuel p q : ℕ) (ms ns : List Accepted) (t u : List ℕ) (bad worse : Bool) → Answered most tokens p ms t bad → Answered most tokens q ns u worse → p + q ≤ fuel → p < q
       → (o : Outcome) (next : ℕ) → Reads false tokens p o next → next ≤ q

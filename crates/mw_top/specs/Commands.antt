@@ -11,8 +11,9 @@ use Rattle.mw_logic.specs.Judgements.{IsNormal}
 use Rattle.mw_logic.specs.Ends.{limits_of, Stops}
 use Rattle.mw_text.specs.Mixfix.{IsSpelled, Reads}
 use Rattle.mw_text.specs.Readings.{NoneHas, TwoHave, IsShort}
-use Rattle.mw_module.specs.Refusals.{Cause, term_too_long, no_parse, ambiguous, open_term, no_module, unknown_module}
-use Rattle.mw_declare.specs.Meaning.{texts}
+use Rattle.mw_module.specs.declared.faults.FaultKind.{FaultKind}
+use Rattle.mw_module.specs.declared.faults.FaultKind.TheVariants.{TermTooLong, NoParse, Ambiguous, OpenTerm, NoModule, UnknownModule}
+use Rattle.mw_module.specs.Words.{texts}
 use Rattle.mw_command.specs.Commands.{SeenCommand}
 use Rattle.mw_command.specs.declared.commands.Word.{Word as CommandWord}
 use Rattle.mw_command.specs.declared.commands.Word.TheVariants.{Reduce, Parse}
@@ -77,16 +78,16 @@ module_for ms (Some n) = module_named ms n
 module_for ms None = last_module ms
 
 -- what is wrong with the term of a command, in this order
-pub data TermFault (a : Accepted) (words : List (List ℕ)) : Cause → Type 0 where
-  long : 1024 < length words → TermFault a words term_too_long
-  unread : IsShort words → NoneHas (IsSpelled a.module.signature a.variables None words) → TermFault a words no_parse
-  unclear : IsShort words → TwoHave (IsSpelled a.module.signature a.variables None words) → TermFault a words ambiguous
-  opened : (t : RawTerm) → Reads a.module.signature a.variables None words t → IsFalse (is_ground t) → TermFault a words open_term
-  big : (t : RawTerm) (cause : Cause) → Reads a.module.signature a.variables None words t → IsTrue (is_ground t) → Oversized a.module.signature t cause
+pub data TermFault (a : Accepted) (words : List (List ℕ)) : FaultKind → Type 0 where
+  long : 1024 < length words → TermFault a words TermTooLong
+  unread : IsShort words → NoneHas (IsSpelled a.module.signature a.variables None words) → TermFault a words NoParse
+  unclear : IsShort words → TwoHave (IsSpelled a.module.signature a.variables None words) → TermFault a words Ambiguous
+  opened : (t : RawTerm) → Reads a.module.signature a.variables None words t → IsFalse (is_ground t) → TermFault a words OpenTerm
+  big : (t : RawTerm) (cause : FaultKind) → Reads a.module.signature a.variables None words t → IsTrue (is_ground t) → Oversized a.module.signature t cause
       → TermFault a words cause
 
 -- what is wrong with a command, where these modules were accepted
-pub data CommandFault (ms : List Accepted) (c : SeenCommand) : Cause → Type 0 where
-  nowhere : c.module ≡ None → module_for ms c.module ≡ None → CommandFault ms c no_module
-  unknown : (n : List ℕ) → c.module ≡ Some n → module_for ms c.module ≡ None → CommandFault ms c (unknown_module n)
-  in_term : (a : Accepted) (cause : Cause) → module_for ms c.module ≡ Some a → TermFault a (texts c.term) cause → CommandFault ms c cause
+pub data CommandFault (ms : List Accepted) (c : SeenCommand) : FaultKind → Type 0 where
+  nowhere : c.module ≡ None → module_for ms c.module ≡ None → CommandFault ms c NoModule
+  unknown : (n : List ℕ) → c.module ≡ Some n → module_for ms c.module ≡ None → CommandFault ms c (UnknownModule n)
+  in_term : (a : Accepted) (cause : FaultKind) → module_for ms c.module ≡ Some a → TermFault a (texts c.term) cause → CommandFault ms c cause

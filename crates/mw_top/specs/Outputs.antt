@@ -5,29 +5,32 @@ use Rattle.std.specs.Io.KnownBytes.{Appends}
 use Rattle.mw_lex.specs.declared.token.LexFault.{LexFault}
 use Rattle.mw_lex.specs.declared.token.LexKind.{LexKind}
 use Rattle.mw_lex.specs.declared.token.LexKind.TheVariants.{BadByte, UnendedComment}
-use Rattle.mw_lex.specs.Lexing.{Seen, tokens_of}
-use Rattle.mw_module.specs.Refusals.{Cause, Refusal, bad_byte, unended_comment}
+use Rattle.mw_lex.specs.declared.token.Token.{Token}
+use Rattle.mw_lex.specs.Lexing.{tokens_of}
+use Rattle.mw_module.specs.declared.faults.Fault.{Fault}
+use Rattle.mw_module.specs.declared.faults.FaultKind.{FaultKind}
+use Rattle.mw_module.specs.declared.faults.FaultKind.TheVariants as kind
 use Rattle.mw_module.specs.Units.{Outcome, Reads}
 use Rattle.mw_build.specs.Modules.{Accepted}
 use Rattle.mw_block.specs.Refused.{refusal_line}
 use Rattle.mw_top.specs.Sources.{Gives, Answered}
 
-abbrev pub lexing_cause : LexKind → Cause
-lexing_cause BadByte = bad_byte
-lexing_cause UnendedComment = unended_comment
+abbrev pub lexing_kind : LexKind → FaultKind
+lexing_kind BadByte = kind.BadByte
+lexing_kind UnendedComment = kind.UnendedComment
 
 -- a source that isn't made of tokens is refused whole
-abbrev pub lexing_refusal : LexFault → Refusal
-lexing_refusal f = record { line = f.line; cause = lexing_cause f.kind }
+abbrev pub lexing_refusal : LexFault → Fault
+lexing_refusal f = record { line = f.line; kind = lexing_kind f.kind }
 
 -- What a sink has got of the texts of units: of all, of the first ones and not all, or of the first ones and a proper prefix of the next one's.
-pub record AreDone (most : ℕ) (tokens : List Seen) (held held_after : Option (List ℕ)) (bad : Bool) : Type 0 where
+pub record AreDone (most : ℕ) (tokens : List Token) (held held_after : Option (List ℕ)) (bad : Bool) : Type 0 where
   pub modules : List Accepted
   pub text : List ℕ
   pub answered : Answered most tokens (length tokens) modules text bad
   pub written : Appends held held_after text
 
-pub record AreBegun (most : ℕ) (tokens : List Seen) (held held_after : Option (List ℕ)) : Type 0 where
+pub record AreBegun (most : ℕ) (tokens : List Token) (held held_after : Option (List ℕ)) : Type 0 where
   pub at : ℕ
   pub undone : at < length tokens
   pub modules : List Accepted
@@ -36,7 +39,7 @@ pub record AreBegun (most : ℕ) (tokens : List Seen) (held held_after : Option 
   pub answered : Answered most tokens at modules text bad
   pub written : Appends held held_after text
 
-pub record AreCut (most : ℕ) (tokens : List Seen) (held held_after : Option (List ℕ)) : Type 0 where
+pub record AreCut (most : ℕ) (tokens : List Token) (held held_after : Option (List ℕ)) : Type 0 where
   pub at : ℕ
   pub modules : List Accepted
   pub text : List ℕ
@@ -56,7 +59,7 @@ pub record AreCut (most : ℕ) (tokens : List Seen) (held held_after : Option (L
 -- the whole text for a source, and whether something was refused
 pub data IsOutput (most : ℕ) (bytes : List ℕ) : List ℕ → Bool → Type 0 where
   unlexed : (f : LexFault) → tokens_of bytes ≡ Err f → IsOutput most bytes (refusal_line (lexing_refusal f)) true
-  answered : (tokens : List Seen) (after : List Accepted) (text : List ℕ) (bad : Bool) → tokens_of bytes ≡ Ok tokens
+  answered : (tokens : List Token) (after : List Accepted) (text : List ℕ) (bad : Bool) → tokens_of bytes ≡ Ok tokens
       → Answered most tokens (length tokens) after text bad → IsOutput most bytes text bad
 
 -- of the same bytes, by the same limit, no two outputs differ in whether something was refused
@@ -66,14 +69,14 @@ AgreeInRefusal = (most : ℕ) (bytes text other : List ℕ) (bad worse : Bool) �
 -- the texts of the first units, of which one at least is undone, or nothing
 pub data IsBegun (most : ℕ) (bytes : List ℕ) : List ℕ → Type 0 where
   nothing : IsBegun most bytes []
-  units : (tokens : List Seen) (at : ℕ) (modules : List Accepted) (text : List ℕ) (bad : Bool) → tokens_of bytes ≡ Ok tokens → at < length tokens
+  units : (tokens : List Token) (at : ℕ) (modules : List Accepted) (text : List ℕ) (bad : Bool) → tokens_of bytes ≡ Ok tokens → at < length tokens
       → Answered most tokens at modules text bad → IsBegun most bytes text
 
 -- the texts of the first units, and a proper prefix of the next one's
 pub data IsCut (most : ℕ) (bytes : List ℕ) : List ℕ → Type 0 where
   in_refusal : (f : LexFault) (n : ℕ) → tokens_of bytes ≡ Err f → n < length (refusal_line (lexing_refusal f))
       → IsCut most bytes (take n (refusal_line (lexing_refusal f)))
-  in_unit : (tokens : List Seen) (at : ℕ) (before : List Accepted) (text : List ℕ) (bad : Bool) → tokens_of bytes ≡ Ok tokens
+  in_unit : (tokens : List Token) (at : ℕ) (before : List Accepted) (text : List ℕ) (bad : Bool) → tokens_of bytes ≡ Ok tokens
       → Answered most tokens at before text bad → (outcome : Outcome) (next : ℕ) (last : List ℕ) (refused : Bool) (after : List Accepted)
       → Reads false tokens at outcome next → Gives most before outcome last refused after → (n : ℕ) → n < length last
       → IsCut most bytes (text ++ take n last)

@@ -1,11 +1,13 @@
 -- What is written for the units of a source, one after another.
 use Rattle.std.specs.Prelude.{◌≡◌, ◌⊎◌, ◌++◌, ◌||◌, ℕ, Bool, true, false, List, [], ◌∷◌, map, codes, Option, Some, None, option_map, Ok, Err}
-use Rattle.mw_lex.specs.Lexing.{Seen}
+use Rattle.mw_lex.specs.declared.token.Token.{Token}
 use Rattle.mw_logic.specs.Signature.{Member}
 use Rattle.mw_module.specs.declared.faults.Fault.{Fault}
-use Rattle.mw_module.specs.Refusals.{Cause, Refusal, refusal_of, already_defined}
+use Rattle.mw_module.specs.declared.faults.Fault.{Fault}
+use Rattle.mw_module.specs.declared.faults.FaultKind.{FaultKind}
+use Rattle.mw_module.specs.declared.faults.FaultKind.TheVariants.{AlreadyDefined}
 use Rattle.mw_module.specs.Units.{SeenUnit, Outcome, Reads}
-use Rattle.mw_declare.specs.Meaning.{texts}
+use Rattle.mw_module.specs.Words.{texts}
 use Rattle.mw_command.specs.Commands.{SeenCommand, command_of}
 use Rattle.mw_build.specs.Modules.{Accepted, IsAccepted, IsRefused}
 use Rattle.mw_block.specs.Refused.{refusal_line}
@@ -20,27 +22,27 @@ abbrev pub IsTaken : List Accepted → List ℕ → Type 0
 IsTaken ms n = Member n (map (λ (a : Accepted). a.name) ms) ⊎ Member n kept_names
 
 abbrev pub name_of : SeenUnit → Option (List ℕ)
-name_of u = option_map (λ (t : Seen). t.text) u.name
+name_of u = option_map (λ (t : Token). t.text) u.name
 
 -- What a unit gives, where these modules were accepted: its text, whether it is refused, and the modules after it.
 pub data Gives (most : ℕ) (before : List Accepted) : Outcome → List ℕ → Bool → List Accepted → Type 0 where
   -- what isn't a unit by its form
-  formless : (f : Fault) → Gives most before (Err f) (refusal_line (refusal_of f)) true before
+  formless : (f : Fault) → Gives most before (Err f) (refusal_line f) true before
   -- a module: its name is taken, it has a fault, or it is accepted
   taken : (u : SeenUnit) (n : List ℕ) → name_of u ≡ Some n → IsTaken before n
-      → Gives most before (Ok u) (refusal_line (record { line = u.line; cause = already_defined n })) true before
-  refused : (u : SeenUnit) (n : List ℕ) (r : Refusal) → name_of u ≡ Some n → (IsTaken before n → ⊥) → IsRefused u r → Gives most before (Ok u) (refusal_line r) true before
+      → Gives most before (Ok u) (refusal_line (record { line = u.line; kind = AlreadyDefined n })) true before
+  refused : (u : SeenUnit) (n : List ℕ) (r : Fault) → name_of u ≡ Some n → (IsTaken before n → ⊥) → IsRefused u r → Gives most before (Ok u) (refusal_line r) true before
   accepted : (u : SeenUnit) (n : List ℕ) (a : Accepted) → name_of u ≡ Some n → (IsTaken before n → ⊥) → IsAccepted u n a
       → Gives most before (Ok u) [] false (before ++ a ∷ [])
   -- a command: it isn't of its form, it has a fault, or it is answered
-  no_command : (u : SeenUnit) (f : Fault) → name_of u ≡ None → command_of u ≡ Err f → Gives most before (Ok u) (refusal_line (refusal_of f)) true before
-  faulty : (u : SeenUnit) (c : SeenCommand) (cause : Cause) → name_of u ≡ None → command_of u ≡ Ok c → CommandFault before c cause
-      → Gives most before (Ok u) (refusal_line (record { line = u.line; cause = cause })) true before
+  no_command : (u : SeenUnit) (f : Fault) → name_of u ≡ None → command_of u ≡ Err f → Gives most before (Ok u) (refusal_line f) true before
+  faulty : (u : SeenUnit) (c : SeenCommand) (cause : FaultKind) → name_of u ≡ None → command_of u ≡ Ok c → CommandFault before c cause
+      → Gives most before (Ok u) (refusal_line (record { line = u.line; kind = cause })) true before
   answered : (u : SeenUnit) (c : SeenCommand) (a : Accepted) (text : List ℕ) → name_of u ≡ None → command_of u ≡ Ok c → module_for before c.module ≡ Some a
       → IsAnswer a most (texts c.term) c.word text → Gives most before (Ok u) text false before
 
 -- The units of these tokens up to a place are answered, in order: their texts, whether one of them was refused, and the modules that were accepted.
-pub data Answered (most : ℕ) (tokens : List Seen) : ℕ → List Accepted → List ℕ → Bool → Type 0 where
+pub data Answered (most : ℕ) (tokens : List Token) : ℕ → List Accepted → List ℕ → Bool → Type 0 where
   nothing_yet : Answered most tokens 0 [] [] false
   one_more : (at : ℕ) (before : List Accepted) (text : List ℕ) (bad : Bool) → Answered most tokens at before text bad
       → (outcome : Outcome) (next : ℕ) (last : List ℕ) (refused : Bool) (after : List Accepted) → Reads false tokens at outcome next

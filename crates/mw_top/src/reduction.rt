@@ -4,12 +4,10 @@ ghost use Rattle.mw_logic.specs.Proof.{count};
 ghost use Rattle.mw_logic.specs.Signature.{Sorted as SortedOf, IsRawTerm};
 ghost use Rattle.mw_logic.specs.Sorts.{IsLeastSort};
 ghost use Rattle.mw_block.specs.Blocks.{block as block_of};
-ghost use Rattle.mw_lex.specs.Lexing.{seen_all};
 ghost use Rattle.mw_logic.specs.Term.{is_ground, are_ground};
 ghost use Rattle.mw_term.specs.Raws.{raw_term, raw_terms};
 ghost use Rattle.mw_text.specs.Mixfix.{Reads};
-ghost use Rattle.mw_module.specs.Refusals.{cause_of};
-ghost use Rattle.mw_declare.specs.Meaning.{texts};
+ghost use Rattle.mw_module.specs.Words.{texts};
 ghost use Rattle.mw_parse.specs.Answers.{HasCause as HasReadingCause};
 ghost use Rattle.mw_build.specs.Modules.{Accepted};
 ghost use Rattle.mw_block.specs.Seen.{word_of as word_of_status};
@@ -59,7 +57,7 @@ fn have_no_variable(terms: &[Raw]) -> bool
 fn unread(error: &ParseError) -> Result<Result<Term, FaultKind>, AllocError>
     ensures { (a : Accepted) (words : List (List ℕ)) → HasReadingCause a.module.signature a.variables None words error.now → IfOk result (λ r. MatchResult r
         (λ t. Reads a.module.signature a.variables None words t × IsAdmittedTerm a.module.signature t)
-        (λ kind. TermFault a words (cause_of kind))) }
+        (λ kind. TermFault a words kind)) }
 {
     match error {
         ParseError::TooLong => Ok(Err(FaultKind::TermTooLong)),
@@ -78,7 +76,7 @@ fn canonical(
     requires { IsRawTerm accepted.now.module.signature (raw_term raw.now) }
     ensures { (words : List (List ℕ)) → Reads accepted.now.module.signature accepted.now.variables None words (raw_term raw.now) → IfOk result (λ r. MatchResult r
         (λ t. Reads accepted.now.module.signature accepted.now.variables None words t × IsAdmittedTerm accepted.now.module.signature t)
-        (λ kind. TermFault accepted.now words (cause_of kind))) }
+        (λ kind. TermFault accepted.now words kind)) }
 {
     accepted.context().shows();
     if !has_no_variable(raw) {
@@ -99,8 +97,8 @@ pub fn command_term(
     tokens: &[Token],
 ) -> Result<Result<Term, FaultKind>, AllocError>
     ensures read { IfOk result (λ r. MatchResult r
-        (λ t. Reads accepted.now.module.signature accepted.now.variables None (texts (seen_all tokens.now)) t × IsAdmittedTerm accepted.now.module.signature t)
-        (λ kind. TermFault accepted.now (texts (seen_all tokens.now)) (cause_of kind))) }
+        (λ t. Reads accepted.now.module.signature accepted.now.variables None (texts tokens.now) t × IsAdmittedTerm accepted.now.module.signature t)
+        (λ kind. TermFault accepted.now (texts tokens.now) kind)) }
 {
     match accepted.term(alloc, tokens) {
         Ok(raw) => canonical(alloc, accepted, &raw),

@@ -1,7 +1,7 @@
 // The modules that were accepted, and what a unit gives among them.
 ghost use Rattle.std.specs.Prelude.{◌≡◌, ◌↔◌, ◌++◌, ◌∷◌, List, [], Some, None, Ok, IfOk, OnOk, option_map, true, IsTrue};
 ghost use Rattle.mw_logic.specs.Signature.{Member};
-ghost use Rattle.mw_module.specs.Refusals.{cause_of, refusal_of};
+ghost use Rattle.mw_module.specs.Known.{AreKnown};
 ghost use Rattle.mw_module.specs.Units.{SeenUnit, seen_unit};
 ghost use Rattle.mw_command.specs.Commands.{command_of, seen_command};
 ghost use Rattle.mw_block.specs.Refused.{refusal_line};
@@ -12,11 +12,11 @@ ghost use Rattle.mw_top.specs.Sources.{IsTaken, Gives, name_of, kept_names};
 use crate::reduction::{answer_term, command_term};
 use indexmap::IndexMap;
 use mw_block::refusal;
-use mw_build::{BuildError, Module, build};
-use mw_command::{Command, CommandError, read};
+use mw_build::{Module, build};
+use mw_command::{Command, read};
 use mw_lex::Token;
-use mw_module::{Fault, FaultKind, Unit};
-use mw_term::Name;
+use mw_module::{Fault, FaultKind, Unit, UnitError};
+use mw_term::copy_name;
 use std::alloc::{AllocError, Global};
 use std::marker::Model;
 
@@ -52,14 +52,14 @@ impl Model for Session {
 
 /// A refusal at a line.
 fn refused(alloc: Global, line: u32, kind: FaultKind) -> Result<Answer, AllocError>
-    ensures { IfOk result (λ a. (a.text.items ≡ refusal_line (record { line = line; cause = cause_of kind })) × (a.refused ≡ true)) }
+    ensures { IfOk result (λ a. (a.text.items ≡ refusal_line (record { line = line; kind = kind })) × (a.refused ≡ true)) }
 {
     refused_by(alloc, Fault { line, kind })
 }
 
 /// The refusal of a fault.
 pub fn refused_by(alloc: Global, fault: Fault) -> Result<Answer, AllocError>
-    ensures { IfOk result (λ a. (a.text.items ≡ refusal_line (refusal_of fault)) × (a.refused ≡ true)) }
+    ensures { IfOk result (λ a. (a.text.items ≡ refusal_line fault) × (a.refused ≡ true)) }
 {
     let text = refusal(alloc, &fault)?;
     Ok(Answer {
@@ -128,19 +128,19 @@ impl Session {
     fn answer_module(
         &mut self,
         alloc: Global,
-        unit: &Unit,
+        unit: &Unit<'_>,
         name: &Token,
         most: u64,
     ) -> Result<Answer, AllocError>
-        requires { unit.now.name ≡ Some name.now }
+        requires named { name_of (seen_unit unit.now) ≡ Some name.now.text }
+        requires known { AreKnown (seen_unit unit.now).statements }
         ensures { IfOk result (λ a. Gives most self.old (Ok (seen_unit unit.now)) a.text.items a.refused self.new) }
     {
-        let name = name.text.as_slice();
-        if self.is_taken(name) {
-            let kind = FaultKind::AlreadyDefined(name.to_vec(alloc)?);
-            return refused(alloc, unit.line, kind);
+        let name = copy_name(alloc, &name.text)?;
+        if self.is_taken(name.as_slice()) {
+            return refused(alloc, unit.line, FaultKind::AlreadyDefined(name));
         }
-        match build(alloc, unit, Name::of(name.to_vec(alloc)?)) {
+        match build(alloc, unit, name) {
             Ok(module) => {
                 self.accept(alloc, module)?;
                 Ok(Answer {
@@ -148,17 +148,17 @@ impl Session {
                     refused: false,
                 })
             }
-            Err(BuildError::Fault(fault)) => refused_by(alloc, fault),
-            Err(BuildError::Memory) => Err(AllocError),
+            Err(UnitError::Fault(fault)) => refused_by(alloc, fault),
+            Err(UnitError::Memory) => Err(AllocError),
         }
     }
 
     /// The module in which a command stands.
-    fn module_for(&self, command: &Command) -> Option<&Module>
+    fn module_for(&self, command: &Command<'_>) -> Option<&Module>
         ensures { option_map (λ m. m.now) result ≡ module_for self.now (seen_command command.now).module }
     {
         match &command.module {
-            Some(name) => self.named(name.as_slice()),
+            Some(name) => self.named(name.text.as_slice()),
             None => self.last(),
         }
     }
@@ -168,7 +168,7 @@ impl Session {
         &self,
         alloc: Global,
         line: u32,
-        command: &Command,
+        command: &Command<'_>,
         most: u64,
     ) -> Result<Answer, AllocError>
         ensures { (u : SeenUnit) → u.line ≡ line → name_of u ≡ None → command_of u ≡ Ok (seen_command command.now)
@@ -177,7 +177,7 @@ impl Session {
         let Some(module) = self.module_for(command) else {
             return refused(alloc, line, missing(alloc, command)?);
         };
-        match command_term(alloc, module, command.term.as_slice())? {
+        match command_term(alloc, module, command.term)? {
             Ok(term) => Ok(Answer {
                 text: answer_term(alloc, module, command.word, term, most)?,
                 refused: false,
@@ -187,26 +187,31 @@ impl Session {
     }
 
     /// What a unit gives, where a command makes at most so many steps.
-    pub fn answer(&mut self, alloc: Global, unit: &Unit, most: u64) -> Result<Answer, AllocError>
+    pub fn answer(
+        &mut self,
+        alloc: Global,
+        unit: &Unit<'_>,
+        most: u64,
+    ) -> Result<Answer, AllocError>
+        requires { AreKnown (seen_unit unit.now).statements }
         ensures { IfOk result (λ a. Gives most self.old (Ok (seen_unit unit.now)) a.text.items a.refused self.new) }
     {
-        if let Some(name) = &unit.name {
+        if let Some(name) = unit.name {
             return self.answer_module(alloc, unit, name, most);
         }
-        match read(alloc, unit) {
+        match read(unit) {
             Ok(command) => self.answer_command(alloc, unit.line, &command, most),
-            Err(CommandError::Fault(fault)) => refused_by(alloc, fault),
-            Err(CommandError::Memory) => Err(AllocError),
+            Err(fault) => refused_by(alloc, fault),
         }
     }
 }
 
 /// The fault of a command for which there is no module.
-fn missing(alloc: Global, command: &Command) -> Result<FaultKind, AllocError>
-    ensures { IfOk result (λ kind. (ms : List Accepted) → module_for ms (seen_command command.now).module ≡ None → CommandFault ms (seen_command command.now) (cause_of kind)) }
+fn missing(alloc: Global, command: &Command<'_>) -> Result<FaultKind, AllocError>
+    ensures { IfOk result (λ kind. (ms : List Accepted) → module_for ms (seen_command command.now).module ≡ None → CommandFault ms (seen_command command.now) kind) }
 {
     match &command.module {
-        Some(name) => Ok(FaultKind::UnknownModule(name.as_slice().to_vec(alloc)?)),
+        Some(name) => Ok(FaultKind::UnknownModule(copy_name(alloc, &name.text)?)),
         None => Ok(FaultKind::NoModule),
     }
 }

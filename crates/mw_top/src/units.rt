@@ -1,7 +1,6 @@
 // The units of a source, each answered in turn.
 ghost use Rattle.std.specs.Prelude.{◌≡◌, ◌≢◌, ◌<◌, ◌≤◌, ◌⊎◌, List, [], length, take, IfOk, true, false};
 ghost use Rattle.mw_outside.specs.Causes.{Rose};
-ghost use Rattle.mw_lex.specs.Lexing.{seen_all};
 ghost use Rattle.mw_module.specs.Units.{Outcome, Reads};
 ghost use Rattle.mw_top.specs.Sources.{Gives};
 ghost use Rattle.mw_top.specs.Outputs.{AreDone, AreBegun, AreCut};
@@ -9,7 +8,7 @@ ghost use Rattle.mw_top.specs.Outputs.{AreDone, AreBegun, AreCut};
 use crate::session::{Answer, Session, refused_by};
 use crate::streams::write_whole;
 use mw_lex::Token;
-use mw_module::{UnitError, read_unit};
+use mw_module::read_unit;
 use mw_outside::Sink;
 use std::alloc::{AllocError, Global};
 
@@ -22,19 +21,13 @@ fn answer_next(
     most: u64,
 ) -> Result<(Answer, usize), AllocError>
     requires { at < length tokens.now }
-    ensures gives { IfOk result (λ r. (outcome : Outcome) × Reads false (seen_all tokens.now) at outcome r.1 × Gives most session.old outcome r.0.text.items r.0.refused session.new) }
+    ensures gives { IfOk result (λ r. (outcome : Outcome) × Reads false tokens.now at outcome r.1 × Gives most session.old outcome r.0.text.items r.0.refused session.new) }
     ensures further { IfOk result (λ r. (at < r.1) × (r.1 ≤ length tokens.now)) }
 {
-    match read_unit(alloc, tokens, at, false) {
-        Ok((unit, next)) => {
-            let answer = session.answer(alloc, &unit, most)?;
-            Ok((answer, next))
-        }
-        Err(UnitError::Fault { fault, next }) => {
-            let answer = refused_by(alloc, fault)?;
-            Ok((answer, next))
-        }
-        Err(UnitError::Memory) => Err(AllocError),
+    let (outcome, next) = read_unit(alloc, tokens, at, false)?;
+    match outcome {
+        Ok(unit) => Ok((session.answer(alloc, &unit, most)?, next)),
+        Err(fault) => Ok((refused_by(alloc, fault)?, next)),
     }
 }
 
@@ -44,11 +37,11 @@ pub fn answer_units<K: Sink>(alloc: Global, tokens: &[Token], most: u64, sink: &
     ensures status { (result ≤ 1) ⊎ (result ≡ 4) ⊎ (result ≡ 5) }
     ensures later { K.faults sink.old ≤ K.faults sink.new }
     ensures kept { result ≢ 4 → K.faults sink.new ≡ K.faults sink.old }
-    ensures answered { result ≡ 0 → AreDone most (seen_all tokens.now) (K.held sink.old) (K.held sink.new) false }
-    ensures refused { result ≡ 1 → AreDone most (seen_all tokens.now) (K.held sink.old) (K.held sink.new) true }
+    ensures answered { result ≡ 0 → AreDone most tokens.now (K.held sink.old) (K.held sink.new) false }
+    ensures refused { result ≡ 1 → AreDone most tokens.now (K.held sink.old) (K.held sink.new) true }
     ensures failed { result ≡ 4 → Rose (K.faults sink.old) (K.faults sink.new) }
-    ensures cut { result ≡ 4 → AreCut most (seen_all tokens.now) (K.held sink.old) (K.held sink.new) }
-    ensures memory { result ≡ 5 → AreBegun most (seen_all tokens.now) (K.held sink.old) (K.held sink.new) }
+    ensures cut { result ≡ 4 → AreCut most tokens.now (K.held sink.old) (K.held sink.new) }
+    ensures memory { result ≡ 5 → AreBegun most tokens.now (K.held sink.old) (K.held sink.new) }
 {
     let mut session = Session::new(alloc);
     let mut at = 0;

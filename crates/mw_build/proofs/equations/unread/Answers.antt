@@ -1,5 +1,5 @@
 use Rattle.std.proofs.Common.{subst}
-use Rattle.mw_declare.specs.Meaning.{texts}
+use Rattle.mw_module.specs.Words.{texts}
 use Rattle.mw_parse.specs.Answers.{HasPairCause}
 use Rattle.mw_build.specs.Equations.{long, unread, unclear}
 use Rattle.mw_build.proofs.equations.unread.Goals as goal

@@ -12,4 +12,4 @@ pub returns : goal.returns
 returns c =
     let o : Operator = c.index-as_slice-operator.result in
     let e : o ≡ get_or c.args.signature.now.operators (c.args.operator - 1) o = c.index-as_slice-operator.is ∙ ap (λ os. get_or os (c.args.operator - 1) o) (c.as_slice.ensures ∙ ap (λ (s : Signature). s.operators) c.signature.view_is) in
-    refused_so c.args.line c.args.operator c.args.signature.now (map sorted_of c.args.sorts.now) c.requires.first o e c.into_vec-operator.result.items _ (c.into_vec-operator.ensures ∙ c.in_ok-copy_name.ensures ∙ ap (λ (p : Operator). p.spelling) c.found.view_is) c.in_ok-sorts.ensures
+    refused_so c.args.line c.args.operator c.args.signature.now (map sorted_of c.args.sorts.now) c.requires.first o e c.in_ok-operator.operator _ (c.in_ok-operator.ensures ∙ ap (λ (p : Operator). p.spelling) c.found.view_is) c.in_ok-sorts.ensures

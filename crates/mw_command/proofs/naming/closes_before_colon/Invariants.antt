@@ -1,11 +1,10 @@
 use Rattle.std.proofs.Common.{◌≡◌, ◌+◌, ◌<◌, ◌≤◌, length}
-use Rattle.mw_lex.specs.Lexing.{seen_all}
 use Rattle.mw_command.specs.Commands.{closes_before_colon}
 use Rattle.mw_command.proofs.naming.closes_before_colon.Given as goal
 
 abbrev pub invariant-loop-rest : goal.invariant-loop-rest
 invariant-loop-rest l = record {
-  rest : closes_before_colon l.depth (seen_all l.rest) ≡ closes_before_colon 1 (seen_all l.tokens);
+  rest : closes_before_colon l.depth l.rest ≡ closes_before_colon 1 l.tokens;
   some : 0 < l.depth;
   few : l.depth + length l.rest ≤ length l.tokens + 1;
 }

@@ -1,9 +1,9 @@
-use Rattle.std.proofs.Common.{◌≡◌, ◌++◌, length}
+use Rattle.std.proofs.Common.{◌≡◌, ◌++◌, ℕ, drop, map}
 use Rattle.mw_declare.specs.Hierarchy.{pairs_between}
 use Rattle.mw_declare.proofs.hierarchy.add_between.Given as goal
 
-abbrev pub invariant-loop-rest : goal.invariant-loop-rest
-invariant-loop-rest l = l.pairs.items ++ pairs_between l.rest l.uppers ≡ l.fn.pairs.items ++ pairs_between l.lowers l.uppers
+abbrev pub invariant-loop-lower : goal.invariant-loop-lower
+invariant-loop-lower l = l.pairs.items ++ pairs_between (drop l.lower-index l.lowers) l.uppers ≡ l.fn.pairs.items ++ pairs_between l.lowers l.uppers
 
-abbrev pub decreases-loop-rest : goal.decreases-loop-rest
-decreases-loop-rest l = length l.rest
+abbrev pub invariant-loop-upper : goal.invariant-loop-upper
+invariant-loop-upper l = l.pairs.items ++ map (λ (T : ℕ). (l.lower, T)) (drop l.upper-index l.uppers) ≡ l.initial.pairs.items ++ map (λ (T : ℕ). (l.lower, T)) l.uppers

@@ -1,11 +1,10 @@
 use Rattle.std.proofs.Common.{◌≡◌, ◌+◌, ◌≤◌, length, reverse, option_map}
-use Rattle.mw_lex.specs.Lexing.{seen_all}
 use Rattle.mw_module.specs.Equations.{bracket_len}
 use Rattle.mw_module.proofs.equations.bracket_len.Given as goal
 
 abbrev pub invariant-loop-rest : goal.invariant-loop-rest
 invariant-loop-rest l = record {
-  len : option_map (λ k. l.len + k) (bracket_len l.depth (reverse (seen_all l.rest))) ≡ bracket_len 0 (reverse (seen_all l.tokens));
+  len : option_map (λ k. l.len + k) (bracket_len l.depth (reverse l.rest)) ≡ bracket_len 0 (reverse l.tokens);
   size : l.len + length l.rest ≡ length l.tokens;
   few : l.depth ≤ l.len;
 }

@@ -1,7 +1,6 @@
-use Rattle.std.proofs.Common.{◌∙◌, sym, ap, not}
-use Rattle.mw_module.specs.OperatorNames.{all_names}
-use Rattle.mw_module.proofs.NameByName.{names_some}
+use Rattle.std.proofs.Common.{◌∙◌, sym}
+use Rattle.mw_module.proofs.NameByName.{all_named, some_names}
 use Rattle.mw_module.proofs.operator_names.are_names.Goals as goal
 
-pub returns : goal.returns
-returns c = ap not c.is_empty.ensures ∙ names_some c.args.names.single c.args.names.tokens.now (sym c.loop-name.invariant ∙ ap all_names c.in_default.ensures.none)
+pub returns-then-not-is_empty : goal.returns-then-not-is_empty
+returns-then-not-is_empty c = c.are_all_names.ensures ∙ sym (all_named c.args.names.now) ∙ some_names c.args.names.now (sym c.is_empty.ensures ∙ c.if-not-is_empty.true)

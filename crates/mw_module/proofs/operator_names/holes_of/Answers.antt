@@ -6,7 +6,7 @@ use Rattle.mw_module.proofs.operator_names.holes_of.Goals as goal
 pub loop-rest-preserved : goal.loop-rest-preserved
 loop-rest-preserved c = record {
   count = holes_more c.loop-rest.holes _ _ _ c.in-len1-up.len_at_least c.token-item.is
-      (c.saturating_add-holes.ensures ∙ ap (λ (n : ℕ). min (c.loop-rest.holes + n) (2 ^ 64 - 1)) (c.holes_in.ensures ∙ ap (λ (bytes : List ℕ). count_holes (items_of bytes)) c.as_slice.ensures.value))
+      (c.saturating_add-holes.ensures ∙ ap (λ (n : ℕ). min (c.loop-rest.holes + n) (2 ^ 64 - 1)) (c.holes.ensures ∙ ap (λ (bytes : List ℕ). count_holes (items_of bytes)) c.as_slice.ensures))
       ∙ c.loop-rest.invariant.count;
   fits = omega arith;
 }

@@ -1,13 +1,11 @@
-use Rattle.std.proofs.Common.{◌≡◌, length}
-use Rattle.std.specs.Prelude.{All}
-use Rattle.mw_lex.specs.Lexing.{seen_all}
-use Rattle.mw_module.specs.Units.{seen_items, with_items, body_of, IsFormed}
+use Rattle.std.proofs.Common.{◌≡◌, ◌≤◌, length}
+use Rattle.mw_module.specs.Units.{seen_statements, with_statements, body_of}
 use Rattle.mw_module.proofs.units.read_body.Given as goal
 
 abbrev pub invariant-loop-rest : goal.invariant-loop-rest
 invariant-loop-rest l = record {
-  body : with_items (seen_items l.items.items) (body_of (seen_all l.rest)) ≡ body_of (seen_all l.body);
-  formed : All IsFormed (seen_items l.items.items);
+  body : with_statements (seen_statements l.statements.items) (body_of l.rest) ≡ body_of l.body;
+  fewer : length l.rest ≤ length l.body;
 }
 
 abbrev pub decreases-loop-rest : goal.decreases-loop-rest

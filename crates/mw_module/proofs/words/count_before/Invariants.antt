@@ -1,11 +1,10 @@
 use Rattle.std.proofs.Common.{◌≡◌, ◌+◌, length}
-use Rattle.mw_lex.specs.Lexing.{seen_all}
 use Rattle.mw_module.specs.Words.{count_before}
 use Rattle.mw_module.proofs.words.count_before.Given as goal
 
 abbrev pub invariant-loop-rest : goal.invariant-loop-rest
 invariant-loop-rest l = record {
-  count : l.count + count_before l.word (seen_all l.rest) ≡ count_before l.word (seen_all l.tokens);
+  count : l.count + count_before l.word l.rest ≡ count_before l.word l.tokens;
   size : l.count + length l.rest ≡ length l.tokens;
 }
 

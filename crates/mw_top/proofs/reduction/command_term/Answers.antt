@@ -1,9 +1,8 @@
-use Rattle.mw_lex.specs.Lexing.{seen_all}
-use Rattle.mw_declare.specs.Meaning.{texts}
+use Rattle.mw_module.specs.Words.{texts}
 use Rattle.mw_top.proofs.reduction.command_term.Goals as goal
 
 pub returns-in-Ok : goal.returns-in-Ok
-returns-in-Ok c = record { read = c.canonical.ensures (texts (seen_all c.args.tokens.now)) c.in-Ok.ensures.read }
+returns-in-Ok c = record { read = c.canonical.ensures (texts c.args.tokens.now) c.in-Ok.ensures.read }
 
 pub returns-in-Err : goal.returns-in-Err
-returns-in-Err c = record { read = c.unread.ensures c.args.accepted.now (texts (seen_all c.args.tokens.now)) c.in-Err.ensures.cause }
+returns-in-Err c = record { read = c.unread.ensures c.args.accepted.now (texts c.args.tokens.now) c.in-Err.ensures.cause }

@@ -1,12 +1,21 @@
-use Rattle.std.proofs.Common.{subst, Err, false}
-use Rattle.mw_lex.specs.Lexing.{seen_all}
-use Rattle.mw_module.specs.Units.{HasCause}
-use Rattle.mw_module.specs.Refusals.{refusal_of}
+use Rattle.std.proofs.Common.{Result, Ok, Err, false, subst}
+use Rattle.mw_module.specs.declared.faults.Fault.{Fault}
+use Rattle.mw_module.specs.declared.units.Unit.{Unit as SourceUnit}
+use Rattle.mw_module.specs.Units.{Reads, seen_outcome, seen_unit}
+use Rattle.mw_module.proofs.Sources.{units_are_known}
 use Rattle.mw_top.specs.Sources.{formless}
 use Rattle.mw_top.proofs.Giving.{refused_gives}
 use Rattle.mw_top.proofs.units.answer_next.Goals as goal
 
-pub returns-in_ok-answer-in-Err-Fault-clause-gives : goal.returns-in_ok-answer-in-Err-Fault-clause-gives
-returns-in_ok-answer-in-Err-Fault-clause-gives c =
-    let read = subst (HasCause false (seen_all c.args.tokens.now) c.args.at) c.in-Err-Fault.field-0-is c.in-Err-Fault.ensures.fault in
-    (Err c.in-Err-Fault.fault, read, refused_gives c.args.most c.args.session.now (Err c.in-Err-Fault.fault) (refusal_of c.in-Err-Fault.fault) _ _ (formless c.in-Err-Fault.fault) c.in_ok-answer-in-Err-Fault.ensures)
+pub answer-requires : goal.answer-requires
+answer-requires c =
+    let next = c.in_ok-outcome.next in
+    let read = subst (λ (r : Result SourceUnit Fault). Reads false c.args.tokens.now c.args.at (seen_outcome r) next) c.in-Ok.is c.in_ok-outcome.ensures in
+    units_are_known false c.args.tokens.now c.args.at next (seen_unit c.in-Ok.unit) read
+
+pub returns-in_ok-refused_by-in-Err-clause-gives : goal.returns-in_ok-refused_by-in-Err-clause-gives
+returns-in_ok-refused_by-in-Err-clause-gives c =
+    let next = c.in_ok-outcome.next in
+    let read = subst (λ (r : Result SourceUnit Fault). Reads false c.args.tokens.now c.args.at (seen_outcome r) next) c.in-Err.is c.in_ok-outcome.ensures in
+    let told = refused_gives c.args.most c.args.session.now (Err c.in-Err.fault) c.in-Err.fault _ _ (formless c.in-Err.fault) c.in_ok-refused_by-in-Err.ensures in
+    (Err c.in-Err.fault, read, told)

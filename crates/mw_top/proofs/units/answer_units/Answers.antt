@@ -1,6 +1,5 @@
 use Rattle.std.proofs.Common.{◌++◌, ◌∙◌, [], false, refl, sym, subst, arith, take}
 use Rattle.std.specs.Io.KnownBytes.{Appends}
-use Rattle.mw_lex.specs.Lexing.{seen_all}
 use Rattle.mw_top.specs.Sources.{Answered, nothing_yet, one_more}
 use Rattle.mw_top.specs.Moved.{Took}
 use Rattle.mw_top.proofs.Moving.{appends_more, appends_none}
@@ -10,7 +9,7 @@ pub loop-at-init : goal.loop-at-init
 loop-at-init g c = record {
   within = omega arith;
   same = refl;
-  done = ([], subst (λ ms. Answered c.args.most (seen_all c.args.tokens.now) 0 ms [] false) (sym c.new-session.ensures) nothing_yet, appends_none (g.K.Sink.held c.args.sink.now));
+  done = ([], subst (λ ms. Answered c.args.most c.args.tokens.now 0 ms [] false) (sym c.new-session.ensures) nothing_yet, appends_none (g.K.Sink.held c.args.sink.now));
 }
 
 pub returns-in-Err-clause-cut : goal.returns-in-Err-clause-cut

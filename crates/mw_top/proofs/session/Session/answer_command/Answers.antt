@@ -1,7 +1,5 @@
 use Rattle.std.proofs.Common.{sym, subst, Ok}
-use Rattle.mw_lex.specs.Lexing.{seen_all}
-use Rattle.mw_declare.specs.Meaning.{texts}
-use Rattle.mw_module.specs.Refusals.{cause_of}
+use Rattle.mw_module.specs.Words.{texts}
 use Rattle.mw_command.specs.Commands.{seen_command}
 use Rattle.mw_top.specs.Commands.{IsAnswer, TermFault, in_term}
 use Rattle.mw_top.specs.Sources.{faulty, answered}
@@ -13,18 +11,16 @@ pub returns-in_default : goal.returns-in_default
 returns-in_default c = λ u line named command.
     let none = none_there (λ m. m.now) c.module_for.result _ c.in_default.not-Some c.module_for.ensures in
     if_ok c.refused.result c.refused.ensures
-    (λ a h. refused_gives c.args.most c.args.self.now (Ok u) (record { line = c.args.line; cause = cause_of c.in_ok-missing.field-0 }) a.text.items a.refused
-    (rw (sym line) (faulty u (seen_command c.args.command.now) (cause_of c.in_ok-missing.field-0) named command (c.in_ok-missing.ensures c.args.self.now none))) h)
+    (λ a h. refused_gives c.args.most c.args.self.now (Ok u) (record { line = c.args.line; kind = c.in_ok-missing.field-0 }) a.text.items a.refused
+    (rw (sym line) (faulty u (seen_command c.args.command.now) c.in_ok-missing.field-0 named command (c.in_ok-missing.ensures c.args.self.now none))) h)
 
 pub returns-in_ok-answer_term-in-Ok : goal.returns-in_ok-answer_term-in-Ok
 returns-in_ok-answer_term-in-Ok c = λ u line named command. answered u (seen_command c.args.command.now) c.in-Some.module.now c.in_ok-answer_term-in-Ok.field-0.items named command (sym c.in-Some.ensures)
-    (subst (λ ts. IsAnswer c.in-Some.module.now c.args.most (texts (seen_all ts)) c.args.command.now.word c.in_ok-answer_term-in-Ok.field-0.items) c.as_slice.ensures.value
-    (c.in_ok-answer_term-in-Ok.ensures (texts (seen_all c.as_slice.result.now)) (match_ok _ _ c.in_ok-term.field-0 c.in_ok-term.ensures.read c.in-Ok.term c.in-Ok.is).0))
+    (c.in_ok-answer_term-in-Ok.ensures (texts c.args.command.now.term.now) (match_ok _ _ c.in_ok-term.field-0 c.in_ok-term.ensures.read c.in-Ok.term c.in-Ok.is).0)
 
 pub returns-in-Err : goal.returns-in-Err
 returns-in-Err c = λ u line named command.
-    let wrong = subst (λ ts. TermFault c.in-Some.module.now (texts (seen_all ts)) (cause_of c.in-Err.kind)) c.as_slice.ensures.value
-    (match_err _ _ c.in_ok-term.field-0 c.in_ok-term.ensures.read c.in-Err.kind c.in-Err.is) in
+    let wrong = match_err _ _ c.in_ok-term.field-0 c.in_ok-term.ensures.read c.in-Err.kind c.in-Err.is in
     if_ok c.refused-in-Err.result c.refused-in-Err.ensures
-    (λ a h. refused_gives c.args.most c.args.self.now (Ok u) (record { line = c.args.line; cause = cause_of c.in-Err.kind }) a.text.items a.refused
-    (rw (sym line) (faulty u (seen_command c.args.command.now) (cause_of c.in-Err.kind) named command (in_term c.in-Some.module.now (cause_of c.in-Err.kind) (sym c.in-Some.ensures) wrong))) h)
+    (λ a h. refused_gives c.args.most c.args.self.now (Ok u) (record { line = c.args.line; kind = c.in-Err.kind }) a.text.items a.refused
+    (rw (sym line) (faulty u (seen_command c.args.command.now) c.in-Err.kind named command (in_term c.in-Some.module.now c.in-Err.kind (sym c.in-Some.ensures) wrong))) h)
