@@ -12,7 +12,7 @@ use Rattle.mw_chart.specs.declared.terminal.Leaf.{Leaf}
 use Rattle.mw_text.proofs.Joined.{Member-cases, Member-left, Member-right}
 use Rattle.mw_grammar.specs.Compiled.{Extends}
 use Rattle.mw_grammar.specs.Worded.{IsLeafOf, AllDiffer, Adds}
-use Rattle.mw_grammar.proofs.Made.{get_grows, Extends-trans, Extends-same}
+use Rattle.mw_grammar.proofs.Made.{get_grows, Extends-trans}
 
 still_differ : (xs : List Variable) (x : Variable) → is_met xs x ≡ false → AllDiffer xs → AllDiffer (xs ++ x ∷ [])
 still_differ xs x new d v w y a b = elim (back xs x v y a) [
