@@ -12,7 +12,7 @@ use Rattle.mw_chart.specs.declared.terminal.Leaf.{Leaf}
 use Rattle.mw_text.proofs.Joined.{Member-cases, Member-left, Member-right}
 use Rattle.mw_grammar.specs.Compiled.{Extends}
 use Rattle.mw_grammar.specs.Worded.{IsLeafOf, AllDiffer, Adds}
-use Rattle.mw_grammar.proofs.Made.{get_grows, Extends-trans, Extends-same}
+use Rattle.mw_grammar.proofs.Made.{get_grows, Extends-trans}
 
 still_differ : (xs : List Variable) (x : Variable) → is_met xs x ≡ false → AllDiffer xs → AllDiffer (xs ++ x ∷ [])
 still_differ xs x new d v w y a b = elim (back xs x v y a) [
@@ -64,15 +64,6 @@ module _ (kind : ℕ → ℕ) where
 
   grown : (old new : List Variable) (l : Leaf) (x : Variable) → Extends old new → IsLeafOf kind old l x → IsLeafOf kind new l x
   grown old new l x e h = (get_grows old new l.value x e h.0, h.1)
-
-  pub adds_none : (old : List Variable) (before : List Leaf) (F : Variable → Type 0) → ((x : Variable) → F x → ⊥) → Adds kind old old before before F
-  adds_none old before F none = record {
-    leaves = Extends-same old;
-    differ = λ d. d;
-    kept = λ l h. h;
-    sound = λ l h. inl h;
-    complete = λ x h. absurd (none x h);
-  }
 
   pub adds_same : (old new : List Variable) (before after : List Leaf) (F G : Variable → Type 0) → ((x : Variable) → F x → G x) → ((x : Variable) → G x → F x) → Adds kind old new before after F
       → Adds kind old new before after G

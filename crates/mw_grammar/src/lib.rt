@@ -23,9 +23,9 @@
 //! a raw term.
 //!
 //! Conditions: the order is that of the signature's sorts; names have a piece or more than one hole, sorts are
-//! declared, precedences are at most 127, associative operators have two arguments of their result's kind (`IsReadable`); the
-//! variables' sorts are declared. Want of memory may come at any call, also above 2^31 - 1 sorts or operators, or
-//! 2^32 - 1 names.
+//! declared, precedences are at most 127, associative operators have two arguments of their result's kind
+//! (`IsReadable`); the variables' sorts are declared. Want of memory may come at any call, also above 2^31 - 1 sorts or
+//! operators, or 2^32 - 1 names.
 //!
 //! How it is proved: what tokens spell is the least relation between kinds, precedences, terms and texts that
 //! variables, parentheses and notations keep (`IsClosed`), and so is what the states spell. Cost: the notations' parts;

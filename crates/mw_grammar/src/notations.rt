@@ -44,9 +44,8 @@ fn add_flattened(
     operator: &Operator,
     in_pieces: bool,
 ) -> Result<(), AllocError>
-    ensures { OnOk result (AddsNotations making.old making.new names.old names.new
-        (λ F. F ≡ flattened_notation (kind_in kinds.now) last f operator.now
-        (head_of operator.now.spelling in_pieces))) }
+    ensures { OnOk result (AddsNotations making.old making.new names.old names.new (λ F.
+        F ≡ flattened_notation (kind_in kinds.now) last f operator.now (head_of operator.now.spelling in_pieces))) }
 {
     let kind = kind_of(kinds, operator.result);
     let name = operator.spelling.as_slice();

@@ -1,11 +1,13 @@
-//! Which terms the tokens of a text spell: definitions, which the contracts of the reader and of the program cite; and
-//! names as pieces and holes.
+//! Which terms the tokens of a text spell: definitions, which the contracts of the reader and of the program cite;
+//! names as pieces and holes; and names and variables that are met, each once.
 //!
 //! - **Names** (specs/Names): an operator's spelling as pieces and holes (`items_of`), and a name's prefix spelling as
 //!   one token. `first_item` takes the first item off a spelling, without memory: it gives that item and what stands
 //!   behind it, and none exactly where there is none. The law `spellings_read`: the prefix spelling of a name reads
 //!   back as its items. A name is proper (specs/Proper) where its pieces are tokens, and where it has holes, its
 //!   spelling is one too.
+//! - **What is met** (specs/Interned, specs/Mentions): `Names` and `Variables` hold each name or variable once, in
+//!   order of first mention, found by hash. A name's number counts from 1.
 //! - **Mixfix** (specs/Mixfix) says which terms tokens spell (`Spells`), as a family by cases on the term, with a
 //!   precedence: variables, texts in parentheses, constants, prefix forms, and mixfix forms whose holes take
 //!   precedences by their marks. `Reads`: this term is spelled, and no other one (of a wanted sort's kind, where one is
