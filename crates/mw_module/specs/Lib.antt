@@ -1,12 +1,12 @@
 -- Units of a source.
 pub mod Words
-pub mod Faults
 pub mod Causes
 pub mod Openings
 pub mod OperatorNames
-pub mod Sortings
-pub mod Groups
+pub mod Rows
 pub mod Attributes
+pub mod Reading
+pub mod Sortings
 pub mod Equations
 pub mod Forms
 pub mod Kinds

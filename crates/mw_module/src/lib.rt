@@ -35,17 +35,16 @@
 #![tactic(auto)]
 
 mod attribute;
-mod attribute_list;
 mod equations;
 mod faults;
 mod forms;
-mod groups;
 mod kinds;
-mod names;
+mod machine;
 mod openings;
 mod operator_names;
 mod operators;
 mod sortings;
+mod table;
 mod units;
 mod words;
 

@@ -1,0 +1,284 @@
+// Statements, and pieces of statements, by the table.
+ghost use Rattle.std.specs.Prelude.{◌≡◌, ◌<◌, ◌≤◌, ◌+◌, map, length, option_map, IfOk, OnOk};
+ghost use Rattle.mw_module.specs.Rows.{seen_row};
+ghost use Rattle.mw_module.specs.Rows as spec;
+ghost use Rattle.mw_module.specs.Words.{seen_lists};
+ghost use Rattle.mw_module.specs.Reading as reading;
+
+use crate::attribute::{are_marks, is_precedence};
+use crate::operator_names::is_name;
+use crate::table::{Act, End, Place, Role, Row, Test, Wrong, ending_at, rows};
+use crate::words::{is_punctuation, is_quoted, is_whole_string};
+use mw_lex::Token;
+use std::alloc::{AllocError, Global};
+
+/// The tokens from one place up to another, by what they are.
+#[derive(Clone, Copy)]
+pub struct Part {
+    pub role: Role,
+    pub from: usize,
+    pub to: usize,
+}
+
+/// Where the reading stands: the place, how many levels are open, what the open part is and where it begins, and the
+/// parts that are closed.
+#[derive(Drop)]
+pub struct State {
+    pub place: Place,
+    pub depth: usize,
+    pub role: Role,
+    pub from: usize,
+    pub parts: Vec<Part>,
+}
+
+/// The tokens of a part.
+#[tactic(auto, using(crate::proofs::Slices::part_read))]
+pub fn part_tokens(tokens: &[Token], part: Part) -> &[Token]
+    ensures { result.now ≡ reading.tokens_of tokens.now part }
+{
+    let (_, behind) = tokens.split_at(part.from.min(tokens.len()));
+    let (inside, _) = behind.split_at(part.to.saturating_sub(part.from).min(behind.len()));
+    inside
+}
+
+fn passes(test: Test, depth: usize, text: &[u8]) -> bool
+    ensures { result ≡ reading.passes test depth text.now }
+{
+    match test {
+        Test::Any => true,
+        Test::Outside => depth == 0,
+        Test::Plain => !is_punctuation(text),
+        Test::Run => !is_punctuation(text) && !is_quoted(text),
+        Test::Precedence => is_precedence(text),
+        Test::Text => is_whole_string(text),
+    }
+}
+
+fn meets(depth: usize, text: &[u8], row: &Row) -> bool
+    ensures { result ≡ reading.meets depth text.now (seen_row row.now) }
+{
+    (row.word.is_empty() || text == row.word) && passes(row.test, depth, text)
+}
+
+// The first row that a token with this text meets.
+fn row_for(depth: usize, text: &[u8], rows: &[Row]) -> Option<Row>
+    ensures { option_map seen_row result ≡ reading.row_for depth text.now (map seen_row rows.now) }
+{
+    let mut rest = rows;
+    while let [row, after @ ..] = rest {
+        if meets(depth, text, row) {
+            return Some(*row);
+        }
+        rest = after;
+    }
+    None
+}
+
+// Whether tokens may be a part.
+fn is_fine(arity: usize, role: Role, tokens: &[Token]) -> bool
+    ensures { result ≡ reading.is_fine arity role tokens.now }
+{
+    match role {
+        Role::Name => is_name(tokens),
+        Role::Gather => arity != 0 && tokens.len() == arity && are_marks(tokens),
+        Role::Group
+        | Role::Sort
+        | Role::Kind
+        | Role::List
+        | Role::Silent
+        | Role::Config
+        | Role::Precedence
+        | Role::Side
+        | Role::Nonexec => true,
+    }
+}
+
+impl State {
+    // Closes a part.
+    fn close(
+        &mut self,
+        tokens: &[Token],
+        arity: usize,
+        part: Part,
+    ) -> Result<Result<(), Wrong>, AllocError>
+        ensures state { IfOk result (λ r. reading.seen_outcome r self.new ≡ reading.closed tokens.now arity part (reading.seen_state self.old)) }
+        ensures depth { OnOk result (self.new.depth ≡ self.old.depth) }
+    {
+        if !is_fine(arity, part.role, part_tokens(tokens, part)) {
+            return Ok(Err(Wrong::Bad));
+        }
+        self.parts.push(part)?;
+        self.from = part.to;
+        Ok(Ok(()))
+    }
+
+    // Closes the open part in front of the token at number i.
+    fn close_open(
+        &mut self,
+        tokens: &[Token],
+        arity: usize,
+        i: usize,
+    ) -> Result<Result<(), Wrong>, AllocError>
+        ensures state { IfOk result (λ r. reading.seen_outcome r self.new ≡ reading.closed_open tokens.now arity i (reading.seen_state self.old)) }
+        ensures depth { OnOk result (self.new.depth ≡ self.old.depth) }
+    {
+        let part = Part {
+            role: self.role,
+            from: self.from,
+            to: i,
+        };
+        self.close(tokens, arity, part)
+    }
+
+    // Opens a part behind the token at number i.
+    fn begin(&mut self, role: Role, i: usize, tokens: &[Token])
+        requires { i < length tokens.now }
+        ensures { reading.seen_state self.new ≡ reading.opened role i (reading.seen_state self.old) }
+    {
+        self.role = role;
+        self.from = i + 1;
+    }
+
+    // Takes the token at number i.
+    fn take(
+        &mut self,
+        tokens: &[Token],
+        arity: usize,
+        act: Act,
+        i: usize,
+    ) -> Result<Result<(), Wrong>, AllocError>
+        requires number { i < length tokens.now }
+        requires levels { self.old.depth ≤ i }
+        ensures state { IfOk result (λ r. reading.seen_outcome r self.new ≡ reading.taken tokens.now arity act i (reading.seen_state self.old)) }
+        ensures depth { OnOk result (self.new.depth ≤ self.old.depth + 1) }
+    {
+        match act {
+            Act::Skip => Ok(Ok(())),
+            Act::Deeper => {
+                self.depth += 1;
+                Ok(Ok(()))
+            }
+            Act::Shallower => {
+                self.depth = self.depth.saturating_sub(1);
+                Ok(Ok(()))
+            }
+            Act::Close => self.close_open(tokens, arity, i),
+            Act::After(role) => {
+                self.begin(role, i, tokens);
+                Ok(Ok(()))
+            }
+            Act::Next(role) => {
+                let closed = self.close_open(tokens, arity, i)?;
+                self.begin(role, i, tokens);
+                Ok(closed)
+            }
+            Act::One(role) => {
+                let part = Part {
+                    role,
+                    from: i,
+                    to: i + 1,
+                };
+                self.close(tokens, arity, part)
+            }
+        }
+    }
+
+    // Goes on by the row of the token at number i.
+    fn step(
+        &mut self,
+        tokens: &[Token],
+        arity: usize,
+        i: usize,
+        token: &Token,
+    ) -> Result<Result<(), Wrong>, AllocError>
+        requires number { i < length tokens.now }
+        requires levels { self.old.depth ≤ i }
+        ensures state { IfOk result (λ r. reading.seen_outcome r self.new ≡ reading.stepped tokens.now arity i token.now (reading.seen_state self.old)) }
+        ensures depth { OnOk result (self.new.depth ≤ self.old.depth + 1) }
+    {
+        let Some(row) = row_for(self.depth, token.text.as_slice(), rows(self.place)) else {
+            return Ok(Err(Wrong::Bad));
+        };
+        if let Err(wrong) = self.take(tokens, arity, row.act, i)? {
+            return Ok(Err(wrong));
+        }
+        match row.next {
+            Ok(place) => {
+                self.place = place;
+                Ok(Ok(()))
+            }
+            Err(wrong) => Ok(Err(wrong)),
+        }
+    }
+
+    // Ends behind the last token.
+    fn end(&mut self, tokens: &[Token], arity: usize) -> Result<Result<(), Wrong>, AllocError>
+        ensures { IfOk result (λ r. reading.seen_ended r self.new ≡ reading.ended tokens.now arity (spec.ending self.old.place) (reading.seen_state self.old)) }
+    {
+        match ending_at(self.place) {
+            End::Never => Ok(Err(Wrong::Bad)),
+            End::Free => Ok(Ok(())),
+            End::Closes => self.close_open(tokens, arity, tokens.len()),
+        }
+    }
+}
+
+/// The parts of a piece that begins at this place, where a part of this role is open, of operators with so many
+/// arguments; or what is wrong.
+pub fn read(
+    alloc: Global,
+    place: Place,
+    role: Role,
+    arity: usize,
+    tokens: &[Token],
+) -> Result<Result<Vec<Part>, Wrong>, AllocError>
+    ensures { IfOk result (λ r. reading.seen_parts r ≡ reading.read_at place role arity tokens.now) }
+{
+    let mut state = State {
+        place,
+        depth: 0,
+        role,
+        from: 0,
+        parts: Vec::new(alloc),
+    };
+    let mut rest = tokens;
+    let mut i = 0;
+    while let [token, after @ ..] = rest {
+        if let Err(wrong) = state.step(tokens, arity, i, token)? {
+            return Ok(Err(wrong));
+        }
+        i += 1;
+        rest = after;
+    }
+    match state.end(tokens, arity)? {
+        Ok(()) => Ok(Ok(state.parts)),
+        Err(wrong) => Ok(Err(wrong)),
+    }
+}
+
+/// The tokens of each part.
+pub fn lists_of<'s>(
+    alloc: Global,
+    tokens: &'s [Token],
+    parts: &[Part],
+) -> Result<Vec<&'s [Token]>, AllocError>
+    ensures { IfOk result (λ v. seen_lists v.items ≡ reading.lists_of tokens.now parts.now) }
+{
+    let mut lists = Vec::new(alloc);
+    let mut rest = parts;
+    while let [part, after @ ..] = rest {
+        lists.push(part_tokens(tokens, *part))?;
+        rest = after;
+    }
+    Ok(lists)
+}
+
+/// The first token of the first part.
+pub fn first_token<'s>(tokens: &'s [Token], parts: &[Part]) -> Option<&'s Token>
+    ensures { option_map (λ t. t.now) result ≡ reading.first_token tokens.now parts.now }
+{
+    match parts {
+        [part, ..] => part_tokens(tokens, *part).first(),
+        [] => None,
+    }
+}

@@ -1,0 +1,303 @@
+// The table of the forms of statements.
+ghost use Rattle.std.specs.Prelude.{◌≡◌, map};
+ghost use Rattle.mw_module.specs.Rows as spec;
+ghost use Rattle.mw_module.specs.Reading as reading;
+
+use crate::faults::FaultKind;
+
+/// A place between the tokens of a statement, or of a piece of one.
+#[derive(Clone, Copy)]
+pub enum Place {
+    /// Among sorts or variables that are declared.
+    Sorts,
+    Variables,
+    /// Where a group of sorts begins, and where it goes on.
+    Group,
+    InGroup,
+    /// A sort and nothing more.
+    Sort,
+    /// In the one name of an operator, among several names, and inside the parentheses of one.
+    Name,
+    Names,
+    Parentheses,
+    /// Among the sorts of arguments, and inside the brackets of a kind there.
+    Args,
+    ArgKind,
+    ArgKindEnd,
+    /// The sort of the value, the same, and what stands behind it.
+    Value,
+    ValueKind,
+    ValueKindEnd,
+    Behind,
+    /// Where an attribute begins, and behind the words of some.
+    Attribute,
+    Precedence,
+    Gather,
+    Marks,
+    Format,
+    Formatted,
+    Metadata,
+    /// In the sides of an equation.
+    Left,
+    Right,
+    /// Among the attributes of a statement, and behind the words of some.
+    Statement,
+    Label,
+    Text,
+    /// Behind the whole piece; and the same where a brace would go on with a sort.
+    Whole,
+    SortEnd,
+}
+
+/// What the tokens of a part are.
+#[derive(Clone, Copy)]
+pub enum Role {
+    Group,
+    Sort,
+    Kind,
+    Name,
+    /// The bracket in front of attributes.
+    List,
+    /// An attribute that says nothing.
+    Silent,
+    Config,
+    Precedence,
+    Gather,
+    Side,
+    Nonexec,
+}
+
+/// What becomes of a token. It stands in the part that is open, opens or closes a level, ends the open part, stands
+/// before a part that it opens, does both, or is a part of its own.
+#[derive(Clone, Copy)]
+pub enum Act {
+    Skip,
+    Deeper,
+    Shallower,
+    Close,
+    After(Role),
+    Next(Role),
+    One(Role),
+}
+
+/// What is asked of a token besides its text: nothing, that no level is open, that it is no punctuation byte, that it
+/// isn't quoted either, that it is a precedence, or a string up to its end.
+#[derive(Clone, Copy)]
+pub enum Test {
+    Any,
+    Outside,
+    Plain,
+    Run,
+    Precedence,
+    Text,
+}
+
+/// What is wrong with a statement: it isn't of its form, or it has a form that isn't read.
+#[derive(Clone, Copy)]
+pub enum Wrong {
+    Bad,
+    Unread,
+}
+
+/// Whether a piece may end at a place, and whether its end closes the open part.
+#[derive(Clone, Copy)]
+pub enum End {
+    Never,
+    Free,
+    Closes,
+}
+
+/// A row: a token with this text, or any where the text is empty, that passes the test.
+#[derive(Clone, Copy)]
+pub struct Row {
+    pub word: &'static [u8],
+    pub test: Test,
+    pub act: Act,
+    pub next: Result<Place, Wrong>,
+}
+
+/// The fault that is told.
+pub fn told(wrong: Wrong) -> FaultKind
+    ensures { result ≡ reading.told wrong }
+{
+    match wrong {
+        Wrong::Bad => FaultKind::BadStatement,
+        Wrong::Unread => FaultKind::NotInProfile,
+    }
+}
+
+/// How a piece may end at a place.
+pub fn ending_at(place: Place) -> End
+    ensures { result ≡ spec.ending place }
+{
+    match place {
+        Place::InGroup | Place::Name | Place::Right => End::Closes,
+        Place::Sorts
+        | Place::Variables
+        | Place::Names
+        | Place::Args
+        | Place::Behind
+        | Place::Statement
+        | Place::Whole
+        | Place::SortEnd => End::Free,
+        Place::Group
+        | Place::Sort
+        | Place::Parentheses
+        | Place::ArgKind
+        | Place::ArgKindEnd
+        | Place::Value
+        | Place::ValueKind
+        | Place::ValueKindEnd
+        | Place::Attribute
+        | Place::Precedence
+        | Place::Gather
+        | Place::Marks
+        | Place::Format
+        | Place::Formatted
+        | Place::Metadata
+        | Place::Left
+        | Place::Label
+        | Place::Text => End::Never,
+    }
+}
+
+/// The rows of a place, of which the first that a token meets is taken.
+#[rattlefmt::skip]
+pub fn rows(place: Place) -> &'static [Row]
+    ensures { map spec.seen_row result.now ≡ spec.rows place }
+{
+    use Act::{After, Close, Deeper, Next, One, Shallower, Skip};
+    use Test::{Any, Outside, Plain, Run};
+    match place {
+        Place::Sorts => &[
+            Row { word: b"{", test: Any, act: Skip, next: Err(Wrong::Unread) },
+            Row { word: b"", test: Run, act: Skip, next: Ok(Place::Sorts) },
+        ],
+        Place::Variables => &[
+            Row { word: b"", test: Run, act: Skip, next: Ok(Place::Variables) },
+        ],
+        Place::Group => &[
+            Row { word: b"<", test: Any, act: Skip, next: Err(Wrong::Bad) },
+            Row { word: b"{", test: Any, act: Skip, next: Err(Wrong::Unread) },
+            Row { word: b"", test: Plain, act: Skip, next: Ok(Place::InGroup) },
+        ],
+        Place::InGroup => &[
+            Row { word: b"<", test: Any, act: Next(Role::Group), next: Ok(Place::Group) },
+            Row { word: b"{", test: Any, act: Skip, next: Err(Wrong::Unread) },
+            Row { word: b"", test: Plain, act: Skip, next: Ok(Place::InGroup) },
+        ],
+        Place::Sort => &[
+            Row { word: b"{", test: Any, act: Skip, next: Err(Wrong::Unread) },
+            Row { word: b"", test: Plain, act: One(Role::Sort), next: Ok(Place::SortEnd) },
+        ],
+        Place::Name => &[
+            Row { word: b"", test: Any, act: Skip, next: Ok(Place::Name) },
+        ],
+        Place::Names => &[
+            Row { word: b"(", test: Any, act: After(Role::Name), next: Ok(Place::Parentheses) },
+            Row { word: b")", test: Any, act: Skip, next: Err(Wrong::Bad) },
+            Row { word: b"", test: Any, act: One(Role::Name), next: Ok(Place::Names) },
+        ],
+        Place::Parentheses => &[
+            Row { word: b")", test: Outside, act: Close, next: Ok(Place::Names) },
+            Row { word: b")", test: Any, act: Shallower, next: Ok(Place::Parentheses) },
+            Row { word: b"(", test: Any, act: Deeper, next: Ok(Place::Parentheses) },
+            Row { word: b"", test: Any, act: Skip, next: Ok(Place::Parentheses) },
+        ],
+        Place::Args => &[
+            Row { word: b"[", test: Any, act: Skip, next: Ok(Place::ArgKind) },
+            Row { word: b"{", test: Any, act: Skip, next: Err(Wrong::Unread) },
+            Row { word: b"", test: Plain, act: One(Role::Sort), next: Ok(Place::Args) },
+        ],
+        Place::ArgKind => &[
+            Row { word: b"{", test: Any, act: Skip, next: Err(Wrong::Unread) },
+            Row { word: b"", test: Plain, act: One(Role::Kind), next: Ok(Place::ArgKindEnd) },
+        ],
+        Place::ArgKindEnd => &[
+            Row { word: b"]", test: Any, act: Skip, next: Ok(Place::Args) },
+            Row { word: b"{", test: Any, act: Skip, next: Err(Wrong::Unread) },
+        ],
+        Place::Value => &[
+            Row { word: b"[", test: Any, act: Skip, next: Ok(Place::ValueKind) },
+            Row { word: b"{", test: Any, act: Skip, next: Err(Wrong::Unread) },
+            Row { word: b"", test: Plain, act: One(Role::Sort), next: Ok(Place::Behind) },
+        ],
+        Place::ValueKind => &[
+            Row { word: b"{", test: Any, act: Skip, next: Err(Wrong::Unread) },
+            Row { word: b"", test: Plain, act: One(Role::Kind), next: Ok(Place::ValueKindEnd) },
+        ],
+        Place::ValueKindEnd => &[
+            Row { word: b"]", test: Any, act: Skip, next: Ok(Place::Behind) },
+            Row { word: b"{", test: Any, act: Skip, next: Err(Wrong::Unread) },
+        ],
+        Place::Behind => &[
+            Row { word: b"[", test: Any, act: One(Role::List), next: Ok(Place::Attribute) },
+            Row { word: b"{", test: Any, act: Skip, next: Err(Wrong::Unread) },
+        ],
+        Place::Attribute => &[
+            Row { word: b"]", test: Any, act: Skip, next: Ok(Place::Whole) },
+            Row { word: b"ctor", test: Any, act: One(Role::Silent), next: Ok(Place::Attribute) },
+            Row { word: b"ditto", test: Any, act: One(Role::Silent), next: Ok(Place::Attribute) },
+            Row { word: b"memo", test: Any, act: One(Role::Silent), next: Ok(Place::Attribute) },
+            Row { word: b"object", test: Any, act: One(Role::Silent), next: Ok(Place::Attribute) },
+            Row { word: b"message", test: Any, act: One(Role::Silent), next: Ok(Place::Attribute) },
+            Row { word: b"config", test: Any, act: One(Role::Config), next: Ok(Place::Attribute) },
+            Row { word: b"prec", test: Any, act: Skip, next: Ok(Place::Precedence) },
+            Row { word: b"gather", test: Any, act: Skip, next: Ok(Place::Gather) },
+            Row { word: b"format", test: Any, act: One(Role::Silent), next: Ok(Place::Format) },
+            Row { word: b"metadata", test: Any, act: One(Role::Silent), next: Ok(Place::Metadata) },
+            Row { word: b"", test: Any, act: Skip, next: Err(Wrong::Unread) },
+        ],
+        Place::Precedence => &[
+            Row { word: b"", test: Test::Precedence, act: One(Role::Precedence), next: Ok(Place::Attribute) },
+        ],
+        Place::Gather => &[
+            Row { word: b"(", test: Any, act: After(Role::Gather), next: Ok(Place::Marks) },
+        ],
+        Place::Marks => &[
+            Row { word: b")", test: Any, act: Close, next: Ok(Place::Attribute) },
+            Row { word: b"", test: Any, act: Skip, next: Ok(Place::Marks) },
+        ],
+        Place::Format => &[
+            Row { word: b"(", test: Any, act: Skip, next: Ok(Place::Formatted) },
+        ],
+        Place::Formatted => &[
+            Row { word: b")", test: Any, act: Skip, next: Ok(Place::Attribute) },
+            Row { word: b"", test: Any, act: Skip, next: Ok(Place::Formatted) },
+        ],
+        Place::Metadata => &[
+            Row { word: b"", test: Test::Text, act: Skip, next: Ok(Place::Attribute) },
+        ],
+        Place::Left => &[
+            Row { word: b"=", test: Outside, act: Next(Role::Side), next: Ok(Place::Right) },
+            Row { word: b"(", test: Any, act: Deeper, next: Ok(Place::Left) },
+            Row { word: b"[", test: Any, act: Deeper, next: Ok(Place::Left) },
+            Row { word: b"{", test: Any, act: Deeper, next: Ok(Place::Left) },
+            Row { word: b"if", test: Any, act: Deeper, next: Ok(Place::Left) },
+            Row { word: b")", test: Any, act: Shallower, next: Ok(Place::Left) },
+            Row { word: b"]", test: Any, act: Shallower, next: Ok(Place::Left) },
+            Row { word: b"}", test: Any, act: Shallower, next: Ok(Place::Left) },
+            Row { word: b"fi", test: Any, act: Shallower, next: Ok(Place::Left) },
+            Row { word: b"", test: Any, act: Skip, next: Ok(Place::Left) },
+        ],
+        Place::Right => &[
+            Row { word: b"", test: Any, act: Skip, next: Ok(Place::Right) },
+        ],
+        Place::Statement => &[
+            Row { word: b"nonexec", test: Any, act: One(Role::Nonexec), next: Ok(Place::Statement) },
+            Row { word: b"label", test: Any, act: Skip, next: Ok(Place::Label) },
+            Row { word: b"metadata", test: Any, act: Skip, next: Ok(Place::Text) },
+            Row { word: b"", test: Any, act: Skip, next: Err(Wrong::Unread) },
+        ],
+        Place::Label => &[
+            Row { word: b"", test: Any, act: Skip, next: Ok(Place::Statement) },
+        ],
+        Place::Text => &[
+            Row { word: b"", test: Test::Text, act: Skip, next: Ok(Place::Statement) },
+        ],
+        Place::Whole => &[],
+        Place::SortEnd => &[
+            Row { word: b"{", test: Any, act: Skip, next: Err(Wrong::Unread) },
+        ],
+    }
+}
