@@ -81,11 +81,8 @@ abbrev pub said_as : Role → List Token → Attributes
 said_as role.Config ts = record no_attributes { config = true }
 said_as role.Precedence ts = record no_attributes { precedence = precedence_in ts }
 said_as role.Gather ts = record no_attributes { gather = Some (texts ts) }
-said_as role.Name ts = no_attributes
-said_as role.Group ts = no_attributes
+said_as role.Words ts = no_attributes
 said_as role.Sort ts = no_attributes
 said_as role.Kind ts = no_attributes
-said_as role.List ts = no_attributes
 said_as role.Silent ts = no_attributes
-said_as role.Side ts = no_attributes
 said_as role.Nonexec ts = no_attributes

@@ -16,6 +16,7 @@ use Rattle.mw_module.specs.declared.openings.Opening.TheVariants as opening
 use Rattle.mw_module.specs.declared.table.Place.TheVariants as place
 use Rattle.mw_module.specs.declared.table.Role.{Role}
 use Rattle.mw_module.specs.declared.table.Role.TheVariants as role
+use Rattle.mw_module.specs.declared.table.Want.TheVariants as want
 use Rattle.mw_module.specs.declared.table.Wrong.{Wrong}
 use Rattle.mw_module.specs.declared.table.Wrong.TheVariants.{Bad, Unread}
 use Rattle.mw_module.specs.Openings.{opening_of}
@@ -66,7 +67,7 @@ seen_shaped (Err wrong) = Err wrong
 -- `sort` and `sorts`: names
 abbrev pub sorts_form : List Token → Shaped
 sorts_form [] = Err Bad
-sorts_form (t ∷ ts) = then_of (read_at place.Sorts role.Silent 0 (t ∷ ts)) (λ parts. Ok (Sorts (t ∷ ts)))
+sorts_form (t ∷ ts) = then_of (read_at place.Sorts role.Silent want.Nothing (t ∷ ts)) (λ parts. Ok (Sorts (t ∷ ts)))
 
 -- two groups at least
 abbrev pub grouped : List Token → List Part → Shaped
@@ -76,7 +77,7 @@ grouped ts (p ∷ q ∷ ps) = Ok (Subsorts (lists_of ts (p ∷ q ∷ ps)))
 
 -- `subsort` and `subsorts`: groups of sorts, divided by one `<` at least
 abbrev pub subsorts_form : List Token → Shaped
-subsorts_form ts = then_of (read_at place.Group role.Group 0 ts) (grouped ts)
+subsorts_form ts = then_of (read_at place.Group role.Words want.Nothing ts) (grouped ts)
 
 abbrev pub typed : List Token → Option Token → Shaped
 typed names None = Err Bad
@@ -85,7 +86,7 @@ typed names (Some sort) = Ok (Variables names sort)
 -- names of variables, and what stands behind the colon: a sort and nothing more
 abbrev pub typed_names : List Token → List Token → Shaped
 typed_names [] ts = Err Bad
-typed_names (t ∷ names) ts = then_of (read_at place.Variables role.Silent 0 (t ∷ names)) (λ none. then_of (read_at place.Sort role.Silent 0 ts) (λ parts. typed (t ∷ names) (first_token ts parts)))
+typed_names (t ∷ names) ts = then_of (read_at place.Variables role.Silent want.Nothing (t ∷ names)) (λ none. then_of (read_at place.Sort role.Silent want.Nothing ts) (λ parts. typed (t ∷ names) (first_token ts parts)))
 
 -- `var` and `vars`: names, the first colon, and a sort
 abbrev pub variables_form : List Token → Shaped
@@ -123,7 +124,7 @@ valued kinds ts (v ∷ list ∷ p ∷ ps) = valued_with (sorting_of kinds ts v) 
 
 -- what comes behind the arrow: a sort, and attributes, of operators with so many arguments
 abbrev pub value_form : Bool → ℕ → List Token → Result Value Wrong
-value_form kinds arity ts = then_of (read_at place.Value role.Silent arity ts) (valued kinds ts)
+value_form kinds arity ts = then_of (read_at place.Value role.Silent (want.Marks arity) ts) (valued kinds ts)
 
 -- what comes behind the names
 pub record Profile : Type 0 where
@@ -149,7 +150,7 @@ profile_form names ts =
     let partial = count_before (codes "~>") ts in
     let arrow = min total partial in
     let kinds = nat_lt partial total in
-    then_of (read_at place.Args role.Silent 0 (take arrow ts)) (λ parts.
+    then_of (read_at place.Args role.Silent want.Nothing (take arrow ts)) (λ parts.
     profiled kinds names (sortings_of kinds (take arrow ts) parts) (not (arrow == length ts)) (drop (arrow + 1) ts))
 
 -- operators with these names, of which there is one at least
@@ -163,7 +164,7 @@ seen_names (Err wrong) = Err wrong
 
 -- the names of operators: a single one, or several, each a token or a group in parentheses
 abbrev pub names_form : Bool → List Token → Result (List (List Token)) Wrong
-names_form single ts = then_of (read_at (if single then place.Name else place.Names) role.Name 0 ts) (λ parts. Ok (lists_of ts parts))
+names_form single ts = then_of (read_at (if single then place.Name else place.Names) role.Words want.Names ts) (λ parts. Ok (lists_of ts parts))
 
 -- `op` and `ops`: names, the first colon, and what comes behind
 abbrev pub operators_form : Bool → List Token → Shaped
@@ -173,16 +174,13 @@ operators_form single ts =
 
 abbrev pub is_nonexec : Role → Bool
 is_nonexec role.Nonexec = true
-is_nonexec role.Name = false
-is_nonexec role.Group = false
+is_nonexec role.Words = false
 is_nonexec role.Sort = false
 is_nonexec role.Kind = false
-is_nonexec role.List = false
 is_nonexec role.Silent = false
 is_nonexec role.Config = false
 is_nonexec role.Precedence = false
 is_nonexec role.Gather = false
-is_nonexec role.Side = false
 
 -- two sides
 abbrev pub sided : List Token → List Part → Bool → Shaped
@@ -192,7 +190,7 @@ sided ts (l ∷ r ∷ ps) executable = Ok (Equation (tokens_of ts l) (tokens_of 
 
 -- the sides, and the attributes behind them; what is wrong with the sides comes first
 abbrev pub sides_form : List Token → List Token → Shaped
-sides_form sides said = then_of (read_at place.Left role.Side 0 sides) (λ parts. then_of (read_at place.Statement role.Silent 0 said) (λ more. sided sides parts (not (list_any (λ (p : Part). is_nonexec p.role) more))))
+sides_form sides said = then_of (read_at place.Left role.Words want.Nothing sides) (λ parts. then_of (read_at place.Statement role.Silent want.Nothing said) (λ more. sided sides parts (not (list_any (λ (p : Part). is_nonexec p.role) more))))
 
 -- `eq`: a label, two sides, and attributes
 abbrev pub equation_form : List Token → Shaped

@@ -16,6 +16,8 @@ use Rattle.mw_module.specs.declared.table.Test.{Test}
 use Rattle.mw_module.specs.declared.table.Test.TheVariants as test
 use Rattle.mw_module.specs.declared.table.Role.{Role}
 use Rattle.mw_module.specs.declared.table.Role.TheVariants as role
+use Rattle.mw_module.specs.declared.table.Want.{Want}
+use Rattle.mw_module.specs.declared.table.Want.TheVariants as want
 use Rattle.mw_module.specs.declared.table.Wrong.{Wrong}
 use Rattle.mw_module.specs.declared.table.Wrong.TheVariants.{Bad, Unread}
 use Rattle.mw_module.specs.declared.table.End.{End}
@@ -73,41 +75,47 @@ abbrev pub row_for : ℕ → List ℕ → List Row → Option Row
 row_for depth text [] = None
 row_for depth text (r ∷ rs) = if meets depth text r then Some r else row_for depth text rs
 
--- tokens that may be a part: a name is one, and there is a mark for each argument, and one at least
-abbrev pub is_fine : ℕ → Role → List Token → Bool
-is_fine arity role.Name ts = is_name (items_in ts)
-is_fine arity role.Gather ts = not (nat_eq arity 0) && nat_eq (length ts) arity && list_all is_mark ts
-is_fine arity role.Group ts = true
-is_fine arity role.Sort ts = true
-is_fine arity role.Kind ts = true
-is_fine arity role.List ts = true
-is_fine arity role.Silent ts = true
-is_fine arity role.Config ts = true
-is_fine arity role.Precedence ts = true
-is_fine arity role.Side ts = true
-is_fine arity role.Nonexec ts = true
+abbrev pub is_gather : Role → Bool
+is_gather role.Gather = true
+is_gather role.Words = false
+is_gather role.Sort = false
+is_gather role.Kind = false
+is_gather role.Silent = false
+is_gather role.Config = false
+is_gather role.Precedence = false
+is_gather role.Nonexec = false
+
+-- a mark for each argument, and one at least
+abbrev pub has_marks : ℕ → List Token → Bool
+has_marks arity ts = not (nat_eq arity 0) && nat_eq (length ts) arity && list_all is_mark ts
+
+-- tokens that may be a part
+abbrev pub is_fine : Want → Role → List Token → Bool
+is_fine want.Nothing role ts = true
+is_fine want.Names role ts = is_name (items_in ts)
+is_fine (want.Marks arity) role ts = not (is_gather role) || has_marks arity ts
 
 -- one part more is closed, and the next one can't begin before its end
-abbrev pub closed : List Token → ℕ → Part → State → Result State Wrong
-closed ts arity p s = if is_fine arity p.role (tokens_of ts p) then Ok (record s { from = p.to; parts = s.parts ++ p ∷ [] }) else Err Bad
+abbrev pub closed : List Token → Want → Part → State → Result State Wrong
+closed ts want p s = if is_fine want p.role (tokens_of ts p) then Ok (record s { from = p.to; parts = s.parts ++ p ∷ [] }) else Err Bad
 
 -- the open part ends in front of the token at number i
-abbrev pub closed_open : List Token → ℕ → ℕ → State → Result State Wrong
-closed_open ts arity i s = closed ts arity (record { role = s.role; from = s.from; to = i }) s
+abbrev pub closed_open : List Token → Want → ℕ → State → Result State Wrong
+closed_open ts want i s = closed ts want (record { role = s.role; from = s.from; to = i }) s
 
 -- a part is opened behind the token at number i
 abbrev pub opened : Role → ℕ → State → State
 opened r i s = record s { role = r; from = i + 1 }
 
 -- what becomes of the token at number i
-abbrev pub taken : List Token → ℕ → Act → ℕ → State → Result State Wrong
-taken ts arity Skip i s = Ok s
-taken ts arity Deeper i s = Ok (record s { depth = s.depth + 1 })
-taken ts arity Shallower i s = Ok (record s { depth = s.depth - 1 })
-taken ts arity Close i s = closed_open ts arity i s
-taken ts arity (After r) i s = Ok (opened r i s)
-taken ts arity (Next r) i s = then_of (closed_open ts arity i s) (λ (t : State). Ok (opened r i t))
-taken ts arity (One r) i s = closed ts arity (record { role = r; from = i; to = i + 1 }) s
+abbrev pub taken : List Token → Want → Act → ℕ → State → Result State Wrong
+taken ts want Skip i s = Ok s
+taken ts want Deeper i s = Ok (record s { depth = s.depth + 1 })
+taken ts want Shallower i s = Ok (record s { depth = s.depth - 1 })
+taken ts want Close i s = closed_open ts want i s
+taken ts want (After r) i s = Ok (opened r i s)
+taken ts want (Next r) i s = then_of (closed_open ts want i s) (λ (t : State). Ok (opened r i t))
+taken ts want (One r) i s = closed ts want (record { role = r; from = i; to = i + 1 }) s
 
 -- the place of the next token
 abbrev pub placed : Result Place Wrong → State → Result State Wrong
@@ -115,12 +123,12 @@ placed (Ok place) s = Ok (record s { place = place })
 placed (Err wrong) s = Err wrong
 
 -- by the row of the token at number i
-abbrev pub followed : List Token → ℕ → ℕ → State → Option Row → Result State Wrong
-followed ts arity i s None = Err Bad
-followed ts arity i s (Some r) = then_of (taken ts arity r.act i s) (placed r.next)
+abbrev pub followed : List Token → Want → ℕ → State → Option Row → Result State Wrong
+followed ts want i s None = Err Bad
+followed ts want i s (Some r) = then_of (taken ts want r.act i s) (placed r.next)
 
-abbrev pub stepped : List Token → ℕ → ℕ → Token → State → Result State Wrong
-stepped ts arity i t s = followed ts arity i s (row_for s.depth t.text (rows s.place))
+abbrev pub stepped : List Token → Want → ℕ → Token → State → Result State Wrong
+stepped ts want i t s = followed ts want i s (row_for s.depth t.text (rows s.place))
 
 -- the parts, or what is wrong
 abbrev pub Parts : Type 0
@@ -135,19 +143,19 @@ abbrev pub seen_parts : Result (Vec Part) Wrong → Parts
 seen_parts (Ok parts) = Ok parts.items
 seen_parts (Err wrong) = Err wrong
 
-abbrev pub ended : List Token → ℕ → End → State → Parts
-ended ts arity Never s = Err Bad
-ended ts arity Free s = Ok s.parts
-ended ts arity Closes s = then_of (closed_open ts arity (length ts) s) (λ (t : State). Ok t.parts)
+abbrev pub ended : List Token → Want → End → State → Parts
+ended ts want Never s = Err Bad
+ended ts want Free s = Ok s.parts
+ended ts want Closes s = then_of (closed_open ts want (length ts) s) (λ (t : State). Ok t.parts)
 
 -- the parts of a piece whose last tokens, from number i on, are these
-abbrev pub reading : List Token → ℕ → ℕ → State → List Token → Parts
-reading ts arity i s [] = ended ts arity (ending s.place) s
-reading ts arity i s (t ∷ rest) = then_of (stepped ts arity i t s) (λ (u : State). reading ts arity (i + 1) u rest)
+abbrev pub reading : List Token → Want → ℕ → State → List Token → Parts
+reading ts want i s [] = ended ts want (ending s.place) s
+reading ts want i s (t ∷ rest) = then_of (stepped ts want i t s) (λ (u : State). reading ts want (i + 1) u rest)
 
--- the parts of a piece that begins at this place, where a part of this role is open, of operators with so many arguments
-abbrev pub read_at : Place → Role → ℕ → List Token → Parts
-read_at place role arity ts = reading ts arity 0 (record { place = place; depth = 0; role = role; from = 0; parts = [] }) ts
+-- the parts of a piece that begins at this place, where a part of this role is open
+abbrev pub read_at : Place → Role → Want → List Token → Parts
+read_at place role want ts = reading ts want 0 (record { place = place; depth = 0; role = role; from = 0; parts = [] }) ts
 
 -- the tokens of each part
 abbrev pub lists_of : List Token → List Part → List (List Token)

@@ -34,15 +34,15 @@ rows place.Group = row (codes "<") test.Any Skip (Err Bad)
     ∷ row (codes "{") test.Any Skip (Err Unread)
     ∷ row [] test.Plain Skip (Ok place.InGroup)
     ∷ []
-rows place.InGroup = row (codes "<") test.Any (Next role.Group) (Ok place.Group)
+rows place.InGroup = row (codes "<") test.Any (Next role.Words) (Ok place.Group)
     ∷ row (codes "{") test.Any Skip (Err Unread)
     ∷ row [] test.Plain Skip (Ok place.InGroup)
     ∷ []
 rows place.Sort = row (codes "{") test.Any Skip (Err Unread) ∷ row [] test.Plain (One role.Sort) (Ok place.SortEnd) ∷ []
 rows place.Name = row [] test.Any Skip (Ok place.Name) ∷ []
-rows place.Names = row (codes "(") test.Any (After role.Name) (Ok place.Parentheses)
+rows place.Names = row (codes "(") test.Any (After role.Words) (Ok place.Parentheses)
     ∷ row (codes ")") test.Any Skip (Err Bad)
-    ∷ row [] test.Any (One role.Name) (Ok place.Names)
+    ∷ row [] test.Any (One role.Words) (Ok place.Names)
     ∷ []
 rows place.Parentheses = row (codes ")") test.Outside Close (Ok place.Names)
     ∷ row (codes ")") test.Any Shallower (Ok place.Parentheses)
@@ -61,7 +61,7 @@ rows place.Value = row (codes "[") test.Any Skip (Ok place.ValueKind)
     ∷ []
 rows place.ValueKind = row (codes "{") test.Any Skip (Err Unread) ∷ row [] test.Plain (One role.Kind) (Ok place.ValueKindEnd) ∷ []
 rows place.ValueKindEnd = row (codes "]") test.Any Skip (Ok place.Behind) ∷ row (codes "{") test.Any Skip (Err Unread) ∷ []
-rows place.Behind = row (codes "[") test.Any (One role.List) (Ok place.Attribute) ∷ row (codes "{") test.Any Skip (Err Unread) ∷ []
+rows place.Behind = row (codes "[") test.Any (One role.Silent) (Ok place.Attribute) ∷ row (codes "{") test.Any Skip (Err Unread) ∷ []
 rows place.Attribute = row (codes "]") test.Any Skip (Ok place.Whole)
     ∷ row (codes "ctor") test.Any (One role.Silent) (Ok place.Attribute)
     ∷ row (codes "ditto") test.Any (One role.Silent) (Ok place.Attribute)
@@ -81,7 +81,7 @@ rows place.Marks = row (codes ")") test.Any Close (Ok place.Attribute) ∷ row [
 rows place.Format = row (codes "(") test.Any Skip (Ok place.Formatted) ∷ []
 rows place.Formatted = row (codes ")") test.Any Skip (Ok place.Attribute) ∷ row [] test.Any Skip (Ok place.Formatted) ∷ []
 rows place.Metadata = row [] test.Text Skip (Ok place.Attribute) ∷ []
-rows place.Left = row (codes "=") test.Outside (Next role.Side) (Ok place.Right)
+rows place.Left = row (codes "=") test.Outside (Next role.Words) (Ok place.Right)
     ∷ row (codes "(") test.Any Deeper (Ok place.Left)
     ∷ row (codes "[") test.Any Deeper (Ok place.Left)
     ∷ row (codes "{") test.Any Deeper (Ok place.Left)

@@ -28,14 +28,11 @@ seen_sortings = map seen_sorting
 abbrev pub is_kind : Role → Bool
 is_kind role.Kind = true
 is_kind role.Sort = false
-is_kind role.Name = false
-is_kind role.Group = false
-is_kind role.List = false
+is_kind role.Words = false
 is_kind role.Silent = false
 is_kind role.Config = false
 is_kind role.Precedence = false
 is_kind role.Gather = false
-is_kind role.Side = false
 is_kind role.Nonexec = false
 
 -- the sort that a part is, where `kinds` says that all kinds are meant

@@ -161,14 +161,7 @@ fn said_as<'s>(role: Role, tokens: &'s [Token]) -> Attributes<'s>
         Role::Config => says.config = true,
         Role::Precedence => says.precedence = precedence_in(tokens),
         Role::Gather => says.gather = Some(tokens),
-        Role::Name
-        | Role::Group
-        | Role::Sort
-        | Role::Kind
-        | Role::List
-        | Role::Silent
-        | Role::Side
-        | Role::Nonexec => {}
+        Role::Words | Role::Sort | Role::Kind | Role::Silent | Role::Nonexec => {}
     }
     says
 }

@@ -6,7 +6,7 @@ ghost use Rattle.mw_module.specs.Forms as forms;
 
 use crate::forms::Form;
 use crate::machine::{Part, part_tokens, read};
-use crate::table::{Place, Role, Wrong};
+use crate::table::{Place, Role, Want, Wrong};
 use crate::words::{is_word, tokens_from};
 use mw_lex::Token;
 use std::alloc::{AllocError, Global};
@@ -105,11 +105,11 @@ fn sides_form<'s>(
 ) -> Result<Result<Form<'s>, Wrong>, AllocError>
     ensures { IfOk result (λ r. forms.seen_shaped r ≡ forms.sides_form sides.now said.now) }
 {
-    let parts = match read(alloc, Place::Left, Role::Side, 0, sides)? {
+    let parts = match read(alloc, Place::Left, Role::Words, Want::Nothing, sides)? {
         Ok(parts) => parts,
         Err(wrong) => return Ok(Err(wrong)),
     };
-    let more = match read(alloc, Place::Statement, Role::Silent, 0, said)? {
+    let more = match read(alloc, Place::Statement, Role::Silent, Want::Nothing, said)? {
         Ok(more) => more,
         Err(wrong) => return Ok(Err(wrong)),
     };
@@ -128,16 +128,13 @@ fn is_nonexec(role: Role) -> bool
 {
     match role {
         Role::Nonexec => true,
-        Role::Name
-        | Role::Group
+        Role::Words
         | Role::Sort
         | Role::Kind
-        | Role::List
         | Role::Silent
         | Role::Config
         | Role::Precedence
-        | Role::Gather
-        | Role::Side => false,
+        | Role::Gather => false,
     }
 }
 

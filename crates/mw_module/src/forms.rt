@@ -9,7 +9,7 @@ use crate::machine::{first_token, lists_of, read};
 use crate::openings::{Opening, opening_of};
 use crate::operators::operators_form;
 use crate::sortings::Sorting;
-use crate::table::{Place, Role, Wrong, told};
+use crate::table::{Place, Role, Want, Wrong, told};
 use crate::words::{count_before, tokens_from};
 use mw_lex::Token;
 use std::alloc::{AllocError, Global};
@@ -47,16 +47,13 @@ pub enum Form<'s> {
 }
 
 // Names of sorts.
-fn sorts_form<'s>(
-    alloc: Global,
-    names: &'s [Token],
-) -> Result<Result<Form<'s>, Wrong>, AllocError>
+fn sorts_form<'s>(alloc: Global, names: &'s [Token]) -> Result<Result<Form<'s>, Wrong>, AllocError>
     ensures { IfOk result (λ r. forms.seen_shaped r ≡ forms.sorts_form names.now) }
 {
     if names.is_empty() {
         return Ok(Err(Wrong::Bad));
     }
-    match read(alloc, Place::Sorts, Role::Silent, 0, names)? {
+    match read(alloc, Place::Sorts, Role::Silent, Want::Nothing, names)? {
         Ok(_) => Ok(Ok(Form::Sorts { names })),
         Err(wrong) => Ok(Err(wrong)),
     }
@@ -69,7 +66,7 @@ fn subsorts_form<'s>(
 ) -> Result<Result<Form<'s>, Wrong>, AllocError>
     ensures { IfOk result (λ r. forms.seen_shaped r ≡ forms.subsorts_form tokens.now) }
 {
-    let parts = match read(alloc, Place::Group, Role::Group, 0, tokens)? {
+    let parts = match read(alloc, Place::Group, Role::Words, Want::Nothing, tokens)? {
         Ok(parts) => parts,
         Err(wrong) => return Ok(Err(wrong)),
     };
@@ -91,10 +88,10 @@ fn typed_names<'s>(
     if names.is_empty() {
         return Ok(Err(Wrong::Bad));
     }
-    if let Err(wrong) = read(alloc, Place::Variables, Role::Silent, 0, names)? {
+    if let Err(wrong) = read(alloc, Place::Variables, Role::Silent, Want::Nothing, names)? {
         return Ok(Err(wrong));
     }
-    let parts = match read(alloc, Place::Sort, Role::Silent, 0, tokens)? {
+    let parts = match read(alloc, Place::Sort, Role::Silent, Want::Nothing, tokens)? {
         Ok(parts) => parts,
         Err(wrong) => return Ok(Err(wrong)),
     };

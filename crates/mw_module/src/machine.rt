@@ -7,7 +7,7 @@ ghost use Rattle.mw_module.specs.Reading as reading;
 
 use crate::attribute::{are_marks, is_precedence};
 use crate::operator_names::is_name;
-use crate::table::{Act, End, Place, Role, Row, Test, Wrong, ending_at, rows};
+use crate::table::{Act, End, Place, Role, Row, Test, Want, Wrong, ending_at, rows};
 use crate::words::{is_punctuation, is_quoted, is_whole_string};
 use mw_lex::Token;
 use std::alloc::{AllocError, Global};
@@ -74,23 +74,36 @@ fn row_for(depth: usize, text: &[u8], rows: &[Row]) -> Option<Row>
     None
 }
 
-// Whether tokens may be a part.
-fn is_fine(arity: usize, role: Role, tokens: &[Token]) -> bool
-    ensures { result ≡ reading.is_fine arity role tokens.now }
+// Whether the tokens may be a part.
+fn is_fine(want: Want, role: Role, tokens: &[Token]) -> bool
+    ensures { result ≡ reading.is_fine want role tokens.now }
+{
+    match want {
+        Want::Nothing => true,
+        Want::Names => is_name(tokens),
+        Want::Marks(arity) => !is_gather(role) || has_marks(arity, tokens),
+    }
+}
+
+fn is_gather(role: Role) -> bool
+    ensures { result ≡ reading.is_gather role }
 {
     match role {
-        Role::Name => is_name(tokens),
-        Role::Gather => arity != 0 && tokens.len() == arity && are_marks(tokens),
-        Role::Group
+        Role::Gather => true,
+        Role::Words
         | Role::Sort
         | Role::Kind
-        | Role::List
         | Role::Silent
         | Role::Config
         | Role::Precedence
-        | Role::Side
-        | Role::Nonexec => true,
+        | Role::Nonexec => false,
     }
+}
+
+fn has_marks(arity: usize, tokens: &[Token]) -> bool
+    ensures { result ≡ reading.has_marks arity tokens.now }
+{
+    arity != 0 && tokens.len() == arity && are_marks(tokens)
 }
 
 impl State {
@@ -98,13 +111,13 @@ impl State {
     fn close(
         &mut self,
         tokens: &[Token],
-        arity: usize,
+        want: Want,
         part: Part,
     ) -> Result<Result<(), Wrong>, AllocError>
-        ensures state { IfOk result (λ r. reading.seen_outcome r self.new ≡ reading.closed tokens.now arity part (reading.seen_state self.old)) }
+        ensures state { IfOk result (λ r. reading.seen_outcome r self.new ≡ reading.closed tokens.now want part (reading.seen_state self.old)) }
         ensures depth { OnOk result (self.new.depth ≡ self.old.depth) }
     {
-        if !is_fine(arity, part.role, part_tokens(tokens, part)) {
+        if !is_fine(want, part.role, part_tokens(tokens, part)) {
             return Ok(Err(Wrong::Bad));
         }
         self.parts.push(part)?;
@@ -116,10 +129,10 @@ impl State {
     fn close_open(
         &mut self,
         tokens: &[Token],
-        arity: usize,
+        want: Want,
         i: usize,
     ) -> Result<Result<(), Wrong>, AllocError>
-        ensures state { IfOk result (λ r. reading.seen_outcome r self.new ≡ reading.closed_open tokens.now arity i (reading.seen_state self.old)) }
+        ensures state { IfOk result (λ r. reading.seen_outcome r self.new ≡ reading.closed_open tokens.now want i (reading.seen_state self.old)) }
         ensures depth { OnOk result (self.new.depth ≡ self.old.depth) }
     {
         let part = Part {
@@ -127,7 +140,7 @@ impl State {
             from: self.from,
             to: i,
         };
-        self.close(tokens, arity, part)
+        self.close(tokens, want, part)
     }
 
     // Opens a part behind the token at number i.
@@ -143,13 +156,13 @@ impl State {
     fn take(
         &mut self,
         tokens: &[Token],
-        arity: usize,
+        want: Want,
         act: Act,
         i: usize,
     ) -> Result<Result<(), Wrong>, AllocError>
         requires number { i < length tokens.now }
         requires levels { self.old.depth ≤ i }
-        ensures state { IfOk result (λ r. reading.seen_outcome r self.new ≡ reading.taken tokens.now arity act i (reading.seen_state self.old)) }
+        ensures state { IfOk result (λ r. reading.seen_outcome r self.new ≡ reading.taken tokens.now want act i (reading.seen_state self.old)) }
         ensures depth { OnOk result (self.new.depth ≤ self.old.depth + 1) }
     {
         match act {
@@ -162,13 +175,13 @@ impl State {
                 self.depth = self.depth.saturating_sub(1);
                 Ok(Ok(()))
             }
-            Act::Close => self.close_open(tokens, arity, i),
+            Act::Close => self.close_open(tokens, want, i),
             Act::After(role) => {
                 self.begin(role, i, tokens);
                 Ok(Ok(()))
             }
             Act::Next(role) => {
-                let closed = self.close_open(tokens, arity, i)?;
+                let closed = self.close_open(tokens, want, i)?;
                 self.begin(role, i, tokens);
                 Ok(closed)
             }
@@ -178,7 +191,7 @@ impl State {
                     from: i,
                     to: i + 1,
                 };
-                self.close(tokens, arity, part)
+                self.close(tokens, want, part)
             }
         }
     }
@@ -187,19 +200,19 @@ impl State {
     fn step(
         &mut self,
         tokens: &[Token],
-        arity: usize,
+        want: Want,
         i: usize,
         token: &Token,
     ) -> Result<Result<(), Wrong>, AllocError>
         requires number { i < length tokens.now }
         requires levels { self.old.depth ≤ i }
-        ensures state { IfOk result (λ r. reading.seen_outcome r self.new ≡ reading.stepped tokens.now arity i token.now (reading.seen_state self.old)) }
+        ensures state { IfOk result (λ r. reading.seen_outcome r self.new ≡ reading.stepped tokens.now want i token.now (reading.seen_state self.old)) }
         ensures depth { OnOk result (self.new.depth ≤ self.old.depth + 1) }
     {
         let Some(row) = row_for(self.depth, token.text.as_slice(), rows(self.place)) else {
             return Ok(Err(Wrong::Bad));
         };
-        if let Err(wrong) = self.take(tokens, arity, row.act, i)? {
+        if let Err(wrong) = self.take(tokens, want, row.act, i)? {
             return Ok(Err(wrong));
         }
         match row.next {
@@ -212,27 +225,26 @@ impl State {
     }
 
     // Ends behind the last token.
-    fn end(&mut self, tokens: &[Token], arity: usize) -> Result<Result<(), Wrong>, AllocError>
-        ensures { IfOk result (λ r. reading.seen_ended r self.new ≡ reading.ended tokens.now arity (spec.ending self.old.place) (reading.seen_state self.old)) }
+    fn end(&mut self, tokens: &[Token], want: Want) -> Result<Result<(), Wrong>, AllocError>
+        ensures { IfOk result (λ r. reading.seen_ended r self.new ≡ reading.ended tokens.now want (spec.ending self.old.place) (reading.seen_state self.old)) }
     {
         match ending_at(self.place) {
             End::Never => Ok(Err(Wrong::Bad)),
             End::Free => Ok(Ok(())),
-            End::Closes => self.close_open(tokens, arity, tokens.len()),
+            End::Closes => self.close_open(tokens, want, tokens.len()),
         }
     }
 }
 
-/// The parts of a piece that begins at this place, where a part of this role is open, of operators with so many
-/// arguments; or what is wrong.
+/// The parts of a piece that begins at this place, where a part of this role is open, or what is wrong.
 pub fn read(
     alloc: Global,
     place: Place,
     role: Role,
-    arity: usize,
+    want: Want,
     tokens: &[Token],
 ) -> Result<Result<Vec<Part>, Wrong>, AllocError>
-    ensures { IfOk result (λ r. reading.seen_parts r ≡ reading.read_at place role arity tokens.now) }
+    ensures { IfOk result (λ r. reading.seen_parts r ≡ reading.read_at place role want tokens.now) }
 {
     let mut state = State {
         place,
@@ -244,13 +256,13 @@ pub fn read(
     let mut rest = tokens;
     let mut i = 0;
     while let [token, after @ ..] = rest {
-        if let Err(wrong) = state.step(tokens, arity, i, token)? {
+        if let Err(wrong) = state.step(tokens, want, i, token)? {
             return Ok(Err(wrong));
         }
         i += 1;
         rest = after;
     }
-    match state.end(tokens, arity)? {
+    match state.end(tokens, want)? {
         Ok(()) => Ok(Ok(state.parts)),
         Err(wrong) => Ok(Err(wrong)),
     }

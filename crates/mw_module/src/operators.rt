@@ -8,7 +8,7 @@ use crate::forms::Form;
 use crate::machine::{Part, lists_of, read};
 use crate::operator_names::all_fit;
 use crate::sortings::{Sorting, sorting_of, sortings_of};
-use crate::table::{Place, Role, Wrong};
+use crate::table::{Place, Role, Want, Wrong};
 use crate::words::{count_before, tokens_from};
 use mw_lex::Token;
 use std::alloc::{AllocError, Global};
@@ -55,7 +55,7 @@ fn profile_form<'s>(
     let arrow = total.min(partial);
     let kinds = partial < total;
     let front = &tokens[..arrow];
-    let args = match read(alloc, Place::Args, Role::Silent, 0, front)? {
+    let args = match read(alloc, Place::Args, Role::Silent, Want::Nothing, front)? {
         Ok(parts) => sortings_of(alloc, kinds, front, parts.as_slice())?,
         Err(wrong) => return Ok(Err(wrong)),
     };
@@ -77,7 +77,13 @@ fn value_form<'s>(
 ) -> Result<Result<Value<'s>, Wrong>, AllocError>
     ensures { IfOk result (λ r. forms.seen_valued r ≡ forms.value_form kinds arity tokens.now) }
 {
-    match read(alloc, Place::Value, Role::Silent, arity, tokens)? {
+    match read(
+        alloc,
+        Place::Value,
+        Role::Silent,
+        Want::Marks(arity),
+        tokens,
+    )? {
         Ok(parts) => Ok(valued(kinds, tokens, parts.as_slice())),
         Err(wrong) => Ok(Err(wrong)),
     }
@@ -92,7 +98,7 @@ fn names_form<'s>(
     ensures { IfOk result (λ r. forms.seen_names r ≡ forms.names_form single tokens.now) }
 {
     let place = if single { Place::Name } else { Place::Names };
-    match read(alloc, place, Role::Name, 0, tokens)? {
+    match read(alloc, place, Role::Words, Want::Names, tokens)? {
         Ok(parts) => Ok(Ok(lists_of(alloc, tokens, parts.as_slice())?)),
         Err(wrong) => Ok(Err(wrong)),
     }

@@ -21,14 +21,11 @@ fn is_kind(role: Role) -> bool
     match role {
         Role::Kind => true,
         Role::Sort
-        | Role::Name
-        | Role::Group
-        | Role::List
+        | Role::Words
         | Role::Silent
         | Role::Config
         | Role::Precedence
         | Role::Gather
-        | Role::Side
         | Role::Nonexec => false,
     }
 }

@@ -52,18 +52,15 @@ pub enum Place {
 /// What the tokens of a part are.
 #[derive(Clone, Copy)]
 pub enum Role {
-    Group,
+    /// A name, a group of sorts or a side.
+    Words,
     Sort,
     Kind,
-    Name,
-    /// The bracket in front of attributes.
-    List,
-    /// An attribute that says nothing.
+    /// The bracket in front of attributes, or an attribute that says nothing.
     Silent,
     Config,
     Precedence,
     Gather,
-    Side,
     Nonexec,
 }
 
@@ -105,6 +102,15 @@ pub enum End {
     Never,
     Free,
     Closes,
+}
+
+/// What is asked of the parts of a piece: nothing, that each is a name, or that each gather has so many marks, and one
+/// at least.
+#[derive(Clone, Copy)]
+pub enum Want {
+    Nothing,
+    Names,
+    Marks(usize),
 }
 
 /// A row: a token with this text, or any where the text is empty, that passes the test.
@@ -182,7 +188,7 @@ pub fn rows(place: Place) -> &'static [Row]
             Row { word: b"", test: Plain, act: Skip, next: Ok(Place::InGroup) },
         ],
         Place::InGroup => &[
-            Row { word: b"<", test: Any, act: Next(Role::Group), next: Ok(Place::Group) },
+            Row { word: b"<", test: Any, act: Next(Role::Words), next: Ok(Place::Group) },
             Row { word: b"{", test: Any, act: Skip, next: Err(Wrong::Unread) },
             Row { word: b"", test: Plain, act: Skip, next: Ok(Place::InGroup) },
         ],
@@ -194,9 +200,9 @@ pub fn rows(place: Place) -> &'static [Row]
             Row { word: b"", test: Any, act: Skip, next: Ok(Place::Name) },
         ],
         Place::Names => &[
-            Row { word: b"(", test: Any, act: After(Role::Name), next: Ok(Place::Parentheses) },
+            Row { word: b"(", test: Any, act: After(Role::Words), next: Ok(Place::Parentheses) },
             Row { word: b")", test: Any, act: Skip, next: Err(Wrong::Bad) },
-            Row { word: b"", test: Any, act: One(Role::Name), next: Ok(Place::Names) },
+            Row { word: b"", test: Any, act: One(Role::Words), next: Ok(Place::Names) },
         ],
         Place::Parentheses => &[
             Row { word: b")", test: Outside, act: Close, next: Ok(Place::Names) },
@@ -231,7 +237,7 @@ pub fn rows(place: Place) -> &'static [Row]
             Row { word: b"{", test: Any, act: Skip, next: Err(Wrong::Unread) },
         ],
         Place::Behind => &[
-            Row { word: b"[", test: Any, act: One(Role::List), next: Ok(Place::Attribute) },
+            Row { word: b"[", test: Any, act: One(Role::Silent), next: Ok(Place::Attribute) },
             Row { word: b"{", test: Any, act: Skip, next: Err(Wrong::Unread) },
         ],
         Place::Attribute => &[
@@ -269,7 +275,7 @@ pub fn rows(place: Place) -> &'static [Row]
             Row { word: b"", test: Test::Text, act: Skip, next: Ok(Place::Attribute) },
         ],
         Place::Left => &[
-            Row { word: b"=", test: Outside, act: Next(Role::Side), next: Ok(Place::Right) },
+            Row { word: b"=", test: Outside, act: Next(Role::Words), next: Ok(Place::Right) },
             Row { word: b"(", test: Any, act: Deeper, next: Ok(Place::Left) },
             Row { word: b"[", test: Any, act: Deeper, next: Ok(Place::Left) },
             Row { word: b"{", test: Any, act: Deeper, next: Ok(Place::Left) },
