@@ -6,6 +6,7 @@ pub mod OperatorNames
 pub mod Rows
 pub mod Attributes
 pub mod Reading
+pub mod Parts
 pub mod Sortings
 pub mod Equations
 pub mod Forms

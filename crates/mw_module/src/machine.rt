@@ -3,6 +3,7 @@ ghost use Rattle.std.specs.Prelude.{◌≡◌, ◌<◌, ◌≤◌, ◌+◌, map,
 ghost use Rattle.mw_module.specs.Rows.{seen_row};
 ghost use Rattle.mw_module.specs.Rows as spec;
 ghost use Rattle.mw_module.specs.Words.{seen_lists};
+ghost use Rattle.mw_module.specs.Parts.{PartsAscend};
 ghost use Rattle.mw_module.specs.Reading as reading;
 
 use crate::attribute::{are_marks, is_precedence};
@@ -294,3 +295,8 @@ pub fn first_token<'s>(tokens: &'s [Token], parts: &[Part]) -> Option<&'s Token>
         [] => None,
     }
 }
+
+/// The law that parts stand one after the other, and are such as is wanted.
+pub fn parts_ascend()
+    ensures { PartsAscend }
+{}

@@ -1,0 +1,212 @@
+-- The parts of a statement that is made of tokens are proper.
+use Rattle.std.proofs.Common.{◌≡◌, ◌∙◌, ℕ, zero, suc, ◌+◌, ◌-◌, ◌==◌, ◌&&◌, ◌||◌, not, nat_eq, if◌then◌else◌, Bool, true, false, List, [], ◌∷◌, length, take, drop, Option, Some, None, Result, Ok, Err, IfOk, All, codes, inl, inr, refl, sym}
+use Rattle.std.specs.List.{list_all}
+use Rattle.std.specs.Str.{bytes_eq}
+use Rattle.std.proofs.lemmas.Bool.{both_ways, and_parts, or_parts, not-true, eqb-false}
+use Rattle.std.proofs.lemmas.List.Elements.{All-nil, All-cons, All-head, All-tail, All-take, All-drop, All-map}
+use Rattle.mw_lex.specs.Bytes.{is_punctuation}
+use Rattle.mw_lex.specs.declared.token.Token.{Token}
+use Rattle.mw_lex.specs.Texts.{IsRun, IsTokenText, AreTokens}
+use Rattle.mw_text.specs.Names.{Item, piece, hole, pieces, name_of_tokens}
+use Rattle.mw_text.specs.Proper.{IsProperName, BeginsNothing, NamesAreProper}
+use Rattle.mw_module.specs.declared.machine.Part.{Part}
+use Rattle.mw_module.specs.declared.openings.Opening.{Opening}
+use Rattle.mw_module.specs.declared.openings.Opening.TheVariants as opening
+use Rattle.mw_module.specs.declared.table.Place.TheVariants as place
+use Rattle.mw_module.specs.declared.table.Role.{Role}
+use Rattle.mw_module.specs.declared.table.Role.TheVariants as role
+use Rattle.mw_module.specs.declared.table.Want.{Want}
+use Rattle.mw_module.specs.declared.table.Want.TheVariants as want
+use Rattle.mw_module.specs.declared.table.Wrong.{Wrong}
+use Rattle.mw_module.specs.declared.table.Wrong.TheVariants.{Bad, Unread}
+use Rattle.mw_module.specs.declared.table.Act.TheVariants.{Skip}
+use Rattle.mw_module.specs.declared.table.Test.TheVariants as test
+use Rattle.mw_module.specs.Words.{texts, count_before, is_punctuation_word, is_quoted, is_no_piece}
+use Rattle.mw_module.specs.Openings.{opening_of}
+use Rattle.mw_module.specs.OperatorNames.{items_in, is_fine, is_name}
+use Rattle.mw_module.specs.Equations.{has_label, unlabelled, attributes_len, group_at_end}
+use Rattle.mw_module.specs.Rows.{Row, row}
+use Rattle.mw_module.specs.Reading.{then_of, tokens_of, meets, followed, reading, read_at, lists_of, first_token}
+use Rattle.mw_module.specs.Forms.{Shape, Sorts, Operators, Formed, Shaped, grouped, typed, typed_names, Profile, profile_form, declared, names_form, sided, sides_form, form_behind, formed, form_of}
+use Rattle.mw_module.specs.Tokens.{HasProperParts}
+use Rattle.mw_module.proofs.Parts.{then_holds}
+use Rattle.mw_module.proofs.Formed.{AreNames, names_named, formed_holds}
+
+abbrev pub IsToken : Token → Type 0
+IsToken t = IsTokenText t.text
+
+-- names of sorts and variables: a token that is neither a punctuation byte nor quoted is a run
+run_alone : (x : List ℕ) → IsTokenText x → is_punctuation_word x ≡ false → is_quoted x ≡ false → IsRun x
+run_alone x (inl (inr run)) mark quote = run
+run_alone [] (inl (inl h)) mark quote = absurd h
+run_alone (b ∷ []) (inl (inl h)) mark quote = absurd (both_ways (is_punctuation b) mark h)
+run_alone (b ∷ (c ∷ x)) (inl (inl h)) mark quote = absurd h
+run_alone [] (inr h) mark quote = absurd h
+run_alone (b ∷ x) (inr h) mark quote = absurd (eqb-false b 34 quote h)
+
+-- a text that passes as a run
+passed : (x : List ℕ) → (not (is_punctuation_word x) && not (is_quoted x)) ≡ true → IsTokenText x → IsRun x
+passed x e one = let h = and_parts (not (is_punctuation_word x)) (not (is_quoted x)) e in run_alone x one (not-true (is_punctuation_word x) h.0) (not-true (is_quoted x) h.1)
+
+abbrev AreRuns : List Token → List Part → Type 0
+AreRuns ts parts = All IsRun (texts ts)
+
+still : {A : Type 0} (P Q : A → Type 0) (r : Result A Wrong) → IfOk r P → ((a : A) → P a → Q a) → IfOk r Q
+still P Q (Ok a) h k = k a h
+still P Q (Err wrong) h k = tt
+
+-- sorts and variables that are declared are runs
+sorts_run : (ts rest : List Token) (i d f : ℕ) (r : Role) (ps : List Part) → AreTokens rest
+    → IfOk (reading ts want.Nothing i (record { place = place.Sorts; depth = d; role = r; from = f; parts = ps }) rest) (AreRuns rest)
+sorts_run ts [] i d f r ps all = All-nil IsRun
+sorts_run ts (t ∷ rest) i d f r ps all = of (bytes_eq t.text (codes "{") && true) (not (is_punctuation_word t.text) && not (is_quoted t.text)) refl (sorts_run ts rest (i + 1) d f r ps (All-tail IsToken t rest all))
+  where
+    of : (b c : Bool) → (not (is_punctuation_word t.text) && not (is_quoted t.text)) ≡ c → IfOk (reading ts want.Nothing (i + 1) (record { place = place.Sorts; depth = d; role = r; from = f; parts = ps }) rest) (AreRuns rest)
+        → IfOk (then_of (followed ts want.Nothing i (record { place = place.Sorts; depth = d; role = r; from = f; parts = ps })
+        (if b then Some (row (codes "{") test.Any Skip (Err Unread)) else if c then Some (row [] test.Run Skip (Ok place.Sorts)) else None)) (λ u. reading ts want.Nothing (i + 1) u rest)) (AreRuns (t ∷ rest))
+    of true c e behind = tt
+    of false true e behind = still (AreRuns rest) (AreRuns (t ∷ rest)) (reading ts want.Nothing (i + 1) (record { place = place.Sorts; depth = d; role = r; from = f; parts = ps }) rest)
+        behind (λ parts more. All-cons IsRun t.text (texts rest) (passed t.text e (All-head IsToken t rest all)) more)
+    of false false e behind = tt
+
+variables_run : (ts rest : List Token) (i d f : ℕ) (r : Role) (ps : List Part) → AreTokens rest
+    → IfOk (reading ts want.Nothing i (record { place = place.Variables; depth = d; role = r; from = f; parts = ps }) rest) (AreRuns rest)
+variables_run ts [] i d f r ps all = All-nil IsRun
+variables_run ts (t ∷ rest) i d f r ps all = of (not (is_punctuation_word t.text) && not (is_quoted t.text)) refl (variables_run ts rest (i + 1) d f r ps (All-tail IsToken t rest all))
+  where
+    of : (c : Bool) → (not (is_punctuation_word t.text) && not (is_quoted t.text)) ≡ c → IfOk (reading ts want.Nothing (i + 1) (record { place = place.Variables; depth = d; role = r; from = f; parts = ps }) rest) (AreRuns rest)
+        → IfOk (then_of (followed ts want.Nothing i (record { place = place.Variables; depth = d; role = r; from = f; parts = ps })
+        (if c then Some (row [] test.Run Skip (Ok place.Variables)) else None)) (λ u. reading ts want.Nothing (i + 1) u rest)) (AreRuns (t ∷ rest))
+    of true e behind = still (AreRuns rest) (AreRuns (t ∷ rest)) (reading ts want.Nothing (i + 1) (record { place = place.Variables; depth = d; role = r; from = f; parts = ps }) rest)
+        behind (λ parts more. All-cons IsRun t.text (texts rest) (passed t.text e (All-head IsToken t rest all)) more)
+    of false e behind = tt
+
+-- names of operators
+first_false : (a b c : Bool) → (a || b || c) ≡ false → (a ≡ false) × ((b || c) ≡ false)
+first_false true b c e = cc
+first_false false b c e = (refl, e)
+
+-- neither a string nor a comment begins in a piece that may stand in a name
+fine_piece : (x : List ℕ) → is_no_piece x ≡ false → BeginsNothing x
+fine_piece [] e = cc
+fine_piece (a ∷ []) e = (eqb-false a 34 (or_parts (a == 46) (a == 34) e).1, refl)
+fine_piece (a ∷ (b ∷ [])) e = (eqb-false a 34 e, refl)
+fine_piece (a ∷ (b ∷ (c ∷ x))) e = let h = first_false (a == 34) (a == 42 && b == 42 && c == 42) (a == 45 && b == 45 && c == 45) e in (eqb-false a 34 h.0, h.1)
+
+fine_pieces : (items : List Item) → list_all is_fine items ≡ true → All BeginsNothing (pieces items)
+fine_pieces [] e = All-nil BeginsNothing
+fine_pieces (piece x ∷ items) e =
+    let h = and_parts (not (is_no_piece x)) (list_all is_fine items) e in
+    All-cons BeginsNothing x (pieces items) (fine_piece x (not-true (is_no_piece x) h.0)) (fine_pieces items h.1)
+fine_pieces (hole ∷ items) e = fine_pieces items e
+
+abbrev IsProperlyNamed : List Token → Type 0
+IsProperlyNamed name = IsProperName (name_of_tokens (texts name))
+
+proper_name : NamesAreProper → (name : List Token) → AreTokens name → is_name (items_in name) ≡ true → IsProperlyNamed name
+proper_name law name all e =
+    let h = and_parts (list_all is_fine (items_in name)) _ e in
+    law (texts name) (All-map IsTokenText (λ (t : Token). t.text) name all) (fine_pieces (items_in name) h.0)
+
+-- the tokens of a part are tokens
+part_tokens : (ts : List Token) (p : Part) → AreTokens ts → AreTokens (tokens_of ts p)
+part_tokens ts p all = All-take IsToken (p.to - p.from) (drop p.from ts) (All-drop IsToken p.from ts all)
+
+lists_tokens : (ts : List Token) (parts : List Part) → AreTokens ts → All AreTokens (lists_of ts parts)
+lists_tokens ts [] all = All-nil AreTokens
+lists_tokens ts (p ∷ ps) all = All-cons AreTokens (tokens_of ts p) (lists_of ts ps) (part_tokens ts p all) (lists_tokens ts ps all)
+
+any_holds : {A B : Type 0} (Q : B → Type 0) (r : Result A Wrong) (next : A → Result B Wrong) → ((a : A) → IfOk (next a) Q) → IfOk (then_of r next) Q
+any_holds Q (Ok a) next h = h a
+any_holds Q (Err wrong) next h = tt
+
+-- declarations of operators
+both_hold : {A : Type 0} (P Q : A → Type 0) (r : Result A Wrong) → IfOk r P → IfOk r Q → IfOk r (λ a. P a × Q a)
+both_hold P Q (Ok a) h k = (h, k)
+both_hold P Q (Err wrong) h k = tt
+
+made : (single : Bool) (ts : List Token) → AreTokens ts → IfOk (names_form single ts) (All AreTokens)
+made single ts all = any_holds (All AreTokens) (read_at (if single then place.Name else place.Names) role.Words want.Names ts) (λ parts. Ok (lists_of ts parts)) (λ parts. lists_tokens ts parts all)
+
+proper_names : NamesAreProper → (names : List (List Token)) → AreNames names → All AreTokens names → All IsProperlyNamed names
+proper_names law [] named all = All-nil IsProperlyNamed
+proper_names law (name ∷ names) named all =
+    All-cons IsProperlyNamed name names
+    (proper_name law name (All-head AreTokens name names all) (All-head (λ (m : List Token). is_name (items_in m) ≡ true) name names named))
+    (proper_names law names (All-tail (λ (m : List Token). is_name (items_in m) ≡ true) name names named) (All-tail AreTokens name names all))
+
+declared_proper : (names : List (List Token)) (ts : List Token) → All IsProperlyNamed names → IfOk (declared names ts) HasProperParts
+declared_proper [] ts all = tt
+declared_proper (n ∷ ns) ts all = any_holds HasProperParts (profile_form (n ∷ ns) ts) (λ (p : Profile). Ok (Operators (n ∷ ns) p.args p.value.sort p.value.attributes)) (λ p. all)
+
+operators_proper : NamesAreProper → (single : Bool) (colon : ℕ) (ts : List Token) (b : Bool) → AreTokens ts
+    → IfOk (if b then Err Bad else then_of (names_form single (take colon ts)) (λ names. declared names (drop (colon + 1) ts))) HasProperParts
+operators_proper law single colon ts true all = tt
+operators_proper law single colon ts false all =
+    let front = take colon ts in
+    then_holds (λ names. AreNames names × All AreTokens names) HasProperParts (names_form single front) (λ names. declared names (drop (colon + 1) ts))
+    (both_hold AreNames (All AreTokens) (names_form single front) (names_named single front) (made single front (All-take IsToken colon ts all)))
+    (λ names h. declared_proper names (drop (colon + 1) ts) (proper_names law names h.0 h.1))
+
+-- variables
+typed_proper : (names : List Token) (o : Option Token) → All IsRun (texts names) → IfOk (typed names o) HasProperParts
+typed_proper names None all = tt
+typed_proper names (Some sort) all = all
+
+typed_names_proper : (names ts : List Token) → AreTokens names → IfOk (typed_names names ts) HasProperParts
+typed_names_proper [] ts all = tt
+typed_names_proper (t ∷ names) ts all =
+    then_holds (AreRuns (t ∷ names)) HasProperParts (read_at place.Variables role.Silent want.Nothing (t ∷ names))
+    (λ none. then_of (read_at place.Sort role.Silent want.Nothing ts) (λ parts. typed (t ∷ names) (first_token ts parts)))
+    (variables_run (t ∷ names) (t ∷ names) 0 0 0 role.Silent [] all)
+    (λ none runs. any_holds HasProperParts (read_at place.Sort role.Silent want.Nothing ts) (λ parts. typed (t ∷ names) (first_token ts parts)) (λ parts. typed_proper (t ∷ names) (first_token ts parts) runs))
+
+variables_proper : (colon : ℕ) (ts : List Token) (b : Bool) → AreTokens ts → IfOk (if b then Err Bad else typed_names (take colon ts) (drop (colon + 1) ts)) HasProperParts
+variables_proper colon ts true all = tt
+variables_proper colon ts false all = typed_names_proper (take colon ts) (drop (colon + 1) ts) (All-take IsToken colon ts all)
+
+-- equations
+unlabelled_tokens : (ts : List Token) → AreTokens ts → AreTokens (unlabelled ts)
+unlabelled_tokens ts all = of (has_label ts)
+  where
+    of : (b : Bool) → AreTokens (if b then drop 4 ts else ts)
+    of true = All-drop IsToken 4 ts all
+    of false = all
+
+sided_proper : (ts : List Token) (parts : List Part) (executable : Bool) → AreTokens ts → IfOk (sided ts parts executable) HasProperParts
+sided_proper ts [] executable all = tt
+sided_proper ts (l ∷ []) executable all = tt
+sided_proper ts (l ∷ (r ∷ ps)) executable all = (part_tokens ts l all, part_tokens ts r all)
+
+sides_proper : (sides said : List Token) → AreTokens sides → IfOk (sides_form sides said) HasProperParts
+sides_proper sides said all =
+    any_holds HasProperParts (read_at place.Left role.Words want.Nothing sides) _ (λ parts. any_holds HasProperParts (read_at place.Statement role.Silent want.Nothing said) _ (λ more. sided_proper sides parts _ all))
+
+-- the other forms
+grouped_proper : (ts : List Token) (parts : List Part) → IfOk (grouped ts parts) HasProperParts
+grouped_proper ts [] = tt
+grouped_proper ts (p ∷ []) = tt
+grouped_proper ts (p ∷ (q ∷ ps)) = tt
+
+sorts_proper : (ts : List Token) → AreTokens ts → IfOk (form_behind opening.Sorts ts) HasProperParts
+sorts_proper [] all = tt
+sorts_proper (t ∷ ts) all =
+    then_holds (AreRuns (t ∷ ts)) HasProperParts (read_at place.Sorts role.Silent want.Nothing (t ∷ ts)) (λ parts. Ok (Sorts (t ∷ ts))) (sorts_run (t ∷ ts) (t ∷ ts) 0 0 0 role.Silent [] all) (λ parts runs. runs)
+
+behind_proper : NamesAreProper → (o : Opening) (ts : List Token) → AreTokens ts → IfOk (form_behind o ts) HasProperParts
+behind_proper law opening.Sorts ts all = sorts_proper ts all
+behind_proper law opening.Subsorts ts all = any_holds HasProperParts (read_at place.Group role.Words want.Nothing ts) (grouped ts) (grouped_proper ts)
+behind_proper law opening.Operator ts all = operators_proper law true (count_before (codes ":") ts) ts (count_before (codes ":") ts == length ts) all
+behind_proper law opening.Operators ts all = operators_proper law false (count_before (codes ":") ts) ts (count_before (codes ":") ts == length ts) all
+behind_proper law opening.Variables ts all = variables_proper (count_before (codes ":") ts) ts (count_before (codes ":") ts == length ts) all
+behind_proper law opening.Equation ts all =
+    let us = unlabelled ts in
+    let n = attributes_len us in
+    sides_proper (take (length us - n) us) (group_at_end n us) (All-take IsToken (length us - n) us (unlabelled_tokens ts all))
+behind_proper law opening.Elsewhere ts all = tt
+behind_proper law opening.Unread ts all = tt
+
+-- a statement that is made of tokens has proper parts
+pub form_proper : NamesAreProper → (ts : List Token) → AreTokens ts → IfOk (form_of ts) HasProperParts
+form_proper law [] all = tt
+form_proper law (t ∷ rest) all = formed_holds HasProperParts (form_behind (opening_of t.text) rest) (behind_proper law (opening_of t.text) rest (All-tail IsToken t rest all))
