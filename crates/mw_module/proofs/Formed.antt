@@ -1,5 +1,5 @@
 -- What is known of a statement that has a form.
-use Rattle.std.proofs.Common.{◌≡◌, ◌≢◌, ◌∙◌, ◌<◌, ◌+◌, ◌-◌, ◌*◌, ◌==◌, ◌&&◌, ◌||◌, ◌⊎◌, inl, inr, not, nat_lt, nat_le, nat_eq, min, ℕ, zero, suc, Bool, true, false, if◌then◌else◌, List, [], ◌∷◌, ◌++◌, length, take, drop, Option, Some, None, IfSome, IfOk, Result, Ok, Err, All, codes, refl, sym, ap, subst, arith}
+use Rattle.std.proofs.Common.{◌≡◌, ◌≢◌, ◌∙◌, ◌<◌, ◌+◌, ◌-◌, ◌*◌, ◌==◌, ◌&&◌, ◌||◌, ◌⊎◌, inl, inr, not, nat_lt, nat_le, nat_eq, min, ℕ, suc, Bool, true, false, if◌then◌else◌, List, [], ◌∷◌, length, take, drop, Option, Some, None, IfSome, IfOk, Result, Ok, Err, All, codes, refl, ap, arith}
 use Rattle.std.specs.Char.{is_ascii_digit}
 use Rattle.std.specs.List.{list_all}
 use Rattle.std.specs.Option.{option_or}
@@ -14,7 +14,6 @@ use Rattle.mw_module.specs.declared.openings.Opening.TheVariants as opening
 use Rattle.mw_module.specs.declared.table.Place.TheVariants as place
 use Rattle.mw_module.specs.declared.table.Role.{Role}
 use Rattle.mw_module.specs.declared.table.Role.TheVariants as role
-use Rattle.mw_module.specs.declared.table.Want.{Want}
 use Rattle.mw_module.specs.declared.table.Want.TheVariants as want
 use Rattle.mw_module.specs.declared.table.Wrong.{Wrong}
 use Rattle.mw_module.specs.declared.table.Wrong.TheVariants.{Bad}
@@ -27,7 +26,7 @@ use Rattle.mw_module.specs.Equations.{unlabelled, attributes_len, group_at_end}
 use Rattle.mw_module.specs.Known.{IsNameFor, IsMark, IsPrecedence, IsGather, AreAttributes, IsKnown}
 use Rattle.mw_module.specs.Parts.{IsFine, AreParts}
 use Rattle.mw_module.specs.Reading.{then_of, tokens_of, has_marks, is_fine, read_at, lists_of, first_token}
-use Rattle.mw_module.specs.Forms.{Shape, Sorts, Subsorts, Operators, Variables, Equation, Formed, Shaped, grouped, typed, typed_names, said_from, Value, valued_with, valued, value_form, Profile, profiled, profile_form, declared, names_form, operators_form, sided, sides_form, form_behind, formed, form_of}
+use Rattle.mw_module.specs.Forms.{Shape, Sorts, Operators, Formed, Shaped, grouped, typed, typed_names, said_from, Value, valued_with, valued, value_form, Profile, profiled, profile_form, declared, names_form, operators_form, sided, sides_form, form_behind, formed, form_of}
 use Rattle.mw_module.proofs.Parts.{then_holds, parts_read}
 
 abbrev pub IsKnownWhereFormed : Formed → Type 0

@@ -1,12 +1,9 @@
 -- What holds of the parts that are read by the table.
-use Rattle.std.proofs.Common.{◌≡◌, ◌≤◌, ◌+◌, ◌&&◌, ◌||◌, not, nat_eq, if◌then◌else◌, ℕ, Bool, true, false, List, [], ◌∷◌, ◌++◌, length, Option, Some, None, Result, Ok, Err, IfOk, All, codes, refl, arith}
-use Rattle.std.specs.Str.{bytes_eq}
-use Rattle.std.proofs.lemmas.Bool.{and_parts}
+use Rattle.std.proofs.Common.{◌≡◌, ◌≤◌, ◌+◌, if◌then◌else◌, ℕ, Bool, true, false, List, [], ◌∷◌, ◌++◌, length, Option, Some, None, Result, Ok, Err, IfOk, All, refl, arith}
 use Rattle.std.proofs.lemmas.List.Elements.{All-nil, All-cons, All-append}
 use Rattle.mw_lex.specs.declared.token.Token.{Token}
 use Rattle.mw_module.specs.declared.machine.Part.{Part}
 use Rattle.mw_module.specs.declared.table.Place.{Place}
-use Rattle.mw_module.specs.declared.table.Place.TheVariants as place
 use Rattle.mw_module.specs.declared.table.Act.{Act}
 use Rattle.mw_module.specs.declared.table.Act.TheVariants.{Skip, Deeper, Shallower, Close, After, Next, One}
 use Rattle.mw_module.specs.declared.table.End.{End}
@@ -14,9 +11,9 @@ use Rattle.mw_module.specs.declared.table.End.TheVariants.{Never, Free, Closes}
 use Rattle.mw_module.specs.declared.table.Role.{Role}
 use Rattle.mw_module.specs.declared.table.Want.{Want}
 use Rattle.mw_module.specs.declared.table.Wrong.{Wrong}
-use Rattle.mw_module.specs.declared.table.Wrong.TheVariants.{Bad, Unread}
+use Rattle.mw_module.specs.declared.table.Wrong.TheVariants.{Bad}
 use Rattle.mw_module.specs.Rows.{Row, rows, ending}
-use Rattle.mw_module.specs.Reading.{State, then_of, tokens_of, row_for, is_fine, closed, closed_open, opened, taken, placed, followed, stepped, Parts, ended, reading, read_at}
+use Rattle.mw_module.specs.Reading.{State, then_of, tokens_of, row_for, is_fine, closed, closed_open, opened, taken, placed, followed, stepped, ended, reading, read_at}
 use Rattle.mw_module.specs.Parts.{Ascend, IsFine, AreParts}
 
 -- what holds behind two steps

@@ -1,5 +1,5 @@
 -- The parts of a statement that is made of tokens are proper.
-use Rattle.std.proofs.Common.{◌≡◌, ◌∙◌, ℕ, zero, suc, ◌+◌, ◌-◌, ◌==◌, ◌&&◌, ◌||◌, not, nat_eq, if◌then◌else◌, Bool, true, false, List, [], ◌∷◌, length, take, drop, Option, Some, None, Result, Ok, Err, IfOk, All, codes, inl, inr, refl, sym}
+use Rattle.std.proofs.Common.{◌≡◌, ℕ, ◌+◌, ◌-◌, ◌==◌, ◌&&◌, ◌||◌, not, if◌then◌else◌, Bool, true, false, List, [], ◌∷◌, length, take, drop, Option, Some, None, Result, Ok, Err, IfOk, All, codes, inl, inr, refl}
 use Rattle.std.specs.List.{list_all}
 use Rattle.std.specs.Str.{bytes_eq}
 use Rattle.std.proofs.lemmas.Bool.{both_ways, and_parts, or_parts, not-true, eqb-false}
@@ -15,7 +15,6 @@ use Rattle.mw_module.specs.declared.openings.Opening.TheVariants as opening
 use Rattle.mw_module.specs.declared.table.Place.TheVariants as place
 use Rattle.mw_module.specs.declared.table.Role.{Role}
 use Rattle.mw_module.specs.declared.table.Role.TheVariants as role
-use Rattle.mw_module.specs.declared.table.Want.{Want}
 use Rattle.mw_module.specs.declared.table.Want.TheVariants as want
 use Rattle.mw_module.specs.declared.table.Wrong.{Wrong}
 use Rattle.mw_module.specs.declared.table.Wrong.TheVariants.{Bad, Unread}
@@ -25,9 +24,9 @@ use Rattle.mw_module.specs.Words.{texts, count_before, is_punctuation_word, is_q
 use Rattle.mw_module.specs.Openings.{opening_of}
 use Rattle.mw_module.specs.OperatorNames.{items_in, is_fine, is_name}
 use Rattle.mw_module.specs.Equations.{has_label, unlabelled, attributes_len, group_at_end}
-use Rattle.mw_module.specs.Rows.{Row, row}
-use Rattle.mw_module.specs.Reading.{then_of, tokens_of, meets, followed, reading, read_at, lists_of, first_token}
-use Rattle.mw_module.specs.Forms.{Shape, Sorts, Operators, Formed, Shaped, grouped, typed, typed_names, Profile, profile_form, declared, names_form, sided, sides_form, form_behind, formed, form_of}
+use Rattle.mw_module.specs.Rows.{row}
+use Rattle.mw_module.specs.Reading.{then_of, tokens_of, followed, reading, read_at, lists_of, first_token}
+use Rattle.mw_module.specs.Forms.{Sorts, Operators, grouped, typed, typed_names, Profile, profile_form, declared, names_form, sided, sides_form, form_behind, form_of}
 use Rattle.mw_module.specs.Tokens.{HasProperParts}
 use Rattle.mw_module.proofs.Parts.{then_holds}
 use Rattle.mw_module.proofs.Formed.{AreNames, names_named, formed_holds}

@@ -1,5 +1,5 @@
 -- The parts of equations: a label in front, two sides, and attributes at the end.
-use Rattle.std.specs.Prelude.{ℕ, Bool, true, false, List, [], ◌∷◌, ◌+◌, ◌-◌, ◌==◌, ◌&&◌, ◌||◌, not, length, take, drop, reverse, Option, None, Some, Result, Ok, zero, suc, if◌then◌else◌, codes}
+use Rattle.std.specs.Prelude.{ℕ, Bool, false, List, [], ◌∷◌, ◌+◌, ◌-◌, ◌==◌, ◌&&◌, ◌||◌, length, take, drop, reverse, Option, None, Some, if◌then◌else◌, codes}
 use Rattle.mw_lex.specs.declared.token.Token.{Token}
 use Rattle.mw_lex.specs.Pieces.{one_more}
 use Rattle.mw_module.specs.Words.{is}

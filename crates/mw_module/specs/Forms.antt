@@ -1,5 +1,5 @@
 -- The forms of statements.
-use Rattle.std.specs.Prelude.{ℕ, Bool, true, false, List, [], ◌∷◌, ◌++◌, ◌+◌, ◌-◌, ◌==◌, ◌||◌, not, nat_lt, min, length, take, drop, map, Option, None, Some, Result, Ok, Err, if◌then◌else◌, codes}
+use Rattle.std.specs.Prelude.{ℕ, Bool, true, false, List, [], ◌∷◌, ◌+◌, ◌-◌, ◌==◌, ◌||◌, not, nat_lt, min, length, take, drop, Option, None, Some, Result, Ok, Err, if◌then◌else◌, codes}
 use Rattle.std.specs.Borrow.{Bor}
 use Rattle.std.specs.Global.{Vec}
 use Rattle.std.specs.List.{list_any}

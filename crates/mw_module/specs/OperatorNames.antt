@@ -1,9 +1,9 @@
 -- The names of operators.
-use Rattle.std.specs.Prelude.{ℕ, Bool, true, false, List, [], ◌∷◌, ◌+◌, ◌-◌, ◌==◌, ◌&&◌, ◌||◌, not, nat_le, length, take, Option, None, Some, zero, suc, if◌then◌else◌, codes}
+use Rattle.std.specs.Prelude.{ℕ, Bool, true, false, List, ◌==◌, ◌&&◌, ◌||◌, not, nat_le}
 use Rattle.std.specs.List.{list_any, list_all}
 use Rattle.mw_lex.specs.declared.token.Token.{Token}
 use Rattle.mw_text.specs.Names.{Item, piece, hole, items_of_tokens, count_holes}
-use Rattle.mw_module.specs.Words.{is, texts, is_no_piece}
+use Rattle.mw_module.specs.Words.{texts, is_no_piece}
 
 -- the pieces and holes of a name
 abbrev pub items_in : List Token → List Item
