@@ -146,8 +146,7 @@ one_known arity role.Precedence ts e = record { precedence = number_known ts; ga
 one_known arity role.Gather ts e = record { precedence = tt; gather = marks_known arity ts e }
 one_known arity role.Config ts e = record { precedence = tt; gather = tt }
 one_known arity role.Words ts e = none_known arity
-one_known arity role.Sort ts e = none_known arity
-one_known arity role.Kind ts e = none_known arity
+one_known arity (role.Sort kind) ts e = none_known arity
 one_known arity role.Silent ts e = none_known arity
 one_known arity role.Nonexec ts e = none_known arity
 

@@ -12,7 +12,7 @@ use Rattle.mw_module.specs.declared.table.Role.{Role}
 use Rattle.mw_module.specs.declared.table.Want.{Want}
 use Rattle.mw_module.specs.declared.table.Wrong.{Wrong}
 use Rattle.mw_module.specs.declared.table.Wrong.TheVariants.{Bad}
-use Rattle.mw_module.specs.Rows.{Row, rows, ending}
+use Rattle.mw_module.specs.Rows.{Row, entry}
 use Rattle.mw_module.specs.Reading.{State, then_of, tokens_of, row_for, is_fine, closed, closed_open, opened, taken, placed, followed, stepped, ended, reading, read_at}
 use Rattle.mw_module.specs.Parts.{Ascend, IsFine, AreParts}
 
@@ -87,10 +87,10 @@ module _ (ts : List Token) (want : Want) where
       of false e = tt
 
   reading_are : (i : ℕ) (s : State) (rest : List Token) → i + length rest ≡ length ts → Are i s → IfOk (reading ts want i s rest) AreAll
-  reading_are i s [] size h = ended_are (ending s.place) s (are-more i (length ts) s h (omega (arith, size)))
+  reading_are i s [] size h = ended_are (entry s.place).end s (are-more i (length ts) s h (omega (arith, size)))
   reading_are i s (t ∷ rest) size h =
       then_holds (Are (i + 1)) AreAll (stepped ts want i t s) (λ (u : State). reading ts want (i + 1) u rest)
-      (followed_are i s (row_for s.depth t.text (rows s.place)) h) (λ u k. reading_are (i + 1) u rest (omega (arith, size)) k)
+      (followed_are i s (row_for s.depth t.text (entry s.place).rows) h) (λ u k. reading_are (i + 1) u rest (omega (arith, size)) k)
 
 -- the parts of a piece
 pub parts_read : (place : Place) (role : Role) (want : Want) (ts : List Token) → IfOk (read_at place role want ts) (AreParts ts want)

@@ -82,7 +82,6 @@ said_as role.Config ts = record no_attributes { config = true }
 said_as role.Precedence ts = record no_attributes { precedence = precedence_in ts }
 said_as role.Gather ts = record no_attributes { gather = Some (texts ts) }
 said_as role.Words ts = no_attributes
-said_as role.Sort ts = no_attributes
-said_as role.Kind ts = no_attributes
+said_as (role.Sort kind) ts = no_attributes
 said_as role.Silent ts = no_attributes
 said_as role.Nonexec ts = no_attributes

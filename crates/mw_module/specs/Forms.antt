@@ -2,7 +2,6 @@
 use Rattle.std.specs.Prelude.{ℕ, Bool, true, false, List, [], ◌∷◌, ◌+◌, ◌-◌, ◌==◌, ◌||◌, not, nat_lt, min, length, take, drop, Option, None, Some, Result, Ok, Err, if◌then◌else◌, codes}
 use Rattle.std.specs.Borrow.{Bor}
 use Rattle.std.specs.Global.{Vec}
-use Rattle.std.specs.List.{list_any}
 use Rattle.mw_lex.specs.declared.token.Token.{Token}
 use Rattle.mw_module.specs.declared.faults.FaultKind.{FaultKind}
 use Rattle.mw_module.specs.declared.faults.FaultKind.TheVariants.{NotInProfile}
@@ -172,25 +171,15 @@ operators_form single ts =
     let colon = count_before (codes ":") ts in
     if colon == length ts then Err Bad else then_of (names_form single (take colon ts)) (λ names. declared names (drop (colon + 1) ts))
 
-abbrev pub is_nonexec : Role → Bool
-is_nonexec role.Nonexec = true
-is_nonexec role.Words = false
-is_nonexec role.Sort = false
-is_nonexec role.Kind = false
-is_nonexec role.Silent = false
-is_nonexec role.Config = false
-is_nonexec role.Precedence = false
-is_nonexec role.Gather = false
-
 -- two sides
 abbrev pub sided : List Token → List Part → Bool → Shaped
 sided ts [] executable = Err Bad
 sided ts (l ∷ []) executable = Err Bad
 sided ts (l ∷ r ∷ ps) executable = Ok (Equation (tokens_of ts l) (tokens_of ts r) executable)
 
--- the sides, and the attributes behind them; what is wrong with the sides comes first
+-- the sides, and the attributes behind them, of which only `nonexec` is a part; what is wrong with the sides comes first
 abbrev pub sides_form : List Token → List Token → Shaped
-sides_form sides said = then_of (read_at place.Left role.Words want.Nothing sides) (λ parts. then_of (read_at place.Statement role.Silent want.Nothing said) (λ more. sided sides parts (not (list_any (λ (p : Part). is_nonexec p.role) more))))
+sides_form sides said = then_of (read_at place.Left role.Words want.Nothing sides) (λ parts. then_of (read_at place.Statement role.Silent want.Nothing said) (λ more. sided sides parts (length more == 0)))
 
 -- `eq`: a label, two sides, and attributes
 abbrev pub equation_form : List Token → Shaped

@@ -24,7 +24,7 @@ use Rattle.mw_module.specs.declared.table.End.{End}
 use Rattle.mw_module.specs.declared.table.End.TheVariants.{Never, Free, Closes}
 use Rattle.mw_module.specs.Attributes.{is_mark, is_precedence}
 use Rattle.mw_module.specs.OperatorNames.{items_in, is_name}
-use Rattle.mw_module.specs.Rows.{Row, rows, ending}
+use Rattle.mw_module.specs.Rows.{Row, entry}
 use Rattle.mw_module.specs.Words.{is_punctuation_word, is_quoted, is_whole_string}
 
 -- the fault that is told
@@ -78,8 +78,7 @@ row_for depth text (r ∷ rs) = if meets depth text r then Some r else row_for d
 abbrev pub is_gather : Role → Bool
 is_gather role.Gather = true
 is_gather role.Words = false
-is_gather role.Sort = false
-is_gather role.Kind = false
+is_gather (role.Sort kind) = false
 is_gather role.Silent = false
 is_gather role.Config = false
 is_gather role.Precedence = false
@@ -128,7 +127,7 @@ followed ts want i s None = Err Bad
 followed ts want i s (Some r) = then_of (taken ts want r.act i s) (placed r.next)
 
 abbrev pub stepped : List Token → Want → ℕ → Token → State → Result State Wrong
-stepped ts want i t s = followed ts want i s (row_for s.depth t.text (rows s.place))
+stepped ts want i t s = followed ts want i s (row_for s.depth t.text (entry s.place).rows)
 
 -- the parts, or what is wrong
 abbrev pub Parts : Type 0
@@ -150,7 +149,7 @@ ended ts want Closes s = then_of (closed_open ts want (length ts) s) (λ (t : St
 
 -- the parts of a piece whose last tokens, from number i on, are these
 abbrev pub reading : List Token → Want → ℕ → State → List Token → Parts
-reading ts want i s [] = ended ts want (ending s.place) s
+reading ts want i s [] = ended ts want (entry s.place).end s
 reading ts want i s (t ∷ rest) = then_of (stepped ts want i t s) (λ (u : State). reading ts want (i + 1) u rest)
 
 -- the parts of a piece that begins at this place, where a part of this role is open

@@ -1,5 +1,6 @@
 -- The table of the forms of statements: how a statement, or a piece of one, goes on from each place in it.
-use Rattle.std.specs.Prelude.{ℕ, List, [], ◌∷◌, Result, Ok, Err, codes}
+use Rattle.std.specs.Prelude.{ℕ, true, false, List, [], ◌∷◌, map, Result, Ok, Err, codes}
+use Rattle.mw_module.specs.declared.table.Entry.{Entry as HeldEntry}
 use Rattle.mw_module.specs.declared.table.Row.{Row as HeldRow}
 use Rattle.mw_module.specs.declared.table.Place.{Place}
 use Rattle.mw_module.specs.declared.table.Place.TheVariants as place
@@ -27,42 +28,53 @@ seen_row r = record { word = r.word.now; test = r.test; act = r.act; next = r.ne
 abbrev pub row : List ℕ → Test → Act → Result Place Wrong → Row
 row word test act next = record { word = word; test = test; act = act; next = next }
 
-abbrev pub rows : Place → List Row
-rows place.Sorts = row (codes "{") test.Any Skip (Err Unread) ∷ row [] test.Run Skip (Ok place.Sorts) ∷ []
-rows place.Variables = row [] test.Run Skip (Ok place.Variables) ∷ []
-rows place.Group = row (codes "<") test.Any Skip (Err Bad)
+-- what the table says of a place: how a piece may end there, and the rows, of which the first that a token meets is taken
+pub record Entry : Type 0 where
+  pub end : End
+  pub rows : List Row
+
+abbrev pub seen_entry : HeldEntry → Entry
+seen_entry e = record { end = e.end; rows = map seen_row e.rows.now }
+
+abbrev pub at : End → List Row → Entry
+at end rows = record { end = end; rows = rows }
+
+abbrev pub entry : Place → Entry
+entry place.Sorts = at end.Free (row (codes "{") test.Any Skip (Err Unread) ∷ row [] test.Run Skip (Ok place.Sorts) ∷ [])
+entry place.Variables = at end.Free (row [] test.Run Skip (Ok place.Variables) ∷ [])
+entry place.Group = at end.Never (row (codes "<") test.Any Skip (Err Bad)
     ∷ row (codes "{") test.Any Skip (Err Unread)
     ∷ row [] test.Plain Skip (Ok place.InGroup)
-    ∷ []
-rows place.InGroup = row (codes "<") test.Any (Next role.Words) (Ok place.Group)
+    ∷ [])
+entry place.InGroup = at end.Closes (row (codes "<") test.Any (Next role.Words) (Ok place.Group)
     ∷ row (codes "{") test.Any Skip (Err Unread)
     ∷ row [] test.Plain Skip (Ok place.InGroup)
-    ∷ []
-rows place.Sort = row (codes "{") test.Any Skip (Err Unread) ∷ row [] test.Plain (One role.Sort) (Ok place.SortEnd) ∷ []
-rows place.Name = row [] test.Any Skip (Ok place.Name) ∷ []
-rows place.Names = row (codes "(") test.Any (After role.Words) (Ok place.Parentheses)
+    ∷ [])
+entry place.Sort = at end.Never (row (codes "{") test.Any Skip (Err Unread) ∷ row [] test.Plain (One (role.Sort false)) (Ok place.SortEnd) ∷ [])
+entry place.Name = at end.Closes (row [] test.Any Skip (Ok place.Name) ∷ [])
+entry place.Names = at end.Free (row (codes "(") test.Any (After role.Words) (Ok place.Parentheses)
     ∷ row (codes ")") test.Any Skip (Err Bad)
     ∷ row [] test.Any (One role.Words) (Ok place.Names)
-    ∷ []
-rows place.Parentheses = row (codes ")") test.Outside Close (Ok place.Names)
+    ∷ [])
+entry place.Parentheses = at end.Never (row (codes ")") test.Outside Close (Ok place.Names)
     ∷ row (codes ")") test.Any Shallower (Ok place.Parentheses)
     ∷ row (codes "(") test.Any Deeper (Ok place.Parentheses)
     ∷ row [] test.Any Skip (Ok place.Parentheses)
-    ∷ []
-rows place.Args = row (codes "[") test.Any Skip (Ok place.ArgKind)
+    ∷ [])
+entry place.Args = at end.Free (row (codes "[") test.Any Skip (Ok place.ArgKind)
     ∷ row (codes "{") test.Any Skip (Err Unread)
-    ∷ row [] test.Plain (One role.Sort) (Ok place.Args)
-    ∷ []
-rows place.ArgKind = row (codes "{") test.Any Skip (Err Unread) ∷ row [] test.Plain (One role.Kind) (Ok place.ArgKindEnd) ∷ []
-rows place.ArgKindEnd = row (codes "]") test.Any Skip (Ok place.Args) ∷ row (codes "{") test.Any Skip (Err Unread) ∷ []
-rows place.Value = row (codes "[") test.Any Skip (Ok place.ValueKind)
+    ∷ row [] test.Plain (One (role.Sort false)) (Ok place.Args)
+    ∷ [])
+entry place.ArgKind = at end.Never (row (codes "{") test.Any Skip (Err Unread) ∷ row [] test.Plain (One (role.Sort true)) (Ok place.ArgKindEnd) ∷ [])
+entry place.ArgKindEnd = at end.Never (row (codes "]") test.Any Skip (Ok place.Args) ∷ row (codes "{") test.Any Skip (Err Unread) ∷ [])
+entry place.Value = at end.Never (row (codes "[") test.Any Skip (Ok place.ValueKind)
     ∷ row (codes "{") test.Any Skip (Err Unread)
-    ∷ row [] test.Plain (One role.Sort) (Ok place.Behind)
-    ∷ []
-rows place.ValueKind = row (codes "{") test.Any Skip (Err Unread) ∷ row [] test.Plain (One role.Kind) (Ok place.ValueKindEnd) ∷ []
-rows place.ValueKindEnd = row (codes "]") test.Any Skip (Ok place.Behind) ∷ row (codes "{") test.Any Skip (Err Unread) ∷ []
-rows place.Behind = row (codes "[") test.Any (One role.Silent) (Ok place.Attribute) ∷ row (codes "{") test.Any Skip (Err Unread) ∷ []
-rows place.Attribute = row (codes "]") test.Any Skip (Ok place.Whole)
+    ∷ row [] test.Plain (One (role.Sort false)) (Ok place.Behind)
+    ∷ [])
+entry place.ValueKind = at end.Never (row (codes "{") test.Any Skip (Err Unread) ∷ row [] test.Plain (One (role.Sort true)) (Ok place.ValueKindEnd) ∷ [])
+entry place.ValueKindEnd = at end.Never (row (codes "]") test.Any Skip (Ok place.Behind) ∷ row (codes "{") test.Any Skip (Err Unread) ∷ [])
+entry place.Behind = at end.Free (row (codes "[") test.Any (One role.Silent) (Ok place.Attribute) ∷ row (codes "{") test.Any Skip (Err Unread) ∷ [])
+entry place.Attribute = at end.Never (row (codes "]") test.Any Skip (Ok place.Whole)
     ∷ row (codes "ctor") test.Any (One role.Silent) (Ok place.Attribute)
     ∷ row (codes "ditto") test.Any (One role.Silent) (Ok place.Attribute)
     ∷ row (codes "memo") test.Any (One role.Silent) (Ok place.Attribute)
@@ -74,14 +86,14 @@ rows place.Attribute = row (codes "]") test.Any Skip (Ok place.Whole)
     ∷ row (codes "format") test.Any (One role.Silent) (Ok place.Format)
     ∷ row (codes "metadata") test.Any (One role.Silent) (Ok place.Metadata)
     ∷ row [] test.Any Skip (Err Unread)
-    ∷ []
-rows place.Precedence = row [] test.Precedence (One role.Precedence) (Ok place.Attribute) ∷ []
-rows place.Gather = row (codes "(") test.Any (After role.Gather) (Ok place.Marks) ∷ []
-rows place.Marks = row (codes ")") test.Any Close (Ok place.Attribute) ∷ row [] test.Any Skip (Ok place.Marks) ∷ []
-rows place.Format = row (codes "(") test.Any Skip (Ok place.Formatted) ∷ []
-rows place.Formatted = row (codes ")") test.Any Skip (Ok place.Attribute) ∷ row [] test.Any Skip (Ok place.Formatted) ∷ []
-rows place.Metadata = row [] test.Text Skip (Ok place.Attribute) ∷ []
-rows place.Left = row (codes "=") test.Outside (Next role.Words) (Ok place.Right)
+    ∷ [])
+entry place.Precedence = at end.Never (row [] test.Precedence (One role.Precedence) (Ok place.Attribute) ∷ [])
+entry place.Gather = at end.Never (row (codes "(") test.Any (After role.Gather) (Ok place.Marks) ∷ [])
+entry place.Marks = at end.Never (row (codes ")") test.Any Close (Ok place.Attribute) ∷ row [] test.Any Skip (Ok place.Marks) ∷ [])
+entry place.Format = at end.Never (row (codes "(") test.Any Skip (Ok place.Formatted) ∷ [])
+entry place.Formatted = at end.Never (row (codes ")") test.Any Skip (Ok place.Attribute) ∷ row [] test.Any Skip (Ok place.Formatted) ∷ [])
+entry place.Metadata = at end.Never (row [] test.Text Skip (Ok place.Attribute) ∷ [])
+entry place.Left = at end.Never (row (codes "=") test.Outside (Next role.Words) (Ok place.Right)
     ∷ row (codes "(") test.Any Deeper (Ok place.Left)
     ∷ row (codes "[") test.Any Deeper (Ok place.Left)
     ∷ row (codes "{") test.Any Deeper (Ok place.Left)
@@ -91,46 +103,14 @@ rows place.Left = row (codes "=") test.Outside (Next role.Words) (Ok place.Right
     ∷ row (codes "}") test.Any Shallower (Ok place.Left)
     ∷ row (codes "fi") test.Any Shallower (Ok place.Left)
     ∷ row [] test.Any Skip (Ok place.Left)
-    ∷ []
-rows place.Right = row [] test.Any Skip (Ok place.Right) ∷ []
-rows place.Statement = row (codes "nonexec") test.Any (One role.Nonexec) (Ok place.Statement)
+    ∷ [])
+entry place.Right = at end.Closes (row [] test.Any Skip (Ok place.Right) ∷ [])
+entry place.Statement = at end.Free (row (codes "nonexec") test.Any (One role.Nonexec) (Ok place.Statement)
     ∷ row (codes "label") test.Any Skip (Ok place.Label)
     ∷ row (codes "metadata") test.Any Skip (Ok place.Text)
     ∷ row [] test.Any Skip (Err Unread)
-    ∷ []
-rows place.Label = row [] test.Any Skip (Ok place.Statement) ∷ []
-rows place.Text = row [] test.Text Skip (Ok place.Statement) ∷ []
-rows place.Whole = []
-rows place.SortEnd = row (codes "{") test.Any Skip (Err Unread) ∷ []
-
--- how a piece may end at a place
-abbrev pub ending : Place → End
-ending place.Sorts = end.Free
-ending place.Variables = end.Free
-ending place.Group = end.Never
-ending place.InGroup = end.Closes
-ending place.Sort = end.Never
-ending place.Name = end.Closes
-ending place.Names = end.Free
-ending place.Parentheses = end.Never
-ending place.Args = end.Free
-ending place.ArgKind = end.Never
-ending place.ArgKindEnd = end.Never
-ending place.Value = end.Never
-ending place.ValueKind = end.Never
-ending place.ValueKindEnd = end.Never
-ending place.Behind = end.Free
-ending place.Attribute = end.Never
-ending place.Precedence = end.Never
-ending place.Gather = end.Never
-ending place.Marks = end.Never
-ending place.Format = end.Never
-ending place.Formatted = end.Never
-ending place.Metadata = end.Never
-ending place.Left = end.Never
-ending place.Right = end.Closes
-ending place.Statement = end.Free
-ending place.Label = end.Never
-ending place.Text = end.Never
-ending place.Whole = end.Free
-ending place.SortEnd = end.Free
+    ∷ [])
+entry place.Label = at end.Never (row [] test.Any Skip (Ok place.Statement) ∷ [])
+entry place.Text = at end.Never (row [] test.Text Skip (Ok place.Statement) ∷ [])
+entry place.Whole = at end.Free ([])
+entry place.SortEnd = at end.Free (row (codes "{") test.Any Skip (Err Unread) ∷ [])

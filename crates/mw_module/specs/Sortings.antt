@@ -24,24 +24,22 @@ seen_optional (Some s) = seen_sorting s ∷ []
 abbrev pub seen_sortings : List HeldSorting → List Sorting
 seen_sortings = map seen_sorting
 
--- a kind in brackets
-abbrev pub is_kind : Role → Bool
-is_kind role.Kind = true
-is_kind role.Sort = false
-is_kind role.Words = false
-is_kind role.Silent = false
-is_kind role.Config = false
-is_kind role.Precedence = false
-is_kind role.Gather = false
-is_kind role.Nonexec = false
-
--- the sort that a part is, where `kinds` says that all kinds are meant
 abbrev pub sorting_with : Bool → Option Token → List Sorting
 sorting_with kind None = []
 sorting_with kind (Some t) = record { name = t; kind = kind } ∷ []
 
+-- the sort that a part of this role is, where `kinds` says that all kinds are meant
+abbrev pub sorting_as : Bool → Role → Option Token → List Sorting
+sorting_as kinds (role.Sort kind) name = sorting_with (kinds || kind) name
+sorting_as kinds role.Words name = []
+sorting_as kinds role.Silent name = []
+sorting_as kinds role.Config name = []
+sorting_as kinds role.Precedence name = []
+sorting_as kinds role.Gather name = []
+sorting_as kinds role.Nonexec name = []
+
 abbrev pub sorting_of : Bool → List Token → Part → List Sorting
-sorting_of kinds ts p = sorting_with (kinds || is_kind p.role) (front (tokens_of ts p))
+sorting_of kinds ts p = sorting_as kinds p.role (front (tokens_of ts p))
 
 abbrev pub sortings_of : Bool → List Token → List Part → List Sorting
 sortings_of kinds ts [] = []

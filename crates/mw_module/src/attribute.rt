@@ -91,7 +91,7 @@ impl<'a> Attributes<'a> {
     }
 
     // Both, in place.
-    pub fn add(&mut self, other: Attributes<'a>)
+    fn add(&mut self, other: Attributes<'a>)
         ensures { seen_attributes self.new ≡ joined_attributes (seen_attributes self.old) (seen_attributes other.entry) }
     {
         *self = self.joined(other);
@@ -161,7 +161,7 @@ fn said_as<'s>(role: Role, tokens: &'s [Token]) -> Attributes<'s>
         Role::Config => says.config = true,
         Role::Precedence => says.precedence = precedence_in(tokens),
         Role::Gather => says.gather = Some(tokens),
-        Role::Words | Role::Sort | Role::Kind | Role::Silent | Role::Nonexec => {}
+        Role::Words | Role::Sort(_) | Role::Silent | Role::Nonexec => {}
     }
     says
 }

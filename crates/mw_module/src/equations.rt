@@ -1,6 +1,5 @@
 // Equations.
 ghost use Rattle.std.specs.Prelude.{◌≡◌, ◌<◌, ◌≤◌, ◌+◌, ◌-◌, length, reverse, IfSome, IfOk};
-ghost use Rattle.std.specs.List.{list_any};
 ghost use Rattle.mw_module.specs.Equations as equations;
 ghost use Rattle.mw_module.specs.Forms as forms;
 
@@ -117,31 +116,10 @@ fn sides_form<'s>(
         [left, right, ..] => Ok(Ok(Form::Equation {
             left: part_tokens(sides, *left),
             right: part_tokens(sides, *right),
-            executable: !has_nonexec(more.as_slice()),
+            executable: more.is_empty(),
         })),
         _ => Ok(Err(Wrong::Bad)),
     }
-}
-
-fn is_nonexec(role: Role) -> bool
-    ensures { result ≡ forms.is_nonexec role }
-{
-    match role {
-        Role::Nonexec => true,
-        Role::Words
-        | Role::Sort
-        | Role::Kind
-        | Role::Silent
-        | Role::Config
-        | Role::Precedence
-        | Role::Gather => false,
-    }
-}
-
-fn has_nonexec(parts: &[Part]) -> bool
-    ensures { result ≡ list_any (λ p. forms.is_nonexec p.role) parts.now }
-{
-    parts.iter().any(|part| is_nonexec(part.role))
 }
 
 // A label, two sides, and attributes.

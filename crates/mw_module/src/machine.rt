@@ -8,7 +8,7 @@ ghost use Rattle.mw_module.specs.Reading as reading;
 
 use crate::attribute::{are_marks, is_precedence};
 use crate::operator_names::is_name;
-use crate::table::{Act, End, Place, Role, Row, Test, Want, Wrong, ending_at, rows};
+use crate::table::{Act, End, Place, Role, Row, Test, Want, Wrong, entry_of};
 use crate::words::{is_punctuation, is_quoted, is_whole_string};
 use mw_lex::Token;
 use std::alloc::{AllocError, Global};
@@ -92,8 +92,7 @@ fn is_gather(role: Role) -> bool
     match role {
         Role::Gather => true,
         Role::Words
-        | Role::Sort
-        | Role::Kind
+        | Role::Sort(_)
         | Role::Silent
         | Role::Config
         | Role::Precedence
@@ -210,7 +209,7 @@ impl State {
         ensures state { IfOk result (λ r. reading.seen_outcome r self.new ≡ reading.stepped tokens.now want i token.now (reading.seen_state self.old)) }
         ensures depth { OnOk result (self.new.depth ≤ self.old.depth + 1) }
     {
-        let Some(row) = row_for(self.depth, token.text.as_slice(), rows(self.place)) else {
+        let Some(row) = row_for(self.depth, token.text.as_slice(), entry_of(self.place).rows) else {
             return Ok(Err(Wrong::Bad));
         };
         if let Err(wrong) = self.take(tokens, want, row.act, i)? {
@@ -227,9 +226,9 @@ impl State {
 
     // Ends behind the last token.
     fn end(&mut self, tokens: &[Token], want: Want) -> Result<Result<(), Wrong>, AllocError>
-        ensures { IfOk result (λ r. reading.seen_ended r self.new ≡ reading.ended tokens.now want (spec.ending self.old.place) (reading.seen_state self.old)) }
+        ensures { IfOk result (λ r. reading.seen_ended r self.new ≡ reading.ended tokens.now want (spec.entry self.old.place).end (reading.seen_state self.old)) }
     {
-        match ending_at(self.place) {
+        match entry_of(self.place).end {
             End::Never => Ok(Err(Wrong::Bad)),
             End::Free => Ok(Ok(())),
             End::Closes => self.close_open(tokens, want, tokens.len()),

@@ -15,29 +15,16 @@ pub struct Sorting<'s> {
     pub kind: bool,
 }
 
-fn is_kind(role: Role) -> bool
-    ensures { result ≡ spec.is_kind role }
-{
-    match role {
-        Role::Kind => true,
-        Role::Sort
-        | Role::Words
-        | Role::Silent
-        | Role::Config
-        | Role::Precedence
-        | Role::Gather
-        | Role::Nonexec => false,
-    }
-}
-
 // The sort that a part is, where `kinds` says that all kinds are meant.
 pub fn sorting_of<'s>(kinds: bool, tokens: &'s [Token], part: Part) -> Option<Sorting<'s>>
     ensures { spec.seen_optional result ≡ spec.sorting_of kinds tokens.now part }
 {
-    let kind = kinds || is_kind(part.role);
-    match part_tokens(tokens, part) {
-        [name, ..] => Some(Sorting { name, kind }),
-        [] => None,
+    match (part.role, part_tokens(tokens, part)) {
+        (Role::Sort(kind), [name, ..]) => Some(Sorting {
+            name,
+            kind: kinds || kind,
+        }),
+        _ => None,
     }
 }
 

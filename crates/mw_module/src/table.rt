@@ -54,8 +54,8 @@ pub enum Place {
 pub enum Role {
     /// A name, a group of sorts or a side.
     Words,
-    Sort,
-    Kind,
+    /// A sort, and whether its kind is meant.
+    Sort(bool),
     /// The bracket in front of attributes, or an attribute that says nothing.
     Silent,
     Config,
@@ -122,6 +122,14 @@ pub struct Row {
     pub next: Result<Place, Wrong>,
 }
 
+/// What the table says of a place: how a piece may end there, and the rows, of which the first that a token meets is
+/// taken.
+#[derive(Clone, Copy)]
+pub struct Entry {
+    pub end: End,
+    pub rows: &'static [Row],
+}
+
 /// The fault that is told.
 pub fn told(wrong: Wrong) -> FaultKind
     ensures { result ≡ reading.told wrong }
@@ -132,115 +140,79 @@ pub fn told(wrong: Wrong) -> FaultKind
     }
 }
 
-/// How a piece may end at a place.
-pub fn ending_at(place: Place) -> End
-    ensures { result ≡ spec.ending place }
-{
-    match place {
-        Place::InGroup | Place::Name | Place::Right => End::Closes,
-        Place::Sorts
-        | Place::Variables
-        | Place::Names
-        | Place::Args
-        | Place::Behind
-        | Place::Statement
-        | Place::Whole
-        | Place::SortEnd => End::Free,
-        Place::Group
-        | Place::Sort
-        | Place::Parentheses
-        | Place::ArgKind
-        | Place::ArgKindEnd
-        | Place::Value
-        | Place::ValueKind
-        | Place::ValueKindEnd
-        | Place::Attribute
-        | Place::Precedence
-        | Place::Gather
-        | Place::Marks
-        | Place::Format
-        | Place::Formatted
-        | Place::Metadata
-        | Place::Left
-        | Place::Label
-        | Place::Text => End::Never,
-    }
-}
-
-/// The rows of a place, of which the first that a token meets is taken.
+/// What the table says of a place.
 #[rattlefmt::skip]
-pub fn rows(place: Place) -> &'static [Row]
-    ensures { map spec.seen_row result.now ≡ spec.rows place }
+pub fn entry_of(place: Place) -> Entry
+    ensures { spec.seen_entry result ≡ spec.entry place }
 {
     use Act::{After, Close, Deeper, Next, One, Shallower, Skip};
+    use End::{Closes, Free, Never};
     use Test::{Any, Outside, Plain, Run};
     match place {
-        Place::Sorts => &[
+        Place::Sorts => Entry { end: Free, rows: &[
             Row { word: b"{", test: Any, act: Skip, next: Err(Wrong::Unread) },
             Row { word: b"", test: Run, act: Skip, next: Ok(Place::Sorts) },
-        ],
-        Place::Variables => &[
+        ] },
+        Place::Variables => Entry { end: Free, rows: &[
             Row { word: b"", test: Run, act: Skip, next: Ok(Place::Variables) },
-        ],
-        Place::Group => &[
+        ] },
+        Place::Group => Entry { end: Never, rows: &[
             Row { word: b"<", test: Any, act: Skip, next: Err(Wrong::Bad) },
             Row { word: b"{", test: Any, act: Skip, next: Err(Wrong::Unread) },
             Row { word: b"", test: Plain, act: Skip, next: Ok(Place::InGroup) },
-        ],
-        Place::InGroup => &[
+        ] },
+        Place::InGroup => Entry { end: Closes, rows: &[
             Row { word: b"<", test: Any, act: Next(Role::Words), next: Ok(Place::Group) },
             Row { word: b"{", test: Any, act: Skip, next: Err(Wrong::Unread) },
             Row { word: b"", test: Plain, act: Skip, next: Ok(Place::InGroup) },
-        ],
-        Place::Sort => &[
+        ] },
+        Place::Sort => Entry { end: Never, rows: &[
             Row { word: b"{", test: Any, act: Skip, next: Err(Wrong::Unread) },
-            Row { word: b"", test: Plain, act: One(Role::Sort), next: Ok(Place::SortEnd) },
-        ],
-        Place::Name => &[
-            Row { word: b"", test: Any, act: Skip, next: Ok(Place::Name) },
-        ],
-        Place::Names => &[
+            Row { word: b"", test: Plain, act: One(Role::Sort(false)), next: Ok(Place::SortEnd) },
+        ] },
+        Place::Name => Entry { end: Closes, rows: &[Row { word: b"", test: Any, act: Skip, next: Ok(Place::Name) }] },
+        Place::Names => Entry { end: Free, rows: &[
             Row { word: b"(", test: Any, act: After(Role::Words), next: Ok(Place::Parentheses) },
             Row { word: b")", test: Any, act: Skip, next: Err(Wrong::Bad) },
             Row { word: b"", test: Any, act: One(Role::Words), next: Ok(Place::Names) },
-        ],
-        Place::Parentheses => &[
+        ] },
+        Place::Parentheses => Entry { end: Never, rows: &[
             Row { word: b")", test: Outside, act: Close, next: Ok(Place::Names) },
             Row { word: b")", test: Any, act: Shallower, next: Ok(Place::Parentheses) },
             Row { word: b"(", test: Any, act: Deeper, next: Ok(Place::Parentheses) },
             Row { word: b"", test: Any, act: Skip, next: Ok(Place::Parentheses) },
-        ],
-        Place::Args => &[
+        ] },
+        Place::Args => Entry { end: Free, rows: &[
             Row { word: b"[", test: Any, act: Skip, next: Ok(Place::ArgKind) },
             Row { word: b"{", test: Any, act: Skip, next: Err(Wrong::Unread) },
-            Row { word: b"", test: Plain, act: One(Role::Sort), next: Ok(Place::Args) },
-        ],
-        Place::ArgKind => &[
+            Row { word: b"", test: Plain, act: One(Role::Sort(false)), next: Ok(Place::Args) },
+        ] },
+        Place::ArgKind => Entry { end: Never, rows: &[
             Row { word: b"{", test: Any, act: Skip, next: Err(Wrong::Unread) },
-            Row { word: b"", test: Plain, act: One(Role::Kind), next: Ok(Place::ArgKindEnd) },
-        ],
-        Place::ArgKindEnd => &[
+            Row { word: b"", test: Plain, act: One(Role::Sort(true)), next: Ok(Place::ArgKindEnd) },
+        ] },
+        Place::ArgKindEnd => Entry { end: Never, rows: &[
             Row { word: b"]", test: Any, act: Skip, next: Ok(Place::Args) },
             Row { word: b"{", test: Any, act: Skip, next: Err(Wrong::Unread) },
-        ],
-        Place::Value => &[
+        ] },
+        Place::Value => Entry { end: Never, rows: &[
             Row { word: b"[", test: Any, act: Skip, next: Ok(Place::ValueKind) },
             Row { word: b"{", test: Any, act: Skip, next: Err(Wrong::Unread) },
-            Row { word: b"", test: Plain, act: One(Role::Sort), next: Ok(Place::Behind) },
-        ],
-        Place::ValueKind => &[
+            Row { word: b"", test: Plain, act: One(Role::Sort(false)), next: Ok(Place::Behind) },
+        ] },
+        Place::ValueKind => Entry { end: Never, rows: &[
             Row { word: b"{", test: Any, act: Skip, next: Err(Wrong::Unread) },
-            Row { word: b"", test: Plain, act: One(Role::Kind), next: Ok(Place::ValueKindEnd) },
-        ],
-        Place::ValueKindEnd => &[
+            Row { word: b"", test: Plain, act: One(Role::Sort(true)), next: Ok(Place::ValueKindEnd) },
+        ] },
+        Place::ValueKindEnd => Entry { end: Never, rows: &[
             Row { word: b"]", test: Any, act: Skip, next: Ok(Place::Behind) },
             Row { word: b"{", test: Any, act: Skip, next: Err(Wrong::Unread) },
-        ],
-        Place::Behind => &[
+        ] },
+        Place::Behind => Entry { end: Free, rows: &[
             Row { word: b"[", test: Any, act: One(Role::Silent), next: Ok(Place::Attribute) },
             Row { word: b"{", test: Any, act: Skip, next: Err(Wrong::Unread) },
-        ],
-        Place::Attribute => &[
+        ] },
+        Place::Attribute => Entry { end: Never, rows: &[
             Row { word: b"]", test: Any, act: Skip, next: Ok(Place::Whole) },
             Row { word: b"ctor", test: Any, act: One(Role::Silent), next: Ok(Place::Attribute) },
             Row { word: b"ditto", test: Any, act: One(Role::Silent), next: Ok(Place::Attribute) },
@@ -253,28 +225,28 @@ pub fn rows(place: Place) -> &'static [Row]
             Row { word: b"format", test: Any, act: One(Role::Silent), next: Ok(Place::Format) },
             Row { word: b"metadata", test: Any, act: One(Role::Silent), next: Ok(Place::Metadata) },
             Row { word: b"", test: Any, act: Skip, next: Err(Wrong::Unread) },
-        ],
-        Place::Precedence => &[
+        ] },
+        Place::Precedence => Entry { end: Never, rows: &[
             Row { word: b"", test: Test::Precedence, act: One(Role::Precedence), next: Ok(Place::Attribute) },
-        ],
-        Place::Gather => &[
+        ] },
+        Place::Gather => Entry { end: Never, rows: &[
             Row { word: b"(", test: Any, act: After(Role::Gather), next: Ok(Place::Marks) },
-        ],
-        Place::Marks => &[
+        ] },
+        Place::Marks => Entry { end: Never, rows: &[
             Row { word: b")", test: Any, act: Close, next: Ok(Place::Attribute) },
             Row { word: b"", test: Any, act: Skip, next: Ok(Place::Marks) },
-        ],
-        Place::Format => &[
+        ] },
+        Place::Format => Entry { end: Never, rows: &[
             Row { word: b"(", test: Any, act: Skip, next: Ok(Place::Formatted) },
-        ],
-        Place::Formatted => &[
+        ] },
+        Place::Formatted => Entry { end: Never, rows: &[
             Row { word: b")", test: Any, act: Skip, next: Ok(Place::Attribute) },
             Row { word: b"", test: Any, act: Skip, next: Ok(Place::Formatted) },
-        ],
-        Place::Metadata => &[
+        ] },
+        Place::Metadata => Entry { end: Never, rows: &[
             Row { word: b"", test: Test::Text, act: Skip, next: Ok(Place::Attribute) },
-        ],
-        Place::Left => &[
+        ] },
+        Place::Left => Entry { end: Never, rows: &[
             Row { word: b"=", test: Outside, act: Next(Role::Words), next: Ok(Place::Right) },
             Row { word: b"(", test: Any, act: Deeper, next: Ok(Place::Left) },
             Row { word: b"[", test: Any, act: Deeper, next: Ok(Place::Left) },
@@ -285,25 +257,25 @@ pub fn rows(place: Place) -> &'static [Row]
             Row { word: b"}", test: Any, act: Shallower, next: Ok(Place::Left) },
             Row { word: b"fi", test: Any, act: Shallower, next: Ok(Place::Left) },
             Row { word: b"", test: Any, act: Skip, next: Ok(Place::Left) },
-        ],
-        Place::Right => &[
+        ] },
+        Place::Right => Entry { end: Closes, rows: &[
             Row { word: b"", test: Any, act: Skip, next: Ok(Place::Right) },
-        ],
-        Place::Statement => &[
+        ] },
+        Place::Statement => Entry { end: Free, rows: &[
             Row { word: b"nonexec", test: Any, act: One(Role::Nonexec), next: Ok(Place::Statement) },
             Row { word: b"label", test: Any, act: Skip, next: Ok(Place::Label) },
             Row { word: b"metadata", test: Any, act: Skip, next: Ok(Place::Text) },
             Row { word: b"", test: Any, act: Skip, next: Err(Wrong::Unread) },
-        ],
-        Place::Label => &[
+        ] },
+        Place::Label => Entry { end: Never, rows: &[
             Row { word: b"", test: Any, act: Skip, next: Ok(Place::Statement) },
-        ],
-        Place::Text => &[
+        ] },
+        Place::Text => Entry { end: Never, rows: &[
             Row { word: b"", test: Test::Text, act: Skip, next: Ok(Place::Statement) },
-        ],
-        Place::Whole => &[],
-        Place::SortEnd => &[
+        ] },
+        Place::Whole => Entry { end: Free, rows: &[] },
+        Place::SortEnd => Entry { end: Free, rows: &[
             Row { word: b"{", test: Any, act: Skip, next: Err(Wrong::Unread) },
-        ],
+        ] },
     }
 }
