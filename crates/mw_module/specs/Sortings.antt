@@ -1,5 +1,5 @@
 -- The sorts of operators' arguments and values.
-use Rattle.std.specs.Prelude.{Bool, true, false, List, [], ◌∷◌, ◌++◌, ◌||◌, map, Option, None, Some}
+use Rattle.std.specs.Prelude.{Bool, List, [], ◌∷◌, ◌++◌, ◌||◌, map, Option, None, Some}
 use Rattle.mw_lex.specs.declared.token.Token.{Token}
 use Rattle.mw_module.specs.declared.machine.Part.{Part}
 use Rattle.mw_module.specs.declared.sortings.Sorting.{Sorting as HeldSorting}

@@ -5,10 +5,10 @@ ghost use Rattle.mw_module.specs.Forms as forms;
 
 use crate::forms::Form;
 use crate::machine::{Part, part_tokens, read};
-use crate::table::{Place, Role, Want, Wrong};
+use crate::table::{Place, Read, Role, Want, Wrong};
 use crate::words::{is_word, tokens_from};
 use mw_lex::Token;
-use std::alloc::{AllocError, Global};
+use std::alloc::Global;
 
 // Whether a label stands in front.
 fn has_label(tokens: &[Token]) -> bool
@@ -97,11 +97,7 @@ fn group_at_end(len: usize, tokens: &[Token]) -> &[Token]
 }
 
 // Two sides, and the attributes behind them.
-fn sides_form<'s>(
-    alloc: Global,
-    sides: &'s [Token],
-    said: &[Token],
-) -> Result<Result<Form<'s>, Wrong>, AllocError>
+fn sides_form<'s>(alloc: Global, sides: &'s [Token], said: &[Token]) -> Read<Form<'s>>
     ensures { IfOk result (λ r. forms.seen_shaped r ≡ forms.sides_form sides.now said.now) }
 {
     let parts = match read(alloc, Place::Left, Role::Words, Want::Nothing, sides)? {
@@ -123,10 +119,7 @@ fn sides_form<'s>(
 }
 
 // A label, two sides, and attributes.
-pub fn equation_form<'s>(
-    alloc: Global,
-    tokens: &'s [Token],
-) -> Result<Result<Form<'s>, Wrong>, AllocError>
+pub fn equation_form<'s>(alloc: Global, tokens: &'s [Token]) -> Read<Form<'s>>
     ensures { IfOk result (λ r. forms.seen_shaped r ≡ forms.equation_form tokens.now) }
 {
     let behind = unlabelled(tokens);

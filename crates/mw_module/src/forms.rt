@@ -9,7 +9,7 @@ use crate::machine::{first_token, lists_of, read};
 use crate::openings::{Opening, opening_of};
 use crate::operators::operators_form;
 use crate::sortings::Sorting;
-use crate::table::{Place, Role, Want, Wrong, told};
+use crate::table::{Place, Read, Role, Want, Wrong, told};
 use crate::words::{count_before, tokens_from};
 use mw_lex::Token;
 use std::alloc::{AllocError, Global};
@@ -47,7 +47,7 @@ pub enum Form<'s> {
 }
 
 // Names of sorts.
-fn sorts_form<'s>(alloc: Global, names: &'s [Token]) -> Result<Result<Form<'s>, Wrong>, AllocError>
+fn sorts_form<'s>(alloc: Global, names: &'s [Token]) -> Read<Form<'s>>
     ensures { IfOk result (λ r. forms.seen_shaped r ≡ forms.sorts_form names.now) }
 {
     if names.is_empty() {
@@ -60,10 +60,7 @@ fn sorts_form<'s>(alloc: Global, names: &'s [Token]) -> Result<Result<Form<'s>, 
 }
 
 // Groups of sorts, divided by one `<` at least.
-fn subsorts_form<'s>(
-    alloc: Global,
-    tokens: &'s [Token],
-) -> Result<Result<Form<'s>, Wrong>, AllocError>
+fn subsorts_form<'s>(alloc: Global, tokens: &'s [Token]) -> Read<Form<'s>>
     ensures { IfOk result (λ r. forms.seen_shaped r ≡ forms.subsorts_form tokens.now) }
 {
     let parts = match read(alloc, Place::Group, Role::Words, Want::Nothing, tokens)? {
@@ -78,11 +75,7 @@ fn subsorts_form<'s>(
 }
 
 // Names of variables, and what stands behind the colon: a sort and nothing more.
-fn typed_names<'s>(
-    alloc: Global,
-    names: &'s [Token],
-    tokens: &'s [Token],
-) -> Result<Result<Form<'s>, Wrong>, AllocError>
+fn typed_names<'s>(alloc: Global, names: &'s [Token], tokens: &'s [Token]) -> Read<Form<'s>>
     ensures { IfOk result (λ r. forms.seen_shaped r ≡ forms.typed_names names.now tokens.now) }
 {
     if names.is_empty() {
@@ -102,10 +95,7 @@ fn typed_names<'s>(
 }
 
 // Names of variables, a colon and a sort.
-fn variables_form<'s>(
-    alloc: Global,
-    tokens: &'s [Token],
-) -> Result<Result<Form<'s>, Wrong>, AllocError>
+fn variables_form<'s>(alloc: Global, tokens: &'s [Token]) -> Read<Form<'s>>
     ensures { IfOk result (λ r. forms.seen_shaped r ≡ forms.variables_form tokens.now) }
 {
     let colon = count_before(tokens, b":");
@@ -116,11 +106,7 @@ fn variables_form<'s>(
 }
 
 // What stands behind the first word of a statement.
-fn form_behind<'s>(
-    alloc: Global,
-    opening: Opening,
-    tokens: &'s [Token],
-) -> Result<Result<Form<'s>, Wrong>, AllocError>
+fn form_behind<'s>(alloc: Global, opening: Opening, tokens: &'s [Token]) -> Read<Form<'s>>
     ensures { IfOk result (λ r. forms.seen_shaped r ≡ forms.form_behind opening tokens.now) }
 {
     match opening {

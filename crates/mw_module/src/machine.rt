@@ -8,7 +8,7 @@ ghost use Rattle.mw_module.specs.Reading as reading;
 
 use crate::attribute::{are_marks, is_precedence};
 use crate::operator_names::is_name;
-use crate::table::{Act, End, Place, Role, Row, Test, Want, Wrong, entry_of};
+use crate::table::{Act, End, Place, Read, Role, Row, Test, Want, Wrong, entry_of};
 use crate::words::{is_punctuation, is_quoted, is_whole_string};
 use mw_lex::Token;
 use std::alloc::{AllocError, Global};
@@ -108,12 +108,7 @@ fn has_marks(arity: usize, tokens: &[Token]) -> bool
 
 impl State {
     // Closes a part.
-    fn close(
-        &mut self,
-        tokens: &[Token],
-        want: Want,
-        part: Part,
-    ) -> Result<Result<(), Wrong>, AllocError>
+    fn close(&mut self, tokens: &[Token], want: Want, part: Part) -> Read<()>
         ensures state { IfOk result (λ r. reading.seen_outcome r self.new ≡ reading.closed tokens.now want part (reading.seen_state self.old)) }
         ensures depth { OnOk result (self.new.depth ≡ self.old.depth) }
     {
@@ -126,12 +121,7 @@ impl State {
     }
 
     // Closes the open part in front of the token at number i.
-    fn close_open(
-        &mut self,
-        tokens: &[Token],
-        want: Want,
-        i: usize,
-    ) -> Result<Result<(), Wrong>, AllocError>
+    fn close_open(&mut self, tokens: &[Token], want: Want, i: usize) -> Read<()>
         ensures state { IfOk result (λ r. reading.seen_outcome r self.new ≡ reading.closed_open tokens.now want i (reading.seen_state self.old)) }
         ensures depth { OnOk result (self.new.depth ≡ self.old.depth) }
     {
@@ -153,13 +143,7 @@ impl State {
     }
 
     // Takes the token at number i.
-    fn take(
-        &mut self,
-        tokens: &[Token],
-        want: Want,
-        act: Act,
-        i: usize,
-    ) -> Result<Result<(), Wrong>, AllocError>
+    fn take(&mut self, tokens: &[Token], want: Want, act: Act, i: usize) -> Read<()>
         requires number { i < length tokens.now }
         requires levels { self.old.depth ≤ i }
         ensures state { IfOk result (λ r. reading.seen_outcome r self.new ≡ reading.taken tokens.now want act i (reading.seen_state self.old)) }
@@ -197,13 +181,7 @@ impl State {
     }
 
     // Goes on by the row of the token at number i.
-    fn step(
-        &mut self,
-        tokens: &[Token],
-        want: Want,
-        i: usize,
-        token: &Token,
-    ) -> Result<Result<(), Wrong>, AllocError>
+    fn step(&mut self, tokens: &[Token], want: Want, i: usize, token: &Token) -> Read<()>
         requires number { i < length tokens.now }
         requires levels { self.old.depth ≤ i }
         ensures state { IfOk result (λ r. reading.seen_outcome r self.new ≡ reading.stepped tokens.now want i token.now (reading.seen_state self.old)) }
@@ -225,7 +203,7 @@ impl State {
     }
 
     // Ends behind the last token.
-    fn end(&mut self, tokens: &[Token], want: Want) -> Result<Result<(), Wrong>, AllocError>
+    fn end(&mut self, tokens: &[Token], want: Want) -> Read<()>
         ensures { IfOk result (λ r. reading.seen_ended r self.new ≡ reading.ended tokens.now want (spec.entry self.old.place).end (reading.seen_state self.old)) }
     {
         match entry_of(self.place).end {
@@ -243,7 +221,7 @@ pub fn read(
     role: Role,
     want: Want,
     tokens: &[Token],
-) -> Result<Result<Vec<Part>, Wrong>, AllocError>
+) -> Read<Vec<Part>>
     ensures { IfOk result (λ r. reading.seen_parts r ≡ reading.read_at place role want tokens.now) }
 {
     let mut state = State {

@@ -8,10 +8,10 @@ use crate::forms::Form;
 use crate::machine::{Part, lists_of, read};
 use crate::operator_names::all_fit;
 use crate::sortings::{Sorting, sorting_of, sortings_of};
-use crate::table::{Place, Role, Want, Wrong};
+use crate::table::{Place, Read, Role, Want, Wrong};
 use crate::words::{count_before, tokens_from};
 use mw_lex::Token;
-use std::alloc::{AllocError, Global};
+use std::alloc::Global;
 
 // A value's sort, and what is said of the operators.
 #[derive(Clone, Copy)]
@@ -43,11 +43,7 @@ fn valued<'s>(kinds: bool, tokens: &'s [Token], parts: &[Part]) -> Result<Value<
 }
 
 // Argument sorts, an arrow and what comes behind.
-fn profile_form<'s>(
-    alloc: Global,
-    names: &[&[Token]],
-    tokens: &'s [Token],
-) -> Result<Result<Profile<'s>, Wrong>, AllocError>
+fn profile_form<'s>(alloc: Global, names: &[&[Token]], tokens: &'s [Token]) -> Read<Profile<'s>>
     ensures { IfOk result (λ r. forms.seen_profiled r ≡ forms.profile_form (seen_lists names.now) tokens.now) }
 {
     let total = count_before(tokens, b"->");
@@ -69,12 +65,7 @@ fn profile_form<'s>(
 }
 
 // A value's sort and attributes, of operators with so many arguments.
-fn value_form<'s>(
-    alloc: Global,
-    kinds: bool,
-    arity: usize,
-    tokens: &'s [Token],
-) -> Result<Result<Value<'s>, Wrong>, AllocError>
+fn value_form<'s>(alloc: Global, kinds: bool, arity: usize, tokens: &'s [Token]) -> Read<Value<'s>>
     ensures { IfOk result (λ r. forms.seen_valued r ≡ forms.value_form kinds arity tokens.now) }
 {
     match read(
@@ -90,11 +81,7 @@ fn value_form<'s>(
 }
 
 // Names of operators: a single one, or several.
-fn names_form<'s>(
-    alloc: Global,
-    single: bool,
-    tokens: &'s [Token],
-) -> Result<Result<Vec<&'s [Token]>, Wrong>, AllocError>
+fn names_form<'s>(alloc: Global, single: bool, tokens: &'s [Token]) -> Read<Vec<&'s [Token]>>
     ensures { IfOk result (λ r. forms.seen_names r ≡ forms.names_form single tokens.now) }
 {
     let place = if single { Place::Name } else { Place::Names };
@@ -105,11 +92,7 @@ fn names_form<'s>(
 }
 
 // Names of operators, a colon and what comes behind.
-pub fn operators_form<'s>(
-    alloc: Global,
-    single: bool,
-    tokens: &'s [Token],
-) -> Result<Result<Form<'s>, Wrong>, AllocError>
+pub fn operators_form<'s>(alloc: Global, single: bool, tokens: &'s [Token]) -> Read<Form<'s>>
     ensures { IfOk result (λ r. forms.seen_shaped r ≡ forms.operators_form single tokens.now) }
 {
     let colon = count_before(tokens, b":");
@@ -123,11 +106,7 @@ pub fn operators_form<'s>(
 }
 
 // Operators with these names, of which there is one at least.
-fn declared<'s>(
-    alloc: Global,
-    names: Vec<&'s [Token]>,
-    tokens: &'s [Token],
-) -> Result<Result<Form<'s>, Wrong>, AllocError>
+fn declared<'s>(alloc: Global, names: Vec<&'s [Token]>, tokens: &'s [Token]) -> Read<Form<'s>>
     ensures { IfOk result (λ r. forms.seen_shaped r ≡ forms.declared (seen_lists names.entry.items) tokens.now) }
 {
     if names.is_empty() {

@@ -4,6 +4,7 @@ ghost use Rattle.mw_module.specs.Rows as spec;
 ghost use Rattle.mw_module.specs.Reading as reading;
 
 use crate::faults::FaultKind;
+use std::alloc::AllocError;
 
 /// A place between the tokens of a statement, or of a piece of one.
 #[derive(Clone, Copy)]
@@ -95,6 +96,9 @@ pub enum Wrong {
     Bad,
     Unread,
 }
+
+/// What is read, or what is wrong.
+pub type Read<T> = Result<Result<T, Wrong>, AllocError>;
 
 /// Whether a piece may end at a place, and whether its end closes the open part.
 #[derive(Clone, Copy)]
