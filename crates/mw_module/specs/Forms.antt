@@ -84,7 +84,8 @@ typed names (Some sort) = Ok (Variables names sort)
 -- names of variables, and what stands behind the colon: a sort and nothing more
 abbrev pub typed_names : List Token → List Token → Shaped
 typed_names [] ts = Err Bad
-typed_names (t ∷ names) ts = then_of (read_at place.Variables role.Silent want.Nothing (t ∷ names)) (λ none. then_of (read_at place.Sort role.Silent want.Nothing ts) (λ parts. typed (t ∷ names) (first_token ts parts)))
+typed_names (t ∷ names) ts = then_of (read_at place.Variables role.Silent want.Nothing (t ∷ names)) (λ none.
+    then_of (read_at place.Sort role.Silent want.Nothing ts) (λ parts. typed (t ∷ names) (first_token ts parts)))
 
 -- `var` and `vars`: names, the first colon, and a sort
 abbrev pub variables_form : List Token → Shaped
@@ -176,9 +177,11 @@ sided ts [] executable = Err Bad
 sided ts (l ∷ []) executable = Err Bad
 sided ts (l ∷ r ∷ ps) executable = Ok (Equation (tokens_of ts l) (tokens_of ts r) executable)
 
--- the sides, and the attributes behind them, of which only `nonexec` is a part; what is wrong with the sides comes first
+-- the sides, and the attributes behind them, of which `nonexec` alone is a part; what is wrong with the sides is told
+-- first
 abbrev pub sides_form : List Token → List Token → Shaped
-sides_form sides said = then_of (read_at place.Left role.Words want.Nothing sides) (λ parts. then_of (read_at place.Statement role.Silent want.Nothing said) (λ more. sided sides parts (length more == 0)))
+sides_form sides said = then_of (read_at place.Left role.Words want.Nothing sides) (λ parts.
+    then_of (read_at place.Statement role.Silent want.Nothing said) (λ more. sided sides parts (length more == 0)))
 
 -- `eq`: a label, two sides, and attributes
 abbrev pub equation_form : List Token → Shaped
@@ -199,7 +202,7 @@ abbrev pub formed : Shaped → Formed
 formed (Ok shape) = Ok shape
 formed (Err wrong) = Err (told wrong)
 
--- the form of a statement of a functional module, or what is wrong with it; its closing full stop isn't among the tokens
+-- the form of a statement of a functional module, or what is wrong with it; its full stop isn't among the tokens
 abbrev pub form_of : List Token → Formed
 form_of [] = Err NotInProfile
 form_of (t ∷ rest) = formed (form_behind (opening_of t.text) rest)

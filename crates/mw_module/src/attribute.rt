@@ -1,11 +1,11 @@
 // What attributes of operators say.
-ghost use Rattle.std.specs.Prelude.{◌≡◌, nat_eq, length, drop, take};
+ghost use Rattle.std.specs.Prelude.{◌≡◌, nat_eq};
 ghost use Rattle.std.specs.Char.{is_ascii_digit};
 ghost use Rattle.std.specs.List.{list_all};
 ghost use Rattle.mw_module.specs.Attributes as attributes;
 ghost use Rattle.mw_module.specs.Forms.{said_from};
 ghost use Rattle.mw_module.specs.Words.{texts};
-ghost use Rattle.mw_module.specs.Attributes.{seen_attributes, no_attributes, gather_of, joined as joined_attributes, differ, same_texts};
+ghost use Rattle.mw_module.specs.Attributes.{seen_attributes, no_attributes, gather_of, differ, same_texts};
 
 use crate::machine::{Part, part_tokens};
 use crate::table::Role;
@@ -77,7 +77,7 @@ impl<'a> Attributes<'a> {
 
     /// What both say; of two values that differ the first, and they clash.
     pub fn joined(self, other: Attributes<'a>) -> Attributes<'a>
-        ensures { seen_attributes result ≡ joined_attributes (seen_attributes self.entry) (seen_attributes other.entry) }
+        ensures { seen_attributes result ≡ attributes.joined (seen_attributes self.entry) (seen_attributes other.entry) }
     {
         Attributes {
             precedence: self.precedence.or(other.precedence),
@@ -92,7 +92,7 @@ impl<'a> Attributes<'a> {
 
     // Both, in place.
     fn add(&mut self, other: Attributes<'a>)
-        ensures { seen_attributes self.new ≡ joined_attributes (seen_attributes self.old) (seen_attributes other.entry) }
+        ensures { seen_attributes self.new ≡ attributes.joined (seen_attributes self.old) (seen_attributes other.entry) }
     {
         *self = self.joined(other);
     }

@@ -133,9 +133,6 @@ impl<'s> Form<'s> {
         let [word, rest @ ..] = statement else {
             return Ok(Err(FaultKind::NotInProfile));
         };
-        match form_behind(alloc, opening_of(word.text.as_slice()), rest)? {
-            Ok(form) => Ok(Ok(form)),
-            Err(wrong) => Ok(Err(told(wrong))),
-        }
+        Ok(form_behind(alloc, opening_of(word.text.as_slice()), rest)?.map_err(told))
     }
 }

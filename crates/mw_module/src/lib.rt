@@ -11,12 +11,12 @@
 //!   one. Each statement is read once, by `Form::of`: its form, with slices of the source's tokens for its parts.
 //! - The end of a unit is looked at first, then its head, then its statements in order, and in a form the first place
 //!   from the left that is at fault decides. A missing full stop comes last.
-//! - Statements are read by a table (table.rt, specs/Rows): each place in a statement has rows, and the first row that a
-//!   token meets says what becomes of it and where the next one stands. What is read is a list of parts, spans of tokens
-//!   with their roles. What must be known from behind or from a word ahead is cut off before: the names of operators and
-//!   variables end at the first colon, argument sorts at the first arrow; an equation's label and its attributes (the
-//!   group from the `[` that matches a last `]`, only these two counted, if its second token is an attribute's) are
-//!   taken off, and a counter of `( [ { if` and `) ] } fi`, never below 0, finds the `=`.
+//! - Statements are read by a table (table.rt, specs/Rows): each place in a statement has rows, and the first row that
+//!   a token meets says what becomes of it and where the next one stands. What is read is a list of parts, spans of
+//!   tokens with their roles. What is known only from behind, or from a word ahead, is cut off before: the names of
+//!   operators and variables end at the first colon, argument sorts at the first arrow; an equation's label and its
+//!   attributes (the group from the `[` that matches a last `]`, only these two counted, if its second token is an
+//!   attribute's) are taken off, and a counter of `( [ { if` and `) ] } fi`, never below 0, finds the `=`.
 //! - `op` has one name of one or more tokens, `ops` one or more, each a token or the tokens of a group in parentheses,
 //!   of which only parentheses are counted.
 //! - `Attributes` holds what a list says: a precedence, a gather, `config`, and whether two precedences or gathers

@@ -109,7 +109,8 @@ fn has_marks(arity: usize, tokens: &[Token]) -> bool
 impl State {
     // Closes a part.
     fn close(&mut self, tokens: &[Token], want: Want, part: Part) -> Read<()>
-        ensures state { IfOk result (λ r. reading.seen_outcome r self.new ≡ reading.closed tokens.now want part (reading.seen_state self.old)) }
+        ensures state { IfOk result (λ r.
+            reading.seen_outcome r self.new ≡ reading.closed tokens.now want part (reading.seen_state self.old)) }
         ensures depth { OnOk result (self.new.depth ≡ self.old.depth) }
     {
         if !is_fine(want, part.role, part_tokens(tokens, part)) {
@@ -122,7 +123,8 @@ impl State {
 
     // Closes the open part in front of the token at number i.
     fn close_open(&mut self, tokens: &[Token], want: Want, i: usize) -> Read<()>
-        ensures state { IfOk result (λ r. reading.seen_outcome r self.new ≡ reading.closed_open tokens.now want i (reading.seen_state self.old)) }
+        ensures state { IfOk result (λ r.
+            reading.seen_outcome r self.new ≡ reading.closed_open tokens.now want i (reading.seen_state self.old)) }
         ensures depth { OnOk result (self.new.depth ≡ self.old.depth) }
     {
         let part = Part {
@@ -146,7 +148,8 @@ impl State {
     fn take(&mut self, tokens: &[Token], want: Want, act: Act, i: usize) -> Read<()>
         requires number { i < length tokens.now }
         requires levels { self.old.depth ≤ i }
-        ensures state { IfOk result (λ r. reading.seen_outcome r self.new ≡ reading.taken tokens.now want act i (reading.seen_state self.old)) }
+        ensures state { IfOk result (λ r.
+            reading.seen_outcome r self.new ≡ reading.taken tokens.now want act i (reading.seen_state self.old)) }
         ensures depth { OnOk result (self.new.depth ≤ self.old.depth + 1) }
     {
         match act {
@@ -184,7 +187,9 @@ impl State {
     fn step(&mut self, tokens: &[Token], want: Want, i: usize, token: &Token) -> Read<()>
         requires number { i < length tokens.now }
         requires levels { self.old.depth ≤ i }
-        ensures state { IfOk result (λ r. reading.seen_outcome r self.new ≡ reading.stepped tokens.now want i token.now (reading.seen_state self.old)) }
+        ensures state { IfOk result (λ r.
+            reading.seen_outcome r self.new
+            ≡ reading.stepped tokens.now want i token.now (reading.seen_state self.old)) }
         ensures depth { OnOk result (self.new.depth ≤ self.old.depth + 1) }
     {
         let Some(row) = row_for(self.depth, token.text.as_slice(), entry_of(self.place).rows) else {
@@ -204,7 +209,9 @@ impl State {
 
     // Ends behind the last token.
     fn end(&mut self, tokens: &[Token], want: Want) -> Read<()>
-        ensures { IfOk result (λ r. reading.seen_ended r self.new ≡ reading.ended tokens.now want (spec.entry self.old.place).end (reading.seen_state self.old)) }
+        ensures { IfOk result (λ r.
+            reading.seen_ended r self.new
+            ≡ reading.ended tokens.now want (spec.entry self.old.place).end (reading.seen_state self.old)) }
     {
         match entry_of(self.place).end {
             End::Never => Ok(Err(Wrong::Bad)),
