@@ -7,3 +7,4 @@ pub mod Parts
 pub mod Formed
 pub mod ProperForms
 pub mod Sources
+pub mod Written

@@ -14,3 +14,4 @@ pub mod Kinds
 pub mod Units
 pub mod Known
 pub mod Tokens
+pub mod Written

@@ -27,7 +27,8 @@
 //! next place is the same with a fault and without (`Reads`, specs/Units). A form with its parts, or exactly what is
 //! wrong (`form_of`, specs/Forms); what two lists of attributes say together. Whatever the table says, parts stand one
 //! after the other and are such as is wanted (`parts_ascend`): names are names, and there is a mark for each argument.
-//! What is known of the statements of a unit that was read, and of what tokens they are made (`units_are_proper`).
+//! Operators are written as names, a colon, sorts, an arrow, and the rest (`operators_are_written`). What is known of
+//! the statements of a unit that was read, and of what tokens they are made (`units_are_proper`).
 //! `read_unit` asks for a place at which a token stands. `Memory` may come at any call.
 //!
 //! Cost: each statement is looked at a fixed number of times, and all units of a source take time linear in its tokens.
@@ -57,6 +58,7 @@ pub use attribute::Attributes;
 pub use faults::{Fault, FaultKind, UnitError};
 pub use forms::Form;
 pub use machine::parts_ascend;
+pub use operators::operators_are_written;
 pub use sortings::Sorting;
 pub use units::{Lined, Unit, read_unit, units_are_proper};
 pub use words::{count_before, is_word, tokens_from};

@@ -1,6 +1,7 @@
 // Declarations of operators.
 ghost use Rattle.std.specs.Prelude.{◌≡◌, ◌<◌, ◌-◌, ◌^◌, length, IfOk};
 ghost use Rattle.mw_module.specs.Words.{seen_lists};
+ghost use Rattle.mw_module.specs.Written.{OperatorsAreWritten};
 ghost use Rattle.mw_module.specs.Forms as forms;
 
 use crate::attribute::{Attributes, said};
@@ -122,3 +123,8 @@ fn declared<'s>(alloc: Global, names: Vec<&'s [Token]>, tokens: &'s [Token]) -> 
         Err(wrong) => Ok(Err(wrong)),
     }
 }
+
+/// The law that what is read as operators is written as names, a colon, sorts, an arrow, and the rest.
+pub fn operators_are_written()
+    ensures { OperatorsAreWritten }
+{}
