@@ -86,6 +86,9 @@ declared_parts (n ∷ ns) names ts args value said e =
     let s = then_parts (profile_form (n ∷ ns) ts) (λ (p : Profile). Ok (Operators (n ∷ ns) p.args p.value.sort p.value.attributes)) (Operators names args value said) e in
     (cc, (s.0, s.1.0))
 
+behind_colon : (ts front : List Token) (c : Token) (rest more : List Token) → ts ≡ front ++ c ∷ rest → rest ≡ more → ts ≡ front ++ c ∷ more
+behind_colon ts front c rest more e f = e ∙ ap (λ us. front ++ c ∷ us) f
+
 pub operators_are_written : OperatorsAreWritten
 operators_are_written single ts names args value said e =
     let colon = count_before (codes ":") ts in
@@ -102,7 +105,7 @@ operators_are_written single ts names args value said e =
       middle = take arrow rest;
       arrow = a.0;
       behind = drop (arrow + 1) rest;
-      tokens = c.1.0 ∙ ap (λ us. take colon ts ++ c.0 ∷ us) a.1.0;
+      tokens = behind_colon ts (take colon ts) c.0 rest (take arrow rest ++ a.0 ∷ drop (arrow + 1) rest) c.1.0 a.1.0;
       is_colon = c.1.1;
       is_arrow = a.1.1;
       named = s.1.0 ∙ ap Ok d.0;
