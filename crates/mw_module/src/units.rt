@@ -47,11 +47,11 @@ fn read_body<'s>(
             Ok(form) => form,
             Err(kind) => return Ok(Err(Fault { line, kind })),
         };
+        statements.push(Lined { line, form })?;
         if len == rest.len() {
             let kind = FaultKind::BadStatement;
             return Ok(Err(Fault { line, kind }));
         }
-        statements.push(Lined { line, form })?;
         rest = tokens_from(rest, len + 1);
     }
     Ok(Ok(statements))
