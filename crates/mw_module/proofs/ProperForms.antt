@@ -1,6 +1,7 @@
 -- The parts of a statement that is made of tokens are proper.
-use Rattle.std.proofs.Common.{◌≡◌, ◌∙◌, ℕ, zero, suc, ◌+◌, ◌-◌, ◌==◌, ◌&&◌, ◌||◌, not, if◌then◌else◌, Bool, true, false, List, [], ◌∷◌, length, take, drop, Option, Some, None, Result, Ok, Err, IfOk, All, codes, inl, inr, refl, sym}
+use Rattle.std.proofs.Common.{◌≡◌, ℕ, ◌+◌, ◌-◌, ◌==◌, ◌&&◌, ◌||◌, not, if◌then◌else◌, Bool, true, false, List, [], ◌∷◌, length, take, drop, Option, Some, None, Result, Ok, Err, IfOk, All, codes, inl, inr, refl}
 use Rattle.std.specs.List.{list_all}
+use Rattle.std.specs.Str.{bytes_eq}
 use Rattle.std.proofs.lemmas.Bool.{both_ways, and_parts, or_parts, not-true, eqb-false}
 use Rattle.std.proofs.lemmas.List.Elements.{All-nil, All-cons, All-head, All-tail, All-take, All-drop, All-map}
 use Rattle.mw_lex.specs.Bytes.{is_punctuation}
@@ -8,31 +9,30 @@ use Rattle.mw_lex.specs.declared.token.Token.{Token}
 use Rattle.mw_lex.specs.Texts.{IsRun, IsTokenText, AreTokens}
 use Rattle.mw_text.specs.Names.{Item, piece, hole, pieces, name_of_tokens}
 use Rattle.mw_text.specs.Proper.{IsProperName, BeginsNothing, NamesAreProper}
-use Rattle.mw_module.specs.declared.faults.FaultKind.{FaultKind}
-use Rattle.mw_module.specs.declared.faults.FaultKind.TheVariants.{NotInProfile, BadStatement}
-use Rattle.mw_module.specs.declared.names.Role.{Role}
-use Rattle.mw_module.specs.declared.names.Role.TheVariants as role
+use Rattle.mw_module.specs.declared.machine.Part.{Part}
 use Rattle.mw_module.specs.declared.openings.Opening.{Opening}
 use Rattle.mw_module.specs.declared.openings.Opening.TheVariants as opening
-use Rattle.mw_module.specs.Words.{is, texts, count_before, is_punctuation_word, is_quoted, is_no_piece}
-use Rattle.mw_module.specs.Faults.{first_of, fault_if, unless}
+use Rattle.mw_module.specs.declared.table.Place.TheVariants as place
+use Rattle.mw_module.specs.declared.table.Role.{Role}
+use Rattle.mw_module.specs.declared.table.Role.TheVariants as role
+use Rattle.mw_module.specs.declared.table.Want.TheVariants as want
+use Rattle.mw_module.specs.declared.table.Wrong.{Wrong}
+use Rattle.mw_module.specs.declared.table.Wrong.TheVariants.{Bad, Unread}
+use Rattle.mw_module.specs.declared.table.Act.TheVariants.{Skip}
+use Rattle.mw_module.specs.declared.table.Test.TheVariants as test
+use Rattle.mw_module.specs.Words.{texts, count_before, is_punctuation_word, is_quoted, is_no_piece}
 use Rattle.mw_module.specs.Openings.{opening_of}
-use Rattle.mw_module.specs.OperatorNames.{group_len, in_group, one_of_several, front_name, names_from, items_in, is_fine, is_name, all_names, are_names}
-use Rattle.mw_module.specs.Groups.{divided_at_less}
-use Rattle.mw_module.specs.Equations.{has_label, unlabelled, attributes_len, group_at_end, executable_with, equals_at}
-use Rattle.mw_module.specs.Forms.{Sorts, Subsorts, Formed, is_unread, is_bad, text_fault, first_fault, names_fault, groups_fault, lone_sort, typed, variables_form, Profile, profile_form, declared, operators_form, divided, equation_form, form_behind, form_of}
+use Rattle.mw_module.specs.OperatorNames.{items_in, is_fine, is_name}
+use Rattle.mw_module.specs.Equations.{has_label, unlabelled, attributes_len, group_at_end}
+use Rattle.mw_module.specs.Rows.{row}
+use Rattle.mw_module.specs.Reading.{then_of, tokens_of, followed, reading, read_at, lists_of, first_token}
+use Rattle.mw_module.specs.Forms.{Sorts, Operators, grouped, typed, typed_names, Profile, profile_form, declared, names_form, sided, sides_form, form_behind, form_of}
 use Rattle.mw_module.specs.Tokens.{HasProperParts}
-use Rattle.mw_module.proofs.Formed.{names_there, no_fault, neither, holds_unless}
+use Rattle.mw_module.proofs.Parts.{then_holds}
+use Rattle.mw_module.proofs.Formed.{AreNames, names_named, formed_holds}
 
 abbrev pub IsToken : Token → Type 0
 IsToken t = IsTokenText t.text
-
--- a form's parts are proper, where there is nothing wrong with it
-abbrev pub IsProperWhereFormed : Formed → Type 0
-IsProperWhereFormed f = IfOk f HasProperParts
-
-proper_unless : (o : Option FaultKind) (f : Formed) → (o ≡ None → IsProperWhereFormed f) → IsProperWhereFormed (unless o f)
-proper_unless o f h = holds_unless HasProperParts o f h
 
 -- names of sorts and variables: a token that is neither a punctuation byte nor quoted is a run
 run_alone : (x : List ℕ) → IsTokenText x → is_punctuation_word x ≡ false → is_quoted x ≡ false → IsRun x
@@ -43,29 +43,42 @@ run_alone (b ∷ (c ∷ x)) (inl (inl h)) mark quote = absurd h
 run_alone [] (inr h) mark quote = absurd h
 run_alone (b ∷ x) (inr h) mark quote = absurd (eqb-false b 34 quote h)
 
-neither_fault : (a b : Option FaultKind) → first_of a b ≡ None → (a ≡ None) × (b ≡ None)
-neither_fault None b e = (refl, e)
-neither_fault (Some kind) b e = cc
+-- a text that passes as a run
+passed : (x : List ℕ) → (not (is_punctuation_word x) && not (is_quoted x)) ≡ true → IsTokenText x → IsRun x
+passed x e one = let h = and_parts (not (is_punctuation_word x)) (not (is_quoted x)) e in run_alone x one (not-true (is_punctuation_word x) h.0) (not-true (is_quoted x) h.1)
 
--- a role in which neither a punctuation byte nor a quoted text stands
-abbrev IsForRuns : Role → Type 0
-IsForRuns r = (x : List ℕ) → is_bad r x ≡ (is_punctuation_word x || is_quoted x)
+abbrev AreRuns : List Token → List Part → Type 0
+AreRuns ts parts = All IsRun (texts ts)
 
-run_in : (r : Role) (x : List ℕ) → IsForRuns r → IsTokenText x → text_fault r x ≡ None → IsRun x
-run_in r x bad one e =
-    let f = neither_fault (fault_if (is_unread r x) NotInProfile) (fault_if (is_bad r x) BadStatement) e in
-    let h = or_parts (is_punctuation_word x) (is_quoted x) (sym (bad x) ∙ no_fault (is_bad r x) BadStatement f.1) in
-    run_alone x one h.0 h.1
+still : {A : Type 0} (P Q : A → Type 0) (r : Result A Wrong) → IfOk r P → ((a : A) → P a → Q a) → IfOk r Q
+still P Q (Ok a) h k = k a h
+still P Q (Err wrong) h k = tt
 
-runs_in : (r : Role) (ts : List Token) → IsForRuns r → AreTokens ts → first_fault r ts ≡ None → All IsRun (texts ts)
-runs_in r [] bad all e = All-nil IsRun
-runs_in r (t ∷ ts) bad all e =
-    let f = neither_fault (text_fault r t.text) (first_fault r ts) e in
-    All-cons IsRun t.text (texts ts) (run_in r t.text bad (All-head IsToken t ts all) f.0) (runs_in r ts bad (All-tail IsToken t ts all) f.1)
+-- sorts and variables that are declared are runs
+sorts_run : (ts rest : List Token) (i d f : ℕ) (r : Role) (ps : List Part) → AreTokens rest
+    → IfOk (reading ts want.Nothing i (record { place = place.Sorts; depth = d; role = r; from = f; parts = ps }) rest) (AreRuns rest)
+sorts_run ts [] i d f r ps all = All-nil IsRun
+sorts_run ts (t ∷ rest) i d f r ps all = of (bytes_eq t.text (codes "{") && true) (not (is_punctuation_word t.text) && not (is_quoted t.text)) refl (sorts_run ts rest (i + 1) d f r ps (All-tail IsToken t rest all))
+  where
+    of : (b c : Bool) → (not (is_punctuation_word t.text) && not (is_quoted t.text)) ≡ c → IfOk (reading ts want.Nothing (i + 1) (record { place = place.Sorts; depth = d; role = r; from = f; parts = ps }) rest) (AreRuns rest)
+        → IfOk (then_of (followed ts want.Nothing i (record { place = place.Sorts; depth = d; role = r; from = f; parts = ps })
+        (if b then Some (row (codes "{") test.Any Skip (Err Unread)) else if c then Some (row [] test.Run Skip (Ok place.Sorts)) else None)) (λ u. reading ts want.Nothing (i + 1) u rest)) (AreRuns (t ∷ rest))
+    of true c e behind = tt
+    of false true e behind = still (AreRuns rest) (AreRuns (t ∷ rest)) (reading ts want.Nothing (i + 1) (record { place = place.Sorts; depth = d; role = r; from = f; parts = ps }) rest)
+        behind (λ parts more. All-cons IsRun t.text (texts rest) (passed t.text e (All-head IsToken t rest all)) more)
+    of false false e behind = tt
 
-some_runs : (r : Role) (ts : List Token) → IsForRuns r → AreTokens ts → names_fault r ts ≡ None → All IsRun (texts ts)
-some_runs r [] bad all e = cc
-some_runs r (t ∷ ts) bad all e = runs_in r (t ∷ ts) bad all e
+variables_run : (ts rest : List Token) (i d f : ℕ) (r : Role) (ps : List Part) → AreTokens rest
+    → IfOk (reading ts want.Nothing i (record { place = place.Variables; depth = d; role = r; from = f; parts = ps }) rest) (AreRuns rest)
+variables_run ts [] i d f r ps all = All-nil IsRun
+variables_run ts (t ∷ rest) i d f r ps all = of (not (is_punctuation_word t.text) && not (is_quoted t.text)) refl (variables_run ts rest (i + 1) d f r ps (All-tail IsToken t rest all))
+  where
+    of : (c : Bool) → (not (is_punctuation_word t.text) && not (is_quoted t.text)) ≡ c → IfOk (reading ts want.Nothing (i + 1) (record { place = place.Variables; depth = d; role = r; from = f; parts = ps }) rest) (AreRuns rest)
+        → IfOk (then_of (followed ts want.Nothing i (record { place = place.Variables; depth = d; role = r; from = f; parts = ps })
+        (if c then Some (row [] test.Run Skip (Ok place.Variables)) else None)) (λ u. reading ts want.Nothing (i + 1) u rest)) (AreRuns (t ∷ rest))
+    of true e behind = still (AreRuns rest) (AreRuns (t ∷ rest)) (reading ts want.Nothing (i + 1) (record { place = place.Variables; depth = d; role = r; from = f; parts = ps }) rest)
+        behind (λ parts more. All-cons IsRun t.text (texts rest) (passed t.text e (All-head IsToken t rest all)) more)
+    of false e behind = tt
 
 -- names of operators
 first_false : (a b c : Bool) → (a || b || c) ≡ false → (a ≡ false) × ((b || c) ≡ false)
@@ -94,67 +107,62 @@ proper_name law name all e =
     let h = and_parts (list_all is_fine (items_in name)) _ e in
     law (texts name) (All-map IsTokenText (λ (t : Token). t.text) name all) (fine_pieces (items_in name) h.0)
 
-proper_names : NamesAreProper → (names : List (List Token)) → All AreTokens names → all_names names ≡ true → All IsProperlyNamed names
-proper_names law [] all e = All-nil IsProperlyNamed
-proper_names law (name ∷ names) all e =
-    let h = and_parts (is_name (items_in name)) (all_names names) e in
-    All-cons IsProperlyNamed name names (proper_name law name (All-head AreTokens name names all) h.0) (proper_names law names (All-tail AreTokens name names all) h.1)
+-- the tokens of a part are tokens
+part_tokens : (ts : List Token) (p : Part) → AreTokens ts → AreTokens (tokens_of ts p)
+part_tokens ts p all = All-take IsToken (p.to - p.from) (drop p.from ts) (All-drop IsToken p.from ts all)
 
--- names are made of the tokens that they are read from
-group_tokens : (rest : List Token) (o : Option ℕ) → AreTokens rest → AreTokens (in_group rest o).name
-group_tokens rest None all = All-nil IsToken
-group_tokens rest (Some n) all = All-take IsToken (n - 1) rest all
+lists_tokens : (ts : List Token) (parts : List Part) → AreTokens ts → All AreTokens (lists_of ts parts)
+lists_tokens ts [] all = All-nil AreTokens
+lists_tokens ts (p ∷ ps) all = All-cons AreTokens (tokens_of ts p) (lists_of ts ps) (part_tokens ts p all) (lists_tokens ts ps all)
 
-one_tokens : (ts : List Token) → AreTokens ts → AreTokens (one_of_several ts).name
-one_tokens [] all = All-nil IsToken
-one_tokens (t ∷ rest) all = of (is (codes "(") t) (is (codes ")") t)
-  where
-    of : (opens closes : Bool)
-        → AreTokens (if opens then in_group rest (group_len 1 rest) else if closes then record { name = []; behind = 0 } else record { name = t ∷ []; behind = 0 }).name
-    of true closes = group_tokens rest (group_len 1 rest) (All-tail IsToken t rest all)
-    of false true = All-nil IsToken
-    of false false = All-cons IsToken t [] (All-head IsToken t rest all) (All-nil IsToken)
-
-front_tokens : (single : Bool) (ts : List Token) → AreTokens ts → AreTokens (front_name single ts).name
-front_tokens true ts all = all
-front_tokens false ts all = one_tokens ts all
-
-names_tokens : (single : Bool) (skip : ℕ) (ts : List Token) → AreTokens ts → All AreTokens (names_from single skip ts)
-names_tokens single skip [] all = All-nil AreTokens
-names_tokens single (suc k) (t ∷ rest) all = names_tokens single k rest (All-tail IsToken t rest all)
-names_tokens single zero (t ∷ rest) all =
-    let front = front_name single (t ∷ rest) in
-    All-cons AreTokens front.name (names_from single front.behind rest) (front_tokens single (t ∷ rest) all) (names_tokens single front.behind rest (All-tail IsToken t rest all))
+any_holds : {A B : Type 0} (Q : B → Type 0) (r : Result A Wrong) (next : A → Result B Wrong) → ((a : A) → IfOk (next a) Q) → IfOk (then_of r next) Q
+any_holds Q (Ok a) next h = h a
+any_holds Q (Err wrong) next h = tt
 
 -- declarations of operators
-declared_proper : (names : List (List Token)) (r : Result Profile FaultKind) → All IsProperlyNamed names → IsProperWhereFormed (declared names r)
-declared_proper names (Ok p) all = all
-declared_proper names (Err kind) all = tt
+both_hold : {A : Type 0} (P Q : A → Type 0) (r : Result A Wrong) → IfOk r P → IfOk r Q → IfOk r (λ a. P a × Q a)
+both_hold P Q (Ok a) h k = (h, k)
+both_hold P Q (Err wrong) h k = tt
 
-operators_proper : NamesAreProper → (single : Bool) (ts : List Token) → AreTokens ts → IsProperWhereFormed (operators_form single ts)
-operators_proper law single ts all =
-    let colon = count_before (codes ":") ts in
-    let names = names_from single 0 (take colon ts) in
-    let profile = profile_form names (drop (colon + 1) ts) in
-    let wrong : Bool = colon == length ts || not (are_names names) in
-    proper_unless (fault_if wrong BadStatement) (declared names profile)
-    (λ e. let named : are_names names ≡ true = neither (colon == length ts) (are_names names) (no_fault wrong BadStatement e) in
-    let made : All AreTokens names = names_tokens single 0 (take colon ts) (All-take IsToken colon ts all) in
-    declared_proper names profile (proper_names law names made (names_there names named).1))
+made : (single : Bool) (ts : List Token) → AreTokens ts → IfOk (names_form single ts) (All AreTokens)
+made single ts all = any_holds (All AreTokens) (read_at (if single then place.Name else place.Names) role.Words want.Names ts) (λ parts. Ok (lists_of ts parts)) (λ parts. lists_tokens ts parts all)
+
+proper_names : NamesAreProper → (names : List (List Token)) → AreNames names → All AreTokens names → All IsProperlyNamed names
+proper_names law [] named all = All-nil IsProperlyNamed
+proper_names law (name ∷ names) named all =
+    All-cons IsProperlyNamed name names
+    (proper_name law name (All-head AreTokens name names all) (All-head (λ (m : List Token). is_name (items_in m) ≡ true) name names named))
+    (proper_names law names (All-tail (λ (m : List Token). is_name (items_in m) ≡ true) name names named) (All-tail AreTokens name names all))
+
+declared_proper : (names : List (List Token)) (ts : List Token) → All IsProperlyNamed names → IfOk (declared names ts) HasProperParts
+declared_proper [] ts all = tt
+declared_proper (n ∷ ns) ts all = any_holds HasProperParts (profile_form (n ∷ ns) ts) (λ (p : Profile). Ok (Operators (n ∷ ns) p.args p.value.sort p.value.attributes)) (λ p. all)
+
+operators_proper : NamesAreProper → (single : Bool) (colon : ℕ) (ts : List Token) (b : Bool) → AreTokens ts
+    → IfOk (if b then Err Bad else then_of (names_form single (take colon ts)) (λ names. declared names (drop (colon + 1) ts))) HasProperParts
+operators_proper law single colon ts true all = tt
+operators_proper law single colon ts false all =
+    let front = take colon ts in
+    then_holds (λ names. AreNames names × All AreTokens names) HasProperParts (names_form single front) (λ names. declared names (drop (colon + 1) ts))
+    (both_hold AreNames (All AreTokens) (names_form single front) (names_named single front) (made single front (All-take IsToken colon ts all)))
+    (λ names h. declared_proper names (drop (colon + 1) ts) (proper_names law names h.0 h.1))
 
 -- variables
-typed_proper : (names : List Token) (r : Result Token FaultKind) → All IsRun (texts names) → IsProperWhereFormed (typed names r)
-typed_proper names (Ok sort) all = all
-typed_proper names (Err kind) all = tt
+typed_proper : (names : List Token) (o : Option Token) → All IsRun (texts names) → IfOk (typed names o) HasProperParts
+typed_proper names None all = tt
+typed_proper names (Some sort) all = all
 
-variables_proper : (ts : List Token) → AreTokens ts → IsProperWhereFormed (variables_form ts)
-variables_proper ts all =
-    let colon = count_before (codes ":") ts in
-    let sort = lone_sort (drop (colon + 1) ts) in
-    let formed = typed (take colon ts) sort in
-    proper_unless (fault_if (colon == length ts) BadStatement) (unless (names_fault role.Variable (take colon ts)) formed)
-    (λ e. proper_unless (names_fault role.Variable (take colon ts)) formed
-    (λ f. typed_proper (take colon ts) sort (some_runs role.Variable (take colon ts) (λ x. refl) (All-take IsToken colon ts all) f)))
+typed_names_proper : (names ts : List Token) → AreTokens names → IfOk (typed_names names ts) HasProperParts
+typed_names_proper [] ts all = tt
+typed_names_proper (t ∷ names) ts all =
+    then_holds (AreRuns (t ∷ names)) HasProperParts (read_at place.Variables role.Silent want.Nothing (t ∷ names))
+    (λ none. then_of (read_at place.Sort role.Silent want.Nothing ts) (λ parts. typed (t ∷ names) (first_token ts parts)))
+    (variables_run (t ∷ names) (t ∷ names) 0 0 0 role.Silent [] all)
+    (λ none runs. any_holds HasProperParts (read_at place.Sort role.Silent want.Nothing ts) (λ parts. typed (t ∷ names) (first_token ts parts)) (λ parts. typed_proper (t ∷ names) (first_token ts parts) runs))
+
+variables_proper : (colon : ℕ) (ts : List Token) (b : Bool) → AreTokens ts → IfOk (if b then Err Bad else typed_names (take colon ts) (drop (colon + 1) ts)) HasProperParts
+variables_proper colon ts true all = tt
+variables_proper colon ts false all = typed_names_proper (take colon ts) (drop (colon + 1) ts) (All-take IsToken colon ts all)
 
 -- equations
 unlabelled_tokens : (ts : List Token) → AreTokens ts → AreTokens (unlabelled ts)
@@ -164,32 +172,40 @@ unlabelled_tokens ts all = of (has_label ts)
     of true = All-drop IsToken 4 ts all
     of false = all
 
-divided_proper : (sides : List Token) (o : Option ℕ) (r : Result Bool FaultKind) → AreTokens sides → IsProperWhereFormed (divided sides o r)
-divided_proper sides None r all = tt
-divided_proper sides (Some n) (Ok executable) all = (All-take IsToken n sides all, All-drop IsToken (n + 1) sides all)
-divided_proper sides (Some n) (Err kind) all = tt
+sided_proper : (ts : List Token) (parts : List Part) (executable : Bool) → AreTokens ts → IfOk (sided ts parts executable) HasProperParts
+sided_proper ts [] executable all = tt
+sided_proper ts (l ∷ []) executable all = tt
+sided_proper ts (l ∷ (r ∷ ps)) executable all = (part_tokens ts l all, part_tokens ts r all)
 
-equation_proper : (ts : List Token) → AreTokens ts → IsProperWhereFormed (equation_form ts)
-equation_proper ts all =
+sides_proper : (sides said : List Token) → AreTokens sides → IfOk (sides_form sides said) HasProperParts
+sides_proper sides said all =
+    any_holds HasProperParts (read_at place.Left role.Words want.Nothing sides) _ (λ parts. any_holds HasProperParts (read_at place.Statement role.Silent want.Nothing said) _ (λ more. sided_proper sides parts _ all))
+
+-- the other forms
+grouped_proper : (ts : List Token) (parts : List Part) → IfOk (grouped ts parts) HasProperParts
+grouped_proper ts [] = tt
+grouped_proper ts (p ∷ []) = tt
+grouped_proper ts (p ∷ (q ∷ ps)) = tt
+
+sorts_proper : (ts : List Token) → AreTokens ts → IfOk (form_behind opening.Sorts ts) HasProperParts
+sorts_proper [] all = tt
+sorts_proper (t ∷ ts) all =
+    then_holds (AreRuns (t ∷ ts)) HasProperParts (read_at place.Sorts role.Silent want.Nothing (t ∷ ts)) (λ parts. Ok (Sorts (t ∷ ts))) (sorts_run (t ∷ ts) (t ∷ ts) 0 0 0 role.Silent [] all) (λ parts runs. runs)
+
+behind_proper : NamesAreProper → (o : Opening) (ts : List Token) → AreTokens ts → IfOk (form_behind o ts) HasProperParts
+behind_proper law opening.Sorts ts all = sorts_proper ts all
+behind_proper law opening.Subsorts ts all = any_holds HasProperParts (read_at place.Group role.Words want.Nothing ts) (grouped ts) (grouped_proper ts)
+behind_proper law opening.Operator ts all = operators_proper law true (count_before (codes ":") ts) ts (count_before (codes ":") ts == length ts) all
+behind_proper law opening.Operators ts all = operators_proper law false (count_before (codes ":") ts) ts (count_before (codes ":") ts == length ts) all
+behind_proper law opening.Variables ts all = variables_proper (count_before (codes ":") ts) ts (count_before (codes ":") ts == length ts) all
+behind_proper law opening.Equation ts all =
     let us = unlabelled ts in
     let n = attributes_len us in
-    let sides = take (length us - n) us in
-    divided_proper sides (equals_at 0 sides) (executable_with (group_at_end n us)) (All-take IsToken (length us - n) us (unlabelled_tokens ts all))
+    sides_proper (take (length us - n) us) (group_at_end n us) (All-take IsToken (length us - n) us (unlabelled_tokens ts all))
+behind_proper law opening.Elsewhere ts all = tt
+behind_proper law opening.Unread ts all = tt
 
--- forms
-behind_first_word : NamesAreProper → (o : Opening) (ts : List Token) → AreTokens ts → IsProperWhereFormed (form_behind o ts)
-behind_first_word law opening.Sorts ts all = proper_unless (names_fault role.NewSort ts) (Ok (Sorts ts)) (λ e. some_runs role.NewSort ts (λ x. refl) all e)
-behind_first_word law opening.Subsorts ts all =
-    let groups = divided_at_less ts in
-    let undivided : Option FaultKind = fault_if (count_before (codes "<") ts == length ts) BadStatement in
-    proper_unless (groups_fault groups) (unless undivided (Ok (Subsorts groups))) (λ e. proper_unless undivided (Ok (Subsorts groups)) (λ f. tt))
-behind_first_word law opening.Operator ts all = operators_proper law true ts all
-behind_first_word law opening.Operators ts all = operators_proper law false ts all
-behind_first_word law opening.Variables ts all = variables_proper ts all
-behind_first_word law opening.Equation ts all = equation_proper ts all
-behind_first_word law opening.Elsewhere ts all = tt
-behind_first_word law opening.Unread ts all = tt
-
-pub form_proper : NamesAreProper → (ts : List Token) → AreTokens ts → IsProperWhereFormed (form_of ts)
+-- a statement that is made of tokens has proper parts
+pub form_proper : NamesAreProper → (ts : List Token) → AreTokens ts → IfOk (form_of ts) HasProperParts
 form_proper law [] all = tt
-form_proper law (t ∷ rest) all = behind_first_word law (opening_of t.text) rest (All-tail IsToken t rest all)
+form_proper law (t ∷ rest) all = formed_holds HasProperParts (form_behind (opening_of t.text) rest) (behind_proper law (opening_of t.text) rest (All-tail IsToken t rest all))

@@ -1,15 +1,17 @@
 -- Units of a source.
 pub mod Words
-pub mod Faults
 pub mod Causes
 pub mod Openings
 pub mod OperatorNames
-pub mod Sortings
-pub mod Groups
+pub mod Rows
 pub mod Attributes
+pub mod Reading
+pub mod Parts
+pub mod Sortings
 pub mod Equations
 pub mod Forms
 pub mod Kinds
 pub mod Units
 pub mod Known
 pub mod Tokens
+pub mod Written

@@ -1,8 +1,11 @@
 -- The sorts of operators' arguments and values.
-use Rattle.std.specs.Prelude.{ℕ, Bool, true, List, [], ◌∷◌, zero, suc, map, if◌then◌else◌, codes}
+use Rattle.std.specs.Prelude.{Bool, List, [], ◌∷◌, ◌++◌, ◌||◌, map, Option, None, Some}
 use Rattle.mw_lex.specs.declared.token.Token.{Token}
+use Rattle.mw_module.specs.declared.machine.Part.{Part}
 use Rattle.mw_module.specs.declared.sortings.Sorting.{Sorting as HeldSorting}
-use Rattle.mw_module.specs.Words.{is}
+use Rattle.mw_module.specs.declared.table.Role.{Role}
+use Rattle.mw_module.specs.declared.table.Role.TheVariants as role
+use Rattle.mw_module.specs.Reading.{tokens_of, front}
 
 -- a sort as it is written in a declaration: its name, and whether its kind is meant
 pub record Sorting : Type 0 where
@@ -13,21 +16,31 @@ pub record Sorting : Type 0 where
 abbrev pub seen_sorting : HeldSorting → Sorting
 seen_sorting s = record { name = s.name.now; kind = s.kind }
 
--- how many tokens belong to the sort that begins with this token, behind it: behind a bracket a name, and the bracket that closes
-abbrev pub sort_behind : Token → ℕ
-sort_behind t = if is (codes "[") t then 2 else 0
-
--- the sort that begins with this token: behind a bracket the kind of a name; else a name, whose kind is meant where `kinds` is true
-abbrev pub front_sorting : Bool → Token → List Token → Sorting
-front_sorting kinds t [] = record { name = t; kind = kinds }
-front_sorting kinds t (u ∷ rest) = if is (codes "[") t then record { name = u; kind = true } else record { name = t; kind = kinds }
-
--- the sorts, where the first `skip` tokens belong to one that is read already
-abbrev pub sortings_from : Bool → ℕ → List Token → List Sorting
-sortings_from kinds skip [] = []
-sortings_from kinds (suc k) (t ∷ rest) = sortings_from kinds k rest
-sortings_from kinds zero (t ∷ rest) = front_sorting kinds t rest ∷ sortings_from kinds (sort_behind t) rest
+abbrev pub seen_optional : Option HeldSorting → List Sorting
+seen_optional None = []
+seen_optional (Some s) = seen_sorting s ∷ []
 
 -- sorts as their readers see them
 abbrev pub seen_sortings : List HeldSorting → List Sorting
 seen_sortings = map seen_sorting
+
+abbrev pub sorting_with : Bool → Option Token → List Sorting
+sorting_with kind None = []
+sorting_with kind (Some t) = record { name = t; kind = kind } ∷ []
+
+-- the sort that a part of this role is, where `kinds` says that all kinds are meant
+abbrev pub sorting_as : Bool → Role → Option Token → List Sorting
+sorting_as kinds (role.Sort kind) name = sorting_with (kinds || kind) name
+sorting_as kinds role.Words name = []
+sorting_as kinds role.Silent name = []
+sorting_as kinds role.Config name = []
+sorting_as kinds role.Precedence name = []
+sorting_as kinds role.Gather name = []
+sorting_as kinds role.Nonexec name = []
+
+abbrev pub sorting_of : Bool → List Token → Part → List Sorting
+sorting_of kinds ts p = sorting_as kinds p.role (front (tokens_of ts p))
+
+abbrev pub sortings_of : Bool → List Token → List Part → List Sorting
+sortings_of kinds ts [] = []
+sortings_of kinds ts (p ∷ ps) = sorting_of kinds ts p ++ sortings_of kinds ts ps

@@ -45,11 +45,6 @@ is_no_piece (a ∷ b ∷ c ∷ rest) = a == 34 || (a == 42 && b == 42 && c == 42
 abbrev pub is_whole_string : List ℕ → Bool
 is_whole_string text = nat_le 2 (length text) && slice_index text 0 == 34 && slice_index text (length text - 1) == 34 && not (slice_index text (length text - 2) == 92)
 
--- the first token is such a string
-abbrev pub begins_string : List Token → Bool
-begins_string [] = false
-begins_string (t ∷ rest) = is_whole_string t.text
-
 -- slices of tokens as lists
 abbrev pub seen_lists : List (Bor (List Token)) → List (List Token)
 seen_lists = map (λ (ts : Bor (List Token)). ts.now)

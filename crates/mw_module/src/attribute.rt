@@ -1,8 +1,15 @@
 // What attributes of operators say.
 ghost use Rattle.std.specs.Prelude.{◌≡◌, nat_eq};
+ghost use Rattle.std.specs.Char.{is_ascii_digit};
+ghost use Rattle.std.specs.List.{list_all};
+ghost use Rattle.mw_module.specs.Attributes as attributes;
+ghost use Rattle.mw_module.specs.Forms.{said_from};
 ghost use Rattle.mw_module.specs.Words.{texts};
-ghost use Rattle.mw_module.specs.Attributes.{seen_attributes, no_attributes, gather_of, joined as joined_attributes, differ, same_texts};
+ghost use Rattle.mw_module.specs.Attributes.{seen_attributes, no_attributes, gather_of, differ, same_texts};
 
+use crate::machine::{Part, part_tokens};
+use crate::table::Role;
+use crate::words::is_word;
 use mw_lex::Token;
 
 /// What the attributes of an operator say. Those that aren't here say nothing.
@@ -70,7 +77,7 @@ impl<'a> Attributes<'a> {
 
     /// What both say; of two values that differ the first, and they clash.
     pub fn joined(self, other: Attributes<'a>) -> Attributes<'a>
-        ensures { seen_attributes result ≡ joined_attributes (seen_attributes self.entry) (seen_attributes other.entry) }
+        ensures { seen_attributes result ≡ attributes.joined (seen_attributes self.entry) (seen_attributes other.entry) }
     {
         Attributes {
             precedence: self.precedence.or(other.precedence),
@@ -84,9 +91,90 @@ impl<'a> Attributes<'a> {
     }
 
     // Both, in place.
-    pub fn add(&mut self, other: Attributes<'a>)
-        ensures { seen_attributes self.new ≡ joined_attributes (seen_attributes self.old) (seen_attributes other.entry) }
+    fn add(&mut self, other: Attributes<'a>)
+        ensures { seen_attributes self.new ≡ attributes.joined (seen_attributes self.old) (seen_attributes other.entry) }
     {
         *self = self.joined(other);
     }
+}
+
+fn is_digit(byte: u8) -> bool
+    ensures { result ≡ is_ascii_digit byte }
+{
+    byte.is_ascii_digit()
+}
+
+// A precedence: a number from 0 to 127.
+fn precedence_of(text: &[u8]) -> Option<u32>
+    ensures { result ≡ attributes.precedence_of text.now }
+{
+    let number = match text {
+        [a] if is_digit(*a) => (*a - b'0') as u32,
+        [a, b] if is_digit(*a) && is_digit(*b) && *a != b'0' => {
+            10 * (*a - b'0') as u32 + (*b - b'0') as u32
+        }
+        [a, b, c] if is_digit(*a) && is_digit(*b) && is_digit(*c) && *a != b'0' => {
+            100 * (*a - b'0') as u32 + 10 * (*b - b'0') as u32 + (*c - b'0') as u32
+        }
+        _ => return None,
+    };
+    if number < 128 { Some(number) } else { None }
+}
+
+/// Whether the text is a precedence.
+pub fn is_precedence(text: &[u8]) -> bool
+    ensures { result ≡ attributes.is_precedence text.now }
+{
+    precedence_of(text).is_some()
+}
+
+// Whether this is a mark of a gather.
+fn is_mark(token: &Token) -> bool
+    ensures { result ≡ attributes.is_mark token.now }
+{
+    is_word(token, b"e") || is_word(token, b"E") || is_word(token, b"&")
+}
+
+/// Whether these are marks of a gather.
+pub fn are_marks(tokens: &[Token]) -> bool
+    ensures { result ≡ list_all attributes.is_mark tokens.now }
+{
+    tokens.iter().all(is_mark)
+}
+
+// The precedence that a token is.
+fn precedence_in(tokens: &[Token]) -> Option<u32>
+    ensures { result ≡ attributes.precedence_in tokens.now }
+{
+    match tokens {
+        [number, ..] => precedence_of(number.text.as_slice()),
+        [] => None,
+    }
+}
+
+// What one attribute says.
+fn said_as<'s>(role: Role, tokens: &'s [Token]) -> Attributes<'s>
+    ensures { seen_attributes result ≡ attributes.said_as role tokens.now }
+{
+    let mut says = Attributes::none();
+    match role {
+        Role::Config => says.config = true,
+        Role::Precedence => says.precedence = precedence_in(tokens),
+        Role::Gather => says.gather = Some(tokens),
+        Role::Words | Role::Sort(_) | Role::Silent | Role::Nonexec => {}
+    }
+    says
+}
+
+/// What attributes say together.
+pub fn said<'s>(tokens: &'s [Token], parts: &[Part]) -> Attributes<'s>
+    ensures { seen_attributes result ≡ said_from tokens.now no_attributes parts.now }
+{
+    let mut said = Attributes::none();
+    let mut rest = parts;
+    while let [part, after @ ..] = rest {
+        said.add(said_as(part.role, part_tokens(tokens, *part)));
+        rest = after;
+    }
+    said
 }

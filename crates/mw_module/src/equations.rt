@@ -1,12 +1,14 @@
 // Equations.
-ghost use Rattle.std.specs.Prelude.{◌≡◌, ◌<◌, ◌≤◌, ◌+◌, ◌-◌, ◌^◌, ℕ, true, length, reverse, IfNone, IfSome, MatchResult, Ok, Err};
+ghost use Rattle.std.specs.Prelude.{◌≡◌, ◌<◌, ◌≤◌, ◌+◌, ◌-◌, length, reverse, IfSome, IfOk};
 ghost use Rattle.mw_module.specs.Equations as equations;
 ghost use Rattle.mw_module.specs.Forms as forms;
 
-use crate::faults::FaultKind;
 use crate::forms::Form;
-use crate::words::{begins_string, is_word, tokens_from};
+use crate::machine::{Part, part_tokens, read};
+use crate::table::{Place, Read, Role, Want, Wrong};
+use crate::words::{is_word, tokens_from};
 use mw_lex::Token;
+use std::alloc::Global;
 
 // Whether a label stands in front.
 fn has_label(tokens: &[Token]) -> bool
@@ -94,111 +96,34 @@ fn group_at_end(len: usize, tokens: &[Token]) -> &[Token]
     &group[1..len - 1]
 }
 
-// What is wrong with an attribute that has one token behind its word.
-fn value_fault(word: &Token, tokens: &[Token]) -> Option<FaultKind>
-    ensures fault { result ≡ equations.value_fault word.now tokens.now }
-    ensures some { IfNone result (0 < length tokens.now) }
+// Two sides, and the attributes behind them.
+fn sides_form<'s>(alloc: Global, sides: &'s [Token], said: &[Token]) -> Read<Form<'s>>
+    ensures { IfOk result (λ r. forms.seen_shaped r ≡ forms.sides_form sides.now said.now) }
 {
-    let is_label = is_word(word, b"label");
-    if !is_label && !is_word(word, b"metadata") {
-        return Some(FaultKind::NotInProfile);
-    }
-    if !tokens.is_empty() && (is_label || begins_string(tokens)) {
-        None
-    } else {
-        Some(FaultKind::BadStatement)
-    }
-}
-
-// Whether an equation with these attributes is executable, or what is wrong with them.
-#[tactic(auto, using(crate::proofs::Slices::behind_first))]
-fn executable_with(attributes: &[Token]) -> Result<bool, FaultKind>
-    ensures { result ≡ equations.executable_with attributes.now }
-{
-    let mut executable = true;
-    let mut rest = attributes;
-    while let [word, after @ ..] = rest {
-        if is_word(word, b"nonexec") {
-            executable = false;
-            rest = after;
-            continue;
-        }
-        if let Some(kind) = value_fault(word, after) {
-            return Err(kind);
-        }
-        rest = tokens_from(after, 1);
-    }
-    Ok(executable)
-}
-
-// How many are open behind this token.
-fn depth_after(token: &Token, depth: usize) -> usize
-    requires { depth < 2 ^ 64 - 1 }
-    ensures depth { result ≡ equations.depth_after token.now depth }
-    ensures most { result ≤ depth + 1 }
-{
-    let opens = is_word(token, b"(")
-        || is_word(token, b"[")
-        || is_word(token, b"{")
-        || is_word(token, b"if");
-    let closes = is_word(token, b")")
-        || is_word(token, b"]")
-        || is_word(token, b"}")
-        || is_word(token, b"fi");
-    if opens {
-        depth + 1
-    } else if closes {
-        depth.saturating_sub(1)
-    } else {
-        depth
-    }
-}
-
-// How many tokens come before the first equals sign that nothing encloses.
-fn equals_at(tokens: &[Token]) -> Option<usize>
-    ensures at { result ≡ equations.equals_at 0 tokens.now }
-    ensures within { IfSome result (λ n. n < length tokens.now) }
-{
-    let mut rest = tokens;
-    let mut depth = 0usize;
-    let mut count = 0;
-    while let [token, after @ ..] = rest {
-        if depth == 0 && is_word(token, b"=") {
-            return Some(count);
-        }
-        depth = depth_after(token, depth);
-        count += 1;
-        rest = after;
-    }
-    None
-}
-
-// Two sides, and the group of attributes behind them that has so many tokens.
-fn sides_form<'a>(len: usize, tokens: &'a [Token]) -> Result<Form<'a>, FaultKind>
-    requires { len ≤ length tokens.now }
-    ensures { forms.seen_formed result ≡ forms.sides_form len tokens.now }
-{
-    let sides = &tokens[..tokens.len() - len];
-    let Some(at) = equals_at(sides) else {
-        return Err(FaultKind::BadStatement);
+    let parts = match read(alloc, Place::Left, Role::Words, Want::Nothing, sides)? {
+        Ok(parts) => parts,
+        Err(wrong) => return Ok(Err(wrong)),
     };
-    match executable_with(group_at_end(len, tokens)) {
-        Ok(executable) => Ok(Form::Equation {
-            left: &sides[..at],
-            right: tokens_from(sides, at + 1),
-            executable,
-        }),
-        Err(kind) => Err(kind),
+    let more = match read(alloc, Place::Statement, Role::Silent, Want::Nothing, said)? {
+        Ok(more) => more,
+        Err(wrong) => return Ok(Err(wrong)),
+    };
+    match parts.as_slice() {
+        [left, right, ..] => Ok(Ok(Form::Equation {
+            left: part_tokens(sides, *left),
+            right: part_tokens(sides, *right),
+            executable: more.is_empty(),
+        })),
+        _ => Ok(Err(Wrong::Bad)),
     }
 }
 
 // A label, two sides, and attributes.
-pub fn equation_form<'a>(tokens: &'a [Token]) -> Result<Form<'a>, FaultKind>
-    ensures { forms.seen_formed result ≡ forms.equation_form tokens.now }
+pub fn equation_form<'s>(alloc: Global, tokens: &'s [Token]) -> Read<Form<'s>>
+    ensures { IfOk result (λ r. forms.seen_shaped r ≡ forms.equation_form tokens.now) }
 {
     let behind = unlabelled(tokens);
-    match sides_form(attributes_len(behind), behind) {
-        Ok(form) => Ok(form),
-        Err(kind) => Err(kind),
-    }
+    let len = attributes_len(behind);
+    let said = group_at_end(len, behind);
+    sides_form(alloc, &behind[..behind.len() - len], said)
 }

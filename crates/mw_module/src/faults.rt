@@ -7,7 +7,7 @@ use std::alloc::{AllocError, AllocFailed};
 
 /// The kinds of faults, in the order in which they are looked for in a source. A name, sort or operator is held as
 /// it is spelled.
-#[derive(Debug, Drop)]
+#[derive(Drop)]
 pub enum FaultKind {
     /// A byte that stands in no token.
     BadByte,
@@ -68,14 +68,14 @@ pub enum FaultKind {
 }
 
 /// A fault, with the line of the statement's first token, or else of the unit's.
-#[derive(Debug, Drop)]
+#[derive(Drop)]
 pub struct Fault {
     pub line: u32,
     pub kind: FaultKind,
 }
 
 /// Why there is no answer for a unit.
-#[derive(Debug, Drop)]
+#[derive(Drop)]
 pub enum UnitError {
     Fault(Fault),
     Memory,

@@ -1,15 +1,15 @@
 // The forms of statements.
-ghost use Rattle.std.specs.Prelude.{◌≡◌, true, false, MatchResult, IfOk, Ok, Err};
+ghost use Rattle.std.specs.Prelude.{◌≡◌, IfOk};
 ghost use Rattle.mw_module.specs.Forms as forms;
 
 use crate::attribute::Attributes;
 use crate::equations::equation_form;
 use crate::faults::FaultKind;
-use crate::groups::subsorts_form;
-use crate::names::{Role, lone_sort, names_fault};
+use crate::machine::{first_token, lists_of, read};
 use crate::openings::{Opening, opening_of};
 use crate::operators::operators_form;
 use crate::sortings::Sorting;
+use crate::table::{Place, Read, Role, Want, Wrong, told};
 use crate::words::{count_before, tokens_from};
 use mw_lex::Token;
 use std::alloc::{AllocError, Global};
@@ -47,30 +47,77 @@ pub enum Form<'s> {
 }
 
 // Names of sorts.
-fn sorts_form<'a>(tokens: &'a [Token]) -> Result<Form<'a>, FaultKind>
-    ensures { forms.seen_formed result ≡ forms.sorts_form tokens.now }
+fn sorts_form<'s>(alloc: Global, names: &'s [Token]) -> Read<Form<'s>>
+    ensures { IfOk result (λ r. forms.seen_shaped r ≡ forms.sorts_form names.now) }
 {
-    match names_fault(Role::NewSort, tokens) {
-        Some(kind) => Err(kind),
-        None => Ok(Form::Sorts { names: tokens }),
+    if names.is_empty() {
+        return Ok(Err(Wrong::Bad));
+    }
+    match read(alloc, Place::Sorts, Role::Silent, Want::Nothing, names)? {
+        Ok(_) => Ok(Ok(Form::Sorts { names })),
+        Err(wrong) => Ok(Err(wrong)),
+    }
+}
+
+// Groups of sorts, divided by one `<` at least.
+fn subsorts_form<'s>(alloc: Global, tokens: &'s [Token]) -> Read<Form<'s>>
+    ensures { IfOk result (λ r. forms.seen_shaped r ≡ forms.subsorts_form tokens.now) }
+{
+    let parts = match read(alloc, Place::Group, Role::Words, Want::Nothing, tokens)? {
+        Ok(parts) => parts,
+        Err(wrong) => return Ok(Err(wrong)),
+    };
+    if parts.len() < 2 {
+        return Ok(Err(Wrong::Bad));
+    }
+    let groups = lists_of(alloc, tokens, parts.as_slice())?;
+    Ok(Ok(Form::Subsorts { groups }))
+}
+
+// Names of variables, and what stands behind the colon: a sort and nothing more.
+fn typed_names<'s>(alloc: Global, names: &'s [Token], tokens: &'s [Token]) -> Read<Form<'s>>
+    ensures { IfOk result (λ r. forms.seen_shaped r ≡ forms.typed_names names.now tokens.now) }
+{
+    if names.is_empty() {
+        return Ok(Err(Wrong::Bad));
+    }
+    if let Err(wrong) = read(alloc, Place::Variables, Role::Silent, Want::Nothing, names)? {
+        return Ok(Err(wrong));
+    }
+    let parts = match read(alloc, Place::Sort, Role::Silent, Want::Nothing, tokens)? {
+        Ok(parts) => parts,
+        Err(wrong) => return Ok(Err(wrong)),
+    };
+    match first_token(tokens, parts.as_slice()) {
+        Some(sort) => Ok(Ok(Form::Variables { names, sort })),
+        None => Ok(Err(Wrong::Bad)),
     }
 }
 
 // Names of variables, a colon and a sort.
-fn variables_form<'a>(tokens: &'a [Token]) -> Result<Form<'a>, FaultKind>
-    ensures { forms.seen_formed result ≡ forms.variables_form tokens.now }
+fn variables_form<'s>(alloc: Global, tokens: &'s [Token]) -> Read<Form<'s>>
+    ensures { IfOk result (λ r. forms.seen_shaped r ≡ forms.variables_form tokens.now) }
 {
     let colon = count_before(tokens, b":");
     if colon == tokens.len() {
-        return Err(FaultKind::BadStatement);
+        return Ok(Err(Wrong::Bad));
     }
-    let names = &tokens[..colon];
-    if let Some(kind) = names_fault(Role::Variable, names) {
-        return Err(kind);
-    }
-    match lone_sort(tokens_from(tokens, colon + 1)) {
-        Ok(sort) => Ok(Form::Variables { names, sort }),
-        Err(kind) => Err(kind),
+    typed_names(alloc, &tokens[..colon], tokens_from(tokens, colon + 1))
+}
+
+// What stands behind the first word of a statement.
+fn form_behind<'s>(alloc: Global, opening: Opening, tokens: &'s [Token]) -> Read<Form<'s>>
+    ensures { IfOk result (λ r. forms.seen_shaped r ≡ forms.form_behind opening tokens.now) }
+{
+    match opening {
+        Opening::Sorts => sorts_form(alloc, tokens),
+        Opening::Subsorts => subsorts_form(alloc, tokens),
+        Opening::Operator => operators_form(alloc, true, tokens),
+        Opening::Operators => operators_form(alloc, false, tokens),
+        Opening::Variables => variables_form(alloc, tokens),
+        Opening::Equation => equation_form(alloc, tokens),
+        Opening::Elsewhere => Ok(Err(Wrong::Bad)),
+        Opening::Unread => Ok(Err(Wrong::Unread)),
     }
 }
 
@@ -83,18 +130,9 @@ impl<'s> Form<'s> {
     ) -> Result<Result<Form<'s>, FaultKind>, AllocError>
         ensures { IfOk result (λ r. forms.seen_formed r ≡ forms.form_of statement.now) }
     {
-        match statement {
-            [] => Ok(Err(FaultKind::NotInProfile)),
-            [word, rest @ ..] => match opening_of(word.text.as_slice()) {
-                Opening::Sorts => Ok(sorts_form(rest)),
-                Opening::Subsorts => subsorts_form(alloc, rest),
-                Opening::Operator => operators_form(alloc, true, rest),
-                Opening::Operators => operators_form(alloc, false, rest),
-                Opening::Variables => Ok(variables_form(rest)),
-                Opening::Equation => Ok(equation_form(rest)),
-                Opening::Elsewhere => Ok(Err(FaultKind::BadStatement)),
-                Opening::Unread => Ok(Err(FaultKind::NotInProfile)),
-            },
-        }
+        let [word, rest @ ..] = statement else {
+            return Ok(Err(FaultKind::NotInProfile));
+        };
+        Ok(form_behind(alloc, opening_of(word.text.as_slice()), rest)?.map_err(told))
     }
 }

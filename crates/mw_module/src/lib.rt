@@ -11,47 +11,54 @@
 //!   one. Each statement is read once, by `Form::of`: its form, with slices of the source's tokens for its parts.
 //! - The end of a unit is looked at first, then its head, then its statements in order, and in a form the first place
 //!   from the left that is at fault decides. A missing full stop comes last.
+//! - Statements are read by a table (table.rt, specs/Rows): each place in a statement has rows, and the first row that
+//!   a token meets says what becomes of it and where the next one stands. What is read is a list of parts, spans of
+//!   tokens with their roles. What is known only from behind, or from a word ahead, is cut off before: the names of
+//!   operators and variables end at the first colon, argument sorts at the first arrow; an equation's label and its
+//!   attributes (the group from the `[` that matches a last `]`, only these two counted, if its second token is an
+//!   attribute's) are taken off, and a counter of `( [ { if` and `) ] } fi`, never below 0, finds the `=`.
 //! - `op` has one name of one or more tokens, `ops` one or more, each a token or the tokens of a group in parentheses,
-//!   of which only parentheses are counted. The names end at the first colon, the argument sorts at the first arrow.
-//!   Before an equation is divided, its label and its attributes (the group from the `[` that matches a last `]`, only
-//!   these two counted, if its second token is an attribute's) are taken off; a counter of `( [ { if` and `) ] } fi`,
-//!   never below 0, finds the `=`.
+//!   of which only parentheses are counted.
 //! - `Attributes` holds what a list says: a precedence, a gather, `config`, and whether two precedences or gathers
 //!   differ (`clash`). `joined` is what two lists say together.
 //! - [`FaultKind`] has the faults of all layers, one kind for each refusal that the program prints.
 //!
-//! Proved: the unit at a place, exactly, with the next place; a fault exactly where
-//! there is one, and the first; the next place is the same with a fault and without (`Reads`, specs/Units). A form with
-//! its parts, or exactly what is wrong (`form_of`, specs/Forms); what two lists of attributes say together. `read_unit`
-//! asks for a place at which a token stands. `Memory` may come at any call.
+//! Proved: the unit at a place, exactly, with the next place; a fault exactly where there is one, and the first; the
+//! next place is the same with a fault and without (`Reads`, specs/Units). A form with its parts, or exactly what is
+//! wrong (`form_of`, specs/Forms); what two lists of attributes say together. Whatever the table says, parts stand one
+//! after the other and are such as is wanted (`parts_ascend`): names are names, and there is a mark for each argument.
+//! Operators are written as names, a colon, sorts, an arrow, and the rest (`operators_are_written`). What is known of
+//! the statements of a unit that was read, and of what tokens they are made (`units_are_proper`).
+//! `read_unit` asks for a place at which a token stands. `Memory` may come at any call.
 //!
 //! Cost: each statement is looked at a fixed number of times, and all units of a source take time linear in its tokens.
 //! Only tested, by the sources in cases/: that the definitions are the language that is meant.
 //!
-//! A new form is a case of `opening_of` and `form_behind`, a new attribute one of `attribute_at`, a new kind of unit
+//! A new form, or a new attribute, is rows of the table and a case of `form_behind` or `said_as`; a new kind of unit is
 //! one of `unit_with`. What crates above know of the statements of a unit that was read stands in specs/Known, and of
 //! what tokens they are made in specs/Tokens; proofs/Sources has the two laws. Crates above answer a `UnitError`, whose
 //! fault has the property that `HasCause` names (specs/Causes).
 #![tactic(auto)]
 
 mod attribute;
-mod attribute_list;
 mod equations;
 mod faults;
 mod forms;
-mod groups;
 mod kinds;
-mod names;
+mod machine;
 mod openings;
 mod operator_names;
 mod operators;
 mod sortings;
+mod table;
 mod units;
 mod words;
 
 pub use attribute::Attributes;
 pub use faults::{Fault, FaultKind, UnitError};
 pub use forms::Form;
+pub use machine::parts_ascend;
+pub use operators::operators_are_written;
 pub use sortings::Sorting;
-pub use units::{Lined, Unit, read_unit};
+pub use units::{Lined, Unit, read_unit, units_are_proper};
 pub use words::{count_before, is_word, tokens_from};

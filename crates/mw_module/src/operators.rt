@@ -1,20 +1,18 @@
 // Declarations of operators.
-ghost use Rattle.std.specs.Prelude.{◌≡◌, ◌<◌, ◌-◌, ◌^◌, length, MatchResult, IfOk, Ok, Err};
+ghost use Rattle.std.specs.Prelude.{◌≡◌, ◌<◌, ◌-◌, ◌^◌, length, IfOk};
 ghost use Rattle.mw_module.specs.Words.{seen_lists};
-ghost use Rattle.mw_module.specs.Sortings.{sortings_from};
+ghost use Rattle.mw_module.specs.Written.{OperatorsAreWritten};
 ghost use Rattle.mw_module.specs.Forms as forms;
 
-use crate::attribute::Attributes;
-use crate::attribute_list::attributes_behind;
-use crate::faults::FaultKind;
+use crate::attribute::{Attributes, said};
 use crate::forms::Form;
-use crate::operator_names::{all_fit, are_names, names_among};
-use crate::sortings::{
-    Sorting, behind_sort, front_fault, front_sorting, sortings_among, sortings_fault,
-};
+use crate::machine::{Part, lists_of, read};
+use crate::operator_names::all_fit;
+use crate::sortings::{Sorting, sorting_of, sortings_of};
+use crate::table::{Place, Read, Role, Want, Wrong};
 use crate::words::{count_before, tokens_from};
 use mw_lex::Token;
-use std::alloc::{AllocError, Global};
+use std::alloc::Global;
 
 // A value's sort, and what is said of the operators.
 #[derive(Clone, Copy)]
@@ -30,75 +28,103 @@ struct Profile<'s> {
     value: Value<'s>,
 }
 
-// A value's sort and attributes, of operators with so many arguments.
-fn value_form<'s>(kinds: bool, arity: usize, tokens: &'s [Token]) -> Result<Value<'s>, FaultKind>
-    ensures { MatchResult result
-        (λ v. forms.value_form kinds arity tokens.now ≡ Ok (forms.seen_value v))
-        (λ kind. forms.value_form kinds arity tokens.now ≡ Err kind) }
+// A value's part, and a list with one attribute at least, if there is one.
+fn valued<'s>(kinds: bool, tokens: &'s [Token], parts: &[Part]) -> Result<Value<'s>, Wrong>
+    ensures { forms.seen_valued result ≡ forms.valued kinds tokens.now parts.now }
 {
-    let [first, behind @ ..] = tokens else {
-        return Err(FaultKind::BadStatement);
+    let (value, attributes) = match parts {
+        [] | [_, _] => return Err(Wrong::Bad),
+        [value] => (value, Attributes::none()),
+        [value, _, more @ ..] => (value, said(tokens, more)),
     };
-    if let Some(kind) = front_fault(first, behind) {
-        return Err(kind);
-    }
-    let sort = front_sorting(kinds, first, behind);
-    match attributes_behind(arity, behind_sort(first, behind)) {
-        Ok(attributes) => Ok(Value { sort, attributes }),
-        Err(kind) => Err(kind),
+    match sorting_of(kinds, tokens, *value) {
+        Some(sort) => Ok(Value { sort, attributes }),
+        None => Err(Wrong::Bad),
     }
 }
 
 // Argument sorts, an arrow and what comes behind.
-fn profile_form<'s>(
-    alloc: Global,
-    names: &[&[Token]],
-    tokens: &'s [Token],
-) -> Result<Result<Profile<'s>, FaultKind>, AllocError>
-    ensures { IfOk result (λ r. MatchResult r
-        (λ p. forms.profile_form (seen_lists names.now) tokens.now ≡ Ok (forms.seen_profile p))
-        (λ kind. forms.profile_form (seen_lists names.now) tokens.now ≡ Err kind)) }
+fn profile_form<'s>(alloc: Global, names: &[&[Token]], tokens: &'s [Token]) -> Read<Profile<'s>>
+    ensures { IfOk result (λ r. forms.seen_profiled r ≡ forms.profile_form (seen_lists names.now) tokens.now) }
 {
     let total = count_before(tokens, b"->");
     let partial = count_before(tokens, b"~>");
     let arrow = total.min(partial);
     let kinds = partial < total;
-    if let Some(kind) = sortings_fault(&tokens[..arrow]) {
-        return Ok(Err(kind));
-    }
-    let args = sortings_among(alloc, kinds, &tokens[..arrow])?;
+    let front = &tokens[..arrow];
+    let args = match read(alloc, Place::Args, Role::Silent, Want::Nothing, front)? {
+        Ok(parts) => sortings_of(alloc, kinds, front, parts.as_slice())?,
+        Err(wrong) => return Ok(Err(wrong)),
+    };
     if arrow == tokens.len() || !all_fit(args.len(), names) {
-        return Ok(Err(FaultKind::BadStatement));
+        return Ok(Err(Wrong::Bad));
     }
-    match value_form(kinds, args.len(), tokens_from(tokens, arrow + 1)) {
+    match value_form(alloc, kinds, args.len(), tokens_from(tokens, arrow + 1))? {
         Ok(value) => Ok(Ok(Profile { args, value })),
-        Err(kind) => Ok(Err(kind)),
+        Err(wrong) => Ok(Err(wrong)),
+    }
+}
+
+// A value's sort and attributes, of operators with so many arguments.
+fn value_form<'s>(alloc: Global, kinds: bool, arity: usize, tokens: &'s [Token]) -> Read<Value<'s>>
+    ensures { IfOk result (λ r. forms.seen_valued r ≡ forms.value_form kinds arity tokens.now) }
+{
+    match read(
+        alloc,
+        Place::Value,
+        Role::Silent,
+        Want::Marks(arity),
+        tokens,
+    )? {
+        Ok(parts) => Ok(valued(kinds, tokens, parts.as_slice())),
+        Err(wrong) => Ok(Err(wrong)),
+    }
+}
+
+// Names of operators: a single one, or several.
+fn names_form<'s>(alloc: Global, single: bool, tokens: &'s [Token]) -> Read<Vec<&'s [Token]>>
+    ensures { IfOk result (λ r. forms.seen_names r ≡ forms.names_form single tokens.now) }
+{
+    let place = if single { Place::Name } else { Place::Names };
+    match read(alloc, place, Role::Words, Want::Names, tokens)? {
+        Ok(parts) => Ok(Ok(lists_of(alloc, tokens, parts.as_slice())?)),
+        Err(wrong) => Ok(Err(wrong)),
     }
 }
 
 // Names of operators, a colon and what comes behind.
-pub fn operators_form<'s>(
-    alloc: Global,
-    single: bool,
-    tokens: &'s [Token],
-) -> Result<Result<Form<'s>, FaultKind>, AllocError>
-    ensures { IfOk result (λ r. forms.seen_formed r ≡ forms.operators_form single tokens.now) }
+pub fn operators_form<'s>(alloc: Global, single: bool, tokens: &'s [Token]) -> Read<Form<'s>>
+    ensures { IfOk result (λ r. forms.seen_shaped r ≡ forms.operators_form single tokens.now) }
 {
     let colon = count_before(tokens, b":");
     if colon == tokens.len() {
-        return Ok(Err(FaultKind::BadStatement));
+        return Ok(Err(Wrong::Bad));
     }
-    let names = names_among(alloc, single, &tokens[..colon])?;
-    if !are_names(names.as_slice()) {
-        return Ok(Err(FaultKind::BadStatement));
+    match names_form(alloc, single, &tokens[..colon])? {
+        Ok(names) => declared(alloc, names, tokens_from(tokens, colon + 1)),
+        Err(wrong) => Ok(Err(wrong)),
     }
-    match profile_form(alloc, names.as_slice(), tokens_from(tokens, colon + 1))? {
+}
+
+// Operators with these names, of which there is one at least.
+fn declared<'s>(alloc: Global, names: Vec<&'s [Token]>, tokens: &'s [Token]) -> Read<Form<'s>>
+    ensures { IfOk result (λ r. forms.seen_shaped r ≡ forms.declared (seen_lists names.entry.items) tokens.now) }
+{
+    if names.is_empty() {
+        return Ok(Err(Wrong::Bad));
+    }
+    match profile_form(alloc, names.as_slice(), tokens)? {
         Ok(profile) => Ok(Ok(Form::Operators {
             names,
             args: profile.args,
             result: profile.value.sort,
             attributes: profile.value.attributes,
         })),
-        Err(kind) => Ok(Err(kind)),
+        Err(wrong) => Ok(Err(wrong)),
     }
 }
+
+/// The law that what is read as operators is written as names, a colon, sorts, an arrow, and the rest.
+pub fn operators_are_written()
+    ensures { OperatorsAreWritten }
+{}

@@ -1,5 +1,7 @@
 // The units of a source.
 ghost use Rattle.std.specs.Prelude.{◌≡◌, ◌<◌, length, IfOk, Ok};
+ghost use Rattle.mw_module.specs.Known.{UnitsAreKnown};
+ghost use Rattle.mw_module.specs.Tokens.{UnitsAreOfTokens};
 ghost use Rattle.mw_module.specs.Units as units;
 
 use crate::faults::{Fault, FaultKind};
@@ -45,11 +47,11 @@ fn read_body<'s>(
             Ok(form) => form,
             Err(kind) => return Ok(Err(Fault { line, kind })),
         };
+        statements.push(Lined { line, form })?;
         if len == rest.len() {
             let kind = FaultKind::BadStatement;
             return Ok(Err(Fault { line, kind }));
         }
-        statements.push(Lined { line, form })?;
         rest = tokens_from(rest, len + 1);
     }
     Ok(Ok(statements))
@@ -153,3 +155,9 @@ pub fn read_unit<'s>(
     let next = at + len + 1;
     Ok((read_whole(alloc, kind, first, &rest[..len])?, next))
 }
+
+/// The laws that the statements of a unit that was read are known, and that a unit of tokens is made of tokens.
+pub fn units_are_proper()
+    ensures known { UnitsAreKnown }
+    ensures tokens { UnitsAreOfTokens }
+{}

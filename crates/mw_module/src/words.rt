@@ -18,16 +18,6 @@ pub fn is_word(token: &Token, word: &[u8]) -> bool
     same(token.text.as_slice(), word)
 }
 
-// Whether the first token has this text.
-pub fn begins(tokens: &[Token], word: &[u8]) -> bool
-    ensures { result ≡ words.begins word.now tokens.now }
-{
-    match tokens {
-        [token, ..] => is_word(token, word),
-        [] => false,
-    }
-}
-
 /// How many tokens come before the first that has this text: all where none has it.
 pub fn count_before(tokens: &[Token], word: &[u8]) -> usize
     ensures count { result ≡ words.count_before word.now tokens.now }
@@ -90,19 +80,9 @@ pub fn is_no_piece(text: &[u8]) -> bool
 }
 
 // Whether the text is a string up to its end.
-fn is_whole_string(text: &[u8]) -> bool
+pub fn is_whole_string(text: &[u8]) -> bool
     ensures { result ≡ words.is_whole_string text.now }
 {
     let len = text.len();
     len >= 2 && text[0] == b'"' && text[len - 1] == b'"' && text[len - 2] != b'\\'
-}
-
-// Whether the first token is such a string.
-pub fn begins_string(tokens: &[Token]) -> bool
-    ensures { result ≡ words.begins_string tokens.now }
-{
-    match tokens {
-        [token, ..] => is_whole_string(token.text.as_slice()),
-        [] => false,
-    }
 }

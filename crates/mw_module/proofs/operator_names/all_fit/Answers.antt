@@ -1,5 +1,5 @@
 use Rattle.std.proofs.Common.{◌∙◌, sym}
-use Rattle.mw_module.proofs.NameByName.{all_fitting}
+use Rattle.mw_module.proofs.Slices.{all_fitting}
 use Rattle.mw_module.proofs.operator_names.all_fit.Goals as goal
 
 pub returns : goal.returns
