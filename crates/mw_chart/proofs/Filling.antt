@@ -95,25 +95,10 @@ advances_none P g text row at s v st =
       | inr (kind2, bound, w2, precedence2, t, st2, hr, wh, le, z) ↦ let bad : ⊥ = (cc) in bad
     ])
 
--- both trees of an item
-pub advances_two : (P Q R : ℕ × ℕ → Tree → Type 0) (g : Table) (text : List Terminal) (row : List Constituent) (at : ℕ) (item : Item) → item.full ≡ true
-    → Adds P Q (Advances g text row at item.state item.tree) → Adds Q R (Advances g text row at item.state item.other)
-    → Adds P R (AdvancesItem g text row at item)
-advances_two P Q R g text row at item full a b =
-    adds_then P Q R (Advances g text row at item.state item.tree) (Advances g text row at item.state item.other) (AdvancesItem g text row at item) a b
-    (λ k u x. (item.state, item.tree, (refl, inl refl), x))
-    (λ k u x. (item.state, item.other, (refl, inr (full, refl)), x))
-    (λ k u (s, v, i, x). elim i.1 [
-      | inl e ↦ inl (rw (i.0, e) x)
-      | inr e ↦ inr (let q = e.1 in rw (i.0, q) x)
-    ])
-
-pub advances_one : (P Q : ℕ × ℕ → Tree → Type 0) (g : Table) (text : List Terminal) (row : List Constituent) (at : ℕ) (item : Item) → item.full ≡ false
+-- the tree of an item
+pub advances_item : (P Q : ℕ × ℕ → Tree → Type 0) (g : Table) (text : List Terminal) (row : List Constituent) (at : ℕ) (item : Item)
     → Adds P Q (Advances g text row at item.state item.tree) → Adds P Q (AdvancesItem g text row at item)
-advances_one P Q g text row at item free a =
+advances_item P Q g text row at item a =
     adds_as P Q (Advances g text row at item.state item.tree) (AdvancesItem g text row at item) a
-    (λ k u x. (item.state, item.tree, (refl, inl refl), x))
-    (λ k u (s, v, i, x). elim i.1 [
-      | inl e ↦ rw (i.0, e) x
-      | inr e ↦ let bad : ⊥ = (let q = e.0 in cc) in absurd bad
-    ])
+    (λ k u x. (item.state, item.tree, (refl, refl), x))
+    (λ k u (s, v, i, x). rw (i.0, i.1) x)

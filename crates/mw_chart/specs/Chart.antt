@@ -1,5 +1,5 @@
 -- What the chart holds. Cells are counted from the end: the one at an index holds what ends so many tokens before the end of the text.
-use Rattle.std.specs.Prelude.{ℕ, ◌+◌, ◌≤◌, ◌<◌, ◌≡◌, ◌≢◌, ◌⊎◌, List, [], Some, IsTrue, length}
+use Rattle.std.specs.Prelude.{ℕ, ◌+◌, ◌≤◌, ◌<◌, ◌≡◌, ◌≢◌, ◌⊎◌, List, [], Some, length}
 use Rattle.std.specs.List.{slice_get}
 use Rattle.std.specs.Global.{Global}
 use Rattle.std.specs.declared.vec.Vec.{Vec}
@@ -22,9 +22,8 @@ HasTwo P = (a b : Tree) × P a × P b × (a ≢ b)
 abbrev pub Has : (Tree → Type 0) → Tree → Type 0
 Has P v = P v ⊎ HasTwo P
 
--- an item holds a tree, or two
 abbrev pub IsIn : Item → ℕ → Tree → Type 0
-IsIn item s v = (item.state ≡ s) × ((item.tree ≡ v) ⊎ (IsTrue item.full × (item.other ≡ v)))
+IsIn item s v = (item.state ≡ s) × (item.tree ≡ v)
 
 abbrev pub Holds : List Item → ℕ → Tree → Type 0
 Holds cell s v = (k : ℕ) × (item : Item) × (slice_get cell k ≡ Some item) × IsIn item s v

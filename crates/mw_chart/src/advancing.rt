@@ -1,6 +1,6 @@
 // Goes one step on from texts begun.
 ghost use Rattle.std.specs.Prelude.{◌≡◌, ◌≤◌, ◌<◌, ◌+◌, ℕ, IfOk, length};
-ghost use Rattle.mw_chart.specs.Chart.{Adds, CellsHold, Advances, AdvancesItem, AdvancesCell, IsWithin};
+ghost use Rattle.mw_chart.specs.Chart.{Adds, CellsHold, Advances, AdvancesCell, IsWithin};
 ghost use Rattle.mw_chart.specs.Row.{IsIndexed, AreFull};
 
 use crate::cell::{next_of, put_at, stands};
@@ -53,31 +53,7 @@ fn advance(
     }
 }
 
-fn advance_item(
-    alloc: Global,
-    table: &Table,
-    text: &[Terminal],
-    row: &ChartRow,
-    at: usize,
-    item: &Item,
-    agenda: &mut Agenda,
-) -> Result<(), AllocError>
-    requires shape { at + length agenda.old.cells.items ≡ length text.now }
-    requires short { length text.now ≤ 1024 }
-    requires indexed { IsIndexed row.now }
-    requires full { AreFull (length text.now) agenda.old.full.items agenda.old.cells.items }
-    requires within { IsWithin row.now.constituents.items at (length text.now) }
-    ensures len { length agenda.new.cells.items ≡ length agenda.old.cells.items }
-    ensures ok { IfOk result (λ _. Adds (CellsHold agenda.old.cells.items) (CellsHold agenda.new.cells.items) (AdvancesItem table.now text.now row.now.constituents.items at item.now)) }
-    ensures full { IfOk result (λ _. AreFull (length text.now) agenda.new.full.items agenda.new.cells.items) }
-{
-    advance(alloc, table, text, row, at, item.state, &item.tree, agenda)?;
-    if item.full {
-        advance(alloc, table, text, row, at, item.state, &item.other, agenda)?;
-    }
-    Ok(())
-}
-
+/// Goes one step on from the texts begun of a cell.
 pub fn advance_cell(
     alloc: Global,
     table: &Table,
@@ -97,7 +73,7 @@ pub fn advance_cell(
     ensures full { IfOk result (λ _. AreFull (length text.now) agenda.new.full.items agenda.new.cells.items) }
 {
     for item in cell {
-        advance_item(alloc, table, text, row, at, item, agenda)?;
+        advance(alloc, table, text, row, at, item.state, &item.tree, agenda)?;
     }
     Ok(())
 }

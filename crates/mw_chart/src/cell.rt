@@ -5,7 +5,7 @@ ghost use Rattle.mw_chart.specs.declared.item.Item.{Item};
 ghost use Rattle.mw_chart.specs.declared.table.Next.TheVariants.{Whole};
 ghost use Rattle.mw_chart.specs.Tree.{Tree};
 ghost use Rattle.mw_chart.specs.Spelling.{NextAt, TokenAt};
-ghost use Rattle.mw_chart.specs.Chart.{Has, HasTwo, IsIn, Holds, Puts, Adds, CellsHold, IsPut, CompletesBy, Completes, Advances, AdvancesItem, AdvancesCell, IsWithin};
+ghost use Rattle.mw_chart.specs.Chart.{Has, HasTwo, Holds, Puts, Adds, CellsHold, IsPut, CompletesBy, Completes, Advances, AdvancesItem, AdvancesCell, IsWithin};
 
 use crate::item::{Constituent, Item};
 use crate::table::{Next, Table};
@@ -13,37 +13,37 @@ use crate::terminal::Terminal;
 use crate::tree::Tree;
 use std::alloc::{AllocError, Global};
 
-/// Whether a cell needs no further tree at a state.
-pub fn is_full(cell: &Vec<Item>, state: usize) -> bool
-    ensures { IsTrue result → HasTwo (Holds cell.now.items state) }
-{
-    for item in cell {
-        if item.state == state && item.full {
-            return true;
-        }
-    }
-    false
-}
-
-/// Where a state's item is.
-fn item_of(cell: &Vec<Item>, state: usize) -> Option<usize>
+/// Where the first item at a state is, from a place on.
+fn item_from(cell: &Vec<Item>, from: usize, state: usize) -> Option<usize>
     ensures { IfSome result (λ k. (item : Item) × (slice_get cell.now.items k ≡ Some item) × (item.state ≡ state)) }
 {
-    for (i, item) in cell.iter().enumerate() {
-        if item.state == state {
-            return Some(i);
+    for k in from..cell.len() {
+        if cell[k].state == state {
+            return Some(k);
         }
     }
     None
 }
 
-/// Puts a tree into its state's item, unless it is there or two are.
-fn join(item: &mut Item, tree: Tree)
-    ensures { Puts (IsIn item.old) (IsIn item.new) item.old.state tree }
+/// Whether a cell needs no further tree at a state.
+pub fn is_full(cell: &Vec<Item>, state: usize) -> bool
+    ensures { IsTrue result → HasTwo (Holds cell.now.items state) }
 {
-    if !item.full && !item.tree.same(&tree) {
-        item.other = tree;
-        item.full = true;
+    if let Some(one) = item_from(cell, 0, state) {
+        if let Some(other) = item_from(cell, one + 1, state) {
+            return !cell[one].tree.same(&cell[other].tree);
+        }
+    }
+    false
+}
+
+/// Whether a cell has a tree at a state, or two different ones.
+fn has(cell: &Vec<Item>, state: usize, tree: &Tree) -> bool
+    ensures { IsTrue result → Has (Holds cell.now.items state) tree.now }
+{
+    match item_from(cell, 0, state) {
+        Some(k) => cell[k].tree.same(tree) || is_full(cell, state),
+        None => false,
     }
 }
 
@@ -51,18 +51,8 @@ fn join(item: &mut Item, tree: Tree)
 pub fn put(cell: &mut Vec<Item>, state: usize, tree: Tree) -> Result<(), AllocError>
     ensures { IfOk result (λ _. Puts (Holds cell.old.items) (Holds cell.new.items) state tree) }
 {
-    match item_of(cell, state) {
-        Some(k) => join(&mut cell[k], tree),
-        None => {
-            let other = tree.again()?;
-            let full = false;
-            cell.push(Item {
-                state,
-                tree,
-                other,
-                full,
-            })?;
-        }
+    if !has(cell, state, &tree) {
+        cell.push(Item { state, tree })?;
     }
     Ok(())
 }

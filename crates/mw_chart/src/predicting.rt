@@ -94,22 +94,7 @@ fn predict_item(
 {
     match next_of(table, item.state) {
         Some(Next::Whole { kind, precedence }) => {
-            predict_by(
-                alloc, table, text, at, kind, precedence, &item.tree, predicted,
-            )?;
-            if item.full {
-                predict_by(
-                    alloc,
-                    table,
-                    text,
-                    at,
-                    kind,
-                    precedence,
-                    &item.other,
-                    predicted,
-                )?;
-            }
-            Ok(())
+            predict_by(alloc, table, text, at, kind, precedence, &item.tree, predicted)
         }
         _ => Ok(()),
     }

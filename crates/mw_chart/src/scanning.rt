@@ -35,13 +35,7 @@ fn keep_item(
                 kind: _kind,
                 precedence: _precedence,
             },
-        ) => {
-            keep(row, at, item.state, &item.tree)?;
-            if item.full {
-                keep(row, at, item.state, &item.other)?;
-            }
-            Ok(())
-        }
+        ) => keep(row, at, item.state, &item.tree),
         _ => Ok(()),
     }
 }
