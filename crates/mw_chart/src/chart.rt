@@ -7,8 +7,8 @@ ghost use Rattle.mw_chart.specs.Spelling.{IsTable};
 use crate::advancing::advance_cell;
 use crate::cell::stands;
 use crate::completing::Agenda;
-use crate::empty::empty_lists;
 use crate::item::{Constituent, Item};
+use crate::numbered::grow;
 use crate::predicting::predict;
 use crate::row::{ChartRow, indexed};
 use crate::scanning::{group, keep_cell, scan};
@@ -54,7 +54,8 @@ fn first_cells(
     requires rows { AreRows table.now text.now (i + 1) rows.now.items }
     ensures { IfOk result (λ cells. AreFirst table.now text.now i cells.items) }
 {
-    let mut cells = empty_lists(alloc, text.len() - i)?;
+    let mut cells = Vec::new(alloc);
+    grow(alloc, &mut cells, text.len() - i)?;
     scan(alloc, table, text, i, &mut cells)?;
     if stands(text, i, table.open) {
         group(table, text, i, &rows[i + 1].constituents, &mut cells)?;
@@ -149,7 +150,7 @@ fn row_at(
     ensures indexed { IfOk result IsIndexed }
 {
     let constituents = constituents_at(alloc, table, text, rows, i)?;
-    indexed(alloc, constituents, text.len())
+    indexed(alloc, constituents)
 }
 
 /// The constituents at each place.

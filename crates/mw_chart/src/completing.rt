@@ -8,8 +8,8 @@ ghost use Rattle.mw_chart.specs.Row.{IsIndexed, AreFull, CompletesAt, CompletesL
 
 use crate::bits::{insert, open_of, without_lowest, word_of};
 use crate::cell::{is_full, put_at, takes};
-use crate::empty::grow;
 use crate::item::{Constituent, Item};
+use crate::numbered::{grow, listed};
 use crate::row::{ChartRow, Strip};
 use crate::table::Table;
 use crate::tree::Tree;
@@ -24,7 +24,7 @@ pub struct Agenda {
 }
 
 /// A hole, and the state behind it.
-#[derive(Clone, Copy, Debug)]
+#[derive(Clone, Copy)]
 pub struct Hole {
     pub kind: u32,
     pub below: u32,
@@ -183,17 +183,6 @@ fn complete_word(
     Ok(())
 }
 
-/// The word of a state's full ends.
-fn full_word(full: &Vec<Vec<u64>>, state: usize, j: usize) -> u64
-    ensures { result ≡ slice_index (inner full.now.items state) j }
-{
-    if state < full.len() {
-        word_of(&full[state], j)
-    } else {
-        0
-    }
-}
-
 /// Puts the tree with each constituent of a strip that the hole takes, past the ends that are full.
 fn complete_strip(
     alloc: Global,
@@ -221,8 +210,8 @@ fn complete_strip(
     let first = (n - agenda.cells.len()) / 64;
     for index in first..n / 64 + 1 {
         let word = open_of(
-            word_of(&strip.ends, index),
-            full_word(&agenda.full, hole.next, index),
+            word_of(strip.ends.as_slice(), index),
+            word_of(listed(&agenda.full, hole.next), index),
         );
         complete_word(alloc, table, row, index, word, n, hole, tree, agenda)?;
     }

@@ -16,7 +16,7 @@ use crate::tree::Tree;
 use std::alloc::{AllocError, Global};
 
 /// Places in two lists.
-#[derive(Clone, Copy, Debug)]
+#[derive(Clone, Copy)]
 struct Places {
     left: usize,
     right: usize,

@@ -5,8 +5,8 @@ ghost use Rattle.mw_chart.specs.Nothing.{Nothing};
 ghost use Rattle.mw_chart.specs.Spelling.{IsTable};
 
 use crate::cell::{is_full, next_of, put, stands};
-use crate::corners::listed;
 use crate::item::Item;
+use crate::numbered::listed;
 use crate::table::{Next, Production, Table};
 use crate::terminal::Terminal;
 use crate::tree::Tree;
@@ -72,7 +72,7 @@ fn predict_by(
     requires { IsTable table.now }
     ensures { IfOk result (λ _. Adds (Holds predicted.old.items) (Holds predicted.new.items) (PredictsBy table.now text.now at kind precedence tree.now)) }
 {
-    let productions = listed(&table.corners.by_kind, kind);
+    let productions = listed(&table.corners.by_kind, kind as usize);
     for production in productions {
         predict_production(
             alloc, table, text, at, kind, precedence, tree, production, predicted,
@@ -94,7 +94,9 @@ fn predict_item(
 {
     match next_of(table, item.state) {
         Some(Next::Whole { kind, precedence }) => {
-            predict_by(alloc, table, text, at, kind, precedence, &item.tree, predicted)
+            predict_by(
+                alloc, table, text, at, kind, precedence, &item.tree, predicted,
+            )
         }
         _ => Ok(()),
     }

@@ -6,8 +6,8 @@ ghost use Rattle.mw_chart.specs.Spelling.{NextAt, IsTable};
 ghost use Rattle.mw_chart.specs.Chart.{Holds, Adds, CellsHold, RowHolds, IsPut, KeepsItem, KeepsCell, ScansProduction, ScansProductions, ScansLeaves, Scans, GroupsBy, GroupsAny, IsWithin};
 
 use crate::cell::{next_of, put_at, stands};
-use crate::corners::listed;
 use crate::item::{Constituent, Item};
+use crate::numbered::listed;
 use crate::table::{Next, Production, Table};
 use crate::terminal::Terminal;
 use crate::tree::Tree;
@@ -98,7 +98,7 @@ fn scan_productions(
     ensures len { length cells.new.items ≡ length cells.old.items }
     ensures ok { IfOk result (λ _. Adds (CellsHold cells.old.items) (CellsHold cells.new.items) (ScansProductions table.now text.now i)) }
 {
-    let productions = listed(&table.corners.by_token, text[i].token);
+    let productions = listed(&table.corners.by_token, text[i].token as usize);
     for production in productions {
         scan_production(alloc, table, text, i, production, cells)?;
     }

@@ -1,4 +1,4 @@
-use Rattle.std.proofs.Common.{◌∙◌, ◌-◌, sym, refl, arith, length}
+use Rattle.std.proofs.Common.{◌∙◌, ◌-◌, ap, slice_index, sym, refl, arith, length}
 use Rattle.mw_chart.specs.Listed.{inner}
 use Rattle.mw_chart.proofs.Ends.{vec_length}
 use Rattle.mw_chart.proofs.Covered.{grows_same, grows_then, within_same, covers_first, covers_word, covers_last, covers_none, predicted}
@@ -35,7 +35,8 @@ loop-index-preserved c =
       covers = covers_word c.loop-index.agenda.cells.items _ c.args.table.now c.args.row.now.constituents.items c.args.n c.args.hole.kind c.args.hole.below c.args.hole.next c.args.tree.now c.args.strip.now
           c.loop-index.agenda.full.items c.loop-index.index c.open_of-word.result (omega (arith, len, shape))
           (within_same c.args.row.now.constituents.items c.args.n _ _ (sym len) c.requires.within) c.loop-index.invariant.full
-          (λ i set. predicted c.loop-index.index i c.word_of.result c.full_word.result c.open_of-word.result c.args.strip.now.ends.items (inner c.loop-index.agenda.full.items c.args.hole.next) c.word_of.ensures c.full_word.ensures c.open_of-word.ensures set)
+          (λ i set. predicted c.loop-index.index i c.word_of.result c.word_of-in-loop-index.result c.open_of-word.result c.args.strip.now.ends.items (inner c.loop-index.agenda.full.items c.args.hole.next)
+              (c.word_of.ensures ∙ ap (λ l. slice_index l c.loop-index.index) c.as_slice.ensures.value) (c.word_of-in-loop-index.ensures ∙ ap (λ l. slice_index l c.loop-index.index) c.listed.ensures) c.open_of-word.ensures set)
           c.in_ok-complete_word.ensures.grows.kept c.loop-index.invariant.covers c.in_ok-complete_word.ensures.covers;
       full = c.in_ok-complete_word.ensures.full;
     }
