@@ -1,5 +1,5 @@
 -- What the constituents of a row add.
-use Rattle.std.proofs.Common.{◌≡◌, ◌∙◌, ◌+◌, ◌-◌, ◌<◌, ◌≤◌, ℕ, List, length, get_or, None, true, false, refl, sym, ap, inl, inr, arith, subst}
+use Rattle.std.proofs.Common.{◌≡◌, ◌∙◌, ◌+◌, ◌-◌, ◌<◌, ◌≤◌, ℕ, List, length, get_or, None, refl, sym, ap, inl, inr, arith, subst}
 use Rattle.std.specs.List.{slice_get}
 use Rattle.std.specs.Global.{Global}
 use Rattle.std.specs.declared.vec.Vec.{Vec}
@@ -11,7 +11,7 @@ use Rattle.mw_chart.specs.declared.item.Item.{Item}
 use Rattle.mw_chart.specs.declared.item.Constituent.{Constituent}
 use Rattle.mw_chart.specs.Listed.{inner}
 use Rattle.mw_chart.specs.Chart.{HasTwo, Holds, Adds, CellsHold, IsPut, CompletesBy, Completes, Advances, AdvancesItem}
-use Rattle.mw_chart.proofs.Adding.{adds_as, adds_none, adds_already, adds_then, inner_is}
+use Rattle.mw_chart.proofs.Adding.{adds_as, adds_none, adds_already, inner_is}
 use Rattle.mw_chart.proofs.Lists.{one_there, get_below}
 use Rattle.mw_chart.specs.declared.terminal.Terminal.{Terminal}
 

@@ -5,12 +5,11 @@ use Rattle.std.specs.Global.{Global}
 use Rattle.std.specs.declared.vec.Vec.{Vec}
 use Rattle.std.proofs.Math.ListN.{set}
 use Rattle.mw_chart.specs.Bits.{IsSet}
-use Rattle.mw_chart.specs.Listed.{inner, IsListed}
+use Rattle.mw_chart.specs.Listed.{IsListed}
 use Rattle.mw_chart.specs.Row.{IsInStrip}
 use Rattle.mw_chart.specs.declared.row.Strip.{Strip}
 use Rattle.mw_chart.specs.declared.item.Constituent.{Constituent}
 use Rattle.mw_chart.proofs.Lists.{get_below, get_same, get_left, get_last, get_set_same, get_set_other, eq_or, one_there}
-use Rattle.mw_chart.proofs.Adding.{inner_same, inner_other, inner_is}
 
 -- a strip changed for one of the same state that has more
 pub strip_kept : (strips : List Strip) (p : ℕ) (old new : Strip) → slice_get strips p ≡ Some old → new.state ≡ old.state → ((e : ℕ) → IsSet old.ends.items e → IsSet new.ends.items e)

@@ -1,5 +1,5 @@
 -- What is predicted and begun.
-use Rattle.std.proofs.Common.{◌≡◌, ◌∙◌, ◌-◌, ◌<◌, ℕ, List, length, Some, true, false, refl, sym, inl, inr, arith, subst}
+use Rattle.std.proofs.Common.{◌≡◌, ◌∙◌, ◌-◌, ◌<◌, ℕ, List, [], ◌∷◌, ◌++◌, ap, length, Some, refl, sym, inl, inr, arith, subst}
 use Rattle.std.specs.List.{slice_get}
 use Rattle.mw_chart.specs.Tree.{Tree, leaf, head, app}
 use Rattle.mw_chart.specs.Spelling.{TokenAt, NextAt}
@@ -8,8 +8,8 @@ use Rattle.mw_chart.specs.declared.table.Production.{Production}
 use Rattle.mw_chart.specs.declared.table.Next.TheVariants.{Token, Hole, Whole}
 use Rattle.mw_chart.specs.declared.item.Item.{Item}
 use Rattle.mw_chart.specs.declared.item.Constituent.{Constituent}
-use Rattle.mw_chart.specs.Chart.{HasTwo, Has, Puts, Adds, IsPut, IsLive, PredictsProduction, PredictsBy, PredictsItem, KeepsItem, ScansProduction, ScansProductions, ScansLeaf, ScansLeaves, Scans, GroupsBy}
-use Rattle.mw_chart.proofs.Lists.{one_there, get_below}
+use Rattle.mw_chart.specs.Chart.{HasTwo, Has, Puts, Adds, RowHolds, IsPut, IsLive, PredictsProduction, PredictsBy, PredictsItem, KeepsItem, ScansProduction, ScansProductions, ScansLeaf, ScansLeaves, Scans, GroupsBy}
+use Rattle.mw_chart.proofs.Lists.{one_there, get_below, get_left, get_last, get_back}
 use Rattle.mw_chart.proofs.Adding.{adds_as, adds_none, adds_already, adds_then}
 use Rattle.mw_chart.specs.declared.terminal.Leaf.{Leaf}
 use Rattle.mw_chart.specs.declared.terminal.Terminal.{Terminal}
@@ -51,6 +51,19 @@ opens_item P Q g text at kind precedence item st a =
     let ek : kind2 ≡ kind = (cc) in
     let ep : precedence2 ≡ precedence = (cc) in
     let e = i.1 in rw (e, ← ek, ← ep) x)
+
+pub row_push : (row : List Constituent) (end state : ℕ) (t v : Tree) → t ≡ v
+    → Adds (RowHolds row) (RowHolds (row ++ record { end = end; state = state; tree = t } ∷ [])) (IsPut end state v)
+row_push row end state t v same =
+    let new : Constituent = record { end = end; state = state; tree = t } in
+    record {
+      kept = λ k u (j, r, got, a, b, e). (j, r, get_left row (new ∷ []) j r got, a, b, e);
+      sound = λ k u (j, r, got, a, b, e). elim (get_back row new j r got) [
+        | inl h ↦ inl (j, r, h, a, b, e)
+        | inr is ↦ inr (sym (ap (λ (x : Constituent). x.end) is ∙ a), sym (ap (λ (x : Constituent). x.state) is ∙ b), sym (ap (λ (x : Constituent). x.tree) is ∙ e) ∙ same)
+      ];
+      has = λ k u (a, b, e). inl (length row, new, get_last row new, sym a, sym b, same ∙ sym e);
+    }
 
 pub keeps_item : (P Q : ℕ × ℕ → Tree → Type 0) (g : Table) (at kind precedence : ℕ) (item : Item) → NextAt g item.state (Whole kind precedence) → Adds P Q (IsPut at item.state item.tree) → Adds P Q (KeepsItem g at item)
 keeps_item P Q g at kind precedence item st a =

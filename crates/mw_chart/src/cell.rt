@@ -1,8 +1,8 @@
 // The chart: at each place the constituents that begin there, found from the last place to the first.
-ghost use Rattle.std.specs.Prelude.{◌≡◌, ◌≤◌, ◌<◌, ◌↔◌, ◌⊎◌, ◌-◌, ◌+◌, ℕ, IfOk, IfSome, IsTrue, length};
+ghost use Rattle.std.specs.Prelude.{◌≡◌, ◌≤◌, ◌<◌, ◌↔◌, ◌⊎◌, ◌-◌, ◌+◌, ℕ, IfOk, IfSome, IfNone, IsTrue, length};
 ghost use Rattle.std.specs.List.{slice_get};
 ghost use Rattle.mw_chart.specs.declared.item.Item.{Item};
-ghost use Rattle.mw_chart.specs.declared.table.Next.TheVariants.{Whole};
+ghost use Rattle.mw_chart.specs.declared.table.Next.TheVariants.{Token, Whole};
 ghost use Rattle.mw_chart.specs.Tree.{Tree};
 ghost use Rattle.mw_chart.specs.Spelling.{NextAt, TokenAt};
 ghost use Rattle.mw_chart.specs.Chart.{Has, HasTwo, Holds, Puts, Adds, CellsHold, IsPut, CompletesBy, Completes, Advances, AdvancesItem, AdvancesCell, IsWithin};
@@ -95,17 +95,34 @@ pub fn next_of(table: &Table, state: usize) -> Option<Next>
     next_in(table.steps.as_slice(), state)
 }
 
+/// The kind and the precedence of a state of whole texts.
+pub fn whole_of(table: &Table, state: usize) -> Option<(u32, u32)>
+    ensures some { IfSome result (λ w. NextAt table.now state (Whole w.0 w.1)) }
+    ensures none { IfNone result ((kind precedence : ℕ) → NextAt table.now state (Whole kind precedence) → ⊥) }
+{
+    match next_of(table, state) {
+        Some(Next::Whole { kind, precedence }) => Some((kind, precedence)),
+        _ => None,
+    }
+}
+
+/// The token that comes next at a state, and the state behind it.
+pub fn token_of(table: &Table, state: usize) -> Option<(u32, usize)>
+    ensures some { IfSome result (λ t. NextAt table.now state (Token t.0 t.1)) }
+    ensures none { IfNone result ((token next : ℕ) → NextAt table.now state (Token token next) → ⊥) }
+{
+    match next_of(table, state) {
+        Some(Next::Token { token, next }) => Some((token, next)),
+        _ => None,
+    }
+}
+
 /// Whether a hole takes the texts of a state.
 pub fn takes(table: &Table, state: usize, kind: u32, below: u32) -> bool
     ensures { IsTrue result ↔ ((precedence : ℕ) × NextAt table.now state (Whole kind precedence) × (precedence < below)) }
 {
-    match next_of(table, state) {
-        Some(
-            Next::Whole {
-                kind: given,
-                precedence,
-            },
-        ) => given == kind && precedence < below,
-        _ => false,
+    match whole_of(table, state) {
+        Some((given, precedence)) => given == kind && precedence < below,
+        None => false,
     }
 }

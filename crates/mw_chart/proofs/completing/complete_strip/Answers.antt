@@ -36,7 +36,7 @@ loop-index-preserved c =
           c.loop-index.agenda.full.items c.loop-index.index c.open_of-word.result (omega (arith, len, shape))
           (within_same c.args.row.now.constituents.items c.args.n _ _ (sym len) c.requires.within) c.loop-index.invariant.full
           (λ i set. predicted c.loop-index.index i c.word_of.result c.word_of-in-loop-index.result c.open_of-word.result c.args.strip.now.ends.items (inner c.loop-index.agenda.full.items c.args.hole.next)
-              (c.word_of.ensures ∙ ap (λ l. slice_index l c.loop-index.index) c.as_slice.ensures.value) (c.word_of-in-loop-index.ensures ∙ ap (λ l. slice_index l c.loop-index.index) c.listed.ensures) c.open_of-word.ensures set)
+          (c.word_of.ensures ∙ ap (λ l. slice_index l c.loop-index.index) c.as_slice.ensures.value) (c.word_of-in-loop-index.ensures ∙ ap (λ l. slice_index l c.loop-index.index) c.listed.ensures) c.open_of-word.ensures set)
           c.in_ok-complete_word.ensures.grows.kept c.loop-index.invariant.covers c.in_ok-complete_word.ensures.covers;
       full = c.in_ok-complete_word.ensures.full;
     }

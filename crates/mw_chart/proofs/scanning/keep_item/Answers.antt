@@ -1,10 +1,8 @@
-use Rattle.std.proofs.Common.{sym}
-use Rattle.mw_chart.proofs.Adding.{if_ok_more}
-use Rattle.mw_chart.proofs.Started.{keeps_item}
+use Rattle.mw_chart.proofs.Started.{row_push, keeps_item}
 use Rattle.mw_chart.proofs.scanning.keep_item.Goals as goal
 
-pub returns-in-Some-Whole : goal.returns-in-Some-Whole
-returns-in-Some-Whole c =
-    if_ok_more c.keep.result _ _
-    (λ x p. keeps_item _ _ c.args.table.now c.args.at c.in-Some-Whole._kind c.in-Some-Whole._precedence c.args.item.now (sym (rw c.in-Some-Whole.field-0-is at c.in-Some-Whole.ensures)) p)
-    c.keep.ensures
+pub returns-in_ok-push : goal.returns-in_ok-push
+returns-in_ok-push c =
+    rw c.in_ok-push.ensures.items
+    (keeps_item _ _ c.args.table.now c.args.at c.in-Some._whole.0 c.in-Some._whole.1 c.args.item.now c.in-Some.ensures.some
+    (row_push c.args.row.now.items c.args.at c.args.item.now.state c.in_ok-tree.tree c.args.item.now.tree c.in_ok-tree.ensures))
