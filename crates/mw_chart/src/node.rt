@@ -69,7 +69,7 @@ impl Node {
     pub fn leaf(alloc: Global, x: u32) -> Result<Node, AllocError>
         ensures { IfOk result (λ t. t ≡ leaf x) }
     {
-        let kind = Arc::new(alloc, NodeKind::Leaf(x)).map_err(AllocError::from)?;
+        let kind = Arc::new(alloc, NodeKind::Leaf(x))?;
         Ok(Node { kind })
     }
 
@@ -77,7 +77,7 @@ impl Node {
     pub fn head(alloc: Global, f: u32) -> Result<Node, AllocError>
         ensures { IfOk result (λ t. t ≡ head f) }
     {
-        let kind = Arc::new(alloc, NodeKind::Head(f)).map_err(AllocError::from)?;
+        let kind = Arc::new(alloc, NodeKind::Head(f))?;
         Ok(Node { kind })
     }
 
@@ -95,7 +95,7 @@ impl Node {
     {
         let first = self.again()?;
         let last = last.again()?;
-        let kind = Arc::new(alloc, NodeKind::App(first, last)).map_err(AllocError::from)?;
+        let kind = Arc::new(alloc, NodeKind::App(first, last))?;
         Ok(Node { kind })
     }
 
