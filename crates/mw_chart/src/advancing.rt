@@ -1,10 +1,10 @@
 // Goes one step on from texts begun.
 ghost use Rattle.std.specs.Prelude.{◌≡◌, ◌≤◌, ◌<◌, ◌+◌, ℕ, IfOk, length};
-ghost use Rattle.mw_chart.specs.Chart.{Adds, CellsHold, Advances, AdvancesCell, IsWithin};
-ghost use Rattle.mw_chart.specs.Row.{IsIndexed, AreFull};
+ghost use Rattle.mw_chart.specs.Chart.{Adds, CellsHold, Advances, AdvancesCell};
+ghost use Rattle.mw_chart.specs.Row.{IsReady};
 
 use crate::cell::{next_of, put_at, stands};
-use crate::completing::{Agenda, Hole, complete};
+use crate::completing::{Agenda, Completion, complete};
 use crate::item::Item;
 use crate::row::ChartRow;
 use crate::table::{Next, Table};
@@ -24,13 +24,9 @@ fn advance(
     agenda: &mut Agenda,
 ) -> Result<(), AllocError>
     requires shape { at + length agenda.old.cells.items ≡ length text.now }
-    requires short { length text.now ≤ 1024 }
-    requires indexed { IsIndexed row.now }
-    requires full { AreFull (length text.now) agenda.old.full.items agenda.old.cells.items }
-    requires within { IsWithin row.now.constituents.items at (length text.now) }
-    ensures len { length agenda.new.cells.items ≡ length agenda.old.cells.items }
+    requires ready { IsReady (length text.now) (length agenda.old.cells.items) row.now agenda.old }
+    ensures ready { IfOk result (λ _. IsReady (length text.now) (length agenda.old.cells.items) row.now agenda.new) }
     ensures ok { IfOk result (λ _. Adds (CellsHold agenda.old.cells.items) (CellsHold agenda.new.cells.items) (Advances table.now text.now row.now.constituents.items at state tree.now)) }
-    ensures full { IfOk result (λ _. AreFull (length text.now) agenda.new.full.items agenda.new.cells.items) }
 {
     match next_of(table, state) {
         Some(Next::Token { token, next }) => {
@@ -40,8 +36,16 @@ fn advance(
             Ok(())
         }
         Some(Next::Hole { kind, below, next }) => {
-            let hole = Hole { kind, below, next };
-            complete(alloc, table, row, text.len(), hole, tree, agenda)
+            let over = Completion {
+                table,
+                row,
+                n: text.len(),
+                kind,
+                below,
+                next,
+                tree,
+            };
+            complete(alloc, over, agenda)
         }
         Some(
             Next::Whole {
@@ -64,13 +68,9 @@ pub fn advance_cell(
     agenda: &mut Agenda,
 ) -> Result<(), AllocError>
     requires shape { at + length agenda.old.cells.items ≡ length text.now }
-    requires short { length text.now ≤ 1024 }
-    requires indexed { IsIndexed row.now }
-    requires full { AreFull (length text.now) agenda.old.full.items agenda.old.cells.items }
-    requires within { IsWithin row.now.constituents.items at (length text.now) }
-    ensures len { length agenda.new.cells.items ≡ length agenda.old.cells.items }
+    requires ready { IsReady (length text.now) (length agenda.old.cells.items) row.now agenda.old }
+    ensures ready { IfOk result (λ _. IsReady (length text.now) (length agenda.old.cells.items) row.now agenda.new) }
     ensures ok { IfOk result (λ _. Adds (CellsHold agenda.old.cells.items) (CellsHold agenda.new.cells.items) (AdvancesCell table.now text.now row.now.constituents.items at cell.now.items)) }
-    ensures full { IfOk result (λ _. AreFull (length text.now) agenda.new.full.items agenda.new.cells.items) }
 {
     for item in cell {
         advance(alloc, table, text, row, at, item.state, &item.tree, agenda)?;

@@ -2,7 +2,6 @@ use Rattle.std.proofs.Common.{length, sym, refl}
 use Rattle.mw_chart.proofs.Filling.{advances_token, advances_not, advances_hole, advances_whole, advances_none}
 use Rattle.mw_chart.proofs.Adding.{if_ok_more}
 use Rattle.mw_chart.proofs.Fulls.{full_more}
-use Rattle.mw_chart.proofs.Covered.{within_ahead}
 use Rattle.mw_chart.proofs.advancing.advance.Goals as goal
 
 pub returns-in_ok-put_at-in-Some-Token-clause-ok : goal.returns-in_ok-put_at-in-Some-Token-clause-ok
@@ -29,9 +28,12 @@ returns-in-Some-Whole-clause-ok c =
 pub returns-in-None-clause-ok : goal.returns-in-None-clause-ok
 returns-in-None-clause-ok c = advances_none _ c.args.table.now c.args.text.now c.args.row.now.constituents.items c.args.at c.args.state c.args.tree.now (sym c.in-None.ensures)
 
-pub complete-requires-clause-within : goal.complete-requires-clause-within
-complete-requires-clause-within c = within_ahead c.args.row.now.constituents.items (length c.args.text.now) c.args.at _ c.requires.shape c.requires.within
-
-pub returns-in_ok-put_at-in-Some-Token-clause-full : goal.returns-in_ok-put_at-in-Some-Token-clause-full
-returns-in_ok-put_at-in-Some-Token-clause-full c =
-    full_more (length c.args.text.now) c.args.agenda.now.full.items c.args.agenda.now.cells.items _ c.in_ok-put_at-in-Some-Token.ensures.ok.kept c.in_ok-put_at-in-Some-Token.ensures.len c.requires.full
+pub returns-in_ok-put_at-in-Some-Token-clause-ready : goal.returns-in_ok-put_at-in-Some-Token-clause-ready
+returns-in_ok-put_at-in-Some-Token-clause-ready c = record {
+  short = c.requires.ready.short;
+  shape = c.requires.ready.shape;
+  indexed = c.requires.ready.indexed;
+  within = c.requires.ready.within;
+  count = c.in_ok-put_at-in-Some-Token.ensures.len;
+  full = full_more (length c.args.text.now) c.args.agenda.now.full.items c.args.agenda.now.cells.items _ c.in_ok-put_at-in-Some-Token.ensures.ok.kept c.in_ok-put_at-in-Some-Token.ensures.len c.requires.ready.full;
+}
