@@ -6,6 +6,7 @@ use Rattle.std.specs.Global.{Global}
 use Rattle.std.specs.declared.vec.Vec.{Vec}
 use Rattle.mw_chart.specs.Tree.{Tree}
 use Rattle.mw_chart.specs.Bits.{IsSet}
+use Rattle.mw_chart.specs.Spelling.{IsTable}
 use Rattle.mw_chart.specs.Listed.{inner, IsListed}
 use Rattle.mw_chart.specs.Chart.{HasTwo, Has, CellsHold, CompletesBy, IsRow, IsWithin}
 use Rattle.mw_chart.specs.declared.completing.Agenda.{Agenda}
@@ -69,3 +70,11 @@ AreBare n rows = (length rows ≡ n) × ((k : ℕ) (row : ChartRow) → slice_ge
 -- the rows from a place on are those of the text
 abbrev pub AreRows : Table → List Terminal → ℕ → List ChartRow → Type 0
 AreRows g text i rows = (k : ℕ) (row : ChartRow) → i ≤ k → slice_get rows k ≡ Some row → IsRow g text k (length text) row.constituents.items × IsIndexed row
+
+-- the rows behind a place of a text are those of the text
+pub record AreBehind (g : Table) (text : List Terminal) (i : ℕ) (behind : List ChartRow) : Type 0 where
+  pub table : IsTable g
+  pub short : length text ≤ 1024
+  pub below : i < length text
+  pub count : length behind ≡ length text + 1
+  pub rows : AreRows g text (i + 1) behind

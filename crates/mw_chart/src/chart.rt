@@ -1,12 +1,11 @@
 // Rows: the constituents that begin at each place.
 ghost use Rattle.std.specs.Prelude.{◌≡◌, ◌≤◌, ◌<◌, ◌-◌, ◌+◌, ℕ, IfOk, length};
 ghost use Rattle.mw_chart.specs.Chart.{IsRow, IsCell, IsCells, AreFirst};
-ghost use Rattle.mw_chart.specs.Row.{IsIndexed, AreFull, AreBare, AreRows};
+ghost use Rattle.mw_chart.specs.Row.{IsIndexed, AreFull, AreBare, AreRows, AreBehind};
 ghost use Rattle.mw_chart.specs.Spelling.{IsTable};
 
-use crate::advancing::advance_cell;
 use crate::cell::stands;
-use crate::completing::Agenda;
+use crate::completing::{Agenda, advance_cell};
 use crate::item::{Constituent, Item};
 use crate::numbered::grow;
 use crate::predicting::predict;
@@ -48,10 +47,7 @@ fn first_cells(
     rows: &Vec<ChartRow>,
     i: usize,
 ) -> Result<Vec<Vec<Item>>, AllocError>
-    requires table { IsTable table.now }
-    requires below { i < length text.now }
-    requires count { length rows.now.items ≡ length text.now + 1 }
-    requires rows { AreRows table.now text.now (i + 1) rows.now.items }
+    requires { AreBehind table.now text.now i rows.now.items }
     ensures { IfOk result (λ cells. AreFirst table.now text.now i cells.items) }
 {
     let mut cells = Vec::new(alloc);
@@ -106,11 +102,7 @@ fn constituents_at(
     rows: &Vec<ChartRow>,
     i: usize,
 ) -> Result<Vec<Constituent>, AllocError>
-    requires table { IsTable table.now }
-    requires short { length text.now ≤ 1024 }
-    requires below { i < length text.now }
-    requires count { length rows.now.items ≡ length text.now + 1 }
-    requires rows { AreRows table.now text.now (i + 1) rows.now.items }
+    requires { AreBehind table.now text.now i rows.now.items }
     ensures { IfOk result (λ constituents. IsRow table.now text.now i (length text.now) constituents.items) }
 {
     let cells = first_cells(alloc, table, text, rows, i)?;
@@ -141,11 +133,7 @@ fn row_at(
     rows: &Vec<ChartRow>,
     i: usize,
 ) -> Result<ChartRow, AllocError>
-    requires table { IsTable table.now }
-    requires short { length text.now ≤ 1024 }
-    requires below { i < length text.now }
-    requires count { length rows.now.items ≡ length text.now + 1 }
-    requires rows { AreRows table.now text.now (i + 1) rows.now.items }
+    requires { AreBehind table.now text.now i rows.now.items }
     ensures row { IfOk result (λ row. IsRow table.now text.now i (length text.now) row.constituents.items) }
     ensures indexed { IfOk result IsIndexed }
 {

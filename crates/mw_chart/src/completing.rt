@@ -1,15 +1,17 @@
-// Completes an item over a hole by the constituents of a row, past the ends that need no further tree.
+// Goes one step on from items: over a token, or over a hole by the constituents of a row, past the ends that need no
+// further tree.
 ghost use Rattle.std.specs.Prelude.{◌≡◌, ◌≤◌, ◌<◌, ◌+◌, ◌^◌, ℕ, IfOk, length};
 ghost use Rattle.mw_chart.specs.Bits.{IsSet};
-ghost use Rattle.mw_chart.specs.Chart.{Adds, CellsHold, CompletesBy, Completes};
+ghost use Rattle.mw_chart.specs.Chart.{Adds, CellsHold, CompletesBy, Completes, Advances, AdvancesCell};
 ghost use Rattle.mw_chart.specs.Row.{IsReady, AreFull, CompletesAt, IsInWord, Grows, Covers};
 
 use crate::bits::{insert, open_of, without_lowest, word_of};
-use crate::cell::{is_full, put_at, takes};
+use crate::cell::{is_full, next_of, put_at, stands, takes};
 use crate::item::{Constituent, Item};
 use crate::numbered::{grow, listed};
 use crate::row::{ChartRow, Strip};
-use crate::table::Table;
+use crate::table::{Next, Table};
+use crate::terminal::Terminal;
 use crate::tree::Tree;
 use std::alloc::{AllocError, Global};
 
@@ -23,14 +25,14 @@ pub struct Agenda {
 
 /// An item that has come to a hole, the state behind it, and the row of a text of n tokens that has what may fill it.
 #[derive(Clone, Copy)]
-pub struct Completion<'a> {
-    pub table: &'a Table,
-    pub row: &'a ChartRow,
-    pub n: usize,
-    pub kind: u32,
-    pub below: u32,
-    pub next: usize,
-    pub tree: &'a Tree,
+struct Completion<'a> {
+    table: &'a Table,
+    row: &'a ChartRow,
+    n: usize,
+    kind: u32,
+    below: u32,
+    next: usize,
+    tree: &'a Tree,
 }
 
 /// Puts the tree with a constituent as its next argument.
@@ -160,13 +162,79 @@ fn complete_strip(
 }
 
 /// Puts the tree with each constituent of the row that the hole takes.
-pub fn complete(alloc: Global, over: Completion<'_>, agenda: &mut Agenda) -> Result<(), AllocError>
+fn complete(alloc: Global, over: Completion<'_>, agenda: &mut Agenda) -> Result<(), AllocError>
     requires { IsReady over.n (length agenda.old.cells.items) over.row.now agenda.old }
     ensures ready { IfOk result (λ _. IsReady over.entry.n (length agenda.old.cells.items) over.entry.row.now agenda.new) }
     ensures ok { IfOk result (λ _. Adds (CellsHold agenda.old.cells.items) (CellsHold agenda.new.cells.items) (Completes over.entry.table.now over.entry.row.now.constituents.items over.entry.n over.entry.kind over.entry.below over.entry.next over.entry.tree.now)) }
 {
     for strip in &over.row.strips {
         complete_strip(alloc, over, strip, agenda)?;
+    }
+    Ok(())
+}
+
+/// Goes one step on from a text begun.
+fn advance(
+    alloc: Global,
+    table: &Table,
+    text: &[Terminal],
+    row: &ChartRow,
+    at: usize,
+    state: usize,
+    tree: &Tree,
+    agenda: &mut Agenda,
+) -> Result<(), AllocError>
+    requires shape { at + length agenda.old.cells.items ≡ length text.now }
+    requires ready { IsReady (length text.now) (length agenda.old.cells.items) row.now agenda.old }
+    ensures ready { IfOk result (λ _. IsReady (length text.now) (length agenda.old.cells.items) row.now agenda.new) }
+    ensures ok { IfOk result (λ _. Adds (CellsHold agenda.old.cells.items) (CellsHold agenda.new.cells.items) (Advances table.now text.now row.now.constituents.items at state tree.now)) }
+{
+    match next_of(table, state) {
+        Some(Next::Token { token, next }) => {
+            if stands(text, at, token) {
+                put_at(&mut agenda.cells, text.len() - at - 1, next, tree.again()?)?;
+            }
+            Ok(())
+        }
+        Some(Next::Hole { kind, below, next }) => {
+            let over = Completion {
+                table,
+                row,
+                n: text.len(),
+                kind,
+                below,
+                next,
+                tree,
+            };
+            complete(alloc, over, agenda)
+        }
+        Some(
+            Next::Whole {
+                kind: _kind,
+                precedence: _precedence,
+            },
+        ) => Ok(()),
+        None => Ok(()),
+    }
+}
+
+/// Goes one step on from the texts begun of a cell.
+pub fn advance_cell(
+    alloc: Global,
+    table: &Table,
+    text: &[Terminal],
+    row: &ChartRow,
+    at: usize,
+    cell: &Vec<Item>,
+    agenda: &mut Agenda,
+) -> Result<(), AllocError>
+    requires shape { at + length agenda.old.cells.items ≡ length text.now }
+    requires ready { IsReady (length text.now) (length agenda.old.cells.items) row.now agenda.old }
+    ensures ready { IfOk result (λ _. IsReady (length text.now) (length agenda.old.cells.items) row.now agenda.new) }
+    ensures ok { IfOk result (λ _. Adds (CellsHold agenda.old.cells.items) (CellsHold agenda.new.cells.items) (AdvancesCell table.now text.now row.now.constituents.items at cell.now.items)) }
+{
+    for item in cell {
+        advance(alloc, table, text, row, at, item.state, &item.tree, agenda)?;
     }
     Ok(())
 }

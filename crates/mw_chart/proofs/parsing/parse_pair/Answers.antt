@@ -2,7 +2,7 @@ use Rattle.std.proofs.Common.{sym, ap, ◌∙◌}
 use Rattle.mw_chart.specs.declared.fault.TreePair.{TreePair}
 use Rattle.mw_chart.proofs.Lists.{get_below}
 use Rattle.mw_chart.proofs.Answers.{pair_is, pair_spelled, no_pair, one_pair}
-use Rattle.mw_chart.proofs.pair.parse_pair.Goals as goal
+use Rattle.mw_chart.proofs.parsing.parse_pair.Goals as goal
 
 pub returns-in-None-clause-fault : goal.returns-in-None-clause-fault
 returns-in-None-clause-fault c = (

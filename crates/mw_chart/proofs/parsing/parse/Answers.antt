@@ -2,7 +2,7 @@ use Rattle.std.proofs.Common.{◌∙◌, sym, arith}
 use Rattle.mw_chart.proofs.Lists.{get_below}
 use Rattle.mw_chart.proofs.Ends.{vec_length}
 use Rattle.mw_chart.proofs.Answers.{item_is, item_spelled, none_spelled, one_spelled}
-use Rattle.mw_chart.proofs.one.parse.Goals as goal
+use Rattle.mw_chart.proofs.parsing.parse.Goals as goal
 
 pub returns-in-None-clause-fault : goal.returns-in-None-clause-fault
 returns-in-None-clause-fault c =

@@ -1,7 +1,7 @@
 use Rattle.mw_chart.specs.Answer.{IsWanted}
 use Rattle.mw_chart.proofs.Lists.{get_item_of}
 use Rattle.mw_chart.proofs.Ends.{all_next, all_done}
-use Rattle.mw_chart.proofs.one.first_of.Goals as goal
+use Rattle.mw_chart.proofs.parsing.first_of.Goals as goal
 
 pub loop-k-preserved : goal.loop-k-preserved
 loop-k-preserved c =

@@ -3,7 +3,7 @@ use Rattle.mw_chart.specs.Readings.{IsAt}
 use Rattle.mw_chart.specs.declared.reading.Reading.{Reading}
 use Rattle.mw_chart.proofs.Lists.{get_item_of}
 use Rattle.mw_chart.proofs.Ends.{all_next, all_done}
-use Rattle.mw_chart.proofs.pair.first_pair.Goals as goal
+use Rattle.mw_chart.proofs.parsing.first_pair.Goals as goal
 
 pub loop-left-preserved : goal.loop-left-preserved
 loop-left-preserved c =

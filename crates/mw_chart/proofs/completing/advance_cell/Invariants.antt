@@ -2,7 +2,7 @@ use Rattle.std.proofs.Common.{length}
 use Rattle.mw_chart.specs.Chart.{Adds, CellsHold, AdvancesItem}
 use Rattle.mw_chart.specs.Row.{IsReady}
 use Rattle.mw_chart.proofs.Adding.{Among}
-use Rattle.mw_chart.proofs.advancing.advance_cell.Given as goal
+use Rattle.mw_chart.proofs.completing.advance_cell.Given as goal
 
 abbrev pub invariant-loop-item : goal.invariant-loop-item
 invariant-loop-item l = record {

@@ -3,7 +3,7 @@ use Rattle.mw_chart.proofs.Lists.{get_item_of}
 use Rattle.mw_chart.proofs.Adding.{among_more, among_all}
 use Rattle.mw_chart.proofs.Covered.{ready_again, ready_then}
 use Rattle.mw_chart.proofs.Filling.{advances_item}
-use Rattle.mw_chart.proofs.advancing.advance_cell.Goals as goal
+use Rattle.mw_chart.proofs.completing.advance_cell.Goals as goal
 
 pub advance-requires-clause-ready : goal.advance-requires-clause-ready
 advance-requires-clause-ready c = ready_again _ _ _ _ c.loop-item.invariant.ready

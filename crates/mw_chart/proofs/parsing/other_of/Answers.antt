@@ -2,8 +2,8 @@ use Rattle.std.proofs.Common.{◌≡◌}
 use Rattle.mw_chart.specs.Answer.{IsWanted}
 use Rattle.mw_chart.proofs.Lists.{get_item_of}
 use Rattle.mw_chart.proofs.Ends.{all_next, all_done}
-use Rattle.mw_chart.proofs.one.other_of.Goals as goal
-use Rattle.mw_chart.proofs.one.other_of.Goals.{else-is_wanted-via-then-is_wanted+else-not-same, else-is_wanted-via-else-is_wanted}
+use Rattle.mw_chart.proofs.parsing.other_of.Goals as goal
+use Rattle.mw_chart.proofs.parsing.other_of.Goals.{else-is_wanted-via-then-is_wanted+else-not-same, else-is_wanted-via-else-is_wanted}
 
 pub loop-k-preserved : goal.loop-k-preserved
 loop-k-preserved c =

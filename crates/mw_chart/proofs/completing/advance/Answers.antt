@@ -2,7 +2,7 @@ use Rattle.std.proofs.Common.{length, sym, refl}
 use Rattle.mw_chart.proofs.Filling.{advances_token, advances_not, advances_hole, advances_whole, advances_none}
 use Rattle.mw_chart.proofs.Adding.{if_ok_more}
 use Rattle.mw_chart.proofs.Fulls.{full_more}
-use Rattle.mw_chart.proofs.advancing.advance.Goals as goal
+use Rattle.mw_chart.proofs.completing.advance.Goals as goal
 
 pub returns-in_ok-put_at-in-Some-Token-clause-ok : goal.returns-in_ok-put_at-in-Some-Token-clause-ok
 returns-in_ok-put_at-in-Some-Token-clause-ok c =
