@@ -71,6 +71,11 @@ keeps_item P Q g at kind precedence item st a =
     (λ k u (x, y, z). (x, (sym y, sym z), (kind, precedence, subst (λ (m : ℕ). NextAt g m (Whole kind precedence)) (sym y) st)))
     (λ k u (x, i, w). (x, sym i.0, sym i.1))
 
+pub keeps_none : (P : ℕ × ℕ → Tree → Type 0) (g : Table) (at : ℕ) (item : Item) → ((kind precedence : ℕ) → NextAt g item.state (Whole kind precedence) → ⊥) → Adds P P (KeepsItem g at item)
+keeps_none P g at item never =
+    adds_none P (KeepsItem g at item)
+    (λ k u (x, i, (kind, precedence, st)). never kind precedence (subst (λ (m : ℕ). NextAt g m (Whole kind precedence)) (sym i.0) st))
+
 pub begins_put : (P Q : ℕ × ℕ → Tree → Type 0) (g : Table) (text : List Terminal) (i : ℕ) (production : Production) (token next : ℕ) (v : Tree)
     → NextAt g production.state (Token token next) → TokenAt text i token → v ≡ head production.operator
     → Adds P Q (IsPut (length text - i - 1) next v) → Adds P Q (ScansProduction g text i production)

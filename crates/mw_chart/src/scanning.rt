@@ -22,15 +22,18 @@ fn keep_item(
 ) -> Result<(), AllocError>
     ensures { IfOk result (λ _. Adds (RowHolds row.old.items) (RowHolds row.new.items) (KeepsItem table.now at item.now)) }
 {
-    if let Some(_whole) = whole_of(table, item.state) {
-        let tree = item.tree.again()?;
-        row.push(Constituent {
-            end: at,
-            state: item.state,
-            tree,
-        })?;
+    match whole_of(table, item.state) {
+        Some(_whole) => {
+            let tree = item.tree.again()?;
+            row.push(Constituent {
+                end: at,
+                state: item.state,
+                tree,
+            })?;
+            Ok(())
+        }
+        None => Ok(()),
     }
-    Ok(())
 }
 
 /// Keeps the whole texts of a cell as constituents.
@@ -139,7 +142,14 @@ fn group_of(table: &Table, state: usize) -> Option<usize>
     ensures none { IfNone result ((kind precedence s : ℕ) → NextAt table.now state (Whole kind precedence) → slice_get table.now.groups.items kind ≡ Some s → ⊥) }
 {
     match whole_of(table, state) {
-        Some((kind, _precedence)) => table.groups.get(kind as usize).copied(),
+        Some((kind, _precedence)) => {
+            let kind = kind as usize;
+            if kind < table.groups.len() {
+                Some(table.groups[kind])
+            } else {
+                None
+            }
+        }
         None => None,
     }
 }
