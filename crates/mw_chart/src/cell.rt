@@ -1,4 +1,4 @@
-// The chart: at each place the constituents that begin there, found from the last place to the first.
+// The cells of the chart: the items of a place and an end; and what comes next at a state.
 ghost use Rattle.std.specs.Prelude.{◌≡◌, ◌≤◌, ◌<◌, ◌↔◌, ◌⊎◌, ◌-◌, ◌+◌, ℕ, IfOk, IfSome, IfNone, IsTrue, length};
 ghost use Rattle.std.specs.List.{slice_get};
 ghost use Rattle.mw_chart.specs.declared.item.Item.{Item};

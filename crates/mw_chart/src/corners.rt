@@ -42,7 +42,7 @@ fn join_first(
     }
 }
 
-/// The corners of these productions.
+/// The left corners of these productions.
 pub fn corners_of(
     alloc: Global,
     steps: &[Next],

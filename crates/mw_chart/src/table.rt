@@ -46,7 +46,7 @@ impl Table {
     ghost use Rattle.std.specs.Prelude.{◌≡◌, IfOk};
     ghost use Rattle.mw_chart.specs.Spelling.{AreCornersOf};
 
-    /// A table, with the corners of its productions. The corners has as many lists as the largest number that comes first.
+    /// A table, with the left corners of its productions: as many lists as the largest number that comes first.
     pub fn new(
         alloc: Global,
         steps: Vec<Next>,
