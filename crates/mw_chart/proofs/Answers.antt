@@ -8,7 +8,7 @@ use Rattle.mw_chart.specs.Answer.{IsWanted, IsSpelled, IsPair}
 use Rattle.mw_chart.specs.Readings.{Lists, AreReadings, ListedBy, ListedAny, ArePlaces, IsAt}
 use Rattle.mw_chart.specs.declared.table.Table.{Table}
 use Rattle.mw_chart.specs.declared.table.Next.TheVariants.{Whole}
-use Rattle.mw_chart.specs.declared.pair.Places.{Places}
+use Rattle.mw_chart.specs.declared.parsing.Places.{Places}
 use Rattle.mw_chart.specs.declared.item.Constituent.{Constituent}
 use Rattle.mw_chart.specs.declared.reading.Reading.{Reading}
 use Rattle.mw_chart.specs.declared.terminal.Terminal.{Terminal}

@@ -1,5 +1,5 @@
 -- Filling a hole from the constituents of a row, end by end.
-use Rattle.std.proofs.Common.{◌≡◌, ◌∙◌, ◌+◌, ◌*◌, ◌/◌, ◌%◌, ◌-◌, ◌<◌, ◌≤◌, ◌⊎◌, ℕ, zero, suc, List, [], ◌∷◌, length, get_or, Some, refl, sym, ap, inl, inr, arith, subst, slice_index}
+use Rattle.std.proofs.Common.{◌≡◌, ◌∙◌, ◌+◌, ◌*◌, ◌/◌, ◌%◌, ◌-◌, ◌<◌, ◌≤◌, ◌⊎◌, ℕ, zero, suc, List, [], ◌∷◌, length, Some, refl, sym, ap, inl, inr, arith, subst, slice_index}
 use Rattle.std.specs.List.{slice_get}
 use Rattle.std.specs.Global.{Global}
 use Rattle.std.specs.declared.vec.Vec.{Vec}
@@ -10,7 +10,8 @@ use Rattle.mw_chart.specs.Bits.{IsSet}
 use Rattle.mw_chart.specs.Spelling.{NextAt}
 use Rattle.mw_chart.specs.Listed.{inner}
 use Rattle.mw_chart.specs.Chart.{HasTwo, Has, Holds, Adds, CellsHold, CompletesBy, Completes, IsWithin}
-use Rattle.mw_chart.specs.Row.{IsIndexed, AreFull, CompletesAt, CompletesListed, IsInWord, Grows, Covers}
+use Rattle.mw_chart.specs.Row.{IsIndexed, IsReady, AreFull, CompletesAt, CompletesListed, IsInWord, Grows, Covers}
+use Rattle.mw_chart.specs.declared.completing.Agenda.{Agenda}
 use Rattle.mw_chart.specs.declared.row.ChartRow.{ChartRow}
 use Rattle.mw_chart.specs.declared.row.Strip.{Strip}
 use Rattle.mw_chart.specs.declared.table.Table.{Table}
@@ -20,7 +21,7 @@ use Rattle.mw_chart.specs.declared.item.Constituent.{Constituent}
 use Rattle.mw_chart.proofs.Lists.{get_below, one_there, eq_or}
 use Rattle.mw_chart.proofs.Begins.{le_or}
 use Rattle.mw_chart.proofs.Cells.{has_more}
-use Rattle.mw_chart.proofs.Adding.{adds_as, adds_none, inner_is}
+use Rattle.mw_chart.proofs.Adding.{adds_as, adds_none}
 use Rattle.mw_chart.proofs.Filling.{Takes}
 
 pub grows_same : {K : Type 0} → (P F : K → Tree → Type 0) → Grows P P F
@@ -45,6 +46,13 @@ pub within_same : (constituents : List Constituent) (n a b : ℕ) → a ≡ b �
 within_same constituents n a b same all = λ j r got. let w = all j r got in (let low = w.0 in omega (arith, low, same), w.1)
 
 -- the constituent at an index
+-- one more step of what is ready
+pub ready_again : (n m : ℕ) (row : ChartRow) (a : Agenda) → IsReady n m row a → IsReady n (length a.cells.items) row a
+ready_again n m row a r = subst (λ (k : ℕ). IsReady n k row a) (sym r.count) r
+
+pub ready_then : (n m : ℕ) (row : ChartRow) (a b : Agenda) → IsReady n m row a → IsReady n (length a.cells.items) row b → IsReady n m row b
+ready_then n m row a b r s = subst (λ (k : ℕ). IsReady n k row b) r.count s
+
 pub fills_at : (P Q : ℕ × ℕ → Tree → Type 0) (g : Table) (constituents : List Constituent) (n kind below next : ℕ) (v : Tree) (place : ℕ) (r : Constituent)
     → slice_get constituents place ≡ Some r → Adds P Q (CompletesBy g r n kind below next v) → Adds P Q (CompletesAt g constituents n kind below next v place)
 fills_at P Q g constituents n kind below next v place r got a =
@@ -63,25 +71,18 @@ pub grows_listed : (P Q : ℕ × ℕ → Tree → Type 0) (g : Table) (constitue
 grows_listed P Q g constituents places n kind below next v a =
     grows_adds P Q (Completes g constituents n kind below next v) (CompletesListed g constituents places n kind below next v) a (λ k u (p, place, got, (r, at, x)). (place, r, at, x))
 
-pub covers_listed : (P Q : ℕ × ℕ → Tree → Type 0) (g : Table) (row : ChartRow) (list : Vec ℕ Global) (end n kind below next : ℕ) (v : Tree) → IsIndexed row → end < length row.places.items
-    → list ≡ get_or row.places.items end list → Adds P Q (CompletesListed g row.constituents.items list.items n kind below next v)
+pub covers_listed : (P Q : ℕ × ℕ → Tree → Type 0) (g : Table) (row : ChartRow) (list : List ℕ) (end n kind below next : ℕ) (v : Tree) → IsIndexed row
+    → list ≡ inner row.places.items end → Adds P Q (CompletesListed g row.constituents.items list n kind below next v)
     → Covers Q g row.constituents.items n kind below next v (λ r. r.end ≡ end)
-covers_listed P Q g row list end n kind below next v index low is a = λ j r got at k u x.
+covers_listed P Q g row list end n kind below next v index is a = λ j r got at k u x.
     let l = (index j r got).0 in
-    let there : slice_get list.items l.0 ≡ Some j = subst (λ (xs : List ℕ). slice_get xs l.0 ≡ Some j) (ap (λ m. inner row.places.items m) at ∙ inner_is row.places.items end list low is) l.1 in
+    let there : slice_get list l.0 ≡ Some j = subst (λ (xs : List ℕ). slice_get xs l.0 ≡ Some j) (ap (λ m. inner row.places.items m) at ∙ sym is) l.1 in
     a.has k u (l.0, j, there, (r, got, x))
 
 pub inner_far : {A : Type 0} → (xs : List (Vec A Global)) (k : ℕ) → length xs ≤ k → inner xs k ≡ []
 inner_far [] k h = refl
 inner_far (x ∷ xs) zero h = absurd (omega arith)
 inner_far (x ∷ xs) (suc k) h = inner_far xs k (omega arith)
-
-pub covers_nowhere : (Q : ℕ × ℕ → Tree → Type 0) (g : Table) (row : ChartRow) (end n kind below next : ℕ) (v : Tree) → IsIndexed row → length row.places.items ≤ end
-    → Covers Q g row.constituents.items n kind below next v (λ r. r.end ≡ end)
-covers_nowhere Q g row end n kind below next v index past = λ j r got at k u x.
-    let l = (index j r got).0 in
-    let there : slice_get [] l.0 ≡ Some j = subst (λ (xs : List ℕ). slice_get xs l.0 ≡ Some j) (ap (λ m. inner row.places.items m) at ∙ inner_far row.places.items end past) l.1 in
-    let bad : ⊥ = (cc) in absurd bad
 
 -- The constituents of a word's ends, of which those in `left` are to come.
 abbrev pub IsDone : ℕ → ℕ → ℕ → Constituent → Type 0

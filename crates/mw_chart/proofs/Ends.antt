@@ -1,5 +1,5 @@
 -- The loops of rows.
-use Rattle.std.proofs.Common.{◌≡◌, ◌∙◌, ◌+◌, ◌-◌, ◌<◌, ◌≤◌, ℕ, zero, suc, List, [], ◌∷◌, ◌++◌, length, get_or, Some, refl, sym, ap, inl, inr, arith, subst, length-append}
+use Rattle.std.proofs.Common.{◌≡◌, ◌∙◌, ◌+◌, ◌-◌, ◌<◌, ◌≤◌, ℕ, List, [], ◌∷◌, ◌++◌, length, get_or, Some, sym, ap, inl, inr, arith, subst, length-append}
 use Rattle.std.specs.List.{slice_get}
 use Rattle.std.specs.Global.{Global}
 use Rattle.std.specs.declared.vec.Vec.{Vec}
@@ -10,11 +10,10 @@ use Rattle.mw_chart.specs.Row.{IsIndexed, AreBare, AreRows}
 use Rattle.mw_chart.specs.declared.row.ChartRow.{ChartRow}
 use Rattle.mw_chart.specs.declared.item.Item.{Item}
 use Rattle.mw_chart.specs.declared.item.Constituent.{Constituent}
-use Rattle.mw_chart.specs.Listed.{inner}
-use Rattle.mw_chart.specs.Chart.{IsCell, IsCells, IsRow, AreEmpty}
-use Rattle.mw_chart.proofs.Lists.{one_there, get_below, get_set_same, get_set_other, get_item, eq_or}
+use Rattle.mw_chart.specs.Chart.{IsCell, IsCells, IsRow}
+use Rattle.mw_chart.proofs.Lists.{one_there, get_below, get_set_same, get_set_other, get_item, get_back, eq_or}
 use Rattle.std.specs.Vec.{vec_len}
-use Rattle.mw_chart.proofs.Begins.{le_or, whole_moves}
+use Rattle.mw_chart.proofs.Begins.{whole_moves}
 use Rattle.mw_chart.proofs.Turned.{inner_front, inner_last}
 use Rattle.mw_chart.specs.declared.terminal.Terminal.{Terminal}
 
@@ -31,22 +30,10 @@ pub all_done : {A : Type 0} → (xs : List A) (k : ℕ) (P : A → Type 0) → l
     → (j : ℕ) (r : A) → slice_get xs j ≡ Some r → P r
 all_done xs k P all before j r got = before j r (let b = get_below xs j r got in omega (arith, b, all)) got
 
-inner_past : {A : Type 0} → (xs : List (Vec A Global)) (x : Vec A Global) (j : ℕ) → length xs < j → inner (xs ++ x ∷ []) j ≡ []
-inner_past [] x zero h = absurd (omega arith)
-inner_past [] x (suc j) h = refl
-inner_past (y ∷ ys) x zero h = absurd (omega arith)
-inner_past (y ∷ ys) x (suc j) h = inner_past ys x j (omega arith)
-
-pub empty_push : {A : Type 0} → (n : ℕ) (xs : List (Vec A Global)) (x : Vec A Global) → AreEmpty n xs → x.items ≡ [] → AreEmpty (n + 1) (xs ++ x ∷ [])
-empty_push n xs x (len, none) e = (
-  length-append xs (x ∷ []) ∙ (omega (arith, len)),
-  λ j. elim (le_or j (length xs)) [
-    | inl f ↦ inner_front xs x j f ∙ none j
-    | inr f ↦ elim (eq_or j (length xs)) [
-      | inl same ↦ ap (λ m. inner (xs ++ x ∷ []) m) same ∙ inner_last xs x ∙ e
-      | inr other ↦ inner_past xs x j (omega (arith, f, other))
-    ]
-  ],
+pub bare_push : (n : ℕ) (rows : List ChartRow) (new : ChartRow) → AreBare n rows → new.constituents.items ≡ [] → AreBare (n + 1) (rows ++ new ∷ [])
+bare_push n rows new (len, none) bare = (
+  length-append rows (new ∷ []) ∙ (omega (arith, len)),
+  λ k row got. elim (get_back rows new k row got) [ inl h ↦ none k row h | inr e ↦ ap (λ (r : ChartRow). r.constituents.items) (sym e) ∙ bare ],
 )
 
 -- the last cell, and those before it

@@ -1,5 +1,5 @@
 -- What the constituents of a row add.
-use Rattle.std.proofs.Common.{◌≡◌, ◌∙◌, ◌+◌, ◌-◌, ◌<◌, ◌≤◌, ℕ, List, length, get_or, None, true, false, refl, sym, ap, inl, inr, arith, subst}
+use Rattle.std.proofs.Common.{◌≡◌, ◌∙◌, ◌+◌, ◌-◌, ◌<◌, ◌≤◌, ℕ, List, length, get_or, None, refl, sym, ap, inl, inr, arith, subst}
 use Rattle.std.specs.List.{slice_get}
 use Rattle.std.specs.Global.{Global}
 use Rattle.std.specs.declared.vec.Vec.{Vec}
@@ -11,7 +11,7 @@ use Rattle.mw_chart.specs.declared.item.Item.{Item}
 use Rattle.mw_chart.specs.declared.item.Constituent.{Constituent}
 use Rattle.mw_chart.specs.Listed.{inner}
 use Rattle.mw_chart.specs.Chart.{HasTwo, Holds, Adds, CellsHold, IsPut, CompletesBy, Completes, Advances, AdvancesItem}
-use Rattle.mw_chart.proofs.Adding.{adds_as, adds_none, adds_already, adds_then, inner_is}
+use Rattle.mw_chart.proofs.Adding.{adds_as, adds_none, adds_already, inner_is}
 use Rattle.mw_chart.proofs.Lists.{one_there, get_below}
 use Rattle.mw_chart.specs.declared.terminal.Terminal.{Terminal}
 
@@ -95,25 +95,10 @@ advances_none P g text row at s v st =
       | inr (kind2, bound, w2, precedence2, t, st2, hr, wh, le, z) ↦ let bad : ⊥ = (cc) in bad
     ])
 
--- both trees of an item
-pub advances_two : (P Q R : ℕ × ℕ → Tree → Type 0) (g : Table) (text : List Terminal) (row : List Constituent) (at : ℕ) (item : Item) → item.full ≡ true
-    → Adds P Q (Advances g text row at item.state item.tree) → Adds Q R (Advances g text row at item.state item.other)
-    → Adds P R (AdvancesItem g text row at item)
-advances_two P Q R g text row at item full a b =
-    adds_then P Q R (Advances g text row at item.state item.tree) (Advances g text row at item.state item.other) (AdvancesItem g text row at item) a b
-    (λ k u x. (item.state, item.tree, (refl, inl refl), x))
-    (λ k u x. (item.state, item.other, (refl, inr (full, refl)), x))
-    (λ k u (s, v, i, x). elim i.1 [
-      | inl e ↦ inl (rw (i.0, e) x)
-      | inr e ↦ inr (let q = e.1 in rw (i.0, q) x)
-    ])
-
-pub advances_one : (P Q : ℕ × ℕ → Tree → Type 0) (g : Table) (text : List Terminal) (row : List Constituent) (at : ℕ) (item : Item) → item.full ≡ false
+-- the tree of an item
+pub advances_item : (P Q : ℕ × ℕ → Tree → Type 0) (g : Table) (text : List Terminal) (row : List Constituent) (at : ℕ) (item : Item)
     → Adds P Q (Advances g text row at item.state item.tree) → Adds P Q (AdvancesItem g text row at item)
-advances_one P Q g text row at item free a =
+advances_item P Q g text row at item a =
     adds_as P Q (Advances g text row at item.state item.tree) (AdvancesItem g text row at item) a
-    (λ k u x. (item.state, item.tree, (refl, inl refl), x))
-    (λ k u (s, v, i, x). elim i.1 [
-      | inl e ↦ rw (i.0, e) x
-      | inr e ↦ let bad : ⊥ = (let q = e.0 in cc) in absurd bad
-    ])
+    (λ k u x. (item.state, item.tree, (refl, refl), x))
+    (λ k u (s, v, i, x). rw (i.0, i.1) x)

@@ -5,27 +5,11 @@ use Rattle.std.specs.Global.{Global}
 use Rattle.std.specs.declared.vec.Vec.{Vec}
 use Rattle.std.proofs.Math.ListN.{set}
 use Rattle.mw_chart.specs.Bits.{IsSet}
-use Rattle.mw_chart.specs.Listed.{inner, IsListed}
+use Rattle.mw_chart.specs.Listed.{IsListed}
 use Rattle.mw_chart.specs.Row.{IsInStrip}
 use Rattle.mw_chart.specs.declared.row.Strip.{Strip}
 use Rattle.mw_chart.specs.declared.item.Constituent.{Constituent}
 use Rattle.mw_chart.proofs.Lists.{get_below, get_same, get_left, get_last, get_set_same, get_set_other, eq_or, one_there}
-use Rattle.mw_chart.proofs.Adding.{inner_same, inner_other, inner_is}
-
-pub listed_kept : (places : List (Vec ℕ Global)) (end k : ℕ) (old new : Vec ℕ Global) → end < length places → old ≡ get_or places end old → new.items ≡ old.items ++ k ∷ []
-    → (e j : ℕ) → IsListed places e j → IsListed (set places end new) e j
-listed_kept places end k old new low is added e j (p, got) =
-    elim (eq_or e end) [
-      | inl same ↦
-          let was : slice_get old.items p ≡ Some j = subst (λ (l : List ℕ). slice_get l p ≡ Some j) (ap (λ m. inner places m) same ∙ inner_is places end old low is) got in
-          let now : slice_get new.items p ≡ Some j = subst (λ (l : List ℕ). slice_get l p ≡ Some j) (sym added) (get_left old.items (k ∷ []) p j was) in
-          (p, subst (λ (l : List ℕ). slice_get l p ≡ Some j) (sym (ap (λ m. inner (set places end new) m) same ∙ inner_same places end new low)) now)
-      | inr other ↦ (p, subst (λ (l : List ℕ). slice_get l p ≡ Some j) (sym (inner_other places e end new other)) got)
-    ]
-
-pub listed_new : (places : List (Vec ℕ Global)) (end k : ℕ) (old new : Vec ℕ Global) → end < length places → new.items ≡ old.items ++ k ∷ [] → IsListed (set places end new) end k
-listed_new places end k old new low added =
-    (length old.items, subst (λ (l : List ℕ). slice_get l (length old.items) ≡ Some k) (sym (inner_same places end new low ∙ added)) (get_last old.items k))
 
 -- a strip changed for one of the same state that has more
 pub strip_kept : (strips : List Strip) (p : ℕ) (old new : Strip) → slice_get strips p ≡ Some old → new.state ≡ old.state → ((e : ℕ) → IsSet old.ends.items e → IsSet new.ends.items e)

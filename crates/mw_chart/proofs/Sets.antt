@@ -1,5 +1,5 @@
 -- Sets of numbers as words.
-use Rattle.std.proofs.Common.{◌≡◌, ◌∙◌, ◌*◌, ◌^◌, ◌/◌, ◌%◌, ◌<◌, ◌⊎◌, ◌↔◌, ℕ, zero, suc, List, [], ◌∷◌, length, get_or, refl, sym, ap, inl, inr, arith, w64}
+use Rattle.std.proofs.Common.{◌≡◌, ◌∙◌, ◌*◌, ◌^◌, ◌/◌, ◌%◌, ◌<◌, ◌⊎◌, ◌↔◌, ℕ, zero, suc, List, [], ◌∷◌, ◌++◌, subst, length, get_or, refl, sym, ap, inl, inr, arith, w64}
 use Rattle.std.proofs.Math.ListN.{set}
 use Rattle.std.proofs.lemmas.Bool.{cases_eq}
 use Rattle.std.proofs.lemmas.Nat.{and_le_l}
@@ -21,6 +21,19 @@ index_other (y ∷ ys) zero zero x h = absurd (h refl)
 index_other (y ∷ ys) zero (suc k) x h = refl
 index_other (y ∷ ys) (suc j) zero x h = refl
 index_other (y ∷ ys) (suc j) (suc k) x h = index_other ys j k x (λ e. h (ap suc e))
+
+-- a word without bits more changes none
+index_zero : (xs : List ℕ) (j : ℕ) → slice_index (xs ++ 0 ∷ []) j ≡ slice_index xs j
+index_zero [] zero = refl
+index_zero [] (suc j) = refl
+index_zero (x ∷ xs) zero = refl
+index_zero (x ∷ xs) (suc j) = index_zero xs j
+
+pub set_zero : (xs : List ℕ) (y : ℕ) → IsSet (xs ++ 0 ∷ []) y ↔ IsSet xs y
+set_zero xs y = (
+  λ h. subst (λ (w : ℕ). bit_at w (y % 64) ≡ 1) (index_zero xs (y / 64)) h,
+  λ h. subst (λ (w : ℕ). bit_at w (y % 64) ≡ 1) (sym (index_zero xs (y / 64))) h,
+)
 
 -- a bit is set
 pub set_insert : (xs old : List ℕ) (x word : ℕ) → x / 64 < length xs → ((y : ℕ) → IsSet xs y ↔ IsSet old y) → word ≡ bit_or (slice_index xs (x / 64)) (2 ^ (x % 64))

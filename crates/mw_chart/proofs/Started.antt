@@ -1,5 +1,5 @@
 -- What is predicted and begun.
-use Rattle.std.proofs.Common.{◌≡◌, ◌∙◌, ◌-◌, ◌<◌, ℕ, List, length, Some, true, false, refl, sym, inl, inr, arith, subst}
+use Rattle.std.proofs.Common.{◌≡◌, ◌∙◌, ◌-◌, ◌<◌, ℕ, List, [], ◌∷◌, ◌++◌, ap, length, Some, refl, sym, inl, inr, arith, subst}
 use Rattle.std.specs.List.{slice_get}
 use Rattle.mw_chart.specs.Tree.{Tree, leaf, head, app}
 use Rattle.mw_chart.specs.Spelling.{TokenAt, NextAt}
@@ -8,8 +8,8 @@ use Rattle.mw_chart.specs.declared.table.Production.{Production}
 use Rattle.mw_chart.specs.declared.table.Next.TheVariants.{Token, Hole, Whole}
 use Rattle.mw_chart.specs.declared.item.Item.{Item}
 use Rattle.mw_chart.specs.declared.item.Constituent.{Constituent}
-use Rattle.mw_chart.specs.Chart.{HasTwo, Has, Puts, Adds, IsPut, IsLive, PredictsProduction, PredictsBy, PredictsItem, KeepsItem, ScansProduction, ScansProductions, ScansLeaf, ScansLeaves, Scans, GroupsBy}
-use Rattle.mw_chart.proofs.Lists.{one_there, get_below}
+use Rattle.mw_chart.specs.Chart.{HasTwo, Has, Puts, Adds, RowHolds, IsPut, IsLive, PredictsProduction, PredictsBy, PredictsItem, KeepsItem, ScansProduction, ScansProductions, ScansLeaf, ScansLeaves, Scans, GroupsBy}
+use Rattle.mw_chart.proofs.Lists.{one_there, get_below, get_left, get_last, get_back}
 use Rattle.mw_chart.proofs.Adding.{adds_as, adds_none, adds_already, adds_then}
 use Rattle.mw_chart.specs.declared.terminal.Leaf.{Leaf}
 use Rattle.mw_chart.specs.declared.terminal.Terminal.{Terminal}
@@ -41,57 +41,40 @@ opens_not P g text at kind precedence v production given bound next st else =
     let z : given ≡ kind = (cc) in
     inr (subst (λ (r : ℕ). HasTwo (P r)) (sym x) (else z (omega (arith, le2, y)) (subst (λ (m : ℕ). IsLive g text at m) x live2))))
 
-pub opens_two : (P Q R : ℕ → Tree → Type 0) (g : Table) (text : List Terminal) (at kind precedence : ℕ) (item : Item) → NextAt g item.state (Whole kind precedence) → item.full ≡ true
-    → Adds P Q (PredictsBy g text at kind precedence item.tree) → Adds Q R (PredictsBy g text at kind precedence item.other) → Adds P R (PredictsItem g text at item)
-opens_two P Q R g text at kind precedence item st full a b =
-    adds_then P Q R (PredictsBy g text at kind precedence item.tree) (PredictsBy g text at kind precedence item.other) (PredictsItem g text at item) a b
-    (λ k u x. (kind, precedence, item.state, item.tree, (refl, inl refl), st, x))
-    (λ k u x. (kind, precedence, item.state, item.other, (refl, inr (full, refl)), st, x))
-    (λ k u (kind2, precedence2, s, v, i, st2, x).
-    let st3 : NextAt g item.state (Whole kind2 precedence2) = subst (λ (m : ℕ). NextAt g m (Whole kind2 precedence2)) (sym i.0) st2 in
-    let q = one_there _ item.state _ _ st3 st in
-    let ek : kind2 ≡ kind = (cc) in
-    let ep : precedence2 ≡ precedence = (cc) in
-    elim i.1 [
-      | inl e ↦ inl (rw (e, ← ek, ← ep) x)
-      | inr e ↦ inr (let t = e.1 in rw (t, ← ek, ← ep) x)
-    ])
-
-pub opens_one : (P Q : ℕ → Tree → Type 0) (g : Table) (text : List Terminal) (at kind precedence : ℕ) (item : Item) → NextAt g item.state (Whole kind precedence) → item.full ≡ false
-    → Adds P Q (PredictsBy g text at kind precedence item.tree) → Adds P Q (PredictsItem g text at item)
-opens_one P Q g text at kind precedence item st free a =
+pub opens_item : (P Q : ℕ → Tree → Type 0) (g : Table) (text : List Terminal) (at kind precedence : ℕ) (item : Item) → NextAt g item.state (Whole kind precedence) → Adds P Q (PredictsBy g text at kind precedence item.tree) → Adds P Q (PredictsItem g text at item)
+opens_item P Q g text at kind precedence item st a =
     adds_as P Q (PredictsBy g text at kind precedence item.tree) (PredictsItem g text at item) a
-    (λ k u x. (kind, precedence, item.state, item.tree, (refl, inl refl), st, x))
+    (λ k u x. (kind, precedence, item.state, item.tree, (refl, refl), st, x))
     (λ k u (kind2, precedence2, s, v, i, st2, x).
     let st3 : NextAt g item.state (Whole kind2 precedence2) = subst (λ (m : ℕ). NextAt g m (Whole kind2 precedence2)) (sym i.0) st2 in
     let q = one_there _ item.state _ _ st3 st in
     let ek : kind2 ≡ kind = (cc) in
     let ep : precedence2 ≡ precedence = (cc) in
-    elim i.1 [
-      | inl e ↦ rw (e, ← ek, ← ep) x
-      | inr e ↦ let bad : ⊥ = (let t = e.0 in cc) in absurd bad
-    ])
+    let e = i.1 in rw (e, ← ek, ← ep) x)
 
-pub keeps_two : (P Q R : ℕ × ℕ → Tree → Type 0) (g : Table) (at kind precedence : ℕ) (item : Item) → NextAt g item.state (Whole kind precedence) → item.full ≡ true
-    → Adds P Q (IsPut at item.state item.tree) → Adds Q R (IsPut at item.state item.other) → Adds P R (KeepsItem g at item)
-keeps_two P Q R g at kind precedence item st full a b =
-    adds_then P Q R (IsPut at item.state item.tree) (IsPut at item.state item.other) (KeepsItem g at item) a b
-    (λ k u (x, y, z). (x, (sym y, inl (sym z)), (kind, precedence, subst (λ (m : ℕ). NextAt g m (Whole kind precedence)) (sym y) st)))
-    (λ k u (x, y, z). (x, (sym y, inr (full, sym z)), (kind, precedence, subst (λ (m : ℕ). NextAt g m (Whole kind precedence)) (sym y) st)))
-    (λ k u (x, i, w). elim i.1 [
-      | inl e ↦ inl (x, sym i.0, sym e)
-      | inr e ↦ inr (x, sym i.0, sym e.1)
-    ])
+pub row_push : (row : List Constituent) (end state : ℕ) (t v : Tree) → t ≡ v
+    → Adds (RowHolds row) (RowHolds (row ++ record { end = end; state = state; tree = t } ∷ [])) (IsPut end state v)
+row_push row end state t v same =
+    let new : Constituent = record { end = end; state = state; tree = t } in
+    record {
+      kept = λ k u (j, r, got, a, b, e). (j, r, get_left row (new ∷ []) j r got, a, b, e);
+      sound = λ k u (j, r, got, a, b, e). elim (get_back row new j r got) [
+        | inl h ↦ inl (j, r, h, a, b, e)
+        | inr is ↦ inr (sym (ap (λ (x : Constituent). x.end) is ∙ a), sym (ap (λ (x : Constituent). x.state) is ∙ b), sym (ap (λ (x : Constituent). x.tree) is ∙ e) ∙ same)
+      ];
+      has = λ k u (a, b, e). inl (length row, new, get_last row new, sym a, sym b, same ∙ sym e);
+    }
 
-pub keeps_one : (P Q : ℕ × ℕ → Tree → Type 0) (g : Table) (at kind precedence : ℕ) (item : Item) → NextAt g item.state (Whole kind precedence) → item.full ≡ false
-    → Adds P Q (IsPut at item.state item.tree) → Adds P Q (KeepsItem g at item)
-keeps_one P Q g at kind precedence item st free a =
+pub keeps_item : (P Q : ℕ × ℕ → Tree → Type 0) (g : Table) (at kind precedence : ℕ) (item : Item) → NextAt g item.state (Whole kind precedence) → Adds P Q (IsPut at item.state item.tree) → Adds P Q (KeepsItem g at item)
+keeps_item P Q g at kind precedence item st a =
     adds_as P Q (IsPut at item.state item.tree) (KeepsItem g at item) a
-    (λ k u (x, y, z). (x, (sym y, inl (sym z)), (kind, precedence, subst (λ (m : ℕ). NextAt g m (Whole kind precedence)) (sym y) st)))
-    (λ k u (x, i, w). elim i.1 [
-      | inl e ↦ (x, sym i.0, sym e)
-      | inr e ↦ let bad : ⊥ = (let t = e.0 in cc) in absurd bad
-    ])
+    (λ k u (x, y, z). (x, (sym y, sym z), (kind, precedence, subst (λ (m : ℕ). NextAt g m (Whole kind precedence)) (sym y) st)))
+    (λ k u (x, i, w). (x, sym i.0, sym i.1))
+
+pub keeps_none : (P : ℕ × ℕ → Tree → Type 0) (g : Table) (at : ℕ) (item : Item) → ((kind precedence : ℕ) → NextAt g item.state (Whole kind precedence) → ⊥) → Adds P P (KeepsItem g at item)
+keeps_none P g at item never =
+    adds_none P (KeepsItem g at item)
+    (λ k u (x, i, (kind, precedence, st)). never kind precedence (subst (λ (m : ℕ). NextAt g m (Whole kind precedence)) (sym i.0) st))
 
 pub begins_put : (P Q : ℕ × ℕ → Tree → Type 0) (g : Table) (text : List Terminal) (i : ℕ) (production : Production) (token next : ℕ) (v : Tree)
     → NextAt g production.state (Token token next) → TokenAt text i token → v ≡ head production.operator

@@ -1,5 +1,5 @@
 -- What the chart holds. Cells are counted from the end: the one at an index holds what ends so many tokens before the end of the text.
-use Rattle.std.specs.Prelude.{ℕ, ◌+◌, ◌≤◌, ◌<◌, ◌≡◌, ◌≢◌, ◌⊎◌, List, [], Some, IsTrue, length}
+use Rattle.std.specs.Prelude.{ℕ, ◌+◌, ◌≤◌, ◌<◌, ◌≡◌, ◌≢◌, ◌⊎◌, List, Some, length}
 use Rattle.std.specs.List.{slice_get}
 use Rattle.std.specs.Global.{Global}
 use Rattle.std.specs.declared.vec.Vec.{Vec}
@@ -22,9 +22,8 @@ HasTwo P = (a b : Tree) × P a × P b × (a ≢ b)
 abbrev pub Has : (Tree → Type 0) → Tree → Type 0
 Has P v = P v ⊎ HasTwo P
 
--- an item holds a tree, or two
 abbrev pub IsIn : Item → ℕ → Tree → Type 0
-IsIn item s v = (item.state ≡ s) × ((item.tree ≡ v) ⊎ (IsTrue item.full × (item.other ≡ v)))
+IsIn item s v = (item.state ≡ s) × (item.tree ≡ v)
 
 abbrev pub Holds : List Item → ℕ → Tree → Type 0
 Holds cell s v = (k : ℕ) × (item : Item) × (slice_get cell k ≡ Some item) × IsIn item s v
@@ -152,10 +151,6 @@ pub record IsCell (g : Table) (text : List Terminal) (i done e : ℕ) (cell : Li
 
 abbrev pub IsCells : Table → List Terminal → ℕ → ℕ → List (Vec Item Global) → Type 0
 IsCells g text i done cells = (j e : ℕ) → j + e ≡ length text → j < length cells → IsCell g text i done e (inner cells j)
-
--- so many empty lists
-abbrev pub AreEmpty : {A : Type 0} → ℕ → List (Vec A Global) → Type 0
-AreEmpty n lists = (length lists ≡ n) × ((j : ℕ) → inner lists j ≡ [])
 
 -- the first cells of a place
 abbrev pub AreFirst : Table → List Terminal → ℕ → List (Vec Item Global) → Type 0

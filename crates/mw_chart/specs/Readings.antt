@@ -5,7 +5,7 @@ use Rattle.mw_chart.specs.Tree.{Tree}
 use Rattle.mw_chart.specs.Spelling.{NextAt}
 use Rattle.mw_chart.specs.Chart.{Has}
 use Rattle.mw_chart.specs.Answer.{IsOf}
-use Rattle.mw_chart.specs.declared.pair.Places.{Places}
+use Rattle.mw_chart.specs.declared.parsing.Places.{Places}
 use Rattle.mw_chart.specs.declared.item.Constituent.{Constituent}
 use Rattle.mw_chart.specs.declared.table.Next.TheVariants.{Whole}
 use Rattle.mw_chart.specs.declared.table.Table.{Table}

@@ -1,13 +1,15 @@
 -- How the constituents of a row are found, and which ends are full.
-use Rattle.std.specs.Prelude.{ℕ, ◌+◌, ◌*◌, ◌≤◌, ◌<◌, ◌≡◌, ◌⊎◌, List, [], Some, length}
+use Rattle.std.specs.Prelude.{ℕ, ◌+◌, ◌-◌, ◌*◌, ◌≤◌, ◌<◌, ◌≡◌, ◌⊎◌, List, [], Some, length}
 use Rattle.std.specs.Int.{bit_at}
 use Rattle.std.specs.List.{slice_get}
 use Rattle.std.specs.Global.{Global}
 use Rattle.std.specs.declared.vec.Vec.{Vec}
 use Rattle.mw_chart.specs.Tree.{Tree}
 use Rattle.mw_chart.specs.Bits.{IsSet}
+use Rattle.mw_chart.specs.Spelling.{IsTable}
 use Rattle.mw_chart.specs.Listed.{inner, IsListed}
-use Rattle.mw_chart.specs.Chart.{HasTwo, Has, CellsHold, CompletesBy, IsRow}
+use Rattle.mw_chart.specs.Chart.{HasTwo, Has, CellsHold, CompletesBy, IsRow, IsWithin}
+use Rattle.mw_chart.specs.declared.completing.Agenda.{Agenda}
 use Rattle.mw_chart.specs.declared.row.ChartRow.{ChartRow}
 use Rattle.mw_chart.specs.declared.row.Strip.{Strip}
 use Rattle.mw_chart.specs.declared.item.Item.{Item}
@@ -30,6 +32,15 @@ IsIndexed row = (j : ℕ) (r : Constituent) → slice_get row.constituents.items
 -- Of the ends that are ahead of a place, where cells are counted from the end: those that are marked for a state have two different trees of it.
 abbrev pub AreFull : ℕ → List (Vec ℕ Global) → List (Vec Item Global) → Type 0
 AreFull n full cells = (s e j : ℕ) → IsSet (inner full s) e → j + e ≡ n → j < length cells → HasTwo (CellsHold cells (j, s))
+
+-- Cells for m ends lie ahead in a text of n tokens; what is marked is full, and the row's constituents are found and end at one of them.
+pub record IsReady (n m : ℕ) (row : ChartRow) (agenda : Agenda) : Type 0 where
+  pub short : n ≤ 1024
+  pub shape : m ≤ n
+  pub indexed : IsIndexed row
+  pub within : IsWithin row.constituents.items (n - m) n
+  pub count : length agenda.cells.items ≡ m
+  pub full : AreFull n agenda.full.items agenda.cells.items
 
 -- what the constituent at an index adds
 abbrev pub CompletesAt : Table → List Constituent → ℕ → ℕ → ℕ → ℕ → Tree → ℕ → ℕ × ℕ → Tree → Type 0
@@ -59,3 +70,11 @@ AreBare n rows = (length rows ≡ n) × ((k : ℕ) (row : ChartRow) → slice_ge
 -- the rows from a place on are those of the text
 abbrev pub AreRows : Table → List Terminal → ℕ → List ChartRow → Type 0
 AreRows g text i rows = (k : ℕ) (row : ChartRow) → i ≤ k → slice_get rows k ≡ Some row → IsRow g text k (length text) row.constituents.items × IsIndexed row
+
+-- the rows behind a place of a text are those of the text
+pub record AreBehind (g : Table) (text : List Terminal) (i : ℕ) (behind : List ChartRow) : Type 0 where
+  pub table : IsTable g
+  pub short : length text ≤ 1024
+  pub below : i < length text
+  pub count : length behind ≡ length text + 1
+  pub rows : AreRows g text (i + 1) behind

@@ -26,8 +26,8 @@ pub fn insert(set: &mut Vec<u64>, x: usize) -> Result<(), AllocError>
 }
 
 /// The word at an index, where behind the last one all are 0.
-pub fn word_of(set: &Vec<u64>, j: usize) -> u64
-    ensures { result ≡ slice_index set.now.items j }
+pub fn word_of(set: &[u64], j: usize) -> u64
+    ensures { result ≡ slice_index set.now j }
 {
     if j < set.len() { set[j] } else { 0 }
 }

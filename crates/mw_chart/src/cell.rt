@@ -1,11 +1,11 @@
-// The chart: at each place the constituents that begin there, found from the last place to the first.
-ghost use Rattle.std.specs.Prelude.{◌≡◌, ◌≤◌, ◌<◌, ◌↔◌, ◌⊎◌, ◌-◌, ◌+◌, ℕ, IfOk, IfSome, IsTrue, length};
+// The cells of the chart: the items of a place and an end; and what comes next at a state.
+ghost use Rattle.std.specs.Prelude.{◌≡◌, ◌≤◌, ◌<◌, ◌↔◌, ◌⊎◌, ◌-◌, ◌+◌, ℕ, IfOk, IfSome, IfNone, IsTrue, length};
 ghost use Rattle.std.specs.List.{slice_get};
 ghost use Rattle.mw_chart.specs.declared.item.Item.{Item};
-ghost use Rattle.mw_chart.specs.declared.table.Next.TheVariants.{Whole};
+ghost use Rattle.mw_chart.specs.declared.table.Next.TheVariants.{Token, Whole};
 ghost use Rattle.mw_chart.specs.Tree.{Tree};
 ghost use Rattle.mw_chart.specs.Spelling.{NextAt, TokenAt};
-ghost use Rattle.mw_chart.specs.Chart.{Has, HasTwo, IsIn, Holds, Puts, Adds, CellsHold, IsPut, CompletesBy, Completes, Advances, AdvancesItem, AdvancesCell, IsWithin};
+ghost use Rattle.mw_chart.specs.Chart.{Has, HasTwo, Holds, Puts, Adds, CellsHold, IsPut, CompletesBy, Completes, Advances, AdvancesItem, AdvancesCell, IsWithin};
 
 use crate::item::{Constituent, Item};
 use crate::table::{Next, Table};
@@ -13,37 +13,37 @@ use crate::terminal::Terminal;
 use crate::tree::Tree;
 use std::alloc::{AllocError, Global};
 
-/// Whether a cell needs no further tree at a state.
-pub fn is_full(cell: &Vec<Item>, state: usize) -> bool
-    ensures { IsTrue result → HasTwo (Holds cell.now.items state) }
-{
-    for item in cell {
-        if item.state == state && item.full {
-            return true;
-        }
-    }
-    false
-}
-
-/// Where a state's item is.
-fn item_of(cell: &Vec<Item>, state: usize) -> Option<usize>
+/// Where the first item at a state is, from a place on.
+fn item_from(cell: &Vec<Item>, from: usize, state: usize) -> Option<usize>
     ensures { IfSome result (λ k. (item : Item) × (slice_get cell.now.items k ≡ Some item) × (item.state ≡ state)) }
 {
-    for (i, item) in cell.iter().enumerate() {
-        if item.state == state {
-            return Some(i);
+    for k in from..cell.len() {
+        if cell[k].state == state {
+            return Some(k);
         }
     }
     None
 }
 
-/// Puts a tree into its state's item, unless it is there or two are.
-fn join(item: &mut Item, tree: Tree)
-    ensures { Puts (IsIn item.old) (IsIn item.new) item.old.state tree }
+/// Whether a cell needs no further tree at a state.
+pub fn is_full(cell: &Vec<Item>, state: usize) -> bool
+    ensures { IsTrue result → HasTwo (Holds cell.now.items state) }
 {
-    if !item.full && !item.tree.same(&tree) {
-        item.other = tree;
-        item.full = true;
+    if let Some(one) = item_from(cell, 0, state) {
+        if let Some(other) = item_from(cell, one + 1, state) {
+            return !cell[one].tree.same(&cell[other].tree);
+        }
+    }
+    false
+}
+
+/// Whether a cell has a tree at a state, or two different ones.
+fn has(cell: &Vec<Item>, state: usize, tree: &Tree) -> bool
+    ensures { IsTrue result → Has (Holds cell.now.items state) tree.now }
+{
+    match item_from(cell, 0, state) {
+        Some(k) => cell[k].tree.same(tree) || is_full(cell, state),
+        None => false,
     }
 }
 
@@ -51,18 +51,8 @@ fn join(item: &mut Item, tree: Tree)
 pub fn put(cell: &mut Vec<Item>, state: usize, tree: Tree) -> Result<(), AllocError>
     ensures { IfOk result (λ _. Puts (Holds cell.old.items) (Holds cell.new.items) state tree) }
 {
-    match item_of(cell, state) {
-        Some(k) => join(&mut cell[k], tree),
-        None => {
-            let other = tree.again()?;
-            let full = false;
-            cell.push(Item {
-                state,
-                tree,
-                other,
-                full,
-            })?;
-        }
+    if !has(cell, state, &tree) {
+        cell.push(Item { state, tree })?;
     }
     Ok(())
 }
@@ -105,17 +95,34 @@ pub fn next_of(table: &Table, state: usize) -> Option<Next>
     next_in(table.steps.as_slice(), state)
 }
 
+/// The kind and the precedence of a state of whole texts.
+pub fn whole_of(table: &Table, state: usize) -> Option<(u32, u32)>
+    ensures some { IfSome result (λ w. NextAt table.now state (Whole w.0 w.1)) }
+    ensures none { IfNone result ((kind precedence : ℕ) → NextAt table.now state (Whole kind precedence) → ⊥) }
+{
+    match next_of(table, state) {
+        Some(Next::Whole { kind, precedence }) => Some((kind, precedence)),
+        _ => None,
+    }
+}
+
+/// The token that comes next at a state, and the state behind it.
+pub fn token_of(table: &Table, state: usize) -> Option<(u32, usize)>
+    ensures some { IfSome result (λ t. NextAt table.now state (Token t.0 t.1)) }
+    ensures none { IfNone result ((token next : ℕ) → NextAt table.now state (Token token next) → ⊥) }
+{
+    match next_of(table, state) {
+        Some(Next::Token { token, next }) => Some((token, next)),
+        _ => None,
+    }
+}
+
 /// Whether a hole takes the texts of a state.
 pub fn takes(table: &Table, state: usize, kind: u32, below: u32) -> bool
     ensures { IsTrue result ↔ ((precedence : ℕ) × NextAt table.now state (Whole kind precedence) × (precedence < below)) }
 {
-    match next_of(table, state) {
-        Some(
-            Next::Whole {
-                kind: given,
-                precedence,
-            },
-        ) => given == kind && precedence < below,
-        _ => false,
+    match whole_of(table, state) {
+        Some((given, precedence)) => given == kind && precedence < below,
+        None => false,
     }
 }

@@ -1,14 +1,13 @@
 // Rows: the constituents that begin at each place.
 ghost use Rattle.std.specs.Prelude.{◌≡◌, ◌≤◌, ◌<◌, ◌-◌, ◌+◌, ℕ, IfOk, length};
 ghost use Rattle.mw_chart.specs.Chart.{IsRow, IsCell, IsCells, AreFirst};
-ghost use Rattle.mw_chart.specs.Row.{IsIndexed, AreFull, AreBare, AreRows};
+ghost use Rattle.mw_chart.specs.Row.{IsIndexed, AreFull, AreBare, AreRows, AreBehind};
 ghost use Rattle.mw_chart.specs.Spelling.{IsTable};
 
-use crate::advancing::advance_cell;
 use crate::cell::stands;
-use crate::completing::Agenda;
-use crate::empty::empty_lists;
+use crate::completing::{Agenda, advance_cell};
 use crate::item::{Constituent, Item};
+use crate::numbered::grow;
 use crate::predicting::predict;
 use crate::row::{ChartRow, indexed};
 use crate::scanning::{group, keep_cell, scan};
@@ -48,13 +47,11 @@ fn first_cells(
     rows: &Vec<ChartRow>,
     i: usize,
 ) -> Result<Vec<Vec<Item>>, AllocError>
-    requires table { IsTable table.now }
-    requires below { i < length text.now }
-    requires count { length rows.now.items ≡ length text.now + 1 }
-    requires rows { AreRows table.now text.now (i + 1) rows.now.items }
+    requires { AreBehind table.now text.now i rows.now.items }
     ensures { IfOk result (λ cells. AreFirst table.now text.now i cells.items) }
 {
-    let mut cells = empty_lists(alloc, text.len() - i)?;
+    let mut cells = Vec::new(alloc);
+    grow(alloc, &mut cells, text.len() - i)?;
     scan(alloc, table, text, i, &mut cells)?;
     if stands(text, i, table.open) {
         group(table, text, i, &rows[i + 1].constituents, &mut cells)?;
@@ -105,11 +102,7 @@ fn constituents_at(
     rows: &Vec<ChartRow>,
     i: usize,
 ) -> Result<Vec<Constituent>, AllocError>
-    requires table { IsTable table.now }
-    requires short { length text.now ≤ 1024 }
-    requires below { i < length text.now }
-    requires count { length rows.now.items ≡ length text.now + 1 }
-    requires rows { AreRows table.now text.now (i + 1) rows.now.items }
+    requires { AreBehind table.now text.now i rows.now.items }
     ensures { IfOk result (λ constituents. IsRow table.now text.now i (length text.now) constituents.items) }
 {
     let cells = first_cells(alloc, table, text, rows, i)?;
@@ -140,16 +133,12 @@ fn row_at(
     rows: &Vec<ChartRow>,
     i: usize,
 ) -> Result<ChartRow, AllocError>
-    requires table { IsTable table.now }
-    requires short { length text.now ≤ 1024 }
-    requires below { i < length text.now }
-    requires count { length rows.now.items ≡ length text.now + 1 }
-    requires rows { AreRows table.now text.now (i + 1) rows.now.items }
+    requires { AreBehind table.now text.now i rows.now.items }
     ensures row { IfOk result (λ row. IsRow table.now text.now i (length text.now) row.constituents.items) }
     ensures indexed { IfOk result IsIndexed }
 {
     let constituents = constituents_at(alloc, table, text, rows, i)?;
-    indexed(alloc, constituents, text.len())
+    indexed(alloc, constituents)
 }
 
 /// The constituents at each place.

@@ -1,17 +1,17 @@
-// Goes on over a hole by the constituents of a row, past the ends that need no further tree.
-ghost use Rattle.std.specs.Prelude.{◌≡◌, ◌≤◌, ◌<◌, ◌+◌, ◌-◌, ◌^◌, ℕ, IfOk, length, slice_index};
-ghost use Rattle.std.specs.Int.{bit_at};
+// Goes one step on from items: over a token, or over a hole by the constituents of a row, past the ends that need no
+// further tree.
+ghost use Rattle.std.specs.Prelude.{◌≡◌, ◌≤◌, ◌<◌, ◌+◌, ◌^◌, ℕ, IfOk, length};
 ghost use Rattle.mw_chart.specs.Bits.{IsSet};
-ghost use Rattle.mw_chart.specs.Listed.{inner};
-ghost use Rattle.mw_chart.specs.Chart.{Adds, CellsHold, CompletesBy, Completes, IsWithin};
-ghost use Rattle.mw_chart.specs.Row.{IsIndexed, AreFull, CompletesAt, CompletesListed, IsInWord, Grows, Covers};
+ghost use Rattle.mw_chart.specs.Chart.{Adds, CellsHold, CompletesBy, Completes, Advances, AdvancesCell};
+ghost use Rattle.mw_chart.specs.Row.{IsReady, AreFull, CompletesAt, IsInWord, Grows, Covers};
 
 use crate::bits::{insert, open_of, without_lowest, word_of};
-use crate::cell::{is_full, put_at, takes};
-use crate::empty::grow;
+use crate::cell::{is_full, next_of, put_at, stands, takes};
 use crate::item::{Constituent, Item};
+use crate::numbered::{grow, listed};
 use crate::row::{ChartRow, Strip};
-use crate::table::Table;
+use crate::table::{Next, Table};
+use crate::terminal::Terminal;
 use crate::tree::Tree;
 use std::alloc::{AllocError, Global};
 
@@ -23,55 +23,56 @@ pub struct Agenda {
     pub full: Vec<Vec<u64>>,
 }
 
-/// A hole, and the state behind it.
-#[derive(Clone, Copy, Debug)]
-pub struct Hole {
-    pub kind: u32,
-    pub below: u32,
-    pub next: usize,
+/// An item that has come to a hole, the state behind it, and the row of a text of n tokens that has what may fill it.
+#[derive(Clone, Copy)]
+struct Completion<'a> {
+    table: &'a Table,
+    row: &'a ChartRow,
+    n: usize,
+    kind: u32,
+    below: u32,
+    next: usize,
+    tree: &'a Tree,
 }
 
 /// Puts the tree with a constituent as its next argument.
 fn complete_by(
     alloc: Global,
-    table: &Table,
+    over: Completion<'_>,
     constituent: &Constituent,
-    n: usize,
-    hole: Hole,
-    tree: &Tree,
     cells: &mut Vec<Vec<Item>>,
 ) -> Result<(), AllocError>
-    requires end { constituent.now.end ≤ n }
-    requires within { n < constituent.now.end + length cells.old.items }
+    requires end { constituent.now.end ≤ over.n }
+    requires within { over.n < constituent.now.end + length cells.old.items }
     ensures len { length cells.new.items ≡ length cells.old.items }
-    ensures ok { IfOk result (λ _. Adds (CellsHold cells.old.items) (CellsHold cells.new.items) (CompletesBy table.now constituent.now n hole.kind hole.below hole.next tree.now)) }
+    ensures ok { IfOk result (λ _. Adds (CellsHold cells.old.items) (CellsHold cells.new.items) (CompletesBy over.entry.table.now constituent.now over.entry.n over.entry.kind over.entry.below over.entry.next over.entry.tree.now)) }
 {
-    let at = n - constituent.end;
-    if !is_full(&cells[at], hole.next) && takes(table, constituent.state, hole.kind, hole.below) {
-        let whole = tree.with(alloc, &constituent.tree)?;
-        put_at(cells, at, hole.next, whole)?;
+    let at = over.n - constituent.end;
+    if !is_full(&cells[at], over.next)
+        && takes(over.table, constituent.state, over.kind, over.below)
+    {
+        let whole = over.tree.with(alloc, &constituent.tree)?;
+        put_at(cells, at, over.next, whole)?;
     }
     Ok(())
 }
 
-/// Marks an end where a state has two trees.
+/// Marks an end where the state behind the hole has two trees.
 fn mark(
     alloc: Global,
-    table: &Table,
-    agenda: &mut Agenda,
-    n: usize,
+    over: Completion<'_>,
     end: usize,
-    state: usize,
+    agenda: &mut Agenda,
 ) -> Result<(), AllocError>
-    requires end { end ≤ n }
-    requires within { n < end + length agenda.old.cells.items }
-    requires full { AreFull n agenda.old.full.items agenda.old.cells.items }
+    requires end { end ≤ over.n }
+    requires within { over.n < end + length agenda.old.cells.items }
+    requires full { AreFull over.n agenda.old.full.items agenda.old.cells.items }
     ensures cells { agenda.new.cells ≡ agenda.old.cells }
-    ensures full { IfOk result (λ _. AreFull n agenda.new.full.items agenda.new.cells.items) }
+    ensures full { IfOk result (λ _. AreFull over.entry.n agenda.new.full.items agenda.new.cells.items) }
 {
-    if state < table.steps.len() && is_full(&agenda.cells[n - end], state) {
-        grow(alloc, &mut agenda.full, state + 1)?;
-        insert(&mut agenda.full[state], end)?;
+    if over.next < over.table.steps.len() && is_full(&agenda.cells[over.n - end], over.next) {
+        grow(alloc, &mut agenda.full, over.next + 1)?;
+        insert(&mut agenda.full[over.next], end)?;
     }
     Ok(())
 }
@@ -79,49 +80,18 @@ fn mark(
 /// Puts the tree with the constituent at an index.
 fn complete_at(
     alloc: Global,
-    table: &Table,
-    row: &ChartRow,
+    over: Completion<'_>,
     place: usize,
-    n: usize,
-    hole: Hole,
-    tree: &Tree,
     agenda: &mut Agenda,
 ) -> Result<(), AllocError>
-    requires shape { length agenda.old.cells.items ≤ n }
-    requires within { IsWithin row.now.constituents.items (n - length agenda.old.cells.items) n }
-    requires full { AreFull n agenda.old.full.items agenda.old.cells.items }
-    ensures len { length agenda.new.cells.items ≡ length agenda.old.cells.items }
-    ensures ok { IfOk result (λ _. Adds (CellsHold agenda.old.cells.items) (CellsHold agenda.new.cells.items) (CompletesAt table.now row.now.constituents.items n hole.kind hole.below hole.next tree.now place)) }
-    ensures full { IfOk result (λ _. AreFull n agenda.new.full.items agenda.new.cells.items) }
+    requires { IsReady over.n (length agenda.old.cells.items) over.row.now agenda.old }
+    ensures ready { IfOk result (λ _. IsReady over.entry.n (length agenda.old.cells.items) over.entry.row.now agenda.new) }
+    ensures ok { IfOk result (λ _. Adds (CellsHold agenda.old.cells.items) (CellsHold agenda.new.cells.items) (CompletesAt over.entry.table.now over.entry.row.now.constituents.items over.entry.n over.entry.kind over.entry.below over.entry.next over.entry.tree.now place)) }
 {
-    if place < row.constituents.len() {
-        let constituent = &row.constituents[place];
-        complete_by(alloc, table, constituent, n, hole, tree, &mut agenda.cells)?;
-        mark(alloc, table, agenda, n, constituent.end, hole.next)?;
-    }
-    Ok(())
-}
-
-/// Puts the tree with each constituent of a list of indexes.
-fn complete_listed(
-    alloc: Global,
-    table: &Table,
-    row: &ChartRow,
-    places: &Vec<usize>,
-    n: usize,
-    hole: Hole,
-    tree: &Tree,
-    agenda: &mut Agenda,
-) -> Result<(), AllocError>
-    requires shape { length agenda.old.cells.items ≤ n }
-    requires within { IsWithin row.now.constituents.items (n - length agenda.old.cells.items) n }
-    requires full { AreFull n agenda.old.full.items agenda.old.cells.items }
-    ensures len { length agenda.new.cells.items ≡ length agenda.old.cells.items }
-    ensures ok { IfOk result (λ _. Adds (CellsHold agenda.old.cells.items) (CellsHold agenda.new.cells.items) (CompletesListed table.now row.now.constituents.items places.now.items n hole.kind hole.below hole.next tree.now)) }
-    ensures full { IfOk result (λ _. AreFull n agenda.new.full.items agenda.new.cells.items) }
-{
-    for place in places {
-        complete_at(alloc, table, row, *place, n, hole, tree, agenda)?;
+    if place < over.row.constituents.len() {
+        let constituent = &over.row.constituents[place];
+        complete_by(alloc, over, constituent, &mut agenda.cells)?;
+        mark(alloc, over, constituent.end, agenda)?;
     }
     Ok(())
 }
@@ -129,25 +99,17 @@ fn complete_listed(
 /// Puts the tree with each constituent that ends at a place.
 fn complete_end(
     alloc: Global,
-    table: &Table,
-    row: &ChartRow,
+    over: Completion<'_>,
     end: usize,
-    n: usize,
-    hole: Hole,
-    tree: &Tree,
     agenda: &mut Agenda,
 ) -> Result<(), AllocError>
-    requires indexed { IsIndexed row.now }
-    requires shape { length agenda.old.cells.items ≤ n }
-    requires within { IsWithin row.now.constituents.items (n - length agenda.old.cells.items) n }
-    requires full { AreFull n agenda.old.full.items agenda.old.cells.items }
-    ensures len { length agenda.new.cells.items ≡ length agenda.old.cells.items }
-    ensures grows { IfOk result (λ _. Grows (CellsHold agenda.old.cells.items) (CellsHold agenda.new.cells.items) (Completes table.now row.now.constituents.items n hole.kind hole.below hole.next tree.now)) }
-    ensures covers { IfOk result (λ _. Covers (CellsHold agenda.new.cells.items) table.now row.now.constituents.items n hole.kind hole.below hole.next tree.now (λ r. r.end ≡ end)) }
-    ensures full { IfOk result (λ _. AreFull n agenda.new.full.items agenda.new.cells.items) }
+    requires { IsReady over.n (length agenda.old.cells.items) over.row.now agenda.old }
+    ensures ready { IfOk result (λ _. IsReady over.entry.n (length agenda.old.cells.items) over.entry.row.now agenda.new) }
+    ensures grows { IfOk result (λ _. Grows (CellsHold agenda.old.cells.items) (CellsHold agenda.new.cells.items) (Completes over.entry.table.now over.entry.row.now.constituents.items over.entry.n over.entry.kind over.entry.below over.entry.next over.entry.tree.now)) }
+    ensures covers { IfOk result (λ _. Covers (CellsHold agenda.new.cells.items) over.entry.table.now over.entry.row.now.constituents.items over.entry.n over.entry.kind over.entry.below over.entry.next over.entry.tree.now (λ r. r.end ≡ end)) }
 {
-    if end < row.places.len() {
-        complete_listed(alloc, table, row, &row.places[end], n, hole, tree, agenda)?;
+    for place in listed(&over.row.places, end) {
+        complete_at(alloc, over, *place, agenda)?;
     }
     Ok(())
 }
@@ -155,101 +117,124 @@ fn complete_end(
 /// Puts the tree with each constituent that ends at an end of a word.
 fn complete_word(
     alloc: Global,
-    table: &Table,
-    row: &ChartRow,
+    over: Completion<'_>,
     index: usize,
     word: u64,
-    n: usize,
-    hole: Hole,
-    tree: &Tree,
     agenda: &mut Agenda,
 ) -> Result<(), AllocError>
-    requires indexed { IsIndexed row.now }
     requires index { index ≤ 2 ^ 32 }
-    requires shape { length agenda.old.cells.items ≤ n }
-    requires within { IsWithin row.now.constituents.items (n - length agenda.old.cells.items) n }
-    requires full { AreFull n agenda.old.full.items agenda.old.cells.items }
-    ensures len { length agenda.new.cells.items ≡ length agenda.old.cells.items }
-    ensures grows { IfOk result (λ _. Grows (CellsHold agenda.old.cells.items) (CellsHold agenda.new.cells.items) (Completes table.now row.now.constituents.items n hole.kind hole.below hole.next tree.now)) }
-    ensures covers { IfOk result (λ _. Covers (CellsHold agenda.new.cells.items) table.now row.now.constituents.items n hole.kind hole.below hole.next tree.now (IsInWord index word)) }
-    ensures full { IfOk result (λ _. AreFull n agenda.new.full.items agenda.new.cells.items) }
+    requires ready { IsReady over.n (length agenda.old.cells.items) over.row.now agenda.old }
+    ensures ready { IfOk result (λ _. IsReady over.entry.n (length agenda.old.cells.items) over.entry.row.now agenda.new) }
+    ensures grows { IfOk result (λ _. Grows (CellsHold agenda.old.cells.items) (CellsHold agenda.new.cells.items) (Completes over.entry.table.now over.entry.row.now.constituents.items over.entry.n over.entry.kind over.entry.below over.entry.next over.entry.tree.now)) }
+    ensures covers { IfOk result (λ _. Covers (CellsHold agenda.new.cells.items) over.entry.table.now over.entry.row.now.constituents.items over.entry.n over.entry.kind over.entry.below over.entry.next over.entry.tree.now (IsInWord index word)) }
 {
     let mut left = word;
     while left != 0 {
         let end = index * 64 + left.trailing_zeros() as usize;
         left = without_lowest(left);
-        complete_end(alloc, table, row, end, n, hole, tree, agenda)?;
+        complete_end(alloc, over, end, agenda)?;
     }
     Ok(())
-}
-
-/// The word of a state's full ends.
-fn full_word(full: &Vec<Vec<u64>>, state: usize, j: usize) -> u64
-    ensures { result ≡ slice_index (inner full.now.items state) j }
-{
-    if state < full.len() {
-        word_of(&full[state], j)
-    } else {
-        0
-    }
 }
 
 /// Puts the tree with each constituent of a strip that the hole takes, past the ends that are full.
 fn complete_strip(
     alloc: Global,
-    table: &Table,
-    row: &ChartRow,
+    over: Completion<'_>,
     strip: &Strip,
-    n: usize,
-    hole: Hole,
-    tree: &Tree,
     agenda: &mut Agenda,
 ) -> Result<(), AllocError>
-    requires indexed { IsIndexed row.now }
-    requires short { n ≤ 1024 }
-    requires shape { length agenda.old.cells.items ≤ n }
-    requires within { IsWithin row.now.constituents.items (n - length agenda.old.cells.items) n }
-    requires full { AreFull n agenda.old.full.items agenda.old.cells.items }
-    ensures len { length agenda.new.cells.items ≡ length agenda.old.cells.items }
-    ensures grows { IfOk result (λ _. Grows (CellsHold agenda.old.cells.items) (CellsHold agenda.new.cells.items) (Completes table.now row.now.constituents.items n hole.kind hole.below hole.next tree.now)) }
-    ensures covers { IfOk result (λ _. Covers (CellsHold agenda.new.cells.items) table.now row.now.constituents.items n hole.kind hole.below hole.next tree.now (λ r. (strip.now.state ≡ r.state) × IsSet strip.now.ends.items r.end)) }
-    ensures full { IfOk result (λ _. AreFull n agenda.new.full.items agenda.new.cells.items) }
+    requires { IsReady over.n (length agenda.old.cells.items) over.row.now agenda.old }
+    ensures ready { IfOk result (λ _. IsReady over.entry.n (length agenda.old.cells.items) over.entry.row.now agenda.new) }
+    ensures grows { IfOk result (λ _. Grows (CellsHold agenda.old.cells.items) (CellsHold agenda.new.cells.items) (Completes over.entry.table.now over.entry.row.now.constituents.items over.entry.n over.entry.kind over.entry.below over.entry.next over.entry.tree.now)) }
+    ensures covers { IfOk result (λ _. Covers (CellsHold agenda.new.cells.items) over.entry.table.now over.entry.row.now.constituents.items over.entry.n over.entry.kind over.entry.below over.entry.next over.entry.tree.now (λ r. (strip.now.state ≡ r.state) × IsSet strip.now.ends.items r.end)) }
 {
-    if !takes(table, strip.state, hole.kind, hole.below) {
+    if !takes(over.table, strip.state, over.kind, over.below) {
         return Ok(());
     }
-    let first = (n - agenda.cells.len()) / 64;
-    for index in first..n / 64 + 1 {
-        let word = open_of(
-            word_of(&strip.ends, index),
-            full_word(&agenda.full, hole.next, index),
-        );
-        complete_word(alloc, table, row, index, word, n, hole, tree, agenda)?;
+    let first = (over.n - agenda.cells.len()) / 64;
+    for index in first..over.n / 64 + 1 {
+        let full = word_of(listed(&agenda.full, over.next), index);
+        let word = open_of(word_of(strip.ends.as_slice(), index), full);
+        complete_word(alloc, over, index, word, agenda)?;
     }
     Ok(())
 }
 
 /// Puts the tree with each constituent of the row that the hole takes.
-pub fn complete(
+fn complete(alloc: Global, over: Completion<'_>, agenda: &mut Agenda) -> Result<(), AllocError>
+    requires { IsReady over.n (length agenda.old.cells.items) over.row.now agenda.old }
+    ensures ready { IfOk result (λ _. IsReady over.entry.n (length agenda.old.cells.items) over.entry.row.now agenda.new) }
+    ensures ok { IfOk result (λ _. Adds (CellsHold agenda.old.cells.items) (CellsHold agenda.new.cells.items) (Completes over.entry.table.now over.entry.row.now.constituents.items over.entry.n over.entry.kind over.entry.below over.entry.next over.entry.tree.now)) }
+{
+    for strip in &over.row.strips {
+        complete_strip(alloc, over, strip, agenda)?;
+    }
+    Ok(())
+}
+
+/// Goes one step on from a text begun.
+fn advance(
     alloc: Global,
     table: &Table,
+    text: &[Terminal],
     row: &ChartRow,
-    n: usize,
-    hole: Hole,
+    at: usize,
+    state: usize,
     tree: &Tree,
     agenda: &mut Agenda,
 ) -> Result<(), AllocError>
-    requires indexed { IsIndexed row.now }
-    requires short { n ≤ 1024 }
-    requires shape { length agenda.old.cells.items ≤ n }
-    requires within { IsWithin row.now.constituents.items (n - length agenda.old.cells.items) n }
-    requires full { AreFull n agenda.old.full.items agenda.old.cells.items }
-    ensures len { length agenda.new.cells.items ≡ length agenda.old.cells.items }
-    ensures ok { IfOk result (λ _. Adds (CellsHold agenda.old.cells.items) (CellsHold agenda.new.cells.items) (Completes table.now row.now.constituents.items n hole.kind hole.below hole.next tree.now)) }
-    ensures full { IfOk result (λ _. AreFull n agenda.new.full.items agenda.new.cells.items) }
+    requires shape { at + length agenda.old.cells.items ≡ length text.now }
+    requires ready { IsReady (length text.now) (length agenda.old.cells.items) row.now agenda.old }
+    ensures ready { IfOk result (λ _. IsReady (length text.now) (length agenda.old.cells.items) row.now agenda.new) }
+    ensures ok { IfOk result (λ _. Adds (CellsHold agenda.old.cells.items) (CellsHold agenda.new.cells.items) (Advances table.now text.now row.now.constituents.items at state tree.now)) }
 {
-    for strip in &row.strips {
-        complete_strip(alloc, table, row, strip, n, hole, tree, agenda)?;
+    match next_of(table, state) {
+        Some(Next::Token { token, next }) => {
+            if stands(text, at, token) {
+                put_at(&mut agenda.cells, text.len() - at - 1, next, tree.again()?)?;
+            }
+            Ok(())
+        }
+        Some(Next::Hole { kind, below, next }) => {
+            let over = Completion {
+                table,
+                row,
+                n: text.len(),
+                kind,
+                below,
+                next,
+                tree,
+            };
+            complete(alloc, over, agenda)
+        }
+        Some(
+            Next::Whole {
+                kind: _kind,
+                precedence: _precedence,
+            },
+        ) => Ok(()),
+        None => Ok(()),
+    }
+}
+
+/// Goes one step on from the texts begun of a cell.
+pub fn advance_cell(
+    alloc: Global,
+    table: &Table,
+    text: &[Terminal],
+    row: &ChartRow,
+    at: usize,
+    cell: &Vec<Item>,
+    agenda: &mut Agenda,
+) -> Result<(), AllocError>
+    requires shape { at + length agenda.old.cells.items ≡ length text.now }
+    requires ready { IsReady (length text.now) (length agenda.old.cells.items) row.now agenda.old }
+    ensures ready { IfOk result (λ _. IsReady (length text.now) (length agenda.old.cells.items) row.now agenda.new) }
+    ensures ok { IfOk result (λ _. Adds (CellsHold agenda.old.cells.items) (CellsHold agenda.new.cells.items) (AdvancesCell table.now text.now row.now.constituents.items at cell.now.items)) }
+{
+    for item in cell {
+        advance(alloc, table, text, row, at, item.state, &item.tree, agenda)?;
     }
     Ok(())
 }

@@ -1,39 +1,12 @@
 // Starts, listed by the token or the kind of the hole that comes first.
 ghost use Rattle.std.specs.Prelude.{◌≡◌, IfOk};
-ghost use Rattle.mw_chart.specs.Listed.{inner, Joins};
+ghost use Rattle.mw_chart.specs.Listed.{Joins};
 ghost use Rattle.mw_chart.specs.Spelling.{BeginsWith, OpensWith, AreCornersOf};
 
 use crate::cell::next_in;
-use crate::empty::grow;
+use crate::numbered::join;
 use crate::table::{LeftCorners, Next, Production};
 use std::alloc::{AllocError, Global};
-
-/// The list at a number; an empty one beyond the last.
-pub fn listed(lists: &Vec<Vec<Production>>, number: u32) -> &[Production]
-    ensures { result.now ≡ inner lists.now.items number }
-{
-    let number = number as usize;
-    if number < lists.len() {
-        lists[number].as_slice()
-    } else {
-        &[]
-    }
-}
-
-/// Puts a production into the list at a number.
-fn join(
-    alloc: Global,
-    lists: &mut Vec<Vec<Production>>,
-    number: u32,
-    production: Production,
-) -> Result<(), AllocError>
-    ensures { IfOk result (λ _. Joins (λ i. i ≡ number) production lists.old.items lists.new.items) }
-{
-    let number = number as usize;
-    grow(alloc, lists, number + 1)?;
-    lists[number].push(production)?;
-    Ok(())
-}
 
 /// Puts a production into the list of what comes first at it.
 fn join_first(
@@ -49,7 +22,7 @@ fn join_first(
         Some(Next::Token { token, next: _next }) => join(
             alloc,
             &mut corners.by_token,
-            token,
+            token as usize,
             production,
         ),
         Some(
@@ -58,7 +31,7 @@ fn join_first(
                 below: _below,
                 next: _next,
             },
-        ) => join(alloc, &mut corners.by_kind, kind, production),
+        ) => join(alloc, &mut corners.by_kind, kind as usize, production),
         Some(
             Next::Whole {
                 kind: _kind,
@@ -69,7 +42,7 @@ fn join_first(
     }
 }
 
-/// The corners of these productions.
+/// The left corners of these productions.
 pub fn corners_of(
     alloc: Global,
     steps: &[Next],

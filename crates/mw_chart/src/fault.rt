@@ -1,4 +1,4 @@
-// Why texts have no one constituent.
+// Why texts have no one reading.
 
 use crate::tree::Tree;
 use std::alloc::AllocError;

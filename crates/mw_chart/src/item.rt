@@ -1,16 +1,11 @@
 // What a chart's cells and rows consist of.
-ghost use Rattle.std.specs.Prelude.{◌≢◌, IsTrue};
-
 use crate::tree::Tree;
 
-/// Texts begun that have come to a state: one tree, or two different ones.
+/// A text begun that has come to a state.
 #[derive(Drop)]
 pub struct Item {
     pub state: usize,
     pub tree: Tree,
-    pub other: Tree,
-    pub full: bool,
-    ghost differ: { IsTrue full → tree ≢ other },
 }
 
 /// A whole text.

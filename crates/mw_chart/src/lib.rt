@@ -35,19 +35,16 @@
 //! cell for each end behind it, so the square of its tokens at least, 1,024 at most; docs/PERFORMANCE.md has figures.
 #![tactic(auto)]
 
-mod advancing;
 mod bits;
 mod cell;
 mod chart;
 mod completing;
 mod corners;
-mod empty;
 mod fault;
 mod item;
-mod mixing;
 mod node;
-mod one;
-mod pair;
+mod numbered;
+mod parsing;
 mod predicting;
 mod reading;
 mod row;
@@ -58,8 +55,7 @@ mod tree;
 
 pub use fault::{LIMIT, NoPair, NoReading, TreePair};
 pub use node::{Node, TreeTop};
-pub use one::parse;
-pub use pair::parse_pair;
+pub use parsing::{parse, parse_pair};
 pub use reading::{Reading, readings};
 pub use table::{LeftCorners, Next, Production, Table};
 pub use terminal::{Leaf, Terminal};

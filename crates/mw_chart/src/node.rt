@@ -1,6 +1,7 @@
 // Terms that share their parts, by themselves.
 ghost use Rattle.std.specs.Prelude.{◌≡◌, ◌↔◌, IfOk, IsTrue};
 ghost use Rattle.mw_chart.specs.Tree.{leaf, head, app};
+ghost use Rattle.mw_chart.specs.Nodes.{tree_of};
 ghost use Rattle.mw_chart.specs.Tops.{tree_of_top};
 
 use std::alloc::{AllocError, Global};
@@ -65,20 +66,25 @@ impl Node {
         }
     }
 
+    fn of(alloc: Global, kind: NodeKind) -> Result<Node, AllocError>
+        ensures { IfOk result (λ t. t ≡ tree_of kind) }
+    {
+        let kind = Arc::new(alloc, kind).map_err(AllocError::from)?;
+        Ok(Node { kind })
+    }
+
     /// What a token spells by itself.
     pub fn leaf(alloc: Global, x: u32) -> Result<Node, AllocError>
         ensures { IfOk result (λ t. t ≡ leaf x) }
     {
-        let kind = Arc::new(alloc, NodeKind::Leaf(x)).map_err(AllocError::from)?;
-        Ok(Node { kind })
+        Node::of(alloc, NodeKind::Leaf(x))
     }
 
     /// An operator with no argument yet.
     pub fn head(alloc: Global, f: u32) -> Result<Node, AllocError>
         ensures { IfOk result (λ t. t ≡ head f) }
     {
-        let kind = Arc::new(alloc, NodeKind::Head(f)).map_err(AllocError::from)?;
-        Ok(Node { kind })
+        Node::of(alloc, NodeKind::Head(f))
     }
 
     /// The same tree once more.
@@ -95,8 +101,7 @@ impl Node {
     {
         let first = self.again()?;
         let last = last.again()?;
-        let kind = Arc::new(alloc, NodeKind::App(first, last)).map_err(AllocError::from)?;
-        Ok(Node { kind })
+        Node::of(alloc, NodeKind::App(first, last))
     }
 
     pub fn same(&self, other: &Node) -> bool

@@ -4,9 +4,9 @@ ghost use Rattle.mw_chart.specs.Chart.{Holds, Adds, IsLive, PredictsProduction, 
 ghost use Rattle.mw_chart.specs.Nothing.{Nothing};
 ghost use Rattle.mw_chart.specs.Spelling.{IsTable};
 
-use crate::cell::{is_full, next_of, put, stands};
-use crate::corners::listed;
+use crate::cell::{is_full, next_of, put, stands, token_of, whole_of};
 use crate::item::Item;
+use crate::numbered::listed;
 use crate::table::{Next, Production, Table};
 use crate::terminal::Terminal;
 use crate::tree::Tree;
@@ -16,9 +16,9 @@ use std::alloc::{AllocError, Global};
 fn is_live(table: &Table, text: &[Terminal], at: usize, state: usize) -> bool
     ensures { IsTrue result ↔ IsLive table.now text.now at state }
 {
-    match next_of(table, state) {
-        Some(Next::Token { token, .. }) => stands(text, at, token),
-        _ => true,
+    match token_of(table, state) {
+        Some((token, _next)) => stands(text, at, token),
+        None => true,
     }
 }
 
@@ -72,7 +72,7 @@ fn predict_by(
     requires { IsTable table.now }
     ensures { IfOk result (λ _. Adds (Holds predicted.old.items) (Holds predicted.new.items) (PredictsBy table.now text.now at kind precedence tree.now)) }
 {
-    let productions = listed(&table.corners.by_kind, kind);
+    let productions = listed(&table.corners.by_kind, kind as usize);
     for production in productions {
         predict_production(
             alloc, table, text, at, kind, precedence, tree, production, predicted,
@@ -92,26 +92,11 @@ fn predict_item(
     requires { IsTable table.now }
     ensures { IfOk result (λ _. Adds (Holds predicted.old.items) (Holds predicted.new.items) (PredictsItem table.now text.now at item.now)) }
 {
-    match next_of(table, item.state) {
-        Some(Next::Whole { kind, precedence }) => {
-            predict_by(
-                alloc, table, text, at, kind, precedence, &item.tree, predicted,
-            )?;
-            if item.full {
-                predict_by(
-                    alloc,
-                    table,
-                    text,
-                    at,
-                    kind,
-                    precedence,
-                    &item.other,
-                    predicted,
-                )?;
-            }
-            Ok(())
-        }
-        _ => Ok(()),
+    match whole_of(table, item.state) {
+        Some((kind, precedence)) => predict_by(
+            alloc, table, text, at, kind, precedence, &item.tree, predicted,
+        ),
+        None => Ok(()),
     }
 }
 

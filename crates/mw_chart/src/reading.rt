@@ -6,7 +6,7 @@ ghost use Rattle.mw_chart.specs.Nothing.{Nothing};
 ghost use Rattle.mw_chart.specs.Readings.{Lists, ListedBy, ListedAny, AreReadings};
 ghost use Rattle.mw_chart.specs.declared.table.Next.TheVariants.{Whole};
 
-use crate::cell::next_of;
+use crate::cell::whole_of;
 use crate::chart::chart_of;
 use crate::item::Constituent;
 use crate::table::{Next, Table};
@@ -30,24 +30,13 @@ fn list(
 ) -> Result<(), AllocError>
     ensures { IfOk result (λ _. Adds (Lists listed.old.items) (Lists listed.new.items) (ListedBy table.now n constituent.now)) }
 {
-    match next_of(table, constituent.state) {
-        Some(
-            Next::Whole {
-                kind,
-                precedence: _precedence,
-            },
-        ) => {
-            if kind > table.kinds {
-                return Ok(());
-            }
-            if constituent.end == n {
-                let tree = constituent.tree.again()?;
-                listed.push(Reading { kind, tree })?;
-            }
-            Ok(())
+    if let Some((kind, _precedence)) = whole_of(table, constituent.state) {
+        if kind <= table.kinds && constituent.end == n {
+            let tree = constituent.tree.again()?;
+            listed.push(Reading { kind, tree })?;
         }
-        _ => Ok(()),
     }
+    Ok(())
 }
 
 /// Lists the readings that end with the text.

@@ -7,8 +7,8 @@ ghost use Rattle.mw_chart.specs.Row.{IsInStrip, IsIndexed, EndBy};
 ghost use Rattle.mw_chart.specs.declared.row.Strip.{Strip};
 
 use crate::bits::insert;
-use crate::empty::empty_lists;
 use crate::item::Constituent;
+use crate::numbered::join;
 use std::alloc::{AllocError, Global};
 
 /// The ends of the texts that have come to a whole state.
@@ -25,16 +25,6 @@ pub struct ChartRow {
     /// For each end the indexes of its constituents.
     pub places: Vec<Vec<usize>>,
     pub strips: Vec<Strip>,
-}
-
-fn list_place(places: &mut Vec<Vec<usize>>, end: usize, k: usize) -> Result<(), AllocError>
-    requires { end < length places.old.items }
-    ensures len { length places.new.items ≡ length places.old.items }
-    ensures kept { IfOk result (λ _. (e j : ℕ) → IsListed places.old.items e j → IsListed places.new.items e j) }
-    ensures listed { IfOk result (λ _. IsListed places.new.items end k) }
-{
-    places[end].push(k)?;
-    Ok(())
 }
 
 /// Where a state's strip is.
@@ -77,21 +67,16 @@ fn list_end(
     }
 }
 
-/// The row of constituents that end by a place.
-pub fn indexed(
-    alloc: Global,
-    constituents: Vec<Constituent>,
-    n: usize,
-) -> Result<ChartRow, AllocError>
-    requires ends { EndBy n constituents.items }
-    requires short { n ≤ 1024 }
+/// The row of these constituents.
+pub fn indexed(alloc: Global, constituents: Vec<Constituent>) -> Result<ChartRow, AllocError>
+    requires { EndBy 1024 constituents.items }
     ensures constituents { IfOk result (λ row. row.constituents ≡ constituents) }
     ensures indexed { IfOk result IsIndexed }
 {
-    let mut places = empty_lists(alloc, n + 1)?;
+    let mut places = Vec::new(alloc);
     let mut strips = Vec::new(alloc);
     for (k, constituent) in constituents.iter().enumerate() {
-        list_place(&mut places, constituent.end, k)?;
+        join(alloc, &mut places, constituent.end, k)?;
         list_end(alloc, &mut strips, constituent.state, constituent.end)?;
     }
     Ok(ChartRow {

@@ -5,22 +5,15 @@ ghost use Rattle.mw_chart.specs.declared.table.Next.TheVariants.{Whole};
 ghost use Rattle.mw_chart.specs.Spelling.{NextAt, IsTable};
 ghost use Rattle.mw_chart.specs.Chart.{Holds, Adds, CellsHold, RowHolds, IsPut, KeepsItem, KeepsCell, ScansProduction, ScansProductions, ScansLeaves, Scans, GroupsBy, GroupsAny, IsWithin};
 
-use crate::cell::{next_of, put_at, stands};
-use crate::corners::listed;
+use crate::cell::{put_at, stands, token_of, whole_of};
 use crate::item::{Constituent, Item};
+use crate::numbered::listed;
 use crate::table::{Next, Production, Table};
 use crate::terminal::Terminal;
 use crate::tree::Tree;
 use std::alloc::{AllocError, Global};
 
-fn keep(row: &mut Vec<Constituent>, end: usize, state: usize, tree: &Tree) -> Result<(), AllocError>
-    ensures { IfOk result (λ _. Adds (RowHolds row.old.items) (RowHolds row.new.items) (IsPut end state tree.now)) }
-{
-    let tree = tree.again()?;
-    row.push(Constituent { end, state, tree })?;
-    Ok(())
-}
-
+/// Keeps an item as a constituent, where its text is whole.
 fn keep_item(
     table: &Table,
     at: usize,
@@ -29,20 +22,17 @@ fn keep_item(
 ) -> Result<(), AllocError>
     ensures { IfOk result (λ _. Adds (RowHolds row.old.items) (RowHolds row.new.items) (KeepsItem table.now at item.now)) }
 {
-    match next_of(table, item.state) {
-        Some(
-            Next::Whole {
-                kind: _kind,
-                precedence: _precedence,
-            },
-        ) => {
-            keep(row, at, item.state, &item.tree)?;
-            if item.full {
-                keep(row, at, item.state, &item.other)?;
-            }
+    match whole_of(table, item.state) {
+        Some(_whole) => {
+            let tree = item.tree.again()?;
+            row.push(Constituent {
+                end: at,
+                state: item.state,
+                tree,
+            })?;
             Ok(())
         }
-        _ => Ok(()),
+        None => Ok(()),
     }
 }
 
@@ -74,20 +64,13 @@ fn scan_production(
     ensures len { length cells.new.items ≡ length cells.old.items }
     ensures ok { IfOk result (λ _. Adds (CellsHold cells.old.items) (CellsHold cells.new.items) (ScansProduction table.now text.now i production.now)) }
 {
-    match next_of(table, production.state) {
-        Some(Next::Token { token, next }) => {
-            if stands(text, i, token) {
-                put_at(
-                    cells,
-                    text.len() - i - 1,
-                    next,
-                    Tree::head(alloc, production.operator)?,
-                )?;
-            }
-            Ok(())
+    if let Some((token, next)) = token_of(table, production.state) {
+        if stands(text, i, token) {
+            let head = Tree::head(alloc, production.operator)?;
+            put_at(cells, text.len() - i - 1, next, head)?;
         }
-        _ => Ok(()),
     }
+    Ok(())
 }
 
 /// Begins the operators' texts whose first token stands at the place.
@@ -104,7 +87,7 @@ fn scan_productions(
     ensures len { length cells.new.items ≡ length cells.old.items }
     ensures ok { IfOk result (λ _. Adds (CellsHold cells.old.items) (CellsHold cells.new.items) (ScansProductions table.now text.now i)) }
 {
-    let productions = listed(&table.corners.by_token, text[i].token);
+    let productions = listed(&table.corners.by_token, text[i].token as usize);
     for production in productions {
         scan_production(alloc, table, text, i, production, cells)?;
     }
@@ -158,8 +141,8 @@ fn group_of(table: &Table, state: usize) -> Option<usize>
     ensures some { IfSome result (λ s. (kind precedence : ℕ) × NextAt table.now state (Whole kind precedence) × (slice_get table.now.groups.items kind ≡ Some s)) }
     ensures none { IfNone result ((kind precedence s : ℕ) → NextAt table.now state (Whole kind precedence) → slice_get table.now.groups.items kind ≡ Some s → ⊥) }
 {
-    match next_of(table, state) {
-        Some(Next::Whole { kind, .. }) => {
+    match whole_of(table, state) {
+        Some((kind, _precedence)) => {
             let kind = kind as usize;
             if kind < table.groups.len() {
                 Some(table.groups[kind])
@@ -167,7 +150,7 @@ fn group_of(table: &Table, state: usize) -> Option<usize>
                 None
             }
         }
-        _ => None,
+        None => None,
     }
 }
 

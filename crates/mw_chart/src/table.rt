@@ -3,7 +3,7 @@ use crate::corners::corners_of;
 use std::alloc::{AllocError, Global};
 
 /// What comes next at a state.
-#[derive(Clone, Copy, Debug)]
+#[derive(Clone, Copy)]
 pub enum Next {
     /// A token, and the state behind it.
     Token { token: u32, next: usize },
@@ -14,7 +14,7 @@ pub enum Next {
 }
 
 /// Where an operator's texts begin.
-#[derive(Clone, Copy, Debug)]
+#[derive(Clone, Copy)]
 pub struct Production {
     pub state: usize,
     pub operator: u32,
@@ -46,7 +46,7 @@ impl Table {
     ghost use Rattle.std.specs.Prelude.{◌≡◌, IfOk};
     ghost use Rattle.mw_chart.specs.Spelling.{AreCornersOf};
 
-    /// A table, with the corners of its productions. The corners has as many lists as the largest number that comes first.
+    /// A table, with the left corners of its productions: as many lists as the largest number that comes first.
     pub fn new(
         alloc: Global,
         steps: Vec<Next>,

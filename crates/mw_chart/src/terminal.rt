@@ -1,7 +1,7 @@
 // The tokens of a text.
 
 /// What a token spells as a whole tree by itself: a state of whole texts, and a number of the caller's.
-#[derive(Clone, Copy, Debug)]
+#[derive(Clone, Copy)]
 pub struct Leaf {
     pub state: usize,
     pub value: u32,

@@ -1,11 +1,17 @@
 // Terms, each with a number by which most are told apart.
-ghost use Rattle.mw_chart.specs.Hash.{hash_of};
+ghost use Rattle.mw_chart.specs.Hash.{hash_of, mixed};
 ghost use Rattle.std.specs.Prelude.{◌≡◌};
 
-use crate::mixing::mix;
 use crate::node::Node;
 use std::alloc::{AllocError, Global};
 use std::marker::Model;
+
+/// Two numbers, mixed.
+fn mix(a: u64, b: u64) -> u64
+    ensures { result ≡ mixed a b }
+{
+    (a.wrapping_mul(11400714819323198485) ^ b).wrapping_mul(14029467366897019727)
+}
 
 /// A leaf, or an operator applied to one argument after another.
 #[derive(Drop)]

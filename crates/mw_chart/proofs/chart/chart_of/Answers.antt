@@ -24,11 +24,18 @@ loop-i-preserved c =
           (subst (λ (m : ℕ). AreRows c.args.table.now c.args.text.now m c.loop-i.rows.items) same c.loop-i.invariant.rows) c.in_ok-row.ensures.row c.in_ok-row.ensures.indexed;
     }
 
-pub row_at-requires-clause-rows : goal.row_at-requires-clause-rows
-row_at-requires-clause-rows c =
+pub row_at-requires : goal.row_at-requires
+row_at-requires c =
     let some = c.loop-i-test.true in
+    let low = c.loop-i.invariant.low in
     let same : c.loop-i.i ≡ c.loop-i.i - 1 + 1 = omega (arith, some) in
-    subst (λ (m : ℕ). AreRows c.args.table.now c.args.text.now m c.loop-i.rows.items) same c.loop-i.invariant.rows
+    record {
+      table = c.requires.table;
+      short = c.requires.short;
+      below = omega (arith, some, low);
+      count = c.loop-i.invariant.count;
+      rows = subst (λ (m : ℕ). AreRows c.args.table.now c.args.text.now m c.loop-i.rows.items) same c.loop-i.invariant.rows;
+    }
 
 pub returns-clause-rows : goal.returns-clause-rows
 returns-clause-rows c =

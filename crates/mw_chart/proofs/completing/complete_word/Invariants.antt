@@ -1,15 +1,14 @@
-use Rattle.std.proofs.Common.{◌≡◌, length}
+use Rattle.std.proofs.Common.{length}
 use Rattle.mw_chart.specs.Chart.{CellsHold, Completes}
-use Rattle.mw_chart.specs.Row.{AreFull, Grows, Covers}
+use Rattle.mw_chart.specs.Row.{IsReady, Grows, Covers}
 use Rattle.mw_chart.proofs.Covered.{IsDone}
 use Rattle.mw_chart.proofs.completing.complete_word.Given as goal
 
 abbrev pub invariant-loop-left : goal.invariant-loop-left
 invariant-loop-left l = record {
-  len : length l.agenda.cells.items ≡ length l.initial.agenda.cells.items;
-  grows : Grows (CellsHold l.initial.agenda.cells.items) (CellsHold l.agenda.cells.items) (Completes l.table l.row.constituents.items l.n l.hole.kind l.hole.below l.hole.next l.tree);
-  covers : Covers (CellsHold l.agenda.cells.items) l.table l.row.constituents.items l.n l.hole.kind l.hole.below l.hole.next l.tree (IsDone l.index l.word l.left);
-  full : AreFull l.n l.agenda.full.items l.agenda.cells.items;
+  ready : IsReady l.over.n (length l.initial.agenda.cells.items) l.over.row.now l.agenda;
+  grows : Grows (CellsHold l.initial.agenda.cells.items) (CellsHold l.agenda.cells.items) (Completes l.over.table.now l.over.row.now.constituents.items l.over.n l.over.kind l.over.below l.over.next l.over.tree.now);
+  covers : Covers (CellsHold l.agenda.cells.items) l.over.table.now l.over.row.now.constituents.items l.over.n l.over.kind l.over.below l.over.next l.over.tree.now (IsDone l.index l.word l.left);
 }
 
 abbrev pub decreases-loop-left : goal.decreases-loop-left

@@ -12,11 +12,11 @@ returns-in_ok-insert-clause-full c =
     let grown = c.grow.new.lists.items in
     let end = c.requires.end in
     let within = c.requires.within in
-    let low : c.args.state < length c.grow.new.lists.items = omega (arith, long) in
-    full_mark c.args.n c.args.end c.args.state grown c.insert.new.set c.args.agenda.now.cells.items low
-    (either_set grown c.args.state c.args.end c.index_mut.result.now c.insert.new.set low c.index_mut.ensures.value c.in_ok-insert.ensures)
+    let low : c.args.over.next < length c.grow.new.lists.items = omega (arith, long) in
+    full_mark c.args.over.n c.args.end c.args.over.next grown c.insert.new.set c.args.agenda.now.cells.items low
+    (either_set grown c.args.over.next c.args.end c.index_mut.result.now c.insert.new.set low c.index_mut.ensures.value c.in_ok-insert.ensures)
     (λ j at.
-    let same : j ≡ c.args.n - c.args.end = omega (arith, at, end) in
-    subst (λ (m : ℕ). HasTwo (Holds (inner c.args.agenda.now.cells.items m) c.args.state)) (sym same)
-    (subst (λ (l : List Item). HasTwo (Holds l c.args.state)) (sym (inner_is c.args.agenda.now.cells.items (c.args.n - c.args.end) c.index.result.now (omega (arith, end, within)) c.index.ensures)) (c.if-is_full.ensures refl)))
-    (full_grown c.args.n c.args.agenda.now.full.items grown c.args.agenda.now.cells.items c.in_ok-grow.ensures.same c.requires.full)
+    let same : j ≡ c.args.over.n - c.args.end = omega (arith, at, end) in
+    subst (λ (m : ℕ). HasTwo (Holds (inner c.args.agenda.now.cells.items m) c.args.over.next)) (sym same)
+    (subst (λ (l : List Item). HasTwo (Holds l c.args.over.next)) (sym (inner_is c.args.agenda.now.cells.items (c.args.over.n - c.args.end) c.index.result.now (omega (arith, end, within)) c.index.ensures)) (c.if-is_full.ensures refl)))
+    (full_grown c.args.over.n c.args.agenda.now.full.items grown c.args.agenda.now.cells.items c.in_ok-grow.ensures.same c.requires.full)

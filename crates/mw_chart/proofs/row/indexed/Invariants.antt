@@ -1,4 +1,4 @@
-use Rattle.std.proofs.Common.{◌≡◌, ◌+◌, ◌<◌, ℕ, Some, length}
+use Rattle.std.proofs.Common.{◌≡◌, ◌<◌, ℕ, Some}
 use Rattle.std.specs.List.{slice_get}
 use Rattle.mw_chart.specs.Listed.{IsListed}
 use Rattle.mw_chart.specs.Row.{IsInStrip}
@@ -7,6 +7,5 @@ use Rattle.mw_chart.proofs.row.indexed.Given as goal
 
 abbrev pub invariant-loop-k : goal.invariant-loop-k
 invariant-loop-k l = record {
-  len : length l.places.items ≡ l.n + 1;
   listed : (j : ℕ) (r : Constituent) → j < l.k → slice_get l.constituent-items j ≡ Some r → IsListed l.places.items r.end j × IsInStrip l.strips.items r.state r.end;
 }

@@ -1,13 +1,11 @@
-use Rattle.std.proofs.Common.{sym}
-use Rattle.mw_chart.proofs.Started.{keeps_two, keeps_one}
+use Rattle.mw_chart.proofs.Started.{row_push, keeps_item, keeps_none}
 use Rattle.mw_chart.proofs.scanning.keep_item.Goals as goal
 
-pub returns-in_ok-keep-in-Some-Whole-2 : goal.returns-in_ok-keep-in-Some-Whole-2
-returns-in_ok-keep-in-Some-Whole-2 c =
-    keeps_two _ _ _ c.args.table.now c.args.at c.in-Some-Whole._kind c.in-Some-Whole._precedence c.args.item.now (sym (rw c.in-Some-Whole.field-0-is at c.in-Some-Whole.ensures))
-    c.if-item.true c.in_ok-keep-in-Some-Whole.ensures c.in_ok-keep-in-Some-Whole-2.ensures
+pub returns-in_ok-push-in-Some : goal.returns-in_ok-push-in-Some
+returns-in_ok-push-in-Some c =
+    rw c.in_ok-push-in-Some.ensures.items
+    (keeps_item _ _ c.args.table.now c.args.at c.in-Some._whole.0 c.in-Some._whole.1 c.args.item.now c.in-Some.ensures.some
+    (row_push c.args.row.now.items c.args.at c.args.item.now.state c.in_ok-tree-in-Some.tree c.args.item.now.tree c.in_ok-tree-in-Some.ensures))
 
-pub returns-else-item : goal.returns-else-item
-returns-else-item c =
-    keeps_one _ _ c.args.table.now c.args.at c.in-Some-Whole._kind c.in-Some-Whole._precedence c.args.item.now (sym (rw c.in-Some-Whole.field-0-is at c.in-Some-Whole.ensures))
-    c.if-item.false c.in_ok-keep-in-Some-Whole.ensures
+pub returns-in-None : goal.returns-in-None
+returns-in-None c = keeps_none _ c.args.table.now c.args.at c.args.item.now c.in-None.ensures.none

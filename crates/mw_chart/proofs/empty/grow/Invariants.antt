@@ -1,9 +1,0 @@
-use Rattle.std.proofs.Common.{◌≡◌, ◌≤◌, ℕ, length}
-use Rattle.mw_chart.specs.Listed.{inner}
-use Rattle.mw_chart.proofs.empty.grow.Given as goal
-
-abbrev pub invariant-loop : goal.invariant-loop
-invariant-loop g l = record {
-  long : l.counter ≤ length l.lists.items;
-  same : (i : ℕ) → inner l.lists.items i ≡ inner l.initial.lists.items i;
-}
