@@ -22,7 +22,7 @@
 //!
 //! How it works: it is a chart parser of the family of J. Earley, "An efficient context-free parsing algorithm" (1970).
 //! Places are gone through from the last to the first. For each place there are cells, one for each end to come; a cell
-//! has for each state one item, with one tree or two different ones, which is enough. A place's token is scanned by the
+//! has for each state at most two items, of different trees, which is enough. A place's token is scanned by the
 //! productions that it is the left corner of; at each end what is whole becomes a constituent of the place's row, and
 //! predicts the productions that its kind is the left corner of; then each item goes one step on: it scans a token, or
 //! is completed over a hole by the constituents of the row of that end. So a text costs nothing for operators whose
