@@ -16,7 +16,7 @@ use Rattle.mw_chart.specs.declared.row.ChartRow.{ChartRow}
 use Rattle.mw_chart.specs.declared.row.Strip.{Strip}
 use Rattle.mw_chart.specs.declared.table.Table.{Table}
 use Rattle.mw_chart.specs.declared.table.Next.TheVariants.{Whole}
-use Rattle.mw_chart.specs.declared.item.Item.{Item}
+use Rattle.mw_chart.specs.declared.item.ChartItem.{ChartItem}
 use Rattle.mw_chart.specs.declared.item.Constituent.{Constituent}
 use Rattle.mw_chart.proofs.Lists.{get_below, one_there, eq_or}
 use Rattle.mw_chart.proofs.Begins.{le_or}
@@ -114,7 +114,7 @@ done_all P g constituents n kind below next v index word left none all = λ j r 
 abbrev pub IsBefore : Strip → ℕ → Constituent → Type 0
 IsBefore strip index r = (strip.state ≡ r.state) × IsSet strip.ends.items r.end × (r.end < index * 64)
 
-pub covers_word : (cells more : List (Vec Item Global)) (g : Table) (constituents : List Constituent) (n kind below next : ℕ) (v : Tree) (strip : Strip) (full : List (Vec ℕ Global)) (index word : ℕ)
+pub covers_word : (cells more : List (Vec ChartItem Global)) (g : Table) (constituents : List Constituent) (n kind below next : ℕ) (v : Tree) (strip : Strip) (full : List (Vec ℕ Global)) (index word : ℕ)
     → length cells ≤ n → IsWithin constituents (n - length cells) n → AreFull n full cells
     → ((i : ℕ) → bit_at (slice_index strip.ends.items index) i ≡ 1 → (bit_at word i ≡ 1) ⊎ (bit_at (slice_index (inner full next) index) i ≡ 1))
     → ((k : ℕ × ℕ) (u : Tree) → CellsHold cells k u → CellsHold more k u)

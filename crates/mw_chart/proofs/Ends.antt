@@ -8,7 +8,7 @@ use Rattle.mw_chart.specs.Spelling.{IsTable}
 use Rattle.mw_chart.specs.declared.table.Table.{Table}
 use Rattle.mw_chart.specs.Row.{IsIndexed, AreBare, AreRows}
 use Rattle.mw_chart.specs.declared.row.ChartRow.{ChartRow}
-use Rattle.mw_chart.specs.declared.item.Item.{Item}
+use Rattle.mw_chart.specs.declared.item.ChartItem.{ChartItem}
 use Rattle.mw_chart.specs.declared.item.Constituent.{Constituent}
 use Rattle.mw_chart.specs.Chart.{IsCell, IsCells, IsRow}
 use Rattle.mw_chart.proofs.Lists.{one_there, get_below, get_set_same, get_set_other, get_item, get_back, eq_or}
@@ -37,15 +37,15 @@ bare_push n rows new (len, none) bare = (
 )
 
 -- the last cell, and those before it
-pub last_cell : (g : Table) (text : List Terminal) (i done : ℕ) (front : List (Vec Item Global)) (cell : Vec Item Global) (e : ℕ) → length front + e ≡ length text
+pub last_cell : (g : Table) (text : List Terminal) (i done : ℕ) (front : List (Vec ChartItem Global)) (cell : Vec ChartItem Global) (e : ℕ) → length front + e ≡ length text
     → IsCells g text i done (front ++ cell ∷ []) → IsCell g text i done e cell.items
 last_cell g text i done front cell e n all =
-    subst (λ (c : List Item). IsCell g text i done e c) (inner_last front cell) (all (length front) e n (rw (length-append front (cell ∷ [])) (omega arith)))
+    subst (λ (c : List ChartItem). IsCell g text i done e c) (inner_last front cell) (all (length front) e n (rw (length-append front (cell ∷ [])) (omega arith)))
 
-pub front_cells : (g : Table) (text : List Terminal) (i done : ℕ) (front : List (Vec Item Global)) (cell : Vec Item Global)
+pub front_cells : (g : Table) (text : List Terminal) (i done : ℕ) (front : List (Vec ChartItem Global)) (cell : Vec ChartItem Global)
     → IsCells g text i done (front ++ cell ∷ []) → IsCells g text i done front
 front_cells g text i done front cell all = λ j e n low.
-    subst (λ (c : List Item). IsCell g text i done e c) (inner_front front cell j low) (all j e n (rw (length-append front (cell ∷ [])) (omega (arith, low))))
+    subst (λ (c : List ChartItem). IsCell g text i done e c) (inner_front front cell j low) (all j e n (rw (length-append front (cell ∷ [])) (omega (arith, low))))
 
 -- no whole text ends where it begins
 pub no_row : (g : Table) (text : List Terminal) (i : ℕ) → IsTable g → IsRow g text i i ([])
@@ -83,21 +83,21 @@ pub row_of : (g : Table) (text : List Terminal) (i k : ℕ) (rows : List ChartRo
     → k < length rows → row ≡ get_or rows k row → IsRow g text k (length text) row.constituents.items × IsIndexed row
 row_of g text i k rows row all low below is = all k row low (get_item rows k row below is)
 
-pub popped_cell : (g : Table) (text : List Terminal) (i at : ℕ) (all front : List (Vec Item Global)) (cell : Vec Item Global) → all ≡ front ++ cell ∷ []
+pub popped_cell : (g : Table) (text : List Terminal) (i at : ℕ) (all front : List (Vec ChartItem Global)) (cell : Vec ChartItem Global) → all ≡ front ++ cell ∷ []
     → i + length all ≤ length text → at ≡ length text - length front → IsCells g text i (length text - length all) all → IsCell g text i (at - 1) at cell.items
 popped_cell g text i at all front cell e shape is cells =
     let len : length all ≡ length front + 1 = ap length e ∙ length-append front (cell ∷ []) ∙ omega arith in
     let d : length text - length all ≡ at - 1 = omega (arith, len, shape, is) in
     last_cell g text i (at - 1) front cell at (omega (arith, len, shape, is))
-    (subst (λ (c : List (Vec Item Global)). IsCells g text i (at - 1) c) e (subst (λ (m : ℕ). IsCells g text i m all) d cells))
+    (subst (λ (c : List (Vec ChartItem Global)). IsCells g text i (at - 1) c) e (subst (λ (m : ℕ). IsCells g text i m all) d cells))
 
-pub popped_cells : (g : Table) (text : List Terminal) (i at : ℕ) (all front : List (Vec Item Global)) (cell : Vec Item Global) → all ≡ front ++ cell ∷ []
+pub popped_cells : (g : Table) (text : List Terminal) (i at : ℕ) (all front : List (Vec ChartItem Global)) (cell : Vec ChartItem Global) → all ≡ front ++ cell ∷ []
     → i + length all ≤ length text → at ≡ length text - length front → IsCells g text i (length text - length all) all → IsCells g text i (at - 1) front
 popped_cells g text i at all front cell e shape is cells =
     let len : length all ≡ length front + 1 = ap length e ∙ length-append front (cell ∷ []) ∙ omega arith in
     let d : length text - length all ≡ at - 1 = omega (arith, len, shape, is) in
     front_cells g text i (at - 1) front cell
-    (subst (λ (c : List (Vec Item Global)). IsCells g text i (at - 1) c) e (subst (λ (m : ℕ). IsCells g text i m all) d cells))
+    (subst (λ (c : List (Vec ChartItem Global)). IsCells g text i (at - 1) c) e (subst (λ (m : ℕ). IsCells g text i m all) d cells))
 
 pub vec_length : {A : Type 0} → (v : Vec A Global) → vec_len v ≡ length v.items
 vec_length v = v.ok.0

@@ -7,7 +7,7 @@ use Rattle.mw_chart.specs.Tree.{Tree, app}
 use Rattle.mw_chart.specs.Spelling.{TokenAt, NextAt}
 use Rattle.mw_chart.specs.declared.table.Table.{Table}
 use Rattle.mw_chart.specs.declared.table.Next.TheVariants.{Token, Hole, Whole}
-use Rattle.mw_chart.specs.declared.item.Item.{Item}
+use Rattle.mw_chart.specs.declared.item.ChartItem.{ChartItem}
 use Rattle.mw_chart.specs.declared.item.Constituent.{Constituent}
 use Rattle.mw_chart.specs.Listed.{inner}
 use Rattle.mw_chart.specs.Chart.{HasTwo, Holds, Adds, CellsHold, IsPut, CompletesBy, Completes, Advances, AdvancesItem}
@@ -29,7 +29,7 @@ pub fills_not : (P : ℕ × ℕ → Tree → Type 0) (g : Table) (r : Constituen
     → Adds P P (CompletesBy g r n kind bound next v)
 fills_not P g r n kind bound next v never = adds_none P (CompletesBy g r n kind bound next v) (λ k u (p, x, y, z, s, e). never (p, x, y))
 
-pub fills_full : (cells : List (Vec Item Global)) (g : Table) (r : Constituent) (n kind bound next : ℕ) (v : Tree) (cell : Vec Item Global)
+pub fills_full : (cells : List (Vec ChartItem Global)) (g : Table) (r : Constituent) (n kind bound next : ℕ) (v : Tree) (cell : Vec ChartItem Global)
     → n - r.end < length cells → r.end ≤ n → cell ≡ get_or cells (n - r.end) cell
     → HasTwo (Holds cell.items next) → Adds (CellsHold cells) (CellsHold cells) (CompletesBy g r n kind bound next v)
 fills_full cells g r n kind bound next v cell below h is two =
@@ -37,7 +37,7 @@ fills_full cells g r n kind bound next v cell below h is two =
     (λ k u (p, x, y, z, s, e).
     let at : k.0 ≡ n - r.end = omega (arith, z, h) in
     inr (subst (λ (j : ℕ). HasTwo (Holds (inner cells k.0) j)) (sym s)
-    (subst (λ (c : List Item). HasTwo (Holds c next)) (sym (ap (λ j. inner cells j) at ∙ inner_is cells (n - r.end) cell below is)) two)))
+    (subst (λ (c : List ChartItem). HasTwo (Holds c next)) (sym (ap (λ j. inner cells j) at ∙ inner_is cells (n - r.end) cell below is)) two)))
 
 -- one step on
 pub advances_token : (P Q : ℕ × ℕ → Tree → Type 0) (g : Table) (text : List Terminal) (row : List Constituent) (at s token next : ℕ) (v w : Tree)
@@ -96,7 +96,7 @@ advances_none P g text row at s v st =
     ])
 
 -- the tree of an item
-pub advances_item : (P Q : ℕ × ℕ → Tree → Type 0) (g : Table) (text : List Terminal) (row : List Constituent) (at : ℕ) (item : Item)
+pub advances_item : (P Q : ℕ × ℕ → Tree → Type 0) (g : Table) (text : List Terminal) (row : List Constituent) (at : ℕ) (item : ChartItem)
     → Adds P Q (Advances g text row at item.state item.tree) → Adds P Q (AdvancesItem g text row at item)
 advances_item P Q g text row at item a =
     adds_as P Q (Advances g text row at item.state item.tree) (AdvancesItem g text row at item) a

@@ -8,29 +8,29 @@ use Rattle.mw_chart.specs.Bits.{IsSet}
 use Rattle.mw_chart.specs.Listed.{inner}
 use Rattle.mw_chart.specs.Chart.{HasTwo, Holds, CellsHold}
 use Rattle.mw_chart.specs.Row.{AreFull}
-use Rattle.mw_chart.specs.declared.item.Item.{Item}
+use Rattle.mw_chart.specs.declared.item.ChartItem.{ChartItem}
 use Rattle.mw_chart.proofs.Lists.{eq_or}
 use Rattle.mw_chart.proofs.Cells.{two_more}
 use Rattle.mw_chart.proofs.Adding.{inner_same, inner_other, inner_is}
 use Rattle.mw_chart.proofs.Turned.{inner_front}
 
 -- more is held
-pub full_more : (n : ℕ) (full : List (Vec ℕ Global)) (cells more : List (Vec Item Global)) → ((k : ℕ × ℕ) (u : Tree) → CellsHold cells k u → CellsHold more k u)
+pub full_more : (n : ℕ) (full : List (Vec ℕ Global)) (cells more : List (Vec ChartItem Global)) → ((k : ℕ × ℕ) (u : Tree) → CellsHold cells k u → CellsHold more k u)
     → length more ≡ length cells → AreFull n full cells → AreFull n full more
 full_more n full cells more kept len all = λ s e j marked at low. two_more (CellsHold cells (j, s)) (CellsHold more (j, s)) (kept (j, s)) (all s e j marked at (omega (arith, low, len)))
 
 -- the last cell is taken
-pub full_front : (n : ℕ) (full : List (Vec ℕ Global)) (front : List (Vec Item Global)) (cell : Vec Item Global) → AreFull n full (front ++ cell ∷ []) → AreFull n full front
+pub full_front : (n : ℕ) (full : List (Vec ℕ Global)) (front : List (Vec ChartItem Global)) (cell : Vec ChartItem Global) → AreFull n full (front ++ cell ∷ []) → AreFull n full front
 full_front n full front cell all = λ s e j marked at low.
     let len : length (front ++ cell ∷ []) ≡ length front + 1 = length-append front (cell ∷ []) in
-    subst (λ (c : List Item). HasTwo (Holds c s)) (inner_front front cell j low) (all s e j marked at (omega (arith, low, len)))
+    subst (λ (c : List ChartItem). HasTwo (Holds c s)) (inner_front front cell j low) (all s e j marked at (omega (arith, low, len)))
 
 -- there is room for more states
-pub full_grown : (n : ℕ) (full grown : List (Vec ℕ Global)) (cells : List (Vec Item Global)) → ((s : ℕ) → inner grown s ≡ inner full s) → AreFull n full cells → AreFull n grown cells
+pub full_grown : (n : ℕ) (full grown : List (Vec ℕ Global)) (cells : List (Vec ChartItem Global)) → ((s : ℕ) → inner grown s ≡ inner full s) → AreFull n full cells → AreFull n grown cells
 full_grown n full grown cells same all = λ s e j marked at low. all s e j (subst (λ (l : List ℕ). IsSet l e) (same s) marked) at low
 
 -- an end is marked
-pub full_mark : (n end state : ℕ) (full : List (Vec ℕ Global)) (new : Vec ℕ Global) (cells : List (Vec Item Global)) → state < length full
+pub full_mark : (n end state : ℕ) (full : List (Vec ℕ Global)) (new : Vec ℕ Global) (cells : List (Vec ChartItem Global)) → state < length full
     → ((y : ℕ) → IsSet new.items y → IsSet (inner full state) y ⊎ (y ≡ end)) → ((j : ℕ) → j + end ≡ n → HasTwo (CellsHold cells (j, state)))
     → AreFull n full cells → AreFull n (set full state new) cells
 full_mark n end state full new cells low is two all = λ s e j marked at below.

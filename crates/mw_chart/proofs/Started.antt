@@ -6,7 +6,7 @@ use Rattle.mw_chart.specs.Spelling.{TokenAt, NextAt}
 use Rattle.mw_chart.specs.declared.table.Table.{Table}
 use Rattle.mw_chart.specs.declared.table.Production.{Production}
 use Rattle.mw_chart.specs.declared.table.Next.TheVariants.{Token, Hole, Whole}
-use Rattle.mw_chart.specs.declared.item.Item.{Item}
+use Rattle.mw_chart.specs.declared.item.ChartItem.{ChartItem}
 use Rattle.mw_chart.specs.declared.item.Constituent.{Constituent}
 use Rattle.mw_chart.specs.Chart.{HasTwo, Has, Puts, Adds, RowHolds, IsPut, IsLive, PredictsProduction, PredictsBy, PredictsItem, KeepsItem, ScansProduction, ScansProductions, ScansLeaf, ScansLeaves, Scans, GroupsBy}
 use Rattle.mw_chart.proofs.Lists.{one_there, get_below, get_left, get_last, get_back}
@@ -41,7 +41,7 @@ opens_not P g text at kind precedence v production given bound next st else =
     let z : given ≡ kind = (cc) in
     inr (subst (λ (r : ℕ). HasTwo (P r)) (sym x) (else z (omega (arith, le2, y)) (subst (λ (m : ℕ). IsLive g text at m) x live2))))
 
-pub opens_item : (P Q : ℕ → Tree → Type 0) (g : Table) (text : List Terminal) (at kind precedence : ℕ) (item : Item) → NextAt g item.state (Whole kind precedence) → Adds P Q (PredictsBy g text at kind precedence item.tree) → Adds P Q (PredictsItem g text at item)
+pub opens_item : (P Q : ℕ → Tree → Type 0) (g : Table) (text : List Terminal) (at kind precedence : ℕ) (item : ChartItem) → NextAt g item.state (Whole kind precedence) → Adds P Q (PredictsBy g text at kind precedence item.tree) → Adds P Q (PredictsItem g text at item)
 opens_item P Q g text at kind precedence item st a =
     adds_as P Q (PredictsBy g text at kind precedence item.tree) (PredictsItem g text at item) a
     (λ k u x. (kind, precedence, item.state, item.tree, (refl, refl), st, x))
@@ -65,13 +65,13 @@ row_push row end state t v same =
       has = λ k u (a, b, e). inl (length row, new, get_last row new, sym a, sym b, same ∙ sym e);
     }
 
-pub keeps_item : (P Q : ℕ × ℕ → Tree → Type 0) (g : Table) (at kind precedence : ℕ) (item : Item) → NextAt g item.state (Whole kind precedence) → Adds P Q (IsPut at item.state item.tree) → Adds P Q (KeepsItem g at item)
+pub keeps_item : (P Q : ℕ × ℕ → Tree → Type 0) (g : Table) (at kind precedence : ℕ) (item : ChartItem) → NextAt g item.state (Whole kind precedence) → Adds P Q (IsPut at item.state item.tree) → Adds P Q (KeepsItem g at item)
 keeps_item P Q g at kind precedence item st a =
     adds_as P Q (IsPut at item.state item.tree) (KeepsItem g at item) a
     (λ k u (x, y, z). (x, (sym y, sym z), (kind, precedence, subst (λ (m : ℕ). NextAt g m (Whole kind precedence)) (sym y) st)))
     (λ k u (x, i, w). (x, sym i.0, sym i.1))
 
-pub keeps_none : (P : ℕ × ℕ → Tree → Type 0) (g : Table) (at : ℕ) (item : Item) → ((kind precedence : ℕ) → NextAt g item.state (Whole kind precedence) → ⊥) → Adds P P (KeepsItem g at item)
+pub keeps_none : (P : ℕ × ℕ → Tree → Type 0) (g : Table) (at : ℕ) (item : ChartItem) → ((kind precedence : ℕ) → NextAt g item.state (Whole kind precedence) → ⊥) → Adds P P (KeepsItem g at item)
 keeps_none P g at item never =
     adds_none P (KeepsItem g at item)
     (λ k u (x, i, (kind, precedence, st)). never kind precedence (subst (λ (m : ℕ). NextAt g m (Whole kind precedence)) (sym i.0) st))

@@ -8,7 +8,7 @@ use Rattle.mw_chart.specs.Spelling.{NextAt, TokenAt, IsItem, predicted, scanned,
 use Rattle.mw_chart.specs.Nothing.{Nothing}
 use Rattle.mw_chart.specs.declared.table.Table.{Table}
 use Rattle.mw_chart.specs.declared.table.Next.TheVariants.{Token, Hole, Whole}
-use Rattle.mw_chart.specs.declared.item.Item.{Item}
+use Rattle.mw_chart.specs.declared.item.ChartItem.{ChartItem}
 use Rattle.mw_chart.specs.declared.item.Constituent.{Constituent}
 use Rattle.mw_chart.specs.Listed.{inner}
 use Rattle.mw_chart.specs.Chart.{Has, Holds, HoldsConstituent, RowHolds, Adds, CellsHold, GoesOn, Goes, Arrives, by_token, by_leaf, by_group, by_step, IsLive, IsCell, IsCells, IsRow, Predicts, AdvancesCell, KeepsCell, IsWithin, Scans, GroupsAny}
@@ -40,22 +40,22 @@ steps_on g text i at row s next e v u is d (inr (kind, bound, w, precedence, t, 
     rw same (completed s next kind bound v i at d st w precedence t e (is.sound e w t held).0 wh le)
 
 -- what the predicted hold
-pub opens_sound : (g : Table) (text : List Terminal) (i at : ℕ) (cell : List Item) (s : ℕ) (u : Tree) → ((w : ℕ) (t : Tree) → Holds cell w t → IsItem g text w t i at)
+pub opens_sound : (g : Table) (text : List Terminal) (i at : ℕ) (cell : List ChartItem) (s : ℕ) (u : Tree) → ((w : ℕ) (t : Tree) → Holds cell w t → IsItem g text w t i at)
     → Predicts g text at cell s u → IsItem g text s u i at
 opens_sound g text i at cell s u sound (j, item, got, (kind, precedence, w, t, held, wh, (n, production, there, (bound, st, le, live, same)))) =
     rw same (completed production.state s kind bound (head production.operator) i i (predicted production.state production.operator i (n, production, there, refl, refl)) st w precedence t at (sound w t (j, item, got, held)) wh le)
 
 -- every whole text that ends here is held
-pub holds_whole : (g : Table) (text : List Terminal) (i at done : ℕ) (cell : List Item) (w kind precedence : ℕ) (t : Tree) → IsTable g → i < at → at ≤ done + 1
+pub holds_whole : (g : Table) (text : List Terminal) (i at done : ℕ) (cell : List ChartItem) (w kind precedence : ℕ) (t : Tree) → IsTable g → i < at → at ≤ done + 1
     → IsCell g text i done at cell → IsItem g text w t i at → NextAt g w (Whole kind precedence) → Has (Holds cell w) t
 holds_whole g text i at done cell w kind precedence t wf h d1 is d wh =
     elim (arrives g text w t i at done wf d h d1) [ inl a ↦ is.complete w t a | inr o ↦ absurd (not_opens g text i at w kind precedence t wf o wh) ]
 
 -- every text begun that ends here, and can go on, is held or predicted
-abbrev pub Either : List Item → List Item → ℕ → Tree → Type 0
+abbrev pub Either : List ChartItem → List ChartItem → ℕ → Tree → Type 0
 Either cell more s u = Holds cell s u ⊎ Holds more s u
 
-pub holds_all : (g : Table) (text : List Terminal) (i at done : ℕ) (cell more : List Item) (s : ℕ) (v : Tree) → IsTable g → i < at → at ≤ done + 1
+pub holds_all : (g : Table) (text : List Terminal) (i at done : ℕ) (cell more : List ChartItem) (s : ℕ) (v : Tree) → IsTable g → i < at → at ≤ done + 1
     → IsCell g text i done at cell → Adds Nothing (Holds more) (Predicts g text at cell) → IsItem g text s v i at → IsLive g text at s → Has (Either cell more s) v
 holds_all g text i at done cell more s v wf h d1 is op d live =
     elim (arrives g text s v i at done wf d h d1) [
@@ -70,7 +70,7 @@ holds_all g text i at done cell more s v wf h d1 is op d live =
     ]
 
 -- the cells behind are those they were, with what goes on from here
-pub turn_sound : (g : Table) (text : List Terminal) (i at done : ℕ) (row : List Constituent) (cell more : List Item) (c0 c1 c2 : List (Vec Item Global)) (j e s : ℕ) (v : Tree)
+pub turn_sound : (g : Table) (text : List Terminal) (i at done : ℕ) (row : List Constituent) (cell more : List ChartItem) (c0 c1 c2 : List (Vec ChartItem Global)) (j e s : ℕ) (v : Tree)
     → IsRow g text at (length text) row → IsCell g text i done at cell → Adds Nothing (Holds more) (Predicts g text at cell)
     → Adds (CellsHold c0) (CellsHold c1) (AdvancesCell g text row at cell) → Adds (CellsHold c1) (CellsHold c2) (AdvancesCell g text row at more)
     → ((s : ℕ) (v : Tree) → Holds (inner c0 j) s v → IsItem g text s v i e) → j + e ≡ length text
@@ -94,7 +94,7 @@ turn_sound g text i at done row cell more c0 c1 c2 j e s v is here op a b before
     ]
 
 -- a text that goes on from here is put into its cell
-pub goes_on : (g : Table) (text : List Terminal) (i at done : ℕ) (row : List Constituent) (cell more : List Item) (c0 c1 c2 : List (Vec Item Global)) (j e s0 s : ℕ) (v0 v : Tree)
+pub goes_on : (g : Table) (text : List Terminal) (i at done : ℕ) (row : List Constituent) (cell more : List ChartItem) (c0 c1 c2 : List (Vec ChartItem Global)) (j e s0 s : ℕ) (v0 v : Tree)
     → IsTable g → i < at → at ≤ done + 1
     → IsRow g text at (length text) row → IsCell g text i done at cell → Adds Nothing (Holds more) (Predicts g text at cell)
     → Adds (CellsHold c0) (CellsHold c1) (AdvancesCell g text row at cell) → Adds (CellsHold c1) (CellsHold c2) (AdvancesCell g text row at more)
@@ -136,7 +136,7 @@ by_arrival g text i at done e s v C before here d1 (by_step s2 k next e2 v2 u lo
           here s2 v2 (subst (λ (m : ℕ). IsItem g text s2 v2 i m) same d) (subst (λ (m : ℕ). GoesOn g text m s2 v2 next u e2) same go)
     ]
 
-pub turn_complete : (g : Table) (text : List Terminal) (i at done : ℕ) (row : List Constituent) (cell more : List Item) (c0 c1 c2 : List (Vec Item Global)) (j e s : ℕ) (v : Tree)
+pub turn_complete : (g : Table) (text : List Terminal) (i at done : ℕ) (row : List Constituent) (cell more : List ChartItem) (c0 c1 c2 : List (Vec ChartItem Global)) (j e s : ℕ) (v : Tree)
     → IsTable g → i < at → at ≡ done + 1
     → IsRow g text at (length text) row → IsCell g text i done at cell → Adds Nothing (Holds more) (Predicts g text at cell)
     → Adds (CellsHold c0) (CellsHold c1) (AdvancesCell g text row at cell) → Adds (CellsHold c1) (CellsHold c2) (AdvancesCell g text row at more)
@@ -150,7 +150,7 @@ turn_complete g text i at done row cell more c0 c1 c2 j e s v wf h d1 is here op
     (λ s0 v0 d go. goes_on g text i at done row cell more c0 c1 c2 j e s0 s v0 v wf h (omega (arith, d1)) is here op a b n d go)
     d1 arrived
 
-pub turned_cells : (g : Table) (text : List Terminal) (i at done : ℕ) (row : List Constituent) (cell more : List Item) (c0 c1 c2 : List (Vec Item Global))
+pub turned_cells : (g : Table) (text : List Terminal) (i at done : ℕ) (row : List Constituent) (cell more : List ChartItem) (c0 c1 c2 : List (Vec ChartItem Global))
     → IsTable g → i < at → at ≡ done + 1
     → IsRow g text at (length text) row → IsCell g text i done at cell → Adds Nothing (Holds more) (Predicts g text at cell)
     → Adds (CellsHold c0) (CellsHold c1) (AdvancesCell g text row at cell) → Adds (CellsHold c1) (CellsHold c2) (AdvancesCell g text row at more)
@@ -162,7 +162,7 @@ turned_cells g text i at done row cell more c0 c1 c2 wf h d1 is here op a b len 
       complete = λ s v x. turn_complete g text i at done row cell more c0 c1 c2 j e s v wf h d1 is here op a b old.complete n x;
     }
 
-pub turned_row : (g : Table) (text : List Terminal) (i at done : ℕ) (cell : List Item) (r0 r1 : List Constituent) → IsTable g → i < at → at ≡ done + 1
+pub turned_row : (g : Table) (text : List Terminal) (i at done : ℕ) (cell : List ChartItem) (r0 r1 : List Constituent) → IsTable g → i < at → at ≡ done + 1
     → IsCell g text i done at cell → Adds (RowHolds r0) (RowHolds r1) (KeepsCell g at cell) → IsRow g text i done r0 → IsRow g text i at r1
 turned_row g text i at done cell r0 r1 wf h d1 here a row = record {
   sound = λ e w t x. elim (a.sound (e, w) t x) [
@@ -178,10 +178,10 @@ turned_row g text i at done cell r0 r1 wf h d1 here a row = record {
   ];
 }
 
-no_item : (c0 : List (Vec Item Global)) (j s : ℕ) (v : Tree) → inner c0 j ≡ [] → Holds (inner c0 j) s v → ⊥
-no_item c0 j s v none (k, item, got, held) = let bad : slice_get [] k ≡ Some item = subst (λ (l : List Item). slice_get l k ≡ Some item) none got in let h : ⊥ = (cc) in h
+no_item : (c0 : List (Vec ChartItem Global)) (j s : ℕ) (v : Tree) → inner c0 j ≡ [] → Holds (inner c0 j) s v → ⊥
+no_item c0 j s v none (k, item, got, held) = let bad : slice_get [] k ≡ Some item = subst (λ (l : List ChartItem). slice_get l k ≡ Some item) none got in let h : ⊥ = (cc) in h
 
-begun_sound : (g : Table) (text : List Terminal) (i : ℕ) (c0 c1 : List (Vec Item Global)) (j e s : ℕ) (v : Tree) → ((j : ℕ) → inner c0 j ≡ [])
+begun_sound : (g : Table) (text : List Terminal) (i : ℕ) (c0 c1 : List (Vec ChartItem Global)) (j e s : ℕ) (v : Tree) → ((j : ℕ) → inner c0 j ≡ [])
     → Adds (CellsHold c0) (CellsHold c1) (Scans g text i) → j + e ≡ length text → Holds (inner c1 j) s v → IsItem g text s v i e
 begun_sound g text i c0 c1 j e s v none a n x =
     elim (a.sound (j, s) v x) [
@@ -196,12 +196,12 @@ begun_sound g text i c0 c1 j e s v none a n x =
       ]
     ]
 
-first_sound : (g : Table) (text : List Terminal) (i : ℕ) (row : List Constituent) (c0 c1 c2 : List (Vec Item Global)) (j e s : ℕ) (v : Tree) → ((j : ℕ) → inner c0 j ≡ [])
+first_sound : (g : Table) (text : List Terminal) (i : ℕ) (row : List Constituent) (c0 c1 c2 : List (Vec ChartItem Global)) (j e s : ℕ) (v : Tree) → ((j : ℕ) → inner c0 j ≡ [])
     → Adds (CellsHold c0) (CellsHold c1) (Scans g text i)
     → ((TokenAt text i g.open) × Adds (CellsHold c1) (CellsHold c2) (GroupsAny g text row)) ⊎ ((TokenAt text i g.open → ⊥) × (c2 ≡ c1))
     → IsRow g text (i + 1) (length text) row → j + e ≡ length text → Holds (inner c2 j) s v → IsItem g text s v i e
 first_sound g text i row c0 c1 c2 j e s v none a (inr (no_open, same)) is n x =
-    begun_sound g text i c0 c1 j e s v none a n (subst (λ (c : List (Vec Item Global)). Holds (inner c j) s v) same x)
+    begun_sound g text i c0 c1 j e s v none a n (subst (λ (c : List (Vec ChartItem Global)). Holds (inner c j) s v) same x)
 first_sound g text i row c0 c1 c2 j e s v none a (inl (open_there, b)) is n x =
     elim (b.sound (j, s) v x) [
       | inl y ↦ begun_sound g text i c0 c1 j e s v none a n y
@@ -210,7 +210,7 @@ first_sound g text i row c0 c1 c2 j e s v none a (inl (open_there, b)) is n x =
           rw (end, same) (grouped r.state kind precedence r.tree i r.end open_there (is.sound r.end r.state r.tree (m, r, got, refl, refl, refl)).0 wh close_there s to)
     ]
 
-first_complete : (g : Table) (text : List Terminal) (i : ℕ) (row : List Constituent) (c0 c1 c2 : List (Vec Item Global)) (j e s : ℕ) (v : Tree)
+first_complete : (g : Table) (text : List Terminal) (i : ℕ) (row : List Constituent) (c0 c1 c2 : List (Vec ChartItem Global)) (j e s : ℕ) (v : Tree)
     → Adds (CellsHold c0) (CellsHold c1) (Scans g text i)
     → ((TokenAt text i g.open) × Adds (CellsHold c1) (CellsHold c2) (GroupsAny g text row)) ⊎ ((TokenAt text i g.open → ⊥) × (c2 ≡ c1))
     → IsRow g text (i + 1) (length text) row → j + e ≡ length text → Arrives g text i i s v e → Has (Holds (inner c2 j) s) v
@@ -218,13 +218,13 @@ first_complete g text i row c0 c1 c2 j e s v a b is n (by_token s2 op x next st 
     let first = a.has (j, s) v (inl (st.0, st.1, st.2, (x, subst (λ (m : ℕ). NextAt g m (Token x next)) (sym st.3) step, got, n, ap head (sym st.4)))) in
     elim b [
       | inl (open_there, more) ↦ has_more (CellsHold c1 (j, s)) (CellsHold c2 (j, s)) v (more.kept (j, s)) first
-      | inr (no_open, same) ↦ subst (λ (c : List (Vec Item Global)). Has (Holds (inner c j) s) v) (sym same) first
+      | inr (no_open, same) ↦ subst (λ (c : List (Vec ChartItem Global)). Has (Holds (inner c j) s) v) (sym same) first
     ]
 first_complete g text i row c0 c1 c2 j e s v a b is n (by_leaf s2 x (word, here, (m, l, got, state, tree))) =
     let first = a.has (j, s) v (inr (word, here, (m, l, got, (n, sym state, ap leaf (sym tree))))) in
     elim b [
       | inl (open_there, more) ↦ has_more (CellsHold c1 (j, s)) (CellsHold c2 (j, s)) v (more.kept (j, s)) first
-      | inr (no_open, same) ↦ subst (λ (c : List (Vec Item Global)). Has (Holds (inner c j) s) v) (sym same) first
+      | inr (no_open, same) ↦ subst (λ (c : List (Vec ChartItem Global)). Has (Holds (inner c j) s) v) (sym same) first
     ]
 first_complete g text i row c0 c1 c2 j e s v a b is n (by_group w kind precedence m s2 t o r wh c gr) =
     elim b [
@@ -239,7 +239,7 @@ first_complete g text i row c0 c1 c2 j e s v a b is n (by_group w kind precedenc
 first_complete g text i row c0 c1 c2 j e s v a b is n (by_step s2 k next e2 v2 u low high d go) = absurd (omega (arith, low, high))
 
 -- the first cells
-pub first_cells : (g : Table) (text : List Terminal) (i : ℕ) (row : List Constituent) (c0 c1 c2 : List (Vec Item Global)) → ((j : ℕ) → inner c0 j ≡ [])
+pub first_cells : (g : Table) (text : List Terminal) (i : ℕ) (row : List Constituent) (c0 c1 c2 : List (Vec ChartItem Global)) → ((j : ℕ) → inner c0 j ≡ [])
     → Adds (CellsHold c0) (CellsHold c1) (Scans g text i)
     → ((TokenAt text i g.open) × Adds (CellsHold c1) (CellsHold c2) (GroupsAny g text row)) ⊎ ((TokenAt text i g.open → ⊥) × (c2 ≡ c1))
     → IsRow g text (i + 1) (length text) row → IsCells g text i i c2

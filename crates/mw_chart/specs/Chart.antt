@@ -9,7 +9,7 @@ use Rattle.mw_chart.specs.Spelling.{NextAt, TokenAt, LeafAt, IsProduction, IsIte
 use Rattle.mw_chart.specs.declared.table.Next.TheVariants.{Token, Hole, Whole}
 use Rattle.mw_chart.specs.declared.table.Table.{Table}
 use Rattle.mw_chart.specs.declared.table.Production.{Production}
-use Rattle.mw_chart.specs.declared.item.Item.{Item}
+use Rattle.mw_chart.specs.declared.item.ChartItem.{ChartItem}
 use Rattle.mw_chart.specs.declared.item.Constituent.{Constituent}
 use Rattle.mw_chart.specs.declared.terminal.Leaf.{Leaf}
 use Rattle.mw_chart.specs.declared.terminal.Terminal.{Terminal}
@@ -22,11 +22,11 @@ HasTwo P = (a b : Tree) × P a × P b × (a ≢ b)
 abbrev pub Has : (Tree → Type 0) → Tree → Type 0
 Has P v = P v ⊎ HasTwo P
 
-abbrev pub IsIn : Item → ℕ → Tree → Type 0
+abbrev pub IsIn : ChartItem → ℕ → Tree → Type 0
 IsIn item s v = (item.state ≡ s) × (item.tree ≡ v)
 
-abbrev pub Holds : List Item → ℕ → Tree → Type 0
-Holds cell s v = (k : ℕ) × (item : Item) × (slice_get cell k ≡ Some item) × IsIn item s v
+abbrev pub Holds : List ChartItem → ℕ → Tree → Type 0
+Holds cell s v = (k : ℕ) × (item : ChartItem) × (slice_get cell k ≡ Some item) × IsIn item s v
 
 abbrev pub HoldsConstituent : List Constituent → ℕ → ℕ → Tree → Type 0
 HoldsConstituent row e w t = (k : ℕ) × (r : Constituent) × (slice_get row k ≡ Some r) × (r.end ≡ e) × (r.state ≡ w) × (r.tree ≡ t)
@@ -55,7 +55,7 @@ pub record Adds {K : Type 0} (P Q F : K → Tree → Type 0) : Type 0 where
   pub has : (k : K) (u : Tree) → F k u → Has (Q k) u
 
 -- cells by index and state
-abbrev pub CellsHold : List (Vec Item Global) → ℕ × ℕ → Tree → Type 0
+abbrev pub CellsHold : List (Vec ChartItem Global) → ℕ × ℕ → Tree → Type 0
 CellsHold cells k v = Holds (inner cells k.0) k.1 v
 
 abbrev pub IsPut : ℕ → ℕ → Tree → ℕ × ℕ → Tree → Type 0
@@ -75,11 +75,11 @@ Completes g row n kind bound next v k u = (j : ℕ) × (r : Constituent) × (sli
 abbrev pub Advances : Table → List Terminal → List Constituent → ℕ → ℕ → Tree → ℕ × ℕ → Tree → Type 0
 Advances g text row at s v k u = (e : ℕ) × (k.0 + e ≡ length text) × Goes g text row at s v k.1 u e
 
-abbrev pub AdvancesItem : Table → List Terminal → List Constituent → ℕ → Item → ℕ × ℕ → Tree → Type 0
+abbrev pub AdvancesItem : Table → List Terminal → List Constituent → ℕ → ChartItem → ℕ × ℕ → Tree → Type 0
 AdvancesItem g text row at item k u = (s : ℕ) × (v : Tree) × IsIn item s v × Advances g text row at s v k u
 
-abbrev pub AdvancesCell : Table → List Terminal → List Constituent → ℕ → List Item → ℕ × ℕ → Tree → Type 0
-AdvancesCell g text row at cell k u = (j : ℕ) × (item : Item) × (slice_get cell j ≡ Some item) × AdvancesItem g text row at item k u
+abbrev pub AdvancesCell : Table → List Terminal → List Constituent → ℕ → List ChartItem → ℕ × ℕ → Tree → Type 0
+AdvancesCell g text row at cell k u = (j : ℕ) × (item : ChartItem) × (slice_get cell j ≡ Some item) × AdvancesItem g text row at item k u
 
 -- each constituent of the row ends behind the place, within the text
 abbrev pub IsWithin : List Constituent → ℕ → ℕ → Type 0
@@ -95,17 +95,17 @@ PredictsProduction g text at kind precedence v production k u = (bound : ℕ) ×
 abbrev pub PredictsBy : Table → List Terminal → ℕ → ℕ → ℕ → Tree → ℕ → Tree → Type 0
 PredictsBy g text at kind precedence v k u = (j : ℕ) × (production : Production) × (slice_get g.productions.items j ≡ Some production) × PredictsProduction g text at kind precedence v production k u
 
-abbrev pub PredictsItem : Table → List Terminal → ℕ → Item → ℕ → Tree → Type 0
+abbrev pub PredictsItem : Table → List Terminal → ℕ → ChartItem → ℕ → Tree → Type 0
 PredictsItem g text at item k u = (kind precedence s : ℕ) × (v : Tree) × IsIn item s v × NextAt g s (Whole kind precedence) × PredictsBy g text at kind precedence v k u
 
-abbrev pub Predicts : Table → List Terminal → ℕ → List Item → ℕ → Tree → Type 0
-Predicts g text at cell k u = (j : ℕ) × (item : Item) × (slice_get cell j ≡ Some item) × PredictsItem g text at item k u
+abbrev pub Predicts : Table → List Terminal → ℕ → List ChartItem → ℕ → Tree → Type 0
+Predicts g text at cell k u = (j : ℕ) × (item : ChartItem) × (slice_get cell j ≡ Some item) × PredictsItem g text at item k u
 
-abbrev pub KeepsItem : Table → ℕ → Item → ℕ × ℕ → Tree → Type 0
+abbrev pub KeepsItem : Table → ℕ → ChartItem → ℕ × ℕ → Tree → Type 0
 KeepsItem g at item k u = (k.0 ≡ at) × IsIn item k.1 u × ((kind : ℕ) × (precedence : ℕ) × NextAt g k.1 (Whole kind precedence))
 
-abbrev pub KeepsCell : Table → ℕ → List Item → ℕ × ℕ → Tree → Type 0
-KeepsCell g at cell k u = (j : ℕ) × (item : Item) × (slice_get cell j ≡ Some item) × KeepsItem g at item k u
+abbrev pub KeepsCell : Table → ℕ → List ChartItem → ℕ × ℕ → Tree → Type 0
+KeepsCell g at cell k u = (j : ℕ) × (item : ChartItem) × (slice_get cell j ≡ Some item) × KeepsItem g at item k u
 
 abbrev pub ScansProduction : Table → List Terminal → ℕ → Production → ℕ × ℕ → Tree → Type 0
 ScansProduction g text i production k u = (x : ℕ) × NextAt g production.state (Token x k.1) × (TokenAt text i x) × (k.0 + (i + 1) ≡ length text) × (u ≡ head production.operator)
@@ -145,13 +145,13 @@ pub data Arrives (g : Table) (text : List Terminal) (i : ℕ) (done : ℕ) : ℕ
   by_step : (s k next e : ℕ) (v u : Tree) → i < k → k ≤ done → IsItem g text s v i k → GoesOn g text k s v next u e → Arrives g text i done next u e
 
 -- a cell holds texts begun at i that end at e, and all whose last step is from no further than done
-pub record IsCell (g : Table) (text : List Terminal) (i done e : ℕ) (cell : List Item) : Type 0 where
+pub record IsCell (g : Table) (text : List Terminal) (i done e : ℕ) (cell : List ChartItem) : Type 0 where
   pub sound : (s : ℕ) (v : Tree) → Holds cell s v → IsItem g text s v i e
   pub complete : (s : ℕ) (v : Tree) → Arrives g text i done s v e → Has (Holds cell s) v
 
-abbrev pub IsCells : Table → List Terminal → ℕ → ℕ → List (Vec Item Global) → Type 0
+abbrev pub IsCells : Table → List Terminal → ℕ → ℕ → List (Vec ChartItem Global) → Type 0
 IsCells g text i done cells = (j e : ℕ) → j + e ≡ length text → j < length cells → IsCell g text i done e (inner cells j)
 
 -- the first cells of a place
-abbrev pub AreFirst : Table → List Terminal → ℕ → List (Vec Item Global) → Type 0
+abbrev pub AreFirst : Table → List Terminal → ℕ → List (Vec ChartItem Global) → Type 0
 AreFirst g text i cells = (i + length cells ≡ length text) × IsCells g text i i cells

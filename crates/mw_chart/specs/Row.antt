@@ -12,7 +12,7 @@ use Rattle.mw_chart.specs.Chart.{HasTwo, Has, CellsHold, CompletesBy, IsRow, IsW
 use Rattle.mw_chart.specs.declared.completing.Agenda.{Agenda}
 use Rattle.mw_chart.specs.declared.row.ChartRow.{ChartRow}
 use Rattle.mw_chart.specs.declared.row.Strip.{Strip}
-use Rattle.mw_chart.specs.declared.item.Item.{Item}
+use Rattle.mw_chart.specs.declared.item.ChartItem.{ChartItem}
 use Rattle.mw_chart.specs.declared.item.Constituent.{Constituent}
 use Rattle.mw_chart.specs.declared.table.Table.{Table}
 use Rattle.mw_chart.specs.declared.terminal.Terminal.{Terminal}
@@ -30,7 +30,7 @@ abbrev pub IsIndexed : ChartRow → Type 0
 IsIndexed row = (j : ℕ) (r : Constituent) → slice_get row.constituents.items j ≡ Some r → IsListed row.places.items r.end j × IsInStrip row.strips.items r.state r.end
 
 -- Of the ends that are ahead of a place, where cells are counted from the end: those that are marked for a state have two different trees of it.
-abbrev pub AreFull : ℕ → List (Vec ℕ Global) → List (Vec Item Global) → Type 0
+abbrev pub AreFull : ℕ → List (Vec ℕ Global) → List (Vec ChartItem Global) → Type 0
 AreFull n full cells = (s e j : ℕ) → IsSet (inner full s) e → j + e ≡ n → j < length cells → HasTwo (CellsHold cells (j, s))
 
 -- Cells for m ends lie ahead in a text of n tokens; what is marked is full, and the row's constituents are found and end at one of them.

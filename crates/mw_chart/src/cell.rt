@@ -1,21 +1,21 @@
 // The cells of the chart: the items of a place and an end; and what comes next at a state.
 ghost use Rattle.std.specs.Prelude.{◌≡◌, ◌≤◌, ◌<◌, ◌↔◌, ◌⊎◌, ◌-◌, ◌+◌, ℕ, IfOk, IfSome, IfNone, IsTrue, length};
 ghost use Rattle.std.specs.List.{slice_get};
-ghost use Rattle.mw_chart.specs.declared.item.Item.{Item};
+ghost use Rattle.mw_chart.specs.declared.item.ChartItem.{ChartItem};
 ghost use Rattle.mw_chart.specs.declared.table.Next.TheVariants.{Token, Whole};
 ghost use Rattle.mw_chart.specs.Tree.{Tree};
 ghost use Rattle.mw_chart.specs.Spelling.{NextAt, TokenAt};
 ghost use Rattle.mw_chart.specs.Chart.{Has, HasTwo, Holds, Puts, Adds, CellsHold, IsPut, CompletesBy, Completes, Advances, AdvancesItem, AdvancesCell, IsWithin};
 
-use crate::item::{Constituent, Item};
+use crate::item::{ChartItem, Constituent};
 use crate::table::{Next, Table};
 use crate::terminal::Terminal;
 use crate::tree::Tree;
 use std::alloc::{AllocError, Global};
 
 /// Where the first item at a state is, from a place on.
-fn item_from(cell: &Vec<Item>, from: usize, state: usize) -> Option<usize>
-    ensures { IfSome result (λ k. (item : Item) × (slice_get cell.now.items k ≡ Some item) × (item.state ≡ state)) }
+fn item_from(cell: &Vec<ChartItem>, from: usize, state: usize) -> Option<usize>
+    ensures { IfSome result (λ k. (item : ChartItem) × (slice_get cell.now.items k ≡ Some item) × (item.state ≡ state)) }
 {
     for k in from..cell.len() {
         if cell[k].state == state {
@@ -26,7 +26,7 @@ fn item_from(cell: &Vec<Item>, from: usize, state: usize) -> Option<usize>
 }
 
 /// Whether a cell needs no further tree at a state.
-pub fn is_full(cell: &Vec<Item>, state: usize) -> bool
+pub fn is_full(cell: &Vec<ChartItem>, state: usize) -> bool
     ensures { IsTrue result → HasTwo (Holds cell.now.items state) }
 {
     if let Some(one) = item_from(cell, 0, state) {
@@ -38,7 +38,7 @@ pub fn is_full(cell: &Vec<Item>, state: usize) -> bool
 }
 
 /// Whether a cell has a tree at a state, or two different ones.
-fn has(cell: &Vec<Item>, state: usize, tree: &Tree) -> bool
+fn has(cell: &Vec<ChartItem>, state: usize, tree: &Tree) -> bool
     ensures { IsTrue result → Has (Holds cell.now.items state) tree.now }
 {
     match item_from(cell, 0, state) {
@@ -48,17 +48,17 @@ fn has(cell: &Vec<Item>, state: usize, tree: &Tree) -> bool
 }
 
 /// Puts a tree into a cell, unless it is there or two are.
-pub fn put(cell: &mut Vec<Item>, state: usize, tree: Tree) -> Result<(), AllocError>
+pub fn put(cell: &mut Vec<ChartItem>, state: usize, tree: Tree) -> Result<(), AllocError>
     ensures { IfOk result (λ _. Puts (Holds cell.old.items) (Holds cell.new.items) state tree) }
 {
     if !has(cell, state, &tree) {
-        cell.push(Item { state, tree })?;
+        cell.push(ChartItem { state, tree })?;
     }
     Ok(())
 }
 
 pub fn put_at(
-    cells: &mut Vec<Vec<Item>>,
+    cells: &mut Vec<Vec<ChartItem>>,
     at: usize,
     state: usize,
     tree: Tree,

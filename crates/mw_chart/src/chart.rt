@@ -6,7 +6,7 @@ ghost use Rattle.mw_chart.specs.Spelling.{IsTable};
 
 use crate::cell::stands;
 use crate::completing::{Agenda, advance_cell};
-use crate::item::{Constituent, Item};
+use crate::item::{ChartItem, Constituent};
 use crate::numbered::grow;
 use crate::predicting::predict;
 use crate::row::{ChartRow, indexed};
@@ -16,7 +16,7 @@ use crate::terminal::Terminal;
 use std::alloc::{AllocError, Global};
 
 /// No ends are full yet.
-fn agenda_of(alloc: Global, cells: Vec<Vec<Item>>) -> Agenda
+fn agenda_of(alloc: Global, cells: Vec<Vec<ChartItem>>) -> Agenda
     ensures cells { result.cells ≡ cells }
     ensures full { (n : ℕ) → AreFull n result.full.items result.cells.items }
 {
@@ -46,7 +46,7 @@ fn first_cells(
     text: &[Terminal],
     rows: &Vec<ChartRow>,
     i: usize,
-) -> Result<Vec<Vec<Item>>, AllocError>
+) -> Result<Vec<Vec<ChartItem>>, AllocError>
     requires { AreBehind table.now text.now i rows.now.items }
     ensures { IfOk result (λ cells. AreFirst table.now text.now i cells.items) }
 {
@@ -67,7 +67,7 @@ fn turn(
     next: &ChartRow,
     i: usize,
     at: usize,
-    cell: &Vec<Item>,
+    cell: &Vec<ChartItem>,
     agenda: &mut Agenda,
     constituents: &mut Vec<Constituent>,
 ) -> Result<(), AllocError>

@@ -7,7 +7,7 @@ ghost use Rattle.mw_chart.specs.Row.{IsReady, AreFull, CompletesAt, IsInWord, Gr
 
 use crate::bits::{insert, open_of, without_lowest, word_of};
 use crate::cell::{is_full, next_of, put_at, stands, takes};
-use crate::item::{Constituent, Item};
+use crate::item::{ChartItem, Constituent};
 use crate::numbered::{grow, listed};
 use crate::row::{ChartRow, Strip};
 use crate::table::{Next, Table};
@@ -19,7 +19,7 @@ use std::alloc::{AllocError, Global};
 /// that need no further tree.
 #[derive(Drop)]
 pub struct Agenda {
-    pub cells: Vec<Vec<Item>>,
+    pub cells: Vec<Vec<ChartItem>>,
     pub full: Vec<Vec<u64>>,
 }
 
@@ -40,7 +40,7 @@ fn complete_by(
     alloc: Global,
     over: Completion<'_>,
     constituent: &Constituent,
-    cells: &mut Vec<Vec<Item>>,
+    cells: &mut Vec<Vec<ChartItem>>,
 ) -> Result<(), AllocError>
     requires end { constituent.now.end ≤ over.n }
     requires within { over.n < constituent.now.end + length cells.old.items }
@@ -225,7 +225,7 @@ pub fn advance_cell(
     text: &[Terminal],
     row: &ChartRow,
     at: usize,
-    cell: &Vec<Item>,
+    cell: &Vec<ChartItem>,
     agenda: &mut Agenda,
 ) -> Result<(), AllocError>
     requires shape { at + length agenda.old.cells.items ≡ length text.now }

@@ -3,7 +3,7 @@ use crate::tree::Tree;
 
 /// A text begun that has come to a state.
 #[derive(Drop)]
-pub struct Item {
+pub struct ChartItem {
     pub state: usize,
     pub tree: Tree,
 }

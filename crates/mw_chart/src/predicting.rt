@@ -5,7 +5,7 @@ ghost use Rattle.mw_chart.specs.Nothing.{Nothing};
 ghost use Rattle.mw_chart.specs.Spelling.{IsTable};
 
 use crate::cell::{is_full, next_of, put, stands, token_of, whole_of};
-use crate::item::Item;
+use crate::item::ChartItem;
 use crate::numbered::listed;
 use crate::table::{Next, Production, Table};
 use crate::terminal::Terminal;
@@ -32,7 +32,7 @@ fn predict_production(
     precedence: u32,
     tree: &Tree,
     production: &Production,
-    predicted: &mut Vec<Item>,
+    predicted: &mut Vec<ChartItem>,
 ) -> Result<(), AllocError>
     ensures { IfOk result (λ _. Adds (Holds predicted.old.items) (Holds predicted.new.items) (PredictsProduction table.now text.now at kind precedence tree.now production.now)) }
 {
@@ -67,7 +67,7 @@ fn predict_by(
     kind: u32,
     precedence: u32,
     tree: &Tree,
-    predicted: &mut Vec<Item>,
+    predicted: &mut Vec<ChartItem>,
 ) -> Result<(), AllocError>
     requires { IsTable table.now }
     ensures { IfOk result (λ _. Adds (Holds predicted.old.items) (Holds predicted.new.items) (PredictsBy table.now text.now at kind precedence tree.now)) }
@@ -86,8 +86,8 @@ fn predict_item(
     table: &Table,
     text: &[Terminal],
     at: usize,
-    item: &Item,
-    predicted: &mut Vec<Item>,
+    item: &ChartItem,
+    predicted: &mut Vec<ChartItem>,
 ) -> Result<(), AllocError>
     requires { IsTable table.now }
     ensures { IfOk result (λ _. Adds (Holds predicted.old.items) (Holds predicted.new.items) (PredictsItem table.now text.now at item.now)) }
@@ -106,8 +106,8 @@ pub fn predict(
     table: &Table,
     text: &[Terminal],
     at: usize,
-    cell: &Vec<Item>,
-) -> Result<Vec<Item>, AllocError>
+    cell: &Vec<ChartItem>,
+) -> Result<Vec<ChartItem>, AllocError>
     requires { IsTable table.now }
     ensures { IfOk result (λ predicted. Adds Nothing (Holds predicted.items) (Predicts table.now text.now at cell.now.items)) }
 {

@@ -6,7 +6,7 @@ ghost use Rattle.mw_chart.specs.Spelling.{NextAt, IsTable};
 ghost use Rattle.mw_chart.specs.Chart.{Holds, Adds, CellsHold, RowHolds, IsPut, KeepsItem, KeepsCell, ScansProduction, ScansProductions, ScansLeaves, Scans, GroupsBy, GroupsAny, IsWithin};
 
 use crate::cell::{put_at, stands, token_of, whole_of};
-use crate::item::{Constituent, Item};
+use crate::item::{ChartItem, Constituent};
 use crate::numbered::listed;
 use crate::table::{Next, Production, Table};
 use crate::terminal::Terminal;
@@ -17,7 +17,7 @@ use std::alloc::{AllocError, Global};
 fn keep_item(
     table: &Table,
     at: usize,
-    item: &Item,
+    item: &ChartItem,
     row: &mut Vec<Constituent>,
 ) -> Result<(), AllocError>
     ensures { IfOk result (λ _. Adds (RowHolds row.old.items) (RowHolds row.new.items) (KeepsItem table.now at item.now)) }
@@ -40,7 +40,7 @@ fn keep_item(
 pub fn keep_cell(
     table: &Table,
     at: usize,
-    cell: &Vec<Item>,
+    cell: &Vec<ChartItem>,
     row: &mut Vec<Constituent>,
 ) -> Result<(), AllocError>
     ensures { IfOk result (λ _. Adds (RowHolds row.old.items) (RowHolds row.new.items) (KeepsCell table.now at cell.now.items)) }
@@ -57,7 +57,7 @@ fn scan_production(
     text: &[Terminal],
     i: usize,
     production: &Production,
-    cells: &mut Vec<Vec<Item>>,
+    cells: &mut Vec<Vec<ChartItem>>,
 ) -> Result<(), AllocError>
     requires below { i < length text.now }
     requires shape { i + length cells.old.items ≡ length text.now }
@@ -79,7 +79,7 @@ fn scan_productions(
     table: &Table,
     text: &[Terminal],
     i: usize,
-    cells: &mut Vec<Vec<Item>>,
+    cells: &mut Vec<Vec<ChartItem>>,
 ) -> Result<(), AllocError>
     requires table { IsTable table.now }
     requires below { i < length text.now }
@@ -100,7 +100,7 @@ fn scan_leaves(
     text: &[Terminal],
     i: usize,
     terminal: &Terminal,
-    cells: &mut Vec<Vec<Item>>,
+    cells: &mut Vec<Vec<ChartItem>>,
 ) -> Result<(), AllocError>
     requires below { i < length text.now }
     requires shape { i + length cells.old.items ≡ length text.now }
@@ -124,7 +124,7 @@ pub fn scan(
     table: &Table,
     text: &[Terminal],
     i: usize,
-    cells: &mut Vec<Vec<Item>>,
+    cells: &mut Vec<Vec<ChartItem>>,
 ) -> Result<(), AllocError>
     requires table { IsTable table.now }
     requires below { i < length text.now }
@@ -159,7 +159,7 @@ fn group_by(
     text: &[Terminal],
     i: usize,
     constituent: &Constituent,
-    cells: &mut Vec<Vec<Item>>,
+    cells: &mut Vec<Vec<ChartItem>>,
 ) -> Result<(), AllocError>
     requires begin { i < constituent.now.end }
     requires shape { i + length cells.old.items ≡ length text.now }
@@ -187,7 +187,7 @@ pub fn group(
     text: &[Terminal],
     i: usize,
     row: &Vec<Constituent>,
-    cells: &mut Vec<Vec<Item>>,
+    cells: &mut Vec<Vec<ChartItem>>,
 ) -> Result<(), AllocError>
     requires within { IsWithin row.now.items i (length text.now) }
     requires shape { i + length cells.old.items ≡ length text.now }

@@ -9,10 +9,10 @@ use Rattle.mw_logic.specs.Signature.{Signature, Operator, Declaration, Sorted, s
 use Rattle.mw_logic.specs.Accepted.{number_of_sort}
 use Rattle.mw_logic.specs.Preregular.{IsSortOf, AreOfKinds, IsDeclarationOf}
 use Rattle.mw_logic.proofs.KindLaws.{SameKind-sym}
-use Rattle.mw_text.specs.Names.{Item, piece, hole, items_of, count_holes, name_of_tokens}
+use Rattle.mw_text.specs.Names.{NameItem, piece, hole, items_of, count_holes, name_of_tokens}
 use Rattle.mw_text.proofs.Spellings.{spellings_read}
 use Rattle.mw_module.specs.Words.{texts}
-use Rattle.mw_module.specs.Sortings.{Sorting}
+use Rattle.mw_module.specs.Sortings.{WrittenSort}
 use Rattle.mw_module.specs.Attributes.{Attributes}
 use Rattle.mw_module.specs.Forms.{Shape, Sorts, Subsorts, Operators, Variables, Equation}
 use Rattle.mw_module.specs.Known.{IsNameFor, IsPrecedence, IsGather, AreAttributes, IsKnown, AreKnown}
@@ -30,7 +30,7 @@ use Rattle.mw_declare.proofs.LeastKinds.{kind_there, kind_same}
 use Rattle.mw_declare.proofs.Pairs.{known_statement}
 
 -- these are the items of a name: neither nothing nor a hole alone, with no holes or one for each argument
-pub record AreItemsFor (arity : ℕ) (items : List Item) : Type 0 where
+pub record AreItemsFor (arity : ℕ) (items : List NameItem) : Type 0 where
   pub some : items ≢ []
   pub no_hole : items ≢ hole ∷ []
   pub fits : (count_holes items ≡ 0) ⊎ (count_holes items ≡ arity)
@@ -100,7 +100,7 @@ module _ (sig : Signature) where
       of false e more = All-cons (IsSaid sig) o (with_operator os p d said) this more
 
 -- a sort that is there as it is written, and its kind
-module _ (sig : Signature) (s : Sorting) (known : is_among sig.sorts (name_in s) ≡ true) where
+module _ (sig : Signature) (s : WrittenSort) (known : is_among sig.sorts (name_in s) ≡ true) where
   written_there : IsSortOf sig (number_of sig.sorts (name_in s))
   written_there = number_there sig.sorts (name_in s) known
 
@@ -122,23 +122,23 @@ module _ (sig : Signature) (s : Sorting) (known : is_among sig.sorts (name_in s)
       of false = kind_same (sorts_held sig) (number_of sig.sorts (name_in s)) written_there sig refl
 
 module _ (sig : Signature) where
-  kinds_there : (args : List Sorting) → unknown_among sig.sorts (map name_in args) ≡ None → All (IsSortOf sig) (map (kind_in (sorts_held sig)) args)
+  kinds_there : (args : List WrittenSort) → unknown_among sig.sorts (map name_in args) ≡ None → All (IsSortOf sig) (map (kind_in (sorts_held sig)) args)
   kinds_there [] e = All-nil (IsSortOf sig)
   kinds_there (s ∷ args) e =
       let k = known_front sig.sorts (name_in s) (map name_in args) e in
       All-cons (IsSortOf sig) (kind_in (sorts_held sig) s) (map (kind_in (sorts_held sig)) args) (kind_is_there sig s k.0) (kinds_there args k.1)
 
-  all_of_kinds : (args : List Sorting) → unknown_among sig.sorts (map name_in args) ≡ None → AreOfKinds sig (map (sorted_in (sorts_held sig)) args) (map (kind_in (sorts_held sig)) args)
+  all_of_kinds : (args : List WrittenSort) → unknown_among sig.sorts (map name_in args) ≡ None → AreOfKinds sig (map (sorted_in (sorts_held sig)) args) (map (kind_in (sorts_held sig)) args)
   all_of_kinds [] e = tt
   all_of_kinds (s ∷ args) e = let k = known_front sig.sorts (name_in s) (map name_in args) e in (sorted_of_kind sig s k.0, all_of_kinds args k.1)
 
-  all_there : (args : List Sorting) → unknown_among sig.sorts (map name_in args) ≡ None → (S : Sorted) → Member S (map (sorted_in (sorts_held sig)) args) → IsSortOf sig (number_of_sort S)
+  all_there : (args : List WrittenSort) → unknown_among sig.sorts (map name_in args) ≡ None → (S : Sorted) → Member S (map (sorted_in (sorts_held sig)) args) → IsSortOf sig (number_of_sort S)
   all_there [] e S m = absurd m
   all_there (s ∷ args) e S (inl is) = let k = known_front sig.sorts (name_in s) (map name_in args) e in subst (λ (S : Sorted). IsSortOf sig (number_of_sort S)) is (sorted_there sig s k.0)
   all_there (s ∷ args) e S (inr m) = let k = known_front sig.sorts (name_in s) (map name_in args) e in all_there args k.1 S m
 
   -- a declaration that mentions no other sorts
-  module _ (args : List Sorting) (result : Sorting) (known : unknown_among sig.sorts (mentioned_by args result) ≡ None) where
+  module _ (args : List WrittenSort) (result : WrittenSort) (known : unknown_among sig.sorts (mentioned_by args result) ≡ None) where
     args_known : unknown_among sig.sorts (map name_in args) ≡ None
     args_known = (known_append sig.sorts (map name_in args) (name_in result ∷ []) known).0
 
@@ -198,7 +198,7 @@ said_from sig os (s ∷ ss) all known there =
     said_from sig (with_operators (sorts_held sig) os s.shape) ss (said_operators sig os s.shape all (All-head IsKnownLined s ss known) k.0) (All-tail IsKnownLined s ss known) k.1
 
 -- how a mixfix form groups
-default_small : (items : List Item) → default_precedence items < 128
+default_small : (items : List NameItem) → default_precedence items < 128
 default_small items = of (begins_open items || ends_open items) (count_holes items == 1)
   where
     of : (open_end one : Bool) → (if open_end then (if one then 15 else 41) else 0) < 128
@@ -206,16 +206,16 @@ default_small items = of (begins_open items || ends_open items) (count_holes ite
     of true false = omega arith
     of false one = omega arith
 
-small : (said : Option ℕ) (items : List Item) → IfSome said IsPrecedence → precedence_of said items < 128
+small : (said : Option ℕ) (items : List NameItem) → IfSome said IsPrecedence → precedence_of said items < 128
 small None items h = default_small items
 small (Some n) items h = h
 
-marks_behind : (first : Bool) (items : List Item) → length (gather_behind first items) ≡ count_holes items
+marks_behind : (first : Bool) (items : List NameItem) → length (gather_behind first items) ≡ count_holes items
 marks_behind first [] = refl
 marks_behind first (piece x ∷ items) = marks_behind false items
 marks_behind first (hole ∷ items) = ap suc (marks_behind false items)
 
-marks : (arity : ℕ) (said : Option (List (List ℕ))) (items : List Item) → IfSome said (IsGather arity) → (count_holes items ≡ 0) ⊎ (count_holes items ≡ arity) → length (gather_of said items) ≡ count_holes items
+marks : (arity : ℕ) (said : Option (List (List ℕ))) (items : List NameItem) → IfSome said (IsGather arity) → (count_holes items ≡ 0) ⊎ (count_holes items ≡ arity) → length (gather_of said items) ≡ count_holes items
 marks arity None items h fits = marks_behind true items
 marks arity (Some ms) items h fits = of (count_holes items) refl
   where

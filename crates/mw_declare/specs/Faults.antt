@@ -4,7 +4,7 @@ use Rattle.std.specs.Prelude.{ℕ, List, [], ◌∷◌, ◌++◌, map, Option, S
 use Rattle.mw_lex.specs.declared.token.Token.{Token}
 use Rattle.mw_logic.specs.Term.{Variable}
 use Rattle.mw_module.specs.Forms.{Shape, Sorts, Subsorts, Operators, Variables, Equation}
-use Rattle.mw_module.specs.Sortings.{Sorting}
+use Rattle.mw_module.specs.Sortings.{WrittenSort}
 use Rattle.mw_module.specs.declared.faults.Fault.{Fault}
 use Rattle.mw_module.specs.declared.faults.FaultKind.TheVariants.{AlreadyDefined, UnknownSort, AttributesDisagree}
 use Rattle.mw_module.specs.Units.{SeenLined}
@@ -58,10 +58,10 @@ abbrev pub mentioned_in : List (List Token) → List Name
 mentioned_in [] = []
 mentioned_in (g ∷ gs) = texts g ++ mentioned_in gs
 
-abbrev pub name_in : Sorting → Name
+abbrev pub name_in : WrittenSort → Name
 name_in s = s.name.text
 
-abbrev pub mentioned_by : List Sorting → Sorting → List Name
+abbrev pub mentioned_by : List WrittenSort → WrittenSort → List Name
 mentioned_by args result = map name_in args ++ name_in result ∷ []
 
 -- the sorts that a statement mentions, from the left

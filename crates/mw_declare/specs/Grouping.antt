@@ -2,47 +2,47 @@
 -- "Precedence and gathering".)
 use Rattle.std.specs.Prelude.{ℕ, List, [], ◌∷◌, map, Bool, true, false, ◌||◌, ◌==◌, Option, None, Some, unwrap_or, bytes_eq, if◌then◌else◌, codes}
 use Rattle.mw_logic.specs.Signature.{Gather, less, most, any}
-use Rattle.mw_text.specs.Names.{Item, piece, hole, has_hole, count_holes}
+use Rattle.mw_text.specs.Names.{NameItem, piece, hole, has_hole, count_holes}
 
-abbrev pub begins_open : List Item → Bool
+abbrev pub begins_open : List NameItem → Bool
 begins_open [] = false
 begins_open (piece x ∷ items) = false
 begins_open (hole ∷ items) = true
 
 -- the last of these is a hole; where there is none, what stands before them was
-abbrev pub ends_open_behind : Bool → List Item → Bool
+abbrev pub ends_open_behind : Bool → List NameItem → Bool
 ends_open_behind before [] = before
 ends_open_behind before (piece x ∷ items) = ends_open_behind false items
 ends_open_behind before (hole ∷ items) = ends_open_behind true items
 
-abbrev pub ends_open : List Item → Bool
+abbrev pub ends_open : List NameItem → Bool
 ends_open items = ends_open_behind false items
 
 -- 0 where a piece stands at both ends, and so where there are no holes; 15 for one hole, which stands at an end, and 41 for more
-abbrev pub default_precedence : List Item → ℕ
+abbrev pub default_precedence : List NameItem → ℕ
 default_precedence items = if begins_open items || ends_open items then (if count_holes items == 1 then 15 else 41) else 0
 
-abbrev pub is_end : List Item → Bool
+abbrev pub is_end : List NameItem → Bool
 is_end [] = true
 is_end (i ∷ items) = false
 
 -- a hole at the beginning or the end takes the operator's precedence at most, others take any; `first` where nothing stands before
-abbrev pub gather_behind : Bool → List Item → List Gather
+abbrev pub gather_behind : Bool → List NameItem → List Gather
 gather_behind first [] = []
 gather_behind first (piece x ∷ items) = gather_behind false items
 gather_behind first (hole ∷ items) = (if first || is_end items then most else any) ∷ gather_behind false items
 
-abbrev pub default_gather : List Item → List Gather
+abbrev pub default_gather : List NameItem → List Gather
 default_gather items = gather_behind true items
 
 -- what a mark of `gather` means
 abbrev pub gather_of_mark : List ℕ → Gather
 gather_of_mark mark = if bytes_eq mark (codes "e") then less else if bytes_eq mark (codes "E") then most else any
 
-abbrev pub precedence_of : Option ℕ → List Item → ℕ
+abbrev pub precedence_of : Option ℕ → List NameItem → ℕ
 precedence_of said items = unwrap_or said (default_precedence items)
 
 -- a mark for each hole, so none for a name without holes, whatever is said
-abbrev pub gather_of : Option (List (List ℕ)) → List Item → List Gather
+abbrev pub gather_of : Option (List (List ℕ)) → List NameItem → List Gather
 gather_of None items = default_gather items
 gather_of (Some marks) items = if has_hole items then map gather_of_mark marks else []

@@ -6,7 +6,7 @@ use Rattle.mw_logic.specs.Kinds.{renamed_sort, joining_kinds}
 use Rattle.mw_poset.specs.SortOrder.{SortOrder}
 use Rattle.mw_poset.specs.Order.{ArePairsOf}
 use Rattle.mw_module.specs.Forms.{Shape, Sorts, Subsorts, Operators, Variables, Equation}
-use Rattle.mw_module.specs.Sortings.{Sorting}
+use Rattle.mw_module.specs.Sortings.{WrittenSort}
 use Rattle.mw_module.specs.Units.{SeenLined}
 use Rattle.mw_declare.specs.Meaning.{Name, sorts_of, number_of, numbers_of}
 
@@ -53,11 +53,11 @@ are_connected pairs S T = nat_eq (renamed_sort (joining_kinds pairs []) S) (rena
 unfoldable pub kind_of : Hierarchy → ℕ → ℕ
 kind_of h S = first_from (are_connected h.pairs S) (length h.names) 1
 
-abbrev pub kind_in : Hierarchy → Sorting → ℕ
+abbrev pub kind_in : Hierarchy → WrittenSort → ℕ
 kind_in h s = kind_of h (number_of h.names s.name.text)
 
 -- the sort that is written, or its kind
-abbrev pub sorted_in : Hierarchy → Sorting → Sorted
+abbrev pub sorted_in : Hierarchy → WrittenSort → Sorted
 sorted_in h s = if s.kind then kind (kind_in h s) else sort (number_of h.names s.name.text)
 
 -- the sorts by number, with the pairs

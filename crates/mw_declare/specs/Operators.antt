@@ -6,7 +6,7 @@ use Rattle.mw_logic.specs.Signature.{Signature, Operator, Declaration}
 use Rattle.mw_text.specs.Names.{name_of_tokens, items_of}
 use Rattle.mw_module.specs.Attributes.{Attributes, joined}
 use Rattle.mw_module.specs.Forms.{Shape, Sorts, Subsorts, Operators, Variables, Equation}
-use Rattle.mw_module.specs.Sortings.{Sorting}
+use Rattle.mw_module.specs.Sortings.{WrittenSort}
 use Rattle.mw_module.specs.Units.{SeenLined}
 use Rattle.mw_declare.specs.Meaning.{Name, texts}
 use Rattle.mw_declare.specs.Hierarchy.{Hierarchy, hierarchy_of, kind_in, sorted_in}
@@ -18,7 +18,7 @@ pub record Rank : Type 0 where
   pub args : List ℕ
   pub result : ℕ
 
-abbrev pub rank_of : Hierarchy → List Sorting → Sorting → Rank
+abbrev pub rank_of : Hierarchy → List WrittenSort → WrittenSort → Rank
 rank_of h args result = record {
   declaration = record { args = map (sorted_in h) args; result = sorted_in h result };
   args = map (kind_in h) args;

@@ -5,7 +5,7 @@ ghost use Rattle.mw_module.specs.Causes.{HasCause};
 ghost use Rattle.mw_declare.specs.Declarations.{Declares, DeclarationFault, declarations_with};
 
 use crate::hierarchy::{Hierarchy, order_sorts};
-use crate::operators::{Operators, all_operators};
+use crate::operators::{DeclaredOperators, all_operators};
 use crate::variables::{Typing, all_typed};
 use mw_module::{Lined, UnitError};
 use mw_poset::Poset;
@@ -25,7 +25,7 @@ fn all_declared(
     alloc: Global,
     typing: &Typing,
     hierarchy: Box<Hierarchy>,
-    operators: Operators<'_>,
+    operators: DeclaredOperators<'_>,
 ) -> Result<Box<Declarations>, AllocError>
     ensures { IfOk result (λ d. d.value ≡ declarations_with hierarchy.value operators.entry typing.now) }
 {

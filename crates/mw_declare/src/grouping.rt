@@ -8,14 +8,14 @@ ghost use Rattle.mw_declare.specs.Grouping as grouping;
 
 use mw_lex::Token;
 use mw_term::{Gather, Seq};
-use mw_text::{Item, first_item, holes};
+use mw_text::{NameItem, first_item, holes};
 use std::alloc::{AllocError, Global};
 
 /// Whether a name begins with a hole.
 fn begins_open(spelling: &[u8]) -> bool
     ensures { result ≡ grouping.begins_open (items_of spelling.now) }
 {
-    matches!(first_item(spelling), Some((Item::Hole, _)))
+    matches!(first_item(spelling), Some((NameItem::Hole, _)))
 }
 
 /// Whether a name ends with a hole.
@@ -25,7 +25,7 @@ fn ends_open(spelling: &[u8]) -> bool
     let mut open = false;
     let mut rest = spelling;
     while let Some((item, behind)) = first_item(rest) {
-        open = matches!(item, Item::Hole);
+        open = matches!(item, NameItem::Hole);
         rest = behind;
     }
     open
@@ -62,7 +62,7 @@ fn default_gather(alloc: Global, spelling: &[u8]) -> Result<Vec<Gather>, AllocEr
     let mut first = true;
     let mut rest = spelling;
     while let Some((item, behind)) = first_item(rest) {
-        if matches!(item, Item::Hole) {
+        if matches!(item, NameItem::Hole) {
             let outer = first || first_item(behind).is_none();
             marks.push(if outer { Gather::Most } else { Gather::Any })?;
         }

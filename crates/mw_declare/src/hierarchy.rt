@@ -17,7 +17,7 @@ ghost use Rattle.mw_declare.specs.Seen.{seen_rank};
 
 use crate::sorts::{all_known, all_sorts};
 use mw_lex::Token;
-use mw_module::{Fault, FaultKind, Form, Lined, Sorting, UnitError};
+use mw_module::{Fault, FaultKind, Form, Lined, UnitError, WrittenSort};
 use mw_poset::{Poset, PosetError};
 use mw_term::{KindId, Name, SortId, Sorted};
 use mw_text::Names;
@@ -154,7 +154,7 @@ pub fn order_sorts(
 
 impl Hierarchy {
     /// The sort that is written, or its kind, and its kind in any case.
-    fn sorted(&self, sorting: Sorting<'_>) -> Result<(Sorted, KindId), AllocError>
+    fn sorted(&self, sorting: WrittenSort<'_>) -> Result<(Sorted, KindId), AllocError>
         requires { is_among self.now.names (seen_sorting sorting).name.text ≡ true }
         ensures sorted { IfOk result (λ r. sorted_of r.0 ≡ sorted_in self.now (seen_sorting sorting.entry)) }
         ensures kind { IfOk result (λ r. r.1 ≡ kind_in self.now (seen_sorting sorting.entry)) }
@@ -172,8 +172,8 @@ impl Hierarchy {
     pub fn rank(
         &self,
         alloc: Global,
-        args: &[Sorting<'_>],
-        value: Sorting<'_>,
+        args: &[WrittenSort<'_>],
+        value: WrittenSort<'_>,
     ) -> Result<Rank, AllocError>
         requires { unknown_among self.now.names (mentioned_by (seen_sortings args.now) (seen_sorting value)) ≡ None }
         ensures { IfOk result (λ r. seen_rank r ≡ rank_of self.now (seen_sortings args.now) (seen_sorting value.entry)) }

@@ -57,11 +57,11 @@ fn declaration_of(alloc: Global, rank: &Rank) -> Result<Declaration, AllocError>
 
 /// Operators, each once with its declarations and what they say of it, in order of first mention.
 #[derive(Drop)]
-pub struct Operators<'u> {
+pub struct DeclaredOperators<'u> {
     table: Box<IndexMap<Profile, Said<'u>>>,
 }
 
-impl<'u> Model for Operators<'u> {
+impl<'u> Model for DeclaredOperators<'u> {
     ghost use Rattle.std.specs.Prelude.{List, map};
     ghost use Rattle.mw_declare.specs.Operators.{Declared};
 
@@ -72,12 +72,12 @@ impl<'u> Model for Operators<'u> {
     ghost view = { λ m. map seen_operator m.table.value.entries };
 }
 
-impl<'u> Operators<'u> {
-    fn new(alloc: Global) -> Result<Operators<'u>, AllocError>
+impl<'u> DeclaredOperators<'u> {
+    fn new(alloc: Global) -> Result<DeclaredOperators<'u>, AllocError>
         ensures { IfOk result (λ operators. operators ≡ []) }
     {
         let table = Box::new(alloc, IndexMap::new(alloc))?;
-        Ok(Operators { table })
+        Ok(DeclaredOperators { table })
     }
 
     /// Adds an operator behind the others; if it is there, it is declared again.
@@ -166,11 +166,11 @@ pub fn all_operators<'u>(
     alloc: Global,
     hierarchy: &Hierarchy,
     statements: &[Lined<'u>],
-) -> Result<Operators<'u>, AllocError>
+) -> Result<DeclaredOperators<'u>, AllocError>
     requires { unknown_from hierarchy.now.names (seen_statements statements.now) ≡ None }
     ensures { IfOk result (λ os. os ≡ operators_from hierarchy.now [] (seen_statements statements.now)) }
 {
-    let mut operators = Operators::new(alloc)?;
+    let mut operators = DeclaredOperators::new(alloc)?;
     for statement in statements {
         if let Form::Operators {
             names,

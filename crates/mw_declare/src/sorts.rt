@@ -9,7 +9,7 @@ ghost use Rattle.mw_declare.specs.Meaning.{texts, with_names, sorts_of};
 ghost use Rattle.mw_declare.specs.Faults.{unknown_among, mentioned_in, mentioned_by, mentioned, unknown_from};
 
 use mw_lex::Token;
-use mw_module::{Fault, FaultKind, Form, Lined, Sorting, UnitError};
+use mw_module::{Fault, FaultKind, Form, Lined, UnitError, WrittenSort};
 use mw_term::copy_name;
 use mw_text::Names;
 use std::alloc::{AllocError, Global};
@@ -53,7 +53,11 @@ fn unknown_grouped<'t>(sorts: &Names, groups: &[&'t [Token]]) -> Option<&'t Toke
 }
 
 /// The first sort of a declaration that isn't declared.
-fn unknown_ranked<'t>(sorts: &Names, args: &[Sorting<'t>], value: Sorting<'t>) -> Option<&'t Token>
+fn unknown_ranked<'t>(
+    sorts: &Names,
+    args: &[WrittenSort<'t>],
+    value: WrittenSort<'t>,
+) -> Option<&'t Token>
     ensures { let names = mentioned_by (seen_sortings args.now) (seen_sorting value.entry) in
         option_map (λ t. t.now.text) result ≡ unknown_among sorts.now names }
 {

@@ -1,11 +1,11 @@
 // The prefix spellings of names.
 ghost use Rattle.std.specs.Prelude.{◌≡◌, ◌++◌, ◌∷◌, List, IfOk};
-ghost use Rattle.mw_text.specs.Names.{Item as ItemOf, items_of, spelled_behind, name_of_tokens, is_mark as is_mark_text};
+ghost use Rattle.mw_text.specs.Names.{NameItem as ItemOf, items_of, spelled_behind, name_of_tokens, is_mark as is_mark_text};
 ghost use Rattle.mw_text.specs.Seen.{item_of};
 ghost use Rattle.mw_declare.specs.Meaning.{texts};
 
 use mw_lex::{Token, is_punctuation};
-use mw_text::{Item, first_item};
+use mw_text::{NameItem, first_item};
 use std::alloc::{AllocError, Global};
 
 /// Whether a piece is one of the punctuation bytes.
@@ -20,15 +20,19 @@ fn is_mark(piece: &[u8]) -> bool
 
 /// Writes an item behind others, where `touching` says that a piece of other bytes stands directly before it; whether
 /// it is such a piece itself.
-fn write_item(spelling: &mut Vec<u8>, touching: bool, item: Item<'_>) -> Result<bool, AllocError>
+fn write_item(
+    spelling: &mut Vec<u8>,
+    touching: bool,
+    item: NameItem<'_>,
+) -> Result<bool, AllocError>
     ensures { IfOk result (λ plain. (more : List ItemOf) → spelling.old.items ++ spelled_behind touching (item_of item.entry ∷ more) ≡ spelling.new.items ++ spelled_behind plain more) }
 {
     match item {
-        Item::Hole => {
+        NameItem::Hole => {
             spelling.push(b'_')?;
             Ok(false)
         }
-        Item::Piece(piece) => {
+        NameItem::Piece(piece) => {
             let mark = is_mark(piece);
             if touching || mark {
                 spelling.push(b'`')?;

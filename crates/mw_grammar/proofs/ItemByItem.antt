@@ -2,7 +2,7 @@
 use Rattle.std.proofs.Common.{ℕ, zero, suc, ◌≡◌, ◌∙◌, ◌<◌, ◌⊎◌, ◌+◌, List, [], ◌∷◌, ◌++◌, length, map, drop, Option, None, Some, option_map, refl, sym, ap, inl, inr, arith, append_assoc, length-drop}
 use Rattle.std.specs.List.{slice_get}
 use Rattle.mw_logic.specs.Signature.{Gather}
-use Rattle.mw_text.specs.Names.{Item, hole}
+use Rattle.mw_text.specs.Names.{NameItem, hole}
 use Rattle.mw_grammar.specs.declared.parts.Symbol.{Symbol}
 use Rattle.mw_grammar.specs.declared.parts.Symbol.TheVariants.{Hole}
 use Rattle.mw_grammar.specs.Notations.{bound, mixfix_parts, mixing}
@@ -25,7 +25,7 @@ together parts x None = refl
 together parts x (Some ps) = ap (λ m. Some m) (append_assoc parts (x ∷ []) ps)
 
 module _ (kind : ℕ → ℕ) where
-  pub mixing_hole : (p : ℕ) (gs : List Gather) (Ks : List ℕ) (parts : List Symbol) (items : List Item) (n : ℕ) (g : Gather) (K : ℕ) → slice_get gs n ≡ Some g → slice_get Ks n ≡ Some K
+  pub mixing_hole : (p : ℕ) (gs : List Gather) (Ks : List ℕ) (parts : List Symbol) (items : List NameItem) (n : ℕ) (g : Gather) (K : ℕ) → slice_get gs n ≡ Some g → slice_get Ks n ≡ Some K
       → mixing kind p gs Ks (parts ++ Hole (kind K) (bound kind g p) ∷ []) items (n + 1) ≡ mixing kind p gs Ks parts (hole ∷ items) n
   mixing_hole p gs Ks parts items n g K a b =
       together parts (Hole (kind K) (bound kind g p)) (mixfix_parts kind p items (drop (n + 1) gs) (drop (n + 1) Ks))
@@ -46,5 +46,5 @@ module _ (kind : ℕ → ℕ) where
   same_parts None = refl
   same_parts (Some ps) = refl
 
-  pub mixing_start : (p : ℕ) (gs : List Gather) (Ks : List ℕ) (items : List Item) → mixing kind p gs Ks [] items 0 ≡ mixfix_parts kind p items gs Ks
+  pub mixing_start : (p : ℕ) (gs : List Gather) (Ks : List ℕ) (items : List NameItem) → mixing kind p gs Ks [] items 0 ≡ mixfix_parts kind p items gs Ks
   mixing_start p gs Ks items = same_parts (mixfix_parts kind p items gs Ks)

@@ -5,7 +5,7 @@ use Rattle.mw_logic.specs.Signature.{Signature, Operator, Gather, less, most, an
 use Rattle.mw_logic.proofs.KindLaws.{SameKind-sym}
 use Rattle.mw_logic.proofs.Canonical.{same_operator}
 use Rattle.mw_logic.proofs.Soundness.{HasKind-same}
-use Rattle.mw_text.specs.Names.{Item, piece, hole, items_of}
+use Rattle.mw_text.specs.Names.{NameItem, piece, hole, items_of}
 use Rattle.mw_text.specs.Mixfix as text
 use Rattle.mw_text.specs.Mixfix.{IsHead, IsTaken, Spells, declared, with_sort, grouped, a_constant, prefixed, flattened, mixfix, SpellsArguments, last, more, SpellsNested, two, another, SpellsItems, no_items}
 use Rattle.mw_grammar.specs.declared.parts.Symbol.{Symbol}
@@ -118,7 +118,7 @@ module _ (sig : Signature) (variables : List Variable) (kind : ℕ → ℕ) (ks 
   none_mapped F None parts e = let bad : ⊥ = (cc) in absurd bad
   none_mapped F (Some ps) parts e = (ps, refl, (cc))
 
-  items_back : (p : ℕ) (items : List Item) (gather : List Gather) (Ks : List ℕ) (parts : List Symbol) (ts : RawTerms) (words : List (List ℕ)) → ((L : ℕ) → Member L Ks → IsWithin sig L)
+  items_back : (p : ℕ) (items : List NameItem) (gather : List Gather) (Ks : List ℕ) (parts : List Symbol) (ts : RawTerms) (words : List (List ℕ)) → ((L : ℕ) → Member L Ks → IsWithin sig L)
       → mixfix_parts kind p items gather Ks ≡ Some parts → Over Means parts ts words → SpellsItems sig variables p items gather Ks ts words
   items_back p [] [] [] parts ts words w e d =
       let no : [] ≡ parts = (cc) in

@@ -3,7 +3,7 @@ use Rattle.std.proofs.Common.{ℕ, ◌≡◌, ◌≢◌, ◌∙◌, ◌+◌, Lis
 use Rattle.mw_logic.specs.Signature.{Signature, Operator, Gather}
 use Rattle.mw_chart.specs.Spelling.{IsProduction, IsOpening, IsTable}
 use Rattle.mw_chart.specs.declared.table.Table.{Table}
-use Rattle.mw_text.specs.Names.{Item, piece, hole, items_of, has_hole, pieces}
+use Rattle.mw_text.specs.Names.{NameItem, piece, hole, items_of, has_hole, pieces}
 use Rattle.mw_text.specs.Mixfix.{IsHead}
 use Rattle.mw_grammar.specs.declared.parts.Symbol.{Symbol}
 use Rattle.mw_grammar.specs.declared.parts.Symbol.TheVariants.{Piece, Hole}
@@ -20,7 +20,7 @@ Opens (Piece x ∷ parts) = Unit {0}
 Opens (Hole kind below ∷ []) = ⊥
 Opens (Hole kind below ∷ part ∷ parts) = Unit {0}
 
-some_piece : (items : List Item) → IsFalse (has_hole items) → items ≢ [] → (x : List ℕ) × (xs : List (List ℕ)) × (pieces items ≡ x ∷ xs)
+some_piece : (items : List NameItem) → IsFalse (has_hole items) → items ≢ [] → (x : List ℕ) × (xs : List (List ℕ)) × (pieces items ≡ x ∷ xs)
 some_piece [] h some = absurd (some refl)
 some_piece (piece x ∷ items) h some = (x, pieces items, refl)
 some_piece (hole ∷ items) h some = let bad : ⊥ = (cc) in absurd bad
@@ -38,7 +38,7 @@ module _ (kind : ℕ → ℕ) where
   mapped F None parts e = let bad : ⊥ = (cc) in absurd bad
   mapped F (Some ps) parts e = (ps, refl, (cc))
 
-  some_part : (p : ℕ) (i : Item) (items : List Item) (gs : List Gather) (Ks : List ℕ) (parts : List Symbol) → mixfix_parts kind p (i ∷ items) gs Ks ≡ Some parts
+  some_part : (p : ℕ) (i : NameItem) (items : List NameItem) (gs : List Gather) (Ks : List ℕ) (parts : List Symbol) → mixfix_parts kind p (i ∷ items) gs Ks ≡ Some parts
       → (x : Symbol) × (xs : List Symbol) × (parts ≡ x ∷ xs)
   some_part p (piece x) items gs Ks parts e = let r = mapped (λ ps. Piece x ∷ ps) (mixfix_parts kind p items gs Ks) parts e in (Piece x, r.0, sym r.2)
   some_part p hole items [] Ks parts e = let bad : ⊥ = (cc) in absurd bad
@@ -46,7 +46,7 @@ module _ (kind : ℕ → ℕ) where
   some_part p hole items (g ∷ gs) (K ∷ Ks) parts e =
       let r = mapped (λ ps. Hole (kind K) (bound kind g p) ∷ ps) (mixfix_parts kind p items gs Ks) parts e in (Hole (kind K) (bound kind g p), r.0, sym r.2)
 
-  mixfix_opens : (p : ℕ) (items : List Item) (gs : List Gather) (Ks : List ℕ) (parts : List Symbol) → items ≢ [] → items ≢ hole ∷ [] → mixfix_parts kind p items gs Ks ≡ Some parts → Opens parts
+  mixfix_opens : (p : ℕ) (items : List NameItem) (gs : List Gather) (Ks : List ℕ) (parts : List Symbol) → items ≢ [] → items ≢ hole ∷ [] → mixfix_parts kind p items gs Ks ≡ Some parts → Opens parts
   mixfix_opens p [] gs Ks parts a b e = absurd (a refl)
   mixfix_opens p (piece x ∷ items) gs Ks parts a b e =
       let r = mapped (λ ps. Piece x ∷ ps) (mixfix_parts kind p items gs Ks) parts e in subst Opens r.2 tt

@@ -4,7 +4,7 @@ use Rattle.mw_logic.specs.Term.{Variable, RawTerm, apply, RawTerms, nil, cons}
 use Rattle.mw_logic.specs.Signature.{Signature, Operator, Gather, IsOperator, same, HasKind, of_operator, IsRawTerm, a_variable, an_operator, AreRawTerms, end, next}
 use Rattle.mw_logic.proofs.KindLaws.{SameKind-sym}
 use Rattle.mw_logic.proofs.Soundness.{HasKind-same}
-use Rattle.mw_text.specs.Names.{Item, items_of}
+use Rattle.mw_text.specs.Names.{NameItem, items_of}
 use Rattle.mw_text.specs.Mixfix.{Spells, declared, with_sort, grouped, a_constant, prefixed, flattened, mixfix, SpellsArguments, last, more, SpellsNested, two, another, SpellsItems, no_items, over_piece, over_hole}
 use Rattle.mw_grammar.specs.Readable.{AreKinds, IsReadable, AreVariables}
 use Rattle.mw_grammar.proofs.Spelled.{argument_kind}
@@ -40,7 +40,7 @@ module _ (sig : Signature) (variables : List Variable) (kind : ℕ → ℕ) (ks 
         let r = nested_raw g p w rest n is a in
         (two_raw g p v w is a (spelled_raw v q text d) (HasKind-same k (argument_kind sig variables kind ks ok vs g p K is a m)) r.0 r.1, of_operator p is same)
 
-    items_raw : (p : ℕ) (items : List Item) (gather : List Gather) (Ks : List ℕ) (ts : RawTerms) (text : List (List ℕ)) → SpellsItems sig variables p items gather Ks ts text → AreRawTerms sig ts Ks
+    items_raw : (p : ℕ) (items : List NameItem) (gather : List Gather) (Ks : List ℕ) (ts : RawTerms) (text : List (List ℕ)) → SpellsItems sig variables p items gather Ks ts text → AreRawTerms sig ts Ks
     items_raw p items gather Ks ts text (no_items q) = end
     items_raw p items gather Ks ts text (over_piece q x items2 gather2 Ls us rest d) = items_raw q items2 gather2 Ls us rest d
     items_raw p items gather Ks ts text (over_hole q g K r t items2 gather2 Ls us text2 rest d taken k ds) = next (spelled_raw t r text2 d) k (items_raw q items2 gather2 Ls us rest ds)

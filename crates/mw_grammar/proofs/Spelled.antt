@@ -4,7 +4,7 @@ use Rattle.std.specs.List.{slice_get}
 use Rattle.mw_logic.specs.Term.{Variable, RawTerm, variable, apply, RawTerms, nil, cons}
 use Rattle.mw_logic.specs.Signature.{Signature, Operator, Gather, less, most, any, IsOperator, IsSortNamed, SameKind, HasKind, of_variable, of_operator, Member}
 use Rattle.mw_logic.proofs.Canonical.{same_operator}
-use Rattle.mw_text.specs.Names.{Item, items_of}
+use Rattle.mw_text.specs.Names.{NameItem, items_of}
 use Rattle.mw_text.specs.Mixfix.{IsTaken, Spells, declared, with_sort, grouped, a_constant, prefixed, flattened, mixfix, SpellsArguments, last, more, SpellsNested, two, another, SpellsItems, no_items, over_piece, over_hole}
 use Rattle.mw_grammar.specs.declared.parts.Symbol.{Symbol}
 use Rattle.mw_grammar.specs.declared.parts.Symbol.TheVariants.{Piece, Hole}
@@ -148,7 +148,7 @@ module _ (sig : Signature) (variables : List Variable) (kind : ℕ → ℕ) (ks 
           (over.over_hole (kind p.result) 128 q v (Piece (codes ",") ∷ Hole (length sig.sorts + g) 128 ∷ []) (cons w nil) text (codes "," ∷ rest) first (precedence_below v q text d)
           (over.over_piece (codes ",") (Hole (length sig.sorts + g) 128 ∷ []) (cons w nil) rest (last_hole (length sig.sorts + g) 0 w rest second (lit< tt))))
 
-      spelled_items : (p : ℕ) (items : List Item) (gather : List Gather) (Ks : List ℕ) (ts : RawTerms) (text : List (List ℕ)) → SpellsItems sig variables p items gather Ks ts text
+      spelled_items : (p : ℕ) (items : List NameItem) (gather : List Gather) (Ks : List ℕ) (ts : RawTerms) (text : List (List ℕ)) → SpellsItems sig variables p items gather Ks ts text
           → (parts : List Symbol) × (mixfix_parts kind p items gather Ks ≡ Some parts) × Over S parts ts text
       spelled_items p items gather Ks ts text (no_items q) = ([], refl, over.done)
       spelled_items p items gather Ks ts text (over_piece q x items2 gather2 Ls us rest d) =

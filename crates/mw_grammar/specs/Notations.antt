@@ -2,7 +2,7 @@
 -- of its own, of the texts that are the last two or more arguments of an associative one.
 use Rattle.std.specs.Prelude.{ℕ, suc, ◌≡◌, ◌⊎◌, ◌+◌, List, [], ◌∷◌, ◌++◌, drop, length, codes, Bool, IsTrue, Option, None, Some, option_map, if◌then◌else◌}
 use Rattle.mw_logic.specs.Signature.{Signature, Operator, Gather, less, most, any, IsOperator}
-use Rattle.mw_text.specs.Names.{Item, piece, hole, items_of, has_hole, pieces}
+use Rattle.mw_text.specs.Names.{NameItem, piece, hole, items_of, has_hole, pieces}
 use Rattle.mw_text.specs.Mixfix.{IsHead}
 use Rattle.mw_grammar.specs.declared.parts.Symbol.{Symbol}
 use Rattle.mw_grammar.specs.declared.parts.Symbol.TheVariants.{Piece, Hole}
@@ -52,7 +52,7 @@ module _ (kind : ℕ → ℕ) where
   bound any p = above_all
 
   -- the parts of a mixfix form of precedence p, where the name has as many holes as there are marks and arguments
-  abbrev pub mixfix_parts : ℕ → List Item → List Gather → List ℕ → Option (List Symbol)
+  abbrev pub mixfix_parts : ℕ → List NameItem → List Gather → List ℕ → Option (List Symbol)
   mixfix_parts p [] [] [] = Some []
   mixfix_parts p [] [] (K ∷ Ks) = None
   mixfix_parts p [] (g ∷ gs) Ks = None
@@ -62,7 +62,7 @@ module _ (kind : ℕ → ℕ) where
   mixfix_parts p (hole ∷ items) (g ∷ gs) (K ∷ Ks) = option_map (λ ps. Hole (kind K) (bound g p) ∷ ps) (mixfix_parts p items gs Ks)
 
   -- the parts of a mixfix form whose front was read, with these and so many holes: what comes behind are these items
-  abbrev pub mixing : ℕ → List Gather → List ℕ → List Symbol → List Item → ℕ → Option (List Symbol)
+  abbrev pub mixing : ℕ → List Gather → List ℕ → List Symbol → List NameItem → ℕ → Option (List Symbol)
   mixing p gather Ks parts items n = option_map (λ ps. parts ++ ps) (mixfix_parts p items (drop n gather) (drop n Ks))
 
   -- an argument of an associative operator, a comma, and more arguments, which are of this kind

@@ -2,7 +2,7 @@
 use Rattle.std.specs.Prelude.{ℕ, ◌≡◌, ◌≢◌, ◌≤◌, ◌<◌, List, [], ◌∷◌, length, slice_index_or, IsTrue}
 use Rattle.mw_logic.specs.Term.{Variable}
 use Rattle.mw_logic.specs.Signature.{Signature, Operator, IsOperator, SameKind, Member}
-use Rattle.mw_text.specs.Names.{Item, hole, items_of}
+use Rattle.mw_text.specs.Names.{NameItem, hole, items_of}
 
 -- a sort's kind by a list, in which each sort has a place
 abbrev pub kind_in : List ℕ → ℕ → ℕ
@@ -19,7 +19,7 @@ pub record AreKinds (sig : Signature) (kind : ℕ → ℕ) : Type 0 where
   pub within : (S : ℕ) → IsWithin sig S → IsWithin sig (kind S)
 
 -- A name is a piece at least, or more than a hole.
-abbrev pub IsName : List Item → Type 0
+abbrev pub IsName : List NameItem → Type 0
 IsName items = (items ≢ []) × (items ≢ hole ∷ [])
 
 abbrev pub AreNames : Signature → Type 0

@@ -11,7 +11,7 @@ use crate::compile::{Making, add};
 use crate::kinds::kind_of;
 use crate::parts::{flattened, mixfix, prefix, push_two};
 use mw_term::{KindId, OpId, Operator, Signature};
-use mw_text::{Item, Names, first_item, has_hole};
+use mw_text::{NameItem, Names, first_item, has_hole};
 use std::alloc::{AllocError, Global};
 
 /// Adds a constant, or the prefix form, with this head, of operator number `f`.
@@ -122,7 +122,7 @@ fn is_one_piece(name: &[u8]) -> bool
     ensures { IsTrue result → pieces (items_of name.now) ≡ name.now ∷ [] }
 {
     match first_item(name) {
-        Some((Item::Piece(piece), behind)) => piece == name && first_item(behind).is_none(),
+        Some((NameItem::Piece(piece), behind)) => piece == name && first_item(behind).is_none(),
         _ => false,
     }
 }

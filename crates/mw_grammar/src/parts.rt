@@ -2,7 +2,7 @@
 ghost use Rattle.std.specs.Prelude.{◌≡◌, ◌<◌, ◌++◌, ◌∷◌, ℕ, List, [], map, codes, option_map};
 ghost use Rattle.std.specs.Prelude.{None, MatchOption, IfOk, OnOk};
 ghost use Rattle.mw_term.specs.Signatures.{gather_of};
-ghost use Rattle.mw_text.specs.Names.{Item as ItemOf, items_of, pieces};
+ghost use Rattle.mw_text.specs.Names.{NameItem as ItemOf, items_of, pieces};
 ghost use Rattle.mw_text.specs.Seen.{item_of};
 ghost use Rattle.mw_grammar.specs.declared.parts.Symbol.TheVariants.{Piece, Hole};
 ghost use Rattle.mw_grammar.specs.Readable.{kind_in};
@@ -11,7 +11,7 @@ ghost use Rattle.mw_grammar.specs.Notations.{bound, mixfix_parts, mixing};
 
 use crate::kinds::kind_of;
 use mw_term::{Gather, KindId, Name};
-use mw_text::{Item, first_item};
+use mw_text::{NameItem, first_item};
 use std::alloc::{AllocError, Global};
 
 /// A token, or a hole for texts of a kind, of a precedence below a number.
@@ -48,7 +48,7 @@ fn push_pieces(alloc: Global, parts: &mut Vec<Symbol>, name: &[u8]) -> Result<()
 {
     let mut rest = name;
     while let Some((item, behind)) = first_item(rest) {
-        if let Item::Piece(piece) = item {
+        if let NameItem::Piece(piece) = item {
             push_piece(alloc, parts, piece)?;
         }
         rest = behind;
@@ -160,7 +160,7 @@ fn push_item(
     precedence: u32,
     gather: &[Gather],
     args: &[KindId],
-    item: Item<'_>,
+    item: NameItem<'_>,
     holes: usize,
 ) -> Result<Option<usize>, AllocError>
     requires { precedence < 128 }
@@ -170,11 +170,11 @@ fn push_item(
         ≡ mixing (kind_in kinds.now) precedence (map gather_of gather.now) args.now parts.old.items (item_of item.entry ∷ items) holes)) }
 {
     match item {
-        Item::Piece(piece) => {
+        NameItem::Piece(piece) => {
             push_piece(alloc, parts, piece)?;
             Ok(Some(holes))
         }
-        Item::Hole => {
+        NameItem::Hole => {
             let Some(mark) = gather.get(holes) else {
                 return Ok(None);
             };

@@ -7,7 +7,7 @@ use Rattle.std.proofs.lemmas.Bool.{ltb-true, leb-true, eqb-true}
 use Rattle.std.proofs.lemmas.List.Elements.{All-nil, All-cons, All-head, All-tail}
 use Rattle.std.proofs.lemmas.Slice.Eq.{bytes_eq-Decides}
 use Rattle.mw_lex.specs.declared.token.Token.{Token}
-use Rattle.mw_text.specs.Names.{Item, piece, hole, count_holes}
+use Rattle.mw_text.specs.Names.{NameItem, piece, hole, count_holes}
 use Rattle.mw_module.specs.declared.machine.Part.{Part}
 use Rattle.mw_module.specs.declared.openings.Opening.{Opening}
 use Rattle.mw_module.specs.declared.openings.Opening.TheVariants as opening
@@ -21,7 +21,7 @@ use Rattle.mw_module.specs.Words.{is, texts, count_before}
 use Rattle.mw_module.specs.Openings.{opening_of}
 use Rattle.mw_module.specs.OperatorNames.{items_in, is_name, fits, all_fit}
 use Rattle.mw_module.specs.Attributes.{Attributes, no_attributes, joined, in_range, precedence_of, precedence_in, is_mark, said_as}
-use Rattle.mw_module.specs.Sortings.{Sorting, sorting_of, sortings_of}
+use Rattle.mw_module.specs.Sortings.{WrittenSort, sorting_of, sortings_of}
 use Rattle.mw_module.specs.Equations.{unlabelled, attributes_len, group_at_end}
 use Rattle.mw_module.specs.Known.{IsNameFor, IsMark, IsPrecedence, IsGather, AreAttributes, IsKnown}
 use Rattle.mw_module.specs.Parts.{IsFine, AreParts}
@@ -41,13 +41,13 @@ either true b e = inl refl
 either false b e = inr e
 
 -- names
-named : (items : List Item) → is_name items ≡ true → (items ≢ []) × (items ≢ hole ∷ [])
+named : (items : List NameItem) → is_name items ≡ true → (items ≢ []) × (items ≢ hole ∷ [])
 named [] e = cc
 named (piece x ∷ items) e = (λ (h : piece x ∷ items ≡ []). cc, λ (h : piece x ∷ items ≡ hole ∷ []). cc)
 named (hole ∷ []) e = cc
 named (hole ∷ (i ∷ items)) e = (λ (h : hole ∷ (i ∷ items) ≡ []). cc, λ (h : hole ∷ (i ∷ items) ≡ hole ∷ []). cc)
 
-fitting : (arity : ℕ) (items : List Item) → fits arity items ≡ true → (count_holes items ≡ 0) ⊎ (count_holes items ≡ arity)
+fitting : (arity : ℕ) (items : List NameItem) → fits arity items ≡ true → (count_holes items ≡ 0) ⊎ (count_holes items ≡ arity)
 fitting arity items e = elim (either (count_holes items == 0) (count_holes items == arity) e) [ inl h ↦ inl (eqb-true (count_holes items) 0 h) | inr h ↦ inr (eqb-true (count_holes items) arity h) ]
 
 -- lists of tokens that are names
@@ -161,7 +161,7 @@ said_known arity ts said (p ∷ ps) h all =
 abbrev IsKnownValue : ℕ → Value → Type 0
 IsKnownValue arity v = AreAttributes arity v.attributes
 
-with_known : (arity : ℕ) (ss : List Sorting) (said : Attributes) → AreAttributes arity said → IfOk (valued_with ss said) (IsKnownValue arity)
+with_known : (arity : ℕ) (ss : List WrittenSort) (said : Attributes) → AreAttributes arity said → IfOk (valued_with ss said) (IsKnownValue arity)
 with_known arity [] said h = tt
 with_known arity (s ∷ ss) said h = h
 
@@ -186,7 +186,7 @@ fit_there true true e = refl
 fit_there true false e = cc
 fit_there false b e = cc
 
-profiled_known : (kinds : Bool) (names : List (List Token)) (args : List Sorting) (arrow : Bool) (ts : List Token) → AreNames names → IfOk (profiled kinds names args arrow ts) (IsKnownProfile names)
+profiled_known : (kinds : Bool) (names : List (List Token)) (args : List WrittenSort) (arrow : Bool) (ts : List Token) → AreNames names → IfOk (profiled kinds names args arrow ts) (IsKnownProfile names)
 profiled_known kinds names args arrow ts all = of (not arrow || not (all_fit (length args) names)) refl
   where
     of : (b : Bool) → (not arrow || not (all_fit (length args) names)) ≡ b

@@ -3,19 +3,19 @@ use Rattle.std.proofs.Common.{◌≡◌, ◌∙◌, ◌+◌, ◌&&◌, ◌||◌,
 use Rattle.std.specs.List.{list_all, list_any}
 use Rattle.std.proofs.lemmas.List.Folds.{list_all-append, list_any-append}
 use Rattle.mw_lex.specs.declared.token.Token.{Token}
-use Rattle.mw_text.specs.Names.{Item, piece, hole, items_of, count_holes}
+use Rattle.mw_text.specs.Names.{NameItem, piece, hole, items_of, count_holes}
 use Rattle.mw_module.specs.OperatorNames.{items_in, is_piece, is_fine, is_name}
 use Rattle.mw_module.proofs.Slices.{parted}
 
-all_items : (p : Item → Bool) (ts : List Token) → list_all p (items_in ts) ≡ list_all (λ (t : Token). list_all p (items_of t.text)) ts
+all_items : (p : NameItem → Bool) (ts : List Token) → list_all p (items_in ts) ≡ list_all (λ (t : Token). list_all p (items_of t.text)) ts
 all_items p [] = refl
 all_items p (t ∷ ts) = list_all-append p (items_of t.text) (items_in ts) ∙ ap (λ b. list_all p (items_of t.text) && b) (all_items p ts)
 
-any_items : (p : Item → Bool) (ts : List Token) → list_any p (items_in ts) ≡ list_any (λ (t : Token). list_any p (items_of t.text)) ts
+any_items : (p : NameItem → Bool) (ts : List Token) → list_any p (items_in ts) ≡ list_any (λ (t : Token). list_any p (items_of t.text)) ts
 any_items p [] = refl
 any_items p (t ∷ ts) = list_any-append p (items_of t.text) (items_in ts) ∙ ap (λ b. list_any p (items_of t.text) || b) (any_items p ts)
 
-count_holes-append : (xs ys : List Item) → count_holes (xs ++ ys) ≡ count_holes xs + count_holes ys
+count_holes-append : (xs ys : List NameItem) → count_holes (xs ++ ys) ≡ count_holes xs + count_holes ys
 count_holes-append [] ys = omega arith
 count_holes-append (piece x ∷ xs) ys = count_holes-append xs ys
 count_holes-append (hole ∷ xs) ys = omega (arith, count_holes-append xs ys)

@@ -7,7 +7,7 @@ use Rattle.std.proofs.lemmas.List.Elements.{All-nil, All-cons, All-head, All-tai
 use Rattle.mw_lex.specs.Bytes.{is_punctuation}
 use Rattle.mw_lex.specs.declared.token.Token.{Token}
 use Rattle.mw_lex.specs.Texts.{IsRun, IsTokenText, AreTokens}
-use Rattle.mw_text.specs.Names.{Item, piece, hole, pieces, name_of_tokens}
+use Rattle.mw_text.specs.Names.{NameItem, piece, hole, pieces, name_of_tokens}
 use Rattle.mw_text.specs.Proper.{IsProperName, BeginsNothing, NamesAreProper}
 use Rattle.mw_module.specs.declared.machine.Part.{Part}
 use Rattle.mw_module.specs.declared.openings.Opening.{Opening}
@@ -92,7 +92,7 @@ fine_piece (a ∷ []) e = (eqb-false a 34 (or_parts (a == 46) (a == 34) e).1, re
 fine_piece (a ∷ (b ∷ [])) e = (eqb-false a 34 e, refl)
 fine_piece (a ∷ (b ∷ (c ∷ x))) e = let h = first_false (a == 34) (a == 42 && b == 42 && c == 42) (a == 45 && b == 45 && c == 45) e in (eqb-false a 34 h.0, h.1)
 
-fine_pieces : (items : List Item) → list_all is_fine items ≡ true → All BeginsNothing (pieces items)
+fine_pieces : (items : List NameItem) → list_all is_fine items ≡ true → All BeginsNothing (pieces items)
 fine_pieces [] e = All-nil BeginsNothing
 fine_pieces (piece x ∷ items) e =
     let h = and_parts (not (is_no_piece x)) (list_all is_fine items) e in

@@ -10,7 +10,7 @@ use Rattle.mw_module.specs.declared.table.Wrong.{Wrong}
 use Rattle.mw_module.specs.declared.table.Wrong.TheVariants.{Bad}
 use Rattle.mw_module.specs.Attributes.{Attributes}
 use Rattle.mw_module.specs.OperatorNames.{all_fit}
-use Rattle.mw_module.specs.Sortings.{Sorting, sortings_of}
+use Rattle.mw_module.specs.Sortings.{WrittenSort, sortings_of}
 use Rattle.mw_module.specs.Reading.{then_of, read_at}
 use Rattle.mw_module.specs.Words.{is, count_before}
 use Rattle.mw_module.specs.Forms.{Operators, Value, value_form, Profile, profiled, profile_form, declared, names_form}
@@ -79,7 +79,7 @@ profile_cut names ts p e =
     arrow_there (arrow == length ts) (not (all_fit (length args) names)) f.0
 
 -- the names of a declaration, and what stands behind them
-declared_parts : (ns names : List (List Token)) (ts : List Token) (args : List Sorting) (value : Sorting) (said : Attributes) → declared ns ts ≡ Ok (Operators names args value said)
+declared_parts : (ns names : List (List Token)) (ts : List Token) (args : List WrittenSort) (value : WrittenSort) (said : Attributes) → declared ns ts ≡ Ok (Operators names args value said)
     → (ns ≡ names) × ((p : Profile) × (profile_form ns ts ≡ Ok p))
 declared_parts [] names ts args value said e = cc
 declared_parts (n ∷ ns) names ts args value said e =

@@ -22,7 +22,7 @@ use Rattle.mw_module.specs.OperatorNames.{all_fit}
 use Rattle.mw_module.specs.Attributes.{Attributes, seen_attributes, no_attributes, joined, said_as}
 use Rattle.mw_module.specs.Equations.{unlabelled, attributes_len, group_at_end}
 use Rattle.mw_module.specs.Reading.{told, then_of, tokens_of, read_at, lists_of, first_token}
-use Rattle.mw_module.specs.Sortings.{Sorting, seen_sorting, seen_sortings, sorting_of, sortings_of}
+use Rattle.mw_module.specs.Sortings.{WrittenSort, seen_sorting, seen_sortings, sorting_of, sortings_of}
 use Rattle.mw_module.specs.Words.{seen_lists, count_before}
 
 -- a statement by its form, with its parts
@@ -31,7 +31,7 @@ pub data Shape : Type 0 where
   -- groups of sorts, each sort of a group below each of the next
   Subsorts : List (List Token) → Shape
   -- names, each as its tokens, sorts of arguments, the value's sort, and attributes
-  Operators : List (List Token) → List Sorting → Sorting → Attributes → Shape
+  Operators : List (List Token) → List WrittenSort → WrittenSort → Attributes → Shape
   Variables : List Token → Token → Shape
   -- the sides, and whether it is executable
   Equation : List Token → List Token → Bool → Shape
@@ -99,7 +99,7 @@ said_from ts said (p ∷ ps) = said_from ts (joined said (said_as p.role (tokens
 
 -- a value's sort and what is said of the operators
 pub record Value : Type 0 where
-  pub sort : Sorting
+  pub sort : WrittenSort
   pub attributes : Attributes
 
 abbrev pub seen_value : HeldValue → Value
@@ -110,7 +110,7 @@ seen_valued (Ok v) = Ok (seen_value v)
 seen_valued (Err wrong) = Err wrong
 
 -- the value, with the attributes of a list
-abbrev pub valued_with : List Sorting → Attributes → Result Value Wrong
+abbrev pub valued_with : List WrittenSort → Attributes → Result Value Wrong
 valued_with [] said = Err Bad
 valued_with (s ∷ ss) said = Ok (record { sort = s; attributes = said })
 
@@ -127,7 +127,7 @@ value_form kinds arity ts = then_of (read_at place.Value role.Silent (want.Marks
 
 -- what comes behind the names
 pub record Profile : Type 0 where
-  pub args : List Sorting
+  pub args : List WrittenSort
   pub value : Value
 
 abbrev pub seen_profile : HeldProfile → Profile
@@ -138,7 +138,7 @@ seen_profiled (Ok p) = Ok (seen_profile p)
 seen_profiled (Err wrong) = Err wrong
 
 -- what comes behind sorts of arguments, one for each hole of a name with holes, where there is an arrow
-abbrev pub profiled : Bool → List (List Token) → List Sorting → Bool → List Token → Result Profile Wrong
+abbrev pub profiled : Bool → List (List Token) → List WrittenSort → Bool → List Token → Result Profile Wrong
 profiled kinds names args arrow ts = if not arrow || not (all_fit (length args) names) then Err Bad
     else then_of (value_form kinds (length args) ts) (λ (v : Value). Ok (record { args = args; value = v }))
 

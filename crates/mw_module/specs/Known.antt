@@ -5,7 +5,7 @@ use Rattle.mw_text.specs.Names.{hole, count_holes}
 use Rattle.mw_module.specs.Attributes.{Attributes}
 use Rattle.mw_module.specs.Forms.{Shape, Sorts, Subsorts, Operators, Variables, Equation}
 use Rattle.mw_module.specs.OperatorNames.{items_in}
-use Rattle.mw_module.specs.Sortings.{Sorting}
+use Rattle.mw_module.specs.Sortings.{WrittenSort}
 use Rattle.mw_module.specs.Units.{SeenLined, SeenUnit, Reads}
 
 -- a name is neither nothing nor a hole alone, and has no holes or one for each argument
@@ -30,7 +30,7 @@ pub record AreAttributes (arity : ℕ) (a : Attributes) : Type 0 where
   pub gather : IfSome a.gather (IsGather arity)
 
 -- a declaration of operators
-pub record AreOperators (ns : List (List Token)) (args : List Sorting) (a : Attributes) : Type 0 where
+pub record AreOperators (ns : List (List Token)) (args : List WrittenSort) (a : Attributes) : Type 0 where
   pub some : ns ≢ []
   pub names : All (IsNameFor (length args)) ns
   pub attributes : AreAttributes (length args) a

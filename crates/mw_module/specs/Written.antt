@@ -3,7 +3,7 @@ use Rattle.std.specs.Prelude.{◌≡◌, ◌⊎◌, Bool, List, ◌∷◌, ◌++
 use Rattle.mw_lex.specs.declared.token.Token.{Token}
 use Rattle.mw_module.specs.Attributes.{Attributes}
 use Rattle.mw_module.specs.Forms.{Operators, names_form, operators_form}
-use Rattle.mw_module.specs.Sortings.{Sorting}
+use Rattle.mw_module.specs.Sortings.{WrittenSort}
 
 -- behind the first word: names, a colon, sorts, an arrow, and the rest
 pub record IsDeclaration (single : Bool) (ts : List Token) (names : List (List Token)) : Type 0 where
@@ -19,5 +19,5 @@ pub record IsDeclaration (single : Bool) (ts : List Token) (names : List (List T
 
 -- What is read as operators is written so.
 abbrev pub OperatorsAreWritten : Type 0
-OperatorsAreWritten = (single : Bool) (ts : List Token) (names : List (List Token)) (args : List Sorting) (value : Sorting)
+OperatorsAreWritten = (single : Bool) (ts : List Token) (names : List (List Token)) (args : List WrittenSort) (value : WrittenSort)
     (said : Attributes) → operators_form single ts ≡ Ok (Operators names args value said) → IsDeclaration single ts names

@@ -8,7 +8,7 @@ use crate::faults::FaultKind;
 use crate::machine::{first_token, lists_of, read};
 use crate::openings::{Opening, opening_of};
 use crate::operators::operators_form;
-use crate::sortings::Sorting;
+use crate::sortings::WrittenSort;
 use crate::table::{Place, Read, Role, Want, Wrong, told};
 use crate::words::{count_before, tokens_from};
 use mw_lex::Token;
@@ -29,8 +29,8 @@ pub enum Form<'s> {
     /// attributes.
     Operators {
         names: Vec<&'s [Token]>,
-        args: Vec<Sorting<'s>>,
-        result: Sorting<'s>,
+        args: Vec<WrittenSort<'s>>,
+        result: WrittenSort<'s>,
         attributes: Attributes<'s>,
     },
     /// Variables that are declared, at least one.

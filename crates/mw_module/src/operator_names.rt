@@ -7,7 +7,7 @@ ghost use Rattle.mw_module.specs.OperatorNames as spec;
 
 use crate::words::is_no_piece;
 use mw_lex::Token;
-use mw_text::{Item, first_item, holes as holes_in};
+use mw_text::{NameItem, first_item, holes as holes_in};
 
 // Whether the pieces of a token may stand in a name.
 fn has_fine_pieces(text: &[u8]) -> bool
@@ -15,7 +15,7 @@ fn has_fine_pieces(text: &[u8]) -> bool
 {
     let mut rest = text;
     while let Some((item, after)) = first_item(rest) {
-        if let Item::Piece(piece) = item
+        if let NameItem::Piece(piece) = item
             && is_no_piece(piece)
         {
             return false;
@@ -31,7 +31,7 @@ fn has_piece(text: &[u8]) -> bool
 {
     let mut rest = text;
     while let Some((item, after)) = first_item(rest) {
-        if let Item::Piece(_) = item {
+        if let NameItem::Piece(_) = item {
             return true;
         }
         rest = after;

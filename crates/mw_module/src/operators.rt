@@ -8,7 +8,7 @@ use crate::attribute::{Attributes, said};
 use crate::forms::Form;
 use crate::machine::{Part, lists_of, read};
 use crate::operator_names::all_fit;
-use crate::sortings::{Sorting, sorting_of, sortings_of};
+use crate::sortings::{WrittenSort, sorting_of, sortings_of};
 use crate::table::{Place, Read, Role, Want, Wrong};
 use crate::words::{count_before, tokens_from};
 use mw_lex::Token;
@@ -17,14 +17,14 @@ use std::alloc::Global;
 // A value's sort, and what is said of the operators.
 #[derive(Clone, Copy)]
 struct Value<'s> {
-    sort: Sorting<'s>,
+    sort: WrittenSort<'s>,
     attributes: Attributes<'s>,
 }
 
 // What stands behind the names.
 #[derive(Drop)]
 struct Profile<'s> {
-    args: Vec<Sorting<'s>>,
+    args: Vec<WrittenSort<'s>>,
     value: Value<'s>,
 }
 

@@ -9,18 +9,18 @@ use std::alloc::{AllocError, Global};
 
 /// A sort as it is written in a declaration of an operator.
 #[derive(Clone, Copy)]
-pub struct Sorting<'s> {
+pub struct WrittenSort<'s> {
     pub name: &'s Token,
     /// Whether the kind of the sort is meant.
     pub kind: bool,
 }
 
 // The sort that a part is, where `kinds` says that all kinds are meant.
-pub fn sorting_of<'s>(kinds: bool, tokens: &'s [Token], part: Part) -> Option<Sorting<'s>>
+pub fn sorting_of<'s>(kinds: bool, tokens: &'s [Token], part: Part) -> Option<WrittenSort<'s>>
     ensures { spec.seen_optional result ≡ spec.sorting_of kinds tokens.now part }
 {
     match (part.role, part_tokens(tokens, part)) {
-        (Role::Sort(kind), [name, ..]) => Some(Sorting {
+        (Role::Sort(kind), [name, ..]) => Some(WrittenSort {
             name,
             kind: kinds || kind,
         }),
@@ -34,7 +34,7 @@ pub fn sortings_of<'s>(
     kinds: bool,
     tokens: &'s [Token],
     parts: &[Part],
-) -> Result<Vec<Sorting<'s>>, AllocError>
+) -> Result<Vec<WrittenSort<'s>>, AllocError>
     ensures { IfOk result (λ v. spec.seen_sortings v.items ≡ spec.sortings_of kinds tokens.now parts.now) }
 {
     let mut sortings = Vec::new(alloc);

@@ -8,7 +8,7 @@ use Rattle.mw_logic.specs.Signature.{Signature, Operator, Gather, at_number}
 use Rattle.mw_logic.specs.Parts.{is_assoc}
 use Rattle.mw_lex.specs.Texts.{IsProper}
 use Rattle.mw_text.specs.Proper.{IsProperName, AreProperNames}
-use Rattle.mw_text.specs.Names.{Item, piece, hole, items_of, has_hole, pieces}
+use Rattle.mw_text.specs.Names.{NameItem, piece, hole, items_of, has_hole, pieces}
 use Rattle.mw_print.specs.Tokens.{Token, token, opening, comma, text_of, texts}
 use Rattle.mw_print.specs.Printing.{Printed, is_mixfix, takes, in_parentheses, in_hole, in_holes, head, divided, called, spread, arguments_of, tokens_of, printed, printed_all}
 use Rattle.mw_print.specs.Laws.{HasProperLeaves, HaveProperLeaves, PrintedProper}
@@ -68,7 +68,7 @@ arguments_proper assoc f (a ∷ b ∷ args) h = (h.0.0, arguments_proper assoc f
 hole_proper : (g : Gather) (p : ℕ) (a : Printed) → IsFine a → AreProper (in_hole g p a)
 hole_proper g p a h = elim (cases_Bool (takes g p a.precedence)) [ inl e ↦ rw e h.0 | inr e ↦ rw e (grouped_proper a.tokens h.0) ]
 
-holes_proper : (p : ℕ) (items : List Item) (gs : List Gather) (args : List Printed) → All IsProper (pieces items) → AreFine args → AreProper (in_holes p items gs args)
+holes_proper : (p : ℕ) (items : List NameItem) (gs : List Gather) (args : List Printed) → All IsProper (pieces items) → AreFine args → AreProper (in_holes p items gs args)
 holes_proper p [] gs args n h = tt
 holes_proper p (piece x ∷ items) gs args n h = (All-head IsProper x (pieces items) n, holes_proper p items gs args (All-tail IsProper x (pieces items) n) h)
 holes_proper p (hole ∷ items) [] args n h = holes_proper p items [] args n h

@@ -6,7 +6,7 @@ use Rattle.std.proofs.lemmas.List.{map-append}
 use Rattle.mw_logic.specs.Term.{Variable, RawTerm, apply, RawTerms, nil, cons}
 use Rattle.mw_logic.specs.Signature.{Signature, Operator, Gather, less, most, any, IsOperator, Member, HasKind, IsRawTerm, a_numeral, a_quoted, a_variable, an_operator, AreRawTerms, end, next}
 use Rattle.mw_logic.specs.Parts.{is_assoc}
-use Rattle.mw_text.specs.Names.{Item, piece, hole, items_of, has_hole, count_holes, pieces}
+use Rattle.mw_text.specs.Names.{NameItem, piece, hole, items_of, has_hole, count_holes, pieces}
 use Rattle.mw_text.specs.Mixfix.{IsTaken, IsHead, Spells, with_sort, grouped, a_constant, prefixed, flattened, mixfix, SpellsArguments, last, more, SpellsNested, two, another, SpellsItems, no_items, over_piece, over_hole}
 use Rattle.mw_print.specs.Tokens.{Token, token, opening, text_of, texts, comma}
 use Rattle.mw_print.specs.Printing.{Printed, has_less, is_mixfix, takes, in_hole, in_holes, head, divided, called, has_arguments, spread, arguments_of, printed, printed_all}
@@ -92,7 +92,7 @@ module _ (sig : Signature) (variables : List Variable) where
         | inr e ↦ (0, rw (e, texts_both (token (codes "(") ∷ a.tokens)) (grouped t a.precedence (texts a.tokens) part.spells), grouped_taken g gs p h)
       ]
 
-  items_spelled : (p : ℕ) (items : List Item) (gather : List Gather) {ts : RawTerms} {Ks : List ℕ} → count_holes items ≡ length gather → count_holes items ≡ length Ks
+  items_spelled : (p : ℕ) (items : List NameItem) (gather : List Gather) {ts : RawTerms} {Ks : List ℕ} → count_holes items ≡ length gather → count_holes items ≡ length Ks
       → (p ≡ 0 → has_less gather ≡ false) → Parts ts Ks → SpellsItems sig variables p items gather Ks ts (texts (in_holes p items gather (printed_all sig ts)))
   items_spelled p [] [] e f h no_parts = no_items p
   items_spelled p [] [] e f h (and_part part k parts) = absurd (omega arith)

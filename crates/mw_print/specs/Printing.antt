@@ -4,7 +4,7 @@ use Rattle.std.specs.Fmt.{decimal}
 use Rattle.mw_logic.specs.Term.{RawTerm, numeral, quoted, variable, apply, RawTerms, nil, cons}
 use Rattle.mw_logic.specs.Signature.{Signature, Operator, Gather, less, most, any, at_number}
 use Rattle.mw_logic.specs.Parts.{is_assoc}
-use Rattle.mw_text.specs.Names.{Item, piece, hole, items_of, has_hole, count_holes, pieces}
+use Rattle.mw_text.specs.Names.{NameItem, piece, hole, items_of, has_hole, count_holes, pieces}
 use Rattle.mw_print.specs.Tokens.{Token, token, opening, comma, spaced}
 
 -- A term as it is printed: its precedence and its tokens, and the operator on top (0 for none) with the arguments of its prefix form. Where it is the last
@@ -45,7 +45,7 @@ abbrev pub in_hole : Gather → ℕ → Printed → List Token
 in_hole g p a = if takes g p a.precedence then a.tokens else in_parentheses a.tokens
 
 -- the items of a form of precedence p: pieces as tokens, and an argument in each hole
-abbrev pub in_holes : ℕ → List Item → List Gather → List Printed → List Token
+abbrev pub in_holes : ℕ → List NameItem → List Gather → List Printed → List Token
 in_holes p [] gs args = []
 in_holes p (piece x ∷ items) gs args = token x ∷ in_holes p items gs args
 in_holes p (hole ∷ items) [] args = in_holes p items [] args

@@ -13,7 +13,7 @@ ghost use Rattle.mw_print.specs.Writing.{Writes};
 use crate::sorts::print_sort;
 use crate::writer::Writer;
 use mw_term::{Gather, OpId, Operator, Shape, Signature, Term, VarId};
-use mw_text::{Item, first_item, has_hole, holes};
+use mw_text::{NameItem, first_item, has_hole, holes};
 use std::alloc::{AllocError, Global};
 
 /// The text of a term.
@@ -94,8 +94,8 @@ fn print_mixfix(
     let mut args = args;
     while let Some(front) = first_item(name) {
         match front.0 {
-            Item::Piece(piece) => writer.token(piece)?,
-            Item::Hole => {
+            NameItem::Piece(piece) => writer.token(piece)?,
+            NameItem::Hole => {
                 if let ([mark, marks @ ..], [arg, behind @ ..]) = (gather, args) {
                     print_in_hole(alloc, signature, *mark, operator.prec, arg, writer)?;
                     args = behind;
@@ -281,7 +281,7 @@ fn print_head(operator: &Operator, writer: &mut Writer) -> Result<(), AllocError
     }
     let mut name = spelling;
     while let Some(front) = first_item(name) {
-        if let Item::Piece(piece) = front.0 {
+        if let NameItem::Piece(piece) = front.0 {
             writer.token(piece)?;
         }
         name = front.1;

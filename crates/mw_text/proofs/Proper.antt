@@ -7,7 +7,7 @@ use Rattle.mw_lex.specs.Bytes.{is_punctuation, is_run_byte}
 use Rattle.mw_lex.specs.Texts.{IsMark, IsProper, IsQuoted, IsTokenText}
 use Rattle.mw_lex.proofs.Runs.{takes_next, takes_none, IsWhole, whole_one, whole_two, behind_one, behind_two, run_first as whole_first}
 use Rattle.mw_lex.proofs.Comments.{IsApart, no_comment, no_comment_before}
-use Rattle.mw_text.specs.Names.{Item, piece, hole, ended, items_from, items_of, items_of_tokens, name_of_tokens, has_hole, pieces, is_mark, spelled_behind}
+use Rattle.mw_text.specs.Names.{NameItem, piece, hole, ended, items_from, items_of, items_of_tokens, name_of_tokens, has_hole, pieces, is_mark, spelled_behind}
 use Rattle.mw_text.specs.Proper.{BeginsNothing, NamesAreProper}
 use Rattle.mw_text.proofs.Spellings.{run_first, spellings_read}
 
@@ -21,7 +21,7 @@ IsWord [] = ⊥
 IsWord (b ∷ x) = IsMark (b ∷ x) ⊎ All IsWordByte (b ∷ x)
 
 -- the pieces are words
-abbrev AreWords : List Item → Type 0
+abbrev AreWords : List NameItem → Type 0
 AreWords items = All IsWord (pieces items)
 
 -- what is left of a token from some byte on: a whole run, behind one of the seven or not
@@ -46,7 +46,7 @@ left_byte b x p (inl h) = whole_first b x h
 left_byte b x p (inr m) = absurd (true≢false (sym m.0 ∙ p))
 
 -- the pieces of what is left, behind a word that is being read
-words_ended : (run : List ℕ) (items : List Item) → All IsWordByte run → AreWords items → AreWords (ended run items)
+words_ended : (run : List ℕ) (items : List NameItem) → All IsWordByte run → AreWords items → AreWords (ended run items)
 words_ended [] items p h = h
 words_ended (b ∷ run) items p h = All-cons IsWord (b ∷ run) (pieces items) (inr p) h
 
@@ -73,7 +73,7 @@ no_quoted : (x : List ℕ) → IsQuoted x → All BeginsNothing (pieces (items_o
 no_quoted [] q h = absurd q
 no_quoted (b ∷ x) q h =
     let at : All BeginsNothing (pieces (items_of (34 ∷ x))) = subst (λ (c : ℕ). All BeginsNothing (pieces (items_of (c ∷ x)))) q h in
-    let first = subst (λ (items : List Item). All BeginsNothing (pieces items)) (run_first 34 x refl) at in
+    let first = subst (λ (items : List NameItem). All BeginsNothing (pieces items)) (run_first 34 x refl) at in
     (All-head BeginsNothing _ _ first).0 refl
 
 -- the pieces of a token, and of tokens
@@ -83,13 +83,13 @@ token_words t (inr quoted) h = absurd (no_quoted t quoted h)
 
 -- what holds of the pieces of items and of others behind them, apart and together
 module _ (P : List ℕ → Type 0) where
-  pieces_parts : (xs ys : List Item) → All P (pieces (xs ++ ys)) → All P (pieces xs) × All P (pieces ys)
+  pieces_parts : (xs ys : List NameItem) → All P (pieces (xs ++ ys)) → All P (pieces xs) × All P (pieces ys)
   pieces_parts [] ys h = (All-nil P, h)
   pieces_parts (hole ∷ xs) ys h = pieces_parts xs ys h
   pieces_parts (piece x ∷ xs) ys h =
       let rest = pieces_parts xs ys (All-tail P x (pieces (xs ++ ys)) h) in (All-cons P x (pieces xs) (All-head P x (pieces (xs ++ ys)) h) rest.0, rest.1)
 
-  pieces_both : (xs ys : List Item) → All P (pieces xs) → All P (pieces ys) → All P (pieces (xs ++ ys))
+  pieces_both : (xs ys : List NameItem) → All P (pieces xs) → All P (pieces ys) → All P (pieces (xs ++ ys))
   pieces_both [] ys h k = k
   pieces_both (hole ∷ xs) ys h k = pieces_both xs ys h k
   pieces_both (piece x ∷ xs) ys h k = All-cons P x (pieces (xs ++ ys)) (All-head P x (pieces xs) h) (pieces_both xs ys (All-tail P x (pieces xs) h) k)
@@ -125,7 +125,7 @@ piece_whole touching (b ∷ x) rest (inr p) h =
     cond_both (touching || is_mark (b ∷ x)) (96 ∷ b ∷ x) (b ∷ x) (λ y. IsWhole (y ++ rest)) (λ m. whole_one 96 (b ∷ x ++ rest) refl (All-head IsWordByte b x p).2 behind) (λ m. behind)
 
 -- a name's spelling is a whole run
-name_whole : (touching : Bool) (items : List Item) → AreWords items → IsWhole (spelled_behind touching items)
+name_whole : (touching : Bool) (items : List NameItem) → AreWords items → IsWhole (spelled_behind touching items)
 name_whole touching [] w = refl
 name_whole touching (hole ∷ items) w = let rest = spelled_behind false items in whole_one 95 rest refl (takes_none 95 rest refl) (name_whole false items w)
 name_whole touching (piece x ∷ items) w =
@@ -136,7 +136,7 @@ begins_with : (b : ℕ) (x : List ℕ) → (b == 34) ≡ false → (b == 42) ≡
 begins_with b x q s d = (eqb-false b 34 q, no_comment b s d x)
 
 -- nor in a piece before what is spelled behind it
-behind_apart : (items : List Item) → (¬ IsQuoted (spelled_behind true items)) × IsApart (spelled_behind true items)
+behind_apart : (items : List NameItem) → (¬ IsQuoted (spelled_behind true items)) × IsApart (spelled_behind true items)
 behind_apart [] = ((λ q. q), tt)
 behind_apart (hole ∷ items) = (eqb-false 95 34 refl, (refl, refl))
 behind_apart (piece x ∷ items) = (eqb-false 96 34 refl, (refl, refl))
@@ -146,7 +146,7 @@ begins_before [] rest n h = (h.0, no_comment_before [] rest refl h.1)
 begins_before (b ∷ x) rest n h = (n.0, no_comment_before (b ∷ x) rest n.1 h.1)
 
 -- nor in a name's spelling
-name_begins : (items : List Item) → All BeginsNothing (pieces items) → BeginsNothing (spelled_behind false items)
+name_begins : (items : List NameItem) → All BeginsNothing (pieces items) → BeginsNothing (spelled_behind false items)
 name_begins [] n = ((λ q. q), refl)
 name_begins (hole ∷ items) n = begins_with 95 (spelled_behind false items) refl refl refl
 name_begins (piece x ∷ items) n =
@@ -166,4 +166,4 @@ names_are_proper ts tokens begins =
     let items = items_of_tokens ts in
     let words = tokens_words ts tokens begins in
     let each : All IsProper (pieces items) = λ k d h. word_proper _ (words k d h) (begins k d h) in
-    (subst (λ (items : List Item). All IsProper (pieces items)) (sym (spellings_read ts)) each, name_proper (name_of_tokens ts) (name_whole false items words) (name_begins items begins))
+    (subst (λ (items : List NameItem). All IsProper (pieces items)) (sym (spellings_read ts)) each, name_proper (name_of_tokens ts) (name_whole false items words) (name_begins items begins))

@@ -5,7 +5,7 @@ use Rattle.mw_logic.specs.Signature.{Signature, Operator, IsOperator, Member, Sa
 use Rattle.mw_logic.specs.Accepted.{IsAccepted}
 use Rattle.mw_logic.proofs.KindLaws.{SameKind-trans, SameKind-sym, SameKind-equal}
 use Rattle.mw_logic.proofs.Soundness.{HasKind-same}
-use Rattle.mw_text.specs.Names.{Item}
+use Rattle.mw_text.specs.Names.{NameItem}
 use Rattle.mw_text.specs.Mixfix.{Spells, declared, with_sort, grouped, a_constant, prefixed, flattened, mixfix, SpellsArguments, last, more, SpellsNested, two, another, SpellsItems, no_items, over_piece, over_hole}
 
 module _ (sig : Signature) (accepted : IsAccepted sig) (variables : List Variable) where
@@ -46,7 +46,7 @@ module _ (sig : Signature) (accepted : IsAccepted sig) (variables : List Variabl
     nested_raw is a (another f o t u p K text rest s m k all) =
         let below = nested_raw is a all in (pair_raw f o t u K o.result is a (spelled_raw s) k (of_result f o is a K m) below.0 below.1 same, of_operator o is same)
 
-    items_raw : {p : ℕ} {items : List Item} {gather : _} {Ks : List ℕ} {ts : RawTerms} {text : List (List ℕ)} → SpellsItems sig variables p items gather Ks ts text → AreRawTerms sig ts Ks
+    items_raw : {p : ℕ} {items : List NameItem} {gather : _} {Ks : List ℕ} {ts : RawTerms} {text : List (List ℕ)} → SpellsItems sig variables p items gather Ks ts text → AreRawTerms sig ts Ks
     items_raw (no_items p) = end
     items_raw (over_piece p x items gather Ks ts rest all) = items_raw all
     items_raw (over_hole p g K q t items gather Ks ts text rest s taken k all) = next (spelled_raw s) k (items_raw all)

@@ -4,7 +4,7 @@ use Rattle.std.proofs.lemmas.Bool.{false≢true, or_cases}
 use Rattle.mw_logic.specs.Term.{Variable, RawTerm, variable, RawTerms}
 use Rattle.mw_logic.specs.Signature.{Signature, Operator, Gather, Member, IsSortNamed}
 use Rattle.mw_logic.specs.Substitution.{occurs, occurs_in}
-use Rattle.mw_text.specs.Names.{Item}
+use Rattle.mw_text.specs.Names.{NameItem}
 use Rattle.mw_text.specs.Mixfix.{IsVariableName, Spells, declared, with_sort, grouped, a_constant, prefixed, flattened, mixfix, SpellsArguments, last, more, SpellsNested, two, another, SpellsItems, no_items, over_piece, over_hole}
 use Rattle.mw_logic.proofs.SameConditions.{same_variable-is}
 use Rattle.mw_text.proofs.Joined.{Member-left, Member-right}
@@ -67,7 +67,7 @@ module _ (sig : Signature) (variables : List Variable) (P : Variable → Type 0)
         either (occurs x t) (occurs x u || false) i (λ e. spelled_variables s (left_of T text (codes "," ∷ rest) h) x e)
         (λ r. either (occurs x u) false r (λ e. nested_variables all (past T text (codes ",") rest h) x e) none)
 
-    items_variables : {p : ℕ} {items : List Item} {gather : List Gather} {Ks : List ℕ} {ts : RawTerms} {text : List (List ℕ)} → SpellsItems sig variables p items gather Ks ts text → Each T text
+    items_variables : {p : ℕ} {items : List NameItem} {gather : List Gather} {Ks : List ℕ} {ts : RawTerms} {text : List (List ℕ)} → SpellsItems sig variables p items gather Ks ts text → Each T text
         → (x : Variable) → IsTrue (occurs_in x ts) → P x
     items_variables (no_items p) h x o = none o
     items_variables (over_piece p y items gather Ks ts rest all) h x o = items_variables all (behind T y rest h) x o

@@ -3,11 +3,11 @@ use Rattle.std.proofs.Common.{ℕ, ◌≡◌, ◌<◌, ◌∙◌, ◌⊎◌, ◌
 use Rattle.std.specs.Prelude.{⊤}
 use Rattle.std.proofs.lemmas.Bool.{eqb-true}
 use Rattle.mw_lex.specs.Bytes.{is_punctuation}
-use Rattle.mw_text.specs.Names.{Item, piece, hole, ended, items_from, items_of, items_of_tokens, is_mark, spelled_behind, SpellingsRead}
+use Rattle.mw_text.specs.Names.{NameItem, piece, hole, ended, items_from, items_of, items_of_tokens, is_mark, spelled_behind, SpellingsRead}
 use Rattle.mw_text.specs.Runs.{is_plain, run_len}
 
 -- what is read of a byte, by what kind of byte it is
-abbrev read_by : Bool → Bool → Bool → List ℕ → ℕ → List ℕ → List Item
+abbrev read_by : Bool → Bool → Bool → List ℕ → ℕ → List ℕ → List NameItem
 read_by underscore backquote punctuation run b rest = if underscore then ended run (hole ∷ items_from [] rest)
     else if backquote then ended run (items_from [] rest)
     else if punctuation then ended run (piece (b ∷ []) ∷ items_from [] rest)
@@ -73,7 +73,7 @@ abbrev IsClean : List ℕ → Type 0
 IsClean [] = ⊥
 IsClean (b ∷ x) = (is_mark (b ∷ x) ≡ true) ⊎ ArePlain (b ∷ x)
 
-abbrev AreClean : List Item → Type 0
+abbrev AreClean : List NameItem → Type 0
 AreClean [] = ⊤
 AreClean (hole ∷ items) = AreClean items
 AreClean (piece x ∷ items) = IsClean x × AreClean items
@@ -82,7 +82,7 @@ plain_push : (run : List ℕ) (b : ℕ) → ArePlain run → is_plain b ≡ true
 plain_push [] b p e = (e, tt)
 plain_push (c ∷ run) b p e = (p.0, plain_push run b p.1 e)
 
-clean_ended : (run : List ℕ) (items : List Item) → ArePlain run → AreClean items → AreClean (ended run items)
+clean_ended : (run : List ℕ) (items : List NameItem) → ArePlain run → AreClean items → AreClean (ended run items)
 clean_ended [] items p c = c
 clean_ended (b ∷ run) items p c = (inr p, c)
 
@@ -96,7 +96,7 @@ clean_from run (b ∷ rest) p = of (clean_from [] rest tt) (clean_from (run ++ b
     of anew on false d false e true f = clean_ended run (piece (b ∷ []) ∷ items_from [] rest) p (inl f, anew)
     of anew on false d false e false f = on (plain_push run b p (rw (d, e, f) refl))
 
-clean_append : (xs ys : List Item) → AreClean xs → AreClean ys → AreClean (xs ++ ys)
+clean_append : (xs ys : List NameItem) → AreClean xs → AreClean ys → AreClean (xs ++ ys)
 clean_append [] ys c d = d
 clean_append (hole ∷ xs) ys c d = clean_append xs ys c d
 clean_append (piece x ∷ xs) ys c d = (c.0, clean_append xs ys c.1 d)
@@ -120,11 +120,11 @@ no_mark b [] p = of (b == 95) (b == 96) (is_punctuation b) p.0
 no_mark b (c ∷ x) p = refl
 
 -- items read back behind a piece, and by themselves
-record AreRead (items : List Item) : Type 0 where
+record AreRead (items : List NameItem) : Type 0 where
   touching : (run : List ℕ) → items_from run (spelled_behind true items) ≡ ended run items
   apart : items_of (spelled_behind false items) ≡ items
 
-piece_read : (x : List ℕ) (items : List Item) → IsClean x → AreRead items → items_of (x ++ spelled_behind (not (is_mark x)) items) ≡ piece x ∷ items
+piece_read : (x : List ℕ) (items : List NameItem) → IsClean x → AreRead items → items_of (x ++ spelled_behind (not (is_mark x)) items) ≡ piece x ∷ items
 piece_read [] items h r = absurd h
 piece_read (b ∷ []) items (inl e) r =
     mark_first b (spelled_behind (not (is_punctuation b)) items) e
@@ -136,7 +136,7 @@ piece_read (b ∷ x) items (inr p) r =
     ∙ ap (λ m. items_from (b ∷ x) (spelled_behind (not m) items)) (no_mark b x p)
     ∙ r.touching (b ∷ x)
 
-read_back : (items : List Item) → AreClean items → AreRead items
+read_back : (items : List NameItem) → AreClean items → AreRead items
 read_back [] c = record { touching = λ run. refl; apart = refl }
 read_back (hole ∷ items) c =
     let r = read_back items c in record { touching = λ run. ap (λ m. ended run (hole ∷ m)) r.apart; apart = ap (λ m. hole ∷ m) r.apart }

@@ -4,7 +4,7 @@ use Rattle.std.specs.Prelude.{◌≡◌, ◌≢◌, ◌<◌, ◌≤◌, ◌⊎�
 use Rattle.mw_lex.specs.Bytes.{is_punctuation}
 use Rattle.mw_logic.specs.Term.{Variable, RawTerm, variable, apply, RawTerms, nil, cons}
 use Rattle.mw_logic.specs.Signature.{Signature, Operator, Gather, less, most, any, IsOperator, IsSortNamed, HasKind, Member}
-use Rattle.mw_text.specs.Names.{Item, piece, hole, items_of, has_hole, pieces}
+use Rattle.mw_text.specs.Names.{NameItem, piece, hole, items_of, has_hole, pieces}
 
 -- a hole with this mark, in a form of precedence p, takes texts of precedence q
 abbrev pub IsTaken : Gather → ℕ → ℕ → Type 0
@@ -59,11 +59,11 @@ module _ (sig : Signature) (variables : List Variable) where
           → SpellsNested f o u rest → SpellsNested f o (apply f (cons t (cons u nil))) (text ++ codes "," ∷ rest)
 
     -- the items of a form of precedence p: pieces as tokens, and a text in each hole
-    pub data SpellsItems : ℕ → List Item → List Gather → List ℕ → RawTerms → List (List ℕ) → Type 0 where
+    pub data SpellsItems : ℕ → List NameItem → List Gather → List ℕ → RawTerms → List (List ℕ) → Type 0 where
       no_items : (p : ℕ) → SpellsItems p [] [] [] nil []
-      over_piece : (p : ℕ) (x : List ℕ) (items : List Item) (gather : List Gather) (Ks : List ℕ) (ts : RawTerms) (rest : List (List ℕ))
+      over_piece : (p : ℕ) (x : List ℕ) (items : List NameItem) (gather : List Gather) (Ks : List ℕ) (ts : RawTerms) (rest : List (List ℕ))
           → SpellsItems p items gather Ks ts rest → SpellsItems p (piece x ∷ items) gather Ks ts (x ∷ rest)
-      over_hole : (p : ℕ) (g : Gather) (K q : ℕ) (t : RawTerm) (items : List Item) (gather : List Gather) (Ks : List ℕ) (ts : RawTerms)
+      over_hole : (p : ℕ) (g : Gather) (K q : ℕ) (t : RawTerm) (items : List NameItem) (gather : List Gather) (Ks : List ℕ) (ts : RawTerms)
           (text rest : List (List ℕ)) → Spells t q text → IsTaken g p q → HasKind sig t K → SpellsItems p items gather Ks ts rest
           → SpellsItems p (hole ∷ items) (g ∷ gather) (K ∷ Ks) (cons t ts) (text ++ rest)
 

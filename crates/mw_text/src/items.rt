@@ -9,7 +9,7 @@ use mw_lex::is_punctuation;
 
 /// A piece of a name, which stands as one token, or a hole, where an argument stands.
 #[derive(Clone, Copy)]
-pub enum Item<'t> {
+pub enum NameItem<'t> {
     Piece(&'t [u8]),
     Hole,
 }
@@ -40,19 +40,19 @@ fn run_len(text: &[u8]) -> usize
 
 /// A piece at the front whose bytes are no punctuation, and what stands behind it.
 #[tactic(auto, using(crate::proofs::Spellings::run_first, crate::proofs::Spellings::run_some))]
-fn first_run<'t>(byte: u8, after: &[u8], text: &'t [u8]) -> (Item<'t>, &'t [u8])
+fn first_run<'t>(byte: u8, after: &[u8], text: &'t [u8]) -> (NameItem<'t>, &'t [u8])
     requires begins { text.now ≡ byte ∷ after.now }
     requires plain { is_plain_byte byte ≡ true }
     ensures first { items_of text.entry.now ≡ item_of result.0 ∷ items_of result.1.now }
     ensures shorter { length result.1.now < length text.entry.now }
 {
     let (run, rest) = text.split_at(run_len(text));
-    (Item::Piece(run), rest)
+    (NameItem::Piece(run), rest)
 }
 
 #[tactic(auto, using(crate::proofs::Spellings::mark_first))]
 /// The first item of a name's spelling, and the bytes behind it. Backquotes before it are dropped.
-pub fn first_item(text: &[u8]) -> Option<(Item<'_>, &[u8])>
+pub fn first_item(text: &[u8]) -> Option<(NameItem<'_>, &[u8])>
     ensures first { IfSome result (λ r. items_of text.now ≡ item_of r.0 ∷ items_of r.1.now) }
     ensures shorter { IfSome result (λ r. length r.1.now < length text.now) }
     ensures none { IfNone result (items_of text.now ≡ []) }
@@ -60,10 +60,10 @@ pub fn first_item(text: &[u8]) -> Option<(Item<'_>, &[u8])>
     let mut rest = text;
     while let [byte, after @ ..] = rest {
         if *byte == b'_' {
-            return Some((Item::Hole, after));
+            return Some((NameItem::Hole, after));
         }
         if is_punctuation(*byte) {
-            return Some((Item::Piece(&rest[..1]), after));
+            return Some((NameItem::Piece(&rest[..1]), after));
         }
         if *byte != b'`' {
             return Some(first_run(*byte, after, rest));
@@ -79,7 +79,7 @@ pub fn has_hole(name: &[u8]) -> bool
 {
     let mut name = name;
     while let Some(front) = first_item(name) {
-        if let Item::Hole = front.0 {
+        if let NameItem::Hole = front.0 {
             return true;
         }
         name = front.1;
@@ -94,7 +94,7 @@ pub fn holes(name: &[u8]) -> usize
     let mut name = name;
     let mut holes = 0;
     while let Some(front) = first_item(name) {
-        if let Item::Hole = front.0 {
+        if let NameItem::Hole = front.0 {
             holes += 1;
         }
         name = front.1;

@@ -25,5 +25,5 @@ mod items;
 mod variables;
 
 pub use interned::Names;
-pub use items::{Item, first_item, has_hole, holes, spellings_read};
+pub use items::{NameItem, first_item, has_hole, holes, spellings_read};
 pub use variables::Variables;

@@ -3,7 +3,7 @@ use Rattle.std.specs.Global.{Global}
 use Rattle.std.specs.declared.vec.Vec.{Vec}
 use Rattle.mw_chart.specs.Chart.{IsCells, IsRow}
 use Rattle.mw_chart.specs.Row.{AreFull}
-use Rattle.mw_chart.specs.declared.item.Item.{Item}
+use Rattle.mw_chart.specs.declared.item.ChartItem.{ChartItem}
 use Rattle.mw_chart.proofs.Ends.{vec_length, row_of, popped_cell, popped_cells, no_row}
 use Rattle.mw_chart.proofs.Fulls.{full_front}
 use Rattle.mw_chart.proofs.chart.constituents_at.Goals as goal
@@ -54,4 +54,4 @@ turn-requires-clause-indexed c =
 pub turn-requires-clause-full : goal.turn-requires-clause-full
 turn-requires-clause-full c =
     full_front (length c.args.text.now) c.loop-cell.agenda.full.items c.pop.new.self.items c.in-Some.cell
-    (subst (λ (l : List (Vec Item Global)). AreFull (length c.args.text.now) c.loop-cell.agenda.full.items l) c.in-Some.ensures.items c.loop-cell.invariant.full)
+    (subst (λ (l : List (Vec ChartItem Global)). AreFull (length c.args.text.now) c.loop-cell.agenda.full.items l) c.in-Some.ensures.items c.loop-cell.invariant.full)

@@ -1,7 +1,7 @@
 use Rattle.std.proofs.Common.{◌≡◌, ◌-◌, ◌<◌, length, ℕ, List, refl, sym, arith, subst}
 use Rattle.mw_chart.specs.Listed.{inner}
 use Rattle.mw_chart.specs.Chart.{HasTwo, Holds}
-use Rattle.mw_chart.specs.declared.item.Item.{Item}
+use Rattle.mw_chart.specs.declared.item.ChartItem.{ChartItem}
 use Rattle.mw_chart.proofs.Adding.{inner_is}
 use Rattle.mw_chart.proofs.Fulls.{full_grown, full_mark, either_set}
 use Rattle.mw_chart.proofs.completing.mark.Goals as goal
@@ -18,5 +18,5 @@ returns-in_ok-insert-clause-full c =
     (λ j at.
     let same : j ≡ c.args.over.n - c.args.end = omega (arith, at, end) in
     subst (λ (m : ℕ). HasTwo (Holds (inner c.args.agenda.now.cells.items m) c.args.over.next)) (sym same)
-    (subst (λ (l : List Item). HasTwo (Holds l c.args.over.next)) (sym (inner_is c.args.agenda.now.cells.items (c.args.over.n - c.args.end) c.index.result.now (omega (arith, end, within)) c.index.ensures)) (c.if-is_full.ensures refl)))
+    (subst (λ (l : List ChartItem). HasTwo (Holds l c.args.over.next)) (sym (inner_is c.args.agenda.now.cells.items (c.args.over.n - c.args.end) c.index.result.now (omega (arith, end, within)) c.index.ensures)) (c.if-is_full.ensures refl)))
     (full_grown c.args.over.n c.args.agenda.now.full.items grown c.args.agenda.now.cells.items c.in_ok-grow.ensures.same c.requires.full)

@@ -1,7 +1,7 @@
 use Rattle.std.proofs.Common.{ℕ, ◌≡◌, ◌∙◌, ◌+◌, List, [], ◌∷◌, ◌++◌, map, Some, sym, ap}
 use Rattle.std.specs.List.{slice_get}
 use Rattle.mw_term.specs.Signatures.{gather_of}
-use Rattle.mw_text.specs.Names.{Item}
+use Rattle.mw_text.specs.Names.{NameItem}
 use Rattle.mw_grammar.specs.declared.parts.Symbol.{Symbol}
 use Rattle.mw_grammar.specs.declared.parts.Symbol.TheVariants.{Hole}
 use Rattle.mw_grammar.specs.Readable.{kind_in}
@@ -24,4 +24,4 @@ returns-in_ok-push-in-Hole c items =
     ∙ ap (λ b. c.args.parts.now.items ++ Hole (kind c.in-Some-get.sort.now) b ∷ []) (c.bound_of-below.ensures kind) in
     ap (λ (ps : List Symbol). mixing kind c.args.precedence gs c.args.args.now ps items (c.args.holes + 1)) pushed
     ∙ mixing_hole kind c.args.precedence gs c.args.args.now c.args.parts.now.items items c.args.holes (gather_of c.in-Some.mark.now) c.in-Some-get.sort.now mark sort
-    ∙ ap (λ (i : Item). mixing kind c.args.precedence gs c.args.args.now c.args.parts.now.items (i ∷ items) c.args.holes) (sym (ap item_of c.in-Hole.is))
+    ∙ ap (λ (i : NameItem). mixing kind c.args.precedence gs c.args.args.now c.args.parts.now.items (i ∷ items) c.args.holes) (sym (ap item_of c.in-Hole.is))

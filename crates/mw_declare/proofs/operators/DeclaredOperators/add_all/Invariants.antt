@@ -3,7 +3,7 @@ use Rattle.mw_module.specs.Attributes.{seen_attributes}
 use Rattle.mw_module.specs.Words.{seen_lists}
 use Rattle.mw_declare.specs.Operators.{with_named}
 use Rattle.mw_declare.specs.Seen.{seen_rank}
-use Rattle.mw_declare.proofs.operators.Operators.add_all.Given as goal
+use Rattle.mw_declare.proofs.operators.DeclaredOperators.add_all.Given as goal
 
 abbrev pub invariant-loop-name : goal.invariant-loop-name
 invariant-loop-name l =

@@ -7,7 +7,7 @@ use Rattle.mw_declare.specs.declared.operators.Said.{Said}
 use Rattle.mw_declare.specs.Operators.{Declared, same_profile, with_operator}
 use Rattle.mw_declare.specs.Seen.{seen_profile}
 use Rattle.mw_declare.proofs.Tables.{operators_held, held_again, held_new}
-use Rattle.mw_declare.proofs.operators.Operators.add.Goals as goal
+use Rattle.mw_declare.proofs.operators.DeclaredOperators.add.Goals as goal
 
 pub returns-in-Some : goal.returns-in-Some
 returns-in-Some c =
