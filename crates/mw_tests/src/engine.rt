@@ -40,9 +40,10 @@ fn unit(alloc: Global, tokens: &[Token]) -> Result<Box<Unit<'_>>, Fail>
     if tokens.is_empty() {
         return Err(Fail::from("no token"));
     }
-    match read_unit(alloc, tokens, 0, false)? {
-        (Ok(unit), _) => Ok(Box::new(alloc, unit)?),
-        (Err(_), _) => Err(Fail::from("no unit")),
+    let (outcome, _) = read_unit(alloc, tokens, 0, false)?;
+    match outcome {
+        Ok(unit) => Ok(Box::new(alloc, unit)?),
+        Err(_) => Err(Fail::from("no unit")),
     }
 }
 
