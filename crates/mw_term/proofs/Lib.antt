@@ -3,3 +3,4 @@ pub mod Terms
 pub mod RawLists
 pub mod Orders
 pub mod OperatorSets
+pub mod KeptFacts

@@ -1,8 +1,9 @@
 -- What the types of this crate stand for.
 pub mod Raws
 pub mod RawFalls
+pub mod OperatorSets
+pub mod Facts
 pub mod Shapes
 pub mod TermFalls
 pub mod Signatures
 pub mod Statements
-pub mod OperatorSets

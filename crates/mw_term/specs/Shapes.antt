@@ -1,11 +1,34 @@
--- What the top of a term stands for.
+-- What stands on top of a term, as a node keeps it and as it is seen.
+use Rattle.std.specs.Prelude.{ℕ, ◌+◌, ◌*◌, ◌^◌, [], ◌∷◌}
 use Rattle.mw_term.specs.declared.term.Shape.{Shape}
-use Rattle.mw_term.specs.declared.term.Shape.TheVariants.{Nat, Qid, Var, Op}
-use Rattle.mw_logic.specs.Term.{RawTerm, numeral, quoted, variable, apply}
+use Rattle.mw_term.specs.declared.term.Shape.TheVariants.{Nat, Qid, Var, Constant, One, Two, Many}
+use Rattle.mw_term.specs.declared.numeral.Numeral.{Numeral}
+use Rattle.mw_term.specs.declared.term.View.{View}
+use Rattle.mw_term.specs.declared.term.View.TheVariants as seen
+use Rattle.mw_logic.specs.Term.{RawTerm, numeral, quoted, variable, apply, RawTerms, nil}
 use Rattle.mw_logic.specs.Terms.{terms_of}
 
+abbrev pub number_of : Numeral → ℕ
+number_of n = n.high * 2 ^ 64 + n.low
+
 abbrev pub shaped : Shape → RawTerm
-shaped (Nat n) = numeral n
-shaped (Qid q) = quoted q
-shaped (Var x) = variable x
-shaped (Op f ts) = apply f (terms_of ts.items)
+shaped (Nat n) = numeral (number_of n)
+shaped (Qid q) = quoted q.value
+shaped (Var x) = variable x.value
+shaped (Constant f) = apply f nil
+shaped (One f t) = apply f (terms_of (t ∷ []))
+shaped (Two f ts) = apply f (terms_of ts)
+shaped (Many f ts) = apply f (terms_of ts.value.items)
+
+abbrev pub viewed : View → RawTerm
+viewed (seen.Nat n) = numeral n
+viewed (seen.Qid q) = quoted q.now
+viewed (seen.Var x) = variable x.now
+viewed (seen.Op f ts) = apply f (terms_of ts.now)
+
+-- the arguments of the operator on top
+abbrev pub args_of : RawTerm → RawTerms
+args_of (numeral n) = nil
+args_of (quoted q) = nil
+args_of (variable x) = nil
+args_of (apply f ts) = ts

@@ -3,7 +3,7 @@ use Rattle.std.specs.Prelude.{◌+◌, ◌*◌, ◌≤◌, List, [], ◌∷◌}
 use Rattle.std.proofs.Common.{arith}
 use denote.Param.Weighed.{most}
 use Rattle.mw_term.specs.declared.term.Shape.{Shape}
-use Rattle.mw_term.specs.declared.term.Shape.TheVariants.{Nat, Qid, Var, Op}
+use Rattle.mw_term.specs.declared.term.Shape.TheVariants.{Nat, Qid, Var, Constant, One, Two, Many}
 use Rattle.mw_term.specs.declared.term.Term.TheDeep.{deep-Shape}
 use Rattle.mw_logic.specs.Term.{RawTerm}
 use Rattle.mw_logic.specs.Terms.{terms_of}
@@ -18,4 +18,7 @@ pub shape_falls : (s : Shape) → deep-Shape s ≤ 2 * height (shaped s)
 shape_falls (Nat n) = omega arith
 shape_falls (Qid q) = omega arith
 shape_falls (Var x) = omega arith
-shape_falls (Op f ts) = omega (arith, terms_fall ts.items)
+shape_falls (Constant f) = omega arith
+shape_falls (One f t) = omega arith
+shape_falls (Two f ts) = omega (arith, terms_fall ts)
+shape_falls (Many f ts) = omega (arith, terms_fall ts.value.items)

@@ -4,25 +4,35 @@
 //! as a raw term, a [`Signature`] as a signature, a [`Statement`] as a statement. Sorts, kinds and operators are
 //! numbered from 1.
 //!
-//! A `Term` shares its parts: a copy is one count. Each node keeps its depth, and which operators stand in it, as a
-//! word with a bit for each remainder of their numbers by 64 ([`Operators`]); so a yes to "do these operators stand in
-//! it" may be wrong where numbers have one remainder, a no never is. Names and lists are kept in `Seq`, which contracts
-//! see without its capacity.
+//! A `Term` shares its parts: a copy is one count. A node takes 40 bytes with its count: one or two arguments stand in
+//! it, longer lists, names and variables in boxes of their own. [`Term::view`] shows what stands on top, without memory.
+//! Names and lists are kept in `Seq`, which contracts see without its capacity.
 //!
-//! Proved, over the logic's terms and lists: `copy`, `copy_name`, `same`, `number_at` and `numbered` give what their
-//! names say; `depth` is the term's height, or 2^32 - 1 where that is more; `operators` is the set of the operators
-//! that stand in the term (`operators_in`, specs/OperatorSets); `compare` is the order of terms of mw_logic
-//! (`compare_terms`): numerals by value, quoted identifiers by bytes, operators by number, by how many arguments they
-//! have and by these from the left, variables by name and sort.
+//! Each node keeps its depth, and in six bytes which operators stand in it ([`Operators`]): a bit for each remainder of
+//! their numbers by 32, and the largest number. Those that are looked for ([`Sought`]) have their remainders and the
+//! least of their numbers. So that one of them may stand in a term can be told wrongly, where numbers have one
+//! remainder and none is out of reach; that none does never is. The operators that each kind has from the start have the
+//! largest numbers, so a term without them is known as such, however many there are.
 //!
-//! Cost: `copy`, `depth` and `operators` are no walks; `compare` and `same` end at the first difference. Want of memory
-//! is the only error.
+//! Proved, over the logic's terms and lists: `copy`, `copy_name`, `same`, `number_at`, `numbered` and `is_ground` give
+//! what their names say; `view` shows the term (`viewed`, specs/Shapes), and `into_args` gives its arguments; `depth` is
+//! the term's height, or 65,535 where that is more; `operators` is what specs/OperatorSets says (`operators_in`), and
+//! `may_have` is false exactly where the remainders or the numbers are apart (`AreApart`), so that none that is sought
+//! stands in the term (proofs/OperatorSets); `compare` is the order of terms of mw_logic (`compare_terms`): numerals by
+//! value, quoted identifiers by bytes, operators by number, by how many arguments they have and by these from the left,
+//! variables by name and sort.
+//!
+//! Cost: `copy`, `depth` and `operators` are no walks; `compare` and `same` end at the first difference; `into_args`
+//! moves the arguments of a node that nobody else holds, and counts those of another. Want of memory is the only error.
 #![tactic(auto)]
 
 ghost use Rattle.std.specs.Prelude.{◌≡◌, ◌+◌, IfOk, option_map};
 ghost use Rattle.mw_logic.specs.Signature.{at_number};
 
+mod facts;
+mod numeral;
 mod operators;
+mod order;
 mod raw;
 mod seq;
 mod signature;
@@ -30,14 +40,15 @@ mod statement;
 mod subst;
 mod term;
 
-pub use operators::Operators;
+pub use operators::{Operators, Sought};
+pub use order::{compare, same};
 pub use raw::{Raw, Raws, VarId};
 pub use seq::{Name, Seq, copy_name};
 pub use signature::{Declaration, Gather, Identity, Operator, Signature, Sorted};
 pub use statement::{Fragment, Statement};
 use std::alloc::AllocError;
 pub use subst::{Binding, Subst};
-pub use term::{Shape, Term, compare, copy, depth, same};
+pub use term::{Term, View, copy, depth};
 
 /// An operator's number in its signature, from 1.
 pub type OpId = u32;

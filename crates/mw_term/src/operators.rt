@@ -1,45 +1,66 @@
-// Sets of operators.
-ghost use Rattle.std.specs.Prelude.{◌≡◌, ◌↔◌, IsFalse};
-ghost use Rattle.std.specs.Int.Bits.{bit_or};
-ghost use Rattle.mw_term.specs.OperatorSets.{AreApart, operator_bit};
+// Which operators stand in a term.
+ghost use Rattle.std.specs.Prelude.{◌≡◌, ◌↔◌, ◌-◌, ◌%◌, ◌^◌, min, IsFalse};
+ghost use Rattle.mw_term.specs.OperatorSets.{AreApart, with_operator};
 
 use crate::OpId;
 
-/// A set of operators that knows them by their numbers modulo 64 alone: of two with the same remainder it has both or
-/// none. It is a word with a bit for each remainder.
+/// The operators of a term, as far as a node has room to tell: a bit for each remainder of their numbers by 32, and
+/// the largest of the numbers, or 65,535 where that is more.
 #[derive(Clone, Copy, Drop)]
 pub struct Operators {
-    word: u64,
+    pub(crate) remainders: u32,
+    pub(crate) last: u16,
+}
+
+/// Operators that are looked for in terms: a bit for each remainder of their numbers by 32, and the least of the
+/// numbers, or 65,535 where that is more.
+#[derive(Clone, Copy, Drop)]
+pub struct Sought {
+    remainders: u32,
+    least: u16,
+}
+
+/// The bit of an operator.
+pub(crate) fn remainder_bit(operator: OpId) -> u32
+    ensures { result ≡ 2 ^ (operator % 32) }
+{
+    1 << (operator % 32)
+}
+
+/// The number of an operator, or 65,535 where that is more.
+pub(crate) fn bounded(operator: OpId) -> u16
+    ensures { result ≡ min operator (2 ^ 16 - 1) }
+{
+    operator.min(u16::MAX as u32) as u16
+}
+
+impl Sought {
+    /// No operator.
+    pub fn none() -> Sought
+        ensures { (result.remainders ≡ 0) × (result.least ≡ 2 ^ 16 - 1) }
+    {
+        Sought {
+            remainders: 0,
+            least: u16::MAX,
+        }
+    }
+
+    /// These operators and one more.
+    pub fn with(self, operator: OpId) -> Sought
+        ensures { result ≡ with_operator self operator }
+    {
+        Sought {
+            remainders: self.remainders | remainder_bit(operator),
+            least: self.least.min(bounded(operator)),
+        }
+    }
 }
 
 impl Operators {
-    /// The set without an operator.
-    pub fn none() -> Operators
-        ensures { result.word ≡ 0 }
+    /// Whether one of the operators that are sought may stand in the term. A no is certain.
+    pub fn may_have(self, sought: Sought) -> bool
+        ensures { IsFalse result ↔ AreApart self sought }
     {
-        Operators { word: 0 }
-    }
-
-    /// The set of this operator.
-    pub fn of(operator: OpId) -> Operators
-        ensures { result.word ≡ operator_bit operator }
-    {
-        let word = 1 << (operator % 64);
-        Operators { word }
-    }
-
-    /// What this set has, and what another has.
-    pub fn with(self, other: Operators) -> Operators
-        ensures { result.word ≡ bit_or self.word other.word }
-    {
-        let word = self.word | other.word;
-        Operators { word }
-    }
-
-    /// Whether there is an operator that both sets have.
-    pub fn meets(self, other: Operators) -> bool
-        ensures { IsFalse result ↔ AreApart self.word other.word }
-    {
-        self.word & other.word != 0
+        self.remainders & sought.remainders != 0 && sought.least <= self.last
     }
 }

@@ -1,5 +1,6 @@
 // Terms as they are written: patterns and the sides of statements.
 ghost use Rattle.std.specs.Prelude.{◌≡◌, List};
+ghost use Rattle.mw_logic.specs.Term.{is_ground, are_ground};
 ghost use Rattle.mw_term.specs.Raws.{raw_term, raw_terms};
 
 use crate::{Name, OpId, SortId};
@@ -81,4 +82,32 @@ impl Raws {
     {
         self.list.as_slice()
     }
+}
+
+impl Raw {
+    /// Whether no variable stands in it.
+    #[cycle(ground)]
+    pub fn is_ground(&self) -> bool
+        ensures { result ≡ is_ground (raw_term self.now) }
+    {
+        match self {
+            Raw::Var(_) => false,
+            Raw::Op(_, args) => are_ground(args.as_slice()),
+            _ => true,
+        }
+    }
+}
+
+#[cycle(ground)]
+fn are_ground(terms: &[Raw]) -> bool
+    ensures { result ≡ are_ground (raw_terms terms.now) }
+{
+    let mut rest = terms;
+    while let [term, after @ ..] = rest {
+        if !term.is_ground() {
+            return false;
+        }
+        rest = after;
+    }
+    true
 }

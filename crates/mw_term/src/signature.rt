@@ -61,19 +61,21 @@ pub struct Operator {
     /// One for each hole.
     pub gather: Seq<Gather>,
     pub config: bool,
+    /// The arguments in which no rule applies, numbered from 1.
+    pub frozen: Seq<u32>,
     /// One that each kind has from the start.
     pub built: bool,
 }
 
 impl Model for Operator {
-    ghost use Rattle.std.specs.Prelude.{map, [], option_map};
+    ghost use Rattle.std.specs.Prelude.{map, option_map};
     ghost use Rattle.mw_logic.specs.Signature.{Operator as OperatorOf};
 
     ghost Value = { OperatorOf };
 
     ghost use Rattle.mw_term.specs.Signatures.{identity_of, gather_of};
 
-    ghost view = { λ o. record { spelling = o.spelling; args = o.args; result = o.result; declarations = o.declarations; assoc = o.assoc; comm = o.comm; identity = option_map identity_of o.identity; prec = o.prec; gather = map gather_of o.gather; config = o.config; frozen = []; built = o.built } };
+    ghost view = { λ o. record { spelling = o.spelling; args = o.args; result = o.result; declarations = o.declarations; assoc = o.assoc; comm = o.comm; identity = option_map identity_of o.identity; prec = o.prec; gather = map gather_of o.gather; config = o.config; frozen = o.frozen; built = o.built } };
 }
 
 /// Sorts, subsort pairs and operators, each numbered from 1 in the order in which they stand.

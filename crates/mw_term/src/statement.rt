@@ -29,10 +29,12 @@ pub struct Statement {
     pub rule: bool,
     /// A statement that isn't is kept, and never applied.
     pub executable: bool,
+    /// An equation that applies only where no ordinary one does.
+    pub owise: bool,
 }
 
 impl Model for Statement {
-    ghost use Rattle.std.specs.Prelude.{map, false};
+    ghost use Rattle.std.specs.Prelude.{map};
     ghost use Rattle.std.specs.Coded.{codes};
     ghost use Rattle.mw_logic.specs.TermCode.{coded_term, coded_variable};
     ghost use Rattle.mw_logic.specs.Module.{Statement as StatementOf};
@@ -44,5 +46,5 @@ impl Model for Statement {
     ghost use Rattle.mw_term.specs.Raws.{raw_term};
     ghost use Rattle.mw_term.specs.Statements.{fragment_of};
 
-    ghost view = { λ s. record { left = raw_term s.left; right = raw_term s.right; fragments = map fragment_of s.fragments; variables = s.variables; rule = s.rule; executable = s.executable; owise = false } };
+    ghost view = { λ s. record { left = raw_term s.left; right = raw_term s.right; fragments = map fragment_of s.fragments; variables = s.variables; rule = s.rule; executable = s.executable; owise = s.owise } };
 }

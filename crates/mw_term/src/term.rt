@@ -1,17 +1,18 @@
 // Terms that share their parts.
-ghost use Rattle.std.specs.Prelude.{◌≡◌, ◌↔◌, ◌+◌, ◌-◌, ◌^◌, List, min, IfOk, IsTrue};
+ghost use Rattle.std.specs.Prelude.{◌≡◌, ◌+◌, ◌-◌, ◌^◌, List, min, IfOk};
 ghost use Rattle.mw_logic.specs.Term.{RawTerm, numeral, quoted, variable, apply as applied};
 ghost use Rattle.mw_logic.specs.Terms.{terms_of};
-ghost use Rattle.mw_logic.specs.TermOrder.{compare_terms, order_terms, order_lists, shape_number};
-ghost use Rattle.mw_logic.specs.NormalForm.{height, highest};
-ghost use Rattle.mw_term.specs.OperatorSets.{operators_in, operators_in_all};
-ghost use Rattle.mw_term.specs.Shapes.{shaped};
+ghost use Rattle.mw_logic.specs.NormalForm.{height};
+ghost use Rattle.mw_term.specs.OperatorSets.{operators_in};
+ghost use Rattle.mw_term.specs.Facts.{facts_of, facts_of_all};
+ghost use Rattle.mw_term.specs.Shapes.{shaped, viewed, args_of};
 
-use crate::operators::Operators;
-use crate::{Name, OpId, VarId};
+use crate::facts::Facts;
+use crate::numeral::Numeral;
+use crate::{Name, OpId, Operators, VarId};
 use std::alloc::{AllocError, Global};
-use std::cmp::Ordering;
 use std::marker::Model;
+use std::slice;
 use std::sync::Arc;
 
 /// A term in canonical form, ground or not: the arguments of an associative operator are flattened, those of a
@@ -23,30 +24,42 @@ pub struct Term {
     node: Arc<Node>,
 }
 
+// With its count a node takes 40 bytes.
 #[derive(Drop)]
 #[cycle(term)]
 struct Node {
-    depth: u32,
-    operators: Operators,
+    facts: Facts,
     shape: Shape,
 }
 
-/// What stands on top of a term.
+/// What stands on top of a term, as its node keeps it: up to two arguments inside.
 #[derive(Drop)]
 #[cycle(term)]
-pub enum Shape {
+enum Shape {
+    Nat(Numeral),
+    Qid(Box<Name>),
+    Var(Box<VarId>),
+    Constant(OpId),
+    One(OpId, Term),
+    Two(OpId, [Term; 2]),
+    Many(OpId, Box<Vec<Term>>),
+}
+
+/// What stands on top of a term.
+#[derive(Clone, Copy)]
+pub enum View<'t> {
     /// A numeral.
     Nat(u128),
     /// A quoted identifier, by its bytes after the quote.
-    Qid(Name),
+    Qid(&'t Name),
     /// A variable.
-    Var(VarId),
+    Var(&'t VarId),
     /// An operator on its arguments.
-    Op(OpId, Vec<Term>),
+    Op(OpId, &'t [Term]),
 }
 
 impl Model for Term {
-    ghost use Rattle.std.specs.Prelude.{◌≡◌, ◌*◌, ◌-◌, ◌^◌, min};
+    ghost use Rattle.std.specs.Prelude.{◌≡◌, ◌*◌};
     ghost use Rattle.mw_logic.specs.Term.{RawTerm};
     ghost use Rattle.mw_logic.specs.TermCode.{coded_term};
     ghost use Rattle.mw_logic.specs.NormalForm.{height};
@@ -55,12 +68,12 @@ impl Model for Term {
 
     ghost coded = { coded_term };
 
-    ghost use Rattle.mw_term.specs.OperatorSets.{operators_in};
+    ghost use Rattle.mw_term.specs.Facts.{facts_of};
     ghost use Rattle.mw_term.specs.Shapes.{shaped};
 
     ghost view = { λ t. shaped t.node.value.shape };
 
-    ghost invariant = { λ t. (t.node.value.depth ≡ min (height (shaped t.node.value.shape)) (2 ^ 32 - 1)) × (t.node.value.operators.word ≡ operators_in (shaped t.node.value.shape)) };
+    ghost invariant = { λ t. t.node.value.facts ≡ facts_of (shaped t.node.value.shape) };
 
     ghost size = { λ t. 2 * height t };
 
@@ -70,48 +83,122 @@ impl Model for Term {
     ghost size_decreases = { λ a h. Prim.omega (arith, shape_falls a.node.value.shape) };
 }
 
+fn made(alloc: Global, facts: Facts, shape: Shape) -> Result<Term, AllocError>
+    requires { facts ≡ facts_of (shaped shape) }
+    ensures { IfOk result (λ t. t ≡ shaped shape) }
+{
+    let node = Arc::new(alloc, Node { facts, shape }).map_err(AllocError::from)?;
+    Ok(Term { node })
+}
+
+fn facts_in(args: &[Term]) -> Facts
+    ensures { result ≡ facts_of_all (terms_of args.now) }
+{
+    let mut all = Facts::of_nothing();
+    for term in args {
+        all = all.joined(term.facts());
+    }
+    all
+}
+
 impl Term {
-    /// The term with this on top.
-    pub fn new(alloc: Global, shape: Shape) -> Result<Term, AllocError>
-        ensures { IfOk result (λ t. t ≡ shaped shape) }
+    /// A numeral.
+    pub fn numeral(alloc: Global, number: u128) -> Result<Term, AllocError>
+        ensures { IfOk result (λ t. t ≡ numeral number) }
     {
-        let node = Node {
-            depth: depth_of(&shape),
-            operators: operators_of(&shape),
-            shape,
-        };
-        let node = Arc::new(alloc, node).map_err(AllocError::from)?;
-        Ok(Term { node })
+        made(alloc, Facts::of_leaf(), Shape::Nat(Numeral::of(number)))
     }
 
-    /// The operator on these arguments.
+    /// A quoted identifier, by its bytes after the quote.
+    pub fn quoted(alloc: Global, name: Name) -> Result<Term, AllocError>
+        ensures { IfOk result (λ t. t ≡ quoted name) }
+    {
+        let name = Box::new(alloc, name).map_err(AllocError::from)?;
+        made(alloc, Facts::of_leaf(), Shape::Qid(name))
+    }
+
+    /// A variable.
+    pub fn variable(alloc: Global, name: VarId) -> Result<Term, AllocError>
+        ensures { IfOk result (λ t. t ≡ variable name) }
+    {
+        let name = Box::new(alloc, name).map_err(AllocError::from)?;
+        made(alloc, Facts::of_leaf(), Shape::Var(name))
+    }
+
+    /// The operator on these arguments. One or two of them take no allocation of their own.
     pub fn apply(alloc: Global, operator: OpId, args: Vec<Term>) -> Result<Term, AllocError>
         ensures { IfOk result (λ t. t ≡ applied operator (terms_of args.items)) }
     {
-        Term::new(alloc, Shape::Op(operator, args))
+        let facts = facts_in(args.as_slice()).under(operator);
+        let mut args = args;
+        if args.len() > 2 {
+            let args = Box::new(alloc, args).map_err(AllocError::from)?;
+            return made(alloc, facts, Shape::Many(operator, args));
+        }
+        match (args.pop(), args.pop()) {
+            (Some(second), Some(first)) => {
+                made(alloc, facts, Shape::Two(operator, [first, second]))
+            }
+            (Some(only), None) => made(alloc, facts, Shape::One(operator, only)),
+            _ => made(alloc, facts, Shape::Constant(operator)),
+        }
     }
 
-    /// What stands on top.
-    pub fn shape(&self) -> &Shape
-        ensures { self.now ≡ shaped result.now }
+    /// What stands on top. It takes no memory.
+    pub fn view(&self) -> View<'_>
+        ensures { self.now ≡ viewed result }
     {
-        &self.node.shape
+        match &self.node.shape {
+            Shape::Nat(number) => View::Nat(number.get()),
+            Shape::Qid(name) => View::Qid(&**name),
+            Shape::Var(variable) => View::Var(&**variable),
+            Shape::Constant(operator) => View::Op(*operator, &[]),
+            Shape::One(operator, only) => View::Op(*operator, slice::from_ref(only)),
+            Shape::Two(operator, both) => View::Op(*operator, both.as_slice()),
+            Shape::Many(operator, args) => View::Op(*operator, args.as_slice()),
+        }
+    }
+
+    fn facts(&self) -> Facts
+        ensures { result ≡ facts_of self.now }
+    {
+        self.node.facts
     }
 
     /// The operators that stand in it. They are kept, so this is no walk.
     pub fn operators(&self) -> Operators
-        ensures { result.word ≡ operators_in self.now }
+        ensures { result ≡ operators_in self.now }
     {
-        self.node.operators
+        let Facts {
+            remainders,
+            last,
+            ..
+        } = self.facts();
+        Operators { remainders, last }
+    }
+
+    /// The arguments of the operator on top, none of a term without one. They are taken out of a node that no other
+    /// term shares, and copied out of others.
+    pub fn into_args(self, alloc: Global) -> Result<Vec<Term>, AllocError>
+        ensures { IfOk result (λ ts. terms_of ts.items ≡ args_of self) }
+    {
+        let Term { node } = self;
+        match Arc::try_unwrap(node) {
+            Ok(node) => {
+                let Node { shape, .. } = node;
+                taken(alloc, shape)
+            }
+            Err(shared) => copied(alloc, &shared.shape),
+        }
     }
 }
 
 /// How deep a term is: a constant, a numeral, a quoted identifier and a variable have 1, an operator one more
-/// than its deepest argument. Where that is more than 2^32 - 1, it is 2^32 - 1. It is kept, so this is no walk.
-pub fn depth(term: &Term) -> u32
-    ensures { result ≡ min (height term.now) (2 ^ 32 - 1) }
+/// than its deepest argument. Where that is more than 65,535, it is 65,535. It is kept, so this is no walk.
+pub fn depth(term: &Term) -> u16
+    ensures { result ≡ min (height term.now) (2 ^ 16 - 1) }
 {
-    term.node.depth
+    term.facts().depth
 }
 
 /// The same term again, by one count. It fails only where 2^63 copies are held.
@@ -122,113 +209,35 @@ pub fn copy(term: &Term) -> Result<Term, AllocError>
     Ok(Term { node })
 }
 
-/// The order of terms: numerals by value, then quoted identifiers by bytes, then operators by number, by how many
-/// arguments they have, and by these from the left, then variables by name and sort. It stops at the first difference.
-pub fn compare(a: &Term, b: &Term) -> Ordering
-    ensures { result ≡ compare_terms a.now b.now }
+/// The same terms again, one count for each.
+fn all_copied(alloc: Global, terms: &[Term]) -> Result<Vec<Term>, AllocError>
+    ensures { IfOk result (λ ts. ts.items ≡ terms.now) }
 {
-    ordered(a, b)
-}
-
-/// Whether two terms are equal.
-pub fn same(a: &Term, b: &Term) -> bool
-    ensures { IsTrue result ↔ (a.now ≡ b.now) }
-{
-    compare(a, b).is_eq()
-}
-
-#[cycle(ordered)]
-fn ordered(a: &Term, b: &Term) -> Ordering
-    ensures { result ≡ order_terms a.now b.now }
-{
-    match (&a.node.shape, &b.node.shape) {
-        (Shape::Nat(m), Shape::Nat(n)) => m.cmp(n),
-        (Shape::Qid(p), Shape::Qid(q)) => p.as_slice().cmp(q.as_slice()),
-        (Shape::Var(x), Shape::Var(y)) => {
-            let names = x.name.as_slice().cmp(y.name.as_slice());
-            names.then(x.sort.cmp(&y.sort))
-        }
-        (Shape::Op(f, ts), Shape::Op(g, us)) => {
-            applied_ordered(*f, ts.as_slice(), *g, us.as_slice())
-        }
-        (s, t) => rank(s).cmp(&rank(t)),
+    let mut made = Vec::with_capacity(alloc, terms.len())?;
+    for term in terms {
+        made.push(copy(term)?)?;
     }
+    Ok(made)
 }
 
-#[cycle(ordered)]
-fn applied_ordered(f: OpId, a: &[Term], g: OpId, b: &[Term]) -> Ordering
-    ensures { result ≡ order_terms (applied f (terms_of a.now)) (applied g (terms_of b.now)) }
-{
-    let tops = f.cmp(&g).then(a.len().cmp(&b.len()));
-    if tops.is_ne() {
-        return tops;
-    }
-    all_ordered(a, b)
-}
-
-/// The first difference of two lists decides, as far as both go.
-#[cycle(ordered)]
-fn all_ordered(a: &[Term], b: &[Term]) -> Ordering
-    ensures { result ≡ order_lists (terms_of a.now) (terms_of b.now) }
-{
-    let n = a.len().min(b.len());
-    for i in 0..n {
-        let order = ordered(&a[i], &b[i]);
-        if order.is_ne() {
-            return order;
-        }
-    }
-    Ordering::Equal
-}
-
-fn rank(shape: &Shape) -> u8
-    ensures { result ≡ shape_number (shaped shape.now) }
+fn copied(alloc: Global, shape: &Shape) -> Result<Vec<Term>, AllocError>
+    ensures { IfOk result (λ ts. terms_of ts.items ≡ args_of (shaped shape.now)) }
 {
     match shape {
-        Shape::Nat(_) => 0,
-        Shape::Qid(_) => 1,
-        Shape::Op(_, _) => 2,
-        Shape::Var(_) => 3,
+        Shape::One(_, only) => all_copied(alloc, slice::from_ref(only)),
+        Shape::Two(_, both) => all_copied(alloc, both.as_slice()),
+        Shape::Many(_, args) => all_copied(alloc, args.as_slice()),
+        _ => Ok(Vec::new(alloc)),
     }
 }
 
-fn depth_of(shape: &Shape) -> u32
-    ensures { result ≡ min (height (shaped shape.now)) (2 ^ 32 - 1) }
+fn taken(alloc: Global, shape: Shape) -> Result<Vec<Term>, AllocError>
+    ensures { IfOk result (λ ts. terms_of ts.items ≡ args_of (shaped shape)) }
 {
     match shape {
-        Shape::Op(_, args) => deepest(args.as_slice()).saturating_add(1),
-        _ => 1,
+        Shape::One(_, only) => Ok(vec![in alloc; only]?),
+        Shape::Two(_, both) => Ok(Vec::from_array(alloc, both)?),
+        Shape::Many(_, args) => Ok(Box::into_inner(args)),
+        _ => Ok(Vec::new(alloc)),
     }
-}
-
-fn deepest(args: &[Term]) -> u32
-    ensures { result ≡ min (highest (terms_of args.now)) (2 ^ 32 - 1) }
-{
-    let mut most = 0;
-    for t in args {
-        most = most.max(depth(t));
-    }
-    most
-}
-
-fn operators_of(shape: &Shape) -> Operators
-    ensures { result.word ≡ operators_in (shaped shape.now) }
-{
-    match shape {
-        Shape::Op(operator, args) => {
-            let below = operators_of_all(args.as_slice());
-            Operators::of(*operator).with(below)
-        }
-        _ => Operators::none(),
-    }
-}
-
-fn operators_of_all(args: &[Term]) -> Operators
-    ensures { result.word ≡ operators_in_all (terms_of args.now) }
-{
-    let mut all = Operators::none();
-    for term in args {
-        all = all.with(term.operators());
-    }
-    all
 }

@@ -3,7 +3,7 @@ use Rattle.mw_logic.specs.NormalForm.{height, highest}
 use Rattle.mw_logic.specs.Terms.{terms_of}
 use Rattle.mw_term.proofs.Terms.{element}
 use Rattle.mw_term.proofs.Orders.{by_tops, by_arguments, lists_past}
-use Rattle.mw_term.proofs.term.+ordered.Goals as goal
+use Rattle.mw_term.proofs.order.+ordered.Goals as goal
 
 pub all_ordered-ordered-order-requires : goal.all_ordered-ordered-order-requires
 all_ordered-ordered-order-requires t c =

@@ -3,7 +3,7 @@ use Rattle.std.specs.Ordering.{is_eq}
 use Rattle.std.proofs.lemmas.Cmp.{tied_itself}
 use Rattle.mw_logic.specs.TermOrder.{compare_terms}
 use Rattle.mw_logic.proofs.OrderLaws.{compare_total, compare_terms-equal, is_eq-true}
-use Rattle.mw_term.proofs.term.same.Goals as goal
+use Rattle.mw_term.proofs.order.same.Goals as goal
 
 pub returns : goal.returns
 returns c = (

@@ -2,7 +2,7 @@ use Rattle.std.proofs.Common.{◌≡◌, ◌*◌, ◌+◌, drop, min, length}
 use Rattle.mw_logic.specs.NormalForm.{height, highest}
 use Rattle.mw_logic.specs.Terms.{terms_of}
 use Rattle.mw_logic.specs.TermOrder.{order_lists}
-use Rattle.mw_term.proofs.term.+ordered.Given as goal
+use Rattle.mw_term.proofs.order.+ordered.Given as goal
 
 abbrev pub decreases-ordered : goal.decreases-ordered
 decreases-ordered l = 3 * height l.a.now

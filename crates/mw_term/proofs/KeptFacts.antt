@@ -1,0 +1,30 @@
+-- What is kept of a list of terms, term by term.
+use Rattle.std.proofs.Common.{◌≡◌, ◌∙◌, ◌<◌, ◌≤◌, ◌+◌, ℕ, List, [], ◌∷◌, length, get_or, drop, drop-cons, drop_of_length-le, add-one, min, max, refl, ap, sym, arith}
+use Rattle.std.specs.Int.Bits.{bit_or, or_zero_r}
+use Rattle.mw_logic.specs.Term.{RawTerm, RawTerms, nil, cons}
+use Rattle.mw_logic.specs.Terms.{terms_of}
+use Rattle.mw_term.specs.Facts.{facts_of, facts_of_all, facts_joined}
+use Rattle.mw_term.specs.declared.facts.Facts.{Facts}
+use Rattle.mw_term.proofs.OperatorSets.{or_assoc}
+
+abbrev facts : ℕ → ℕ → ℕ → Facts
+facts r l d = record { remainders = r; last = l; depth = d }
+
+same_facts : (r l d s m e : ℕ) → r ≡ s → l ≡ m → d ≡ e → facts r l d ≡ facts s m e
+same_facts r l d s m e p q h = rw (p, q, h) refl
+
+joined_first : (a : Facts) (t : RawTerm) (ts : RawTerms) → facts_joined (facts_joined a (facts_of t)) (facts_of_all ts) ≡ facts_joined a (facts_of_all (cons t ts))
+joined_first a t ts = same_facts _ _ _ _ _ _ (or_assoc a.remainders _ _) (omega arith) (omega arith)
+
+-- the next of a list's terms, and the end of the list
+pub next_in : (ts : List RawTerm) (i : ℕ) (t : RawTerm) (all one both total : Facts) → i < length ts → t ≡ get_or ts i t → one ≡ facts_of t → both ≡ facts_joined all one
+    → facts_joined all (facts_of_all (terms_of (drop i ts))) ≡ total → facts_joined both (facts_of_all (terms_of (drop (i + 1) ts))) ≡ total
+next_in ts i t all one both total h e w s inv =
+    let rest : RawTerms = terms_of (drop (i + 1) ts) in
+    let d : drop i ts ≡ t ∷ drop (i + 1) ts = drop-cons ts i t h ∙ rw (← e, add-one) refl in
+    ap (λ x. facts_joined x (facts_of_all rest)) (s ∙ ap (facts_joined all) w) ∙ joined_first all t rest ∙ sym (ap (λ (xs : List RawTerm). facts_joined all (facts_of_all (terms_of xs))) d) ∙ inv
+
+pub all_in : (ts : List RawTerm) (i : ℕ) (all total : Facts) → length ts ≤ i → facts_joined all (facts_of_all (terms_of (drop i ts))) ≡ total → all ≡ total
+all_in ts i all total h inv =
+    let d : drop i ts ≡ [] = drop_of_length-le ts h in
+    same_facts _ _ _ _ _ _ (sym (or_zero_r all.remainders)) (omega arith) (omega arith) ∙ sym (ap (λ (xs : List RawTerm). facts_joined all (facts_of_all (terms_of xs))) d) ∙ inv

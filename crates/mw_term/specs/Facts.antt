@@ -1,0 +1,22 @@
+-- What a node keeps of its term: the operators that stand in it, and its depth, or 65,535 where that is more.
+use Rattle.std.specs.Prelude.{◌^◌, ◌-◌, ◌+◌, ℕ, min, max}
+use Rattle.std.specs.Int.Bits.{bit_or}
+use Rattle.mw_logic.specs.Term.{RawTerm, RawTerms}
+use Rattle.mw_logic.specs.NormalForm.{height, highest}
+use Rattle.mw_term.specs.OperatorSets.{bounded, operator_bit, remainders_in, remainders_in_all, last_in, last_in_all}
+use Rattle.mw_term.specs.declared.facts.Facts.{Facts}
+
+abbrev pub facts_of : RawTerm → Facts
+facts_of t = record { remainders = remainders_in t; last = last_in t; depth = min (height t) (2 ^ 16 - 1) }
+
+abbrev pub facts_of_all : RawTerms → Facts
+facts_of_all ts = record { remainders = remainders_in_all ts; last = last_in_all ts; depth = min (highest ts) (2 ^ 16 - 1) }
+
+abbrev pub facts_of_nothing : Facts
+facts_of_nothing = record { remainders = 0; last = 0; depth = 0 }
+
+abbrev pub facts_joined : Facts → Facts → Facts
+facts_joined a b = record { remainders = bit_or a.remainders b.remainders; last = max a.last b.last; depth = max a.depth b.depth }
+
+abbrev pub facts_above : ℕ → Facts → Facts
+facts_above f a = record { remainders = bit_or (operator_bit f) a.remainders; last = max (bounded f) a.last; depth = min (a.depth + 1) (2 ^ 16 - 1) }

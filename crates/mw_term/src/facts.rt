@@ -1,0 +1,61 @@
+// What a node keeps of its term.
+ghost use Rattle.std.specs.Prelude.{◌≡◌};
+ghost use Rattle.mw_term.specs.Facts.{facts_above, facts_joined, facts_of_nothing};
+
+use crate::OpId;
+use crate::operators::{bounded, remainder_bit};
+
+/// The operators of a term, as `Operators` has them, and its depth, or 65,535 where that is more; of a list of terms
+/// the same, with the depth of the deepest. It takes eight bytes.
+#[derive(Clone, Copy, Drop)]
+pub(crate) struct Facts {
+    pub(crate) remainders: u32,
+    pub(crate) last: u16,
+    pub(crate) depth: u16,
+}
+
+impl Facts {
+    /// Of a numeral, a quoted identifier or a variable.
+    pub(crate) fn of_leaf() -> Facts
+        ensures { result ≡ record { remainders = 0; last = 0; depth = 1 } }
+    {
+        Facts {
+            remainders: 0,
+            last: 0,
+            depth: 1,
+        }
+    }
+
+    /// Of no terms.
+    pub(crate) fn of_nothing() -> Facts
+        ensures { result ≡ facts_of_nothing }
+    {
+        Facts {
+            remainders: 0,
+            last: 0,
+            depth: 0,
+        }
+    }
+
+    /// Of what one and the other are of.
+    pub(crate) fn joined(self, other: Facts) -> Facts
+        ensures { result ≡ facts_joined self other }
+    {
+        Facts {
+            remainders: self.remainders | other.remainders,
+            last: self.last.max(other.last),
+            depth: self.depth.max(other.depth),
+        }
+    }
+
+    /// Of an operator on the terms that these are of.
+    pub(crate) fn under(self, operator: OpId) -> Facts
+        ensures { result ≡ facts_above operator self }
+    {
+        Facts {
+            remainders: remainder_bit(operator) | self.remainders,
+            last: bounded(operator).max(self.last),
+            depth: self.depth.saturating_add(1),
+        }
+    }
+}
