@@ -171,6 +171,7 @@ fn sides_statement(
             variables,
             rule: false,
             executable,
+            owise: false,
         })),
         Err(kind) => Ok(Err(kind)),
     }

@@ -14,11 +14,11 @@ ghost use Rattle.mw_canon.specs.Causes.{HasCause, HasDepthCause};
 
 use crate::CanonError;
 use crate::values::Values;
-use mw_term::{Raw, Shape, Signature, Subst, Term, VarId, copy, copy_name, depth};
+use mw_term::{Raw, Signature, Subst, Term, VarId, copy, copy_name, depth};
 use std::alloc::Global;
 
 /// The most levels of a term.
-const LEVELS: u32 = 1000;
+const LEVELS: u16 = 1000;
 
 /// The canonical term of one as it is written. Variables may stand in it.
 pub fn canon(alloc: Global, signature: &Signature, raw: &Raw) -> Result<Term, CanonError>
@@ -56,7 +56,7 @@ pub fn instance(
 
 /// The instance, where it has no more than so many levels.
 #[cycle(built)]
-fn built(alloc: Global, values: &Values, raw: &Raw, levels: u32) -> Result<Term, CanonError>
+fn built(alloc: Global, values: &Values, raw: &Raw, levels: u16) -> Result<Term, CanonError>
     requires { levels ≤ 1000 }
     ensures is { IfOk result (λ t. t ≡ instance_of values.now (raw_term raw.now)) }
     ensures low { IfOk result (λ _. height (instance_of values.now (raw_term raw.now)) ≤ levels) }
@@ -66,10 +66,10 @@ fn built(alloc: Global, values: &Values, raw: &Raw, levels: u32) -> Result<Term,
         return Err(CanonError::Deep);
     }
     match raw {
-        Raw::Nat(number) => Ok(Term::new(alloc, Shape::Nat(*number))?),
+        Raw::Nat(number) => Ok(Term::numeral(alloc, *number)?),
         Raw::Qid(name) => {
             let name = copy_name(alloc, name)?;
-            Ok(Term::new(alloc, Shape::Qid(name))?)
+            Ok(Term::quoted(alloc, name)?)
         }
         Raw::Var(x) => of_variable(alloc, values, x, levels),
         Raw::Op(operator, args) => {
@@ -84,7 +84,7 @@ fn all_built(
     alloc: Global,
     values: &Values,
     args: &[Raw],
-    levels: u32,
+    levels: u16,
 ) -> Result<Vec<Term>, CanonError>
     requires { levels ≤ 1000 }
     ensures is { IfOk result (λ ts. terms_of ts.items ≡ instances_of values.now (raw_terms args.now)) }
@@ -99,7 +99,7 @@ fn all_built(
 }
 
 /// A variable's value, or else the variable.
-fn of_variable(alloc: Global, values: &Values, x: &VarId, levels: u32) -> Result<Term, CanonError>
+fn of_variable(alloc: Global, values: &Values, x: &VarId, levels: u16) -> Result<Term, CanonError>
     requires some { 1 ≤ levels }
     requires few { levels ≤ 1000 }
     ensures is { IfOk result (λ t. t ≡ instance_of values.now (as_variable x.now)) }
@@ -116,7 +116,7 @@ fn of_variable(alloc: Global, values: &Values, x: &VarId, levels: u32) -> Result
         None => {
             let name = copy_name(alloc, &x.name)?;
             let sort = x.sort;
-            Ok(Term::new(alloc, Shape::Var(VarId { name, sort }))?)
+            Ok(Term::variable(alloc, VarId { name, sort })?)
         }
     }
 }

@@ -8,7 +8,7 @@ ghost use Rattle.mw_logic.specs.Terms.{terms_of};
 ghost use Rattle.mw_term.specs.Signatures.{identity_of as identity_named};
 ghost use Rattle.mw_canon.specs.Canonical.{IsAdmittedTerm};
 
-use mw_term::{Identity, OpId, Shape, Signature, Term};
+use mw_term::{Identity, OpId, Signature, Term, View};
 use std::alloc::{AllocError, Global};
 
 /// The parts of a term under an associative operator: the arguments that it stands on, none for its identity, and
@@ -20,8 +20,8 @@ pub fn parts<'t>(signature: &Signature, operator: OpId, term: &'t Term) -> &'t [
     if is_identity(identity(signature, operator), term) {
         return &[];
     }
-    match term.shape() {
-        Shape::Op(f, args) if *f == operator && !args.as_slice().is_empty() => args.as_slice(),
+    match term.view() {
+        View::Op(f, args) if f == operator && !args.is_empty() => args,
         _ => std::slice::from_ref(term),
     }
 }
@@ -66,8 +66,8 @@ fn is_identity(identity: Option<Identity>, term: &Term) -> bool
 fn is_constant(constant: OpId, term: &Term) -> bool
     ensures { result ≡ is_identity_of (Some (constant_of constant)) term.now }
 {
-    match term.shape() {
-        Shape::Op(f, args) => *f == constant && args.as_slice().is_empty(),
+    match term.view() {
+        View::Op(f, args) => f == constant && args.is_empty(),
         _ => false,
     }
 }
@@ -75,8 +75,8 @@ fn is_constant(constant: OpId, term: &Term) -> bool
 fn is_numeral(number: u128, term: &Term) -> bool
     ensures { result ≡ is_identity_of (Some (numeral_of number)) term.now }
 {
-    match term.shape() {
-        Shape::Nat(n) => *n == number,
+    match term.view() {
+        View::Nat(n) => n == number,
         _ => false,
     }
 }

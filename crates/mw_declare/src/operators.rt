@@ -204,6 +204,7 @@ fn operator_of(alloc: Global, profile: Profile, said: Said<'_>) -> Result<Operat
         prec,
         gather,
         config: said.attributes.config,
+        frozen: Seq::of(Vec::new(alloc)),
         built: false,
     })
 }

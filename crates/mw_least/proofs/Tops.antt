@@ -16,7 +16,8 @@ use Rattle.mw_poset.proofs.Reading.{kinds_same}
 use Rattle.mw_canon.proofs.Free.{nested_free}
 use Rattle.mw_machine.specs.Simple.{IsSimpleSignature}
 use Rattle.mw_machine.proofs.Ordered.{AllHave, applied_sort, free, IsBelow-trans}
-use Rattle.mw_term.specs.OperatorSets.{AreApart, Lacks, operators_in, operators_in_all}
+use Rattle.mw_term.specs.OperatorSets.{AreApart, operators_in_all}
+use Rattle.mw_least.specs.declared.sure.Partial.{Partial}
 use Rattle.mw_term.proofs.OperatorSets.{lacks_top, arguments_apart, first_apart, others_apart}
 use Rattle.mw_least.specs.declared.sure.Sure.{Sure}
 use Rattle.mw_least.specs.Sure.{IsTop, AreTops, IsSupport, IsSupportedIn, IsSupported, AreSupported, AreResults, AreSure}
@@ -70,18 +71,18 @@ results_none pairs tops [] h = tt
 results_none pairs tops (o ∷ os) h = absurd (omega arith)
 
 -- one more operator: it is supported, or the set has it now
-pub supported_more : (sig : Signature) (tops : List ℕ) (n : ℕ) (o : Operator) (before after : ℕ) → slice_get sig.operators n ≡ Some o → ((f : ℕ) → Lacks after f → Lacks before f) → (Lacks after (n + 1) → IsSupported sig.pairs tops o)
-    → ((f : ℕ) (p : Operator) → f ≤ n → IsOperator sig f p → Lacks before f → IsSupported sig.pairs tops p) → (f : ℕ) (p : Operator) → f ≤ n + 1 → IsOperator sig f p → Lacks after f → IsSupported sig.pairs tops p
+pub supported_more : (sig : Signature) (tops : List ℕ) (n : ℕ) (o : Operator) (before after : Partial) → slice_get sig.operators n ≡ Some o → ((f : ℕ) → IsNone after f → IsNone before f) → (IsNone after (n + 1) → IsSupported sig.pairs tops o)
+    → ((f : ℕ) (p : Operator) → f ≤ n → IsOperator sig f p → IsNone before f → IsSupported sig.pairs tops p) → (f : ℕ) (p : Operator) → f ≤ n + 1 → IsOperator sig f p → IsNone after f → IsSupported sig.pairs tops p
 supported_more sig tops n o before after is keeps here all f p l e h = ⊎_elim
     (λ (k : n < f).
     let last : f ≡ n + 1 = omega (arith, k, l) in
     let there : IsOperator sig (suc n) p = subst (λ g. IsOperator sig g p) (last ∙ add-one n) e in
-    subst (IsSupported sig.pairs tops) (same_Some o p (sym is ∙ there)) (here (subst (Lacks after) last h)))
+    subst (IsSupported sig.pairs tops) (same_Some o p (sym is ∙ there)) (here (subst (IsNone after) last h)))
     (λ (k : f ≤ n). all f p k e (keeps f h))
     (cases_lt n f)
 
-pub supported_all : (sig : Signature) (tops : List ℕ) (n : ℕ) (partial : ℕ) → length sig.operators ≤ n → ((f : ℕ) (p : Operator) → f ≤ n → IsOperator sig f p → Lacks partial f → IsSupported sig.pairs tops p)
-    → (f : ℕ) (p : Operator) → IsOperator sig f p → Lacks partial f → IsSupported sig.pairs tops p
+pub supported_all : (sig : Signature) (tops : List ℕ) (n : ℕ) (partial : Partial) → length sig.operators ≤ n → ((f : ℕ) (p : Operator) → f ≤ n → IsOperator sig f p → IsNone partial f → IsSupported sig.pairs tops p)
+    → (f : ℕ) (p : Operator) → IsOperator sig f p → IsNone partial f → IsSupported sig.pairs tops p
 supported_all sig tops n partial l all zero p e h = absurd (cc)
 supported_all sig tops n partial l all (suc f) p e h = let w = slice_get_within sig.operators f p e in all (suc f) p (omega (arith, l, w)) e h
 
@@ -93,7 +94,11 @@ supported_in sig tops o K k s L l = subst (IsSupportedIn sig.pairs tops o) (kind
 raise : (sig : Signature) (t : RawTerm) (R S : ℕ) → HasSort sig t (sort R) → AtOrBelow sig.pairs R S → HasSort sig t (sort S)
 raise sig t R S h b = record { form = h.form; equal = h.equal; declared = h.declared; is_declared = h.is_declared; below = IsBelow-trans sig h.declared (sort R) (sort S) h.below b }
 
-module _ (sig : Signature) (simple : IsSimpleSignature sig) (tops : List ℕ) (partial : ℕ) (supported : AreSupported sig tops partial) where
+-- none of the partial operators stands in the terms
+abbrev AreAllApart : Partial → RawTerms → Type 0
+AreAllApart partial ts = AreApart (operators_in_all ts) partial.declared × AreApart (operators_in_all ts) partial.built
+
+module _ (sig : Signature) (simple : IsSimpleSignature sig) (tops : List ℕ) (partial : Partial) (supported : AreSupported sig tops partial) where
   args_of : {f : ℕ} {ts : RawTerms} (o : Operator) → IsOperator sig f o → IsRawTerm sig (apply f ts) → AreRawTerms sig ts o.args
   args_of {f} {ts} o is (an_operator p there args) = subst (λ (x : Operator). AreRawTerms sig ts x.args) (same_operator sig f p o there is) args
 
@@ -102,7 +107,7 @@ module _ (sig : Signature) (simple : IsSimpleSignature sig) (tops : List ℕ) (p
   grounds false b h = absurd (both_ways _ refl h)
 
   mutual
-    all_have : (ts : RawTerms) (Ks : List ℕ) (Ss : List Sorted) → AreRawTerms sig ts Ks → IsTrue (are_ground ts) → AreApart (operators_in_all ts) partial → AreOfKinds sig Ss Ks → AreTops sig.pairs tops Ss → AllHave sig simple ts Ss
+    all_have : (ts : RawTerms) (Ks : List ℕ) (Ss : List Sorted) → AreRawTerms sig ts Ks → IsTrue (are_ground ts) → AreAllApart partial ts → AreOfKinds sig Ss Ks → AreTops sig.pairs tops Ss → AllHave sig simple ts Ss
     all_have nil [] [] raw g p k a = tt
     all_have nil [] (S ∷ Ss) raw g p k a = absurd k
     all_have ts (K ∷ Ks) [] raw g p k a = absurd k
@@ -110,41 +115,41 @@ module _ (sig : Signature) (simple : IsSimpleSignature sig) (tops : List ℕ) (p
     all_have nil (K ∷ Ks) (S ∷ Ss) raw g p k a = elim raw [ ]
     all_have (cons t ts) (K ∷ Ks) (sort S ∷ Ss) (next r h rest) g p k a =
         let both = grounds (is_ground t) (are_ground ts) g in
-        (has_top t S K r both.0 (first_apart t ts partial p) h k.0 a.0, all_have ts Ks Ss rest both.1 (others_apart t ts partial p) k.1 a.1)
+        (has_top t S K r both.0 (first_apart t ts partial.declared p.0, first_apart t ts partial.built p.1) h k.0 a.0, all_have ts Ks Ss rest both.1 (others_apart t ts partial.declared p.0, others_apart t ts partial.built p.1) k.1 a.1)
     all_have (cons t ts) (K ∷ Ks) (kind L ∷ Ss) raw g p k a = absurd a.0
 
-    has_top : (t : RawTerm) (S K : ℕ) → IsRawTerm sig t → IsTrue (is_ground t) → AreApart (operators_in t) partial → HasKind sig t K → SameKind sig S K → IsTop sig.pairs tops S → HasSort sig t (sort S)
+    has_top : (t : RawTerm) (S K : ℕ) → IsRawTerm sig t → IsTrue (is_ground t) → IsApart partial t → HasKind sig t K → SameKind sig S K → IsTop sig.pairs tops S → HasSort sig t (sort S)
     has_top (numeral n) S K (a_numeral b l) g p h k top = absurd (both_ways _ simple.nat b)
     has_top (quoted q) S K (a_quoted b) g p h k top = absurd (both_ways _ simple.qid b)
     has_top (variable x) S K raw g p h k top = absurd (both_ways _ refl g)
     has_top (apply f ts) S K raw g p (of_operator o is j) k top =
-        let here = supported f o is (lacks_top f ts partial p) in
+        let here = supported f o is (lacks_top f ts partial.declared p.0, lacks_top f ts partial.built p.1) in
         let r = here top.kind (kind_kept sig S o.result top.kind (SameKind-trans k (SameKind-sym j)) top.is_kind) S top.top top.positive in
         let s = r.1 in
         let d = simple.numbers.declarations f o is (record { args = s.args; result = sort r.0 }) s.declared in
-        raise sig (apply f ts) r.0 S (applied_sort sig simple o s.args (sort r.0) is raw (all_have ts o.args s.args (args_of o is raw) g (arguments_apart f ts partial p) d.args s.are_tops) (inl s.declared)) r.2
+        raise sig (apply f ts) r.0 S (applied_sort sig simple o s.args (sort r.0) is raw (all_have ts o.args s.args (args_of o is raw) g (arguments_apart f ts partial.declared p.0, arguments_apart f ts partial.built p.1) d.args s.are_tops) (inl s.declared)) r.2
 
   -- an operator's result on tops is a sort of each ground term with the operator on top
-  pub has_support : (f : ℕ) (ts : RawTerms) (o : Operator) (R : ℕ) → IsOperator sig f o → IsRawTerm sig (apply f ts) → IsTrue (are_ground ts) → AreApart (operators_in (apply f ts)) partial → IsSupport sig.pairs tops o R → HasSort sig (apply f ts) (sort R)
+  pub has_support : (f : ℕ) (ts : RawTerms) (o : Operator) (R : ℕ) → IsOperator sig f o → IsRawTerm sig (apply f ts) → IsTrue (are_ground ts) → IsApart partial (apply f ts) → IsSupport sig.pairs tops o R → HasSort sig (apply f ts) (sort R)
   has_support f ts o R is raw ground p s =
       let d = simple.numbers.declarations f o is (record { args = s.args; result = sort R }) s.declared in
-      applied_sort sig simple o s.args (sort R) is raw (all_have ts o.args s.args (args_of o is raw) ground (arguments_apart f ts partial p) d.args s.are_tops) (inl s.declared)
+      applied_sort sig simple o s.args (sort R) is raw (all_have ts o.args s.args (args_of o is raw) ground (arguments_apart f ts partial.declared p.0, arguments_apart f ts partial.built p.1) d.args s.are_tops) (inl s.declared)
 
 -- the sort at an operator's place is one of each ground term with the operator on top in which no partial one stands
-is_sure : (sig : Signature) → IsSimpleSignature sig → (sure : Sure) → AreSure sig sure → (f : ℕ) (ts : RawTerms) (R : ℕ) → IsRawTerm sig (apply f ts) → IsTrue (are_ground ts) → AreApart (operators_in (apply f ts)) sure.partial.word
+is_sure : (sig : Signature) → IsSimpleSignature sig → (sure : Sure) → AreSure sig sure → (f : ℕ) (ts : RawTerms) (R : ℕ) → IsRawTerm sig (apply f ts) → IsTrue (are_ground ts) → IsApart sure.partial (apply f ts)
     → at_number sure.results f ≡ Some R → 1 ≤ R → HasSort sig (apply f ts) (sort R)
 is_sure sig simple sure a f ts R (an_operator o is args) g p e l =
-    has_support sig simple a.tops sure.partial.word a.supported f ts o R is (an_operator o is args) g p (result_at sig.pairs a.tops sig.operators sure.results f o R a.results is e l)
+    has_support sig simple a.tops sure.partial a.supported f ts o R is (an_operator o is args) g p (result_at sig.pairs a.tops sig.operators sure.results f o R a.results is e l)
 
 positive : (R : ℕ) → (R ≡ 0 → ⊥) → 1 ≤ R
 positive zero h = absurd (h refl)
 positive (suc n) h = omega arith
 
 -- and so are those above it, in the flattened term
-pub sure_there : (sig : Signature) → IsSimpleSignature sig → (sure : Sure) → AreSure sig sure → (t : RawTerm) (f : ℕ) (ts : RawTerms) → t ≡ apply f ts → AreApart (operators_in t) sure.partial.word
+pub sure_there : (sig : Signature) → IsSimpleSignature sig → (sure : Sure) → AreSure sig sure → (t : RawTerm) (f : ℕ) (ts : RawTerms) → t ≡ apply f ts → IsApart sure.partial t
     → (R S : ℕ) → at_number sure.results f ≡ Some R → (R ≡ 0 → ⊥) → AtOrBelow sig.pairs R S → IsRawTerm sig (nested sig t) → IsTrue (is_ground t) → HasSort sig (nested sig t) (sort S)
 sure_there sig simple sure a t f ts is apart R S at p below raw ground =
     let e : nested sig t ≡ apply f ts = nested_free sig (free sig simple) t ∙ is in
-    let none = subst (λ u. AreApart (operators_in u) sure.partial.word) is apart in
+    let none = subst (λ u. IsApart sure.partial u) is apart in
     let h = is_sure sig simple sure a f ts R (subst (IsRawTerm sig) e raw) (subst (λ u. IsTrue (is_ground u)) is ground) none at (positive R p) in
     subst (λ u. HasSort sig u (sort S)) (sym e) (raise sig (apply f ts) R S h below)

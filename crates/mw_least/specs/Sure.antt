@@ -3,8 +3,10 @@ use Rattle.std.specs.Prelude.{ℕ, ◌≡◌, ◌≤◌, List, [], ◌∷◌, �
 use Rattle.mw_logic.specs.Signature.{Signature, Sorted, sort, kind, Operator, IsOperator, Member}
 use Rattle.mw_logic.specs.Sorts.{AtOrBelow}
 use Rattle.mw_poset.specs.Order.{IsKindOf}
-use Rattle.mw_term.specs.OperatorSets.{Lacks}
+use Rattle.mw_logic.specs.Term.{RawTerm}
+use Rattle.mw_term.specs.OperatorSets.{Lacks, AreApart, operators_in}
 use Rattle.mw_least.specs.declared.sure.Sure.{Sure}
+use Rattle.mw_least.specs.declared.sure.Partial.{Partial}
 
 -- S stands in the list at the number of its kind
 pub record IsTop (pairs : List (ℕ × ℕ)) (tops : List ℕ) (S : ℕ) : Type 0 where
@@ -34,9 +36,17 @@ IsSupportedIn pairs tops o K = (S : ℕ) → slice_get tops K ≡ Some S → 1 �
 abbrev pub IsSupported : List (ℕ × ℕ) → List ℕ → Operator → Type 0
 IsSupported pairs tops o = (K : ℕ) → IsKindOf pairs o.result K → IsSupportedIn pairs tops o K
 
--- so is each operator that the set lacks
-abbrev pub AreSupported : Signature → List ℕ → ℕ → Type 0
-AreSupported sig tops partial = (f : ℕ) (o : Operator) → IsOperator sig f o → Lacks partial f → IsSupported sig.pairs tops o
+-- f is none of the partial operators
+abbrev pub IsNone : Partial → ℕ → Type 0
+IsNone partial f = Lacks partial.declared f × Lacks partial.built f
+
+-- none of them stands in the term
+abbrev pub IsApart : Partial → RawTerm → Type 0
+IsApart partial t = AreApart (operators_in t) partial.declared × AreApart (operators_in t) partial.built
+
+-- so is each operator that is none of the partial ones
+abbrev pub AreSupported : Signature → List ℕ → Partial → Type 0
+AreSupported sig tops partial = (f : ℕ) (o : Operator) → IsOperator sig f o → IsNone partial f → IsSupported sig.pairs tops o
 
 -- of each operator a result on tops, or 0
 abbrev pub AreResults : List (ℕ × ℕ) → List ℕ → List Operator → List ℕ → Type 0
@@ -48,5 +58,5 @@ AreResults pairs tops (o ∷ os) (R ∷ Rs) = (1 ≤ R → IsSupport pairs tops 
 -- Where no partial operator stands in a ground term, the sort at the place of the operator on top, if it isn't 0, is one that the term has.
 pub record AreSure (sig : Signature) (sure : Sure) : Type 0 where
   pub tops : List ℕ
-  pub supported : AreSupported sig tops sure.partial.word
+  pub supported : AreSupported sig tops sure.partial
   pub results : AreResults sig.pairs tops sig.operators sure.results

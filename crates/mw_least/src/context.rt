@@ -16,7 +16,7 @@ use crate::sure::{Sure, sure_sorts};
 use mw_pattern::{Equations, index};
 use mw_poset::Poset;
 use mw_sorts::{Tables, least_sort};
-use mw_term::{Declaration, Seq, Shape, Signature, SortId, Sorted, Statement, Term, numbered};
+use mw_term::{Declaration, Seq, Signature, SortId, Sorted, Statement, Term, View, numbered};
 use std::alloc::{AllocError, Global};
 use std::marker::Model;
 
@@ -167,13 +167,13 @@ impl Ctx {
     fn is_sure(&self, term: &Term, sort: SortId) -> bool
         ensures { let sig = self.now.signature in IsRawTerm sig (nested sig term.now) → IsTrue (is_ground term.now) → IsTrue result → HasSort sig (nested sig term.now) (sort_of sort) }
     {
-        let Shape::Op(operator, _) = term.shape() else {
+        let View::Op(operator, _) = term.view() else {
             return false;
         };
-        if term.operators().meets(self.sure.partial) {
+        if self.sure.partial.may_stand_in(term) {
             return false;
         }
-        match numbered(self.sure.results.as_slice(), *operator) {
+        match numbered(self.sure.results.as_slice(), operator) {
             Some(result) => *result != 0 && self.is_below(*result, sort),
             None => false,
         }
@@ -207,10 +207,10 @@ impl Ctx {
     fn may_have(&self, term: &Term, sort: SortId) -> bool
         ensures { let sig = self.now.signature in HasSort sig (nested sig term.now) (sort_of sort) → IsTrue result }
     {
-        let Shape::Op(operator, _) = term.shape() else {
+        let View::Op(operator, _) = term.view() else {
             return true;
         };
-        match numbered(self.signature.operators.as_slice(), *operator) {
+        match numbered(self.signature.operators.as_slice(), operator) {
             Some(operator) => self.some_gives(operator.declarations.as_slice(), sort),
             None => true,
         }

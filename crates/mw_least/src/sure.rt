@@ -1,23 +1,69 @@
 // Sorts that ground terms have by their operators alone, whatever their arguments are.
-ghost use Rattle.std.specs.Prelude.{◌≡◌, ◌≤◌, ℕ, map, IfOk, IsTrue};
+ghost use Rattle.std.specs.Prelude.{◌≡◌, ◌≤◌, ℕ, map, IfOk, IsFalse, IsTrue};
 ghost use Rattle.mw_logic.specs.Preregular.{HasItsSorts};
 ghost use Rattle.mw_logic.specs.Signature.{sort as sort_of};
 ghost use Rattle.mw_logic.specs.Sorts.{AtOrBelow};
 ghost use Rattle.mw_poset.specs.SortOrder.{order_of};
 ghost use Rattle.mw_term.specs.Signatures.{sorted_of};
-ghost use Rattle.mw_least.specs.Sure.{IsTopOf, AreTops, IsSupport, IsSupportedIn, AreSupported, AreResults, AreSure};
+ghost use Rattle.mw_least.specs.Sure.{IsNone, IsApart, IsTopOf, AreTops, IsSupport, IsSupportedIn, AreSupported, AreResults, AreSure};
 
 use mw_poset::Poset;
 use mw_term::{
-    Declaration, KindId, Operator, Operators, Seq, Signature, SortId, Sorted, number_at,
+    Declaration, KindId, OpId, Operator, Seq, Signature, SortId, Sorted, Sought, Term, number_at,
 };
 use std::alloc::{AllocError, Global};
+
+/// Operators that may take arguments with the tops of their kinds to a result without it. Those that each kind has from
+/// the start have the largest numbers and are sought apart, since most terms have none of them.
+#[derive(Clone, Copy, Drop)]
+pub struct Partial {
+    declared: Sought,
+    built: Sought,
+}
+
+impl Partial {
+    fn none() -> Partial {
+        Partial {
+            declared: Sought::none(),
+            built: Sought::none(),
+        }
+    }
+
+    /// These and one more.
+    fn with(self, operator: OpId, built: bool) -> Partial
+        ensures more { (f : ℕ) → IsNone result f → IsNone self f }
+        ensures last { IsNone result operator → ⊥ }
+    {
+        let Partial {
+            declared,
+            built: start,
+        } = self;
+        if built {
+            let built = start.with(operator);
+            Partial { declared, built }
+        } else {
+            let declared = declared.with(operator);
+            Partial {
+                declared,
+                built: start,
+            }
+        }
+    }
+
+    /// Whether one of them may stand in a term. A no is certain.
+    pub fn may_stand_in(self, term: &Term) -> bool
+        ensures { IsFalse result → IsApart self term.now }
+    {
+        let operators = term.operators();
+        operators.may_have(self.declared) || operators.may_have(self.built)
+    }
+}
 
 /// What operators tell of the sorts of terms.
 #[derive(Drop)]
 pub struct Sure {
     /// Where one of these stands in a term, its operators tell nothing.
-    pub partial: Operators,
+    pub partial: Partial,
     /// Of each operator, by number, a sort that each other ground term has with it on top, or 0 for none.
     pub results: Seq<SortId>,
 }
@@ -111,16 +157,16 @@ fn partial_operators(
     order: &Poset,
     tops: &[SortId],
     signature: &Signature,
-) -> Result<Operators, AllocError>
+) -> Result<Partial, AllocError>
     requires order { order.now ≡ order_of signature.now }
     requires numbers { HasItsSorts signature.now }
-    ensures { IfOk result (λ s. AreSupported signature.now tops.now s.word) }
+    ensures { IfOk result (λ s. AreSupported signature.now tops.now s) }
 {
-    let mut partial = Operators::none();
+    let mut partial = Partial::none();
     for (index, operator) in signature.operators.as_slice().iter().enumerate() {
         let kind = order.kind_of(operator.result);
         if !is_supported(order, tops, operator, kind) {
-            partial = partial.with(Operators::of(number_at(index)?));
+            partial = partial.with(number_at(index)?, operator.built);
         }
     }
     Ok(partial)

@@ -6,7 +6,7 @@ ghost use Rattle.mw_pattern.specs.Clean.{clean};
 ghost use Rattle.mw_match.specs.Matching.{Decides};
 
 use mw_pattern::{Pattern, Patterns};
-use mw_term::{Shape, Term, copy, same};
+use mw_term::{Term, View, copy, same};
 use std::alloc::AllocError;
 
 /// Whether the term is an instance, by the values that are there and those that are put behind them. The former stay
@@ -27,12 +27,12 @@ pub fn matches(pattern: &Pattern, term: &Term, values: &mut Vec<Term>) -> Result
                 Ok(true)
             }
         },
-        Pattern::Op(f, args) => match term.shape() {
-            Shape::Op(g, terms) => {
-                if f != g {
+        Pattern::Op(f, args) => match term.view() {
+            View::Op(g, terms) => {
+                if *f != g {
                     return Ok(false);
                 }
-                all_match(args, terms.as_slice(), values)
+                all_match(args, terms, values)
             }
             _ => Ok(false),
         },

@@ -63,8 +63,8 @@ impl Patterns {
 
 /// The depth of the instance.
 #[cycle(depth_at)]
-pub fn depth_at(pattern: &Pattern, values: &[Term]) -> u32
-    ensures { result ≡ min (height (fill values.now (clean pattern.now))) (2 ^ 32 - 1) }
+pub fn depth_at(pattern: &Pattern, values: &[Term]) -> u16
+    ensures { result ≡ min (height (fill values.now (clean pattern.now))) (2 ^ 16 - 1) }
 {
     match pattern {
         Pattern::Var(i) => match values.get(*i) {
@@ -77,8 +77,8 @@ pub fn depth_at(pattern: &Pattern, values: &[Term]) -> u32
 
 impl Patterns {
     #[cycle(depth_at)]
-    pub fn deepest_at(&self, values: &[Term]) -> u32
-        ensures { result ≡ min (highest (fill_all values.now self.now)) (2 ^ 32 - 1) }
+    pub fn deepest_at(&self, values: &[Term]) -> u16
+        ensures { result ≡ min (highest (fill_all values.now self.now)) (2 ^ 16 - 1) }
     {
         let mut most = 0;
         for p in &self.list {

@@ -12,7 +12,7 @@ ghost use Rattle.mw_print.specs.Writing.{Writes};
 
 use crate::sorts::print_sort;
 use crate::writer::Writer;
-use mw_term::{Gather, OpId, Operator, Shape, Signature, Term, VarId};
+use mw_term::{Gather, OpId, Operator, Signature, Term, VarId, View};
 use mw_text::{NameItem, first_item, has_hole, holes};
 use std::alloc::{AllocError, Global};
 
@@ -35,22 +35,20 @@ fn print(
 ) -> Result<(), AllocError>
     ensures { OnOk result (Writes writer.old writer.new (printed signature.now term.now).tokens) }
 {
-    match term.shape() {
-        Shape::Nat(number) => {
+    match term.view() {
+        View::Nat(number) => {
             let digits = format!(in alloc; "{number}")?;
             writer.token(digits.as_bytes())
         }
-        Shape::Qid(name) => {
+        View::Qid(name) => {
             let token = quoted(alloc, name.as_slice())?;
             writer.token(token.as_slice())
         }
-        Shape::Var(variable) => {
+        View::Var(variable) => {
             let token = sorted(alloc, signature, variable)?;
             writer.token(token.as_slice())
         }
-        Shape::Op(operator, args) => {
-            print_operator(alloc, signature, *operator, args.as_slice(), writer)
-        }
+        View::Op(operator, args) => print_operator(alloc, signature, operator, args, writer),
     }
 }
 
@@ -201,16 +199,16 @@ fn own_args(number: OpId, term: &Term) -> Option<&[Term]>
     ensures some { IfSome result (λ args. (term.now ≡ logic.apply number (terms_of args.now)) × (0 < length args.now)) }
     ensures none { IfNone result ((sig : SignatureOf) → spec.spread number (printed sig term.now) ≡ (printed sig term.now).tokens ∷ []) }
 {
-    let Shape::Op(operator, args) = term.shape() else {
+    let View::Op(operator, args) = term.view() else {
         return None;
     };
-    if *operator != number {
+    if operator != number {
         return None;
     }
     if args.is_empty() {
         return None;
     }
-    Some(args.as_slice())
+    Some(args)
 }
 
 /// The operator of a number, from 1.
@@ -262,8 +260,8 @@ fn takes(mark: Gather, form: u32, precedence: u32) -> bool
 fn precedence(signature: &Signature, term: &Term) -> u32
     ensures { result ≡ (printed signature.now term.now).precedence }
 {
-    match term.shape() {
-        Shape::Op(number, args) => match operator_at(signature, *number) {
+    match term.view() {
+        View::Op(number, args) => match operator_at(signature, number) {
             Some(operator) if is_mixfix(operator, args.len()) => operator.prec,
             _ => 0,
         },

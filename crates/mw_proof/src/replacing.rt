@@ -14,7 +14,7 @@ use crate::proved::Proved;
 use crate::trail::Trail;
 use mw_canon::{CanonError, Values, instance};
 use mw_least::Ctx;
-use mw_term::{Raw, Seq, Shape, Subst, Term, VarId, copy, copy_name};
+use mw_term::{Raw, Seq, Subst, Term, VarId, copy, copy_name};
 use std::alloc::{AllocError, Global};
 
 /// What replaces a term.
@@ -102,7 +102,7 @@ fn value(alloc: Global, values: &Values, variable: &VarId) -> Result<Term, Alloc
         None => {
             let name = copy_name(alloc, &variable.name)?;
             let sort = variable.sort;
-            Term::new(alloc, Shape::Var(VarId { name, sort }))
+            Term::variable(alloc, VarId { name, sort })
         }
     }
 }

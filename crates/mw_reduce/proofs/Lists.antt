@@ -2,10 +2,9 @@
 use Rattle.std.proofs.Common.{◌≡◌, ℕ, zero, suc, ◌+◌, ◌<◌, ◌≤◌, List, [], ◌∷◌, length, get_or, drop, arith, ap, sym, ◌∙◌, refl, length-drop, inl, inr}
 use Rattle.mw_logic.specs.Term.{RawTerm, RawTerms, numeral, quoted, variable, apply, nil, cons, join}
 use Rattle.mw_logic.specs.Parts.{number_of_terms}
-use Rattle.std.proofs.Common.{Vec, Global}
 use Rattle.mw_term.specs.declared.term.Term.{Term}
-use Rattle.mw_term.specs.declared.term.Shape.{Shape}
-use Rattle.mw_term.specs.Shapes.{shaped}
+use Rattle.mw_term.specs.declared.term.View.{View}
+use Rattle.mw_term.specs.Shapes.{viewed}
 use Rattle.std.specs.Prelude.{Some, None, slice_get, ◌-◌}
 use Rattle.mw_machine.specs.Machine.{rest_of, IsFlat}
 use Rattle.mw_machine.specs.Positions.{args_of, skip, fill, fill_all, IsWithin, AreWithin}
@@ -81,11 +80,11 @@ next_pattern_some vs ps inner base at f before after args p done w l h g e c d b
     (rw y x.0, d, (l, rw c (rw e at i)), b, n)
 
 -- what stands on top is no operator
-pub flat_shape : (s : Shape) → ((f : ℕ) (ts : Vec Term Global) → s ≡ Shape.Op f ts → ⊥) → IsFlat (shaped s)
-flat_shape (Shape.Nat n) h = tt
-flat_shape (Shape.Qid q) h = tt
-flat_shape (Shape.Var x) h = tt
-flat_shape (Shape.Op f ts) h = h f ts refl
+pub flat_view : (v : View) → ((f : ℕ) (ts : Bor (List RawTerm)) → v ≡ View.Op f ts → ⊥) → IsFlat (viewed v)
+flat_view (View.Nat n) h = tt
+flat_view (View.Qid q) h = tt
+flat_view (View.Var x) h = tt
+flat_view (View.Op f ts) h = h f ts refl
 
 pub flat_args : (t : RawTerm) → IsFlat t → args_of t ≡ nil
 flat_args (numeral n) h = refl

@@ -24,7 +24,7 @@ use crate::turn::turn;
 use mw_least::Ctx;
 use mw_pattern::{Equations, Pattern, instance};
 use mw_proof::{Reason, Trail};
-use mw_term::{Shape, Term, copy};
+use mw_term::{Term, View, copy};
 use std::alloc::{AllocError, Global};
 use std::mem::replace;
 
@@ -74,8 +74,8 @@ fn put_rest(
 {
     match todo {
         Todo::Pattern(list, base) => put_instances(alloc, done, list, behind(values, base)),
-        Todo::Given(given) => match given.shape() {
-            Shape::Op(_, args) => put_shared(done, args.as_slice()),
+        Todo::Given(given) => match given.view() {
+            View::Op(_, args) => put_shared(done, args),
             _ => Ok(done),
         },
     }

@@ -8,7 +8,7 @@ ghost use Rattle.mw_reduce.specs.Stack.{IsNext, IsNextPattern, IsNextGiven, Fits
 
 use crate::frame::{Frame, Next, Todo};
 use mw_pattern::Pattern;
-use mw_term::{Shape, Term, copy};
+use mw_term::{Term, View, copy};
 use std::alloc::{AllocError, Global};
 
 /// The values of one statement, which begin at a position.
@@ -23,12 +23,12 @@ pub fn behind(values: &[Term], base: usize) -> &[Term]
 pub fn open<'m>(alloc: Global, term: &Term) -> Result<Option<Frame<'m>>, AllocError>
     ensures { (vs : List RawTerm) → IfOk result (λ r. MatchOption r (IsFlat term.now) (Opens vs term.now)) }
 {
-    match term.shape() {
-        Shape::Op(op, args) => {
+    match term.view() {
+        View::Op(op, args) => {
             let done = Vec::with_capacity(alloc, args.len())?;
             let term = copy(term)?;
             Ok(Some(Frame {
-                op: *op,
+                op,
                 done,
                 todo: Todo::Given(term),
             }))
@@ -90,8 +90,8 @@ fn next_pattern<'m>(
 fn next_given<'m>(alloc: Global, term: &Term, at: usize) -> Result<Next<'m>, AllocError>
     ensures { (vs : List RawTerm) → IfOk result (IsNextGiven vs term.now at) }
 {
-    match term.shape() {
-        Shape::Op(_, list) => next_argument(alloc, list.as_slice(), at),
+    match term.view() {
+        View::Op(_, list) => next_argument(alloc, list, at),
         _ => Ok(Next::Complete),
     }
 }

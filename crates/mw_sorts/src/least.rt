@@ -12,7 +12,7 @@ ghost use Rattle.mw_sorts.specs.Entries.{place_in};
 
 use crate::diagram::Level;
 use crate::tables::Tables;
-use mw_term::{OpId, Shape, Sorted, Term};
+use mw_term::{OpId, Sorted, Term, View};
 
 /// The least sort of a term, or its kind, by the tables of its signature. It takes no memory, and one look-up for
 /// each argument in the term.
@@ -30,10 +30,10 @@ const NOTHING: Sorted = Sorted::Kind(0);
 fn declared_sort(tables: &Tables, term: &Term) -> Sorted
     ensures { (sig : SignatureOf) → AreTablesOf sig tables.now → IsFreeSignature sig → sig.qid ≡ false → IsRawTerm sig term.now → DeclaredSort sig term.now (sorted_of result) }
 {
-    match term.shape() {
-        Shape::Var(variable) => Sorted::Sort(variable.sort),
-        Shape::Op(operator, args) => result_on(tables, *operator, args.as_slice()),
-        Shape::Nat(_) | Shape::Qid(_) => NOTHING,
+    match term.view() {
+        View::Var(variable) => Sorted::Sort(variable.sort),
+        View::Op(operator, args) => result_on(tables, operator, args),
+        View::Nat(_) | View::Qid(_) => NOTHING,
     }
 }
 

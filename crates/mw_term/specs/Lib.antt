@@ -2,8 +2,8 @@
 pub mod Raws
 pub mod RawFalls
 pub mod OperatorSets
-pub mod Facts
 pub mod Shapes
+pub mod Facts
 pub mod TermFalls
 pub mod Signatures
 pub mod Statements

@@ -15,10 +15,10 @@ abbrev pub shaped : Shape → RawTerm
 shaped (Nat n) = numeral (number_of n)
 shaped (Qid q) = quoted q.value
 shaped (Var x) = variable x.value
-shaped (Constant f) = apply f nil
-shaped (One f t) = apply f (terms_of (t ∷ []))
-shaped (Two f ts) = apply f (terms_of ts)
-shaped (Many f ts) = apply f (terms_of ts.value.items)
+shaped (Constant l d f) = apply f nil
+shaped (One l d f t) = apply f (terms_of (t ∷ []))
+shaped (Two l d f ts) = apply f (terms_of ts)
+shaped (Many l d f ts) = apply f (terms_of ts.value.items)
 
 abbrev pub viewed : View → RawTerm
 viewed (seen.Nat n) = numeral n

@@ -18,7 +18,7 @@ pub shape_falls : (s : Shape) → deep-Shape s ≤ 2 * height (shaped s)
 shape_falls (Nat n) = omega arith
 shape_falls (Qid q) = omega arith
 shape_falls (Var x) = omega arith
-shape_falls (Constant f) = omega arith
-shape_falls (One f t) = omega arith
-shape_falls (Two f ts) = omega (arith, terms_fall ts)
-shape_falls (Many f ts) = omega (arith, terms_fall ts.value.items)
+shape_falls (Constant l d f) = omega arith
+shape_falls (One l d f t) = omega arith
+shape_falls (Two l d f ts) = omega (arith, terms_fall ts)
+shape_falls (Many l d f ts) = omega (arith, terms_fall ts.value.items)

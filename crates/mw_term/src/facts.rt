@@ -1,23 +1,23 @@
-// What a node keeps of its term.
+// What is known of a term without a walk.
 ghost use Rattle.std.specs.Prelude.{◌≡◌};
-ghost use Rattle.mw_term.specs.Facts.{facts_above, facts_joined, facts_of_nothing};
+ghost use Rattle.mw_term.specs.Facts.{facts_above, facts_joined, facts_of_leaf, facts_of_nothing};
 
 use crate::OpId;
 use crate::operators::{bounded, remainder_bit};
 
 /// The operators of a term, as `Operators` has them, and its depth, or 65,535 where that is more; of a list of terms
-/// the same, with the depth of the deepest. It takes eight bytes.
+/// the same, with the depth of the deepest.
 #[derive(Clone, Copy, Drop)]
 pub(crate) struct Facts {
-    pub(crate) remainders: u32,
-    pub(crate) last: u16,
+    pub(crate) remainders: u64,
+    pub(crate) last: u8,
     pub(crate) depth: u16,
 }
 
 impl Facts {
     /// Of a numeral, a quoted identifier or a variable.
     pub(crate) fn of_leaf() -> Facts
-        ensures { result ≡ record { remainders = 0; last = 0; depth = 1 } }
+        ensures { result ≡ facts_of_leaf }
     {
         Facts {
             remainders: 0,

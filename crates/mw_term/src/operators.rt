@@ -1,47 +1,47 @@
 // Which operators stand in a term.
-ghost use Rattle.std.specs.Prelude.{◌≡◌, ◌↔◌, ◌-◌, ◌%◌, ◌^◌, min, IsFalse};
+ghost use Rattle.std.specs.Prelude.{◌≡◌, ◌↔◌, ◌%◌, ◌^◌, min, IsFalse};
 ghost use Rattle.mw_term.specs.OperatorSets.{AreApart, with_operator};
 
 use crate::OpId;
 
-/// The operators of a term, as far as a node has room to tell: a bit for each remainder of their numbers by 32, and
-/// the largest of the numbers, or 65,535 where that is more.
+/// The operators of a term, as far as a node has room to tell: a bit for each remainder of their numbers by 64, and
+/// the largest of the numbers, or 255 where that is more.
 #[derive(Clone, Copy, Drop)]
 pub struct Operators {
-    pub(crate) remainders: u32,
-    pub(crate) last: u16,
+    pub(crate) remainders: u64,
+    pub(crate) last: u8,
 }
 
-/// Operators that are looked for in terms: a bit for each remainder of their numbers by 32, and the least of the
-/// numbers, or 65,535 where that is more.
+/// Operators that are looked for in terms: a bit for each remainder of their numbers by 64, and the least of the
+/// numbers, or 255 where that is more.
 #[derive(Clone, Copy, Drop)]
 pub struct Sought {
-    remainders: u32,
-    least: u16,
+    remainders: u64,
+    least: u8,
 }
 
 /// The bit of an operator.
-pub(crate) fn remainder_bit(operator: OpId) -> u32
-    ensures { result ≡ 2 ^ (operator % 32) }
+pub(crate) fn remainder_bit(operator: OpId) -> u64
+    ensures { result ≡ 2 ^ (operator % 64) }
 {
-    1 << (operator % 32)
+    1 << (operator % 64)
 }
 
-/// The number of an operator, or 65,535 where that is more.
-pub(crate) fn bounded(operator: OpId) -> u16
-    ensures { result ≡ min operator (2 ^ 16 - 1) }
+/// The number of an operator, or 255 where that is more.
+pub(crate) fn bounded(operator: OpId) -> u8
+    ensures { result ≡ min operator 255 }
 {
-    operator.min(u16::MAX as u32) as u16
+    operator.min(255) as u8
 }
 
 impl Sought {
     /// No operator.
     pub fn none() -> Sought
-        ensures { (result.remainders ≡ 0) × (result.least ≡ 2 ^ 16 - 1) }
+        ensures { (result.remainders ≡ 0) × (result.least ≡ 255) }
     {
         Sought {
             remainders: 0,
-            least: u16::MAX,
+            least: u8::MAX,
         }
     }
 

@@ -4,7 +4,7 @@ ghost use Rattle.mw_logic.specs.Term.{RawTerm, numeral, quoted, variable, apply 
 ghost use Rattle.mw_logic.specs.Terms.{terms_of};
 ghost use Rattle.mw_logic.specs.NormalForm.{height};
 ghost use Rattle.mw_term.specs.OperatorSets.{operators_in};
-ghost use Rattle.mw_term.specs.Facts.{facts_of, facts_of_all};
+ghost use Rattle.mw_term.specs.Facts.{facts_kept, facts_of, facts_of_all};
 ghost use Rattle.mw_term.specs.Shapes.{shaped, viewed, args_of};
 
 use crate::facts::Facts;
@@ -24,25 +24,26 @@ pub struct Term {
     node: Arc<Node>,
 }
 
-// With its count a node takes 40 bytes.
+// What stands on top, and which remainders the operators' numbers have by 64. With its count a node takes 40 bytes.
 #[derive(Drop)]
 #[cycle(term)]
 struct Node {
-    facts: Facts,
+    remainders: u64,
     shape: Shape,
 }
 
-/// What stands on top of a term, as its node keeps it: up to two arguments inside.
+// What stands on top of a term, as its node keeps it: up to two arguments inside. Beside an operator stand the largest
+// number of an operator in the term and its depth, which take the room that is left beside the tag.
 #[derive(Drop)]
 #[cycle(term)]
 enum Shape {
     Nat(Numeral),
     Qid(Box<Name>),
     Var(Box<VarId>),
-    Constant(OpId),
-    One(OpId, Term),
-    Two(OpId, [Term; 2]),
-    Many(OpId, Box<Vec<Term>>),
+    Constant(u8, u16, OpId),
+    One(u8, u16, OpId, Term),
+    Two(u8, u16, OpId, [Term; 2]),
+    Many(u8, u16, OpId, Box<Vec<Term>>),
 }
 
 /// What stands on top of a term.
@@ -68,12 +69,12 @@ impl Model for Term {
 
     ghost coded = { coded_term };
 
-    ghost use Rattle.mw_term.specs.Facts.{facts_of};
+    ghost use Rattle.mw_term.specs.Facts.{facts_kept, facts_of};
     ghost use Rattle.mw_term.specs.Shapes.{shaped};
 
     ghost view = { λ t. shaped t.node.value.shape };
 
-    ghost invariant = { λ t. t.node.value.facts ≡ facts_of (shaped t.node.value.shape) };
+    ghost invariant = { λ t. facts_kept t.node.value.remainders t.node.value.shape ≡ facts_of (shaped t.node.value.shape) };
 
     ghost size = { λ t. 2 * height t };
 
@@ -83,11 +84,11 @@ impl Model for Term {
     ghost size_decreases = { λ a h. Prim.omega (arith, shape_falls a.node.value.shape) };
 }
 
-fn made(alloc: Global, facts: Facts, shape: Shape) -> Result<Term, AllocError>
-    requires { facts ≡ facts_of (shaped shape) }
+fn made(alloc: Global, remainders: u64, shape: Shape) -> Result<Term, AllocError>
+    requires { facts_kept remainders shape ≡ facts_of (shaped shape) }
     ensures { IfOk result (λ t. t ≡ shaped shape) }
 {
-    let node = Arc::new(alloc, Node { facts, shape }).map_err(AllocError::from)?;
+    let node = Arc::new(alloc, Node { remainders, shape }).map_err(AllocError::from)?;
     Ok(Term { node })
 }
 
@@ -106,7 +107,7 @@ impl Term {
     pub fn numeral(alloc: Global, number: u128) -> Result<Term, AllocError>
         ensures { IfOk result (λ t. t ≡ numeral number) }
     {
-        made(alloc, Facts::of_leaf(), Shape::Nat(Numeral::of(number)))
+        made(alloc, 0, Shape::Nat(Numeral::of(number)))
     }
 
     /// A quoted identifier, by its bytes after the quote.
@@ -114,7 +115,7 @@ impl Term {
         ensures { IfOk result (λ t. t ≡ quoted name) }
     {
         let name = Box::new(alloc, name).map_err(AllocError::from)?;
-        made(alloc, Facts::of_leaf(), Shape::Qid(name))
+        made(alloc, 0, Shape::Qid(name))
     }
 
     /// A variable.
@@ -122,26 +123,29 @@ impl Term {
         ensures { IfOk result (λ t. t ≡ variable name) }
     {
         let name = Box::new(alloc, name).map_err(AllocError::from)?;
-        made(alloc, Facts::of_leaf(), Shape::Var(name))
+        made(alloc, 0, Shape::Var(name))
     }
 
     /// The operator on these arguments. One or two of them take no allocation of their own.
     pub fn apply(alloc: Global, operator: OpId, args: Vec<Term>) -> Result<Term, AllocError>
         ensures { IfOk result (λ t. t ≡ applied operator (terms_of args.items)) }
     {
-        let facts = facts_in(args.as_slice()).under(operator);
+        let Facts {
+            remainders,
+            last,
+            depth,
+        } = facts_in(args.as_slice()).under(operator);
         let mut args = args;
         if args.len() > 2 {
             let args = Box::new(alloc, args).map_err(AllocError::from)?;
-            return made(alloc, facts, Shape::Many(operator, args));
+            return made(alloc, remainders, Shape::Many(last, depth, operator, args));
         }
-        match (args.pop(), args.pop()) {
-            (Some(second), Some(first)) => {
-                made(alloc, facts, Shape::Two(operator, [first, second]))
-            }
-            (Some(only), None) => made(alloc, facts, Shape::One(operator, only)),
-            _ => made(alloc, facts, Shape::Constant(operator)),
-        }
+        let shape = match (args.pop(), args.pop()) {
+            (Some(second), Some(first)) => Shape::Two(last, depth, operator, [first, second]),
+            (Some(only), None) => Shape::One(last, depth, operator, only),
+            _ => Shape::Constant(last, depth, operator),
+        };
+        made(alloc, remainders, shape)
     }
 
     /// What stands on top. It takes no memory.
@@ -152,17 +156,27 @@ impl Term {
             Shape::Nat(number) => View::Nat(number.get()),
             Shape::Qid(name) => View::Qid(&**name),
             Shape::Var(variable) => View::Var(&**variable),
-            Shape::Constant(operator) => View::Op(*operator, &[]),
-            Shape::One(operator, only) => View::Op(*operator, slice::from_ref(only)),
-            Shape::Two(operator, both) => View::Op(*operator, both.as_slice()),
-            Shape::Many(operator, args) => View::Op(*operator, args.as_slice()),
+            Shape::Constant(_, _, operator) => View::Op(*operator, &[]),
+            Shape::One(_, _, operator, only) => View::Op(*operator, slice::from_ref(only)),
+            Shape::Two(_, _, operator, both) => View::Op(*operator, both.as_slice()),
+            Shape::Many(_, _, operator, args) => View::Op(*operator, args.as_slice()),
         }
     }
 
     fn facts(&self) -> Facts
         ensures { result ≡ facts_of self.now }
     {
-        self.node.facts
+        match &self.node.shape {
+            Shape::Nat(_) | Shape::Qid(_) | Shape::Var(_) => Facts::of_leaf(),
+            Shape::Constant(last, depth, _)
+            | Shape::One(last, depth, _, _)
+            | Shape::Two(last, depth, _, _)
+            | Shape::Many(last, depth, _, _) => Facts {
+                remainders: self.node.remainders,
+                last: *last,
+                depth: *depth,
+            },
+        }
     }
 
     /// The operators that stand in it. They are kept, so this is no walk.
@@ -224,9 +238,9 @@ fn copied(alloc: Global, shape: &Shape) -> Result<Vec<Term>, AllocError>
     ensures { IfOk result (λ ts. terms_of ts.items ≡ args_of (shaped shape.now)) }
 {
     match shape {
-        Shape::One(_, only) => all_copied(alloc, slice::from_ref(only)),
-        Shape::Two(_, both) => all_copied(alloc, both.as_slice()),
-        Shape::Many(_, args) => all_copied(alloc, args.as_slice()),
+        Shape::One(_, _, _, only) => all_copied(alloc, slice::from_ref(only)),
+        Shape::Two(_, _, _, both) => all_copied(alloc, both.as_slice()),
+        Shape::Many(_, _, _, args) => all_copied(alloc, args.as_slice()),
         _ => Ok(Vec::new(alloc)),
     }
 }
@@ -235,9 +249,9 @@ fn taken(alloc: Global, shape: Shape) -> Result<Vec<Term>, AllocError>
     ensures { IfOk result (λ ts. terms_of ts.items ≡ args_of (shaped shape)) }
 {
     match shape {
-        Shape::One(_, only) => Ok(vec![in alloc; only]?),
-        Shape::Two(_, both) => Ok(Vec::from_array(alloc, both)?),
-        Shape::Many(_, args) => Ok(Box::into_inner(args)),
+        Shape::One(_, _, _, only) => Ok(vec![in alloc; only]?),
+        Shape::Two(_, _, _, both) => Ok(Vec::from_array(alloc, both)?),
+        Shape::Many(_, _, _, args) => Ok(Box::into_inner(args)),
         _ => Ok(Vec::new(alloc)),
     }
 }

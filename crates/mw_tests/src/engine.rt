@@ -18,7 +18,7 @@ use mw_match::Solutions;
 use mw_module::{Unit, read_unit};
 use mw_proof::{By, Proved, refl, replace, then, under};
 use mw_term::{
-    Identity, Name, OpId, Operator, Raw, Seq, Shape, Signature, Statement, Subst, Term, copy,
+    Identity, Name, OpId, Operator, Raw, Seq, Signature, Statement, Subst, Term, View, copy,
     depth, same,
 };
 use std::alloc::{AllocError, Global};
@@ -306,11 +306,8 @@ fn replaced<'m>(alloc: Global, context: &'m Ctx, from: &Term, to: &Term) -> Resu
 fn pair_of(term: &Term) -> Option<(OpId, &Term, &Term)>
     ensures { IfSome result (λ r. term.now ≡ binary r.0 r.1.now r.2.now) }
 {
-    match term.shape() {
-        Shape::Op(operator, args) => match args.as_slice() {
-            [first, second] => Some((*operator, first, second)),
-            _ => None,
-        },
+    match term.view() {
+        View::Op(operator, [first, second]) => Some((operator, first, second)),
         _ => None,
     }
 }
@@ -435,6 +432,7 @@ fn associative(alloc: Global) -> Result<Signature, AllocError>
         prec: 0,
         gather: Seq::of(Vec::new(alloc)),
         config: false,
+        frozen: Seq::of(Vec::new(alloc)),
         built: false,
     };
     Ok(Signature {

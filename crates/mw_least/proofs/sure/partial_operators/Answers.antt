@@ -3,11 +3,7 @@ use Rattle.mw_logic.specs.Signature.{Signature, Operator}
 use Rattle.mw_poset.specs.SortOrder.{SortOrder}
 use Rattle.mw_poset.specs.Order.{IsSort, IsKindOf}
 use Rattle.mw_sorts.proofs.Getting.{read-get}
-use Rattle.std.specs.Int.Bits.{bit_or}
-use Rattle.mw_term.specs.OperatorSets.{operator_bit, Lacks}
-use Rattle.mw_term.specs.declared.operators.Operators.{Operators}
-use Rattle.mw_term.proofs.OperatorSets.{lacks_before, has_last}
-use Rattle.mw_least.specs.Sure.{IsSupportedIn}
+use Rattle.mw_least.specs.Sure.{IsNone, IsSupportedIn}
 use Rattle.mw_least.proofs.Tops.{supported_more, supported_all, supported_in}
 use Rattle.mw_least.proofs.sure.partial_operators.Goals.{then-not-is_supported+in_ok-number_at, else-not-is_supported}
 use Rattle.mw_least.proofs.sure.partial_operators.Goals as goal
@@ -26,26 +22,24 @@ loop-index-preserved c =
     let n = c.loop-index.index in
     let o = c.operator-item.result in
     let tops = c.args.tops.now in
-    let before = c.loop-index.partial.word in
-    let after = c.if-not-is_supported.partial.word in
+    let before = c.loop-index.partial in
+    let after = c.if-not-is_supported.partial in
     let os = (c.as_slice-operator-items.ensures ∙ ap (λ (s : Signature). s.operators) c.signature.view_is) in
     let is = read-get sig.operators c.as_slice-operator-items.result.now n o os (subst (λ xs. n < length xs) os c.loop-index-test.true) c.operator-item.is in
     let pairs : c.args.order.now.pairs ≡ sig.pairs = ap (λ (s : SortOrder). s.pairs) c.requires.order in
     let kind = subst (λ S. IsKindOf c.args.order.now.pairs S c.kind_of-kind.result) (ap (λ (p : Operator). p.result) c.operator.view_is) c.kind_of-kind.ensures in
     elim c.if-not-is_supported.branch [
       | then-not-is_supported+in_ok-number_at w ↦
-          let grows : after ≡ bit_or before (operator_bit (n + 1)) = ap (λ (s : Operators). s.word) w.partial-is ∙ w.with-partial.ensures ∙ ap (bit_or before) (w.of.ensures ∙ ap operator_bit w.in_ok-number_at.ensures) in
-          supported_more sig tops n o before after is (λ f h. lacks_before before f (n + 1) (subst (λ s. Lacks s f) grows h))
-          (λ h. absurd (has_last before (n + 1) (subst (λ s. Lacks s (n + 1)) grows h))) c.loop-index.invariant
+          supported_more sig tops n o before after is (λ f h. w.with-partial.ensures.more f (subst (λ s. IsNone s f) w.partial-is h))
+          (λ h. absurd (w.with-partial.ensures.last (subst (λ f. IsNone w.with-partial.result f) (sym w.in_ok-number_at.ensures) (subst (λ s. IsNone s (n + 1)) w.partial-is h)))) c.loop-index.invariant
       | else-not-is_supported w ↦
           let here = subst (λ ps. IsSupportedIn ps tops o c.kind_of-kind.result) pairs (c.is_supported.ensures w.if-not-is_supported.false) in
           let all = supported_in sig tops o c.kind_of-kind.result (subst (λ ps. IsKindOf ps o.result c.kind_of-kind.result) pairs kind) here in
-          let stays : after ≡ before = ap (λ (s : Operators). s.word) w.partial-is in
-          supported_more sig tops n o before after is (λ f h. subst (λ s. Lacks s f) stays h) (λ h. all) c.loop-index.invariant
+          supported_more sig tops n o before after is (λ f h. subst (λ s. IsNone s f) w.partial-is h) (λ h. all) c.loop-index.invariant
     ]
 
 pub returns : goal.returns
 returns c =
     let sig = c.args.signature.now in
     let os = (c.as_slice-operator-items.ensures ∙ ap (λ (s : Signature). s.operators) c.signature.view_is) in
-    supported_all sig c.args.tops.now c.loop-index.index c.loop-index.partial.word (subst (λ xs. length xs ≤ c.loop-index.index) os c.loop-index-test.false) c.loop-index.invariant
+    supported_all sig c.args.tops.now c.loop-index.index c.loop-index.partial (subst (λ xs. length xs ≤ c.loop-index.index) os c.loop-index-test.false) c.loop-index.invariant

@@ -12,4 +12,4 @@ decreases-depth_at l = goal.size-depth_at l
 
 abbrev pub invariant-Patterns::deepest_at-loop-p : goal.invariant-Patterns::deepest_at-loop-p
 invariant-Patterns::deepest_at-loop-p l =
-    (min (max l.most (highest (fill_all l.values (clean_all (drop l.p-index l.p-items))))) (2 ^ 32 - 1) ≡ min (highest (fill_all l.values (clean_all l.p-items))) (2 ^ 32 - 1)) × (l.most ≤ 2 ^ 32 - 1)
+    (min (max l.most (highest (fill_all l.values (clean_all (drop l.p-index l.p-items))))) (2 ^ 16 - 1) ≡ min (highest (fill_all l.values (clean_all l.p-items))) (2 ^ 16 - 1)) × (l.most ≤ 2 ^ 16 - 1)

@@ -6,7 +6,7 @@ use Rattle.mw_logic.specs.Signature.{sort}
 use Rattle.mw_logic.specs.Sorts.{DeclaredSort}
 use Rattle.mw_logic.specs.Sorts as sorting
 use Rattle.mw_term.proofs.Terms.{element}
-use Rattle.mw_term.specs.Shapes.{shaped}
+use Rattle.mw_term.specs.Shapes.{viewed}
 use Rattle.mw_term.specs.Signatures.{sorted_of}
 use Rattle.mw_sorts.specs.Diagrams.{LeadsTo, EndsIn}
 use Rattle.mw_sorts.proofs.Looking.{got, starts, steps, raw_here, ended, found_diagram, no_diagram, operator_there}
@@ -14,7 +14,7 @@ use Rattle.mw_sorts.proofs.least.+declared.Goals as goal
 
 pub declared_sort-returns-in-Var : goal.declared_sort-returns-in-Var
 declared_sort-returns-in-Var t c = λ sig tables free quoted r.
-    let e = c.shape.ensures ∙ ap shaped c.in-Var.is in
+    let e = c.view.ensures ∙ ap viewed c.in-Var.is in
     let s = ap (λ (x : Variable). sort x.sort) c.variable.view_is in
     let d : DeclaredSort sig (variable c.in-Var.variable) (sort c.in-Var.variable.sort) = sorting.of_variable in
     subst (λ u. DeclaredSort sig u (sort c.variable.inside.sort)) (sym e) (subst (DeclaredSort sig (variable c.in-Var.variable)) (sym s) d)
