@@ -1,6 +1,6 @@
 -- Lists of values that begin with others.
-use Rattle.std.specs.Prelude.{◌≡◌, ◌<◌, ℕ, zero, suc, List, [], ◌∷◌, ◌++◌, length, Some, slice_get, refl}
-use Rattle.std.proofs.Common.{ap, sym, ◌∙◌, arith}
+use Rattle.std.specs.Prelude.{◌≡◌, ◌<◌, ◌≤◌, ℕ, zero, suc, List, [], ◌∷◌, ◌++◌, length, take, drop, Some, slice_get, refl}
+use Rattle.std.proofs.Common.{ap, sym, subst, ◌∙◌, arith, take-append-drop}
 use Rattle.mw_logic.specs.Term.{RawTerm}
 use Rattle.mw_machine.specs.Positions.{Begins}
 
@@ -58,3 +58,13 @@ begins_unique [] (v ∷ vs) ws l h k = cc
 begins_unique (u ∷ us) [] ws l h k = cc
 begins_unique (u ∷ us) (v ∷ vs) [] l h k = absurd h
 begins_unique (u ∷ us) (v ∷ vs) (w ∷ ws) l h k = let e : u ≡ v = h.0 ∙ sym k.0 in let r : us ≡ vs = begins_unique us vs ws (omega (arith, l)) h.1 k.1 in rw (e, r) refl
+
+-- the front of a list, and what it begins with
+pub begins_take : (n : ℕ) (us : List RawTerm) → Begins (take n us) us
+begins_take n us = subst (Begins (take n us)) (take-append-drop n us) (begins_append (take n us) (drop n us))
+
+pub take_begins : (n : ℕ) (vs us : List RawTerm) → Begins vs us → length vs ≤ n → Begins vs (take n us)
+take_begins n [] us h l = tt
+take_begins n (v ∷ vs) [] h l = absurd h
+take_begins zero (v ∷ vs) (u ∷ us) h l = absurd (omega (arith, l))
+take_begins (suc n) (v ∷ vs) (u ∷ us) h l = (h.0, take_begins n vs us h.1 (omega (arith, l)))

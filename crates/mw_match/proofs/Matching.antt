@@ -6,6 +6,7 @@ use Rattle.mw_machine.specs.Positions.{position, fill, fill_all, counted, counte
 use Rattle.mw_logic.specs.NormalForm.{height, highest}
 use Rattle.mw_logic.specs.Terms.{terms_of}
 use Rattle.mw_machine.proofs.Begins.{begins_same, begins_then, begins_at, begins_put, begins_last, begins_append}
+use Rattle.mw_machine.proofs.Counting.{all_counted_grows}
 use Rattle.mw_pattern.specs.Clean.{clean, clean_all}
 use Rattle.mw_match.specs.Matching.{Decides}
 use Rattle.mw_pattern.specs.declared.pattern.Pattern.{Pattern}
@@ -28,17 +29,6 @@ decides_var_new old new i t l m = rw m (
     (λ q. let k : slice_get us i ≡ Some t = rw l (begins_last old us t q) in rw k refl),
   ),
 )
-
-mutual
-  counted_grows : (n : ℕ) (p : RawTerm) → n ≤ counted n p
-  counted_grows n (numeral m) = omega arith
-  counted_grows n (quoted q) = omega arith
-  counted_grows n (variable x) = omega arith
-  counted_grows n (apply f ts) = all_counted_grows n ts
-
-  all_counted_grows : (n : ℕ) (ps : RawTerms) → n ≤ counted_all n ps
-  all_counted_grows n nil = omega arith
-  all_counted_grows n (cons p ps) = omega (arith, counted_grows n p, all_counted_grows (counted n p) ps)
 
 -- the first i arguments were matched
 pub record Matching (old cur : List RawTerm) (ps : List Pattern) (ts : List RawTerm) (i : ℕ) : Type 0 where
