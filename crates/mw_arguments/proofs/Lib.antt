@@ -3,7 +3,8 @@ pub mod Once
 -- Pieces.
 pub mod ListPieces
 pub mod Standing
-pub mod Bags
+pub mod Spread
+pub mod BagPieces
 pub mod Runs
 -- All arguments, each list once.
 pub mod Arguments

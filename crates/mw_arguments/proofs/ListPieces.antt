@@ -3,11 +3,11 @@ use Rattle.std.specs.Prelude.{◌≡◌, ◌+◌, ◌-◌, ◌≤◌, ℕ, zero,
 use Rattle.std.proofs.Common.{ap, sym, ◌∙◌, arith}
 use Rattle.std.proofs.lemmas.List.Recursion.{is_sum_by}
 use Rattle.mw_logic.specs.Term.{RawTerms, nil, cons, join}
+use Rattle.mw_logic.specs.Terms.{front, skip}
 use Rattle.mw_logic.specs.Parts.{number_of_terms}
 use Rattle.mw_split.specs.Lists.{AllOnce}
 use Rattle.mw_split.specs.Cuts.{IsListCut}
-use Rattle.mw_arguments.specs.Pieces.{joined, AreInOrder, ArePieces}
-use Rattle.mw_arguments.specs.ListPieces.{front, behind, list_pieces}
+use Rattle.mw_arguments.specs.Pieces.{joined, AreInOrder, ArePieces, list_pieces}
 use Rattle.mw_arguments.proofs.Once.{once_mapped}
 
 total : List ℕ → ℕ
@@ -23,11 +23,11 @@ front_join : (ts us : RawTerms) → front (number_of_terms ts) (join ts us) ≡ 
 front_join nil us = refl
 front_join (cons t ts) us = ap (cons t) (front_join ts us)
 
-behind_join : (ts us : RawTerms) → behind (number_of_terms ts) (join ts us) ≡ us
-behind_join nil us = refl
-behind_join (cons t ts) us = behind_join ts us
+skip_join : (ts us : RawTerms) → skip (number_of_terms ts) (join ts us) ≡ us
+skip_join nil us = refl
+skip_join (cons t ts) us = skip_join ts us
 
-join_parts : (n : ℕ) (zs : RawTerms) → join (front n zs) (behind n zs) ≡ zs
+join_parts : (n : ℕ) (zs : RawTerms) → join (front n zs) (skip n zs) ≡ zs
 join_parts zero zs = refl
 join_parts (suc n) nil = refl
 join_parts (suc n) (cons t ts) = ap (cons t) (join_parts n ts)
@@ -37,10 +37,10 @@ number_front zero zs h = refl
 number_front (suc n) nil h = absurd (omega (arith, h))
 number_front (suc n) (cons t ts) h = ap suc (number_front n ts (omega (arith, h)))
 
-number_behind : (n : ℕ) (zs : RawTerms) → number_of_terms (behind n zs) ≡ number_of_terms zs - n
-number_behind zero zs = omega arith
-number_behind (suc n) nil = omega arith
-number_behind (suc n) (cons t ts) = number_behind n ts ∙ omega arith
+number_skip : (n : ℕ) (zs : RawTerms) → number_of_terms (skip n zs) ≡ number_of_terms zs - n
+number_skip zero zs = omega arith
+number_skip (suc n) nil = omega arith
+number_skip (suc n) (cons t ts) = number_skip n ts ∙ omega arith
 
 number_join : (ts us : RawTerms) → number_of_terms (join ts us) ≡ number_of_terms ts + number_of_terms us
 number_join nil us = omega arith
@@ -51,12 +51,12 @@ unfolding total
 pieces_joined nil [] h = refl
 pieces_joined (cons z zs) [] h = absurd (omega (arith, h))
 pieces_joined zs (n ∷ ns) h =
-    let b = number_behind n zs in
-    ap (join (front n zs)) (pieces_joined (behind n zs) ns (omega (arith, b, h))) ∙ join_parts n zs
+    let b = number_skip n zs in
+    ap (join (front n zs)) (pieces_joined (skip n zs) ns (omega (arith, b, h))) ∙ join_parts n zs
 
 pieces_number : (zs : RawTerms) (ns : List ℕ) → length (list_pieces zs ns) ≡ length ns
 pieces_number zs [] = refl
-pieces_number zs (n ∷ ns) = ap suc (pieces_number (behind n zs) ns)
+pieces_number zs (n ∷ ns) = ap suc (pieces_number (skip n zs) ns)
 
 in_order : (ps : List RawTerms) → AreInOrder false ps
 in_order [] = tt
@@ -70,8 +70,8 @@ numbers_again : (zs : RawTerms) (ns : List ℕ) → total ns ≡ number_of_terms
 unfolding total
 numbers_again zs [] h = refl
 numbers_again zs (n ∷ ns) h =
-    let b = number_behind n zs in
-    rw (number_front n zs (omega (arith, h)), numbers_again (behind n zs) ns (omega (arith, b, h))) refl
+    let b = number_skip n zs in
+    rw (number_front n zs (omega (arith, h)), numbers_again (skip n zs) ns (omega (arith, b, h))) refl
 
 numbers_length : (ps : List RawTerms) → length (numbers ps) ≡ length ps
 numbers_length [] = refl
@@ -84,7 +84,7 @@ numbers_total (p ∷ ps) = let e = numbers_total ps in let j = number_join p (jo
 
 pieces_again : (ps : List RawTerms) → list_pieces (joined ps) (numbers ps) ≡ ps
 pieces_again [] = refl
-pieces_again (p ∷ ps) = rw (front_join p (joined ps), behind_join p (joined ps), pieces_again ps) refl
+pieces_again (p ∷ ps) = rw (front_join p (joined ps), skip_join p (joined ps), pieces_again ps) refl
 
 module _ (zs : RawTerms) (k : ℕ) where
   there : (c : List ℕ) → IsListCut (number_of_terms zs) k c → ArePieces false k zs (list_pieces zs c)

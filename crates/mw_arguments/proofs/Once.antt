@@ -76,17 +76,17 @@ member-flat_map f a b (x ∷ xs) (inr m) n = member-right b (f x) (flat_map f xs
 pub once_flat_mapped : {A B : Type 0} (P : A → Type 0) (Q : A → B → Type 0) (f : A → List B) (xs : List A) → AllOnce P xs → ((a : A) → P a → AllOnce (Q a) (f a))
     → ((b : B) (x y : A) → P x → P y → Q x b → Q y b → x ≡ y) → AllOnce (λ b. (a : A) × P a × Q a b) (flat_map f xs)
 once_flat_mapped {A} {B} P Q f xs l r one = record {
-  once = differ xs l.once (λ a m. (l.all a).0 m);
+  once = distinct xs l.once (λ a m. (l.all a).0 m);
   all = λ b. (
     λ m. let (a, n, k) = flat_map-member f b xs m in let p = (l.all a).0 n in (a, p, ((r a p).all b).0 k),
     λ h. let (a, p, q) = h in member-flat_map f a b xs ((l.all a).1 p) (((r a p).all b).1 q),
   );
 }
   where
-    differ : (xs : List A) → Distinct xs → ((a : A) → Member a xs → P a) → Distinct (flat_map f xs)
-    differ [] d h = tt
-    differ (x ∷ xs) d h =
-        distinct-append (f x) (flat_map f xs) (r x (h x (inl refl))).once (differ xs d.1 (λ a m. h a (inr m)))
+    distinct : (xs : List A) → Distinct xs → ((a : A) → Member a xs → P a) → Distinct (flat_map f xs)
+    distinct [] d h = tt
+    distinct (x ∷ xs) d h =
+        distinct-append (f x) (flat_map f xs) (r x (h x (inl refl))).once (distinct xs d.1 (λ a m. h a (inr m)))
         (λ b m n. let (y, k, j) = flat_map-member f b xs n in
         d.0 (subst (λ z. Member z xs) (sym (one b x y (h x (inl refl)) (h y (inr k)) (((r x (h x (inl refl))).all b).0 m) (((r y (h y (inr k))).all b).0 j))) k))
 

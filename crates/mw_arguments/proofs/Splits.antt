@@ -22,7 +22,7 @@ use Rattle.mw_arguments.specs.Bags.{same, runs, heads, numbers}
 use Rattle.mw_arguments.specs.Splits.{pieces, orders, exchanges, before_number, own, plain_splits, splits_by, splits_of}
 use Rattle.mw_arguments.proofs.Once.{once_one, once_none}
 use Rattle.mw_arguments.proofs.Arguments.{splits, in_order}
-use Rattle.mw_arguments.proofs.Bags.{bag_cutting}
+use Rattle.mw_arguments.proofs.BagPieces.{bag_cutting}
 use Rattle.mw_arguments.proofs.ListPieces.{list_cutting}
 use Rattle.mw_arguments.proofs.Runs.{same-equal, runs-spread, runs-length, runs-rise}
 

@@ -2,7 +2,6 @@
 pub mod Arguments
 -- Pieces of what stands under an associative operator.
 pub mod Pieces
-pub mod ListPieces
 pub mod Bags
 -- All arguments, by the axioms.
 pub mod Splits

@@ -1,6 +1,7 @@
 -- Pieces of a list or a multiset of elements, and the arguments of an associative operator that they give.
 use Rattle.std.specs.Prelude.{◌≡◌, ℕ, List, [], ◌∷◌, length, Bool, true, false, ◌&&◌, Option, Some, None, ⊤}
 use Rattle.mw_logic.specs.Term.{RawTerms, nil, cons, join}
+use Rattle.mw_logic.specs.Terms.{front, skip}
 use Rattle.mw_logic.specs.Signature.{Identity}
 use Rattle.mw_logic.specs.NormalForm.{arranged, rebuilt}
 
@@ -19,6 +20,11 @@ pub record ArePieces (c : Bool) (k : ℕ) (zs : RawTerms) (ps : List RawTerms) :
   pub size : length ps ≡ k
   pub order : AreInOrder c ps
   pub whole : arranged c (joined ps) ≡ zs
+
+-- the pieces of a list, by their lengths
+abbrev pub list_pieces : RawTerms → List ℕ → List RawTerms
+list_pieces zs [] = []
+list_pieces zs (n ∷ ns) = front n zs ∷ list_pieces (skip n zs) ns
 
 -- a piece may be empty only where there is an identity
 abbrev pub is_backed : Option Identity → RawTerms → Bool

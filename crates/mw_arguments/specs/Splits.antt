@@ -6,9 +6,8 @@ use Rattle.mw_logic.specs.Kinds.{is_successor}
 use Rattle.mw_logic.specs.Parts.{is_assoc, number_of_terms}
 use Rattle.mw_logic.specs.NormalForm.{is_comm, identity_of, elements}
 use Rattle.mw_split.specs.Cuts.{bag_cuts, list_cuts}
-use Rattle.mw_arguments.specs.Pieces.{are_backed, arguments}
+use Rattle.mw_arguments.specs.Pieces.{list_pieces, are_backed, arguments}
 use Rattle.mw_arguments.specs.Bags.{same, runs, heads, numbers, bag_pieces}
-use Rattle.mw_arguments.specs.ListPieces.{list_pieces}
 
 -- the pieces of the elements, under an associative operator that is commutative or not
 abbrev pub pieces : Bool → ℕ → RawTerms → List (List RawTerms)

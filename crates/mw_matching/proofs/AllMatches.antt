@@ -12,6 +12,7 @@ use Rattle.mw_logic.proofs.Canonical.{IsElement, IsCanonical, AreCanonical, elem
 use Rattle.mw_logic.proofs.Climbing.{climbs}
 use Rattle.mw_split.specs.Lists.{AllOnce}
 use Rattle.mw_machine.specs.Positions.{IsNumbered, AreNumbered}
+use Rattle.mw_machine.proofs.Counting.{all_within_counted}
 use Rattle.mw_machine.proofs.Begins.{begins_same, begins_whole, begins_unique}
 use Rattle.mw_arguments.specs.Arguments.{Gives, Spells}
 use Rattle.mw_arguments.specs.Splits.{splits_of}
@@ -22,7 +23,7 @@ use Rattle.mw_matching.specs.Matches.{evaluated_all, IsMatch, AreMatches, HasAri
 use Rattle.mw_matching.specs.Patterns.{is_rigid}
 use Rattle.mw_matching.specs.Bagged.{shares, bag_matches, IsBagMatch}
 use Rattle.mw_matching.specs.AllMatches.{theory, all_matches, all_row_matches, all_bag_matches}
-use Rattle.mw_matching.proofs.Matches.{AreGood, closed_once, at_variable_once, row_match, row_match_parts, all_evaluated_canonical, number_evaluated, good_begun, all_within, no_more}
+use Rattle.mw_matching.proofs.Matches.{AreGood, closed_once, at_variable_once, row_match, row_match_parts, all_evaluated_canonical, number_evaluated, good_begun, no_more}
 use Rattle.mw_matching.proofs.Patterns.{rigid_element}
 use Rattle.mw_matching.proofs.Bagged.{AreElements, Known, bag_matches_once}
 
@@ -37,7 +38,7 @@ module _ (sig : Signature) (ok : IsAccepted sig) (has : ℕ → RawTerm → Bool
 
   sized : (f : ℕ) (qs : RawTerms) (t : RawTerm) (vs us : List RawTerm) → IsMatch sig (theory sig has single) (apply f qs) t vs us → AreGood sig ok (theory sig has single) vs → AreCanonical sig (evaluated_all sig us qs)
   sized f qs t vs us m g =
-      all_evaluated_canonical sig ok (theory sig has single) us qs (good_begun sig ok (theory sig has single) vs us g m.begins m.fits) (all_within sig ok (theory sig has single) (length vs) (length us) qs (let s = m.size in omega (arith, s)))
+      all_evaluated_canonical sig ok (theory sig has single) us qs (good_begun sig ok (theory sig has single) vs us g m.begins m.fits) (all_within_counted (length vs) (length us) qs (let s = m.size in omega (arith, s)))
 
   mutual
     pub all_matches_once : (p t : RawTerm) (vs : List RawTerm) → HasArities sig p → IsNumbered (length vs) p → AreGood sig ok (theory sig has single) vs → IsCanonical sig t → AllOnce (IsMatch sig (theory sig has single) p t vs) (all_matches sig has single p t vs)
@@ -70,7 +71,7 @@ module _ (sig : Signature) (ok : IsAccepted sig) (has : ℕ → RawTerm → Bool
             there : (us : List RawTerm) → IsBagMatch sig (theory sig has single) f qs (elements (identity_of sig f) f t) vs us → IsMatch sig (theory sig has single) (apply f qs) t vs us
             there us b =
                 let c : AreCanonical sig (evaluated_all sig us qs) =
-                all_evaluated_canonical sig ok (theory sig has single) us qs (good_begun sig ok (theory sig has single) vs us g b.begins b.fits) (all_within sig ok (theory sig has single) (length vs) (length us) qs (let s = b.size in omega (arith, s))) in
+                all_evaluated_canonical sig ok (theory sig has single) us qs (good_begun sig ok (theory sig has single) vs us g b.begins b.fits) (all_within_counted (length vs) (length us) qs (let s = b.size in omega (arith, s))) in
                 let q : Gives sig f (number_of_terms qs) t (evaluated_all sig us qs) =
                 given sig ok f x (number_of_terms qs) (a.0.some x) t k (evaluated_all sig us qs) (record { canonical = c; size = number_evaluated sig ok (theory sig has single) us qs; whole = rw y b.gives }) in
                 record { begins = b.begins; size = b.size; gives = q.gives; fits = b.fits }

@@ -17,6 +17,7 @@ use Rattle.mw_logic.proofs.Invariance.{elements_kept}
 use Rattle.mw_logic.proofs.Climbing.{Climbs, climbs, sorted-climbs}
 use Rattle.mw_split.specs.Lists.{AllOnce}
 use Rattle.mw_machine.specs.Positions.{IsNumbered, AreNumbered, AreWithin}
+use Rattle.mw_machine.proofs.Counting.{within_counted, all_within_counted}
 use Rattle.mw_machine.proofs.Begins.{begins_same, begins_whole, begins_unique}
 use Rattle.mw_arguments.specs.Pieces.{ArePieces, is_backed}
 use Rattle.mw_arguments.specs.Bags.{runs, heads}
@@ -28,7 +29,7 @@ use Rattle.mw_arguments.proofs.Runs.{heads_once}
 use Rattle.mw_arguments.proofs.Splits.{of_pieces}
 use Rattle.mw_matching.specs.Matches.{Theory, evaluated, evaluated_all, IsMatch, AreMatches}
 use Rattle.mw_matching.specs.Bagged.{Share, first_of, second_of, share_of, shares, IsShare, bag_matches, IsBagMatch}
-use Rattle.mw_matching.proofs.Matches.{AreGood, row_match, row_match_parts, evaluated_canonical, good_begun, within, all_within, evaluated_longer, no_more}
+use Rattle.mw_matching.proofs.Matches.{AreGood, row_match, row_match_parts, evaluated_canonical, good_begun, evaluated_longer, no_more}
 
 module _ (sig : Signature) (ok : IsAccepted sig) (f : ℕ) (h : is_assoc sig f ≡ true) (ac : is_comm sig f ≡ true) where
   abbrev e : Option Identity
@@ -163,7 +164,7 @@ module _ (sig : Signature) (ok : IsAccepted sig) (f : ℕ) (h : is_assoc sig f �
         let a : AreMatches sig T (cons q qs) (cons t (evaluated_all sig ws qs)) vs ws = record { begins = b.begins; size = b.size; gives = refl; fits = b.fits } in
         let (us, m, r) = row_match_parts sig ok T q qs t (evaluated_all sig ws qs) vs ws a in
         let gw : AreGood sig ok T ws = good_begun sig ok T vs ws g b.begins b.fits in
-        let w : AreWithin (length ws) (cons q qs) = all_within sig ok T (length vs) (length ws) (cons q qs) (let s = b.size in omega (arith, s)) in (
+        let w : AreWithin (length ws) (cons q qs) = all_within_counted (length vs) (length ws) (cons q qs) (let s = b.size in omega (arith, s)) in (
           (t, sorted_terms rest),
           record {
             canonical = evaluated_canonical sig ok T ws q gw w.0;
@@ -188,7 +189,7 @@ module _ (sig : Signature) (ok : IsAccepted sig) (f : ℕ) (h : is_assoc sig f �
       where
         same_share : (ws : List RawTerm) (c d : Share) → Then q qs vs c ws → Then q qs vs d ws → c ≡ d
         same_share ws c d (us, m, r) (us2, m2, r2) =
-            let i : c.0 ≡ d.0 = sym m.gives ∙ sym (evaluated_longer sig ok T us ws q r.begins (within sig ok T (length vs) (length us) q (let s = m.size in omega (arith, s))))
-            ∙ evaluated_longer sig ok T us2 ws q r2.begins (within sig ok T (length vs) (length us2) q (let s = m2.size in omega (arith, s))) ∙ m2.gives in
+            let i : c.0 ≡ d.0 = sym m.gives ∙ sym (evaluated_longer sig ok T us ws q r.begins (within_counted (length vs) (length us) q (let s = m.size in omega (arith, s))))
+            ∙ evaluated_longer sig ok T us2 ws q r2.begins (within_counted (length vs) (length us2) q (let s = m2.size in omega (arith, s))) ∙ m2.gives in
             let j : c.1 ≡ d.1 = sym r.gives ∙ r2.gives in
             ap (λ v. (v, c.1)) i ∙ ap (λ zs. (d.0, zs)) j

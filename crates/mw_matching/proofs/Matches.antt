@@ -1,6 +1,6 @@
 -- The lists of values by splits are all matches, each once.
-use Rattle.std.specs.Prelude.{◌≡◌, ◌⊎◌, ◌<◌, ◌≤◌, ℕ, zero, suc, List, [], ◌∷◌, ◌++◌, length, take, drop, Bool, true, false, cond, Some, None, slice_get, unwrap_or, refl}
-use Rattle.std.proofs.Common.{inl, inr, ap, sym, subst, ◌∙◌, arith, length-append, take-append-drop}
+use Rattle.std.specs.Prelude.{◌≡◌, ◌⊎◌, ◌<◌, ◌≤◌, ℕ, zero, suc, List, [], ◌∷◌, ◌++◌, length, take, Bool, true, false, cond, Some, None, slice_get, unwrap_or, refl}
+use Rattle.std.proofs.Common.{inl, inr, ap, sym, subst, ◌∙◌, arith, length-append}
 use Rattle.std.proofs.lemmas.Bool.{both_ways, cases_lt}
 use Rattle.std.proofs.lemmas.List.{length-take-le}
 use Rattle.std.proofs.lemmas.Option.{slice_get_past, none-some, same_Some}
@@ -13,7 +13,8 @@ use Rattle.mw_logic.proofs.SortedLists.{same_term}
 use Rattle.mw_logic.proofs.Canonical.{IsCanonical, AreCanonical, applied_canonical}
 use Rattle.mw_split.specs.Lists.{AllOnce}
 use Rattle.mw_machine.specs.Positions.{counted, counted_all, Begins, IsNumbered, AreNumbered, IsWithin, AreWithin}
-use Rattle.mw_machine.proofs.Begins.{begins_same, begins_then, begins_at, begins_put, begins_last, begins_append, begins_whole, begins_unique}
+use Rattle.mw_machine.proofs.Begins.{begins_same, begins_then, begins_at, begins_put, begins_last, begins_append, begins_whole, begins_unique, begins_take, take_begins}
+use Rattle.mw_machine.proofs.Counting.{counted_grows, all_counted_grows, within_counted, all_within_counted}
 use Rattle.mw_arguments.specs.Arguments.{Gives}
 use Rattle.mw_arguments.specs.Bags.{same}
 use Rattle.mw_arguments.proofs.Once.{once_flat_mapped, once_same, once_one, once_none}
@@ -103,28 +104,6 @@ module _ (sig : Signature) (ok : IsAccepted sig) (T : Theory) where
                   let f : T.has (length vs) u ≡ true = (m.fits (length vs) u (omega arith) e).1 in
                   both_ways _ q (ap (T.has x.sort) (sym w) ∙ ap (λ n. T.has n u) i ∙ f)
 
-  mutual
-    counted_grows : (n : ℕ) (p : RawTerm) → n ≤ counted n p
-    counted_grows n (numeral m) = omega arith
-    counted_grows n (quoted q) = omega arith
-    counted_grows n (variable x) = omega arith
-    counted_grows n (apply f ts) = counted_all_grows n ts
-
-    counted_all_grows : (n : ℕ) (ps : RawTerms) → n ≤ counted_all n ps
-    counted_all_grows n nil = omega arith
-    counted_all_grows n (cons p ps) = let a = counted_grows n p in let b = counted_all_grows (counted n p) ps in omega (arith, a, b)
-
-  mutual
-    pub within : (n m : ℕ) (p : RawTerm) → counted n p ≤ m → IsWithin m p
-    within n m (numeral k) h = tt
-    within n m (quoted q) h = tt
-    within n m (variable x) h = omega (arith, h)
-    within n m (apply f ts) h = all_within n m ts h
-
-    pub all_within : (n m : ℕ) (ps : RawTerms) → counted_all n ps ≤ m → AreWithin m ps
-    all_within n m nil h = tt
-    all_within n m (cons p ps) h = (within n m p (let b = counted_all_grows (counted n p) ps in omega (arith, b, h)), all_within (counted n p) m ps h)
-
   -- longer lists of values give the same
   mutual
     pub evaluated_longer : (rs us : List RawTerm) (p : RawTerm) → Begins rs us → IsWithin (length rs) p → evaluated sig us p ≡ evaluated sig rs p
@@ -160,21 +139,12 @@ module _ (sig : Signature) (ok : IsAccepted sig) (T : Theory) where
       by_place (inl l) = let (v, d) = get_there vs i l in let w : v ≡ u = same_Some v u (sym (begins_at vs us i v b d) ∙ e) in g i u z (d ∙ ap Some w)
       by_place (inr l) = f i u l e
 
-  begins_take : (n : ℕ) (us : List RawTerm) → Begins (take n us) us
-  begins_take n us = subst (Begins (take n us)) (take-append-drop n us) (begins_append (take n us) (drop n us))
-
-  take_begins : (n : ℕ) (vs us : List RawTerm) → Begins vs us → length vs ≤ n → Begins vs (take n us)
-  take_begins n [] us h l = tt
-  take_begins n (v ∷ vs) [] h l = absurd h
-  take_begins zero (v ∷ vs) (u ∷ us) h l = absurd (omega (arith, l))
-  take_begins (suc n) (v ∷ vs) (u ∷ us) h l = (h.0, take_begins n vs us h.1 (omega (arith, l)))
-
   -- the first argument's matches and then the others'
   pub row_match : (q : RawTerm) (qs : RawTerms) (t : RawTerm) (ts : RawTerms) (vs ws : List RawTerm) → (us : List RawTerm) × IsMatch sig T q t vs us × AreMatches sig T qs ts us ws → AreMatches sig T (cons q qs) (cons t ts) vs ws
   row_match q qs t ts vs ws (us, m, a) = record {
     begins = begins_then vs us ws m.begins a.begins;
     size = a.size ∙ ap (λ n. counted_all n qs) m.size;
-    gives = rw (evaluated_longer us ws q a.begins (within (length vs) (length us) q (let s = m.size in omega (arith, s))), m.gives, a.gives) refl;
+    gives = rw (evaluated_longer us ws q a.begins (within_counted (length vs) (length us) q (let s = m.size in omega (arith, s))), m.gives, a.gives) refl;
     fits = λ i u l e. by_place i u l e (cases_lt i (length us));
   }
     where
@@ -187,11 +157,11 @@ module _ (sig : Signature) (ok : IsAccepted sig) (T : Theory) where
       let n : ℕ = counted (length vs) q in
       let us : List RawTerm = take n ws in
       let up = counted_grows (length vs) q in
-      let more = counted_all_grows n qs in
+      let more = all_counted_grows n qs in
       let s = a.size in
       let size : length us ≡ n = length-take-le n ws (omega (arith, more, s)) in
       let b : Begins us ws = begins_take n ws in
-      let g : evaluated sig ws q ≡ evaluated sig us q = evaluated_longer us ws q b (within (length vs) (length us) q (omega (arith, size))) in
+      let g : evaluated sig ws q ≡ evaluated sig us q = evaluated_longer us ws q b (within_counted (length vs) (length us) q (omega (arith, size))) in
       let (e, d) = parts a.gives in (
         us,
         record {
@@ -224,11 +194,11 @@ module _ (sig : Signature) (ok : IsAccepted sig) (T : Theory) where
             evaluated_all sig us qs,
             (
               record {
-                canonical = all_evaluated_canonical us qs (good_begun vs us g m.begins m.fits) (all_within (length vs) (length us) qs (let s = m.size in omega (arith, s)));
+                canonical = all_evaluated_canonical us qs (good_begun vs us g m.begins m.fits) (all_within_counted (length vs) (length us) qs (let s = m.size in omega (arith, s)));
                 size = number_evaluated us qs;
                 gives = m.gives;
               },
-              exact.shown f qs us (good_begun vs us g m.begins m.fits) (all_within (length vs) (length us) qs (let s = m.size in omega (arith, s))),
+              exact.shown f qs us (good_begun vs us g m.begins m.fits) (all_within_counted (length vs) (length us) qs (let s = m.size in omega (arith, s))),
             ),
             record { begins = m.begins; size = m.size; gives = refl; fits = m.fits },
           ))
