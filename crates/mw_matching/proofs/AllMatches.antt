@@ -8,7 +8,7 @@ use Rattle.mw_logic.specs.Accepted.{IsAccepted}
 use Rattle.mw_logic.specs.Parts.{is_assoc, number_of_terms}
 use Rattle.mw_logic.specs.NormalForm.{is_comm, identity_of, elements, arranged, applied_in}
 use Rattle.mw_logic.specs.TermOrder.{sorted_terms}
-use Rattle.mw_logic.proofs.Canonical.{IsElement, IsCanonical, AreCanonical, elements_are}
+use Rattle.mw_logic.proofs.Canonical.{IsCanonical, AreCanonical, elements_are}
 use Rattle.mw_logic.proofs.Climbing.{climbs}
 use Rattle.mw_split.specs.Lists.{AllOnce}
 use Rattle.mw_machine.specs.Positions.{IsNumbered, AreNumbered}
@@ -19,16 +19,15 @@ use Rattle.mw_arguments.specs.Splits.{splits_of}
 use Rattle.mw_arguments.proofs.Once.{once_flat_mapped, once_same, once_one, once_none, flat_map-same}
 use Rattle.mw_arguments.proofs.Arguments.{in_order, spelled, given}
 use Rattle.mw_arguments.proofs.Splits.{exact}
-use Rattle.mw_matching.specs.Matches.{evaluated_all, IsMatch, AreMatches, HasArities, AllHaveArities}
-use Rattle.mw_matching.specs.Patterns.{is_rigid}
+use Rattle.mw_matching.specs.Matches.{evaluated_all, Fits, IsMatch, AreMatches, HasArities, AllHaveArities}
+use Rattle.mw_matching.specs.Patterns.{is_rigid, theory, AreSingle}
 use Rattle.mw_matching.specs.Bagged.{shares, bag_matches, IsBagMatch}
-use Rattle.mw_matching.specs.AllMatches.{theory, all_matches, all_row_matches, all_bag_matches}
-use Rattle.mw_matching.proofs.Matches.{AreGood, closed_once, at_variable_once, row_match, row_match_parts, all_evaluated_canonical, number_evaluated, good_begun, no_more}
+use Rattle.mw_matching.specs.AllMatches.{all_matches, all_row_matches, all_bag_matches}
+use Rattle.mw_matching.proofs.Matches.{closed_once, at_variable_once, row_match, row_match_parts, all_evaluated_canonical, number_evaluated, fits_longer, no_more}
 use Rattle.mw_matching.proofs.Patterns.{rigid_element}
 use Rattle.mw_matching.proofs.Bagged.{AreElements, Known, bag_matches_once}
 
-module _ (sig : Signature) (ok : IsAccepted sig) (has : ℕ → RawTerm → Bool) (single : ℕ → ℕ → Bool)
-    (singles : (f i : ℕ) (u : RawTerm) → single f i ≡ true → IsCanonical sig u → has i u ≡ true → IsElement (identity_of sig f) f u) where
+module _ (sig : Signature) (ok : IsAccepted sig) (has : ℕ → RawTerm → Bool) (single : ℕ → ℕ → Bool) (singles : AreSingle sig has single) where
   -- the two ways to write the recursion
   same_bag : (f : ℕ) (qs zs : RawTerms) (vs : List RawTerm) → bag_matches (identity_of sig f) f (is_rigid sig single f) (all_matches sig has single) qs zs vs ≡ all_bag_matches sig has single f qs zs vs
   same_bag f nil nil vs = refl
@@ -36,12 +35,12 @@ module _ (sig : Signature) (ok : IsAccepted sig) (has : ℕ → RawTerm → Bool
   same_bag f (cons q qs) zs vs =
       flat_map-same _ _ (shares (identity_of sig f) f (is_rigid sig single f q) zs) (λ c. flat_map-same _ _ (all_matches sig has single q c.0 vs) (λ us. same_bag f qs c.1 us))
 
-  sized : (f : ℕ) (qs : RawTerms) (t : RawTerm) (vs us : List RawTerm) → IsMatch sig (theory sig has single) (apply f qs) t vs us → AreGood sig ok (theory sig has single) vs → AreCanonical sig (evaluated_all sig us qs)
+  sized : (f : ℕ) (qs : RawTerms) (t : RawTerm) (vs us : List RawTerm) → IsMatch sig (theory sig has single) (apply f qs) t vs us → Fits sig (theory sig has single) 0 vs → AreCanonical sig (evaluated_all sig us qs)
   sized f qs t vs us m g =
-      all_evaluated_canonical sig ok (theory sig has single) us qs (good_begun sig ok (theory sig has single) vs us g m.begins m.fits) (all_within_counted (length vs) (length us) qs (let s = m.size in omega (arith, s)))
+      all_evaluated_canonical sig ok (theory sig has single) us qs (fits_longer sig ok (theory sig has single) vs us g m.begins m.fits) (all_within_counted (length vs) (length us) qs (let s = m.size in omega (arith, s)))
 
   mutual
-    pub all_matches_once : (p t : RawTerm) (vs : List RawTerm) → HasArities sig p → IsNumbered (length vs) p → AreGood sig ok (theory sig has single) vs → IsCanonical sig t → AllOnce (IsMatch sig (theory sig has single) p t vs) (all_matches sig has single p t vs)
+    pub all_matches_once : (p t : RawTerm) (vs : List RawTerm) → HasArities sig p → IsNumbered (length vs) p → Fits sig (theory sig has single) 0 vs → IsCanonical sig t → AllOnce (IsMatch sig (theory sig has single) p t vs) (all_matches sig has single p t vs)
     all_matches_once (numeral n) t vs a h g k = closed_once sig ok (theory sig has single) (numeral n) t (numeral n) vs refl (λ us b. refl)
     all_matches_once (quoted q) t vs a h g k = closed_once sig ok (theory sig has single) (quoted q) t (quoted q) vs refl (λ us b. refl)
     all_matches_once (variable x) t vs a h g k = at_variable_once sig ok (theory sig has single) x t vs k h
@@ -71,7 +70,7 @@ module _ (sig : Signature) (ok : IsAccepted sig) (has : ℕ → RawTerm → Bool
             there : (us : List RawTerm) → IsBagMatch sig (theory sig has single) f qs (elements (identity_of sig f) f t) vs us → IsMatch sig (theory sig has single) (apply f qs) t vs us
             there us b =
                 let c : AreCanonical sig (evaluated_all sig us qs) =
-                all_evaluated_canonical sig ok (theory sig has single) us qs (good_begun sig ok (theory sig has single) vs us g b.begins b.fits) (all_within_counted (length vs) (length us) qs (let s = b.size in omega (arith, s))) in
+                all_evaluated_canonical sig ok (theory sig has single) us qs (fits_longer sig ok (theory sig has single) vs us g b.begins b.fits) (all_within_counted (length vs) (length us) qs (let s = b.size in omega (arith, s))) in
                 let q : Gives sig f (number_of_terms qs) t (evaluated_all sig us qs) =
                 given sig ok f x (number_of_terms qs) (a.0.some x) t k (evaluated_all sig us qs) (record { canonical = c; size = number_evaluated sig ok (theory sig has single) us qs; whole = rw y b.gives }) in
                 record { begins = b.begins; size = b.size; gives = q.gives; fits = b.fits }
@@ -94,7 +93,7 @@ module _ (sig : Signature) (ok : IsAccepted sig) (has : ℕ → RawTerm → Bool
     all_known f nil a x y = tt
     all_known f (cons q qs) a x y = ((λ t vs n g k. all_matches_once q t vs a.0 n g k), all_known f qs a.1 x y)
 
-    all_row_matches_once : (ps ts : RawTerms) (vs : List RawTerm) → AllHaveArities sig ps → AreNumbered (length vs) ps → AreGood sig ok (theory sig has single) vs → AreCanonical sig ts
+    all_row_matches_once : (ps ts : RawTerms) (vs : List RawTerm) → AllHaveArities sig ps → AreNumbered (length vs) ps → Fits sig (theory sig has single) 0 vs → AreCanonical sig ts
         → AllOnce (AreMatches sig (theory sig has single) ps ts vs) (all_row_matches sig has single ps ts vs)
     all_row_matches_once nil nil vs a h g k = once_one (AreMatches sig (theory sig has single) nil nil vs) vs (record { begins = begins_same vs; size = refl; gives = refl; fits = no_more sig ok (theory sig has single) vs }) (λ us m. sym (begins_whole vs us m.begins m.size))
     all_row_matches_once nil (cons t ts) vs a h g k = once_none (AreMatches sig (theory sig has single) nil (cons t ts) vs) (λ us m. (let e = m.gives in cc))
@@ -103,5 +102,5 @@ module _ (sig : Signature) (ok : IsAccepted sig) (has : ℕ → RawTerm → Bool
         once_same (λ ws. (us : List RawTerm) × IsMatch sig (theory sig has single) q t vs us × AreMatches sig (theory sig has single) qs ts us ws) (AreMatches sig (theory sig has single) (cons q qs) (cons t ts) vs) (all_row_matches sig has single (cons q qs) (cons t ts) vs)
         (row_match sig ok (theory sig has single) q qs t ts vs) (row_match_parts sig ok (theory sig has single) q qs t ts vs)
         (once_flat_mapped (IsMatch sig (theory sig has single) q t vs) (λ us ws. AreMatches sig (theory sig has single) qs ts us ws) (λ us. all_row_matches sig has single qs ts us) (all_matches sig has single q t vs) (all_matches_once q t vs a.0 h.0 g k.0)
-        (λ us m. all_row_matches_once qs ts us a.1 (subst (λ n. AreNumbered n qs) (sym m.size) h.1) (good_begun sig ok (theory sig has single) vs us g m.begins m.fits) k.1)
+        (λ us m. all_row_matches_once qs ts us a.1 (subst (λ n. AreNumbered n qs) (sym m.size) h.1) (fits_longer sig ok (theory sig has single) vs us g m.begins m.fits) k.1)
         (λ ws x y m n b d. begins_unique x y ws (m.size ∙ sym n.size) b.begins d.begins))

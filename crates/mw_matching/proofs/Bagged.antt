@@ -27,9 +27,9 @@ use Rattle.mw_arguments.proofs.Arguments.{backed, from_backed, in_order, rebuilt
 use Rattle.mw_arguments.proofs.Standing.{each_among, put_back, climbs_taken}
 use Rattle.mw_arguments.proofs.Runs.{heads_once}
 use Rattle.mw_arguments.proofs.Splits.{of_pieces}
-use Rattle.mw_matching.specs.Matches.{Theory, evaluated, evaluated_all, IsMatch, AreMatches}
+use Rattle.mw_matching.specs.Matches.{Theory, evaluated, evaluated_all, Fits, IsMatch, AreMatches}
 use Rattle.mw_matching.specs.Bagged.{Share, first_of, second_of, share_of, shares, IsShare, bag_matches, IsBagMatch}
-use Rattle.mw_matching.proofs.Matches.{AreGood, row_match, row_match_parts, evaluated_canonical, good_begun, evaluated_longer, no_more}
+use Rattle.mw_matching.proofs.Matches.{row_match, row_match_parts, evaluated_canonical, fits_longer, evaluated_longer, no_more}
 
 module _ (sig : Signature) (ok : IsAccepted sig) (f : ℕ) (h : is_assoc sig f ≡ true) (ac : is_comm sig f ≡ true) where
   abbrev e : Option Identity
@@ -129,11 +129,11 @@ module _ (sig : Signature) (ok : IsAccepted sig) (f : ℕ) (h : is_assoc sig f �
   shares_once false zs z = any_shares_once zs z
 
   module _ (T : Theory) (rigid : RawTerm → Bool) (M : RawTerm → RawTerm → List RawTerm → List (List RawTerm))
-      (single : (q : RawTerm) (us : List RawTerm) → rigid q ≡ true → AreGood sig ok T us → AreWithin (length us) (cons q nil) → IsElement e f (evaluated sig us q)) where
+      (single : (q : RawTerm) (us : List RawTerm) → rigid q ≡ true → Fits sig T 0 us → AreWithin (length us) (cons q nil) → IsElement e f (evaluated sig us q)) where
     -- each pattern's matches are known
     abbrev pub Known : RawTerms → Type 0
     Known nil = Unit {0}
-    Known (cons q qs) = ((t : RawTerm) (vs : List RawTerm) → IsNumbered (length vs) q → AreGood sig ok T vs → IsCanonical sig t → AllOnce (IsMatch sig T q t vs) (M q t vs)) × Known qs
+    Known (cons q qs) = ((t : RawTerm) (vs : List RawTerm) → IsNumbered (length vs) q → Fits sig T 0 vs → IsCanonical sig t → AllOnce (IsMatch sig T q t vs) (M q t vs)) × Known qs
 
     abbrev Then : RawTerm → RawTerms → List RawTerm → Share → List RawTerm → Type 0
     Then q qs vs c ws = (us : List RawTerm) × IsMatch sig T q c.0 vs us × IsBagMatch sig T f qs c.1 us ws
@@ -157,13 +157,13 @@ module _ (sig : Signature) (ok : IsAccepted sig) (f : ℕ) (h : is_assoc sig f �
         head_of : {x y : RawTerm} {xs ys : RawTerms} → cons x xs ≡ cons y ys → x ≡ y
         head_of w = cc
 
-    apart : (q : RawTerm) (qs zs : RawTerms) (vs ws : List RawTerm) → AreGood sig ok T vs → IsBagMatch sig T f (cons q qs) zs vs ws → (c : Share) × IsShare sig f (rigid q) zs c × Then q qs vs c ws
+    apart : (q : RawTerm) (qs zs : RawTerms) (vs ws : List RawTerm) → Fits sig T 0 vs → IsBagMatch sig T f (cons q qs) zs vs ws → (c : Share) × IsShare sig f (rigid q) zs c × Then q qs vs c ws
     apart q qs zs vs ws g b =
         let t : RawTerm = evaluated sig ws q in
         let rest : RawTerms = flattened e f (evaluated_all sig ws qs) in
         let a : AreMatches sig T (cons q qs) (cons t (evaluated_all sig ws qs)) vs ws = record { begins = b.begins; size = b.size; gives = refl; fits = b.fits } in
         let (us, m, r) = row_match_parts sig ok T q qs t (evaluated_all sig ws qs) vs ws a in
-        let gw : AreGood sig ok T ws = good_begun sig ok T vs ws g b.begins b.fits in
+        let gw : Fits sig T 0 ws = fits_longer sig ok T vs ws g b.begins b.fits in
         let w : AreWithin (length ws) (cons q qs) = all_within_counted (length vs) (length ws) (cons q qs) (let s = b.size in omega (arith, s)) in (
           (t, sorted_terms rest),
           record {
@@ -175,7 +175,7 @@ module _ (sig : Signature) (ok : IsAccepted sig) (f : ℕ) (h : is_assoc sig f �
           (us, m, record { begins = r.begins; size = r.size; gives = refl; fits = r.fits }),
         )
 
-    pub bag_matches_once : (qs zs : RawTerms) (vs : List RawTerm) → Known qs → AreNumbered (length vs) qs → AreGood sig ok T vs → AreElements zs → AllOnce (IsBagMatch sig T f qs zs vs) (bag_matches e f rigid M qs zs vs)
+    pub bag_matches_once : (qs zs : RawTerms) (vs : List RawTerm) → Known qs → AreNumbered (length vs) qs → Fits sig T 0 vs → AreElements zs → AllOnce (IsBagMatch sig T f qs zs vs) (bag_matches e f rigid M qs zs vs)
     bag_matches_once nil nil vs k n g z = once_one (IsBagMatch sig T f nil nil vs) vs (record { begins = begins_same vs; size = refl; gives = refl; fits = no_more sig ok T vs }) (λ us m. sym (begins_whole vs us m.begins m.size))
     bag_matches_once nil (cons y zs) vs k n g z = once_none (IsBagMatch sig T f nil (cons y zs) vs) (λ us m. (let w = m.gives in cc))
     bag_matches_once (cons q qs) zs vs k n g z =
@@ -183,7 +183,7 @@ module _ (sig : Signature) (ok : IsAccepted sig) (f : ℕ) (h : is_assoc sig f �
         (together q qs zs vs) (λ ws b. apart q qs zs vs ws g b)
         (once_flat_mapped (IsShare sig f (rigid q) zs) (Then q qs vs) (λ c. flat_map (λ us. bag_matches e f rigid M qs c.1 us) (M q c.0 vs)) (shares e f (rigid q) zs) (shares_once (rigid q) zs z)
         (λ c s. once_flat_mapped (IsMatch sig T q c.0 vs) (λ us ws. IsBagMatch sig T f qs c.1 us ws) (λ us. bag_matches e f rigid M qs c.1 us) (M q c.0 vs) (k.0 c.0 vs n.0 g s.canonical)
-        (λ us m. bag_matches_once qs c.1 us k.1 (subst (λ i. AreNumbered i qs) (sym m.size) n.1) (good_begun sig ok T vs us g m.begins m.fits) (left_elements zs (rigid q) c z s))
+        (λ us m. bag_matches_once qs c.1 us k.1 (subst (λ i. AreNumbered i qs) (sym m.size) n.1) (fits_longer sig ok T vs us g m.begins m.fits) (left_elements zs (rigid q) c z s))
         (λ ws x y m p a b. begins_unique x y ws (m.size ∙ sym p.size) a.begins b.begins))
         (λ ws c d s u x y. same_share ws c d x y))
       where

@@ -1,9 +1,10 @@
--- By any splits.
+-- All matches by any splits that are all, each once.
 pub mod Matches
--- By splits that take rigid arguments first; and what a match means.
+-- What the instance by canonical values means.
+pub mod Evaluated
+-- By splits that take rigid arguments first.
 pub mod Rigid
 pub mod Patterns
-pub mod Evaluated
 -- One argument at a time.
 pub mod Bagged
 pub mod AllMatches

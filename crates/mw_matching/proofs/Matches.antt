@@ -38,10 +38,7 @@ begins_one : (vs us : List RawTerm) (t : RawTerm) → Begins vs us → length us
 begins_one vs us t h l e = sym (begins_whole (vs ++ t ∷ []) us (begins_put vs us t h e) (l ∙ sym (length_push vs t)))
 
 module _ (sig : Signature) (ok : IsAccepted sig) (T : Theory) where
-  -- all values are canonical and may stand at their positions
-  abbrev pub AreGood : List RawTerm → Type 0
-  AreGood us = Fits sig T 0 us
-
+  -- behind the values there is none
   pub no_more : (vs : List RawTerm) → Fits sig T (length vs) vs
   no_more vs i u h e = let n : slice_get vs i ≡ None = slice_get_past vs i h in absurd (none-some u (sym n ∙ e))
 
@@ -55,6 +52,7 @@ module _ (sig : Signature) (ok : IsAccepted sig) (T : Theory) where
           (λ us m. sym (begins_whole vs us m.begins (m.size ∙ n)))
       by_test false h = once_none (IsMatch sig T p t vs) (λ us m. both_ways _ h (same-equal u t (sym (e us m.begins) ∙ m.gives)))
 
+  -- a variable, with its value or without one
   pub at_variable_once : (x : Variable) (t : RawTerm) (vs : List RawTerm) → IsCanonical sig t → x.sort ≤ length vs → AllOnce (IsMatch sig T (variable x) t vs) (at_position T x.sort t vs (slice_get vs x.sort))
   at_variable_once x t vs k h = by_case (cases_lt x.sort (length vs))
     where
@@ -116,14 +114,15 @@ module _ (sig : Signature) (ok : IsAccepted sig) (T : Theory) where
     all_evaluated_longer rs us nil b w = refl
     all_evaluated_longer rs us (cons p ps) b w = rw (evaluated_longer rs us p b w.0, all_evaluated_longer rs us ps b w.1) refl
 
+  -- the instance by canonical values is canonical
   mutual
-    pub evaluated_canonical : (us : List RawTerm) (p : RawTerm) → AreGood us → IsWithin (length us) p → IsCanonical sig (evaluated sig us p)
+    pub evaluated_canonical : (us : List RawTerm) (p : RawTerm) → Fits sig T 0 us → IsWithin (length us) p → IsCanonical sig (evaluated sig us p)
     evaluated_canonical us (numeral k) g w = tt
     evaluated_canonical us (quoted q) g w = tt
     evaluated_canonical us (variable x) g w = let (u, e) = get_there us x.sort w in subst (IsCanonical sig) (ap (λ o. unwrap_or o (variable x)) (sym e)) (g x.sort u (omega arith) e).0
     evaluated_canonical us (apply f ts) g w = applied_canonical sig ok f (evaluated_all sig us ts) (all_evaluated_canonical us ts g w)
 
-    pub all_evaluated_canonical : (us : List RawTerm) (ps : RawTerms) → AreGood us → AreWithin (length us) ps → AreCanonical sig (evaluated_all sig us ps)
+    pub all_evaluated_canonical : (us : List RawTerm) (ps : RawTerms) → Fits sig T 0 us → AreWithin (length us) ps → AreCanonical sig (evaluated_all sig us ps)
     all_evaluated_canonical us nil g w = tt
     all_evaluated_canonical us (cons p ps) g w = (evaluated_canonical us p g w.0, all_evaluated_canonical us ps g w.1)
 
@@ -132,8 +131,8 @@ module _ (sig : Signature) (ok : IsAccepted sig) (T : Theory) where
   number_evaluated us (cons p ps) = ap suc (number_evaluated us ps)
 
   -- values that begin a longer list
-  pub good_begun : (vs us : List RawTerm) → AreGood vs → Begins vs us → Fits sig T (length vs) us → AreGood us
-  good_begun vs us g b f i u z e = by_place (cases_lt i (length vs))
+  pub fits_longer : (vs us : List RawTerm) → Fits sig T 0 vs → Begins vs us → Fits sig T (length vs) us → Fits sig T 0 us
+  fits_longer vs us g b f i u z e = by_place (cases_lt i (length vs))
     where
       by_place : (i < length vs) ⊎ (length vs ≤ i) → IsCanonical sig u × (T.has i u ≡ true)
       by_place (inl l) = let (v, d) = get_there vs i l in let w : v ≡ u = same_Some v u (sym (begins_at vs us i v b d) ∙ e) in g i u z (d ∙ ap Some w)
@@ -181,9 +180,10 @@ module _ (sig : Signature) (ok : IsAccepted sig) (T : Theory) where
       parts : {x y : RawTerm} {xs ys : RawTerms} → cons x xs ≡ cons y ys → (x ≡ y) × (xs ≡ ys)
       parts e = (cc, cc)
 
+  -- the law, for any splits that are all
   module _ (Shown : ℕ → RawTerms → RawTerms → Type 0) (exact : IsTheory sig T Shown) where
     mutual
-      pub matches_once : (p t : RawTerm) (vs : List RawTerm) → HasArities sig p → IsNumbered (length vs) p → AreGood vs → IsCanonical sig t → AllOnce (IsMatch sig T p t vs) (matches T p t vs)
+      pub matches_once : (p t : RawTerm) (vs : List RawTerm) → HasArities sig p → IsNumbered (length vs) p → Fits sig T 0 vs → IsCanonical sig t → AllOnce (IsMatch sig T p t vs) (matches T p t vs)
       matches_once (numeral n) t vs r0 h g k = closed_once (numeral n) t (numeral n) vs refl (λ us b. refl)
       matches_once (quoted q) t vs r0 h g k = closed_once (quoted q) t (quoted q) vs refl (λ us b. refl)
       matches_once (variable x) t vs r0 h g k = at_variable_once x t vs k h
@@ -194,11 +194,11 @@ module _ (sig : Signature) (ok : IsAccepted sig) (T : Theory) where
             evaluated_all sig us qs,
             (
               record {
-                canonical = all_evaluated_canonical us qs (good_begun vs us g m.begins m.fits) (all_within_counted (length vs) (length us) qs (let s = m.size in omega (arith, s)));
+                canonical = all_evaluated_canonical us qs (fits_longer vs us g m.begins m.fits) (all_within_counted (length vs) (length us) qs (let s = m.size in omega (arith, s)));
                 size = number_evaluated us qs;
                 gives = m.gives;
               },
-              exact.shown f qs us (good_begun vs us g m.begins m.fits) (all_within_counted (length vs) (length us) qs (let s = m.size in omega (arith, s))),
+              exact.shown f qs us (fits_longer vs us g m.begins m.fits) (all_within_counted (length vs) (length us) qs (let s = m.size in omega (arith, s))),
             ),
             record { begins = m.begins; size = m.size; gives = refl; fits = m.fits },
           ))
@@ -206,7 +206,7 @@ module _ (sig : Signature) (ok : IsAccepted sig) (T : Theory) where
           (λ ts r. row_matches_once qs ts vs r0.1 h g r.0.canonical)
           (λ us xs ys r q a b. sym a.gives ∙ b.gives))
 
-      row_matches_once : (ps ts : RawTerms) (vs : List RawTerm) → AllHaveArities sig ps → AreNumbered (length vs) ps → AreGood vs → AreCanonical sig ts → AllOnce (AreMatches sig T ps ts vs) (row_matches T ps ts vs)
+      row_matches_once : (ps ts : RawTerms) (vs : List RawTerm) → AllHaveArities sig ps → AreNumbered (length vs) ps → Fits sig T 0 vs → AreCanonical sig ts → AllOnce (AreMatches sig T ps ts vs) (row_matches T ps ts vs)
       row_matches_once nil nil vs r0 h g k = once_one (AreMatches sig T nil nil vs) vs (record { begins = begins_same vs; size = refl; gives = refl; fits = no_more vs }) (λ us m. sym (begins_whole vs us m.begins m.size))
       row_matches_once nil (cons t ts) vs r0 h g k = once_none (AreMatches sig T nil (cons t ts) vs) (λ us m. (let e = m.gives in cc))
       row_matches_once (cons q qs) nil vs r0 h g k = once_none (AreMatches sig T (cons q qs) nil vs) (λ us m. (let e = m.gives in cc))
@@ -214,5 +214,5 @@ module _ (sig : Signature) (ok : IsAccepted sig) (T : Theory) where
           once_same (λ ws. (us : List RawTerm) × IsMatch sig T q t vs us × AreMatches sig T qs ts us ws) (AreMatches sig T (cons q qs) (cons t ts) vs) (row_matches T (cons q qs) (cons t ts) vs)
           (row_match q qs t ts vs) (row_match_parts q qs t ts vs)
           (once_flat_mapped (IsMatch sig T q t vs) (λ us ws. AreMatches sig T qs ts us ws) (λ us. row_matches T qs ts us) (matches T q t vs) (matches_once q t vs r0.0 h.0 g k.0)
-          (λ us m. row_matches_once qs ts us r0.1 (subst (λ n. AreNumbered n qs) (sym m.size) h.1) (good_begun vs us g m.begins m.fits) k.1)
+          (λ us m. row_matches_once qs ts us r0.1 (subst (λ n. AreNumbered n qs) (sym m.size) h.1) (fits_longer vs us g m.begins m.fits) k.1)
           (λ ws x y m n a b. begins_unique x y ws (m.size ∙ sym n.size) a.begins b.begins))

@@ -9,16 +9,16 @@ use Rattle.mw_logic.specs.Kinds.{is_successor}
 use Rattle.mw_logic.specs.Parts.{is_assoc, number_of_terms}
 use Rattle.mw_logic.specs.TermOrder.{insert_term, sorted_terms, stands_after}
 use Rattle.mw_logic.specs.NormalForm.{is_comm, identity_of, is_identity, elements, arranged, counted, applied_in}
-use Rattle.mw_logic.proofs.Canonical.{IsElement, IsCanonical, is_identity-arguments}
+use Rattle.mw_logic.proofs.Canonical.{IsElement, IsCanonical, is_identity-arguments, arranged-nil}
 use Rattle.mw_split.specs.Lists.{AllOnce}
-use Rattle.mw_machine.specs.Positions.{IsWithin, AreWithin}
+use Rattle.mw_machine.specs.Positions.{IsNumbered, IsWithin, AreWithin}
 use Rattle.mw_arguments.specs.Arguments.{Gives, HasArity}
 use Rattle.mw_arguments.proofs.Once.{once_same}
 use Rattle.mw_arguments.proofs.Splits.{exact}
-use Rattle.mw_matching.specs.Matches.{Theory, evaluated, evaluated_all, Fits, IsTheory}
+use Rattle.mw_matching.specs.Matches.{matches, evaluated, evaluated_all, Fits, IsMatch, HasArities, IsTheory}
 use Rattle.mw_matching.specs.Rigid.{FirstAreElements, rigid_splits}
-use Rattle.mw_matching.specs.Patterns.{is_rigid, leading, behind, splits_for, InCase, FrontsFit}
-use Rattle.mw_matching.proofs.Matches.{get_there}
+use Rattle.mw_matching.specs.Patterns.{is_rigid, leading, behind, splits_for, theory, AreSingle, InCase, FrontsFit}
+use Rattle.mw_matching.proofs.Matches.{get_there, matches_once}
 use Rattle.mw_matching.proofs.Rigid.{rigid_given_once}
 
 insert_some : (t : RawTerm) (us : RawTerms) → (u : RawTerm) × (vs : RawTerms) × (insert_term t us ≡ cons u vs)
@@ -46,11 +46,7 @@ quoted_element None f q = refl
 quoted_element (Some (constant_of c)) f q = refl
 quoted_element (Some (numeral_of n)) f q = refl
 
-module _ (sig : Signature) (ok : IsAccepted sig) (has : ℕ → RawTerm → Bool) (single : ℕ → ℕ → Bool)
-    (singles : (f i : ℕ) (u : RawTerm) → single f i ≡ true → IsCanonical sig u → has i u ≡ true → IsElement (identity_of sig f) f u) where
-  abbrev pub theory : Theory
-  theory = record { has = has; splits = splits_for sig single }
-
+module _ (sig : Signature) (ok : IsAccepted sig) (has : ℕ → RawTerm → Bool) (single : ℕ → ℕ → Bool) (singles : AreSingle sig has single) where
   -- under a free operator other than f stands one element
   free_element : (f g : ℕ) (ts : RawTerms) → nat_eq f g ≡ false → is_assoc sig g ≡ false → is_successor sig g ≡ false → (ts ≡ nil → is_identity (identity_of sig f) (apply g nil) ≡ false)
       → IsElement (identity_of sig f) f (applied_in sig g ts)
@@ -58,17 +54,13 @@ module _ (sig : Signature) (ok : IsAccepted sig) (has : ℕ → RawTerm → Bool
       let e : applied_in sig g ts ≡ apply g (arranged (is_comm sig g) ts) = rw (a, s) (counted_free g (arranged (is_comm sig g) ts)) in
       subst (IsElement (identity_of sig f) f) (sym e) (of ts i)
     where
-      nothing : (c : Bool) → arranged c nil ≡ nil
-      nothing true = refl
-      nothing false = refl
-
       of : (ts : RawTerms) → (ts ≡ nil → is_identity (identity_of sig f) (apply g nil) ≡ false) → IsElement (identity_of sig f) f (apply g (arranged (is_comm sig g) ts))
-      of nil i = subst (λ us. IsElement (identity_of sig f) f (apply g us)) (sym (nothing (is_comm sig g))) (rw (i refl) refl)
+      of nil i = subst (λ us. IsElement (identity_of sig f) f (apply g us)) (sym (arranged-nil (is_comm sig g))) (rw (i refl) refl)
       of (cons t ts) i =
           let (u, us, w) = arranged_some (is_comm sig g) t ts in
           subst (λ us. IsElement (identity_of sig f) f (apply g us)) (sym w) (rw (is_identity-arguments (identity_of sig f) g u us, n) refl)
 
-  pub rigid_element : (f : ℕ) (q : RawTerm) (us : List RawTerm) → is_rigid sig single f q ≡ true → Fits sig theory 0 us → IsWithin (length us) q → IsElement (identity_of sig f) f (evaluated sig us q)
+  pub rigid_element : (f : ℕ) (q : RawTerm) (us : List RawTerm) → is_rigid sig single f q ≡ true → Fits sig (theory sig has single) 0 us → IsWithin (length us) q → IsElement (identity_of sig f) f (evaluated sig us q)
   rigid_element f (numeral n) us h g w = rw (not-true (is_identity (identity_of sig f) (numeral n)) h) refl
   rigid_element f (quoted q) us h g w = quoted_element (identity_of sig f) f q
   rigid_element f (variable x) us h g w =
@@ -85,7 +77,7 @@ module _ (sig : Signature) (ok : IsAccepted sig) (has : ℕ → RawTerm → Bool
       not_named nil i e = i
       not_named (cons t ts) i e = cc
 
-  first_elements : (f : ℕ) (qs : RawTerms) (us : List RawTerm) → Fits sig theory 0 us → AreWithin (length us) qs → FirstAreElements (identity_of sig f) f (leading sig single f qs) (evaluated_all sig us qs)
+  first_elements : (f : ℕ) (qs : RawTerms) (us : List RawTerm) → Fits sig (theory sig has single) 0 us → AreWithin (length us) qs → FirstAreElements (identity_of sig f) f (leading sig single f qs) (evaluated_all sig us qs)
   first_elements f nil us g w = tt
   first_elements f (cons q qs) us g w = by_test (is_rigid sig single f q) refl (first_elements f qs us g w.1)
     where
@@ -103,7 +95,7 @@ module _ (sig : Signature) (ok : IsAccepted sig) (has : ℕ → RawTerm → Bool
       by_test false r = omega arith
 
   -- the splits that take rigid arguments first make a theory
-  pub rigid_theory : IsTheory sig theory (FrontsFit sig single)
+  pub rigid_theory : IsTheory sig (theory sig has single) (FrontsFit sig single)
   rigid_theory = record {
     exact = λ f qs t a k. by_axioms f qs t a k (is_assoc sig f) (is_comm sig f) refl refl;
     shown = λ f qs us g w. known (is_assoc sig f && is_comm sig f) (first_elements f qs us g w);
@@ -127,3 +119,8 @@ module _ (sig : Signature) (ok : IsAccepted sig) (has : ℕ → RawTerm → Bool
           rw (h, c) (subst (λ m. AllOnce (λ ts. Gives sig f m t ts × FirstAreElements (identity_of sig f) f (leading sig single f qs) ts) (rigid_splits (identity_of sig f) f (leading sig single f qs) (behind sig single f qs) (elements (identity_of sig f) f t))) n l)
       by_axioms f qs t a k false y h c = plain f qs t a k (is_assoc sig f && is_comm sig f) refl (rw h refl)
       by_axioms f qs t a k true false h c = plain f qs t a k (is_assoc sig f && is_comm sig f) refl (rw (h, c) refl)
+
+  -- all matches of a pattern by these splits, each once
+  pub matches_by_splits_once : (p t : RawTerm) (vs : List RawTerm) → HasArities sig p → IsNumbered (length vs) p → Fits sig (theory sig has single) 0 vs → IsCanonical sig t
+      → AllOnce (IsMatch sig (theory sig has single) p t vs) (matches (theory sig has single) p t vs)
+  matches_by_splits_once = matches_once sig ok (theory sig has single) (FrontsFit sig single) rigid_theory

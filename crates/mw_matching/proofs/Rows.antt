@@ -9,11 +9,11 @@ use Rattle.mw_split.specs.Cuts.{bag_cuts, list_cuts}
 use Rattle.mw_machine.specs.Positions.{position}
 use Rattle.mw_matching.specs.Matches.{Theory, matches}
 use Rattle.mw_matching.specs.Rigid.{rigid_splits}
-use Rattle.mw_matching.specs.Patterns.{splits_for}
+use Rattle.mw_matching.specs.Patterns.{theory}
 use Rattle.mw_matching.specs.AllMatches.{all_matches}
 
-abbrev theory : Theory
-theory = record { has = λ i t. true; splits = splits_for sig (λ f i. false) }
+abbrev any_term : Theory
+any_term = theory sig (λ i t. true) (λ f i. false)
 
 abbrev X : RawTerm
 X = variable (position 0)
@@ -21,15 +21,15 @@ X = variable (position 0)
 abbrev Y : RawTerm
 Y = variable (position 1)
 
-six : length (matches theory (apply 4 (cons X (cons Y nil))) (apply 4 (cons a (cons a (cons b nil)))) []) ≡ 6
+six : length (matches any_term (apply 4 (cons X (cons Y nil))) (apply 4 (cons a (cons a (cons b nil)))) []) ≡ 6
 unfolding stands_after is_successor bag_cuts list_cuts
 six = refl
 
-one : matches theory (apply 4 (cons X (cons X nil))) (apply 4 (cons a (cons a (cons b (cons b nil))))) [] ≡ ((apply 4 (cons a (cons b nil)) ∷ []) ∷ [])
+one : matches any_term (apply 4 (cons X (cons X nil))) (apply 4 (cons a (cons a (cons b (cons b nil))))) [] ≡ ((apply 4 (cons a (cons b nil)) ∷ []) ∷ [])
 unfolding stands_after is_successor bag_cuts list_cuts
 one = refl
 
-none : matches theory (apply 4 (cons X (cons X nil))) (apply 4 (cons a (cons b nil))) [] ≡ []
+none : matches any_term (apply 4 (cons X (cons X nil))) (apply 4 (cons a (cons b nil))) [] ≡ []
 unfolding stands_after is_successor bag_cuts list_cuts
 none = refl
 
@@ -39,7 +39,7 @@ unfolding stands_after is_successor bag_cuts list_cuts
 first = refl
 
 -- a constant is rigid: it takes one element, and X what is left
-rest : matches theory (apply 4 (cons a (cons X nil))) (apply 4 (cons a (cons a (cons b nil)))) [] ≡ ((apply 4 (cons a (cons b nil)) ∷ []) ∷ [])
+rest : matches any_term (apply 4 (cons a (cons X nil))) (apply 4 (cons a (cons a (cons b nil)))) [] ≡ ((apply 4 (cons a (cons b nil)) ∷ []) ∷ [])
 unfolding stands_after is_successor bag_cuts list_cuts
 rest = refl
 

@@ -6,20 +6,17 @@ use Rattle.mw_logic.specs.Parts.{is_assoc, number_of_terms}
 use Rattle.mw_logic.specs.NormalForm.{is_comm, identity_of, elements}
 use Rattle.mw_arguments.specs.Bags.{same}
 use Rattle.mw_arguments.specs.Splits.{splits_of}
-use Rattle.mw_matching.specs.Matches.{Theory, at_position}
-use Rattle.mw_matching.specs.Patterns.{is_rigid, splits_for}
+use Rattle.mw_matching.specs.Matches.{at_position}
+use Rattle.mw_matching.specs.Patterns.{is_rigid, theory}
 use Rattle.mw_matching.specs.Bagged.{shares}
 
 -- `has` tells which terms a position may have, `single` at which positions they are one element under an operator
 module _ (sig : Signature) (has : ℕ → RawTerm → Bool) (single : ℕ → ℕ → Bool) where
-  abbrev pub theory : Theory
-  theory = record { has = has; splits = splits_for sig single }
-
   abbrev mutual
     pub all_matches : RawTerm → RawTerm → List RawTerm → List (List RawTerm)
     all_matches (numeral n) t vs = cond (same (numeral n) t) (vs ∷ []) []
     all_matches (quoted q) t vs = cond (same (quoted q) t) (vs ∷ []) []
-    all_matches (variable x) t vs = at_position theory x.sort t vs (slice_get vs x.sort)
+    all_matches (variable x) t vs = at_position (theory sig has single) x.sort t vs (slice_get vs x.sort)
     all_matches (apply f qs) t vs =
         cond (is_assoc sig f && is_comm sig f) (all_bag_matches f qs (elements (identity_of sig f) f t) vs) (flat_map (λ ts. all_row_matches qs ts vs) (splits_of sig f (number_of_terms qs) t))
 

@@ -1,11 +1,13 @@
 -- Which arguments of a pattern become one element, whatever their values are; and the splits that take these first.
-use Rattle.std.specs.Prelude.{ℕ, suc, List, Bool, true, false, not, ◌&&◌, cond, nat_eq, ⊤}
+use Rattle.std.specs.Prelude.{◌≡◌, ℕ, suc, List, Bool, true, false, not, ◌&&◌, cond, nat_eq, ⊤}
 use Rattle.mw_logic.specs.Term.{RawTerm, numeral, quoted, variable, apply, RawTerms, nil, cons}
 use Rattle.mw_logic.specs.Signature.{Signature}
 use Rattle.mw_logic.specs.Kinds.{is_successor}
 use Rattle.mw_logic.specs.Parts.{is_assoc, number_of_terms}
 use Rattle.mw_logic.specs.NormalForm.{is_comm, identity_of, is_identity, elements}
+use Rattle.mw_logic.proofs.Canonical.{IsElement, IsCanonical}
 use Rattle.mw_arguments.specs.Splits.{splits_of}
+use Rattle.mw_matching.specs.Matches.{Theory}
 use Rattle.mw_matching.specs.Rigid.{FirstAreElements, rigid_splits}
 
 -- `single f i` says that what may stand at position i is one element under f, by its sort
@@ -31,11 +33,19 @@ splits_for sig single f qs t =
     (rigid_splits (identity_of sig f) f (leading sig single f qs) (behind sig single f qs) (elements (identity_of sig f) f t))
     (splits_of sig f (number_of_terms qs) t)
 
+-- which terms a position may have, and these splits
+abbrev pub theory : Signature → (ℕ → RawTerm → Bool) → (ℕ → ℕ → Bool) → Theory
+theory sig has single = record { has = has; splits = splits_for sig single }
+
+-- what may stand at a position that is single is one element
+abbrev pub AreSingle : Signature → (ℕ → RawTerm → Bool) → (ℕ → ℕ → Bool) → Type 0
+AreSingle sig has single = (f i : ℕ) (u : RawTerm) → single f i ≡ true → IsCanonical sig u → has i u ≡ true → IsElement (identity_of sig f) f u
+
 -- what holds in a case only
 abbrev pub InCase : Bool → Type 0 → Type 0
 InCase true P = P
 InCase false P = ⊤
 
--- what such patterns show of the arguments that they become
+-- what patterns show of the arguments that they become: the rigid ones at the front are elements
 abbrev pub FrontsFit : Signature → (ℕ → ℕ → Bool) → ℕ → RawTerms → RawTerms → Type 0
 FrontsFit sig single f qs ts = InCase (is_assoc sig f && is_comm sig f) (FirstAreElements (identity_of sig f) f (leading sig single f qs) ts)
