@@ -1,5 +1,5 @@
 -- Lists of terms, as a list has them and as an operator has them.
-use Rattle.std.specs.Prelude.{List, [], ◌∷◌}
+use Rattle.std.specs.Prelude.{ℕ, zero, suc, List, [], ◌∷◌}
 use Rattle.mw_logic.specs.Term.{RawTerm, RawTerms, nil, cons}
 
 abbrev pub terms_of : List RawTerm → RawTerms
@@ -9,3 +9,14 @@ terms_of (t ∷ ts) = cons t (terms_of ts)
 abbrev pub list_of : RawTerms → List RawTerm
 list_of nil = []
 list_of (cons t ts) = t ∷ list_of ts
+
+-- the first n terms, and those behind them
+abbrev pub front : ℕ → RawTerms → RawTerms
+front zero ts = nil
+front (suc n) nil = nil
+front (suc n) (cons t ts) = cons t (front n ts)
+
+abbrev pub skip : ℕ → RawTerms → RawTerms
+skip zero ts = ts
+skip (suc n) nil = nil
+skip (suc n) (cons t ts) = skip n ts

@@ -2,8 +2,8 @@
 use Rattle.std.specs.Prelude.{◌≡◌, ◌<◌, ℕ, zero, suc, List, [], ◌∷◌, ◌++◌, length, None, slice_get, refl}
 use Rattle.std.proofs.Common.{ap, arith}
 use Rattle.mw_logic.specs.Term.{RawTerm, numeral, quoted, variable, apply, RawTerms, nil, cons, join}
-use Rattle.mw_machine.specs.Positions.{skip, fill, fill_all, IsWithin, AreWithin}
-use Rattle.mw_logic.specs.Terms.{terms_of}
+use Rattle.mw_machine.specs.Positions.{fill, fill_all, IsWithin, AreWithin}
+use Rattle.mw_logic.specs.Terms.{terms_of, skip}
 
 pub terms_of-append : (ts us : List RawTerm) → terms_of (ts ++ us) ≡ join (terms_of ts) (terms_of us)
 terms_of-append [] us = refl

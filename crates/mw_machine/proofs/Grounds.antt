@@ -10,7 +10,7 @@ use Rattle.mw_logic.proofs.Canonical.{Each}
 use Rattle.mw_machine.specs.Positions.{fill, fill_all, Begins, IsNumbered, AreNumbered, counted, counted_all}
 use Rattle.mw_machine.specs.Simple.{IsGround, AreGround}
 use Rattle.mw_machine.specs.Variables.{bound_values}
-use Rattle.mw_machine.proofs.Starting.{begins_get}
+use Rattle.mw_machine.proofs.Begins.{begins_get}
 use Rattle.mw_machine.proofs.Values.{values_have, values_each}
 
 module _ (sig : Signature) where

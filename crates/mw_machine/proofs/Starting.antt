@@ -1,5 +1,5 @@
 -- Solutions that extend a substitution, by position: its variables come first, and then those that the pattern has besides.
-use Rattle.std.specs.Prelude.{◌≡◌, ◌<◌, ℕ, zero, suc, List, [], ◌∷◌, ◌++◌, length, Bool, true, false, ◌||◌, cond, Option, Some, None, is_some, slice_get, IsTrue, refl}
+use Rattle.std.specs.Prelude.{◌≡◌, suc, List, [], ◌∷◌, ◌++◌, length, Bool, true, false, ◌||◌, cond, Option, Some, None, is_some, slice_get, IsTrue, refl}
 use Rattle.std.specs.List.{zip}
 use Rattle.std.proofs.Common.{sym, subst, ap, ◌∙◌, ⊎_elim, arith, append-nil}
 use Rattle.std.proofs.lemmas.Bool.{both_ways, or_right}
@@ -14,6 +14,7 @@ use Rattle.mw_logic.proofs.SolutionLaws.{substitution_value}
 use Rattle.mw_machine.specs.Positions.{fill, Begins, IsNumbered, counted}
 use Rattle.mw_machine.specs.Simple.{IsSimpleSignature, IsGround, HaveSorts}
 use Rattle.mw_machine.specs.Variables.{is_in, met, AreDistinct, sorts_of, place, placed, IsPlaceable, bound_variables, bound_values}
+use Rattle.mw_machine.proofs.Begins.{begins_get, begins_append}
 use Rattle.mw_machine.proofs.Meeting.{is_in-met, met_grows, AreDistinct-met, numbered_met, place-append, place-within}
 use Rattle.mw_machine.proofs.Ordered.{either, free}
 use Rattle.mw_machine.proofs.Placing.{value_of, values_of, at_place, fill_placed, placeable, values_zip, bound_zip, ground_value, sort_of_value, sorts_of_values, substitution_zip}
@@ -52,23 +53,6 @@ same_length s = length-map s (λ b. b.1) ∙ sym (length-map s (λ b. b.0))
 pub distinct_variables : (sig : Signature) (s : Substitution) → IsSubstitution sig s → AreDistinct (bound_variables s)
 distinct_variables sig [] h = tt
 distinct_variables sig (b ∷ s) h = (sym (is_bound_in s b.0) ∙ h.0, distinct_variables sig s h.4)
-
--- where a longer list of values begins with those that were there
-pub begins_get : (vs us : List RawTerm) (i : ℕ) → Begins vs us → i < length vs → slice_get us i ≡ slice_get vs i
-begins_get [] us i b h = absurd (omega (arith, h))
-begins_get (v ∷ vs) [] i b h = absurd b
-begins_get (v ∷ vs) (u ∷ us) zero b h = ap Some (sym b.0)
-begins_get (v ∷ vs) (u ∷ us) (suc i) b h = begins_get vs us i b.1 (omega (arith, h))
-
-begins_append : (vs us : List RawTerm) → Begins vs (vs ++ us)
-begins_append [] us = tt
-begins_append (v ∷ vs) us = (refl, begins_append vs us)
-
-pub begins_whole : (vs us : List RawTerm) → Begins vs us → length us ≡ length vs → vs ≡ us
-begins_whole [] [] b l = refl
-begins_whole [] (u ∷ us) b l = absurd (omega (arith, l))
-begins_whole (v ∷ vs) [] b l = absurd b
-begins_whole (v ∷ vs) (u ∷ us) b l = let e = b.0 in let r = begins_whole vs us b.1 (omega (arith, l)) in cc (e, r)
 
 nothing_bound : (o : Option RawTerm) → is_some o ≡ false → o ≡ None
 nothing_bound None h = refl

@@ -5,42 +5,12 @@ use Rattle.mw_logic.specs.Term.{RawTerm, RawTerms, numeral, quoted, variable, ap
 use Rattle.mw_machine.specs.Positions.{position, fill, fill_all, counted, counted_all, IsNumbered, AreNumbered, Begins}
 use Rattle.mw_logic.specs.NormalForm.{height, highest}
 use Rattle.mw_logic.specs.Terms.{terms_of}
+use Rattle.mw_machine.proofs.Begins.{begins_same, begins_then, begins_at, begins_put, begins_last, begins_append}
+use Rattle.mw_machine.proofs.Counting.{all_counted_grows}
 use Rattle.mw_pattern.specs.Clean.{clean, clean_all}
 use Rattle.mw_match.specs.Matching.{Decides}
 use Rattle.mw_pattern.specs.declared.pattern.Pattern.{Pattern}
 use Rattle.mw_pattern.proofs.Lists.{drop_at}
-
-pub begins_same : (vs : List RawTerm) → Begins vs vs
-begins_same [] = tt
-begins_same (v ∷ vs) = (refl, begins_same vs)
-
-pub begins_then : (vs ws us : List RawTerm) → Begins vs ws → Begins ws us → Begins vs us
-begins_then [] ws us a b = tt
-begins_then (v ∷ vs) [] us a b = absurd a
-begins_then (v ∷ vs) (w ∷ ws) [] a b = absurd b
-begins_then (v ∷ vs) (w ∷ ws) (u ∷ us) a b = (a.0 ∙ b.0, begins_then vs ws us a.1 b.1)
-
-begins_at : (vs us : List RawTerm) (i : ℕ) (v : RawTerm) → Begins vs us → slice_get vs i ≡ Some v → slice_get us i ≡ Some v
-begins_at [] us i v b h = cc
-begins_at (x ∷ vs) [] i v b h = absurd b
-begins_at (x ∷ vs) (u ∷ us) zero v b h = let e = b.0 in cc
-begins_at (x ∷ vs) (u ∷ us) (suc i) v b h = begins_at vs us i v b.1 h
-
-begins_put : (vs us : List RawTerm) (t : RawTerm) → Begins vs us → slice_get us (length vs) ≡ Some t → Begins (vs ++ t ∷ []) us
-begins_put [] [] t b h = cc
-begins_put [] (u ∷ us) t b h = ((cc), tt)
-begins_put (x ∷ vs) [] t b h = absurd b
-begins_put (x ∷ vs) (u ∷ us) t b h = (b.0, begins_put vs us t b.1 h)
-
-begins_last : (vs us : List RawTerm) (t : RawTerm) → Begins (vs ++ t ∷ []) us → slice_get us (length vs) ≡ Some t
-begins_last [] [] t b = absurd b
-begins_last [] (u ∷ us) t b = ap Some (sym b.0)
-begins_last (x ∷ vs) [] t b = absurd b
-begins_last (x ∷ vs) (u ∷ us) t b = begins_last vs us t b.1
-
-pub begins_more : (vs : List RawTerm) (t : RawTerm) → Begins vs (vs ++ t ∷ [])
-begins_more [] t = tt
-begins_more (v ∷ vs) t = (refl, begins_more vs t)
 
 pub decides_var_old : (old : List RawTerm) (i : ℕ) (v t : RawTerm) (b : Bool) → slice_get old i ≡ Some v → (IsTrue b ↔ (v ≡ t)) → Decides b (counted (length old) (variable (position i))) old old (λ us. fill us (variable (position i)) ≡ t)
 decides_var_old old i v t true h e = (begins_same old, λ us b m. ((λ p. b), (λ q. let k : slice_get us i ≡ Some v = begins_at old us i v b h in rw k (e.0 refl))))
@@ -53,23 +23,12 @@ read_back (u ∷ us) (suc i) x t l e = read_back us i x t (omega (arith, l)) e
 
 pub decides_var_new : (old new : List RawTerm) (i : ℕ) (t : RawTerm) → i ≡ length old → new ≡ old ++ t ∷ [] → Decides true (counted (length old) (variable (position i))) old new (λ us. fill us (variable (position i)) ≡ t)
 decides_var_new old new i t l m = rw m (
-  begins_more old t,
+  begins_append old (t ∷ []),
   λ us b k. (
     (λ p. begins_put old us t b (rw (← l) (read_back us i (variable (position i)) t (omega (arith, k, l)) p))),
     (λ q. let k : slice_get us i ≡ Some t = rw l (begins_last old us t q) in rw k refl),
   ),
 )
-
-mutual
-  counted_grows : (n : ℕ) (p : RawTerm) → n ≤ counted n p
-  counted_grows n (numeral m) = omega arith
-  counted_grows n (quoted q) = omega arith
-  counted_grows n (variable x) = omega arith
-  counted_grows n (apply f ts) = all_counted_grows n ts
-
-  all_counted_grows : (n : ℕ) (ps : RawTerms) → n ≤ counted_all n ps
-  all_counted_grows n nil = omega arith
-  all_counted_grows n (cons p ps) = omega (arith, counted_grows n p, all_counted_grows (counted n p) ps)
 
 -- the first i arguments were matched
 pub record Matching (old cur : List RawTerm) (ps : List Pattern) (ts : List RawTerm) (i : ℕ) : Type 0 where

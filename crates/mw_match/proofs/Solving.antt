@@ -14,8 +14,8 @@ use Rattle.mw_machine.specs.Simple.{IsSimpleSignature, IsGround, AreGround, Have
 use Rattle.mw_machine.specs.Variables.{sorts_of, placed, bound_values}
 use Rattle.mw_machine.proofs.Grounds.{ground_extended}
 use Rattle.mw_machine.proofs.Placing.{values_of}
-use Rattle.mw_machine.proofs.Starting.{variables, pattern_numbered, solution, solved_from, values_length, values_begin, values_sorts, same_solution, begins_whole}
-use Rattle.mw_match.proofs.Matching.{begins_same}
+use Rattle.mw_machine.proofs.Starting.{variables, pattern_numbered, solution, solved_from, values_length, values_begin, values_sorts, same_solution}
+use Rattle.mw_machine.proofs.Begins.{begins_same, begins_whole}
 use Rattle.mw_match.specs.Matching.{Decides}
 use Rattle.mw_match.specs.Solutions.{IsOnlySolution, IsAllSolutions, listed}
 use Rattle.mw_canon.specs.Canonical.{meant}

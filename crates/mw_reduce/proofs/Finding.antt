@@ -12,10 +12,9 @@ use Rattle.mw_reduce.specs.State.{Misses, NoneFits, Fitting}
 use Rattle.mw_pattern.specs.declared.equations.Equation.{Equation}
 use Rattle.mw_pattern.specs.declared.equations.Equations.{Equations}
 use Rattle.mw_pattern.proofs.Lists.{got}
-use Rattle.mw_match.proofs.Matching.{begins_same}
 use Rattle.mw_logic.specs.Signature.{Signature}
 use Rattle.mw_machine.specs.Simple.{IsGround, AreGround, HaveSorts}
-use Rattle.mw_machine.proofs.Starting.{begins_whole}
+use Rattle.mw_machine.proofs.Begins.{begins_same, begins_whole}
 use Rattle.mw_machine.proofs.Grounds.{ground_found}
 
 -- none of the first i fits

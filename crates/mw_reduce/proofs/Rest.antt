@@ -3,8 +3,8 @@ use Rattle.std.specs.Prelude.{◌≡◌, ◌≤◌, ◌<◌, ◌+◌, ℕ, zero,
 use Rattle.std.proofs.Common.{sym, ap, ◌∙◌, arith, length-append}
 use Rattle.mw_logic.specs.Term.{RawTerm, RawTerms, apply, nil, cons, join, plug}
 use Rattle.mw_machine.specs.Machine.{round, given, rest_of}
-use Rattle.mw_machine.specs.Positions.{skip, fill, fill_all}
-use Rattle.mw_logic.specs.Terms.{terms_of}
+use Rattle.mw_machine.specs.Positions.{fill, fill_all}
+use Rattle.mw_logic.specs.Terms.{terms_of, skip}
 use Rattle.mw_machine.proofs.Trees.{join-assoc, join-nil}
 use Rattle.mw_machine.proofs.Filling.{terms_of-append}
 use Rattle.mw_machine.proofs.Steps.{under_all-append}

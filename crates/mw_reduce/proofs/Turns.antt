@@ -12,8 +12,8 @@ use Rattle.mw_logic.specs.Proof as proof
 use Rattle.mw_machine.specs.Moves.{apply as applies}
 use Rattle.mw_logic.specs.NormalForm.{height}
 use Rattle.mw_machine.specs.Machine.{round, Fires, AreNormalBy}
-use Rattle.mw_machine.specs.Positions.{skip, fill, fill_all, IsWithin, AreWithin}
-use Rattle.mw_logic.specs.Terms.{terms_of}
+use Rattle.mw_machine.specs.Positions.{fill, fill_all, IsWithin, AreWithin}
+use Rattle.mw_logic.specs.Terms.{terms_of, skip}
 use Rattle.mw_logic.proofs.Inside.{raw_inside}
 use Rattle.mw_machine.proofs.Filling.{fill_all-append}
 use Rattle.mw_machine.proofs.Steps.{part_ground, normal_here, steps_on}

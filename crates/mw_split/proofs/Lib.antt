@@ -1,4 +1,5 @@
 pub mod Lists
+pub mod Above
 pub mod Every
 pub mod Next
 pub mod Turning

@@ -9,7 +9,7 @@
 //!
 //! Contracts see `current`, the cut that the enumeration stands at, and `remaining`, the list of those to come. Proved:
 //!
-//! - `new` stands before the first cut, and `remaining` has every cut once (`AllOnce`, over `IsBagCut` and
+//! - `new` stands before the first cut, and `remaining` has every cut once (`AllOnce`, specs/Lists, over `IsBagCut` and
 //!   `IsListCut`), in the order of `bag_cuts` and `list_cuts` (specs/Cuts).
 //! - `advance` moves the first of `remaining` to `current`, or answers false exactly where none is left, and for ever
 //!   after. `cut` gives the current cut, and can be called only after an `advance` that was true. Neither takes memory.
@@ -20,7 +20,8 @@
 #![tactic(auto)]
 
 ghost use Rattle.std.specs.Prelude.{◌≡◌, ℕ, ◌+◌, ◌-◌, ◌*◌, ◌<◌, ◌≤◌, List, [], ◌∷◌, ◌++◌, length, take, drop, sum, IfOk, IsTrue, true, false, Some, None, is_some, suc};
-ghost use Rattle.mw_split.specs.Cuts.{Adds, AllZero, cuts, after, first, AllOnce, IsBagCut, IsListCut, bag_cuts, list_cuts};
+ghost use Rattle.mw_split.specs.Lists.{AllOnce};
+ghost use Rattle.mw_split.specs.Cuts.{Adds, AllZero, cuts, after, first, IsBagCut, IsListCut, bag_cuts, list_cuts};
 ghost use Rattle.mw_split.specs.Turns.{turned, next_of};
 
 use std::alloc::{AllocError, Global};

@@ -6,7 +6,8 @@ use Rattle.mw_logic.specs.Terms.{terms_of}
 use Rattle.mw_pattern.specs.Clean.{clean, clean_all}
 use Rattle.mw_match.specs.Matching.{Decides}
 use Rattle.mw_pattern.proofs.Lists.{got}
-use Rattle.mw_match.proofs.Matching.{lengths_differ, matching_starts, numbered_here, pattern_height, matching_on, matching_fails, decides_var_old, decides_var_new, begins_same, begins_then, begins_more}
+use Rattle.mw_machine.proofs.Begins.{begins_same, begins_then, begins_append}
+use Rattle.mw_match.proofs.Matching.{lengths_differ, matching_starts, numbered_here, pattern_height, matching_on, matching_fails, decides_var_old, decides_var_new}
 use Rattle.mw_match.proofs.by_position.+matches.Goals as goal
 
 pub all_match-returns-then-n-terms-clause-decides : goal.all_match-returns-then-n-terms-clause-decides
@@ -78,7 +79,7 @@ matches-returns-in_err-push-in-None-clause-kept t c = subst (λ (vs : List RawTe
 pub matches-returns-in_ok-push-in-None-clause-kept : goal.matches-returns-in_ok-push-in-None-clause-kept
 matches-returns-in_ok-push-in-None-clause-kept t c =
     let items : c.push.new.self.items ≡ c.args.values.now.items ++ c.in_ok-value-in-None.value ∷ [] = c.in_ok-push-in-None.ensures.items in
-    subst (λ (vs : List RawTerm). Begins c.args.values.now.items vs) (sym items) (begins_more c.args.values.now.items c.in_ok-value-in-None.value)
+    subst (λ (vs : List RawTerm). Begins c.args.values.now.items vs) (sym items) (begins_append c.args.values.now.items (c.in_ok-value-in-None.value ∷ []))
 
 pub matches-returns-then-f-g-clause-kept : goal.matches-returns-then-f-g-clause-kept
 matches-returns-then-f-g-clause-kept t c = begins_same c.args.values.now.items

@@ -1,7 +1,7 @@
 use Rattle.std.proofs.Common.{◌≡◌, length}
 use Rattle.mw_logic.specs.Term.{join}
-use Rattle.mw_machine.specs.Positions.{skip, fill_all}
-use Rattle.mw_logic.specs.Terms.{terms_of}
+use Rattle.mw_machine.specs.Positions.{fill_all}
+use Rattle.mw_logic.specs.Terms.{terms_of, skip}
 use Rattle.mw_pattern.specs.Clean.{clean_all}
 use Rattle.mw_reduce.proofs.machine.put_instances.Given as goal
 

@@ -1,7 +1,6 @@
 use Rattle.std.proofs.Common.{◌≡◌, ◌∙◌, ap, sym, length}
 use Rattle.mw_logic.specs.Term.{nil, join}
-use Rattle.mw_logic.specs.Terms.{terms_of}
-use Rattle.mw_machine.specs.Positions.{skip}
+use Rattle.mw_logic.specs.Terms.{terms_of, skip}
 use Rattle.mw_machine.proofs.Trees.{join-nil}
 use Rattle.mw_reduce.specs.Stack.{all_of}
 use Rattle.mw_reduce.proofs.Lists.{flat_shape, flat_args, skip_nil}

@@ -1,7 +1,6 @@
 use Rattle.std.proofs.Common.{◌≡◌, length}
 use Rattle.mw_logic.specs.Term.{join}
-use Rattle.mw_machine.specs.Positions.{skip}
-use Rattle.mw_logic.specs.Terms.{terms_of}
+use Rattle.mw_logic.specs.Terms.{terms_of, skip}
 use Rattle.mw_reduce.proofs.machine.put_shared.Given as goal
 
 abbrev pub invariant-loop-i : goal.invariant-loop-i

@@ -1,8 +1,7 @@
 use Rattle.std.proofs.Common.{◌≡◌, ◌∙◌, ap, sym, subst, IfOk}
 use Rattle.mw_logic.specs.Term.{RawTerms}
-use Rattle.mw_logic.specs.Terms.{terms_of}
+use Rattle.mw_logic.specs.Terms.{args_of, terms_of, skip}
 use Rattle.mw_term.specs.Shapes.{viewed}
-use Rattle.mw_machine.specs.Positions.{args_of, skip}
 use Rattle.mw_reduce.specs.Stack.{IsNextOf}
 use Rattle.mw_reduce.proofs.Lists.{flat_view, flat_args, skip_nil}
 use Rattle.mw_reduce.proofs.next.next_given.Goals as goal

@@ -1,5 +1,5 @@
 use Rattle.std.proofs.Common.{rules, ◌≡◌, length, IfOk, sym, subst}
-use Rattle.mw_machine.specs.Positions.{skip}
+use Rattle.mw_logic.specs.Terms.{skip}
 use Rattle.mw_reduce.specs.Stack.{all_of, IsNextOf, IsNextGiven}
 use Rattle.mw_reduce.specs.declared.frame.Todo.{Todo}
 use Rattle.mw_reduce.proofs.next.next_of.Goals as goal

@@ -1,0 +1,51 @@
+-- Which arguments of a pattern become one element, whatever their values are; and the splits that take these first.
+use Rattle.std.specs.Prelude.{◌≡◌, ℕ, suc, List, Bool, true, false, not, ◌&&◌, cond, nat_eq, ⊤}
+use Rattle.mw_logic.specs.Term.{RawTerm, numeral, quoted, variable, apply, RawTerms, nil, cons}
+use Rattle.mw_logic.specs.Signature.{Signature}
+use Rattle.mw_logic.specs.Kinds.{is_successor}
+use Rattle.mw_logic.specs.Parts.{is_assoc, number_of_terms}
+use Rattle.mw_logic.specs.NormalForm.{is_comm, identity_of, is_identity, elements}
+use Rattle.mw_logic.proofs.Canonical.{IsElement, IsCanonical}
+use Rattle.mw_arguments.specs.Splits.{splits_of}
+use Rattle.mw_matching.specs.Matches.{Theory}
+use Rattle.mw_matching.specs.Rigid.{FirstAreElements, rigid_splits}
+
+-- `single f i` says that what may stand at position i is one element under f, by its sort
+abbrev pub is_rigid : Signature → (ℕ → ℕ → Bool) → ℕ → RawTerm → Bool
+is_rigid sig single f (numeral n) = not (is_identity (identity_of sig f) (numeral n))
+is_rigid sig single f (quoted q) = true
+is_rigid sig single f (variable x) = single f x.sort
+is_rigid sig single f (apply g ts) = not (nat_eq f g) && (not (is_assoc sig g) && (not (is_successor sig g) && not (is_identity (identity_of sig f) (apply g ts))))
+
+-- how many arguments at the front are rigid, and how many stand behind
+abbrev pub leading : Signature → (ℕ → ℕ → Bool) → ℕ → RawTerms → ℕ
+leading sig single f nil = 0
+leading sig single f (cons q qs) = cond (is_rigid sig single f q) (suc (leading sig single f qs)) 0
+
+abbrev pub behind : Signature → (ℕ → ℕ → Bool) → ℕ → RawTerms → ℕ
+behind sig single f nil = 0
+behind sig single f (cons q qs) = cond (is_rigid sig single f q) (behind sig single f qs) (suc (number_of_terms qs))
+
+-- the splits that take the rigid arguments at the front first, under an associative and commutative operator
+abbrev pub splits_for : Signature → (ℕ → ℕ → Bool) → ℕ → RawTerms → RawTerm → List RawTerms
+splits_for sig single f qs t =
+    cond (is_assoc sig f && is_comm sig f)
+    (rigid_splits (identity_of sig f) f (leading sig single f qs) (behind sig single f qs) (elements (identity_of sig f) f t))
+    (splits_of sig f (number_of_terms qs) t)
+
+-- which terms a position may have, and these splits
+abbrev pub theory : Signature → (ℕ → RawTerm → Bool) → (ℕ → ℕ → Bool) → Theory
+theory sig has single = record { has = has; splits = splits_for sig single }
+
+-- what may stand at a position that is single is one element
+abbrev pub AreSingle : Signature → (ℕ → RawTerm → Bool) → (ℕ → ℕ → Bool) → Type 0
+AreSingle sig has single = (f i : ℕ) (u : RawTerm) → single f i ≡ true → IsCanonical sig u → has i u ≡ true → IsElement (identity_of sig f) f u
+
+-- what holds in a case only
+abbrev pub InCase : Bool → Type 0 → Type 0
+InCase true P = P
+InCase false P = ⊤
+
+-- what patterns show of the arguments that they become: the rigid ones at the front are elements
+abbrev pub FrontsFit : Signature → (ℕ → ℕ → Bool) → ℕ → RawTerms → RawTerms → Type 0
+FrontsFit sig single f qs ts = InCase (is_assoc sig f && is_comm sig f) (FirstAreElements (identity_of sig f) f (leading sig single f qs) ts)

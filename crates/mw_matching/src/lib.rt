@@ -1,0 +1,3 @@
+//! All matches of a pattern by position, modulo axioms, each once. Definitions and laws over mw_arguments; it has no
+//! code.
+#![tactic(auto)]
