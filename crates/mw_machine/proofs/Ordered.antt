@@ -24,24 +24,6 @@ pub either : (a b : Bool) → (a || b) ≡ true → (a ≡ true) ⊎ (b ≡ true
 either true b h = inl refl
 either false b h = inr h
 
-below_along : {pairs : List (ℕ × ℕ)} {S T U : ℕ} → AtOrBelow pairs S T → AtOrBelow pairs T U → AtOrBelow pairs S U
-below_along AtOrBelow.same q = q
-below_along (AtOrBelow.above m p) q = AtOrBelow.above m (below_along p q)
-
-below_kind : {sig : Signature} {S T : ℕ} → AtOrBelow sig.pairs S T → SameKind sig S T
-below_kind AtOrBelow.same = SameKind.same
-below_kind (AtOrBelow.above m p) = SameKind.up m (below_kind p)
-
--- being below is transitive
-pub IsBelow-trans : (sig : Signature) (R S T : Sorted) → IsBelow sig R S → IsBelow sig S T → IsBelow sig R T
-IsBelow-trans sig (sort R) (sort S) (sort T) p q = below_along p q
-IsBelow-trans sig (sort R) (sort S) (kind T) p q = SameKind-trans (below_kind p) q
-IsBelow-trans sig (sort R) (kind S) (sort T) p q = absurd q
-IsBelow-trans sig (sort R) (kind S) (kind T) p q = SameKind-trans p q
-IsBelow-trans sig (kind R) (sort S) T p q = absurd p
-IsBelow-trans sig (kind R) (kind S) (sort T) p q = absurd q
-IsBelow-trans sig (kind R) (kind S) (kind T) p q = SameKind-trans p q
-
 module _ (sig : Signature) (simple : IsSimpleSignature sig) where
   pub free : IsFreeSignature sig
   free = record {
