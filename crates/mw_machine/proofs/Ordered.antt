@@ -4,14 +4,13 @@ use Rattle.std.specs.Prelude.{◌≡◌, ◌⊎◌, ℕ, List, [], ◌∷◌, Bo
 use Rattle.std.proofs.Common.{sym, subst, inl, inr, ⊎_elim}
 use Rattle.std.proofs.lemmas.Bool.{both_ways}
 use Rattle.mw_logic.specs.Term.{RawTerm, RawTerms, nil, cons, Frame, Context, plug, join, apply}
-use Rattle.mw_logic.specs.Signature.{Signature, Sorted, sort, kind, Operator, IsOperator, Identity, SameKind, HasKind, of_operator, IsRawTerm, an_operator, AreRawTerms, end, next}
+use Rattle.mw_logic.specs.Signature.{Signature, Sorted, Operator, IsOperator, Identity, SameKind, HasKind, of_operator, IsRawTerm, an_operator, AreRawTerms, end, next}
 use Rattle.mw_logic.specs.Axioms.{done}
-use Rattle.mw_logic.specs.Sorts.{AtOrBelow, IsBelow, AreBelow, Declares, Takes, DeclaredSort, DeclaredSorts, HasSort}
+use Rattle.mw_logic.specs.Sorts.{AreBelow, Declares, Takes, DeclaredSort, DeclaredSorts, HasSort}
 use Rattle.mw_logic.specs.Accepted.{IsAccepted, IsWellSorted, number_of_sort}
 use Rattle.mw_logic.specs.Preregular.{AreOfKinds}
 use Rattle.mw_logic.specs.Free.{IsFreeSignature}
 use Rattle.mw_logic.proofs.Canonical.{same_operator}
-use Rattle.mw_logic.proofs.KindLaws.{SameKind-trans}
 use Rattle.mw_logic.proofs.Soundness.{HasKind-same}
 use Rattle.mw_logic.proofs.SolutionLaws.{declared_kind}
 use Rattle.mw_logic.proofs.RawKept.{kind_unique}
