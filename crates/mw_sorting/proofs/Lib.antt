@@ -8,3 +8,5 @@ pub mod Agreement
 pub mod Folding
 pub mod Applying
 pub mod Leastness
+-- Worked rows: a signature that is preregular modulo its axioms, and one that isn't.
+pub mod RowsOfLists
