@@ -12,7 +12,7 @@ use Rattle.mw_logic.proofs.Canonical.{Each}
 use Rattle.mw_logic.proofs.Elements.{taken, taken-insert}
 use Rattle.mw_logic.proofs.Lifting.{Among-join}
 use Rattle.mw_logic.proofs.Inside.{Among-insert}
-use Rattle.mw_logic.proofs.Climbing.{Climbs, climbs}
+use Rattle.mw_logic.proofs.SortedLists.{Climbs, climbs}
 use Rattle.mw_arguments.specs.Bags.{same}
 use Rattle.mw_arguments.specs.Places.{chosen, others, Rise}
 use Rattle.mw_arguments.proofs.Runs.{same-equal}

@@ -9,7 +9,7 @@ use Rattle.mw_logic.specs.Free.{IsFreeSignature}
 use Rattle.mw_logic.proofs.FreeSignature.{free_equal}
 use Rattle.mw_logic.specs.Preregular.{IsSortOf, HasItsSorts}
 use Rattle.mw_logic.proofs.Canonical.{nat_eq-refl, same_operator}
-use Rattle.mw_machine.proofs.Ordered.{IsBelow-trans}
+use Rattle.mw_logic.proofs.BelowLaws.{IsBelow-trans}
 
 -- a term has the sorts that its least one is below
 pub has_below : (sig : Signature) (t : RawTerm) (L : Sorted) (S : ℕ) → IsLeastSort sig t L → IsBelow sig L (sort S) ↔ HasSort sig t (sort S)

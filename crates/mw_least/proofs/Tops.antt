@@ -15,7 +15,8 @@ use Rattle.mw_poset.specs.Order.{IsKindOf}
 use Rattle.mw_poset.proofs.Reading.{kinds_same}
 use Rattle.mw_canon.proofs.Free.{nested_free}
 use Rattle.mw_machine.specs.Simple.{IsSimpleSignature}
-use Rattle.mw_machine.proofs.Ordered.{AllHave, applied_sort, free, IsBelow-trans}
+use Rattle.mw_machine.proofs.Ordered.{AllHave, applied_sort, free}
+use Rattle.mw_logic.proofs.BelowLaws.{IsBelow-trans}
 use Rattle.mw_term.specs.OperatorSets.{AreApart, operators_in_all}
 use Rattle.mw_least.specs.declared.sure.Partial.{Partial}
 use Rattle.mw_term.proofs.OperatorSets.{lacks_top, arguments_apart, first_apart, others_apart}

@@ -1,6 +1,6 @@
 -- Lists of terms, as a list has them and as an operator has them.
 use Rattle.std.specs.Prelude.{ℕ, zero, suc, List, [], ◌∷◌}
-use Rattle.mw_logic.specs.Term.{RawTerm, RawTerms, nil, cons}
+use Rattle.mw_logic.specs.Term.{RawTerm, numeral, quoted, variable, apply, RawTerms, nil, cons}
 
 abbrev pub terms_of : List RawTerm → RawTerms
 terms_of [] = nil
@@ -20,3 +20,10 @@ abbrev pub skip : ℕ → RawTerms → RawTerms
 skip zero ts = ts
 skip (suc n) nil = nil
 skip (suc n) (cons t ts) = skip n ts
+
+-- the arguments of the operator on top
+abbrev pub args_of : RawTerm → RawTerms
+args_of (numeral n) = nil
+args_of (quoted q) = nil
+args_of (variable x) = nil
+args_of (apply f ts) = ts

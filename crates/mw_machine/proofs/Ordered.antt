@@ -4,14 +4,13 @@ use Rattle.std.specs.Prelude.{◌≡◌, ◌⊎◌, ℕ, List, [], ◌∷◌, Bo
 use Rattle.std.proofs.Common.{sym, subst, inl, inr, ⊎_elim}
 use Rattle.std.proofs.lemmas.Bool.{both_ways}
 use Rattle.mw_logic.specs.Term.{RawTerm, RawTerms, nil, cons, Frame, Context, plug, join, apply}
-use Rattle.mw_logic.specs.Signature.{Signature, Sorted, sort, kind, Operator, IsOperator, Identity, SameKind, HasKind, of_operator, IsRawTerm, an_operator, AreRawTerms, end, next}
+use Rattle.mw_logic.specs.Signature.{Signature, Sorted, Operator, IsOperator, Identity, SameKind, HasKind, of_operator, IsRawTerm, an_operator, AreRawTerms, end, next}
 use Rattle.mw_logic.specs.Axioms.{done}
-use Rattle.mw_logic.specs.Sorts.{AtOrBelow, IsBelow, AreBelow, Declares, Takes, DeclaredSort, DeclaredSorts, HasSort}
+use Rattle.mw_logic.specs.Sorts.{AreBelow, Declares, Takes, DeclaredSort, DeclaredSorts, HasSort}
 use Rattle.mw_logic.specs.Accepted.{IsAccepted, IsWellSorted, number_of_sort}
 use Rattle.mw_logic.specs.Preregular.{AreOfKinds}
 use Rattle.mw_logic.specs.Free.{IsFreeSignature}
 use Rattle.mw_logic.proofs.Canonical.{same_operator}
-use Rattle.mw_logic.proofs.KindLaws.{SameKind-trans}
 use Rattle.mw_logic.proofs.Soundness.{HasKind-same}
 use Rattle.mw_logic.proofs.SolutionLaws.{declared_kind}
 use Rattle.mw_logic.proofs.RawKept.{kind_unique}
@@ -23,24 +22,6 @@ use Rattle.mw_machine.specs.Simple.{IsSimpleSignature}
 pub either : (a b : Bool) → (a || b) ≡ true → (a ≡ true) ⊎ (b ≡ true)
 either true b h = inl refl
 either false b h = inr h
-
-below_along : {pairs : List (ℕ × ℕ)} {S T U : ℕ} → AtOrBelow pairs S T → AtOrBelow pairs T U → AtOrBelow pairs S U
-below_along AtOrBelow.same q = q
-below_along (AtOrBelow.above m p) q = AtOrBelow.above m (below_along p q)
-
-below_kind : {sig : Signature} {S T : ℕ} → AtOrBelow sig.pairs S T → SameKind sig S T
-below_kind AtOrBelow.same = SameKind.same
-below_kind (AtOrBelow.above m p) = SameKind.up m (below_kind p)
-
--- being below is transitive
-pub IsBelow-trans : (sig : Signature) (R S T : Sorted) → IsBelow sig R S → IsBelow sig S T → IsBelow sig R T
-IsBelow-trans sig (sort R) (sort S) (sort T) p q = below_along p q
-IsBelow-trans sig (sort R) (sort S) (kind T) p q = SameKind-trans (below_kind p) q
-IsBelow-trans sig (sort R) (kind S) (sort T) p q = absurd q
-IsBelow-trans sig (sort R) (kind S) (kind T) p q = SameKind-trans p q
-IsBelow-trans sig (kind R) (sort S) T p q = absurd p
-IsBelow-trans sig (kind R) (kind S) (sort T) p q = absurd q
-IsBelow-trans sig (kind R) (kind S) (kind T) p q = SameKind-trans p q
 
 module _ (sig : Signature) (simple : IsSimpleSignature sig) where
   pub free : IsFreeSignature sig

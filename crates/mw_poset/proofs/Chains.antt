@@ -3,13 +3,10 @@ use Rattle.std.specs.Prelude.{map}
 use Rattle.std.proofs.Common.{◌≡◌, ◌⊎◌, ℕ, List, [], ◌∷◌, ap, sym, inl, inr, subst}
 use Rattle.mw_logic.specs.Signature.{Signature, Member, SameKind, same, up, down}
 use Rattle.mw_logic.specs.Sorts.{AtOrBelow}
+use Rattle.mw_logic.proofs.BelowLaws.{AtOrBelow-trans}
 use Rattle.mw_poset.specs.Order.{IsSort, ArePairsOf, IsKindOf}
 use Rattle.mw_poset.specs.Tables.{turned_too, IsSymmetric, IsLeastReached}
 use Rattle.mw_poset.proofs.Members.{member-left, member-right, member-append, member-all}
-
-pub AtOrBelow-trans : {ps : List (ℕ × ℕ)} {S T U : ℕ} → AtOrBelow ps S T → AtOrBelow ps T U → AtOrBelow ps S U
-AtOrBelow-trans AtOrBelow.same q = q
-AtOrBelow-trans (AtOrBelow.above m p) q = AtOrBelow.above m (AtOrBelow-trans p q)
 
 pub AtOrBelow-then : {ps : List (ℕ × ℕ)} {S T U : ℕ} → AtOrBelow ps S T → Member (T, U) ps → AtOrBelow ps S U
 AtOrBelow-then p m = AtOrBelow-trans p (AtOrBelow.above m AtOrBelow.same)

@@ -7,8 +7,8 @@ use Rattle.mw_term.specs.declared.term.View.{View}
 use Rattle.mw_term.specs.Shapes.{viewed}
 use Rattle.std.specs.Prelude.{Some, None, slice_get, ◌-◌}
 use Rattle.mw_machine.specs.Machine.{rest_of, IsFlat}
-use Rattle.mw_machine.specs.Positions.{args_of, fill, fill_all, IsWithin, AreWithin}
-use Rattle.mw_logic.specs.Terms.{terms_of, skip}
+use Rattle.mw_machine.specs.Positions.{fill, fill_all, IsWithin, AreWithin}
+use Rattle.mw_logic.specs.Terms.{args_of, terms_of, skip}
 use Rattle.mw_pattern.specs.declared.pattern.Pattern.{Pattern}
 use Rattle.mw_pattern.specs.declared.pattern.Pattern.TheVariants.{Var, Op}
 use Rattle.mw_pattern.specs.Clean.{clean, clean_all}

@@ -2,8 +2,8 @@
 use Rattle.std.specs.Prelude.{◌≡◌, ◌⊎◌, ◌≤◌, ◌-◌, ℕ, List, [], ◌∷◌, length, drop, slice_get, Some, ⊤}
 use Rattle.mw_logic.specs.Term.{RawTerm, RawTerms, nil, cons}
 use Rattle.mw_logic.specs.Parts.{number_of_terms}
-use Rattle.mw_machine.specs.Positions.{args_of, fill_all, AreWithin}
-use Rattle.mw_logic.specs.Terms.{terms_of, skip}
+use Rattle.mw_machine.specs.Positions.{fill_all, AreWithin}
+use Rattle.mw_logic.specs.Terms.{args_of, terms_of, skip}
 use Rattle.mw_machine.specs.Machine.{Open, here, rest_of, IsFlat}
 use Rattle.mw_pattern.specs.Clean.{clean_all}
 use Rattle.mw_pattern.specs.declared.pattern.Pattern.{Pattern as Pat}

@@ -10,7 +10,7 @@ use Rattle.mw_logic.proofs.KindLaws.{SameKind-trans, SameKind-sym}
 use Rattle.mw_poset.proofs.Members.{member-left, member-last, member-push, member-at}
 use Rattle.mw_sorts.specs.States.{IsOperatorOf, AreNumbersOf, TakesAt, Narrows, IsResultAmong, IsLeastAmong, IsEndOf}
 use Rattle.mw_sorts.proofs.Getting.{get-member, get-same}
-use Rattle.mw_sorts.proofs.Below.{IsBelow-refl, IsBelow-trans}
+use Rattle.mw_logic.proofs.BelowLaws.{IsBelow-refl, IsBelow-trans}
 use Rattle.mw_sorts.proofs.Taking.{of_kinds-get}
 
 -- an argument of a declaration is there, and of its operator's kind

@@ -1,5 +1,5 @@
 -- Declared sorts of terms of a free signature: any two of one term are at or below each other.
-use Rattle.std.proofs.Common.{◌≡◌, ℕ, List, [], ◌∷◌, ap, sym, subst}
+use Rattle.std.proofs.Common.{◌≡◌, ℕ, List, ap, sym, subst}
 use Rattle.std.specs.Prelude.{false}
 use Rattle.std.proofs.lemmas.Bool.{both_ways}
 use Rattle.mw_logic.specs.Term.{RawTerm, numeral, quoted, variable, apply, RawTerms, nil, cons}
@@ -11,18 +11,7 @@ use Rattle.mw_logic.specs.Sorts as sorting
 use Rattle.mw_logic.specs.Free.{IsFreeSignature}
 use Rattle.mw_logic.proofs.FreeSignature.{free_equal}
 use Rattle.mw_logic.proofs.KindLaws.{SameKind-equal}
-use Rattle.mw_sorts.proofs.Below.{IsBelow-refl, IsBelow-trans}
-
--- smaller sorts are taken too
-AreBelow-trans : (sig : Signature) (Ss Ts Us : List Sorted) → AreBelow sig Ss Ts → AreBelow sig Ts Us → AreBelow sig Ss Us
-AreBelow-trans sig [] [] Us p q = q
-AreBelow-trans sig [] (T ∷ Ts) Us p q = absurd p
-AreBelow-trans sig (S ∷ Ss) [] Us p q = absurd p
-AreBelow-trans sig (S ∷ Ss) (T ∷ Ts) [] p q = absurd q
-AreBelow-trans sig (S ∷ Ss) (T ∷ Ts) (U ∷ Us) p q = (IsBelow-trans sig S T U p.0 q.0, AreBelow-trans sig Ss Ts Us p.1 q.1)
-
-takes-below : (sig : Signature) (o : Operator) (Ss Ts : List Sorted) (R : Sorted) → AreBelow sig Ss Ts → Takes sig o Ts R → Takes sig o Ss R
-takes-below sig o Ss Ts R b t = record { args = t.args; declares = t.declares; fits = AreBelow-trans sig Ss Ts t.args b t.fits }
+use Rattle.mw_logic.proofs.BelowLaws.{IsBelow-refl, IsBelow-trans, Takes-below}
 
 module _ (sig : Signature) (free : IsFreeSignature sig) (no_quoted : sig.qid ≡ false) where
   operator-same : (f : ℕ) (o p : Operator) → IsOperator sig f o → IsOperator sig f p → o ≡ p
@@ -34,11 +23,11 @@ module _ (sig : Signature) (free : IsFreeSignature sig) (no_quoted : sig.qid ≡
     declared-agree (quoted q) S T (a_quoted qid) d e = absurd (both_ways _ no_quoted qid)
     declared-agree (variable x) S T raw of_variable of_variable = AtOrBelow.same
     declared-agree (apply f ts) S T (an_operator a is args) (of_operator {Ss = Ss} o io ds tk least) (of_operator {Ss = Ts} p ip es uk most) =
-        least T (takes-below sig o Ss Ts T (declared-all_agree ts a.args Ss Ts args ds es) (subst (λ (b : Operator). Takes sig b Ts T) (operator-same f p o ip io) uk))
+        least T (Takes-below sig o Ss Ts T (declared-all_agree ts a.args Ss Ts args ds es) (subst (λ (b : Operator). Takes sig b Ts T) (operator-same f p o ip io) uk))
     declared-agree (apply f ts) S T (an_operator a is args) (of_operator {Ss = Ss} o io ds tk least) (of_kind {Ss = Ts} p ip es none) =
-        absurd (none S (takes-below sig p Ts Ss S (declared-all_agree ts a.args Ts Ss args es ds) (subst (λ (b : Operator). Takes sig b Ss S) (operator-same f o p io ip) tk)))
+        absurd (none S (Takes-below sig p Ts Ss S (declared-all_agree ts a.args Ts Ss args es ds) (subst (λ (b : Operator). Takes sig b Ss S) (operator-same f o p io ip) tk)))
     declared-agree (apply f ts) S T (an_operator a is args) (of_kind {Ss = Ss} o io ds none) (of_operator {Ss = Ts} p ip es uk most) =
-        absurd (none T (takes-below sig o Ss Ts T (declared-all_agree ts a.args Ss Ts args ds es) (subst (λ (b : Operator). Takes sig b Ts T) (operator-same f p o ip io) uk)))
+        absurd (none T (Takes-below sig o Ss Ts T (declared-all_agree ts a.args Ss Ts args ds es) (subst (λ (b : Operator). Takes sig b Ts T) (operator-same f p o ip io) uk)))
     declared-agree (apply f ts) S T (an_operator a is args) (of_kind {Ss = Ss} o io ds none) (of_kind {Ss = Ts} p ip es nothing) =
         SameKind-equal (ap (λ (b : Operator). b.result) (operator-same f o p io ip))
 

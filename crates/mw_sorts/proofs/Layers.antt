@@ -12,7 +12,7 @@ use Rattle.mw_sorts.specs.Sorting.{Sorting, AreEntriesOf}
 use Rattle.mw_sorts.specs.States.{IsOperatorOf, AreStatesOf, AreAlive, Narrows, IsStart, IsRowOf, IsLevelOf, IsEndOf, AreEndsOf}
 use Rattle.mw_sorts.specs.Marks.{width, AreLinked, HaveEntries, EndsAt, IsDrawn}
 use Rattle.mw_sorts.proofs.Getting.{get-same, get-within, get-there, take-get}
-use Rattle.mw_sorts.proofs.Below.{IsBelow-refl}
+use Rattle.mw_logic.proofs.BelowLaws.{IsBelow-refl}
 use Rattle.mw_sorts.proofs.Leading.{leads-map, leads-more}
 use Rattle.mw_sorts.proofs.Taking.{of_kinds-length, alive_more, end_on}
 

@@ -1,5 +1,4 @@
 pub mod Getting
-pub mod Below
 pub mod Taking
 pub mod Leading
 pub mod Declared

@@ -16,7 +16,7 @@ use Rattle.mw_poset.specs.Order.{IsKindOf}
 use Rattle.mw_sorts.specs.Entries.{IsEntry, IsBefore, place_in}
 use Rattle.mw_sorts.specs.Sorting.{StandsAt, ArePlacesOf, IsSorting, AreEntriesOf}
 use Rattle.mw_sorts.proofs.Getting.{get-none, get-left, get-last, get-push, get-same, get-within, get-map, map-get}
-use Rattle.mw_sorts.proofs.Below.{IsBelow-refl}
+use Rattle.mw_logic.proofs.BelowLaws.{IsBelow-refl}
 use Rattle.mw_sorts.proofs.Connected.{there-with, kind-one, kind-with}
 
 set-here : {X : Type 0} (xs : List X) (i : ℕ) (x y : X) → slice_get xs i ≡ Some y → slice_get (set xs i x) i ≡ Some x

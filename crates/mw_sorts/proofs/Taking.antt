@@ -9,7 +9,7 @@ use Rattle.mw_logic.specs.Preregular.{AreOfKinds, IsLeastResult, HasLeastResult,
 use Rattle.mw_sorts.specs.Results.{IsResultOn, LacksLeastResult, IsEndOn}
 use Rattle.mw_sorts.specs.States.{IsOperatorOf, TakesFirst, AreAlive, Narrows, IsResultAmong, IsLeastAmong, IsEndOf}
 use Rattle.mw_sorts.proofs.Getting.{get-member, member-get, get-none}
-use Rattle.mw_sorts.proofs.Below.{IsBelow-trans}
+use Rattle.mw_logic.proofs.BelowLaws.{IsBelow-trans}
 
 -- lists of sorts of some kinds are as many
 pub of_kinds-length : (sig : Signature) (Ss : List Sorted) (Ks : List ℕ) → AreOfKinds sig Ss Ks → length Ss ≡ length Ks

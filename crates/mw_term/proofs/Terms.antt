@@ -1,6 +1,6 @@
 -- Lists of terms, item by item.
-use Rattle.std.proofs.Common.{◌≡◌, ◌∙◌, ℕ, zero, suc, ◌<◌, ◌≤◌, List, [], ◌∷◌, ◌++◌, length, get_or, arith, ap, sym, refl}
-use Rattle.mw_logic.specs.Term.{RawTerm, RawTerms, nil, cons, join}
+use Rattle.std.proofs.Common.{◌≡◌, ◌∙◌, ℕ, zero, suc, ◌<◌, ◌≤◌, List, [], ◌∷◌, length, get_or, arith, ap, sym, refl}
+use Rattle.mw_logic.specs.Term.{RawTerm}
 use Rattle.mw_logic.specs.NormalForm.{height, highest}
 use Rattle.mw_logic.specs.Terms.{terms_of, list_of}
 
@@ -16,12 +16,3 @@ list_of-terms_of (t ∷ ts) = ap (λ us. t ∷ us) (list_of-terms_of ts)
 
 pub same_length : (xs ys : List RawTerm) → terms_of xs ≡ terms_of ys → length xs ≡ length ys
 same_length xs ys e = ap length (sym (list_of-terms_of xs) ∙ ap list_of e ∙ list_of-terms_of ys)
-
--- a term put behind others
-pub join_pushed : (ts : List RawTerm) (t : RawTerm) (us : RawTerms) → join (terms_of (ts ++ t ∷ [])) us ≡ join (terms_of ts) (cons t us)
-join_pushed [] t us = refl
-join_pushed (x ∷ ts) t us = ap (cons x) (join_pushed ts t us)
-
-pub join_nil : (ts : RawTerms) → join ts nil ≡ ts
-join_nil nil = refl
-join_nil (cons t ts) = ap (cons t) (join_nil ts)

@@ -5,7 +5,7 @@ use Rattle.mw_term.specs.declared.term.Shape.TheVariants.{Nat, Qid, Var, Constan
 use Rattle.mw_term.specs.declared.numeral.Numeral.{Numeral}
 use Rattle.mw_term.specs.declared.term.View.{View}
 use Rattle.mw_term.specs.declared.term.View.TheVariants as seen
-use Rattle.mw_logic.specs.Term.{RawTerm, numeral, quoted, variable, apply, RawTerms, nil}
+use Rattle.mw_logic.specs.Term.{RawTerm, numeral, quoted, variable, apply, nil}
 use Rattle.mw_logic.specs.Terms.{terms_of}
 
 abbrev pub number_of : Numeral → ℕ
@@ -25,10 +25,3 @@ viewed (seen.Nat n) = numeral n
 viewed (seen.Qid q) = quoted q.now
 viewed (seen.Var x) = variable x.now
 viewed (seen.Op f ts) = apply f (terms_of ts.now)
-
--- the arguments of the operator on top
-abbrev pub args_of : RawTerm → RawTerms
-args_of (numeral n) = nil
-args_of (quoted q) = nil
-args_of (variable x) = nil
-args_of (apply f ts) = ts

@@ -1,11 +1,11 @@
 // Terms that share their parts.
 ghost use Rattle.std.specs.Prelude.{◌≡◌, ◌+◌, ◌-◌, ◌^◌, List, min, IfOk};
 ghost use Rattle.mw_logic.specs.Term.{RawTerm, numeral, quoted, variable, apply as applied};
-ghost use Rattle.mw_logic.specs.Terms.{terms_of};
+ghost use Rattle.mw_logic.specs.Terms.{args_of, terms_of};
 ghost use Rattle.mw_logic.specs.NormalForm.{height};
 ghost use Rattle.mw_term.specs.OperatorSets.{operators_in};
 ghost use Rattle.mw_term.specs.Facts.{facts_kept, facts_of, facts_of_all};
-ghost use Rattle.mw_term.specs.Shapes.{shaped, viewed, args_of};
+ghost use Rattle.mw_term.specs.Shapes.{shaped, viewed};
 
 use crate::facts::Facts;
 use crate::numeral::Numeral;

@@ -74,37 +74,12 @@ fn raw(alloc: Global, accepted: &Module, text: &str) -> Result<Raw, Fail>
     }
 }
 
-#[cycle(ground)]
-fn is_closed(term: &Raw) -> bool
-    ensures { result ≡ is_ground (raw_term term.now) }
-{
-    match term {
-        Raw::Var(_) => false,
-        Raw::Op(_, args) => are_closed(args.as_slice()),
-        _ => true,
-    }
-}
-
-#[cycle(ground)]
-fn are_closed(terms: &[Raw]) -> bool
-    ensures { result ≡ are_ground (raw_terms terms.now) }
-{
-    let mut rest = terms;
-    while let [term, after @ ..] = rest {
-        if !is_closed(term) {
-            return false;
-        }
-        rest = after;
-    }
-    true
-}
-
 /// The canonical term that a text spells.
 fn term(alloc: Global, accepted: &Module, text: &str) -> Result<Term, Fail>
     ensures { IfOk result (IsAdmittedTerm accepted.now.module.signature) }
 {
     let raw = raw(alloc, accepted, text)?;
-    if !is_closed(&raw) {
+    if !raw.is_ground() {
         return Err(Fail::from("a variable"));
     }
     let context = accepted.context();

@@ -27,32 +27,6 @@ use mw_reduce::{Budget, Outcome, reduce};
 use mw_term::{Raw, Term};
 use std::alloc::{AllocError, Global};
 
-/// Whether no variable stands in a term.
-#[cycle(ground)]
-fn has_no_variable(term: &Raw) -> bool
-    ensures { result ≡ is_ground (raw_term term.now) }
-{
-    match term {
-        Raw::Var(_) => false,
-        Raw::Op(_, args) => have_no_variable(args.as_slice()),
-        _ => true,
-    }
-}
-
-#[cycle(ground)]
-fn have_no_variable(terms: &[Raw]) -> bool
-    ensures { result ≡ are_ground (raw_terms terms.now) }
-{
-    let mut rest = terms;
-    while let [term, after @ ..] = rest {
-        if !has_no_variable(term) {
-            return false;
-        }
-        rest = after;
-    }
-    true
-}
-
 /// What is wrong with a text that isn't read.
 fn unread(error: &ParseError) -> Result<Result<Term, FaultKind>, AllocError>
     ensures { (a : Accepted) (words : List (List ℕ)) → HasReadingCause a.module.signature a.variables None words error.now → IfOk result (λ r. MatchResult r
@@ -79,7 +53,7 @@ fn canonical(
         (λ kind. TermFault accepted.now words kind)) }
 {
     accepted.context().shows();
-    if !has_no_variable(raw) {
+    if !raw.is_ground() {
         return Ok(Err(FaultKind::OpenTerm));
     }
     match canon(alloc, accepted.context().signature(), raw) {

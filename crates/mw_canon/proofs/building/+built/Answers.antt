@@ -5,7 +5,8 @@ use Rattle.mw_logic.specs.Terms.{terms_of}
 use Rattle.mw_logic.specs.Substitution.{instance as instance_of, instances as instances_of}
 use Rattle.mw_term.specs.Raws.{raw_term, raw_terms}
 use Rattle.mw_term.proofs.RawLists.{raw_element}
-use Rattle.mw_term.proofs.Terms.{join_pushed, join_nil}
+use Rattle.mw_logic.proofs.SortLaws.{join-nil}
+use Rattle.mw_logic.proofs.MergedLists.{join_pushed}
 use Rattle.mw_canon.proofs.Instances.{height_some, instances_at, instances_past}
 use Rattle.mw_canon.proofs.building.+built.Goals as goal
 
@@ -39,4 +40,4 @@ all_built-loop-arg-preserved t c =
 
 pub all_built-returns-clause-is : goal.all_built-returns-clause-is
 all_built-returns-clause-is t c =
-    sym (join_nil (terms_of c.loop-arg.made.items)) ∙ ap (join (terms_of c.loop-arg.made.items)) (sym (instances_past c.args.values.now c.args.args.now c.loop-arg.arg-index c.loop-arg-test.false)) ∙ c.loop-arg.invariant.made
+    sym (join-nil (terms_of c.loop-arg.made.items)) ∙ ap (join (terms_of c.loop-arg.made.items)) (sym (instances_past c.args.values.now c.args.args.now c.loop-arg.arg-index c.loop-arg-test.false)) ∙ c.loop-arg.invariant.made

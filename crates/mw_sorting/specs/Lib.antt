@@ -1,0 +1,3 @@
+pub mod ComputedSorts
+pub mod PreregularModulo
+pub mod NumberTable
