@@ -19,6 +19,6 @@ returns-in-Ok c =
     let M : Module = c.args.accepted.now.module in
     let simple = subst IsSimpleModule c.context-context.ensures c.shows.ensures in
     let e : c.signature.result.now ≡ M.signature = c.signature.ensures ∙ ap (λ (N : Module). N.signature) c.context-context.ensures in
-    let ground = sym c.is_closed.ensures ∙ c.if-not-is_closed.false in
+    let ground = sym c.is_ground.ensures ∙ c.if-not-is_ground.false in
     let x = rw e at c.in-Ok.ensures in
     (admitted_by M.signature simple.signature (raw_term c.in_ok-raw.raw) c.in-Ok.term c.in_ok-raw.ensures ground x.canonical x.not_deep x.not_large).1
