@@ -16,8 +16,8 @@ pub declared_sort-returns-in-Var : goal.declared_sort-returns-in-Var
 declared_sort-returns-in-Var t c = λ sig tables free quoted r.
     let e = c.view.ensures ∙ ap viewed c.in-Var.is in
     let s = ap (λ (x : Variable). sort x.sort) c.variable.view_is in
-    let d : DeclaredSort sig (variable c.in-Var.variable) (sort c.in-Var.variable.sort) = sorting.of_variable in
-    subst (λ u. DeclaredSort sig u (sort c.variable.inside.sort)) (sym e) (subst (DeclaredSort sig (variable c.in-Var.variable)) (sym s) d)
+    let d : DeclaredSort sig (variable c.in-Var.variable.now) (sort c.in-Var.variable.now.sort) = sorting.of_variable in
+    subst (λ u. DeclaredSort sig u (sort c.variable.inside.sort)) (sym e) (subst (DeclaredSort sig (variable c.in-Var.variable.now)) (sym s) d)
 
 pub result_on-returns-in_default : goal.result_on-returns-in_default
 result_on-returns-in_default t c = λ sig tables free quoted r.
