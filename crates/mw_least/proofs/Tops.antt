@@ -21,7 +21,7 @@ use Rattle.mw_term.specs.OperatorSets.{AreApart, operators_in_all}
 use Rattle.mw_least.specs.declared.sure.Partial.{Partial}
 use Rattle.mw_term.proofs.OperatorSets.{lacks_top, arguments_apart, first_apart, others_apart}
 use Rattle.mw_least.specs.declared.sure.Sure.{Sure}
-use Rattle.mw_least.specs.Sure.{IsTop, AreTops, IsSupport, IsSupportedIn, IsSupported, AreSupported, AreResults, AreSure}
+use Rattle.mw_least.specs.Sure.{IsNone, IsApart, IsTop, AreTops, IsSupport, IsSupportedIn, IsSupported, AreSupported, AreResults, AreSure}
 
 result_at : (pairs : List (ℕ × ℕ)) (tops : List ℕ) (os : List Operator) (Rs : List ℕ) (f : ℕ) (o : Operator) (R : ℕ) → AreResults pairs tops os Rs → at_number os f ≡ Some o → at_number Rs f ≡ Some R → 1 ≤ R → IsSupport pairs tops o R
 result_at pairs tops os Rs zero o R a e r p = absurd (cc)

@@ -34,18 +34,15 @@ impl Partial {
         ensures more { (f : ℕ) → IsNone result f → IsNone self f }
         ensures last { IsNone result operator → ⊥ }
     {
-        let Partial {
-            declared,
-            built: start,
-        } = self;
         if built {
-            let built = start.with(operator);
-            Partial { declared, built }
-        } else {
-            let declared = declared.with(operator);
             Partial {
-                declared,
-                built: start,
+                built: self.built.with(operator),
+                ..self
+            }
+        } else {
+            Partial {
+                declared: self.declared.with(operator),
+                ..self
             }
         }
     }
