@@ -9,14 +9,14 @@ use Rattle.mw_logic.specs.TermOrder.{compare_terms, stands_after, sorted_terms}
 use Rattle.mw_logic.proofs.OrderLaws.{after-asym}
 use Rattle.mw_logic.proofs.SortLaws.{join-nil, join_assoc, sorted_terms-comm}
 use Rattle.mw_logic.proofs.Canonical.{Each-join, Each-arranged}
-use Rattle.mw_logic.proofs.SortedLists.{Climbs, insert_first, lower, sorted_terms-climbing}
+use Rattle.mw_logic.proofs.SortedLists.{Climbs, NoneBelow-lower, insert_first, sorted_terms-climbing}
 
 -- the head of the first list comes first
 pub first_head : (t u : RawTerm) (ts us : RawTerms) → Climbs (cons t ts) → Climbs (cons u us) → stands_after t u ≡ false
     → sorted_terms (join (cons t ts) (cons u us)) ≡ cons t (sorted_terms (join ts (cons u us)))
 first_head t u ts us h k e =
     insert_first t (sorted_terms (join ts (cons u us)))
-    (Each-arranged (λ x. stands_after t x ≡ false) true (join ts (cons u us)) (Each-join (λ x. stands_after t x ≡ false) ts (cons u us) h.0 (e, lower t u us e k.0)))
+    (Each-arranged (λ x. stands_after t x ≡ false) true (join ts (cons u us)) (Each-join (λ x. stands_after t x ≡ false) ts (cons u us) h.0 (e, NoneBelow-lower t u us e k.0)))
 
 -- or that of the second
 pub second_head : (t u : RawTerm) (ts us : RawTerms) → Climbs (cons t ts) → Climbs (cons u us) → stands_after t u ≡ true

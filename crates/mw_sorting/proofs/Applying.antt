@@ -9,17 +9,15 @@ use Rattle.mw_logic.specs.Sorts.{IsBelow}
 use Rattle.mw_logic.specs.TermOrder.{stands_after, sorted_terms}
 use Rattle.mw_logic.specs.Parts.{is_assoc, all_nested}
 use Rattle.mw_logic.specs.Kinds.{is_successor}
-use Rattle.mw_logic.specs.Preregular.{AreOfKinds}
 use Rattle.mw_logic.specs.NormalForm.{is_comm, identity_of, is_identity, own_arguments, arranged, counted, applied_in}
-use Rattle.mw_logic.proofs.KindLaws.{SameKind-trans, SameKind-sym}
 use Rattle.mw_logic.proofs.Canonical.{Each, Each-join, IsCanonical, AreCanonical, named, comm_operator, identity_operator}
 use Rattle.mw_logic.proofs.Soundness.{Made, made, HasKind-same, is_associative}
 use Rattle.mw_logic.proofs.Successor.{is_successor-sound}
 use Rattle.mw_logic.proofs.BelowLaws.{IsBelow-refl, IsBelow-trans}
 use Rattle.mw_logic.proofs.RawArguments.{IsTermOf, operator_of, own_terms}
 use Rattle.mw_sorting.specs.ComputedSorts.{ComputedSort, number_sort, plain_sort, chain_sort, ComputedSorts, no_sorts, more_sorts, Folds, last, IsResultOn}
-use Rattle.mw_sorting.specs.PreregularModulo.{IsOfKind, IsPreregularModulo}
-use Rattle.mw_sorting.proofs.Results.{result_kind, result_monotone, result_swapped}
+use Rattle.mw_sorting.specs.PreregularModulo.{IsPreregularModulo}
+use Rattle.mw_sorting.proofs.Results.{result_swapped}
 use Rattle.mw_sorting.proofs.Folding.{fold_join, fold_sorted}
 use Rattle.mw_sorting.proofs.Forms.{sort_kind}
 
@@ -75,31 +73,11 @@ module _ (sig : Signature) (ok : IsPreregularModulo sig) where
       abbrev K : ℕ
       K = o.result
 
-      abbrev In : Sorted → Type 0
-      In = IsOfKind sig K
-
       abbrev P : RawTerm → Type 0
       P = IsTermOf sig K
 
       abbrev Gives : Sorted → Sorted → Sorted → Type 0
       Gives S T R = IsResultOn sig o (S ∷ T ∷ []) R
-
-      monotone : (S T R S2 T2 R2 : Sorted) → Gives S T R → IsBelow sig S2 S → IsBelow sig T2 T → Gives S2 T2 R2 → IsBelow sig R2 R
-      monotone S T R S2 T2 R2 r b d q = result_monotone sig ok.well_sorted f o is (S2 ∷ T2 ∷ []) (S ∷ T ∷ []) R2 R r (b, (d, tt)) q
-
-      kinds : (S T : Sorted) → In S → In T → AreOfKinds sig (S ∷ T ∷ []) o.args
-      kinds S T i j =
-          let (A, B, e, p, q) = ok.accepted.assoc f o is a in
-          subst (AreOfKinds sig (S ∷ T ∷ [])) (sym e) (SameKind-trans i (SameKind-sym p), (SameKind-trans j (SameKind-sym q), tt))
-
-      exists : (S T : Sorted) → In S → In T → (R : Sorted) × Gives S T R × In R
-      exists S T i j = let (R, r) = ok.results f o is (S ∷ T ∷ []) (kinds S T i j) in (R, r, result_kind sig ok.well_sorted f o is (S ∷ T ∷ []) R r)
-
-      inside : (t : RawTerm) (S : Sorted) → P t → ComputedSort sig t S → In S
-      inside t S p s = sort_kind sig ok K t S p s
-
-      results_in : (S T R : Sorted) → Gives S T R → In R
-      results_in S T R r = result_kind sig ok.well_sorted f o is (S ∷ T ∷ []) R r
 
       -- a term's own arguments have its sort folded
       own_fold : (x : RawTerm) (S : Sorted) → ComputedSort sig x S → Folds sig o (own_arguments f x) S
@@ -122,7 +100,7 @@ module _ (sig : Signature) (ok : IsPreregularModulo sig) where
       arranged_fold true e ts R p q =
           let (p2, there, c) = comm_operator sig f e in
           let c2 : IsTrue o.comm = operator_of sig f (λ o. IsTrue o.comm) is there c in
-          fold_sorted sig o In (IsBelow-refl sig) (IsBelow-trans sig) monotone exists (ok.associative f o is a) P inside results_in (result_swapped sig ok.well_sorted f o is c2) ts R p q
+          fold_sorted sig ok f o is a c2 ts R p q
 
       pair_sort : (x y : RawTerm) (S T Q : Sorted) → IsCanonical sig x → IsCanonical sig y → P x → P y → ComputedSort sig x S → ComputedSort sig y T → Gives S T Q → Lower (applied_in sig f (cons x (cons y nil))) Q
       pair_sort x y S T Q kx ky px py s t q = by_made (made sig ok.accepted f h x y kx ky)
@@ -140,14 +118,14 @@ module _ (sig : Signature) (ok : IsPreregularModulo sig) where
           by_made : Made sig ok.accepted f x y → Lower (applied_in sig f (cons x (cons y nil))) Q
           by_made (inl m) =
               let (i, w, si) = of_identity x S m.0 s in
-              subst (λ t. Lower t Q) (sym m.1) (T, t, (ok.identity f o i is w S T Q si (inside y T py t)).0 q)
+              subst (λ t. Lower t Q) (sym m.1) (T, t, (ok.identity f o i is w S T Q si (sort_kind sig ok K y T py t)).0 q)
           by_made (inr (inl m)) =
               let (i, w, si) = of_identity y T m.0 t in
-              subst (λ t. Lower t Q) (sym m.1) (S, s, (ok.identity f o i is w T S Q si (inside x S px s)).1 q)
+              subst (λ t. Lower t Q) (sym m.1) (S, s, (ok.identity f o i is w T S Q si (sort_kind sig ok K x S px s)).1 q)
           by_made (inr (inr m)) =
               let ex = own_terms sig ok.accepted f o is h x px in
               let ey = own_terms sig ok.accepted f o is h y py in
-              let (V, v, lv) = fold_join sig o In (IsBelow-refl sig) (IsBelow-trans sig) monotone exists (ok.associative f o is a) P inside results_in ex ey (own_fold x S s) (own_fold y T t) q in
+              let (V, v, lv) = fold_join sig ok f o is a ex ey (own_fold x S s) (own_fold y T t) q in
               let (W, w, lw) = arranged_fold (is_comm sig f) refl (join (own_arguments f x) (own_arguments f y)) V (Each-join P (own_arguments f x) (own_arguments f y) ex ey) v in
               subst (λ t. Lower t Q) (sym m) (W, chain_sort o is h w, IsBelow-trans sig W V Q lw lv)
 

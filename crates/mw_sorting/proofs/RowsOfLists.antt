@@ -1,6 +1,6 @@
--- Worked rows. LIST has a sort S, constants mt and a of it, and an operator on S with assoc and id: mt: it is preregular
--- modulo its axioms, and a a has the least sort S. PART has a sort E, a constant e of it, and an operator from E and [E]
--- to E with assoc and id: e: it isn't, since beside e a term without a sort would have sort E.
+-- Worked rows. LIST has a sort S, constants mt and a of it, and an operator on S with assoc and id: mt: it is
+-- preregular modulo its axioms, and a a has the least sort S. PART has a sort E, a constant e of it, and an operator
+-- from E and [E] to E with assoc and id: e: it isn't, since beside e a term without a sort would have sort E.
 use Rattle.std.specs.Prelude.{◌≡◌, ℕ, zero, suc, List, [], ◌∷◌, Some, false, codes, refl, IsTrue}
 use Rattle.std.proofs.Common.{inl, inr, ap, sym, subst, ◌∙◌}
 use Rattle.std.proofs.lemmas.Bool.{false≢true}
