@@ -8,7 +8,7 @@ use Rattle.mw_logic.specs.TermOrder.{stands_after, insert_term, sorted_terms}
 use Rattle.mw_logic.proofs.OrderLaws.{after-antisym, not_after_itself}
 use Rattle.mw_logic.proofs.Canonical.{Each, Each-arranged}
 use Rattle.mw_logic.proofs.Elements.{taken}
-use Rattle.mw_logic.proofs.Climbing.{Climbs, insert_first}
+use Rattle.mw_logic.proofs.SortedLists.{Climbs, insert_first}
 
 -- what each has, that which stands there has
 pub each_among : (P : RawTerm → Type 0) (t : RawTerm) (us : RawTerms) → Each P us → Among us t → P t

@@ -9,7 +9,7 @@ use Rattle.mw_logic.specs.Parts.{is_assoc, number_of_terms}
 use Rattle.mw_logic.specs.NormalForm.{is_comm, identity_of, elements, arranged, applied_in}
 use Rattle.mw_logic.specs.TermOrder.{sorted_terms}
 use Rattle.mw_logic.proofs.Canonical.{IsCanonical, AreCanonical, elements_are}
-use Rattle.mw_logic.proofs.Climbing.{climbs}
+use Rattle.mw_logic.proofs.SortedLists.{climbs}
 use Rattle.mw_split.specs.Lists.{AllOnce}
 use Rattle.mw_machine.specs.Positions.{IsNumbered, AreNumbered}
 use Rattle.mw_machine.proofs.Counting.{all_within_counted}

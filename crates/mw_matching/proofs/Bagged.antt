@@ -14,7 +14,7 @@ use Rattle.mw_logic.proofs.Canonical.{Each, IsElement, IsCanonical, elements-bac
 use Rattle.mw_logic.proofs.Holes.{Each-unarranged, Each-parts}
 use Rattle.mw_logic.proofs.Inside.{Among-insert}
 use Rattle.mw_logic.proofs.Invariance.{elements_kept}
-use Rattle.mw_logic.proofs.Climbing.{Climbs, climbs, sorted-climbs}
+use Rattle.mw_logic.proofs.SortedLists.{Climbs, climbs, sorted_terms-climbing}
 use Rattle.mw_split.specs.Lists.{AllOnce}
 use Rattle.mw_machine.specs.Positions.{IsNumbered, AreNumbered, AreWithin}
 use Rattle.mw_machine.proofs.Counting.{within_counted, all_within_counted}
@@ -59,7 +59,7 @@ module _ (sig : Signature) (ok : IsAccepted sig) (f : ℕ) (h : is_assoc sig f �
       there : (d : RawTerm) → Among zs d → IsShare sig f true zs (d, taken d zs)
       there d m =
           let s : IsElement e f d = each_among (IsElement e f) d zs z.each_element m in
-          let o : sorted_terms (taken d zs) ≡ taken d zs = sorted-climbs (taken d zs) (climbs_taken d zs z.climbs) in
+          let o : sorted_terms (taken d zs) ≡ taken d zs = sorted_terms-climbing (taken d zs) (climbs_taken d zs z.climbs) in
           record {
             canonical = each_among (IsCanonical sig) d zs z.each_canonical m;
             order = o;
@@ -87,7 +87,7 @@ module _ (sig : Signature) (ok : IsAccepted sig) (f : ℕ) (h : is_assoc sig f �
   any_shares_once : (zs : RawTerms) → AreElements zs → AllOnce (IsShare sig f false zs) (shares e f false zs)
   any_shares_once zs z =
       once_mapped (Halves zs) (IsShare sig f false zs) (share_of e f) (filter (λ ps. is_backed e (first_of ps)) (pieces true 2 zs))
-      (once_filtered (ArePieces true 2 zs) (λ ps. is_backed e (first_of ps)) (pieces true 2 zs) (of_pieces sig ok f true 2 zs (sorted-climbs zs z.climbs))) there back one
+      (once_filtered (ArePieces true 2 zs) (λ ps. is_backed e (first_of ps)) (pieces true 2 zs) (of_pieces sig ok f true 2 zs (sorted_terms-climbing zs z.climbs))) there back one
     where
       first_elements : (p r : RawTerms) → sorted_terms (join p r) ≡ zs → (P : RawTerm → Type 0) → Each P zs → Each P p
       first_elements p r w P a = (Each-parts P p r (Each-unarranged P true (join p r) (subst (Each P) (sym w) a))).0

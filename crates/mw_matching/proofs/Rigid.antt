@@ -10,7 +10,7 @@ use Rattle.mw_logic.specs.NormalForm.{is_comm, identity_of, elements, flattened,
 use Rattle.mw_logic.proofs.Elements.{taken, taken-insert}
 use Rattle.mw_logic.proofs.Canonical.{Each, IsElement, IsCanonical, elements_are}
 use Rattle.mw_logic.proofs.Inside.{Among-insert}
-use Rattle.mw_logic.proofs.Climbing.{Climbs, climbs, sorted-climbs}
+use Rattle.mw_logic.proofs.SortedLists.{Climbs, climbs, sorted_terms-climbing}
 use Rattle.mw_split.specs.Lists.{AllOnce}
 use Rattle.mw_arguments.specs.Arguments.{Spells, Gives}
 use Rattle.mw_arguments.specs.Pieces.{ArePieces}
@@ -32,7 +32,7 @@ module _ (sig : Signature) (ok : IsAccepted sig) (f : ℕ) (h : is_assoc sig f �
 
   pub rigid_once : (r k : ℕ) (zs : RawTerms) → Each (IsElement e f) zs → Each (IsCanonical sig) zs → Climbs zs → AllOnce (Rigid r k zs) (rigid_splits e f r k zs)
   rigid_once zero k zs s q c =
-      let l = spellings sig ok f h k zs s q (pieces true k zs) (subst (λ b. AllOnce (ArePieces b k zs) (pieces true k zs)) (sym ac) (of_pieces sig ok f true k zs (sorted-climbs zs c))) in
+      let l = spellings sig ok f h k zs s q (pieces true k zs) (subst (λ b. AllOnce (ArePieces b k zs) (pieces true k zs)) (sym ac) (of_pieces sig ok f true k zs (sorted_terms-climbing zs c))) in
       once_same (Spells sig f k zs) (Rigid 0 k zs) (rigid_splits e f 0 k zs)
       (λ vs g. (record { canonical = g.canonical; size = g.size ∙ omega arith; whole = g.whole }, tt))
       (λ vs g. record { canonical = g.0.canonical; size = g.0.size ∙ omega arith; whole = g.0.whole }) l
