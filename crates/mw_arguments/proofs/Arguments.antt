@@ -1,4 +1,5 @@
--- Each cut of a term's elements gives arguments on which the operator gives the term, and each such list of arguments comes from one cut.
+-- Each cut of a term's elements gives arguments on which the operator gives the term, and each list of such arguments
+-- comes from one cut.
 use Rattle.std.specs.Prelude.{◌≡◌, ◌≤◌, ℕ, suc, List, [], ◌∷◌, length, map, filter, Bool, true, Option, Some, None, refl}
 use Rattle.std.proofs.Common.{ap, sym, subst, ◌∙◌, arith}
 use Rattle.std.proofs.lemmas.Bool.{and_parts}

@@ -7,12 +7,11 @@ use Rattle.mw_logic.specs.Parts.{Among, number_of_terms}
 use Rattle.mw_logic.specs.TermOrder.{stands_after, insert_term, sorted_terms}
 use Rattle.mw_logic.proofs.SortLaws.{sorted_terms-right, sorted_terms-idempotent, insert_term-comm}
 use Rattle.mw_logic.proofs.OrderLaws.{after-antisym, not_after_itself}
-use Rattle.mw_logic.proofs.SortedLists.{same_term}
+use Rattle.mw_logic.proofs.SortedLists.{same_term, Climbs, climbs}
 use Rattle.mw_logic.proofs.Canonical.{Each}
 use Rattle.mw_logic.proofs.Elements.{taken, taken-insert}
 use Rattle.mw_logic.proofs.Lifting.{Among-join}
 use Rattle.mw_logic.proofs.Inside.{Among-insert}
-use Rattle.mw_logic.proofs.SortedLists.{Climbs, climbs}
 use Rattle.mw_arguments.specs.Bags.{same}
 use Rattle.mw_arguments.specs.Places.{chosen, others, Rise}
 use Rattle.mw_arguments.proofs.Runs.{same-equal}

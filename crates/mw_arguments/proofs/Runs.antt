@@ -6,9 +6,8 @@ use Rattle.mw_logic.specs.Term.{RawTerm, RawTerms, nil, cons}
 use Rattle.mw_logic.specs.Parts.{Among}
 use Rattle.mw_logic.specs.TermOrder.{stands_after}
 use Rattle.mw_logic.proofs.OrderLaws.{after-antisym, not_after_itself}
-use Rattle.mw_logic.proofs.SortedLists.{same_term, same_itself}
+use Rattle.mw_logic.proofs.SortedLists.{same_term, same_itself, Climbs}
 use Rattle.mw_logic.proofs.Canonical.{Each}
-use Rattle.mw_logic.proofs.SortedLists.{Climbs}
 use Rattle.mw_split.specs.Lists.{Member, Distinct, AllOnce}
 use Rattle.mw_arguments.specs.Bags.{same, with_one, runs, heads, numbers, copies, spread, AreAfter, Rises}
 

@@ -10,9 +10,8 @@ use Rattle.mw_logic.specs.Parts.{is_assoc, number_of_terms}
 use Rattle.mw_logic.specs.TermOrder.{stands_after, sorted_terms}
 use Rattle.mw_logic.specs.NormalForm.{is_comm, identity_of, elements, arranged, counted, applied_in}
 use Rattle.mw_logic.proofs.OrderLaws.{after-asym, after-antisym}
-use Rattle.mw_logic.proofs.SortedLists.{same_term}
+use Rattle.mw_logic.proofs.SortedLists.{same_term, climbs}
 use Rattle.mw_logic.proofs.Canonical.{IsCanonical, AreCanonical}
-use Rattle.mw_logic.proofs.SortedLists.{climbs}
 use Rattle.mw_split.specs.Lists.{Member, AllOnce}
 use Rattle.mw_split.specs.Cuts.{bag_cuts, list_cuts}
 use Rattle.mw_split.proofs.Whole.{bag_cuts_once, list_cuts_once}

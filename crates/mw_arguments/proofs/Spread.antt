@@ -6,8 +6,7 @@ use Rattle.std.proofs.lemmas.Bool.{both_ways}
 use Rattle.mw_logic.specs.Term.{RawTerm, RawTerms, nil, cons, join}
 use Rattle.mw_logic.specs.TermOrder.{compare_terms, stands_after, insert_term, sorted_terms}
 use Rattle.mw_logic.proofs.OrderLaws.{after-asym, not_after_itself}
-use Rattle.mw_logic.proofs.SortedLists.{occurrences, sorted_terms-counts, same_term, same_itself}
-use Rattle.mw_logic.proofs.SortedLists.{NoneBelow, insert_first}
+use Rattle.mw_logic.proofs.SortedLists.{occurrences, sorted_terms-counts, same_term, same_itself, NoneBelow, insert_first}
 use Rattle.mw_arguments.specs.Bags.{copies, spread, AreAfter, Rises}
 
 -- one if the terms are equal

@@ -1,7 +1,7 @@
 -- Matching, case by case.
 use Rattle.std.specs.Prelude.{◌≡◌, ◌≢◌, ◌≤◌, ◌<◌, ◌+◌, ◌↔◌, ℕ, zero, suc, List, [], ◌∷◌, ◌++◌, length, drop, get_or, Bool, true, false, Some, slice_get, unwrap_or, IsTrue, refl}
 use Rattle.std.proofs.Common.{sym, ap, ◌∙◌, arith, true≢false}
-use Rattle.mw_logic.specs.Term.{RawTerm, RawTerms, numeral, quoted, variable, apply, nil, cons}
+use Rattle.mw_logic.specs.Term.{RawTerm, RawTerms, variable, cons}
 use Rattle.mw_machine.specs.Positions.{position, fill, fill_all, counted, counted_all, IsNumbered, AreNumbered, Begins}
 use Rattle.mw_logic.specs.NormalForm.{height, highest}
 use Rattle.mw_logic.specs.Terms.{terms_of}

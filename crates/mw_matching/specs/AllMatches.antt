@@ -1,4 +1,5 @@
--- The matches of a pattern, whatever its operators' axioms: arguments under an associative and commutative operator one at a time, others by splits.
+-- The matches of a pattern, whatever its operators' axioms: arguments under an associative and commutative operator one
+-- at a time, others by splits.
 use Rattle.std.specs.Prelude.{ℕ, List, [], ◌∷◌, flat_map, Bool, ◌&&◌, cond, slice_get}
 use Rattle.mw_logic.specs.Term.{RawTerm, numeral, quoted, variable, apply, RawTerms, nil, cons}
 use Rattle.mw_logic.specs.Signature.{Signature}

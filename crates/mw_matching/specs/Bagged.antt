@@ -47,7 +47,8 @@ bag_matches e f rigid M nil nil vs = vs ∷ []
 bag_matches e f rigid M nil (cons z zs) vs = []
 bag_matches e f rigid M (cons q qs) zs vs = flat_map (λ c. flat_map (λ us. bag_matches e f rigid M qs c.1 us) (M q c.0 vs)) (shares e f (rigid q) zs)
 
--- us are the values vs and behind them those of the other variables of ps, and the elements of the instances of ps, in order, are zs
+-- us are the values vs and behind them those of the other variables of ps; the elements of the instances of ps, in order,
+-- are zs
 pub record IsBagMatch (sig : Signature) (T : Theory) (f : ℕ) (ps zs : RawTerms) (vs us : List RawTerm) : Type 0 where
   pub begins : Begins vs us
   pub size : length us ≡ counted_all (length vs) ps

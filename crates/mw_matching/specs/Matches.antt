@@ -1,5 +1,5 @@
--- All lists of values, by position, on which a pattern gives a term. What the axioms do is behind `splits`: the lists of canonical arguments on which an
--- operator gives a term, each once.
+-- All lists of values, by position, on which a pattern gives a term. What the axioms do is behind `splits`: the lists of
+-- canonical arguments on which an operator gives a term, each once.
 use Rattle.std.specs.Prelude.{◌≡◌, ◌≤◌, ℕ, List, [], ◌∷◌, ◌++◌, flat_map, length, Bool, true, cond, Option, Some, None, slice_get, unwrap_or, ⊤}
 use Rattle.mw_logic.specs.Term.{RawTerm, numeral, quoted, variable, apply, RawTerms, nil, cons}
 use Rattle.mw_logic.specs.Signature.{Signature}
@@ -77,7 +77,8 @@ abbrev mutual
   AllHaveArities sig nil = ⊤
   AllHaveArities sig (cons t ts) = HasArities sig t × AllHaveArities sig ts
 
--- The lists of arguments are all that patterns could become, each once; what they become may be limited by what the patterns show.
+-- The lists of arguments are all that patterns could become, each once. They may be fewer than all on which the operator
+-- gives the term, by what the patterns show of what they become.
 pub record IsTheory (sig : Signature) (T : Theory) (Shown : ℕ → RawTerms → RawTerms → Type 0) : Type 0 where
   pub exact : (f : ℕ) (qs : RawTerms) (t : RawTerm) → HasArity sig f (number_of_terms qs) → IsCanonical sig t → AllOnce (λ ts. Gives sig f (number_of_terms qs) t ts × Shown f qs ts) (T.splits f qs t)
   pub shown : (f : ℕ) (qs : RawTerms) (us : List RawTerm) → Fits sig T 0 us → AreWithin (length us) qs → Shown f qs (evaluated_all sig us qs)
