@@ -2,7 +2,7 @@
 use Rattle.std.proofs.Common.{◌≡◌, ℕ, zero, suc, ◌+◌, ◌<◌, ◌≤◌, List, [], ◌∷◌, length, get_or, drop, arith, ap, sym, ◌∙◌, refl, length-drop, inl, inr}
 use Rattle.mw_logic.specs.Term.{RawTerm, RawTerms, numeral, quoted, variable, apply, nil, cons, join}
 use Rattle.mw_logic.specs.Parts.{number_of_terms}
-use Rattle.mw_term.specs.declared.term.Term.{Term}
+use Rattle.std.proofs.Common.{Bor}
 use Rattle.mw_term.specs.declared.term.View.{View}
 use Rattle.mw_term.specs.Shapes.{viewed}
 use Rattle.std.specs.Prelude.{Some, None, slice_get, ◌-◌}

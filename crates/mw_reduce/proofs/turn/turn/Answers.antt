@@ -24,7 +24,7 @@ returns-then-saturating_add-gt-DEEPEST-clause-turns c =
     let sig = c.args.context.now.signature in
     let f = rw c.in-Some.is at c.in_ok-first.ensures.there in
     let e : fill_all c.find.new.found.items c.in-Some.statement.now.left ≡ terms_of c.args.done.items = rw (← c.as_slice.ensures.value) f.2 in
-    let d : c.depth_at-depth.result ≡ min (height (fill c.find.new.found.items (clean c.in-Some.statement.now.right))) 4294967295 = rw (← c.as_slice-in-Some.ensures.value) c.depth_at-depth.ensures in
+    let d : c.depth_at-depth.result ≡ min (height (fill c.find.new.found.items (clean c.in-Some.statement.now.right))) 65535 = rw (← c.as_slice-in-Some.ensures.value) c.depth_at-depth.ensures in
     let s = c.saturating_add.ensures in let t = c.if-saturating_add-gt-DEEPEST.true in
     λ M n t0 below m l fit h ns.
     let g = subst (λ ds. IsGround sig (apply c.args.op (terms_of ds))) (sym c.as_slice.ensures.value) (ground_whole M n c.args.equations.now m t0 _ _ below _ h) in
@@ -39,7 +39,7 @@ returns-in_ok-next-in-Some-clause-turns c =
     let sig = c.args.context.now.signature in
     let f = rw c.in-Some.is at c.in_ok-first.ensures.there in
     let e : fill_all c.find.new.found.items c.in-Some.statement.now.left ≡ terms_of c.args.done.items = rw (← c.as_slice.ensures.value) f.2 in
-    let d : c.depth_at-depth.result ≡ min (height (fill c.find.new.found.items (clean c.in-Some.statement.now.right))) 4294967295 = rw (← c.as_slice-in-Some.ensures.value) c.depth_at-depth.ensures in
+    let d : c.depth_at-depth.result ≡ min (height (fill c.find.new.found.items (clean c.in-Some.statement.now.right))) 65535 = rw (← c.as_slice-in-Some.ensures.value) c.depth_at-depth.ensures in
     let s = c.saturating_add.ensures in let t = c.if-saturating_add-gt-DEEPEST.false in
     let w : IsWellNumbered c.in-Some.statement.now = c.requires.numbered c.args.op f.0.0 c.in-Some.statement.now f.0.1 in
     λ M n t0 below m l fit h ns.
