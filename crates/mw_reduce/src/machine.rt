@@ -162,26 +162,33 @@ fn complete<'m>(
     top: &mut Frame<'m>,
     kept: &mut Trail,
     found: &mut Vec<Term>,
+    spare: &mut Vec<Term>,
     limit: u64,
 ) -> Result<Option<End>, AllocError>
     requires numbered { AreWellNumbered equations.now }
     requires running { IsRunning limit (record { below = below.old.items; top = top.old; kept = kept.old }) }
     requires done { (opened kept.old.values top.old).rest ≡ nil }
+    requires spare { spare.old.items ≡ [] }
     ensures goes { IfOk result (Goes limit (record { below = below.new.items; top = top.new; kept = kept.new })) }
     ensures falls { IfOk result (Falls (record { below = below.old.items; top = top.old; kept = kept.old }) (record { below = below.new.items; top = top.new; kept = kept.new })) }
     ensures means { (M : Module) (n : ℕ) (t0 : RawTerm) → Describes M n context.now.signature equations.now → MeansRunning M n t0 (record { below = below.old.items; top = top.old; kept = kept.old }) → IfOk result (MeansGoes M n t0 limit (record { below = below.new.items; top = top.new; kept = kept.new })) }
+    ensures spare { IfOk result (λ _. spare.new.items ≡ []) }
 {
     let op = top.op;
-    let done = replace(&mut top.done, Vec::new(alloc));
+    let mut done = replace(&mut top.done, Vec::new(alloc));
     let level = below.len();
     match turn(
-        alloc, context, equations, op, done, level, kept, found, limit,
+        alloc, context, equations, op, &mut done, level, kept, found, limit,
     )? {
         Turn::Open(frame) => {
             *top = frame;
             Ok(None)
         }
-        Turn::Normal(term) => go_out(below, top, kept, term, limit),
+        Turn::Normal(term) => {
+            done.clear();
+            *spare = done;
+            go_out(below, top, kept, term, limit)
+        }
         Turn::Full(part) => stop(alloc, below, kept, part, Reason::Rewrites),
         Turn::Deep(part) => stop(alloc, below, kept, part, Reason::Depth),
     }
@@ -196,15 +203,18 @@ fn step<'m>(
     top: &mut Frame<'m>,
     kept: &mut Trail,
     found: &mut Vec<Term>,
+    spare: &mut Vec<Term>,
     limit: u64,
 ) -> Result<Option<End>, AllocError>
     requires numbered { AreWellNumbered equations.now }
     requires running { IsRunning limit (record { below = below.old.items; top = top.old; kept = kept.old }) }
+    requires spare { spare.old.items ≡ [] }
     ensures goes { IfOk result (Goes limit (record { below = below.new.items; top = top.new; kept = kept.new })) }
     ensures falls { IfOk result (Falls (record { below = below.old.items; top = top.old; kept = kept.old }) (record { below = below.new.items; top = top.new; kept = kept.new })) }
     ensures means { (M : Module) (n : ℕ) (t0 : RawTerm) → Describes M n context.now.signature equations.now → MeansRunning M n t0 (record { below = below.old.items; top = top.old; kept = kept.old }) → IfOk result (MeansGoes M n t0 limit (record { below = below.new.items; top = top.new; kept = kept.new })) }
+    ensures spare { IfOk result (λ _. spare.new.items ≡ []) }
 {
-    match next_of(alloc, top, kept.values())? {
+    match next_of(alloc, top, kept.values(), spare)? {
         Next::Value(term) => {
             top.done.push(term)?;
             Ok(None)
@@ -215,7 +225,9 @@ fn step<'m>(
             below.push(outer)?;
             Ok(None)
         }
-        Next::Complete => complete(alloc, context, equations, below, top, kept, found, limit),
+        Next::Complete => complete(
+            alloc, context, equations, below, top, kept, found, spare, limit,
+        ),
     }
 }
 
@@ -228,17 +240,22 @@ fn advance<'m>(
     top: &mut Frame<'m>,
     kept: &mut Trail,
     found: &mut Vec<Term>,
+    spare: &mut Vec<Term>,
     limit: u64,
 ) -> Result<Option<End>, AllocError>
     requires numbered { AreWellNumbered equations.now }
     requires running { IsRunning limit (record { below = below.old.items; top = top.old; kept = kept.old }) }
+    requires spare { spare.old.items ≡ [] }
     ensures goes { IfOk result (Goes limit (record { below = below.new.items; top = top.new; kept = kept.new })) }
     ensures climbed { IfOk result (Climbed (stepped kept.old.items) (record { below = below.new.items; top = top.new; kept = kept.new })) }
     ensures means { (M : Module) (n : ℕ) (t0 : RawTerm) → Describes M n context.now.signature equations.now → MeansRunning M n t0 (record { below = below.old.items; top = top.old; kept = kept.old }) → IfOk result (MeansGoes M n t0 limit (record { below = below.new.items; top = top.new; kept = kept.new })) }
+    ensures spare { IfOk result (λ _. spare.new.items ≡ []) }
 {
     let before = kept.steps();
     loop {
-        let end = step(alloc, context, equations, below, top, kept, found, limit)?;
+        let end = step(
+            alloc, context, equations, below, top, kept, found, spare, limit,
+        )?;
         if end.is_some() || kept.steps() != before {
             return Ok(end);
         }
@@ -263,9 +280,11 @@ fn run<'m>(
     let mut top = top;
     let mut kept = Trail::new(alloc);
     let mut found = Vec::new(alloc);
+    let mut spare = Vec::new(alloc);
     loop {
         let next = advance(
-            alloc, context, equations, &mut below, &mut top, &mut kept, &mut found, limit,
+            alloc, context, equations, &mut below, &mut top, &mut kept, &mut found, &mut spare,
+            limit,
         )?;
         match next {
             None => {}

@@ -1,5 +1,5 @@
 // The next argument of a frame.
-ghost use Rattle.std.specs.Prelude.{◌≡◌, ◌≤◌, ◌-◌, length, List, IfOk, MatchOption, drop};
+ghost use Rattle.std.specs.Prelude.{◌≡◌, ◌≤◌, ◌-◌, length, List, [], IfOk, MatchOption, drop};
 ghost use Rattle.mw_logic.specs.Term.{RawTerm};
 ghost use Rattle.mw_machine.specs.Machine.{IsFlat};
 ghost use Rattle.mw_machine.specs.Positions.{AreWithin};
@@ -10,6 +10,7 @@ use crate::frame::{Frame, Next, Todo};
 use mw_pattern::Pattern;
 use mw_term::{Term, View, copy};
 use std::alloc::{AllocError, Global};
+use std::mem::replace;
 
 /// The values of one statement, which begin at a position.
 pub fn behind(values: &[Term], base: usize) -> &[Term]
@@ -37,17 +38,22 @@ pub fn open<'m>(alloc: Global, term: &Term) -> Result<Option<Frame<'m>>, AllocEr
     }
 }
 
-/// What the next argument is.
+/// What the next argument is. A frame that is opened for a part of a right side takes the spare list.
 pub fn next_of<'m>(
     alloc: Global,
     frame: &Frame<'m>,
     values: &[Term],
+    spare: &mut Vec<Term>,
 ) -> Result<Next<'m>, AllocError>
-    requires { Fits values.now frame.now }
-    ensures { IfOk result (IsNext values.now frame.now) }
+    requires fits { Fits values.now frame.now }
+    requires spare { spare.old.items ≡ [] }
+    ensures next { IfOk result (IsNext values.now frame.now) }
+    ensures spare { spare.new.items ≡ [] }
 {
     match &frame.todo {
-        Todo::Pattern(list, base) => next_pattern(alloc, *list, *base, frame.done.len(), values),
+        Todo::Pattern(list, base) => {
+            next_pattern(alloc, *list, *base, frame.done.len(), values, spare)
+        },
         Todo::Given(term) => next_given(alloc, term, frame.done.len()),
     }
 }
@@ -58,10 +64,13 @@ fn next_pattern<'m>(
     base: usize,
     at: usize,
     values: &[Term],
+    spare: &mut Vec<Term>,
 ) -> Result<Next<'m>, AllocError>
     requires below { base ≤ length values.now }
     requires within { AreWithin (length values.now - base) (clean_all list.now) }
-    ensures { IfOk result (IsNextPattern values.now list.now base at) }
+    requires spare { spare.old.items ≡ [] }
+    ensures next { IfOk result (IsNextPattern values.now list.now base at) }
+    ensures spare { spare.new.items ≡ [] }
 {
     match list.get(at) {
         None => Ok(Next::Complete),
@@ -73,7 +82,7 @@ fn next_pattern<'m>(
         Some(Pattern::Op(f, args)) => {
             let after = list.len() - at - 1;
             let inner = args.slice();
-            let done = Vec::with_capacity(alloc, inner.len())?;
+            let done = replace(spare, Vec::new(alloc));
             Ok(Next::Inside(
                 Frame {
                     op: *f,

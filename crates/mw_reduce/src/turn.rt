@@ -23,6 +23,7 @@ use mw_pattern::{Equation, Equations, Pattern, depth_at, instance};
 use mw_proof::Trail;
 use mw_term::{OpId, Term, copy};
 use std::alloc::{AllocError, Global};
+use std::mem::replace;
 
 const DEEPEST: u64 = 1000;
 
@@ -77,7 +78,7 @@ fn fire<'m>(
     statement: &'m Equation,
     kept: &mut Trail,
     found: &mut Vec<Term>,
-    spare: Vec<Term>,
+    spare: &mut Vec<Term>,
     limit: u64,
 ) -> Result<Turn<'m>, AllocError>
     requires numbered { IsWellNumbered statement.now }
@@ -105,7 +106,7 @@ fn right<'m>(
     statement: &'m Equation,
     values: &[Term],
     base: usize,
-    spare: Vec<Term>,
+    spare: &mut Vec<Term>,
     full: bool,
 ) -> Result<Turn<'m>, AllocError>
     requires numbered { IsWellNumbered statement.now }
@@ -120,7 +121,7 @@ fn right<'m>(
     }
     match &statement.right {
         Pattern::Op(f, args) => {
-            let mut done = spare;
+            let mut done = replace(spare, Vec::new(alloc));
             done.clear();
             Ok(Turn::Open(Frame {
                 op: *f,
@@ -142,7 +143,7 @@ pub fn turn<'m>(
     context: &Ctx,
     equations: &'m Equations,
     op: OpId,
-    done: Vec<Term>,
+    done: &mut Vec<Term>,
     level: usize,
     kept: &mut Trail,
     found: &mut Vec<Term>,
@@ -155,18 +156,18 @@ pub fn turn<'m>(
     ensures climbs { IfOk result (Climbs kept.old kept.new) }
     ensures places { IfOk result (λ _. left_open 0 kept.new.items ≡ left_open 0 kept.old.items) }
     ensures grows { IfOk result (λ r. (ws : List RawTerm) × (kept.new.values ≡ kept.old.values ++ ws)) }
-    ensures turns { (M : Module) (n : ℕ) (t0 : RawTerm) (below : List FrameOf) → Describes M n context.now.signature equations.now → length below ≡ level → AllFit kept.old.values below → Holds M n t0 kept.old.items kept.old.values below (apply op (terms_of done.items)) → AreNormalBy M (Fails M n) (terms_of done.items) → IfOk result (After M n t0 kept.new.items kept.new.values below) }
+    ensures turns { (M : Module) (n : ℕ) (t0 : RawTerm) (below : List FrameOf) → Describes M n context.now.signature equations.now → length below ≡ level → AllFit kept.old.values below → Holds M n t0 kept.old.items kept.old.values below (apply op (terms_of done.old.items)) → AreNormalBy M (Fails M n) (terms_of done.old.items) → IfOk result (After M n t0 kept.new.items kept.new.values below) }
 {
     let first = find(context, equations, op, done.as_slice(), found)?;
     match first {
         None => {
-            let t = Term::apply(alloc, op, done)?;
+            let t = Term::apply_from(alloc, op, done)?;
             Ok(Turn::Normal(t))
         }
         Some(statement) => {
             let depth = depth_at(&statement.right, found.as_slice()) as u64;
             if depth.saturating_add(level as u64) > DEEPEST {
-                let part = Term::apply(alloc, op, done)?;
+                let part = Term::apply_from(alloc, op, done)?;
                 return Ok(Turn::Deep(part));
             }
             let next = fire(alloc, statement, kept, found, done, limit)?;

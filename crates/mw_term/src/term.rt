@@ -1,5 +1,5 @@
 // Terms that share their parts.
-ghost use Rattle.std.specs.Prelude.{◌≡◌, ◌+◌, ◌-◌, ◌^◌, List, min, IfOk};
+ghost use Rattle.std.specs.Prelude.{◌≡◌, ◌+◌, ◌-◌, ◌^◌, List, [], min, IfOk};
 ghost use Rattle.mw_logic.specs.Term.{RawTerm, numeral, quoted, variable, apply as applied};
 ghost use Rattle.mw_logic.specs.Terms.{args_of, terms_of};
 ghost use Rattle.mw_logic.specs.NormalForm.{height};
@@ -12,6 +12,7 @@ use crate::numeral::Numeral;
 use crate::{Name, OpId, Operators, VarId};
 use std::alloc::{AllocError, Global};
 use std::marker::Model;
+use std::mem::replace;
 use std::slice;
 use std::sync::Arc;
 
@@ -130,22 +131,39 @@ impl Term {
     pub fn apply(alloc: Global, operator: OpId, args: Vec<Term>) -> Result<Term, AllocError>
         ensures { IfOk result (λ t. t ≡ applied operator (terms_of args.items)) }
     {
+        let mut args = args;
+        let term = Term::apply_from(alloc, operator, &mut args)?;
+        Ok(term)
+    }
+
+    /// The operator on the terms of a list, which are taken out of it. The list keeps its room where it has one or two;
+    /// for want of memory it may have lost them.
+    pub fn apply_from(
+        alloc: Global,
+        operator: OpId,
+        args: &mut Vec<Term>,
+    ) -> Result<Term, AllocError>
+        ensures is { IfOk result (λ t. t ≡ applied operator (terms_of args.old.items)) }
+        ensures taken { IfOk result (λ _. args.new.items ≡ []) }
+    {
         let Facts {
             remainders,
             last,
             depth,
         } = facts_in(args.as_slice()).under(operator);
-        let mut args = args;
         if args.len() > 2 {
-            let args = Box::new(alloc, args).map_err(AllocError::from)?;
-            return made(alloc, remainders, Shape::Many(last, depth, operator, args));
+            let list = replace(args, Vec::new(alloc));
+            let list = Box::new(alloc, list).map_err(AllocError::from)?;
+            let term = made(alloc, remainders, Shape::Many(last, depth, operator, list))?;
+            return Ok(term);
         }
         let shape = match (args.pop(), args.pop()) {
             (Some(second), Some(first)) => Shape::Two(last, depth, operator, [first, second]),
             (Some(only), None) => Shape::One(last, depth, operator, only),
             _ => Shape::Constant(last, depth, operator),
         };
-        made(alloc, remainders, shape)
+        let term = made(alloc, remainders, shape)?;
+        Ok(term)
     }
 
     /// What stands on top. It takes no memory.

@@ -1,10 +1,11 @@
 use Rattle.mw_reduce.proofs.machine.run.Goals as goal
 
 pub returns-in-Some : goal.returns-in-Some
-returns-in-Some c = λ M n d g w h. let a = c.in_ok-next.ensures.means M n _ d (c.loop-found.invariant.1 M n d g w h) in rw c.in-Some.is at a
+returns-in-Some c = λ M n d g w h. let a = c.in_ok-next.ensures.means M n _ d (c.loop-spare.invariant.1 M n d g w h) in rw c.in-Some.is at a
 
-pub loop-found-preserved : goal.loop-found-preserved
-loop-found-preserved c = (
+pub loop-spare-preserved : goal.loop-spare-preserved
+loop-spare-preserved c = (
   rw c.in-None.is at c.in_ok-next.ensures.goes,
-  λ M n d g w h. let a = c.in_ok-next.ensures.means M n _ d (c.loop-found.invariant.1 M n d g w h) in rw c.in-None.is at a,
+  λ M n d g w h. let a = c.in_ok-next.ensures.means M n _ d (c.loop-spare.invariant.1 M n d g w h) in rw c.in-None.is at a,
+  c.in_ok-next.ensures.spare,
 )
