@@ -3,7 +3,8 @@
 use mw_pattern::Pattern;
 use mw_term::{OpId, Term};
 
-/// What the arguments of a frame are made of: the subterms of a right side, at the values from `base` on, or given ones.
+/// What the arguments of a frame are made of: the subterms of a right side, at the values from `base` on, or given
+/// ones.
 #[derive(Drop)]
 pub enum Todo<'m> {
     Pattern(&'m [Pattern], usize),

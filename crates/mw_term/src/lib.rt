@@ -4,23 +4,24 @@
 //! as a raw term, a [`Signature`] as a signature, a [`Statement`] as a statement. Sorts, kinds and operators are
 //! numbered from 1.
 //!
-//! A `Term` shares its parts: a copy is one count. A node takes 40 bytes with its count: one or two arguments stand in
-//! it, longer lists, names and variables in boxes of their own. [`Term::view`] shows what stands on top, without memory.
-//! Names and lists are kept in `Seq`, which contracts see without its capacity.
+//! A `Term` shares its parts: a copy is one count. A node takes 40 bytes with its count: up to two arguments stand in
+//! it, longer lists, names and variables in boxes of their own. [`Term::view`] shows what stands on top, and takes no
+//! memory. Names and lists are kept in `Seq`, which contracts see without its capacity.
 //!
-//! Each node keeps its depth, and in six bytes which operators stand in it ([`Operators`]): a bit for each remainder of
-//! their numbers by 32, and the largest number. Those that are looked for ([`Sought`]) have their remainders and the
-//! least of their numbers. So that one of them may stand in a term can be told wrongly, where numbers have one
-//! remainder and none is out of reach; that none does never is. The operators that each kind has from the start have the
-//! largest numbers, so a term without them is known as such, however many there are.
+//! Each node keeps its depth, and which operators stand in it ([`Operators`]), in eleven of its bytes: a bit for each
+//! remainder of their numbers by 64, and the largest of the numbers, up to 255. Operators that are looked for
+//! ([`Sought`]) are known by their remainders and by the least of their numbers. That one of them stands in a term is
+//! said wrongly where an operator there has the remainder of one of them, and the largest number there isn't below the
+//! least of theirs; that none does is never said wrongly. So up to 63 operators are told from each other, and those that
+//! each kind has from the start, whose numbers come last, from all others.
 //!
 //! Proved, over the logic's terms and lists: `copy`, `copy_name`, `same`, `number_at`, `numbered` and `is_ground` give
-//! what their names say; `view` shows the term (`viewed`, specs/Shapes), and `into_args` gives its arguments; `depth` is
-//! the term's height, or 65,535 where that is more; `operators` is what specs/OperatorSets says (`operators_in`), and
-//! `may_have` is false exactly where the remainders or the numbers are apart (`AreApart`), so that none that is sought
-//! stands in the term (proofs/OperatorSets); `compare` is the order of terms of mw_logic (`compare_terms`): numerals by
-//! value, quoted identifiers by bytes, operators by number, by how many arguments they have and by these from the left,
-//! variables by name and sort.
+//! what their names say; `view` shows the term (`viewed`, specs/Shapes), `into_args` gives its arguments, and
+//! `apply_from` takes those of a term that comes out of a list; `depth` is the term's height, or 65,535 where that is
+//! more; `operators` is `operators_in` of specs/OperatorSets, and `may_have` is false exactly where the remainders or
+//! the numbers are apart (`AreApart`), so that none that is sought stands in the term (proofs/OperatorSets); `compare`
+//! is the order of terms of mw_logic (`compare_terms`): numerals by value, quoted identifiers by bytes, operators by
+//! number, by how many arguments they have and by these from the left, variables by name and sort.
 //!
 //! Cost: `copy`, `depth` and `operators` are no walks; `compare` and `same` end at the first difference; `into_args`
 //! moves the arguments of a node that nobody else holds, and counts those of another. Want of memory is the only error.
