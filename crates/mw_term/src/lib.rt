@@ -12,8 +12,8 @@
 //! remainder of their numbers by 64, and the largest of the numbers, up to 255. Operators that are looked for
 //! ([`Sought`]) are known by their remainders and by the least of their numbers. That one of them stands in a term is
 //! said wrongly where an operator there has the remainder of one of them, and the largest number there isn't below the
-//! least of theirs; that none does is never said wrongly. So up to 63 operators are told from each other, and those that
-//! each kind has from the start, whose numbers come last, from all others.
+//! least of theirs; that none does never is said wrongly. So up to 63 operators are told from each other, and from
+//! all of them those that each kind has from the start, whose numbers come last.
 //!
 //! Proved, over the logic's terms and lists: `copy`, `copy_name`, `same`, `number_at`, `numbered` and `is_ground` give
 //! what their names say; `view` shows the term (`viewed`, specs/Shapes), `into_args` gives its arguments, and
