@@ -30,6 +30,7 @@ mod machine;
 mod next;
 mod progress;
 mod reducing;
+mod spares;
 mod turn;
 
 pub use progress::Outcome;

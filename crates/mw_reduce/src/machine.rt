@@ -19,6 +19,7 @@ ghost use Rattle.mw_reduce.specs.State.{Counts, Describes, Holds};
 use crate::frame::{Frame, Next, Todo, Turn};
 use crate::next::{behind, next_of, open};
 use crate::progress::{End, Outcome, Reduced};
+use crate::spares::Spares;
 use crate::turn::turn;
 use mw_least::Ctx;
 use mw_pattern::{Equations, Pattern, instance};
@@ -162,17 +163,15 @@ fn complete<'m>(
     top: &mut Frame<'m>,
     kept: &mut Trail,
     found: &mut Vec<Term>,
-    spare: &mut Vec<Term>,
+    spares: &mut Spares,
     limit: u64,
 ) -> Result<Option<End>, AllocError>
     requires numbered { AreWellNumbered equations.now }
     requires running { IsRunning limit (record { below = below.old.items; top = top.old; kept = kept.old }) }
     requires done { (opened kept.old.values top.old).rest ≡ nil }
-    requires spare { spare.old.items ≡ [] }
     ensures goes { IfOk result (Goes limit (record { below = below.new.items; top = top.new; kept = kept.new })) }
     ensures falls { IfOk result (Falls (record { below = below.old.items; top = top.old; kept = kept.old }) (record { below = below.new.items; top = top.new; kept = kept.new })) }
     ensures means { (M : Module) (n : ℕ) (t0 : RawTerm) → Describes M n context.now.signature equations.now → MeansRunning M n t0 (record { below = below.old.items; top = top.old; kept = kept.old }) → IfOk result (MeansGoes M n t0 limit (record { below = below.new.items; top = top.new; kept = kept.new })) }
-    ensures spare { IfOk result (λ _. spare.new.items ≡ []) }
 {
     let op = top.op;
     let mut done = replace(&mut top.done, Vec::new(alloc));
@@ -185,8 +184,7 @@ fn complete<'m>(
             Ok(None)
         }
         Turn::Normal(term) => {
-            done.clear();
-            *spare = done;
+            spares.put(done)?;
             go_out(below, top, kept, term, limit)
         }
         Turn::Full(part) => stop(alloc, below, kept, part, Reason::Rewrites),
@@ -203,18 +201,16 @@ fn step<'m>(
     top: &mut Frame<'m>,
     kept: &mut Trail,
     found: &mut Vec<Term>,
-    spare: &mut Vec<Term>,
+    spares: &mut Spares,
     limit: u64,
 ) -> Result<Option<End>, AllocError>
     requires numbered { AreWellNumbered equations.now }
     requires running { IsRunning limit (record { below = below.old.items; top = top.old; kept = kept.old }) }
-    requires spare { spare.old.items ≡ [] }
     ensures goes { IfOk result (Goes limit (record { below = below.new.items; top = top.new; kept = kept.new })) }
     ensures falls { IfOk result (Falls (record { below = below.old.items; top = top.old; kept = kept.old }) (record { below = below.new.items; top = top.new; kept = kept.new })) }
     ensures means { (M : Module) (n : ℕ) (t0 : RawTerm) → Describes M n context.now.signature equations.now → MeansRunning M n t0 (record { below = below.old.items; top = top.old; kept = kept.old }) → IfOk result (MeansGoes M n t0 limit (record { below = below.new.items; top = top.new; kept = kept.new })) }
-    ensures spare { IfOk result (λ _. spare.new.items ≡ []) }
 {
-    match next_of(alloc, top, kept.values(), spare)? {
+    match next_of(alloc, top, kept.values(), spares)? {
         Next::Value(term) => {
             top.done.push(term)?;
             Ok(None)
@@ -226,7 +222,7 @@ fn step<'m>(
             Ok(None)
         }
         Next::Complete => complete(
-            alloc, context, equations, below, top, kept, found, spare, limit,
+            alloc, context, equations, below, top, kept, found, spares, limit,
         ),
     }
 }
@@ -240,21 +236,19 @@ fn advance<'m>(
     top: &mut Frame<'m>,
     kept: &mut Trail,
     found: &mut Vec<Term>,
-    spare: &mut Vec<Term>,
+    spares: &mut Spares,
     limit: u64,
 ) -> Result<Option<End>, AllocError>
     requires numbered { AreWellNumbered equations.now }
     requires running { IsRunning limit (record { below = below.old.items; top = top.old; kept = kept.old }) }
-    requires spare { spare.old.items ≡ [] }
     ensures goes { IfOk result (Goes limit (record { below = below.new.items; top = top.new; kept = kept.new })) }
     ensures climbed { IfOk result (Climbed (stepped kept.old.items) (record { below = below.new.items; top = top.new; kept = kept.new })) }
     ensures means { (M : Module) (n : ℕ) (t0 : RawTerm) → Describes M n context.now.signature equations.now → MeansRunning M n t0 (record { below = below.old.items; top = top.old; kept = kept.old }) → IfOk result (MeansGoes M n t0 limit (record { below = below.new.items; top = top.new; kept = kept.new })) }
-    ensures spare { IfOk result (λ _. spare.new.items ≡ []) }
 {
     let before = kept.steps();
     loop {
         let end = step(
-            alloc, context, equations, below, top, kept, found, spare, limit,
+            alloc, context, equations, below, top, kept, found, spares, limit,
         )?;
         if end.is_some() || kept.steps() != before {
             return Ok(end);
@@ -280,10 +274,17 @@ fn run<'m>(
     let mut top = top;
     let mut kept = Trail::new(alloc);
     let mut found = Vec::new(alloc);
-    let mut spare = Vec::new(alloc);
+    let mut spares = Spares::none(alloc);
     loop {
         let next = advance(
-            alloc, context, equations, &mut below, &mut top, &mut kept, &mut found, &mut spare,
+            alloc,
+            context,
+            equations,
+            &mut below,
+            &mut top,
+            &mut kept,
+            &mut found,
+            &mut spares,
             limit,
         )?;
         match next {

@@ -1,5 +1,5 @@
 // The next argument of a frame.
-ghost use Rattle.std.specs.Prelude.{◌≡◌, ◌≤◌, ◌-◌, length, List, [], IfOk, MatchOption, drop};
+ghost use Rattle.std.specs.Prelude.{◌≡◌, ◌≤◌, ◌-◌, length, List, IfOk, MatchOption, drop};
 ghost use Rattle.mw_logic.specs.Term.{RawTerm};
 ghost use Rattle.mw_machine.specs.Machine.{IsFlat};
 ghost use Rattle.mw_machine.specs.Positions.{AreWithin};
@@ -7,10 +7,10 @@ ghost use Rattle.mw_pattern.specs.Clean.{clean_all};
 ghost use Rattle.mw_reduce.specs.Stack.{IsNext, IsNextPattern, IsNextGiven, Fits, Opens};
 
 use crate::frame::{Frame, Next, Todo};
+use crate::spares::Spares;
 use mw_pattern::Pattern;
 use mw_term::{Term, View, copy};
 use std::alloc::{AllocError, Global};
-use std::mem::replace;
 
 /// The values of one statement, which begin at a position.
 pub fn behind(values: &[Term], base: usize) -> &[Term]
@@ -38,21 +38,19 @@ pub fn open<'m>(alloc: Global, term: &Term) -> Result<Option<Frame<'m>>, AllocEr
     }
 }
 
-/// What the next argument is. A frame that is opened for a part of a right side takes the spare list.
+/// What the next argument is. A frame that is opened for a part of a right side takes a spare list.
 pub fn next_of<'m>(
     alloc: Global,
     frame: &Frame<'m>,
     values: &[Term],
-    spare: &mut Vec<Term>,
+    spares: &mut Spares,
 ) -> Result<Next<'m>, AllocError>
-    requires fits { Fits values.now frame.now }
-    requires spare { spare.old.items ≡ [] }
-    ensures next { IfOk result (IsNext values.now frame.now) }
-    ensures spare { spare.new.items ≡ [] }
+    requires { Fits values.now frame.now }
+    ensures { IfOk result (IsNext values.now frame.now) }
 {
     match &frame.todo {
         Todo::Pattern(list, base) => {
-            next_pattern(alloc, *list, *base, frame.done.len(), values, spare)
+            next_pattern(alloc, *list, *base, frame.done.len(), values, spares)
         },
         Todo::Given(term) => next_given(alloc, term, frame.done.len()),
     }
@@ -64,13 +62,11 @@ fn next_pattern<'m>(
     base: usize,
     at: usize,
     values: &[Term],
-    spare: &mut Vec<Term>,
+    spares: &mut Spares,
 ) -> Result<Next<'m>, AllocError>
     requires below { base ≤ length values.now }
     requires within { AreWithin (length values.now - base) (clean_all list.now) }
-    requires spare { spare.old.items ≡ [] }
-    ensures next { IfOk result (IsNextPattern values.now list.now base at) }
-    ensures spare { spare.new.items ≡ [] }
+    ensures { IfOk result (IsNextPattern values.now list.now base at) }
 {
     match list.get(at) {
         None => Ok(Next::Complete),
@@ -82,7 +78,7 @@ fn next_pattern<'m>(
         Some(Pattern::Op(f, args)) => {
             let after = list.len() - at - 1;
             let inner = args.slice();
-            let done = replace(spare, Vec::new(alloc));
+            let done = spares.take(alloc);
             Ok(Next::Inside(
                 Frame {
                     op: *f,

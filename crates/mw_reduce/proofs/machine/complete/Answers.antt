@@ -29,8 +29,8 @@ returns-in-Open-clause-means c =
     let a = c.in_ok-frame.ensures.turns M n t0 c.args.below.now.items d l c.requires.running.below (subst (λ z. Holds M n t0 c.args.kept.now.items c.args.kept.now.values c.args.below.now.items z) w h.holds) (rw c.replace-done.ensures.value h.done) in
     let b = rw c.in-Open.is at a in means_open M n t0 _ q.1.1 b
 
-pub returns-in-Normal-clause-means : goal.returns-in-Normal-clause-means
-returns-in-Normal-clause-means c =
+pub returns-in_ok-put-in-Normal-clause-means : goal.returns-in_ok-put-in-Normal-clause-means
+returns-in_ok-put-in-Normal-clause-means c =
     let l : length c.args.below.now.items ≡ c.len-level.result = search rules in
     let w = complete_here c.args.kept.now.values c.args.top.now c.requires.done ∙ ap (λ v. apply c.args.top.now.op (terms_of v.items)) (sym c.replace-done.ensures.value) in
     λ M n t0 d h.

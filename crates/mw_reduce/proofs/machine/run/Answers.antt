@@ -1,11 +1,10 @@
 use Rattle.mw_reduce.proofs.machine.run.Goals as goal
 
 pub returns-in-Some : goal.returns-in-Some
-returns-in-Some c = λ M n d g w h. let a = c.in_ok-next.ensures.means M n _ d (c.loop-spare.invariant.1 M n d g w h) in rw c.in-Some.is at a
+returns-in-Some c = λ M n d g w h. let a = c.in_ok-next.ensures.means M n _ d (c.loop-spares.invariant.1 M n d g w h) in rw c.in-Some.is at a
 
-pub loop-spare-preserved : goal.loop-spare-preserved
-loop-spare-preserved c = (
+pub loop-spares-preserved : goal.loop-spares-preserved
+loop-spares-preserved c = (
   rw c.in-None.is at c.in_ok-next.ensures.goes,
-  λ M n d g w h. let a = c.in_ok-next.ensures.means M n _ d (c.loop-spare.invariant.1 M n d g w h) in rw c.in-None.is at a,
-  c.in_ok-next.ensures.spare,
+  λ M n d g w h. let a = c.in_ok-next.ensures.means M n _ d (c.loop-spares.invariant.1 M n d g w h) in rw c.in-None.is at a,
 )

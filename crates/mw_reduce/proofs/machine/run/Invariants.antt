@@ -1,4 +1,4 @@
-use Rattle.std.proofs.Common.{◌≡◌, ℕ, ◌-◌, ◌≤◌, [], IsTrue}
+use Rattle.std.proofs.Common.{ℕ, ◌-◌, ◌≤◌, [], IsTrue}
 use Rattle.mw_logic.specs.Term.{is_ground}
 use Rattle.mw_logic.specs.Signature.{IsRawTerm}
 use Rattle.mw_logic.specs.NormalForm.{height}
@@ -10,12 +10,11 @@ use Rattle.mw_reduce.specs.Stack.{opened}
 use Rattle.mw_reduce.specs.Run.{IsRunning, MeansRunning}
 use Rattle.mw_reduce.proofs.machine.run.Given as goal
 
-abbrev pub invariant-loop-spare : goal.invariant-loop-spare
-invariant-loop-spare l =
+abbrev pub invariant-loop-spares : goal.invariant-loop-spares
+invariant-loop-spares l =
     IsRunning l.limit (record { below = l.below.items; top = l.top; kept = l.kept })
     × ((M : Module) (n : ℕ) → Describes M n l.context.signature l.equations → IsTrue (is_ground (here (opened [] l.fn.top))) → IsRawTerm M.signature (here (opened [] l.fn.top)) → height (here (opened [] l.fn.top)) ≤ 1000
     → MeansRunning M n (here (opened [] l.fn.top)) (record { below = l.below.items; top = l.top; kept = l.kept }))
-    × (l.spare.items ≡ [])
 
-abbrev pub decreases-loop-spare : goal.decreases-loop-spare
-decreases-loop-spare l = l.limit - stepped l.kept.items
+abbrev pub decreases-loop-spares : goal.decreases-loop-spares
+decreases-loop-spares l = l.limit - stepped l.kept.items

@@ -10,19 +10,19 @@ use Rattle.mw_reduce.proofs.machine.step.Goals as goal
 
 pub returns-in_ok-push-in-Value-clause-falls : goal.returns-in_ok-push-in-Value-clause-falls
 returns-in_ok-push-in-Value-clause-falls c =
-    let x = rw c.in-Value.is at c.in_ok-term.ensures.next in let y = rw c.values.ensures at x in
+    let x = rw c.in-Value.is at c.in_ok-term.ensures in let y = rw c.values.ensures at x in
     let s : Running = record { below = c.args.below.now.items; top = c.args.top.now; kept = c.args.kept.now } in
     inr (refl, falls_value s (record { op = c.args.top.now.op; done = c.push.new.self; todo = c.args.top.now.todo }) c.in-Value.term refl refl c.in_ok-push-in-Value.ensures.items y.0)
 
 pub returns-in_ok-push-in-Value-clause-means : goal.returns-in_ok-push-in-Value-clause-means
 returns-in_ok-push-in-Value-clause-means c =
-    let x = rw c.in-Value.is at c.in_ok-term.ensures.next in let y = rw c.values.ensures at x in
+    let x = rw c.in-Value.is at c.in_ok-term.ensures in let y = rw c.values.ensures at x in
     let s : Running = record { below = c.args.below.now.items; top = c.args.top.now; kept = c.args.kept.now } in
     λ M n t0 d h. means_value M n t0 c.args.equations.now d s (record { op = c.args.top.now.op; done = c.push.new.self; todo = c.args.top.now.todo }) c.in-Value.term refl refl c.in_ok-push-in-Value.ensures.items y.0 y.1 h
 
 pub returns-in_ok-push-in-Inside-clause-goes : goal.returns-in_ok-push-in-Inside-clause-goes
 returns-in_ok-push-in-Inside-clause-goes c =
-    let x = rw c.in-Inside.is at c.in_ok-term.ensures.next in let y = rw c.values.ensures at x in
+    let x = rw c.in-Inside.is at c.in_ok-term.ensures in let y = rw c.values.ensures at x in
     let n = c.in_ok-enter-in-Inside.ensures in
     let e : c.push-in-Inside.new.self.items ≡ c.args.below.now.items ++ c.args.top.now ∷ [] = c.in_ok-push-in-Inside.ensures.items ∙ ap (λ z. c.args.below.now.items ++ z ∷ []) c.replace-outer.ensures.value in
     let s = steps_enter c.args.kept.now c.enter.new.self _ _ n.items in let l = c.requires.running.limited in
@@ -36,7 +36,7 @@ returns-in_ok-push-in-Inside-clause-goes c =
 
 pub returns-in_ok-push-in-Inside-clause-falls : goal.returns-in_ok-push-in-Inside-clause-falls
 returns-in_ok-push-in-Inside-clause-falls c =
-    let x = rw c.in-Inside.is at c.in_ok-term.ensures.next in let y = rw c.values.ensures at x in
+    let x = rw c.in-Inside.is at c.in_ok-term.ensures in let y = rw c.values.ensures at x in
     let n = c.in_ok-enter-in-Inside.ensures in
     let e : c.push-in-Inside.new.self.items ≡ c.args.below.now.items ++ c.args.top.now ∷ [] = c.in_ok-push-in-Inside.ensures.items ∙ ap (λ z. c.args.below.now.items ++ z ∷ []) c.replace-outer.ensures.value in
     inr (
@@ -46,7 +46,7 @@ returns-in_ok-push-in-Inside-clause-falls c =
 
 pub returns-in_ok-push-in-Inside-clause-means : goal.returns-in_ok-push-in-Inside-clause-means
 returns-in_ok-push-in-Inside-clause-means c =
-    let x = rw c.in-Inside.is at c.in_ok-term.ensures.next in let y = rw c.values.ensures at x in
+    let x = rw c.in-Inside.is at c.in_ok-term.ensures in let y = rw c.values.ensures at x in
     let n = c.in_ok-enter-in-Inside.ensures in
     let e : c.push-in-Inside.new.self.items ≡ c.args.below.now.items ++ c.args.top.now ∷ [] = c.in_ok-push-in-Inside.ensures.items ∙ ap (λ z. c.args.below.now.items ++ z ∷ []) c.replace-outer.ensures.value in
     let s : Running = record { below = c.args.below.now.items; top = c.args.top.now; kept = c.args.kept.now } in
