@@ -1,7 +1,7 @@
 -- What is kept of a list of terms, term by term.
-use Rattle.std.proofs.Common.{◌≡◌, ◌∙◌, ◌<◌, ◌≤◌, ◌+◌, ℕ, List, [], ◌∷◌, length, get_or, drop, drop-cons, drop_of_length-le, add-one, min, max, refl, ap, sym, arith}
-use Rattle.std.specs.Int.Bits.{bit_or, or_zero_r}
-use Rattle.mw_logic.specs.Term.{RawTerm, RawTerms, nil, cons}
+use Rattle.std.proofs.Common.{◌≡◌, ◌∙◌, ◌<◌, ◌≤◌, ◌+◌, ℕ, List, [], ◌∷◌, length, get_or, drop, drop-cons, drop_of_length-le, add-one, refl, ap, sym, arith}
+use Rattle.std.specs.Int.Bits.{or_zero_r}
+use Rattle.mw_logic.specs.Term.{RawTerm, RawTerms, cons}
 use Rattle.mw_logic.specs.Terms.{terms_of}
 use Rattle.mw_term.specs.Facts.{facts_of, facts_of_all, facts_joined}
 use Rattle.mw_term.specs.declared.facts.Facts.{Facts}

@@ -18,8 +18,8 @@ use mw_match::Solutions;
 use mw_module::{Unit, read_unit};
 use mw_proof::{By, Proved, refl, replace, then, under};
 use mw_term::{
-    Identity, Name, OpId, Operator, Raw, Seq, Signature, Statement, Subst, Term, View, copy,
-    depth, same,
+    Identity, Name, OpId, Operator, Raw, Seq, Signature, Statement, Subst, Term, View, copy, depth,
+    same,
 };
 use std::alloc::{AllocError, Global};
 use std::test::Fail;

@@ -1,4 +1,4 @@
-use Rattle.std.proofs.Common.{◌∙◌, ◌==◌, length, sym, ap, Some}
+use Rattle.std.proofs.Common.{◌∙◌, sym, ap, Some}
 use Rattle.mw_logic.specs.Signature.{constant_of}
 use Rattle.mw_logic.specs.NormalForm.{is_identity}
 use Rattle.mw_term.specs.Shapes.{viewed}

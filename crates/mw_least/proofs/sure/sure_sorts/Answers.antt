@@ -1,4 +1,4 @@
-use Rattle.std.proofs.Common.{◌≡◌, ◌∙◌, ap, subst}
+use Rattle.std.proofs.Common.{◌∙◌, ap, subst}
 use Rattle.mw_logic.specs.Signature.{Signature}
 use Rattle.mw_poset.specs.SortOrder.{SortOrder}
 use Rattle.mw_least.specs.Sure.{AreResults}

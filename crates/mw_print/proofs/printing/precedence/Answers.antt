@@ -1,4 +1,4 @@
-use Rattle.std.proofs.Common.{◌≡◌, ◌∙◌, length, sym, ap, arith}
+use Rattle.std.proofs.Common.{◌∙◌, sym, ap}
 use Rattle.mw_term.specs.Shapes.{viewed}
 use Rattle.mw_print.specs.Printing.{is_mixfix}
 use Rattle.mw_print.proofs.Forms.{mixfix_precedence, prefix_precedence}

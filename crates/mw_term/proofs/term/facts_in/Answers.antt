@@ -1,7 +1,5 @@
-use Rattle.std.proofs.Common.{◌≡◌, ◌∙◌, ap, sym}
-use Rattle.mw_logic.specs.Term.{RawTerm}
 use Rattle.mw_logic.specs.Terms.{terms_of}
-use Rattle.mw_term.specs.Facts.{facts_of, facts_of_all}
+use Rattle.mw_term.specs.Facts.{facts_of_all}
 use Rattle.mw_term.proofs.KeptFacts.{next_in, all_in}
 use Rattle.mw_term.proofs.term.facts_in.Goals as goal
 
