@@ -11,4 +11,6 @@ mod runs;
 #[cfg(test)]
 mod streams;
 #[cfg(test)]
+mod terms;
+#[cfg(test)]
 mod words;
