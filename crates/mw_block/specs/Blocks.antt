@@ -4,7 +4,7 @@ use Rattle.std.specs.Fmt.{decimal}
 use Rattle.mw_logic.specs.Ends.{Reason, by_rules, by_rewrites, by_depth, by_nat, by_condition, by_nest}
 use Rattle.mw_logic.specs.Term.{RawTerm}
 use Rattle.mw_logic.specs.Signature.{Signature, Sorted}
-use Rattle.mw_print.specs.Printing.{mixfix_text}
+use Rattle.mw_print.specs.Printing.{term_text}
 use Rattle.mw_print.specs.Sorts.{sorted_name}
 
 -- how a reduction ended, in a word
@@ -26,7 +26,7 @@ line text = text ++ 10 ∷ []
 
 -- the command by its word, with its module and its term
 abbrev pub echo_line : List ℕ → Signature → List ℕ → RawTerm → List ℕ
-echo_line command sig name from = line (command ++ codes " in " ++ name ++ codes " : " ++ mixfix_text sig from ++ codes " .")
+echo_line command sig name from = line (command ++ codes " in " ++ name ++ codes " : " ++ term_text sig from ++ codes " .")
 
 -- how many replacements were made
 abbrev pub count_line : ℕ → List ℕ
@@ -34,7 +34,7 @@ count_line count = line (codes "rewrites: " ++ decimal count)
 
 -- the result, with its sort or kind
 abbrev pub result_line : Signature → Sorted → RawTerm → List ℕ
-result_line sig S to = line (codes "result " ++ sorted_name sig S ++ codes ": " ++ mixfix_text sig to)
+result_line sig S to = line (codes "result " ++ sorted_name sig S ++ codes ": " ++ term_text sig to)
 
 -- how the reduction ended
 abbrev pub status_line : Word → List ℕ

@@ -1,7 +1,7 @@
 // Terms and numbers behind a text.
 ghost use Rattle.std.specs.Prelude.{◌≡◌, ◌++◌, OnOk};
 ghost use Rattle.std.specs.Fmt.{decimal};
-ghost use Rattle.mw_print.specs.Printing.{mixfix_text};
+ghost use Rattle.mw_print.specs.Printing.{term_text};
 
 use mw_print::mixfix;
 use mw_term::{Signature, Term};
@@ -14,7 +14,7 @@ pub fn print(
     term: &Term,
     text: &mut Vec<u8>,
 ) -> Result<(), AllocError>
-    ensures { OnOk result (text.new.items ≡ text.old.items ++ mixfix_text signature.now term.now) }
+    ensures { OnOk result (text.new.items ≡ text.old.items ++ term_text signature.now term.now) }
 {
     let printed = mixfix(alloc, signature, term)?;
     text.extend_from_slice(printed.as_slice())

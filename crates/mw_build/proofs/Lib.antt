@@ -1,5 +1,4 @@
 -- Laws of modules that are accepted.
-pub mod Signatures
 pub mod Readable
 pub mod Mentioned
 pub mod Sides

@@ -1,5 +1,5 @@
 -- What is printed of an accepted module's terms reads back.
-use Rattle.std.proofs.Common.{◌≡◌, ◌∙◌, ℕ, zero, suc, List, false, Some, IsFalse, sym, ap, subst, arith}
+use Rattle.std.proofs.Common.{length, ◌≡◌, ◌∙◌, ℕ, zero, suc, List, false, Some, IsFalse, sym, ap, subst, arith}
 use Rattle.std.proofs.lemmas.Bool.{both_ways}
 use Rattle.std.proofs.lemmas.Option.{slice_get_within}
 use Rattle.std.proofs.lemmas.List.Elements.{All-map}
@@ -27,7 +27,7 @@ use Rattle.mw_build.specs.Equations.{IsEquation, AreEquations}
 use Rattle.mw_build.specs.Modules.{Accepted}
 use Rattle.mw_build.specs.Printing.{IsOfSource, TextsReadBack, StatementsArePrintable}
 use Rattle.mw_build.proofs.Reading.{there}
-use Rattle.mw_build.proofs.Signatures.{nat_declared, qid_declared, operators_declared}
+use Rattle.mw_declare.proofs.Accepting.{accepted_declared, nat_declared, qid_declared}
 use Rattle.mw_build.proofs.PrintedVariables.{with_sort_printable, declared_printable}
 
 module _ (source : List ℕ) (a : Accepted) (of : IsOfSource source a) where
@@ -45,7 +45,7 @@ module _ (source : List ℕ) (a : Accepted) (of : IsOfSource source a) where
   signature_is = of.accepted.holds.signature
 
   binary : AreBinary a.module.signature
-  binary = subst AreBinary (sym signature_is) (λ f o e h. absurd (both_ways _ (operators_declared of.unit.statements d of.accepted.declared f o e).assoc h))
+  binary = subst AreBinary (sym signature_is) (λ f o e h. let (K, L, two, k, l) = (accepted_declared of.unit.statements d of.accepted.declared).assoc f o e h in ap length two)
 
   names : AreProperNames a.module.signature
   names = subst AreProperNames (sym signature_is) proper.operators

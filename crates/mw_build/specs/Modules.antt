@@ -1,7 +1,7 @@
 -- Modules that were accepted, and why others are refused.
 use Rattle.std.specs.Prelude.{◌≡◌, ℕ, List}
 use Rattle.mw_logic.specs.Term.{Variable}
-use Rattle.mw_logic.specs.Preregular.{IsPreregular}
+use Rattle.mw_sorting.specs.PreregularModulo.{IsPreregularModulo}
 use Rattle.mw_logic.specs.Module.{Module}
 use Rattle.mw_module.specs.Units.{SeenUnit}
 use Rattle.mw_module.specs.declared.faults.Fault.{Fault}
@@ -24,15 +24,15 @@ pub record IsDeclaredModule (name : List ℕ) (d : Declarations) (equations : Li
   pub variables : a.variables ≡ d.variables
   pub equations_are : AreEquations d.signature d.variables equations a.module.statements
 
--- The unit is this module: it declares it, and the signature is preregular.
+-- The unit is this module: it declares it, and the signature is preregular modulo its axioms.
 pub record IsAccepted (u : SeenUnit) (name : List ℕ) (a : Accepted) : Type 0 where
   pub declarations : Declarations
   pub declared : Declares u.statements declarations
-  pub preregular : IsPreregular declarations.signature
+  pub preregular : IsPreregularModulo declarations.signature
   pub holds : IsDeclaredModule name declarations (equations_of u.statements) a
 
 -- why it is none: a fault of its declarations, or else of its signature, or else of its equations
 pub data IsRefused (u : SeenUnit) (r : Fault) : Type 0 where
   by_declarations : DeclarationFault u.line u.statements r → IsRefused u r
   by_signature : (d : Declarations) → Declares u.statements d → SignatureFault u.line d.signature r → IsRefused u r
-  by_equations : (d : Declarations) → Declares u.statements d → IsPreregular d.signature → FirstFault d.signature d.variables (equations_of u.statements) r → IsRefused u r
+  by_equations : (d : Declarations) → Declares u.statements d → IsPreregularModulo d.signature → FirstFault d.signature d.variables (equations_of u.statements) r → IsRefused u r

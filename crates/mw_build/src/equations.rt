@@ -1,8 +1,10 @@
 // Equations, from tokens to statements.
-ghost use Rattle.std.specs.Prelude.{◌≡◌, List, [], IfOk, OnOk, MatchOption, MatchResult};
-ghost use Rattle.mw_logic.specs.Term.{Variable};
-ghost use Rattle.mw_logic.specs.Signature.{Signature as SignatureOf};
-ghost use Rattle.mw_machine.specs.Simple.{IsSimpleSignature};
+ghost use Rattle.std.specs.Prelude.{◌≡◌, ◌↔◌, List, [], IfOk, OnOk, IsTrue, MatchOption, MatchResult};
+ghost use Rattle.mw_logic.specs.Term.{Variable, RawTerm, variable as a_variable};
+ghost use Rattle.mw_logic.specs.Signature.{Signature as SignatureOf, IsRawTerm};
+ghost use Rattle.mw_logic.specs.Accepted.{IsAccepted};
+ghost use Rattle.mw_logic.specs.NormalForm.{normal_form};
+ghost use Rattle.mw_canon.specs.Causes.{HasCause as HasCanonCause};
 ghost use Rattle.mw_term.specs.Raws.{raw_term};
 ghost use Rattle.mw_module.specs.Units.{seen_statements};
 ghost use Rattle.mw_module.specs.Words.{texts};
@@ -10,20 +12,17 @@ ghost use Rattle.mw_text.specs.Mentions.{missing_in};
 ghost use Rattle.mw_machine.specs.Variables.{met};
 ghost use Rattle.mw_parse.specs.Answers.{HasPairCause};
 ghost use Rattle.mw_grammar.specs.Grammars.{IsGrammarOf, IsReading};
-ghost use Rattle.mw_build.specs.Equations.{IsEquation, EquationFault, IsApplicable, ApplicationFault, IsStatementOf, SidesFault, AreEquations, FirstFault, statement_of, unbound as unbound_in};
+ghost use Rattle.mw_build.specs.Equations.{FitsIn, Oversized, IsEquation, EquationFault, IsApplicable, ApplicationFault, IsStatementOf, SidesFault, AreEquations, FirstFault, unbound as unbound_in};
 ghost use Rattle.mw_build.specs.Sides.{Sides, equations_of, seen_equation, seen_equations};
 
-use crate::size::is_within;
+use mw_canon::{CanonError, Facts, canon};
 use mw_grammar::Grammar;
 use mw_lex::Token;
 use mw_module::{Fault, FaultKind, Form, Lined};
 use mw_parse::{PairError, parse_pair};
-use mw_term::{Fragment, Raw, Seq, Statement, VarId};
+use mw_term::{Fragment, Raw, Seq, Statement, Term, VarId, View};
 use mw_text::Variables;
 use std::alloc::{AllocError, Global};
-
-/// The most levels of a term.
-const DEEPEST: u32 = 1000;
 
 /// An equation's sides as tokens, with its line, and whether it is executable.
 #[derive(Clone, Copy)]
@@ -101,22 +100,87 @@ fn unbound(alloc: Global, left: &Raw, right: &Raw) -> Result<Option<VarId>, Allo
     used.missing_in(alloc, &bound)
 }
 
-/// Why an equation of these sides can't be applied, if it can't.
+/// What keeps a term out.
+fn oversized(error: CanonError) -> Result<FaultKind, AllocError>
+    ensures { (sig : SignatureOf) (t : RawTerm) → HasCanonCause sig t error → IfOk result (Oversized sig t) }
+{
+    match error {
+        CanonError::Deep => Ok(FaultKind::TooDeep),
+        CanonError::Nat => Ok(FaultKind::NumberTooLarge),
+        CanonError::Memory => Err(AllocError),
+    }
+}
+
+/// The canonical form of a term that was read, or what keeps the term out.
+pub fn canonical(
+    alloc: Global,
+    facts: &Facts,
+    raw: &Raw,
+) -> Result<Result<Term, FaultKind>, AllocError>
+    requires { IsRawTerm facts.now (raw_term raw.now) }
+    ensures { IfOk result (λ r. MatchResult r
+        (λ t. FitsIn facts.now (raw_term raw.now) × (t ≡ normal_form facts.now (raw_term raw.now)))
+        (λ kind. Oversized facts.now (raw_term raw.now) kind)) }
+{
+    facts.shows();
+    match canon(alloc, facts, raw) {
+        Ok(term) => Ok(Ok(term)),
+        Err(error) => Ok(Err(oversized(error)?)),
+    }
+}
+
+fn is_variable(term: &Term) -> bool
+    ensures { IsTrue result ↔ (x : Variable) × (term.now ≡ a_variable x) }
+{
+    matches!(term.view(), View::Var(_))
+}
+
+/// Why an equation of these sides can't be applied, if it can't, by its left side's canonical form too.
 fn application_fault(
     alloc: Global,
+    canonical: &Term,
     left: &Raw,
     right: &Raw,
 ) -> Result<Option<FaultKind>, AllocError>
-    ensures { (sig : SignatureOf) → IsSimpleSignature sig → IfOk result (λ o. MatchOption o
+    ensures { (sig : SignatureOf) → IsAccepted sig → IsRawTerm sig (raw_term left.now) → canonical.now ≡ normal_form sig (raw_term left.now) → IfOk result (λ o. MatchOption o
         (IsApplicable sig (raw_term left.now) (raw_term right.now))
         (λ kind. ApplicationFault sig (raw_term left.now) (raw_term right.now) kind)) }
 {
-    if matches!(left, Raw::Var(_)) {
+    if is_variable(canonical) {
         return Ok(Some(FaultKind::LoneVariable));
     }
     match unbound(alloc, left, right)? {
         Some(variable) => Ok(Some(FaultKind::UnboundVariable(variable.name))),
         None => Ok(None),
+    }
+}
+
+/// What is wrong with the sides of an equation, if anything is.
+fn sides_fault(
+    alloc: Global,
+    facts: &Facts,
+    left: &Raw,
+    right: &Raw,
+    executable: bool,
+) -> Result<Option<FaultKind>, AllocError>
+    requires left { IsRawTerm facts.now (raw_term left.now) }
+    requires right { IsRawTerm facts.now (raw_term right.now) }
+    ensures { IfOk result (λ o. MatchOption o
+        (FitsIn facts.now (raw_term left.now) × FitsIn facts.now (raw_term right.now) × (IsTrue executable → IsApplicable facts.now (raw_term left.now) (raw_term right.now)))
+        (λ kind. SidesFault facts.now (raw_term left.now) (raw_term right.now) executable kind)) }
+{
+    facts.shows();
+    let form = match canonical(alloc, facts, left)? {
+        Ok(form) => form,
+        Err(kind) => return Ok(Some(kind)),
+    };
+    if let Err(kind) = canonical(alloc, facts, right)? {
+        return Ok(Some(kind));
+    }
+    if executable {
+        application_fault(alloc, &form, left, right)
+    } else {
+        Ok(None)
     }
 }
 
@@ -129,52 +193,33 @@ fn variables_of(alloc: Global, left: &Raw, right: &Raw) -> Result<Seq<VarId>, Al
     variables.list(alloc)
 }
 
-/// The variables of an equation's sides, in order of first mention, or what is wrong with the sides.
-fn sides_variables(
-    alloc: Global,
-    left: &Raw,
-    right: &Raw,
-    executable: bool,
-) -> Result<Result<Seq<VarId>, FaultKind>, AllocError>
-    ensures { (sig : SignatureOf) → IsSimpleSignature sig → IfOk result (λ r. MatchResult r
-        (λ xs. IsStatementOf sig (raw_term left.now) (raw_term right.now) executable (statement_of (raw_term left.now) (raw_term right.now) executable) × (xs ≡ met (met [] (raw_term left.now)) (raw_term right.now)))
-        (λ kind. SidesFault sig (raw_term left.now) (raw_term right.now) executable kind)) }
-{
-    if !is_within(left, DEEPEST) || !is_within(right, DEEPEST) {
-        return Ok(Err(FaultKind::TooDeep));
-    }
-    if executable {
-        if let Some(kind) = application_fault(alloc, left, right)? {
-            return Ok(Err(kind));
-        }
-    }
-    let variables = variables_of(alloc, left, right)?;
-    Ok(Ok(variables))
-}
-
 /// The statement of an equation's sides, or what is wrong with them.
 fn sides_statement(
     alloc: Global,
+    facts: &Facts,
     left: Raw,
     right: Raw,
     executable: bool,
 ) -> Result<Result<Statement, FaultKind>, AllocError>
-    ensures { (sig : SignatureOf) → IsSimpleSignature sig → IfOk result (λ r. MatchResult r
-        (λ st. IsStatementOf sig (raw_term left) (raw_term right) executable st)
-        (λ kind. SidesFault sig (raw_term left) (raw_term right) executable kind)) }
+    requires left { IsRawTerm facts.now (raw_term left) }
+    requires right { IsRawTerm facts.now (raw_term right) }
+    ensures { IfOk result (λ r. MatchResult r
+        (λ st. IsStatementOf facts.now (raw_term left) (raw_term right) executable st)
+        (λ kind. SidesFault facts.now (raw_term left) (raw_term right) executable kind)) }
 {
-    match sides_variables(alloc, &left, &right, executable)? {
-        Ok(variables) => Ok(Ok(Statement {
-            left,
-            right,
-            fragments: Seq::of(Vec::<Fragment>::new(alloc)),
-            variables,
-            rule: false,
-            executable,
-            owise: false,
-        })),
-        Err(kind) => Ok(Err(kind)),
+    if let Some(kind) = sides_fault(alloc, facts, &left, &right, executable)? {
+        return Ok(Err(kind));
     }
+    let variables = variables_of(alloc, &left, &right)?;
+    Ok(Ok(Statement {
+        left,
+        right,
+        fragments: Seq::of(Vec::<Fragment>::new(alloc)),
+        variables,
+        rule: false,
+        executable,
+        owise: false,
+    }))
 }
 
 /// What is wrong with an equation whose texts aren't read.
@@ -193,16 +238,19 @@ fn unread(error: &PairError) -> Result<Result<Statement, FaultKind>, AllocError>
 /// The statement that an equation is, or what is wrong with it.
 fn statement(
     alloc: Global,
+    facts: &Facts,
     grammar: &Grammar,
     equation: &Equation<'_>,
 ) -> Result<Result<Statement, FaultKind>, AllocError>
-    requires { IsReading grammar.now }
-    ensures { (sig : SignatureOf) (variables : List Variable) → IsSimpleSignature sig → IsGrammarOf sig variables grammar.now → IfOk result (λ r. MatchResult r
-        (IsEquation sig variables (seen_equation equation.now))
-        (λ kind. EquationFault sig variables (seen_equation equation.now) kind)) }
+    requires reading { IsReading grammar.now }
+    requires grammar { (variables : List Variable) × IsGrammarOf facts.now variables grammar.now }
+    ensures { (variables : List Variable) → IsGrammarOf facts.now variables grammar.now → IfOk result (λ r. MatchResult r
+        (IsEquation facts.now variables (seen_equation equation.now))
+        (λ kind. EquationFault facts.now variables (seen_equation equation.now) kind)) }
 {
+    facts.shows();
     match parse_pair(alloc, grammar, equation.left, equation.right) {
-        Ok((left, right)) => sides_statement(alloc, left, right, equation.executable),
+        Ok((left, right)) => sides_statement(alloc, facts, left, right, equation.executable),
         Err(error) => unread(&error),
     }
 }
@@ -210,17 +258,19 @@ fn statement(
 /// The statements that equations are, or the first fault.
 pub fn statements_of(
     alloc: Global,
+    facts: &Facts,
     grammar: &Grammar,
     equations: &[Equation<'_>],
 ) -> Result<Result<Vec<Statement>, Fault>, AllocError>
-    requires { IsReading grammar.now }
-    ensures { (sig : SignatureOf) (variables : List Variable) → IsSimpleSignature sig → IsGrammarOf sig variables grammar.now → IfOk result (λ r. MatchResult r
-        (λ sts. AreEquations sig variables (seen_equations equations.now) sts.items)
-        (λ fault. FirstFault sig variables (seen_equations equations.now) fault)) }
+    requires reading { IsReading grammar.now }
+    requires grammar { (variables : List Variable) × IsGrammarOf facts.now variables grammar.now }
+    ensures { (variables : List Variable) → IsGrammarOf facts.now variables grammar.now → IfOk result (λ r. MatchResult r
+        (λ sts. AreEquations facts.now variables (seen_equations equations.now) sts.items)
+        (λ fault. FirstFault facts.now variables (seen_equations equations.now) fault)) }
 {
     let mut found = Vec::new(alloc);
     for equation in equations {
-        match statement(alloc, grammar, equation)? {
+        match statement(alloc, facts, grammar, equation)? {
             Ok(statement) => found.push(statement)?,
             Err(kind) => {
                 let line = equation.line;

@@ -1,14 +1,15 @@
 //! Modules that were accepted: what their units declare, with their equations read and held for reduction.
 //!
-//! `build` makes a [`Module`] of a unit: its declarations (mw_declare), its operators' tables (mw_sorts), its grammar
-//! (mw_grammar), its equations as statements, and all this as a context (mw_least). `Module::term` reads a term
-//! in which the module's variables may stand.
+//! `build` makes a [`Module`] of a unit: its declarations (mw_declare), its operators' tables (mw_sorts) and axioms
+//! (mw_canon), its grammar (mw_grammar), its equations as statements, and all this as a context (mw_least).
+//! `Module::term` reads a term in which the module's variables may stand, `canonical` makes such a term canonical.
 //!
 //! Faults come in this order, and the first one decides: those of the declarations; an operator without a least result
-//! on some sorts, at the line of the unit's first token; then equation after equation, with the equation's line. Of one
-//! equation: a side of more than 1,024 tokens; sides that spell no pair of terms of one kind, or two; the left side,
-//! then the right one, of more than 1,000 levels; and where it is executable, a left side that is a variable, or the
-//! first variable of the right side, in order of mention, that the left one hasn't.
+//! on some sorts, one whose groupings of three sorts differ, or one whose identity, left out, raises a sort, at the
+//! line of the unit's first token; then equation after equation, with the equation's line. Of one equation: a side of
+//! more than 1,024 tokens; sides that spell no pair of terms of one kind, or two; the left side, then the right one, of
+//! more than 1,000 levels or with too large a number; and where it is executable, a left side that is a variable modulo
+//! the axioms, or the first variable of the right side, in order of mention, that the left one hasn't.
 //!
 //! Proved:
 //!
@@ -16,15 +17,16 @@
 //!   texts spell, and no others of one kind (`IsAccepted`, specs/Modules).
 //! - `fault`: a fault is answered only where the unit has it, and it is the first (`IsRefused`; `FirstFault` of
 //!   specs/Equations).
-//! - The module is simple, as mw_least asks, and its signature has a grammar, as mw_parse asks (their `requires`).
+//! - The module is workable, as mw_least asks, and its signature has a grammar, as mw_parse asks (their `requires`).
 //! - The law `texts_read_back`: the text of each raw term of a module that a source's unit is, cut into tokens, spells
 //!   this term in the module, where the term's variables can be printed (specs/Printing). Ground terms have none, and
 //!   by `statements_are_printable` so it is for the variables of the module's statements.
 //! - `Module::term`: the one term that the tokens spell, a term of the signature; no term only above 1,024 tokens,
 //!   where they spell none, or two.
+//! - `canonical`: the canonical form of a term that was read, or what keeps the term out.
 //!
-//! The definitions speak of levels and of a lone variable modulo the axioms, so they are the same for operators with
-//! axioms; without axioms the tests on terms say what they ask (proofs/Sides). `Memory` may come at any call. Only
+//! The definitions speak of levels and of a lone variable modulo the axioms; the tests ask the canonical forms
+//! (proofs/Sides). `Memory` may come at any call. Only
 //! tested, by the sources in cases/: that the definitions are what is meant. Neither: time.
 #![tactic(auto)]
 
@@ -32,7 +34,7 @@ mod equations;
 mod laws;
 mod modules;
 mod signature;
-mod size;
 
+pub use equations::canonical;
 pub use laws::{statements_are_printable, texts_read_back};
 pub use modules::{Module, build};

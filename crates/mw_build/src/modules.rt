@@ -1,7 +1,9 @@
 // Modules that were accepted.
 ghost use Rattle.std.specs.Prelude.{◌≡◌, ℕ, List, IfOk, IfErr, None};
 ghost use Rattle.mw_logic.specs.Term.{Variable};
-ghost use Rattle.mw_logic.specs.Signature.{Signature as SignatureOf, IsRawTerm};
+ghost use Rattle.mw_logic.specs.Signature.{IsRawTerm};
+ghost use Rattle.mw_logic.specs.Accepted.{IsAccepted as IsAcceptedSignature, IsWellSorted};
+ghost use Rattle.mw_logic.specs.Preregular.{HasItsSorts};
 ghost use Rattle.mw_term.specs.Raws.{raw_term};
 ghost use Rattle.mw_text.specs.Mixfix.{Reads};
 ghost use Rattle.mw_module.specs.Causes.{HasCause};
@@ -9,22 +11,25 @@ ghost use Rattle.mw_module.specs.Known.{AreKnown};
 ghost use Rattle.mw_module.specs.Units.{seen_statements, seen_unit};
 ghost use Rattle.mw_module.specs.Words.{texts};
 ghost use Rattle.mw_grammar.specs.Grammars.{IsGrammarOf, IsReading};
-ghost use Rattle.mw_machine.specs.Simple.{IsSimpleSignature, IsSimpleModule};
 ghost use Rattle.mw_parse.specs.Answers.{HasCause as HasReadingCause};
 ghost use Rattle.mw_poset.specs.SortOrder.{order_of};
 ghost use Rattle.mw_sorts.specs.Diagrams.{AreTablesOf};
+ghost use Rattle.mw_least.specs.Workable.{IsWorkable};
+ghost use Rattle.mw_declare.specs.Declarations.{Declares};
 ghost use Rattle.mw_build.specs.Sides.{equations_of};
 ghost use Rattle.mw_build.specs.Equations.{AreEquations, FirstFault};
 ghost use Rattle.mw_build.specs.Modules.{IsAccepted, IsRefused};
 
 use crate::equations::{equations, statements_of};
 use crate::signature::tables;
+use mw_canon::Facts;
 use mw_declare::{Declarations, declare};
 use mw_grammar::Grammar;
 use mw_least::Ctx;
 use mw_lex::Token;
 use mw_module::{Lined, Unit, UnitError};
 use mw_parse::{ParseError, parse};
+use mw_poset::Poset;
 use mw_sorts::Tables;
 use mw_term::{Name, Raw, Seq, Statement, VarId};
 use std::alloc::{AllocError, Global};
@@ -83,52 +88,124 @@ impl Module {
 /// The statements that a module's equations are, or their first fault.
 fn read(
     alloc: Global,
+    facts: &Facts,
     grammar: &Grammar,
     statements: &[Lined<'_>],
 ) -> Result<Seq<Statement>, UnitError>
-    requires { IsReading grammar.now }
-    ensures statements { (sig : SignatureOf) (variables : List Variable) → IsSimpleSignature sig → IsGrammarOf sig variables grammar.now
-        → IfOk result (AreEquations sig variables (equations_of (seen_statements statements.now))) }
-    ensures fault { (sig : SignatureOf) (variables : List Variable) → IsSimpleSignature sig → IsGrammarOf sig variables grammar.now
-        → IfErr result (HasCause (FirstFault sig variables (equations_of (seen_statements statements.now)))) }
+    requires reading { IsReading grammar.now }
+    requires grammar { (variables : List Variable) × IsGrammarOf facts.now variables grammar.now }
+    ensures statements { (variables : List Variable) → IsGrammarOf facts.now variables grammar.now
+        → IfOk result (AreEquations facts.now variables (equations_of (seen_statements statements.now))) }
+    ensures fault { (variables : List Variable) → IsGrammarOf facts.now variables grammar.now
+        → IfErr result (HasCause (FirstFault facts.now variables (equations_of (seen_statements statements.now)))) }
 {
     let equations = equations(alloc, statements)?;
-    match statements_of(alloc, grammar, equations.as_slice())? {
+    match statements_of(alloc, facts, grammar, equations.as_slice())? {
         Ok(found) => Ok(Seq::of(found)),
         Err(fault) => Err(UnitError::Fault(fault)),
     }
 }
 
-/// The module of this name that was declared.
-fn module_of(
+/// A module's signature with its order, its axioms and its tables, and the module's variables.
+#[derive(Drop)]
+struct Signed {
+    facts: Facts,
+    order: Poset,
+    tables: Box<Tables>,
+    variables: Seq<VarId>,
+}
+
+/// What was declared, with the operators' tables.
+fn with_tables(
     alloc: Global,
-    name: Name,
     declarations: Box<Declarations>,
     tables: Box<Tables>,
-    grammar: Box<Grammar>,
-    statements: Seq<Statement>,
-) -> Result<Module, AllocError>
-    requires simple { IsSimpleModule (record { signature = declarations.value.signature; statements = statements }) }
+) -> Result<Box<Signed>, AllocError>
+    requires accepted { IsAcceptedSignature declarations.value.signature }
+    requires sorts { HasItsSorts declarations.value.signature }
     requires order { declarations.value.order ≡ order_of declarations.value.signature }
-    requires tables { AreTablesOf declarations.value.signature tables.value }
-    requires grammar { IsGrammarOf declarations.value.signature declarations.value.variables grammar.value }
-    ensures { IfOk result (λ m. m ≡ record {
-      name = name;
-      «module» = record { signature = declarations.value.signature; statements = statements };
-      variables = declarations.value.variables;
-    }) }
+    ensures facts { IfOk result (λ s. s.value.facts ≡ declarations.value.signature) }
+    ensures order { IfOk result (λ s. s.value.order ≡ declarations.value.order) }
+    ensures variables { IfOk result (λ s. s.value.variables ≡ declarations.value.variables) }
+    ensures tables { IfOk result (λ s. s.value.tables.value ≡ tables.value) }
 {
     let Declarations {
         signature,
         order,
         variables,
     } = Box::into_inner(declarations);
+    let facts = Facts::of(alloc, signature, &order)?;
+    let signed = Signed {
+        facts,
+        order,
+        tables,
+        variables,
+    };
+    Ok(Box::new(alloc, signed)?)
+}
+
+/// The module of this name with this signature.
+fn module_of(
+    alloc: Global,
+    name: Name,
+    signed: Box<Signed>,
+    grammar: Box<Grammar>,
+    statements: Seq<Statement>,
+) -> Result<Module, AllocError>
+    requires workable { IsWorkable (record { signature = signed.value.facts; statements = statements }) }
+    requires order { signed.value.order ≡ order_of signed.value.facts }
+    requires tables { AreTablesOf signed.value.facts signed.value.tables.value }
+    requires grammar { IsGrammarOf signed.value.facts signed.value.variables grammar.value }
+    ensures { IfOk result (λ m. m ≡ record {
+      name = name;
+      «module» = record { signature = signed.value.facts; statements = statements };
+      variables = signed.value.variables;
+    }) }
+{
+    let Signed {
+        facts,
+        order,
+        tables,
+        variables,
+    } = Box::into_inner(signed);
     Ok(Module {
         name,
-        context: Ctx::new(alloc, signature, order, Box::into_inner(tables), statements)?,
+        context: Ctx::new(alloc, facts, order, Box::into_inner(tables), statements)?,
         variables,
         grammar,
     })
+}
+
+/// The module of this name that a unit is, by what it declares, or its first fault.
+fn declared_module(
+    alloc: Global,
+    name: Name,
+    unit: &Unit<'_>,
+    declarations: Box<Declarations>,
+) -> Result<Module, UnitError>
+    requires known { AreKnown (seen_unit unit.now).statements }
+    requires declared { Declares (seen_unit unit.now).statements declarations.value }
+    requires accepted { IsAcceptedSignature declarations.value.signature }
+    requires well_sorted { IsWellSorted declarations.value.signature }
+    requires sorts { HasItsSorts declarations.value.signature }
+    ensures accepted { IfOk result (IsAccepted (seen_unit unit.now) name) }
+    ensures fault { IfErr result (HasCause (IsRefused (seen_unit unit.now))) }
+{
+    let tables = tables(
+        alloc,
+        unit.line,
+        &declarations.signature,
+        &declarations.order,
+    )?;
+    let signed = with_tables(alloc, declarations, tables)?;
+    let grammar = Grammar::of(
+        alloc,
+        signed.facts.signature(),
+        &signed.order,
+        signed.variables.as_slice(),
+    )?;
+    let statements = read(alloc, &signed.facts, &grammar, unit.statements.as_slice())?;
+    Ok(module_of(alloc, name, signed, grammar, statements)?)
 }
 
 /// The module that a unit is, or its first fault: of its declarations, then of its signature, and then of its
@@ -139,18 +216,5 @@ pub fn build(alloc: Global, unit: &Unit<'_>, name: Name) -> Result<Module, UnitE
     ensures fault { IfErr result (HasCause (IsRefused (seen_unit unit.now))) }
 {
     let declarations = declare(alloc, unit.line, unit.statements.as_slice())?;
-    let tables = tables(
-        alloc,
-        unit.line,
-        &declarations.signature,
-        &declarations.order,
-    )?;
-    let grammar = Grammar::of(
-        alloc,
-        &declarations.signature,
-        &declarations.order,
-        declarations.variables.as_slice(),
-    )?;
-    let statements = read(alloc, &grammar, unit.statements.as_slice())?;
-    Ok(module_of(alloc, name, declarations, tables, grammar, statements)?)
+    declared_module(alloc, name, unit, declarations)
 }

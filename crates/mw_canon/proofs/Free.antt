@@ -1,21 +1,18 @@
--- Without axioms and numbers a term is its own nesting and its own normal form.
-use Rattle.std.specs.Prelude.{◌≡◌, ◌⊎◌, ℕ, ◌+◌, ◌<◌, ◌≤◌, [], ◌∷◌, Bool, true, false, ◌&&◌, nat_eq, Option, Some, None, option_map, unwrap_or, Result, Ok, Err, IfOk, IfErr, IsTrue, refl}
+-- Signatures without axioms and numbers: a term is its own nesting and its own normal form.
+use Rattle.std.specs.Prelude.{◌≡◌, ◌⊎◌, ℕ, ◌+◌, ◌<◌, ◌≤◌, [], ◌∷◌, Bool, true, false, ◌&&◌, nat_eq, Option, Some, None, option_map, unwrap_or, IsTrue, refl}
 use Rattle.std.proofs.Common.{inl, inr, ap, sym, subst, arith, ◌∙◌}
 use Rattle.std.proofs.lemmas.Bool.{both_ways, cases_lt}
 use Rattle.mw_logic.specs.Term.{RawTerm, numeral, quoted, variable, apply, RawTerms, nil, cons, is_ground}
 use Rattle.mw_logic.specs.Signature.{Signature, Operator, at_number, IsRawTerm}
 use Rattle.mw_logic.specs.Axioms.{done}
-use Rattle.mw_logic.specs.Parts.{depth, deepest, continues, is_assoc, nested, all_nested, IsTooDeep, IsTooLarge, IsAdmitted}
-use Rattle.mw_logic.specs.Substitution.{Substitution, instance}
+use Rattle.mw_logic.specs.Parts.{depth, deepest, continues, is_assoc, nested, all_nested, IsAdmitted}
+use Rattle.mw_logic.specs.Substitution.{Substitution}
 use Rattle.mw_logic.specs.Free.{IsFreeSignature}
 use Rattle.mw_logic.specs.Kinds.{is_successor}
 use Rattle.mw_logic.specs.NormalForm.{is_comm, counted, applied_in, normal_form, normal_forms, height, highest}
-use Rattle.mw_logic.proofs.FreeSignature.{free_admitted, free_clean, free_equal}
+use Rattle.mw_logic.proofs.FreeSignature.{free_admitted, free_clean}
 use Rattle.mw_logic.proofs.Successor.{is_successor-sound}
 use Rattle.mw_canon.specs.Canonical.{IsAdmittedTerm, meant}
-use Rattle.mw_canon.specs.Causes.{HasCause, HasDepthCause}
-use Rattle.mw_canon.specs.declared.CanonError.{CanonError}
-use Rattle.mw_canon.specs.declared.CanonError.TheVariants.{Deep, Nat, Memory}
 
 -- a test of an operator that fails on each operator there is
 fails : (test : Operator → Bool) (x : Option Operator) → ((o : Operator) → x ≡ Some o → test o ≡ false) → unwrap_or (option_map test x) false ≡ false
@@ -27,13 +24,13 @@ and_false true c e = e
 and_false false c e = refl
 
 module _ (sig : Signature) (free : IsFreeSignature sig) where
-  pub not_assoc : (f : ℕ) → is_assoc sig f ≡ false
+  not_assoc : (f : ℕ) → is_assoc sig f ≡ false
   not_assoc f = fails (λ o. o.assoc) (at_number sig.operators f) (λ o e. free.assoc f o e)
 
-  pub not_comm : (f : ℕ) → is_comm sig f ≡ false
+  not_comm : (f : ℕ) → is_comm sig f ≡ false
   not_comm f = fails (λ o. o.comm) (at_number sig.operators f) (λ o e. free.comm f o e)
 
-  pub not_successor : (f : ℕ) → is_successor sig f ≡ false
+  not_successor : (f : ℕ) → is_successor sig f ≡ false
   not_successor f = of (is_successor sig f) refl
     where
       of : (b : Bool) → is_successor sig f ≡ b → is_successor sig f ≡ false
@@ -72,7 +69,7 @@ module _ (sig : Signature) (free : IsFreeSignature sig) where
     normal_form_free (variable x) = refl
     normal_form_free (apply f ts) = ap (applied_in sig f) (normal_forms_free ts) ∙ applied_free f ts
 
-    pub normal_forms_free : (ts : RawTerms) → normal_forms sig ts ≡ ts
+    normal_forms_free : (ts : RawTerms) → normal_forms sig ts ≡ ts
     normal_forms_free nil = refl
     normal_forms_free (cons t ts) = rw (normal_form_free t, normal_forms_free ts) refl
 
@@ -84,7 +81,7 @@ module _ (sig : Signature) (free : IsFreeSignature sig) where
 
   mutual
     -- its depth is its height
-    pub depth_free : (t : RawTerm) → depth sig t ≡ height t
+    depth_free : (t : RawTerm) → depth sig t ≡ height t
     depth_free (numeral n) = refl
     depth_free (quoted q) = refl
     depth_free (variable x) = refl
@@ -115,45 +112,7 @@ module _ (sig : Signature) (free : IsFreeSignature sig) where
       let b : IsAdmitted sig t = subst (IsAdmitted sig) (nested_free t) a.admitted in
       (b.ground, subst (IsRawTerm sig) (nested_free t) a.raw, admitted_height t b)
 
-  -- too deep is a matter of the height
-  pub too_deep_free : (t : RawTerm) → 1000 < height t → IsTooDeep sig t
-  too_deep_free t h = let d : depth sig t ≡ height t = depth_free t in record { form = t; clean = record { clean = free_clean sig free t; equal = done }; deep = omega (arith, d, h) }
-
-  pub not_deep_free : (t : RawTerm) → height t ≤ 1000 → ¬ IsTooDeep sig t
-  not_deep_free t h a =
-      let e : t ≡ a.form = free_equal sig free a.clean.equal in
-      let l : 1000 < depth sig t = subst (λ u. 1000 < depth sig u) (sym e) a.deep in
-      let d : depth sig t ≡ height t = depth_free t in
-      omega (arith, l, d, h)
-
-  -- nothing is too large
-  pub not_large_free : (t : RawTerm) → ¬ IsTooLarge sig t
-  not_large_free t a = both_ways _ free.nat a.successor.nat
-
   -- values mean themselves
   pub meant_free : (s : Substitution) → meant sig s ≡ s
   meant_free [] = refl
   meant_free (b ∷ s) = ap (λ v. (b.0, v) ∷ meant sig s) (nested_free b.1) ∙ ap (λ r. b ∷ r) (meant_free s)
-
-  -- so an instance of what a term means is the term's own
-  pub instance_free : (s : Substitution) (t : RawTerm) → instance (meant sig s) (nested sig t) ≡ instance s t
-  instance_free s t = rw (meant_free s, nested_free t) refl
-
-  -- the cause, for a limit of 1,000 levels
-  pub cause_free : (t : RawTerm) (e : CanonError) → HasDepthCause 1000 (height t) e → HasCause sig t e
-  cause_free t Deep h = too_deep_free t h
-  cause_free t Nat h = absurd h
-  cause_free t Memory h = tt
-
-  -- what is answered, where u is the term that was built
-  pub answered_canonical : (r : Result RawTerm CanonError) (t u : RawTerm) → t ≡ u → IfOk r (λ v. v ≡ u) → IfOk r (λ v. v ≡ normal_form sig t)
-  answered_canonical (Ok v) t u e h = h ∙ sym e ∙ sym (normal_form_free t)
-  answered_canonical (Err x) t u e h = tt
-
-  pub answered_low : (r : Result RawTerm CanonError) (t u : RawTerm) → t ≡ u → IfOk r (λ v. height u ≤ 1000) → IfOk r (λ v. ¬ IsTooDeep sig t)
-  answered_low (Ok v) t u e h = subst (λ w. ¬ IsTooDeep sig w) (sym e) (not_deep_free u h)
-  answered_low (Err x) t u e h = tt
-
-  pub answered_cause : (r : Result RawTerm CanonError) (t u : RawTerm) → t ≡ u → IfErr r (HasDepthCause 1000 (height u)) → IfErr r (HasCause sig t)
-  answered_cause (Ok v) t u e h = tt
-  answered_cause (Err x) t u e h = subst (λ w. HasCause sig w x) (sym e) (cause_free u x h)

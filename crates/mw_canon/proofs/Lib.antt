@@ -1,4 +1,9 @@
 -- Laws of canonical terms.
 pub mod Free
-pub mod Instances
+pub mod Largest
+pub mod Limits
 pub mod Listing
+pub mod Making
+pub mod Reading
+pub mod Table
+pub mod Waiting

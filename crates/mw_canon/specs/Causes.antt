@@ -1,5 +1,5 @@
 -- Why there is no canonical term.
-use Rattle.std.specs.Prelude.{ℕ, ◌<◌, ⊤}
+use Rattle.std.specs.Prelude.{ℕ, ◌≡◌, ◌<◌, ◌≤◌, Bool, true, ⊤}
 use Rattle.mw_logic.specs.Term.{RawTerm}
 use Rattle.mw_logic.specs.Signature.{Signature}
 use Rattle.mw_logic.specs.Parts.{IsTooDeep, IsTooLarge}
@@ -12,8 +12,8 @@ HasCause sig t Deep = IsTooDeep sig t
 HasCause sig t Nat = IsTooLarge sig t × ¬ IsTooDeep sig t
 HasCause sig t Memory = ⊤
 
--- the same of a term of this height that may have so many levels, where there are no numbers
-abbrev pub HasDepthCause : ℕ → ℕ → CanonError → Type 0
-HasDepthCause levels height Deep = levels < height
-HasDepthCause levels height Nat = ⊥
-HasDepthCause levels height Memory = ⊤
+-- the same of a term of this height, in which, as a flag says, a successor of the largest numeral stands
+abbrev pub IsLimit : ℕ → Bool → CanonError → Type 0
+IsLimit height large Deep = 1000 < height
+IsLimit height large Nat = (large ≡ true) × (height ≤ 1000)
+IsLimit height large Memory = ⊤

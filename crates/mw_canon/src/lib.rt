@@ -1,24 +1,35 @@
 //! Canonical terms: of the terms that are equal modulo the axioms of a signature, the one that stands for all.
 //!
-//! `canon` makes the canonical term of one as it is written, `instance` that of an instance by values that are
-//! canonical, `parts` gives the elements of a term under an associative operator, `rebuild` the operator on such
-//! elements. `canon` is `instance` with no value: one recursion goes down the written term, counts the levels that are
-//! left and answers `Deep` where none is, so it goes no deeper than 1,000 levels, whatever the term. A value is copied
-//! by one count, and its kept depth is compared with the levels left. `Values` finds values by name and sort in a hash
-//! table; of two pairs of one variable the first counts.
+//! `Facts` is a signature with a table of its operators' axioms, made once for a module, so that each call below looks
+//! an operator up in one step. `canon` makes the canonical term of one as it is written, `instance` that of an
+//! instance by values that are canonical, `parts` gives the elements of a term under an associative operator,
+//! `rebuild` the operator on any arguments.
 //!
-//! Proved (specs/Canonical, specs/Causes):
+//! `canon` is `instance` with no value. It builds from below: a plain operator stands on what was built of its
+//! arguments, a commutative one on these in order, the successor of a numeral is the next numeral. An associative
+//! operator takes the elements of its arguments, identities left out; arguments with the operator itself on top are
+//! entered by a list of what waits, so its nesting takes no recursion, and under a commutative operator all elements
+//! are sorted once, by a sort that merges runs. Limits are tested at the end: the depth that the node keeps, and a flag
+//! that goes up where a successor of the largest numeral is built. A value is copied by one count. `Values` finds
+//! values by name and sort in a hash table; of two pairs of one variable the first counts.
 //!
+//! Proved (specs/Axioms, specs/Canonical, specs/Causes), for every accepted signature: operators that are associative,
+//! commutative, both, or associative with an identity, and the successor of numbers.
+//!
+//! - `Facts::of` keeps its signature; `axioms` says exactly which axioms an operator has.
 //! - `canon` and `instance` answer the normal form of what the written term, or the instance, means; it is neither too
 //!   deep nor too large, and `Deep` and `Nat` come only where it is (`Nat` where it isn't too deep). So each comes
 //!   exactly there, but for want of memory.
 //! - `parts` lists the term's arguments, none for the operator's identity, the term alone for another top; it takes no
 //!   memory. `rebuild` is the operator, with its axioms, on the arguments.
 //!
-//! Conditions: the signature is accepted, the term (the instance) is raw, the values are canonical terms that are
-//! admitted, and what `rebuild` makes is so; of `parts` alone that the operator is associative. `canon`, `instance` and
-//! `rebuild` ask besides (`free`) that the signature has no axiom, nothing built in and no numbers: the clauses are the
-//! general ones, and are kept for such signatures so far, in which a term is its own normal form (proofs/Free).
+//! Conditions: the signature of `Facts` is accepted, its operators' kinds are there, and the order is that of its
+//! sorts; the term (the instance) is raw; the values are canonical terms that are admitted; the operator of `parts` is
+//! associative.
+//!
+//! Cost: `Facts::of` goes once over the sorts and once over the operators. `canon` and `instance` go as deep as the
+//! written term, and take n log n comparisons for n elements under a commutative operator, n where they ascend.
+//! `rebuild` moves the arguments of a node that no other term shares.
 //!
 //! Tested by mw_tests: that calls answer with memory at hand. Neither: time.
 #![tactic(auto)]
@@ -26,12 +37,18 @@
 ghost use Rattle.std.specs.Prelude.{◌≡◌};
 ghost use Rattle.mw_canon.specs.declared.CanonError.TheVariants.{Memory};
 
+mod applying;
+mod axioms;
 mod building;
 mod elements;
+mod entering;
+mod rows;
 mod values;
 
+pub use applying::rebuild;
+pub use axioms::{Axioms, Facts};
 pub use building::{canon, instance};
-pub use elements::{parts, rebuild};
+pub use elements::parts;
 use std::alloc::{AllocError, AllocFailed};
 pub use values::Values;
 

@@ -52,7 +52,7 @@ module _ (h : Hierarchy) (S : ℕ) (there : IsSort (length h.names) S) where
       let number : are_connected sig.pairs S (kind_of h S) ≡ true = subst (λ ps. are_connected ps S (kind_of h S) ≡ true) (sym e) first.passes in
       kind_number-sound sig S (kind_of h S) (eqb-true _ _ number)
 
-  kind_least : ArePairsOf (length h.names) h.pairs → (sig : Signature) → sig.pairs ≡ h.pairs → (T : ℕ) → SameKind sig S T → kind_of h S ≤ T
+  pub kind_least : ArePairsOf (length h.names) h.pairs → (sig : Signature) → sig.pairs ≡ h.pairs → (T : ℕ) → SameKind sig S T → kind_of h S ≤ T
   kind_least within sig e T k =
       let low = stays_within sig (length h.names) (subst (ArePairsOf (length h.names)) (sym e) within) k there.0 in
       let number : are_connected h.pairs S T ≡ true = subst (λ ps. are_connected ps S T ≡ true) e (eq-eqb _ _ (kind_number-same k)) in

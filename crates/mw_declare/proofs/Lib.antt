@@ -1,4 +1,4 @@
--- Laws of variables and operators that tables hold, of marks, of unknown sorts, kinds and pairs, and of what is declared.
+-- Laws of variables and operators that tables hold, of marks, of unknown sorts, kinds and pairs, of axioms, and of what is declared.
 pub mod Typings
 pub mod Tables
 pub mod Holes
@@ -7,5 +7,13 @@ pub mod LeastKinds
 pub mod Pairs
 pub mod Causes
 pub mod OneDeclaration
+pub mod Folding
+pub mod Ranked
+pub mod Sorted
 pub mod Known
+pub mod Axioms
+pub mod Wrong
+pub mod Apart
+pub mod SortNames
+pub mod Accepting
 pub mod Proper

@@ -7,7 +7,7 @@ use Rattle.mw_module.specs.Units.{SeenLined}
 use Rattle.mw_logic.specs.Signature.{at_number}
 use Rattle.mw_declare.specs.Meaning.{Name}
 use Rattle.mw_declare.specs.Hierarchy.{Hierarchy}
-use Rattle.mw_declare.specs.Faults.{disagreement}
+use Rattle.mw_declare.specs.Faults.{told_at}
 use Rattle.mw_declare.specs.declared.declarations.Declarations.{Declarations}
 use Rattle.mw_declare.specs.Declarations.{declared_by, IsAcyclic, CycleFault, Declares, DeclarationFault, of_variable, of_sort, of_cycle, of_operator}
 
@@ -40,7 +40,7 @@ module _ (line : ℕ) (ss : List SeenLined) where
   none_at_fault d r p (of_variable e) = ok-err (sym p.typed ∙ e)
   none_at_fault d r p (of_sort typing t e) = none-some r (sym p.known ∙ e)
   none_at_fault d r p (of_cycle typing t k f) = not_acyclic line _ r f p.acyclic
-  none_at_fault d r p (of_operator typing t k a e) = none-some r (ap (disagreement line) (sym p.agree) ∙ e)
+  none_at_fault d r p (of_operator typing t k a e) = none-some r (ap (told_at line) (sym p.fine) ∙ e)
 
   pub one_fault : (r s : Fault) → DeclarationFault line ss r → DeclarationFault line ss s → r ≡ s
   one_fault r s (of_variable e) (of_variable k) = same_Err (sym e ∙ k)

@@ -11,18 +11,20 @@ use Rattle.mw_logic.specs.Preregular.{IsSortOf}
 use Rattle.mw_text.specs.Names.{name_of_tokens}
 use Rattle.mw_text.specs.Proper.{IsProperName}
 use Rattle.mw_module.specs.Attributes.{Attributes}
+use Rattle.mw_module.specs.Sortings.{WrittenSort}
 use Rattle.mw_module.specs.Forms.{Shape, Sorts, Subsorts, Operators, Variables, Equation}
 use Rattle.mw_module.specs.declared.faults.Fault.{Fault}
 use Rattle.mw_module.specs.declared.faults.FaultKind.TheVariants.{AlreadyDefined}
 use Rattle.mw_module.specs.Tokens.{HasProperParts}
 use Rattle.mw_module.specs.Units.{SeenLined}
 use Rattle.mw_declare.specs.Meaning.{Name, texts, is_among, with_name, with_names, with_sorts, sorts_from, sorts_of, number_of}
-use Rattle.mw_declare.specs.Operators.{Rank, Profile, same_profile, Declared, declared_again, with_operator, profile_of, with_named, with_operators, operators_from, operators_of, operator_of, signature_of}
+use Rattle.mw_declare.specs.Operators.{rank_of, Profile, same_profile, Declared, declared_again, operators_from, operators_of, operator_of, signature_of}
 use Rattle.mw_declare.specs.Hierarchy.{Hierarchy, hierarchy_of}
 use Rattle.mw_declare.specs.Faults.{Typing, sort_in, joined, typed, typed_by, typing_from, typing_of, variables_with, unknown_among, mentioned, unknown_from}
 use Rattle.mw_declare.specs.declared.declarations.Declarations.{Declarations}
 use Rattle.mw_declare.specs.Declarations.{Declares}
 use Rattle.mw_declare.specs.Proper.{IsProperVariable, AreProper, DeclarationsAreProper}
+use Rattle.mw_declare.proofs.Folding.{declared_once, HasNamed, HasEach, HasEachLined, all_declared}
 use Rattle.mw_declare.proofs.Unknown.{known_front, number_there}
 use Rattle.mw_declare.proofs.Pairs.{known_statement}
 
@@ -67,34 +69,32 @@ IsProperDeclared o = IsProperName o.profile.spelling
 abbrev IsNamed : List Token → Type 0
 IsNamed name = IsProperName (name_of_tokens (texts name))
 
-operator_with : (os : List Declared) (p : Profile) (d : Declaration) (said : Attributes) → All IsProperDeclared os → IsProperName p.spelling → All IsProperDeclared (with_operator os p d said)
-operator_with [] p d said all n = All-cons IsProperDeclared (record { profile = p; declarations = d ∷ []; attributes = said }) [] n (All-nil IsProperDeclared)
-operator_with (o ∷ os) p d said all n = of (same_profile p o.profile) (operator_with os p d said (All-tail IsProperDeclared o os all) n)
-  where
-    this : IsProperDeclared o
-    this = All-head IsProperDeclared o os all
+proper_again : (o : Declared) (p : Profile) (d : Declaration) (said : Attributes) → same_profile p o.profile ≡ true → IsProperDeclared o → IsProperDeclared (declared_once p d said)
+    → IsProperDeclared (declared_again o d said)
+proper_again o p d said e this one = this
 
-    of : (b : Bool) → All IsProperDeclared (with_operator os p d said) → All IsProperDeclared (if b then declared_again o d said ∷ os else o ∷ with_operator os p d said)
-    of true more = All-cons IsProperDeclared (declared_again o d said) os this (All-tail IsProperDeclared o os all)
-    of false more = All-cons IsProperDeclared o (with_operator os p d said) this more
+module _ (h : Hierarchy) where
+  abbrev AreNamed : Shape → Type 0
+  AreNamed s = HasEach IsProperDeclared proper_again h s
 
-named_with : (os : List Declared) (names : List (List Token)) (rank : Rank) (said : Attributes) → All IsProperDeclared os → All IsNamed names → All IsProperDeclared (with_named os names rank said)
-named_with os [] rank said all n = all
-named_with os (name ∷ names) rank said all n =
-    named_with (with_operator os (profile_of name rank) rank.declaration said) names rank said
-    (operator_with os (profile_of name rank) rank.declaration said all (All-head IsNamed name names n)) (All-tail IsNamed name names n)
+  names_proper : (names : List (List Token)) (args : List WrittenSort) (result : WrittenSort) (said : Attributes) → All IsNamed names → AreNamed (Operators names args result said)
+  names_proper [] args result said all = All-nil (HasNamed IsProperDeclared proper_again (rank_of h args result) said)
+  names_proper (name ∷ names) args result said all =
+      All-cons (HasNamed IsProperDeclared proper_again (rank_of h args result) said) name names (All-head IsNamed name names all) (names_proper names args result said (All-tail IsNamed name names all))
 
-operators_with : (h : Hierarchy) (os : List Declared) (s : Shape) → All IsProperDeclared os → HasProperParts s → All IsProperDeclared (with_operators h os s)
-operators_with h os (Sorts names) all p = all
-operators_with h os (Subsorts groups) all p = all
-operators_with h os (Operators names args result said) all p = named_with os names _ said all p
-operators_with h os (Variables names S) all p = all
-operators_with h os (Equation left right executable) all p = all
+  shape_proper : (s : Shape) → HasProperParts s → AreNamed s
+  shape_proper (Sorts names) p = tt
+  shape_proper (Subsorts groups) p = tt
+  shape_proper (Operators names args result said) p = names_proper names args result said p
+  shape_proper (Variables names S) p = tt
+  shape_proper (Equation left right executable) p = tt
 
-operators_proper : (h : Hierarchy) (os : List Declared) (ss : List SeenLined) → All IsProperDeclared os → All IsProperLined ss → All IsProperDeclared (operators_from h os ss)
-operators_proper h os [] all p = all
-operators_proper h os (s ∷ ss) all p =
-    operators_proper h (with_operators h os s.shape) ss (operators_with h os s.shape all (All-head IsProperLined s ss p)) (All-tail IsProperLined s ss p)
+  lined_proper : (ss : List SeenLined) → All IsProperLined ss → All (HasEachLined IsProperDeclared proper_again h) ss
+  lined_proper [] p = All-nil (HasEachLined IsProperDeclared proper_again h)
+  lined_proper (s ∷ ss) p = All-cons (HasEachLined IsProperDeclared proper_again h) s ss (shape_proper s.shape (All-head IsProperLined s ss p)) (lined_proper ss (All-tail IsProperLined s ss p))
+
+  operators_proper : (ss : List SeenLined) → All IsProperLined ss → All IsProperDeclared (operators_from h [] ss)
+  operators_proper ss p = all_declared IsProperDeclared proper_again h ss (lined_proper ss p)
 
 -- Variables: what each variable has that a statement declares, all have.
 module _ (Q : Name × Name → Type 0) where
@@ -214,9 +214,10 @@ declared_sorted ss d h =
 pub declarations_are_proper : DeclarationsAreProper
 declarations_are_proper ss d proper h =
     let sig = signature_of ss in
-    let names = All-map (λ (o : Operator). IsProperName o.spelling) operator_of (operators_of ss) (operators_proper (hierarchy_of ss) [] ss (All-nil IsProperDeclared) proper) in
+    let os = operators_of ss in
+    let names = All-map (λ (o : Operator). IsProperName o.spelling) (operator_of os) os (operators_proper (hierarchy_of ss) ss proper) in
     subst AreProper (sym h.declared) (record {
-      operators = all_at (λ (o : Operator). IsProperName o.spelling) (map operator_of (operators_of ss)) names;
+      operators = all_at (λ (o : Operator). IsProperName o.spelling) (map (operator_of os) os) names;
       sorts = sorts_proper [] ss (All-nil IsRun) proper;
       variables = proper_variables sig h.typing (typing_has RunNamed ss h.typing h.typed (variables_run ss proper))
           (typing_has (SortThere (sorts_of ss)) ss h.typing h.typed (variables_there (sorts_of ss) ss h.known));

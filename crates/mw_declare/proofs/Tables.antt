@@ -1,7 +1,8 @@
 -- Operators that a table holds.
-use Rattle.std.proofs.Common.{◌≡◌, ◌∙◌, List, [], ◌∷◌, map, Bool, true, false, cond, Some, None, if◌then◌else◌, sym, ap}
+use Rattle.std.proofs.Common.{◌≡◌, ◌∙◌, ◌+◌, not, suc, List, [], ◌∷◌, length, map, Bool, true, false, cond, position, Some, None, if◌then◌else◌, refl, sym, ap}
+use Rattle.std.specs.List.{position_or_len}
 use Rattle.std.proofs.lemmas.Option.{same_Some}
-use Rattle.std.specs.Map.{lookup, set_value}
+use Rattle.std.specs.Map.{lookup, set_value, keys_of}
 use Rattle.indexmap.specs.IndexMap.{insert_entry}
 use Rattle.mw_logic.specs.Signature.{Declaration}
 use Rattle.mw_module.specs.Attributes.{Attributes}
@@ -44,3 +45,15 @@ module _ (eq : Profile → Profile → Bool) (same : (p q : Profile) → eq p q 
           → operators_held (if b then (e.0, w) ∷ es else e ∷ insert_entry eq es p w) ≡ with_operator (operators_held (e ∷ es)) (seen_profile p) d said
       of true s none more = cc
       of false s none more = ap (λ os. seen_operator e ∷ os) (more none) ∙ sym (ap (either_of (seen_operator e) (operators_held es) (seen_profile p) d said) s)
+
+-- the place of a profile in the table is that of its operator
+held_place : (p : ProfileOf) (es : List (Profile × Said)) → position_or_len (λ (k : Profile). same_profile p (seen_profile k)) (keys_of es) ≡ position_or_len (λ (o : Declared). same_profile p o.profile) (operators_held es)
+held_place p [] = refl
+held_place p (e ∷ es) = ap (λ i. cond (not (same_profile p (seen_profile e.0))) (1 + i) 0) (held_place p es)
+
+held_size : (es : List (Profile × Said)) → length (keys_of es) ≡ length (operators_held es)
+held_size [] = refl
+held_size (e ∷ es) = ap suc (held_size es)
+
+pub held_position : (p : ProfileOf) (es : List (Profile × Said)) → position (λ (k : Profile). same_profile p (seen_profile k)) (keys_of es) ≡ position (λ (o : Declared). same_profile p o.profile) (operators_held es)
+held_position p es = rw (held_place p es, held_size es) refl

@@ -1,6 +1,6 @@
 -- What a module declares, and what is wrong with its declarations. (Maude Manual, chapter 3, "Sorts and subsorts": the subsort relation has no cycle.)
 use Rattle.std.specs.Prelude.{◌≡◌, ℕ, List, Option, Some, None, Ok, Err}
-use Rattle.mw_logic.specs.Signature.{at_number}
+use Rattle.mw_logic.specs.Signature.{Signature, Operator, IsOperator, at_number}
 use Rattle.mw_poset.specs.Order.{IsOnCycle, IsLeastOnCycle}
 use Rattle.mw_module.specs.declared.faults.Fault.{Fault}
 use Rattle.mw_module.specs.declared.faults.FaultKind.TheVariants.{SortCycle}
@@ -9,7 +9,7 @@ use Rattle.mw_declare.specs.declared.declarations.Declarations.{Declarations}
 use Rattle.mw_declare.specs.Meaning.{Name, sorts_of}
 use Rattle.mw_declare.specs.Hierarchy.{Hierarchy, hierarchy_of, order_of}
 use Rattle.mw_declare.specs.Operators.{Declared, operators_of, signature_with}
-use Rattle.mw_declare.specs.Faults.{Typing, typing_of, variables_with, unknown_from, disagreeing, disagreement}
+use Rattle.mw_declare.specs.Faults.{Typing, typing_of, variables_with, unknown_from, operator_fault, told_at}
 
 -- with these sorts, operators and variables
 abbrev pub declarations_with : Hierarchy → List Declared → Typing → Declarations
@@ -34,14 +34,14 @@ pub record CycleFault (line : ℕ) (h : Hierarchy) (f : Fault) : Type 0 where
   pub named : at_number h.names sort ≡ Some name
   pub fault : f ≡ record { line = line; kind = SortCycle name }
 
--- The statements declare d: each variable has one sort, each sort that is mentioned is declared, no sort is below itself, and what is said of an operator
--- agrees.
+-- The statements declare d: each variable has one sort, each sort that is mentioned is declared, no sort is below itself, and of each operator axioms are
+-- said that are kept, and no attributes that disagree.
 pub record Declares (ss : List SeenLined) (d : Declarations) : Type 0 where
   pub typing : Typing
   pub typed : typing_of ss ≡ Ok typing
   pub known : unknown_in_all ss ≡ None
   pub acyclic : IsAcyclic (hierarchy_of ss)
-  pub agree : disagreeing (operators_of ss) ≡ None
+  pub fine : operator_fault (hierarchy_of ss) (operators_of ss) ≡ None
   pub declared : d ≡ declared_by ss typing
 
 -- The first fault of declarations: of a variable, or else of a sort, of a cycle, of an operator. The last two have a line of their own, that of the unit's
@@ -51,8 +51,12 @@ pub data DeclarationFault (line : ℕ) (ss : List SeenLined) (f : Fault) : Type 
   of_sort : (typing : Typing) → typing_of ss ≡ Ok typing → unknown_in_all ss ≡ Some f → DeclarationFault line ss f
   of_cycle : (typing : Typing) → typing_of ss ≡ Ok typing → unknown_in_all ss ≡ None → CycleFault line (hierarchy_of ss) f → DeclarationFault line ss f
   of_operator : (typing : Typing) → typing_of ss ≡ Ok typing → unknown_in_all ss ≡ None → IsAcyclic (hierarchy_of ss)
-      → disagreement line (disagreeing (operators_of ss)) ≡ Some f → DeclarationFault line ss f
+      → told_at line (operator_fault (hierarchy_of ss) (operators_of ss)) ≡ Some f → DeclarationFault line ss f
 
 -- a fault of sorts that is the first, where the variables have none
 abbrev pub SortFault : ℕ → List SeenLined → Fault → Type 0
 SortFault line ss f = (typing : Typing) → typing_of ss ≡ Ok typing → DeclarationFault line ss f
+
+-- no two operators have one name, arguments of the same kinds and values of one kind
+abbrev pub OperatorsDiffer : Signature → Type 0
+OperatorsDiffer sig = (f g : ℕ) (o p : Operator) → IsOperator sig f o → IsOperator sig g p → o.spelling ≡ p.spelling → o.args ≡ p.args → o.result ≡ p.result → f ≡ g

@@ -1,15 +1,20 @@
--- What may be wrong with a module's declarations: a variable that is declared again with another sort, a sort that isn't declared, and an operator of
--- which two different precedences or two different gathers are said.
-use Rattle.std.specs.Prelude.{ℕ, List, [], ◌∷◌, ◌++◌, map, Option, Some, None, Result, Ok, Err, bytes_eq, if◌then◌else◌}
+-- What may be wrong with a module's declarations: a variable that is declared again with another sort, a sort that isn't declared, and an operator with
+-- axioms that aren't kept, or of which different attributes are said.
+use Rattle.std.specs.Prelude.{ℕ, List, [], ◌∷◌, ◌++◌, map, Option, Some, None, option_map, Result, Ok, Err, bytes_eq, if◌then◌else◌}
 use Rattle.mw_lex.specs.declared.token.Token.{Token}
+use Rattle.std.specs.Option.{option_or}
 use Rattle.mw_logic.specs.Term.{Variable}
+use Rattle.mw_logic.specs.Signature.{Signature}
+use Rattle.mw_logic.specs.Accepted.{is_accepted_operator}
 use Rattle.mw_module.specs.Forms.{Shape, Sorts, Subsorts, Operators, Variables, Equation}
 use Rattle.mw_module.specs.Sortings.{WrittenSort}
 use Rattle.mw_module.specs.declared.faults.Fault.{Fault}
-use Rattle.mw_module.specs.declared.faults.FaultKind.TheVariants.{AlreadyDefined, UnknownSort, AttributesDisagree}
+use Rattle.mw_module.specs.declared.faults.FaultKind.{FaultKind}
+use Rattle.mw_module.specs.declared.faults.FaultKind.TheVariants.{AlreadyDefined, UnknownSort, BadAxioms, AttributesDisagree}
 use Rattle.mw_module.specs.Units.{SeenLined}
 use Rattle.mw_declare.specs.Meaning.{Name, texts, is_among, number_of}
-use Rattle.mw_declare.specs.Operators.{Declared}
+use Rattle.mw_declare.specs.Hierarchy.{Hierarchy}
+use Rattle.mw_declare.specs.Operators.{Declared, operator_of, signature_with}
 
 -- variables' names, each with the name of its sort
 abbrev pub Typing : Type 0
@@ -81,12 +86,21 @@ abbrev pub unknown_from : List Name → List SeenLined → Option Fault
 unknown_from sorts [] = None
 unknown_from sorts (s ∷ ss) = unknown_in (unknown_among sorts (mentioned s.shape)) s.line (unknown_from sorts ss)
 
--- the first operator of which different precedences or gathers are said
-abbrev pub disagreeing : List Declared → Option Name
-disagreeing [] = None
-disagreeing (o ∷ os) = if o.attributes.clash then Some o.profile.spelling else disagreeing os
+-- what is wrong with an operator: axioms that aren't kept, or don't fit its kinds, or an identity that isn't there; or else different identities, precedences
+-- or gathers that are said of it
+abbrev pub wrong_with : Signature → List Declared → Declared → Option FaultKind
+wrong_with sig os o = if is_accepted_operator sig (operator_of os o) then (if o.attributes.clash then Some (AttributesDisagree o.profile.spelling) else None)
+    else Some (BadAxioms o.profile.spelling)
 
--- that fault, at a line
-abbrev pub disagreement : ℕ → Option Name → Option Fault
-disagreement line None = None
-disagreement line (Some n) = Some (record { line = line; kind = AttributesDisagree n })
+-- the same of the first of these, among all operators, with which something is wrong
+abbrev pub wrong_among : Signature → List Declared → List Declared → Option FaultKind
+wrong_among sig all [] = None
+wrong_among sig all (o ∷ os) = option_or (wrong_with sig all o) (wrong_among sig all os)
+
+-- what is wrong with the first operator with which something is
+abbrev pub operator_fault : Hierarchy → List Declared → Option FaultKind
+operator_fault h os = wrong_among (signature_with h os) os os
+
+-- a fault of this kind, at a line
+abbrev pub told_at : ℕ → Option FaultKind → Option Fault
+told_at line kind = option_map (λ (k : FaultKind). let f : Fault = record { line = line; kind = k } in f) kind

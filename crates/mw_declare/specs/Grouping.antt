@@ -1,6 +1,6 @@
 -- How the mixfix form of an operator groups: by the precedence and the marks that its attributes say, or else by its name. (Maude Manual, chapter 3,
 -- "Precedence and gathering".)
-use Rattle.std.specs.Prelude.{ℕ, List, [], ◌∷◌, map, Bool, true, false, ◌||◌, ◌==◌, Option, None, Some, unwrap_or, bytes_eq, if◌then◌else◌, codes}
+use Rattle.std.specs.Prelude.{ℕ, List, [], ◌∷◌, map, Bool, true, false, ◌||◌, ◌&&◌, ◌==◌, Option, None, Some, unwrap_or, bytes_eq, if◌then◌else◌, codes}
 use Rattle.mw_logic.specs.Signature.{Gather, less, most, any}
 use Rattle.mw_text.specs.Names.{NameItem, piece, hole, has_hole, count_holes}
 
@@ -32,8 +32,13 @@ gather_behind first [] = []
 gather_behind first (piece x ∷ items) = gather_behind false items
 gather_behind first (hole ∷ items) = (if first || is_end items then most else any) ∷ gather_behind false items
 
-abbrev pub default_gather : List NameItem → List Gather
-default_gather items = gather_behind true items
+-- the name begins and ends with a hole, and has no others
+abbrev pub is_infix : List NameItem → Bool
+is_infix items = begins_open items && (ends_open items && count_holes items == 2)
+
+-- An associative operator between two arguments groups to the right: f(a, f(b, c)) needs no parentheses.
+abbrev pub default_gather : Bool → List NameItem → List Gather
+default_gather assoc items = if assoc && is_infix items then less ∷ most ∷ [] else gather_behind true items
 
 -- what a mark of `gather` means
 abbrev pub gather_of_mark : List ℕ → Gather
@@ -43,6 +48,6 @@ abbrev pub precedence_of : Option ℕ → List NameItem → ℕ
 precedence_of said items = unwrap_or said (default_precedence items)
 
 -- a mark for each hole, so none for a name without holes, whatever is said
-abbrev pub gather_of : Option (List (List ℕ)) → List NameItem → List Gather
-gather_of None items = default_gather items
-gather_of (Some marks) items = if has_hole items then map gather_of_mark marks else []
+abbrev pub gather_of : Option (List (List ℕ)) → Bool → List NameItem → List Gather
+gather_of None assoc items = default_gather assoc items
+gather_of (Some marks) assoc items = if has_hole items then map gather_of_mark marks else []

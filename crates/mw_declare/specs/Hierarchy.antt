@@ -4,7 +4,7 @@ use Rattle.mw_lex.specs.declared.token.Token.{Token}
 use Rattle.mw_logic.specs.Signature.{Sorted, sort, kind}
 use Rattle.mw_logic.specs.Kinds.{renamed_sort, joining_kinds}
 use Rattle.mw_poset.specs.SortOrder.{SortOrder}
-use Rattle.mw_poset.specs.Order.{ArePairsOf}
+use Rattle.mw_poset.specs.Order.{IsSort, ArePairsOf}
 use Rattle.mw_module.specs.Forms.{Shape, Sorts, Subsorts, Operators, Variables, Equation}
 use Rattle.mw_module.specs.Sortings.{WrittenSort}
 use Rattle.mw_module.specs.Units.{SeenLined}
@@ -59,6 +59,10 @@ kind_in h s = kind_of h (number_of h.names s.name.text)
 -- the sort that is written, or its kind
 abbrev pub sorted_in : Hierarchy → WrittenSort → Sorted
 sorted_in h s = if s.kind then kind (kind_in h s) else sort (number_of h.names s.name.text)
+
+-- K names the kind of a sort that is there
+abbrev pub IsLeastKind : Hierarchy → ℕ → Type 0
+IsLeastKind h K = (S : ℕ) × IsSort (length h.names) S × (K ≡ kind_of h S)
 
 -- the sorts by number, with the pairs
 abbrev pub order_of : Hierarchy → SortOrder

@@ -1,15 +1,16 @@
 -- The operators that statements declare. (Maude Manual, chapter 3, "Operator declarations" and "Kinds"; that an operator has the attributes of all its
 -- declarations together is this project's own.)
-use Rattle.std.specs.Prelude.{ℕ, List, [], ◌∷◌, ◌++◌, map, Bool, false, ◌&&◌, None, bytes_eq, nat_eq, if◌then◌else◌}
+use Rattle.std.specs.Prelude.{ℕ, suc, List, [], ◌∷◌, ◌++◌, map, Bool, false, ◌&&◌, Option, option_map, unwrap_or, position, length, All, bytes_eq, nat_eq, if◌then◌else◌}
 use Rattle.mw_lex.specs.declared.token.Token.{Token}
-use Rattle.mw_logic.specs.Signature.{Signature, Operator, Declaration}
+use Rattle.mw_logic.specs.Signature.{Signature, Operator, Declaration, Identity, constant_of}
+use Rattle.mw_poset.specs.Order.{ArePairsOf}
 use Rattle.mw_text.specs.Names.{name_of_tokens, items_of}
 use Rattle.mw_module.specs.Attributes.{Attributes, joined}
 use Rattle.mw_module.specs.Forms.{Shape, Sorts, Subsorts, Operators, Variables, Equation}
 use Rattle.mw_module.specs.Sortings.{WrittenSort}
 use Rattle.mw_module.specs.Units.{SeenLined}
 use Rattle.mw_declare.specs.Meaning.{Name, texts}
-use Rattle.mw_declare.specs.Hierarchy.{Hierarchy, hierarchy_of, kind_in, sorted_in}
+use Rattle.mw_declare.specs.Hierarchy.{Hierarchy, hierarchy_of, kind_in, sorted_in, IsLeastKind}
 use Rattle.mw_declare.specs.Grouping.{precedence_of, gather_of}
 
 -- a declaration, with the kinds of its arguments and of its result
@@ -74,25 +75,47 @@ operators_from h os (s ∷ rest) = operators_from h (with_operators h os s.shape
 abbrev pub operators_of : List SeenLined → List Declared
 operators_of statements = operators_from (hierarchy_of statements) [] statements
 
--- the operator, without axioms
-abbrev pub operator_of : Declared → Operator
-operator_of o = record {
+-- a constant of this name, in a kind
+abbrev pub constant_profile : ℕ → Name → Profile
+constant_profile K text = record { spelling = name_of_tokens (text ∷ []); args = []; result = K }
+
+-- the number of the operator of a profile; 0, which is no operator's, where there is none
+abbrev pub operator_number : List Declared → Profile → ℕ
+operator_number os p = unwrap_or (option_map suc (position (λ (o : Declared). same_profile p o.profile) os)) 0
+
+-- An operator's identity is the constant of that name in its result's kind, wherever it is declared. There are no numbers.
+abbrev pub identity_in : List Declared → Declared → Option Identity
+identity_in os o = option_map (λ (text : Name). constant_of (operator_number os (constant_profile o.profile.result text))) o.attributes.identity
+
+-- the operator, with this identity
+abbrev pub operator_with : Option Identity → Declared → Operator
+operator_with identity o = record {
   spelling = o.profile.spelling;
   args = o.profile.args;
   result = o.profile.result;
   declarations = o.declarations;
-  assoc = false;
-  comm = false;
-  identity = None;
+  assoc = o.attributes.assoc;
+  comm = o.attributes.comm;
+  identity = identity;
   prec = precedence_of o.attributes.precedence (items_of o.profile.spelling);
-  gather = gather_of o.attributes.gather (items_of o.profile.spelling);
+  gather = gather_of o.attributes.gather o.attributes.assoc (items_of o.profile.spelling);
   config = o.attributes.config;
   frozen = [];
   built = false;
 }
 
+-- the operator, among these
+abbrev pub operator_of : List Declared → Declared → Operator
+operator_of os o = operator_with (identity_in os o) o
+
+-- an operator whose kinds are named by their least sorts
+pub record IsOfLeastKinds (h : Hierarchy) (o : Declared) : Type 0 where
+  pub within : ArePairsOf (length h.names) h.pairs
+  pub args : All (IsLeastKind h) o.profile.args
+  pub result : IsLeastKind h o.profile.result
+
 abbrev pub signature_with : Hierarchy → List Declared → Signature
-signature_with h os = record { sorts = h.names; pairs = h.pairs; operators = map operator_of os; nat = false; qid = false }
+signature_with h os = record { sorts = h.names; pairs = h.pairs; operators = map (operator_of os) os; nat = false; qid = false }
 
 abbrev pub signature_of : List SeenLined → Signature
 signature_of statements = signature_with (hierarchy_of statements) (operators_of statements)

@@ -1,15 +1,19 @@
 // What a module declares.
-ghost use Rattle.std.specs.Prelude.{◌≡◌, length, map, IfOk, IfErr};
+ghost use Rattle.std.specs.Prelude.{◌≡◌, length, map, option_map, IfOk, IfErr};
+ghost use Rattle.mw_logic.specs.Accepted.{IsAccepted, IsWellSorted};
+ghost use Rattle.mw_logic.specs.Preregular.{HasItsSorts};
+ghost use Rattle.mw_term.specs.Signatures.{identity_of};
+ghost use Rattle.mw_declare.specs.Operators.{identity_in};
 ghost use Rattle.mw_module.specs.Units.{seen_statements};
 ghost use Rattle.mw_module.specs.Causes.{HasCause};
-ghost use Rattle.mw_declare.specs.Declarations.{Declares, DeclarationFault, declarations_with};
+ghost use Rattle.mw_declare.specs.Declarations.{Declares, DeclarationFault, declarations_with, OperatorsDiffer};
 
 use crate::hierarchy::{Hierarchy, order_sorts};
 use crate::operators::{DeclaredOperators, all_operators};
 use crate::variables::{Typing, all_typed};
 use mw_module::{Lined, UnitError};
 use mw_poset::Poset;
-use mw_term::{Seq, Signature, VarId};
+use mw_term::{Identity, Seq, Signature, VarId};
 use std::alloc::{AllocError, Global};
 
 /// What a module declares: its signature with the order of its sorts, and its variables.
@@ -26,10 +30,12 @@ fn all_declared(
     typing: &Typing,
     hierarchy: Box<Hierarchy>,
     operators: DeclaredOperators<'_>,
+    identities: &[Option<Identity>],
 ) -> Result<Box<Declarations>, AllocError>
+    requires { map (option_map identity_of) identities.now ≡ map (identity_in operators) operators }
     ensures { IfOk result (λ d. d.value ≡ declarations_with hierarchy.value operators.entry typing.now) }
 {
-    let operators = operators.list(alloc)?;
+    let operators = operators.list(alloc, identities)?;
     let variables = typing.variables(alloc, &hierarchy.names)?;
     let sorts = hierarchy.names.list(alloc)?;
     let Hierarchy { pairs, order, .. } = Box::into_inner(hierarchy);
@@ -50,7 +56,7 @@ fn all_declared(
 
 /// What statements declare, or the first fault of their declarations: first that of a variable that is declared again
 /// with another sort, then that of a sort that isn't declared, then that of a sort below itself, then that of an
-/// operator whose attributes disagree; the last two have this line.
+/// operator whose axioms aren't kept, or whose attributes disagree; the last two have this line.
 pub fn declare(
     alloc: Global,
     line: u32,
@@ -59,11 +65,16 @@ pub fn declare(
     ensures declared { IfOk result (λ d. Declares (seen_statements statements.now) d.value) }
     ensures order { IfOk result (λ d. let sig = d.value.signature in
         d.value.order ≡ record { sorts = length sig.sorts; pairs = sig.pairs }) }
+    ensures accepted { IfOk result (λ d. IsAccepted d.value.signature) }
+    ensures well_sorted { IfOk result (λ d. IsWellSorted d.value.signature) }
+    ensures numbers { IfOk result (λ d. HasItsSorts d.value.signature) }
+    ensures apart { IfOk result (λ d. OperatorsDiffer d.value.signature) }
     ensures fault { IfErr result (HasCause (DeclarationFault line (seen_statements statements.now))) }
 {
     let typing = all_typed(alloc, statements)?;
     let hierarchy = order_sorts(alloc, line, statements)?;
     let operators = all_operators(alloc, &hierarchy, statements)?;
-    operators.agree(alloc, line)?;
-    Ok(all_declared(alloc, &typing, hierarchy, operators)?)
+    let identities = operators.identities(alloc, line)?;
+    let identities = identities.as_slice();
+    Ok(all_declared(alloc, &typing, hierarchy, operators, identities)?)
 }

@@ -1,5 +1,5 @@
 // How the mixfix form of an operator groups.
-ghost use Rattle.std.specs.Prelude.{◌≡◌, map, IfOk};
+ghost use Rattle.std.specs.Prelude.{◌≡◌, true, map, IfOk};
 ghost use Rattle.mw_term.specs.Signatures.{gather_of as mark_of};
 ghost use Rattle.mw_text.specs.Names.{items_of};
 ghost use Rattle.mw_module.specs.Attributes.{gather_of as marks_of};
@@ -54,9 +54,27 @@ pub fn precedence(said: Option<u32>, spelling: &[u8]) -> u32
     }
 }
 
-/// The marks of a name of which none are said.
-fn default_gather(alloc: Global, spelling: &[u8]) -> Result<Vec<Gather>, AllocError>
-    ensures { IfOk result (λ marks. map mark_of marks.items ≡ grouping.default_gather (items_of spelling.now)) }
+/// Whether a name begins and ends with a hole, and has no others.
+fn is_infix(spelling: &[u8]) -> bool
+    ensures { result ≡ grouping.is_infix (items_of spelling.now) }
+{
+    begins_open(spelling) && ends_open(spelling) && holes(spelling) == 2
+}
+
+/// The marks of a name of which none are said, where `assoc` says whether its operator is associative.
+fn default_gather(alloc: Global, assoc: bool, spelling: &[u8]) -> Result<Vec<Gather>, AllocError>
+    ensures { IfOk result (λ marks. map mark_of marks.items ≡ grouping.default_gather assoc (items_of spelling.now)) }
+{
+    if assoc && is_infix(spelling) {
+        Ok(vec![in alloc; Gather::Less, Gather::Most]?)
+    } else {
+        gather_by_place(alloc, spelling)
+    }
+}
+
+/// The marks of a name by where its holes stand.
+fn gather_by_place(alloc: Global, spelling: &[u8]) -> Result<Vec<Gather>, AllocError>
+    ensures { IfOk result (λ marks. map mark_of marks.items ≡ grouping.gather_behind true (items_of spelling.now)) }
 {
     let mut marks = Vec::new(alloc);
     let mut first = true;
@@ -100,13 +118,15 @@ fn said_gather(alloc: Global, said: &[Token]) -> Result<Vec<Gather>, AllocError>
 pub fn gather(
     alloc: Global,
     said: Option<&[Token]>,
+    assoc: bool,
     spelling: &[u8],
 ) -> Result<Seq<Gather>, AllocError>
-    ensures { IfOk result (λ marks. map mark_of marks ≡ grouping.gather_of (marks_of said.entry) (items_of spelling.now)) }
+    ensures { IfOk result
+        (λ marks. map mark_of marks ≡ grouping.gather_of (marks_of said.entry) assoc (items_of spelling.now)) }
 {
     match said {
         Some(said) if holes(spelling) != 0 => Ok(Seq::of(said_gather(alloc, said)?)),
         Some(_) => Ok(Seq::of(Vec::new(alloc))),
-        None => Ok(Seq::of(default_gather(alloc, spelling)?)),
+        None => Ok(Seq::of(default_gather(alloc, assoc, spelling)?)),
     }
 }

@@ -9,27 +9,34 @@
 //! - An operator is a name with the kinds of its arguments and of its value, a kind being named by its least sort. Its
 //!   declarations are all those of that name and those kinds, each with its sorts; `[S]`, and each sort of a
 //!   declaration with `~>`, is the kind of S. A name is known by its prefix spelling, so `a b` and `` a`b `` are one.
-//!   There are no axioms yet.
-//! - The attributes of an operator are those of all its declarations together, or the defaults of docs/LANGUAGE.md.
+//! - The attributes of an operator are those of all its declarations together, axioms too, or the defaults of
+//!   docs/LANGUAGE.md. An identity is the constant of that name in the kind of the operator's value, wherever that is
+//!   declared.
 //! - Faults, of which each kind's first in the text decides: a variable that is declared again with another sort; then
 //!   a sort that isn't declared, of a `subsort` statement, an operator or a variable, both with the line of the
-//!   statement; then the least sort that is below itself; then the operator of least number with two different
-//!   precedences or gathers, both with the line that `declare` is given, of the unit's first token.
+//!   statement; then the least sort that is below itself; then the operator of least number with axioms that aren't
+//!   kept, or don't fit its kinds, or with an identity that isn't there (`is_accepted_operator` of mw_logic), or else
+//!   with two different identities, precedences or gathers; both with the line that `declare` is given, of the unit's
+//!   first token.
 //!
 //! Proved: the answer is exactly what the statements declare, with the order of its sorts and pairs (`Declares`,
 //! specs/Declarations), and a fault is answered exactly where there is one, and is the first (`DeclarationFault`).
 //! Statements declare one thing at most and have one first fault at most, and not both (proofs/OneDeclaration).
-//! `Memory` may come at any call. What the crates above know of the operators stands in proofs/Known, and of names as
-//! tokens in specs/Proper.
+//! The signature is an accepted one: its axioms are kept ones that fit, and no two sorts have one name; its sorts are
+//! there, and those of declarations lie in their operators' kinds; no two operators have one name and the same kinds
+//! (`declare`; as lemmas in proofs/Accepting). `Memory` may come at any call. What the crates above know of the
+//! operators stands in proofs/Known, and of names as tokens in specs/Proper.
 //!
 //! How it works: each question is one loop over the statements. Tables of names, variables and operators keep the order
-//! of insertion, so a name is looked up once or twice for each mention, by its hash, and a sort's kind once more. Only
-//! tested, by the sources in cases/: that the definitions are the declarations that are meant.
+//! of insertion, so a name is looked up once or twice for each mention, by its hash, and a sort's kind once more; an
+//! identity once, when all operators are known. Only tested, by the sources in cases/: that the definitions are the
+//! declarations that are meant.
 #![tactic(auto)]
 
 mod declarations;
 mod grouping;
 mod hierarchy;
+mod judging;
 mod operators;
 mod sorts;
 mod spelling;

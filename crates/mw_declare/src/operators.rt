@@ -1,21 +1,26 @@
 // The operators of a module.
-ghost use Rattle.std.specs.Prelude.{◌≡◌, List, [], map, IfOk, IfErr, OnOk, Some, None, option_map};
-ghost use Rattle.mw_term.specs.Signatures.{sorted_of};
+ghost use Rattle.std.specs.Prelude.{◌≡◌, ◌∷◌, List, [], map, Option, All, IfOk, IfErr, OnOk, Some, None, option_map};
+ghost use Rattle.mw_logic.specs.Signature.{Identity as IdentityOf};
+ghost use Rattle.mw_term.specs.Signatures.{sorted_of, identity_of};
 ghost use Rattle.mw_module.specs.Attributes.{seen_attributes};
 ghost use Rattle.mw_module.specs.Units.{seen_statements};
 ghost use Rattle.mw_module.specs.Causes.{HasCause};
 ghost use Rattle.mw_module.specs.Words.{seen_lists};
-ghost use Rattle.mw_declare.specs.Operators.{profile_of as profile_with, with_operator, with_named, operators_from, operator_of as operator_with};
-ghost use Rattle.mw_declare.specs.Faults.{unknown_from, disagreeing, disagreement};
+ghost use Rattle.mw_declare.specs.Hierarchy.{Hierarchy as HierarchyOf};
+ghost use Rattle.mw_declare.specs.Operators.{profile_of as profile_with, with_operator, with_named, operators_from};
+ghost use Rattle.mw_declare.specs.Operators.{operator_number, identity_in, operator_with, IsOfLeastKinds};
+ghost use Rattle.mw_declare.specs.Operators.{operator_of as operator_among};
+ghost use Rattle.mw_declare.specs.Faults.{unknown_from, operator_fault, told_at};
 ghost use Rattle.mw_declare.specs.Seen.{seen_rank, seen_profile, seen_operator};
 
 use crate::grouping::{gather, precedence};
 use crate::hierarchy::{Hierarchy, Rank};
-use crate::spelling::spelling_of;
+use crate::judging::fault;
+use crate::spelling::{spelling_of, spelling_of_text};
 use indexmap::IndexMap;
 use mw_lex::Token;
-use mw_module::{Attributes, Fault, FaultKind, Form, Lined, UnitError};
-use mw_term::{Declaration, KindId, Name, Operator, Seq, Sorted};
+use mw_module::{Attributes, Fault, Form, Lined, UnitError};
+use mw_term::{Declaration, Identity, KindId, Name, OpId, Operator, Seq, Sorted};
 use std::alloc::{AllocError, Global};
 use std::marker::Model;
 
@@ -88,7 +93,8 @@ impl<'u> DeclaredOperators<'u> {
         declaration: Declaration,
         attributes: Attributes<'u>,
     ) -> Result<(), AllocError>
-        ensures { OnOk result (self.new ≡ with_operator self.old (seen_profile profile) declaration (seen_attributes attributes.entry)) }
+        ensures { let said = seen_attributes attributes.entry in
+            OnOk result (self.new ≡ with_operator self.old (seen_profile profile) declaration said) }
     {
         let table = &mut *self.table;
         if let Some(known) = table.get_mut(&profile) {
@@ -114,7 +120,8 @@ impl<'u> DeclaredOperators<'u> {
         rank: &Rank,
         attributes: Attributes<'u>,
     ) -> Result<(), AllocError>
-        ensures { OnOk result (self.new ≡ with_named self.old (seen_lists names.now) (seen_rank rank.now) (seen_attributes attributes.entry)) }
+        ensures { let said = seen_attributes attributes.entry in
+            OnOk result (self.new ≡ with_named self.old (seen_lists names.now) (seen_rank rank.now) said) }
     {
         for name in names {
             let profile = profile_of(alloc, name, rank)?;
@@ -124,38 +131,75 @@ impl<'u> DeclaredOperators<'u> {
         Ok(())
     }
 
-    /// The first operator of which different precedences or gathers are said.
-    fn disagreeing(&self) -> Option<&Vec<u8>>
-        ensures { option_map (λ n. n.now.items) result ≡ disagreeing self.now }
+    /// The number of an operator, from 1, or 0 where it isn't there. More operators than numbers can tell count as
+    /// want of memory.
+    fn number(&self, profile: &Profile) -> Result<OpId, AllocError>
+        ensures { IfOk result (λ n. n ≡ operator_number self.now (seen_profile profile.now)) }
     {
+        match self.table.get_index_of(profile) {
+            None => Ok(0),
+            Some(place) if place < u32::MAX as usize => Ok(place as u32 + 1),
+            Some(_) => Err(AllocError),
+        }
+    }
+
+    /// The identity of an operator.
+    fn identity(
+        &self,
+        alloc: Global,
+        profile: &Profile,
+        said: &Said<'_>,
+    ) -> Result<Option<Identity>, AllocError>
+        ensures { let o = seen_operator (profile.now, said.now) in
+            IfOk result (λ i. option_map identity_of i ≡ identity_in self.now o) }
+    {
+        let Some(token) = said.attributes.identity else {
+            return Ok(None);
+        };
+        let constant = Profile {
+            spelling: spelling_of_text(alloc, token.text.as_slice())?,
+            args: Vec::new(alloc),
+            result: profile.result,
+        };
+        Ok(Some(Identity::Constant(self.number(&constant)?)))
+    }
+
+    /// The identities of the operators, where nothing is wrong with any; or else what is wrong with the first with
+    /// which something is, at a line.
+    pub fn identities(&self, alloc: Global, line: u32) -> Result<Vec<Option<Identity>>, UnitError>
+        ensures fine { (h : HierarchyOf) → All (IsOfLeastKinds h) self.now
+            → OnOk result (operator_fault h self.now ≡ None) }
+        ensures identities { IfOk result
+            (λ v. map (option_map identity_of) v.items ≡ map (identity_in self.now) self.now) }
+        ensures fault { (h : HierarchyOf) → All (IsOfLeastKinds h) self.now
+            → IfErr result (HasCause (λ fault. told_at line (operator_fault h self.now) ≡ Some fault)) }
+    {
+        let mut identities = Vec::new(alloc);
         for (profile, said) in self.table.iter() {
-            if said.attributes.clash {
-                return Some(&profile.spelling);
+            let identity = self.identity(alloc, profile, said)?;
+            if let Some(kind) = fault(alloc, profile, said, identity)? {
+                return Err(UnitError::Fault(Fault { line, kind }));
             }
+            identities.push(identity)?;
         }
-        None
+        Ok(identities)
     }
 
-    /// Whether what is said of each operator agrees, or else the fault of the first of which it doesn't, at a line.
-    pub fn agree(&self, alloc: Global, line: u32) -> Result<(), UnitError>
-        ensures agree { OnOk result (disagreeing self.now ≡ None) }
-        ensures fault { IfErr result (HasCause (λ fault. disagreement line (disagreeing self.now) ≡ Some fault)) }
-    {
-        if let Some(name) = self.disagreeing() {
-            let name = Name::of(name.as_slice().to_vec(alloc)?);
-            let kind = FaultKind::AttributesDisagree(name);
-            return Err(UnitError::Fault(Fault { line, kind }));
-        }
-        Ok(())
-    }
-
-    /// The operators in order.
-    pub fn list(self, alloc: Global) -> Result<Seq<Operator>, AllocError>
-        ensures { IfOk result (λ os. os ≡ map operator_with self.entry) }
+    /// The operators in order, with these identities.
+    pub fn list(
+        self,
+        alloc: Global,
+        identities: &[Option<Identity>],
+    ) -> Result<Seq<Operator>, AllocError>
+        requires { map (option_map identity_of) identities.now ≡ map (identity_in self) self }
+        ensures { IfOk result (λ os. os ≡ map (operator_among self.entry) self.entry) }
     {
         let mut operators = Vec::new(alloc);
+        let mut rest = identities;
         for (profile, said) in Box::into_inner(self.table) {
-            operators.push(operator_of(alloc, profile, said)?)?;
+            let (identity, others) = first_of(rest);
+            operators.push(operator_of(alloc, profile, said, identity)?)?;
+            rest = others;
         }
         Ok(Seq::of(operators))
     }
@@ -186,21 +230,44 @@ pub fn all_operators<'u>(
     Ok(operators)
 }
 
-/// The operator of a profile of which this is said.
-fn operator_of(alloc: Global, profile: Profile, said: Said<'_>) -> Result<Operator, AllocError>
-    ensures { IfOk result (λ o. o ≡ operator_with (seen_operator (profile, said.entry))) }
+/// The first of these identities, and the others.
+fn first_of(identities: &[Option<Identity>]) -> (Option<Identity>, &[Option<Identity>])
+    ensures { (i : Option IdentityOf) (more : List (Option IdentityOf))
+        → map (option_map identity_of) identities.now ≡ i ∷ more
+        → (option_map identity_of result.0 ≡ i) × (map (option_map identity_of) result.1.now ≡ more) }
+{
+    match identities {
+        [first, others @ ..] => (*first, others),
+        [] => (None, identities),
+    }
+}
+
+/// The operator of a profile of which this is said, with this identity.
+fn operator_of(
+    alloc: Global,
+    profile: Profile,
+    said: Said<'_>,
+    identity: Option<Identity>,
+) -> Result<Operator, AllocError>
+    ensures { let o = seen_operator (profile, said.entry) in
+        IfOk result (λ p. p ≡ operator_with (option_map identity_of identity) o) }
 {
     let spelling = profile.spelling.as_slice();
     let prec = precedence(said.attributes.precedence, spelling);
-    let gather = gather(alloc, said.attributes.gather, spelling)?;
+    let gather = gather(
+        alloc,
+        said.attributes.gather,
+        said.attributes.assoc,
+        spelling,
+    )?;
     Ok(Operator {
         spelling: Name::of(profile.spelling),
         args: Seq::of(profile.args),
         result: profile.result,
         declarations: Seq::of(said.declarations),
-        assoc: false,
-        comm: false,
-        identity: None,
+        assoc: said.attributes.assoc,
+        comm: said.attributes.comm,
+        identity,
         prec,
         gather,
         config: said.attributes.config,

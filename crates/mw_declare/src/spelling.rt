@@ -1,5 +1,5 @@
 // The prefix spellings of names.
-ghost use Rattle.std.specs.Prelude.{◌≡◌, ◌++◌, ◌∷◌, List, IfOk};
+ghost use Rattle.std.specs.Prelude.{◌≡◌, ◌++◌, ◌∷◌, List, [], IfOk};
 ghost use Rattle.mw_text.specs.Names.{NameItem as ItemOf, items_of, spelled_behind, name_of_tokens, is_mark as is_mark_text};
 ghost use Rattle.mw_text.specs.Seen.{item_of};
 ghost use Rattle.mw_declare.specs.Meaning.{texts};
@@ -54,6 +54,15 @@ fn write_token(spelling: &mut Vec<u8>, touching: bool, text: &[u8]) -> Result<bo
         rest = behind;
     }
     Ok(touching)
+}
+
+/// The prefix spelling of the name that one text is.
+pub fn spelling_of_text(alloc: Global, text: &[u8]) -> Result<Vec<u8>, AllocError>
+    ensures { IfOk result (λ spelling. spelling.items ≡ name_of_tokens (text.now ∷ [])) }
+{
+    let mut spelling = Vec::new(alloc);
+    write_token(&mut spelling, false, text)?;
+    Ok(spelling)
 }
 
 /// The prefix spelling of the name that these tokens are.

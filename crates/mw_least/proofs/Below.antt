@@ -1,15 +1,20 @@
 -- Which sorts a term has, by its least one; and that sorts which aren't there stand in no pair.
-use Rattle.std.specs.Prelude.{ℕ, ◌≡◌, ◌⊎◌, ◌↔◌, nat_eq, IsTrue, refl}
-use Rattle.std.proofs.Common.{inl, inr, sym, subst, ⊎_elim}
-use Rattle.std.proofs.lemmas.Bool.{eqb-true, both_ways}
-use Rattle.mw_logic.specs.Term.{RawTerm, RawTerms, apply}
-use Rattle.mw_logic.specs.Signature.{Signature, Sorted, sort, Operator, IsOperator, Declaration, Member}
-use Rattle.mw_logic.specs.Sorts.{AtOrBelow, IsBelow, DeclaredSort, of_operator, of_kind, HasSort, IsLeastSort}
-use Rattle.mw_logic.specs.Free.{IsFreeSignature}
-use Rattle.mw_logic.proofs.FreeSignature.{free_equal}
+use Rattle.std.specs.Prelude.{ℕ, ◌≡◌, ◌⊎◌, ◌↔◌, ◌+◌, List, [], ◌∷◌, max, nat_eq, true, IsTrue, refl}
+use Rattle.std.proofs.Common.{inl, inr, sym, ap, subst, arith, ◌∙◌, ⊎_elim}
+use Rattle.std.proofs.lemmas.Bool.{eqb-true}
+use Rattle.mw_logic.specs.Term.{RawTerm, RawTerms, nil, cons, apply}
+use Rattle.mw_logic.specs.Signature.{Signature, Sorted, sort, Operator, IsOperator, IsRawTerm, Declaration, Member}
+use Rattle.mw_logic.specs.Sorts.{AtOrBelow, IsBelow, HasSort, IsLeastSort, swapped}
+use Rattle.mw_logic.specs.Parts.{is_assoc, nested}
+use Rattle.mw_logic.specs.NormalForm.{is_comm, identity_of, elements, rebuilt, arranged, normal_form, height}
 use Rattle.mw_logic.specs.Preregular.{IsSortOf, HasItsSorts}
-use Rattle.mw_logic.proofs.Canonical.{nat_eq-refl, same_operator}
+use Rattle.mw_logic.proofs.Canonical.{nat_eq-refl, same_operator, IsCanonical, canonical, arranged-one, flattened-elements}
 use Rattle.mw_logic.proofs.BelowLaws.{IsBelow-trans}
+use Rattle.mw_logic.proofs.Invariance.{normal_form-kept}
+use Rattle.mw_logic.proofs.RawKept.{raw_kept}
+use Rattle.mw_sorting.specs.ComputedSorts.{IsResultOn, ComputedSort, plain_sort, chain_sort, last, before}
+use Rattle.mw_sorting.specs.PreregularModulo.{IsPreregularModulo}
+use Rattle.mw_sorting.proofs.Leastness.{lowest}
 
 -- a term has the sorts that its least one is below
 pub has_below : (sig : Signature) (t : RawTerm) (L : Sorted) (S : ℕ) → IsLeastSort sig t L → IsBelow sig L (sort S) ↔ HasSort sig t (sort S)
@@ -34,13 +39,34 @@ module _ (sig : Signature) (numbers : HasItsSorts sig) where
     λ b. ⊎_elim (λ (e : S ≡ T). subst (λ U. IsTrue (nat_eq S U)) e (nat_eq-refl S)) (λ (p : IsSortOf sig S × IsSortOf sig T). absurd (n p.0 p.1)) (one_or_there b),
   )
 
--- in a signature without axioms a term's sort is that of a declaration of the operator on top, or above it
-pub declared_result : (sig : Signature) → IsFreeSignature sig → (f : ℕ) (ts : RawTerms) (S : ℕ) (o : Operator) → IsOperator sig f o → HasSort sig (apply f ts) (sort S) → (d : Declaration) × Member d o.declarations × IsBelow sig d.result (sort S)
-declared_result sig free f ts S o is h = by (subst (λ u. DeclaredSort sig u h.declared) (sym (free_equal sig free h.equal)) h.is_declared) h.below
-  where
-    by : {D : Sorted} → DeclaredSort sig (apply f ts) D → IsBelow sig D (sort S) → (d : Declaration) × Member d o.declarations × IsBelow sig d.result (sort S)
-    by {D} (of_operator p there args takes least) b = ⊎_elim
-        (λ m. (record { args = takes.args; result = D }, subst (λ (q : Operator). Member (record { args = takes.args; result = D }) q.declarations) (same_operator sig f p o there is) m, b))
-        (λ m. absurd (both_ways _ (free.comm f p there) m.0))
-        takes.declares
-    by (of_kind p there args none) b = absurd b
+-- a canonical term's sorts are at or above the result of a declaration of the operator on top
+module _ (sig : Signature) (ok : IsPreregularModulo sig) where
+  declared_by : (o : Operator) (Ss : List Sorted) (R : Sorted) (S : ℕ) → IsResultOn sig o Ss R → IsBelow sig R (sort S) → (d : Declaration) × Member d o.declarations × IsBelow sig d.result (sort S)
+  declared_by o Ss R S (inl l) b = ⊎_elim
+      (λ m. (record { args = l.takes.args; result = R }, m, b))
+      (λ m. (record { args = swapped l.takes.args; result = R }, m.1, b))
+      l.takes.declares
+  declared_by o Ss R S (inr n) b = absurd (subst (λ (Q : Sorted). IsBelow sig Q (sort S)) n.1 b)
+
+  -- no canonical term is an associative operator on one argument
+  pub not_alone : (f : ℕ) (t : RawTerm) → is_assoc sig f ≡ true → IsCanonical sig (apply f (cons t nil)) → ⊥
+  not_alone f t h k =
+      let same : elements (identity_of sig f) f t ≡ cons t nil = (k.2 h).0 in
+      let e : t ≡ apply f (cons t nil) = sym (rw (h, flattened-elements (identity_of sig f) f (cons t nil) (same, tt)) (arranged_rebuilt f t)) ∙ k.1 in
+      let high : height t ≡ 1 + max (height t) 0 = ap height e in
+      omega (arith, high)
+    where
+      arranged_rebuilt : (f : ℕ) (t : RawTerm) → rebuilt (identity_of sig f) f (arranged (is_comm sig f) (cons t nil)) ≡ t
+      arranged_rebuilt f t = rw (arranged-one (is_comm sig f) t) refl
+
+  by_shape : (f : ℕ) (ts : RawTerms) (C : Sorted) (S : ℕ) (o : Operator) → IsOperator sig f o → IsCanonical sig (apply f ts) → ComputedSort sig (apply f ts) C → IsBelow sig C (sort S) → (d : Declaration) × Member d o.declarations × IsBelow sig d.result (sort S)
+  by_shape f ts C S o is k (plain_sort {Ss = Ss} p there h ss r) b = declared_by o Ss C S (subst (λ (q : Operator). IsResultOn sig q Ss C) (same_operator sig f p o there is) r) b
+  by_shape f ts C S o is k (chain_sort p there h (last {t = t} s)) b = absurd (not_alone f t h k)
+  by_shape f ts C S o is k (chain_sort p there h (before {S = A} {Q = B} s q r)) b = declared_by o (A ∷ B ∷ []) C S (subst (λ (q : Operator). IsResultOn sig q (A ∷ B ∷ []) C) (same_operator sig f p o there is) r) b
+
+  pub declared_result : (f : ℕ) (ts : RawTerms) (S : ℕ) (o : Operator) → IsOperator sig f o → normal_form sig (nested sig (apply f ts)) ≡ apply f ts → IsRawTerm sig (nested sig (apply f ts)) → HasSort sig (nested sig (apply f ts)) (sort S)
+      → (d : Declaration) × Member d o.declarations × IsBelow sig d.result (sort S)
+  declared_result f ts S o is fixed raw h =
+      let (C, c, b) = lowest sig ok h.form h.declared ((raw_kept sig ok.accepted h.equal).0 raw) h.is_declared in
+      let e : normal_form sig h.form ≡ apply f ts = sym (normal_form-kept sig ok.accepted h.equal) ∙ fixed in
+      by_shape f ts C S o is (subst (IsCanonical sig) fixed (canonical sig ok.accepted (nested sig (apply f ts)))) (subst (λ t. ComputedSort sig t C) e c) (IsBelow-trans sig C h.declared (sort S) b h.below)

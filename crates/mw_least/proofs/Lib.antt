@@ -1,3 +1,4 @@
 pub mod Compilable
 pub mod Below
+pub mod SimpleModules
 pub mod Tops

@@ -1,6 +1,6 @@
 -- Sorts that ground terms have by their operators alone: sorts of whole kinds (tops), and results on arguments that have these.
-use Rattle.std.specs.Prelude.{ℕ, ◌≡◌, ◌≤◌, List, [], ◌∷◌, ⊤, slice_get, Some}
-use Rattle.mw_logic.specs.Signature.{Signature, Sorted, sort, kind, Operator, IsOperator, Member}
+use Rattle.std.specs.Prelude.{ℕ, ◌≡◌, ◌≤◌, List, [], ◌∷◌, ⊤, slice_get, Some, IsTrue, codes}
+use Rattle.mw_logic.specs.Signature.{Signature, Sorted, sort, kind, Operator, IsOperator, IsSortNamed, Member, at_number}
 use Rattle.mw_logic.specs.Sorts.{AtOrBelow}
 use Rattle.mw_poset.specs.Order.{IsKindOf}
 use Rattle.mw_logic.specs.Term.{RawTerm}
@@ -55,8 +55,18 @@ AreResults pairs tops [] (R ∷ Rs) = ⊥
 AreResults pairs tops (o ∷ os) [] = ⊥
 AreResults pairs tops (o ∷ os) (R ∷ Rs) = (1 ≤ R → IsSupport pairs tops o R) × AreResults pairs tops os Rs
 
--- Where no partial operator stands in a ground term, the sort at the place of the operator on top, if it isn't 0, is one that the term has.
+-- the sorts of this name are at or below the tops of their kinds
+abbrev pub AreTopped : Signature → List ℕ → List ℕ → Type 0
+AreTopped sig tops name = (S : ℕ) → IsSortNamed sig S name → (T : ℕ) × IsTop sig.pairs tops T × AtOrBelow sig.pairs S T
+
+-- numerals and quoted identifiers have the tops of their kinds
+pub record AreConstantsTopped (sig : Signature) (tops : List ℕ) : Type 0 where
+  pub numerals : IsTrue sig.nat → AreTopped sig tops (codes "Nat")
+  pub quotes : IsTrue sig.qid → AreTopped sig tops (codes "Qid")
+
+-- Where no partial operator stands in a canonical ground term, the sort at the place of the operator on top, if it isn't 0, is one that the term has.
 pub record AreSure (sig : Signature) (sure : Sure) : Type 0 where
   pub tops : List ℕ
   pub supported : AreSupported sig tops sure.partial
-  pub results : AreResults sig.pairs tops sig.operators sure.results
+  pub constants : (f R : ℕ) → at_number sure.results f ≡ Some R → AreConstantsTopped sig tops
+  pub results : (f R : ℕ) (o : Operator) → IsOperator sig f o → at_number sure.results f ≡ Some R → 1 ≤ R → IsSupport sig.pairs tops o R

@@ -1,7 +1,8 @@
 // Modules that the engine works in.
 ghost use Rattle.std.specs.Prelude.{◌≡◌, ◌↔◌, IfOk, IsTrue};
 ghost use Rattle.mw_logic.specs.Parts.{nested};
-ghost use Rattle.mw_logic.specs.Signature.{sort as sort_of, Declaration as DeclarationOf, IsRawTerm, Member};
+ghost use Rattle.mw_logic.specs.NormalForm.{normal_form};
+ghost use Rattle.mw_logic.specs.Signature.{Signature as SignatureOf, sort as sort_of, Declaration as DeclarationOf, IsRawTerm, Member};
 ghost use Rattle.mw_logic.specs.Preregular.{IsSortOf};
 ghost use Rattle.mw_logic.specs.Sorts.{AtOrBelow, IsBelow, HasSort, IsLeastSort};
 ghost use Rattle.mw_logic.specs.Term.{is_ground};
@@ -11,8 +12,11 @@ ghost use Rattle.mw_sorts.specs.Diagrams.{AreTablesOf};
 ghost use Rattle.mw_poset.specs.SortOrder.{order_of};
 ghost use Rattle.mw_term.specs.Signatures.{sorted_of};
 ghost use Rattle.mw_least.specs.Sure.{AreSure};
+ghost use Rattle.mw_least.specs.Workable.{IsWorkable};
 
+use crate::simple::is_simple;
 use crate::sure::{Sure, sure_sorts};
+use mw_canon::Facts;
 use mw_pattern::{Equations, index};
 use mw_poset::Poset;
 use mw_sorts::{Tables, least_sort};
@@ -21,15 +25,17 @@ use std::alloc::{AllocError, Global};
 use std::marker::Model;
 
 /// A signature and statements that were accepted, which contracts see as a module. The order of its sorts and the
-/// least results of its operators are kept with it, and its executable equations are held by the operators on top of
-/// their left sides too, with positions for variables.
+/// axioms and least results of its operators are kept with it. Of a simple module the executable equations are held by
+/// the operators on top of their left sides too, with positions for variables.
 #[derive(Drop)]
 pub struct Ctx {
-    signature: Signature,
+    facts: Facts,
     order: Poset,
     tables: Tables,
     sure: Sure,
     statements: Seq<Statement>,
+    /// Whether the module is simple.
+    simple: bool,
     equations: Equations,
 }
 
@@ -42,74 +48,82 @@ impl Model for Ctx {
 
     ghost coded = { Prim.hlevel (codes, coded_term, coded_variable) };
 
-    ghost view = { λ c. record { signature = c.signature; statements = c.statements } };
+    ghost view = { λ c. record { signature = c.facts; statements = c.statements } };
 
     ghost use Rattle.mw_least.specs.Contexts.{IsContext};
 
-    ghost invariant = { λ c. IsContext (record { signature = c.signature; statements = c.statements }) c.order c.tables c.sure c.equations };
+    ghost invariant = { λ c. IsContext (record { signature = c.facts; statements = c.statements }) c.order c.tables c.sure c.simple c.equations };
 }
 
-/// What is kept with a module to work in it.
-#[derive(Drop)]
-struct Prepared {
-    sure: Sure,
-    equations: Equations,
-}
-
-/// What is kept with the module of this signature and these statements.
-fn prepare(
+/// The executable equations by position where the module is simple, and none else.
+fn equations_by_position(
     alloc: Global,
-    signature: &Signature,
-    order: &Poset,
+    simple: bool,
     statements: &[Statement],
-) -> Result<Prepared, AllocError>
-    requires simple { IsSimpleModule (record { signature = signature.now; statements = statements.now }) }
-    requires order { order.now ≡ order_of signature.now }
-    ensures sure { IfOk result (λ h. AreSure signature.now h.sure) }
-    ensures index { IfOk result (λ h. IsIndexOf statements.now h.equations) }
+) -> Result<Equations, AllocError>
+    requires { IsTrue simple → (sig : SignatureOf) × IsSimpleModule (record { signature = sig; statements = statements.now }) }
+    ensures { IfOk result (λ m. IsTrue simple → IsIndexOf statements.now m) }
 {
-    let equations = index(alloc, statements)?;
-    let sure = sure_sorts(alloc, signature, order)?;
-    Ok(Prepared { sure, equations })
+    if !simple {
+        return Ok(Equations::new(alloc));
+    }
+    index(alloc, statements)
 }
 
 impl Ctx {
     /// The context of these operators and statements, with the order of the sorts and the operators' tables.
     pub fn new(
         alloc: Global,
-        signature: Signature,
+        facts: Facts,
         order: Poset,
         tables: Tables,
         statements: Seq<Statement>,
     ) -> Result<Box<Ctx>, AllocError>
-        requires simple { IsSimpleModule (record { signature = signature; statements = statements }) }
-        requires order { order ≡ order_of signature }
-        requires tables { AreTablesOf signature tables }
-        ensures { IfOk result (λ c. c.value ≡ record { signature = signature; statements = statements }) }
+        requires workable { IsWorkable (record { signature = facts; statements = statements }) }
+        requires order { order ≡ order_of facts }
+        requires tables { AreTablesOf facts tables }
+        ensures { IfOk result (λ c. c.value ≡ record { signature = facts; statements = statements }) }
     {
-        let prepared = prepare(alloc, &signature, &order, statements.as_slice())?;
+        let simple = is_simple(facts.signature());
+        let sure = sure_sorts(alloc, facts.signature(), &order)?;
+        let equations = equations_by_position(alloc, simple, statements.as_slice())?;
         let context = Ctx {
-            signature,
+            facts,
             order,
             tables,
-            sure: prepared.sure,
+            sure,
             statements,
-            equations: prepared.equations,
+            simple,
+            equations,
         };
         Ok(Box::new(alloc, context)?)
     }
 
     /// The module is one that the engine works in.
     pub fn shows(&self)
-        ensures { IsSimpleModule self.now }
+        ensures { IsWorkable self.now }
     {
-        let _ = &self.signature;
+        let _ = &self.simple;
+    }
+
+    /// Whether the module is simple: it has no axioms, no built-in operators, no numbers and no quoted identifiers.
+    pub fn is_simple(&self) -> bool
+        ensures { IsTrue result ↔ IsSimpleModule self.now }
+    {
+        self.simple
+    }
+
+    /// The signature with the axioms of its operators by number.
+    pub fn facts(&self) -> &Facts
+        ensures { result.now ≡ self.now.signature }
+    {
+        &self.facts
     }
 
     pub fn signature(&self) -> &Signature
         ensures { result.now ≡ self.now.signature }
     {
-        &self.signature
+        self.facts.signature()
     }
 
     /// The order of its sorts.
@@ -125,16 +139,17 @@ impl Ctx {
         self.statements.as_slice()
     }
 
-    /// The executable equations, by the operators on top of their left sides.
+    /// The executable equations of a simple module, by the operators on top of their left sides.
     pub fn equations(&self) -> &Equations
-        ensures { IsIndexOf self.now.statements result.now }
+        ensures { IsSimpleModule self.now → IsIndexOf self.now.statements result.now }
     {
         &self.equations
     }
 
-    /// The least sort of a term, or its kind. It takes no memory, and one look-up for each argument in the term.
+    /// The least sort of a canonical term, or its kind. It takes no memory, and one look-up for each argument in the
+    /// term.
     pub fn least_sort(&self, term: &Term) -> Sorted
-        ensures { let sig = self.now.signature in IsRawTerm sig (nested sig term.now) → IsTrue (is_ground term.now) → IsLeastSort sig (nested sig term.now) (sorted_of result) }
+        ensures { let sig = self.now.signature in normal_form sig (nested sig term.now) ≡ term.now → IsRawTerm sig (nested sig term.now) → IsLeastSort sig (nested sig term.now) (sorted_of result) }
     {
         least_sort(&self.tables, term)
     }
@@ -143,7 +158,7 @@ impl Ctx {
     fn is_there(&self, sort: SortId) -> bool
         ensures { IsTrue result ↔ IsSortOf self.now.signature sort }
     {
-        sort != 0 && sort as usize <= self.signature.sorts.as_slice().len()
+        sort != 0 && sort as usize <= self.signature().sorts.as_slice().len()
     }
 
     fn are_there(&self, lower: SortId, upper: SortId) -> bool
@@ -165,7 +180,7 @@ impl Ctx {
 
     /// Whether a sort is one that a term has by its operators alone.
     fn is_sure(&self, term: &Term, sort: SortId) -> bool
-        ensures { let sig = self.now.signature in IsRawTerm sig (nested sig term.now) → IsTrue (is_ground term.now) → IsTrue result → HasSort sig (nested sig term.now) (sort_of sort) }
+        ensures { let sig = self.now.signature in normal_form sig (nested sig term.now) ≡ term.now → IsRawTerm sig (nested sig term.now) → IsTrue (is_ground term.now) → IsTrue result → HasSort sig (nested sig term.now) (sort_of sort) }
     {
         let View::Op(operator, _) = term.view() else {
             return false;
@@ -205,22 +220,23 @@ impl Ctx {
 
     /// Whether the operator on top of a term may give a sort, whatever its arguments are.
     fn may_have(&self, term: &Term, sort: SortId) -> bool
-        ensures { let sig = self.now.signature in HasSort sig (nested sig term.now) (sort_of sort) → IsTrue result }
+        ensures { let sig = self.now.signature in normal_form sig (nested sig term.now) ≡ term.now → IsRawTerm sig (nested sig term.now) → HasSort sig (nested sig term.now) (sort_of sort) → IsTrue result }
     {
+        self.shows();
         let View::Op(operator, _) = term.view() else {
             return true;
         };
-        match numbered(self.signature.operators.as_slice(), operator) {
+        match numbered(self.signature().operators.as_slice(), operator) {
             Some(operator) => self.some_gives(operator.declarations.as_slice(), sort),
             None => true,
         }
     }
 
-    /// Whether a term has a sort. It takes no memory. It is a look-up where the term's operators tell a yes, as they
+    /// Whether a canonical ground term has a sort. It takes no memory. It is a look-up where the term's operators tell a yes, as they
     /// do where each of them is total on its kind, and a look-up for each declaration of the operator on top where
     /// they tell a no; else it takes the time of `least_sort`.
     pub fn has_sort(&self, term: &Term, sort: SortId) -> bool
-        ensures { let sig = self.now.signature in IsRawTerm sig (nested sig term.now) → IsTrue (is_ground term.now) → (IsTrue result ↔ HasSort sig (nested sig term.now) (sort_of sort)) }
+        ensures { let sig = self.now.signature in normal_form sig (nested sig term.now) ≡ term.now → IsRawTerm sig (nested sig term.now) → IsTrue (is_ground term.now) → (IsTrue result ↔ HasSort sig (nested sig term.now) (sort_of sort)) }
     {
         if self.is_sure(term, sort) {
             return true;

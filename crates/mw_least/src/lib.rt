@@ -1,19 +1,22 @@
 //! Contexts: a module's signature and statements as they were accepted, with what the engine asks of them.
 //!
-//! A [`Ctx`] is seen as its module. Beside it stand, unseen, the order of its sorts, the tables of its operators
-//! (mw_sorts) and its executable equations by position (mw_pattern), made once for a module.
+//! A [`Ctx`] is seen as its module. Beside it stand, unseen, the order of its sorts, the axioms of its operators
+//! (`Facts` of mw_canon), their tables (mw_sorts) and, where the module is simple, its executable equations by position
+//! (mw_pattern), made once for a module.
 //!
-//! - `Ctx::new` makes the module of the given signature and statements. Conditions: it is simple (`IsSimpleModule` of
-//!   mw_machine), the order is that of the signature's sorts, the tables are the signature's. `shows` hands out that it
-//!   is simple.
-//! - `signature`, `statements`, `order` are those of the module; `equations` are exactly its executable statements, by
-//!   position (`IsIndexOf`).
-//! - `least_sort` is the least sort of a ground raw term, or its kind where no declaration gives it a sort
-//!   (`IsLeastSort`); `has_sort` whether such a term has a sort (`HasSort`), exactly.
+//! - `Ctx::new` makes the module of the given signature and statements. Conditions: it is workable (`IsWorkable`,
+//!   specs/Workable: preregular modulo its axioms, with equations without conditions), the order is that of the
+//!   signature's sorts, the tables are the signature's. `shows` hands out that it is workable, `is_simple` tells
+//!   whether it is simple (`IsSimpleModule` of mw_machine).
+//! - `signature`, `facts`, `statements`, `order` are those of the module; `equations` of a simple one are exactly its
+//!   executable statements, by position (`IsIndexOf`).
+//! - `least_sort` is the least sort of a canonical term, or its kind where no declaration gives it a sort
+//!   (`IsLeastSort`); `has_sort` whether such a term, if it is ground, has a sort (`HasSort`), exactly.
 //!
 //! How `has_sort` works: of each kind `sure_sorts` takes a greatest sort (its top). An operator without a result at or
 //! below its kind's top on arguments that have theirs is partial. A ground term in which no partial operator stands
-//! has, by induction, the result that the operator on top has on tops; so one look-up tells, also in modules with
+//! has, by induction, the result that the operator on top has on tops, if numerals and quoted identifiers have the tops
+//! of their kinds; so one look-up tells, also in modules with
 //! partial operators, whose values mostly have none. Where no declaration of the operator on top has a result at or
 //! below the sort, the answer is no. Else the term is walked: where a partial operator stands in it (or one whose
 //! number has the same remainder by 64), or the result on tops isn't at or below the sort. Of a kind with several
@@ -23,6 +26,7 @@
 #![tactic(auto)]
 
 mod context;
+mod simple;
 mod sure;
 
 pub use context::Ctx;

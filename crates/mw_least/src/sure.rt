@@ -1,15 +1,16 @@
 // Sorts that ground terms have by their operators alone, whatever their arguments are.
-ghost use Rattle.std.specs.Prelude.{◌≡◌, ◌≤◌, ℕ, map, IfOk, IsFalse, IsTrue};
+ghost use Rattle.std.specs.Prelude.{◌≡◌, ◌≤◌, ℕ, map, Some, IfOk, IsFalse, IsTrue};
 ghost use Rattle.mw_logic.specs.Preregular.{HasItsSorts};
-ghost use Rattle.mw_logic.specs.Signature.{sort as sort_of};
+ghost use Rattle.mw_logic.specs.Signature.{sort as sort_of, at_number};
 ghost use Rattle.mw_logic.specs.Sorts.{AtOrBelow};
 ghost use Rattle.mw_poset.specs.SortOrder.{order_of};
 ghost use Rattle.mw_term.specs.Signatures.{sorted_of};
-ghost use Rattle.mw_least.specs.Sure.{IsNone, IsApart, IsTopOf, AreTops, IsSupport, IsSupportedIn, AreSupported, AreResults, AreSure};
+ghost use Rattle.mw_least.specs.Sure.{IsNone, IsApart, IsTop, IsTopOf, AreTops, IsSupport, IsSupportedIn, AreSupported, AreTopped, AreConstantsTopped, AreResults, AreSure};
 
 use mw_poset::Poset;
 use mw_term::{
-    Declaration, KindId, OpId, Operator, Seq, Signature, SortId, Sorted, Sought, Term, number_at,
+    Declaration, KindId, Name, OpId, Operator, Seq, Signature, SortId, Sorted, Sought, Term,
+    number_at, numbered,
 };
 use std::alloc::{AllocError, Global};
 
@@ -202,7 +203,62 @@ fn results_on_tops(
     Ok(Seq::of(results))
 }
 
-/// What a signature's operators tell of the sorts of terms.
+/// Whether a sort is at or below the top of its kind.
+fn has_top(order: &Poset, tops: &[SortId], sort: SortId) -> bool
+    ensures { IsTrue result → (T : ℕ) × IsTop order.now.pairs tops.now T × AtOrBelow order.now.pairs sort T }
+{
+    if !is_there(order, sort) {
+        return false;
+    }
+    match tops.get(order.kind_of(sort) as usize) {
+        Some(top) => is_top(order, tops, Sorted::Sort(*top)) && reaches(order, sort, *top),
+        None => false,
+    }
+}
+
+/// Whether a sort has this name.
+fn is_named(sorts: &[Name], sort: SortId, name: &[u8]) -> bool
+    ensures { at_number sorts.now sort ≡ Some name.now → IsTrue result }
+{
+    match numbered(sorts, sort) {
+        Some(found) => found.as_slice() == name,
+        None => false,
+    }
+}
+
+/// Whether a sort, if it has this name, is at or below the top of its kind.
+fn is_topped(order: &Poset, tops: &[SortId], sorts: &[Name], sort: SortId, name: &[u8]) -> bool
+    ensures { IsTrue result → at_number sorts.now sort ≡ Some name.now → (T : ℕ) × IsTop order.now.pairs tops.now T × AtOrBelow order.now.pairs sort T }
+{
+    !is_named(sorts, sort, name) || has_top(order, tops, sort)
+}
+
+/// Whether the sorts of this name are at or below the tops of their kinds.
+fn are_topped(order: &Poset, tops: &[SortId], signature: &Signature, name: &[u8]) -> bool
+    requires order { order.now ≡ order_of signature.now }
+    ensures { IsTrue result → AreTopped signature.now tops.now name.now }
+{
+    let sorts = signature.sorts.as_slice();
+    for index in 0..order.sorts() {
+        if !is_topped(order, tops, sorts, index + 1, name) {
+            return false;
+        }
+    }
+    true
+}
+
+/// Whether numerals and quoted identifiers have the tops of their kinds.
+fn are_constants_topped(order: &Poset, tops: &[SortId], signature: &Signature) -> bool
+    requires order { order.now ≡ order_of signature.now }
+    ensures { IsTrue result → AreConstantsTopped signature.now tops.now }
+{
+    let numerals = !signature.nat || are_topped(order, tops, signature, b"Nat");
+    let quotes = !signature.qid || are_topped(order, tops, signature, b"Qid");
+    numerals && quotes
+}
+
+/// What a signature's operators tell of the sorts of terms: nothing where a numeral or a quoted identifier may lack the
+/// top of its kind.
 pub fn sure_sorts(alloc: Global, signature: &Signature, order: &Poset) -> Result<Sure, AllocError>
     requires order { order.now ≡ order_of signature.now }
     requires numbers { HasItsSorts signature.now }
@@ -211,6 +267,11 @@ pub fn sure_sorts(alloc: Global, signature: &Signature, order: &Poset) -> Result
     let tops = greatest(alloc, order)?;
     let tops = tops.as_slice();
     let partial = partial_operators(order, tops, signature)?;
-    let results = results_on_tops(alloc, order, tops, signature.operators.as_slice())?;
+    let operators = if are_constants_topped(order, tops, signature) {
+        signature.operators.as_slice()
+    } else {
+        &[]
+    };
+    let results = results_on_tops(alloc, order, tops, operators)?;
     Ok(Sure { partial, results })
 }

@@ -1,13 +1,9 @@
 -- Instances by position: more values behind, and what is left of a list.
 use Rattle.std.specs.Prelude.{◌≡◌, ◌<◌, ℕ, zero, suc, List, [], ◌∷◌, ◌++◌, length, None, slice_get, refl}
 use Rattle.std.proofs.Common.{ap, arith}
-use Rattle.mw_logic.specs.Term.{RawTerm, numeral, quoted, variable, apply, RawTerms, nil, cons, join}
+use Rattle.mw_logic.specs.Term.{RawTerm, numeral, quoted, variable, apply, RawTerms, nil, cons}
 use Rattle.mw_machine.specs.Positions.{fill, fill_all, IsWithin, AreWithin}
 use Rattle.mw_logic.specs.Terms.{terms_of, skip}
-
-pub terms_of-append : (ts us : List RawTerm) → terms_of (ts ++ us) ≡ join (terms_of ts) (terms_of us)
-terms_of-append [] us = refl
-terms_of-append (t ∷ ts) us = ap (cons t) (terms_of-append ts us)
 
 pub slice_get-append : (vs ws : List RawTerm) (i : ℕ) → i < length vs → slice_get (vs ++ ws) i ≡ slice_get vs i
 slice_get-append [] ws i h = absurd (omega arith)

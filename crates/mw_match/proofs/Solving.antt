@@ -7,7 +7,8 @@ use Rattle.mw_logic.specs.Signature.{Signature, sort, IsRawTerm}
 use Rattle.mw_logic.specs.Sorts.{HasSort}
 use Rattle.mw_logic.specs.Free.{IsFreeSignature}
 use Rattle.mw_logic.specs.Parts.{nested}
-use Rattle.mw_canon.proofs.Free.{nested_free, meant_free}
+use Rattle.mw_logic.specs.NormalForm.{normal_form}
+use Rattle.mw_canon.proofs.Free.{nested_free, normal_form_free, meant_free}
 use Rattle.mw_logic.specs.Substitution.{Substitution, IsSubstitution, IsSolution, SameSolution}
 use Rattle.mw_machine.specs.Positions.{fill, counted, IsNumbered}
 use Rattle.mw_machine.specs.Simple.{IsSimpleSignature, IsGround, AreGround, HaveSorts}
@@ -89,11 +90,11 @@ module _ (sig : Signature) (simple : IsSimpleSignature sig) (p t : RawTerm) (raw
       subst (λ Rs. AreGround sig vs → (IsTrue b ↔ HaveSorts sig vs Rs)) (f ∙ ap sorts_of g) k
 
 -- whether a value has a sort, as the flattened term has it
-pub plain_sort : (sig : Signature) → IsFreeSignature sig → (v : RawTerm) (S : ℕ) (b : Bool) → (IsRawTerm sig (nested sig v) → IsTrue (is_ground v) → (IsTrue b ↔ HasSort sig (nested sig v) (sort S)))
+pub plain_sort : (sig : Signature) → IsFreeSignature sig → (v : RawTerm) (S : ℕ) (b : Bool) → (normal_form sig (nested sig v) ≡ v → IsRawTerm sig (nested sig v) → IsTrue (is_ground v) → (IsTrue b ↔ HasSort sig (nested sig v) (sort S)))
     → IsGround sig v → (IsTrue b ↔ HasSort sig v (sort S))
 plain_sort sig free v S b h g =
     let e = nested_free sig free v in
-    subst (λ u. IsTrue b ↔ HasSort sig u (sort S)) e (h (subst (IsRawTerm sig) (sym e) g.1) g.0)
+    subst (λ u. IsTrue b ↔ HasSort sig u (sort S)) e (h (normal_form_free sig free (nested sig v) ∙ e) (subst (IsRawTerm sig) (sym e) g.1) g.0)
 
 -- the list of the only solution, if there is one, is that of all solutions
 module _ (sig : Signature) (p t : RawTerm) (s0 : Substitution) where

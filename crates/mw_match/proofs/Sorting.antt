@@ -5,6 +5,7 @@ use Rattle.std.proofs.lemmas.Bool.{both_ways}
 use Rattle.std.proofs.lemmas.Option.{slice_get_within}
 use Rattle.mw_logic.specs.Term.{RawTerm, is_ground}
 use Rattle.mw_logic.specs.Parts.{nested}
+use Rattle.mw_logic.specs.NormalForm.{normal_form}
 use Rattle.mw_logic.specs.Free.{IsFreeSignature}
 use Rattle.mw_logic.specs.Signature.{Signature, sort, IsRawTerm}
 use Rattle.mw_logic.specs.Sorts.{HasSort}
@@ -46,13 +47,13 @@ module _ (sig : Signature) (vs : List RawTerm) (Ss : List ℕ) where
 
   -- one more value that has its sort, and one that hasn't
   pub next_has : IsFreeSignature sig → length vs ≡ length Ss → (i : ℕ) (v : RawTerm) (b : Bool) → i < length vs → v ≡ get_or vs i v
-      → (IsRawTerm sig (nested sig v) → IsTrue (is_ground v) → (IsTrue b ↔ HasSort sig (nested sig v) (sort (get_or Ss i 0)))) → b ≡ true → (AreGround sig vs → HaveFirst sig vs Ss i) → AreGround sig vs → HaveFirst sig vs Ss (i + 1)
+      → (normal_form sig (nested sig v) ≡ v → IsRawTerm sig (nested sig v) → IsTrue (is_ground v) → (IsTrue b ↔ HasSort sig (nested sig v) (sort (get_or Ss i 0)))) → b ≡ true → (AreGround sig vs → HaveFirst sig vs Ss i) → AreGround sig vs → HaveFirst sig vs Ss (i + 1)
   next_has free l i v b h e k t all g =
       let a = got vs i v h e in
       one_more i v (get_or Ss i 0) a (number_got Ss i (omega (arith, h, l))) ((plain_sort sig free v (get_or Ss i 0) b k (g i v a)).0 t) (all g)
 
   pub next_lacks : IsFreeSignature sig → length vs ≡ length Ss → (i : ℕ) (v : RawTerm) (b : Bool) → i < length vs → v ≡ get_or vs i v
-      → (IsRawTerm sig (nested sig v) → IsTrue (is_ground v) → (IsTrue b ↔ HasSort sig (nested sig v) (sort (get_or Ss i 0)))) → b ≡ false → AreGround sig vs → (IsTrue false ↔ HaveSorts sig vs Ss)
+      → (normal_form sig (nested sig v) ≡ v → IsRawTerm sig (nested sig v) → IsTrue (is_ground v) → (IsTrue b ↔ HasSort sig (nested sig v) (sort (get_or Ss i 0)))) → b ≡ false → AreGround sig vs → (IsTrue false ↔ HaveSorts sig vs Ss)
   next_lacks free l i v b h e k t g = (
     λ f. absurd (both_ways false refl f),
     λ (all : HaveSorts sig vs Ss).

@@ -11,8 +11,9 @@
 //!   and takes it off, None exactly where none is left; where memory is wanting the same ones are still to come. There
 //!   is one solution at most so far, so it is an `Option`; the clauses don't say so. Both ways use the same matcher.
 //!
-//! Conditions of `new`: the pattern and the subject are raw terms of the context's signature, the subject is ground,
-//! and the given substitution has values of its variables' sorts.
+//! Conditions of `new`: the module is simple, the pattern and the subject are raw terms of its signature, the subject
+//! is ground, and the given substitution has values of its variables' sorts. What `have_sorts` says holds where the
+//! signature is simple.
 //!
 //! Tested by mw_tests: that `new` and `next` answer with memory at hand. No clause says the order of bindings, time or
 //! memory. Cost: the size of the pattern and of the given substitution, and what is compared; a value is copied by one

@@ -4,6 +4,7 @@ ghost use Rattle.mw_logic.specs.Parts.{nested};
 ghost use Rattle.mw_logic.specs.Signature.{IsRawTerm};
 ghost use Rattle.mw_logic.specs.Substitution.{IsSubstitution};
 ghost use Rattle.mw_logic.specs.Term.{is_ground};
+ghost use Rattle.mw_machine.specs.Simple.{IsSimpleModule};
 ghost use Rattle.mw_machine.specs.Variables.{met, bound_variables};
 ghost use Rattle.mw_match.specs.Solutions.{IsAllSolutions, IsOnlySolution};
 ghost use Rattle.mw_canon.specs.Canonical.{meant};
@@ -56,13 +57,13 @@ impl Solutions {
         subject: &Term,
         given: &Subst,
     ) -> Result<Solutions, AllocError>
+        requires simple { IsSimpleModule context.now }
         requires pattern { IsRawTerm context.now.signature (nested context.now.signature (raw_term pattern.now)) }
         requires ground { IsTrue (is_ground subject.now) }
         requires subject { IsRawTerm context.now.signature (nested context.now.signature subject.now) }
         requires given { IsSubstitution context.now.signature (meant context.now.signature given.now) }
         ensures { let sig = context.now.signature in IfOk result (λ s. IsAllSolutions sig (nested sig (raw_term pattern.now)) (nested sig subject.now) (meant sig given.now) s) }
     {
-        context.shows();
         let found = solve(alloc, context, pattern, subject, given)?;
         let coming = match found {
             Some(subst) => Some(Solution { subst, take: None }),
@@ -90,6 +91,7 @@ fn solve_at(
     given: &Subst,
     places: &Places<'_>,
 ) -> Result<Option<Subst>, AllocError>
+    requires simple { IsSimpleModule context.now }
     requires pattern { IsRawTerm context.now.signature (raw_term pattern.now) }
     requires ground { IsTrue (is_ground subject.now) }
     requires subject { IsRawTerm context.now.signature subject.now }
@@ -97,7 +99,6 @@ fn solve_at(
     requires places { places.now ≡ met (bound_variables given.now) (raw_term pattern.now) }
     ensures { IfOk result (λ o. IsOnlySolution context.now.signature (raw_term pattern.now) subject.now given.now o) }
 {
-    context.shows();
     let positions = pattern_of(alloc, pattern, places)?;
     let mut values = values_of(alloc, given)?;
     if !matches(&positions, subject, &mut values)? {
@@ -119,6 +120,7 @@ fn solve(
     subject: &Term,
     given: &Subst,
 ) -> Result<Option<Subst>, AllocError>
+    requires simple { IsSimpleModule context.now }
     requires pattern { IsRawTerm context.now.signature (raw_term pattern.now) }
     requires ground { IsTrue (is_ground subject.now) }
     requires subject { IsRawTerm context.now.signature subject.now }

@@ -1,6 +1,6 @@
 // Values by the sorts of their variables.
 ghost use Rattle.std.specs.Prelude.{◌≡◌, ◌↔◌, IsTrue, length};
-ghost use Rattle.mw_machine.specs.Simple.{AreGround, HaveSorts};
+ghost use Rattle.mw_machine.specs.Simple.{IsSimpleSignature, AreGround, HaveSorts};
 
 use mw_least::Ctx;
 use mw_term::{SortId, Term};
@@ -8,9 +8,8 @@ use mw_term::{SortId, Term};
 /// Whether values have these sorts, one by one. It takes no memory.
 pub fn have_sorts(context: &Ctx, values: &[Term], sorts: &[SortId]) -> bool
     requires { length values.now ≡ length sorts.now }
-    ensures { AreGround context.now.signature values.now → (IsTrue result ↔ HaveSorts context.now.signature values.now sorts.now) }
+    ensures { IsSimpleSignature context.now.signature → AreGround context.now.signature values.now → (IsTrue result ↔ HaveSorts context.now.signature values.now sorts.now) }
 {
-    context.shows();
     for i in 0..values.len() {
         if !context.has_sort(&values[i], sorts[i]) {
             return false;

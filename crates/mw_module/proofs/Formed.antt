@@ -148,6 +148,9 @@ one_known arity role.Config ts e = record { precedence = tt; gather = tt }
 one_known arity role.Words ts e = none_known arity
 one_known arity (role.Sort kind) ts e = none_known arity
 one_known arity role.Silent ts e = none_known arity
+one_known arity role.Assoc ts e = record { precedence = tt; gather = tt }
+one_known arity role.Comm ts e = record { precedence = tt; gather = tt }
+one_known arity role.Identity ts e = record { precedence = tt; gather = tt }
 one_known arity role.Nonexec ts e = none_known arity
 
 said_known : (arity : ℕ) (ts : List Token) (said : Attributes) (parts : List Part) → AreAttributes arity said → All (IsFine ts (want.Marks arity)) parts → AreAttributes arity (said_from ts said parts)

@@ -8,27 +8,36 @@ use Rattle.mw_lex.specs.declared.token.Token.{Token}
 use Rattle.mw_module.specs.declared.attribute.Attributes.{Attributes as HeldAttributes}
 use Rattle.mw_module.specs.declared.table.Role.{Role}
 use Rattle.mw_module.specs.declared.table.Role.TheVariants as role
+use Rattle.mw_text.specs.Names.{NameItem, piece, hole, items_of}
 use Rattle.mw_module.specs.Words.{is, texts}
 
 -- what the attributes of an operator say
 pub record Attributes : Type 0 where
+  pub assoc : Bool
+  pub comm : Bool
+  -- the text of the token that names the identity
+  pub identity : Option (List ℕ)
   pub precedence : Option ℕ
   -- the texts of the marks
   pub gather : Option (List (List ℕ))
   pub config : Bool
-  -- two different precedences, or two different gathers
+  -- two different identities, precedences or gathers
   pub clash : Bool
 
 -- the texts of a gather's marks
 abbrev pub gather_of : Option (Bor (List Token)) → Option (List (List ℕ))
 gather_of gather = option_map (λ marks. texts marks.now) gather
 
+-- the text of an identity's token
+abbrev pub identity_of : Option (Bor Token) → Option (List ℕ)
+identity_of identity = option_map (λ (t : Bor Token). t.now.text) identity
+
 -- attributes as their readers see them
 abbrev pub seen_attributes : HeldAttributes → Attributes
-seen_attributes a = record { precedence = a.precedence; gather = gather_of a.gather; config = a.config; clash = a.clash }
+seen_attributes a = record { assoc = a.assoc; comm = a.comm; identity = identity_of a.identity; precedence = a.precedence; gather = gather_of a.gather; config = a.config; clash = a.clash }
 
 abbrev pub no_attributes : Attributes
-no_attributes = record { precedence = None; gather = None; config = false; clash = false }
+no_attributes = record { assoc = false; comm = false; identity = None; precedence = None; gather = None; config = false; clash = false }
 
 -- both have a value, and the two aren't the same
 abbrev pub differ : {A : Type 0} → (A → A → Bool) → Option A → Option A → Bool
@@ -42,13 +51,36 @@ same_texts [] (b ∷ bs) = false
 same_texts (a ∷ as_) [] = false
 same_texts (a ∷ as_) (b ∷ bs) = bytes_eq a b && same_texts as_ bs
 
+-- texts that spell one name
+abbrev pub same_item : NameItem → NameItem → Bool
+same_item (piece x) (piece y) = bytes_eq x y
+same_item (piece x) hole = false
+same_item hole (piece y) = false
+same_item hole hole = true
+
+abbrev pub same_items : List NameItem → List NameItem → Bool
+same_items [] [] = true
+same_items [] (j ∷ js) = false
+same_items (i ∷ is_) [] = false
+same_items (i ∷ is_) (j ∷ js) = same_item i j && same_items is_ js
+
+abbrev pub same_name : List ℕ → List ℕ → Bool
+same_name x y = same_items (items_of x) (items_of y)
+
+-- they say two different identities, precedences or gathers
+abbrev pub disagree : Attributes → Attributes → Bool
+disagree a b = differ same_name a.identity b.identity || (differ nat_eq a.precedence b.precedence || differ same_texts a.gather b.gather)
+
 -- what both say; they clash where one of them does, or where they differ
 abbrev pub joined : Attributes → Attributes → Attributes
 joined a b = record {
+  assoc = a.assoc || b.assoc;
+  comm = a.comm || b.comm;
+  identity = option_or a.identity b.identity;
   precedence = option_or a.precedence b.precedence;
   gather = option_or a.gather b.gather;
   config = a.config || b.config;
-  clash = a.clash || b.clash || differ nat_eq a.precedence b.precedence || differ same_texts a.gather b.gather;
+  clash = a.clash || b.clash || disagree a b;
 }
 
 -- a number that is a precedence
@@ -76,8 +108,16 @@ abbrev pub precedence_in : List Token → Option ℕ
 precedence_in [] = None
 precedence_in (t ∷ rest) = precedence_of t.text
 
+-- the text of the first token
+abbrev pub first_text : List Token → Option (List ℕ)
+first_text [] = None
+first_text (t ∷ rest) = Some t.text
+
 -- what the tokens of one attribute say
 abbrev pub said_as : Role → List Token → Attributes
+said_as role.Assoc ts = record no_attributes { assoc = true }
+said_as role.Comm ts = record no_attributes { comm = true }
+said_as role.Identity ts = record no_attributes { identity = first_text ts }
 said_as role.Config ts = record no_attributes { config = true }
 said_as role.Precedence ts = record no_attributes { precedence = precedence_in ts }
 said_as role.Gather ts = record no_attributes { gather = Some (texts ts) }

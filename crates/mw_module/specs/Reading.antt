@@ -82,6 +82,9 @@ is_gather (role.Sort kind) = false
 is_gather role.Silent = false
 is_gather role.Config = false
 is_gather role.Precedence = false
+is_gather role.Assoc = false
+is_gather role.Comm = false
+is_gather role.Identity = false
 is_gather role.Nonexec = false
 
 -- a mark for each argument, and one at least

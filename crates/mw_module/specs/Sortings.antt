@@ -36,6 +36,9 @@ sorting_as kinds role.Silent name = []
 sorting_as kinds role.Config name = []
 sorting_as kinds role.Precedence name = []
 sorting_as kinds role.Gather name = []
+sorting_as kinds role.Assoc name = []
+sorting_as kinds role.Comm name = []
+sorting_as kinds role.Identity name = []
 sorting_as kinds role.Nonexec name = []
 
 abbrev pub sorting_of : Bool → List Token → Part → List WrittenSort

@@ -2,24 +2,31 @@
 ghost use Rattle.std.specs.Prelude.{◌≡◌, nat_eq};
 ghost use Rattle.std.specs.Char.{is_ascii_digit};
 ghost use Rattle.std.specs.List.{list_all};
+ghost use Rattle.mw_text.specs.Seen.{item_of};
 ghost use Rattle.mw_module.specs.Attributes as attributes;
 ghost use Rattle.mw_module.specs.Forms.{said_from};
 ghost use Rattle.mw_module.specs.Words.{texts};
-ghost use Rattle.mw_module.specs.Attributes.{seen_attributes, no_attributes, gather_of, differ, same_texts};
+ghost use Rattle.mw_module.specs.Attributes.{seen_attributes, no_attributes, identity_of, gather_of};
+ghost use Rattle.mw_module.specs.Attributes.{differ, same_texts};
 
 use crate::machine::{Part, part_tokens};
 use crate::table::Role;
 use crate::words::is_word;
 use mw_lex::Token;
+use mw_text::{NameItem, first_item};
 
 /// What the attributes of an operator say. Those that aren't here say nothing.
 #[derive(Clone, Copy)]
 pub struct Attributes<'a> {
+    pub assoc: bool,
+    pub comm: bool,
+    /// The token that names the identity.
+    pub identity: Option<&'a Token>,
     pub precedence: Option<u32>,
     /// The marks, one for each argument.
     pub gather: Option<&'a [Token]>,
     pub config: bool,
-    /// Whether there are two different precedences, or two different gathers.
+    /// Whether there are two different identities, precedences or gathers.
     pub clash: bool,
 }
 
@@ -42,6 +49,46 @@ fn same_marks(marks: &[Token], others: &[Token]) -> bool
     right.is_empty()
 }
 
+// Whether two items are the same.
+fn same_item(item: NameItem<'_>, other: NameItem<'_>) -> bool
+    ensures { result ≡ attributes.same_item (item_of item.entry) (item_of other.entry) }
+{
+    match (item, other) {
+        (NameItem::Piece(text), NameItem::Piece(other)) => text == other,
+        (NameItem::Hole, NameItem::Hole) => true,
+        _ => false,
+    }
+}
+
+// Whether two texts spell one name.
+fn same_name(text: &[u8], other: &[u8]) -> bool
+    ensures { result ≡ attributes.same_name text.now other.now }
+{
+    let mut left = text;
+    let mut right = other;
+    while let Some((item, after)) = first_item(left) {
+        let Some((other, behind)) = first_item(right) else {
+            return false;
+        };
+        if !same_item(item, other) {
+            return false;
+        }
+        left = after;
+        right = behind;
+    }
+    first_item(right).is_none()
+}
+
+// Whether there are two identities, and they differ.
+fn identities_differ(first: Option<&Token>, second: Option<&Token>) -> bool
+    ensures { result ≡ differ attributes.same_name (identity_of first.entry) (identity_of second.entry) }
+{
+    match (first, second) {
+        (Some(first), Some(second)) => { !same_name(first.text.as_slice(), second.text.as_slice()) }
+        _ => false,
+    }
+}
+
 // Whether there are two precedences, and they differ.
 fn precedences_differ(first: Option<u32>, second: Option<u32>) -> bool
     ensures { result ≡ differ nat_eq first second }
@@ -62,12 +109,24 @@ fn gathers_differ(first: Option<&[Token]>, second: Option<&[Token]>) -> bool
     }
 }
 
+// Whether they say two different identities, precedences or gathers.
+fn disagree(first: &Attributes<'_>, second: &Attributes<'_>) -> bool
+    ensures { result ≡ attributes.disagree (seen_attributes first.now) (seen_attributes second.now) }
+{
+    identities_differ(first.identity, second.identity)
+        || precedences_differ(first.precedence, second.precedence)
+        || gathers_differ(first.gather, second.gather)
+}
+
 impl<'a> Attributes<'a> {
     /// No attributes.
     pub fn none() -> Attributes<'a>
         ensures { seen_attributes result ≡ no_attributes }
     {
         Attributes {
+            assoc: false,
+            comm: false,
+            identity: None,
             precedence: None,
             gather: None,
             config: false,
@@ -80,13 +139,13 @@ impl<'a> Attributes<'a> {
         ensures { seen_attributes result ≡ attributes.joined (seen_attributes self.entry) (seen_attributes other.entry) }
     {
         Attributes {
+            assoc: self.assoc | other.assoc,
+            comm: self.comm | other.comm,
+            identity: self.identity.or(other.identity),
             precedence: self.precedence.or(other.precedence),
             gather: self.gather.or(other.gather),
-            config: self.config || other.config,
-            clash: self.clash
-                || other.clash
-                || precedences_differ(self.precedence, other.precedence)
-                || gathers_differ(self.gather, other.gather),
+            config: self.config | other.config,
+            clash: self.clash | other.clash | disagree(&self, &other),
         }
     }
 
@@ -158,6 +217,9 @@ fn said_as<'s>(role: Role, tokens: &'s [Token]) -> Attributes<'s>
 {
     let mut says = Attributes::none();
     match role {
+        Role::Assoc => says.assoc = true,
+        Role::Comm => says.comm = true,
+        Role::Identity => says.identity = tokens.first(),
         Role::Config => says.config = true,
         Role::Precedence => says.precedence = precedence_in(tokens),
         Role::Gather => says.gather = Some(tokens),

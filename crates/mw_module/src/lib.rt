@@ -19,8 +19,9 @@
 //!   attribute's) are taken off, and a counter of `( [ { if` and `) ] } fi`, never below 0, finds the `=`.
 //! - `op` has one name of one or more tokens, `ops` one or more, each a token or the tokens of a group in parentheses,
 //!   of which only parentheses are counted.
-//! - `Attributes` holds what a list says: a precedence, a gather, `config`, and whether two precedences or gathers
-//!   differ (`clash`). `joined` is what two lists say together.
+//! - `Attributes` holds what a list says: the axioms, with the token that names an identity, a precedence, a gather,
+//!   `config`, and whether two identities, precedences or gathers differ (`clash`). `joined` is what two lists say
+//!   together.
 //! - [`FaultKind`] has the faults of all layers, one kind for each refusal that the program prints.
 //!
 //! Proved: the unit at a place, exactly, with the next place; a fault exactly where there is one, and the first; the

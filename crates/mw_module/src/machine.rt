@@ -96,6 +96,9 @@ fn is_gather(role: Role) -> bool
         | Role::Silent
         | Role::Config
         | Role::Precedence
+        | Role::Assoc
+        | Role::Comm
+        | Role::Identity
         | Role::Nonexec => false,
     }
 }

@@ -32,6 +32,7 @@ pub enum Place {
     Behind,
     /// Where an attribute begins, and behind the words of some.
     Attribute,
+    Identity,
     Precedence,
     Gather,
     Marks,
@@ -59,6 +60,10 @@ pub enum Role {
     Sort(bool),
     /// The bracket in front of attributes, or an attribute that says nothing.
     Silent,
+    Assoc,
+    Comm,
+    /// What stands behind `id:`.
+    Identity,
     Config,
     Precedence,
     Gather,
@@ -218,6 +223,9 @@ pub fn entry_of(place: Place) -> Entry
         ] },
         Place::Attribute => Entry { end: Never, rows: &[
             Row { word: b"]", test: Any, act: Skip, next: Ok(Place::Whole) },
+            Row { word: b"assoc", test: Any, act: One(Role::Assoc), next: Ok(Place::Attribute) },
+            Row { word: b"comm", test: Any, act: One(Role::Comm), next: Ok(Place::Attribute) },
+            Row { word: b"id:", test: Any, act: Skip, next: Ok(Place::Identity) },
             Row { word: b"ctor", test: Any, act: One(Role::Silent), next: Ok(Place::Attribute) },
             Row { word: b"ditto", test: Any, act: One(Role::Silent), next: Ok(Place::Attribute) },
             Row { word: b"memo", test: Any, act: One(Role::Silent), next: Ok(Place::Attribute) },
@@ -229,6 +237,9 @@ pub fn entry_of(place: Place) -> Entry
             Row { word: b"format", test: Any, act: One(Role::Silent), next: Ok(Place::Format) },
             Row { word: b"metadata", test: Any, act: One(Role::Silent), next: Ok(Place::Metadata) },
             Row { word: b"", test: Any, act: Skip, next: Err(Wrong::Unread) },
+        ] },
+        Place::Identity => Entry { end: Never, rows: &[
+            Row { word: b"", test: Any, act: One(Role::Identity), next: Ok(Place::Attribute) },
         ] },
         Place::Precedence => Entry { end: Never, rows: &[
             Row { word: b"", test: Test::Precedence, act: One(Role::Precedence), next: Ok(Place::Attribute) },

@@ -9,7 +9,7 @@ use Rattle.mw_machine.specs.Variables.{sorts_of}
 use Rattle.mw_machine.specs.Positions.{fill, fill_all, IsWithin, AreWithin}
 use Rattle.mw_logic.specs.Terms.{terms_of}
 use Rattle.mw_machine.proofs.Trees.{join-assoc, join-nil}
-use Rattle.mw_machine.proofs.Filling.{terms_of-append}
+use Rattle.mw_logic.proofs.Pushed.{terms_of-append}
 use Rattle.mw_pattern.specs.declared.pattern.Pattern.{Pattern}
 use Rattle.std.proofs.lemmas.Option.{slice_get-get_or}
 use Rattle.mw_pattern.specs.Clean.{clean, clean_all}

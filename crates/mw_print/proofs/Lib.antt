@@ -2,6 +2,8 @@
 pub mod Behind
 pub mod Forms
 pub mod Lists
+pub mod Shown
+pub mod Chained
 pub mod Spelled
 pub mod ReadBack
 pub mod Bytes

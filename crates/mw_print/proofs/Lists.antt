@@ -6,7 +6,7 @@ use Rattle.mw_logic.specs.Signature.{Signature}
 use Rattle.mw_logic.specs.NormalForm.{highest}
 use Rattle.mw_logic.specs.Terms.{terms_of}
 use Rattle.mw_print.specs.Tokens.{Token, comma}
-use Rattle.mw_print.specs.Printing.{divided, arguments_of, printed, printed_all}
+use Rattle.mw_print.specs.Printing.{divided, arguments_of, shown, all_shown}
 use Rattle.mw_print.specs.declared.writer.Writer.{Writer}
 use Rattle.mw_print.specs.Writing.{written, Writes}
 use Rattle.mw_print.proofs.Forms.{list_more}
@@ -26,12 +26,12 @@ lower_behind rest t behind is = rw is (omega arith)
 
 -- the text behind an argument and a comma
 pub past_argument : (sig : Signature) (assoc : Bool) (f : ℕ) (u v w : Writer) (arg : RawTerm) (rest behind : List RawTerm) → rest ≡ arg ∷ behind → 0 < length behind
-    → Writes u v (printed sig arg).tokens → Writes v w (comma ∷ []) → (ts : List Token)
-    → written w (divided (arguments_of assoc f (printed_all sig (terms_of behind))) ++ ts) ≡ written u (divided (arguments_of assoc f (printed_all sig (terms_of rest))) ++ ts)
+    → Writes u v (shown sig arg).tokens → Writes v w (comma ∷ []) → (ts : List Token)
+    → written w (divided (arguments_of assoc f (all_shown sig behind)) ++ ts) ≡ written u (divided (arguments_of assoc f (all_shown sig rest)) ++ ts)
 past_argument sig assoc f u v w arg rest [] is some h k ts = absurd (omega arith)
 past_argument sig assoc f u v w arg rest (b ∷ behind) is some h k ts =
-    let ps = printed_all sig (terms_of behind) in
-    let more = divided (arguments_of assoc f (printed sig b ∷ ps)) in
-    let all : divided (arguments_of assoc f (printed_all sig (terms_of rest))) ++ ts ≡ (printed sig arg).tokens ++ (comma ∷ more ++ ts)
-    = rw is (ap (λ xs. xs ++ ts) (list_more assoc f (printed sig arg) (printed sig b) ps) ∙ append_assoc (printed sig arg).tokens (comma ∷ more) ts) in
+    let ps = all_shown sig behind in
+    let more = divided (arguments_of assoc f (shown sig b ∷ ps)) in
+    let all : divided (arguments_of assoc f (all_shown sig rest)) ++ ts ≡ (shown sig arg).tokens ++ (comma ∷ more ++ ts)
+    = rw is (ap (λ xs. xs ++ ts) (list_more assoc f (shown sig arg) (shown sig b) ps) ∙ append_assoc (shown sig arg).tokens (comma ∷ more) ts) in
     k (more ++ ts) ∙ h (comma ∷ more ++ ts) ∙ ap (written u) (sym all)

@@ -1,6 +1,7 @@
 -- Terms, sorts and kinds as texts.
 pub mod Tokens
 pub mod Printing
+pub mod Chains
 pub mod Sorts
 pub mod Writing
 pub mod Laws

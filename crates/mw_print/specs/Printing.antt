@@ -3,7 +3,8 @@ use Rattle.std.specs.Prelude.{ℕ, List, [], ◌∷◌, ◌++◌, map, length, c
 use Rattle.std.specs.Fmt.{decimal}
 use Rattle.mw_logic.specs.Term.{RawTerm, numeral, quoted, variable, apply, RawTerms, nil, cons}
 use Rattle.mw_logic.specs.Signature.{Signature, Operator, Gather, less, most, any, at_number}
-use Rattle.mw_logic.specs.Parts.{is_assoc}
+use Rattle.mw_logic.specs.Parts.{is_assoc, nested, all_nested}
+use Rattle.mw_logic.specs.Terms.{terms_of}
 use Rattle.mw_text.specs.Names.{NameItem, piece, hole, items_of, has_hole, count_holes, pieces}
 use Rattle.mw_print.specs.Tokens.{Token, token, opening, comma, spaced}
 
@@ -111,6 +112,17 @@ abbrev mutual
   printed_all sig nil = []
   printed_all sig (cons t ts) = printed sig t ∷ printed_all sig ts
 
+-- A canonical term is printed as the term that it means: its associative operators on more than two arguments are nested to the right.
+abbrev pub shown : Signature → RawTerm → Printed
+shown sig t = printed sig (nested sig t)
+
+abbrev pub all_shown : Signature → List RawTerm → List Printed
+all_shown sig ts = printed_all sig (all_nested sig (terms_of ts))
+
 -- the text of a term
 abbrev pub mixfix_text : Signature → RawTerm → List ℕ
 mixfix_text sig t = spaced (printed sig t).tokens
+
+-- the text of a canonical term
+abbrev pub term_text : Signature → RawTerm → List ℕ
+term_text sig t = mixfix_text sig (nested sig t)

@@ -1,26 +1,30 @@
 //! Terms as texts, in mixfix form; and sorts and kinds. docs/LANGUAGE.md, "Printing", has the form in words.
 //!
-//! A term's text is a definition in two steps: specs/Printing gives a term's tokens with its precedence, by a recursion
-//! down the term; specs/Tokens writes tokens as a text, where what stands between two of them is a function of these
-//! two alone. The code makes no list of tokens: a `Writer` has the text and how it ends, and each function says which
-//! tokens it wrote. A name is read item by item.
+//! A canonical term, whose associative operators stand on two or more arguments, is read as nested to the right
+//! (`nested`, mw_logic). Its text is a definition in two steps: specs/Printing gives a raw term's tokens with its
+//! precedence, by a recursion down the term; specs/Tokens writes tokens as a text, where what stands between two of
+//! them is a function of these two alone. The code makes no list of tokens and no nested term: a `Writer` has the text
+//! and how it ends, and each function says which tokens it wrote. A name is read item by item. Of a list that a mixfix
+//! operator joins, what stands before each element is written first, and behind the last two what ends all forms that
+//! are open (specs/Chains), without recursion.
 //!
 //! Proved:
 //!
-//! - `mixfix`: the text of a term is the definition's, byte for byte. `print_sort`: so is the name of a sort.
+//! - `mixfix`: the text of a term, nested, is the definition's, byte for byte. `print_sort`: so is the name of a sort.
 //!   `print_sorted`: so is a sort or a kind: its maximal sorts in order of number, with commas between, in brackets.
 //!   Conditions: the order is that of the signature's sorts, and a kind is named by the number of a sort.
 //!   Where memory is wanting these two leave the text as it was.
 //! - The law `printed_reads_back`: the text of a raw term, cut into tokens, spells the term, whatever variables are
 //!   declared; where operators' names are proper tokens, associative operators have two arguments, and each variable of
 //!   the term has a name and a sort's name that make one token; in signatures without numbers and quoted identifiers.
-//!   mw_build shows the premises of the modules that it accepts. It has three parts (specs/Laws): the printed tokens
-//!   spell the term, at the precedence at which it was printed (`PrintedSpells`); they are proper (`PrintedProper`,
-//!   with numerals and quoted identifiers); and the text of proper tokens is cut into these (`PrintedLexes`).
+//!   So the text of a canonical term spells the term nested. mw_build shows the premises of the modules that it
+//!   accepts. It has three parts (specs/Laws): the printed tokens spell the term, at the precedence at which it was
+//!   printed (`PrintedSpells`); they are proper (`PrintedProper`, with numerals and quoted identifiers); and the text of
+//!   proper tokens is cut into these (`PrintedLexes`).
 //!
 //! `Memory` may come at any call. Only tested, by the sources in cases/: that the definition is the form that is meant.
 //! Neither: time, and that a printed text has no second reading (two terms may be printed alike). Cost: the length of
-//! the text and of the operators' names; the recursion is as deep as the term.
+//! the text and of the operators' names; the recursion is as deep as the flattened term.
 #![tactic(auto)]
 
 mod laws;

@@ -1,13 +1,17 @@
 // Terms as they are printed.
-ghost use Rattle.std.specs.Prelude.{◌≡◌, ◌<◌, ◌∷◌, ◌++◌, [], length, map, codes, IfOk, IfSome, IfNone, OnOk, option_map};
+ghost use Rattle.std.specs.Prelude.{◌≡◌, ◌<◌, ◌≤◌, ◌∷◌, ◌++◌, [], length, map, codes, true, Some};
+ghost use Rattle.std.specs.Prelude.{IfOk, IfSome, IfNone, OnOk, option_map};
 ghost use Rattle.mw_logic.specs.Signature.{Signature as SignatureOf, at_number};
 ghost use Rattle.mw_logic.specs.Parts.{is_assoc};
+ghost use Rattle.mw_logic.specs.NormalForm.{height};
 ghost use Rattle.mw_logic.specs.Term as logic;
 ghost use Rattle.mw_logic.specs.Terms.{terms_of};
 ghost use Rattle.mw_term.specs.Signatures.{gather_of};
 ghost use Rattle.mw_text.specs.Names.{items_of};
 ghost use Rattle.mw_print.specs.Printing as spec;
-ghost use Rattle.mw_print.specs.Printing.{printed, printed_all, mixfix_text};
+ghost use Rattle.mw_print.specs.Chains as chains;
+ghost use Rattle.mw_print.specs.Tokens.{token};
+ghost use Rattle.mw_print.specs.Printing.{shown, all_shown, term_text};
 ghost use Rattle.mw_print.specs.Writing.{Writes};
 
 use crate::sorts::print_sort;
@@ -16,9 +20,9 @@ use mw_term::{Gather, OpId, Operator, Signature, Term, VarId, View};
 use mw_text::{NameItem, first_item, has_hole, holes};
 use std::alloc::{AllocError, Global};
 
-/// The text of a term.
+/// The text of a term, whose associative operators on more than two arguments are read as nested to the right.
 pub fn mixfix(alloc: Global, signature: &Signature, term: &Term) -> Result<Vec<u8>, AllocError>
-    ensures { IfOk result (λ text. text.items ≡ mixfix_text signature.now term.now) }
+    ensures { IfOk result (λ text. text.items ≡ term_text signature.now term.now) }
 {
     let mut writer = Writer::new(alloc);
     print(alloc, signature, term, &mut writer)?;
@@ -33,7 +37,7 @@ fn print(
     term: &Term,
     writer: &mut Writer,
 ) -> Result<(), AllocError>
-    ensures { OnOk result (Writes writer.old writer.new (printed signature.now term.now).tokens) }
+    ensures { OnOk result (Writes writer.old writer.new (shown signature.now term.now).tokens) }
 {
     match term.view() {
         View::Nat(number) => {
@@ -61,19 +65,159 @@ fn print_operator(
     args: &[Term],
     writer: &mut Writer,
 ) -> Result<(), AllocError>
-    ensures { OnOk result (Writes writer.old writer.new (printed signature.now (logic.apply number (terms_of args.now))).tokens) }
+    ensures { let t = logic.apply number (terms_of args.now) in
+        OnOk result (Writes writer.old writer.new (shown signature.now t).tokens) }
 {
     match operator_at(signature, number) {
+        Some(operator) if operator.assoc => {
+            print_joint(alloc, signature, number, operator, args, writer)
+        }
+        Some(operator) if is_mixfix(operator, args.len()) => {
+            print_mixfix(alloc, signature, operator, args, writer)
+        }
         Some(operator) => {
-            if is_mixfix(operator, args.len()) {
-                print_mixfix(alloc, signature, operator, args, writer)
-            } else {
-                print_head(operator, writer)?;
-                print_args(alloc, signature, number, operator.assoc, args, writer)
-            }
+            print_head(operator, writer)?;
+            print_args(alloc, signature, number, false, args, writer)
         }
         None => print_args(alloc, signature, number, false, args, writer),
     }
+}
+
+/// Writes an associative operator on arguments.
+#[cycle(print)]
+fn print_joint(
+    alloc: Global,
+    signature: &Signature,
+    number: OpId,
+    operator: &Operator,
+    args: &[Term],
+    writer: &mut Writer,
+) -> Result<(), AllocError>
+    requires there { Some operator.now ≡ at_number signature.now.operators number }
+    requires joint { operator.now.assoc ≡ true }
+    ensures { let t = logic.apply number (terms_of args.now) in
+        OnOk result (Writes writer.old writer.new (shown signature.now t).tokens) }
+{
+    if args.len() == 1 {
+        return print(alloc, signature, &args[0], writer);
+    }
+    if is_mixfix(operator, args.len().min(2)) {
+        return print_chain(alloc, signature, number, operator, args, writer);
+    }
+    print_head(operator, writer)?;
+    print_args(alloc, signature, number, true, args, writer)
+}
+
+/// Writes two or more arguments in mixfix forms that are nested to the right.
+#[cycle(print)]
+fn print_chain(
+    alloc: Global,
+    signature: &Signature,
+    number: OpId,
+    operator: &Operator,
+    args: &[Term],
+    writer: &mut Writer,
+) -> Result<(), AllocError>
+    requires there { Some operator.now ≡ at_number signature.now.operators number }
+    requires joint { operator.now.assoc ≡ true }
+    requires mixfix { spec.is_mixfix operator.now 2 ≡ true }
+    requires two { 2 ≤ length args.now }
+    ensures { let t = logic.apply number (terms_of args.now) in
+        OnOk result (Writes writer.old writer.new (shown signature.now t).tokens) }
+{
+    let mut rest = args;
+    while let [arg, behind @ ..] = rest {
+        if behind.len() < 2 {
+            break;
+        }
+        print_front(alloc, signature, operator, arg, writer)?;
+        rest = behind;
+    }
+    print_mixfix(alloc, signature, operator, rest, writer)?;
+    for _ in 2..args.len() {
+        print_back(operator, writer)?;
+    }
+    Ok(())
+}
+
+/// Writes what stands before the second argument of a mixfix form, where that is such a form again.
+#[cycle(print)]
+fn print_front(
+    alloc: Global,
+    signature: &Signature,
+    operator: &Operator,
+    arg: &Term,
+    writer: &mut Writer,
+) -> Result<(), AllocError>
+    ensures { let o = operator.now in
+        OnOk result (Writes writer.old writer.new (chains.front o o.gather (shown signature.now arg.now))) }
+{
+    let [mark, last] = operator.gather.as_slice() else {
+        return Ok(());
+    };
+    let behind = print_pieces(operator.spelling.as_slice(), writer)?;
+    print_in_hole(alloc, signature, *mark, operator.prec, arg, writer)?;
+    print_pieces(behind, writer)?;
+    print_parenthesis(operator, *last, b"(", writer)
+}
+
+/// Writes what stands behind it.
+fn print_back(operator: &Operator, writer: &mut Writer) -> Result<(), AllocError>
+    ensures { OnOk result (Writes writer.old writer.new (chains.back operator.now operator.now.gather)) }
+{
+    let [_, last] = operator.gather.as_slice() else {
+        return Ok(());
+    };
+    print_parenthesis(operator, *last, b")", writer)?;
+    let behind = behind_hole(behind_hole(operator.spelling.as_slice()));
+    print_pieces(behind, writer)?;
+    Ok(())
+}
+
+/// Writes a parenthesis, where a form of the operator in a hole with this mark stands in parentheses.
+fn print_parenthesis(
+    operator: &Operator,
+    mark: Gather,
+    parenthesis: &[u8],
+    writer: &mut Writer,
+) -> Result<(), AllocError>
+    ensures { let tokens = token parenthesis.now ∷ [] in
+        OnOk result (Writes writer.old writer.new (chains.parenthesis operator.now (gather_of mark) tokens)) }
+{
+    if takes(mark, operator.prec, operator.prec) {
+        return Ok(());
+    }
+    writer.token(parenthesis)
+}
+
+/// Writes the pieces of a name up to its first hole; what stands behind that.
+fn print_pieces<'n>(name: &'n [u8], writer: &mut Writer) -> Result<&'n [u8], AllocError>
+    ensures { IfOk result (λ behind. Writes writer.old writer.new (chains.before_hole (items_of name.entry.now))
+        × (items_of behind.now ≡ chains.after_hole (items_of name.entry.now))) }
+{
+    let mut rest = name;
+    while let Some((item, behind)) = first_item(rest) {
+        match item {
+            NameItem::Hole => return Ok(behind),
+            NameItem::Piece(piece) => writer.token(piece)?,
+        }
+        rest = behind;
+    }
+    Ok(rest)
+}
+
+/// What stands behind the first hole of a name.
+fn behind_hole(name: &[u8]) -> &[u8]
+    ensures { items_of result.now ≡ chains.after_hole (items_of name.now) }
+{
+    let mut rest = name;
+    while let Some((item, behind)) = first_item(rest) {
+        if let NameItem::Hole = item {
+            return behind;
+        }
+        rest = behind;
+    }
+    rest
 }
 
 /// Writes the pieces of a name, and an argument in each hole.
@@ -85,7 +229,8 @@ fn print_mixfix(
     args: &[Term],
     writer: &mut Writer,
 ) -> Result<(), AllocError>
-    ensures { OnOk result (Writes writer.old writer.new (spec.in_holes operator.now.prec (items_of operator.now.spelling) operator.now.gather (printed_all signature.now (terms_of args.now)))) }
+    ensures { let o = operator.now in let shown = all_shown signature.now args.now in
+        OnOk result (Writes writer.old writer.new (spec.in_holes o.prec (items_of o.spelling) o.gather shown)) }
 {
     let mut name = operator.spelling.as_slice();
     let mut gather = operator.gather.as_slice();
@@ -116,7 +261,8 @@ fn print_in_hole(
     arg: &Term,
     writer: &mut Writer,
 ) -> Result<(), AllocError>
-    ensures { OnOk result (Writes writer.old writer.new (spec.in_hole (gather_of mark) prec (printed signature.now arg.now))) }
+    ensures { OnOk result
+        (Writes writer.old writer.new (spec.in_hole (gather_of mark) prec (shown signature.now arg.now))) }
 {
     if takes(mark, prec, precedence(signature, arg)) {
         return print(alloc, signature, arg, writer);
@@ -137,7 +283,8 @@ fn print_args(
     writer: &mut Writer,
 ) -> Result<(), AllocError>
     requires { assoc ≡ is_assoc signature.now number }
-    ensures { OnOk result (Writes writer.old writer.new (spec.called [] (spec.arguments_of assoc number (printed_all signature.now (terms_of args.now))))) }
+    ensures { let listed = spec.arguments_of assoc number (all_shown signature.now args.now) in
+        OnOk result (Writes writer.old writer.new (spec.called [] listed)) }
 {
     if args.is_empty() {
         return Ok(());
@@ -158,7 +305,8 @@ fn print_list(
     writer: &mut Writer,
 ) -> Result<(), AllocError>
     requires { assoc ≡ is_assoc signature.now number }
-    ensures { OnOk result (Writes writer.old writer.new (spec.divided (spec.arguments_of assoc number (printed_all signature.now (terms_of args.now))))) }
+    ensures { let listed = spec.arguments_of assoc number (all_shown signature.now args.now) in
+        OnOk result (Writes writer.old writer.new (spec.divided listed)) }
 {
     let mut rest = args;
     while let [arg, behind @ ..] = rest {
@@ -183,21 +331,51 @@ fn print_last(
     writer: &mut Writer,
 ) -> Result<(), AllocError>
     requires { assoc ≡ is_assoc signature.now number }
-    ensures { OnOk result (Writes writer.old writer.new (spec.divided (spec.arguments_of assoc number (printed signature.now arg.now ∷ [])))) }
+    ensures { let listed = spec.arguments_of assoc number (shown signature.now arg.now ∷ []) in
+        OnOk result (Writes writer.old writer.new (spec.divided listed)) }
 {
     if !assoc {
         return print(alloc, signature, arg, writer);
     }
-    match own_args(number, arg) {
+    match own_args(number, unwrapped(signature, arg)) {
         Some(inner) => print_list(alloc, signature, number, assoc, inner, writer),
         None => print(alloc, signature, arg, writer),
     }
 }
 
+/// Whether the operator of a number is associative.
+fn is_associative(signature: &Signature, number: OpId) -> bool
+    ensures { result ≡ is_assoc signature.now number }
+{
+    match operator_at(signature, number) {
+        Some(operator) => operator.assoc,
+        None => false,
+    }
+}
+
+/// A term that is printed alike, without associative operators on one argument on top.
+fn unwrapped<'t>(signature: &Signature, term: &'t Term) -> &'t Term
+    ensures same { shown signature.now result.now ≡ shown signature.now term.entry.now }
+    ensures lower { height result.now ≤ height term.entry.now }
+    ensures none { ¬ chains.IsSingle signature.now result.now }
+{
+    let View::Op(number, args) = term.view() else {
+        return term;
+    };
+    if args.len() != 1 {
+        return term;
+    }
+    if !is_associative(signature, number) {
+        return term;
+    }
+    unwrapped(signature, &args[0])
+}
+
 /// The arguments of a term with this operator on top, where there are any.
 fn own_args(number: OpId, term: &Term) -> Option<&[Term]>
     ensures some { IfSome result (λ args. (term.now ≡ logic.apply number (terms_of args.now)) × (0 < length args.now)) }
-    ensures none { IfNone result ((sig : SignatureOf) → spec.spread number (printed sig term.now) ≡ (printed sig term.now).tokens ∷ []) }
+    ensures none { IfNone result ((sig : SignatureOf) → ¬ chains.IsSingle sig term.now
+        → spec.spread number (shown sig term.now) ≡ (shown sig term.now).tokens ∷ []) }
 {
     let View::Op(operator, args) = term.view() else {
         return None;
@@ -258,14 +436,31 @@ fn takes(mark: Gather, form: u32, precedence: u32) -> bool
 
 /// The precedence of a term as it is printed.
 fn precedence(signature: &Signature, term: &Term) -> u32
-    ensures { result ≡ (printed signature.now term.now).precedence }
+    ensures { result ≡ (shown signature.now term.now).precedence }
 {
-    match term.view() {
-        View::Op(number, args) => match operator_at(signature, number) {
-            Some(operator) if is_mixfix(operator, args.len()) => operator.prec,
-            _ => 0,
-        },
-        _ => 0,
+    let View::Op(number, args) = term.view() else {
+        return 0;
+    };
+    let Some(operator) = operator_at(signature, number) else {
+        return 0;
+    };
+    if !operator.assoc {
+        return precedence_on(operator, args.len());
+    }
+    if args.len() == 1 {
+        return precedence(signature, &args[0]);
+    }
+    precedence_on(operator, args.len().min(2))
+}
+
+/// The precedence of an operator on so many arguments.
+fn precedence_on(operator: &Operator, count: usize) -> u32
+    ensures { result ≡ spec.precedence_of (Some operator.now) count }
+{
+    if is_mixfix(operator, count) {
+        operator.prec
+    } else {
+        0
     }
 }
 

@@ -11,6 +11,7 @@ use Rattle.mw_logic.specs.Module.{Module}
 use Rattle.mw_logic.specs.Proof.{Proof, reflexivity, count, steps, rules}
 use Rattle.mw_logic.specs.Judgements.{Leads, StepTest, AdmittedStep, Held, Fails, judgements_with}
 use Rattle.mw_logic.proofs.Lifting.{fill, replaces_under}
+use Rattle.mw_logic.proofs.Pushed.{terms_of-append}
 use Rattle.mw_machine.specs.Moves.{Move, Place, Level, tree, reached, AreEquations}
 use Rattle.mw_machine.specs.Replacements.{carried, within, IsInside, LiftedStep}
 use Rattle.mw_machine.specs.Plain.{IsFreeModule}
@@ -139,14 +140,10 @@ number_of_list : (sig : Signature) (ts : List RawTerm) → number_of_terms (all_
 number_of_list sig [] = refl
 number_of_list sig (t ∷ ts) = ap suc (number_of_list sig ts)
 
-joined_terms : (xs : List RawTerm) (t : RawTerm) (ys : List RawTerm) → terms_of (xs ++ t ∷ ys) ≡ join (terms_of xs) (term.cons t (terms_of ys))
-joined_terms [] t ys = refl
-joined_terms (x ∷ xs) t ys = ap (term.cons x) (joined_terms xs t ys)
-
 -- in a signature without axioms an operator stands on its arguments as they are
 pub filled_free : (sig : Signature) → IsFreeSignature sig → (f : ℕ) (xs : List RawTerm) (t : RawTerm) (ys : List RawTerm) → nested sig (filled sig f xs t ys) ≡ fill (frame_of sig f xs ys) (nested sig t)
 filled_free sig free f xs t ys =
-    nested_free sig free (filled sig f xs t ys) ∙ applied_free sig free f (terms_of (xs ++ t ∷ ys)) ∙ rw (all_nested_free sig free (terms_of xs), all_nested_free sig free (terms_of ys), nested_free sig free t) (ap (apply f) (joined_terms xs t ys))
+    nested_free sig free (filled sig f xs t ys) ∙ applied_free sig free f (terms_of (xs ++ t ∷ ys)) ∙ rw (all_nested_free sig free (terms_of xs), all_nested_free sig free (terms_of ys), nested_free sig free t) (ap (apply f) (terms_of-append xs (t ∷ ys)))
 
 pub deduction_raised : (M : Module) → IsSimpleModule M → (w : Walk) (l : Kept) (f : ℕ) (xs ys : List RawTerm) (t u : RawTerm) → IsWalk w → l.before ≡ length xs → l.after ≡ length ys
     → IsLiftable (deduced M t u w) (frame_of M.signature f xs ys) → IsAdmittedTerm M.signature (filled M.signature f xs t ys) → IsAdmittedTerm M.signature (filled M.signature f xs u ys)

@@ -20,11 +20,11 @@
 //! - [`Trail`] is a proof under way, for a caller that goes into arguments and out of them; `Proved::of` makes it a
 //!   deduction.
 //!
-//! Conditions: terms are canonical and admitted; of `then` that both are of one module and the ends meet; of `under`
-//! that each replacement may stand under the operator (`IsLiftable`; one replacement may in a simple module wherever
-//! its ends may); of `replace` that the statement may be applied (`MayReplace`); of a trail's `leave` and `close` that
-//! so many arguments are open. Want of memory is the only error, also at a place among 2^32 arguments or more; after it
-//! a trail is as before.
+//! Conditions: terms are canonical and admitted; of `under` and `replace` that the module is simple; of `then` that
+//! both are of one module and the ends meet; of `under` that each replacement may stand under the operator
+//! (`IsLiftable`; one replacement may in a simple module wherever its ends may); of `replace` that the statement may be
+//! applied (`MayReplace`); of a trail's `leave` and `close` that so many arguments are open. Want of memory is the only
+//! error, also at a place among 2^32 arguments or more; after it a trail is as before.
 //!
 //! Tested by mw_tests: that calls answer with memory at hand. Neither: time.
 #![tactic(auto)]

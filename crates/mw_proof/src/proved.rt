@@ -1,5 +1,6 @@
 // Kept deductions.
 ghost use Rattle.std.specs.Prelude.{◌≡◌, ◌-◌, ◌^◌, ◌++◌, [], ◌∷◌, List, length, map, min, IfOk, OnOk};
+ghost use Rattle.mw_machine.specs.Simple.{IsSimpleModule};
 ghost use Rattle.mw_logic.specs.Terms.{terms_of};
 ghost use Rattle.mw_logic.specs.NormalForm.{applied_in};
 ghost use Rattle.mw_logic.specs.Proof.{count, rules, steps};
@@ -212,12 +213,10 @@ fn applied_beside(
     term: &Term,
     after: &[Term],
 ) -> Result<Term, AllocError>
-    requires { IsAdmittedTerm context.now.signature (filled context.now.signature operator before.now term.now after.now) }
     ensures { IfOk result (λ t. t ≡ filled context.now.signature operator before.now term.now after.now) }
 {
-    context.shows();
     let args = beside(alloc, before, term, after)?;
-    rebuild(alloc, context.signature(), operator, args)
+    rebuild(alloc, context.facts(), operator, args)
 }
 
 /// Puts a proof under an operator, beside terms that stay as they are.
@@ -229,6 +228,7 @@ fn lift<'m>(
     inner: &mut Proved<'m>,
     after: &[Term],
 ) -> Result<(), AllocError>
+    requires simple { IsSimpleModule context.now }
     requires module { inner.old.over ≡ context.now }
     requires begins { IsAdmittedTerm context.now.signature (filled context.now.signature operator before.now inner.old.from after.now) }
     requires ends { IsAdmittedTerm context.now.signature (filled context.now.signature operator before.now inner.old.to after.now) }
@@ -238,7 +238,6 @@ fn lift<'m>(
     ensures to { OnOk result (inner.new.to ≡ filled context.now.signature operator before.now inner.old.to after.now) }
     ensures carried { OnOk result (carried [] inner.new.proof ≡ map (within (record { before = length before.now; after = length after.now })) (carried [] inner.old.proof)) }
 {
-    context.shows();
     let level = Level {
         before: narrow(before.len())?,
         after: narrow(after.len())?,
@@ -265,6 +264,7 @@ pub fn under<'m>(
     inner: Proved<'m>,
     after: Vec<Term>,
 ) -> Result<Proved<'m>, AllocError>
+    requires simple { IsSimpleModule context.now }
     requires module { inner.over ≡ context.now }
     requires begins { IsAdmittedTerm context.now.signature (filled context.now.signature operator before.items inner.from after.items) }
     requires ends { IsAdmittedTerm context.now.signature (filled context.now.signature operator before.items inner.to after.items) }

@@ -30,11 +30,11 @@ pub enum By<'m> {
 /// The proof that is one replacement, at the top. The statement must be there and executable and have all its variables
 /// bound, its condition must be shown by the evidence, and both instances must be admitted; a row must be one.
 pub fn replace<'m>(alloc: Global, context: &'m Ctx, by: By<'m>) -> Result<Proved<'m>, AllocError>
-    requires { MayReplace context.now by }
+    requires simple { IsSimpleModule context.now }
+    requires may { MayReplace context.now by }
     ensures over { IfOk result (λ p. p.over ≡ context.now) }
     ensures replaces { IfOk result (Replaces context.now by.entry) }
 {
-    context.shows();
     match by {
         By::Statement(number, substitution, _) => applied(alloc, context, number, &substitution),
         By::Row(_, _) => unreachable!(),
@@ -48,11 +48,11 @@ fn applied<'m>(
     number: u32,
     substitution: &Subst,
 ) -> Result<Proved<'m>, AllocError>
-    requires { MayApply context.now number substitution.now [] }
+    requires simple { IsSimpleModule context.now }
+    requires may { MayApply context.now number substitution.now [] }
     ensures over { IfOk result (λ p. p.over ≡ context.now) }
     ensures applies { IfOk result (λ p. (st : StatementOf) → at_number context.now.statements number ≡ Some st → Applies context.now number substitution.now [] st p) }
 {
-    context.shows();
     let statement = &context.statements()[number as usize - 1];
     let from = admitted(alloc, context, substitution, &statement.left)?;
     let to = admitted(alloc, context, substitution, &statement.right)?;
@@ -70,12 +70,12 @@ fn admitted(
     substitution: &Subst,
     raw: &Raw,
 ) -> Result<Term, AllocError>
+    requires simple { IsSimpleModule context.now }
     requires values { HasAdmittedValues context.now.signature substitution.now }
     requires admitted { IsAdmittedTerm context.now.signature (normal_form context.now.signature (instance_of (meant context.now.signature substitution.now) (raw_term raw.now))) }
     ensures { IfOk result (λ t. t ≡ normal_form context.now.signature (instance_of (meant context.now.signature substitution.now) (raw_term raw.now))) }
 {
-    context.shows();
-    match instance(alloc, context.signature(), substitution, raw) {
+    match instance(alloc, context.facts(), substitution, raw) {
         Ok(term) => Ok(term),
         Err(CanonError::Memory) => Err(AllocError),
         Err(CanonError::Deep) => unreachable!(),

@@ -66,6 +66,7 @@ module _ (M : Module) (simple : IsSimpleModule M) (m : Equations) (index : IsInd
   pub describes : (n : ℕ) → Describes M n M.signature m
   describes n = record {
     signature = refl;
+    simple = simple.signature;
     free = free_module M simple;
     accepted = accepted M.signature simple.signature;
     tops = no_flat_left M simple;

@@ -12,7 +12,7 @@ use Rattle.mw_logic.specs.NormalForm.{height}
 use Rattle.mw_machine.specs.Machine.{Open, here, under, IsFlat, round, given, rest_of, AreNormalBy, At, AllDone, work}
 use Rattle.mw_logic.specs.Terms.{terms_of}
 use Rattle.mw_machine.proofs.Trees.{join-nil}
-use Rattle.mw_machine.proofs.Filling.{terms_of-append}
+use Rattle.mw_logic.proofs.Pushed.{terms_of-append}
 use Rattle.mw_machine.proofs.Steps.{part_ground, begins, passes, goes_in, goes_out, goes_back, AreNormalBy-join}
 use Rattle.mw_logic.specs.Judgements.{AdmittedStep}
 use Rattle.std.specs.Prelude.{suc, Option, Some, Result, Ok, Err, IfOk}

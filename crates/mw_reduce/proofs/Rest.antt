@@ -6,7 +6,7 @@ use Rattle.mw_machine.specs.Machine.{round, given, rest_of}
 use Rattle.mw_machine.specs.Positions.{fill, fill_all}
 use Rattle.mw_logic.specs.Terms.{terms_of, skip}
 use Rattle.mw_machine.proofs.Trees.{join-assoc, join-nil}
-use Rattle.mw_machine.proofs.Filling.{terms_of-append}
+use Rattle.mw_logic.proofs.Pushed.{terms_of-append}
 use Rattle.mw_machine.proofs.Steps.{under_all-append}
 use Rattle.mw_pattern.specs.Clean.{clean, clean_all}
 use Rattle.mw_reduce.specs.Stack.{all_of, opened, stack}

@@ -11,7 +11,7 @@ use Rattle.mw_machine.specs.Plain.{IsFreeModule}
 use Rattle.mw_logic.specs.NormalForm.{height}
 use Rattle.mw_machine.specs.Machine.{here, Fires, NoneAtTop, NoFlatLeft, At}
 use Rattle.mw_machine.specs.Positions.{fill, fill_all}
-use Rattle.mw_machine.specs.Simple.{HaveSorts}
+use Rattle.mw_machine.specs.Simple.{IsSimpleSignature, HaveSorts}
 use Rattle.mw_pattern.specs.Clean.{clean}
 use Rattle.mw_proof.specs.Trails.{variables_of, moves, needed, stepped}
 use Rattle.mw_pattern.specs.Equations.{listed}
@@ -41,6 +41,7 @@ Fitting sig ts st found false = Misses sig ts st
 -- The equations are those of the module M, which has this signature. (The numbering of variables, their sorts, and the index are in the last two facts.)
 pub record Describes (M : Module) (n : ℕ) (sig : Signature) (m : Equations) : Type 0 where
   pub signature : M.signature ≡ sig
+  pub simple : IsSimpleSignature sig
   pub free : IsFreeModule M
   pub accepted : IsAccepted M.signature
   pub tops : NoFlatLeft M

@@ -8,9 +8,9 @@
 //! - `Stopped`: it stops there for the reason that is answered: it took exactly as many steps as the limit (none where
 //!   that is 0), or fewer, and a next step exists whose term is deeper than 1,000.
 //!
-//! Conditions: the term is canonical and admitted, `nest` is at most 63. The one error is want of memory, and no clause
-//! ties it to a refused allocation. No clause says which of several equations that match is applied, nor in which order
-//! parts are reduced.
+//! Conditions: the module is simple, the term is canonical and admitted, `nest` is at most 63. The one error is want of
+//! memory, and no clause ties it to a refused allocation. No clause says which of several equations that match is
+//! applied, nor in which order parts are reduced.
 //!
 //! It runs the machine of mw_machine. A frame is an operator, its arguments that are done, and what is left: subterms
 //! of a right side at values that lie in the kept proof's own list, or arguments of the given term. `next` says what

@@ -1,6 +1,7 @@
 // The reducer's public call.
 ghost use Rattle.std.specs.Prelude.{◌≤◌, IfOk};
 ghost use Rattle.mw_canon.specs.Canonical.{IsAdmittedTerm};
+ghost use Rattle.mw_machine.specs.Simple.{IsSimpleModule};
 ghost use Rattle.mw_reduce.specs.Reductions.{IsReductionOf};
 
 use crate::machine::start;
@@ -28,11 +29,11 @@ pub fn reduce<'m>(
     term: Term,
     budget: Budget,
 ) -> Result<(Proved<'m>, Outcome), AllocError>
+    requires simple { IsSimpleModule context.now }
     requires nest { budget.nest ≤ 63 }
     requires admitted { IsAdmittedTerm context.now.signature term }
     ensures { IfOk result (λ r. IsReductionOf context.now term budget r.0 r.1) }
 {
-    context.shows();
     let from = copy(&term)?;
     let reduced = start(alloc, context, context.equations(), term, budget.steps)?;
     let Reduced {

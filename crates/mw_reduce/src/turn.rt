@@ -6,7 +6,7 @@ ghost use Rattle.mw_logic.specs.Module.{Module};
 ghost use Rattle.mw_logic.specs.Judgements.{Fails};
 ghost use Rattle.mw_machine.specs.Machine.{AreNormalBy};
 ghost use Rattle.mw_machine.specs.Positions.{fill_all};
-ghost use Rattle.mw_machine.specs.Simple.{HaveSorts, IsGround};
+ghost use Rattle.mw_machine.specs.Simple.{IsSimpleSignature, HaveSorts, IsGround};
 ghost use Rattle.mw_logic.specs.Terms.{terms_of};
 ghost use Rattle.mw_pattern.specs.Equations.{listed};
 ghost use Rattle.mw_proof.specs.Trails.{left_open, stepped};
@@ -36,7 +36,7 @@ fn fits(
 ) -> Result<bool, AllocError>
     requires { IsWellNumbered statement.now }
     ensures there { IfOk result (λ b. IsTrue b → (length found.new.items ≡ length statement.now.sorts) × (fill_all found.new.items statement.now.left ≡ terms_of done.now)) }
-    ensures sorts { (f : ℕ) → IsGround context.now.signature (apply f (terms_of done.now)) → IfOk result (Fitting context.now.signature (terms_of done.now) statement.now found.new.items) }
+    ensures sorts { (f : ℕ) → IsSimpleSignature context.now.signature → IsGround context.now.signature (apply f (terms_of done.now)) → IfOk result (Fitting context.now.signature (terms_of done.now) statement.now found.new.items) }
 {
     found.clear();
     if !all_match(&statement.left, done, found)? {
@@ -56,7 +56,7 @@ pub fn find<'m>(
 ) -> Result<Option<&'m Equation>, AllocError>
     requires { AreWellNumbered equations.now }
     ensures there { IfOk result (λ r. IfSome r (λ st. ((i : ℕ) × (slice_get (listed equations.now op) i ≡ Some st.now)) × (length found.new.items ≡ length st.now.sorts) × (fill_all found.new.items st.now.left ≡ terms_of done.now))) }
-    ensures first { IsGround context.now.signature (apply op (terms_of done.now)) → IfOk result (λ r. MatchOption r (NoneFits context.now.signature equations.now op (terms_of done.now)) (λ st. HaveSorts context.now.signature found.new.items st.now.sorts)) }
+    ensures first { IsSimpleSignature context.now.signature → IsGround context.now.signature (apply op (terms_of done.now)) → IfOk result (λ r. MatchOption r (NoneFits context.now.signature equations.now op (terms_of done.now)) (λ st. HaveSorts context.now.signature found.new.items st.now.sorts)) }
 {
     let list = equations.at(op);
     for i in 0..list.len() {

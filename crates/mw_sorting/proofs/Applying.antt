@@ -118,10 +118,10 @@ module _ (sig : Signature) (ok : IsPreregularModulo sig) where
           by_made : Made sig ok.accepted f x y → Lower (applied_in sig f (cons x (cons y nil))) Q
           by_made (inl m) =
               let (i, w, si) = of_identity x S m.0 s in
-              subst (λ t. Lower t Q) (sym m.1) (T, t, (ok.identity f o i is w S T Q si (sort_kind sig ok K y T py t)).0 q)
+              subst (λ t. Lower t Q) (sym m.1) (T, t, (ok.identity f o i is w S T Q si (sort_kind sig ok.accepted ok.well_sorted K y T py t)).0 q)
           by_made (inr (inl m)) =
               let (i, w, si) = of_identity y T m.0 t in
-              subst (λ t. Lower t Q) (sym m.1) (S, s, (ok.identity f o i is w T S Q si (sort_kind sig ok K x S px s)).1 q)
+              subst (λ t. Lower t Q) (sym m.1) (S, s, (ok.identity f o i is w T S Q si (sort_kind sig ok.accepted ok.well_sorted K x S px s)).1 q)
           by_made (inr (inr m)) =
               let ex = own_terms sig ok.accepted f o is h x px in
               let ey = own_terms sig ok.accepted f o is h y py in

@@ -44,7 +44,7 @@ module _ (sig : Signature) (ok : IsPreregularModulo sig) (f : ℕ) (o : Operator
       (R, r, gives_in r)
 
   inside : (t : RawTerm) (S : Sorted) → P t → ComputedSort sig t S → In S
-  inside t S p s = sort_kind sig ok o.result t S p s
+  inside t S p s = sort_kind sig ok.accepted ok.well_sorted o.result t S p s
 
   fold_inside : {ts : RawTerms} {R : Sorted} → Each P ts → Folds sig o ts R → In R
   fold_inside p (last s) = inside _ _ p.0 s

@@ -5,6 +5,7 @@ use Rattle.std.proofs.Common.{inl, inr, sym, subst, arith}
 use Rattle.mw_logic.specs.Term.{RawTerm, numeral, apply, RawTerms, nil, cons, unary, binary}
 use Rattle.mw_logic.specs.Signature.{Signature, Sorted, Operator, IsOperator, IsRawTerm, a_numeral, an_operator, AreRawTerms, next}
 use Rattle.mw_logic.specs.Axioms.{EqualModulo, done, then, backward, successor}
+use Rattle.mw_logic.specs.Accepted.{IsAccepted, IsWellSorted}
 use Rattle.mw_logic.specs.Sorts as sorting
 use Rattle.mw_logic.specs.Sorts.{DeclaredSort, DeclaredSorts}
 use Rattle.mw_logic.specs.Parts.{nested, all_nested, nest, chain}
@@ -14,7 +15,7 @@ use Rattle.mw_logic.proofs.RawKept.{raw_kept, kind_unique}
 use Rattle.mw_logic.proofs.SolutionLaws.{declared_kind}
 use Rattle.mw_logic.proofs.RawArguments.{IsTermOf}
 use Rattle.mw_sorting.specs.ComputedSorts.{ComputedSort, zero_sort, number_sort, quoted_sort, variable_sort, plain_sort, chain_sort, ComputedSorts, no_sorts, more_sorts, Folds, last, before, IsResultOn}
-use Rattle.mw_sorting.specs.PreregularModulo.{IsOfKind, IsPreregularModulo}
+use Rattle.mw_sorting.specs.PreregularModulo.{IsOfKind}
 
 -- a term equal to t of this declared sort
 pub record Form (sig : Signature) (t : RawTerm) (S : Sorted) : Type 0 where
@@ -32,7 +33,7 @@ declared_by : (sig : Signature) (f : ℕ) (o : Operator) → IsOperator sig f o 
 declared_by sig f o is ds (inl l) = sorting.of_operator o is ds l.takes l.least
 declared_by sig f o is {us} ds (inr n) = subst (DeclaredSort sig (apply f us)) (sym n.1) (sorting.of_kind o is ds n.0)
 
-module _ (sig : Signature) (ok : IsPreregularModulo sig) where
+module _ (sig : Signature) where
   first_raw : {t : RawTerm} {ts : RawTerms} {Ks : List ℕ} → AreRawTerms sig (cons t ts) Ks → IsRawTerm sig t
   first_raw (next r k rest) = r
 
@@ -89,8 +90,8 @@ module _ (sig : Signature) (ok : IsPreregularModulo sig) where
         }
 
   -- a term's computed sort is of its kind
-  pub sort_kind : (K : ℕ) (t : RawTerm) (S : Sorted) → IsTermOf sig K t → ComputedSort sig t S → IsOfKind sig K S
-  sort_kind K t S p s =
+  pub sort_kind : IsAccepted sig → IsWellSorted sig → (K : ℕ) (t : RawTerm) (S : Sorted) → IsTermOf sig K t → ComputedSort sig t S → IsOfKind sig K S
+  sort_kind accepted fitting K t S p s =
       let u : Form sig (nested sig t) S = has_form t S s p.0 in
-      let q = raw_kept sig ok.accepted u.equal in
-      kind_unique sig ok.accepted (declared_kind sig ok.accepted ok.well_sorted (q.0 p.0) u.declared) (q.1 K p.1)
+      let q = raw_kept sig accepted u.equal in
+      kind_unique sig accepted (declared_kind sig accepted fitting (q.0 p.0) u.declared) (q.1 K p.1)

@@ -86,15 +86,15 @@ module _ (sig : Signature) (ok : IsPreregularModulo sig) where
         let (S, s, b) = lowest t D r d in
         let (Ss, ss, bs, ks) = all_lowest ts Es Ls rest ds in
         let alike = raw_kept sig ok.accepted (normal_form-sound sig ok.accepted r) in
-        (S ∷ Ss, more_sorts s ss, (b, bs), (sort_kind sig ok K (normal_form sig t) S (alike.0 r, alike.1 K k) s, ks))
+        (S ∷ Ss, more_sorts s ss, (b, bs), (sort_kind sig ok.accepted ok.well_sorted K (normal_form sig t) S (alike.0 r, alike.1 K k) s, ks))
 
   -- the computed sort of a canonical term is its least sort
   pub computed-least : (t : RawTerm) (S : Sorted) → IsCanonical sig t → IsRawTerm sig (nested sig t) → ComputedSort sig t S → IsLeastSort sig (nested sig t) S
   computed-least t S k raw s = record {
-    has = let u = has_form sig ok t S s raw in record { form = u.form; equal = u.equal; declared = S; is_declared = u.declared; below = IsBelow-refl sig S };
+    has = let u = has_form sig t S s raw in record { form = u.form; equal = u.equal; declared = S; is_declared = u.declared; below = IsBelow-refl sig S };
     least = λ T h.
         let (R, r, l) = lowest h.form h.declared ((raw_kept sig ok.accepted h.equal).0 raw) h.is_declared in
         let e : normal_form sig h.form ≡ t = sym (normal_form-kept sig ok.accepted h.equal) ∙ fixed sig ok.accepted t k in
         let r2 : ComputedSort sig t R = subst (λ t. ComputedSort sig t R) e r in
-        IsBelow-trans sig S R T (computed-agree sig ok t S R s r2) (IsBelow-trans sig R h.declared T l h.below);
+        IsBelow-trans sig S R T (computed-agree sig ok.accepted ok.well_sorted ok.naturals t S R s r2) (IsBelow-trans sig R h.declared T l h.below);
   }

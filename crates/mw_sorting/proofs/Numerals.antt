@@ -24,7 +24,7 @@ module _ (size back : ℕ) (cycle : back < size) where
   high n h = ap (λ b. cond b n (back + (n - back) % (size - back))) (le-ltb n back h)
 
   -- each number has an entry
-  entry_below : (n : ℕ) → entry_of size back n < size
+  pub entry_below : (n : ℕ) → entry_of size back n < size
   entry_below n = of (cases_lt n back)
     where
       of : (n < back) ⊎ (back ≤ n) → entry_of size back n < size

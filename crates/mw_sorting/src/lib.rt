@@ -16,7 +16,7 @@
 //!   (`computed-agree`). The normal form of a raw term with a declared sort has one at or below that (`lowest`).
 //! - The entry of a numeral in such a table is its computed sort (`number_sorts`), in any signature.
 //!
-//! Worked rows (proofs/RowsOfLists) are a signature that is preregular modulo its axioms, and one that isn't. Not
-//! shown: a test for these signatures, and that one with numbers has such a table. Source: Goguen and Meseguer,
-//! "Order-sorted algebra I" (1992), on preregularity and least sorts.
+//! Worked rows (proofs/RowsOfLists) are a signature that is preregular modulo its axioms, and one that isn't. mw_sorts
+//! tells which are, and makes such a table. Source: Goguen and Meseguer, "Order-sorted algebra I" (1992), on
+//! preregularity and least sorts.
 #![tactic(auto)]

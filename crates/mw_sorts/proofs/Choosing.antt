@@ -1,6 +1,6 @@
 -- The declarations that take an argument, and the least of results, found by going through declarations one after another.
-use Rattle.std.proofs.Common.{◌≡◌, ℕ, ◌<◌, List, [], ◌∷◌, ◌++◌, length, get_or, take, ◌+◌, ◌≤◌, refl, sym, subst, inl, inr}
-use Rattle.std.specs.Prelude.{slice_get, Some, None}
+use Rattle.std.proofs.Common.{◌≡◌, ◌∙◌, ℕ, ◌<◌, List, [], ◌∷◌, ◌++◌, length, get_or, take, ◌+◌, ◌≤◌, refl, ap, sym, subst, inl, inr}
+use Rattle.std.specs.Prelude.{slice_get, Some, None, IsTrue}
 use Rattle.std.proofs.lemmas.List.{take_more, take_all}
 use Rattle.mw_logic.specs.Signature.{Signature, Sorted, Declaration, Operator, SameKind, Member}
 use Rattle.mw_logic.specs.Sorts.{IsBelow}
@@ -8,10 +8,11 @@ use Rattle.mw_logic.specs.Accepted.{number_of_sort}
 use Rattle.mw_logic.specs.Preregular.{IsSortOf}
 use Rattle.mw_logic.proofs.KindLaws.{SameKind-trans, SameKind-sym}
 use Rattle.mw_poset.proofs.Members.{member-left, member-last, member-push, member-at}
-use Rattle.mw_sorts.specs.States.{IsOperatorOf, AreNumbersOf, TakesAt, Narrows, IsResultAmong, IsLeastAmong, IsEndOf}
+use Rattle.mw_sorts.specs.States.{ways, IsOperatorOf, AreNumbersOf, TakesAt, Narrows, IsResultAmong, IsLeastAmong, IsEndOf}
 use Rattle.mw_sorts.proofs.Getting.{get-member, get-same}
 use Rattle.mw_logic.proofs.BelowLaws.{IsBelow-refl, IsBelow-trans}
-use Rattle.mw_sorts.proofs.Taking.{of_kinds-get}
+use Rattle.mw_sorts.proofs.Ways.{ways_known}
+use Rattle.mw_sorts.proofs.Taking.{of_kinds-get, of_kinds-length}
 
 -- an argument of a declaration is there, and of its operator's kind
 pub record IsArgument (sig : Signature) (d : Declaration) (i K : ℕ) : Type 0 where
@@ -20,15 +21,15 @@ pub record IsArgument (sig : Signature) (d : Declaration) (i K : ℕ) : Type 0 w
   pub of_kind : SameKind sig (number_of_sort sort) K
   pub there : IsSortOf sig (number_of_sort sort)
 
-pub argument : (sig : Signature) (o : Operator) (j : ℕ) (d : Declaration) (i K : ℕ) → IsOperatorOf sig o → slice_get o.declarations j ≡ Some d → slice_get o.args i ≡ Some K → IsArgument sig d i K
+pub argument : (sig : Signature) (o : Operator) (j : ℕ) (d : Declaration) (i K : ℕ) → IsOperatorOf sig o → slice_get (ways o) j ≡ Some d → slice_get o.args i ≡ Some K → IsArgument sig d i K
 argument sig o j d i K known e k =
-    let is = known.declarations d (get-member o.declarations j d e) in
+    let is = ways_known sig o known d (get-member (ways o) j d e) in
     let s = of_kinds-get sig d.args o.args i K is.args k in
     record { sort = s.0; is = s.1; of_kind = s.2; there = is.args_there s.0 (get-member d.args i s.0 s.1) }
 
 -- two results of an operator are of one kind
-pub results-kind : (sig : Signature) (o : Operator) (j : ℕ) (d : Declaration) (R : Sorted) → IsOperatorOf sig o → slice_get o.declarations j ≡ Some d → SameKind sig o.result (number_of_sort R) → SameKind sig (number_of_sort d.result) (number_of_sort R)
-results-kind sig o j d R known e k = let is = known.declarations d (get-member o.declarations j d e) in SameKind-trans (SameKind-sym is.result) k
+pub results-kind : (sig : Signature) (o : Operator) (j : ℕ) (d : Declaration) (R : Sorted) → IsOperatorOf sig o → slice_get (ways o) j ≡ Some d → SameKind sig o.result (number_of_sort R) → SameKind sig (number_of_sort d.result) (number_of_sort R)
+results-kind sig o j d R known e k = let is = ways_known sig o known d (get-member (ways o) j d e) in SameKind-trans (SameKind-sym is.result) k
 
 -- one declaration more is looked at: it takes the argument, or it doesn't
 pub narrows-more : (sig : Signature) (ds : List Declaration) (i : ℕ) (S : Sorted) (alive narrowed : List ℕ) (j : ℕ) → Narrows sig ds i S alive narrowed → TakesAt sig ds i S j → Narrows sig ds i S (alive ++ j ∷ []) (narrowed ++ j ∷ [])
@@ -106,7 +107,7 @@ alive-there ds alive i h l = h (get_or alive i 0) (member-at alive i 0 l)
 
 -- the sort that was read as an argument is the argument
 pub argument-read : (sig : Signature) (o : Operator) (alive : List ℕ) (i place K : ℕ) (d : Declaration) (S T : Sorted) → IsOperatorOf sig o → slice_get o.args place ≡ Some K → SameKind sig (number_of_sort S) K
-    → slice_get o.declarations (get_or alive i 0) ≡ Some d → slice_get d.args place ≡ Some T → SameKind sig (number_of_sort S) (number_of_sort T) × IsSortOf sig (number_of_sort T)
+    → slice_get (ways o) (get_or alive i 0) ≡ Some d → slice_get d.args place ≡ Some T → SameKind sig (number_of_sort S) (number_of_sort T) × IsSortOf sig (number_of_sort T)
 argument-read sig o alive i place K d S T known k s e t =
     let a = argument sig o (get_or alive i 0) d place K known e k in
     let same : a.sort ≡ T = get-same d.args place a.sort T a.is t in
@@ -137,10 +138,10 @@ pub narrowed-done : (sig : Signature) (ds : List Declaration) (place : ℕ) (S :
 narrowed-done sig ds place S alive narrowed i l n = subst (λ (xs : List ℕ). Narrows sig ds place S xs narrowed) (take_all i alive l) n
 
 -- the kind of a result among those of declarations
-pub among-kind : (sig : Signature) (o : Operator) (alive : List ℕ) (R : Sorted) → IsOperatorOf sig o → IsResultAmong o.declarations alive R → SameKind sig o.result (number_of_sort R) × IsSortOf sig (number_of_sort R)
+pub among-kind : (sig : Signature) (o : Operator) (alive : List ℕ) (R : Sorted) → IsOperatorOf sig o → IsResultAmong (ways o) alive R → SameKind sig o.result (number_of_sort R) × IsSortOf sig (number_of_sort R)
 among-kind sig o alive R known a =
     let d : Declaration = a.1 in
-    let is = known.declarations d (get-member o.declarations a.0 d a.3) in
+    let is = ways_known sig o known d (get-member (ways o) a.0 d a.3) in
     (subst (λ (Q : Sorted). SameKind sig o.result (number_of_sort Q)) a.4 is.result, subst (λ (Q : Sorted). IsSortOf sig (number_of_sort Q)) a.4 is.result_there)
 
 -- one more declaration has been compared with the candidate
@@ -168,3 +169,7 @@ these-more sig ds alive i R Q d h l e q b =
 pub these-fail : (sig : Signature) (ds : List Declaration) (alive : List ℕ) (i : ℕ) (R Q : Sorted) (d : Declaration) → i < length alive → slice_get ds (get_or alive i 0) ≡ Some d → d.result ≡ Q → (IsBelow sig R Q → ⊥)
     → ((P : Sorted) → IsResultAmong ds alive P → IsBelow sig R P) → ⊥
 these-fail sig ds alive i R Q d l e q b h = b (subst (λ (P : Sorted). IsBelow sig R P) q (h d.result (get_or alive i 0, d, member-at alive i 0 l, e, refl)))
+
+-- the declarations of a commutative operator have two arguments
+pub pairs : (sig : Signature) (o : Operator) → IsOperatorOf sig o → IsTrue o.comm → (d : Declaration) → Member d o.declarations → length d.args ≡ 2
+pairs sig o known c d m = let (K, L, a, k) = known.comm c in of_kinds-length sig d.args o.args (known.declarations d m).args ∙ ap length a

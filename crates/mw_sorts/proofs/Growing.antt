@@ -5,7 +5,7 @@ use Rattle.std.proofs.lemmas.Bool.{cases_eq}
 use Rattle.mw_logic.specs.Signature.{Signature, Sorted, Declaration, Operator, Member}
 use Rattle.mw_poset.proofs.Members.{member-left, member-last, member-push}
 use Rattle.mw_sorts.specs.Diagrams.{Row, Level}
-use Rattle.mw_sorts.specs.States.{AreNumbersOf, AreStatesOf, AreKept, Narrows, IsRowOf, IsLevelOf, ComeFrom, IsStart, IsEndOf, AreEndsOf}
+use Rattle.mw_sorts.specs.States.{ways, AreNumbersOf, AreStatesOf, AreKept, Narrows, IsRowOf, IsLevelOf, ComeFrom, IsStart, IsEndOf, AreEndsOf}
 use Rattle.mw_sorts.proofs.Getting.{get-none, get-left, get-last, get-within, get-there, get-same}
 
 -- below n, or n
@@ -68,7 +68,7 @@ pub record IsLevelSoFar (sig : Signature) (ds : List Declaration) (i : ℕ) (ent
 -- the ends of the first n states
 pub record AreEndsSoFar (sig : Signature) (o : Operator) (n : ℕ) (states : List (List ℕ)) (ends : List (Option Sorted)) : Type 0 where
   pub size : length ends ≡ n
-  pub end : (q : ℕ) (alive : List ℕ) → q < n → slice_get states q ≡ Some alive → (e : Option Sorted) × (slice_get ends q ≡ Some e) × IsEndOf sig o.declarations o.result alive e
+  pub end : (q : ℕ) (alive : List ℕ) → q < n → slice_get states q ≡ Some alive → (e : Option Sorted) × (slice_get ends q ≡ Some e) × IsEndOf sig (ways o) o.result alive e
 
 -- a row stays one where states are added
 row-kept : (sig : Signature) (ds : List Declaration) (i : ℕ) (entries : List Sorted) (alive : List ℕ) (now new : List (List ℕ)) (row : Row) → AreKept now new → IsRowOf sig ds i entries alive now row → IsRowOf sig ds i entries alive new row
@@ -108,7 +108,7 @@ level-done sig ds i entries n states new level e h = record {
 }
 
 pub ends-more : (sig : Signature) (o : Operator) (n : ℕ) (states : List (List ℕ)) (ends ends' : List (Option Sorted)) (alive : List ℕ) (x : Option Sorted) → AreEndsSoFar sig o n states ends → slice_get states n ≡ Some alive
-    → IsEndOf sig o.declarations o.result alive x → ends' ≡ ends ++ x ∷ [] → AreEndsSoFar sig o (n + 1) states ends'
+    → IsEndOf sig (ways o) o.result alive x → ends' ≡ ends ++ x ∷ [] → AreEndsSoFar sig o (n + 1) states ends'
 ends-more sig o n states ends ends' alive x h e is y = subst (λ (es : List (Option Sorted)). AreEndsSoFar sig o (n + 1) states es) (sym y) more
   where
     more : AreEndsSoFar sig o (n + 1) states (ends ++ x ∷ [])
@@ -119,7 +119,7 @@ ends-more sig o n states ends ends' alive x h e is y = subst (λ (es : List (Opt
         | inr at ↦
             let one : alive ≡ l = get-same states n alive l e (subst (λ (y : ℕ). slice_get states y ≡ Some l) at g) in
             let place : length ends ≡ q = h.size ∙ sym at in
-            (x, subst (λ (y : ℕ). slice_get (ends ++ x ∷ []) y ≡ Some x) place (get-last ends x), subst (λ (ys : List ℕ). IsEndOf sig o.declarations o.result ys x) one is)
+            (x, subst (λ (y : ℕ). slice_get (ends ++ x ∷ []) y ≡ Some x) place (get-last ends x), subst (λ (ys : List ℕ). IsEndOf sig (ways o) o.result ys x) one is)
       ];
     }
 

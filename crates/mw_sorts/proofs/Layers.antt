@@ -1,6 +1,6 @@
 -- A diagram, level by level.
 use Rattle.std.proofs.Common.{◌≡◌, ◌∙◌, ℕ, zero, suc, ◌<◌, ◌≤◌, ◌+◌, List, [], ◌∷◌, ◌++◌, length, take, refl, ap, sym, subst, arith, length-append}
-use Rattle.std.specs.Prelude.{slice_get, Option, Some, None, false}
+use Rattle.std.specs.Prelude.{slice_get, Option, Some, None}
 use Rattle.std.proofs.lemmas.List.{take_all}
 use Rattle.mw_logic.specs.Signature.{Signature, Sorted, Declaration, Operator, SameKind, Member}
 use Rattle.mw_logic.specs.Accepted.{number_of_sort}
@@ -9,7 +9,7 @@ use Rattle.mw_sorts.specs.Entries.{place_in}
 use Rattle.mw_sorts.specs.Results.{LacksLeastResult}
 use Rattle.mw_sorts.specs.Diagrams.{Row, Level, LeadsTo}
 use Rattle.mw_sorts.specs.Sorting.{Sorting, AreEntriesOf}
-use Rattle.mw_sorts.specs.States.{IsOperatorOf, AreStatesOf, AreAlive, Narrows, IsStart, IsRowOf, IsLevelOf, IsEndOf, AreEndsOf}
+use Rattle.mw_sorts.specs.States.{ways, IsOperatorOf, AreStatesOf, AreAlive, Narrows, IsStart, IsRowOf, IsLevelOf, IsEndOf, AreEndsOf}
 use Rattle.mw_sorts.specs.Marks.{width, AreLinked, HaveEntries, EndsAt, IsDrawn}
 use Rattle.mw_sorts.proofs.Getting.{get-same, get-within, get-there, take-get}
 use Rattle.mw_logic.proofs.BelowLaws.{IsBelow-refl}
@@ -25,11 +25,11 @@ pub record IsState (sig : Signature) (ds : List Declaration) (n : ℕ) (states :
 
 -- the levels of the first n arguments, and the states that they lead to
 pub record IsDrawnSoFar (sorting : Sorting) (o : Operator) (n : ℕ) (levels : List Level) (entries : List (List Sorted)) (states : List (List ℕ)) : Type 0 where
-  pub leads : LeadsTo sorting.signature sorting.places levels 0 (take n o.args) (IsState sorting.signature o.declarations n states)
+  pub leads : LeadsTo sorting.signature sorting.places levels 0 (take n o.args) (IsState sorting.signature (ways o) n states)
   pub linked : AreLinked levels (length states)
   pub listed : HaveEntries sorting levels entries (take n o.args)
-  pub reached : (q : ℕ) (alive : List ℕ) → slice_get states q ≡ Some alive → (Ss : List Sorted) × AreOfKinds sorting.signature Ss (take n o.args) × AreAlive sorting.signature o.declarations Ss alive
-  pub numbers : AreStatesOf o.declarations states
+  pub reached : (q : ℕ) (alive : List ℕ) → slice_get states q ≡ Some alive → (Ss : List Sorted) × AreOfKinds sorting.signature Ss (take n o.args) × AreAlive sorting.signature (ways o) Ss alive
+  pub numbers : AreStatesOf (ways o) states
 
 linked-more : (ls : List Level) (m : ℕ) (l : Level) (ends : ℕ) → AreLinked ls m → m ≡ length l → ((q : ℕ) (row : Row) (p next : ℕ) → slice_get l q ≡ Some row → slice_get row p ≡ Some next → next < ends) → AreLinked (ls ++ l ∷ []) ends
 linked-more [] m l ends h e b = (b, tt)
@@ -61,28 +61,28 @@ take-length (x ∷ xs) zero l = refl
 take-length (x ∷ xs) (suc n) l = ap suc (take-length xs n (omega arith))
 
 -- no level yet
-pub drawn-none : (sorting : Sorting) (o : Operator) (states : List (List ℕ)) → IsStart o.declarations states → IsDrawnSoFar sorting o 0 [] [] states
+pub drawn-none : (sorting : Sorting) (o : Operator) (states : List (List ℕ)) → IsStart (ways o) states → IsDrawnSoFar sorting o 0 [] [] states
 drawn-none sorting o states s = record {
   leads = record { many = refl; alive = s.0; there = s.1; exact = exact };
   linked = tt;
   listed = tt;
-  reached = λ q alive g. ([], tt, subst (λ (js : List ℕ). AreAlive sorting.signature o.declarations [] js) (sym (s.2 q alive g)) exact);
+  reached = λ q alive g. ([], tt, subst (λ (js : List ℕ). AreAlive sorting.signature (ways o) [] js) (sym (s.2 q alive g)) exact);
   numbers = λ q alive g j m. (s.3 j).0 (subst (λ (js : List ℕ). Member j js) (s.2 q alive g) m);
 }
   where
-    exact : AreAlive sorting.signature o.declarations [] s.0
-    exact j = ((λ m. let d = get-there o.declarations j ((s.3 j).0 m) in (d.0, d.1, tt)), (λ d. (s.3 j).1 (get-within o.declarations j d.0 d.1)))
+    exact : AreAlive sorting.signature (ways o) [] s.0
+    exact j = ((λ m. let d = get-there (ways o) j ((s.3 j).0 m) in (d.0, d.1, tt)), (λ d. (s.3 j).1 (get-within (ways o) j d.0 d.1)))
 
 module _ (sorting : Sorting) (o : Operator) (n : ℕ) (states new : List (List ℕ)) (K : ℕ) (es : List Sorted) (l : Level) (k : slice_get o.args n ≡ Some K) (a : AreEntriesOf sorting K es)
-    (is : IsLevelOf sorting.signature o.declarations n es states new l) where
+    (is : IsLevelOf sorting.signature (ways o) n es states new l) where
   -- a row of the level is that of its state
-  row-of : (q : ℕ) (row : Row) → slice_get l q ≡ Some row → (alive : List ℕ) × (slice_get states q ≡ Some alive) × IsRowOf sorting.signature o.declarations n es alive new row
+  row-of : (q : ℕ) (row : Row) → slice_get l q ≡ Some row → (alive : List ℕ) × (slice_get states q ≡ Some alive) × IsRowOf sorting.signature (ways o) n es alive new row
   row-of q row g =
       let u = get-within l q row g in
       let z = is.size in
       let x = get-there states q (omega arith) in
       let r = is.rows q x.0 x.1 in
-      (x.0, x.1, subst (λ (y : Row). IsRowOf sorting.signature o.declarations n es x.0 new y) (get-same l q r.0 row r.1 g) r.2)
+      (x.0, x.1, subst (λ (y : Row). IsRowOf sorting.signature (ways o) n es x.0 new y) (get-same l q r.0 row r.1 g) r.2)
 
   wide : (q : ℕ) (row : Row) → slice_get l q ≡ Some row → length row ≡ length es
   wide q row g = (row-of q row g).2.size
@@ -98,8 +98,8 @@ module _ (sorting : Sorting) (o : Operator) (n : ℕ) (states new : List (List �
       subst (λ (y : ℕ). y < length new) same (get-within new x.0 x.1 x.3)
 
   -- the step from a state, by a sort of the kind
-  step : (Ss : List Sorted) (r : ℕ) → IsState sorting.signature o.declarations n states Ss r → (row : Row) × (slice_get l r ≡ Some row)
-      × ((S : Sorted) → SameKind sorting.signature (number_of_sort S) K → (next : ℕ) × (slice_get row (place_in sorting.places (length row) S) ≡ Some next) × IsState sorting.signature o.declarations (n + 1) new (Ss ++ S ∷ []) next)
+  step : (Ss : List Sorted) (r : ℕ) → IsState sorting.signature (ways o) n states Ss r → (row : Row) × (slice_get l r ≡ Some row)
+      × ((S : Sorted) → SameKind sorting.signature (number_of_sort S) K → (next : ℕ) × (slice_get row (place_in sorting.places (length row) S) ≡ Some next) × IsState sorting.signature (ways o) (n + 1) new (Ss ++ S ∷ []) next)
   step Ss r s =
       let row = is.rows r s.alive s.there in (
         row.0,
@@ -113,15 +113,15 @@ module _ (sorting : Sorting) (o : Operator) (n : ℕ) (states new : List (List �
                 many = let u = length-append Ss (S ∷ []) in let m = s.many in omega arith;
                 alive = x.1;
                 there = x.3;
-                exact = alive_more sorting.signature o.declarations Ss S T.0 s.alive x.1 s.exact T.2 T.3 (subst (λ (i : ℕ). Narrows sorting.signature o.declarations i T.0 s.alive x.1) (sym s.many) x.4);
+                exact = alive_more sorting.signature (ways o) Ss S T.0 s.alive x.1 s.exact T.2 T.3 (subst (λ (i : ℕ). Narrows sorting.signature (ways o) i T.0 s.alive x.1) (sym s.many) x.4);
               },
             ),
       )
 
-  pub drawn-more : (levels : List Level) (entries : List (List Sorted)) → AreStatesOf o.declarations new → IsDrawnSoFar sorting o n levels entries states → IsDrawnSoFar sorting o (n + 1) (levels ++ l ∷ []) (entries ++ es ∷ []) new
+  pub drawn-more : (levels : List Level) (entries : List (List Sorted)) → AreStatesOf (ways o) new → IsDrawnSoFar sorting o n levels entries states → IsDrawnSoFar sorting o (n + 1) (levels ++ l ∷ []) (entries ++ es ∷ []) new
   drawn-more levels entries numbers h = record {
-    leads = subst (λ (Ks : List ℕ). LeadsTo sorting.signature sorting.places (levels ++ l ∷ []) 0 Ks (IsState sorting.signature o.declarations (n + 1) new)) (sym args)
-        (leads-more sorting.signature sorting.places levels 0 (take n o.args) (IsState sorting.signature o.declarations n states) (IsState sorting.signature o.declarations (n + 1) new) l K step h.leads);
+    leads = subst (λ (Ks : List ℕ). LeadsTo sorting.signature sorting.places (levels ++ l ∷ []) 0 Ks (IsState sorting.signature (ways o) (n + 1) new)) (sym args)
+        (leads-more sorting.signature sorting.places levels 0 (take n o.args) (IsState sorting.signature (ways o) n states) (IsState sorting.signature (ways o) (n + 1) new) l K step h.leads);
     linked = linked-more levels (length states) l (length new) h.linked (sym is.size) bound;
     listed = subst (λ (Ks : List ℕ). HaveEntries sorting (levels ++ l ∷ []) (entries ++ es ∷ []) Ks) (sym args) (listed-more sorting levels entries (take n o.args) l es K h.listed a wide);
     reached = λ q narrowed g.
@@ -131,8 +131,8 @@ module _ (sorting : Sorting) (o : Operator) (n : ℕ) (states new : List (List �
         let many : length y.0 ≡ n = of_kinds-length sorting.signature y.0 (take n o.args) y.1 ∙ short in (
           y.0 ++ S ∷ [],
           subst (λ (Ks : List ℕ). AreOfKinds sorting.signature (y.0 ++ S ∷ []) Ks) (sym args) (of_kinds-more sorting.signature y.0 (take n o.args) S K y.1 (a.of_kind x.2 S x.5)),
-          alive_more sorting.signature o.declarations y.0 S S x.1 narrowed y.2 (IsBelow-refl sorting.signature S) (IsBelow-refl sorting.signature S)
-              (subst (λ (i : ℕ). Narrows sorting.signature o.declarations i S x.1 narrowed) (sym many) x.6),
+          alive_more sorting.signature (ways o) y.0 S S x.1 narrowed y.2 (IsBelow-refl sorting.signature S) (IsBelow-refl sorting.signature S)
+              (subst (λ (i : ℕ). Narrows sorting.signature (ways o) i S x.1 narrowed) (sym many) x.6),
         );
     numbers = numbers;
   }
@@ -144,11 +144,11 @@ module _ (sorting : Sorting) (o : Operator) (n : ℕ) (states new : List (List �
       short = take-length o.args n (let u = get-within o.args n K k in omega arith)
 
 -- all levels, with the ends behind them
-pub drawn-done : (sorting : Sorting) (o : Operator) (n : ℕ) (levels : List Level) (entries : List (List Sorted)) (states : List (List ℕ)) (ends : List (Option Sorted)) → IsOperatorOf sorting.signature o → o.comm ≡ false → n ≡ length o.args
+pub drawn-done : (sorting : Sorting) (o : Operator) (n : ℕ) (levels : List Level) (entries : List (List Sorted)) (states : List (List ℕ)) (ends : List (Option Sorted)) → IsOperatorOf sorting.signature o → n ≡ length o.args
     → IsDrawnSoFar sorting o n levels entries states → AreEndsOf sorting.signature o states ends → IsDrawn sorting o levels entries ends
-drawn-done sorting o n levels entries states ends known free e h is = record {
-  leads = leads-map sorting.signature sorting.places levels 0 o.args (IsState sorting.signature o.declarations n states) (EndsAt sorting.signature o ends) finish
-      (subst (λ (Ks : List ℕ). LeadsTo sorting.signature sorting.places levels 0 Ks (IsState sorting.signature o.declarations n states)) all h.leads);
+drawn-done sorting o n levels entries states ends known e h is = record {
+  leads = leads-map sorting.signature sorting.places levels 0 o.args (IsState sorting.signature (ways o) n states) (EndsAt sorting.signature o ends) finish
+      (subst (λ (Ks : List ℕ). LeadsTo sorting.signature sorting.places levels 0 Ks (IsState sorting.signature (ways o) n states)) all h.leads);
   linked = subst (λ (m : ℕ). AreLinked levels m) (sym is.size) h.linked;
   listed = subst (λ (Ks : List ℕ). HaveEntries sorting levels entries Ks) all h.listed;
   reached = reached;
@@ -157,8 +157,8 @@ drawn-done sorting o n levels entries states ends known free e h is = record {
     all : take n o.args ≡ o.args
     all = take_all n o.args (omega arith)
 
-    finish : (Ss : List Sorted) (q : ℕ) → IsState sorting.signature o.declarations n states Ss q → EndsAt sorting.signature o ends Ss q
-    finish Ss q s = let x = is.end q s.alive s.there in (x.0, x.1, end_on sorting.signature o known free Ss (s.many ∙ e) s.alive s.exact x.0 x.2)
+    finish : (Ss : List Sorted) (q : ℕ) → IsState sorting.signature (ways o) n states Ss q → EndsAt sorting.signature o ends Ss q
+    finish Ss q s = let x = is.end q s.alive s.there in (x.0, x.1, end_on sorting.signature o known Ss (s.many ∙ e) s.alive s.exact x.0 x.2)
 
     reached : (q : ℕ) → slice_get ends q ≡ Some None → (Ss : List Sorted) × AreOfKinds sorting.signature Ss o.args × LacksLeastResult sorting.signature o Ss
     reached q g =
@@ -169,5 +169,5 @@ drawn-done sorting o n levels entries states ends known free e h is = record {
         let k : AreOfKinds sorting.signature r.0 o.args = subst (λ (Ks : List ℕ). AreOfKinds sorting.signature r.0 Ks) all r.1 in
         let y = is.end q x.0 x.1 in
         let nothing : y.0 ≡ None = get-same ends q y.0 None y.1 g in
-        let there : IsEndOf sorting.signature o.declarations o.result x.0 None = subst (λ (t : Option Sorted). IsEndOf sorting.signature o.declarations o.result x.0 t) nothing y.2 in
-        (r.0, k, end_on sorting.signature o known free r.0 (of_kinds-length sorting.signature r.0 o.args k) x.0 r.2 None there)
+        let there : IsEndOf sorting.signature (ways o) o.result x.0 None = subst (λ (t : Option Sorted). IsEndOf sorting.signature (ways o) o.result x.0 t) nothing y.2 in
+        (r.0, k, end_on sorting.signature o known r.0 (of_kinds-length sorting.signature r.0 o.args k) x.0 r.2 None there)

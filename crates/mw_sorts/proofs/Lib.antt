@@ -1,7 +1,7 @@
 pub mod Getting
+pub mod Ways
 pub mod Taking
 pub mod Leading
-pub mod Declared
 pub mod Walks
 pub mod Choosing
 pub mod Connected
@@ -12,3 +12,13 @@ pub mod Layers
 pub mod Marking
 pub mod Tabling
 pub mod Looking
+pub mod Heads
+pub mod Matched
+pub mod Twos
+pub mod Grouped
+pub mod Passes
+pub mod Succeeding
+pub mod Lowered
+pub mod Modulo
+pub mod Counting
+pub mod Computing

@@ -1,7 +1,7 @@
 -- Lists as a set holds them, each with its number.
 use Rattle.std.proofs.Common.{◌≡◌, ◌∙◌, ◌⊎◌, ℕ, List, [], ◌∷◌, ◌++◌, map, Bool, true, false, if◌then◌else◌, refl, ap, sym, subst, inl, inr}
 use Rattle.std.proofs.Math.Dec.{eqb}
-use Rattle.std.proofs.lemmas.Bool.{and_parts, eqb-true}
+use Rattle.std.proofs.lemmas.Bool.{and_parts, and_from, eqb-true, eq-eqb}
 use lib.Pointwise.{pointwise}
 use Rattle.std.specs.Prelude.{slice_get, Some}
 use Rattle.std.specs.Global.{Vec}
@@ -39,3 +39,7 @@ same_numbers [] [] e = refl
 same_numbers [] (y ∷ ys) e = cc
 same_numbers (x ∷ xs) [] e = cc
 same_numbers (x ∷ xs) (y ∷ ys) e = let b = and_parts (eqb x y) (pointwise eqb xs ys) e in ap (λ z. z ∷ xs) (eqb-true x y b.0) ∙ ap (λ zs. y ∷ zs) (same_numbers xs ys b.1)
+
+pub numbers_same : (xs : List ℕ) → pointwise eqb xs xs ≡ true
+numbers_same [] = refl
+numbers_same (x ∷ xs) = and_from (eqb x x) (pointwise eqb xs xs) (eq-eqb x x refl) (numbers_same xs)

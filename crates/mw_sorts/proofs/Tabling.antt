@@ -1,7 +1,8 @@
 -- Diagrams of all operators of a signature, one after another.
-use Rattle.std.proofs.Common.{◌≡◌, ◌∙◌, ℕ, zero, suc, ◌≤◌, ◌+◌, List, [], ◌∷◌, ◌++◌, length, map, ap, sym, subst, inl, inr, arith, length-append}
+use Rattle.std.proofs.Common.{◌≡◌, ◌∙◌, ℕ, zero, suc, ◌<◌, ◌≤◌, ◌+◌, List, [], ◌∷◌, ◌++◌, length, map, get_or, ap, sym, subst, inl, inr, arith, length-append}
 use Rattle.std.specs.Prelude.{slice_get, Option, Some, option_map}
 use Rattle.mw_logic.specs.Signature.{Signature, Sorted, Operator, IsOperator, at_number}
+use Rattle.mw_logic.specs.Accepted.{IsAccepted}
 use Rattle.mw_logic.specs.Preregular.{AreOfKinds, HasItsSorts, HasLeastResult, IsPreregular}
 use Rattle.mw_term.specs.Signatures.{sorted_of}
 use Rattle.mw_term.specs.declared.signature.Sorted.{Sorted as Held}
@@ -11,14 +12,20 @@ use Rattle.mw_sorts.specs.Diagrams.{Level, LeadsTo, EndsIn, IsDiagram, HaveDiagr
 use Rattle.mw_sorts.specs.Sorting.{Sorting}
 use Rattle.mw_sorts.specs.States.{IsOperatorOf}
 use Rattle.mw_sorts.specs.Marks.{EndsAt, IsDrawn}
+use Rattle.mw_sorting.specs.ComputedSorts.{IsResultOn}
+use Rattle.mw_sorting.specs.PreregularModulo.{IsPreregularModulo}
 use Rattle.mw_sorts.specs.Faults.{IsFirstLack, IsFirstFault}
-use Rattle.mw_sorts.proofs.Getting.{get-none, get-left, get-last, get-within, map-get, some_same}
+use Rattle.mw_sorts.proofs.Getting.{read-get, get-none, get-left, get-last, get-within, map-get, some_same}
 use Rattle.mw_sorts.proofs.Leading.{leads-map, leads-read}
 use Rattle.mw_sorts.proofs.Taking.{result-least}
 use Rattle.mw_sorts.proofs.Growing.{less_or_at}
 
-pub operator-of : (sig : Signature) (f : ℕ) (o : Operator) → HasItsSorts sig → IsOperator sig f o → IsOperatorOf sig o
-operator-of sig f o h is = record { args = h.args f o is; result = h.results f o is; declarations = h.declarations f o is }
+pub operator-of : (sig : Signature) (f : ℕ) (o : Operator) → HasItsSorts sig → IsAccepted sig → IsOperator sig f o → IsOperatorOf sig o
+operator-of sig f o h ok is = record { args = h.args f o is; result = h.results f o is; declarations = h.declarations f o is; comm = ok.comm f o is }
+
+-- the operator that a loop has come to
+pub operator-read : (sig : Signature) (read : List Operator) (n : ℕ) (o : Operator) → read ≡ sig.operators → n < length read → o ≡ get_or read n o → slice_get sig.operators n ≡ Some o
+operator-read sig read n o e l h = read-get sig.operators read n o e (subst (λ (os : List Operator). n < length os) e l) h
 
 -- a diagram with all its results
 pub diagram-is : (sorting : Sorting) (o : Operator) (levels : List Level) (entries : List (List Sorted)) (ends : List (Option Held)) (results : List Held) → IsDrawn sorting o levels entries (map (option_map sorted_of) ends) → ends ≡ map Some results
@@ -34,7 +41,7 @@ diagram-is sorting o levels entries ends results h e = leads-map sorting.signatu
 
 -- where an operator has a diagram, it has its least results
 pub diagram-least : (sig : Signature) (places : List ℕ) (o : Operator) (d : Diagram) → IsDiagram sig places o d → (Ss : List Sorted) → AreOfKinds sig Ss o.args → HasLeastResult sig o Ss
-diagram-least sig places o d h Ss k = let r = leads-read sig places d.levels 0 o.args (EndsIn sig o d.ends) h Ss k in result-least sig o Ss (sorted_of (r.1).0) (r.1).2
+diagram-least sig places o d h Ss k = let r = leads-read sig places d.levels 0 o.args (EndsIn sig o d.ends) h.leads Ss k in result-least sig o Ss (sorted_of (r.1).0) (r.1).2
 
 -- the diagrams of the first n operators
 pub record AreDrawn (sig : Signature) (places : List ℕ) (n : ℕ) (diagrams : List Diagram) : Type 0 where
@@ -82,3 +89,14 @@ fault-first sig places n number diagrams o Ss h is e l = record {
 -- where each operator has its diagram, the signature is preregular
 pub diagrams-preregular : (sig : Signature) (places : List ℕ) (diagrams : List Diagram) → HaveDiagrams sig places diagrams → IsPreregular sig
 diagrams-preregular sig places diagrams h f o is Ss k = let d = h f o is in diagram-least sig places o d.0 d.2 Ss k
+
+-- a signature that is preregular modulo its axioms is preregular
+pub modulo-preregular : (sig : Signature) → IsPreregularModulo sig → IsPreregular sig
+modulo-preregular sig ok f o is Ss k = let (R, r) = ok.results f o is Ss k in result-least sig o Ss R r
+
+-- where each operator has its diagram, it has its results
+pub diagrams-results : (sig : Signature) (places : List ℕ) (diagrams : List Diagram) → HaveDiagrams sig places diagrams → (f : ℕ) (o : Operator) → IsOperator sig f o → (Ss : List Sorted) → AreOfKinds sig Ss o.args → (R : Sorted) × IsResultOn sig o Ss R
+diagrams-results sig places diagrams have f o is Ss k =
+    let (d, e, h) = have f o is in
+    let (r, (R, g, is_result)) = leads-read sig places d.levels 0 o.args (EndsIn sig o d.ends) h.leads Ss k in
+    (sorted_of R, is_result)

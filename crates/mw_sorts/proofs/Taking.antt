@@ -1,13 +1,14 @@
 -- Which declarations take arguments, one argument after another.
 use Rattle.std.proofs.Common.{◌≡◌, ◌∙◌, ℕ, zero, suc, List, [], ◌∷◌, ◌++◌, length, refl, ap, sym, subst, inl, inr, arith}
-use Rattle.std.specs.Prelude.{slice_get, Some, None, Option, false}
-use Rattle.std.proofs.lemmas.Bool.{both_ways}
+use Rattle.std.specs.Prelude.{slice_get, Some, None, Option}
 use Rattle.mw_logic.specs.Signature.{Signature, Sorted, Declaration, Operator, SameKind, Member}
-use Rattle.mw_logic.specs.Sorts.{IsBelow, AreBelow, Takes}
+use Rattle.mw_logic.specs.Sorts.{IsBelow, AreBelow, Takes, Declares}
 use Rattle.mw_logic.specs.Accepted.{number_of_sort}
 use Rattle.mw_logic.specs.Preregular.{AreOfKinds, IsLeastResult, HasLeastResult, IsDeclarationOf}
-use Rattle.mw_sorts.specs.Results.{IsResultOn, LacksLeastResult, IsEndOn}
-use Rattle.mw_sorts.specs.States.{IsOperatorOf, TakesFirst, AreAlive, Narrows, IsResultAmong, IsLeastAmong, IsEndOf}
+use Rattle.mw_sorting.specs.ComputedSorts.{IsResultOn}
+use Rattle.mw_sorts.specs.Results.{LacksLeastResult, IsEndOn}
+use Rattle.mw_sorts.specs.States.{ways, IsOperatorOf, TakesFirst, AreAlive, Narrows, IsResultAmong, IsLeastAmong, IsEndOf}
+use Rattle.mw_sorts.proofs.Ways.{ways_known, way_declares, declares_way}
 use Rattle.mw_sorts.proofs.Getting.{get-member, member-get, get-none}
 use Rattle.mw_logic.proofs.BelowLaws.{IsBelow-trans}
 
@@ -70,37 +71,35 @@ alive_more sig ds Ss S T alive narrowed a st ts n j = (to, from)
         let l = takes_less sig Ss (t.0).args S t.2 in
         (n j).1 ((a j).1 (t.0, t.1, l.0), (t.0, (l.1).0, t.1, (l.1).1, IsBelow-trans sig T S (l.1).0 ts (l.1).2))
 
-module _ (sig : Signature) (o : Operator) (known : IsOperatorOf sig o) (free : o.comm ≡ false) (Ss : List Sorted) (long : length Ss ≡ length o.args) (alive : List ℕ) (a : AreAlive sig o.declarations Ss alive) where
+module _ (sig : Signature) (o : Operator) (known : IsOperatorOf sig o) (Ss : List Sorted) (long : length Ss ≡ length o.args) (alive : List ℕ) (a : AreAlive sig (ways o) Ss alive) where
   -- what is alive behind the last argument gives the results
-  among_taken : (R : Sorted) → IsResultAmong o.declarations alive R → Takes sig o Ss R
+  among_taken : (R : Sorted) → IsResultAmong (ways o) alive R → Takes sig o Ss R
   among_taken R r =
       let l = (a r.0).0 r.2 in
       let d : Declaration = r.1 in
       let same : l.0 ≡ d = (let e = l.1 in let h = r.3 in (cc)) in
-      let member : Member d o.declarations = get-member o.declarations r.0 d r.3 in
-      let is : IsDeclarationOf sig o d = known.declarations d member in
+      let member : Member d (ways o) = get-member (ways o) r.0 d r.3 in
+      let is : IsDeclarationOf sig o d = ways_known sig o known d member in
       let as_many : length Ss ≡ length d.args = long ∙ sym (of_kinds-length sig d.args o.args is.args) in
       record {
         args = d.args;
-        declares = inl (subst (λ (Q : Sorted). Member {X = Declaration} (record { args = d.args; result = Q }) o.declarations) r.4 member);
+        declares = subst (Declares o d.args) r.4 (way_declares o d member);
         fits = takes_all sig Ss d.args as_many (subst (λ (b : Declaration). TakesFirst sig Ss b.args) same l.2);
       }
 
-  taken_among : (R : Sorted) → Takes sig o Ss R → IsResultAmong o.declarations alive R
-  taken_among R t = elim t.declares [
-    | inl m ↦
-        let g = member-get o.declarations (record { args = t.args; result = R }) m in
-        (g.0, record { args = t.args; result = R }, (a g.0).1 (record { args = t.args; result = R }, g.1, takes_first sig Ss t.args t.fits), g.1, refl)
-    | inr h ↦ absurd (both_ways _ free h.0)
-  ]
+  taken_among : (R : Sorted) → Takes sig o Ss R → IsResultAmong (ways o) alive R
+  taken_among R t =
+      let d : Declaration = record { args = t.args; result = R } in
+      let g = member-get (ways o) d (declares_way o t.args R t.declares) in
+      (g.0, d, (a g.0).1 (d, g.1, takes_first sig Ss t.args t.fits), g.1, refl)
 
-  least_among : (R : Sorted) → IsLeastAmong sig o.declarations alive R → IsLeastResult sig o Ss R
+  least_among : (R : Sorted) → IsLeastAmong sig (ways o) alive R → IsLeastResult sig o Ss R
   least_among R l = record { takes = among_taken R l.among; least = λ Q t. l.least Q (taken_among Q t) }
 
-  least_taken : (R : Sorted) → IsLeastResult sig o Ss R → IsLeastAmong sig o.declarations alive R
+  least_taken : (R : Sorted) → IsLeastResult sig o Ss R → IsLeastAmong sig (ways o) alive R
   least_taken R l = record { among = taken_among R l.takes; least = λ Q t. l.least Q (among_taken Q t) }
 
-  pub end_on : (end : Option Sorted) → IsEndOf sig o.declarations o.result alive end → IsEndOn sig o Ss end
+  pub end_on : (end : Option Sorted) → IsEndOf sig (ways o) o.result alive end → IsEndOn sig o Ss end
   end_on (Some R) (inl l) = inl (least_among R l)
   end_on (Some R) (inr n) = inr (λ Q t. n.0 Q (taken_among Q t), n.1)
   end_on None n = record { taken = ((n.0).0, among_taken (n.0).0 (n.0).1); no_least = λ R l. n.1 R (least_taken R l) }
@@ -114,3 +113,10 @@ result-least sig o Ss R (inr n) Q t = absurd (n.0 Q t)
 pub result-lacks : (sig : Signature) (o : Operator) (Ss : List Sorted) (R : Sorted) → IsResultOn sig o Ss R → LacksLeastResult sig o Ss → ⊥
 result-lacks sig o Ss R (inl l) h = h.no_least R l
 result-lacks sig o Ss R (inr n) h = n.0 (h.taken).0 (h.taken).1
+
+-- the kind at the place of a sort
+pub of_kinds-at : (sig : Signature) (Ss : List Sorted) (Ks : List ℕ) (i : ℕ) (S : Sorted) → AreOfKinds sig Ss Ks → slice_get Ss i ≡ Some S → (K : ℕ) × (slice_get Ks i ≡ Some K) × SameKind sig (number_of_sort S) K
+of_kinds-at sig [] Ks i S h e = absurd (get-none e)
+of_kinds-at sig (T ∷ Ss) [] i S h e = absurd h
+of_kinds-at sig (T ∷ Ss) (K ∷ Ks) zero S h e = (K, refl, subst (λ (U : Sorted). SameKind sig (number_of_sort U) K) (let k : T ≡ S = (cc) in k) h.0)
+of_kinds-at sig (T ∷ Ss) (K ∷ Ks) (suc i) S h e = of_kinds-at sig Ss Ks i S h.1 e

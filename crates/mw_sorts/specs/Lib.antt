@@ -1,7 +1,11 @@
 pub mod Entries
 pub mod Results
+pub mod Numbers
 pub mod Diagrams
 pub mod Sorting
 pub mod States
 pub mod Marks
 pub mod Faults
+pub mod Groupings
+pub mod Leaving
+pub mod Squares

@@ -1,12 +1,9 @@
 -- What an operator gives on arguments of some sorts.
-use Rattle.std.specs.Prelude.{◌≡◌, ◌⊎◌, List, Option, Some, None}
-use Rattle.mw_logic.specs.Signature.{Signature, Sorted, kind, Operator}
+use Rattle.std.specs.Prelude.{List, Option, Some, None}
+use Rattle.mw_logic.specs.Signature.{Signature, Sorted, Operator}
 use Rattle.mw_logic.specs.Sorts.{Takes}
 use Rattle.mw_logic.specs.Preregular.{IsLeastResult}
-
--- R is the least result of o on arguments of the sorts Ss; or o takes no such arguments, and R is its kind
-abbrev pub IsResultOn : Signature → Operator → List Sorted → Sorted → Type 0
-IsResultOn sig o Ss R = IsLeastResult sig o Ss R ⊎ (((Q : Sorted) → Takes sig o Ss Q → ⊥) × (R ≡ kind o.result))
+use Rattle.mw_sorting.specs.ComputedSorts.{IsResultOn}
 
 -- o takes arguments of the sorts Ss, and none of its results is least
 pub record LacksLeastResult (sig : Signature) (o : Operator) (Ss : List Sorted) : Type 0 where

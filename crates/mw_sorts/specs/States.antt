@@ -1,7 +1,7 @@
 -- Which declarations of an operator are still alive behind some of its arguments: those that take the sorts of these.
-use Rattle.std.specs.Prelude.{ℕ, ◌≡◌, ◌⊎◌, ◌↔◌, ◌<◌, List, [], ◌∷◌, length, map, slice_get, Option, Some, None, ⊤}
-use Rattle.mw_logic.specs.Signature.{Signature, Sorted, kind, Declaration, Operator, Member}
-use Rattle.mw_logic.specs.Sorts.{IsBelow}
+use Rattle.std.specs.Prelude.{ℕ, ◌≡◌, ◌⊎◌, ◌↔◌, ◌<◌, ◌++◌, List, [], ◌∷◌, cond, length, map, slice_get, Option, Some, None, IsTrue, ⊤}
+use Rattle.mw_logic.specs.Signature.{Signature, Sorted, kind, Declaration, Operator, SameKind, Member}
+use Rattle.mw_logic.specs.Sorts.{IsBelow, swapped}
 use Rattle.mw_logic.specs.Preregular.{IsSortOf, IsDeclarationOf}
 use Rattle.mw_sorts.specs.Diagrams.{Row, Level}
 
@@ -10,6 +10,15 @@ pub record IsOperatorOf (sig : Signature) (o : Operator) : Type 0 where
   pub args : (K : ℕ) → Member K o.args → IsSortOf sig K
   pub result : IsSortOf sig o.result
   pub declarations : (d : Declaration) → Member d o.declarations → IsDeclarationOf sig o d
+  pub comm : IsTrue o.comm → (K L : ℕ) × (o.args ≡ K ∷ L ∷ []) × SameKind sig K L
+
+-- the declaration with its first two arguments exchanged
+abbrev pub turned : Declaration → Declaration
+turned d = record { args = swapped d.args; result = d.result }
+
+-- an operator's declarations; behind them, of a commutative one, the same with their arguments exchanged
+unfoldable pub ways : Operator → List Declaration
+ways o = o.declarations ++ cond o.comm (map turned o.declarations) []
 
 -- the first of these sorts are at or above the others
 abbrev pub TakesFirst : Signature → List Sorted → List Sorted → Type 0
@@ -80,7 +89,7 @@ IsEndOf sig ds K alive None = ((Q : Sorted) × IsResultAmong ds alive Q) × ((R 
 -- what stands behind each state
 pub record AreEndsOf (sig : Signature) (o : Operator) (states : List (List ℕ)) (ends : List (Option Sorted)) : Type 0 where
   pub size : length ends ≡ length states
-  pub end : (q : ℕ) (alive : List ℕ) → slice_get states q ≡ Some alive → (e : Option Sorted) × (slice_get ends q ≡ Some e) × IsEndOf sig o.declarations o.result alive e
+  pub end : (q : ℕ) (alive : List ℕ) → slice_get states q ≡ Some alive → (e : Option Sorted) × (slice_get ends q ≡ Some e) × IsEndOf sig (ways o) o.result alive e
 
 -- the results, where all are there, and else one that is not
 abbrev pub AreAllThere : {X : Type 0} → List (Option X) → Option (List X) → Type 0

@@ -1,17 +1,16 @@
 // The decision diagram of an operator.
 ghost use Rattle.std.specs.Prelude.{◌≡◌, false, ◌<◌, ◌+◌, ℕ, List, map, length, slice_get, Some, IfOk, IfErr, OnOk, option_map};
 ghost use Rattle.mw_logic.specs.Signature.{SameKind, IsOperator};
-ghost use Rattle.mw_logic.specs.Free.{IsFreeSignature};
 ghost use Rattle.mw_logic.specs.Accepted.{number_of_sort};
 ghost use Rattle.mw_term.specs.Signatures.{sorted_of};
 ghost use Rattle.mw_sorts.specs.Diagrams.{IsDiagram};
 ghost use Rattle.mw_sorts.specs.Sorting.{AreEntriesOf};
-ghost use Rattle.mw_sorts.specs.States.{IsOperatorOf, AreNumbersOf, AreStatesOf, AreKept, IsStart, ComeFrom, IsRowOf, IsLevelOf, AreEndsOf, AreAllThere};
+ghost use Rattle.mw_sorts.specs.States.{IsOperatorOf, ways, AreNumbersOf, AreStatesOf, AreKept, IsStart, ComeFrom, IsRowOf, IsLevelOf, AreEndsOf, AreAllThere};
 ghost use Rattle.mw_sorts.specs.Marks.{IsDrawn};
 ghost use Rattle.mw_sorts.specs.Faults.{IsRefused};
 
 use crate::fault::first_fault;
-use crate::narrow::{least_result, narrowed};
+use crate::narrow::{least_result, narrowed, number_of_ways};
 use crate::sorting::Sorting;
 use crate::states::States;
 use crate::tables::TablesError;
@@ -24,11 +23,12 @@ pub type Row = Seq<usize>;
 /// The rows of an argument.
 pub type Level = Seq<Row>;
 
-/// The levels of an operator's arguments, and behind the last the results.
+/// The levels of an operator's arguments, and behind the last the results; and whether the operator is associative.
 #[derive(Drop)]
 pub struct Diagram {
     pub levels: Seq<Level>,
     pub ends: Seq<Sorted>,
+    pub assoc: bool,
 }
 
 /// The same, where a least result may lack.
@@ -51,13 +51,14 @@ fn row(
     next: &mut States,
 ) -> Result<Row, AllocError>
     requires operator { IsOperatorOf sorting.now.signature operator.now }
-    requires alive { AreNumbersOf operator.now.declarations alive.now }
-    requires kind { (K : ℕ) × (slice_get operator.now.args place ≡ Some K) × AreEntriesOf sorting.now K (map sorted_of entries.now) }
-    requires states { AreStatesOf operator.now.declarations next.old }
+    requires alive { AreNumbersOf (ways operator.now) alive.now }
+    requires kind { (K : ℕ) × (slice_get operator.now.args place ≡ Some K)
+        × AreEntriesOf sorting.now K (map sorted_of entries.now) }
+    requires states { AreStatesOf (ways operator.now) next.old }
     ensures kept { OnOk result (AreKept next.old next.new) }
-    ensures states { OnOk result (AreStatesOf operator.now.declarations next.new) }
-    ensures come { OnOk result (ComeFrom sorting.now.signature operator.now.declarations place (map sorted_of entries.now) alive.now next.old next.new) }
-    ensures row { IfOk result (IsRowOf sorting.now.signature operator.now.declarations place (map sorted_of entries.now) alive.now next.new) }
+    ensures states { OnOk result (AreStatesOf (ways operator.now) next.new) }
+    ensures come { OnOk result (ComeFrom sorting.now.signature (ways operator.now) place (map sorted_of entries.now) alive.now next.old next.new) }
+    ensures row { IfOk result (IsRowOf sorting.now.signature (ways operator.now) place (map sorted_of entries.now) alive.now next.new) }
 {
     let mut row = Vec::with_capacity(alloc, entries.len())?;
     for entry in entries {
@@ -77,10 +78,11 @@ fn level(
     entries: &[Sorted],
 ) -> Result<(Level, Box<States>), AllocError>
     requires operator { IsOperatorOf sorting.now.signature operator.now }
-    requires states { AreStatesOf operator.now.declarations states.now }
-    requires kind { (K : ℕ) × (slice_get operator.now.args place ≡ Some K) × AreEntriesOf sorting.now K (map sorted_of entries.now) }
-    ensures states { IfOk result (λ r. AreStatesOf operator.now.declarations r.1.value) }
-    ensures level { IfOk result (λ r. IsLevelOf sorting.now.signature operator.now.declarations place (map sorted_of entries.now) states.now r.1.value r.0) }
+    requires states { AreStatesOf (ways operator.now) states.now }
+    requires kind { (K : ℕ) × (slice_get operator.now.args place ≡ Some K)
+        × AreEntriesOf sorting.now K (map sorted_of entries.now) }
+    ensures states { IfOk result (λ r. AreStatesOf (ways operator.now) r.1.value) }
+    ensures level { IfOk result (λ r. IsLevelOf sorting.now.signature (ways operator.now) place (map sorted_of entries.now) states.now r.1.value r.0) }
 {
     let mut next = States::new(alloc);
     let mut rows = Vec::with_capacity(alloc, states.len())?;
@@ -92,12 +94,13 @@ fn level(
     Ok((Seq::of(rows), next))
 }
 
-// All declarations.
+// All declarations, with those that a commutative operator has by exchange.
 fn all_alive(alloc: Global, operator: &Operator) -> Result<Box<States>, AllocError>
-    ensures { IfOk result (λ s. IsStart operator.now.declarations s.value) }
+    ensures { IfOk result (λ s. IsStart (ways operator.now) s.value) }
 {
-    let mut all = Vec::with_capacity(alloc, operator.declarations.as_slice().len())?;
-    for number in 0..operator.declarations.as_slice().len() {
+    let count = number_of_ways(operator);
+    let mut all = Vec::with_capacity(alloc, count)?;
+    for number in 0..count {
         all.push(number)?;
     }
     let mut states = States::new(alloc);
@@ -113,7 +116,7 @@ fn ends(
     states: &States,
 ) -> Result<Seq<Option<Sorted>>, AllocError>
     requires operator { IsOperatorOf sorting.now.signature operator.now }
-    requires states { AreStatesOf operator.now.declarations states.now }
+    requires states { AreStatesOf (ways operator.now) states.now }
     ensures { IfOk result (λ es. AreEndsOf sorting.now.signature operator.now states.now (map (option_map sorted_of) es)) }
 {
     let mut ends = Vec::with_capacity(alloc, states.len())?;
@@ -125,7 +128,6 @@ fn ends(
 
 fn drawn(alloc: Global, sorting: &Sorting<'_>, operator: &Operator) -> Result<Drawing, AllocError>
     requires operator { IsOperatorOf sorting.now.signature operator.now }
-    requires free { operator.now.comm ≡ false }
     ensures { IfOk result (λ d. IsDrawn sorting.now operator.now d.levels (map (map sorted_of) d.entries) (map (option_map sorted_of) d.ends)) }
 {
     let mut states = all_alive(alloc, operator)?;
@@ -167,7 +169,6 @@ pub fn diagram_of(
     operator: &Operator,
 ) -> Result<Diagram, TablesError>
     requires operator { IsOperatorOf sorting.now.signature operator.now }
-    requires free { operator.now.comm ≡ false }
     ensures diagram { IfOk result (IsDiagram sorting.now.signature sorting.now.places operator.now) }
     ensures fault { IfErr result (IsRefused sorting.now.signature number operator.now) }
 {
@@ -176,6 +177,7 @@ pub fn diagram_of(
         Some(ends) => Ok(Diagram {
             levels: drawing.levels,
             ends,
+            assoc: operator.assoc,
         }),
         None => Err(TablesError::NotPreregular {
             operator: number,

@@ -69,6 +69,22 @@ impl<'s> Sorting<'s> {
         Seq::of(places)
     }
 
+    /// The places of all sorts.
+    pub fn places(&self) -> &[usize]
+        ensures { result.now ≡ self.now.places }
+    {
+        self.places.as_slice()
+    }
+
+    /// Whether two sorts are of one kind.
+    pub fn are_of_one_kind(&self, first: SortId, second: SortId) -> bool
+        requires first_is_there { IsSortOf self.now.signature first }
+        requires second_is_there { IsSortOf self.now.signature second }
+        ensures { IsTrue result ↔ SameKind self.now.signature first second }
+    {
+        self.order.kind_of(first) == self.order.kind_of(second)
+    }
+
     /// Whether a sort is at or below another of its kind; these may be kinds too.
     pub fn is_below(&self, lower: Sorted, upper: Sorted) -> bool
         requires kind { SameKind self.now.signature (number_of_sort (sorted_of lower)) (number_of_sort (sorted_of upper)) }

@@ -1,6 +1,6 @@
 // Matching, instances and proofs, in a module that the program's own front end made.
 ghost use Rattle.std.specs.Prelude.{◌≡◌, ◌∷◌, [], IfOk, IfSome, IsTrue};
-ghost use Rattle.mw_logic.specs.Signature.{IsRawTerm, IsAssociative};
+ghost use Rattle.mw_logic.specs.Signature.{IsRawTerm};
 ghost use Rattle.mw_logic.specs.Module.{IsStatement};
 ghost use Rattle.mw_logic.specs.Substitution.{IsSubstitution, IsSolution, instance as instance_of};
 ghost use Rattle.mw_logic.specs.Term.{is_ground, are_ground, binary};
@@ -10,18 +10,15 @@ ghost use Rattle.mw_term.specs.Raws.{raw_term, raw_terms};
 ghost use Rattle.mw_module.specs.Known.{AreKnown};
 ghost use Rattle.mw_module.specs.Units.{seen_unit};
 
-use mw_build::{Module, build};
-use mw_canon::{canon, instance, parts};
+use mw_build::{Module, build, canonical};
+use mw_canon::instance;
 use mw_least::Ctx;
 use mw_lex::{Token, tokens};
 use mw_match::Solutions;
 use mw_module::{Unit, read_unit};
 use mw_proof::{By, Proved, refl, replace, then, under};
-use mw_term::{
-    Identity, Name, OpId, Operator, Raw, Seq, Signature, Statement, Subst, Term, View, copy, depth,
-    same,
-};
-use std::alloc::{AllocError, Global};
+use mw_term::{OpId, Raw, Seq, Statement, Subst, Term, View, copy, depth, same};
+use std::alloc::Global;
 use std::test::Fail;
 
 const SOURCE: &str = "fmod L is sorts A B . ops a b : -> A . op c : -> B . op s : A -> A .
@@ -84,7 +81,7 @@ fn term(alloc: Global, accepted: &Module, text: &str) -> Result<Term, Fail>
     }
     let context = accepted.context();
     context.shows();
-    match canon(alloc, context.signature(), &raw) {
+    match canonical(alloc, context.facts(), &raw)? {
         Ok(term) => Ok(term),
         Err(_) => Err(Fail::from("no canonical term")),
     }
@@ -110,7 +107,9 @@ fn solved(
     requires given { IsSubstitution context.now.signature given.now }
     ensures { IfOk result (λ o. IfSome o (IsSolution context.now.signature (raw_term pattern.now) subject.now given.now)) }
 {
-    context.shows();
+    if !context.is_simple() {
+        return Err(Fail::from("not a simple module"));
+    }
     let mut solutions = Solutions::new(alloc, context, pattern, subject, given)?;
     let Some(first) = solutions.next()? else {
         return Ok(None);
@@ -209,7 +208,9 @@ fn are_low(context: &Ctx, subst: &Subst) -> bool
     requires { IsSubstitution context.now.signature subst.now }
     ensures { IsTrue result → HasAdmittedValues context.now.signature subst.now }
 {
-    context.shows();
+    if !context.is_simple() {
+        return false;
+    }
     let mut rest = subst.pairs.as_slice();
     while let [pair, after @ ..] = rest {
         if depth(&pair.value) > 1000 {
@@ -242,8 +243,10 @@ fn right_instance(
     requires values { HasAdmittedValues context.now.signature subst.now }
     ensures { IfOk result (λ t. t ≡ instance_of subst.now statement.now.right) }
 {
-    context.shows();
-    match instance(alloc, context.signature(), subst, &statement.right) {
+    if !context.is_simple() {
+        return Err(Fail::from("not a simple module"));
+    }
+    match instance(alloc, context.facts(), subst, &statement.right) {
         Ok(right) => Ok(right),
         Err(_) => Err(Fail::from("no instance")),
     }
@@ -258,7 +261,9 @@ fn replaced<'m>(alloc: Global, context: &'m Ctx, from: &Term, to: &Term) -> Resu
     ensures to { IfOk result (λ p. p.to ≡ to.now) }
     ensures once { IfOk result (λ p. (r : Replacement) × (carried [] p.proof ≡ r ∷ [])) }
 {
-    context.shows();
+    if !context.is_simple() {
+        return Err(Fail::from("not a simple module"));
+    }
     let Some(statement) = equation(context) else {
         return Err(Fail::from("not one equation"));
     };
@@ -302,7 +307,9 @@ fn lifted<'m>(
     ensures { IfOk result (λ p. p.over ≡ context.now) }
 {
     inner.shows();
-    context.shows();
+    if !context.is_simple() {
+        return Err(Fail::from("not a simple module"));
+    }
     let Some((operator, first, second)) = pair_of(from) else {
         return Err(Fail::from("not two arguments"));
     };
@@ -389,54 +396,5 @@ fn proofs_are_built(rt: HostRuntime) -> Result<(), Fail> {
     let accepted = module(rt.alloc())?;
     assert!(rt; two_steps_lead(rt.alloc(), &accepted)?);
     assert!(rt; a_term_leads_to_itself(rt.alloc(), &accepted)?);
-    Ok(())
-}
-
-/// One operator of any number of arguments, which is associative with a constant, operator 2, as its identity.
-fn associative(alloc: Global) -> Result<Signature, AllocError>
-    ensures { IfOk result (λ s. IsAssociative s 1) }
-{
-    let operator = Operator {
-        spelling: Name::of(vec![in alloc; b'f']?),
-        args: Seq::of(vec![in alloc; 1, 1]?),
-        result: 1,
-        declarations: Seq::of(Vec::new(alloc)),
-        assoc: true,
-        comm: false,
-        identity: Some(Identity::Constant(2)),
-        prec: 0,
-        gather: Seq::of(Vec::new(alloc)),
-        config: false,
-        frozen: Seq::of(Vec::new(alloc)),
-        built: false,
-    };
-    Ok(Signature {
-        sorts: Seq::of(Vec::new(alloc)),
-        pairs: Seq::of(Vec::new(alloc)),
-        operators: Seq::of(vec![in alloc; operator]?),
-        nat: false,
-        qid: false,
-    })
-}
-
-/// How many parts f(g, e, g), e and g have under f, whose identity is e.
-fn part_counts(alloc: Global, signature: &Signature) -> Result<[usize; 3], AllocError>
-    requires { IsAssociative signature.now 1 }
-{
-    let identity = Term::apply(alloc, 2, Vec::new(alloc))?;
-    let other = Term::apply(alloc, 3, Vec::new(alloc))?;
-    let three = vec![in alloc; copy(&other)?, copy(&identity)?, copy(&other)?]?;
-    let whole = Term::apply(alloc, 1, three)?;
-    Ok([
-        parts(signature, 1, &whole).len(),
-        parts(signature, 1, &identity).len(),
-        parts(signature, 1, &other).len(),
-    ])
-}
-
-#[test]
-fn an_associative_operator_has_parts(rt: HostRuntime) -> Result<(), Fail> {
-    let signature = Box::new(rt.alloc(), associative(rt.alloc())?)?;
-    assert_eq!(rt; part_counts(rt.alloc(), &signature)?, [3, 0, 1]);
     Ok(())
 }

@@ -1,56 +1,47 @@
 -- The block of a kept deduction answers a command.
-use Rattle.std.specs.Prelude.{◌≡◌, ◌-◌, ◌^◌, ℕ, List, None, min, IsTrue, Result, Ok, Err, IfOk}
+use Rattle.std.specs.Prelude.{◌≡◌, ◌-◌, ◌^◌, ℕ, List, None, min, IsTrue, Result, Ok, Err, IfOk, MatchResult, codes}
 use Rattle.std.proofs.Common.{◌∙◌, ap, subst, sym, refl, ⊎_elim}
 use Rattle.std.proofs.lemmas.Bool.{both_ways}
 use Rattle.mw_logic.specs.Term.{RawTerm, is_ground}
-use Rattle.mw_logic.specs.Signature.{Signature, Sorted, sort, kind, Operator, IsOperator, SameKind, same, up, down, IsRawTerm, a_numeral, a_quoted, a_variable, an_operator}
-use Rattle.mw_logic.specs.Sorts.{IsBelow, Takes, DeclaredSort, of_operator, of_kind, IsLeastSort}
-use Rattle.mw_logic.specs.Accepted.{number_of_sort}
+use Rattle.mw_logic.specs.Signature.{Signature, Sorted, sort, kind, Operator, IsOperator, SameKind, same, up, down, IsRawTerm}
+use Rattle.mw_logic.specs.Axioms.{EqualModulo}
+use Rattle.mw_logic.specs.Sorts.{IsBelow, Takes, DeclaredSort, of_zero, of_nonzero, of_quoted, of_variable, of_operator, of_kind, IsLeastSort}
+use Rattle.mw_logic.specs.Accepted.{IsAccepted, number_of_sort}
 use Rattle.mw_logic.specs.Preregular.{IsSortOf, HasItsSorts}
-use Rattle.mw_logic.proofs.FreeSignature.{free_equal}
-use Rattle.mw_print.specs.Sorts.{IsKindThere}
+use Rattle.mw_logic.specs.Parts.{nested, IsTooDeep, IsTooLarge}
+use Rattle.mw_logic.specs.NormalForm.{normal_form}
 use Rattle.mw_logic.specs.Module.{Module}
 use Rattle.mw_logic.specs.Proof.{Proof, count, rules}
-use Rattle.mw_machine.specs.Simple.{IsSimpleSignature, IsSimpleModule}
-use Rattle.mw_machine.proofs.Ordered.{free}
+use Rattle.mw_logic.proofs.AxiomLaws.{trans}
+use Rattle.mw_logic.proofs.EqualTerms.{ground_kept}
+use Rattle.mw_logic.proofs.Invariance.{normal_form-kept}
+use Rattle.mw_logic.proofs.RawKept.{raw_kept}
+use Rattle.mw_logic.proofs.Soundness.{normal_form-sound}
+use Rattle.mw_machine.specs.Simple.{IsSimpleModule}
+use Rattle.mw_print.specs.Sorts.{IsKindThere}
 use Rattle.mw_proof.specs.Deductions.{Deduction, IsDeduction}
 use Rattle.mw_reduce.specs.Reductions.{IsReductionOf}
 use Rattle.mw_reduce.specs.Run.{IsOutcome}
 use Rattle.mw_reduce.specs.declared.reducing.Budget.{Budget}
-use Rattle.mw_canon.specs.Canonical.{IsAdmittedTerm}
-use Rattle.mw_canon.proofs.Free.{nested_free, normal_form_free, of_admitted_term}
-use Rattle.mw_logic.specs.Free.{IsFreeSignature}
-use Rattle.mw_logic.specs.Parts.{nested, IsTooDeep, IsTooLarge}
 use Rattle.mw_reduce.specs.declared.progress.Outcome.{Outcome}
 use Rattle.mw_reduce.specs.declared.progress.Outcome.TheVariants.{Done, Stopped}
+use Rattle.mw_canon.specs.Canonical.{IsAdmittedTerm}
+use Rattle.mw_least.specs.Workable.{IsWorkable}
 use Rattle.mw_text.specs.Mixfix.{Reads}
-use Rattle.mw_logic.specs.NormalForm.{normal_form}
-use Rattle.mw_module.specs.declared.faults.FaultKind.TheVariants.{TooDeep, NumberTooLarge}
-use Rattle.mw_build.specs.Equations.{Oversized, deep, large}
+use Rattle.mw_module.specs.declared.faults.FaultKind.{FaultKind}
+use Rattle.mw_build.specs.Equations.{FitsIn, Oversized}
 use Rattle.mw_build.specs.Modules.{Accepted}
-use Rattle.mw_build.proofs.Sides.{fits}
+use Rattle.mw_build.proofs.PrintedVariables.{named_there}
 use Rattle.mw_block.specs.Blocks.{Word, block, parsed_block}
-use Rattle.mw_top.specs.Commands.{IsTerm, IsReduced, IsParsed, IsTrueWord}
+use Rattle.mw_top.specs.Commands.{IsCanonicalTerm, IsReduced, IsParsed, IsTrueWord, TermFault, big}
 use Rattle.mw_top.specs.Seen.{word_of}
-
-module _ (M : Module) (simple : IsSimpleModule M) where
-  free_signature : IsFreeSignature M.signature
-  free_signature = free M.signature simple.signature
 
 -- the word for an outcome is true where the outcome is
 true_word : (M : Module) (most : ℕ) (t : RawTerm) (p : Proof) (u : RawTerm) (o : Outcome) → rules p ≡ 0 → IsOutcome M 63 most most t p u o → IsTrueWord M most t p u (word_of o)
 true_word M most t p u Done r x = (r, x.0, x.1)
 true_word M most t p u (Stopped reason) r x = (r, x)
 
--- the least sort of an admitted term, as the flattened term has it
-pub least_here : (sig : Signature) → IsSimpleSignature sig → (t : RawTerm) → IsAdmittedTerm sig t → (S : Sorted) → (IsRawTerm sig (nested sig t) → IsTrue (is_ground t) → IsLeastSort sig (nested sig t) S) → IsLeastSort sig t S
-least_here sig simple t admitted S h =
-    let f = free sig simple in
-    let e = nested_free sig f t in
-    let raw = of_admitted_term sig f t admitted in
-    subst (λ u. IsLeastSort sig u S) e (h (subst (IsRawTerm sig) (sym e) raw.1) raw.0)
-
-module _ (sig : Signature) (numbers : HasItsSorts sig) where
+module _ (sig : Signature) (ok : IsAccepted sig) (numbers : HasItsSorts sig) where
   there_along : {S T : ℕ} → IsSortOf sig S → SameKind sig S T → IsSortOf sig T
   there_along h same = h
   there_along h (up {S} {T} m k) = there_along (numbers.pairs S T m).1 k
@@ -63,85 +54,81 @@ module _ (sig : Signature) (numbers : HasItsSorts sig) where
   kind_above (sort S) K h b = there_along h b
   kind_above (kind L) K h b = there_along h b
 
-  -- a kind that is the least sort of an operator's term is there
-  pub kind_there : (simple : IsSimpleSignature sig) (t : RawTerm) → IsAdmittedTerm sig t → (S : Sorted) → IsLeastSort sig t S → IsKindThere sig S
-  kind_there simple t admitted (sort S) least = tt
-  kind_there simple t admitted (kind K) least =
-      let f = free sig simple in
-      let raw = of_admitted_term sig f t admitted in
-      let e : t ≡ least.has.form = free_equal sig f least.has.equal in
-      kind_above least.has.declared K (of (subst (λ u. IsTrue (is_ground u)) e raw.0) (subst (IsRawTerm sig) e raw.1) least.has.is_declared) least.has.below
-    where
-      of : {u : RawTerm} {D : Sorted} → IsTrue (is_ground u) → IsRawTerm sig u → DeclaredSort sig u D → IsSortOf sig (number_of_sort D)
-      of g (a_numeral b l) d = absurd (both_ways _ simple.nat b)
-      of g (a_quoted b) d = absurd (both_ways _ simple.qid b)
-      of g a_variable d = absurd (both_ways _ refl g)
-      of {D = D} g (an_operator a is args) (of_operator {f} o io ds takes least) = result_there f o io D takes
-      of g (an_operator a is args) (of_kind {f} o io ds none) = numbers.results f o io
+  declared_there : {u : RawTerm} {D : Sorted} → IsTrue (is_ground u) → DeclaredSort sig u D → IsSortOf sig (number_of_sort D)
+  declared_there g (of_zero {S} n) = named_there sig S (codes "Zero") n
+  declared_there g (of_nonzero {S = S} n) = named_there sig S (codes "NzNat") n
+  declared_there g (of_quoted {S = S} n) = named_there sig S (codes "Qid") n
+  declared_there g of_variable = absurd (both_ways _ refl g)
+  declared_there g (of_operator {f} {R = R} o io ds takes least) = result_there f o io R takes
+  declared_there g (of_kind {f} o io ds none) = numbers.results f o io
 
-pub reduced_by : (a : Accepted) (most : ℕ) (t : RawTerm) (b : Budget) (d : Deduction) (o : Outcome) (text : List ℕ)
-    → IsSimpleModule a.module → b ≡ record { steps = most; side = most; nest = 63 } → IsReductionOf a.module t b d o → IsDeduction d
-    → (S : Sorted) → IsLeastSort a.module.signature d.to S → text ≡ block a.module.signature a.name d.from (min (count d.proof) (2 ^ 64 - 1)) S d.to (word_of o)
-    → IsReduced a most t text
-reduced_by a most t b d o text simple is r proved S least written =
+  -- a kind that is the least sort of an admitted term is there
+  pub kind_there : (t : RawTerm) → IsAdmittedTerm sig t → (S : Sorted) → IsLeastSort sig (nested sig t) S → IsKindThere sig S
+  kind_there t admitted (sort S) least = tt
+  kind_there t admitted (kind K) least = kind_above least.has.declared K (declared_there (sym (ground_kept sig ok least.has.equal) ∙ admitted.admitted.ground) least.has.is_declared) least.has.below
+
+  -- the canonical form of a term without variables that fits in is admitted
+  pub canonical_admitted : (t : RawTerm) → IsRawTerm sig t → IsTrue (is_ground t) → FitsIn sig t → IsAdmittedTerm sig (normal_form sig t)
+  canonical_admitted t raw ground fits =
+      let e : EqualModulo sig t (nested sig (normal_form sig t)) = normal_form-sound sig ok raw in
+      record {
+        raw = (raw_kept sig ok e).0 raw;
+        canonical = sym (normal_form-kept sig ok e);
+        admitted = record {
+          ground = sym (ground_kept sig ok e) ∙ ground;
+          not_deep = λ d. fits.not_deep (record { form = d.form; clean = record { clean = d.clean.clean; equal = trans e d.clean.equal }; deep = d.deep });
+          not_large = λ l. fits.not_large (record { place = l.place; operator = l.operator; successor = l.successor; clean = record { clean = l.clean.clean; equal = trans e l.clean.equal } });
+        };
+      }
+
+-- a kind that is the least sort of an admitted term is there, in the signature of a module that a context holds
+pub kind_of_least : (M : Module) → IsWorkable M → (t : RawTerm) → IsAdmittedTerm M.signature t → (S : Sorted) → IsLeastSort M.signature (nested M.signature t) S → IsKindThere M.signature S
+kind_of_least M work t admitted S least = kind_there M.signature work.signature.accepted work.numbers t admitted S least
+
+-- what is known of a term that was read, from what is known of its canonical form
+pub read_so : {E : Type 0} (a : Accepted) → IsWorkable a.module → (words : List (List ℕ)) (t : RawTerm) → Reads a.module.signature a.variables None words t → IsRawTerm a.module.signature t → IsTrue (is_ground t) → (r : Result (Result RawTerm FaultKind) E)
+    → IfOk r (λ s. MatchResult s (λ u. FitsIn a.module.signature t × (u ≡ normal_form a.module.signature t)) (λ kind. Oversized a.module.signature t kind))
+    → IfOk r (λ s. MatchResult s (λ u. IsCanonicalTerm a words u) (λ kind. TermFault a words kind))
+read_so a work words t read raw ground (Ok (Ok u)) h = record {
+  written = t;
+  is = record { read = read; ground = ground; fits = h.0 };
+  canonical = h.1;
+  admitted = subst (IsAdmittedTerm a.module.signature) (sym h.1) (canonical_admitted a.module.signature work.signature.accepted work.numbers t raw ground h.0);
+}
+read_so a work words t read raw ground (Ok (Err kind)) h = big t kind read ground h
+read_so a work words t read raw ground (Err x) h = tt
+
+pub reduced_by : (a : Accepted) (most : ℕ) (w t : RawTerm) (b : Budget) (d : Deduction) (o : Outcome) (text : List ℕ)
+    → t ≡ normal_form a.module.signature w → b ≡ record { steps = most; side = most; nest = 63 } → IsReductionOf a.module t b d o → IsDeduction d
+    → (S : Sorted) → IsLeastSort a.module.signature (nested a.module.signature d.to) S → text ≡ block a.module.signature a.name d.from (min (count d.proof) (2 ^ 64 - 1)) S d.to (word_of o)
+    → IsReduced a most w text
+reduced_by a most w t b d o text canonical is r proved S least written =
     let sig : Signature = a.module.signature in
-    let free : IsFreeSignature sig = free_signature a.module simple in
     record {
       kept = d;
       deduction = proved;
       over = r.over;
-      begins = r.from ∙ sym (normal_form_free sig free t);
+      begins = r.from ∙ canonical;
       S = S;
       word = word_of o;
-      least_sort = subst (λ u. IsLeastSort sig u S) (sym (nested_free sig free d.to)) least;
+      least_sort = least;
       true_word = true_word a.module most (nested sig d.from) d.proof (nested sig d.to) o r.equational (rw is at r.ends);
       written = written;
     }
-
-pub is_term : (a : Accepted) (words : List (List ℕ)) (t : RawTerm) → IsSimpleModule a.module → Reads a.module.signature a.variables None words t → IsAdmittedTerm a.module.signature t
-    → IsTerm a words t
-is_term a words t simple read admitted =
-    let k = of_admitted_term a.module.signature (free_signature a.module simple) t admitted in
-    record { read = read; ground = k.0; fits = fits a.module.signature simple.signature t k.2 }
 
 -- what holds of an answer's value, from what was known of it
 pub if_ok : {A E : Type 0} {P Q : A → Type 0} (r : Result A E) → IfOk r P → ((v : A) → P v → Q v) → IfOk r Q
 if_ok (Ok v) h k = k v h
 if_ok (Err e) h k = tt
 
--- the canonical term of one without variables that fits in is admitted
-pub admitted_by : (sig : Signature) → IsSimpleSignature sig → (t u : RawTerm) → IsRawTerm sig t → IsTrue (is_ground t) → u ≡ normal_form sig (nested sig t)
-    → ¬ IsTooDeep sig (nested sig t) → ¬ IsTooLarge sig (nested sig t) → (u ≡ t) × IsAdmittedTerm sig u
-admitted_by sig simple t u raw ground is not_deep not_large =
-    let f : IsFreeSignature sig = free sig simple in
-    let n : nested sig t ≡ t = nested_free sig f t in
-    let e : u ≡ t = is ∙ normal_form_free sig f (nested sig t) ∙ n in
-    let a : IsAdmittedTerm sig t = record {
-      raw = rw n raw;
-      canonical = normal_form_free sig f (nested sig t) ∙ n;
-      admitted = record { ground = rw n ground; not_deep = not_deep; not_large = not_large };
-    } in
-    (e, rw e a)
-
--- what is too deep or too large keeps a term out
-pub kept_out : (sig : Signature) → IsSimpleSignature sig → (t : RawTerm) → IsTooDeep sig (nested sig t) → Oversized sig t TooDeep
-kept_out sig simple t h = deep (rw (nested_free sig (free sig simple) t) at h)
-
-pub number_kept_out : (sig : Signature) → IsSimpleSignature sig → (t : RawTerm) → IsTooLarge sig (nested sig t) → ¬ IsTooDeep sig (nested sig t) → Oversized sig t NumberTooLarge
-number_kept_out sig simple t l h = let n = nested_free sig (free sig simple) t in large (λ d. h (rw n d)) (rw n at l)
-
--- a kind that is the least sort of an admitted term is there, in the signature of a module that the engine works in
-pub kind_of_least : (M : Module) → IsSimpleModule M → (t : RawTerm) → IsAdmittedTerm M.signature t → (S : Sorted) → IsLeastSort M.signature t S → IsKindThere M.signature S
-kind_of_least M simple t admitted S least = kind_there M.signature simple.signature.numbers simple.signature t admitted S least
-
 -- the text of a term that is told, by what the module says of itself
-pub parsed_by : (a : Accepted) (M : Module) → IsSimpleModule M → M ≡ a.module → (sig : Signature) → sig ≡ M.signature → (name : List ℕ) → name ≡ a.name → (t : RawTerm) (S : Sorted) (text : List ℕ)
-    → IsLeastSort M.signature t S → text ≡ parsed_block sig name t S → IsParsed a t text
-parsed_by a M simple m sig s name n t S text least written = record {
+pub parsed_by : (a : Accepted) (M : Module) → M ≡ a.module → (sig : Signature) → sig ≡ M.signature → (name : List ℕ) → name ≡ a.name → (w t : RawTerm) → t ≡ normal_form a.module.signature w → (S : Sorted) (text : List ℕ)
+    → IsLeastSort M.signature (nested M.signature t) S → text ≡ parsed_block sig name t S → IsParsed a w text
+parsed_by a M m sig s name n w t canonical S text least written = record {
   shown = t;
-  canonical = subst (λ (N : Module). t ≡ normal_form N.signature t) m (sym (normal_form_free M.signature (free_signature M simple) t));
+  canonical = canonical;
   S = S;
-  least_sort = subst (λ (N : Module). IsLeastSort N.signature (nested N.signature t) S) m (subst (λ u. IsLeastSort M.signature u S) (sym (nested_free M.signature (free_signature M simple) t)) least);
+  least_sort = subst (λ (N : Module). IsLeastSort N.signature (nested N.signature t) S) m least;
   written = written ∙ ap (λ x. parsed_block x name t S) (s ∙ ap (λ (M : Module). M.signature) m) ∙ ap (λ x. parsed_block a.module.signature x t S) n;
 }
 

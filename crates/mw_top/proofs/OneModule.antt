@@ -3,7 +3,8 @@ use Rattle.std.proofs.Common.{◌≡◌, ◌∙◌, ℕ, zero, suc, Bool, List, 
 use Rattle.std.proofs.lemmas.Option.{none-some, slice_get_within}
 use Rattle.mw_logic.specs.Term.{Variable, RawTerm}
 use Rattle.mw_logic.specs.Signature.{Signature, Sorted, sort, kind, SameKind, same}
-use Rattle.mw_logic.specs.Preregular.{AreOfKinds, IsPreregular}
+use Rattle.mw_logic.specs.Preregular.{AreOfKinds}
+use Rattle.mw_sorting.specs.PreregularModulo.{IsOfKind, IsPreregularModulo}
 use Rattle.mw_logic.specs.Module.{Statement}
 use Rattle.mw_module.specs.declared.faults.Fault.{Fault}
 use Rattle.mw_module.specs.declared.faults.FaultKind.{FaultKind}
@@ -11,8 +12,11 @@ use Rattle.mw_module.specs.Units.{SeenUnit}
 use Rattle.mw_declare.specs.declared.declarations.Declarations.{Declarations}
 use Rattle.mw_declare.specs.Declarations.{Declares}
 use Rattle.mw_declare.proofs.OneDeclaration.{one_declaration, none_at_fault}
-use Rattle.mw_sorts.specs.Entries.{AreEntries}
-use Rattle.mw_build.specs.SignatureFaults.{SignatureFault}
+use Rattle.mw_sorts.specs.Entries.{IsEntry, AreEntries}
+use Rattle.mw_sorts.specs.Faults.{IsFirstFault}
+use Rattle.mw_sorts.specs.Groupings.{IsFirstGroupingFault, three_of}
+use Rattle.mw_sorts.specs.Leaving.{IsFirstIdentityFault}
+use Rattle.mw_build.specs.SignatureFaults.{SignatureFault, no_least, groupings, identity}
 use Rattle.mw_build.specs.Sides.{Sides, equations_of}
 use Rattle.mw_build.specs.Equations.{FitsIn, Oversized, deep, large, statement_of, IsApplicable, ApplicationFault, lone, open_right, IsStatementOf, SidesFault, big_left, big_right, inapplicable, IsEquation, EquationFault, long, unread, unclear, sides, AreEquations, FirstFault}
 use Rattle.mw_build.specs.Modules.{Accepted, IsAccepted, IsRefused, by_declarations, by_signature, by_equations}
@@ -81,11 +85,35 @@ entries_of_kinds sig (S ∷ Ss) [] a = absurd a
 entries_of_kinds sig (sort S ∷ Ss) (K ∷ Ks) a = (a.0, entries_of_kinds sig Ss Ks a.1)
 entries_of_kinds sig (kind L ∷ Ss) (K ∷ Ks) a = (subst (SameKind sig L) a.0 same, entries_of_kinds sig Ss Ks a.1)
 
-signature_holds : (line : ℕ) (sig : Signature) (r : Fault) → IsPreregular sig → SignatureFault line sig r → ⊥
-signature_holds line sig r p f =
-    let lack = f.first.lack in
-    let R = p f.number f.first.operator f.first.is_there f.sorts (entries_of_kinds sig f.sorts f.first.operator.args lack.entries) lack.lacks.taken.0 lack.lacks.taken.1 in
-    lack.lacks.no_least R.0 R.1
+-- a preregular signature has no operator without a least result
+no_lack : (sig : Signature) (f : ℕ) (Ss : List Sorted) → IsPreregularModulo sig → IsFirstFault sig f Ss → ⊥
+no_lack sig f Ss p first =
+    let lack = first.lack in
+    let (R, r) = p.results f first.operator first.is_there Ss (entries_of_kinds sig Ss first.operator.args lack.entries) in
+    ⊎_elim (λ l. lack.lacks.no_least R l) (λ n. n.0 lack.lacks.taken.0 lack.lacks.taken.1) r
+
+-- nor one whose groupings differ
+no_grouping : (sig : Signature) (f : ℕ) (Ss : List Sorted) → IsPreregularModulo sig → IsFirstGroupingFault sig f Ss → ⊥
+no_grouping sig f Ss p first =
+    let (V, W, g, differ) = first.grouping.differs in
+    let kinds = subst (λ Ts. AreOfKinds sig Ts (three_of first.operator)) g.sorts (entries_of_kinds sig Ss (three_of first.operator) first.grouping.entries) in
+    differ (p.associative f first.operator first.is_there first.assoc g.first g.middle g.last g.front g.back V W kinds.0 kinds.1.0 kinds.1.1.0 g.front_is g.front_gives g.back_is g.back_gives)
+
+of_entry : (sig : Signature) (S : Sorted) (K : ℕ) → IsEntry sig K S → IsOfKind sig K S
+of_entry sig (sort S) K e = e
+of_entry sig (kind L) K e = subst (SameKind sig L) e same
+
+-- nor one whose identity raises a sort
+no_raising : (sig : Signature) (f : ℕ) (S : Sorted) → IsPreregularModulo sig → IsFirstIdentityFault sig f S → ⊥
+no_raising sig f S p first =
+    let (E, is, (R, beside, not)) = first.left.raises in
+    let low = p.identity f first.operator is.0 first.is_there is.1 E S R is.2 (of_entry sig S first.operator.result first.left.entry) in
+    not (⊎_elim low.0 low.1 beside)
+
+signature_holds : (line : ℕ) (sig : Signature) (r : Fault) → IsPreregularModulo sig → SignatureFault line sig r → ⊥
+signature_holds line sig r p (no_least f Ss first is) = no_lack sig f Ss p first
+signature_holds line sig r p (groupings f Ss first preregular is) = no_grouping sig f Ss p first
+signature_holds line sig r p (identity f S first preregular alike is) = no_raising sig f S p first
 
 abbrev module_of : List ℕ → Signature → List Statement → List Variable → Accepted
 module_of name signature statements variables = record { name = name; «module» = record { signature = signature; statements = statements }; variables = variables }

@@ -1,5 +1,5 @@
 -- What the block of a command claims, and why a command is refused.
-use Rattle.std.specs.Prelude.{◌≡◌, ◌<◌, ◌-◌, ◌^◌, ℕ, List, [], ◌∷◌, length, min, bytes_eq, Option, Some, None, IsTrue, IsFalse, if◌then◌else◌}
+use Rattle.std.specs.Prelude.{◌≡◌, ◌<◌, ◌-◌, ◌^◌, ℕ, List, [], ◌∷◌, length, min, bytes_eq, Option, Some, None, IsTrue, IsFalse, ⊤, if◌then◌else◌}
 use Rattle.mw_logic.specs.Term.{RawTerm, is_ground}
 use Rattle.mw_logic.specs.Signature.{Sorted}
 use Rattle.mw_logic.specs.Sorts.{IsLeastSort}
@@ -9,10 +9,12 @@ use Rattle.mw_logic.specs.NormalForm.{normal_form}
 use Rattle.mw_logic.specs.Proof.{Proof, rules, steps, count}
 use Rattle.mw_logic.specs.Judgements.{IsNormal}
 use Rattle.mw_logic.specs.Ends.{limits_of, Stops}
+use Rattle.mw_canon.specs.Canonical.{IsAdmittedTerm}
+use Rattle.mw_machine.specs.Simple.{IsSimpleModule}
 use Rattle.mw_text.specs.Mixfix.{IsSpelled, Reads}
 use Rattle.mw_text.specs.Readings.{NoneHas, TwoHave, IsShort}
 use Rattle.mw_module.specs.declared.faults.FaultKind.{FaultKind}
-use Rattle.mw_module.specs.declared.faults.FaultKind.TheVariants.{TermTooLong, NoParse, Ambiguous, OpenTerm, NoModule, UnknownModule}
+use Rattle.mw_module.specs.declared.faults.FaultKind.TheVariants.{NotInProfile, TermTooLong, NoParse, Ambiguous, OpenTerm, NoModule, UnknownModule}
 use Rattle.mw_module.specs.Words.{texts}
 use Rattle.mw_command.specs.Commands.{SeenCommand}
 use Rattle.mw_command.specs.declared.commands.Word.{Word as CommandWord}
@@ -34,6 +36,13 @@ pub record IsTerm (a : Accepted) (words : List (List ℕ)) (t : RawTerm) : Type 
   pub read : Reads a.module.signature a.variables None words t
   pub ground : IsTrue (is_ground t)
   pub fits : FitsIn a.module.signature t
+
+-- The canonical form of the term that a command's words spell, as the engine takes it.
+pub record IsCanonicalTerm (a : Accepted) (words : List (List ℕ)) (t : RawTerm) : Type 0 where
+  pub written : RawTerm
+  pub is : IsTerm a words written
+  pub canonical : t ≡ normal_form a.module.signature written
+  pub admitted : IsAdmittedTerm a.module.signature t
 
 -- The text is the block of the kept deduction in this module: what the `Proved` that was made is seen as, with all that its type keeps of it (`IsDeduction`: its
 -- proof leads from the one canonical term to the other, through admitted terms alone). It begins at the canonical form of this term, which the block repeats, and leads to
@@ -61,6 +70,11 @@ pub record IsParsed (a : Accepted) (t : RawTerm) (text : List ℕ) : Type 0 wher
 pub data IsAnswer (a : Accepted) (most : ℕ) (words : List (List ℕ)) : CommandWord → List ℕ → Type 0 where
   reduction : (from : RawTerm) (text : List ℕ) → IsTerm a words from → IsReduced a most from text → IsAnswer a most words Reduce text
   parsing : (term : RawTerm) (text : List ℕ) → IsTerm a words term → IsParsed a term text → IsAnswer a most words Parse text
+
+-- Commands of this word are answered in this module: until the reducer knows axioms, a reduction in a simple one alone.
+abbrev pub IsFor : Module → CommandWord → Type 0
+IsFor M Reduce = IsSimpleModule M
+IsFor M Parse = ⊤
 
 -- the module of a name, and the last one
 abbrev pub module_named : List Accepted → List ℕ → Option Accepted
@@ -90,4 +104,5 @@ pub data TermFault (a : Accepted) (words : List (List ℕ)) : FaultKind → Type
 pub data CommandFault (ms : List Accepted) (c : SeenCommand) : FaultKind → Type 0 where
   nowhere : c.module ≡ None → module_for ms c.module ≡ None → CommandFault ms c NoModule
   unknown : (n : List ℕ) → c.module ≡ Some n → module_for ms c.module ≡ None → CommandFault ms c (UnknownModule n)
-  in_term : (a : Accepted) (cause : FaultKind) → module_for ms c.module ≡ Some a → TermFault a (texts c.term) cause → CommandFault ms c cause
+  not_for : (a : Accepted) → module_for ms c.module ≡ Some a → (IsFor a.module c.word → ⊥) → CommandFault ms c NotInProfile
+  in_term : (a : Accepted) (cause : FaultKind) → module_for ms c.module ≡ Some a → IsFor a.module c.word → TermFault a (texts c.term) cause → CommandFault ms c cause

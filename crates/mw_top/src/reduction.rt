@@ -1,23 +1,25 @@
 // The answer of a command: its term is read, and reduced where the command asks for it, and its block is written.
-ghost use Rattle.std.specs.Prelude.{◌≡◌, ◌≤◌, ◌-◌, ◌^◌, ℕ, List, min, None, IfOk, MatchResult, IsTrue};
+ghost use Rattle.std.specs.Prelude.{◌≡◌, ◌↔◌, ◌-◌, ◌^◌, ℕ, List, min, None, IfOk, MatchResult, IsTrue};
+ghost use Rattle.mw_logic.specs.Term.{RawTerm};
+ghost use Rattle.mw_logic.specs.Parts.{nested};
+ghost use Rattle.mw_logic.specs.NormalForm.{normal_form};
 ghost use Rattle.mw_logic.specs.Proof.{count};
 ghost use Rattle.mw_logic.specs.Signature.{Sorted as SortedOf, IsRawTerm};
 ghost use Rattle.mw_logic.specs.Sorts.{IsLeastSort};
 ghost use Rattle.mw_block.specs.Blocks.{block as block_of};
-ghost use Rattle.mw_logic.specs.Term.{is_ground, are_ground};
-ghost use Rattle.mw_term.specs.Raws.{raw_term, raw_terms};
+ghost use Rattle.mw_machine.specs.Simple.{IsSimpleModule};
+ghost use Rattle.mw_term.specs.Raws.{raw_term};
 ghost use Rattle.mw_text.specs.Mixfix.{Reads};
 ghost use Rattle.mw_module.specs.Words.{texts};
 ghost use Rattle.mw_parse.specs.Answers.{HasCause as HasReadingCause};
 ghost use Rattle.mw_build.specs.Modules.{Accepted};
 ghost use Rattle.mw_block.specs.Seen.{word_of as word_of_status};
-ghost use Rattle.mw_top.specs.Commands.{IsAnswer, IsReduced, IsParsed, TermFault};
+ghost use Rattle.mw_top.specs.Commands.{IsFor, IsCanonicalTerm, IsAnswer, IsReduced, IsParsed, TermFault};
 ghost use Rattle.mw_top.specs.Seen.{word_of};
 ghost use Rattle.mw_canon.specs.Canonical.{IsAdmittedTerm};
 
 use mw_block::{Reached, Status, parsed, reduction};
-use mw_build::Module;
-use mw_canon::{CanonError, canon};
+use mw_build::{Module, canonical};
 use mw_command::Word;
 use mw_lex::Token;
 use mw_module::FaultKind;
@@ -27,10 +29,20 @@ use mw_reduce::{Budget, Outcome, reduce};
 use mw_term::{Raw, Term};
 use std::alloc::{AllocError, Global};
 
+/// Whether commands of a word are answered in a module.
+pub fn is_for(accepted: &Module, word: Word) -> bool
+    ensures { IsTrue result ↔ IsFor accepted.now.module word }
+{
+    match word {
+        Word::Reduce => accepted.context().is_simple(),
+        Word::Parse => true,
+    }
+}
+
 /// What is wrong with a text that isn't read.
 fn unread(error: &ParseError) -> Result<Result<Term, FaultKind>, AllocError>
     ensures { (a : Accepted) (words : List (List ℕ)) → HasReadingCause a.module.signature a.variables None words error.now → IfOk result (λ r. MatchResult r
-        (λ t. Reads a.module.signature a.variables None words t × IsAdmittedTerm a.module.signature t)
+        (λ t. IsCanonicalTerm a words t)
         (λ kind. TermFault a words kind)) }
 {
     match error {
@@ -41,41 +53,36 @@ fn unread(error: &ParseError) -> Result<Result<Term, FaultKind>, AllocError>
     }
 }
 
-/// The canonical form of a term that was read, which has no variable and isn't too deep, or what is wrong with it.
-fn canonical(
+/// The canonical form of a term that was read, if it has no variable and fits in, or what is wrong with it.
+fn ground_term(
     alloc: Global,
     accepted: &Module,
     raw: &Raw,
 ) -> Result<Result<Term, FaultKind>, AllocError>
     requires { IsRawTerm accepted.now.module.signature (raw_term raw.now) }
     ensures { (words : List (List ℕ)) → Reads accepted.now.module.signature accepted.now.variables None words (raw_term raw.now) → IfOk result (λ r. MatchResult r
-        (λ t. Reads accepted.now.module.signature accepted.now.variables None words t × IsAdmittedTerm accepted.now.module.signature t)
+        (λ t. IsCanonicalTerm accepted.now words t)
         (λ kind. TermFault accepted.now words kind)) }
 {
     accepted.context().shows();
     if !raw.is_ground() {
         return Ok(Err(FaultKind::OpenTerm));
     }
-    match canon(alloc, accepted.context().signature(), raw) {
-        Ok(term) => Ok(Ok(term)),
-        Err(CanonError::Deep) => Ok(Err(FaultKind::TooDeep)),
-        Err(CanonError::Nat) => Ok(Err(FaultKind::NumberTooLarge)),
-        Err(CanonError::Memory) => Err(AllocError),
-    }
+    canonical(alloc, accepted.context().facts(), raw)
 }
 
-/// The term of a command, which has no variable and isn't too deep, or what is wrong with it.
+/// The canonical form of a command's term, if it has no variable and fits in, or what is wrong with the term.
 pub fn command_term(
     alloc: Global,
     accepted: &Module,
     tokens: &[Token],
 ) -> Result<Result<Term, FaultKind>, AllocError>
     ensures read { IfOk result (λ r. MatchResult r
-        (λ t. Reads accepted.now.module.signature accepted.now.variables None (texts tokens.now) t × IsAdmittedTerm accepted.now.module.signature t)
+        (λ t. IsCanonicalTerm accepted.now (texts tokens.now) t)
         (λ kind. TermFault accepted.now (texts tokens.now) kind)) }
 {
     match accepted.term(alloc, tokens) {
-        Ok(raw) => canonical(alloc, accepted, &raw),
+        Ok(raw) => ground_term(alloc, accepted, &raw),
         Err(error) => unread(&error),
     }
 }
@@ -89,7 +96,7 @@ fn status_of(outcome: Outcome) -> Status
     }
 }
 
-/// The block for a kept deduction in a module, with the least sort of its end.
+/// The block for a kept deduction in a simple module, with the least sort of its end.
 fn block(
     alloc: Global,
     accepted: &Module,
@@ -97,7 +104,7 @@ fn block(
     outcome: Outcome,
 ) -> Result<Vec<u8>, AllocError>
     requires { IsAdmittedTerm accepted.now.module.signature proved.now.to }
-    ensures { IfOk result (λ text. (S : SortedOf) × IsLeastSort accepted.now.module.signature proved.now.to S
+    ensures { IfOk result (λ text. (S : SortedOf) × IsLeastSort accepted.now.module.signature (nested accepted.now.module.signature proved.now.to) S
         × (text.items ≡ block_of accepted.now.module.signature accepted.now.name proved.now.from (min (count proved.now.proof) (2 ^ 64 - 1)) S proved.now.to (word_of outcome))) }
 {
     let context = accepted.context();
@@ -125,11 +132,11 @@ fn reduced_term(
     term: Term,
     most: u64,
 ) -> Result<Vec<u8>, AllocError>
-    requires { IsAdmittedTerm accepted.now.module.signature term }
-    ensures { IfOk result (λ text. IsReduced accepted.now most term text.items) }
+    requires simple { IsSimpleModule accepted.now.module }
+    requires admitted { IsAdmittedTerm accepted.now.module.signature term }
+    ensures { (written : RawTerm) → term ≡ normal_form accepted.now.module.signature written → IfOk result (λ text. IsReduced accepted.now most written text.items) }
 {
     let context = accepted.context();
-    context.shows();
     let budget = Budget {
         steps: most,
         side: most,
@@ -143,7 +150,7 @@ fn reduced_term(
 /// The block that tells a term with its sort.
 fn parsed_term(alloc: Global, accepted: &Module, term: &Term) -> Result<Vec<u8>, AllocError>
     requires { IsAdmittedTerm accepted.now.module.signature term.now }
-    ensures { IfOk result (λ text. IsParsed accepted.now term.now text.items) }
+    ensures { (written : RawTerm) → term.now ≡ normal_form accepted.now.module.signature written → IfOk result (λ text. IsParsed accepted.now written text.items) }
 {
     let context = accepted.context();
     context.shows();
@@ -166,10 +173,10 @@ pub fn answer_term(
     term: Term,
     most: u64,
 ) -> Result<Vec<u8>, AllocError>
-    requires { IsAdmittedTerm accepted.now.module.signature term }
-    ensures { (words : List (List ℕ)) → Reads accepted.now.module.signature accepted.now.variables None words term → IfOk result (λ text. IsAnswer accepted.now most words word text.items) }
+    requires word { IsFor accepted.now.module word }
+    requires term { (words : List (List ℕ)) × IsCanonicalTerm accepted.now words term }
+    ensures { (words : List (List ℕ)) → IsCanonicalTerm accepted.now words term → IfOk result (λ text. IsAnswer accepted.now most words word text.items) }
 {
-    accepted.context().shows();
     match word {
         Word::Reduce => reduced_term(alloc, accepted, term, most),
         Word::Parse => parsed_term(alloc, accepted, &term),

@@ -1,12 +1,23 @@
 use Rattle.mw_term.specs.Raws.{raw_term}
+use Rattle.mw_text.proofs.RawTerms.{spelled_raw}
 use Rattle.mw_build.specs.Sides.{seen_equation}
 use Rattle.mw_build.proofs.Reading.{of_sides}
 use Rattle.mw_build.proofs.equations.statement.Goals as goal
 
+pub sides_statement-requires-clause-left : goal.sides_statement-requires-clause-left
+sides_statement-requires-clause-left c =
+    let (variables, grammar) = c.requires.grammar in
+    spelled_raw c.args.facts.now c.shows.ensures variables (c.in-Ok.ensures.read c.args.facts.now variables grammar).only.0.first.spells
+
+pub sides_statement-requires-clause-right : goal.sides_statement-requires-clause-right
+sides_statement-requires-clause-right c =
+    let (variables, grammar) = c.requires.grammar in
+    spelled_raw c.args.facts.now c.shows.ensures variables (c.in-Ok.ensures.read c.args.facts.now variables grammar).only.0.second.spells
+
 pub returns-in-Ok : goal.returns-in-Ok
-returns-in-Ok c = λ sig variables simple grammar.
-    of_sides sig variables (seen_equation c.args.equation.now) (raw_term c.in-Ok.left) (raw_term c.in-Ok.right) (c.in-Ok.ensures.read sig variables grammar) c.sides_statement.result
-    (c.sides_statement.ensures sig simple)
+returns-in-Ok c = λ variables grammar.
+    of_sides c.args.facts.now variables (seen_equation c.args.equation.now) (raw_term c.in-Ok.left) (raw_term c.in-Ok.right) (c.in-Ok.ensures.read c.args.facts.now variables grammar) c.sides_statement.result
+    c.sides_statement.ensures
 
 pub returns-in-Err : goal.returns-in-Err
-returns-in-Err c = λ sig variables simple grammar. c.unread.ensures sig variables (seen_equation c.args.equation.now) (c.in-Err.ensures.cause sig variables grammar)
+returns-in-Err c = λ variables grammar. c.unread.ensures c.args.facts.now variables (seen_equation c.args.equation.now) (c.in-Err.ensures.cause c.args.facts.now variables grammar)

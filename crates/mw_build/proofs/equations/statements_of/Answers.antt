@@ -6,23 +6,26 @@ use Rattle.mw_build.proofs.Reading.{are_more, first_fault}
 use Rattle.mw_build.proofs.equations.statements_of.Goals as goal
 
 pub returns-in-Err : goal.returns-in-Err
-returns-in-Err c = λ sig variables simple grammar.
+returns-in-Err c = λ variables grammar.
+    let sig = c.args.facts.now in
     let e = c.equation-item.result in
     let wrong : EquationFault sig variables (seen_equation e) c.in-Err.kind =
-    subst (λ r. MatchResult r (IsEquation sig variables (seen_equation e)) (λ kind. EquationFault sig variables (seen_equation e) kind)) c.in-Err.is (c.in_ok-statement.ensures sig variables simple grammar) in
+    subst (λ r. MatchResult r (IsEquation sig variables (seen_equation e)) (λ kind. EquationFault sig variables (seen_equation e) kind)) c.in-Err.is (c.in_ok-statement.ensures variables grammar) in
     first_fault sig variables c.args.equations.now c.loop-equation.equation-index e c.loop-equation-test.true c.equation-item.is c.loop-equation.found.items c.in-Err.kind
-    (c.loop-equation.invariant sig variables simple grammar) wrong
+    (c.loop-equation.invariant variables grammar) wrong
 
 pub loop-equation-preserved : goal.loop-equation-preserved
-loop-equation-preserved c = λ sig variables simple grammar.
+loop-equation-preserved c = λ variables grammar.
+    let sig = c.args.facts.now in
     let e = c.equation-item.result in
     let right : IsEquation sig variables (seen_equation e) c.in-Ok.statement =
-    subst (λ r. MatchResult r (IsEquation sig variables (seen_equation e)) (λ kind. EquationFault sig variables (seen_equation e) kind)) c.in-Ok.is (c.in_ok-statement.ensures sig variables simple grammar) in
+    subst (λ r. MatchResult r (IsEquation sig variables (seen_equation e)) (λ kind. EquationFault sig variables (seen_equation e) kind)) c.in-Ok.is (c.in_ok-statement.ensures variables grammar) in
     subst (AreEquations sig variables (seen_equations (take (c.loop-equation.equation-index + 1) c.args.equations.now))) (sym c.in_ok-push-in-Ok.ensures.items)
     (are_more sig variables c.args.equations.now c.loop-equation.equation-index e c.loop-equation-test.true c.equation-item.is c.loop-equation.found.items c.in-Ok.statement
-    (c.loop-equation.invariant sig variables simple grammar) right)
+    (c.loop-equation.invariant variables grammar) right)
 
 pub returns : goal.returns
-returns c = λ sig variables simple grammar.
+returns c = λ variables grammar.
+    let sig = c.args.facts.now in
     let whole = take_all c.loop-equation.equation-index c.args.equations.now c.loop-equation-test.false in
-    subst (λ es. AreEquations sig variables (seen_equations es) c.loop-equation.found.items) whole (c.loop-equation.invariant sig variables simple grammar)
+    subst (λ es. AreEquations sig variables (seen_equations es) c.loop-equation.found.items) whole (c.loop-equation.invariant variables grammar)

@@ -8,18 +8,20 @@ use Rattle.mw_build.specs.Equations.{AreEquations, FirstFault}
 use Rattle.mw_build.proofs.modules.read.Goals as goal
 
 pub returns-in-Ok-clause-statements : goal.returns-in-Ok-clause-statements
-returns-in-Ok-clause-statements c = λ sig variables simple grammar.
+returns-in-Ok-clause-statements c = λ variables grammar.
+    let sig = c.args.facts.now in
     let same = ap seen_equations c.as_slice.ensures.value ∙ c.in_ok-equations.ensures in
     let found = subst (λ (r : Result (Vec Statement) Fault). MatchResult r
     (λ sts. AreEquations sig variables (seen_equations c.as_slice.result.now) sts.items)
-    (λ fault. FirstFault sig variables (seen_equations c.as_slice.result.now) fault)) c.in-Ok.is (c.in_ok-found.ensures sig variables simple grammar) in
+    (λ fault. FirstFault sig variables (seen_equations c.as_slice.result.now) fault)) c.in-Ok.is (c.in_ok-found.ensures variables grammar) in
     subst (AreEquations sig variables (equations_of (seen_statements c.args.statements.now))) (sym c.of.ensures)
     (subst (λ es. AreEquations sig variables es c.in-Ok.found.items) same found)
 
 pub returns-clause-fault : goal.returns-clause-fault
-returns-clause-fault c = λ sig variables simple grammar.
+returns-clause-fault c = λ variables grammar.
+    let sig = c.args.facts.now in
     let same = ap seen_equations c.as_slice.ensures.value ∙ c.in_ok-equations.ensures in
     let fault = subst (λ (r : Result (Vec Statement) Fault). MatchResult r
     (λ sts. AreEquations sig variables (seen_equations c.as_slice.result.now) sts.items)
-    (λ fault. FirstFault sig variables (seen_equations c.as_slice.result.now) fault)) c.in-Err.is (c.in_ok-found.ensures sig variables simple grammar) in
+    (λ fault. FirstFault sig variables (seen_equations c.as_slice.result.now) fault)) c.in-Err.is (c.in_ok-found.ensures variables grammar) in
     subst (λ es. FirstFault sig variables es c.in-Err.fault) same fault

@@ -1,15 +1,19 @@
-use Rattle.std.proofs.Common.{◌≡◌, ◌∙◌, ◌-◌, map, get_or, ap}
-use Rattle.mw_logic.specs.Signature.{Signature, Operator}
+use Rattle.std.proofs.Common.{◌∙◌, ap, map}
 use Rattle.mw_term.specs.Signatures.{sorted_of}
-use Rattle.mw_build.proofs.Naming.{fault_there, refused_so}
+use Rattle.mw_module.specs.declared.faults.Fault.{Fault}
+use Rattle.mw_module.specs.declared.faults.FaultKind.TheVariants.{NotPreregular}
+use Rattle.mw_build.specs.SignatureFaults.{no_least}
+use Rattle.mw_build.proofs.Naming.{fault_there}
 use Rattle.mw_build.proofs.signature.not_preregular.Goals as goal
 
+pub operator_name-requires : goal.operator_name-requires
+operator_name-requires c = (c.requires.first.operator, c.requires.first.is_there)
+
 pub names-requires-clause-there : goal.names-requires-clause-there
-names-requires-clause-there c =
-    let f = c.requires.first in fault_there c.args.signature.now c.requires.numbers c.args.operator f.operator f.is_there _ f.lack.entries
+names-requires-clause-there c = let f = c.requires.first in fault_there c.args.signature.now c.requires.numbers c.args.operator f.operator f.is_there _ f.lack.entries
 
 pub returns : goal.returns
-returns c =
-    let o : Operator = c.index-as_slice-operator.result in
-    let e : o ≡ get_or c.args.signature.now.operators (c.args.operator - 1) o = c.index-as_slice-operator.is ∙ ap (λ os. get_or os (c.args.operator - 1) o) (c.as_slice.ensures ∙ ap (λ (s : Signature). s.operators) c.signature.view_is) in
-    refused_so c.args.line c.args.operator c.args.signature.now (map sorted_of c.args.sorts.now) c.requires.first o e c.in_ok-operator.operator _ (c.in_ok-operator.ensures ∙ ap (λ (p : Operator). p.spelling) c.found.view_is) c.in_ok-sorts.ensures
+returns c = λ line.
+    let first = c.requires.first in
+    no_least c.args.operator (map sorted_of c.args.sorts.now) first
+    (ap (λ n. record { line = line; kind = NotPreregular n c.in_ok-sorts.sorts }) (c.in_ok-operator.ensures first.operator first.is_there) ∙ ap (λ ns. record { line = line; kind = NotPreregular first.operator.spelling ns }) c.in_ok-sorts.ensures)

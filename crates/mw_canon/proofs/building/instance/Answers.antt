@@ -1,20 +1,33 @@
-use Rattle.std.proofs.Common.{◌≡◌, ◌∙◌, ap, sym}
+use Rattle.std.proofs.Common.{◌≡◌, ◌∙◌, ap}
+use Rattle.std.proofs.lemmas.Result.{IfOk-weaker, IfErr-weaker}
+use Rattle.mw_logic.specs.Term.{RawTerm}
+use Rattle.mw_logic.specs.Signature.{Signature}
 use Rattle.mw_logic.specs.Parts.{nested}
+use Rattle.mw_logic.specs.NormalForm.{normal_form}
 use Rattle.mw_logic.specs.Substitution.{instance as instance_of}
 use Rattle.mw_term.specs.Raws.{raw_term}
 use Rattle.mw_canon.specs.Canonical.{meant}
-use Rattle.mw_canon.proofs.Free.{instance_free, answered_canonical, answered_low, answered_cause}
+use Rattle.mw_canon.specs.Made.{made}
+use Rattle.mw_canon.proofs.Limits.{low_enough, small_enough, cause}
 use Rattle.mw_canon.proofs.building.instance.Goals as goal
 
-module _ (c : goal.After-drop-values-inside) where
-  is_own : instance_of (meant c.args.signature.now c.args.substitution.now) (nested c.args.signature.now (raw_term c.args.raw.now)) ≡ instance_of c.in_ok-values.values (raw_term c.args.raw.now)
-  is_own = instance_free c.args.signature.now c.requires.free c.args.substitution.now (raw_term c.args.raw.now) ∙ ap (λ s. instance_of s (raw_term c.args.raw.now)) (sym c.in_ok-values.ensures)
-
-pub returns-clause-canonical : goal.returns-clause-canonical
-returns-clause-canonical c = answered_canonical c.args.signature.now c.requires.free c.built.result _ _ (is_own c) c.built.ensures.is
-
 pub returns-clause-not_deep : goal.returns-clause-not_deep
-returns-clause-not_deep c = answered_low c.args.signature.now c.requires.free c.built.result _ _ (is_own c) c.built.ensures.low
+returns-clause-not_deep c =
+    let sig : Signature = c.args.facts.now in
+    let t : RawTerm = instance_of (meant sig c.args.substitution.now) (nested sig (raw_term c.args.raw.now)) in
+    let e : c.in_ok-term.term ≡ normal_form sig t = c.in_ok-term.ensures.is ∙ ap (λ s. made sig s (raw_term c.args.raw.now)) c.in_ok-values.ensures in
+    IfOk-weaker c.limited.result _ _ (λ v h. low_enough sig c.shows.ensures t c.requires.raw c.in_ok-term.term e c.built.new.large c.in_ok-term.ensures.large h) c.limited.ensures.low
+
+pub returns-clause-not_large : goal.returns-clause-not_large
+returns-clause-not_large c =
+    let sig : Signature = c.args.facts.now in
+    let t : RawTerm = instance_of (meant sig c.args.substitution.now) (nested sig (raw_term c.args.raw.now)) in
+    let e : c.in_ok-term.term ≡ normal_form sig t = c.in_ok-term.ensures.is ∙ ap (λ s. made sig s (raw_term c.args.raw.now)) c.in_ok-values.ensures in
+    IfOk-weaker c.limited.result _ _ (λ v h. small_enough sig c.shows.ensures t c.requires.raw c.in_ok-term.term e c.built.new.large c.in_ok-term.ensures.large h) c.limited.ensures.small
 
 pub returns-clause-cause : goal.returns-clause-cause
-returns-clause-cause c = answered_cause c.args.signature.now c.requires.free c.built.result _ _ (is_own c) c.built.ensures.cause
+returns-clause-cause c =
+    let sig : Signature = c.args.facts.now in
+    let t : RawTerm = instance_of (meant sig c.args.substitution.now) (nested sig (raw_term c.args.raw.now)) in
+    let e : c.in_ok-term.term ≡ normal_form sig t = c.in_ok-term.ensures.is ∙ ap (λ s. made sig s (raw_term c.args.raw.now)) c.in_ok-values.ensures in
+    IfErr-weaker c.limited.result _ _ (λ x h. cause sig c.shows.ensures t c.requires.raw c.in_ok-term.term e c.built.new.large c.in_ok-term.ensures.large x h) c.limited.ensures.cause

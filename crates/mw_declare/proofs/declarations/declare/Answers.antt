@@ -1,8 +1,9 @@
-use Rattle.std.proofs.Common.{◌≡◌, ◌∙◌, [], Some, ap, sym}
+use Rattle.std.proofs.Common.{◌≡◌, ◌∙◌, Some, ap, sym}
 use Rattle.mw_module.specs.Units.{seen_statements}
-use Rattle.mw_declare.specs.Operators.{operators_from, operators_of}
-use Rattle.mw_declare.specs.Faults.{disagreeing, disagreement}
-use Rattle.mw_declare.specs.Declarations.{DeclarationFault, SortFault, of_operator}
+use Rattle.mw_declare.specs.Hierarchy.{hierarchy_of}
+use Rattle.mw_declare.specs.Faults.{operator_fault, told_at}
+use Rattle.mw_declare.specs.Declarations.{declarations_with, DeclarationFault, SortFault}
+use Rattle.mw_declare.proofs.Accepting.{least_held, fault_held, declared_held, accepted_declared, well_sorted_declared, operators_differ_declared, sorts_declared}
 use Rattle.mw_declare.proofs.Causes.{passed_on}
 use Rattle.mw_declare.proofs.declarations.declare.Goals as goal
 
@@ -12,12 +13,39 @@ returns-in_err-hierarchy-clause-fault c =
     passed_on (SortFault c.args.line ss) (DeclarationFault c.args.line ss) (λ f h. h c.in_ok-typing.typing c.in_ok-typing.ensures.typed)
     c.from_residual-in_err-hierarchy.result c.in_err-hierarchy.field-0.0 c.from_residual-in_err-hierarchy.ensures.1 c.in_err-hierarchy.ensures.fault
 
-pub returns-in_err-agree-clause-fault : goal.returns-in_err-agree-clause-fault
-returns-in_err-agree-clause-fault c =
+pub returns-in_err-identities-clause-fault : goal.returns-in_err-identities-clause-fault
+returns-in_err-identities-clause-fault c =
     let ss = seen_statements c.args.statements.now in
-    let line = c.args.line in
-    let declared : c.in_ok-operators.operators ≡ operators_of ss = c.in_ok-operators.ensures ∙ ap (λ h. operators_from h [] ss) (c.deref.ensures ∙ c.in_ok-hierarchy.ensures.same) in
-    passed_on (λ f. disagreement line (disagreeing c.in_ok-operators.operators) ≡ Some f) (DeclarationFault line ss)
-    (λ f h. of_operator c.in_ok-typing.typing c.in_ok-typing.ensures.typed c.in_ok-hierarchy.ensures.known c.in_ok-hierarchy.ensures.acyclic
-    (ap (λ os. disagreement line (disagreeing os)) (sym declared) ∙ h))
-    c.from_residual-in_err-agree.result c.in_err-agree.field-0.0 c.from_residual-in_err-agree.ensures.1 c.in_err-agree.ensures.fault
+    let h = c.in_ok-hierarchy.ensures in
+    let typing = c.in_ok-typing.typing in
+    let typed = c.in_ok-typing.ensures.typed in
+    let sorts = c.deref.ensures ∙ h.same in
+    let os = c.in_ok-operators.operators in
+    let least = least_held ss typing typed h.known h.acyclic c.deref.result.now sorts os c.in_ok-operators.ensures in
+    passed_on (λ f. told_at c.args.line (operator_fault (hierarchy_of ss) os) ≡ Some f) (DeclarationFault c.args.line ss)
+    (fault_held ss typing typed h.known h.acyclic c.deref.result.now sorts os c.in_ok-operators.ensures c.args.line)
+    c.from_residual-in_err-identities.result c.in_err-identities.field-0.0 c.from_residual-in_err-identities.ensures.1 (c.in_err-identities.ensures.fault (hierarchy_of ss) least)
+
+pub returns-clause-declared : goal.returns-clause-declared
+returns-clause-declared c =
+    let ss = seen_statements c.args.statements.now in
+    let h = c.in_ok-hierarchy.ensures in
+    let typing = c.in_ok-typing.typing in
+    let typed = c.in_ok-typing.ensures.typed in
+    let sorts = c.deref.ensures ∙ h.same in
+    let os = c.in_ok-operators.operators in
+    let least = least_held ss typing typed h.known h.acyclic c.deref.result.now sorts os c.in_ok-operators.ensures in
+    declared_held ss typing typed h.known h.acyclic c.deref.result.now sorts os c.in_ok-operators.ensures (c.in_ok-identities.ensures.fine (hierarchy_of ss) least) c.in_ok-all_declared.field-0.value
+    (c.in_ok-all_declared.ensures ∙ ap (λ h. declarations_with h os typing) (sym c.deref.ensures))
+
+pub returns-clause-accepted : goal.returns-clause-accepted
+returns-clause-accepted c = accepted_declared (seen_statements c.args.statements.now) c.in_ok-all_declared.field-0.value (returns-clause-declared c)
+
+pub returns-clause-well_sorted : goal.returns-clause-well_sorted
+returns-clause-well_sorted c = well_sorted_declared (seen_statements c.args.statements.now) c.in_ok-all_declared.field-0.value (returns-clause-declared c)
+
+pub returns-clause-numbers : goal.returns-clause-numbers
+returns-clause-numbers c = sorts_declared (seen_statements c.args.statements.now) c.in_ok-all_declared.field-0.value (returns-clause-declared c)
+
+pub returns-clause-apart : goal.returns-clause-apart
+returns-clause-apart c = operators_differ_declared (seen_statements c.args.statements.now) c.in_ok-all_declared.field-0.value (returns-clause-declared c)

@@ -14,7 +14,7 @@ invariant_of-inner-2 c =
     let r : k ≡ raised w l = raised_is w k l c.in_ok-push.ensures.items refl refl refl (grind (arith, c.in-Some.ensures)) in
     let from = c.in_ok-from.ensures ∙ ap (λ (d : Deduction). filled c.args.context.now.signature c.args.operator c.args.before.now d.from c.args.after.now) c.inner.view_is in
     let to = c.in_ok-to.ensures ∙ ap (λ (d : Deduction). filled c.args.context.now.signature c.args.operator c.args.before.now d.to c.args.after.now) c.inner.view_is in
-    kept_raised p.context.now c.args.context.now c.shows.ensures w k l c.args.operator c.args.before.now c.args.after.now p.from p.to c.in_ok-from.from c.in_ok-to.to c.args.inner.now c.inner.view_is c.requires.module c.inner.invariant.1 r
+    kept_raised p.context.now c.args.context.now c.requires.simple w k l c.args.operator c.args.before.now c.args.after.now p.from p.to c.in_ok-from.from c.in_ok-to.to c.args.inner.now c.inner.view_is c.requires.module c.inner.invariant.1 r
     (grind (arith, c.in_ok-narrow.ensures)) (grind (arith, c.in_ok-narrow-2.ensures)) c.requires.liftable c.requires.begins c.requires.ends from to
 
 pub returns-clause-carried : goal.returns-clause-carried

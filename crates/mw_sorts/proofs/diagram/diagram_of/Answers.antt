@@ -1,5 +1,6 @@
-use Rattle.std.proofs.Common.{◌≡◌, ◌∙◌, List, map, sym, subst}
+use Rattle.std.proofs.Common.{◌≡◌, ◌∙◌, List, map, ap, sym, subst}
 use Rattle.std.specs.Prelude.{slice_get, Some, None, Option, option_map}
+use Rattle.mw_logic.specs.Signature.{Operator}
 use Rattle.mw_term.specs.Signatures.{sorted_of}
 use Rattle.mw_term.specs.declared.signature.Sorted.{Sorted as Held}
 use Rattle.mw_sorts.specs.States.{AreAllThere}
@@ -16,4 +17,7 @@ first_fault-requires-clause-lacks c =
 pub returns-in-Some-clause-diagram : goal.returns-in-Some-clause-diagram
 returns-in-Some-clause-diagram c =
     let e = subst (λ (r : Option (List Held)). AreAllThere c.as_slice.result.now r) c.in-Some.is c.in_ok-ends.ensures in
-    diagram-is c.args.sorting.now c.args.operator.now c.in_ok-drawing.drawing.levels (map (map sorted_of) c.in_ok-drawing.drawing.entries) c.in_ok-drawing.drawing.ends c.in-Some.ends c.in_ok-drawing.ensures (sym c.as_slice.ensures ∙ e)
+    record {
+      leads = diagram-is c.args.sorting.now c.args.operator.now c.in_ok-drawing.drawing.levels (map (map sorted_of) c.in_ok-drawing.drawing.entries) c.in_ok-drawing.drawing.ends c.in-Some.ends c.in_ok-drawing.ensures (sym c.as_slice.ensures ∙ e);
+      assoc = ap (λ (o : Operator). o.assoc) c.operator.view_is;
+    }

@@ -6,7 +6,7 @@ use Rattle.mw_term.specs.Signatures.{sorted_of}
 use Rattle.mw_term.specs.declared.signature.Sorted.{Sorted as Held}
 use Rattle.mw_sorts.specs.Diagrams.{Level}
 use Rattle.mw_sorts.specs.Sorting.{AreEntriesOf}
-use Rattle.mw_sorts.specs.States.{IsLevelOf, AreEndsOf}
+use Rattle.mw_sorts.specs.States.{ways, IsLevelOf, AreEndsOf}
 use Rattle.mw_sorts.specs.Marks.{IsDrawn}
 use Rattle.mw_sorts.proofs.Getting.{get-member, read-or}
 use Rattle.mw_sorts.proofs.Layers.{IsDrawnSoFar, drawn-none, drawn-more, drawn-done}
@@ -41,8 +41,8 @@ loop-place-preserved c =
     let K : ℕ = get_or c.as_slice-kind-items.result.now i 0 in
     let e : slice_get c.args.operator.now.args i ≡ Some K =
     read-or c.args.operator.now.args c.as_slice-kind-items.result.now i 0 (c.as_slice-kind-items.ensures ∙ ap (λ (o : Operator). o.args) c.operator.view_is) c.loop-place-test.true in
-    let level = subst (λ (es : List Held). IsLevelOf c.args.sorting.now.signature c.args.operator.now.declarations i (map sorted_of es) c.loop-place.states.value c.in_ok-rows.next.value c.in_ok-rows.rows) c.as_slice.ensures.value
-    (subst (λ (ss : List (List ℕ)). IsLevelOf c.args.sorting.now.signature c.args.operator.now.declarations i (map sorted_of c.as_slice.result.now) ss c.in_ok-rows.next.value c.in_ok-rows.rows) c.deref.ensures c.in_ok-rows.ensures.level) in
+    let level = subst (λ (es : List Held). IsLevelOf c.args.sorting.now.signature (ways c.args.operator.now) i (map sorted_of es) c.loop-place.states.value c.in_ok-rows.next.value c.in_ok-rows.rows) c.as_slice.ensures.value
+    (subst (λ (ss : List (List ℕ)). IsLevelOf c.args.sorting.now.signature (ways c.args.operator.now) i (map sorted_of c.as_slice.result.now) ss c.in_ok-rows.next.value c.in_ok-rows.rows) c.deref.ensures c.in_ok-rows.ensures.level) in
     let more = drawn-more c.args.sorting.now c.args.operator.now i c.loop-place.states.value c.in_ok-rows.next.value K (map sorted_of c.in_ok-entries.entries.items) c.in_ok-rows.rows e c.in_ok-entries.ensures level c.loop-place.levels.items
     (map (map sorted_of) c.loop-place.lists.items) c.in_ok-rows.ensures.states c.loop-place.invariant in
     let lists : map (map sorted_of) c.push-in-loop-place.new.self.items ≡ map (map sorted_of) c.loop-place.lists.items ++ map sorted_of c.in_ok-entries.entries.items ∷ [] =
@@ -58,7 +58,7 @@ returns c =
     let low = c.loop-place.auto.place-end in
     let m : length c.as_slice-kind-items.result.now ≡ length c.args.operator.now.args = ap (λ (xs : List ℕ). length xs) (c.as_slice-kind-items.ensures ∙ ap (λ (o : Operator). o.args) c.operator.view_is) in
     let done = drawn-done c.args.sorting.now c.args.operator.now c.loop-place.place c.loop-place.levels.items (map (map sorted_of) c.loop-place.lists.items) c.loop-place.states.value (map (option_map sorted_of) c.in_ok-ends.field-0)
-    c.requires.operator c.requires.free (omega arith) c.loop-place.invariant
+    c.requires.operator (omega arith) c.loop-place.invariant
     (subst (λ (ss : List (List ℕ)). AreEndsOf c.args.sorting.now.signature c.args.operator.now ss (map (option_map sorted_of) c.in_ok-ends.field-0)) c.deref-2.ensures c.in_ok-ends.ensures) in
     subst (λ (ls : List Level). IsDrawn c.args.sorting.now c.args.operator.now ls (map (map sorted_of) c.of-3.result) (map (option_map sorted_of) c.in_ok-ends.field-0)) (sym c.of-2.ensures)
     (subst (λ (ess : List (List Held)). IsDrawn c.args.sorting.now c.args.operator.now c.loop-place.levels.items (map (map sorted_of) ess) (map (option_map sorted_of) c.in_ok-ends.field-0)) (sym c.of-3.ensures) done)

@@ -8,7 +8,7 @@ use Rattle.mw_tests.proofs.engine.replaced.Goals as goal
 pub solved-requires-clause-pattern : goal.solved-requires-clause-pattern
 solved-requires-clause-pattern c =
     let left = ap (λ (e : Statement). e.left) c.statement.view_is in
-    subst (IsRawTerm c.args.context.now.signature) (sym left) (left_raw c.args.context.now c.shows.ensures 1 c.in-Some.statement.now c.in-Some.ensures)
+    subst (IsRawTerm c.args.context.now.signature) (sym left) (left_raw c.args.context.now (c.is_simple.ensures.0 c.if-not-is_simple.false) 1 c.in-Some.statement.now c.in-Some.ensures)
 
 pub replace-requires : goal.replace-requires
 replace-requires c =
@@ -20,7 +20,7 @@ replace-requires c =
     let found = rw c.in-Some-2.is at c.in_ok-subst.ensures in
     let sol : IsSolution M.signature e.left t [] s = subst (λ z. IsSolution M.signature e.left t z s) c.nothing-start.ensures (subst (λ p. IsSolution M.signature p t c.nothing-start.result s) left found) in
     let right = sym c.in_ok-right.ensures ∙ c.same.ensures.0 c.if-not-same.false in
-    may_apply M c.shows.ensures 1 e c.in-Some.ensures t c.args.to.now s sol right c.of.result (c.of.ensures ∙ c.new.ensures.items) (c.are_low.ensures c.if-not-are_low.false) c.requires.from c.requires.to
+    may_apply M (c.is_simple.ensures.0 c.if-not-is_simple.false) 1 e c.in-Some.ensures t c.args.to.now s sol right c.of.result (c.of.ensures ∙ c.new.ensures.items) (c.are_low.ensures c.if-not-are_low.false) c.requires.from c.requires.to
 
 pub returns-clause-from : goal.returns-clause-from
 returns-clause-from c =
@@ -32,7 +32,7 @@ returns-clause-from c =
     let found = rw c.in-Some-2.is at c.in_ok-subst.ensures in
     let sol : IsSolution M.signature e.left t [] s = subst (λ z. IsSolution M.signature e.left t z s) c.nothing-start.ensures (subst (λ p. IsSolution M.signature p t c.nothing-start.result s) left found) in
     let right = sym c.in_ok-right.ensures ∙ c.same.ensures.0 c.if-not-same.false in
-    (applied_once M c.shows.ensures 1 e c.in-Some.ensures t c.args.to.now s sol right c.of.result c.in_ok-replace.field-0 c.in_ok-replace.ensures.replaces).0
+    (applied_once M (c.is_simple.ensures.0 c.if-not-is_simple.false) 1 e c.in-Some.ensures t c.args.to.now s sol right c.of.result c.in_ok-replace.field-0 c.in_ok-replace.ensures.replaces).0
 
 pub returns-clause-to : goal.returns-clause-to
 returns-clause-to c =
@@ -44,4 +44,4 @@ returns-clause-to c =
     let found = rw c.in-Some-2.is at c.in_ok-subst.ensures in
     let sol : IsSolution M.signature e.left t [] s = subst (λ z. IsSolution M.signature e.left t z s) c.nothing-start.ensures (subst (λ p. IsSolution M.signature p t c.nothing-start.result s) left found) in
     let right = sym c.in_ok-right.ensures ∙ c.same.ensures.0 c.if-not-same.false in
-    (applied_once M c.shows.ensures 1 e c.in-Some.ensures t c.args.to.now s sol right c.of.result c.in_ok-replace.field-0 c.in_ok-replace.ensures.replaces).1
+    (applied_once M (c.is_simple.ensures.0 c.if-not-is_simple.false) 1 e c.in-Some.ensures t c.args.to.now s sol right c.of.result c.in_ok-replace.field-0 c.in_ok-replace.ensures.replaces).1

@@ -1,11 +1,12 @@
 use Rattle.std.proofs.Common.{◌∙◌, ap, sym, subst}
 use Rattle.mw_logic.specs.Signature.{Signature}
+use Rattle.mw_logic.specs.Parts.{nested}
 use Rattle.mw_logic.specs.Sorts.{IsLeastSort}
 use Rattle.mw_poset.specs.SortOrder.{order_of}
 use Rattle.mw_term.specs.Signatures.{sorted_of}
 use Rattle.mw_print.specs.Sorts.{IsKindThere}
 use Rattle.mw_canon.specs.Canonical.{IsAdmittedTerm}
-use Rattle.mw_top.proofs.Answering.{least_here, kind_of_least, block_by, if_ok}
+use Rattle.mw_top.proofs.Answering.{kind_of_least, block_by, if_ok}
 use Rattle.mw_top.proofs.reduction.block.Goals as goal
 
 pub reduction-requires-clause-order : goal.reduction-requires-clause-order
@@ -17,8 +18,7 @@ reduction-requires-clause-kind c =
     let t = c.to.result.now in
     let S = sorted_of c.least_sort.result in
     let admitted : IsAdmittedTerm M.signature t = rw (c.context-context.ensures, c.to.ensures) c.requires in
-    subst (λ (sig : Signature). IsKindThere sig S) (sym c.signature.ensures)
-    (kind_of_least M c.shows.ensures t admitted S (least_here M.signature c.shows.ensures.signature t admitted S c.least_sort.ensures))
+    subst (λ (sig : Signature). IsKindThere sig S) (sym c.signature.ensures) (kind_of_least M c.shows.ensures t admitted S (c.least_sort.ensures admitted.canonical admitted.raw))
 
 pub returns : goal.returns
 returns c =
@@ -26,7 +26,7 @@ returns c =
     let t = c.to.result.now in
     let S = sorted_of c.least_sort.result in
     let admitted : IsAdmittedTerm M.signature t = rw (c.context-context.ensures, c.to.ensures) c.requires in
-    let least : IsLeastSort M.signature t S = least_here M.signature c.shows.ensures.signature t admitted S c.least_sort.ensures in
+    let least : IsLeastSort M.signature (nested M.signature t) S = c.least_sort.ensures admitted.canonical admitted.raw in
     if_ok c.reduction.result c.reduction.ensures
     (λ text written. (
       S,

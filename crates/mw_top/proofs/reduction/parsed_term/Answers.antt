@@ -5,7 +5,7 @@ use Rattle.mw_poset.specs.SortOrder.{order_of}
 use Rattle.mw_term.specs.Signatures.{sorted_of}
 use Rattle.mw_print.specs.Sorts.{IsKindThere}
 use Rattle.mw_canon.specs.Canonical.{IsAdmittedTerm}
-use Rattle.mw_top.proofs.Answering.{least_here, kind_of_least, parsed_by, if_ok}
+use Rattle.mw_top.proofs.Answering.{kind_of_least, parsed_by, if_ok}
 use Rattle.mw_top.proofs.reduction.parsed_term.Goals as goal
 
 pub parsed-requires-clause-order : goal.parsed-requires-clause-order
@@ -18,14 +18,14 @@ parsed-requires-clause-kind c =
     let S = sorted_of c.least_sort-sort.result in
     let admitted : IsAdmittedTerm M.signature t = subst (λ (N : Module). IsAdmittedTerm N.signature t) (sym c.context-context.ensures) c.requires in
     subst (λ (sig : Signature). IsKindThere sig S) (sym c.signature.ensures)
-    (kind_of_least M c.shows.ensures t admitted S (least_here M.signature c.shows.ensures.signature t admitted S c.least_sort-sort.ensures))
+    (kind_of_least M c.shows.ensures t admitted S (c.least_sort-sort.ensures admitted.canonical admitted.raw))
 
 pub returns : goal.returns
-returns c =
+returns c = λ written canonical.
     let M = c.context-context.result.now in
     let t = c.args.term.now in
     let S = sorted_of c.least_sort-sort.result in
     let admitted : IsAdmittedTerm M.signature t = subst (λ (N : Module). IsAdmittedTerm N.signature t) (sym c.context-context.ensures) c.requires in
     if_ok c.parsed.result c.parsed.ensures
-    (λ text written. parsed_by c.args.accepted.now M c.shows.ensures c.context-context.ensures c.signature.result.now c.signature.ensures c.name.result.now c.name.ensures t S text.items
-    (least_here M.signature c.shows.ensures.signature t admitted S c.least_sort-sort.ensures) written)
+    (λ text told. parsed_by c.args.accepted.now M c.context-context.ensures c.signature.result.now c.signature.ensures c.name.result.now c.name.ensures written t canonical S text.items
+    (c.least_sort-sort.ensures admitted.canonical admitted.raw) told)

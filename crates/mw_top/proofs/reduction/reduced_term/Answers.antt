@@ -7,16 +7,18 @@ use Rattle.mw_top.proofs.Answering.{reduced_by, if_ok}
 use Rattle.mw_top.proofs.reduction.reduced_term.Goals as goal
 
 pub reduce-requires-clause-admitted : goal.reduce-requires-clause-admitted
-reduce-requires-clause-admitted c = subst (λ (M : Module). IsAdmittedTerm M.signature c.args.term) (sym c.context-context.ensures) c.requires
+reduce-requires-clause-admitted c = subst (λ (M : Module). IsAdmittedTerm M.signature c.args.term) (sym c.context-context.ensures) c.requires.admitted
 
 pub block-requires : goal.block-requires
 block-requires c =
-    let over = subst (λ (M : Module). IsAdmittedTerm M.signature c.in_ok-proved.proved.to) c.in_ok-proved.ensures.over c.shows-2.ensures.ends in
+    let over = subst (λ (M : Module). IsAdmittedTerm M.signature c.in_ok-proved.proved.to) c.in_ok-proved.ensures.over c.shows.ensures.ends in
     subst (λ (M : Module). IsAdmittedTerm M.signature c.in_ok-proved.proved.to) c.context-context.ensures over
 
+pub reduce-requires-clause-simple : goal.reduce-requires-clause-simple
+reduce-requires-clause-simple c = subst IsSimpleModule (sym c.context-context.ensures) c.requires.simple
+
 pub returns : goal.returns
-returns c =
-    let simple = subst IsSimpleModule c.context-context.ensures c.shows.ensures in
+returns c = λ written canonical.
     let reduction = subst (λ M. IsReductionOf M c.args.term (record { steps = c.args.most; side = c.args.most; nest = 63 }) c.in_ok-proved.proved c.in_ok-proved.outcome) c.context-context.ensures c.in_ok-proved.ensures in
     if_ok c.block.result c.block.ensures
-    (λ text told. reduced_by c.args.accepted.now c.args.most c.args.term (record { steps = c.args.most; side = c.args.most; nest = 63 }) c.in_ok-proved.proved c.in_ok-proved.outcome text.items simple refl reduction c.shows-2.ensures told.0 told.1 told.2)
+    (λ text told. reduced_by c.args.accepted.now c.args.most written c.args.term (record { steps = c.args.most; side = c.args.most; nest = 63 }) c.in_ok-proved.proved c.in_ok-proved.outcome text.items canonical refl reduction c.shows.ensures told.0 told.1 told.2)

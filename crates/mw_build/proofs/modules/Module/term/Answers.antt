@@ -1,7 +1,7 @@
 use Rattle.std.proofs.Common.{None, IfOk, IfErr, subst, sym}
 use Rattle.mw_logic.specs.Signature.{IsRawTerm}
 use Rattle.mw_logic.specs.Module.{Module}
-use Rattle.mw_machine.specs.Simple.{IsSimpleSignature}
+use Rattle.mw_logic.specs.Accepted.{IsAccepted}
 use Rattle.mw_grammar.specs.declared.grammar.Grammar.{Grammar}
 use Rattle.mw_grammar.specs.Grammars.{IsGrammarOf, IsReading}
 use Rattle.mw_build.proofs.Sides.{raw_read}
@@ -26,7 +26,7 @@ returns-clause-cause c =
 pub returns-clause-raw : goal.returns-clause-raw
 returns-clause-raw c =
     subst (λ (a : Accepted). IfOk c.parse.result (λ (t : Raw). IsRawTerm a.module.signature (raw_term t))) c.self.view_is
-    (raw_read c.self.inside.context.value.signature c.self.inside.variables (texts c.args.tokens.now) (subst (λ (M : Module). IsSimpleSignature M.signature) c.deref.ensures c.shows.ensures.signature) c.parse.result
+    (raw_read c.self.inside.context.value.signature c.self.inside.variables (texts c.args.tokens.now) (subst (λ (M : Module). IsAccepted M.signature) c.deref.ensures c.shows.ensures.signature.accepted) c.parse.result
     (c.parse.ensures.read c.self.inside.context.value.signature c.self.inside.variables (subst (λ (g : Grammar). IsGrammarOf c.self.inside.context.value.signature c.self.inside.variables g) (sym c.deref-2.ensures) c.self.invariant)))
 
 pub parse-requires : goal.parse-requires

@@ -1,7 +1,7 @@
 use Rattle.std.proofs.Common.{◌≡◌, ◌∙◌, ap, sym, Some, None}
 use Rattle.mw_logic.specs.Substitution.{value as value_of}
 use Rattle.mw_canon.specs.Tables.{variable_of}
-use Rattle.mw_canon.proofs.Instances.{found_in, none_in}
+use Rattle.mw_canon.proofs.Table.{found_in, none_in}
 use Rattle.mw_canon.proofs.values.Values.at.Goals as goal
 
 pub returns-in-Some : goal.returns-in-Some

@@ -1,7 +1,7 @@
 use Rattle.std.proofs.Common.{◌≡◌, ◌∙◌, ◌-◌, ◌+◌, ◌<◌, ℕ, length, get_or, arith, ap, refl}
 use Rattle.std.specs.HashMap.{get}
 use Rattle.mw_canon.specs.Tables.{same_key}
-use Rattle.mw_canon.proofs.Instances.{put_in_front}
+use Rattle.mw_canon.proofs.Table.{put_in_front}
 use Rattle.mw_canon.proofs.values.Values.of.Goals as goal
 
 pub loop-i-preserved : goal.loop-i-preserved

@@ -1,7 +1,9 @@
 use Rattle.std.proofs.Common.{sym, Ok}
+use Rattle.std.proofs.lemmas.Bool.{both_ways}
+use Rattle.mw_module.specs.declared.faults.FaultKind.TheVariants.{NotInProfile}
 use Rattle.mw_module.specs.Words.{texts}
 use Rattle.mw_command.specs.Commands.{seen_command}
-use Rattle.mw_top.specs.Commands.{in_term}
+use Rattle.mw_top.specs.Commands.{in_term, not_for}
 use Rattle.mw_top.specs.Sources.{faulty, answered}
 use Rattle.mw_top.proofs.Answering.{if_ok}
 use Rattle.mw_top.proofs.Giving.{refused_gives, none_there, match_ok, match_err}
@@ -14,13 +16,26 @@ returns-in_default c = λ u line named command.
     (λ a h. refused_gives c.args.most c.args.self.now (Ok u) (record { line = c.args.line; kind = c.in_ok-missing.field-0 }) a.text.items a.refused
     (rw (sym line) (faulty u (seen_command c.args.command.now) c.in_ok-missing.field-0 named command (c.in_ok-missing.ensures c.args.self.now none))) h)
 
+pub returns-then-not-is_for : goal.returns-then-not-is_for
+returns-then-not-is_for c = λ u line named command.
+    let not = not_for c.in-Some.module.now (sym c.in-Some.ensures) (λ h. both_ways _ c.if-not-is_for.true (c.is_for.ensures.1 h)) in
+    if_ok c.refused-then-not-is_for.result c.refused-then-not-is_for.ensures
+    (λ a h. refused_gives c.args.most c.args.self.now (Ok u) (record { line = c.args.line; kind = NotInProfile }) a.text.items a.refused
+    (rw (sym line) (faulty u (seen_command c.args.command.now) NotInProfile named command not)) h)
+
+pub answer_term-requires-clause-term : goal.answer_term-requires-clause-term
+answer_term-requires-clause-term c = (texts c.args.command.now.term.now, match_ok _ _ c.in_ok-term.field-0 c.in_ok-term.ensures.read c.in-Ok.term c.in-Ok.is)
+
+pub answer_term-requires-clause-word : goal.answer_term-requires-clause-word
+answer_term-requires-clause-word c = ?
+
 pub returns-in_ok-answer_term-in-Ok : goal.returns-in_ok-answer_term-in-Ok
-returns-in_ok-answer_term-in-Ok c = λ u line named command. answered u (seen_command c.args.command.now) c.in-Some.module.now c.in_ok-answer_term-in-Ok.field-0.items named command (sym c.in-Some.ensures)
-    (c.in_ok-answer_term-in-Ok.ensures (texts c.args.command.now.term.now) (match_ok _ _ c.in_ok-term.field-0 c.in_ok-term.ensures.read c.in-Ok.term c.in-Ok.is).0)
+returns-in_ok-answer_term-in-Ok c = λ u line named command. answered u (seen_command c.args.command.now) c.in-Some.module.now c.in_ok-answer_term-in-Ok.field-0.items named command (sym c.in-Some.ensures) ?
+    (c.in_ok-answer_term-in-Ok.ensures (texts c.args.command.now.term.now) (match_ok _ _ c.in_ok-term.field-0 c.in_ok-term.ensures.read c.in-Ok.term c.in-Ok.is))
 
 pub returns-in-Err : goal.returns-in-Err
 returns-in-Err c = λ u line named command.
     let wrong = match_err _ _ c.in_ok-term.field-0 c.in_ok-term.ensures.read c.in-Err.kind c.in-Err.is in
     if_ok c.refused-in-Err.result c.refused-in-Err.ensures
     (λ a h. refused_gives c.args.most c.args.self.now (Ok u) (record { line = c.args.line; kind = c.in-Err.kind }) a.text.items a.refused
-    (rw (sym line) (faulty u (seen_command c.args.command.now) c.in-Err.kind named command (in_term c.in-Some.module.now c.in-Err.kind (sym c.in-Some.ensures) wrong))) h)
+    (rw (sym line) (faulty u (seen_command c.args.command.now) c.in-Err.kind named command (in_term c.in-Some.module.now c.in-Err.kind (sym c.in-Some.ensures) ? wrong))) h)

@@ -1,0 +1,80 @@
+// What is wrong with operators.
+ghost use Rattle.std.specs.Prelude.{◌≡◌, ◌&&◌, ◌||◌, not, true, nat_eq, ℕ, List, IfOk, Some, None, option_map};
+ghost use Rattle.mw_logic.specs.Signature.{constant_of};
+ghost use Rattle.mw_logic.specs.Accepted.{are_two, is_accepted_operator};
+ghost use Rattle.mw_term.specs.Signatures.{identity_of};
+ghost use Rattle.mw_declare.specs.Hierarchy.{Hierarchy as HierarchyOf};
+ghost use Rattle.mw_declare.specs.Operators.{Declared, identity_in, IsOfLeastKinds, signature_with};
+ghost use Rattle.mw_declare.specs.Operators.{operator_of as operator_among};
+ghost use Rattle.mw_declare.specs.Faults.{wrong_with};
+ghost use Rattle.mw_declare.specs.Seen.{seen_operator};
+
+use crate::operators::{Profile, Said};
+use mw_module::{Attributes, FaultKind};
+use mw_term::{Identity, KindId, Name};
+use std::alloc::{AllocError, Global};
+
+/// Whether these kinds are two of this one, where `assoc` asks for it.
+fn fits_assoc(assoc: bool, args: &[KindId], kind: KindId) -> bool
+    ensures { result ≡ not assoc || are_two (λ K L. nat_eq K kind && nat_eq L kind) args.now }
+{
+    match args {
+        [first, second] => !assoc || *first == kind && *second == kind,
+        _ => !assoc,
+    }
+}
+
+/// Whether these kinds are two, and the same, where `comm` asks for it.
+fn fits_comm(comm: bool, args: &[KindId]) -> bool
+    ensures { result ≡ not comm || are_two nat_eq args.now }
+{
+    match args {
+        [first, second] => !comm || first == second,
+        _ => !comm,
+    }
+}
+
+/// Whether an identity is there, where `assoc` says whether its operator is associative.
+fn fits_identity(assoc: bool, identity: Option<Identity>) -> bool
+    ensures none { option_map identity_of identity ≡ None → result ≡ true }
+    ensures constant { (n : ℕ) → option_map identity_of identity ≡ Some (constant_of n)
+        → result ≡ assoc && not (nat_eq n 0) }
+{
+    match identity {
+        None => true,
+        Some(Identity::Constant(number)) => assoc && number != 0,
+        Some(Identity::Nat(_)) => false,
+    }
+}
+
+/// Whether an operator's axioms are kept ones, which fit its kinds.
+fn has_kept_axioms(profile: &Profile, said: &Said<'_>, identity: Option<Identity>) -> bool
+    ensures { (h : HierarchyOf) (os : List Declared) → let o = seen_operator (profile.now, said.now) in IsOfLeastKinds h o
+        → option_map identity_of identity ≡ identity_in os o → result ≡ is_accepted_operator (signature_with h os) (operator_among os o) }
+{
+    let args = profile.args.as_slice();
+    let Attributes { assoc, comm, .. } = said.attributes;
+    fits_assoc(assoc, args, profile.result)
+        & (fits_comm(comm, args) & fits_identity(assoc, identity))
+}
+
+/// What is wrong with an operator of this identity.
+pub fn fault(
+    alloc: Global,
+    profile: &Profile,
+    said: &Said<'_>,
+    identity: Option<Identity>,
+) -> Result<Option<FaultKind>, AllocError>
+    ensures { (h : HierarchyOf) (os : List Declared) → let o = seen_operator (profile.now, said.now) in IsOfLeastKinds h o
+        → option_map identity_of identity ≡ identity_in os o → IfOk result (λ k. k ≡ wrong_with (signature_with h os) os o) }
+{
+    if !has_kept_axioms(profile, said, identity) {
+        let name = Name::of(profile.spelling.as_slice().to_vec(alloc)?);
+        return Ok(Some(FaultKind::BadAxioms(name)));
+    }
+    if said.attributes.clash {
+        let name = Name::of(profile.spelling.as_slice().to_vec(alloc)?);
+        return Ok(Some(FaultKind::AttributesDisagree(name)));
+    }
+    Ok(None)
+}
