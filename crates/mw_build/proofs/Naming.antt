@@ -1,5 +1,5 @@
 -- That the kinds of a fault are there.
-use Rattle.std.specs.Prelude.{ℕ, zero, suc, ◌≡◌, ◌≤◌, ◌<◌, ◌-◌, length, List, [], ◌∷◌, map, get_or, slice_get, Some, refl}
+use Rattle.std.specs.Prelude.{ℕ, zero, suc, ◌≡◌, ◌≤◌, ◌<◌, ◌-◌, length, List, [], ◌∷◌, get_or, slice_get, Some, refl}
 use Rattle.std.proofs.Common.{sym, subst, ap, ◌∙◌, inl, inr, arith, Result, Ok, Err, IfOk}
 use Rattle.std.proofs.lemmas.Option.{slice_get_within}
 use Rattle.mw_logic.specs.Signature.{Signature, Sorted, sort, kind, Operator, IsOperator, Member, at_number}

@@ -1,6 +1,5 @@
 -- What is printed of an accepted module's terms reads back.
 use Rattle.std.proofs.Common.{length, ◌≡◌, ◌∙◌, ℕ, zero, suc, List, false, Some, IsFalse, sym, ap, subst, arith}
-use Rattle.std.proofs.lemmas.Bool.{both_ways}
 use Rattle.std.proofs.lemmas.Option.{slice_get_within}
 use Rattle.std.proofs.lemmas.List.Elements.{All-map}
 use Rattle.mw_lex.specs.declared.token.Token.{Token}

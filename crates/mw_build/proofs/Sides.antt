@@ -1,5 +1,5 @@
 -- Sides of equations: canonical forms tell which are lone, and a module of them is one that contexts hold.
-use Rattle.std.proofs.Common.{◌≡◌, ◌∙◌, ◌<◌, ◌||◌, ◌++◌, ℕ, zero, suc, List, [], ◌∷◌, Bool, true, false, cond, if◌then◌else◌, Option, Some, None, IsTrue, Result, Ok, Err, IfOk, MatchOption, MatchResult, refl, sym, ap, subst, arith, inl, inr}
+use Rattle.std.proofs.Common.{◌≡◌, ◌∙◌, ◌||◌, ◌++◌, ℕ, zero, suc, List, [], ◌∷◌, Bool, true, false, cond, if◌then◌else◌, Option, Some, None, IsTrue, Result, Ok, Err, IfOk, MatchOption, MatchResult, refl, sym, ap, subst, arith, inl, inr}
 use Rattle.std.specs.Prelude.{⊤}
 use Rattle.std.proofs.lemmas.Bool.{both_ways, or_left, or_right, or_cases}
 use Rattle.std.proofs.lemmas.Option.{slice_get_within}

@@ -58,11 +58,7 @@ fn names(
 }
 
 /// The name of an operator that is there.
-fn operator_name(
-    alloc: Global,
-    signature: &Signature,
-    operator: OpId,
-) -> Result<Name, AllocError>
+fn operator_name(alloc: Global, signature: &Signature, operator: OpId) -> Result<Name, AllocError>
     requires { (o : OperatorOf) × IsOperator signature.now operator o }
     ensures { (o : OperatorOf) → IsOperator signature.now operator o → IfOk result (λ n. n ≡ o.spelling) }
 {

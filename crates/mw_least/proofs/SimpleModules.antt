@@ -1,9 +1,9 @@
 -- A workable module is simple where its signature has no axioms, nothing built in, no numbers and no quoted identifiers.
-use Rattle.std.specs.Prelude.{◌≡◌, ◌↔◌, ℕ, zero, suc, List, [], ◌∷◌, Bool, true, false, ◌&&◌, not, is_none, Option, Some, None, slice_get, IsTrue, refl}
-use Rattle.std.proofs.Common.{inl, inr, sym, ap, subst, ◌∙◌, ⊎_elim}
+use Rattle.std.specs.Prelude.{◌≡◌, ◌↔◌, ℕ, zero, suc, List, [], ◌∷◌, Bool, true, false, Some, None, slice_get, IsTrue, refl}
+use Rattle.std.proofs.Common.{inl, inr, sym, subst, ◌∙◌}
 use Rattle.std.proofs.lemmas.Bool.{both_ways}
 use Rattle.mw_logic.specs.Term.{Variable, RawTerm, variable}
-use Rattle.mw_logic.specs.Signature.{Signature, Sorted, Operator, IsOperator, IsRawTerm, a_numeral, a_quoted, a_variable, an_operator, at_number}
+use Rattle.mw_logic.specs.Signature.{Signature, Sorted, Operator, IsRawTerm, a_numeral, a_quoted, a_variable, an_operator}
 use Rattle.mw_logic.specs.Sorts.{Takes}
 use Rattle.mw_logic.specs.Axioms.{EqualModulo, done}
 use Rattle.mw_logic.specs.Free.{IsFreeSignature, is_free_operator, are_free_operators}
@@ -14,7 +14,7 @@ use Rattle.mw_machine.specs.Machine.{IsFlat}
 use Rattle.mw_machine.specs.Simple.{IsSimpleSignature, IsSimpleEquation, IsSimpleModule}
 use Rattle.mw_machine.proofs.Ordered.{free}
 use Rattle.mw_sorting.specs.ComputedSorts.{IsResultOn}
-use Rattle.mw_least.specs.Workable.{IsPlainEquation, IsWorkable}
+use Rattle.mw_least.specs.Workable.{IsWorkable}
 
 -- a result on arguments that are taken is least
 taken_least : (sig : Signature) (o : Operator) (Ss : List Sorted) (Q R : Sorted) → Takes sig o Ss Q → IsResultOn sig o Ss R → IsLeastResult sig o Ss R

@@ -5,7 +5,7 @@ use Rattle.std.proofs.lemmas.Bool.{both_ways, cases_lt}
 use Rattle.std.proofs.lemmas.List.{take_all}
 use Rattle.std.proofs.lemmas.Option.{same_Some, slice_get_within}
 use Rattle.mw_logic.specs.Term.{RawTerm, numeral, quoted, variable, apply, RawTerms, nil, cons, is_ground, are_ground}
-use Rattle.mw_logic.specs.Signature.{Signature, Sorted, sort, kind, Operator, IsOperator, IsSortNamed, Declaration, SameKind, same, up, down, HasKind, of_numeral, of_quoted, of_operator, IsRawTerm, a_numeral, a_quoted, an_operator, AreRawTerms, end, next, Member, at_number}
+use Rattle.mw_logic.specs.Signature.{Signature, Sorted, sort, kind, Operator, IsOperator, IsSortNamed, Declaration, SameKind, same, up, down, HasKind, of_numeral, of_quoted, of_operator, IsRawTerm, a_numeral, an_operator, AreRawTerms, end, next, Member, at_number}
 use Rattle.mw_logic.specs.Axioms.{EqualModulo, done}
 use Rattle.mw_logic.specs.Sorts.{AtOrBelow, AreBelow, Takes, DeclaredSort, DeclaredSorts, HasSort}
 use Rattle.mw_logic.specs.Parts.{is_assoc, nested, all_nested, nest, chain}
@@ -107,7 +107,7 @@ pub topped_more : (sig : Signature) (tops name : List ℕ) (n : ℕ) → (IsSort
     → ((S : ℕ) → S ≤ n → IsSortNamed sig S name → (T : ℕ) × IsTop sig.pairs tops T × AtOrBelow sig.pairs S T) → (S : ℕ) → S ≤ n + 1 → IsSortNamed sig S name → (T : ℕ) × IsTop sig.pairs tops T × AtOrBelow sig.pairs S T
 topped_more sig tops name n here all S l e = ⊎_elim
     (λ (k : n < S). let last : S ≡ n + 1 = omega (arith, k, l) in
-        subst (λ R. (T : ℕ) × IsTop sig.pairs tops T × AtOrBelow sig.pairs R T) (sym last) (here (subst (λ R. IsSortNamed sig R name) last e)))
+    subst (λ R. (T : ℕ) × IsTop sig.pairs tops T × AtOrBelow sig.pairs R T) (sym last) (here (subst (λ R. IsSortNamed sig R name) last e)))
     (λ (k : S ≤ n). all S k e)
     (cases_lt n S)
 
@@ -244,9 +244,10 @@ module _ (sig : Signature) (ok : IsPreregularModulo sig) (numbers : HasItsSorts 
     nest_tops f (cons t nil) lacks g p = each_tops t (grounds (is_ground t) true g).0 (first_apart t nil partial.declared p.0, first_apart t nil partial.built p.1)
     nest_tops f (cons t (cons u us)) lacks g p =
         let both = grounds (is_ground t) (are_ground (cons u us)) g in
-        operator_tops f (cons (nested sig t) (cons (chain f (nested sig u) (all_nested sig us)) nil)) lacks
-        (each_tops t both.0 (first_apart t (cons u us) partial.declared p.0, first_apart t (cons u us) partial.built p.1),
-        (nest_tops f (cons u us) lacks both.1 (others_apart t (cons u us) partial.declared p.0, others_apart t (cons u us) partial.built p.1), tt))
+        operator_tops f (cons (nested sig t) (cons (chain f (nested sig u) (all_nested sig us)) nil)) lacks (
+          each_tops t both.0 (first_apart t (cons u us) partial.declared p.0, first_apart t (cons u us) partial.built p.1),
+          (nest_tops f (cons u us) lacks both.1 (others_apart t (cons u us) partial.declared p.0, others_apart t (cons u us) partial.built p.1), tt),
+        )
 
   -- an operator's result on tops is a sort of each canonical ground term with the operator on top
   has_support : (b : Bool) (f : ℕ) (ts : RawTerms) (o : Operator) (R : ℕ) → IsOperator sig f o → is_assoc sig f ≡ b → IsCanonical sig (apply f ts) → IsRawTerm sig (nest b f (all_nested sig ts)) → IsTrue (are_ground ts) → IsNone partial f → AreAllApart partial ts
@@ -256,9 +257,10 @@ module _ (sig : Signature) (ok : IsPreregularModulo sig) (numbers : HasItsSorts 
   has_support true f (cons t nil) o R is h k raw g lacks p s = absurd (not_alone sig ok f t h k)
   has_support true f (cons t (cons u us)) o R is h k raw g lacks p s =
       let both = grounds (is_ground t) (are_ground (cons u us)) g in
-      support_sort f (cons (nested sig t) (cons (chain f (nested sig u) (all_nested sig us)) nil)) o R is raw
-      (each_tops t both.0 (first_apart t (cons u us) partial.declared p.0, first_apart t (cons u us) partial.built p.1),
-      (nest_tops f (cons u us) lacks both.1 (others_apart t (cons u us) partial.declared p.0, others_apart t (cons u us) partial.built p.1), tt)) s
+      support_sort f (cons (nested sig t) (cons (chain f (nested sig u) (all_nested sig us)) nil)) o R is raw (
+        each_tops t both.0 (first_apart t (cons u us) partial.declared p.0, first_apart t (cons u us) partial.built p.1),
+        (nest_tops f (cons u us) lacks both.1 (others_apart t (cons u us) partial.declared p.0, others_apart t (cons u us) partial.built p.1), tt),
+      ) s
 
   -- the operator on top is there
   top_operator : (b : Bool) (f : ℕ) (ts : RawTerms) → is_assoc sig f ≡ b → IsRawTerm sig (nest b f (all_nested sig ts)) → (o : Operator) × IsOperator sig f o
@@ -277,7 +279,7 @@ sure_there sig ok numbers sure a t f ts is apart R S at p below fixed raw ground
     let k : IsCanonical sig (apply f ts) = subst (IsCanonical sig) (fixed ∙ is) (canonical sig ok.accepted (nested sig t)) in
     let (o, there) = top_operator sig ok numbers a.tops sure.partial a.supported (a.constants f R at) (is_assoc sig f) f ts refl (subst (λ u. IsRawTerm sig (nested sig u)) is raw) in
     let h = has_support sig ok numbers a.tops sure.partial a.supported (a.constants f R at) (is_assoc sig f) f ts o R there refl k (subst (λ u. IsRawTerm sig (nested sig u)) is raw) (subst (λ u. IsTrue (is_ground u)) is ground)
-        (lacks_top f ts sure.partial.declared none.0, lacks_top f ts sure.partial.built none.1) (arguments_apart f ts sure.partial.declared none.0, arguments_apart f ts sure.partial.built none.1) (a.results f R o there at (positive R p)) in
+    (lacks_top f ts sure.partial.declared none.0, lacks_top f ts sure.partial.built none.1) (arguments_apart f ts sure.partial.declared none.0, arguments_apart f ts sure.partial.built none.1) (a.results f R o there at (positive R p)) in
     subst (λ u. HasSort sig (nested sig u) (sort S)) (sym is) (raise sig (nested sig (apply f ts)) R S h below)
 
 -- results on tops, where constants have these

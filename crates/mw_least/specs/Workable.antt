@@ -1,6 +1,6 @@
 -- The modules that contexts hold: their signature is preregular modulo its axioms, and their equations have no conditions.
-use Rattle.std.specs.Prelude.{ℕ, ◌≡◌, List, [], false, IsTrue, Some}
-use Rattle.mw_logic.specs.Term.{Variable, RawTerm, variable}
+use Rattle.std.specs.Prelude.{ℕ, ◌≡◌, [], false, IsTrue, Some}
+use Rattle.mw_logic.specs.Term.{Variable, variable}
 use Rattle.mw_logic.specs.Signature.{Signature, at_number}
 use Rattle.mw_logic.specs.Axioms.{EqualModulo}
 use Rattle.mw_logic.specs.Substitution.{occurs}

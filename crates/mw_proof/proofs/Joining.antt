@@ -1,8 +1,7 @@
 -- Kept deductions, one behind another and under an operator.
 use Rattle.std.specs.Prelude.{◌≡◌, ◌+◌, ◌-◌, ◌^◌, min, ℕ, suc, List, [], ◌∷◌, ◌++◌, length, map, Bool, refl}
 use Rattle.std.proofs.Common.{sym, ap, ◌∙◌, subst, arith, length-append, append_assoc}
-use Rattle.mw_logic.specs.Term.{RawTerm, RawTerms, Frame, apply, join}
-use Rattle.mw_logic.specs.Term as term
+use Rattle.mw_logic.specs.Term.{RawTerm, Frame, apply}
 use Rattle.mw_logic.specs.Terms.{terms_of}
 use Rattle.mw_logic.specs.Signature.{Signature}
 use Rattle.mw_logic.specs.Free.{IsFreeSignature}

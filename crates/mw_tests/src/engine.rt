@@ -17,7 +17,7 @@ use mw_lex::{Token, tokens};
 use mw_match::Solutions;
 use mw_module::{Unit, read_unit};
 use mw_proof::{By, Proved, refl, replace, then, under};
-use mw_term::{OpId, Raw, Seq, Statement, Subst, Term, View, copy, depth, same};
+use mw_term::{Name, OpId, Raw, Seq, Statement, Subst, Term, View, copy, depth, same};
 use std::alloc::Global;
 use std::test::Fail;
 

@@ -1,9 +1,11 @@
 //! Tests of what no clause says and no run of the program over a source shows: statuses, sources and sinks that fail,
-//! and the public calls that the program doesn't make. Expected values are worked by hand.
+//! terms with numerals, and the public calls that the program doesn't make. Expected values are worked by hand.
 #![tactic(auto)]
 
 #[cfg(test)]
 mod engine;
+#[cfg(test)]
+mod numerals;
 #[cfg(test)]
 mod parts;
 #[cfg(test)]

@@ -8,7 +8,7 @@ use Rattle.mw_logic.specs.Axioms.{EqualModulo}
 use Rattle.mw_logic.specs.Sorts.{IsBelow, Takes, DeclaredSort, of_zero, of_nonzero, of_quoted, of_variable, of_operator, of_kind, IsLeastSort}
 use Rattle.mw_logic.specs.Accepted.{IsAccepted, number_of_sort}
 use Rattle.mw_logic.specs.Preregular.{IsSortOf, HasItsSorts}
-use Rattle.mw_logic.specs.Parts.{nested, IsTooDeep, IsTooLarge}
+use Rattle.mw_logic.specs.Parts.{nested}
 use Rattle.mw_logic.specs.NormalForm.{normal_form}
 use Rattle.mw_logic.specs.Module.{Module}
 use Rattle.mw_logic.specs.Proof.{Proof, count, rules}
@@ -17,7 +17,6 @@ use Rattle.mw_logic.proofs.EqualTerms.{ground_kept}
 use Rattle.mw_logic.proofs.Invariance.{normal_form-kept}
 use Rattle.mw_logic.proofs.RawKept.{raw_kept}
 use Rattle.mw_logic.proofs.Soundness.{normal_form-sound}
-use Rattle.mw_machine.specs.Simple.{IsSimpleModule}
 use Rattle.mw_print.specs.Sorts.{IsKindThere}
 use Rattle.mw_proof.specs.Deductions.{Deduction, IsDeduction}
 use Rattle.mw_reduce.specs.Reductions.{IsReductionOf}
@@ -65,7 +64,7 @@ module _ (sig : Signature) (ok : IsAccepted sig) (numbers : HasItsSorts sig) whe
   -- a kind that is the least sort of an admitted term is there
   pub kind_there : (t : RawTerm) → IsAdmittedTerm sig t → (S : Sorted) → IsLeastSort sig (nested sig t) S → IsKindThere sig S
   kind_there t admitted (sort S) least = tt
-  kind_there t admitted (kind K) least = kind_above least.has.declared K (declared_there (sym (ground_kept sig ok least.has.equal) ∙ admitted.admitted.ground) least.has.is_declared) least.has.below
+  kind_there t admitted (kind K) least = kind_above least.has.declared K (declared_there (sym (ground_kept sig least.has.equal) ∙ admitted.admitted.ground) least.has.is_declared) least.has.below
 
   -- the canonical form of a term without variables that fits in is admitted
   pub canonical_admitted : (t : RawTerm) → IsRawTerm sig t → IsTrue (is_ground t) → FitsIn sig t → IsAdmittedTerm sig (normal_form sig t)
@@ -75,7 +74,7 @@ module _ (sig : Signature) (ok : IsAccepted sig) (numbers : HasItsSorts sig) whe
         raw = (raw_kept sig ok e).0 raw;
         canonical = sym (normal_form-kept sig ok e);
         admitted = record {
-          ground = sym (ground_kept sig ok e) ∙ ground;
+          ground = sym (ground_kept sig e) ∙ ground;
           not_deep = λ d. fits.not_deep (record { form = d.form; clean = record { clean = d.clean.clean; equal = trans e d.clean.equal }; deep = d.deep });
           not_large = λ l. fits.not_large (record { place = l.place; operator = l.operator; successor = l.successor; clean = record { clean = l.clean.clean; equal = trans e l.clean.equal } });
         };
@@ -95,7 +94,7 @@ read_so a work words t read raw ground (Ok (Ok u)) h = record {
   canonical = h.1;
   admitted = subst (IsAdmittedTerm a.module.signature) (sym h.1) (canonical_admitted a.module.signature work.signature.accepted work.numbers t raw ground h.0);
 }
-read_so a work words t read raw ground (Ok (Err kind)) h = big t kind read ground h
+read_so a work words t read raw ground (Ok (Err why)) h = big t why read ground h
 read_so a work words t read raw ground (Err x) h = tt
 
 pub reduced_by : (a : Accepted) (most : ℕ) (w t : RawTerm) (b : Budget) (d : Deduction) (o : Outcome) (text : List ℕ)

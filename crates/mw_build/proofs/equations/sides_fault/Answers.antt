@@ -1,4 +1,4 @@
-use Rattle.std.proofs.Common.{◌≡◌, Result, MatchResult, refl, subst}
+use Rattle.std.proofs.Common.{◌≡◌, Result, MatchResult, subst}
 use Rattle.mw_logic.specs.Term.{RawTerm}
 use Rattle.mw_logic.specs.NormalForm.{normal_form}
 use Rattle.mw_term.specs.Raws.{raw_term}

@@ -5,7 +5,6 @@ use Rattle.mw_logic.specs.Term.{Variable}
 use Rattle.mw_sorting.specs.PreregularModulo.{IsPreregularModulo}
 use Rattle.mw_module.specs.Units.{seen_lined, seen_unit}
 use Rattle.mw_module.specs.declared.units.Lined.{Lined}
-use Rattle.mw_grammar.specs.Grammars.{IsGrammarOf}
 use Rattle.mw_grammar.specs.Readable.{IsReadable, AreVariables}
 use Rattle.mw_declare.specs.declared.declarations.Declarations.{Declarations}
 use Rattle.mw_declare.proofs.Accepting.{nat_declared, qid_declared}
@@ -50,10 +49,13 @@ of-requires-clause-variables c =
     (subst (λ (xs : List Variable). AreVariables c.args.declarations.value.signature xs) (sym (variables_are c)) (variables_declared (seen_unit c.args.unit.now).statements c.args.declarations.value c.requires.declared))
 
 pub read-requires-clause-grammar : goal.read-requires-clause-grammar
-read-requires-clause-grammar c = (c.args.declarations.value.variables, grammar_held _ _ _ _ _ _
-    (c.signature.ensures ∙ ap (λ (s : Signed). s.facts) (c.deref-3.ensures ∙ sym c.deref-6.ensures))
-    (c.as_slice.ensures ∙ ap (λ (s : Signed). s.variables) c.deref-5.ensures ∙ c.in_ok-signed.ensures.variables)
-    (sym c.deref-7.ensures) c.in_ok-grammar.ensures.grammar)
+read-requires-clause-grammar c = (
+  c.args.declarations.value.variables,
+  grammar_held _ _ _ _ _ _
+      (c.signature.ensures ∙ ap (λ (s : Signed). s.facts) (c.deref-3.ensures ∙ sym c.deref-6.ensures))
+      (c.as_slice.ensures ∙ ap (λ (s : Signed). s.variables) c.deref-5.ensures ∙ c.in_ok-signed.ensures.variables)
+      (sym c.deref-7.ensures) c.in_ok-grammar.ensures.grammar,
+)
 
 pub returns-in_err-statements-clause-fault : goal.returns-in_err-statements-clause-fault
 returns-in_err-statements-clause-fault c =

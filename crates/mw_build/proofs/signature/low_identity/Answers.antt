@@ -1,6 +1,5 @@
 use Rattle.std.proofs.Common.{◌∙◌, ap}
 use Rattle.mw_term.specs.Signatures.{sorted_of}
-use Rattle.mw_module.specs.declared.faults.Fault.{Fault}
 use Rattle.mw_module.specs.declared.faults.FaultKind.TheVariants.{LowIdentity}
 use Rattle.mw_build.specs.SignatureFaults.{identity}
 use Rattle.mw_build.proofs.Naming.{entry_there}

@@ -1,6 +1,5 @@
 use Rattle.std.proofs.Common.{◌∙◌, ap, map}
 use Rattle.mw_term.specs.Signatures.{sorted_of}
-use Rattle.mw_module.specs.declared.faults.Fault.{Fault}
 use Rattle.mw_module.specs.declared.faults.FaultKind.TheVariants.{NotAssociative}
 use Rattle.mw_build.specs.SignatureFaults.{groupings}
 use Rattle.mw_build.proofs.Naming.{results_there}

@@ -1,6 +1,6 @@
-use Rattle.std.proofs.Common.{◌≡◌, ◌∙◌, ◌-◌, ◌≤◌, ◌<◌, get_or, length, ap, subst, sym, arith, Result, Ok, Err, IfOk}
+use Rattle.std.proofs.Common.{◌≡◌, ◌∙◌, ◌-◌, get_or, ap}
 use Rattle.mw_logic.specs.Signature.{Signature, Operator}
-use Rattle.mw_build.proofs.Naming.{named_so, number_within, operator_there}
+use Rattle.mw_build.proofs.Naming.{named_so, operator_there}
 use Rattle.mw_build.proofs.signature.operator_name.Goals as goal
 
 pub returns : goal.returns

@@ -1,7 +1,5 @@
-use Rattle.std.proofs.Common.{map, ap, subst, sym}
-use Rattle.mw_term.specs.Signatures.{sorted_of}
-use Rattle.mw_sorts.specs.Faults.{HasCause, IsFirstFault}
-use Rattle.mw_sorts.specs.Groupings.{IsFirstGroupingFault}
+use Rattle.std.proofs.Common.{subst}
+use Rattle.mw_sorts.specs.Faults.{HasCause}
 use Rattle.mw_build.proofs.signature.signature_fault.Goals as goal
 
 pub not_preregular-requires-clause-first : goal.not_preregular-requires-clause-first

@@ -1,4 +1,4 @@
-use Rattle.std.proofs.Common.{◌∙◌, ◌≡◌, ◌+◌, ◌≤◌, ℕ, List, refl, Some, ap, length, subst, sym}
+use Rattle.std.proofs.Common.{◌∙◌, ◌≡◌, ◌+◌, ◌≤◌, ℕ, refl, Some, ap, subst, sym}
 use Rattle.mw_logic.specs.Signature.{Signature, at_number}
 use Rattle.mw_logic.specs.Sorts.{AtOrBelow}
 use Rattle.mw_poset.specs.SortOrder.{SortOrder}

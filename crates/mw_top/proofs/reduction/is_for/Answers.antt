@@ -9,4 +9,4 @@ pub returns-in-Reduce : goal.returns-in-Reduce
 returns-in-Reduce c = subst (λ (w : Word). IsTrue c.is_simple.result ↔ IsFor c.args.accepted.now.module w) (sym c.in-Reduce.is) (subst (λ (M : Module). IsTrue c.is_simple.result ↔ IsSimpleModule M) c.context.ensures c.is_simple.ensures)
 
 pub returns-in-Parse : goal.returns-in-Parse
-returns-in-Parse c = ?
+returns-in-Parse c = (λ h. subst (IsFor c.args.accepted.now.module) (sym c.in-Parse.is) tt, λ h. refl)

@@ -1,8 +1,5 @@
-use Rattle.std.proofs.Common.{◌∙◌, ◌≡◌, ap, false, subst, sym}
-use Rattle.mw_logic.specs.Free.{IsFreeSignature}
+use Rattle.std.proofs.Common.{subst, sym}
 use Rattle.mw_logic.specs.Signature.{Signature}
-use Rattle.mw_logic.specs.Module.{Module}
-use Rattle.mw_machine.specs.Simple.{IsSimpleModule}
 use Rattle.mw_pattern.specs.Compiled.{IsIndexOf}
 use Rattle.mw_least.specs.Sure.{AreSure}
 use Rattle.mw_least.proofs.SimpleModules.{simple-iff}

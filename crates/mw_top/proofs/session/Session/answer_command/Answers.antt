@@ -27,10 +27,10 @@ pub answer_term-requires-clause-term : goal.answer_term-requires-clause-term
 answer_term-requires-clause-term c = (texts c.args.command.now.term.now, match_ok _ _ c.in_ok-term.field-0 c.in_ok-term.ensures.read c.in-Ok.term c.in-Ok.is)
 
 pub answer_term-requires-clause-word : goal.answer_term-requires-clause-word
-answer_term-requires-clause-word c = ?
+answer_term-requires-clause-word c = c.is_for.ensures.0 c.if-not-is_for.false
 
 pub returns-in_ok-answer_term-in-Ok : goal.returns-in_ok-answer_term-in-Ok
-returns-in_ok-answer_term-in-Ok c = λ u line named command. answered u (seen_command c.args.command.now) c.in-Some.module.now c.in_ok-answer_term-in-Ok.field-0.items named command (sym c.in-Some.ensures) ?
+returns-in_ok-answer_term-in-Ok c = λ u line named command. answered u (seen_command c.args.command.now) c.in-Some.module.now c.in_ok-answer_term-in-Ok.field-0.items named command (sym c.in-Some.ensures) (c.is_for.ensures.0 c.if-not-is_for.false)
     (c.in_ok-answer_term-in-Ok.ensures (texts c.args.command.now.term.now) (match_ok _ _ c.in_ok-term.field-0 c.in_ok-term.ensures.read c.in-Ok.term c.in-Ok.is))
 
 pub returns-in-Err : goal.returns-in-Err
@@ -38,4 +38,4 @@ returns-in-Err c = λ u line named command.
     let wrong = match_err _ _ c.in_ok-term.field-0 c.in_ok-term.ensures.read c.in-Err.kind c.in-Err.is in
     if_ok c.refused-in-Err.result c.refused-in-Err.ensures
     (λ a h. refused_gives c.args.most c.args.self.now (Ok u) (record { line = c.args.line; kind = c.in-Err.kind }) a.text.items a.refused
-    (rw (sym line) (faulty u (seen_command c.args.command.now) c.in-Err.kind named command (in_term c.in-Some.module.now c.in-Err.kind (sym c.in-Some.ensures) ? wrong))) h)
+    (rw (sym line) (faulty u (seen_command c.args.command.now) c.in-Err.kind named command (in_term c.in-Some.module.now c.in-Err.kind (sym c.in-Some.ensures) (c.is_for.ensures.0 c.if-not-is_for.false) wrong))) h)
