@@ -10,8 +10,8 @@ solved-requires-clause-pattern c =
     let left = ap (λ (e : Statement). e.left) c.statement.view_is in
     subst (IsRawTerm c.args.context.now.signature) (sym left) (left_raw c.args.context.now (c.is_simple.ensures.0 c.if-not-is_simple.false) 1 c.in-Some.statement.now c.in-Some.ensures)
 
-pub replace-requires : goal.replace-requires
-replace-requires c =
+pub replace-requires-clause-may : goal.replace-requires-clause-may
+replace-requires-clause-may c =
     let M = c.args.context.now in
     let e : Statement = c.in-Some.statement.now in
     let t = c.args.from.now in

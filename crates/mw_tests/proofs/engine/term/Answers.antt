@@ -21,6 +21,6 @@ returns-in-Ok c =
     let t = raw_term c.in_ok-raw.raw in
     let work = subst IsWorkable c.context-context.ensures c.shows.ensures in
     let ground = sym c.is_ground.ensures ∙ c.if-not-is_ground.false in
-    let known = subst (λ (S : Signature). MatchResult c.in_ok-canonical.field-0 (λ u. FitsIn S t × (u ≡ normal_form S t)) (λ kind. Oversized S t kind)) (c.facts.ensures ∙ ap (λ (N : Module). N.signature) c.context-context.ensures) c.in_ok-canonical.ensures in
+    let known = subst (λ (S : Signature). MatchResult c.in_ok-term.field-0 (λ u. FitsIn S t × (u ≡ normal_form S t)) (λ kind. Oversized S t kind)) (c.facts.ensures ∙ ap (λ (N : Module). N.signature) c.context-context.ensures) c.in_ok-term.ensures in
     let form = subst (λ (r : Result RawTerm FaultKind). MatchResult r (λ u. FitsIn sig t × (u ≡ normal_form sig t)) (λ kind. Oversized sig t kind)) c.in-Ok.is known in
     subst (IsAdmittedTerm sig) (sym form.1) (canonical_admitted sig work.signature.accepted work.numbers t c.in_ok-raw.ensures ground form.0)

@@ -1,4 +1,4 @@
-use Rattle.std.proofs.Common.{Result, Ok, false, subst, sym}
+use Rattle.std.proofs.Common.{Result, false, subst, sym}
 use Rattle.mw_module.specs.declared.faults.Fault.{Fault}
 use Rattle.mw_module.specs.declared.units.Unit.{Unit as SourceUnit}
 use Rattle.mw_module.specs.Known.{AreKnown}
