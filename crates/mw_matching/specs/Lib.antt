@@ -6,3 +6,6 @@ pub mod Patterns
 -- Under an associative and commutative operator one argument at a time; and so all matches.
 pub mod Bagged
 pub mod AllMatches
+-- The same matches as they are enumerated.
+pub mod Multisets
+pub mod Found
