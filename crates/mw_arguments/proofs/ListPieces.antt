@@ -19,30 +19,30 @@ is_total : (ns : List ℕ) → total ns ≡ sum ns
 unfolding total
 is_total ns = is_sum_by total (λ n. n) refl (λ n ns. refl) ns
 
-front_join : (ts us : RawTerms) → front (number_of_terms ts) (join ts us) ≡ ts
+pub front_join : (ts us : RawTerms) → front (number_of_terms ts) (join ts us) ≡ ts
 front_join nil us = refl
 front_join (cons t ts) us = ap (cons t) (front_join ts us)
 
-skip_join : (ts us : RawTerms) → skip (number_of_terms ts) (join ts us) ≡ us
+pub skip_join : (ts us : RawTerms) → skip (number_of_terms ts) (join ts us) ≡ us
 skip_join nil us = refl
 skip_join (cons t ts) us = skip_join ts us
 
-join_parts : (n : ℕ) (zs : RawTerms) → join (front n zs) (skip n zs) ≡ zs
+pub join_parts : (n : ℕ) (zs : RawTerms) → join (front n zs) (skip n zs) ≡ zs
 join_parts zero zs = refl
 join_parts (suc n) nil = refl
 join_parts (suc n) (cons t ts) = ap (cons t) (join_parts n ts)
 
-number_front : (n : ℕ) (zs : RawTerms) → n ≤ number_of_terms zs → number_of_terms (front n zs) ≡ n
+pub number_front : (n : ℕ) (zs : RawTerms) → n ≤ number_of_terms zs → number_of_terms (front n zs) ≡ n
 number_front zero zs h = refl
 number_front (suc n) nil h = absurd (omega (arith, h))
 number_front (suc n) (cons t ts) h = ap suc (number_front n ts (omega (arith, h)))
 
-number_skip : (n : ℕ) (zs : RawTerms) → number_of_terms (skip n zs) ≡ number_of_terms zs - n
+pub number_skip : (n : ℕ) (zs : RawTerms) → number_of_terms (skip n zs) ≡ number_of_terms zs - n
 number_skip zero zs = omega arith
 number_skip (suc n) nil = omega arith
 number_skip (suc n) (cons t ts) = number_skip n ts ∙ omega arith
 
-number_join : (ts us : RawTerms) → number_of_terms (join ts us) ≡ number_of_terms ts + number_of_terms us
+pub number_join : (ts us : RawTerms) → number_of_terms (join ts us) ≡ number_of_terms ts + number_of_terms us
 number_join nil us = omega arith
 number_join (cons t ts) us = let e = number_join ts us in omega (arith, e)
 

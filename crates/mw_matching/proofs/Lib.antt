@@ -8,5 +8,15 @@ pub mod Patterns
 -- One argument at a time.
 pub mod Bagged
 pub mod AllMatches
+-- Parts of multisets, for the enumeration.
+pub mod Multisets
 -- Worked rows.
 pub mod Rows
+-- As they are enumerated: what fits is one element; arguments one by one; shares of a row and of a multiset; and so all.
+pub mod FoundSingle
+pub mod FoundArguments
+pub mod FoundShares
+pub mod FoundRows
+pub mod FoundParts
+pub mod FoundBags
+pub mod FoundMatches

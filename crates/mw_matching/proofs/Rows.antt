@@ -13,6 +13,7 @@ use Rattle.mw_matching.specs.Matches.{Theory, matches}
 use Rattle.mw_matching.specs.Rigid.{rigid_splits}
 use Rattle.mw_matching.specs.Patterns.{theory}
 use Rattle.mw_matching.specs.AllMatches.{all_matches}
+use Rattle.mw_matching.specs.Found.{found}
 
 abbrev any_term : Theory
 any_term = theory sig (λ i t. true) (λ f i. false)
@@ -57,3 +58,20 @@ rest = refl
 as_many : length (all_matches sig (λ i t. true) (λ f i. false) (apply 4 (cons X (cons Y nil))) (apply 4 (cons a (cons a (cons b nil)))) []) ≡ 6
 unfolding stands_after is_successor bag_cuts list_cuts
 as_many = refl
+
+-- as they are enumerated
+found_six : length (found sig [] (apply 4 (cons X (cons Y nil))) (apply 4 (cons a (cons a (cons b nil)))) []) ≡ 6
+unfolding stands_after is_successor bag_cuts list_cuts
+found_six = refl
+
+found_one : found sig [] (apply 4 (cons X (cons X nil))) (apply 4 (cons a (cons a (cons b (cons b nil))))) [] ≡ ((apply 4 (cons a (cons b nil)) ∷ []) ∷ [])
+unfolding stands_after is_successor bag_cuts list_cuts
+found_one = refl
+
+found_none : found sig [] (apply 4 (cons X (cons X nil))) (apply 4 (cons a (cons b nil))) [] ≡ []
+unfolding stands_after is_successor bag_cuts list_cuts
+found_none = refl
+
+found_rest : found sig [] (apply 4 (cons a (cons X nil))) (apply 4 (cons a (cons a (cons b nil)))) [] ≡ ((apply 4 (cons a (cons b nil)) ∷ []) ∷ [])
+unfolding stands_after is_successor bag_cuts list_cuts
+found_rest = refl

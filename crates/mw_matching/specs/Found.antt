@@ -1,7 +1,7 @@
 -- The matches of a pattern as an enumeration finds them, one argument after another: a variable that has its value takes
 -- its elements, an argument that is one element takes one, the last one takes all that is left, and a variable that
 -- stands m times takes a part of which there are m.
-use Rattle.std.specs.Prelude.{ℕ, zero, suc, ◌-◌, List, [], ◌∷◌, ◌++◌, flat_map, Bool, true, false, not, ◌&&◌, ◌||◌, cond, nat_eq, nat_lt, Option, Some, None, is_some, unwrap_or, slice_get}
+use Rattle.std.specs.Prelude.{ℕ, zero, suc, ◌-◌, ◌^◌, List, [], ◌∷◌, ◌++◌, flat_map, Bool, true, false, not, ◌&&◌, ◌||◌, cond, nat_eq, nat_lt, Option, Some, None, is_some, unwrap_or, slice_get}
 use Rattle.mw_logic.specs.Term.{RawTerm, numeral, quoted, variable, apply, RawTerms, nil, cons}
 use Rattle.mw_logic.specs.Terms.{args_of, front, skip}
 use Rattle.mw_logic.specs.Signature.{Signature, Identity}
@@ -55,9 +55,9 @@ has_top f (quoted q) = false
 has_top f (variable x) = false
 has_top f (apply g ts) = nat_eq f g
 
--- `s_` is on top, or the term is a number above 0; and what it stands on
+-- `s_` is on top, or the term is a number above 0 that `s_` gives; and what it stands on
 abbrev pub has_before : ℕ → RawTerm → Bool
-has_before f (numeral n) = nat_lt 0 n
+has_before f (numeral n) = nat_lt 0 n && nat_lt n (2 ^ 128)
 has_before f (quoted q) = false
 has_before f (variable x) = false
 has_before f (apply g ts) = nat_eq f g

@@ -13,6 +13,10 @@
 //! - **One argument at a time** (specs/Bagged, AllMatches): under an associative and commutative operator an argument
 //!   is matched with its share before the others take theirs. `all_matches` too has all matches, each once
 //!   (`all_matches_once`).
+//! - **As they are enumerated** (specs/Found, Multisets): a value that is there takes its own elements, a rigid argument
+//!   one, the last one all, and a variable that stands several times a part of which there are as many. What fits a
+//!   position is told by operators under which it has to be one element (`fits_single`). `found` has all matches, each
+//!   once (`found_once`).
 //! - The canonical instance is the normal form of the instance by what the values mean (`evaluated_is`).
 //!
 //! Not here: that matches are solutions (`IsSolution` of mw_logic), and the other way round.
