@@ -62,7 +62,7 @@ pub fn instance(
 }
 
 /// The term, where it has no more levels than it may and no number in it is too large.
-fn limited(term: Term, large: bool) -> Result<Term, CanonError>
+pub fn limited(term: Term, large: bool) -> Result<Term, CanonError>
     ensures is { IfOk result (λ t. t ≡ term) }
     ensures low { IfOk result (λ _. height term ≤ 1000) }
     ensures small { IfOk result (λ _. large ≡ false) }

@@ -22,6 +22,9 @@
 //!   exactly there, but for want of memory.
 //! - `parts` lists the term's arguments, none for the operator's identity, the term alone for another top; it takes no
 //!   memory. `rebuild` is the operator, with its axioms, on the arguments.
+//! - For those who build terms by `rebuild`: `is_largest` says whether the largest numeral stands alone among arguments,
+//!   so that a successor on them counts past it, and `limited` lets a term pass that has at most 1,000 levels and no such
+//!   successor, as a flag tells.
 //!
 //! Conditions: the signature of `Facts` is accepted, its operators' kinds are there, and the order is that of its
 //! sorts; the term (the instance) is raw; the values are canonical terms that are admitted; the operator of `parts` is
@@ -45,9 +48,9 @@ mod entering;
 mod rows;
 mod values;
 
-pub use applying::rebuild;
+pub use applying::{is_largest, rebuild};
 pub use axioms::{Axioms, Facts};
-pub use building::{canon, instance};
+pub use building::{canon, instance, limited};
 pub use elements::parts;
 use std::alloc::{AllocError, AllocFailed};
 pub use values::Values;
