@@ -1,0 +1,60 @@
+-- Many steps: what is still to come is the same, but for matches that lack a sort.
+use Rattle.std.proofs.Common.{◌≡◌, ◌∙◌, ◌<◌, true, cond, List, [], ◌∷◌, ◌++◌, length, ap, sym, subst, arith, append_assoc, length-append}
+use Rattle.std.proofs.lemmas.List.{append-nil}
+use Rattle.std.proofs.lemmas.Option.{slice_get_within}
+use Rattle.mw_logic.specs.Term.{RawTerm}
+use Rattle.mw_logic.specs.Signature.{Signature}
+use Rattle.mw_matching.specs.Found.{found}
+use Rattle.mw_search.specs.Traces.{finish, somes, trace}
+use Rattle.mw_search.specs.Goals.{hand_trace}
+use Rattle.mw_search.specs.Lacking.{OneLacksItsSort, Each, Skips}
+use Rattle.mw_search.specs.Machines.{Rise, stack_trace, machine_trace, to_come, IsReady, IsLeftOut, Stepped}
+use Rattle.mw_search.specs.declared.goals.Goal.TheVariants.{Meet}
+use Rattle.mw_search.specs.declared.positions.Positions.{Positions}
+use Rattle.mw_search.specs.declared.goals.Goal.{Goal}
+use Rattle.mw_search.specs.declared.machine.Choice.{Choice}
+use Rattle.mw_search.specs.declared.machine.Machine.{Machine}
+use Rattle.mw_search.proofs.Beginning.{each_append}
+use Rattle.mw_search.proofs.Finding.{somes-append, all_found}
+
+module _ (sig : Signature) (ps : Positions) where
+  -- at the start all that is found is still to come
+  pub starting : (m : Machine) (p t : RawTerm) → m.running ≡ true → m.goals.items ≡ Meet p t ∷ [] → m.stack.items ≡ [] → to_come sig ps m ≡ found sig ps.single.items p t m.values.items
+  starting m p t er eg es =
+      ap (λ b. somes (cond b (hand_trace sig ps.single.items m.goals.items m.values.items finish) [] ++ stack_trace sig ps m.stack.items m.values.items)) er
+      ∙ ap (λ (gs : List Goal). somes (hand_trace sig ps.single.items gs m.values.items finish ++ stack_trace sig ps m.stack.items m.values.items)) eg
+      ∙ ap (λ (cs : List Choice). somes (trace sig ps.single.items p t m.values.items finish ++ stack_trace sig ps cs m.values.items)) es
+      ∙ ap somes (append-nil (trace sig ps.single.items p t m.values.items finish)) ∙ all_found sig ps.single.items p t m.values.items
+
+  pub ready_at_start : (m : Machine) → m.given ≡ length m.values.items → m.stack.items ≡ [] → IsReady sig ps m
+  ready_at_start m eg es = record {
+    marked = subst (λ (cs : List Choice). Rise m.given cs (length m.values.items)) (sym es) (omega (arith, eg));
+    sorted = λ i t l e. absurd (let w : i < length m.values.items = slice_get_within m.values.items i t e in omega (arith, w, l, eg));
+  }
+
+  -- a state that was reached from another
+  pub record IsReached (start now : Machine) : Type 0 where
+    pub ready : IsReady sig ps now
+    pub given : now.given ≡ start.given
+    pub skips : Skips (IsLeftOut sig ps start) (to_come sig ps start) (to_come sig ps now)
+
+  pub by_step : (start old new : Machine) → IsReached start old → Stepped sig ps old new → IsReached start new
+  by_step start old new a s =
+      let lack : Each (IsLeftOut sig ps start) (somes s.dropped) = subst (λ g. Each (OneLacksItsSort sig ps.sorts g) (somes s.dropped)) a.given s.lack in
+      let one : to_come sig ps old ≡ somes s.dropped ++ to_come sig ps new = ap somes s.step ∙ somes-append s.dropped (machine_trace sig ps new) in
+      record {
+        ready = s.ready;
+        given = s.given ∙ a.given;
+        skips = record {
+          left = a.skips.left ++ somes s.dropped;
+          each = each_append (IsLeftOut sig ps start) a.skips.left (somes s.dropped) a.skips.each lack;
+          rest = a.skips.rest ∙ ap (λ l. a.skips.left ++ l) one ∙ sym (append_assoc a.skips.left (somes s.dropped) (to_come sig ps new));
+        };
+      }
+
+  -- each step leaves less to do
+  pub falls : (old new : Machine) → Stepped sig ps old new → length (machine_trace sig ps new) < length (machine_trace sig ps old)
+  falls old new s =
+      let l = length-append s.dropped (machine_trace sig ps new) in
+      let e = ap length s.step in
+      omega (arith, l, e)

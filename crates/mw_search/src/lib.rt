@@ -1,0 +1,42 @@
+//! All matches of a pattern by position modulo the axioms, one after another.
+//!
+//! A [`Search`] is given a pattern whose variables stand by position, a term, values of the first positions, and what
+//! may stand at the others ([`Positions`]): a term of a sort that is one element under some operators. Contracts see it
+//! as the list of the matches still to come, each as its values by position: `found` of mw_matching (specs/Found), with
+//! what is asked of their values (`Matches`, specs/Searches). Proved:
+//!
+//! - `new` has all of `found`.
+//! - `next` takes matches off the front. It passes over some in each of which a new value lacks its sort, and answers
+//!   the next one, in which each new value has its sort; or it passes over all that are left and answers None, and so
+//!   for ever. For want of memory it may have passed over some, and the others are still to come (`SkipsTo`).
+//!
+//! A value is asked for its sort by mw_least's `has_sort` when it is bound, so one that lacks it ends all matches that
+//! begin so. That answer is told of canonical, raw and ground terms (`IsKnown`), and so is what this says of sorts.
+//! Given values aren't asked. There is no other condition; that `found` has all matches, each once, is another law.
+//!
+//! How it works: a machine has goals in hand, the values so far, and a stack of choices. A goal is a pattern by a term,
+//! or its arguments from one on by those of a term, by elements of a list or by a multiset. It fails, holds, binds a
+//! position, becomes another, or opens a choice over shares: how many elements the next argument takes of a list, which
+//! element or which part of a multiset, which order of two arguments. No choice is opened for an argument that is one
+//! element of a list, for the last one, which takes all, and for a variable that has its value. A state stands for its
+//! trace (specs/Traces): what is to come, with a mark for each step. A step takes the first mark off, so steps end, and
+//! the matches stay the same.
+//!
+//! Cost: terms are copied by one count. A share of a list copies the elements of its piece, one of a multiset all
+//! elements; each copies the goals that wait behind its choice. Nothing recurs but comparing terms and walking them for
+//! sorts. Neither proved nor tested: time and memory, and that calls answer with memory at hand.
+#![tactic(auto)]
+
+mod bags;
+mod goals;
+mod machine;
+mod multisets;
+mod outcomes;
+mod positions;
+mod rows;
+mod search;
+mod shares;
+mod terms;
+
+pub use positions::Positions;
+pub use search::Search;

@@ -1,0 +1,147 @@
+// What becomes of the patterns under an associative and commutative operator: each takes a share of the multiset.
+ghost use Rattle.std.specs.Prelude.{◌≡◌, IfOk, option_map};
+ghost use Rattle.mw_logic.specs.NormalForm.{identity_of, elements as elements_of};
+ghost use Rattle.mw_logic.specs.Terms.{args_of, terms_of, skip};
+ghost use Rattle.mw_term.specs.Signatures.{identity_of as identity_named};
+ghost use Rattle.mw_matching.specs.Found.{value_of};
+ghost use Rattle.mw_matching.specs.Multisets.{times as times_is};
+ghost use Rattle.mw_search.specs.Goals.{IsOutcome, Gives, top_of};
+ghost use Rattle.mw_search.specs.Traces.{taken_trace, heads_trace, parts_trace};
+ghost use Rattle.mw_search.specs.declared.goals.Goal.TheVariants.{Bag};
+
+use crate::bags::{Heads, Parts, taken_away, times};
+use crate::goals::{Goal, Outcome};
+use crate::positions::{Positions, identity};
+use crate::rows::whole;
+use crate::shares::{Pieces, Shares, Singles};
+use crate::terms::{arguments, rest_of, row_of, top};
+use mw_canon::Facts;
+use mw_term::{Term, View, copy};
+use std::alloc::{AllocError, Global};
+
+/// The arguments of a pattern from this one on by all elements of a multiset.
+pub fn bag_met(
+    alloc: Global,
+    facts: &Facts,
+    positions: &Positions,
+    pattern: &Term,
+    at: usize,
+    bag: &Term,
+    values: &[Term],
+) -> Result<Outcome, AllocError>
+    ensures { IfOk result (IsOutcome facts.now positions.now.single.items (Bag pattern.now at bag.now) values.now) }
+{
+    let patterns = arguments(pattern);
+    let elements = arguments(bag);
+    if at >= patterns.len() {
+        return Ok(if elements.is_empty() {
+            Outcome::Holds
+        } else {
+            Outcome::Fails
+        });
+    }
+    let first = &patterns[at];
+    if let Some(value) = value_at(first, values) {
+        let met = given_met(alloc, facts, pattern, at + 1, elements, value)?;
+        return Ok(met);
+    }
+    if positions.is_rigid(facts, top(pattern), first) {
+        let met = heads_met(pattern, first, at + 1, bag)?;
+        return Ok(met);
+    }
+    if at + 1 == patterns.len() {
+        let met = whole(
+            alloc,
+            identity(facts, top(pattern)),
+            top(pattern),
+            elements,
+            first,
+        )?;
+        return Ok(met);
+    }
+    let left = rest_of(patterns, at);
+    let met = parts_met(alloc, facts, pattern, left, first, at + 1, elements)?;
+    Ok(met)
+}
+
+/// The value of a variable, where it has one.
+fn value_at<'v>(pattern: &Term, values: &'v [Term]) -> Option<&'v Term>
+    ensures { option_map (λ v. v.now) result ≡ value_of pattern.now values.now }
+{
+    match pattern.view() {
+        View::Var(x) => values.get(x.sort as usize),
+        _ => None,
+    }
+}
+
+/// A variable that has its value takes its elements.
+fn given_met(
+    alloc: Global,
+    facts: &Facts,
+    pattern: &Term,
+    then: usize,
+    elements: &[Term],
+    value: &Term,
+) -> Result<Outcome, AllocError>
+    ensures { let f = top_of pattern.now in
+        let us = elements_of (identity_of facts.now f) f value.now in
+        let qs = skip then (args_of pattern.now) in
+        IfOk result (Gives (λ sig single. taken_trace sig single f us qs (terms_of elements.now))) }
+{
+    let operator = top(pattern);
+    let taken = row_of(alloc, facts, operator, value)?;
+    match taken_away(alloc, arguments(&taken), elements)? {
+        Some(left) => {
+            let left = Term::apply(alloc, operator, left)?;
+            let pattern = copy(pattern)?;
+            Ok(Outcome::Becomes(Goal::Bag(pattern, then, left)))
+        }
+        None => Ok(Outcome::Fails),
+    }
+}
+
+/// A rigid pattern takes one of the different elements.
+fn heads_met(pattern: &Term, first: &Term, then: usize, bag: &Term) -> Result<Outcome, AllocError>
+    ensures { let qs = skip then (args_of pattern.now) in
+        IfOk result (Gives (λ sig single. heads_trace sig single (top_of pattern.now) first.now qs (args_of bag.now))) }
+{
+    let first = copy(first)?;
+    let pattern = copy(pattern)?;
+    let heads = Heads::new(copy(bag)?);
+    let singles = Singles {
+        pattern,
+        then,
+        heads,
+    };
+    Ok(Outcome::Opens(first, Shares::OfHeads(singles)))
+}
+
+/// Any other pattern takes a part, of which there are as many equal ones as the pattern stands among those that are
+/// left.
+fn parts_met(
+    alloc: Global,
+    facts: &Facts,
+    pattern: &Term,
+    left: &[Term],
+    first: &Term,
+    then: usize,
+    elements: &[Term],
+) -> Result<Outcome, AllocError>
+    ensures { let f = top_of pattern.now in
+        let e = identity_of facts.now f in
+        let qs = skip then (args_of pattern.now) in
+        let m = times_is first.now (terms_of left.now) in
+        IfOk result (Gives (λ sig single. parts_trace sig single e f first.now qs m (terms_of elements.now))) }
+{
+    let identity = identity(facts, top(pattern));
+    let parts = Parts::new(alloc, identity.is_some(), times(first, left), elements)?;
+    let first = copy(first)?;
+    let pattern = copy(pattern)?;
+    let pieces = Pieces {
+        pattern,
+        then,
+        identity,
+        parts,
+    };
+    Ok(Outcome::Opens(first, Shares::OfParts(pieces)))
+}

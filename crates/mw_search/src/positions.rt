@@ -1,0 +1,137 @@
+// What may stand at the positions of a pattern.
+ghost use Rattle.std.specs.Prelude.{◌≡◌, ◌&&◌, not, option_map};
+ghost use Rattle.mw_logic.specs.Kinds.{is_successor};
+ghost use Rattle.mw_logic.specs.NormalForm.{identity_of, is_identity as is_identity_of};
+ghost use Rattle.mw_logic.specs.Parts.{is_assoc};
+ghost use Rattle.mw_term.specs.Signatures.{identity_of as identity_named};
+ghost use Rattle.mw_matching.specs.Found.{is_among as is_among_of, is_element as is_element_of, is_element_under_all as is_element_under_all_of, stands as stands_of};
+
+use mw_canon::{Axioms, Facts, parts};
+use mw_term::{Identity, OpId, Seq, SortId, Term, View};
+
+/// What may stand at each position: a term of its sort that is one element under each operator listed for it. Behind
+/// the lists anything may stand.
+#[derive(Drop)]
+pub struct Positions {
+    pub sorts: Seq<SortId>,
+    pub single: Vec<Seq<OpId>>,
+}
+
+impl Positions {
+    ghost use Rattle.mw_matching.specs.Found.{operators_at, is_single, fits};
+    ghost use Rattle.mw_matching.specs.Patterns.{is_rigid};
+
+    fn operators_at(&self, position: u32) -> &[OpId]
+        ensures { result.now ≡ operators_at self.now.single.items position }
+    {
+        match self.single.get(position as usize) {
+            Some(operators) => operators.as_slice(),
+            None => &[],
+        }
+    }
+
+    /// Whether what stands at a position has to be one element under an operator.
+    fn is_single(&self, operator: OpId, position: u32) -> bool
+        ensures { result ≡ is_single self.now.single.items operator position }
+    {
+        is_among(operator, self.operators_at(position))
+    }
+
+    /// Whether a term is one element under each operator listed for a position.
+    pub fn fits(&self, facts: &Facts, position: u32, term: &Term) -> bool
+        ensures { result ≡ fits facts.now self.now.single.items position term.now }
+    {
+        is_element_under_all(facts, self.operators_at(position), term)
+    }
+
+    /// Whether a pattern becomes one element under an operator, whatever its variables' values are.
+    pub fn is_rigid(&self, facts: &Facts, operator: OpId, pattern: &Term) -> bool
+        ensures { result ≡ is_rigid facts.now (is_single self.now.single.items) operator pattern.now }
+    {
+        match pattern.view() {
+            View::Nat(_) => !is_identity(facts, operator, pattern),
+            View::Qid(_) => true,
+            View::Var(x) => self.is_single(operator, x.sort),
+            View::Op(top, _) => {
+                operator != top && is_kept(facts, top) && !is_identity(facts, operator, pattern)
+            }
+        }
+    }
+}
+
+fn is_among(operator: OpId, operators: &[OpId]) -> bool
+    ensures { result ≡ is_among_of operator operators.now }
+{
+    let mut rest = operators;
+    while let [other, after @ ..] = rest {
+        if operator == *other {
+            return true;
+        }
+        rest = after;
+    }
+    false
+}
+
+/// Whether the operator's terms are built of their arguments as these are, or in order.
+fn is_kept(facts: &Facts, operator: OpId) -> bool
+    ensures { result ≡ (not (is_assoc facts.now operator) && not (is_successor facts.now operator)) }
+{
+    match facts.axioms(operator) {
+        Axioms::Plain => true,
+        Axioms::Commutative => true,
+        Axioms::Successor => false,
+        Axioms::Associative { .. } => false,
+    }
+}
+
+/// The identity of an operator, where it has one.
+pub fn identity(facts: &Facts, operator: OpId) -> Option<Identity>
+    ensures { option_map identity_named result ≡ identity_of facts.now operator }
+{
+    facts.shows();
+    match facts.axioms(operator) {
+        Axioms::Associative { identity, .. } => identity,
+        _ => None,
+    }
+}
+
+/// Whether a term is the identity of an operator.
+pub fn is_identity(facts: &Facts, operator: OpId, term: &Term) -> bool
+    ensures { result ≡ is_identity_of (identity_of facts.now operator) term.now }
+{
+    facts.shows();
+    match facts.axioms(operator) {
+        Axioms::Associative { .. } => parts(facts, operator, term).is_empty(),
+        _ => false,
+    }
+}
+
+/// Whether an operator stands on top, on arguments.
+pub fn stands(operator: OpId, term: &Term) -> bool
+    ensures { result ≡ stands_of operator term.now }
+{
+    match term.view() {
+        View::Op(top, args) => operator == top && !args.is_empty(),
+        _ => false,
+    }
+}
+
+/// Whether a term is one element under an operator.
+fn is_element(facts: &Facts, operator: OpId, term: &Term) -> bool
+    ensures { result ≡ is_element_of (identity_of facts.now operator) operator term.now }
+{
+    !is_identity(facts, operator, term) && !stands(operator, term)
+}
+
+fn is_element_under_all(facts: &Facts, operators: &[OpId], term: &Term) -> bool
+    ensures { result ≡ is_element_under_all_of facts.now operators.now term.now }
+{
+    let mut rest = operators;
+    while let [operator, after @ ..] = rest {
+        if !is_element(facts, *operator, term) {
+            return false;
+        }
+        rest = after;
+    }
+    true
+}

@@ -1,0 +1,180 @@
+// What a choice goes through: the terms that the next pattern may meet, each with the goal that it leaves.
+ghost use Rattle.std.specs.Prelude.{◌≡◌, IfOk, option_map};
+ghost use Rattle.mw_matching.specs.Multisets.{behind_first};
+ghost use Rattle.mw_search.specs.Goals.{IsNext};
+
+use crate::bags::{Heads, Parts};
+use crate::goals::Goal;
+use crate::terms::{arguments, first_of, part, rebuilt_of, top};
+use mw_term::{Identity, Term, copy};
+use std::alloc::{AllocError, Global};
+
+/// The first elements of those from `from` on: `next` of them, and then one more each time, fewer than `end`.
+#[derive(Drop)]
+pub struct Fronts {
+    pub pattern: Term,
+    /// The next argument of the pattern.
+    pub then: usize,
+    pub row: Term,
+    pub from: usize,
+    pub identity: Option<Identity>,
+    pub next: usize,
+    pub end: usize,
+}
+
+/// One element of a multiset each time, of those that differ.
+#[derive(Drop)]
+pub struct Singles {
+    pub pattern: Term,
+    pub then: usize,
+    pub heads: Heads,
+}
+
+/// Parts of a multiset.
+#[derive(Drop)]
+pub struct Pieces {
+    pub pattern: Term,
+    pub then: usize,
+    pub identity: Option<Identity>,
+    pub parts: Parts,
+}
+
+/// Lists of arguments, each as a term, from `next` on.
+#[derive(Drop)]
+pub struct Orders {
+    pub pattern: Term,
+    pub lists: Vec<Term>,
+    pub next: usize,
+}
+
+#[derive(Drop)]
+pub enum Shares {
+    OfRow(Fronts),
+    OfHeads(Singles),
+    OfParts(Pieces),
+    OfOrders(Orders),
+}
+
+impl Fronts {
+    ghost use Rattle.mw_search.specs.Goals.{front_share};
+
+    /// The share of `next` elements.
+    fn share(&self, alloc: Global) -> Result<(Term, Goal), AllocError>
+        ensures { IfOk result (λ s. (s.0, s.1) ≡ front_share self.now self.now.next) }
+    {
+        let elements = arguments(&self.row);
+        let part = part(elements, self.from, self.next);
+        let term = rebuilt_of(alloc, self.identity, top(&self.pattern), part)?;
+        let from = self.from.saturating_add(self.next).min(elements.len());
+        let goal = Goal::Row(copy(&self.pattern)?, self.then, copy(&self.row)?, from);
+        Ok((term, goal))
+    }
+}
+
+impl Singles {
+    ghost use Rattle.mw_search.specs.Goals.{heads_left};
+
+    fn share(&self, alloc: Global) -> Result<Option<(Term, Goal)>, AllocError>
+        ensures { IfOk result (λ o. IsNext (option_map (λ s. (s.0, s.1)) o) (heads_left self.now)) }
+    {
+        let Some(term) = self.heads.element()? else {
+            return Ok(None);
+        };
+        let left = self.heads.rest(alloc)?;
+        let left = Term::apply(alloc, top(&self.pattern), left)?;
+        let pattern = copy(&self.pattern)?;
+        Ok(Some((term, Goal::Bag(pattern, self.then, left))))
+    }
+
+    fn pass(&mut self)
+        ensures { heads_left self.new ≡ behind_first (heads_left self.old) }
+    {
+        self.heads.pass();
+    }
+}
+
+impl Pieces {
+    ghost use Rattle.mw_search.specs.Goals.{parts_left};
+
+    fn share(&self, alloc: Global) -> Result<Option<(Term, Goal)>, AllocError>
+        ensures { IfOk result (λ o. IsNext (option_map (λ s. (s.0, s.1)) o) (parts_left self.now)) }
+    {
+        let Some(part) = self.parts.part(alloc)? else {
+            return Ok(None);
+        };
+        let operator = top(&self.pattern);
+        let term = rebuilt_of(alloc, self.identity, operator, part.as_slice())?;
+        let left = self.parts.rest(alloc)?;
+        let left = Term::apply(alloc, operator, left)?;
+        let pattern = copy(&self.pattern)?;
+        Ok(Some((term, Goal::Bag(pattern, self.then, left))))
+    }
+
+    fn pass(&mut self)
+        ensures { parts_left self.new ≡ behind_first (parts_left self.old) }
+    {
+        self.parts.pass();
+    }
+}
+
+impl Orders {
+    ghost use Rattle.mw_search.specs.Goals.{orders_left};
+
+    fn share(&self, alloc: Global) -> Result<Option<(Term, Goal)>, AllocError>
+        ensures { IfOk result (λ o. IsNext (option_map (λ s. (s.0, s.1)) o) (orders_left self.now)) }
+    {
+        if self.next >= self.lists.len() {
+            return Ok(None);
+        }
+        let list = &self.lists[self.next];
+        let term = first_of(alloc, list)?;
+        let pattern = copy(&self.pattern)?;
+        let rest = copy(list)?;
+        Ok(Some((term, Goal::Args(pattern, rest, 1))))
+    }
+
+    fn pass(&mut self)
+        ensures { orders_left self.new ≡ behind_first (orders_left self.old) }
+    {
+        if self.next < self.lists.len() {
+            self.next += 1;
+        }
+    }
+}
+
+impl Shares {
+    ghost use Rattle.mw_search.specs.Goals.{shares_left};
+
+    /// The next share.
+    pub fn share(&self, alloc: Global) -> Result<Option<(Term, Goal)>, AllocError>
+        ensures { IfOk result (λ o. IsNext (option_map (λ s. (s.0, s.1)) o) (shares_left self.now)) }
+    {
+        match self {
+            Shares::OfRow(fronts) => {
+                if fronts.next >= fronts.end {
+                    return Ok(None);
+                }
+                Ok(Some(fronts.share(alloc)?))
+            }
+            Shares::OfHeads(singles) => singles.share(alloc),
+            Shares::OfParts(pieces) => pieces.share(alloc),
+            Shares::OfOrders(orders) => orders.share(alloc),
+        }
+    }
+
+    /// Goes on behind the next share.
+    pub fn pass(&mut self)
+        ensures { shares_left self.new ≡ behind_first (shares_left self.old) }
+    {
+        match self {
+            Shares::OfRow(fronts) => {
+                if fronts.next < fronts.end {
+                    fronts.next += 1;
+                }
+            }
+            Shares::OfHeads(singles) => singles.pass(),
+            Shares::OfParts(pieces) => pieces.pass(),
+            Shares::OfOrders(orders) => orders.pass(),
+        }
+    }
+}
