@@ -5,7 +5,7 @@ ghost use Rattle.mw_logic.specs.NormalForm.{normal_form};
 ghost use Rattle.mw_logic.specs.Signature.{Signature as SignatureOf, sort as sort_of, Declaration as DeclarationOf, IsRawTerm, Member};
 ghost use Rattle.mw_logic.specs.Preregular.{IsSortOf};
 ghost use Rattle.mw_logic.specs.Sorts.{AtOrBelow, IsBelow, HasSort, IsLeastSort};
-ghost use Rattle.mw_logic.specs.Term.{is_ground};
+ghost use Rattle.mw_logic.specs.Term.{is_ground, RawTerms, apply as applied};
 ghost use Rattle.mw_machine.specs.Simple.{IsSimpleModule};
 ghost use Rattle.mw_pattern.specs.Compiled.{IsIndexOf};
 ghost use Rattle.mw_sorts.specs.Diagrams.{AreTablesOf};
@@ -20,7 +20,7 @@ use mw_canon::Facts;
 use mw_pattern::{Equations, index};
 use mw_poset::Poset;
 use mw_sorts::{Tables, least_sort};
-use mw_term::{Declaration, Seq, Signature, SortId, Sorted, Statement, Term, View, numbered};
+use mw_term::{Declaration, OpId, Seq, Signature, SortId, Sorted, Statement, Term, View, numbered};
 use std::alloc::{AllocError, Global};
 use std::marker::Model;
 
@@ -218,17 +218,24 @@ impl Ctx {
         false
     }
 
+    /// Whether canonical terms with this operator on top may have a sort, whatever their arguments are.
+    pub fn may_give(&self, operator: OpId, sort: SortId) -> bool
+        ensures { let sig = self.now.signature in (ts : RawTerms) → normal_form sig (nested sig (applied operator ts)) ≡ applied operator ts → IsRawTerm sig (nested sig (applied operator ts)) → HasSort sig (nested sig (applied operator ts)) (sort_of sort) → IsTrue result }
+    {
+        self.shows();
+        match numbered(self.signature().operators.as_slice(), operator) {
+            Some(operator) => self.some_gives(operator.declarations.as_slice(), sort),
+            None => true,
+        }
+    }
+
     /// Whether the operator on top of a term may give a sort, whatever its arguments are.
     fn may_have(&self, term: &Term, sort: SortId) -> bool
         ensures { let sig = self.now.signature in normal_form sig (nested sig term.now) ≡ term.now → IsRawTerm sig (nested sig term.now) → HasSort sig (nested sig term.now) (sort_of sort) → IsTrue result }
     {
-        self.shows();
-        let View::Op(operator, _) = term.view() else {
-            return true;
-        };
-        match numbered(self.signature().operators.as_slice(), operator) {
-            Some(operator) => self.some_gives(operator.declarations.as_slice(), sort),
-            None => true,
+        match term.view() {
+            View::Op(operator, _) => self.may_give(operator, sort),
+            _ => true,
         }
     }
 

@@ -12,6 +12,8 @@
 //!   executable statements, by position (`IsIndexOf`).
 //! - `least_sort` is the least sort of a canonical term, or its kind where no declaration gives it a sort
 //!   (`IsLeastSort`); `has_sort` whether such a term, if it is ground, has a sort (`HasSort`), exactly.
+//!   `may_give` is true where some canonical term with an operator on top has a sort; it asks the declarations alone, so
+//!   it may be true where none has.
 //!
 //! How `has_sort` works: of each kind `sure_sorts` takes a greatest sort (its top). An operator without a result at or
 //! below its kind's top on arguments that have theirs is partial. A ground term in which no partial operator stands

@@ -1,0 +1,16 @@
+use Rattle.std.proofs.Common.{◌≡◌, ◌≤◌, ◌+◌, length}
+use Rattle.mw_logic.specs.NormalForm.{height, highest}
+use Rattle.mw_logic.specs.Terms.{terms_of}
+use Rattle.mw_compile.proofs.singles.Singles.+put_all.Given as goal
+
+abbrev pub decreases-put_all : goal.decreases-put_all
+decreases-put_all l = height l.pattern.now
+
+abbrev pub invariant-loop-rest : goal.invariant-loop-rest
+invariant-loop-rest l = record {
+  kept : l.self ≡ l.fn.self;
+  high : highest (terms_of l.rest) + 1 ≤ height l.pattern;
+}
+
+abbrev pub decreases-loop-rest : goal.decreases-loop-rest
+decreases-loop-rest l = length l.rest
