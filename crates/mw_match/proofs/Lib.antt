@@ -1,4 +1,6 @@
 pub mod Matching
-pub mod Solving
 pub mod Pairs
 pub mod Sorting
+pub mod Orders
+pub mod Picking
+pub mod Candidates

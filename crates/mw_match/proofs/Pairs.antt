@@ -1,40 +1,25 @@
 -- Substitutions, binding by binding.
-use Rattle.std.specs.Prelude.{◌≡◌, ◌<◌, ◌≤◌, ◌+◌, ℕ, List, [], ◌∷◌, ◌++◌, length, map, take, get_or, Some, slice_get, refl}
+use Rattle.std.specs.Prelude.{◌≡◌, ◌<◌, ◌≤◌, ◌+◌, ℕ, min, List, [], ◌∷◌, ◌++◌, length, map, take, get_or, Some, slice_get, refl}
 use Rattle.std.specs.List.{zip}
 use Rattle.std.proofs.Common.{sym, subst, ap, ◌∙◌, arith}
 use Rattle.std.proofs.lemmas.List.{length-map, map-append, get_or-map, take_more, take_all}
 use Rattle.std.proofs.lemmas.Option.{slice_get-get_or}
 use Rattle.std.proofs.lemmas.Slice.Zip.{get_or-zip, length-zip}
-use Rattle.mw_logic.specs.Term.{Variable, RawTerm, variable}
+use Rattle.mw_logic.specs.Term.{Variable, RawTerm}
 use Rattle.mw_logic.specs.Substitution.{Substitution}
-use Rattle.mw_machine.specs.Variables.{met, AreDistinct, bound_variables, bound_values}
-use Rattle.mw_pattern.proofs.Tables.{met_next}
+use Rattle.mw_machine.specs.Variables.{bound_values}
 use Rattle.mw_term.specs.declared.subst.Binding.{Binding}
 
 abbrev pub pairs_of : List Binding → Substitution
 pairs_of bs = map (λ (b : Binding). (b.variable, b.value)) bs
-
-variables_in : (bs : List Binding) → bound_variables (pairs_of bs) ≡ map (λ (b : Binding). b.variable) bs
-variables_in [] = refl
-variables_in (b ∷ bs) = ap (λ xs. b.variable ∷ xs) (variables_in bs)
 
 values_in : (bs : List Binding) → bound_values (pairs_of bs) ≡ map (λ (b : Binding). b.value) bs
 values_in [] = refl
 values_in (b ∷ bs) = ap (λ vs. b.value ∷ vs) (values_in bs)
 
 module _ (s : Substitution) (bs : List Binding) (is : pairs_of bs ≡ s) where
-  variables_here : map (λ (b : Binding). b.variable) bs ≡ bound_variables s
-  variables_here = sym (variables_in bs) ∙ ap bound_variables is
-
   values_here : map (λ (b : Binding). b.value) bs ≡ bound_values s
   values_here = sym (values_in bs) ∙ ap bound_values is
-
-  pub met_binding : (i : ℕ) (b : Binding) → i < length bs → b ≡ get_or bs i b → AreDistinct (bound_variables s) → met (take i (bound_variables s)) (variable b.variable) ≡ take (i + 1) (bound_variables s)
-  met_binding i b h e d =
-      let xs : List Variable = map (λ (b : Binding). b.variable) bs in
-      let l = length-map bs (λ (b : Binding). b.variable) in
-      let g : b.variable ≡ get_or xs i b.variable = ap (λ (b : Binding). b.variable) e ∙ sym (get_or-map (λ (b : Binding). b.variable) bs i b b.variable h) in
-      subst (λ ys. met (take i ys) (variable b.variable) ≡ take (i + 1) ys) variables_here (met_next xs i b.variable (omega (arith, h, l)) g (subst AreDistinct (sym variables_here) d))
 
   pub value_taken : (i : ℕ) (b : Binding) → i < length bs → b ≡ get_or bs i b → take i (bound_values s) ++ b.value ∷ [] ≡ take (i + 1) (bound_values s)
   value_taken i b h e =
@@ -44,11 +29,6 @@ module _ (s : Substitution) (bs : List Binding) (is : pairs_of bs ≡ s) where
       let t : take i vs ++ b.value ∷ [] ≡ take (i + 1) vs = ap (λ v. take i vs ++ v ∷ []) g ∙ sym (take_more vs i b.value (omega (arith, h, l))) in
       subst (λ us. take i us ++ b.value ∷ [] ≡ take (i + 1) us) values_here t
 
-  pub variables_taken : (i : ℕ) → length bs ≤ i → take i (bound_variables s) ≡ bound_variables s
-  variables_taken i h =
-      let l = length-map bs (λ (b : Binding). b.variable) in
-      subst (λ ys. take i ys ≡ ys) variables_here (take_all i (map (λ (b : Binding). b.variable) bs) (omega (arith, h, l)))
-
   pub values_taken : (i : ℕ) → length bs ≤ i → take i (bound_values s) ≡ bound_values s
   values_taken i h =
       let l = length-map bs (λ (b : Binding). b.value) in
@@ -56,11 +36,11 @@ module _ (s : Substitution) (bs : List Binding) (is : pairs_of bs ≡ s) where
 
 -- one more pair
 pub pair_taken : (xs : List Variable) (vs : List RawTerm) (i : ℕ) (pairs pairs' : List Binding) (b : Binding) (x : Variable) (v : RawTerm)
-    → length vs ≡ length xs → i < length xs → slice_get xs i ≡ Some x → v ≡ get_or vs i v → b.variable ≡ x → b.value ≡ v → pairs' ≡ pairs ++ b ∷ []
+    → i < length xs → i < length vs → slice_get xs i ≡ Some x → v ≡ get_or vs i v → b.variable ≡ x → b.value ≡ v → pairs' ≡ pairs ++ b ∷ []
     → pairs_of pairs ≡ take i (zip xs vs) → pairs_of pairs' ≡ take (i + 1) (zip xs vs)
-pair_taken xs vs i pairs pairs' b x v l h g e m n more inv =
+pair_taken xs vs i pairs pairs' b x v h l g e m n more inv =
     let a : x ≡ get_or xs i x = some_parts _ _ (sym g ∙ slice_get-get_or xs i x h) in
-    let z : get_or (zip xs vs) i (x, v) ≡ (x, v) = get_or-zip xs vs i (x, v) h (omega (arith, h, l)) ∙ pair_same (sym a) (sym e) in
+    let z : get_or (zip xs vs) i (x, v) ≡ (x, v) = get_or-zip xs vs i (x, v) h l ∙ pair_same (sym a) (sym e) in
     let w = length-zip xs vs in
     ap pairs_of more ∙ map-append (λ (b : Binding). (b.variable, b.value)) pairs (b ∷ []) ∙ rw (inv, m, n, take_more (zip xs vs) i (x, v) (omega (arith, w, h, l)), z) refl
   where
@@ -70,5 +50,5 @@ pair_taken xs vs i pairs pairs' b x v l h g e m n more inv =
     pair_same : {y z : Variable} {t u : RawTerm} → y ≡ z → t ≡ u → ◌≡◌ {A = Variable × RawTerm} (y, t) (z, u)
     pair_same p q = λ i. (p i, q i)
 
-pub pairs_taken : (xs : List Variable) (vs : List RawTerm) (i : ℕ) → length vs ≡ length xs → length xs ≤ i → take i (zip xs vs) ≡ zip xs vs
-pairs_taken xs vs i l h = let w = length-zip xs vs in take_all i (zip xs vs) (omega (arith, w, h, l))
+pub pairs_taken : (xs : List Variable) (vs : List RawTerm) (i : ℕ) → min (length xs) (length vs) ≤ i → take i (zip xs vs) ≡ zip xs vs
+pairs_taken xs vs i h = let w = length-zip xs vs in take_all i (zip xs vs) (omega (arith, w, h))

@@ -10,7 +10,15 @@ use Rattle.mw_logic.specs.Free.{IsFreeSignature}
 use Rattle.mw_logic.specs.Signature.{Signature, sort, IsRawTerm}
 use Rattle.mw_logic.specs.Sorts.{HasSort}
 use Rattle.mw_machine.specs.Simple.{AreGround, HaveSorts}
-use Rattle.mw_match.proofs.Solving.{plain_sort}
+use Rattle.mw_machine.specs.Simple.{IsGround}
+use Rattle.mw_canon.proofs.Free.{nested_free, normal_form_free}
+
+-- whether a value has a sort, as the flattened term has it
+plain_sort : (sig : Signature) → IsFreeSignature sig → (v : RawTerm) (S : ℕ) (b : Bool) → (normal_form sig (nested sig v) ≡ v → IsRawTerm sig (nested sig v) → IsTrue (is_ground v) → (IsTrue b ↔ HasSort sig (nested sig v) (sort S)))
+    → IsGround sig v → (IsTrue b ↔ HasSort sig v (sort S))
+plain_sort sig free v S b h g =
+    let e = nested_free sig free v in
+    subst (λ u. IsTrue b ↔ HasSort sig u (sort S)) e (h (normal_form_free sig free (nested sig v) ∙ e) (subst (IsRawTerm sig) (sym e) g.1) g.0)
 
 -- the first ones have their sorts
 abbrev pub HaveFirst : Signature → List RawTerm → List ℕ → ℕ → Type 0

@@ -1,29 +1,10 @@
 // Substitutions as variables and values in order.
-ghost use Rattle.std.specs.Prelude.{◌≡◌, IfOk, length};
+ghost use Rattle.std.specs.Prelude.{◌≡◌, IfOk};
 ghost use Rattle.std.specs.List.{zip};
-ghost use Rattle.mw_machine.specs.Variables.{AreDistinct, met, bound_variables, bound_values};
-ghost use Rattle.mw_term.specs.Raws.{raw_term};
+ghost use Rattle.mw_machine.specs.Variables.{bound_values};
 
-use mw_pattern::{Places, meet_all};
-use mw_term::{Binding, Raw, Seq, Subst, Term, VarId, copy, copy_name};
+use mw_term::{Binding, Seq, Subst, Term, VarId, copy, copy_name};
 use std::alloc::{AllocError, Global};
-
-/// The variables of a substitution, and behind them those that a pattern has besides.
-pub fn places_of<'a>(
-    alloc: Global,
-    given: &'a Subst,
-    pattern: &'a Raw,
-) -> Result<Places<'a>, AllocError>
-    requires { AreDistinct (bound_variables given.now) }
-    ensures { IfOk result (λ ps. ps ≡ met (bound_variables given.now) (raw_term pattern.now)) }
-{
-    let mut places = Places::none(alloc);
-    for binding in given.pairs.as_slice() {
-        places.meet(&binding.variable)?;
-    }
-    meet_all(&mut places, pattern)?;
-    Ok(places)
-}
 
 /// The values of a substitution.
 pub fn values_of(alloc: Global, given: &Subst) -> Result<Vec<Term>, AllocError>
@@ -45,14 +26,14 @@ fn copy_variable(alloc: Global, x: &VarId) -> Result<VarId, AllocError>
     Ok(VarId { name, sort })
 }
 
-/// The variables with these values.
-pub fn bound(alloc: Global, places: &Places<'_>, values: &[Term]) -> Result<Subst, AllocError>
-    requires { length values.now ≡ length places.now }
-    ensures { IfOk result (λ s. s ≡ zip places.now values.now) }
+/// Variables with values, one by one, as far as there are both.
+pub fn bound(alloc: Global, variables: &[VarId], values: &[Term]) -> Result<Subst, AllocError>
+    ensures { IfOk result (λ s. s ≡ zip variables.now values.now) }
 {
+    let count = variables.len().min(values.len());
     let mut pairs = Vec::new(alloc);
-    for i in 0..places.len() {
-        let variable = copy_variable(alloc, places.variable(i))?;
+    for i in 0..count {
+        let variable = copy_variable(alloc, &variables[i])?;
         let value = copy(&values[i])?;
         pairs.push(Binding { variable, value })?;
     }

@@ -1,21 +1,23 @@
 // The solutions of a pattern.
-ghost use Rattle.std.specs.Prelude.{◌≡◌, ◌↔◌, ◌∷◌, [], IfOk, OnErr, IsTrue, MatchOption};
+ghost use Rattle.std.specs.Prelude.{◌≡◌, ◌∷◌, [], IfOk, OnOk, OnErr, MatchOption, ⊤};
 ghost use Rattle.mw_logic.specs.Parts.{nested};
+ghost use Rattle.mw_logic.specs.NormalForm.{normal_form};
 ghost use Rattle.mw_logic.specs.Signature.{IsRawTerm};
 ghost use Rattle.mw_logic.specs.Substitution.{IsSubstitution};
-ghost use Rattle.mw_logic.specs.Term.{is_ground};
-ghost use Rattle.mw_machine.specs.Simple.{IsSimpleModule};
-ghost use Rattle.mw_machine.specs.Variables.{met, bound_variables};
-ghost use Rattle.mw_match.specs.Solutions.{IsAllSolutions, IsOnlySolution};
+ghost use Rattle.mw_logic.specs.Term.{RawTerm};
+ghost use Rattle.mw_machine.specs.Variables.{bound_variables, bound_values, sorts_of};
 ghost use Rattle.mw_canon.specs.Canonical.{meant};
-ghost use Rattle.mw_term.specs.Raws.{raw_term};
+ghost use Rattle.mw_solving.specs.Values.{IsValue, AreValues};
+ghost use Rattle.mw_compile.specs.Compiled.{IsCompiled};
+ghost use Rattle.mw_search.specs.Lacking.{Skips};
+ghost use Rattle.mw_search.specs.Searches.{FitsSorts as FitsBySearch};
+ghost use Rattle.mw_match.specs.Solutions.{IsAllSolutions, FitsSorts, PassesTo, LacksBySearch, matches_of};
 
-use crate::bindings::{bound, places_of, values_of};
-use crate::by_position::matches;
-use crate::sorts::have_sorts;
+use crate::bindings::{bound, values_of};
+use mw_compile::Compiled;
 use mw_least::Ctx;
-use mw_pattern::{Places, pattern_of};
-use mw_term::{Raw, Seq, Subst, Term};
+use mw_search::Search;
+use mw_term::{Seq, Subst, Term, copy};
 use std::alloc::{AllocError, Global};
 use std::marker::Model;
 
@@ -27,106 +29,110 @@ pub struct Solution {
     pub take: Option<Seq<u32>>,
 }
 
-/// The solutions of a pattern, one by one. Contracts see the list of those that are still to come.
+/// The solutions of a pattern, one by one. Contracts see candidates for those that are still to come.
 #[derive(Drop)]
-pub struct Solutions {
-    coming: Option<Solution>,
+pub struct Solutions<'c> {
+    alloc: Global,
+    compiled: &'c Compiled,
+    search: Search<'c>,
+    /// The values of the next solution, where the search has it and memory was wanting to hand it out.
+    found: Option<Seq<Term>>,
 }
 
-impl Model for Solutions {
-    ghost use Rattle.std.specs.Prelude.{List};
+impl<'c> Model for Solutions<'c> {
     ghost use Rattle.std.specs.Coded.{codes};
     ghost use Rattle.mw_logic.specs.TermCode.{coded_term, coded_variable};
-    ghost use Rattle.mw_match.specs.declared.solutions.Solution.{Solution};
+    ghost use Rattle.mw_match.specs.Solutions.{Coming};
 
-    ghost Value = { List Solution };
+    ghost Value = { Coming };
 
     ghost coded = { Prim.hlevel (codes, coded_term, coded_variable) };
 
-    ghost use Rattle.mw_match.specs.Solutions.{listed};
+    ghost use Rattle.std.specs.Prelude.{map};
+    ghost use Rattle.mw_match.specs.Solutions.{candidate, matches_of, IsKept};
 
-    ghost view = { λ s. listed s.coming };
+    ghost view = { λ s. record {
+      signature = s.search.signature;
+      sorts = s.search.sorts;
+      given = s.search.given;
+      candidates = map (candidate s.compiled.now.variables) (matches_of s.found s.search.coming);
+    } };
+
+    ghost invariant = { λ s. IsKept s.compiled.now.variables s.search s.found };
 }
 
-impl Solutions {
-    /// The solutions of a pattern for a subject that extend a substitution.
+impl<'c> Solutions<'c> {
+    /// The solutions of a compiled pattern for a subject that extend a substitution.
     pub fn new(
         alloc: Global,
-        context: &Ctx,
-        pattern: &Raw,
+        context: &'c Ctx,
+        compiled: &'c Compiled,
         subject: &Term,
         given: &Subst,
-    ) -> Result<Solutions, AllocError>
-        requires simple { IsSimpleModule context.now }
-        requires pattern { IsRawTerm context.now.signature (nested context.now.signature (raw_term pattern.now)) }
-        requires ground { IsTrue (is_ground subject.now) }
-        requires subject { IsRawTerm context.now.signature (nested context.now.signature subject.now) }
+    ) -> Result<Solutions<'c>, AllocError>
+        requires compiled { compiled.now.positions.sorts ≡ sorts_of compiled.now.variables }
+        requires subject { IsValue context.now.signature subject.now }
         requires given { IsSubstitution context.now.signature (meant context.now.signature given.now) }
-        ensures { let sig = context.now.signature in IfOk result (λ s. IsAllSolutions sig (nested sig (raw_term pattern.now)) (nested sig subject.now) (meant sig given.now) s) }
+        requires values { AreValues context.now.signature (bound_values given.now) }
+        ensures { let sig = context.now.signature in
+            (p : RawTerm) → IsRawTerm sig p → IsCompiled sig (normal_form sig p) (bound_variables given.now) compiled.now
+            → IfOk result (IsAllSolutions sig p (nested sig subject.now) (meant sig given.now)) }
     {
-        let found = solve(alloc, context, pattern, subject, given)?;
-        let coming = match found {
-            Some(subst) => Some(Solution { subst, take: None }),
-            None => None,
-        };
-        Ok(Solutions { coming })
+        context.shows();
+        let values = values_of(alloc, given)?;
+        let pattern = copy(&compiled.pattern)?;
+        let subject = copy(subject)?;
+        let search = Search::new(
+            alloc,
+            context,
+            &compiled.positions,
+            pattern,
+            subject,
+            values,
+        )?;
+        Ok(Solutions {
+            alloc,
+            compiled,
+            search,
+            found: None,
+        })
     }
 
-    /// The next solution.
+    /// The next solution; none where there is none, and for ever after. Candidates that aren't solutions are passed
+    /// over.
     pub fn next(&mut self) -> Result<Option<Solution>, AllocError>
-        ensures ok { IfOk result (λ o. MatchOption o (self.old ≡ [] × self.new ≡ []) (λ r. self.old ≡ r ∷ self.new)) }
-        ensures err { OnErr result (self.new ≡ self.old) }
+        ensures ok { IfOk result (λ o. MatchOption o (PassesTo self.old [] × (self.new.candidates ≡ []))
+            (λ r. PassesTo self.old (r ∷ self.new.candidates) × FitsSorts self.old r)) }
+        ensures err { OnErr result (PassesTo self.old self.new.candidates) }
+        ensures same { self.new ≡ record self.old { candidates = self.new.candidates } }
     {
-        Ok(self.coming.take())
+        find(&mut self.search, &mut self.found)?;
+        let Some(values) = &self.found else {
+            return Ok(None);
+        };
+        let subst = bound(
+            self.alloc,
+            self.compiled.variables.as_slice(),
+            values.as_slice(),
+        )?;
+        self.found = None;
+        Ok(Some(Solution { subst, take: None }))
     }
 }
 
-/// The only solution that there can be where no operator has an axiom. `places` are those of the variables that were
-/// given, and behind them those of the pattern's others.
-fn solve_at(
-    alloc: Global,
-    context: &Ctx,
-    pattern: &Raw,
-    subject: &Term,
-    given: &Subst,
-    places: &Places<'_>,
-) -> Result<Option<Subst>, AllocError>
-    requires simple { IsSimpleModule context.now }
-    requires pattern { IsRawTerm context.now.signature (raw_term pattern.now) }
-    requires ground { IsTrue (is_ground subject.now) }
-    requires subject { IsRawTerm context.now.signature subject.now }
-    requires given { IsSubstitution context.now.signature given.now }
-    requires places { places.now ≡ met (bound_variables given.now) (raw_term pattern.now) }
-    ensures { IfOk result (λ o. IsOnlySolution context.now.signature (raw_term pattern.now) subject.now given.now o) }
+/// Has the values of the next solution at hand, if there is one.
+fn find(search: &mut Search<'_>, found: &mut Option<Seq<Term>>) -> Result<(), AllocError>
+    requires { MatchOption found.old ⊤ (FitsBySearch search.old) }
+    ensures skips { Skips (LacksBySearch search.old) (matches_of found.old search.old.coming)
+        (matches_of found.new search.new.coming) }
+    ensures sorted { MatchOption found.new ⊤ (FitsBySearch search.old) }
+    ensures none { OnOk result (MatchOption found.new (search.new.coming ≡ []) (λ _. ⊤)) }
+    ensures same { search.new ≡ record search.old { coming = search.new.coming } }
 {
-    let positions = pattern_of(alloc, pattern, places)?;
-    let mut values = values_of(alloc, given)?;
-    if !matches(&positions, subject, &mut values)? {
-        return Ok(None);
+    if found.is_none() {
+        if let Some(values) = search.next()? {
+            *found = Some(Seq::of(values));
+        }
     }
-    let sorts = places.sorts(alloc)?;
-    if !have_sorts(context, values.as_slice(), sorts.as_slice()) {
-        return Ok(None);
-    }
-    let subst = bound(alloc, places, values.as_slice())?;
-    Ok(Some(subst))
-}
-
-/// The only solution that there can be where no operator has an axiom.
-fn solve(
-    alloc: Global,
-    context: &Ctx,
-    pattern: &Raw,
-    subject: &Term,
-    given: &Subst,
-) -> Result<Option<Subst>, AllocError>
-    requires simple { IsSimpleModule context.now }
-    requires pattern { IsRawTerm context.now.signature (raw_term pattern.now) }
-    requires ground { IsTrue (is_ground subject.now) }
-    requires subject { IsRawTerm context.now.signature subject.now }
-    requires given { IsSubstitution context.now.signature given.now }
-    ensures { IfOk result (λ o. IsOnlySolution context.now.signature (raw_term pattern.now) subject.now given.now o) }
-{
-    let places = places_of(alloc, given, pattern)?;
-    solve_at(alloc, context, pattern, subject, given, &places)
+    Ok(())
 }

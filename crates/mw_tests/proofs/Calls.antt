@@ -1,18 +1,20 @@
 -- In a simple module: what the engine's calls require and give, without nestings.
-use Rattle.std.specs.Prelude.{◌≡◌, ◌≤◌, ◌-◌, ℕ, List, [], ◌∷◌, length, take, drop, slice_index_or, Some, IsTrue, refl}
-use Rattle.std.proofs.Common.{◌∙◌, ap, arith, inl, subst, sym, true≢false}
+use Rattle.std.specs.Prelude.{◌≡◌, ◌≤◌, ◌-◌, ℕ, zero, suc, List, [], ◌∷◌, ◌++◌, length, take, drop, slice_index_or, Some, IsTrue, refl}
+use Rattle.std.proofs.Common.{◌∙◌, ap, arith, inl, inr, subst, sym, true≢false}
 use Rattle.std.proofs.lemmas.List.{take_all}
+use Rattle.std.proofs.lemmas.Option.{none-some, same_Some}
 use Rattle.mw_logic.specs.Term.{Variable, RawTerm, is_ground, binary, cons, nil}
-use Rattle.mw_logic.specs.Signature.{Signature, IsRawTerm, at_number}
+use Rattle.mw_logic.specs.Signature.{Signature, IsRawTerm, Member, at_number}
 use Rattle.mw_logic.specs.Free.{IsFreeSignature}
 use Rattle.mw_logic.specs.Parts.{nested}
 use Rattle.mw_logic.specs.Substitution.{Substitution, IsSubstitution, IsSolution, instance, is_bound}
 use Rattle.mw_logic.specs.NormalForm.{height, normal_form}
 use Rattle.mw_logic.specs.Module.{Module, Statement, IsStatement, binds_statement}
+use Rattle.mw_logic.proofs.Canonical.{IsCanonical, canonical}
 use Rattle.mw_logic.proofs.FreeSignature.{free_solution}
 use Rattle.mw_logic.proofs.SolutionLaws.{instance_raw}
 use Rattle.mw_machine.specs.Simple.{IsSimpleModule, IsSimpleEquation}
-use Rattle.mw_machine.specs.Variables.{is_in}
+use Rattle.mw_machine.specs.Variables.{is_in, bound_values}
 use Rattle.mw_machine.specs.Replacements.{Replacement, carried}
 use Rattle.mw_machine.proofs.AtRank.{held_empty}
 use Rattle.mw_machine.proofs.Firing.{left_placeable, right_placeable}
@@ -20,15 +22,21 @@ use Rattle.mw_machine.proofs.Meeting.{is_in-met}
 use Rattle.mw_machine.proofs.Ordered.{free, accepted, well_sorted}
 use Rattle.mw_machine.proofs.Placing.{binds_placed}
 use Rattle.mw_canon.specs.Canonical.{IsAdmittedTerm, HasAdmittedValues, meant}
-use Rattle.mw_canon.proofs.Free.{nested_free, meant_free, of_admitted_term, admitted_term_free, applied_free}
+use Rattle.mw_canon.proofs.Free.{nested_free, normal_form_free, meant_free, of_admitted_term, admitted_term_free, applied_free}
 use Rattle.mw_term.specs.declared.subst.Binding.{Binding}
-use Rattle.mw_match.specs.Solutions.{IsAllSolutions}
+use Rattle.mw_solving.specs.Values.{IsValue, AreValues}
+use Rattle.mw_match.specs.Solutions.{Coming, PassesTo, FitsSorts, IsAllSolutions}
 use Rattle.mw_match.specs.declared.solutions.Solution.{Solution}
 use Rattle.mw_match.proofs.Pairs.{pairs_of}
 use Rattle.mw_proof.specs.Deductions.{Deduction, IsDeduction, filled, frame_of, IsLiftable}
 use Rattle.mw_proof.specs.Replacing.{MayApply, Applies}
 use Rattle.mw_proof.proofs.Applying.{normal_instance, written}
 use Rattle.mw_proof.proofs.Once.{liftable_once}
+
+-- what stands behind others
+behind : {A : Type 0} (x : A) (before after : List A) → Member x (before ++ x ∷ after)
+behind x [] after = inl refl
+behind x (y ∷ ys) after = inr (behind x ys after)
 
 module _ (M : Module) (simple : IsSimpleModule M) where
   pub plain : IsFreeSignature M.signature
@@ -43,16 +51,31 @@ module _ (M : Module) (simple : IsSimpleModule M) where
   pub meant_substitution : (s : Substitution) → IsSubstitution M.signature s → IsSubstitution M.signature (meant M.signature s)
   meant_substitution s h = subst (IsSubstitution M.signature) (sym (meant_free M.signature plain s)) h
 
+  -- a raw ground term is a value
+  plain_value : (u : RawTerm) → IsTrue (is_ground u) → IsRawTerm M.signature u → IsValue M.signature u
+  plain_value u g r =
+      let e : nested M.signature u ≡ u = nested_free M.signature plain u in
+      record {
+        canonical = subst (IsCanonical M.signature) (normal_form_free M.signature plain (nested M.signature u) ∙ e) (canonical M.signature (accepted M.signature simple.signature) (nested M.signature u));
+        raw = nested_raw u r;
+        ground = subst (λ w. IsTrue (is_ground w)) (sym e) g;
+      }
+
+  pub substitution_values : (s : Substitution) → IsSubstitution M.signature s → AreValues M.signature (bound_values s)
+  substitution_values [] h i u e = absurd (none-some u e)
+  substitution_values (b ∷ s) h zero u e = subst (IsValue M.signature) (same_Some b.1 u e) (plain_value b.1 h.1 h.2)
+  substitution_values (b ∷ s) h (suc i) u e = substitution_values s h.4 i u e
+
   -- the first solution is one
-  pub first_solution : (p t : RawTerm) (s : Substitution) (list rest : List Solution) (r : Solution)
-      → IsAllSolutions M.signature (nested M.signature p) (nested M.signature t) (meant M.signature s) list → list ≡ r ∷ rest → IsSolution M.signature p t s r.subst
-  first_solution p t s list rest r all e =
+  pub first_solution : (p t : RawTerm) (s : Substitution) (c : Coming) (rest : List Solution) (r : Solution)
+      → IsAllSolutions M.signature p (nested M.signature t) (meant M.signature s) c → PassesTo c (r ∷ rest) → FitsSorts c r → IsSolution M.signature p t s r.subst
+  first_solution p t s c rest r all passes sorted =
       let sig : Signature = M.signature in
-      let h : IsSolution sig (nested sig p) (nested sig t) (meant sig s) (meant sig r.subst) = ((subst (IsAllSolutions sig (nested sig p) (nested sig t) (meant sig s)) e all).sound r (inl refl)).0 in
-      subst (λ q. IsSolution sig q t s r.subst) (nested_free sig plain p)
-      (subst (λ u. IsSolution sig (nested sig p) u s r.subst) (nested_free sig plain t)
-      (subst (λ z. IsSolution sig (nested sig p) (nested sig t) z r.subst) (meant_free sig plain s)
-      (subst (IsSolution sig (nested sig p) (nested sig t) (meant sig s)) (meant_free sig plain r.subst) h)))
+      let there : Member r c.candidates = subst (Member r) (sym passes.rest) (behind r passes.left rest) in
+      let h : IsSolution sig p (nested sig t) (meant sig s) (meant sig r.subst) = (all.sound r there sorted).0 in
+      subst (λ u. IsSolution sig p u s r.subst) (nested_free sig plain t)
+      (subst (λ z. IsSolution sig p (nested sig t) z r.subst) (meant_free sig plain s)
+      (subst (IsSolution sig p (nested sig t) (meant sig s)) (meant_free sig plain r.subst) h))
 
   -- the first value is admitted
   pub low_behind : (bs : List Binding) (b d : Binding) → 1 ≤ length bs → b ≡ slice_index_or bs 0 d → height b.value ≤ 1000 → IsSubstitution M.signature (pairs_of bs)

@@ -1,10 +1,13 @@
 // Matching, instances and proofs, in a module that the program's own front end made.
 ghost use Rattle.std.specs.Prelude.{◌≡◌, ◌∷◌, [], IfOk, IfSome, IsTrue};
+ghost use Rattle.mw_logic.specs.NormalForm.{normal_form};
 ghost use Rattle.mw_logic.specs.Signature.{IsRawTerm};
 ghost use Rattle.mw_logic.specs.Module.{IsStatement};
 ghost use Rattle.mw_logic.specs.Substitution.{IsSubstitution, IsSolution, instance as instance_of};
 ghost use Rattle.mw_logic.specs.Term.{is_ground, are_ground, binary};
 ghost use Rattle.mw_machine.specs.Replacements.{Replacement, carried};
+ghost use Rattle.mw_machine.specs.Variables.{AreDistinct, bound_variables};
+ghost use Rattle.mw_compile.specs.Compiled.{IsCompiled};
 ghost use Rattle.mw_canon.specs.Canonical.{IsAdmittedTerm, HasAdmittedValues};
 ghost use Rattle.mw_term.specs.Raws.{raw_term, raw_terms};
 ghost use Rattle.mw_module.specs.Known.{AreKnown};
@@ -12,6 +15,7 @@ ghost use Rattle.mw_module.specs.Units.{seen_unit};
 
 use mw_build::{Module, build, canonical};
 use mw_canon::instance;
+use mw_compile::{Compiled, compile};
 use mw_least::Ctx;
 use mw_lex::{Token, tokens};
 use mw_match::Solutions;
@@ -54,14 +58,15 @@ fn built(alloc: Global, unit: &Unit<'_>) -> Result<Box<Module>, Fail>
     }
 }
 
-fn module(alloc: Global) -> Result<Box<Module>, Fail> {
-    let tokens = lexed(alloc, SOURCE)?;
+/// The module that a source has.
+pub fn module(alloc: Global, source: &str) -> Result<Box<Module>, Fail> {
+    let tokens = lexed(alloc, source)?;
     let unit = unit(alloc, tokens.as_slice())?;
     built(alloc, &unit)
 }
 
 /// The term that a text spells, in which variables may stand.
-fn raw(alloc: Global, accepted: &Module, text: &str) -> Result<Raw, Fail>
+pub fn raw(alloc: Global, accepted: &Module, text: &str) -> Result<Raw, Fail>
     ensures { IfOk result (λ r. IsRawTerm accepted.now.module.signature (raw_term r)) }
 {
     let tokens = lexed(alloc, text)?;
@@ -72,7 +77,7 @@ fn raw(alloc: Global, accepted: &Module, text: &str) -> Result<Raw, Fail>
 }
 
 /// The canonical term that a text spells.
-fn term(alloc: Global, accepted: &Module, text: &str) -> Result<Term, Fail>
+pub fn term(alloc: Global, accepted: &Module, text: &str) -> Result<Term, Fail>
     ensures { IfOk result (IsAdmittedTerm accepted.now.module.signature) }
 {
     let raw = raw(alloc, accepted, text)?;
@@ -87,11 +92,29 @@ fn term(alloc: Global, accepted: &Module, text: &str) -> Result<Term, Fail>
     }
 }
 
-fn nothing(alloc: Global) -> Subst
+pub fn nothing(alloc: Global) -> Subst
     ensures { result ≡ [] }
 {
     let pairs = Seq::of(Vec::new(alloc));
     Subst { pairs }
+}
+
+/// The pattern as a search takes it.
+pub fn compiled(
+    alloc: Global,
+    context: &Ctx,
+    pattern: &Raw,
+    given: &Subst,
+) -> Result<Compiled, Fail>
+    requires pattern { IsRawTerm context.now.signature (raw_term pattern.now) }
+    requires distinct { AreDistinct (bound_variables given.now) }
+    ensures { let sig = context.now.signature in
+        IfOk result (IsCompiled sig (normal_form sig (raw_term pattern.now)) (bound_variables given.now)) }
+{
+    match canonical(alloc, context.facts(), pattern)? {
+        Ok(term) => Ok(compile(alloc, context, &term, given)?),
+        Err(_) => Err(Fail::from("no canonical pattern")),
+    }
 }
 
 /// The solution of a pattern, if there is one, where no other comes behind it.
@@ -110,7 +133,9 @@ fn solved(
     if !context.is_simple() {
         return Err(Fail::from("not a simple module"));
     }
-    let mut solutions = Solutions::new(alloc, context, pattern, subject, given)?;
+    context.shows();
+    let compiled = compiled(alloc, context, pattern, given)?;
+    let mut solutions = Solutions::new(alloc, context, &compiled, subject, given)?;
     let Some(first) = solutions.next()? else {
         return Ok(None);
     };
@@ -198,7 +223,7 @@ fn first_wrong(alloc: Global, accepted: &Module) -> Result<Option<&'static str>,
 
 #[test]
 fn patterns_have_one_solution_or_none(rt: HostRuntime) -> Result<(), Fail> {
-    let accepted = module(rt.alloc())?;
+    let accepted = module(rt.alloc(), SOURCE)?;
     assert_eq!(rt; first_wrong(rt.alloc(), &accepted)?, None);
     Ok(())
 }
@@ -393,7 +418,7 @@ fn a_term_leads_to_itself(alloc: Global, accepted: &Module) -> Result<bool, Fail
 
 #[test]
 fn proofs_are_built(rt: HostRuntime) -> Result<(), Fail> {
-    let accepted = module(rt.alloc())?;
+    let accepted = module(rt.alloc(), SOURCE)?;
     assert!(rt; two_steps_lead(rt.alloc(), &accepted)?);
     assert!(rt; a_term_leads_to_itself(rt.alloc(), &accepted)?);
     Ok(())

@@ -11,6 +11,8 @@ mod parts;
 #[cfg(test)]
 mod runs;
 #[cfg(test)]
+mod solutions;
+#[cfg(test)]
 mod streams;
 #[cfg(test)]
 mod terms;
