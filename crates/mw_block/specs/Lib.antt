@@ -1,4 +1,5 @@
 -- What is written for a command, and for a unit that is refused.
 pub mod Blocks
+pub mod Matches
 pub mod Refused
 pub mod Seen

@@ -26,6 +26,7 @@ use Rattle.mw_machine.proofs.Meeting.{is_in-met}
 use Rattle.mw_sorting.specs.PreregularModulo.{IsPreregularModulo}
 use Rattle.mw_least.specs.Workable.{IsPlainEquation, IsWorkable}
 use Rattle.mw_text.specs.Mixfix.{Reads, Spells}
+use Rattle.mw_text.specs.Readings.{ReadsPair}
 use Rattle.mw_text.proofs.RawTerms.{spelled_raw}
 use Rattle.mw_text.proofs.SpelledVariables.{spelled_variables}
 use Rattle.mw_text.specs.Mentions.{is_met, missing_in}
@@ -182,3 +183,9 @@ pub raw_read : {E : Type 0} (sig : Signature) (variables : List Variable) (words
     → IfOk r (λ t. Reads sig variables None words (raw_term t)) → IfOk r (λ t. IsRawTerm sig (raw_term t))
 raw_read sig variables words ok (Ok t) h = spelled_raw sig ok variables h.spelled.spells
 raw_read sig variables words ok (Err e) h = tt
+
+-- and so are those of a pair
+pub raw_pair : {E : Type 0} (sig : Signature) (variables : List Variable) (left right : List (List ℕ)) → IsAccepted sig → (r : Result (Raw × Raw) E)
+    → IfOk r (λ p. ReadsPair sig variables left right (raw_term p.0, raw_term p.1)) → IfOk r (λ p. IsRawTerm sig (raw_term p.0) × IsRawTerm sig (raw_term p.1))
+raw_pair sig variables left right ok (Ok p) h = (spelled_raw sig ok variables h.only.0.first.spells, spelled_raw sig ok variables h.only.0.second.spells)
+raw_pair sig variables left right ok (Err e) h = tt

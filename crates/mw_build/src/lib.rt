@@ -2,7 +2,8 @@
 //!
 //! `build` makes a [`Module`] of a unit: its declarations (mw_declare), its operators' tables (mw_sorts) and axioms
 //! (mw_canon), its grammar (mw_grammar), its equations as statements, and all this as a context (mw_least).
-//! `Module::term` reads a term in which the module's variables may stand, `canonical` makes such a term canonical.
+//! `Module::term` reads a term in which the module's variables may stand, `Module::pair` two of one kind, `canonical`
+//! makes such a term canonical.
 //!
 //! Faults come in this order, and the first one decides: those of the declarations; an operator without a least result
 //! on some sorts, one whose groupings of three sorts differ, or one whose identity, left out, raises a sort, at the
@@ -22,12 +23,12 @@
 //!   this term in the module, where the term's variables can be printed (specs/Printing). Ground terms have none, and
 //!   by `statements_are_printable` so it is for the variables of the module's statements.
 //! - `Module::term`: the one term that the tokens spell, a term of the signature; no term only above 1,024 tokens,
-//!   where they spell none, or two.
+//!   where they spell none, or two. `Module::pair`: the one pair of terms of one kind, likewise.
 //! - `canonical`: the canonical form of a term that was read, or what keeps the term out.
 //!
 //! The definitions speak of levels and of a lone variable modulo the axioms; the tests ask the canonical forms
-//! (proofs/Sides). `Memory` may come at any call. Only
-//! tested, by the sources in cases/: that the definitions are what is meant. Neither: time.
+//! (proofs/Sides). `Memory` may come at any call. Only tested, by the sources in cases/: that the definitions are what
+//! is meant. Neither: time.
 #![tactic(auto)]
 
 mod equations;

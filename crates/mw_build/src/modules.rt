@@ -6,12 +6,13 @@ ghost use Rattle.mw_logic.specs.Accepted.{IsAccepted as IsAcceptedSignature, IsW
 ghost use Rattle.mw_logic.specs.Preregular.{HasItsSorts};
 ghost use Rattle.mw_term.specs.Raws.{raw_term};
 ghost use Rattle.mw_text.specs.Mixfix.{Reads};
+ghost use Rattle.mw_text.specs.Readings.{ReadsPair};
 ghost use Rattle.mw_module.specs.Causes.{HasCause};
 ghost use Rattle.mw_module.specs.Known.{AreKnown};
 ghost use Rattle.mw_module.specs.Units.{seen_statements, seen_unit};
 ghost use Rattle.mw_module.specs.Words.{texts};
 ghost use Rattle.mw_grammar.specs.Grammars.{IsGrammarOf, IsReading};
-ghost use Rattle.mw_parse.specs.Answers.{HasCause as HasReadingCause};
+ghost use Rattle.mw_parse.specs.Answers.{HasCause as HasReadingCause, HasPairCause};
 ghost use Rattle.mw_poset.specs.SortOrder.{order_of};
 ghost use Rattle.mw_sorts.specs.Diagrams.{AreTablesOf};
 ghost use Rattle.mw_least.specs.Workable.{IsWorkable};
@@ -28,7 +29,7 @@ use mw_grammar::Grammar;
 use mw_least::Ctx;
 use mw_lex::Token;
 use mw_module::{Lined, Unit, UnitError};
-use mw_parse::{ParseError, parse};
+use mw_parse::{PairError, ParseError, parse, parse_pair};
 use mw_poset::Poset;
 use mw_sorts::Tables;
 use mw_term::{Name, Raw, Seq, Statement, VarId};
@@ -82,6 +83,22 @@ impl Module {
     {
         self.context.shows();
         parse(alloc, &self.grammar, tokens, None)
+    }
+
+    /// The one pair of terms of one kind that the tokens spell, in which the module's variables may stand. They are
+    /// terms of the signature.
+    pub fn pair(
+        &self,
+        alloc: Global,
+        left: &[Token],
+        right: &[Token],
+    ) -> Result<(Raw, Raw), PairError>
+        ensures read { IfOk result (λ p. ReadsPair self.now.module.signature self.now.variables (texts left.now) (texts right.now) (raw_term p.0, raw_term p.1)) }
+        ensures raw { IfOk result (λ p. IsRawTerm self.now.module.signature (raw_term p.0) × IsRawTerm self.now.module.signature (raw_term p.1)) }
+        ensures cause { IfErr result (HasPairCause self.now.module.signature self.now.variables (texts left.now) (texts right.now)) }
+    {
+        self.context.shows();
+        parse_pair(alloc, &self.grammar, left, right)
     }
 }
 

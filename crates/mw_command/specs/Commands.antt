@@ -8,7 +8,8 @@ use Rattle.mw_module.specs.Words.{is, begins, count_before}
 use Rattle.mw_module.specs.Units.{SeenUnit}
 use Rattle.mw_command.specs.declared.commands.Command.{Command}
 use Rattle.mw_command.specs.declared.commands.Word.{Word}
-use Rattle.mw_command.specs.declared.commands.Word.TheVariants.{Reduce, Parse}
+use Rattle.mw_command.specs.declared.commands.Word.TheVariants.{Reduce, Parse, Match, Xmatch}
+use Rattle.mw_command.specs.Dividing.{pattern_of, subject_of}
 
 -- a command as its readers see it
 pub record SeenCommand : Type 0 where
@@ -43,9 +44,12 @@ names_with_braces (a ∷ []) = false
 names_with_braces (a ∷ b ∷ rest) =
     is (codes "in") a && ((is (codes "{") b && begins (codes ":") rest) || has_braces_before_colon rest)
 
--- a command of this word for this term, in this module
+-- a command of this word for what stands behind it, in this module
 abbrev pub for_term : Word → Option (List ℕ) → List Token → SeenCommand
-for_term word name term = record { word = word; bound = None; «module» = name; term = term; subject = None }
+for_term Reduce name term = record { word = Reduce; bound = None; «module» = name; term = term; subject = None }
+for_term Parse name term = record { word = Parse; bound = None; «module» = name; term = term; subject = None }
+for_term Match name sides = record { word = Match; bound = None; «module» = name; term = pattern_of sides; subject = subject_of sides }
+for_term Xmatch name sides = record { word = Xmatch; bound = None; «module» = name; term = pattern_of sides; subject = subject_of sides }
 
 -- a command behind its word: exactly `in`, a name and a colon name a module, and what follows is the term
 abbrev pub named_behind : Word → List Token → SeenCommand
@@ -66,7 +70,9 @@ outcome_behind word line ts = if names_with_braces (behind_bound ts) then Err (r
 -- the command that a first word asks for
 abbrev pub word_of : List ℕ → Option Word
 word_of text = if bytes_eq text (codes "reduce") || bytes_eq text (codes "red") then Some Reduce
-    else if bytes_eq text (codes "parse") then Some Parse else None
+    else if bytes_eq text (codes "parse") then Some Parse
+    else if bytes_eq text (codes "match") then Some Match
+    else if bytes_eq text (codes "xmatch") then Some Xmatch else None
 
 abbrev pub outcome_of : Option Word → SeenUnit → Outcome
 outcome_of None u = Err (record { line = u.line; kind = NotInProfile })

@@ -1,8 +1,11 @@
 // The commands of a source.
-ghost use Rattle.std.specs.Prelude.{◌≡◌, IfOk, IfErr, Ok, Err, drop};
+ghost use Rattle.std.specs.Prelude.{◌≡◌, IfOk, IfErr, Ok, Err, drop, option_map};
+ghost use Rattle.std.specs.Borrow.{Bor};
+ghost use Rattle.mw_lex.specs.declared.token.Token.{Token as TokenOf};
 ghost use Rattle.mw_module.specs.Units.{seen_unit};
 ghost use Rattle.mw_command.specs.Commands as commands;
 
+use crate::dividing::divided;
 use crate::naming::{begins_with, has_braced_name};
 use mw_lex::Token;
 use mw_module::{Fault, FaultKind, Unit, is_word};
@@ -14,6 +17,10 @@ pub enum Word {
     Reduce,
     /// Reads a term.
     Parse,
+    /// Lists how a pattern matches a term.
+    Match,
+    /// Lists how a pattern matches a term, or several of the arguments of the operator on top of it.
+    Xmatch,
 }
 
 /// A command, whose parts are tokens of its source.
@@ -24,9 +31,9 @@ pub struct Command<'s> {
     pub bound: Option<u64>,
     /// The name of the module in which the command stands; without it the last accepted one.
     pub module: Option<&'s Token>,
-    /// The term, which may be empty.
+    /// The term, which may be empty; where a pattern is matched, the pattern.
     pub term: &'s [Token],
-    /// What the term is matched against.
+    /// What the pattern is matched against, where `<=?` divides the two.
     pub subject: Option<&'s [Token]>,
 }
 
@@ -38,6 +45,10 @@ fn word_of(text: &[u8]) -> Option<Word>
         Some(Word::Reduce)
     } else if text == b"parse".as_slice() {
         Some(Word::Parse)
+    } else if text == b"match".as_slice() {
+        Some(Word::Match)
+    } else if text == b"xmatch".as_slice() {
+        Some(Word::Xmatch)
     } else {
         None
     }
@@ -53,6 +64,23 @@ fn behind_word(tokens: &[Token]) -> &[Token]
     }
 }
 
+// A command for what stands behind its word and its module's name.
+fn for_term<'s>(word: Word, name: Option<&'s Token>, term: &'s [Token]) -> Command<'s>
+    ensures { commands.seen_command result ≡ commands.for_term word (option_map (λ (t : Bor TokenOf). t.now.text) name.entry) term.entry.now }
+{
+    let (term, subject) = match word {
+        Word::Match | Word::Xmatch => divided(term),
+        Word::Reduce | Word::Parse => (term, None),
+    };
+    Command {
+        word,
+        bound: None,
+        module: name,
+        term,
+        subject,
+    }
+}
+
 // A command behind its word.
 fn named_behind<'s>(word: Word, tokens: &'s [Token]) -> Command<'s>
     ensures { commands.seen_command result ≡ commands.named_behind word tokens.entry.now }
@@ -63,13 +91,7 @@ fn named_behind<'s>(word: Word, tokens: &'s [Token]) -> Command<'s>
         }
         _ => (None, tokens),
     };
-    Command {
-        word,
-        bound: None,
-        module,
-        term,
-        subject: None,
-    }
+    for_term(word, module, term)
 }
 
 /// The command that a unit is, or its fault.

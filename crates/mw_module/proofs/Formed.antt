@@ -291,6 +291,6 @@ pub formed_holds : (P : Shape → Type 0) (r : Shaped) → IfOk r P → IfOk (fo
 formed_holds P (Ok shape) h = h
 formed_holds P (Err wrong) h = tt
 
-pub form_known : (ts : List Token) → IsKnownWhereFormed (form_of ts)
-form_known [] = tt
-form_known (t ∷ ts) = formed_holds IsKnown (form_behind (opening_of t.text) ts) (behind_known (opening_of t.text) ts)
+pub form_known : (rules : Bool) (ts : List Token) → IsKnownWhereFormed (form_of rules ts)
+form_known rules [] = tt
+form_known rules (t ∷ ts) = formed_holds IsKnown (form_behind (opening_of rules t.text) ts) (behind_known (opening_of rules t.text) ts)

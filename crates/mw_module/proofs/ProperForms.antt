@@ -206,6 +206,6 @@ behind_proper law opening.Elsewhere ts all = tt
 behind_proper law opening.Unread ts all = tt
 
 -- a statement that is made of tokens has proper parts
-pub form_proper : NamesAreProper → (ts : List Token) → AreTokens ts → IfOk (form_of ts) HasProperParts
-form_proper law [] all = tt
-form_proper law (t ∷ rest) all = formed_holds HasProperParts (form_behind (opening_of t.text) rest) (behind_proper law (opening_of t.text) rest (All-tail IsToken t rest all))
+pub form_proper : NamesAreProper → (rules : Bool) (ts : List Token) → AreTokens ts → IfOk (form_of rules ts) HasProperParts
+form_proper law rules [] all = tt
+form_proper law rules (t ∷ rest) all = formed_holds HasProperParts (form_behind (opening_of rules t.text) rest) (behind_proper law (opening_of rules t.text) rest (All-tail IsToken t rest all))

@@ -202,7 +202,7 @@ abbrev pub formed : Shaped → Formed
 formed (Ok shape) = Ok shape
 formed (Err wrong) = Err (told wrong)
 
--- the form of a statement of a functional module, or what is wrong with it; its full stop isn't among the tokens
-abbrev pub form_of : List Token → Formed
-form_of [] = Err NotInProfile
-form_of (t ∷ rest) = formed (form_behind (opening_of t.text) rest)
+-- the form of a statement of a module in which rules may stand, or may not, or what is wrong with it; its full stop isn't among the tokens
+abbrev pub form_of : Bool → List Token → Formed
+form_of rules [] = Err NotInProfile
+form_of rules (t ∷ rest) = formed (form_behind (opening_of rules t.text) rest)

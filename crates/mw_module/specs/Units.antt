@@ -1,5 +1,5 @@
 -- The units of a source.
-use Rattle.std.specs.Prelude.{◌≡◌, ◌<◌, ◌≤◌, ℕ, Bool, List, [], ◌∷◌, ◌++◌, ◌+◌, ◌-◌, ◌==◌, nat_lt, length, take, drop, map, Option, None, Some, option_map, Result, Ok, Err, if◌then◌else◌, codes}
+use Rattle.std.specs.Prelude.{◌≡◌, ◌<◌, ◌≤◌, ℕ, Bool, true, false, List, [], ◌∷◌, ◌++◌, ◌+◌, ◌-◌, ◌==◌, nat_lt, length, take, drop, map, Option, None, Some, option_map, Result, Ok, Err, if◌then◌else◌, codes}
 use Rattle.std.specs.Borrow.{Bor}
 use Rattle.std.specs.Global.{Vec}
 use Rattle.mw_lex.specs.declared.token.Token.{Token}
@@ -86,22 +86,23 @@ abbrev pub with_statement : ℕ → Formed → Body → Body
 with_statement line (Ok shape) others = with_statements (record { line = line; shape = shape } ∷ []) others
 with_statement line (Err kind) others = Err (record { line = line; kind = kind })
 
-abbrev pub statements_before : List Statement → Body → Body
-statements_before [] others = others
-statements_before (s ∷ ss) others = with_statement s.line (form_of s.tokens) (statements_before ss others)
+-- in a module in which rules may stand, or may not
+abbrev pub statements_before : Bool → List Statement → Body → Body
+statements_before rules [] others = others
+statements_before rules (s ∷ ss) others = with_statement s.line (form_of rules s.tokens) (statements_before rules ss others)
 
 -- what is wrong with a statement of this form that no full stop ends: what else is wrong comes first
 abbrev pub kind_unended : Formed → FaultKind
 kind_unended (Ok shape) = BadStatement
 kind_unended (Err kind) = kind
 
-abbrev pub left_of : List Token → Body
-left_of [] = Ok []
-left_of (t ∷ rest) = Err (record { line = t.line; kind = kind_unended (form_of (t ∷ rest)) })
+abbrev pub left_of : Bool → List Token → Body
+left_of rules [] = Ok []
+left_of rules (t ∷ rest) = Err (record { line = t.line; kind = kind_unended (form_of rules (t ∷ rest)) })
 
 -- a body: its statements one after the other
-abbrev pub body_of : List Token → Body
-body_of ts = statements_before (cut ts).statements (left_of (cut ts).left)
+abbrev pub body_of : Bool → List Token → Body
+body_of rules ts = statements_before rules (cut ts).statements (left_of rules (cut ts).left)
 
 -- a brace stands before the first `is`
 abbrev pub has_brace : List Token → Bool
@@ -128,19 +129,19 @@ module_with ts first name (Ok statements) = Ok (record { line = first.line; word
 module_with ts first name (Err fault) = Err fault
 
 -- a module with a name, where nothing is wrong with it and `is`
-abbrev pub module_named : List Token → Token → Token → List Token → Option FaultKind → Outcome
-module_named ts first name behind None = module_with ts first name (body_of (drop 1 behind))
-module_named ts first name behind (Some kind) = Err (record { line = first.line; kind = kind })
+abbrev pub module_named : Bool → List Token → Token → Token → List Token → Option FaultKind → Outcome
+module_named rules ts first name behind None = module_with ts first name (body_of rules (drop 1 behind))
+module_named rules ts first name behind (Some kind) = Err (record { line = first.line; kind = kind })
 
 -- a module behind its first word: its name, `is`, and statements
-abbrev pub module_behind : List Token → Token → List Token → Outcome
-module_behind ts first [] = Err (record { line = first.line; kind = BadStatement })
-module_behind ts first (name ∷ behind) = module_named ts first name behind (head_fault name behind)
+abbrev pub module_behind : Bool → List Token → Token → List Token → Outcome
+module_behind rules ts first [] = Err (record { line = first.line; kind = BadStatement })
+module_behind rules ts first (name ∷ behind) = module_named rules ts first name behind (head_fault name behind)
 
 -- a unit of this kind, by its first token and all its tokens before the last
 abbrev pub unit_with : Kind → Token → List Token → Outcome
-unit_with kind.Functional first ts = module_behind ts first (drop 1 ts)
-unit_with kind.System first ts = Err (record { line = first.line; kind = NotInProfile })
+unit_with kind.Functional first ts = module_behind false ts first (drop 1 ts)
+unit_with kind.System first ts = module_behind true ts first (drop 1 ts)
 unit_with kind.Object first ts = Err (record { line = first.line; kind = NotInProfile })
 unit_with kind.FunctionalTheory first ts = Err (record { line = first.line; kind = NotInProfile })
 unit_with kind.SystemTheory first ts = Err (record { line = first.line; kind = NotInProfile })

@@ -122,17 +122,18 @@ fn form_behind<'s>(alloc: Global, opening: Opening, tokens: &'s [Token]) -> Read
 }
 
 impl<'s> Form<'s> {
-    /// The form of a statement of a functional module, or what is wrong with it: `NotInProfile` or `BadStatement`.
-    /// The full stop that ends the statement isn't among the tokens.
+    /// The form of a statement of a module in which rules may stand, or may not, or what is wrong with it:
+    /// `NotInProfile` or `BadStatement`. The full stop that ends the statement isn't among the tokens.
     pub fn of(
         alloc: Global,
+        rules: bool,
         statement: &'s [Token],
     ) -> Result<Result<Form<'s>, FaultKind>, AllocError>
-        ensures { IfOk result (λ r. forms.seen_formed r ≡ forms.form_of statement.now) }
+        ensures { IfOk result (λ r. forms.seen_formed r ≡ forms.form_of rules statement.now) }
     {
         let [word, rest @ ..] = statement else {
             return Ok(Err(FaultKind::NotInProfile));
         };
-        Ok(form_behind(alloc, opening_of(word.text.as_slice()), rest)?.map_err(told))
+        Ok(form_behind(alloc, opening_of(rules, word.text.as_slice()), rest)?.map_err(told))
     }
 }

@@ -1,11 +1,11 @@
-//! Cuts the tokens of a source into units, and a functional module's body into statements of known forms.
+//! Cuts the tokens of a source into units, and a module's body into statements of known forms.
 //!
 //! A unit goes from its first word to the first token that is its end word, a command to the first full stop; a body's
 //! statement goes to the first full stop. docs/LANGUAGE.md has the statements and attributes, docs/ERRORS.md the
 //! faults. What the words `fmod`, `mod`, `omod`, `fth`, `th`, `oth`, `view`, `smod` (and `proof`, where proofs are
-//! asked for) begin is found up to its own end word; of these only functional modules are read, the others aren't in
-//! the profile. Where the input ends first, a module, command or proof is unended; theories, views and strategy modules
-//! aren't in the profile.
+//! asked for) begin is found up to its own end word; of these functional and system modules are read, the others aren't
+//! in the profile. A system module may hold what a functional one does: its rules aren't read yet. Where the input ends
+//! first, a module, command or proof is unended; theories, views and strategy modules aren't in the profile.
 //!
 //! - `read_unit` answers the unit that begins at a token, with its statements, or its fault; and the place of the next
 //!   one. Each statement is read once, by `Form::of`: its form, with slices of the source's tokens for its parts.

@@ -13,28 +13,33 @@ pub enum Opening {
     Operators,
     Variables,
     Equation,
-    /// A statement of other modules than functional ones.
+    /// A statement of other kinds of modules.
     Elsewhere,
     /// A statement that isn't read yet, or no statement's word.
     Unread,
 }
 
-// A word of statements that stand in system or object modules alone.
-fn is_elsewhere(word: &[u8]) -> bool
-    ensures { result ≡ openings.is_elsewhere word.now }
+// A word of rules, which stand in system and object modules alone.
+fn is_rule(word: &[u8]) -> bool
+    ensures { result ≡ openings.is_rule word.now }
 {
-    same(word, b"rl")
-        || same(word, b"crl")
-        || same(word, b"class")
+    same(word, b"rl") || same(word, b"crl")
+}
+
+// A word of statements that stand in object modules alone.
+fn is_of_objects(word: &[u8]) -> bool
+    ensures { result ≡ openings.is_of_objects word.now }
+{
+    same(word, b"class")
         || same(word, b"subclass")
         || same(word, b"subclasses")
         || same(word, b"msg")
         || same(word, b"msgs")
 }
 
-/// What this first word asks for.
-pub fn opening_of(word: &[u8]) -> Opening
-    ensures { result ≡ openings.opening_of word.now }
+/// What this first word asks for in a module in which rules may stand, or may not.
+pub fn opening_of(rules: bool, word: &[u8]) -> Opening
+    ensures { result ≡ openings.opening_of rules word.now }
 {
     if same(word, b"sort") || same(word, b"sorts") {
         Opening::Sorts
@@ -48,7 +53,9 @@ pub fn opening_of(word: &[u8]) -> Opening
         Opening::Variables
     } else if same(word, b"eq") {
         Opening::Equation
-    } else if is_elsewhere(word) {
+    } else if rules && is_rule(word) {
+        Opening::Unread
+    } else if is_rule(word) || is_of_objects(word) {
         Opening::Elsewhere
     } else {
         Opening::Unread

@@ -1,5 +1,5 @@
 // The units of a source.
-ghost use Rattle.std.specs.Prelude.{◌≡◌, ◌<◌, length, IfOk, Ok};
+ghost use Rattle.std.specs.Prelude.{◌≡◌, ◌<◌, length, drop, IfOk, Ok};
 ghost use Rattle.mw_module.specs.Known.{UnitsAreKnown};
 ghost use Rattle.mw_module.specs.Tokens.{UnitsAreOfTokens};
 ghost use Rattle.mw_module.specs.Units as units;
@@ -31,19 +31,20 @@ pub struct Unit<'s> {
     pub tokens: &'s [Token],
 }
 
-// The statements of a body, or its first fault.
+// The statements of a body in which rules may stand, or may not, or its first fault.
 fn read_body<'s>(
     alloc: Global,
+    rules: bool,
     body: &'s [Token],
 ) -> Result<Result<Vec<Lined<'s>>, Fault>, AllocError>
-    ensures { IfOk result (λ r. units.seen_body r ≡ units.body_of body.now) }
+    ensures { IfOk result (λ r. units.seen_body r ≡ units.body_of rules body.now) }
 {
     let mut statements = Vec::new(alloc);
     let mut rest = body;
     while let [first, ..] = rest {
         let line = first.line;
         let len = count_before(rest, b".");
-        let form = match Form::of(alloc, &rest[..len])? {
+        let form = match Form::of(alloc, rules, &rest[..len])? {
             Ok(form) => form,
             Err(kind) => return Ok(Err(Fault { line, kind })),
         };
@@ -73,14 +74,15 @@ fn head_fault(name: &Token, behind: &[Token]) -> Option<FaultKind>
     }
 }
 
-// A module, by its first token, what stands behind it, and all its tokens.
+// A module, in which rules may stand, or may not, by its first token, what stands behind it, and all its tokens.
 fn read_module<'s>(
     alloc: Global,
+    rules: bool,
     tokens: &'s [Token],
     first: &'s Token,
     behind_word: &'s [Token],
 ) -> Result<Result<Unit<'s>, Fault>, AllocError>
-    ensures { IfOk result (λ r. units.seen_outcome r ≡ units.module_behind tokens.now first.now behind_word.now) }
+    ensures { IfOk result (λ r. units.seen_outcome r ≡ units.module_behind rules tokens.now first.now behind_word.now) }
 {
     let line = first.line;
     let [name, behind @ ..] = behind_word else {
@@ -90,7 +92,7 @@ fn read_module<'s>(
     if let Some(kind) = head_fault(name, behind) {
         return Ok(Err(Fault { line, kind }));
     }
-    match read_body(alloc, &behind[1..])? {
+    match read_body(alloc, rules, &behind[1..])? {
         Err(fault) => Ok(Err(fault)),
         Ok(statements) => Ok(Ok(Unit {
             line,
@@ -99,6 +101,16 @@ fn read_module<'s>(
             statements,
             tokens,
         })),
+    }
+}
+
+// What stands behind the first token.
+fn behind_first(tokens: &[Token]) -> &[Token]
+    ensures { result.now ≡ drop 1 tokens.now }
+{
+    match tokens {
+        [_, behind @ ..] => behind,
+        [] => tokens,
     }
 }
 
@@ -112,10 +124,8 @@ fn read_whole<'s>(
     ensures { IfOk result (λ r. units.seen_outcome r ≡ units.unit_with kind first.now tokens.now) }
 {
     match kind {
-        Kind::Functional => match tokens {
-            [_, behind @ ..] => read_module(alloc, tokens, first, behind),
-            [] => read_module(alloc, tokens, first, tokens),
-        },
+        Kind::Functional => read_module(alloc, false, tokens, first, behind_first(tokens)),
+        Kind::System => read_module(alloc, true, tokens, first, behind_first(tokens)),
         Kind::Command => Ok(Ok(Unit {
             line: first.line,
             word: first.text.as_slice(),

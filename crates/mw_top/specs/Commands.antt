@@ -18,7 +18,7 @@ use Rattle.mw_module.specs.declared.faults.FaultKind.TheVariants.{NotInProfile, 
 use Rattle.mw_module.specs.Words.{texts}
 use Rattle.mw_command.specs.Commands.{SeenCommand}
 use Rattle.mw_command.specs.declared.commands.Word.{Word as CommandWord}
-use Rattle.mw_command.specs.declared.commands.Word.TheVariants.{Reduce, Parse}
+use Rattle.mw_command.specs.declared.commands.Word.TheVariants.{Reduce, Parse, Match, Xmatch}
 use Rattle.mw_build.specs.Equations.{FitsIn, Oversized}
 use Rattle.mw_build.specs.Modules.{Accepted}
 use Rattle.mw_proof.specs.Deductions.{Deduction, IsDeduction}
@@ -71,10 +71,12 @@ pub data IsAnswer (a : Accepted) (most : ℕ) (words : List (List ℕ)) : Comman
   reduction : (from : RawTerm) (text : List ℕ) → IsTerm a words from → IsReduced a most from text → IsAnswer a most words Reduce text
   parsing : (term : RawTerm) (text : List ℕ) → IsTerm a words term → IsParsed a term text → IsAnswer a most words Parse text
 
--- Commands of this word are answered in this module: until the reducer knows axioms, a reduction in a simple one alone.
+-- Commands of this word are answered in this module: until the reducer knows axioms, a reduction in a simple one alone; matches aren't answered yet.
 abbrev pub IsFor : Module → CommandWord → Type 0
 IsFor M Reduce = IsSimpleModule M
 IsFor M Parse = ⊤
+IsFor M Match = ⊥
+IsFor M Xmatch = ⊥
 
 -- the module of a name, and the last one
 abbrev pub module_named : List Accepted → List ℕ → Option Accepted

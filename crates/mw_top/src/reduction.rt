@@ -36,6 +36,7 @@ pub fn is_for(accepted: &Module, word: Word) -> bool
     match word {
         Word::Reduce => accepted.context().is_simple(),
         Word::Parse => true,
+        Word::Match | Word::Xmatch => false,
     }
 }
 
@@ -179,6 +180,7 @@ pub fn answer_term(
 {
     match word {
         Word::Reduce => reduced_term(alloc, accepted, term, most),
-        Word::Parse => parsed_term(alloc, accepted, &term),
+        // no module answers matches yet
+        Word::Parse | Word::Match | Word::Xmatch => parsed_term(alloc, accepted, &term),
     }
 }

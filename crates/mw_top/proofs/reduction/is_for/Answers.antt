@@ -1,4 +1,5 @@
-use Rattle.std.proofs.Common.{◌↔◌, IsTrue, refl, subst, sym}
+use Rattle.std.proofs.Common.{◌↔◌, IsTrue, refl, subst, sym, ⊎_elim}
+use Rattle.std.proofs.lemmas.Bool.{both_ways}
 use Rattle.mw_logic.specs.Module.{Module}
 use Rattle.mw_command.specs.declared.commands.Word.{Word}
 use Rattle.mw_machine.specs.Simple.{IsSimpleModule}
@@ -10,3 +11,6 @@ returns-in-Reduce c = subst (λ (w : Word). IsTrue c.is_simple.result ↔ IsFor 
 
 pub returns-in-Parse : goal.returns-in-Parse
 returns-in-Parse c = (λ h. subst (IsFor c.args.accepted.now.module) (sym c.in-Parse.is) tt, λ h. refl)
+
+pub returns-in-Match : goal.returns-in-Match
+returns-in-Match c = (λ h. absurd (both_ways _ refl h), λ h. absurd (⊎_elim (λ e. subst (IsFor c.args.accepted.now.module) e h) (λ e. subst (IsFor c.args.accepted.now.module) e h) c.in-Match.is))
