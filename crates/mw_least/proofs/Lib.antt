@@ -1,4 +1,5 @@
 pub mod Compilable
 pub mod Below
+pub mod Giving
 pub mod SimpleModules
 pub mod Tops

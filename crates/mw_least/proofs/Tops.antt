@@ -56,6 +56,13 @@ pub rest_member : {X : Type 0} (xs : List X) → 1 ≤ length xs → (x : X) →
 rest_member [] h x m = absurd (omega arith)
 rest_member (y ∷ ys) h x m = inr (subst (λ l. Member x l) (take_all (length (y ∷ ys) - 1) ys (omega arith)) m)
 
+pub later_member : {X : Type 0} (xs : List X) → 1 ≤ length xs → (first x : X) → first ≡ slice_index_or xs 0 first → (first ≡ x → ⊥) → Member x xs → Member x (take (length xs - 1) (drop 1 xs))
+later_member [] h first x e n m = absurd m
+later_member (y ∷ ys) h first x e n m = ⊎_elim
+    (λ (k : y ≡ x). absurd (n (e ∙ k)))
+    (λ (k : Member x ys). subst (λ l. Member x l) (sym (take_all (length (y ∷ ys) - 1) ys (omega arith))) k)
+    m
+
 pub first_member : {X : Type 0} (xs : List X) (x d : X) → 1 ≤ length xs → x ≡ slice_index_or xs 0 d → Member x xs
 first_member [] x d h e = absurd (omega arith)
 first_member (y ∷ ys) x d h e = inl (sym e)

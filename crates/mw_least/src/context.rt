@@ -2,7 +2,7 @@
 ghost use Rattle.std.specs.Prelude.{◌≡◌, ◌↔◌, IfOk, IsTrue};
 ghost use Rattle.mw_logic.specs.Parts.{nested};
 ghost use Rattle.mw_logic.specs.NormalForm.{normal_form};
-ghost use Rattle.mw_logic.specs.Signature.{Signature as SignatureOf, sort as sort_of, Declaration as DeclarationOf, IsRawTerm, Member};
+ghost use Rattle.mw_logic.specs.Signature.{Signature as SignatureOf, sort as sort_of, IsRawTerm};
 ghost use Rattle.mw_logic.specs.Preregular.{IsSortOf};
 ghost use Rattle.mw_logic.specs.Sorts.{AtOrBelow, IsBelow, HasSort, IsLeastSort};
 ghost use Rattle.mw_logic.specs.Term.{is_ground, RawTerms, apply as applied};
@@ -11,6 +11,7 @@ ghost use Rattle.mw_pattern.specs.Compiled.{IsIndexOf};
 ghost use Rattle.mw_sorts.specs.Diagrams.{AreTablesOf};
 ghost use Rattle.mw_poset.specs.SortOrder.{order_of};
 ghost use Rattle.mw_term.specs.Signatures.{sorted_of};
+ghost use Rattle.mw_least.specs.Giving.{OneGives, MayGive};
 ghost use Rattle.mw_least.specs.Sure.{AreSure};
 ghost use Rattle.mw_least.specs.Workable.{IsWorkable};
 
@@ -206,7 +207,7 @@ impl Ctx {
 
     /// Whether one of these declarations has a result at or below a sort.
     fn some_gives(&self, declarations: &[Declaration], sort: SortId) -> bool
-        ensures { (d : DeclarationOf) → Member d declarations.now → IsBelow self.now.signature d.result (sort_of sort) → IsTrue result }
+        ensures { IsTrue result ↔ OneGives self.now.signature declarations.now sort }
     {
         let mut rest = declarations;
         while let [declaration, after @ ..] = rest {
@@ -218,9 +219,12 @@ impl Ctx {
         false
     }
 
-    /// Whether canonical terms with this operator on top may have a sort, whatever their arguments are.
+    /// Whether terms with this operator on top may have a sort, by its declarations alone: yes exactly where one of them
+    /// has a result at or below the sort, whatever arguments it takes, and of a number without an operator. So a no
+    /// says that no canonical term with the operator on top has the sort, and a yes doesn't say that one has.
     pub fn may_give(&self, operator: OpId, sort: SortId) -> bool
-        ensures { let sig = self.now.signature in (ts : RawTerms) → normal_form sig (nested sig (applied operator ts)) ≡ applied operator ts → IsRawTerm sig (nested sig (applied operator ts)) → HasSort sig (nested sig (applied operator ts)) (sort_of sort) → IsTrue result }
+        ensures declared { IsTrue result ↔ MayGive self.now.signature operator sort }
+        ensures had { let sig = self.now.signature in (ts : RawTerms) → normal_form sig (nested sig (applied operator ts)) ≡ applied operator ts → IsRawTerm sig (nested sig (applied operator ts)) → HasSort sig (nested sig (applied operator ts)) (sort_of sort) → IsTrue result }
     {
         self.shows();
         match numbered(self.signature().operators.as_slice(), operator) {

@@ -12,8 +12,9 @@
 //!   executable statements, by position (`IsIndexOf`).
 //! - `least_sort` is the least sort of a canonical term, or its kind where no declaration gives it a sort
 //!   (`IsLeastSort`); `has_sort` whether such a term, if it is ground, has a sort (`HasSort`), exactly.
-//!   `may_give` is true where some canonical term with an operator on top has a sort; it asks the declarations alone, so
-//!   it may be true where none has.
+//!   `may_give` is true exactly where a declaration of an operator has a result at or below a sort, and of a number
+//!   without an operator (`MayGive`, specs/Giving). So it is true where some canonical term with the operator on top
+//!   has the sort, and may be true where none has, since it doesn't ask for arguments.
 //!
 //! How `has_sort` works: of each kind `sure_sorts` takes a greatest sort (its top). An operator without a result at or
 //! below its kind's top on arguments that have theirs is partial. A ground term in which no partial operator stands

@@ -11,5 +11,5 @@ pub returns-in-Op : goal.returns-in-Op
 returns-in-Op c =
     let sig = c.args.self.now.signature in
     let applied = c.view.ensures ∙ ap viewed c.in-Op.is in
-    λ fixed raw h. c.may_give.ensures (terms_of c.in-Op.field-1.now)
+    λ fixed raw h. c.may_give.ensures.had (terms_of c.in-Op.field-1.now)
     (subst (λ u. normal_form sig (nested sig u) ≡ u) applied fixed) (subst (λ u. IsRawTerm sig (nested sig u)) applied raw) (subst (λ u. HasSort sig (nested sig u) (sort c.args.sort)) applied h)
