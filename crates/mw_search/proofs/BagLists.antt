@@ -7,14 +7,14 @@ use Rattle.std.proofs.Math.ListN.{set}
 use Rattle.std.proofs.lemmas.List.{reverse-reverse, reverse-append, set_at, get_or_at, take_all, length_push}
 use Rattle.std.proofs.lemmas.Grind.{reverse_onto}
 use Rattle.mw_logic.specs.Term.{RawTerm, RawTerms, nil, cons, join}
-use Rattle.mw_logic.specs.Terms.{terms_of, args_of}
+use Rattle.mw_logic.specs.Terms.{terms_of}
 use Rattle.mw_logic.specs.Parts.{number_of_terms}
 use Rattle.mw_logic.proofs.SortLaws.{join-nil}
 use Rattle.mw_logic.proofs.Pushed.{join_pushed}
 use Rattle.mw_arguments.specs.Bags.{same, with_one, runs, heads, numbers, copies, spread}
 use Rattle.mw_arguments.proofs.Runs.{same-equal, runs-spread}
 use Rattle.mw_matching.specs.Multisets.{is_within, left_behind, term_at, without, is_new, news, numbers_without}
-use Rattle.mw_search.specs.Bags.{AreRuns, Indices, indices_from}
+use Rattle.mw_search.specs.Bags.{AreRuns}
 
 -- a list of terms, by index
 pub number_terms : (xs : List RawTerm) → number_of_terms (terms_of xs) ≡ length xs
@@ -102,13 +102,6 @@ new_test zs (suc i) h = let e : i ≡ suc i - 1 = omega arith in ap (λ j. not (
 
 pub news_none : (zs : RawTerms) (i n : ℕ) → n ≤ i → news zs i (n - i) ≡ []
 news_none zs i n h = let e : n - i ≡ 0 = omega (arith, h) in ap (news zs i) e
-
--- what heads show
-pub first_head : (bag : RawTerm) (next at : ℕ) (ns : List ℕ) (zs : RawTerms) (h : Indices) → indices_from bag next ≡ h → zs ≡ args_of bag → news zs next (number_of_terms zs - next) ≡ at ∷ ns → h.remaining ≡ at ∷ ns
-first_head bag next at ns zs h v a e = ap (λ (h : Indices). h.remaining) (sym v) ∙ ap (λ zs. news zs next (number_of_terms zs - next)) (sym a) ∙ e
-
-pub head_elements : (bag : RawTerm) (next : ℕ) (zs : RawTerms) (h : Indices) → indices_from bag next ≡ h → zs ≡ args_of bag → zs ≡ h.elements
-head_elements bag next zs h v a = a ∙ ap (λ (h : Indices). h.elements) v
 
 -- without the element of an index: up to i the others were put
 pub record IsWithout (index : ℕ) (xs : List RawTerm) (i : ℕ) (made : List RawTerm) : Type 0 where

@@ -17,11 +17,11 @@ use Rattle.mw_matching.specs.Patterns.{is_rigid}
 use Rattle.mw_matching.specs.Multisets.{is_within, left_behind, term_at, without, news, times, part_of, rest_of, parts}
 use Rattle.mw_matching.specs.Found.{Values, is_single, fits, has_top, has_before, before, value_of, first_term, are_none, fronts, placed, found, found_all, found_orders, found_row, found_bag}
 use Rattle.mw_search.specs.Traces.{Trace, somes}
-use Rattle.mw_search.specs.Goals.{goal_trace, hand_trace, top_of}
+use Rattle.mw_search.specs.Goals.{goal_trace, goal_found, hand_trace, top_of}
 use Rattle.mw_search.specs.Lacking.{Each}
 use Rattle.mw_search.specs.declared.goals.Goal.{Goal}
-use Rattle.mw_search.specs.declared.goals.Goal.TheVariants.{Meet, Args, Row, Bag}
-use Rattle.mw_search.proofs.Finding.{finds, finds_all, finds_row, finds_bag}
+use Rattle.mw_search.specs.declared.goals.Goal.TheVariants.{Meet, Args, Row, Bag, Left}
+use Rattle.mw_search.proofs.Finding.{finds_goal}
 
 -- us goes on from vs
 pub record GoesOn (vs us : Values) : Type 0 where
@@ -110,17 +110,17 @@ module _ (sig : Signature) (single : List (List ℕ)) where
         (each_any (GoesOn vs) _ (parts (is_some (identity_of sig f)) (times q (cons q qs)) zs)
         (λ c. after_each vs (found sig single q (rebuilt (identity_of sig f) f (part_of zs c)) vs) (λ us. found_bag sig single f qs (rest_of zs c) us) (found_on q (rebuilt (identity_of sig f) f (part_of zs c)) vs) (λ us. bag_on f qs (rest_of zs c) us)))))
 
-  module _ (P : Values → Type 0) where
-    -- so of a trace whose matches go on from those that are found
-    by_found : (X : Trace) (vs : Values) (L : List Values) (k : Values → Trace) → somes X ≡ flat_map (λ us. somes (k us)) L → Each (GoesOn vs) L → ((us : Values) → GoesOn vs us → Each P (somes (k us))) → Each P (somes X)
-    by_found X vs L k e h g = subst (Each P) (sym e) (each_mapped (GoesOn vs) P (λ us. somes (k us)) L h g)
+  goal_on : (g : Goal) (vs : Values) → Each (GoesOn vs) (goal_found sig single g vs)
+  goal_on (Meet p t) vs = found_on p t vs
+  goal_on (Args p t i) vs = all_on (skip i (args_of p)) (skip i (args_of t)) vs
+  goal_on (Row p i r j) vs = row_on (top_of p) (skip i (args_of p)) (skip j (args_of r)) vs
+  goal_on (Bag p i r) vs = bag_on (top_of p) (skip i (args_of p)) (args_of r) vs
+  goal_on (Left p i r n) vs = bag_on (top_of p) (skip i (args_of p)) (without n (args_of r)) vs
 
+  module _ (P : Values → Type 0) where
+    -- the matches of a goal go on from the values that were there
     goal_all : (g : Goal) (vs : Values) (k : Values → Trace) → ((us : Values) → GoesOn vs us → Each P (somes (k us))) → Each P (somes (goal_trace sig single g vs k))
-    goal_all (Meet p t) vs k h = by_found (goal_trace sig single (Meet p t) vs k) vs (found sig single p t vs) k (finds sig single p t vs k) (found_on p t vs) h
-    goal_all (Args p t i) vs k h = by_found (goal_trace sig single (Args p t i) vs k) vs (found_all sig single (skip i (args_of p)) (skip i (args_of t)) vs) k (finds_all sig single (skip i (args_of p)) (skip i (args_of t)) vs k) (all_on (skip i (args_of p)) (skip i (args_of t)) vs) h
-    goal_all (Row p i r j) vs k h =
-        by_found (goal_trace sig single (Row p i r j) vs k) vs (found_row sig single (top_of p) (skip i (args_of p)) (skip j (args_of r)) vs) k (finds_row sig single (top_of p) (skip i (args_of p)) (skip j (args_of r)) vs k) (row_on (top_of p) (skip i (args_of p)) (skip j (args_of r)) vs) h
-    goal_all (Bag p i r) vs k h = by_found (goal_trace sig single (Bag p i r) vs k) vs (found_bag sig single (top_of p) (skip i (args_of p)) (args_of r) vs) k (finds_bag sig single (top_of p) (skip i (args_of p)) (args_of r) vs k) (bag_on (top_of p) (skip i (args_of p)) (args_of r) vs) h
+    goal_all g vs k h = subst (Each P) (sym (finds_goal sig single g vs k)) (each_mapped (GoesOn vs) P (λ us. somes (k us)) (goal_found sig single g vs) (goal_on g vs) h)
 
     -- what holds of all that goes on from values holds of each match of the goals in hand
     pub hand_all : (gs : List Goal) (vs : Values) (k : Values → Trace) → ((us : Values) → GoesOn vs us → Each P (somes (k us))) → Each P (somes (hand_trace sig single gs vs k))

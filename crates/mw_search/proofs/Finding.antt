@@ -18,6 +18,9 @@ use Rattle.mw_matching.specs.Patterns.{is_rigid}
 use Rattle.mw_matching.specs.Multisets.{is_within, left_behind, term_at, without, news, times, part_of, rest_of, parts}
 use Rattle.mw_matching.specs.Found.{Values, is_single, fits, has_top, has_before, before, value_of, first_term, are_none, fronts, placed, found, found_all, found_orders, found_row, found_bag}
 use Rattle.mw_search.specs.Traces.{Trace, somes, ticked, finish, at_position, trace, trace_all, trace_orders, trace_row, trace_bag}
+use Rattle.mw_search.specs.Goals.{goal_trace, goal_found, top_of}
+use Rattle.mw_search.specs.declared.goals.Goal.{Goal}
+use Rattle.mw_search.specs.declared.goals.Goal.TheVariants.{Meet, Args, Row, Bag, Left}
 
 pub somes-append : (a b : Trace) → somes (a ++ b) ≡ somes a ++ somes b
 somes-append [] b = refl
@@ -54,7 +57,7 @@ module _ (sig : Signature) (single : List (List ℕ)) where
   at_placed i t vs None k = if_so (fits sig single i t) k (vs ++ t ∷ [])
 
   mutual
-    pub finds : (p t : RawTerm) (vs : Values) (k : Values → Trace) → somes (trace sig single p t vs k) ≡ flat_map (λ us. somes (k us)) (found sig single p t vs)
+    finds : (p t : RawTerm) (vs : Values) (k : Values → Trace) → somes (trace sig single p t vs k) ≡ flat_map (λ us. somes (k us)) (found sig single p t vs)
     finds (numeral n) t vs k = if_so (same (numeral n) t) k vs
     finds (quoted q) t vs k = if_so (same (quoted q) t) k vs
     finds (variable x) t vs k = at_placed x.sort t vs (slice_get vs x.sort) k
@@ -69,7 +72,7 @@ module _ (sig : Signature) (single : List (List ℕ)) where
         (if_both (has_before f t) _ _ k (finds_all qs (before t) vs k))
         (if_both (has_top f t) _ _ k (finds_all qs (args_of t) vs k))))
 
-    pub finds_all : (qs ts : RawTerms) (vs : Values) (k : Values → Trace) → somes (trace_all sig single qs ts vs k) ≡ flat_map (λ us. somes (k us)) (found_all sig single qs ts vs)
+    finds_all : (qs ts : RawTerms) (vs : Values) (k : Values → Trace) → somes (trace_all sig single qs ts vs k) ≡ flat_map (λ us. somes (k us)) (found_all sig single qs ts vs)
     finds_all nil nil vs k = sym (append-nil (somes (k vs)))
     finds_all nil (cons t ts) vs k = refl
     finds_all (cons q qs) nil vs k = refl
@@ -86,7 +89,7 @@ module _ (sig : Signature) (single : List (List ℕ)) where
         ∙ sym (flat_map-flat_map (λ us. somes (k us)) (λ us. found_all sig single qs (skip 1 ts) us) (found sig single q (first_term ts) vs)))
         ∙ sym (flat_map-flat_map (λ us. somes (k us)) (λ ts. flat_map (λ us. found_all sig single qs (skip 1 ts) us) (found sig single q (first_term ts) vs)) tss)
 
-    pub finds_row : (f : ℕ) (qs zs : RawTerms) (vs : Values) (k : Values → Trace) → somes (trace_row sig single f qs zs vs k) ≡ flat_map (λ us. somes (k us)) (found_row sig single f qs zs vs)
+    finds_row : (f : ℕ) (qs zs : RawTerms) (vs : Values) (k : Values → Trace) → somes (trace_row sig single f qs zs vs k) ≡ flat_map (λ us. somes (k us)) (found_row sig single f qs zs vs)
     finds_row f nil nil vs k = sym (append-nil (somes (k vs)))
     finds_row f nil (cons z zs) vs k = refl
     finds_row f (cons q qs) zs vs k =
@@ -98,7 +101,7 @@ module _ (sig : Signature) (single : List (List ℕ)) where
         ∙ flat_map-same _ _ (fronts (is_some (identity_of sig f)) (number_of_terms zs)) (λ n. then_is (trace sig single q (rebuilt (identity_of sig f) f (front n zs)) vs (λ us. trace_row sig single f qs (skip n zs) us k)) (found sig single q (rebuilt (identity_of sig f) f (front n zs)) vs) (λ us. trace_row sig single f qs (skip n zs) us k) (λ us. found_row sig single f qs (skip n zs) us) k (finds q (rebuilt (identity_of sig f) f (front n zs)) vs (λ us. trace_row sig single f qs (skip n zs) us k)) (λ us. finds_row f qs (skip n zs) us k))
         ∙ sym (flat_map-flat_map (λ us. somes (k us)) (λ n. flat_map (λ us. found_row sig single f qs (skip n zs) us) (found sig single q (rebuilt (identity_of sig f) f (front n zs)) vs)) (fronts (is_some (identity_of sig f)) (number_of_terms zs)))))
 
-    pub finds_bag : (f : ℕ) (qs zs : RawTerms) (vs : Values) (k : Values → Trace) → somes (trace_bag sig single f qs zs vs k) ≡ flat_map (λ us. somes (k us)) (found_bag sig single f qs zs vs)
+    finds_bag : (f : ℕ) (qs zs : RawTerms) (vs : Values) (k : Values → Trace) → somes (trace_bag sig single f qs zs vs k) ≡ flat_map (λ us. somes (k us)) (found_bag sig single f qs zs vs)
     finds_bag f nil nil vs k = sym (append-nil (somes (k vs)))
     finds_bag f nil (cons z zs) vs k = refl
     finds_bag f (cons q qs) zs vs k =
@@ -120,6 +123,13 @@ module _ (sig : Signature) (single : List (List ℕ)) where
   flat_map-itself [] = refl
   flat_map-itself (l ∷ ls) = ap (λ m. l ∷ m) (flat_map-itself ls)
 
+  pub finds_goal : (g : Goal) (vs : Values) (k : Values → Trace) → somes (goal_trace sig single g vs k) ≡ flat_map (λ us. somes (k us)) (goal_found sig single g vs)
+  finds_goal (Meet p t) vs k = finds p t vs k
+  finds_goal (Args p t i) vs k = finds_all (skip i (args_of p)) (skip i (args_of t)) vs k
+  finds_goal (Row p i r j) vs k = finds_row (top_of p) (skip i (args_of p)) (skip j (args_of r)) vs k
+  finds_goal (Bag p i r) vs k = finds_bag (top_of p) (skip i (args_of p)) (args_of r) vs k
+  finds_goal (Left p i r n) vs k = finds_bag (top_of p) (skip i (args_of p)) (without n (args_of r)) vs k
+
   -- what an enumeration gives at the start
-  pub all_found : (p t : RawTerm) (vs : Values) → somes (trace sig single p t vs finish) ≡ found sig single p t vs
-  all_found p t vs = finds p t vs finish ∙ flat_map-itself (found sig single p t vs)
+  pub all_found : (g : Goal) (vs : Values) → somes (goal_trace sig single g vs finish) ≡ goal_found sig single g vs
+  all_found g vs = finds_goal g vs finish ∙ flat_map-itself (goal_found sig single g vs)

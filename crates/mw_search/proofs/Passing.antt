@@ -2,14 +2,11 @@
 use Rattle.std.proofs.Common.{◌≡◌, ◌∙◌, ◌<◌, true, cond, List, [], ◌∷◌, ◌++◌, length, ap, sym, subst, arith, append_assoc, length-append}
 use Rattle.std.proofs.lemmas.List.{append-nil}
 use Rattle.std.proofs.lemmas.Option.{slice_get_within}
-use Rattle.mw_logic.specs.Term.{RawTerm}
 use Rattle.mw_logic.specs.Signature.{Signature}
-use Rattle.mw_matching.specs.Found.{found}
-use Rattle.mw_search.specs.Traces.{finish, somes, trace}
-use Rattle.mw_search.specs.Goals.{hand_trace}
+use Rattle.mw_search.specs.Traces.{finish, somes}
+use Rattle.mw_search.specs.Goals.{goal_trace, goal_found, hand_trace}
 use Rattle.mw_search.specs.Lacking.{OneLacksItsSort, Each, Skips}
 use Rattle.mw_search.specs.Machines.{Rise, stack_trace, machine_trace, to_come, IsReady, IsLeftOut, Stepped}
-use Rattle.mw_search.specs.declared.goals.Goal.TheVariants.{Meet}
 use Rattle.mw_search.specs.declared.positions.Positions.{Positions}
 use Rattle.mw_search.specs.declared.goals.Goal.{Goal}
 use Rattle.mw_search.specs.declared.machine.Choice.{Choice}
@@ -19,12 +16,12 @@ use Rattle.mw_search.proofs.Finding.{somes-append, all_found}
 
 module _ (sig : Signature) (ps : Positions) where
   -- at the start all that is found is still to come
-  pub starting : (m : Machine) (p t : RawTerm) → m.running ≡ true → m.goals.items ≡ Meet p t ∷ [] → m.stack.items ≡ [] → to_come sig ps m ≡ found sig ps.single.items p t m.values.items
-  starting m p t er eg es =
+  pub starting : (m : Machine) (g : Goal) → m.running ≡ true → m.goals.items ≡ g ∷ [] → m.stack.items ≡ [] → to_come sig ps m ≡ goal_found sig ps.single.items g m.values.items
+  starting m g er eg es =
       ap (λ b. somes (cond b (hand_trace sig ps.single.items m.goals.items m.values.items finish) [] ++ stack_trace sig ps m.stack.items m.values.items)) er
       ∙ ap (λ (gs : List Goal). somes (hand_trace sig ps.single.items gs m.values.items finish ++ stack_trace sig ps m.stack.items m.values.items)) eg
-      ∙ ap (λ (cs : List Choice). somes (trace sig ps.single.items p t m.values.items finish ++ stack_trace sig ps cs m.values.items)) es
-      ∙ ap somes (append-nil (trace sig ps.single.items p t m.values.items finish)) ∙ all_found sig ps.single.items p t m.values.items
+      ∙ ap (λ (cs : List Choice). somes (goal_trace sig ps.single.items g m.values.items finish ++ stack_trace sig ps cs m.values.items)) es
+      ∙ ap somes (append-nil (goal_trace sig ps.single.items g m.values.items finish)) ∙ all_found sig ps.single.items g m.values.items
 
   pub ready_at_start : (m : Machine) → m.given ≡ length m.values.items → m.stack.items ≡ [] → IsReady sig ps m
   ready_at_start m eg es = record {

@@ -1,6 +1,6 @@
 -- What becomes of goals under an associative and commutative operator, and the shares that their choices go through.
-use Rattle.std.proofs.Common.{◌≡◌, ◌∙◌, ℕ, ◌+◌, ◌<◌, ◌≤◌, false, cond, List, [], ◌∷◌, length, get_or, map, ap, sym, refl, arith}
-use Rattle.std.specs.Prelude.{None, Option, Bool, is_some, unwrap_or, option_map}
+use Rattle.std.proofs.Common.{◌≡◌, ◌∙◌, ℕ, ◌+◌, ◌-◌, ◌<◌, ◌≤◌, false, cond, List, [], ◌∷◌, length, get_or, map, ap, sym, subst, refl, arith}
+use Rattle.std.specs.Prelude.{Some, None, Option, Bool, is_some, unwrap_or, option_map}
 use Rattle.std.proofs.lemmas.Bool.{both_ways}
 use Rattle.mw_logic.specs.Term.{RawTerm, apply, RawTerms, nil, cons}
 use Rattle.mw_logic.specs.Terms.{args_of, terms_of, skip}
@@ -13,8 +13,8 @@ use Rattle.mw_matching.specs.Patterns.{is_rigid}
 use Rattle.mw_matching.specs.Multisets.{is_within, left_behind, term_at, without, news, times, part_of, rest_of, parts, behind_first}
 use Rattle.mw_matching.specs.Found.{Values, is_single, value_of, are_none}
 use Rattle.mw_search.specs.Traces.{Trace, ticked, trace, trace_bag}
-use Rattle.mw_search.specs.Goals.{top_of, Share, head_share, part_share, share_trace, shares_left}
-use Rattle.mw_search.specs.declared.goals.Goal.TheVariants.{Bag}
+use Rattle.mw_search.specs.Goals.{top_of, IsNext, Share, head_share, heads_left, part_share, share_trace, shares_left}
+use Rattle.mw_search.specs.declared.goals.Goal.TheVariants.{Bag, Left}
 use Rattle.mw_search.specs.declared.shares.Singles.{Singles}
 use Rattle.mw_search.specs.declared.shares.Pieces.{Pieces}
 use Rattle.mw_search.specs.declared.shares.Shares.TheVariants.{OfHeads, OfParts}
@@ -28,15 +28,24 @@ behind_mapped f (x ∷ xs) = refl
 pub none_behind : (p : RawTerm) (ps : List RawTerm) (i : ℕ) → terms_of ps ≡ args_of p → i + 1 < length ps → are_none (skip (i + 1) (args_of p)) ≡ false
 none_behind p ps i e h = none_left p ps (i + 1) e false (λ w. absurd (both_ways _ refl w)) (λ _. h)
 
--- behind a share the others are left
-pub heads_pass : (old new : Singles) → new.pattern ≡ old.pattern → new.then ≡ old.then → new.heads.elements ≡ old.heads.elements → new.heads.remaining ≡ behind_first old.heads.remaining
-    → map (head_share new) new.heads.remaining ≡ behind_first (map (head_share old) old.heads.remaining)
-heads_pass old new ep ei ez er =
-    let G : RawTerm → ℕ → RawTerms → List ℕ → List Share = λ p i zs ns. map (λ n. (term_at n zs, Bag p i (apply (top_of p) (without n zs)))) ns in
-    ap (λ p. G p new.then new.heads.elements new.heads.remaining) ep ∙ ap (λ i. G old.pattern i new.heads.elements new.heads.remaining) ei
-    ∙ ap (λ zs. G old.pattern old.then zs new.heads.remaining) ez ∙ ap (λ ns. G old.pattern old.then old.heads.elements ns) er
-    ∙ behind_mapped (head_share old) old.heads.remaining
+-- the first of the different elements that are left, and those behind it
+heads_begin : (s : Singles) (zs : RawTerms) (n : ℕ) (ns : List ℕ) → zs ≡ args_of s.bag → news zs s.next (number_of_terms zs - s.next) ≡ n ∷ ns → heads_left s ≡ head_share s n ∷ map (head_share s) ns
+heads_begin s zs n ns e h = ap (map (head_share s)) (ap (λ ys. news ys s.next (number_of_terms ys - s.next)) (sym e) ∙ h)
 
+pub heads_pass : (old new : Singles) (zs : RawTerms) (n : ℕ) → new ≡ record old { next = n + 1 } → zs ≡ args_of old.bag → news zs old.next (number_of_terms zs - old.next) ≡ n ∷ news zs (n + 1) (number_of_terms zs - (n + 1))
+    → heads_left new ≡ behind_first (heads_left old)
+heads_pass old new zs n en e h =
+    ap heads_left en ∙ ap (λ ys. map (head_share old) (news ys (n + 1) (number_of_terms ys - (n + 1)))) (sym e)
+    ∙ ap behind_first (sym (heads_begin old zs n (news zs (n + 1) (number_of_terms zs - (n + 1))) e h))
+
+pub heads_next : (s : Singles) (t p b : RawTerm) (zs : RawTerms) (n : ℕ) (ns : List ℕ) → zs ≡ args_of s.bag → news zs s.next (number_of_terms zs - s.next) ≡ n ∷ ns → t ≡ term_at n zs → p ≡ s.pattern → b ≡ s.bag
+    → IsNext (Some (t, Left p s.then b n)) (heads_left s)
+heads_next s t p b zs n ns e h et ep eb = subst (IsNext (Some (t, Left p s.then b n))) (sym (heads_begin s zs n ns e h)) (ap Some same)
+  where
+    same : ◌≡◌ {A = Share} (t, Left p s.then b n) (head_share s n)
+    same = let u : t ≡ term_at n (args_of s.bag) = et ∙ ap (term_at n) e in cc
+
+-- behind a part the others are left
 pub parts_pass : (old new : Pieces) → new.pattern ≡ old.pattern → new.then ≡ old.then → new.identity ≡ old.identity → new.parts.elements ≡ old.parts.elements → new.parts.remaining ≡ behind_first old.parts.remaining
     → map (part_share new) new.parts.remaining ≡ behind_first (map (part_share old) old.parts.remaining)
 parts_pass old new ep ei ee ez er =
@@ -82,16 +91,18 @@ module _ (sig : Signature) (single : List (List ℕ)) where
       ∙ ap (λ b. None ∷ bag_step f q qs zs vs k o b (are_none qs)) ex ∙ ap (λ b. None ∷ bag_step f q qs zs vs k o x b) ey
 
   -- one element of a multiset each time
-  pub heads_go : (p q q2 : RawTerm) (zs : RawTerms) (i : ℕ) (s : Singles) → s.pattern ≡ p → s.heads.elements ≡ zs → s.then ≡ i → s.heads.remaining ≡ news zs 0 (number_of_terms zs) → q2 ≡ q
-      → (vs : Values) (k : Values → Trace)
-      → ticked (λ n. trace sig single q (term_at n zs) vs (λ us. trace_bag sig single (top_of p) (skip i (args_of p)) (without n zs) us k)) (news zs 0 (number_of_terms zs))
+  pub heads_go : (p q q2 b : RawTerm) (i : ℕ) (s : Singles) → s.pattern ≡ p → s.bag ≡ b → s.then ≡ i → s.next ≡ 0 → q2 ≡ q → (vs : Values) (k : Values → Trace)
+      → ticked (λ n. trace sig single q (term_at n (args_of b)) vs (λ us. trace_bag sig single (top_of p) (skip i (args_of p)) (without n (args_of b)) us k)) (news (args_of b) 0 (number_of_terms (args_of b)))
       ≡ ticked (share_trace sig single q2 vs k) (shares_left (OfHeads s))
-  heads_go p q q2 zs i s ep ez ei en eq vs k =
-      let G : RawTerm → RawTerm → RawTerms → ℕ → List ℕ → Trace =
-      λ p q ys i ns. ticked (λ n. trace sig single q (term_at n ys) vs (λ us. trace_bag sig single (top_of p) (skip i (args_of p)) (without n ys) us k)) ns in
-      ap (λ x. G x q zs i (news zs 0 (number_of_terms zs))) (sym ep) ∙ ap (λ x. G s.pattern x zs i (news zs 0 (number_of_terms zs))) (sym eq)
-      ∙ ap (λ ns. G s.pattern q2 zs i ns) (sym en) ∙ ap (λ ys. G s.pattern q2 ys i s.heads.remaining) (sym ez) ∙ ap (λ m. G s.pattern q2 s.heads.elements m s.heads.remaining) (sym ei)
-      ∙ sym (ticked_map (share_trace sig single q2 vs k) (head_share s) s.heads.remaining)
+  heads_go p q q2 b i s ep eb ei en eq vs k =
+      let G : RawTerm → RawTerm → RawTerm → ℕ → List ℕ → Trace =
+      λ p q b i ns. ticked (λ n. trace sig single q (term_at n (args_of b)) vs (λ us. trace_bag sig single (top_of p) (skip i (args_of p)) (without n (args_of b)) us k)) ns in
+      let all : RawTerm → List ℕ = λ b. news (args_of b) 0 (number_of_terms (args_of b)) in
+      let first : number_of_terms (args_of s.bag) ≡ number_of_terms (args_of s.bag) - s.next = omega (arith, en) in
+      ap (λ x. G x q b i (all b)) (sym ep) ∙ ap (λ x. G s.pattern x b i (all b)) (sym eq)
+      ∙ ap (λ x. G s.pattern q2 x i (all x)) (sym eb) ∙ ap (λ m. G s.pattern q2 s.bag m (all s.bag)) (sym ei)
+      ∙ ap (λ m. G s.pattern q2 s.bag s.then (news (args_of s.bag) 0 m)) first ∙ ap (λ m. G s.pattern q2 s.bag s.then (news (args_of s.bag) m (number_of_terms (args_of s.bag) - s.next))) (sym en)
+      ∙ sym (ticked_map (share_trace sig single q2 vs k) (head_share s) (news (args_of s.bag) s.next (number_of_terms (args_of s.bag) - s.next)))
 
   -- a part of a multiset each time
   pub parts_go : (e : Option Identity) (p q q2 : RawTerm) (zs : RawTerms) (i : ℕ) (cs : List (List ℕ)) (s : Pieces) → s.pattern ≡ p → s.parts.elements ≡ zs → s.then ≡ i → s.parts.remaining ≡ cs

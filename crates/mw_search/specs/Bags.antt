@@ -1,21 +1,10 @@
--- What is still to come of a multiset: its different elements, by their indices; its parts, by numbers of each.
-use Rattle.std.specs.Prelude.{◌≡◌, ℕ, ◌-◌, List, [], ◌∷◌, refl, Option, Some, None}
+-- What is still to come of a multiset: its parts, by numbers of each different element.
+use Rattle.std.specs.Prelude.{◌≡◌, ℕ, List, [], ◌∷◌, refl, Option, Some, None}
 use Rattle.std.specs.Coded.{Coded, coded_ℕ, coded_list, coded×, code_by}
 use Rattle.mw_logic.specs.Term.{RawTerm, RawTerms}
 use Rattle.mw_logic.specs.TermCode.{coded_terms}
-use Rattle.mw_logic.specs.Terms.{args_of}
-use Rattle.mw_logic.specs.Parts.{number_of_terms}
 use Rattle.mw_split.specs.Splits.{Splits}
 use Rattle.mw_arguments.specs.Bags.{spread, runs, heads, numbers}
-use Rattle.mw_matching.specs.Multisets.{news}
-
--- elements, and indices of some of them
-pub record Indices : Type 0 where
-  pub elements : RawTerms
-  pub remaining : List ℕ
-
-abbrev pub coded_indices : Coded Indices
-coded_indices = code_by (RawTerms × List ℕ) (coded× coded_terms (coded_list coded_ℕ)) (λ h. (h.elements, h.remaining)) (λ p. record { elements = p.0; remaining = p.1 }) (λ _. refl)
 
 -- elements, and cuts of them
 pub record Cuts : Type 0 where
@@ -24,10 +13,6 @@ pub record Cuts : Type 0 where
 
 abbrev pub coded_cuts : Coded Cuts
 coded_cuts = code_by (RawTerms × List (List ℕ)) (coded× coded_terms (coded_list (coded_list coded_ℕ))) (λ h. (h.elements, h.remaining)) (λ p. record { elements = p.0; remaining = p.1 }) (λ _. refl)
-
--- the different elements of a bag, an operator on them, from an index on
-abbrev pub indices_from : RawTerm → ℕ → Indices
-indices_from bag next = record { elements = args_of bag; remaining = news (args_of bag) next (number_of_terms (args_of bag) - next) }
 
 -- the cut that splits stand at, and those behind it
 abbrev pub with_current : Option (List ℕ) → List (List ℕ) → List (List ℕ)

@@ -6,11 +6,11 @@ use Rattle.mw_logic.specs.Signature.{Signature}
 use Rattle.mw_logic.specs.Parts.{number_of_terms}
 use Rattle.mw_logic.specs.NormalForm.{rebuilt}
 use Rattle.mw_term.specs.Signatures.{identity_of as identity_named}
-use Rattle.mw_matching.specs.Multisets.{term_at, without, part_of, rest_of}
-use Rattle.mw_matching.specs.Found.{Values, first_term, numbers_from}
+use Rattle.mw_matching.specs.Multisets.{term_at, without, news, part_of, rest_of}
+use Rattle.mw_matching.specs.Found.{Values, first_term, numbers_from, found, found_all, found_row, found_bag}
 use Rattle.mw_search.specs.Traces.{Trace, ticked, trace, trace_all, trace_row, trace_bag}
 use Rattle.mw_search.specs.declared.goals.Goal.{Goal}
-use Rattle.mw_search.specs.declared.goals.Goal.TheVariants.{Meet, Args, Row, Bag}
+use Rattle.mw_search.specs.declared.goals.Goal.TheVariants.{Meet, Args, Row, Bag, Left}
 use Rattle.mw_search.specs.declared.goals.Outcome.{Outcome}
 use Rattle.mw_search.specs.declared.goals.Outcome.TheVariants.{Fails, Holds, Binds, Becomes, First, Opens}
 use Rattle.mw_search.specs.declared.shares.Fronts.{Fronts}
@@ -43,9 +43,9 @@ behind_goal r n = Row r.pattern r.then r.row (min (r.from + n) (number_of_terms 
 abbrev pub front_share : Fronts → ℕ → Share
 front_share r n = (rebuilt (option_map identity_named r.identity) (top_of r.pattern) (front n (skip r.from (args_of r.row))), behind_goal r n)
 
--- the element at an index
+-- the element at an index, and the others
 abbrev pub head_share : Singles → ℕ → Share
-head_share r n = (term_at n r.heads.elements, Bag r.pattern r.then (apply (top_of r.pattern) (without n r.heads.elements)))
+head_share r n = (term_at n (args_of r.bag), Left r.pattern r.then r.bag n)
 
 -- the part of a cut
 abbrev pub part_share : Pieces → List ℕ → Share
@@ -63,7 +63,7 @@ abbrev pub fronts_left : Fronts → List Share
 fronts_left r = map (front_share r) (numbers_from r.next (r.end - r.next))
 
 abbrev pub heads_left : Singles → List Share
-heads_left r = map (head_share r) r.heads.remaining
+heads_left r = map (head_share r) (news (args_of r.bag) r.next (number_of_terms (args_of r.bag) - r.next))
 
 abbrev pub parts_left : Pieces → List Share
 parts_left r = map (part_share r) r.parts.remaining
@@ -83,6 +83,15 @@ module _ (sig : Signature) (single : List (List ℕ)) where
   goal_trace (Args p t i) vs k = trace_all sig single (skip i (args_of p)) (skip i (args_of t)) vs k
   goal_trace (Row p i r j) vs k = trace_row sig single (top_of p) (skip i (args_of p)) (skip j (args_of r)) vs k
   goal_trace (Bag p i r) vs k = trace_bag sig single (top_of p) (skip i (args_of p)) (args_of r) vs k
+  goal_trace (Left p i r n) vs k = trace_bag sig single (top_of p) (skip i (args_of p)) (without n (args_of r)) vs k
+
+  -- the values by which a goal holds
+  abbrev pub goal_found : Goal → Values → List Values
+  goal_found (Meet p t) vs = found sig single p t vs
+  goal_found (Args p t i) vs = found_all sig single (skip i (args_of p)) (skip i (args_of t)) vs
+  goal_found (Row p i r j) vs = found_row sig single (top_of p) (skip i (args_of p)) (skip j (args_of r)) vs
+  goal_found (Bag p i r) vs = found_bag sig single (top_of p) (skip i (args_of p)) (args_of r) vs
+  goal_found (Left p i r n) vs = found_bag sig single (top_of p) (skip i (args_of p)) (without n (args_of r)) vs
 
   -- the pattern by the share's term, and then the share's goal
   abbrev pub share_trace : RawTerm → Values → (Values → Trace) → Share → Trace

@@ -1,11 +1,11 @@
 // Parts of multisets of terms, whose elements stand in order.
 ghost use Rattle.std.specs.Prelude.{◌≡◌, ℕ, ◌+◌, ◌-◌, ◌/◌, ◌<◌, List, [], ◌∷◌, ◌++◌, map, length, slice_index, true, false, cond, is_some, IfOk, OnOk, MatchOption};
 ghost use Rattle.mw_logic.specs.Term.{RawTerm, RawTerms, join};
-ghost use Rattle.mw_logic.specs.Terms.{terms_of, args_of};
+ghost use Rattle.mw_logic.specs.Terms.{terms_of};
 ghost use Rattle.mw_logic.specs.Parts.{number_of_terms};
 ghost use Rattle.mw_arguments.specs.Bags.{same, copies, spread as spread_is, runs as runs_is, heads as heads_is, numbers as numbers_is};
 ghost use Rattle.mw_matching.specs.Multisets.{is_within, left_behind, term_at, without as without_is, is_new as is_new_is, news, is_variable as is_variable_is, times as times_is, part_of, rest_of, parts, numbers_without, behind_first};
-ghost use Rattle.mw_search.specs.Bags.{Indices, Cuts, indices_from, cuts_left, AreRuns};
+ghost use Rattle.mw_search.specs.Bags.{Cuts, cuts_left, AreRuns};
 
 use crate::terms::{arguments, is_same};
 use mw_split::BagSplits;
@@ -74,72 +74,8 @@ fn is_variable(a: &Term, b: &Term) -> bool
     }
 }
 
-/// The different elements of a multiset, one after another: its elements, and the indices of those still to come.
-#[derive(Drop)]
-pub struct Heads {
-    // An operator on the elements.
-    bag: Term,
-    next: usize,
-}
-
-impl Model for Heads {
-    ghost use Rattle.mw_search.specs.Bags.{Indices, coded_indices, indices_from};
-
-    ghost Value = { Indices };
-
-    ghost coded = { coded_indices };
-
-    ghost view = { λ h. indices_from h.bag h.next };
-}
-
-impl Heads {
-    /// The elements are the arguments of the bag.
-    pub fn new(bag: Term) -> Heads
-        ensures elements { result.elements ≡ args_of bag }
-        ensures remaining { result.remaining ≡ news (args_of bag) 0 (number_of_terms (args_of bag)) }
-    {
-        Heads { bag, next: 0 }
-    }
-
-    /// The first of those still to come.
-    pub fn element(&self) -> Result<Option<Term>, AllocError>
-        ensures { IfOk result (λ o. MatchOption o (self.now.remaining ≡ [])
-            (λ t. (n : ℕ) × (ns : List ℕ) × (self.now.remaining ≡ n ∷ ns) × (t ≡ term_at n self.now.elements))) }
-    {
-        let elements = arguments(&self.bag);
-        let Some(at) = first_new(elements, self.next) else {
-            return Ok(None);
-        };
-        let element = copy(&elements[at])?;
-        Ok(Some(element))
-    }
-
-    /// The elements without it.
-    pub fn rest(&self, alloc: Global) -> Result<Vec<Term>, AllocError>
-        ensures { IfOk result (λ ts. (n : ℕ) (ns : List ℕ) → self.now.remaining ≡ n ∷ ns →
-            terms_of ts.items ≡ without_is n self.now.elements) }
-    {
-        let elements = arguments(&self.bag);
-        let Some(at) = first_new(elements, self.next) else {
-            return Ok(Vec::new(alloc));
-        };
-        let rest = without(alloc, elements, at)?;
-        Ok(rest)
-    }
-
-    /// Goes on behind it.
-    pub fn pass(&mut self)
-        ensures elements { self.new.elements ≡ self.old.elements }
-        ensures remaining { self.new.remaining ≡ behind_first self.old.remaining }
-    {
-        if let Some(at) = first_new(arguments(&self.bag), self.next) {
-            self.next = at + 1;
-        }
-    }
-}
-
 /// The first index from there on of an element that differs from the one before.
-fn first_new(elements: &[Term], from: usize) -> Option<usize>
+pub fn first_new(elements: &[Term], from: usize) -> Option<usize>
     ensures { let zs = terms_of elements.now in
         let left = news zs from (number_of_terms zs - from) in
         MatchOption result (left ≡ [])
@@ -165,7 +101,7 @@ fn is_new(elements: &[Term], index: usize) -> bool
 }
 
 /// The elements without the one at an index.
-fn without(alloc: Global, elements: &[Term], index: usize) -> Result<Vec<Term>, AllocError>
+pub fn without(alloc: Global, elements: &[Term], index: usize) -> Result<Vec<Term>, AllocError>
     ensures { IfOk result (λ ts. terms_of ts.items ≡ without_is index (terms_of elements.now)) }
 {
     let mut made = Vec::with_capacity(alloc, elements.len())?;

@@ -16,6 +16,8 @@ pub enum Goal {
     Row(Term, usize, Term, usize),
     /// The arguments of a pattern from this one on by all elements of a multiset.
     Bag(Term, usize, Term),
+    /// The arguments of a pattern from this one on by the elements of a multiset but the one at that index.
+    Left(Term, usize, Term, usize),
 }
 
 /// What becomes of a goal.
@@ -40,6 +42,9 @@ fn copied(goal: &Goal) -> Result<Goal, AllocError>
         Goal::Args(pattern, term, at) => Ok(Goal::Args(copy(pattern)?, copy(term)?, *at)),
         Goal::Row(pattern, at, row, from) => Ok(Goal::Row(copy(pattern)?, *at, copy(row)?, *from)),
         Goal::Bag(pattern, at, bag) => Ok(Goal::Bag(copy(pattern)?, *at, copy(bag)?)),
+        Goal::Left(pattern, at, bag, gone) => {
+            Ok(Goal::Left(copy(pattern)?, *at, copy(bag)?, *gone))
+        }
     }
 }
 

@@ -6,6 +6,8 @@
 //! what is asked of their values (`Matches`, specs/Searches). Proved:
 //!
 //! - `new` has all of `found`.
+//! - `of_row` has all of `found_row` (specs/Found): the arguments of a pattern by the elements of a row from a place
+//!   on. The row isn't copied, so a part of an associative operator's arguments can be met in place.
 //! - `next` takes matches off the front. It passes over some in each of which a new value lacks its sort, and answers
 //!   the next one, in which each new value has its sort; or it passes over all that are left and answers None, and so
 //!   for ever. For want of memory it may have passed over some, and the others are still to come (`SkipsTo`).
@@ -15,16 +17,17 @@
 //! Given values aren't asked. There is no other condition; that `found` has all matches, each once, is another law.
 //!
 //! How it works: a machine has goals in hand, the values so far, and a stack of choices. A goal is a pattern by a term,
-//! or its arguments from one on by those of a term, by elements of a list or by a multiset. It fails, holds, binds a
-//! position, becomes another, or opens a choice over shares: how many elements the next argument takes of a list, which
-//! element or which part of a multiset, which order of two arguments. No choice is opened for an argument that is one
-//! element of a list, for the last one, which takes all, and for a variable that has its value. A state stands for its
-//! trace (specs/Traces): what is to come, with a mark for each step. A step takes the first mark off, so steps end, and
-//! the matches stay the same.
+//! or its arguments from one on by those of a term, by elements of a list, by a multiset or by all of one but an
+//! element. It fails, holds, binds a position, becomes another, or opens a choice over shares: how many elements the
+//! next argument takes of a list, which element or which part of a multiset, which order of two arguments. No choice is
+//! opened for an argument that is one element of a list, for the last one, which takes all, and for a variable that has
+//! its value. A state stands for its trace (specs/Traces): what is to come, with a mark for each step. A step takes the
+//! first mark off, so steps end, and the matches stay the same.
 //!
-//! Cost: terms are copied by one count. A share of a list copies the elements of its piece, one of a multiset all
-//! elements; each copies the goals that wait behind its choice. Nothing recurs but comparing terms and walking them for
-//! sorts. Neither proved nor tested: time and memory, and that calls answer with memory at hand.
+//! Cost: terms are copied by one count. A share of a list copies the elements of its piece, a part of a multiset all
+//! elements. One element of a multiset is met before the others are copied, so one that the pattern fails on costs no
+//! such copy. Each share copies the goals that wait behind its choice. Nothing recurs but comparing terms and walking
+//! them for sorts. Neither proved nor tested: time and memory, and that calls answer with memory at hand.
 #![tactic(auto)]
 
 mod bags;

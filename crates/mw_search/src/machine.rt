@@ -47,24 +47,19 @@ fn lacks(context: &Ctx, positions: &Positions, position: usize, value: &Term) ->
 
 impl Machine {
     ghost use Rattle.mw_logic.specs.Signature.{Signature};
-    ghost use Rattle.mw_matching.specs.Found.{found};
+    ghost use Rattle.mw_search.specs.Goals.{goal_found};
     ghost use Rattle.mw_search.specs.declared.goals.Outcome.TheVariants.{Binds, Opens};
     ghost use Rattle.mw_search.specs.Lacking.{HaveTheirSorts};
     ghost use Rattle.mw_search.specs.Machines.{IsReady, Stepped, Stayed, Applied, PassesTo, to_come};
 
-    /// A pattern and a term to be met, with values that are given.
-    pub fn new(
-        alloc: Global,
-        pattern: Term,
-        term: Term,
-        given: Vec<Term>,
-    ) -> Result<Machine, AllocError>
+    /// A goal to be met, with values that are given.
+    pub fn new(alloc: Global, goal: Goal, given: Vec<Term>) -> Result<Machine, AllocError>
         ensures starts { IfOk result (λ m. (sig : Signature) (ps : Positions) →
-            to_come sig ps m ≡ found sig ps.single.items pattern term given.items) }
+            to_come sig ps m ≡ goal_found sig ps.single.items goal given.items) }
         ensures given { IfOk result (λ m. m.given ≡ length given.items) }
         ensures ready { IfOk result (λ m. (sig : Signature) (ps : Positions) → IsReady sig ps m) }
     {
-        let goals = vec![in alloc; Goal::Meet(pattern, term)]?;
+        let goals = vec![in alloc; goal]?;
         Ok(Machine {
             given: given.len(),
             running: true,

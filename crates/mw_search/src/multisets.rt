@@ -2,14 +2,13 @@
 ghost use Rattle.std.specs.Prelude.{◌≡◌, IfOk, option_map};
 ghost use Rattle.mw_logic.specs.NormalForm.{identity_of, elements as elements_of};
 ghost use Rattle.mw_logic.specs.Terms.{args_of, terms_of, skip};
-ghost use Rattle.mw_term.specs.Signatures.{identity_of as identity_named};
 ghost use Rattle.mw_matching.specs.Found.{value_of};
 ghost use Rattle.mw_matching.specs.Multisets.{times as times_is};
 ghost use Rattle.mw_search.specs.Goals.{IsOutcome, Gives, top_of};
 ghost use Rattle.mw_search.specs.Traces.{taken_trace, heads_trace, parts_trace};
-ghost use Rattle.mw_search.specs.declared.goals.Goal.TheVariants.{Bag};
+ghost use Rattle.mw_search.specs.declared.goals.Goal.TheVariants.{Bag, Left};
 
-use crate::bags::{Heads, Parts, taken_away, times};
+use crate::bags::{Parts, taken_away, times, without};
 use crate::goals::{Goal, Outcome};
 use crate::positions::{Positions, identity};
 use crate::rows::whole;
@@ -64,6 +63,26 @@ pub fn bag_met(
     Ok(met)
 }
 
+/// The arguments of a pattern from this one on by the elements of a multiset but the one at that index.
+pub fn left_met(
+    alloc: Global,
+    facts: &Facts,
+    positions: &Positions,
+    pattern: &Term,
+    at: usize,
+    bag: &Term,
+    gone: usize,
+    values: &[Term],
+) -> Result<Outcome, AllocError>
+    ensures { let single = positions.now.single.items in
+        IfOk result (IsOutcome facts.now single (Left pattern.now at bag.now gone) values.now) }
+{
+    let left = without(alloc, arguments(bag), gone)?;
+    let left = Term::apply(alloc, top(pattern), left)?;
+    let met = bag_met(alloc, facts, positions, pattern, at, &left, values)?;
+    Ok(met)
+}
+
 /// The value of a variable, where it has one.
 fn value_at<'v>(pattern: &Term, values: &'v [Term]) -> Option<&'v Term>
     ensures { option_map (λ v. v.now) result ≡ value_of pattern.now values.now }
@@ -107,11 +126,12 @@ fn heads_met(pattern: &Term, first: &Term, then: usize, bag: &Term) -> Result<Ou
 {
     let first = copy(first)?;
     let pattern = copy(pattern)?;
-    let heads = Heads::new(copy(bag)?);
+    let bag = copy(bag)?;
     let singles = Singles {
         pattern,
         then,
-        heads,
+        bag,
+        next: 0,
     };
     Ok(Outcome::Opens(first, Shares::OfHeads(singles)))
 }

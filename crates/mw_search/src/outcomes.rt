@@ -10,7 +10,7 @@ ghost use Rattle.mw_search.specs.Traces.{Trace, at_position, operator_trace, arg
 ghost use Rattle.mw_search.specs.declared.goals.Goal.TheVariants.{Meet, Args};
 
 use crate::goals::{Goal, Outcome};
-use crate::multisets::bag_met;
+use crate::multisets::{bag_met, left_met};
 use crate::positions::Positions;
 use crate::rows::row_met;
 use crate::shares::{Orders, Shares};
@@ -36,6 +36,9 @@ pub fn outcome(
             row_met(alloc, facts, positions, pattern, *at, row, *from)
         }
         Goal::Bag(pattern, at, bag) => bag_met(alloc, facts, positions, pattern, *at, bag, values),
+        Goal::Left(pattern, at, bag, gone) => {
+            left_met(alloc, facts, positions, pattern, *at, bag, *gone, values)
+        }
     }
 }
 

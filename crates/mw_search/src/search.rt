@@ -1,6 +1,7 @@
 // The matches of a pattern, one by one.
 ghost use Rattle.std.specs.Prelude.{◌≡◌, ◌∷◌, [], length, IfOk, OnErr, MatchOption};
 
+use crate::goals::Goal;
 use crate::machine::Machine;
 use crate::positions::Positions;
 use mw_least::Ctx;
@@ -40,7 +41,9 @@ impl<'c> Model for Search<'c> {
 }
 
 impl<'c> Search<'c> {
-    ghost use Rattle.mw_matching.specs.Found.{found};
+    ghost use Rattle.mw_logic.specs.Terms.{args_of, skip};
+    ghost use Rattle.mw_matching.specs.Found.{found, found_row};
+    ghost use Rattle.mw_search.specs.Goals.{top_of};
     ghost use Rattle.mw_search.specs.Searches.{SkipsTo, FitsSorts};
 
     /// All matches of a pattern, whose variables stand by position, with a term. The values of the first positions are
@@ -61,7 +64,37 @@ impl<'c> Search<'c> {
               coming = found sig positions.now.single.items pattern term given.items;
             }) }
     {
-        let machine = Machine::new(alloc, pattern, term, given)?;
+        let machine = Machine::new(alloc, Goal::Meet(pattern, term), given)?;
+        Ok(Search {
+            alloc,
+            context,
+            positions,
+            machine,
+        })
+    }
+
+    /// All matches of a pattern with the elements of a row from a place on: its arguments take all of these from the
+    /// left, as under an associative operator. The row is its elements under any operator, and they aren't copied. The
+    /// values of the first positions are given, as in `new`.
+    pub fn of_row(
+        alloc: Global,
+        context: &'c Ctx,
+        positions: &'c Positions,
+        pattern: Term,
+        row: Term,
+        from: usize,
+        given: Vec<Term>,
+    ) -> Result<Search<'c>, AllocError>
+        ensures { let sig = context.now.signature in
+            let elements = skip from (args_of row) in
+            IfOk result (λ s. s ≡ record {
+              signature = sig;
+              sorts = positions.now.sorts;
+              given = length given.items;
+              coming = found_row sig positions.now.single.items (top_of pattern) (args_of pattern) elements given.items;
+            }) }
+    {
+        let machine = Machine::new(alloc, Goal::Row(pattern, 0, row, from), given)?;
         Ok(Search {
             alloc,
             context,

@@ -3,7 +3,7 @@ ghost use Rattle.std.specs.Prelude.{◌≡◌, IfOk, option_map};
 ghost use Rattle.mw_matching.specs.Multisets.{behind_first};
 ghost use Rattle.mw_search.specs.Goals.{IsNext};
 
-use crate::bags::{Heads, Parts};
+use crate::bags::{Parts, first_new};
 use crate::goals::Goal;
 use crate::terms::{arguments, first_of, part, rebuilt_of, top};
 use mw_term::{Identity, Term, copy};
@@ -22,12 +22,14 @@ pub struct Fronts {
     pub end: usize,
 }
 
-/// One element of a multiset each time, of those that differ.
+/// One element of a multiset each time, of those that differ, from the index `next` on.
 #[derive(Drop)]
 pub struct Singles {
     pub pattern: Term,
     pub then: usize,
-    pub heads: Heads,
+    /// An operator on the elements.
+    pub bag: Term,
+    pub next: usize,
 }
 
 /// Parts of a multiset.
@@ -74,22 +76,26 @@ impl Fronts {
 impl Singles {
     ghost use Rattle.mw_search.specs.Goals.{heads_left};
 
-    fn share(&self, alloc: Global) -> Result<Option<(Term, Goal)>, AllocError>
+    /// The element, and the others, which stay in the bag until the pattern has met it.
+    fn share(&self) -> Result<Option<(Term, Goal)>, AllocError>
         ensures { IfOk result (λ o. IsNext (option_map (λ s. (s.0, s.1)) o) (heads_left self.now)) }
     {
-        let Some(term) = self.heads.element()? else {
+        let elements = arguments(&self.bag);
+        let Some(at) = first_new(elements, self.next) else {
             return Ok(None);
         };
-        let left = self.heads.rest(alloc)?;
-        let left = Term::apply(alloc, top(&self.pattern), left)?;
+        let term = copy(&elements[at])?;
         let pattern = copy(&self.pattern)?;
-        Ok(Some((term, Goal::Bag(pattern, self.then, left))))
+        let bag = copy(&self.bag)?;
+        Ok(Some((term, Goal::Left(pattern, self.then, bag, at))))
     }
 
     fn pass(&mut self)
         ensures { heads_left self.new ≡ behind_first (heads_left self.old) }
     {
-        self.heads.pass();
+        if let Some(at) = first_new(arguments(&self.bag), self.next) {
+            self.next = at + 1;
+        }
     }
 }
 
@@ -156,7 +162,7 @@ impl Shares {
                 }
                 Ok(Some(fronts.share(alloc)?))
             }
-            Shares::OfHeads(singles) => singles.share(alloc),
+            Shares::OfHeads(singles) => singles.share(),
             Shares::OfParts(pieces) => pieces.share(alloc),
             Shares::OfOrders(orders) => orders.share(alloc),
         }

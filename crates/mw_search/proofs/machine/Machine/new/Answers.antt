@@ -6,7 +6,7 @@ use Rattle.mw_search.proofs.machine.Machine.new.Goals as goal
 pub returns-clause-starts : goal.returns-clause-starts
 returns-clause-starts c =
     let new : Machine = record { given = c.len.result; running = true; goals = c.in_ok-goals.goals; values = c.args.given; stack = c.new.result } in
-    λ sig ps. starting sig ps new c.args.pattern c.args.term refl c.in_ok-goals.ensures.items c.new.ensures.items
+    λ sig ps. starting sig ps new c.args.goal refl c.in_ok-goals.ensures.items c.new.ensures.items
 
 pub returns-clause-ready : goal.returns-clause-ready
 returns-clause-ready c =
