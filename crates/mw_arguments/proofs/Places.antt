@@ -13,7 +13,7 @@ use Rattle.mw_logic.proofs.Elements.{taken, taken-insert}
 use Rattle.mw_logic.proofs.Lifting.{Among-join}
 use Rattle.mw_logic.proofs.Inside.{Among-insert}
 use Rattle.mw_arguments.specs.Bags.{same}
-use Rattle.mw_arguments.specs.Places.{chosen, others, Rise}
+use Rattle.mw_arguments.specs.Places.{chosen, others, Rise, numbers_of}
 use Rattle.mw_arguments.proofs.Runs.{same-equal}
 use Rattle.mw_arguments.proofs.Standing.{each_among, among_sorted, put_back, taken_head}
 
@@ -51,13 +51,7 @@ chosen_climbs i (k ∷ ks) (cons t ts) h = by_test (nat_eq i k) (chosen_climbs (
     by_test true a b = (chosen_each (λ u. stands_after t u ≡ false) (suc i) ks ts h.0, a)
     by_test false a b = b
 
--- Each part of a list in order is chosen by some numbers.
-abbrev pub numbers_of : ℕ → RawTerms → RawTerms → List ℕ
-numbers_of i nil ts = []
-numbers_of i (cons u us) nil = []
-numbers_of i (cons u us) (cons t ts) = cond (same u t) (i ∷ numbers_of (suc i) us ts) (numbers_of (suc i) (cons u us) ts)
-
--- they rise
+-- the numbers of a part rise
 pub numbers_rise : (i : ℕ) (us ts : RawTerms) → Rise i (i + number_of_terms ts) (numbers_of i us ts)
 numbers_rise i nil ts = tt
 numbers_rise i (cons u us) nil = tt

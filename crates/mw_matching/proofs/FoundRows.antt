@@ -43,7 +43,7 @@ one_more n count xs r = record {
         by_place (inl l) = inr ((r.all i).1 (l, omega (arith, b)))
         by_place (inr l) = inl (omega (arith, a, l))
 
-numbers_once : (n count : ℕ) → AllOnce (λ i. (n ≤ i) × (i < n + count)) (numbers_from n count)
+pub numbers_once : (n count : ℕ) → AllOnce (λ i. (n ≤ i) × (i < n + count)) (numbers_from n count)
 numbers_once n zero = once_none (λ i. (n ≤ i) × (i < n + 0)) (λ i p. (let a = p.0 in let b = p.1 in omega (arith, a, b)))
 numbers_once n (suc count) = one_more n count (numbers_from (suc n) count) (numbers_once (suc n) count)
 

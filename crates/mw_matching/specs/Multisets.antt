@@ -1,6 +1,6 @@
 -- Parts of multisets of terms, as lists in order.
 use Rattle.std.specs.Prelude.{ℕ, zero, suc, ◌+◌, ◌-◌, ◌/◌, List, [], ◌∷◌, map, Bool, true, false, cond, not, nat_eq}
-use Rattle.mw_logic.specs.Term.{RawTerm, numeral, quoted, variable, apply, RawTerms, nil, cons}
+use Rattle.mw_logic.specs.Term.{RawTerm, numeral, variable, RawTerms, nil, cons}
 use Rattle.mw_split.specs.Cuts.{bag_cuts}
 use Rattle.mw_arguments.specs.Bags.{same, spread, runs, heads, numbers}
 

@@ -15,8 +15,8 @@ use Rattle.mw_logic.proofs.SortedLists.{Climbs, climbs, sorted_terms-climbing}
 use Rattle.mw_logic.proofs.Canonical.{IsCanonical, AreCanonical, canonical, assoc-true, is_identity-arguments, nat_eq-refl, arranged-nil}
 use Rattle.mw_logic.proofs.Replacing.{sorted_terms-middle, applied-arranged}
 use Rattle.mw_logic.proofs.PartsOfNormalForm.{part_can_be_replaced}
-use Rattle.mw_arguments.specs.Places.{chosen, others, Rise, Follow}
-use Rattle.mw_arguments.proofs.Places.{chosen_whole, chosen_climbs, numbers_of, numbers_rise, numbers_choose, IsPartOfList}
+use Rattle.mw_arguments.specs.Places.{chosen, others, Rise, Follow, numbers_of}
+use Rattle.mw_arguments.proofs.Places.{chosen_whole, chosen_climbs, numbers_rise, numbers_choose, IsPartOfList}
 use Rattle.mw_arguments.proofs.Arguments.{in_order}
 use Rattle.mw_redex.specs.Paths.{at_path}
 use Rattle.mw_redex.specs.Replaced.{exchanged, put_in, replaced_here, replaced_at, IsTaken, IsPartAt, IsOpenArgument, IsOpenWay, way_of_place, ReplacesAt}

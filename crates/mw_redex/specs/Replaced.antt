@@ -2,11 +2,10 @@
 -- which places rules may change.
 use Rattle.std.specs.Prelude.{◌≡◌, ℕ, suc, List, [], ◌∷◌, ◌++◌, Bool, cond, ◌||◌, false, nat_eq, Option, Some, None, option_map, unwrap_or, ⊤}
 use Rattle.mw_logic.specs.Term.{RawTerm, numeral, quoted, variable, apply, RawTerms, nil, cons}
-use Rattle.mw_logic.specs.Signature.{Signature, Operator, IsAssociative}
-use Rattle.mw_logic.specs.Parts.{number_of_terms}
-use Rattle.mw_logic.specs.NormalForm.{is_comm, applied_in}
-use Rattle.mw_logic.specs.CanonicalPart.{AreSeveral, IsOpen}
-use Rattle.mw_arguments.specs.Places.{chosen, others, Rise, Follow}
+use Rattle.mw_logic.specs.Signature.{Signature, Operator}
+use Rattle.mw_logic.specs.NormalForm.{applied_in}
+use Rattle.mw_logic.specs.CanonicalPart.{IsOpen}
+use Rattle.mw_arguments.specs.Places.{others, Takes}
 use Rattle.mw_redex.specs.Paths.{argument, at_path}
 
 -- The terms with x in place of those that have the numbers k and ks, which rise: it stands where the first of them stood. i is the first term's number.
@@ -31,17 +30,6 @@ replaced_here sig (Some (k ∷ ks)) x t = put_in sig k ks x t
 abbrev pub replaced_at : Signature → List ℕ → Option (List ℕ) → RawTerm → RawTerm → RawTerm
 replaced_at sig [] take x t = replaced_here sig take x t
 replaced_at sig (i ∷ path) take x t = unwrap_or (option_map (λ u. put_in sig i [] (replaced_at sig path take x u) t) (argument t i)) t
-
--- w is what these numbers take of u: several arguments of an associative operator, neighbours where it isn't commutative
-pub record Takes (sig : Signature) (ks : List ℕ) (u w : RawTerm) : Type 0 where
-  pub operator : ℕ
-  pub args : RawTerms
-  pub term : u ≡ apply operator args
-  pub assoc : IsAssociative sig operator
-  pub rise : Rise 1 (suc (number_of_terms args)) ks
-  pub several : AreSeveral (chosen 1 ks args)
-  pub follow : is_comm sig operator ≡ false → Follow ks
-  pub part : w ≡ apply operator (chosen 1 ks args)
 
 abbrev pub IsTaken : Signature → Option (List ℕ) → RawTerm → RawTerm → Type 0
 IsTaken sig None u w = u ≡ w

@@ -13,7 +13,16 @@ pub mod Positions
 -- Matches are solutions, and the other way round.
 pub mod Solving
 pub mod Solved
-pub mod AllSolutions
+pub mod Members
+pub mod Compiled
 pub mod Candidates
-pub mod FoundSolutions
 pub mod Admitted
+-- Parts of several arguments.
+pub mod Numbers
+pub mod Rest
+pub mod Parts
+pub mod Lefts
+pub mod ProperParts
+-- Candidates for a term and for its proper parts.
+pub mod Entries
+pub mod Inside

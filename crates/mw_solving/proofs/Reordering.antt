@@ -1,5 +1,5 @@
 -- A pattern with arguments in another order is equal modulo the axioms, and has the same canonical instances.
-use Rattle.std.specs.Prelude.{◌≡◌, ℕ, List, Bool, true, false, not, cond, ◌&&◌, Option, refl}
+use Rattle.std.specs.Prelude.{◌≡◌, ℕ, List, Bool, true, false, ◌&&◌, Option, refl}
 use Rattle.std.proofs.Common.{sym, ap, ◌∙◌}
 use Rattle.mw_logic.specs.Term.{RawTerm, RawTerms, nil, cons, join}
 use Rattle.mw_logic.specs.Signature.{Signature, Identity, IsAssociative, IsCommutative}
@@ -14,7 +14,7 @@ use Rattle.mw_logic.proofs.SortLaws.{join_assoc, sorted_terms-left, sorted_terms
 use Rattle.mw_logic.proofs.Soundness.{EqualArguments, arguments-trans, at_head, at_tail, under_all, second}
 use Rattle.mw_logic.proofs.Soundness as sound
 use Rattle.mw_matching.specs.Matches.{evaluated, evaluated_all}
-use Rattle.mw_solving.specs.Reordered.{Reordered, same, inside, AreReordered, none, next, exchanged, then, passing, put_first}
+use Rattle.mw_solving.specs.Reordered.{Reordered, same, inside, AreReordered, none, next, exchanged, then}
 
 -- What stays when arguments are reordered: their elements in order where that is allowed, else all.
 abbrev SameArguments : Bool → Option Identity → ℕ → RawTerms → RawTerms → Type 0
@@ -118,21 +118,3 @@ module _ (sig : Signature) where
     all_nested_reordered (exchanged {f} {t = p} {u = q} {ts = ps} h c) = alike_exchanged (is_assoc sig f) f (nested sig p) (nested sig q) (all_nested sig ps) h (is_associative f h) (is_commutative f c)
     all_nested_reordered (then {f} {ts = ps} {us = qs} {vs = rs} a b) =
         alike_then (is_assoc sig f) f (all_nested sig ps) (all_nested sig qs) (all_nested sig rs) (all_nested_reordered a) (all_nested_reordered b)
-
-module _ (sig : Signature) (f : ℕ) (h : is_assoc sig f ≡ true) (c : is_comm sig f ≡ true) where
-  unchanged : (ts : RawTerms) → AreReordered sig f ts ts
-  unchanged nil = none
-  unchanged (cons t ts) = next same (unchanged ts)
-
-  moved : (t : RawTerm) (us vs : RawTerms) → AreReordered sig f (cons t (join us vs)) (join us (cons t vs))
-  moved t nil vs = unchanged (cons t vs)
-  moved t (cons u us) vs = then (exchanged h c) (next same (moved t us vs))
-
-  -- some arguments put in front of the others
-  pub first_reordered : (test : RawTerm → Bool) (ts : RawTerms) → AreReordered sig f ts (put_first test ts)
-  first_reordered test nil = none
-  first_reordered test (cons t ts) = by_test (test t) (first_reordered test ts)
-    where
-      by_test : (b : Bool) → AreReordered sig f ts (put_first test ts) → AreReordered sig f (cons t ts) (join (cond b (cons t (passing test ts)) (passing test ts)) (cond (not b) (cons t (passing (λ t. not (test t)) ts)) (passing (λ t. not (test t)) ts)))
-      by_test true r = next same r
-      by_test false r = then (next same r) (moved t (passing test ts) (passing (λ t. not (test t)) ts))

@@ -2,7 +2,7 @@
 pub mod Values
 -- Patterns with arguments in another order.
 pub mod Reordered
--- All solutions.
-pub mod AllSolutions
 -- Lists of values among which the solutions are.
 pub mod Candidates
+-- Solutions for a term and for its proper parts.
+pub mod Inside

@@ -1,6 +1,6 @@
 -- A pattern with the arguments of associative and commutative operators in another order.
-use Rattle.std.specs.Prelude.{ℕ, ◌≡◌, Bool, true, cond, not}
-use Rattle.mw_logic.specs.Term.{RawTerm, apply, RawTerms, nil, cons, join}
+use Rattle.std.specs.Prelude.{ℕ, ◌≡◌, true}
+use Rattle.mw_logic.specs.Term.{RawTerm, apply, RawTerms, nil, cons}
 use Rattle.mw_logic.specs.Signature.{Signature}
 use Rattle.mw_logic.specs.Parts.{is_assoc}
 use Rattle.mw_logic.specs.NormalForm.{is_comm}
@@ -16,11 +16,3 @@ mutual
     next : {f : ℕ} {t u : RawTerm} {ts us : RawTerms} → Reordered sig t u → AreReordered sig f ts us → AreReordered sig f (cons t ts) (cons u us)
     exchanged : {f : ℕ} {t u : RawTerm} {ts : RawTerms} → is_assoc sig f ≡ true → is_comm sig f ≡ true → AreReordered sig f (cons t (cons u ts)) (cons u (cons t ts))
     then : {f : ℕ} {ts us vs : RawTerms} → AreReordered sig f ts us → AreReordered sig f us vs → AreReordered sig f ts vs
-
--- the terms that pass a test, and in front of the others
-abbrev pub passing : (RawTerm → Bool) → RawTerms → RawTerms
-passing test nil = nil
-passing test (cons t ts) = cond (test t) (cons t (passing test ts)) (passing test ts)
-
-abbrev pub put_first : (RawTerm → Bool) → RawTerms → RawTerms
-put_first test ts = join (passing test ts) (passing (λ t. not (test t)) ts)
