@@ -1,5 +1,7 @@
 -- Arguments in another order.
 pub mod Orders
+-- Arguments in groups.
+pub mod Grouping
 -- Variables that are met, and their positions.
 pub mod ByPosition
 -- Which values are one element.

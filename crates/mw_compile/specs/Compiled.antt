@@ -1,5 +1,5 @@
 -- Patterns as searches take them.
-use Rattle.std.specs.Prelude.{◌≡◌, List, IsTrue}
+use Rattle.std.specs.Prelude.{◌≡◌, ◌≤◌, List, length, IsTrue}
 use Rattle.mw_logic.specs.Term.{Variable, RawTerm, RawTerms}
 use Rattle.mw_logic.specs.Signature.{Signature}
 use Rattle.mw_logic.specs.Substitution.{occurs, occurs_in}
@@ -23,6 +23,7 @@ pub record IsCompiled (sig : Signature) (p : RawTerm) (bound : List Variable) (c
   pub pattern : c.pattern ≡ placed c.variables q
   pub sorts : c.positions.sorts ≡ sorts_of c.variables
   pub sure : AreSure sig c.positions.single.items c.positions.sorts
+  pub bounded : length c.positions.single.items ≤ length c.variables
 
 -- each variable of a term is one of these
 abbrev pub AreAmong : List Variable → RawTerm → Type 0

@@ -1,5 +1,5 @@
 // Patterns whose variables stand by position.
-ghost use Rattle.std.specs.Prelude.{IfOk};
+ghost use Rattle.std.specs.Prelude.{◌≤◌, length, IfOk};
 ghost use Rattle.mw_machine.specs.Variables.{AreDistinct, bound_variables};
 ghost use Rattle.mw_solving.specs.Values.{AreSure};
 ghost use Rattle.mw_compile.specs.Compiled.{IsCompiled, IsNumbered};
@@ -8,6 +8,7 @@ use crate::meeting::{meet_all, places_of};
 use crate::placing::{by_position, variables_of};
 use crate::reordering::reordered;
 use crate::singles::Singles;
+use crate::variables::Variables;
 use mw_least::Ctx;
 use mw_search::Positions;
 use mw_term::{Seq, Subst, Term, VarId};
@@ -32,6 +33,7 @@ fn numbered(
     requires { AreDistinct (bound_variables given.now) }
     ensures numbered { IfOk result (IsNumbered (bound_variables given.now) pattern.now) }
     ensures sure { IfOk result (λ c. AreSure singles.now c.positions.single.items c.positions.sorts) }
+    ensures bounded { IfOk result (λ c. length c.positions.single.items ≤ length c.variables) }
 {
     let mut places = places_of(alloc, given)?;
     meet_all(&mut places, pattern)?;
@@ -59,7 +61,8 @@ pub fn compile(
 {
     let mut singles = Singles::none(alloc, context);
     singles.put_all(alloc, pattern)?;
-    let pattern = reordered(alloc, &singles, pattern)?;
+    let mut known = Variables::given(alloc, given)?;
+    let pattern = reordered(alloc, &singles, &mut known, pattern)?;
     let compiled = numbered(alloc, &singles, &pattern, given)?;
     Ok(compiled)
 }

@@ -11,7 +11,7 @@ use mw_term::{Name, Seq, Term, VarId, View, copy, copy_name};
 use std::alloc::{AllocError, Global};
 
 /// The variable of a position. More than numbers can tell counts as want of memory.
-fn position(alloc: Global, place: usize) -> Result<Term, AllocError>
+pub fn position(alloc: Global, place: usize) -> Result<Term, AllocError>
     ensures { IfOk result (λ t. t ≡ a_variable (position_of place)) }
 {
     if place > u32::MAX as usize {

@@ -1,99 +1,17 @@
-// Patterns with the arguments of associative and commutative operators in the order in which they are met.
+// Patterns with the arguments of associative and commutative operators in the order in which a search is to meet them.
 ghost use Rattle.std.specs.Prelude.{◌≡◌, ℕ, IfOk, IsTrue, true};
 ghost use Rattle.mw_logic.specs.Parts.{is_assoc};
 ghost use Rattle.mw_logic.specs.NormalForm.{is_comm};
 ghost use Rattle.mw_logic.specs.Terms.{terms_of};
 ghost use Rattle.mw_solving.specs.Reordered.{Reordered, AreReordered};
+ghost use Rattle.mw_compile.specs.Groups.{pointed};
 
+use crate::groups::{Group, Groups};
 use crate::singles::Singles;
+use crate::variables::Variables;
 use mw_canon::{Axioms, Facts};
 use mw_term::{OpId, Term, View, copy};
 use std::alloc::{AllocError, Global};
-
-/// Whether the arguments of an operator that become one element stand in front of the others.
-fn rigid_stand_first(singles: &Singles<'_>, operator: OpId, args: &[Term]) -> bool {
-    let mut others = false;
-    let mut rest = args;
-    while let [arg, after @ ..] = rest {
-        let rigid = singles.is_rigid(operator, arg);
-        if others && rigid {
-            return false;
-        }
-        others = !rigid;
-        rest = after;
-    }
-    true
-}
-
-/// Whether arguments of associative and commutative operators stand in the order in which they are met, at every level.
-fn is_ordered(singles: &Singles<'_>, term: &Term) -> bool {
-    let View::Op(operator, args) = term.view() else {
-        return true;
-    };
-    if is_bag(singles.facts(), operator) && !rigid_stand_first(singles, operator, args) {
-        return false;
-    }
-    let mut rest = args;
-    while let [arg, after @ ..] = rest {
-        if !is_ordered(singles, arg) {
-            return false;
-        }
-        rest = after;
-    }
-    true
-}
-
-/// A pattern with the arguments of associative and commutative operators in another order, at every level: first those
-/// that become one element, then the others, in order within both. Parts that are in order are shared.
-#[cycle(reordered)]
-pub fn reordered(alloc: Global, singles: &Singles<'_>, term: &Term) -> Result<Term, AllocError>
-    ensures { IfOk result (Reordered singles.now term.now) }
-{
-    if is_ordered(singles, term) {
-        return copy(term);
-    }
-    match term.view() {
-        View::Op(operator, args) => {
-            let made = all_reordered(alloc, singles, args)?;
-            let ordered = ordered(alloc, singles, operator, made)?;
-            let term = Term::apply(alloc, operator, ordered)?;
-            Ok(term)
-        }
-        _ => copy(term),
-    }
-}
-
-#[cycle(reordered)]
-fn all_reordered(
-    alloc: Global,
-    singles: &Singles<'_>,
-    terms: &[Term],
-) -> Result<Vec<Term>, AllocError>
-    ensures { IfOk result (λ ts. (f : ℕ) → AreReordered singles.now f (terms_of terms.now) (terms_of ts.items)) }
-{
-    let mut made = Vec::with_capacity(alloc, terms.len())?;
-    for term in terms {
-        let term = reordered(alloc, singles, term)?;
-        made.push(term)?;
-    }
-    Ok(made)
-}
-
-/// The arguments of an operator in the order in which they are met.
-fn ordered(
-    alloc: Global,
-    singles: &Singles<'_>,
-    operator: OpId,
-    args: Vec<Term>,
-) -> Result<Vec<Term>, AllocError>
-    ensures { IfOk result (λ ts. AreReordered singles.now operator (terms_of args.items) (terms_of ts.items)) }
-{
-    if !is_bag(singles.facts(), operator) {
-        return Ok(args);
-    }
-    let ordered = rigid_first(alloc, singles, operator, args.as_slice())?;
-    Ok(ordered)
-}
 
 /// Whether an operator is associative and commutative.
 fn is_bag(facts: &Facts, operator: OpId) -> bool
@@ -105,27 +23,178 @@ fn is_bag(facts: &Facts, operator: OpId) -> bool
     }
 }
 
-/// Those that become one element in front of the others.
-fn rigid_first(
+/// Whether each argument of an operator becomes one element.
+fn all_are_rigid(singles: &Singles<'_>, operator: OpId, args: &[Term]) -> bool {
+    let mut rest = args;
+    while let [arg, after @ ..] = rest {
+        if !singles.is_rigid(operator, arg) {
+            return false;
+        }
+        rest = after;
+    }
+    true
+}
+
+/// Whether an associative and commutative operator in a term stands on an argument that may become other than one
+/// element.
+fn has_choice(singles: &Singles<'_>, term: &Term) -> bool {
+    let View::Op(operator, args) = term.view() else {
+        return false;
+    };
+    if is_bag(singles.facts(), operator) && !all_are_rigid(singles, operator, args) {
+        return true;
+    }
+    let mut rest = args;
+    while let [arg, after @ ..] = rest {
+        if has_choice(singles, arg) {
+            return true;
+        }
+        rest = after;
+    }
+    false
+}
+
+/// A pattern with the arguments of associative and commutative operators in another order, at every level, group by
+/// group, and in order within each. Its variables are known then, beside those that were known. Parts with no choice
+/// are shared.
+#[cycle(reordered)]
+pub fn reordered<'a>(
+    alloc: Global,
+    singles: &Singles<'_>,
+    known: &mut Variables<'a>,
+    term: &'a Term,
+) -> Result<Term, AllocError>
+    ensures { IfOk result (Reordered singles.now term.now) }
+{
+    if !has_choice(singles, term) {
+        known.put_all(term)?;
+        return copy(term);
+    }
+    match term.view() {
+        View::Op(operator, args) => {
+            let args = ordered(alloc, singles, known, operator, args)?;
+            let made = all_reordered(alloc, singles, known, args.as_slice())?;
+            let term = Term::apply(alloc, operator, made)?;
+            Ok(term)
+        }
+        _ => copy(term),
+    }
+}
+
+#[cycle(reordered)]
+fn all_reordered<'a>(
+    alloc: Global,
+    singles: &Singles<'_>,
+    known: &mut Variables<'a>,
+    terms: &[&'a Term],
+) -> Result<Vec<Term>, AllocError>
+    ensures { let sig = singles.now in
+        IfOk result (λ ts. (f : ℕ) → AreReordered sig f (terms_of (pointed terms.now)) (terms_of ts.items)) }
+{
+    let mut made = Vec::with_capacity(alloc, terms.len())?;
+    for term in terms {
+        let term = reordered(alloc, singles, known, term)?;
+        made.push(term)?;
+    }
+    Ok(made)
+}
+
+/// The arguments of an operator in the order in which a search is to meet them.
+fn ordered<'a>(
+    alloc: Global,
+    singles: &Singles<'_>,
+    known: &Variables<'a>,
+    operator: OpId,
+    args: &'a [Term],
+) -> Result<Vec<&'a Term>, AllocError>
+    ensures { IfOk result (λ ts. AreReordered singles.now operator (terms_of args.now) (terms_of (pointed ts.items))) }
+{
+    if is_bag(singles.facts(), operator) {
+        grouped(alloc, singles, known, operator, args)
+    } else {
+        listed(alloc, args)
+    }
+}
+
+/// All arguments as they stand.
+fn listed<'a>(alloc: Global, args: &'a [Term]) -> Result<Vec<&'a Term>, AllocError>
+    ensures { IfOk result (λ ts. pointed ts.items ≡ args.now) }
+{
+    let mut list = Vec::with_capacity(alloc, args.len())?;
+    for arg in args {
+        list.push(arg)?;
+    }
+    Ok(list)
+}
+
+/// The arguments group by group.
+fn grouped<'a>(
+    alloc: Global,
+    singles: &Singles<'_>,
+    known: &Variables<'a>,
+    operator: OpId,
+    args: &'a [Term],
+) -> Result<Vec<&'a Term>, AllocError>
+    requires assoc { is_assoc singles.now operator ≡ true }
+    requires comm { is_comm singles.now operator ≡ true }
+    ensures { IfOk result (λ ts. AreReordered singles.now operator (terms_of args.now) (terms_of (pointed ts.items))) }
+{
+    let rigid = in_rigid(alloc, singles, operator, args)?;
+    let repeated = repeated(alloc, args)?;
+    let mut groups = Groups::none(alloc);
+    for arg in args {
+        let group = if singles.is_rigid(operator, arg) {
+            Group::One
+        } else {
+            group_of(arg, known, &rigid, &repeated)
+        };
+        groups.put(group, arg)?;
+    }
+    let list = groups.joined()?;
+    Ok(list)
+}
+
+/// The variables of those arguments of an operator that become one element.
+fn in_rigid<'a>(
     alloc: Global,
     singles: &Singles<'_>,
     operator: OpId,
-    args: &[Term],
-) -> Result<Vec<Term>, AllocError>
-    requires assoc { is_assoc singles.now operator ≡ true }
-    requires comm { is_comm singles.now operator ≡ true }
-    ensures { IfOk result (λ ts. AreReordered singles.now operator (terms_of args.now) (terms_of ts.items)) }
-{
-    let mut first = Vec::with_capacity(alloc, args.len())?;
-    let mut others = Vec::new(alloc);
+    args: &'a [Term],
+) -> Result<Variables<'a>, AllocError> {
+    let mut variables = Variables::none(alloc);
     for arg in args {
-        let arg = copy(arg)?;
-        if singles.is_rigid(operator, &arg) {
-            first.push(arg)?;
-        } else {
-            others.push(arg)?;
+        if singles.is_rigid(operator, arg) {
+            variables.put_all(arg)?;
         }
     }
-    first.append(&mut others)?;
-    Ok(first)
+    Ok(variables)
+}
+
+/// The variables that stand more than once among arguments.
+fn repeated<'a>(alloc: Global, args: &'a [Term]) -> Result<Variables<'a>, AllocError> {
+    let mut met = Variables::none(alloc);
+    let mut repeated = Variables::none(alloc);
+    for arg in args {
+        if let View::Var(x) = arg.view() {
+            let is_new = met.put(x)?;
+            if !is_new {
+                repeated.put(x)?;
+            }
+        }
+    }
+    Ok(repeated)
+}
+
+/// The group of an argument that may become other than one element.
+fn group_of(
+    arg: &Term,
+    known: &Variables<'_>,
+    rigid: &Variables<'_>,
+    repeated: &Variables<'_>,
+) -> Group {
+    match arg.view() {
+        View::Var(x) if known.has(x) || rigid.has(x) => Group::Known,
+        View::Var(x) if repeated.has(x) => Group::Repeated,
+        _ => Group::Other,
+    }
 }

@@ -1,5 +1,5 @@
 // Which values are one element under an associative operator, by their sorts.
-ghost use Rattle.std.specs.Prelude.{◌≡◌, ℕ, true, IfOk, IsTrue, option_map};
+ghost use Rattle.std.specs.Prelude.{◌≡◌, ◌≤◌, ℕ, length, true, IfOk, IsTrue, option_map};
 ghost use Rattle.std.specs.List.{All};
 ghost use Rattle.mw_logic.specs.Signature.{identity_term};
 ghost use Rattle.mw_term.specs.Signatures.{identity_of as identity_named};
@@ -193,7 +193,8 @@ impl<'c> Singles<'c> {
     /// The operators under which what stands at each position, by its sort, is one element. There are no lists where
     /// there are no operators.
     pub fn lists(&self, alloc: Global, sorts: &[SortId]) -> Result<Vec<Seq<OpId>>, AllocError>
-        ensures { IfOk result (λ lists. AreSure self.now lists.items sorts.now) }
+        ensures sure { IfOk result (λ lists. AreSure self.now lists.items sorts.now) }
+        ensures bounded { IfOk result (λ lists. length lists.items ≤ length sorts.now) }
     {
         let mut lists = Vec::new(alloc);
         if self.operators.is_empty() {

@@ -12,5 +12,6 @@ returns c =
       variables = c.in_ok-compiled.ensures.numbered.variables;
       pattern = c.in_ok-compiled.ensures.numbered.pattern;
       sorts = c.in_ok-compiled.ensures.numbered.sorts;
+      bounded = c.in_ok-compiled.ensures.bounded;
       sure = subst (λ sig. AreSure sig c.in_ok-compiled.compiled.positions.single.items c.in_ok-compiled.compiled.positions.sorts) same c.in_ok-compiled.ensures.sure;
     }

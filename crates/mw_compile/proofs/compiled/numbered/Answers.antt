@@ -11,4 +11,4 @@ by_position-requires c = λ x o.
     ap (is_in x) c.in_ok-meet_all.ensures ∙ is_in-met x c.in_ok-places.places c.args.pattern.now ∙ or_right (is_in x c.in_ok-places.places) (occurs x c.args.pattern.now) o
 
 pub returns-clause-sure : goal.returns-clause-sure
-returns-clause-sure c = subst (AreSure c.args.singles.now c.in_ok-single.single.items) c.as_slice.ensures c.in_ok-single.ensures
+returns-clause-sure c = subst (AreSure c.args.singles.now c.in_ok-single.single.items) c.as_slice.ensures c.in_ok-single.ensures.sure

@@ -14,7 +14,7 @@ returns-in-Some c = λ h.
     let j = c.args.joining.now in
     let t : RawTerm = c.in-Some.identity in
     one_by sig j.operator c.args.sort c.shows.ensures.signature.accepted
-    (λ ts k. both_ways _ c.if-may_give.false (c.may_give.ensures ts k.canonical k.raw k.sorted))
+    (λ ts k. both_ways _ c.if-may_give.false (c.may_give.ensures.had ts k.canonical k.raw k.sorted))
     (λ i d k.
     let e : identity_term i ≡ t = kept_is sig j.operator c.args.sort j t refl c.requires c.in-Some.is i d in
     let has = c.has_sort.ensures (subst (λ u. normal_form sig (nested sig u) ≡ u) e k.canonical) (subst (λ u. IsRawTerm sig (nested sig u)) e k.raw) (subst (λ u. is_ground u ≡ true) e (identity_ground i)) in
@@ -25,5 +25,5 @@ returns-in-None c = λ h.
     let sig = c.args.context.now.signature in
     let j = c.args.joining.now in
     one_by sig j.operator c.args.sort c.shows.ensures.signature.accepted
-    (λ ts k. both_ways _ c.if-may_give.false (c.may_give.ensures ts k.canonical k.raw k.sorted))
+    (λ ts k. both_ways _ c.if-may_give.false (c.may_give.ensures.had ts k.canonical k.raw k.sorted))
     (λ i d k. none_has sig j.operator c.args.sort j refl c.requires c.in-None.is i d)

@@ -1,10 +1,10 @@
 use Rattle.std.proofs.Common.{◌≤◌, ◌+◌, length}
 use Rattle.mw_logic.specs.NormalForm.{height, highest}
 use Rattle.mw_logic.specs.Terms.{terms_of}
-use Rattle.mw_compile.proofs.reordering.+is_ordered.Given as goal
+use Rattle.mw_compile.proofs.variables.Variables.+put_all.Given as goal
 
-abbrev pub decreases-is_ordered : goal.decreases-is_ordered
-decreases-is_ordered l = height l.term.now
+abbrev pub decreases-put_all : goal.decreases-put_all
+decreases-put_all l = height l.term.now
 
 abbrev pub invariant-loop-rest : goal.invariant-loop-rest
 invariant-loop-rest l = highest (terms_of l.rest) + 1 ≤ height l.term
