@@ -3,4 +3,9 @@ pub mod Pairs
 pub mod Sorting
 pub mod Orders
 pub mod Picking
+pub mod Taking
+pub mod Places
+pub mod Entries
+pub mod Hands
+pub mod Inside
 pub mod Candidates

@@ -1,5 +1,5 @@
 -- What is picked of candidates: solutions, each once, and all where none is left.
-use Rattle.std.specs.Prelude.{◌≡◌, ◌≤◌, ◌<◌, ℕ, zero, suc, List, [], ◌∷◌, ◌++◌, length, Option, Some, None, MatchOption, slice_get, refl}
+use Rattle.std.specs.Prelude.{◌≡◌, ◌≤◌, ◌<◌, Bool, ℕ, zero, suc, List, [], ◌∷◌, ◌++◌, length, Option, Some, None, MatchOption, slice_get, refl}
 use Rattle.std.specs.List.Sorted.{IsPermutation}
 use Rattle.std.proofs.Common.{◌∙◌, ap, sym, subst, inl, inr, ⊎_elim, arith}
 use Rattle.std.proofs.lemmas.Option.{none-some, same_Some}
@@ -85,20 +85,21 @@ module _ (c : Coming) where
   picked_all (take t p) e apart r m s = ⊎_elim (λ k. inl k) (λ n. inr (picked_all p e (λ q k. apart q (inr k)) r n s)) m
   picked_all (pass {r = q} l p) e apart r m s = ⊎_elim (λ k. absurd (apart q (inl refl) (subst (FitsSorts c) (sym k) s) l)) (λ n. picked_all p e (λ q k. apart q (inr k)) r n s) m
 
-  module _ (sig : Signature) (p t : RawTerm) (s0 : Substitution) (h : IsAllSolutions sig p t s0 c) where
+  module _ (sig : Signature) (inside : Bool) (p t : RawTerm) (s0 : Substitution) (h : IsAllSolutions sig inside p t s0 c) where
     apart : (r : Solution) → Member r c.candidates → FitsSorts c r → Lacks c r → ⊥
-    apart r m s l = h.lacking r m l (h.sound r m s).0
+    apart r m s l = h.lacking r m l (h.sound r m s)
 
-    pub listed_solutions : (most : ℕ) (named listed : List Solution) → AreFirst most c named → IsPermutation named listed → Ascends compare_solutions listed → AreListed sig p t s0 most listed
+    pub listed_solutions : (most : ℕ) (named listed : List Solution) → AreFirst most c named → IsPermutation named listed → Ascends compare_solutions listed → AreListed sig inside p t s0 most listed
     listed_solutions most named listed f moved ascends = record {
       found = f.found;
       sound = λ r m. let (k, s) = picked_from f.picked r m in h.sound r k s;
-      once = once_apart Same (λ q r e. (e.1, e.0)) f.found (picked_apart Same f.picked (apart_once Same c.candidates h.once));
+      once = λ i j q r e g k same. once_apart Same (λ q r e. (sym e.0, (e.1.1, e.1.0))) f.found
+          (picked_apart Same f.picked (apart_once Same c.candidates (λ i j q r e g s. h.once i j q r e g s.0 s.1))) i j q r e g (k, same);
       bounded = f.bounded;
-      complete = λ few s sol.
-          let (r, m, sorted, same) = h.complete s sol in
+      complete = λ few ks s sol.
+          let (r, m, sorted, takes, same) = h.complete ks s sol in
           let none_left : f.left ≡ [] = ⊎_elim (λ e. e) (λ e. absurd (omega (arith, e, few))) f.whole in
-          (r, picked_all f.picked none_left apart r m sorted, same);
+          (r, picked_all f.picked none_left apart r m sorted, takes, same);
       named = named;
       by_name = f.by_name;
       rearranged = moved;
@@ -106,7 +107,7 @@ module _ (c : Coming) where
     }
       where
         Same : Solution → Solution → Type 0
-        Same q r = SameSolution sig (meant sig q.subst) (meant sig r.subst)
+        Same q r = (q.take ≡ r.take) × SameSolution sig (meant sig q.subst) (meant sig r.subst)
 
 -- as many are named as were found
 pub as_many : {qs rs : List Solution} → AreByName qs rs → length qs ≡ length rs

@@ -1,3 +1,5 @@
 pub mod Matching
 pub mod Solutions
+pub mod Parts
+pub mod Hands
 pub mod Listing

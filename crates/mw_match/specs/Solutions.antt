@@ -1,14 +1,15 @@
 -- All solutions of a pattern that extend a substitution, each once: among candidates, told by their values' sorts.
-use Rattle.std.specs.Prelude.{ℕ, ◌≡◌, List, ◌++◌, Option, Some, None, slice_get, option_to_list, MatchOption, ⊤}
+use Rattle.std.specs.Prelude.{ℕ, ◌≡◌, Bool, List, ◌++◌, Option, Some, slice_get, option_to_list}
 use Rattle.std.specs.List.{zip}
 use Rattle.mw_logic.specs.Term.{Variable, RawTerm}
 use Rattle.mw_logic.specs.Signature.{Signature, Member}
-use Rattle.mw_logic.specs.Substitution.{Substitution, IsSolution, SameSolution}
+use Rattle.mw_logic.specs.Substitution.{Substitution, SameSolution}
 use Rattle.mw_canon.specs.Canonical.{meant}
-use Rattle.mw_machine.specs.Variables.{bound_values, sorts_of}
+use Rattle.mw_machine.specs.Variables.{bound_values}
 use Rattle.mw_matching.specs.Found.{Values}
+use Rattle.mw_solving.specs.Inside.{IsSolutionOf, Entry}
 use Rattle.mw_search.specs.Lacking.{HaveTheirSorts, OneLacksItsSort, Skips}
-use Rattle.mw_search.specs.Searches.{Matches, FitsSorts as FitsBySearch}
+use Rattle.mw_search.specs.Searches.{Matches}
 use Rattle.mw_match.specs.declared.solutions.Solution.{Solution}
 
 -- Solutions that are still to come: candidates, in order. Those are solutions whose new values have their variables'
@@ -35,17 +36,20 @@ Lacks c r = OneLacksItsSort c.signature c.sorts c.given (values r)
 abbrev pub PassesTo : Coming → List Solution → Type 0
 PassesTo c rest = Skips (Lacks c) c.candidates rest
 
--- A candidate whose new values have their sorts is a solution of the whole of t, and one with a new value that lacks its
--- sort is none; each solution is such a candidate modulo the axioms, and no two candidates are the same one.
-pub record IsAllSolutions (sig : Signature) (p t : RawTerm) (s0 : Substitution) (c : Coming) : Type 0 where
-  pub sound : (r : Solution) → Member r c.candidates → FitsSorts c r → IsSolution sig p t s0 (meant sig r.subst) × (r.take ≡ None)
-  pub lacking : (r : Solution) → Member r c.candidates → Lacks c r → IsSolution sig p t s0 (meant sig r.subst) → ⊥
-  pub complete : (s : Substitution) → IsSolution sig p t s0 s → (r : Solution) × Member r c.candidates × FitsSorts c r × SameSolution sig s (meant sig r.subst)
-  pub once : (i j : ℕ) (q r : Solution) → slice_get c.candidates i ≡ Some q → slice_get c.candidates j ≡ Some r → SameSolution sig (meant sig q.subst) (meant sig r.subst) → i ≡ j
+-- Solutions of p for t that extend s0: for the whole of t, and (`inside`) for its proper parts on top. A candidate whose new values have their sorts is a
+-- solution for what it takes, and one with a new value that lacks its sort is none; each solution is such a candidate modulo the axioms, and no two candidates
+-- of one part are the same one.
+pub record IsAllSolutions (sig : Signature) (inside : Bool) (p t : RawTerm) (s0 : Substitution) (c : Coming) : Type 0 where
+  pub sound : (r : Solution) → Member r c.candidates → FitsSorts c r → IsSolutionOf sig inside p t s0 r.take (meant sig r.subst)
+  pub lacking : (r : Solution) → Member r c.candidates → Lacks c r → IsSolutionOf sig inside p t s0 r.take (meant sig r.subst) → ⊥
+  pub complete : (ks : Option (List ℕ)) (s : Substitution) → IsSolutionOf sig inside p t s0 ks s
+      → (r : Solution) × Member r c.candidates × FitsSorts c r × (r.take ≡ ks) × SameSolution sig s (meant sig r.subst)
+  pub once : (i j : ℕ) (q r : Solution) → slice_get c.candidates i ≡ Some q → slice_get c.candidates j ≡ Some r → q.take ≡ r.take
+      → SameSolution sig (meant sig q.subst) (meant sig r.subst) → i ≡ j
 
--- the candidate of values by position
-abbrev pub candidate : List Variable → Values → Solution
-candidate xs us = record { subst = zip xs us; take = None }
+-- the candidate of values by position, and of what they take
+abbrev pub candidate : List Variable → Entry → Solution
+candidate xs e = record { subst = zip xs e.1; take = e.0 }
 
 -- a match at hand, if there is one, and those behind it
 abbrev pub matches_of : Option Values → List Values → List Values
@@ -54,8 +58,3 @@ matches_of found coming = option_to_list found ++ coming
 -- a new value of a match lacks its sort
 abbrev pub LacksBySearch : Matches → Values → Type 0
 LacksBySearch m vs = OneLacksItsSort m.signature m.sorts m.given vs
-
--- What is kept: the sorts of a search are those of the variables, and the match at hand has them.
-pub record IsKept (xs : List Variable) (m : Matches) (found : Option Values) : Type 0 where
-  pub sorts : m.sorts ≡ sorts_of xs
-  pub sorted : MatchOption found ⊤ (FitsBySearch m)

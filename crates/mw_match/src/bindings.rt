@@ -18,6 +18,17 @@ pub fn values_of(alloc: Global, given: &Subst) -> Result<Vec<Term>, AllocError>
     Ok(values)
 }
 
+/// The same terms again.
+pub fn copied(alloc: Global, terms: &[Term]) -> Result<Vec<Term>, AllocError>
+    ensures { IfOk result (λ ts. ts.items ≡ terms.now) }
+{
+    let mut made = Vec::with_capacity(alloc, terms.len())?;
+    for term in terms {
+        made.push(copy(term)?)?;
+    }
+    Ok(made)
+}
+
 fn copy_variable(alloc: Global, x: &VarId) -> Result<VarId, AllocError>
     ensures { IfOk result (λ y. y ≡ x.now) }
 {

@@ -6,8 +6,9 @@
 //!   are none. Whatever is answered, the old values stand in front. `have_sorts` asks then whether each value has its
 //!   variable's sort, by `has_sort` of mw_least; without axioms nothing is lost by asking last, since one list of
 //!   values is all there is.
-//! - [`Solutions`] gives the solutions of a compiled pattern (mw_compile) for a subject that extend a given
-//!   substitution, one by one, modulo the axioms of any accepted signature. It searches by mw_search.
+//! - [`Solutions`] gives the solutions of a compiled pattern (mw_compile) that extend a given substitution, one by one,
+//!   modulo the axioms of any accepted signature: for a whole subject (`new`), or also for its proper parts on top
+//!   (`inside`). It searches by mw_search.
 //!
 //! What contracts see of solutions is `Coming` (specs/Solutions): candidates in order, with the sorts of their
 //! variables, of which the first were given. A candidate fits where each new value has its variable's sort, as far as
@@ -17,32 +18,48 @@
 //!   solution of p, one of which a value lacks its sort is none, each solution of p is a candidate that fits modulo
 //!   the axioms, and no two candidates are the same solution (`IsAllSolutions`: `sound`, `lacking`, `complete`,
 //!   `once`).
+//! - `inside`, of such a pattern: the same for the subject and for its proper parts on top (`IsProperPart` of
+//!   mw_solving). These are two or more arguments of its associative operator and not all of them: neighbours, or where
+//!   the operator is commutative too each part of the multiset of arguments once, and of equal arguments those with
+//!   the least numbers. `take` of a solution says which arguments it is of.
 //! - `next` passes over candidates that lack a sort and answers the first other one, which fits, or None where all that
 //!   were left lack a sort, and for ever after. For want of memory it has passed over such candidates alone, and the
 //!   same solutions are still to come.
-//!
 //! - `listed` gives the solutions that come, or the first so many, in the order in which they are shown: each with its
-//!   variables by name (`IsByName`), by the arguments that they take and then by their values. Of solutions that are all
-//!   (`IsAllSolutions`) each one listed is a solution, none comes twice, and where they are fewer than asked for they are
-//!   all (`AreListed`, specs/Listing). It holds them all, since the last one found may come first.
+//!   variables by name (`IsByName`), by the arguments that they take and then by their values. Of solutions that are
+//!   all (`IsAllSolutions`) each one listed is a solution, none comes twice, and where they are fewer than asked for
+//!   they are all (`AreListed`, specs/Listing). It holds them all, since the last one found may come first.
 //!
-//! Conditions of `new`: the subject and the given values are canonical terms that mean ground raw terms, the latter of
-//! their variables' sorts, each variable once; the compiled pattern has as many sorts as variables, and theirs. What
-//! `have_sorts` says holds where the signature is simple.
+//! How `inside` works: the whole subject is searched first. Behind it come searches for a pattern with a rest behind
+//! its elements (`rest_pattern`, specs/Parts), which takes what is left of the arguments: from the first one on, and
+//! where the operator isn't commutative from each one on, beside searches without a rest there. What a match takes
+//! follows from the value of its rest; one that leaves nothing or takes a single argument is none. There are no such
+//! searches for a pattern that becomes one element, whatever its variables' values are, and for a subject without an
+//! associative operator on top. A search begins when the one before has no match left.
 //!
-//! Cost: `matches` costs what is compared, a value one count. `Solutions` costs what its search does, and for each
-//! solution a copy of the variables' names and a count for each value. The native stack grows with the depth of the
-//! pattern in `matches`, and with that of terms where they are compared or walked for sorts.
+//! Conditions of `new` and `inside`: the subject and the given values are canonical terms that mean ground raw terms,
+//! the latter of their variables' sorts, each variable once; the compiled pattern has as many sorts as variables, and
+//! theirs. What `have_sorts` says holds where the signature is simple.
 //!
-//! Tested by mw_tests: that `new` and `next` answer with memory at hand. No clause says the order of solutions, time or
-//! memory.
+//! Cost: `matches` costs what is compared, a value one count. `Solutions` costs what its searches do, and for each
+//! solution a copy of the variables' names, a count for each value and a number for each argument that it takes. For
+//! proper parts there are up to two searches for each argument, each with a count for each given value; the arguments
+//! aren't copied for one but where a pattern without the operator on top is searched for. A match of a commutative
+//! operator with a rest costs two walks over the arguments. The native stack grows with the depth of the pattern in
+//! `matches`, and with that of terms where they are compared or walked for sorts.
+//!
+//! Tested by the sources in cases/, and for given values by mw_tests: that `new`, `inside` and `next` answer with memory
+//! at hand. No clause says the order of solutions, time or memory.
 #![tactic(auto)]
 
 mod bindings;
 mod by_position;
+mod hand;
 mod listing;
+mod parts;
 mod solutions;
 mod sorts;
+mod takes;
 
 pub use by_position::{all_match, matches};
 pub use listing::listed;

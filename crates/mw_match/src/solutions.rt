@@ -1,6 +1,5 @@
 // The solutions of a pattern.
-ghost use Rattle.std.specs.Prelude.{◌≡◌, ◌∷◌, [], IfOk, OnOk, OnErr, MatchOption, ⊤};
-ghost use Rattle.mw_logic.specs.Parts.{nested};
+ghost use Rattle.std.specs.Prelude.{◌≡◌, ◌∷◌, [], true, false, length, Some, option_map, IfOk, OnErr, MatchOption};
 ghost use Rattle.mw_logic.specs.NormalForm.{normal_form};
 ghost use Rattle.mw_logic.specs.Signature.{IsRawTerm};
 ghost use Rattle.mw_logic.specs.Substitution.{IsSubstitution};
@@ -9,11 +8,13 @@ ghost use Rattle.mw_machine.specs.Variables.{bound_variables, bound_values, sort
 ghost use Rattle.mw_canon.specs.Canonical.{meant};
 ghost use Rattle.mw_solving.specs.Values.{IsValue, AreValues};
 ghost use Rattle.mw_compile.specs.Compiled.{IsCompiled};
-ghost use Rattle.mw_search.specs.Lacking.{Skips};
-ghost use Rattle.mw_search.specs.Searches.{FitsSorts as FitsBySearch};
-ghost use Rattle.mw_match.specs.Solutions.{IsAllSolutions, FitsSorts, PassesTo, LacksBySearch, matches_of};
+ghost use Rattle.mw_match.specs.Solutions.{IsAllSolutions, FitsSorts, PassesTo};
+ghost use Rattle.mw_match.specs.Hands.{first_of};
+ghost use Rattle.mw_match.specs.declared.parts.Rest.{Rest as RestOf};
 
-use crate::bindings::{bound, values_of};
+use crate::bindings::values_of;
+use crate::hand::Hand;
+use crate::parts::{Parts, Place, rest_for};
 use mw_compile::Compiled;
 use mw_least::Ctx;
 use mw_search::Search;
@@ -32,11 +33,8 @@ pub struct Solution {
 /// The solutions of a pattern, one by one. Contracts see candidates for those that are still to come.
 #[derive(Drop)]
 pub struct Solutions<'c> {
-    alloc: Global,
-    compiled: &'c Compiled,
-    search: Search<'c>,
-    /// The values of the next solution, where the search has it and memory was wanting to hand it out.
-    found: Option<Seq<Term>>,
+    parts: Parts<'c>,
+    hand: Hand<'c>,
 }
 
 impl<'c> Model for Solutions<'c> {
@@ -48,17 +46,36 @@ impl<'c> Model for Solutions<'c> {
 
     ghost coded = { Prim.hlevel (codes, coded_term, coded_variable) };
 
-    ghost use Rattle.std.specs.Prelude.{map};
-    ghost use Rattle.mw_match.specs.Solutions.{candidate, matches_of, IsKept};
+    ghost use Rattle.mw_match.specs.Hands.{coming_of, IsKept};
 
-    ghost view = { λ s. record {
-      signature = s.search.signature;
-      sorts = s.search.sorts;
-      given = s.search.given;
-      candidates = map (candidate s.compiled.now.variables) (matches_of s.found s.search.coming);
-    } };
+    ghost view = { λ s. coming_of s.parts s.hand };
 
-    ghost invariant = { λ s. IsKept s.compiled.now.variables s.search s.found };
+    ghost invariant = { λ s. IsKept s.parts s.hand };
+}
+
+/// The solutions that the searches for a term and its parts give.
+fn begin<'c>(parts: Parts<'c>, given: Vec<Term>) -> Result<Solutions<'c>, AllocError>
+    requires sorts { parts.compiled.now.positions.sorts ≡ sorts_of parts.compiled.now.variables }
+    requires given { (r : RestOf) → parts.rest ≡ Some r → length given.items ≡ length r.given }
+    ensures { IfOk result (λ s. s ≡ first_of parts.entry given.items) }
+{
+    let compiled = parts.compiled;
+    let pattern = copy(&compiled.pattern)?;
+    let subject = copy(&parts.subject)?;
+    let search = Search::new(
+        parts.alloc,
+        parts.context,
+        &compiled.positions,
+        pattern,
+        subject,
+        given,
+    )?;
+    let hand = Hand {
+        place: Place::Whole,
+        search,
+        found: None,
+    };
+    Ok(Solutions { parts, hand })
 }
 
 impl<'c> Solutions<'c> {
@@ -76,26 +93,53 @@ impl<'c> Solutions<'c> {
         requires values { AreValues context.now.signature (bound_values given.now) }
         ensures { let sig = context.now.signature in
             (p : RawTerm) → IsRawTerm sig p → IsCompiled sig (normal_form sig p) (bound_variables given.now) compiled.now
-            → IfOk result (IsAllSolutions sig p (nested sig subject.now) (meant sig given.now)) }
+            → IfOk result (IsAllSolutions sig false p subject.now (meant sig given.now)) }
     {
         context.shows();
         let values = values_of(alloc, given)?;
-        let pattern = copy(&compiled.pattern)?;
         let subject = copy(subject)?;
-        let search = Search::new(
+        let parts = Parts {
             alloc,
             context,
-            &compiled.positions,
-            pattern,
-            subject,
-            values,
-        )?;
-        Ok(Solutions {
-            alloc,
             compiled,
-            search,
-            found: None,
-        })
+            subject,
+            rest: None,
+        };
+        let solutions = begin(parts, values)?;
+        Ok(solutions)
+    }
+
+    /// The solutions of a compiled pattern that extend a substitution, for a subject and for its proper parts on top:
+    /// two or more arguments of its associative operator and not all of them, neighbours where it isn't commutative,
+    /// and where it is each part once, of equal arguments the first.
+    pub fn inside(
+        alloc: Global,
+        context: &'c Ctx,
+        compiled: &'c Compiled,
+        subject: &Term,
+        given: &Subst,
+    ) -> Result<Solutions<'c>, AllocError>
+        requires compiled { compiled.now.positions.sorts ≡ sorts_of compiled.now.variables }
+        requires subject { IsValue context.now.signature subject.now }
+        requires given { IsSubstitution context.now.signature (meant context.now.signature given.now) }
+        requires values { AreValues context.now.signature (bound_values given.now) }
+        ensures { let sig = context.now.signature in
+            (p : RawTerm) → IsRawTerm sig p → IsCompiled sig (normal_form sig p) (bound_variables given.now) compiled.now
+            → IfOk result (IsAllSolutions sig true p subject.now (meant sig given.now)) }
+    {
+        context.shows();
+        let values = values_of(alloc, given)?;
+        let rest = rest_for(alloc, context.facts(), compiled, subject, values.as_slice())?;
+        let subject = copy(subject)?;
+        let parts = Parts {
+            alloc,
+            context,
+            compiled,
+            subject,
+            rest,
+        };
+        let solutions = begin(parts, values)?;
+        Ok(solutions)
     }
 
     /// The next solution; none where there is none, and for ever after. Candidates that aren't solutions are passed
@@ -106,33 +150,7 @@ impl<'c> Solutions<'c> {
         ensures err { OnErr result (PassesTo self.old self.new.candidates) }
         ensures same { self.new ≡ record self.old { candidates = self.new.candidates } }
     {
-        find(&mut self.search, &mut self.found)?;
-        let Some(values) = &self.found else {
-            return Ok(None);
-        };
-        let subst = bound(
-            self.alloc,
-            self.compiled.variables.as_slice(),
-            values.as_slice(),
-        )?;
-        self.found = None;
-        Ok(Some(Solution { subst, take: None }))
+        let found = self.hand.next(&self.parts)?;
+        Ok(found)
     }
-}
-
-/// Has the values of the next solution at hand, if there is one.
-fn find(search: &mut Search<'_>, found: &mut Option<Seq<Term>>) -> Result<(), AllocError>
-    requires { MatchOption found.old ⊤ (FitsBySearch search.old) }
-    ensures skips { Skips (LacksBySearch search.old) (matches_of found.old search.old.coming)
-        (matches_of found.new search.new.coming) }
-    ensures sorted { MatchOption found.new ⊤ (FitsBySearch search.old) }
-    ensures none { OnOk result (MatchOption found.new (search.new.coming ≡ []) (λ _. ⊤)) }
-    ensures same { search.new ≡ record search.old { coming = search.new.coming } }
-{
-    if found.is_none() {
-        if let Some(values) = search.next()? {
-            *found = Some(Seq::of(values));
-        }
-    }
-    Ok(())
 }

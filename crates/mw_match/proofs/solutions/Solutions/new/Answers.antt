@@ -1,8 +1,16 @@
-use Rattle.mw_match.proofs.Candidates.{of_compiled}
+use Rattle.std.proofs.Common.{false, None, ◌∙◌, ap, subst, sym, refl}
+use Rattle.mw_canon.specs.Canonical.{meant}
+use Rattle.mw_logic.specs.Signature.{Signature}
+use Rattle.mw_match.specs.Solutions.{IsAllSolutions}
+use Rattle.mw_match.specs.Hands.{first_of}
+use Rattle.mw_match.specs.declared.parts.Parts.{Parts}
+use Rattle.mw_match.proofs.Candidates.{compiled_solutions}
 use Rattle.mw_match.proofs.solutions.Solutions.new.Goals as goal
 
 pub returns : goal.returns
 returns c p raw h =
     let k = c.shows.ensures.signature in
-    of_compiled c.args.context.now.signature k.accepted k.well_sorted p raw c.args.compiled.now c.args.given.now h c.requires.given c.requires.values c.args.subject.now c.requires.subject
-    c.in_ok-search.search c.in_ok-pattern.pattern c.in_ok-subject.subject c.in_ok-values.values.items c.in_ok-search.ensures c.in_ok-pattern.ensures c.in_ok-subject.ensures c.in_ok-values.ensures
+    let sig : Signature = c.args.context.now.signature in
+    let parts : Parts = record { alloc = c.args.alloc; context = c.args.context; compiled = c.args.compiled; subject = c.in_ok-subject.subject; rest = None } in
+    subst (IsAllSolutions sig false p c.args.subject.now (meant sig c.args.given.now)) (sym (c.in_ok-solutions.ensures ∙ ap (first_of parts) c.in_ok-values.ensures))
+    (compiled_solutions parts k.accepted k.well_sorted false p raw c.args.subject.now c.args.given.now h c.requires.given c.requires.values c.requires.subject c.in_ok-subject.ensures refl)

@@ -1,0 +1,60 @@
+-- A search with a match at hand, and what is still to come of it and behind it.
+use Rattle.std.specs.Prelude.{ℕ, suc, ◌+◌, ◌≡◌, List, [], ◌∷◌, map, length, Option, Some, None, MatchOption, ⊤}
+use Rattle.mw_machine.specs.Variables.{sorts_of}
+use Rattle.mw_matching.specs.Found.{Values, found}
+use Rattle.mw_search.specs.Searches.{Matches, FitsSorts as FitsBySearch}
+use Rattle.mw_match.specs.declared.parts.Place.{Place}
+use Rattle.mw_match.specs.declared.parts.Place.TheVariants.{Whole}
+use Rattle.mw_match.specs.declared.parts.Rest.{Rest}
+use Rattle.mw_match.specs.declared.parts.Parts.{Parts}
+use Rattle.mw_match.specs.declared.hand.Hand.{Hand}
+use Rattle.mw_match.specs.declared.solutions.Solution.{Solution}
+use Rattle.mw_match.specs.Solutions.{Coming, PassesTo, FitsSorts, candidate, matches_of}
+use Rattle.mw_match.specs.Parts.{Searched, searches_behind, entries_of, begins}
+
+-- this search has just begun
+abbrev pub HasBegun : Parts → Place → Matches → Type 0
+HasBegun p q m = (r : Rest) × (p.rest ≡ Some r) × (m ≡ begins p r q)
+
+module _ (p : Parts) (h : Hand) where
+  -- the search at hand, and those behind it
+  abbrev pub searches_of : List Searched
+  searches_of = (h.place, matches_of h.found h.search.coming) ∷ searches_behind p h.place
+
+  abbrev pub coming_of : Coming
+  coming_of = record {
+    signature = h.search.signature;
+    sorts = h.search.sorts;
+    given = h.search.given;
+    candidates = map (candidate p.compiled.now.variables) (entries_of p searches_of);
+  }
+
+  -- What is kept: the search at hand asks for the same as those behind it, and the match at hand has its sorts.
+  pub record IsKept : Type 0 where
+    pub signature : h.search.signature ≡ p.context.now.signature
+    pub positions : h.search.sorts ≡ p.compiled.now.positions.sorts
+    pub sorts : h.search.sorts ≡ sorts_of p.compiled.now.variables
+    pub given : (r : Rest) → p.rest ≡ Some r → h.search.given ≡ length r.given
+    pub sorted : MatchOption h.found ⊤ (FitsBySearch h.search)
+
+-- what is answered of solutions that come, and what comes behind it
+abbrev pub IsNext : Coming → Coming → Option Solution → Type 0
+IsNext old new o = MatchOption o (PassesTo old [] × (new.candidates ≡ [])) (λ r. PassesTo old (r ∷ new.candidates) × FitsSorts old r)
+
+-- how many searches and matches are left
+abbrev pub steps_of : List Searched → ℕ
+steps_of [] = 0
+steps_of (s ∷ ss) = suc (length s.1 + steps_of ss)
+
+-- the solutions with which a search for the whole begins
+abbrev pub first_of : Parts → Values → Coming
+first_of p vs = coming_of p (record {
+  place = Whole;
+  search = record {
+    signature = p.context.now.signature;
+    sorts = p.compiled.now.positions.sorts;
+    given = length vs;
+    coming = found p.context.now.signature p.compiled.now.positions.single.items p.compiled.now.pattern p.subject vs;
+  };
+  found = None;
+})
