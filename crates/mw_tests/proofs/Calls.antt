@@ -1,5 +1,5 @@
 -- In a simple module: what the engine's calls require and give, without nestings.
-use Rattle.std.specs.Prelude.{◌≡◌, ◌≤◌, ◌-◌, ℕ, zero, suc, List, [], ◌∷◌, ◌++◌, length, take, drop, slice_index_or, Some, IsTrue, refl}
+use Rattle.std.specs.Prelude.{◌≡◌, ◌≤◌, ◌-◌, ℕ, zero, suc, false, List, [], ◌∷◌, ◌++◌, length, take, drop, slice_index_or, Option, None, Some, IsTrue, refl}
 use Rattle.std.proofs.Common.{◌∙◌, ap, arith, inl, inr, subst, sym, true≢false}
 use Rattle.std.proofs.lemmas.List.{take_all}
 use Rattle.std.proofs.lemmas.Option.{none-some, same_Some}
@@ -25,6 +25,7 @@ use Rattle.mw_canon.specs.Canonical.{IsAdmittedTerm, HasAdmittedValues, meant}
 use Rattle.mw_canon.proofs.Free.{nested_free, normal_form_free, meant_free, of_admitted_term, admitted_term_free, applied_free}
 use Rattle.mw_term.specs.declared.subst.Binding.{Binding}
 use Rattle.mw_solving.specs.Values.{IsValue, AreValues}
+use Rattle.mw_solving.specs.Inside.{IsSolutionOf}
 use Rattle.mw_match.specs.Solutions.{Coming, PassesTo, FitsSorts, IsAllSolutions}
 use Rattle.mw_match.specs.declared.solutions.Solution.{Solution}
 use Rattle.mw_match.proofs.Pairs.{pairs_of}
@@ -66,13 +67,18 @@ module _ (M : Module) (simple : IsSimpleModule M) where
   substitution_values (b ∷ s) h zero u e = subst (IsValue M.signature) (same_Some b.1 u e) (plain_value b.1 h.1 h.2)
   substitution_values (b ∷ s) h (suc i) u e = substitution_values s h.4 i u e
 
+  -- what solves the whole, by what is taken
+  whole : (p t : RawTerm) (s0 : Substitution) (ks : Option (List ℕ)) (s : Substitution) → IsSolutionOf M.signature false p t s0 ks s → IsSolution M.signature p (nested M.signature t) s0 s
+  whole p t s0 None s h = h
+  whole p t s0 (Some ks) s h = absurd h
+
   -- the first solution is one
   pub first_solution : (p t : RawTerm) (s : Substitution) (c : Coming) (rest : List Solution) (r : Solution)
-      → IsAllSolutions M.signature p (nested M.signature t) (meant M.signature s) c → PassesTo c (r ∷ rest) → FitsSorts c r → IsSolution M.signature p t s r.subst
+      → IsAllSolutions M.signature false p t (meant M.signature s) c → PassesTo c (r ∷ rest) → FitsSorts c r → IsSolution M.signature p t s r.subst
   first_solution p t s c rest r all passes sorted =
       let sig : Signature = M.signature in
       let there : Member r c.candidates = subst (Member r) (sym passes.rest) (behind r passes.left rest) in
-      let h : IsSolution sig p (nested sig t) (meant sig s) (meant sig r.subst) = (all.sound r there sorted).0 in
+      let h : IsSolution sig p (nested sig t) (meant sig s) (meant sig r.subst) = whole p t (meant sig s) r.take (meant sig r.subst) (all.sound r there sorted) in
       subst (λ u. IsSolution sig p u s r.subst) (nested_free sig plain t)
       (subst (λ z. IsSolution sig p (nested sig t) z r.subst) (meant_free sig plain s)
       (subst (IsSolution sig p (nested sig t) (meant sig s)) (meant_free sig plain r.subst) h))

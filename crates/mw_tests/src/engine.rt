@@ -92,7 +92,7 @@ pub fn term(alloc: Global, accepted: &Module, text: &str) -> Result<Term, Fail>
     }
 }
 
-pub fn nothing(alloc: Global) -> Subst
+fn nothing(alloc: Global) -> Subst
     ensures { result ≡ [] }
 {
     let pairs = Seq::of(Vec::new(alloc));
@@ -100,12 +100,7 @@ pub fn nothing(alloc: Global) -> Subst
 }
 
 /// The pattern as a search takes it.
-pub fn compiled(
-    alloc: Global,
-    context: &Ctx,
-    pattern: &Raw,
-    given: &Subst,
-) -> Result<Compiled, Fail>
+fn compiled(alloc: Global, context: &Ctx, pattern: &Raw, given: &Subst) -> Result<Compiled, Fail>
     requires pattern { IsRawTerm context.now.signature (raw_term pattern.now) }
     requires distinct { AreDistinct (bound_variables given.now) }
     ensures { let sig = context.now.signature in

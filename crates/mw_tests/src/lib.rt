@@ -11,8 +11,6 @@ mod parts;
 #[cfg(test)]
 mod runs;
 #[cfg(test)]
-mod solutions;
-#[cfg(test)]
 mod streams;
 #[cfg(test)]
 mod terms;

@@ -24,6 +24,10 @@ none_named None h = refl
 none_named (Some t) h = absurd (h t refl)
 
 -- what is known of a value, and of an error
+pub match_both : {A E : Type 0} {P P' : A → Type 0} {Q Q' : E → Type 0} (r : Result A E) → MatchResult r P Q → ((x : A) → P x → P' x) → ((x : E) → Q x → Q' x) → MatchResult r P' Q'
+match_both (Ok y) h f g = f y h
+match_both (Err y) h f g = g y h
+
 pub match_ok : {A E : Type 0} (P : A → Type 0) (Q : E → Type 0) (r : Result A E) → MatchResult r P Q → (x : A) → r ≡ Ok x → P x
 match_ok P Q (Ok y) h x e = let same : y ≡ x = (cc) in subst P same h
 match_ok P Q (Err y) h x e = cc

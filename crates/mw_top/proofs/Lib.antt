@@ -1,6 +1,7 @@
 -- Laws of bytes that move, of the modules that were accepted, and of units that are answered.
 pub mod Moving
 pub mod Answering
+pub mod Told
 pub mod Sessions
 pub mod Giving
 pub mod Bytes

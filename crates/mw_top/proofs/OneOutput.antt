@@ -11,17 +11,13 @@ use Rattle.mw_command.specs.Commands.{SeenCommand, command_of}
 use Rattle.mw_build.specs.Equations.{Oversized}
 use Rattle.mw_build.specs.Modules.{Accepted, IsAccepted, IsRefused}
 use Rattle.mw_command.specs.declared.commands.Word.{Word}
-use Rattle.mw_top.specs.Commands.{IsTerm, IsAnswer, reduction, parsing, TermFault, long, unread, unclear, opened, big, CommandFault, nowhere, unknown, not_for, in_term, IsFor, module_for}
+use Rattle.mw_top.specs.Commands.{IsTerm, IsAnswer, reduction, parsing, matching, inside_of, TermFault, long, unread, unclear, opened, big, AnswerFault, in_term, undivided, in_sides, CommandFault, nowhere, unknown, not_for, unanswered, IsFor, module_for}
+use Rattle.mw_top.specs.Matches.{AreSides, AreOversized, deep, large as too_large, SidesFault, long as sides_long, unread as sides_unread, unclear as sides_unclear, opened as sides_opened, big as sides_big}
 use Rattle.mw_top.specs.Sources.{IsTaken, name_of, Gives, formless, taken, refused, accepted, no_command, faulty, answered, Answered, nothing_yet, one_more}
 use Rattle.mw_top.specs.Outputs.{IsOutput, unlexed, answered as of_tokens}
 use Rattle.mw_top.proofs.OneModule.{not_big, one_module, not_refused}
 
--- the term of a command that is answered
-term_of : (a : Accepted) (most : ℕ) (words : List (List ℕ)) (word : Word) (text : List ℕ) → IsAnswer a most words word text → (t : RawTerm) × IsTerm a words t
-term_of a most words word text (reduction from block is reduced) = (from, is)
-term_of a most words word text (parsing term block is parsed) = (term, is)
-
--- it has no fault
+-- a term that is read has no fault
 term_holds : (a : Accepted) (words : List (List ℕ)) (term : RawTerm) → IsTerm a words term → (cause : FaultKind) → TermFault a words cause → ⊥
 term_holds a words term is cause (long h) = omega (arith, h, is.read.short)
 term_holds a words term is cause (unread s none) = none term is.read.spelled
@@ -30,15 +26,48 @@ term_holds a words term is cause (opened t read h) = both_ways _ (subst (λ u. i
 term_holds a words term is cause (big t why read g h) =
     not_big a.module.signature term why is.fits (subst (λ u. Oversized a.module.signature u why) (is.read.only t read.spelled) h)
 
--- nor has the command
-command_holds : (a : Accepted) (term : RawTerm) (ms : List Accepted) (c : SeenCommand) (cause : FaultKind) → module_for ms c.module ≡ Some a
-    → IsFor a.module c.word → IsTerm a (texts c.term) term → CommandFault ms c cause → ⊥
-command_holds a term ms c cause m for is (nowhere e none) = none-some a (sym none ∙ m)
-command_holds a term ms c cause m for is (unknown n e none) = none-some a (sym none ∙ m)
-command_holds a term ms c cause m for is (not_for b other not) = not (subst (λ (x : Accepted). IsFor x.module c.word) (sym (same_Some b a (sym other ∙ m))) for)
-command_holds a term ms c cause m for is (in_term b why other asked fault) =
+-- nor have a pattern and a subject
+none_oversized : (a : Accepted) (left right : List (List ℕ)) (p t : RawTerm) → AreSides a left right p t → (cause : FaultKind) → AreOversized a p t cause → ⊥
+none_oversized a left right p t are cause (deep h) = ⊎_elim are.pattern_fits.not_deep are.subject_fits.not_deep h
+none_oversized a left right p t are cause (too_large f g h) = ⊎_elim are.pattern_fits.not_large are.subject_fits.not_large h
+
+sides_hold : (a : Accepted) (left right : List (List ℕ)) (p t : RawTerm) → AreSides a left right p t → (cause : FaultKind) → SidesFault a left right cause → ⊥
+sides_hold a left right p t are cause (sides_long h) = ⊎_elim (λ k. omega (arith, k, are.read.short_left)) (λ k. omega (arith, k, are.read.short_right)) h
+sides_hold a left right p t are cause (sides_unread f g none) = none (p, t) are.read.only.0
+sides_hold a left right p t are cause (sides_unclear f g (x, y, (of_x, of_y, differ))) = differ (are.read.only.1 x of_x ∙ sym (are.read.only.1 y of_y))
+sides_hold a left right p t are cause (sides_opened q u read h) =
+    let pair : ◌≡◌ {A = RawTerm × RawTerm} (q, u) (p, t) = are.read.only.1 (q, u) read.only.0 in
+    both_ways _ (subst (λ (s : RawTerm × RawTerm). is_ground s.1 ≡ false) pair h) are.ground
+sides_hold a left right p t are cause (sides_big q u why read g h) =
+    let pair : ◌≡◌ {A = RawTerm × RawTerm} (q, u) (p, t) = are.read.only.1 (q, u) read.only.0 in
+    none_oversized a left right p t are why (subst (λ (s : RawTerm × RawTerm). AreOversized a s.0 s.1 why) pair h)
+
+no_inside : (w : Word) → inside_of w ≡ None → (b : Bool) → inside_of w ≡ Some b → ⊥
+no_inside w none b some = none-some b (sym none ∙ some)
+
+-- nor has a command that is answered
+one_term : (a : Accepted) (c : SeenCommand) (term : RawTerm) (cause : FaultKind) → inside_of c.word ≡ None → IsTerm a (texts c.term) term → AnswerFault a c cause → ⊥
+one_term a c term cause none is (in_term why term_word fault) = term_holds a (texts c.term) term is why fault
+one_term a c term cause none is (undivided inside some missing) = no_inside c.word none inside some
+one_term a c term cause none is (in_sides why inside behind some at fault) = no_inside c.word none inside some
+
+answer_holds : (a : Accepted) (most : ℕ) (c : SeenCommand) (text : List ℕ) → IsAnswer a most c text → (cause : FaultKind) → AnswerFault a c cause → ⊥
+answer_holds a most c text (reduction from block word is reduced) cause fault = one_term a c from cause (ap inside_of word) is fault
+answer_holds a most c text (parsing term block word is parsed) cause fault = one_term a c term cause (ap inside_of word) is fault
+answer_holds a most c text (matching inside behind p t block word at are matched) cause (in_term why none fault) = no_inside c.word none inside word
+answer_holds a most c text (matching inside behind p t block word at are matched) cause (undivided other some none) = none-some behind (sym none ∙ at)
+answer_holds a most c text (matching inside behind p t block word at are matched) cause (in_sides why other ahead some there fault) =
+    let same : ahead ≡ behind = same_Some ahead behind (sym there ∙ at) in
+    sides_hold a (texts c.term) (texts behind) p t are why (subst (λ ts. SidesFault a (texts c.term) (texts ts) why) same fault)
+
+command_holds : (a : Accepted) (most : ℕ) (text : List ℕ) (ms : List Accepted) (c : SeenCommand) (cause : FaultKind) → module_for ms c.module ≡ Some a
+    → IsFor a.module c.word → IsAnswer a most c text → CommandFault ms c cause → ⊥
+command_holds a most text ms c cause m for is (nowhere e none) = none-some a (sym none ∙ m)
+command_holds a most text ms c cause m for is (unknown n e none) = none-some a (sym none ∙ m)
+command_holds a most text ms c cause m for is (not_for b other not) = not (subst (λ (x : Accepted). IsFor x.module c.word) (sym (same_Some b a (sym other ∙ m))) for)
+command_holds a most text ms c cause m for is (unanswered b why other asked fault) =
     let same : b ≡ a = same_Some b a (sym other ∙ m) in
-    term_holds a (texts c.term) term is why (subst (λ x. TermFault x (texts c.term) why) same fault)
+    answer_holds a most c text is why (subst (λ x. AnswerFault x c why) same fault)
 
 module _ (most : ℕ) (before : List Accepted) where
   -- what a module gives that is accepted
@@ -66,7 +95,7 @@ module _ (most : ℕ) (before : List Accepted) where
 
   -- what a command gives that is answered
   from_answered : (u : SeenUnit) (c : SeenCommand) (a : Accepted) (block : List ℕ) → name_of u ≡ None → command_of u ≡ Ok c → module_for before c.module ≡ Some a
-      → IsFor a.module c.word → IsAnswer a most (texts c.term) c.word block
+      → IsFor a.module c.word → IsAnswer a most c block
       → (o : Outcome) → o ≡ Ok u → (text : List ℕ) (bad : Bool) (after : List Accepted) → Gives most before o text bad after → (false ≡ bad) × (before ≡ after)
   from_answered u c a block unnamed command m for is o e text bad after (formless f) = cc
   from_answered u c a block unnamed command m for is o e text bad after (taken v n named is_taken) =
@@ -82,8 +111,7 @@ module _ (most : ℕ) (before : List Accepted) where
       let unit : v ≡ u = cc in
       let both : Ok d ≡ Ok c = sym asked ∙ ap command_of unit ∙ command in
       let same : d ≡ c = cc in
-      let of = term_of a most (texts c.term) c.word block is in
-      absurd (command_holds a of.0 before c cause m for of.1 (subst (λ k. CommandFault before k cause) same wrong))
+      absurd (command_holds a most block before c cause m for is (subst (λ k. CommandFault before k cause) same wrong))
   from_answered u c a block unnamed command m for is o e text bad after (answered v d b other_block other asked at done answer) = (refl, refl)
 
   -- a unit gives refusals alone or none, and the same modules after it

@@ -1,5 +1,5 @@
 -- What the block of a command claims, and why a command is refused.
-use Rattle.std.specs.Prelude.{◌≡◌, ◌<◌, ◌-◌, ◌^◌, ℕ, List, [], ◌∷◌, length, min, bytes_eq, Option, Some, None, IsTrue, IsFalse, ⊤, if◌then◌else◌}
+use Rattle.std.specs.Prelude.{◌≡◌, ◌<◌, ◌-◌, ◌^◌, ℕ, Bool, true, false, List, [], ◌∷◌, length, min, bytes_eq, Option, Some, None, IsTrue, IsFalse, ⊤, if◌then◌else◌}
 use Rattle.mw_logic.specs.Term.{RawTerm, is_ground}
 use Rattle.mw_logic.specs.Signature.{Sorted}
 use Rattle.mw_logic.specs.Sorts.{IsLeastSort}
@@ -13,6 +13,7 @@ use Rattle.mw_canon.specs.Canonical.{IsAdmittedTerm}
 use Rattle.mw_machine.specs.Simple.{IsSimpleModule}
 use Rattle.mw_text.specs.Mixfix.{IsSpelled, Reads}
 use Rattle.mw_text.specs.Readings.{NoneHas, TwoHave, IsShort}
+use Rattle.mw_lex.specs.declared.token.Token.{Token}
 use Rattle.mw_module.specs.declared.faults.FaultKind.{FaultKind}
 use Rattle.mw_module.specs.declared.faults.FaultKind.TheVariants.{NotInProfile, TermTooLong, NoParse, Ambiguous, OpenTerm, NoModule, UnknownModule}
 use Rattle.mw_module.specs.Words.{texts}
@@ -23,6 +24,7 @@ use Rattle.mw_build.specs.Equations.{FitsIn, Oversized}
 use Rattle.mw_build.specs.Modules.{Accepted}
 use Rattle.mw_proof.specs.Deductions.{Deduction, IsDeduction}
 use Rattle.mw_block.specs.Blocks.{Word, reduced, limit, block, parsed_block}
+use Rattle.mw_top.specs.Matches.{AreSides, IsMatched, SidesFault}
 
 -- What the status word says of the proof from one term to another. `reduced`: it is by equations alone, has fewer steps than the limit, and
 -- its end is normal. `limit`: it is by equations alone, and stops there for the reason that is told: it has as many steps as the limit, or a next
@@ -66,17 +68,26 @@ pub record IsParsed (a : Accepted) (t : RawTerm) (text : List ℕ) : Type 0 wher
   pub least_sort : IsLeastSort a.module.signature (nested a.module.signature shown) S
   pub written : text ≡ parsed_block a.module.signature a.name shown S
 
--- the text answers a command of this word
-pub data IsAnswer (a : Accepted) (most : ℕ) (words : List (List ℕ)) : CommandWord → List ℕ → Type 0 where
-  reduction : (from : RawTerm) (text : List ℕ) → IsTerm a words from → IsReduced a most from text → IsAnswer a most words Reduce text
-  parsing : (term : RawTerm) (text : List ℕ) → IsTerm a words term → IsParsed a term text → IsAnswer a most words Parse text
+-- whether a command of this word matches a pattern, and then whether proper parts on top count
+abbrev pub inside_of : CommandWord → Option Bool
+inside_of Reduce = None
+inside_of Parse = None
+inside_of Match = Some false
+inside_of Xmatch = Some true
 
--- Commands of this word are answered in this module: until the reducer knows axioms, a reduction in a simple one alone; matches aren't answered yet.
+-- the text answers a command
+pub data IsAnswer (a : Accepted) (most : ℕ) (c : SeenCommand) : List ℕ → Type 0 where
+  reduction : (from : RawTerm) (text : List ℕ) → c.word ≡ Reduce → IsTerm a (texts c.term) from → IsReduced a most from text → IsAnswer a most c text
+  parsing : (term : RawTerm) (text : List ℕ) → c.word ≡ Parse → IsTerm a (texts c.term) term → IsParsed a term text → IsAnswer a most c text
+  matching : (inside : Bool) (behind : List Token) (p t : RawTerm) (text : List ℕ) → inside_of c.word ≡ Some inside → c.subject ≡ Some behind
+      → AreSides a (texts c.term) (texts behind) p t → IsMatched a inside most p t text → IsAnswer a most c text
+
+-- Commands of this word are answered in this module: until the reducer knows axioms, a reduction in a simple one alone.
 abbrev pub IsFor : Module → CommandWord → Type 0
 IsFor M Reduce = IsSimpleModule M
 IsFor M Parse = ⊤
-IsFor M Match = ⊥
-IsFor M Xmatch = ⊥
+IsFor M Match = ⊤
+IsFor M Xmatch = ⊤
 
 -- the module of a name, and the last one
 abbrev pub module_named : List Accepted → List ℕ → Option Accepted
@@ -102,9 +113,16 @@ pub data TermFault (a : Accepted) (words : List (List ℕ)) : FaultKind → Type
   big : (t : RawTerm) (cause : FaultKind) → Reads a.module.signature a.variables None words t → IsTrue (is_ground t) → Oversized a.module.signature t cause
       → TermFault a words cause
 
+-- why a command that stands in this module isn't answered
+pub data AnswerFault (a : Accepted) (c : SeenCommand) : FaultKind → Type 0 where
+  in_term : (cause : FaultKind) → inside_of c.word ≡ None → TermFault a (texts c.term) cause → AnswerFault a c cause
+  undivided : (inside : Bool) → inside_of c.word ≡ Some inside → c.subject ≡ None → AnswerFault a c NoParse
+  in_sides : (cause : FaultKind) (inside : Bool) (behind : List Token) → inside_of c.word ≡ Some inside → c.subject ≡ Some behind
+      → SidesFault a (texts c.term) (texts behind) cause → AnswerFault a c cause
+
 -- what is wrong with a command, where these modules were accepted
 pub data CommandFault (ms : List Accepted) (c : SeenCommand) : FaultKind → Type 0 where
   nowhere : c.module ≡ None → module_for ms c.module ≡ None → CommandFault ms c NoModule
   unknown : (n : List ℕ) → c.module ≡ Some n → module_for ms c.module ≡ None → CommandFault ms c (UnknownModule n)
   not_for : (a : Accepted) → module_for ms c.module ≡ Some a → (IsFor a.module c.word → ⊥) → CommandFault ms c NotInProfile
-  in_term : (a : Accepted) (cause : FaultKind) → module_for ms c.module ≡ Some a → IsFor a.module c.word → TermFault a (texts c.term) cause → CommandFault ms c cause
+  unanswered : (a : Accepted) (cause : FaultKind) → module_for ms c.module ≡ Some a → IsFor a.module c.word → AnswerFault a c cause → CommandFault ms c cause

@@ -7,7 +7,6 @@ use Rattle.mw_module.specs.declared.faults.Fault.{Fault}
 use Rattle.mw_module.specs.declared.faults.FaultKind.{FaultKind}
 use Rattle.mw_module.specs.declared.faults.FaultKind.TheVariants.{AlreadyDefined}
 use Rattle.mw_module.specs.Units.{SeenUnit, Outcome, Reads}
-use Rattle.mw_module.specs.Words.{texts}
 use Rattle.mw_command.specs.Commands.{SeenCommand, command_of}
 use Rattle.mw_build.specs.Modules.{Accepted, IsAccepted, IsRefused}
 use Rattle.mw_block.specs.Refused.{refusal_line}
@@ -39,7 +38,7 @@ pub data Gives (most : ℕ) (before : List Accepted) : Outcome → List ℕ → 
   faulty : (u : SeenUnit) (c : SeenCommand) (cause : FaultKind) → name_of u ≡ None → command_of u ≡ Ok c → CommandFault before c cause
       → Gives most before (Ok u) (refusal_line (record { line = u.line; kind = cause })) true before
   answered : (u : SeenUnit) (c : SeenCommand) (a : Accepted) (text : List ℕ) → name_of u ≡ None → command_of u ≡ Ok c → module_for before c.module ≡ Some a
-      → IsFor a.module c.word → IsAnswer a most (texts c.term) c.word text → Gives most before (Ok u) text false before
+      → IsFor a.module c.word → IsAnswer a most c text → Gives most before (Ok u) text false before
 
 -- The units of these tokens up to a place are answered, in order: their texts, whether one of them was refused, and the modules that were accepted.
 pub data Answered (most : ℕ) (tokens : List Token) : ℕ → List Accepted → List ℕ → Bool → Type 0 where

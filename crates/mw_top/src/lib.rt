@@ -40,7 +40,9 @@ ghost use Rattle.mw_top.specs.Moved.{Took, Wrote};
 ghost use Rattle.mw_top.specs.Call.{Did, IsExact};
 ghost use Rattle.mw_top.specs.Outputs.{IsOutput, AgreeInRefusal, IsBegun, IsCut, lexing_refusal};
 
+mod matching;
 mod reduction;
+mod replies;
 mod session;
 mod streams;
 mod units;

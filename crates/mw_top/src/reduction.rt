@@ -1,5 +1,5 @@
-// The answer of a command: its term is read, and reduced where the command asks for it, and its block is written.
-ghost use Rattle.std.specs.Prelude.{◌≡◌, ◌↔◌, ◌-◌, ◌^◌, ℕ, List, min, None, IfOk, MatchResult, IsTrue};
+// Commands for one term: it is read, and reduced where the command asks for it, and its block is written.
+ghost use Rattle.std.specs.Prelude.{◌≡◌, ◌-◌, ◌^◌, ℕ, List, min, None, IfOk, MatchResult};
 ghost use Rattle.mw_logic.specs.Term.{RawTerm};
 ghost use Rattle.mw_logic.specs.Parts.{nested};
 ghost use Rattle.mw_logic.specs.NormalForm.{normal_form};
@@ -14,13 +14,12 @@ ghost use Rattle.mw_module.specs.Words.{texts};
 ghost use Rattle.mw_parse.specs.Answers.{HasCause as HasReadingCause};
 ghost use Rattle.mw_build.specs.Modules.{Accepted};
 ghost use Rattle.mw_block.specs.Seen.{word_of as word_of_status};
-ghost use Rattle.mw_top.specs.Commands.{IsFor, IsCanonicalTerm, IsAnswer, IsReduced, IsParsed, TermFault};
+ghost use Rattle.mw_top.specs.Commands.{IsTerm, IsCanonicalTerm, IsReduced, IsParsed, TermFault};
 ghost use Rattle.mw_top.specs.Seen.{word_of};
 ghost use Rattle.mw_canon.specs.Canonical.{IsAdmittedTerm};
 
 use mw_block::{Reached, Status, parsed, reduction};
 use mw_build::{Module, canonical};
-use mw_command::Word;
 use mw_lex::Token;
 use mw_module::FaultKind;
 use mw_parse::ParseError;
@@ -28,17 +27,6 @@ use mw_proof::Proved;
 use mw_reduce::{Budget, Outcome, reduce};
 use mw_term::{Raw, Term};
 use std::alloc::{AllocError, Global};
-
-/// Whether commands of a word are answered in a module.
-pub fn is_for(accepted: &Module, word: Word) -> bool
-    ensures { IsTrue result ↔ IsFor accepted.now.module word }
-{
-    match word {
-        Word::Reduce => accepted.context().is_simple(),
-        Word::Parse => true,
-        Word::Match | Word::Xmatch => false,
-    }
-}
 
 /// What is wrong with a text that isn't read.
 fn unread(error: &ParseError) -> Result<Result<Term, FaultKind>, AllocError>
@@ -73,7 +61,7 @@ fn ground_term(
 }
 
 /// The canonical form of a command's term, if it has no variable and fits in, or what is wrong with the term.
-pub fn command_term(
+fn command_term(
     alloc: Global,
     accepted: &Module,
     tokens: &[Token],
@@ -166,21 +154,44 @@ fn parsed_term(alloc: Global, accepted: &Module, term: &Term) -> Result<Vec<u8>,
     )
 }
 
-/// The answer of a command of this word for its term, by at most so many steps where it reduces.
-pub fn answer_term(
+/// What a reduction of what the tokens spell gives, by at most so many steps: its block, or a fault.
+pub fn reduction_of(
     alloc: Global,
     accepted: &Module,
-    word: Word,
-    term: Term,
+    tokens: &[Token],
     most: u64,
-) -> Result<Vec<u8>, AllocError>
-    requires word { IsFor accepted.now.module word }
-    requires term { (words : List (List ℕ)) × IsCanonicalTerm accepted.now words term }
-    ensures { (words : List (List ℕ)) → IsCanonicalTerm accepted.now words term → IfOk result (λ text. IsAnswer accepted.now most words word text.items) }
+) -> Result<Result<Vec<u8>, FaultKind>, AllocError>
+    requires { IsSimpleModule accepted.now.module }
+    ensures { let words = texts tokens.now in
+        IfOk result (λ r. MatchResult r
+        (λ text. (t : RawTerm) × IsTerm accepted.now words t × IsReduced accepted.now most t text.items)
+        (λ kind. TermFault accepted.now words kind)) }
 {
-    match word {
-        Word::Reduce => reduced_term(alloc, accepted, term, most),
-        // no module answers matches yet
-        Word::Parse | Word::Match | Word::Xmatch => parsed_term(alloc, accepted, &term),
+    match command_term(alloc, accepted, tokens)? {
+        Ok(term) => {
+            let text = reduced_term(alloc, accepted, term, most)?;
+            Ok(Ok(text))
+        }
+        Err(kind) => Ok(Err(kind)),
+    }
+}
+
+/// What the term that the tokens spell gives where it is told: its block, or a fault.
+pub fn parsed_of(
+    alloc: Global,
+    accepted: &Module,
+    tokens: &[Token],
+) -> Result<Result<Vec<u8>, FaultKind>, AllocError>
+    ensures { let words = texts tokens.now in
+        IfOk result (λ r. MatchResult r
+        (λ text. (t : RawTerm) × IsTerm accepted.now words t × IsParsed accepted.now t text.items)
+        (λ kind. TermFault accepted.now words kind)) }
+{
+    match command_term(alloc, accepted, tokens)? {
+        Ok(term) => {
+            let text = parsed_term(alloc, accepted, &term)?;
+            Ok(Ok(text))
+        }
+        Err(kind) => Ok(Err(kind)),
     }
 }

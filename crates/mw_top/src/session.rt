@@ -9,7 +9,7 @@ ghost use Rattle.mw_build.specs.Modules.{Accepted};
 ghost use Rattle.mw_top.specs.Commands.{CommandFault, module_named, last_module, module_for};
 ghost use Rattle.mw_top.specs.Sources.{IsTaken, Gives, name_of, kept_names};
 
-use crate::reduction::{answer_term, command_term, is_for};
+use crate::replies::{is_for, reply};
 use indexmap::IndexMap;
 use mw_block::refusal;
 use mw_build::{Module, build};
@@ -180,9 +180,9 @@ impl Session {
         if !is_for(module, command.word) {
             return refused(alloc, line, FaultKind::NotInProfile);
         }
-        match command_term(alloc, module, command.term)? {
-            Ok(term) => Ok(Answer {
-                text: answer_term(alloc, module, command.word, term, most)?,
+        match reply(alloc, module, command, most)? {
+            Ok(text) => Ok(Answer {
+                text,
                 refused: false,
             }),
             Err(kind) => refused(alloc, line, kind),

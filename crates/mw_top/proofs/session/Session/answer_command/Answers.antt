@@ -1,9 +1,8 @@
 use Rattle.std.proofs.Common.{sym, Ok}
 use Rattle.std.proofs.lemmas.Bool.{both_ways}
 use Rattle.mw_module.specs.declared.faults.FaultKind.TheVariants.{NotInProfile}
-use Rattle.mw_module.specs.Words.{texts}
 use Rattle.mw_command.specs.Commands.{seen_command}
-use Rattle.mw_top.specs.Commands.{in_term, not_for}
+use Rattle.mw_top.specs.Commands.{unanswered, not_for}
 use Rattle.mw_top.specs.Sources.{faulty, answered}
 use Rattle.mw_top.proofs.Answering.{if_ok}
 use Rattle.mw_top.proofs.Giving.{refused_gives, none_there, match_ok, match_err}
@@ -23,19 +22,16 @@ returns-then-not-is_for c = λ u line named command.
     (λ a h. refused_gives c.args.most c.args.self.now (Ok u) (record { line = c.args.line; kind = NotInProfile }) a.text.items a.refused
     (rw (sym line) (faulty u (seen_command c.args.command.now) NotInProfile named command not)) h)
 
-pub answer_term-requires-clause-term : goal.answer_term-requires-clause-term
-answer_term-requires-clause-term c = (texts c.args.command.now.term.now, match_ok _ _ c.in_ok-term.field-0 c.in_ok-term.ensures.read c.in-Ok.term c.in-Ok.is)
+pub reply-requires : goal.reply-requires
+reply-requires c = c.is_for.ensures.0 c.if-not-is_for.false
 
-pub answer_term-requires-clause-word : goal.answer_term-requires-clause-word
-answer_term-requires-clause-word c = c.is_for.ensures.0 c.if-not-is_for.false
-
-pub returns-in_ok-answer_term-in-Ok : goal.returns-in_ok-answer_term-in-Ok
-returns-in_ok-answer_term-in-Ok c = λ u line named command. answered u (seen_command c.args.command.now) c.in-Some.module.now c.in_ok-answer_term-in-Ok.field-0.items named command (sym c.in-Some.ensures) (c.is_for.ensures.0 c.if-not-is_for.false)
-    (c.in_ok-answer_term-in-Ok.ensures (texts c.args.command.now.term.now) (match_ok _ _ c.in_ok-term.field-0 c.in_ok-term.ensures.read c.in-Ok.term c.in-Ok.is))
+pub returns-in-Ok : goal.returns-in-Ok
+returns-in-Ok c = λ u line named command. answered u (seen_command c.args.command.now) c.in-Some.module.now c.in-Ok.text.items named command (sym c.in-Some.ensures) (c.is_for.ensures.0 c.if-not-is_for.false)
+    (match_ok _ _ c.in_ok-text.field-0 c.in_ok-text.ensures c.in-Ok.text c.in-Ok.is)
 
 pub returns-in-Err : goal.returns-in-Err
 returns-in-Err c = λ u line named command.
-    let wrong = match_err _ _ c.in_ok-term.field-0 c.in_ok-term.ensures.read c.in-Err.kind c.in-Err.is in
+    let wrong = match_err _ _ c.in_ok-text.field-0 c.in_ok-text.ensures c.in-Err.kind c.in-Err.is in
     if_ok c.refused-in-Err.result c.refused-in-Err.ensures
     (λ a h. refused_gives c.args.most c.args.self.now (Ok u) (record { line = c.args.line; kind = c.in-Err.kind }) a.text.items a.refused
-    (rw (sym line) (faulty u (seen_command c.args.command.now) c.in-Err.kind named command (in_term c.in-Some.module.now c.in-Err.kind (sym c.in-Some.ensures) (c.is_for.ensures.0 c.if-not-is_for.false) wrong))) h)
+    (rw (sym line) (faulty u (seen_command c.args.command.now) c.in-Err.kind named command (unanswered c.in-Some.module.now c.in-Err.kind (sym c.in-Some.ensures) (c.is_for.ensures.0 c.if-not-is_for.false) wrong))) h)

@@ -1,0 +1,65 @@
+// What a command gives in the module in which it stands: its block, or a fault.
+ghost use Rattle.std.specs.Prelude.{◌≡◌, ◌↔◌, Some, IfOk, MatchResult, IsTrue};
+ghost use Rattle.mw_command.specs.Commands.{seen_command};
+ghost use Rattle.mw_top.specs.Commands.{IsFor, IsAnswer, AnswerFault, inside_of};
+
+use crate::matching::matches_of;
+use crate::reduction::{parsed_of, reduction_of};
+use mw_build::Module;
+use mw_command::{Command, Word};
+use mw_module::FaultKind;
+use std::alloc::{AllocError, Global};
+
+/// Whether commands of a word are answered in a module.
+pub fn is_for(accepted: &Module, word: Word) -> bool
+    ensures { IsTrue result ↔ IsFor accepted.now.module word }
+{
+    match word {
+        Word::Reduce => accepted.context().is_simple(),
+        Word::Parse | Word::Match | Word::Xmatch => true,
+    }
+}
+
+/// What a command that matches a pattern gives, for parts on top too where these count.
+fn match_reply(
+    alloc: Global,
+    accepted: &Module,
+    command: &Command<'_>,
+    inside: bool,
+    most: u64,
+) -> Result<Result<Vec<u8>, FaultKind>, AllocError>
+    requires { inside_of command.now.word ≡ Some inside }
+    ensures { let c = seen_command command.now in
+        IfOk result (λ r. MatchResult r (λ text. IsAnswer accepted.now most c text.items) (AnswerFault accepted.now c)) }
+{
+    let Some(subject) = command.subject else {
+        return Ok(Err(FaultKind::NoParse));
+    };
+    let reply = matches_of(alloc, accepted, command.term, subject, inside, most)?;
+    Ok(reply)
+}
+
+/// What a command gives: by at most so many steps, or with at most so many solutions.
+pub fn reply(
+    alloc: Global,
+    accepted: &Module,
+    command: &Command<'_>,
+    most: u64,
+) -> Result<Result<Vec<u8>, FaultKind>, AllocError>
+    requires { IsFor accepted.now.module command.now.word }
+    ensures { let c = seen_command command.now in
+        IfOk result (λ r. MatchResult r (λ text. IsAnswer accepted.now most c text.items) (AnswerFault accepted.now c)) }
+{
+    match command.word {
+        Word::Reduce => {
+            let reply = reduction_of(alloc, accepted, command.term, most)?;
+            Ok(reply)
+        }
+        Word::Parse => {
+            let reply = parsed_of(alloc, accepted, command.term)?;
+            Ok(reply)
+        }
+        Word::Match => match_reply(alloc, accepted, command, false, most),
+        Word::Xmatch => match_reply(alloc, accepted, command, true, most),
+    }
+}
