@@ -3,12 +3,12 @@
 use Rattle.std.specs.Prelude.{◌≡◌, ◌≤◌, ℕ, suc, List, [], ◌∷◌, length, map, filter, Bool, true, Option, Some, None, refl}
 use Rattle.std.proofs.Common.{ap, sym, subst, ◌∙◌, arith}
 use Rattle.std.proofs.lemmas.Bool.{and_parts}
-use Rattle.mw_logic.specs.Term.{RawTerm, RawTerms, nil, cons, join}
+use Rattle.mw_logic.specs.Term.{RawTerm, RawTerms, apply, nil, cons, join}
 use Rattle.mw_logic.specs.Signature.{Signature, Identity}
 use Rattle.mw_logic.specs.Accepted.{IsAccepted}
 use Rattle.mw_logic.specs.Parts.{is_assoc, number_of_terms}
 use Rattle.mw_logic.specs.NormalForm.{is_comm, identity_of, elements, flattened, rebuilt, arranged, applied_in}
-use Rattle.mw_logic.proofs.Canonical.{Each, Each-arranged, Backed, Backed-arranged, IsElement, IsCanonical, AreCanonical, all_canonical, elements_are, elements-backed, elements-rebuilt, flattened-elements, applied_canonical}
+use Rattle.mw_logic.proofs.Canonical.{Each, Each-arranged, Backed, Backed-arranged, IsElement, IsCanonical, AreCanonical, all_canonical, elements_are, elements-backed, elements-rebuilt, flattened-elements, applied_canonical, arranged-nil, is_identity-arguments, nat_eq-refl}
 use Rattle.mw_logic.proofs.CanonicalTerms.{elements-applied, flattened-backed}
 use Rattle.mw_logic.proofs.Invariance.{elements_kept}
 use Rattle.mw_logic.proofs.Holes.{Each-unarranged, Each-parts}
@@ -83,6 +83,13 @@ module _ (sig : Signature) (ok : IsAccepted sig) (f : ℕ) (h : is_assoc sig f �
   in_order v k =
       let s : Each (IsElement e f) (arranged c (elements e f v)) = Each-arranged _ c _ (elements_are sig ok f h v k).0 in
       sym (elements-rebuilt e f (arranged c (elements e f v)) (Backed-arranged e c _ (elements-backed e f v)) s) ∙ ap (elements e f) (elements_kept sig ok f h v k)
+
+  -- the arguments of an associative operator in a canonical term are in order
+  pub args_in_order : (ts : RawTerms) → IsCanonical sig (apply f ts) → arranged c ts ≡ ts
+  args_in_order nil k = arranged-nil c
+  args_in_order (cons t ts) k =
+      let own : elements e f (apply f (cons t ts)) ≡ cons t ts = rw (is_identity-arguments e f t ts, nat_eq-refl f) refl in
+      subst (λ us. arranged c us ≡ us) own (in_order (apply f (cons t ts)) k)
 
   pieces_in_order : (vs : RawTerms) → AreCanonical sig vs → AreInOrder c (pieces vs)
   pieces_in_order nil k = tt

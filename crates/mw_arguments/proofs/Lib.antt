@@ -11,3 +11,4 @@ pub mod Arguments
 pub mod Splits
 -- Numbers that choose some of the arguments.
 pub mod Places
+pub mod Middles

@@ -1,5 +1,5 @@
 -- What a module declares has a grammar.
-use Rattle.std.proofs.Common.{◌≡◌, ℕ, List, map, None, sym, subst}
+use Rattle.std.proofs.Common.{◌≡◌, ℕ, List, [], ◌∷◌, map, None, true, refl, sym, subst}
 use Rattle.mw_logic.specs.Term.{Variable}
 use Rattle.mw_logic.specs.Signature.{Operator, IsOperator, Member}
 use Rattle.mw_logic.specs.Accepted.{IsAccepted}
@@ -9,6 +9,8 @@ use Rattle.mw_grammar.specs.Readable.{IsReadable, AreVariables}
 use Rattle.mw_module.specs.Known.{AreKnown}
 use Rattle.mw_module.specs.Units.{SeenLined}
 use Rattle.mw_declare.specs.Operators.{operator_of, operators_of, signature_of}
+use Rattle.mw_logic.proofs.FreeSignature.{IsBareSignature, none_built, is_bare-sound}
+use Rattle.mw_declare.specs.Operators.{Declared}
 use Rattle.mw_declare.specs.declared.declarations.Declarations.{Declarations}
 use Rattle.mw_declare.specs.Declarations.{unknown_in_all, Declares}
 use Rattle.mw_declare.proofs.Accepting.{accepted_declared}
@@ -27,7 +29,18 @@ readable_signature ss formed known accepted = record {
   assoc = accepted.assoc;
 }
 
+-- nothing that is declared is built in
+not_built : (all os : List Declared) → none_built (map (operator_of all) os) ≡ true
+not_built all [] = refl
+not_built all (o ∷ os) = not_built all os
+
+bare_signature : (ss : List SeenLined) → IsBareSignature (signature_of ss)
+bare_signature ss = is_bare-sound (signature_of ss) (not_built (operators_of ss) (operators_of ss))
+
 module _ (ss : List SeenLined) (d : Declarations) (p : Declares ss d) where
+  pub bare_declared : IsBareSignature d.signature
+  bare_declared = subst (λ (d : Declarations). IsBareSignature d.signature) (sym p.declared) (bare_signature ss)
+
   pub readable_declared : AreKnown ss → IsReadable d.signature
   readable_declared formed = subst (λ (d : Declarations). IsReadable d.signature) (sym p.declared) (readable_signature ss formed p.known (subst (λ (d : Declarations). IsAccepted d.signature) p.declared (accepted_declared ss d p)))
 

@@ -24,6 +24,7 @@ use Rattle.mw_machine.specs.Simple.{AreSides}
 use Rattle.mw_machine.specs.Variables.{is_in, met, all_met}
 use Rattle.mw_machine.proofs.Meeting.{is_in-met}
 use Rattle.mw_sorting.specs.PreregularModulo.{IsPreregularModulo}
+use Rattle.mw_logic.proofs.FreeSignature.{IsBareSignature}
 use Rattle.mw_least.specs.Workable.{IsPlainEquation, IsWorkable}
 use Rattle.mw_text.specs.Mixfix.{Reads, Spells}
 use Rattle.mw_text.specs.Readings.{ReadsPair}
@@ -163,8 +164,8 @@ module _ (sig : Signature) (ok : IsPreregularModulo sig) (numbers : HasItsSorts 
           sorts = λ x o. elim (or_cases (occurs x is.left) (occurs x is.right) o) [ inl h ↦ sorts_there first x h | inr h ↦ sorts_there second x h ];
         })
 
-    pub workable_module : (es : List Sides) (sts : List Statement) → AreEquations sig variables es sts → IsWorkable (record { signature = sig; statements = sts })
-    workable_module es sts all = record { signature = ok; numbers = numbers; sides = all_sides; equations = at_each }
+    pub workable_module : IsBareSignature sig → (es : List Sides) (sts : List Statement) → AreEquations sig variables es sts → IsWorkable (record { signature = sig; statements = sts })
+    workable_module bare es sts all = record { signature = ok; numbers = numbers; bare = bare; sides = all_sides; equations = at_each }
       where
         all_sides : (k : ℕ) (st : Statement) → at_number sts k ≡ Some st → AreSides sig st
         all_sides zero st is = cc

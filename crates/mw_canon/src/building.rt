@@ -135,9 +135,9 @@ fn applied(
             Ok(term)
         }
         Axioms::Successor => {
-            let made = all_built(alloc, facts, values, args, large)?;
+            let mut made = all_built(alloc, facts, values, args, large)?;
             *large = *large || is_largest(made.as_slice());
-            let term = counted(alloc, operator, made)?;
+            let term = counted(alloc, operator, &mut made, 0)?;
             Ok(term)
         }
         Axioms::Associative { comm, identity } => {

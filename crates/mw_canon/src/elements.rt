@@ -26,7 +26,7 @@ pub fn parts<'t>(facts: &Facts, operator: OpId, term: &'t Term) -> &'t [Term]
 }
 
 /// The identity of an associative operator.
-fn identity(facts: &Facts, operator: OpId) -> Option<Identity>
+pub(crate) fn identity(facts: &Facts, operator: OpId) -> Option<Identity>
     requires { IsAssociative facts.now operator }
     ensures { option_map identity_named result ≡ identity_of facts.now operator }
 {
@@ -82,7 +82,7 @@ pub(crate) fn all_elements(
 
 /// Puts the elements of a term under an associative operator behind others. Arguments that no other term shares are
 /// moved.
-pub(crate) fn push_elements(
+pub fn push_elements(
     alloc: Global,
     identity: Option<Identity>,
     operator: OpId,

@@ -21,7 +21,9 @@
 //!   deep nor too large, and `Deep` and `Nat` come only where it is (`Nat` where it isn't too deep). So each comes
 //!   exactly there, but for want of memory.
 //! - `parts` lists the term's arguments, none for the operator's identity, the term alone for another top; it takes no
-//!   memory. `rebuild` is the operator, with its axioms, on the arguments.
+//!   memory. `push_elements` puts them behind others. `rebuild` is the operator, with its axioms, on the arguments.
+//! - For arguments that are in order already: `over_elements` is an associative operator over elements of it, and
+//!   `counted` the successor. Neither compares nor looks for elements (proofs/Ordered: that is what `rebuild` gives).
 //! - For those who build terms by `rebuild`: `is_largest` says whether the largest numeral stands alone among arguments,
 //!   so that a successor on them counts past it, and `limited` lets a term pass that has at most 1,000 levels and no such
 //!   successor, as a flag tells.
@@ -48,10 +50,10 @@ mod entering;
 mod rows;
 mod values;
 
-pub use applying::{is_largest, rebuild};
+pub use applying::{counted, is_largest, over_elements, rebuild};
 pub use axioms::{Axioms, Facts};
 pub use building::{canon, instance, limited};
-pub use elements::parts;
+pub use elements::{parts, push_elements};
 use std::alloc::{AllocError, AllocFailed};
 pub use values::Values;
 

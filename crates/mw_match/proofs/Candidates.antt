@@ -16,12 +16,12 @@ use Rattle.mw_solving.specs.Candidates.{AreOfSortsFrom}
 use Rattle.mw_solving.specs.Inside.{IsSolutionOf, Entry, AreEntries, entries}
 use Rattle.mw_solving.proofs.Grounds.{nested_ground}
 use Rattle.mw_solving.proofs.Members.{got_mapped, mapped, of_mapped}
-use Rattle.mw_solving.proofs.Candidates.{values_zipped}
+use Rattle.mw_solving.proofs.Candidates.{variables_zipped, values_zipped}
 use Rattle.mw_solving.proofs.Inside.{inside_candidates}
 use Rattle.mw_search.specs.Lacking.{IsKnown, HaveTheirSorts, OneLacksItsSort}
 use Rattle.mw_compile.specs.Compiled.{IsCompiled}
 use Rattle.mw_compile.specs.declared.compiled.Compiled.{Compiled}
-use Rattle.mw_match.specs.Solutions.{Coming, FitsSorts, Lacks, IsAllSolutions, candidate}
+use Rattle.mw_match.specs.Solutions.{Coming, FitsSorts, Lacks, AreNamed, IsAllSolutions, candidate}
 use Rattle.mw_match.specs.Parts.{rest_of}
 use Rattle.mw_match.specs.Hands.{first_of}
 use Rattle.mw_match.specs.declared.parts.Parts.{Parts}
@@ -29,7 +29,7 @@ use Rattle.mw_match.specs.declared.solutions.Solution.{Solution}
 use Rattle.mw_match.proofs.Inside.{Sized, own_rest, all_entries}
 
 -- a value's sorts can be told
-known : (sig : Signature) → IsAccepted sig → (u : RawTerm) → IsValue sig u → IsKnown sig u
+pub known : (sig : Signature) → IsAccepted sig → (u : RawTerm) → IsValue sig u → IsKnown sig u
 known sig ok u v = record { canonical = fixed sig ok u v.canonical; raw = v.raw; ground = sym (nested_ground sig u) ∙ v.ground }
 
 -- so candidates by position are all solutions, as they are told by sorts
@@ -93,41 +93,57 @@ module _ (parts : Parts) (ok : IsAccepted parts.context.now.signature) (inside :
   abbrev list : RawTerm → ℕ → List Entry
   list q m = entries sig compiled.positions.single.items q m vs inside t
 
-  pub of_entries : (h : IsCompiled sig (normal_form sig p) (bound_variables s0) compiled) → parts.subject ≡ t → parts.rest ≡ cond inside (rest_of vs (own_rest parts vs t)) None
-      → AreEntries sig inside p t (meant sig s0) (length vs) (met (bound_variables s0) h.q) (list (placed (met (bound_variables s0) h.q) h.q) (length (met (bound_variables s0) h.q)))
-      → IsAllSolutions sig inside p t (meant sig s0) (first_of parts vs)
-  of_entries h subject rest all = subst (IsAllSolutions sig inside p t (meant sig s0)) (sym same) (all_solutions sig ok inside p t (meant sig s0) (length vs) xs (list (placed xs h.q) (length xs)) all)
-    where
-      xs : List Variable
-      xs = met (bound_variables s0) h.q
+  module _ (h : IsCompiled sig (normal_form sig p) (bound_variables s0) compiled) (subject : parts.subject ≡ t) (rest : parts.rest ≡ cond inside (rest_of vs (own_rest parts vs t)) None)
+      (all : AreEntries sig inside p t (meant sig s0) (length vs) (met (bound_variables s0) h.q) (list (placed (met (bound_variables s0) h.q) h.q) (length (met (bound_variables s0) h.q)))) where
+    abbrev xs : List Variable
+    xs = met (bound_variables s0) h.q
 
-      entries_are : list compiled.pattern (length compiled.variables) ≡ list (placed xs h.q) (length xs)
-      entries_are = ap (λ q. list q (length compiled.variables)) (h.pattern ∙ ap (λ ys. placed ys h.q) h.variables) ∙ ap (λ (ys : List Variable). list (placed xs h.q) (length ys)) h.variables
+    entries_are : list compiled.pattern (length compiled.variables) ≡ list (placed xs h.q) (length xs)
+    entries_are = ap (λ q. list q (length compiled.variables)) (h.pattern ∙ ap (λ ys. placed ys h.q) h.variables) ∙ ap (λ (ys : List Variable). list (placed xs h.q) (length ys)) h.variables
 
-      sized : Sized (length compiled.variables) (list compiled.pattern (length compiled.variables))
-      sized e m = (all.values e (subst (Member e) entries_are m)).1 ∙ ap (λ (ys : List Variable). length ys) (sym h.variables)
+    sized : Sized (length compiled.variables) (list compiled.pattern (length compiled.variables))
+    sized e m = (all.values e (subst (Member e) entries_are m)).1 ∙ ap (λ (ys : List Variable). length ys) (sym h.variables)
 
-      candidates_are : (first_of parts vs).candidates ≡ map (candidate xs) (list (placed xs h.q) (length xs))
-      candidates_are = ap (map (candidate compiled.variables)) (all_entries parts vs inside t subject rest sized ∙ entries_are) ∙ ap (λ ys. map (candidate ys) (list (placed xs h.q) (length xs))) h.variables
+    candidates_are : (first_of parts vs).candidates ≡ map (candidate xs) (list (placed xs h.q) (length xs))
+    candidates_are = ap (map (candidate compiled.variables)) (all_entries parts vs inside t subject rest sized ∙ entries_are) ∙ ap (λ ys. map (candidate ys) (list (placed xs h.q) (length xs))) h.variables
 
-      same : first_of parts vs ≡ coming sig ok inside p t (meant sig s0) (length vs) xs (list (placed xs h.q) (length xs)) all
-      same =
-          ap (λ (rs : List Solution). record { signature = sig; sorts = compiled.positions.sorts; given = length vs; candidates = rs }) candidates_are
-          ∙ ap (λ (Ss : List ℕ). record { signature = sig; sorts = Ss; given = length vs; candidates = map (candidate xs) (list (placed xs h.q) (length xs)) }) (h.sorts ∙ ap sorts_of h.variables)
+    same : first_of parts vs ≡ coming sig ok inside p t (meant sig s0) (length vs) xs (list (placed xs h.q) (length xs)) all
+    same =
+        ap (λ (rs : List Solution). record { signature = sig; sorts = compiled.positions.sorts; given = length vs; candidates = rs }) candidates_are
+        ∙ ap (λ (Ss : List ℕ). record { signature = sig; sorts = Ss; given = length vs; candidates = map (candidate xs) (list (placed xs h.q) (length xs)) }) (h.sorts ∙ ap sorts_of h.variables)
 
--- and they are all
-pub compiled_solutions : (parts : Parts) → IsAccepted parts.context.now.signature → IsWellSorted parts.context.now.signature → (inside : Bool) (p : RawTerm) → IsRawTerm parts.context.now.signature p
-    → (t : RawTerm) (s0 : Substitution) → IsCompiled parts.context.now.signature (normal_form parts.context.now.signature p) (bound_variables s0) parts.compiled.now
-    → IsSubstitution parts.context.now.signature (meant parts.context.now.signature s0) → AreValues parts.context.now.signature (bound_values s0) → IsValue parts.context.now.signature t
-    → parts.subject ≡ t → parts.rest ≡ cond inside (rest_of (bound_values s0) (own_rest parts (bound_values s0) t)) None
-    → IsAllSolutions parts.context.now.signature inside p t (meant parts.context.now.signature s0) (first_of parts (bound_values s0))
-compiled_solutions parts ok fitting inside p raw t s0 h substitution old v subject rest =
-    let sig : Signature = parts.context.now.signature in
-    let xs : List Variable = met (bound_variables s0) h.q in
-    let single : List (List ℕ) = parts.compiled.now.positions.single.items in
-    let sure : AreSure sig single (sorts_of xs) = subst (AreSure sig single) (h.sorts ∙ ap sorts_of h.variables) h.sure in
-    let bounded : length single ≤ length xs = subst (λ (ys : List Variable). length single ≤ length ys) h.variables h.bounded in
-    of_entries parts ok inside p t s0 h subject rest (inside_candidates sig ok fitting inside p h.q raw h.reordered s0 substitution old t v single sure bounded)
+    pub of_entries : IsAllSolutions sig inside p t (meant sig s0) (first_of parts vs)
+    of_entries = subst (IsAllSolutions sig inside p t (meant sig s0)) (sym same) (all_solutions sig ok inside p t (meant sig s0) (length vs) xs (list (placed xs h.q) (length xs)) all)
+
+    -- their variables are those of the pattern
+    pub of_entries_named : AreNamed sig compiled.variables (first_of parts vs)
+    of_entries_named r m =
+        let (e, is, l) = of_mapped (candidate xs) r (list (placed xs h.q) (length xs)) (subst (Member r) candidates_are m) in
+        let k = all.values e l in
+        let named : bound_variables (zip xs e.1) ≡ compiled.variables = variables_zipped xs e.1 k.1 ∙ sym h.variables in
+        let valued : AreValues sig (bound_values (zip xs e.1)) = subst (AreValues sig) (sym (values_zipped xs e.1 k.1)) k.0 in
+        subst (λ (r : Solution). (bound_variables r.subst ≡ compiled.variables) × AreValues sig (bound_values r.subst)) is (named, valued)
+
+module _ (parts : Parts) (ok : IsAccepted parts.context.now.signature) (fitting : IsWellSorted parts.context.now.signature) (inside : Bool) (p : RawTerm) (raw : IsRawTerm parts.context.now.signature p)
+    (t : RawTerm) (s0 : Substitution) (h : IsCompiled parts.context.now.signature (normal_form parts.context.now.signature p) (bound_variables s0) parts.compiled.now)
+    (substitution : IsSubstitution parts.context.now.signature (meant parts.context.now.signature s0)) (old : AreValues parts.context.now.signature (bound_values s0)) (v : IsValue parts.context.now.signature t)
+    (subject : parts.subject ≡ t) (rest : parts.rest ≡ cond inside (rest_of (bound_values s0) (own_rest parts (bound_values s0) t)) None) where
+  all_there : AreEntries parts.context.now.signature inside p t (meant parts.context.now.signature s0) (length (bound_values s0)) (met (bound_variables s0) h.q)
+      (entries parts.context.now.signature parts.compiled.now.positions.single.items (placed (met (bound_variables s0) h.q) h.q) (length (met (bound_variables s0) h.q)) (bound_values s0) inside t)
+  all_there =
+      let sig : Signature = parts.context.now.signature in
+      let xs : List Variable = met (bound_variables s0) h.q in
+      let single : List (List ℕ) = parts.compiled.now.positions.single.items in
+      let sure : AreSure sig single (sorts_of xs) = subst (AreSure sig single) (h.sorts ∙ ap sorts_of h.variables) h.sure in
+      let bounded : length single ≤ length xs = subst (λ (ys : List Variable). length single ≤ length ys) h.variables h.bounded in
+      inside_candidates sig ok fitting inside p h.q raw h.reordered s0 substitution old t v single sure bounded
+
+  -- and they are all
+  pub compiled_solutions : IsAllSolutions parts.context.now.signature inside p t (meant parts.context.now.signature s0) (first_of parts (bound_values s0))
+  compiled_solutions = of_entries parts ok inside p t s0 h subject rest all_there
+
+  pub compiled_named : AreNamed parts.context.now.signature parts.compiled.now.variables (first_of parts (bound_values s0))
+  compiled_named = of_entries_named parts ok inside p t s0 h subject rest all_there
 
 pub on_err : {T E : Type 0} {P : Type 0} (r : Result T E) → P → OnErr r P
 on_err (Ok x) h = tt

@@ -16,6 +16,11 @@ pub decides_var_old : (old : List RawTerm) (i : ℕ) (v t : RawTerm) (b : Bool) 
 decides_var_old old i v t true h e = (begins_same old, λ us b m. ((λ p. b), (λ q. let k : slice_get us i ≡ Some v = begins_at old us i v b h in rw k (e.0 refl))))
 decides_var_old old i v t false h e = λ us b m p. let k : slice_get us i ≡ Some v = begins_at old us i v b h in true≢false (sym (e.1 (rw k at p)))
 
+-- a pattern without variables
+pub decides_same : (old : List RawTerm) (n : ℕ) (P : Type 0) (b : Bool) → (IsTrue b ↔ P) → Decides b n old old (λ us. P)
+decides_same old n P true h = (begins_same old, λ us b m. ((λ p. b), (λ q. h.0 refl)))
+decides_same old n P false h = λ us b m p. true≢false (sym (h.1 p))
+
 read_back : (us : List RawTerm) (i : ℕ) (x t : RawTerm) → i < length us → unwrap_or (slice_get us i) x ≡ t → slice_get us i ≡ Some t
 read_back [] i x t l e = absurd (omega (arith, l))
 read_back (u ∷ us) zero x t l e = ap Some e

@@ -20,11 +20,11 @@ abbrev Apart : {X : Type 0} → (X → X → Type 0) → List X → Type 0
 Apart R [] = Unit {0}
 Apart {X} R (x ∷ xs) = ((y : X) → Member y xs → R x y → ⊥) × Apart R xs
 
-at_index : {X : Type 0} (x : X) (xs : List X) → Member x xs → (i : ℕ) × (slice_get xs i ≡ Some x)
+pub at_index : {X : Type 0} (x : X) (xs : List X) → Member x xs → (i : ℕ) × (slice_get xs i ≡ Some x)
 at_index x [] m = absurd m
 at_index x (y ∷ ys) m = ⊎_elim (λ e. (0, ap Some e)) (λ n. let (i, h) = at_index x ys n in (suc i, h)) m
 
-member_at : {X : Type 0} (x : X) (xs : List X) (i : ℕ) → slice_get xs i ≡ Some x → Member x xs
+pub member_at : {X : Type 0} (x : X) (xs : List X) (i : ℕ) → slice_get xs i ≡ Some x → Member x xs
 member_at x [] i e = absurd (none-some x e)
 member_at x (y ∷ ys) zero e = inl (same_Some y x e)
 member_at x (y ∷ ys) (suc i) e = inr (member_at x ys i e)

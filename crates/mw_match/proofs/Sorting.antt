@@ -11,6 +11,7 @@ use Rattle.mw_logic.specs.Signature.{Signature, sort, IsRawTerm}
 use Rattle.mw_logic.specs.Sorts.{HasSort}
 use Rattle.mw_machine.specs.Simple.{AreGround, HaveSorts}
 use Rattle.mw_machine.specs.Simple.{IsGround}
+use Rattle.mw_search.specs.Lacking.{IsKnown, HaveTheirSorts, OneLacksItsSort}
 use Rattle.mw_canon.proofs.Free.{nested_free, normal_form_free}
 
 -- whether a value has a sort, as the flattened term has it
@@ -68,3 +69,34 @@ module _ (sig : Signature) (vs : List RawTerm) (Ss : List ℕ) where
         let a = got vs i v h e in
         absurd (both_ways b t ((plain_sort sig free v (get_or Ss i 0) b k (g i v a)).1 (all i v (get_or Ss i 0) a (number_got Ss i (omega (arith, h, l)))))),
   )
+
+-- what a test of a sort says of a term
+abbrev pub Tells : Signature → RawTerm → ℕ → Bool → Type 0
+Tells sig v S b = normal_form sig (nested sig v) ≡ v → IsRawTerm sig (nested sig v) → IsTrue (is_ground v) → (IsTrue b ↔ HasSort sig (nested sig v) (sort S))
+
+-- the first ones have theirs, as far as sorts can be told
+abbrev pub HaveFirstSorts : Signature → List RawTerm → List ℕ → ℕ → Type 0
+HaveFirstSorts sig vs Ss n = (i : ℕ) (v : RawTerm) (S : ℕ) → i < n → slice_get vs i ≡ Some v → slice_get Ss i ≡ Some S → IsKnown sig v → HasSort sig (nested sig v) (sort S)
+
+module _ (sig : Signature) (vs : List RawTerm) (Ss : List ℕ) where
+  pub first_fits : (n : ℕ) → length vs ≤ n → HaveFirstSorts sig vs Ss n → HaveTheirSorts sig Ss 0 vs
+  first_fits n l h i v z a S b k = let w = slice_get_within vs i v a in h i v S (omega (arith, w, l)) a b k
+
+  pub next_fits : length vs ≡ length Ss → (i : ℕ) (v : RawTerm) (b : Bool) → i < length vs → v ≡ get_or vs i v → Tells sig v (get_or Ss i 0) b → b ≡ true → HaveFirstSorts sig vs Ss i → HaveFirstSorts sig vs Ss (i + 1)
+  next_fits l i v b h e k t all j w R m c d known = ⊎_elim
+      (λ n. all j w R n c d known)
+      (λ (n : j ≡ i).
+      let p : v ≡ w = let x : Some v ≡ Some w = sym (got vs i v h e) ∙ ap (slice_get vs) (sym n) ∙ c in cc in
+      let q : get_or Ss i 0 ≡ R = let x : Some (get_or Ss i 0) ≡ Some R = sym (number_got Ss i (omega (arith, h, l))) ∙ ap (slice_get Ss) (sym n) ∙ d in cc in
+      let told : Tells sig w R b = subst (λ u. Tells sig u R b) p (subst (λ T. Tells sig v T b) q k) in
+      (told known.canonical known.raw known.ground).0 t)
+      (split j i m)
+
+  pub next_is_lacking : length vs ≡ length Ss → (i : ℕ) (v : RawTerm) (b : Bool) → i < length vs → v ≡ get_or vs i v → Tells sig v (get_or Ss i 0) b → b ≡ false → OneLacksItsSort sig Ss 0 vs
+  next_is_lacking l i v b h e k t = record {
+    position = i;
+    value = v;
+    new = omega arith;
+    is = got vs i v h e;
+    lacks = (get_or Ss i 0, number_got Ss i (omega (arith, h, l)), λ known has. both_ways b t ((k known.canonical known.raw known.ground).1 has));
+  }

@@ -5,8 +5,9 @@ use Rattle.mw_logic.specs.Term.{Variable, RawTerm}
 use Rattle.mw_logic.specs.Signature.{Signature, Member}
 use Rattle.mw_logic.specs.Substitution.{Substitution, SameSolution}
 use Rattle.mw_canon.specs.Canonical.{meant}
-use Rattle.mw_machine.specs.Variables.{bound_values}
+use Rattle.mw_machine.specs.Variables.{bound_variables, bound_values}
 use Rattle.mw_matching.specs.Found.{Values}
+use Rattle.mw_solving.specs.Values.{AreValues}
 use Rattle.mw_solving.specs.Inside.{IsSolutionOf, Entry}
 use Rattle.mw_search.specs.Lacking.{HaveTheirSorts, OneLacksItsSort, Skips}
 use Rattle.mw_search.specs.Searches.{Matches}
@@ -58,3 +59,7 @@ matches_of found coming = option_to_list found ++ coming
 -- a new value of a match lacks its sort
 abbrev pub LacksBySearch : Matches → Values → Type 0
 LacksBySearch m vs = OneLacksItsSort m.signature m.sorts m.given vs
+
+-- Each candidate has these variables, and its values are canonical terms that mean ground raw terms.
+abbrev pub AreNamed : Signature → List Variable → Coming → Type 0
+AreNamed sig xs c = (r : Solution) → Member r c.candidates → (bound_variables r.subst ≡ xs) × AreValues sig (values r)

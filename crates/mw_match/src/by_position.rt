@@ -1,13 +1,32 @@
 // Matching by position.
-ghost use Rattle.std.specs.Prelude.{◌≡◌, IfOk, IsTrue, length};
+ghost use Rattle.std.specs.Prelude.{◌≡◌, ◌↔◌, IfOk, IsTrue, length};
+ghost use Rattle.mw_logic.specs.Term.{numeral, quoted};
 ghost use Rattle.mw_logic.specs.Terms.{terms_of};
 ghost use Rattle.mw_machine.specs.Positions.{fill, fill_all, IsNumbered, AreNumbered, counted, counted_all, Begins};
 ghost use Rattle.mw_pattern.specs.Clean.{clean};
 ghost use Rattle.mw_match.specs.Matching.{Decides};
 
 use mw_pattern::{Pattern, Patterns};
-use mw_term::{Term, View, copy, same};
+use mw_term::{Name, Term, View, copy, same};
 use std::alloc::AllocError;
+
+fn is_numeral(term: &Term, number: u128) -> bool
+    ensures { IsTrue result ↔ (numeral number ≡ term.now) }
+{
+    match term.view() {
+        View::Nat(n) => n == number,
+        _ => false,
+    }
+}
+
+fn is_quoted(term: &Term, name: &Name) -> bool
+    ensures { IsTrue result ↔ (quoted name.now ≡ term.now) }
+{
+    match term.view() {
+        View::Qid(q) => q.as_slice() == name.as_slice(),
+        _ => false,
+    }
+}
 
 /// Whether the term is an instance, by the values that are there and those that are put behind them. The former stay
 /// whatever is answered; what stands behind them counts after a yes alone.
@@ -19,6 +38,8 @@ pub fn matches(pattern: &Pattern, term: &Term, values: &mut Vec<Term>) -> Result
     ensures kept { Begins values.old.items values.new.items }
 {
     match pattern {
+        Pattern::Nat(number) => Ok(is_numeral(term, *number)),
+        Pattern::Qid(name) => Ok(is_quoted(term, name)),
         Pattern::Var(i) => match values.get(*i) {
             Some(value) => Ok(same(value, term)),
             None => {

@@ -1,6 +1,6 @@
 //! Matching: which values of its variables make a pattern a term.
 //!
-//! - `matches` and `all_match` compare patterns by position (mw_pattern) with terms, where no operator has an axiom,
+//! - `matches` and `all_match` compare patterns by position (mw_pattern) with terms, as if no operator had an axiom,
 //!   and put the values of new variables behind those that are there. `Decides` says what they found: of all lists of
 //!   values that begin with the old ones, those that give the term are those that begin with the new ones, or there
 //!   are none. Whatever is answered, the old values stand in front. `have_sorts` asks then whether each value has its
@@ -8,7 +8,7 @@
 //!   values is all there is.
 //! - [`Solutions`] gives the solutions of a compiled pattern (mw_compile) that extend a given substitution, one by one,
 //!   modulo the axioms of any accepted signature: for a whole subject (`new`), or also for its proper parts on top
-//!   (`inside`). It searches by mw_search.
+//!   (`inside`, and `anywhere` for no given values). It searches by mw_search.
 //!
 //! What contracts see of solutions is `Coming` (specs/Solutions): candidates in order, with the sorts of their
 //! variables, of which the first were given. A candidate fits where each new value has its variable's sort, as far as
@@ -22,6 +22,8 @@
 //!   mw_solving). These are two or more arguments of its associative operator and not all of them: neighbours, or where
 //!   the operator is commutative too each part of the multiset of arguments once, and of equal arguments those with
 //!   the least numbers. `take` of a solution says which arguments it is of.
+//! - `anywhere`: the same with no given values. What it says of solutions is said of canonical subjects that mean
+//!   ground raw terms, with the variables' names (`AreNamed`); it may be asked of other terms too.
 //! - `next` passes over candidates that lack a sort and answers the first other one, which fits, or None where all that
 //!   were left lack a sort, and for ever after. For want of memory it has passed over such candidates alone, and the
 //!   same solutions are still to come.
@@ -39,7 +41,8 @@
 //!
 //! Conditions of `new` and `inside`: the subject and the given values are canonical terms that mean ground raw terms,
 //! the latter of their variables' sorts, each variable once; the compiled pattern has as many sorts as variables, and
-//! theirs. What `have_sorts` says holds where the signature is simple.
+//! theirs. `anywhere` asks for the latter alone. What `have_sorts` says holds where the signature is simple (`simple`),
+//! or of values that are canonical terms and mean ground raw terms (`fits`, `lacks`).
 //!
 //! Cost: `matches` costs what is compared, a value one count. `Solutions` costs what its searches do, and for each
 //! solution a copy of the variables' names, a count for each value and a number for each argument that it takes. For
@@ -48,8 +51,8 @@
 //! operator with a rest costs two walks over the arguments. The native stack grows with the depth of the pattern in
 //! `matches`, and with that of terms where they are compared or walked for sorts.
 //!
-//! Tested by the sources in cases/, and for given values by mw_tests: that `new`, `inside` and `next` answer with memory
-//! at hand. No clause says the order of solutions, time or memory.
+//! Tested by the sources in cases/, and for given values by mw_tests: that `new`, `inside` and `next` answer with
+//! memory at hand. No clause says the order of solutions, time or memory.
 #![tactic(auto)]
 
 mod bindings;
@@ -61,6 +64,7 @@ mod solutions;
 mod sorts;
 mod takes;
 
+pub use bindings::copied;
 pub use by_position::{all_match, matches};
 pub use listing::listed;
 pub use solutions::{Solution, Solutions};

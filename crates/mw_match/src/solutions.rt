@@ -8,7 +8,7 @@ ghost use Rattle.mw_machine.specs.Variables.{bound_variables, bound_values, sort
 ghost use Rattle.mw_canon.specs.Canonical.{meant};
 ghost use Rattle.mw_solving.specs.Values.{IsValue, AreValues};
 ghost use Rattle.mw_compile.specs.Compiled.{IsCompiled};
-ghost use Rattle.mw_match.specs.Solutions.{IsAllSolutions, FitsSorts, PassesTo};
+ghost use Rattle.mw_match.specs.Solutions.{AreNamed, IsAllSolutions, FitsSorts, PassesTo};
 ghost use Rattle.mw_match.specs.Hands.{first_of};
 ghost use Rattle.mw_match.specs.declared.parts.Rest.{Rest as RestOf};
 
@@ -139,6 +139,36 @@ impl<'c> Solutions<'c> {
             rest,
         };
         let solutions = begin(parts, values)?;
+        Ok(solutions)
+    }
+
+    /// The solutions of a compiled pattern for a subject and for its proper parts on top, as `inside` has them, where no
+    /// values are given.
+    pub fn anywhere(
+        alloc: Global,
+        context: &'c Ctx,
+        compiled: &'c Compiled,
+        subject: &Term,
+    ) -> Result<Solutions<'c>, AllocError>
+        requires { compiled.now.positions.sorts ≡ sorts_of compiled.now.variables }
+        ensures all { let sig = context.now.signature in
+            (p : RawTerm) → IsRawTerm sig p → IsCompiled sig (normal_form sig p) [] compiled.now
+            → IsValue sig subject.now → IfOk result (IsAllSolutions sig true p subject.now []) }
+        ensures named { let sig = context.now.signature in
+            (p : RawTerm) → IsRawTerm sig p → IsCompiled sig (normal_form sig p) [] compiled.now
+            → IsValue sig subject.now → IfOk result (AreNamed sig compiled.now.variables) }
+    {
+        context.shows();
+        let rest = rest_for(alloc, context.facts(), compiled, subject, &[])?;
+        let subject = copy(subject)?;
+        let parts = Parts {
+            alloc,
+            context,
+            compiled,
+            subject,
+            rest,
+        };
+        let solutions = begin(parts, Vec::new(alloc))?;
         Ok(solutions)
     }
 

@@ -1,11 +1,13 @@
 -- What a pattern means.
 use Rattle.std.specs.Prelude.{List, [], ◌∷◌}
 use Rattle.mw_pattern.specs.declared.pattern.Pattern.{Pattern}
-use Rattle.mw_pattern.specs.declared.pattern.Pattern.TheVariants.{Var, Op}
-use Rattle.mw_logic.specs.Term.{RawTerm, variable, apply, RawTerms, nil, cons}
+use Rattle.mw_pattern.specs.declared.pattern.Pattern.TheVariants.{Nat, Qid, Var, Op}
+use Rattle.mw_logic.specs.Term.{RawTerm, numeral, quoted, variable, apply, RawTerms, nil, cons}
 use Rattle.mw_machine.specs.Positions.{position}
 
 abbrev pub clean : Pattern → RawTerm
+clean (Nat n) = numeral n
+clean (Qid q) = quoted q
 clean (Var i) = variable (position i)
 clean (Op f ts) = apply f ts
 

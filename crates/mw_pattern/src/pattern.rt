@@ -6,13 +6,17 @@ ghost use Rattle.mw_logic.specs.Terms.{terms_of};
 ghost use Rattle.mw_pattern.specs.Clean.{clean, clean_all};
 ghost use Rattle.mw_machine.specs.Positions.{IsWithin, AreWithin};
 
-use mw_term::{OpId, Term, copy, depth};
+use mw_term::{Name, OpId, Term, copy, copy_name, depth};
 use std::alloc::{AllocError, Global};
 use std::marker::Model;
 
 #[derive(Drop)]
 #[cycle(pattern)]
 pub enum Pattern {
+    /// A numeral.
+    Nat(u128),
+    /// A quoted identifier, by its bytes after the quote.
+    Qid(Name),
     /// The variable of this position.
     Var(usize),
     Op(OpId, Patterns),
@@ -67,6 +71,7 @@ pub fn depth_at(pattern: &Pattern, values: &[Term]) -> u16
     ensures { result ≡ min (height (fill values.now (clean pattern.now))) (2 ^ 16 - 1) }
 {
     match pattern {
+        Pattern::Nat(_) | Pattern::Qid(_) => 1,
         Pattern::Var(i) => match values.get(*i) {
             Some(value) => depth(value),
             None => 1,
@@ -95,6 +100,11 @@ pub fn instance(alloc: Global, pattern: &Pattern, values: &[Term]) -> Result<Ter
     ensures { IfOk result (λ t. t ≡ fill values.now (clean pattern.now)) }
 {
     match pattern {
+        Pattern::Nat(number) => Term::numeral(alloc, *number),
+        Pattern::Qid(name) => {
+            let name = copy_name(alloc, name)?;
+            Term::quoted(alloc, name)
+        }
         Pattern::Var(i) => copy(&values[*i]),
         Pattern::Op(f, args) => {
             let made = args.instances(alloc, values)?;

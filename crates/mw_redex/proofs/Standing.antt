@@ -8,19 +8,19 @@ use Rattle.mw_logic.specs.Signature.{Signature, IsAssociative}
 use Rattle.mw_logic.specs.Accepted.{IsAccepted}
 use Rattle.mw_logic.specs.Parts.{is_assoc, nested, number_of_terms}
 use Rattle.mw_logic.specs.TermOrder.{insert_term, sorted_terms}
-use Rattle.mw_logic.specs.NormalForm.{is_comm, identity_of, elements, arranged, applied_in, normal_form}
+use Rattle.mw_logic.specs.NormalForm.{is_comm, arranged, applied_in, normal_form}
 use Rattle.mw_logic.specs.CanonicalPart.{AreSeveral, IsOpen, IsPartOf, ReplacesIn, whole, argument, several}
 use Rattle.mw_logic.proofs.SortLaws.{sorted_terms-idempotent}
 use Rattle.mw_logic.proofs.SortedLists.{Climbs, climbs, sorted_terms-climbing}
-use Rattle.mw_logic.proofs.Canonical.{IsCanonical, AreCanonical, canonical, assoc-true, is_identity-arguments, nat_eq-refl, arranged-nil}
+use Rattle.mw_logic.proofs.Canonical.{IsCanonical, AreCanonical, canonical, assoc-true}
 use Rattle.mw_logic.proofs.Replacing.{sorted_terms-middle, applied-arranged}
 use Rattle.mw_logic.proofs.PartsOfNormalForm.{part_can_be_replaced}
 use Rattle.mw_arguments.specs.Places.{chosen, others, Rise, Follow, numbers_of}
 use Rattle.mw_arguments.proofs.Places.{chosen_whole, chosen_climbs, numbers_rise, numbers_choose, IsPartOfList}
-use Rattle.mw_arguments.proofs.Arguments.{in_order}
+use Rattle.mw_arguments.proofs.Arguments.{args_in_order}
 use Rattle.mw_redex.specs.Paths.{at_path}
 use Rattle.mw_redex.specs.Replaced.{exchanged, put_in, replaced_here, replaced_at, IsTaken, IsPartAt, IsOpenArgument, IsOpenWay, way_of_place, ReplacesAt}
-use Rattle.mw_redex.proofs.Middles.{Divided, divided, cut, middle_found, exchanged-middle, chosen-middle, others-middle, followed, count_from, count_chosen, count_others, count_follows, count_rises, number-join, less, in_front}
+use Rattle.mw_redex.proofs.Middles.{Divided, divided, middle_found, first_there, exchanged-middle, chosen-middle, others-middle, followed, count_from, count_chosen, count_others, count_follows, count_rises, number-join, less, in_front}
 
 nothing : {A : Type 0} {x : A} → None ≡ Some x → ⊥
 nothing e = cc
@@ -36,27 +36,15 @@ middle_canonical : (sig : Signature) (before : RawTerms) (t : RawTerm) (after : 
 middle_canonical sig nil t after k = k.0
 middle_canonical sig (cons b bs) t after k = middle_canonical sig bs t after k.1
 
--- numbers that rise are those of some terms
-first_there : (n : ℕ) (ns : List ℕ) (ts : RawTerms) → Rise 1 (suc (number_of_terms ts)) (n ∷ ns) → (k : ℕ) × (n ≡ suc k) × (t : RawTerm) × Divided ts k t
-first_there zero ns ts r = let l = r.0 in absurd (omega (arith, l))
-first_there (suc k) ns ts r = let l = r.1 in let (t, d) = cut ts k (omega (arith, l)) in (k, refl, t, d)
-
 module _ (sig : Signature) (ok : IsAccepted sig) where
-  -- the arguments of an associative operator are in order
-  args_in_order : (f : ℕ) (ts : RawTerms) → is_assoc sig f ≡ true → IsCanonical sig (apply f ts) → arranged (is_comm sig f) ts ≡ ts
-  args_in_order f nil h k = arranged-nil (is_comm sig f)
-  args_in_order f (cons t ts) h k =
-      let e : elements (identity_of sig f) f (apply f (cons t ts)) ≡ cons t ts = rw (is_identity-arguments (identity_of sig f) f t ts, nat_eq-refl f) refl in
-      subst (λ us. arranged (is_comm sig f) us ≡ us) e (in_order sig ok f h (apply f (cons t ts)) k)
-
   associative_true : (f : ℕ) → IsAssociative sig f → is_assoc sig f ≡ true
   associative_true f a = assoc-true sig f a.operator a.is_there a.assoc
 
   sorted : (f : ℕ) (ts : RawTerms) → IsAssociative sig f → IsCanonical sig (apply f ts) → is_comm sig f ≡ true → sorted_terms ts ≡ ts
-  sorted f ts A k h = subst (λ c. arranged c ts ≡ ts) h (args_in_order f ts (associative_true f A) k)
+  sorted f ts A k h = subst (λ c. arranged c ts ≡ ts) h (args_in_order sig ok f (associative_true f A) ts k)
 
   -- under a commutative operator the place of a term doesn't matter
-  placed_anywhere : (f : ℕ) → is_comm sig f ≡ true → (x : RawTerm) (b a c d : RawTerms) → sorted_terms (join b a) ≡ sorted_terms (join c d) → applied_in sig f (join b (cons x a)) ≡ applied_in sig f (join c (cons x d))
+  pub placed_anywhere : (f : ℕ) → is_comm sig f ≡ true → (x : RawTerm) (b a c d : RawTerms) → sorted_terms (join b a) ≡ sorted_terms (join c d) → applied_in sig f (join b (cons x a)) ≡ applied_in sig f (join c (cons x d))
   placed_anywhere f h x b a c d e =
       let w : arranged (is_comm sig f) (join b (cons x a)) ≡ arranged (is_comm sig f) (join c (cons x d)) = rw h (sorted_terms-middle b x a ∙ ap (insert_term x) e ∙ sym (sorted_terms-middle c x d)) in
       sym (applied-arranged sig ok f (join b (cons x a))) ∙ ap (applied_in sig f) w ∙ applied-arranged sig ok f (join c (cons x d))

@@ -68,6 +68,15 @@ next_pattern_value vs ps base at i p v v' h g e k l s =
     let y : fill (drop base vs) (clean p) ≡ v' = rw (ap (λ q. fill (drop base vs) (clean q)) e, z) refl in
     (rw y at x.0, inl (base + i, sym (slice_get_behind vs base i) ∙ z))
 
+-- a numeral or a quoted identifier
+pub next_pattern_flat : (vs : List RawTerm) (ps : List Pattern) (base at : ℕ) (p q : Pattern) (v : RawTerm)
+    → at < length ps → p ≡ get_or ps at p → p ≡ q → v ≡ fill (drop base vs) (clean q) → IsFlat (fill (drop base vs) (clean q))
+    → IsNextPattern vs ps base at (Value v)
+next_pattern_flat vs ps base at p q v h g e k f =
+    let x = pattern_some (drop base vs) ps at p (got ps at p h g) in
+    let y : fill (drop base vs) (clean p) ≡ v = ap (λ z. fill (drop base vs) (clean z)) e ∙ sym k in
+    (rw y at x.0, inr (rw k f))
+
 pub next_pattern_some : (vs : List RawTerm) (ps inner : List Pattern) (base at f before after : ℕ) (args : RawTerms) (p : Pattern) (done : List RawTerm)
     → AreWithin (length vs - base) (clean_all ps) → base ≤ length vs → at < length ps → p ≡ get_or ps at p → p ≡ Op f args → clean_all inner ≡ args → done ≡ [] → before ≡ at → after ≡ length ps - at - 1
     → (skip at (fill_all (drop base vs) (clean_all ps)) ≡ cons (apply f (join (terms_of done) (skip (length done) (fill_all (drop base vs) (clean_all inner))))) (rest_of (skip at (fill_all (drop base vs) (clean_all ps)))))

@@ -18,7 +18,7 @@ use Rattle.mw_logic.proofs.Inside.{raw_inside}
 use Rattle.mw_machine.proofs.Filling.{fill_all-append}
 use Rattle.mw_machine.proofs.Steps.{part_ground, normal_here, steps_on}
 use Rattle.mw_machine.proofs.AtRank.{held_empty}
-use Rattle.mw_machine.proofs.Values.{values_normal}
+use Rattle.mw_machine.proofs.Values.{flat_normal, values_normal}
 use Rattle.mw_pattern.specs.Clean.{clean, clean_all}
 use Rattle.mw_proof.specs.Trails.{variables_of, moves, needed, stepped}
 use Rattle.mw_pattern.specs.Equations.{listed}
@@ -128,13 +128,18 @@ stands_behind [] ws j v h = (j, h)
 stands_behind (x ∷ vs) ws j v h = let a = stands_behind vs ws j v h in (suc a.0, a.1)
 
 -- what an equation's step leaves, in the module
-pub after_fired : (M : Module) (n : ℕ) (t0 : RawTerm) (xs : List Item) (vs found : List RawTerm) (below : List Frame) (u : RawTerm) (r : Turn)
+pub after_fired : (M : Module) (n : ℕ) {sig : Signature} (m : Equations) (d : Describes M n sig m) (t0 : RawTerm) (xs : List Item) (vs found : List RawTerm) (below : List Frame) (u : RawTerm) (r : Turn)
     → Holds M n t0 xs (vs ++ found) below u → Becomes (vs ++ found) found u r → After M n t0 xs (vs ++ found) below r
-after_fired M n t0 xs vs found below u (turn.Open g) h b = rw b h
-after_fired M n t0 xs vs found below u (turn.Normal t) h b =
-    let s = stands_behind vs found b.1.0 t b.1.1 in (rw b.0 h, h.values s.0 t s.1)
-after_fired M n t0 xs vs found below u (turn.Full t) h b = rw b h
-after_fired M n t0 xs vs found below u (turn.Deep t) h b = absurd b
+after_fired M n m d t0 xs vs found below u (turn.Open g) h b = rw b h
+after_fired M n m d t0 xs vs found below u (turn.Normal t) h b =
+    let k : Holds M n t0 xs (vs ++ found) below t = rw b.0 h in (
+      k,
+      ⊎_elim (λ y. let s = stands_behind vs found y.0 t y.1 in h.values s.0 t s.1)
+          (λ y. flat_normal M (Fails M n) d.free.signature d.tops t y (ground_here M n m d t0 xs (vs ++ found) below t k))
+          b.1,
+    )
+after_fired M n m d t0 xs vs found below u (turn.Full t) h b = rw b h
+after_fired M n m d t0 xs vs found below u (turn.Deep t) h b = absurd b
 
 pub turn_fired : (M : Module) (n : ℕ) {sig : Signature} (m : Equations) (d : Describes M n sig m) (t0 : RawTerm) (old new : Track) (below : List Frame) (f i : ℕ) (st : Equation) (found : List RawTerm) (ts : RawTerms) (r : Turn)
     → slice_get (listed m f) i ≡ Some st → length found ≡ length st.sorts → fill_all found st.left ≡ ts → HaveSorts sig found st.sorts → IsWellNumbered st → needed old.items ≡ length old.values
@@ -143,7 +148,7 @@ pub turn_fired : (M : Module) (n : ℕ) {sig : Signature} (m : Equations) (d : D
 turn_fired M n m d t0 old new below f i st found ts r l c e have w q fit h ns x y b =
     let a = turn_applied M n m d t0 old.items old.values below f i st found ts l c e have h w q fit ns x in
     let b' = rw y.values at b in
-    rw (y.items, y.values) (after_fired M n t0 _ old.values found below _ r a b')
+    rw (y.items, y.values) (after_fired M n m d t0 _ old.values found below _ r a b')
 
 pub counted_right : (m : ℕ) (k : Track) (full : Bool) (r : Turn) → IsRight k.values full r → stepped k.items ≤ m → (full ≡ true → stepped k.items ≡ m) → (full ≡ false → stepped k.items ≢ m) → IsCounted m k r
 counted_right m k full (turn.Open g) i l e n = let d = n i.0 in (omega (arith, l, d), i.1, i.2)

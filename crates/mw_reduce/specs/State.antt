@@ -9,7 +9,7 @@ use Rattle.mw_logic.specs.Accepted.{IsAccepted}
 use Rattle.mw_logic.specs.Judgements.{Held, Fails, IsNormalBy}
 use Rattle.mw_machine.specs.Plain.{IsFreeModule}
 use Rattle.mw_logic.specs.NormalForm.{height}
-use Rattle.mw_machine.specs.Machine.{here, Fires, NoneAtTop, NoFlatLeft, At}
+use Rattle.mw_machine.specs.Machine.{here, Fires, IsFlat, NoneAtTop, NoFlatLeft, At}
 use Rattle.mw_machine.specs.Positions.{fill, fill_all}
 use Rattle.mw_machine.specs.Simple.{IsSimpleSignature, HaveSorts}
 use Rattle.mw_pattern.specs.Clean.{clean}
@@ -78,7 +78,7 @@ Counts k = needed k.items ≡ length k.values
 -- what an equation's step leaves: the right side's instance, as a frame or as a term
 abbrev pub Becomes : List RawTerm → List RawTerm → RawTerm → Turn → Type 0
 Becomes vs found u (turn.Open g) = here (opened vs g) ≡ u
-Becomes vs found u (turn.Normal t) = (t ≡ u) × Stands found t
+Becomes vs found u (turn.Normal t) = (t ≡ u) × (Stands found t ⊎ IsFlat t)
 Becomes vs found u (turn.Full t) = t ≡ u
 Becomes vs found u (turn.Deep t) = ⊥
 

@@ -1,6 +1,6 @@
 // The next argument of a frame.
 ghost use Rattle.std.specs.Prelude.{◌≡◌, ◌≤◌, ◌-◌, length, List, IfOk, MatchOption, drop};
-ghost use Rattle.mw_logic.specs.Term.{RawTerm};
+ghost use Rattle.mw_logic.specs.Term.{RawTerm, quoted as quote};
 ghost use Rattle.mw_machine.specs.Machine.{IsFlat};
 ghost use Rattle.mw_machine.specs.Positions.{AreWithin};
 ghost use Rattle.mw_pattern.specs.Clean.{clean_all};
@@ -9,7 +9,7 @@ ghost use Rattle.mw_reduce.specs.Stack.{IsNext, IsNextPattern, IsNextGiven, Fits
 use crate::frame::{Frame, Next, Todo};
 use crate::spares::Spares;
 use mw_pattern::Pattern;
-use mw_term::{Term, View, copy};
+use mw_term::{Name, Term, View, copy, copy_name};
 use std::alloc::{AllocError, Global};
 
 /// The values of one statement, which begin at a position.
@@ -18,6 +18,14 @@ pub fn behind(values: &[Term], base: usize) -> &[Term]
     ensures { result.now ≡ drop base values.now }
 {
     &values[base..]
+}
+
+/// The quoted identifier of a name.
+pub fn quoted(alloc: Global, name: &Name) -> Result<Term, AllocError>
+    ensures { IfOk result (λ t. t ≡ quote name.now) }
+{
+    let name = copy_name(alloc, name)?;
+    Term::quoted(alloc, name)
 }
 
 /// The frame in which a term's arguments are reduced. None for a term that is no operator on arguments.
@@ -73,6 +81,14 @@ fn next_pattern<'m>(
         Some(Pattern::Var(i)) => {
             let own = behind(values, base);
             let t = copy(&own[*i])?;
+            Ok(Next::Value(t))
+        }
+        Some(Pattern::Nat(number)) => {
+            let t = Term::numeral(alloc, *number)?;
+            Ok(Next::Value(t))
+        }
+        Some(Pattern::Qid(name)) => {
+            let t = quoted(alloc, name)?;
             Ok(Next::Value(t))
         }
         Some(Pattern::Op(f, args)) => {

@@ -16,7 +16,7 @@ ghost use Rattle.mw_reduce.specs.State.{Fitting, NoneFits, Describes, Holds, Aft
 ghost use Rattle.mw_reduce.specs.declared.frame.Frame.{Frame as FrameOf};
 
 use crate::frame::{Frame, Todo, Turn};
-use crate::next::behind;
+use crate::next::{behind, quoted};
 use mw_least::Ctx;
 use mw_match::{all_match, have_sorts};
 use mw_pattern::{Equation, Equations, Pattern, depth_at, instance};
@@ -134,6 +134,14 @@ fn right<'m>(
             let t = copy(&own[*i])?;
             Ok(Turn::Normal(t))
         }
+        Pattern::Nat(number) => {
+            let t = Term::numeral(alloc, *number)?;
+            Ok(Turn::Normal(t))
+        }
+        Pattern::Qid(name) => {
+            let t = quoted(alloc, name)?;
+            Ok(Turn::Normal(t))
+        }
     }
 }
 
@@ -161,13 +169,13 @@ pub fn turn<'m>(
     let first = find(context, equations, op, done.as_slice(), found)?;
     match first {
         None => {
-            let t = Term::apply_from(alloc, op, done)?;
+            let t = Term::apply_behind(alloc, op, done, 0)?;
             Ok(Turn::Normal(t))
         }
         Some(statement) => {
             let depth = depth_at(&statement.right, found.as_slice()) as u64;
             if depth.saturating_add(level as u64) > DEEPEST {
-                let part = Term::apply_from(alloc, op, done)?;
+                let part = Term::apply_behind(alloc, op, done, 0)?;
                 return Ok(Turn::Deep(part));
             }
             let next = fire(alloc, statement, kept, found, done, limit)?;

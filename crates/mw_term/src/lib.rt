@@ -15,13 +15,14 @@
 //! least of theirs; that none does never is said wrongly. So up to 63 operators are told from each other, and from
 //! all of them those that each kind has from the start, whose numbers come last.
 //!
-//! Proved, over the logic's terms and lists: `copy`, `copy_name`, `same`, `number_at`, `numbered` and `is_ground` give
-//! what their names say; `view` shows the term (`viewed`, specs/Shapes), `into_args` gives its arguments, and
-//! `apply_from` takes those of a term that comes out of a list; `depth` is the term's height, or 65,535 where that is
-//! more; `operators` is `operators_in` of specs/OperatorSets, and `may_have` is false exactly where the remainders or
-//! the numbers are apart (`AreApart`), so that none that is sought stands in the term (proofs/OperatorSets); `compare`
-//! is the order of terms of mw_logic (`compare_terms`): numerals by value, quoted identifiers by bytes, operators by
-//! number, by how many arguments they have and by these from the left, variables by name and sort.
+//! Proved, over the logic's terms and lists: `copy`, `copy_name`, `same`, `number_at`, `numbered` and `is_ground`
+//! give what their names say; `view` shows the term (`viewed`, specs/Shapes), `into_args` gives its arguments, and
+//! `apply_behind` takes those of a term that comes out of the end of a list; `behind` is what stands in a list from a
+//! place on; `depth` is the term's height, or 65,535 where that is more; `operators` is `operators_in` of
+//! specs/OperatorSets, and `may_have` is false exactly where the remainders or the numbers are apart (`AreApart`), so
+//! that none that is sought stands in the term (proofs/OperatorSets); `compare` is the order of terms of mw_logic
+//! (`compare_terms`): numerals by value, quoted identifiers by bytes, operators by number, by how many arguments they
+//! have and by these from the left, variables by name and sort.
 //!
 //! Cost: `copy`, `depth` and `operators` are no walks; `compare` and `same` end at the first difference; `into_args`
 //! moves the arguments of a node that nobody else holds, and counts those of another. Want of memory is the only error.
@@ -49,7 +50,7 @@ pub use signature::{Declaration, Gather, Identity, Operator, Signature, Sorted};
 pub use statement::{Fragment, Statement};
 use std::alloc::AllocError;
 pub use subst::{Binding, Subst};
-pub use term::{Term, View, copy, depth};
+pub use term::{Term, View, behind, copy, depth};
 
 /// An operator's number in its signature, from 1.
 pub type OpId = u32;

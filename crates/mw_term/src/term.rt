@@ -1,5 +1,6 @@
 // Terms that share their parts.
-ghost use Rattle.std.specs.Prelude.{◌≡◌, ◌+◌, ◌-◌, ◌^◌, List, [], min, IfOk};
+ghost use Rattle.std.specs.Prelude.{◌≡◌, ◌+◌, ◌++◌, ◌-◌, ◌≤◌, ◌^◌, min};
+ghost use Rattle.std.specs.Prelude.{List, [], take, drop, length, option_to_list, IfOk, IfNone, OnSome};
 ghost use Rattle.mw_logic.specs.Term.{RawTerm, numeral, quoted, variable, apply as applied};
 ghost use Rattle.mw_logic.specs.Terms.{args_of, terms_of};
 ghost use Rattle.mw_logic.specs.NormalForm.{height};
@@ -12,7 +13,6 @@ use crate::numeral::Numeral;
 use crate::{Name, OpId, Operators, VarId};
 use std::alloc::{AllocError, Global};
 use std::marker::Model;
-use std::mem::replace;
 use std::slice;
 use std::sync::Arc;
 
@@ -103,6 +103,45 @@ fn facts_in(args: &[Term]) -> Facts
     all
 }
 
+/// The operator on a list of arguments, which it keeps.
+fn many(alloc: Global, operator: OpId, args: Vec<Term>) -> Result<Term, AllocError>
+    ensures { IfOk result (λ t. t ≡ applied operator (terms_of args.items)) }
+{
+    let Facts {
+        remainders,
+        last,
+        depth,
+    } = facts_in(args.as_slice()).under(operator);
+    let list = Box::new(alloc, args).map_err(AllocError::from)?;
+    let term = made(alloc, remainders, Shape::Many(last, depth, operator, list))?;
+    Ok(term)
+}
+
+/// The terms from a place on. Beyond the end there are none.
+pub fn behind(terms: &[Term], from: usize) -> &[Term]
+    ensures { result.now ≡ drop from terms.now }
+{
+    if from < terms.len() {
+        &terms[from..]
+    } else {
+        &[]
+    }
+}
+
+/// Takes the last term out, where it stands from a place on.
+fn pop_behind(terms: &mut Vec<Term>, from: usize) -> Option<Term>
+    ensures items { terms.old.items ≡ terms.new.items ++ option_to_list result }
+    ensures own { drop from terms.old.items ≡ drop from terms.new.items ++ option_to_list result }
+    ensures none { IfNone result (length terms.old.items ≤ from) }
+    ensures some { OnSome result (from ≤ length terms.new.items) }
+{
+    if terms.len() > from {
+        terms.pop()
+    } else {
+        None
+    }
+}
+
 impl Term {
     /// A numeral.
     pub fn numeral(alloc: Global, number: u128) -> Result<Term, AllocError>
@@ -132,35 +171,41 @@ impl Term {
         ensures { IfOk result (λ t. t ≡ applied operator (terms_of args.items)) }
     {
         let mut args = args;
-        let term = Term::apply_from(alloc, operator, &mut args)?;
+        if args.len() > 2 {
+            let term = many(alloc, operator, args)?;
+            return Ok(term);
+        }
+        let term = Term::apply_behind(alloc, operator, &mut args, 0)?;
         Ok(term)
     }
 
-    /// The operator on the terms of a list, which are taken out of it. The list keeps its room where it has one or two;
-    /// for want of memory it may have lost them.
-    pub fn apply_from(
+    /// The operator on the terms of a list that stand from a place on, which are taken out of it. Up to two take no
+    /// list of their own, more take one of exactly that many. For want of memory the list may have lost them.
+    pub fn apply_behind(
         alloc: Global,
         operator: OpId,
-        args: &mut Vec<Term>,
+        terms: &mut Vec<Term>,
+        from: usize,
     ) -> Result<Term, AllocError>
-        ensures is { IfOk result (λ t. t ≡ applied operator (terms_of args.old.items)) }
-        ensures taken { IfOk result (λ _. args.new.items ≡ []) }
+        ensures is { IfOk result (λ t. t ≡ applied operator (terms_of (drop from terms.old.items))) }
+        ensures taken { IfOk result (λ _. terms.new.items ≡ take from terms.old.items) }
     {
+        if terms.len().saturating_sub(from) > 2 {
+            let args = terms.split_off(from)?;
+            let term = many(alloc, operator, args)?;
+            return Ok(term);
+        }
         let Facts {
             remainders,
             last,
             depth,
-        } = facts_in(args.as_slice()).under(operator);
-        if args.len() > 2 {
-            let list = replace(args, Vec::new(alloc));
-            let list = Box::new(alloc, list).map_err(AllocError::from)?;
-            let term = made(alloc, remainders, Shape::Many(last, depth, operator, list))?;
-            return Ok(term);
-        }
-        let shape = match (args.pop(), args.pop()) {
-            (Some(second), Some(first)) => Shape::Two(last, depth, operator, [first, second]),
-            (Some(only), None) => Shape::One(last, depth, operator, only),
-            _ => Shape::Constant(last, depth, operator),
+        } = facts_in(behind(terms.as_slice(), from)).under(operator);
+        let shape = match pop_behind(terms, from) {
+            None => Shape::Constant(last, depth, operator),
+            Some(second) => match pop_behind(terms, from) {
+                None => Shape::One(last, depth, operator, second),
+                Some(first) => Shape::Two(last, depth, operator, [first, second]),
+            },
         };
         let term = made(alloc, remainders, shape)?;
         Ok(term)

@@ -16,7 +16,7 @@ use Rattle.mw_build.specs.Equations.{AreEquations, FirstFault}
 use Rattle.mw_build.specs.SignatureFaults.{SignatureFault}
 use Rattle.mw_build.specs.Modules.{IsRefused, by_signature, by_equations}
 use Rattle.mw_build.proofs.Accepting.{grammar_held, accepted_by}
-use Rattle.mw_build.proofs.Readable.{readable_declared, sorted_variables, variables_declared}
+use Rattle.mw_build.proofs.Readable.{readable_declared, sorted_variables, variables_declared, bare_declared}
 use Rattle.mw_build.proofs.Sides.{workable_module}
 use Rattle.mw_build.proofs.modules.declared_module.Goals as goal
 
@@ -94,7 +94,7 @@ module_of-requires-clause-workable c =
     let u = seen_unit c.args.unit.now in
     let d = c.args.declarations.value in
     subst (λ (S : Signature). IsWorkable (record { signature = S; statements = c.in_ok-statements.statements })) (sym c.in_ok-signed.ensures.facts)
-    (workable_module d.signature (preregular c) c.requires.sorts d.variables (sorted_variables u.statements d c.requires.declared) (equations_of u.statements) c.in_ok-statements.statements (equations c))
+    (workable_module d.signature (preregular c) c.requires.sorts d.variables (sorted_variables u.statements d c.requires.declared) (bare_declared u.statements d c.requires.declared) (equations_of u.statements) c.in_ok-statements.statements (equations c))
 
 pub module_of-requires-clause-grammar : goal.module_of-requires-clause-grammar
 module_of-requires-clause-grammar c = grammar_held _ _ _ _ _ _

@@ -1,5 +1,5 @@
 use Rattle.std.proofs.Common.{◌≡◌, ◌≤◌, ◌<◌, length, List, ap, sym, ◌∙◌, subst, arith, refl, get_or, true, false, ◌++◌, [], ◌∷◌}
-use Rattle.mw_logic.specs.Term.{RawTerm, RawTerms, variable}
+use Rattle.mw_logic.specs.Term.{RawTerm, RawTerms, numeral, quoted, variable}
 use Rattle.mw_logic.specs.NormalForm.{highest}
 use Rattle.mw_machine.specs.Positions.{position, fill, fill_all, counted, counted_all, AreNumbered, IsNumbered, Begins}
 use Rattle.mw_logic.specs.Terms.{terms_of}
@@ -7,7 +7,7 @@ use Rattle.mw_pattern.specs.Clean.{clean, clean_all}
 use Rattle.mw_match.specs.Matching.{Decides}
 use Rattle.mw_pattern.proofs.Lists.{got}
 use Rattle.mw_machine.proofs.Begins.{begins_same, begins_then, begins_append}
-use Rattle.mw_match.proofs.Matching.{lengths_differ, matching_starts, numbered_here, pattern_height, matching_on, matching_fails, decides_var_old, decides_var_new}
+use Rattle.mw_match.proofs.Matching.{lengths_differ, matching_starts, numbered_here, pattern_height, matching_on, matching_fails, decides_same, decides_var_old, decides_var_new}
 use Rattle.mw_match.proofs.by_position.+matches.Goals as goal
 
 pub all_match-returns-then-n-terms-clause-decides : goal.all_match-returns-then-n-terms-clause-decides
@@ -60,7 +60,27 @@ all_match-returns-then-not-branch-clause-decides t c =
     let P : RawTerms → Type 0 = λ ps. Decides false (counted_all (length old) ps) old old (λ us. fill_all us ps ≡ terms_of c.args.terms.now) in
     subst P e (matching_fails old _ c.matches.new.values.items old _ _ _ _ _ c.loop-i-test.true c.index-list-i.is c.index-terms-i.is d c.loop-i.invariant.1)
 
+pub matches-returns-in-Nat-clause-decides : goal.matches-returns-in-Nat-clause-decides
+matches-returns-in-Nat-clause-decides t c =
+    let old : List RawTerm = c.args.values.now.items in
+    let e : clean c.args.pattern.now ≡ numeral c.in-Nat.number = ap clean c.in-Nat.is in
+    let d = decides_same old (length old) (numeral c.in-Nat.number ≡ c.args.term.now) c.is_numeral.result c.is_numeral.ensures in
+    subst (λ p. Decides c.is_numeral.result (counted (length old) p) old old (λ us. fill us p ≡ c.args.term.now)) (sym e) d
+
+pub matches-returns-in-Qid-clause-decides : goal.matches-returns-in-Qid-clause-decides
+matches-returns-in-Qid-clause-decides t c =
+    let old : List RawTerm = c.args.values.now.items in
+    let e : clean c.args.pattern.now ≡ quoted c.in-Qid.name = ap clean c.in-Qid.is in
+    let d = decides_same old (length old) (quoted c.in-Qid.name ≡ c.args.term.now) c.is_quoted.result c.is_quoted.ensures in
+    subst (λ p. Decides c.is_quoted.result (counted (length old) p) old old (λ us. fill us p ≡ c.args.term.now)) (sym e) d
+
 -- the values that were there stay in front
+pub matches-returns-in-Nat-clause-kept : goal.matches-returns-in-Nat-clause-kept
+matches-returns-in-Nat-clause-kept t c = begins_same c.args.values.now.items
+
+pub matches-returns-in-Qid-clause-kept : goal.matches-returns-in-Qid-clause-kept
+matches-returns-in-Qid-clause-kept t c = begins_same c.args.values.now.items
+
 pub all_match-returns-then-n-terms-clause-kept : goal.all_match-returns-then-n-terms-clause-kept
 all_match-returns-then-n-terms-clause-kept t c = begins_same c.args.values.now.items
 

@@ -28,7 +28,7 @@ returns c =
     let ts = terms_of c.args.done.now in
     let d = rw c.if-not-branch.false at c.in_ok-all_match.ensures.decides in
     let n = c.in_ok-all_match.ensures.count c.if-not-branch.false in
-    let k' = subst (λ us. IsSimpleSignature sig → AreGround sig us → (IsTrue c.have_sorts.result ↔ HaveSorts sig us c.as_slice-sorts.result.now)) c.as_slice.ensures.value c.have_sorts.ensures in
+    let k' = subst (λ us. IsSimpleSignature sig → AreGround sig us → (IsTrue c.have_sorts.result ↔ HaveSorts sig us c.as_slice-sorts.result.now)) c.as_slice.ensures.value c.have_sorts.ensures.simple in
     let k'' = subst (λ Ss. IsSimpleSignature sig → AreGround sig vs → (IsTrue c.have_sorts.result ↔ HaveSorts sig vs Ss)) c.as_slice-sorts.ensures k' in
     record {
       there = λ h. (

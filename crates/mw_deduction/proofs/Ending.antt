@@ -1,0 +1,60 @@
+-- What a run to a normal term shows: a side's evaluation; and final terms by their flattened parts.
+use Rattle.std.specs.Prelude.{◌≡◌, ℕ, zero, suc, [], true, IsTrue}
+use Rattle.std.proofs.Common.{subst, arith}
+use Rattle.mw_logic.specs.Term.{RawTerm}
+use Rattle.mw_logic.specs.Signature.{IsRawTerm}
+use Rattle.mw_logic.specs.Axioms.{EqualModulo}
+use Rattle.mw_logic.specs.Accepted.{IsAccepted, IsWellSorted}
+use Rattle.mw_logic.specs.Substitution.{Substitution, IsSolution}
+use Rattle.mw_logic.specs.Parts.{nested}
+use Rattle.mw_logic.specs.NormalForm.{normal_form}
+use Rattle.mw_logic.specs.CanonicalPart.{IsPartOf}
+use Rattle.mw_logic.specs.Module.{Module, Statement, IsStatement}
+use Rattle.mw_logic.specs.Proof.{Proof, equality, transitivity, rules}
+use Rattle.mw_logic.specs.Judgements.{judgements_with, judgements, Leads, AdmittedStep, Evaluates, IsNormal, Fails}
+use Rattle.mw_logic.specs.Ends.{IsFinal}
+use Rattle.mw_logic.proofs.AxiomLaws.{sym as back}
+use Rattle.mw_logic.proofs.EqualTerms.{IsNormal-equal}
+use Rattle.mw_logic.proofs.Soundness.{normal_form-sound}
+use Rattle.mw_logic.proofs.RawKept.{raw_kept}
+use Rattle.mw_logic.proofs.Inside.{raw_inside}
+use Rattle.mw_logic.proofs.PartsOfNormalForm.{part_kept}
+use Rattle.mw_logic.proofs.SolutionLaws.{solution_kept}
+use Rattle.mw_logic.specs.Axioms.{done}
+use Rattle.mw_logic.proofs.Ranks.{Leads-weaker}
+use Rattle.mw_logic.specs.Parts.{ReplacesPart}
+use Rattle.mw_deduction.specs.Chains.{proof_of}
+use Rattle.mw_deduction.specs.Reading.{Reading}
+use Rattle.mw_deduction.specs.Standing.{At}
+
+by_rank : (M : Module) → IsAccepted M.signature → (n : ℕ) (side : RawTerm) (p : Proof) (u : RawTerm) → IsRawTerm M.signature side
+    → Leads M (ReplacesPart M.signature) (judgements M n).Held (judgements M n).Fails [] p (nested M.signature (normal_form M.signature side)) u → (judgements M n).Proves (transitivity equality p) side u
+unfolding judgements_with
+by_rank M ok zero side p u r l = (_, normal_form-sound M.signature ok r, l)
+by_rank M ok (suc n) side p u r l = (_, normal_form-sound M.signature ok r, l)
+
+-- A side that was reduced to a normal term evaluates to a term equal to that, by equality and the replacements that were read.
+pub side_evaluates : (M : Module) → IsAccepted M.signature → (n : ℕ) (side : RawTerm) (R : Reading) (t : RawTerm) → IsRawTerm M.signature side
+    → At M (judgements M n).Held (judgements M n).Fails (nested M.signature (normal_form M.signature side)) R [] t → rules (proof_of R.done) ≡ 0 → IsNormal M n (nested M.signature t)
+    → (a : RawTerm) × EqualModulo M.signature a (nested M.signature t) × Evaluates (judgements M n) side (transitivity equality (proof_of R.done)) a
+side_evaluates M ok n side R t r at z normal = (
+  at.whole,
+  at.is,
+  record {
+    proves = by_rank M ok n side (proof_of R.done) at.whole r (Leads-weaker M (judgements M n).Held (judgements M n).Fails (AdmittedStep M) (ReplacesPart M.signature) (λ b t w v u x. x.0) (proof_of R.done) [] _ _ at.leads);
+    equational = omega (arith, z);
+    normal = IsNormal-equal M n (back at.is) normal;
+  },
+)
+
+-- A normal term is final where, at each part for rules of its flattened form, each rule's every solution fails.
+pub final_found : (M : Module) → IsAccepted M.signature → IsWellSorted M.signature → (u : RawTerm) → IsRawTerm M.signature (nested M.signature u) → normal_form M.signature (nested M.signature u) ≡ u → IsNormal M 63 (nested M.signature u)
+    → ((w : RawTerm) → IsPartOf M.signature true u w → (k : ℕ) (r : Statement) → IsStatement M k r → IsTrue r.rule → (s : Substitution) → IsSolution M.signature r.left (nested M.signature w) [] s → Fails M 63 r.fragments s)
+    → IsFinal M (nested M.signature u)
+final_found M ok sorted u raw k normal tried = record {
+  normal = normal;
+  no_rule = λ C w p number r is rule s sol.
+      let q : IsPartOf M.signature true (normal_form M.signature (nested M.signature u)) (normal_form M.signature w) = part_kept M.signature ok C w (λ t. p.not_frozen) raw p.part in
+      let z : IsRawTerm M.signature w = raw_inside M.signature ok C w ((raw_kept M.signature ok p.part.equal).0 raw) in
+      tried (normal_form M.signature w) (subst (λ x. IsPartOf M.signature true x (normal_form M.signature w)) k q) number r is rule s (solution_kept M.signature ok sorted done (normal_form-sound M.signature ok z) sol);
+}

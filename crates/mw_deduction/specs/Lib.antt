@@ -1,0 +1,13 @@
+pub mod Tops
+pub mod Places
+pub mod Chains
+pub mod Reading
+pub mod Standing
+pub mod Runs
+pub mod RunCode
+pub mod Replay
+pub mod Stands
+pub mod Frontier
+pub mod Above
+pub mod Joined
+pub mod Under

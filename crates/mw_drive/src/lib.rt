@@ -1,0 +1,27 @@
+//! Reduction with equations, modulo the axioms of any accepted signature, and the deduction that it keeps.
+//!
+//! `reduce` answers a `Proved` of mw_kept and an [`Outcome`]. Proved, over `IsReductionOf` (specs/Reductions):
+//!
+//! - the `Proved` is a deduction over the context's module, from the given term, by equations alone, and proves what it
+//!   says at the rank that is the budget's `nest`;
+//! - `Done`: it took fewer steps than the limit, and ends at a term that is normal modulo the axioms;
+//! - `Stopped`: it stops there for the reason that is answered: it took as many steps as the limit, or fewer, and a
+//!   next step exists whose term is deeper than 1,000.
+//!
+//! A turn is a step of mw_frames, and where that asks for statements, the first choice of mw_index; where there is none
+//! the term rests, for it is normal. `drive` turns until a choice is found, and applies it, as often as the limit says
+//! (`IsDriven`, specs/Driven).
+//!
+//! Conditions: the index is one of the context's module, the term is canonical and admitted, `nest` is at most 63. Want
+//! of memory is the only error. No clause says which of several equations that apply is taken, nor in which order parts
+//! are reduced; the code goes from inside out and from the left.
+//!
+//! Neither proved nor tested: time and memory, and that an answer comes with memory at hand.
+#![tactic(auto)]
+
+mod drive;
+mod reducing;
+mod turning;
+
+pub use drive::Outcome;
+pub use reducing::{Budget, reduce};

@@ -1,0 +1,83 @@
+-- What is known of a right side that comes where an equation is applied.
+use Rattle.std.specs.Prelude.{◌≡◌, ◌≤◌, ◌<◌, ◌+◌, ◌↔◌, ℕ, List, ◌++◌, length, drop, Bool, true, false, IsTrue, IsFalse, refl}
+use Rattle.std.proofs.Common.{sym, subst, ap, ◌∙◌, arith, ⊎_elim}
+use Rattle.std.proofs.lemmas.Bool.{both_ways, cases_lt}
+use Rattle.std.proofs.Math.Seq.{drop-append_seam}
+use Rattle.mw_logic.specs.Term.{RawTerm, RawTerms, numeral, quoted, variable, apply}
+use Rattle.mw_logic.specs.Signature.{Signature}
+use Rattle.mw_matching.specs.Matches.{evaluated}
+use Rattle.mw_pattern.specs.Clean.{clean}
+use Rattle.mw_frames.specs.declared.applying.Applied.{Applied}
+use Rattle.mw_frames.specs.declared.job.Job.{Job}
+use Rattle.mw_frames.specs.declared.job.Job.TheVariants.{Try}
+use Rattle.mw_frames.specs.Jobs.{instance_of}
+use Rattle.mw_frames.specs.State.{Run, Data, IsRun, InHand, Settled, IsKnownIn}
+use Rattle.mw_logic.specs.NormalForm.{height}
+use Rattle.mw_frames.specs.Redex.{HasOnTop, hole_level}
+use Rattle.mw_frames.specs.Fires.{IsApplied}
+use Rattle.mw_frames.specs.Arrivals.{Comes, IsNewFrame, level_over}
+use Rattle.mw_logic.specs.Module.{Module}
+use Rattle.mw_logic.proofs.CanonicalTerms.{not_successor}
+use Rattle.mw_stack.specs.Own.{spread}
+use Rattle.mw_deduction.specs.Replay.{Move}
+use Rattle.mw_frames.specs.declared.job.Frame.{Frame}
+use Rattle.mw_frames.specs.Taking.{Receives}
+use Rattle.mw_frames.proofs.OpeningAmong.{come_settled}
+use Rattle.mw_frames.proofs.FiringHere.{top_positive, right_known_here, free_right_known_here}
+
+-- a test of levels, which are those
+pub tested : (b : Bool) (n m : ℕ) → n ≡ m → IsTrue b ↔ (n ≤ 1000) → (IsTrue b → m ≤ 1000) × (IsFalse b → 1000 < m)
+tested b n m e h = (
+  λ t. subst (λ k. k ≤ 1000) e (h.0 t),
+  λ f. ⊎_elim (λ l. l) (λ g. absurd (both_ways _ f (h.1 (subst (λ k. k ≤ 1000) (sym e) g)))) (cases_lt 1000 m),
+)
+
+-- the levels where a right side comes were tested
+pub tested_there : (sig : Signature) (hole fs : List Frame) (us vs : List RawTerm) (p : RawTerm) (b : Bool) → us ≡ vs → ((t : RawTerm) → hole_level sig hole t ≡ hole_level sig fs t)
+    → IsTrue b ↔ (hole_level sig hole (evaluated sig us p) + height (evaluated sig us p) ≤ 1000)
+    → (IsTrue b → hole_level sig fs (evaluated sig vs p) + height (evaluated sig vs p) ≤ 1000) × (IsFalse b → 1000 < hole_level sig fs (evaluated sig vs p) + height (evaluated sig vs p))
+tested_there sig hole fs us vs p b e inner h =
+    tested b _ _ (ap (λ zs. hole_level sig hole (evaluated sig zs p) + height (evaluated sig zs p)) e ∙ ap (λ n. n + height (evaluated sig vs p)) (inner (evaluated sig vs p))) h
+
+-- a new frame, of its own operator
+pub same_frame : (sig : Signature) (fs : List Frame) (ds : List RawTerm) (js : List Job) (g : ℕ) (f : Frame) → IsNewFrame sig fs ds js g f → IsNewFrame sig fs ds js f.op f
+same_frame sig fs ds js g f h = record { operator = refl; level = subst (λ o. f.level ≡ level_over sig fs o) (sym h.operator) h.level; from = h.from; waits = h.waits }
+
+-- its values come behind others
+pub instance_behind : (sig : Signature) (us vs ws : List RawTerm) (p : RawTerm) (base : ℕ) → ws ≡ us ++ vs → base ≡ length us → instance_of sig ws p base ≡ evaluated sig vs p
+instance_behind sig us vs ws p base e b = ap (λ zs. evaluated sig zs p) (ap (λ zs. drop base zs) e ∙ ap (λ n. drop n (us ++ vs)) b ∙ drop-append_seam us vs)
+
+module _ (K : Run) (sig : Signature) (run : IsRun K sig) (count : ℕ) (m : Data) (w : RawTerm) (h : InHand K count m (Try w)) where
+  pub known_applied : (e : Applied) (vs : List RawTerm) → IsApplied K.over e vs w → (top b : ℕ) → HasOnTop top w → (((f : ℕ) (ts : RawTerms) → w ≡ apply f ts → ⊥) → top ≡ 1) → (IsTrue e.sure → b ≡ 0) → (IsFalse e.sure → b ≡ top)
+      → IsKnownIn K.over K.rank (m.values ++ vs) (length m.values) b (clean e.right.now)
+  known_applied e vs a top b on leaf s u = by_sure e.sure refl
+    where
+      Known : ℕ → Type 0
+      Known n = IsKnownIn K.over K.rank (m.values ++ vs) (length m.values) n (clean e.right.now)
+
+      positive : 0 < top
+      positive = by_shape w refl
+        where
+          one : ((f : ℕ) (ts : RawTerms) → w ≡ apply f ts → ⊥) → 0 < top
+          one none = let z = leaf none in omega (arith, z)
+
+          by_shape : (t : RawTerm) → w ≡ t → 0 < top
+          by_shape (numeral n) q = one (λ f ts r. let z : numeral n ≡ apply f ts = sym q ∙ r in cc)
+          by_shape (quoted n) q = one (λ f ts r. let z : quoted n ≡ apply f ts = sym q ∙ r in cc)
+          by_shape (variable x) q = one (λ f ts r. let z : variable x ≡ apply f ts = sym q ∙ r in cc)
+          by_shape (apply f ts) q =
+              subst (λ g. 0 < g) (on f ts q) (top_positive K sig run count m.values m.moves m.frames m.done m.jobs e.number vs (clean e.right.now) w h a.redex f ts q)
+
+      by_sure : (c : Bool) → e.sure ≡ c → Known b
+      by_sure true q =
+          let (f, ps, p, free) = a.sure q in
+          subst Known (sym (s q)) (free_right_known_here K sig run count m.values m.moves m.frames m.done m.jobs e.number vs (clean e.right.now) w h a.redex f ps p free)
+      by_sure false q = subst Known (sym (u q)) (right_known_here K sig run count m.values m.moves m.frames m.done m.jobs e.number vs (clean e.right.now) w h a.redex top positive on)
+
+-- What came for several arguments comes among the others.
+module _ (K : Run) (sig : Signature) (run : IsRun K sig) (count : ℕ) where
+  pub several_settled : (vs : List RawTerm) (ms : List Move) (f : Frame) (fs : List Frame) (ds ds' : List RawTerm) (js js' : List Job) (t : RawTerm) (Known : Module → ℕ → Type 0)
+      → Receives K count (record { frames = fs; done = ds; jobs = js; values = vs; moves = ms }) f t → Known K.over K.rank → Comes K.over.signature vs f (spread K.over.signature f.op t) Known ds ds' js js'
+      → Settled K count (record { frames = fs; done = ds'; jobs = js'; values = vs; moves = ms }) f
+  several_settled vs ms f fs ds ds' js js' t Known r known comes =
+      come_settled K count run.accepted run.sorted vs ms f fs ds ds' js js' r.stand t Known r.leads r.opened r.level r.hand r.fair r.canonical (not_successor K.over.signature run.accepted f.op r.assoc) r.good known comes

@@ -1,0 +1,14 @@
+pub mod Fair
+pub mod Jobs
+pub mod State
+pub mod Machines
+pub mod Steps
+-- An equation that applies to a term.
+pub mod Redex
+-- Terms in which no operator has an axiom.
+pub mod Free
+-- Several arguments are taken.
+pub mod Taking
+pub mod Arrivals
+-- What comes where an equation is applied.
+pub mod Fires

@@ -1,0 +1,75 @@
+-- An equation that applies to a term, and where the term stands.
+use Rattle.std.specs.Prelude.{◌≡◌, ◌≤◌, ◌<◌, ℕ, ◌+◌, List, [], ◌∷◌, length, ⊤}
+use Rattle.std.specs.List.{zip}
+use Rattle.mw_logic.specs.Term.{RawTerm, RawTerms, apply, plug}
+use Rattle.mw_logic.specs.Signature.{Signature, IsRawTerm}
+use Rattle.mw_logic.specs.Substitution.{IsSolution}
+use Rattle.mw_logic.specs.Parts.{nested, IsTooDeep}
+use Rattle.mw_logic.specs.NormalForm.{normal_form, height}
+use Rattle.mw_logic.specs.Module.{Module, Statement, IsStatement}
+use Rattle.mw_canon.specs.Canonical.{meant}
+use Rattle.mw_machine.specs.Simple.{AreSides}
+use Rattle.mw_machine.specs.Variables.{placed}
+use Rattle.mw_least.specs.Workable.{IsPlainEquation}
+use Rattle.mw_solving.specs.Values.{AreValues}
+use Rattle.mw_stack.specs.Hidden.{IsHidden}
+use Rattle.mw_deduction.specs.Standing.{Open, round, IsSeen}
+use Rattle.mw_deduction.proofs.Depths.{added, level_in}
+use Rattle.mw_matching.specs.Matches.{evaluated}
+use Rattle.mw_deduction.specs.Replay.{Stand}
+use Rattle.mw_frames.specs.declared.job.Job.{Job}
+use Rattle.mw_frames.specs.declared.job.Job.TheVariants.{Try}
+use Rattle.mw_frames.specs.declared.job.Frame.{Frame}
+use Rattle.mw_frames.specs.Jobs.{term_of, AreOpened}
+use Rattle.mw_frames.specs.State.{Run, Data, Leads, InHand, IsJob}
+
+-- The equation of this number makes its left side the term w by these values of its variables; `pattern` is its right side in canonical form, with positions
+-- for the variables.
+pub record IsRedex (M : Module) (number : ℕ) (vs : List RawTerm) (pattern w : RawTerm) : Type 0 where
+  pub statement : Statement
+  pub is_there : IsStatement M number statement
+  pub plain : IsPlainEquation M.signature statement
+  pub sides : AreSides M.signature statement
+  pub size : length vs ≡ length statement.variables
+  pub values : AreValues M.signature vs
+  pub solution : IsSolution M.signature statement.left (nested M.signature w) [] (meant M.signature (zip statement.variables vs))
+  pub right : pattern ≡ placed statement.variables (normal_form M.signature statement.right)
+
+-- the operator on top is this one, or there is none
+abbrev pub HasOnTop : ℕ → RawTerm → Type 0
+HasOnTop f t = (g : ℕ) (ts : RawTerms) → t ≡ apply g ts → g ≡ f
+
+-- Frames, the innermost first: t is not hidden in its hole,
+abbrev pub IsSeenIn : Signature → List Frame → RawTerm → Type 0
+IsSeenIn sig [] t = ⊤
+IsSeenIn sig (f ∷ fs) t = ¬ IsHidden sig f.op t
+
+-- and so many levels stand above it there
+abbrev pub hole_level : Signature → List Frame → RawTerm → ℕ
+hole_level sig [] t = 0
+hole_level sig (f ∷ fs) t = added sig f.op t + f.level
+
+-- A term w over normal arguments is in hand, and seen; the equation applies to it, and its right side has no more than 1,000 levels where it comes.
+pub record MayFire (K : Run) (count : ℕ) (m : Data) (number : ℕ) (vs : List RawTerm) (pattern w : RawTerm) : Type 0 where
+  pub in_hand : InHand K count m (Try w)
+  pub seen : IsSeenIn K.over.signature m.frames w
+  pub redex : IsRedex K.over number vs pattern w
+  pub low : hole_level K.over.signature m.frames (evaluated K.over.signature vs pattern) + height (evaluated K.over.signature vs pattern) ≤ 1000
+
+-- The term v is in hand, as any job for it of which that is known.
+abbrev pub HasInHand : Run → ℕ → Data → RawTerm → Type 0
+HasInHand K count m v = (x : Job) → term_of K.over.signature m.values x ≡ v → IsJob K.over K.rank m.values x → InHand K count m x
+
+-- The term t stands in the innermost hole, whatever is known of it and of what stands beside it.
+pub record Stands (K : Run) (count : ℕ) (m : Data) (t : RawTerm) : Type 0 where
+  pub stand : Stand
+  pub leads : Leads K count m.moves stand
+  pub opened : AreOpened K.over.signature m.values m.frames m.done m.jobs stand.opens
+  pub hand : stand.hand ≡ t
+
+-- v comes into the innermost hole, is seen there, and has more than 1,000 levels: then the whole is too deep.
+pub record IsDeepThere (sig : Signature) (os : List Open) (v : RawTerm) : Type 0 where
+  pub raw : IsRawTerm sig (plug (round sig os) v)
+  pub seen : IsSeen sig os (normal_form sig v)
+  pub levels : 1000 < level_in sig (round sig os) (nested sig (normal_form sig v)) + height (normal_form sig v)
+  pub too_deep : IsTooDeep sig (plug (round sig os) v)

@@ -1,0 +1,51 @@
+//! The machine of reduction with equations, modulo the axioms of any accepted signature.
+//!
+//! A [`Machine`] holds the frames that are under way, the innermost last: operators with something in the hole. The
+//! terms that are done in all frames stand in one list (mw_stack), the jobs that wait in another, and what was done so
+//! far in a trail of mw_trail. A [`Frame`] says from where on both lists are its own. A [`Job`] is a term with what is
+//! known of it, or a part of a right side, which isn't built before it has to be. A [`Hand`] is what is looked at: a
+//! job, or a frame none of whose arguments is in hand.
+//!
+//! What contracts see is a run: a module, a rank, and where the trail leads by the moves of mw_deduction (`Holds`,
+//! specs/State): to a stand with these frames open and this term in hand, by so many replacements, all of them
+//! equations; what is done is normal, and what waits is known to be what its job says.
+//!
+//! - `step` opens a term, or puts one that is done to its operator's arguments, or takes the next that waits; or the
+//!   whole is normal (`IsEnd`); or a term over normal arguments asks for statements (`IsAskedFor`). Where it goes on,
+//!   less is left (`FallsBelow`), so steps end.
+//! - `fire` applies an equation, with values that make its left side what was asked for or several of its arguments
+//!   (`IsPartTaken`): one replacement more is made, and its right side is in hand (`IsFired`). Or `TooDeep`: the whole
+//!   would have more than 1,000 levels; then it is answered as it stands.
+//! - `rest` goes on where nothing applies to what was asked for, which then is normal.
+//! - `stop` puts the whole together (`IsWhole`).
+//! - `evaluate` is the canonical instance of a pattern (`evaluated` of mw_matching).
+//!
+//! Conditions (`IsRun`): the signature is accepted and well sorted, without numbers and built-in operators. Want of
+//! memory is the only error, and nothing is said of a machine after it.
+//!
+//! Neither proved nor tested: time and memory, in which order arguments are reduced, and that calls answer with memory
+//! at hand.
+#![tactic(auto)]
+
+mod applying;
+mod coming;
+mod firing;
+mod instances;
+mod job;
+mod looking;
+mod machine;
+mod opening;
+mod passing;
+mod resting;
+mod stepping;
+mod waiting;
+mod whole;
+
+pub use applying::{Applied, Fired, fire};
+pub use instances::evaluate;
+pub use job::{Frame, Hand, Job};
+pub use looking::{Asked, Step};
+pub use machine::Machine;
+pub use resting::rest;
+pub use stepping::step;
+pub use whole::stop;

@@ -1,0 +1,33 @@
+// The machine's data.
+ghost use Rattle.std.specs.Prelude.{◌≡◌, []};
+ghost use Rattle.mw_logic.specs.Module.{Module};
+ghost use Rattle.mw_frames.specs.Machines.{data_of};
+
+use crate::job::{Frame, Job};
+use mw_term::Term;
+use mw_trail::Trail;
+use std::alloc::Global;
+
+/// Frames with something in the hole, the innermost last; the terms that are done in all frames, what waits in all of
+/// them, and the proof so far.
+#[derive(Drop)]
+pub struct Machine<'m> {
+    pub frames: Vec<Frame>,
+    pub done: Vec<Term>,
+    pub jobs: Vec<Job<'m>>,
+    pub kept: Trail,
+}
+
+impl<'m> Machine<'m> {
+    /// Nothing is under way.
+    pub fn new(alloc: Global) -> Machine<'m>
+        ensures { (M : Module) → data_of M result ≡ record { frames = []; done = []; jobs = []; values = []; moves = [] } }
+    {
+        Machine {
+            frames: Vec::new(alloc),
+            done: Vec::new(alloc),
+            jobs: Vec::new(alloc),
+            kept: Trail::new(alloc),
+        }
+    }
+}

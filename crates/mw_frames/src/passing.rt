@@ -1,0 +1,163 @@
+// From argument to argument of a frame, and from a hole into its frame.
+ghost use Rattle.std.specs.Prelude.{◌≡◌, ◌⊎◌, ◌≤◌, ◌<◌, ◌+◌, ◌++◌, ℕ, List, suc, [], ◌∷◌, IfOk, OnOk, IsTrue, IsFalse, true, length, drop, MatchOption, reverse};
+ghost use Rattle.mw_logic.specs.Signature.{Signature};
+ghost use Rattle.mw_logic.specs.Term.{RawTerm};
+ghost use Rattle.mw_logic.specs.Module.{Module};
+ghost use Rattle.mw_logic.specs.Parts.{is_assoc as assoc_of};
+ghost use Rattle.mw_logic.specs.NormalForm.{is_comm as comm_of};
+ghost use Rattle.mw_logic.proofs.Canonical.{Each};
+ghost use Rattle.mw_deduction.specs.Replay.{into};
+ghost use Rattle.mw_trail.specs.Tracks.{moves};
+ghost use Rattle.mw_stack.specs.Own.{own, spread, IsOrdered};
+ghost use Rattle.mw_frames.specs.Jobs.{term_of, work};
+ghost use Rattle.mw_frames.specs.State.{Run, IsRun, InHand, Settled, Holds, IsDone, IsAtHand};
+ghost use Rattle.mw_frames.specs.Machines.{data_of, with_job, FallsFrom, IsCutAt};
+ghost use Rattle.mw_frames.specs.declared.job.Job.{Job as JobOf};
+ghost use Rattle.mw_frames.specs.declared.job.Frame.{Frame as FrameOf};
+
+use crate::job::{Frame, Hand, Job};
+use crate::machine::Machine;
+use crate::waiting::term_at;
+use mw_canon::{Axioms, Facts};
+use mw_stack::{close, place_of, put};
+use mw_term::{OpId, Term};
+use std::alloc::{AllocError, Global};
+
+pub(crate) fn is_assoc(facts: &Facts, operator: OpId) -> bool
+    ensures { result ≡ assoc_of facts.now operator }
+{
+    matches!(facts.axioms(operator), Axioms::Associative { .. })
+}
+
+/// How many of a frame's arguments stand before the one that comes next.
+fn before(facts: &Facts, done: &[Term], top: Frame, job: &Job<'_>) -> usize
+    ensures { (vs : List RawTerm) → (comm_of facts.now top.op ≡ true → IsAtHand job.now) → IsOrdered facts.now top.op (own top.from done.now)
+        → IsCutAt facts.now top.op (own top.from done.now) (term_of facts.now vs job.now) result }
+{
+    match term_at(job) {
+        Some(term) => place_of(facts, top.op, done, top.from, term),
+        None => done.len().saturating_sub(top.from),
+    }
+}
+
+/// Whether an argument that comes next has others beside it, where an operator that is associative needs them.
+fn stands_beside(facts: &Facts, machine: &Machine<'_>, top: Frame) -> bool
+    ensures no { IsFalse result → (assoc_of facts.now top.op ≡ true) × (length machine.now.done.items ≤ top.from) × (length machine.now.jobs.items ≤ top.waits) }
+    ensures yes { IsTrue result → assoc_of facts.now top.op ≡ true → (top.from < length machine.now.done.items) ⊎ (top.waits < length machine.now.jobs.items) }
+{
+    if machine.done.len() > top.from || machine.jobs.len() > top.waits {
+        return true;
+    }
+    !is_assoc(facts, top.op)
+}
+
+/// Into an argument of a frame, with so many before it.
+fn go_in(machine: &mut Machine<'_>, top: Frame, before: usize) -> Result<(), AllocError>
+    ensures frames { OnOk result (machine.new.frames.items ≡ machine.old.frames.items ++ top ∷ []) }
+    ensures done { OnOk result (machine.new.done.items ≡ machine.old.done.items) }
+    ensures jobs { OnOk result (machine.new.jobs.items ≡ machine.old.jobs.items) }
+    ensures values { OnOk result (machine.new.kept.values ≡ machine.old.kept.values) }
+    ensures moves { OnOk result ((M : Module) → moves M machine.new.kept ≡ moves M machine.old.kept ++ into (suc before) ∷ []) }
+{
+    let Some(number) = before.checked_add(1) else {
+        return Err(AllocError);
+    };
+    machine.kept.enter(number)?;
+    machine.frames.push(top)?;
+    Ok(())
+}
+
+/// A job that waited goes in hand. An associative operator with that argument alone is gone.
+fn enter<'m>(
+    facts: &Facts,
+    machine: &mut Machine<'m>,
+    top: Frame,
+    job: Job<'m>,
+) -> Result<Hand<'m>, AllocError>
+    ensures means { (K : Run) (k : ℕ) → IsRun K facts.now → top.waits ≤ length machine.old.jobs.items → Settled K k (with_job (data_of K.over machine.old) job.entry) top
+        → IfOk result (Holds K k (data_of K.over machine.new)) }
+    ensures falls { (M : Module) → IfOk result (FallsFrom M top (with_job (data_of M machine.old) job.entry) machine.new) }
+{
+    if !stands_beside(facts, machine, top) {
+        return Ok(Hand::One(job));
+    }
+    let before = before(facts, machine.done.as_slice(), top, &job);
+    go_in(machine, top, before)?;
+    Ok(Hand::One(job))
+}
+
+/// A job that waited comes next: it is done, or goes in hand.
+fn next<'m>(
+    alloc: Global,
+    facts: &Facts,
+    machine: &mut Machine<'m>,
+    top: Frame,
+    job: Job<'m>,
+) -> Result<Hand<'m>, AllocError>
+    ensures means { (K : Run) (k : ℕ) → IsRun K facts.now → top.waits ≤ length machine.old.jobs.items → Settled K k (with_job (data_of K.over machine.old) job.entry) top
+        → IfOk result (Holds K k (data_of K.over machine.new)) }
+    ensures falls { (M : Module) → IfOk result (FallsFrom M top (with_job (data_of M machine.old) job.entry) machine.new) }
+{
+    match job {
+        Job::Normal(term) => {
+            put(alloc, facts, top.op, &mut machine.done, top.from, term)?;
+            Ok(Hand::Over(top))
+        }
+        job => enter(facts, machine, top, job),
+    }
+}
+
+/// All arguments of a frame are done: the term that it is.
+fn finish<'m>(
+    alloc: Global,
+    facts: &Facts,
+    machine: &mut Machine<'m>,
+    top: Frame,
+) -> Result<Hand<'m>, AllocError>
+    ensures means { (K : Run) (k : ℕ) → IsRun K facts.now → length machine.old.jobs.items ≤ top.waits → Settled K k (data_of K.over machine.old) top
+        → IfOk result (Holds K k (data_of K.over machine.new)) }
+    ensures falls { (M : Module) → IfOk result (FallsFrom M top (data_of M machine.old) machine.new) }
+{
+    let own = machine.done.len().saturating_sub(top.from);
+    let term = close(alloc, facts, top.op, &mut machine.done, top.from)?;
+    if own == 1 && is_assoc(facts, top.op) {
+        return Ok(Hand::One(Job::Normal(term)));
+    }
+    Ok(Hand::One(Job::Try(term)))
+}
+
+/// The next argument of a frame, or the term that it is.
+pub(crate) fn pass<'m>(
+    alloc: Global,
+    facts: &Facts,
+    machine: &mut Machine<'m>,
+    top: Frame,
+) -> Result<Hand<'m>, AllocError>
+    ensures means { (K : Run) (k : ℕ) → IsRun K facts.now → Settled K k (data_of K.over machine.old) top → IfOk result (Holds K k (data_of K.over machine.new)) }
+    ensures falls { (M : Module) → IfOk result (FallsFrom M top (data_of M machine.old) machine.new) }
+{
+    if machine.jobs.len() > top.waits {
+        if let Some(job) = machine.jobs.pop() {
+            return next(alloc, facts, machine, top, job);
+        }
+    }
+    finish(alloc, facts, machine, top)
+}
+
+/// A term leaves the hole of a frame, where it is done.
+pub(crate) fn leave(
+    alloc: Global,
+    facts: &Facts,
+    machine: &mut Machine<'_>,
+    top: Frame,
+    term: Term,
+) -> Result<(), AllocError>
+    ensures means { (K : Run) (k : ℕ) (fs : List FrameOf) (x : JobOf) → IsRun K facts.now → reverse machine.old.frames.items ≡ fs → term_of K.over.signature machine.old.kept.values x ≡ term
+        → InHand K k (record (data_of K.over machine.old) { frames = top ∷ fs }) x → Each (IsDone K.over K.rank top.op) (spread K.over.signature top.op term)
+        → IfOk result (λ _. Settled K k (data_of K.over machine.new) top) }
+    ensures same { OnOk result ((machine.new.frames.items ≡ machine.old.frames.items) × (machine.new.jobs.items ≡ machine.old.jobs.items) × (machine.new.kept.values ≡ machine.old.kept.values)) }
+{
+    machine.kept.leave()?;
+    put(alloc, facts, top.op, &mut machine.done, top.from, term)?;
+    Ok(())
+}

@@ -1,0 +1,28 @@
+-- Lists of terms and of patterns, one by one.
+pub mod Walking
+-- Terms without axioms.
+pub mod FreeTerms
+-- Operators that stay on top.
+pub mod Staying
+-- Variables in the order in which they are met.
+pub mod InOrder
+-- An index with one equation more.
+pub mod Putting
+-- The index of a module, statement by statement.
+pub mod Indexing
+-- The sides of a statement and their variables.
+pub mod Sides
+-- Values in another order.
+pub mod Orders
+-- Left sides that are compared.
+pub mod Comparing
+-- What is tried and what is still to come.
+pub mod Trying
+-- Solutions by position in the order of the statement's variables.
+pub mod Rearranging
+-- Top parts and the numbers that they take.
+pub mod TopParts
+-- What a search for a left side gives.
+pub mod Seeking
+-- Equations that are asked one after another.
+pub mod Asking

@@ -1,0 +1,41 @@
+-- Equations as they are indexed: by their canonical sides, with positions for variables.
+use Rattle.std.specs.Prelude.{ℕ, ◌≡◌, [], map, length, Option, Some, None, IsTrue}
+use Rattle.mw_logic.specs.Term.{RawTerms, apply}
+use Rattle.mw_logic.specs.Signature.{Signature}
+use Rattle.mw_logic.specs.Module.{Statement}
+use Rattle.mw_logic.specs.NormalForm.{normal_form}
+use Rattle.mw_machine.specs.Positions.{AreNumbered, counted_all}
+use Rattle.mw_machine.specs.Variables.{met, place, placed, sorts_of}
+use Rattle.mw_pattern.specs.Clean.{clean}
+use Rattle.mw_compile.specs.Compiled.{IsCompiled}
+use Rattle.mw_index.specs.Free.{IsFree}
+use Rattle.mw_index.specs.declared.equations.Equation.{Equation}
+use Rattle.mw_index.specs.declared.equations.Searched.{Searched}
+use Rattle.mw_index.specs.declared.equations.Left.{Left}
+use Rattle.mw_index.specs.declared.equations.Left.TheVariants as left
+
+-- The canonical left side is f on these patterns, in which no operator has an axiom. The variables, which stand by their positions among the
+-- statement's, are met in that order.
+pub record IsPlainLeft (sig : Signature) (f : ℕ) (e : Statement) (ps : RawTerms) : Type 0 where
+  pub pattern : apply f ps ≡ placed e.variables (normal_form sig e.left)
+  pub free : IsFree sig (apply f ps)
+  pub numbered : AreNumbered 0 ps
+  pub count : counted_all 0 ps ≡ length (met [] e.left)
+
+-- the canonical left side as searches take it, and for each of its variables the position that it has there
+pub record IsSearchedLeft (sig : Signature) (e : Statement) (s : Searched) : Type 0 where
+  pub compiled : IsCompiled sig (normal_form sig e.left) [] s.compiled
+  pub order : s.order ≡ map (λ x. place x s.compiled.variables) (met [] e.left)
+
+-- The left side, for terms with the operator `top` on top, or with none.
+abbrev pub IsLeft : Signature → Option ℕ → Statement → Left → Type 0
+IsLeft sig None e (left.Plain ps) = ⊥
+IsLeft sig (Some f) e (left.Plain ps) = IsPlainLeft sig f e ps
+IsLeft sig top e (left.Searched s) = IsSearchedLeft sig e s.value
+
+-- st is the equation e, for terms with the operator `top` on top, or with none
+pub record IsEquation (sig : Signature) (top : Option ℕ) (e : Statement) (st : Equation) : Type 0 where
+  pub left : IsLeft sig top e st.left
+  pub right : clean st.right ≡ placed e.variables (normal_form sig e.right)
+  pub free : IsTrue st.free → IsFree sig (clean st.right)
+  pub sorts : st.sorts ≡ sorts_of e.variables

@@ -1,0 +1,27 @@
+-- Terms in which no operator has an axiom or is the successor of numbers.
+use Rattle.std.specs.Prelude.{ℕ, ◌≡◌, List, length, ⊤}
+use Rattle.mw_logic.specs.Term.{Variable, RawTerm, numeral, quoted, variable, apply, RawTerms, nil, cons}
+use Rattle.mw_logic.specs.Signature.{Signature}
+use Rattle.mw_machine.specs.Positions.{AreNumbered, counted_all}
+use Rattle.mw_machine.specs.Variables.{placed}
+use Rattle.mw_canon.specs.Axioms.{HasAxioms}
+use Rattle.mw_canon.specs.declared.axioms.Axioms.TheVariants.{Plain}
+
+abbrev mutual
+  pub IsFree : Signature → RawTerm → Type 0
+  IsFree sig (numeral n) = ⊤
+  IsFree sig (quoted q) = ⊤
+  IsFree sig (variable x) = ⊤
+  IsFree sig (apply f ts) = HasAxioms sig f Plain × AreFree sig ts
+
+  pub AreFree : Signature → RawTerms → Type 0
+  AreFree sig nil = ⊤
+  AreFree sig (cons t ts) = IsFree sig t × AreFree sig ts
+
+-- with positions for the variables xs the term is an operator on these patterns, in which no operator has an axiom; the variables are met in that order
+pub record ArePlainArguments (sig : Signature) (xs : List Variable) (t : RawTerm) (ps : RawTerms) : Type 0 where
+  pub operator : ℕ
+  pub pattern : apply operator ps ≡ placed xs t
+  pub free : IsFree sig (apply operator ps)
+  pub numbered : AreNumbered 0 ps
+  pub count : counted_all 0 ps ≡ length xs

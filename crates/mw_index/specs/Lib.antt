@@ -1,0 +1,10 @@
+-- Terms in which no operator has an axiom.
+pub mod Free
+-- Equations as they are indexed.
+pub mod Equations
+-- The index of a module's equations.
+pub mod Index
+-- Where equations are listed.
+pub mod Sections
+-- The choices at a term.
+pub mod Choices

@@ -1,0 +1,292 @@
+// The choices at a term, one after another.
+ghost use Rattle.std.specs.Prelude.{◌≡◌, ◌≢◌, ◌++◌, ◌∷◌, ℕ, List, [], length, map, IfOk, IfSome, MatchOption, ⊤};
+ghost use Rattle.mw_logic.specs.Module.{Module, Statement as StatementOf};
+ghost use Rattle.mw_logic.specs.Signature.{IsRawTerm};
+ghost use Rattle.mw_logic.specs.Term.{RawTerm};
+ghost use Rattle.mw_logic.specs.Terms.{terms_of};
+ghost use Rattle.mw_machine.specs.Positions.{IsWithin, AreNumbered, counted_all};
+ghost use Rattle.mw_machine.specs.Variables.{bound_values, sorts_of};
+ghost use Rattle.mw_pattern.specs.Clean.{clean};
+ghost use Rattle.mw_solving.specs.Values.{IsValue};
+ghost use Rattle.mw_term.specs.declared.subst.Binding.{Binding as BindingOf};
+ghost use Rattle.mw_index.specs.Index.{operator_of, IsOf, IsIndexOf};
+ghost use Rattle.mw_index.specs.Equations.{IsSearchedLeft};
+ghost use Rattle.mw_index.specs.Choices.{Tried, subject_of, tried_of, in_order as in_order_of, AreAllTried, AreComing, AreFitting, IsKept, IsChoice, IsUnderWay, IsAnswer, IsPlainOne, IsSearchedOne, IsSized, Covers};
+ghost use Rattle.mw_index.specs.declared.index.Index.{Index as IndexOf};
+
+use crate::equations::{Equation, Left, Searched};
+use crate::index::Index;
+use crate::subject::Subject;
+use mw_least::Ctx;
+use mw_match::{Solution, Solutions, all_match, have_sorts};
+use mw_pattern::Patterns;
+use mw_term::{Seq, Subst, Term, copy};
+use std::alloc::{AllocError, Global};
+use std::mem::replace;
+
+/// An equation with values of its variables, in their order, that make its left side a term, or several of its
+/// arguments by their numbers.
+#[derive(Drop)]
+pub struct Choice<'m> {
+    pub equation: &'m Equation,
+    pub values: Vec<Term>,
+    pub take: Option<Seq<u32>>,
+}
+
+/// Where the choices at a term stand.
+#[derive(Drop)]
+pub struct Choices<'m> {
+    /// Which of the equations is asked next.
+    next: usize,
+    /// Whether its only choice was given.
+    given: bool,
+    /// The search for its choices, once it has begun.
+    search: Option<Box<Solutions<'m>>>,
+    /// The term, once it was needed.
+    subject: Option<Term>,
+    /// Room for values.
+    spare: Vec<Term>,
+}
+
+/// The values at these places, as far as there are such.
+fn in_order(alloc: Global, subst: &Subst, order: &[usize]) -> Result<Vec<Term>, AllocError>
+    ensures { IfOk result (λ vs. vs.items ≡ in_order_of (bound_values subst.now) order.now) }
+{
+    let pairs = subst.pairs.as_slice();
+    let mut values = Vec::with_capacity(alloc, order.len())?;
+    for place in order {
+        match pairs.get(*place) {
+            Some(pair) => {
+                let value = copy(&pair.value)?;
+                values.push(value)?;
+            }
+            None => {}
+        }
+    }
+    Ok(values)
+}
+
+/// The choice that a solution of a left side is, where it has a value for each variable.
+fn chosen<'m>(
+    alloc: Global,
+    equation: &'m Equation,
+    searched: &Searched,
+    solution: Solution,
+) -> Result<Option<Choice<'m>>, AllocError>
+    ensures { let vs = in_order_of (bound_values solution.subst) searched.now.order in
+        IfOk result (λ o. MatchOption o (length vs ≢ length equation.now.sorts)
+        (λ c. (c.equation.now ≡ equation.now) × (c.values.items ≡ vs) × (c.take ≡ solution.take)
+        × (length c.values.items ≡ length equation.now.sorts))) }
+{
+    let values = in_order(alloc, &solution.subst, searched.order.as_slice())?;
+    let Solution { take, .. } = solution;
+    if values.len() != equation.sorts.as_slice().len() {
+        return Ok(None);
+    }
+    Ok(Some(Choice {
+        equation,
+        values,
+        take,
+    }))
+}
+
+/// Whether an equation's left side has these arguments, by values of its variables' sorts, which are found.
+fn fits(
+    context: &Ctx,
+    equation: &Equation,
+    patterns: &Patterns,
+    args: &[Term],
+    found: &mut Vec<Term>,
+) -> Result<bool, AllocError>
+    requires numbered { AreNumbered 0 patterns.now }
+    requires count { counted_all 0 patterns.now ≡ length equation.now.sorts }
+    ensures { let sorts = equation.now.sorts in
+        IfOk result (AreFitting context.now.signature sorts patterns.now (terms_of args.now) found.new.items) }
+{
+    found.clear();
+    if !all_match(patterns, args, found)? {
+        return Ok(false);
+    }
+    let sorts = equation.sorts.as_slice();
+    Ok(have_sorts(context, found.as_slice(), sorts))
+}
+
+impl<'m> Choices<'m> {
+    /// At the beginning.
+    pub fn new(alloc: Global) -> Choices<'m>
+        ensures { (M : Module) (m : IndexOf) (t : RawTerm) → Covers M m t [] result }
+    {
+        Choices {
+            next: 0,
+            given: false,
+            search: None,
+            subject: None,
+            spare: Vec::new(alloc),
+        }
+    }
+
+    /// At the beginning again, for another term.
+    pub fn again(&mut self)
+        ensures { (M : Module) (m : IndexOf) (t : RawTerm) → Covers M m t [] self.new }
+    {
+        self.next = 0;
+        self.given = false;
+        self.search = None;
+        self.subject = None;
+    }
+
+    /// Room for values, which aren't needed any more.
+    pub fn give_back(&mut self, spare: Vec<Term>)
+        ensures { (M : Module) (m : IndexOf) (t : RawTerm) (tried : List Tried) → Covers M m t tried self.old → Covers M m t tried self.new }
+    {
+        self.spare = spare;
+    }
+
+    /// The choice of an equation whose left side is compared.
+    fn compare(
+        &mut self,
+        alloc: Global,
+        context: &Ctx,
+        equation: &'m Equation,
+        patterns: &Patterns,
+        subject: Subject<'_>,
+    ) -> Result<Option<Choice<'m>>, AllocError>
+        requires { IsPlainOne context.now (operator_of (subject_of subject)) equation.now patterns.now }
+        ensures same { self.new.next ≡ self.old.next }
+        ensures sized { IfOk result (IsSized equation.now) }
+        ensures is { let M = context.now in let t = subject_of subject.entry in
+            (tried : List Tried) → IsValue M.signature t
+            → IsKept t self.old.subject → IsUnderWay M t tried equation.now self.old
+            → IfOk result (λ o. IsAnswer M t tried equation.now o self.new) }
+    {
+        if self.given {
+            return Ok(None);
+        }
+        context.shows();
+        if !fits(context, equation, patterns, subject.args(), &mut self.spare)? {
+            return Ok(None);
+        }
+        self.given = true;
+        let values = replace(&mut self.spare, Vec::new(alloc));
+        Ok(Some(Choice {
+            equation,
+            values,
+            take: None,
+        }))
+    }
+
+    /// The search for a left side, which begins if it hasn't yet.
+    fn solutions(
+        &mut self,
+        alloc: Global,
+        context: &'m Ctx,
+        searched: &'m Searched,
+        subject: Subject<'_>,
+    ) -> Result<Box<Solutions<'m>>, AllocError>
+        requires { searched.now.compiled.positions.sorts ≡ sorts_of searched.now.compiled.variables }
+        ensures next { self.new.next ≡ self.old.next }
+        ensures given { self.new.given ≡ self.old.given }
+        ensures kept { let t = subject_of subject.entry in
+            IsKept t self.old.subject → IfOk result (λ _. IsKept t self.new.subject) }
+        ensures coming { let sig = context.now.signature in let t = subject_of subject.entry in
+            (tried : List Tried) (k : ℕ) (e : StatementOf) → IsValue sig t → IsRawTerm sig e.left
+            → IsSearchedLeft sig e searched.now → IsKept t self.old.subject
+            → MatchOption self.old.search ⊤ (λ s. AreComing sig t tried k e searched.now.compiled.variables s.value)
+            → IfOk result (λ s. AreComing sig t tried k e searched.now.compiled.variables s.value) }
+    {
+        if let Some(solutions) = self.search.take() {
+            return Ok(solutions);
+        }
+        let term = match self.subject.take() {
+            Some(term) => term,
+            None => subject.term(alloc)?,
+        };
+        let solutions = Solutions::anywhere(alloc, context, &searched.compiled, &term)?;
+        self.subject = Some(term);
+        Ok(Box::new(alloc, solutions)?)
+    }
+
+    /// The next choice of an equation whose left side is searched for.
+    fn seek(
+        &mut self,
+        alloc: Global,
+        context: &'m Ctx,
+        equation: &'m Equation,
+        searched: &'m Searched,
+        subject: Subject<'_>,
+    ) -> Result<Option<Choice<'m>>, AllocError>
+        requires { IsSearchedOne context.now (operator_of (subject_of subject)) equation.now searched.now }
+        ensures same { self.new.next ≡ self.old.next }
+        ensures sized { IfOk result (IsSized equation.now) }
+        ensures is { let M = context.now in let t = subject_of subject.entry in
+            (tried : List Tried) → IsValue M.signature t
+            → IsKept t self.old.subject → IsUnderWay M t tried equation.now self.old
+            → IfOk result (λ o. IsAnswer M t tried equation.now o self.new) }
+    {
+        context.shows();
+        let mut solutions = self.solutions(alloc, context, searched, subject)?;
+        let found = solutions.next()?;
+        self.search = Some(solutions);
+        match found {
+            Some(solution) => {
+                let choice = chosen(alloc, equation, searched, solution)?;
+                Ok(choice)
+            }
+            None => Ok(None),
+        }
+    }
+
+    /// The next choice of an equation.
+    fn ask(
+        &mut self,
+        alloc: Global,
+        context: &'m Ctx,
+        equation: &'m Equation,
+        subject: Subject<'_>,
+    ) -> Result<Option<Choice<'m>>, AllocError>
+        requires { IsOf context.now (operator_of (subject_of subject)) equation.now }
+        ensures same { self.new.next ≡ self.old.next }
+        ensures sized { IfOk result (IsSized equation.now) }
+        ensures is { let M = context.now in let t = subject_of subject.entry in
+            (tried : List Tried) → IsValue M.signature t
+            → IsKept t self.old.subject → IsUnderWay M t tried equation.now self.old
+            → IfOk result (λ o. IsAnswer M t tried equation.now o self.new) }
+    {
+        match &equation.left {
+            Left::Plain(patterns) => self.compare(alloc, context, equation, patterns, subject),
+            Left::Searched(searched) => self.seek(alloc, context, equation, searched, subject),
+        }
+    }
+
+    /// The next choice at a canonical term that means a ground raw term; none where there is none. After an error it
+    /// isn't said where the choices stand.
+    pub fn next(
+        &mut self,
+        alloc: Global,
+        context: &'m Ctx,
+        index: &'m Index,
+        subject: Subject<'_>,
+    ) -> Result<Option<Choice<'m>>, AllocError>
+        requires { IsIndexOf context.now index.now }
+        ensures values { IfOk result (λ o. IfSome o (λ c. (length c.values.items ≡ length c.equation.now.sorts)
+            × IsWithin (length c.values.items) (clean c.equation.now.right))) }
+        ensures is { let M = context.now in let t = subject_of subject.entry in
+            (tried : List Tried) → IsValue M.signature t
+            → Covers M index.now t tried self.old
+            → IfOk result (λ o. MatchOption o (AreAllTried M t tried)
+            (λ c. IsChoice M t c × Covers M index.now t (tried ++ tried_of c ∷ []) self.new)) }
+    {
+        context.shows();
+        let top = subject.operator();
+        while let Some(equation) = index.at(top, self.next) {
+            let found = self.ask(alloc, context, equation, subject)?;
+            if found.is_some() {
+                return Ok(found);
+            }
+            self.given = false;
+            self.search = None;
+            self.next += 1;
+        }
+        Ok(None)
+    }
+}

@@ -1,0 +1,34 @@
+// Equations as they are indexed.
+use mw_compile::Compiled;
+use mw_pattern::{Pattern, Patterns};
+use mw_term::{Seq, SortId};
+
+/// A left side as a search takes it.
+#[derive(Drop)]
+pub struct Searched {
+    pub compiled: Compiled,
+    /// Of each variable of the left side, in their order, the position that it has in the compiled pattern.
+    pub order: Seq<usize>,
+}
+
+/// The left side of an equation.
+#[derive(Drop)]
+pub enum Left {
+    /// The arguments of the operator on top, where no operator has an axiom: they are compared one by one.
+    Plain(Patterns),
+    /// Any other left side is searched for modulo the axioms.
+    Searched(Box<Searched>),
+}
+
+/// An executable equation, with positions for the variables of its canonical right side.
+#[derive(Drop)]
+pub struct Equation {
+    /// The statement's number, from 1.
+    pub number: usize,
+    pub left: Left,
+    pub right: Pattern,
+    /// Whether no operator of the right side has an axiom.
+    pub free: bool,
+    /// The sorts of the statement's variables, in their order.
+    pub sorts: Seq<SortId>,
+}

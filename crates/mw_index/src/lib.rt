@@ -1,0 +1,50 @@
+//! An index of a module's equations, and the choices that they leave at a term, modulo the axioms of any accepted
+//! signature. A choice is an equation with values of its variables that make its left side the term, or several of the
+//! term's arguments.
+//!
+//! - [`Index::of`] lists the executable equations by the operator on top of their canonical left sides. Where that
+//!   operator has an identity or is the successor of numbers, and where the left side is a variable, an instance may
+//!   have another one on top, so the equation is asked for every term; one whose left side is a numeral or a quoted
+//!   identifier is asked for terms without an operator. Contracts see `asked`: what is asked for terms with an operator
+//!   on top, or with none. All of it are equations of the module (`IsOf`), and for each term that an equation applies
+//!   to, or applies to several arguments of, it is among what is asked (`IsIndexOf`).
+//! - An [`Equation`] has its canonical sides as patterns, with positions for the statement's variables (`IsEquation`).
+//!   Its left side is compared argument by argument where no operator in it has an axiom or is the successor
+//!   (`Left::Plain`), and searched for else (`Left::Searched`).
+//! - [`Choices`] gives the choices at a term, one after another. What contracts see is `Covers`, of the choices that
+//!   were tried: each solution of an equation that was passed, for the term or a top part of it, is the same as one of
+//!   these. It holds at the beginning of none tried. `next` answers a choice (`IsChoice`: a solution of the left side
+//!   of an executable equation for a part of the term, by canonical values) and stands where that one is tried too; or
+//!   None, and then each solution of each executable equation at each top part of the term was tried (`AreAllTried`).
+//! - `evaluate` is the canonical instance of a pattern (`evaluated` of mw_matching). Where no operator has an axiom
+//!   that is the instance alone (`free_evaluated`, proofs/FreeTerms).
+//!
+//! Conditions: what `next` says of choices is of canonical terms that mean ground raw terms (`IsValue`); how many
+//! values a choice has is said of all terms. The index is one of the context's module. `evaluate` asks for a value of
+//! each variable. After an error of `next` nothing is said of where the choices stand.
+//!
+//! Cost: `Index::of` makes two canonical forms for each equation, and walks its patterns a few times. A plain equation
+//! costs what is compared, one count for each value and its test for sorts; nothing is allocated but the list of
+//! values, for which `again` takes a list that is left from before. Of a term that is given by its arguments a whole
+//! one is made when the first equation is searched for, once, by one count for each argument. Searches cost what those
+//! of mw_match do, and the values of a solution one count each. The native stack grows with the depth of patterns and
+//! of terms.
+//!
+//! Neither proved nor tested: time, memory, the order in which equations are asked (those of one operator in the order
+//! of the module, then those for every term), and that an answer comes with memory at hand.
+#![tactic(auto)]
+
+mod choices;
+mod equations;
+mod evaluating;
+mod index;
+mod making;
+mod normal;
+mod patterns;
+mod subject;
+
+pub use choices::{Choice, Choices};
+pub use equations::{Equation, Left, Searched};
+pub use evaluating::evaluate;
+pub use index::Index;
+pub use subject::Subject;

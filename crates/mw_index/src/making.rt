@@ -1,0 +1,129 @@
+// Equations from statements.
+ghost use Rattle.std.specs.Prelude.{◌≡◌, ℕ, Option, Some, length, map, IfOk, IsTrue};
+ghost use Rattle.mw_logic.specs.Term.{Variable};
+ghost use Rattle.mw_logic.specs.Module.{IsStatement};
+ghost use Rattle.mw_logic.specs.NormalForm.{normal_form};
+ghost use Rattle.mw_machine.specs.Variables.{is_in, place, AreDistinct};
+ghost use Rattle.mw_compile.specs.Compiled.{AreAmong};
+ghost use Rattle.mw_index.specs.Equations.{IsLeft, IsSearchedLeft, IsEquation};
+ghost use Rattle.mw_index.specs.Sections.{AreIn, Asks, IsSectionOf};
+
+use crate::equations::{Equation, Left, Searched};
+use crate::index::Section;
+use crate::normal::normal;
+use crate::patterns::{is_free, pattern_of, plain_arguments};
+use mw_compile::compile;
+use mw_least::Ctx;
+use mw_pattern::Places;
+use mw_term::{Seq, Statement, Subst, Term, VarId};
+use std::alloc::{AllocError, Global};
+
+/// Of each variable of a list its place in another.
+fn order_of(
+    alloc: Global,
+    places: &Places<'_>,
+    variables: &[VarId],
+) -> Result<Seq<usize>, AllocError>
+    requires { AreIn variables.now places.now }
+    ensures { IfOk result (λ ns. ns ≡ map (λ x. place x places.now) variables.now) }
+{
+    let mut order = Vec::with_capacity(alloc, variables.len())?;
+    for x in variables {
+        order.push(places.at(x))?;
+    }
+    Ok(Seq::of(order))
+}
+
+/// A left side as a search takes it.
+fn searched(
+    alloc: Global,
+    context: &Ctx,
+    number: usize,
+    statement: &Statement,
+    left: &Term,
+) -> Result<Searched, AllocError>
+    requires statement { IsStatement context.now number statement.now }
+    requires left { left.now ≡ normal_form context.now.signature statement.now.left }
+    ensures { IfOk result (IsSearchedLeft context.now.signature statement.now) }
+{
+    context.shows();
+    let given = Subst {
+        pairs: Seq::of(Vec::new(alloc)),
+    };
+    let compiled = compile(alloc, context, left, &given)?;
+    let order = order_among(
+        alloc,
+        compiled.variables.as_slice(),
+        statement.variables.as_slice(),
+    )?;
+    Ok(Searched { compiled, order })
+}
+
+fn order_among(alloc: Global, all: &[VarId], variables: &[VarId]) -> Result<Seq<usize>, AllocError>
+    requires distinct { AreDistinct all.now }
+    requires within { AreIn variables.now all.now }
+    ensures { IfOk result (λ ns. ns ≡ map (λ x. place x all.now) variables.now) }
+{
+    let places = Places::new(alloc, all)?;
+    let order = order_of(alloc, &places, variables)?;
+    Ok(order)
+}
+
+/// The left side of an equation that is listed in a section.
+fn left_of(
+    alloc: Global,
+    context: &Ctx,
+    places: &Places<'_>,
+    section: Section,
+    number: usize,
+    statement: &Statement,
+    left: &Term,
+) -> Result<Left, AllocError>
+    requires statement { IsStatement context.now number statement.now }
+    requires left { left.now ≡ normal_form context.now.signature statement.now.left }
+    requires section { IsSectionOf context.now.signature left.now section }
+    requires places { places.now ≡ statement.now.variables }
+    ensures { let sig = context.now.signature in
+        IfOk result (λ l. (top : Option ℕ) → Asks section top → IsLeft sig top statement.now l) }
+{
+    context.shows();
+    if let Section::Operator(_) = section {
+        if let Some(args) = plain_arguments(alloc, context.facts(), places, left)? {
+            return Ok(Left::Plain(args));
+        }
+    }
+    let searched = searched(alloc, context, number, statement, left)?;
+    Ok(Left::Searched(Box::new(alloc, searched)?))
+}
+
+/// The equation of a statement with this canonical left side, for a section.
+pub fn equation_of(
+    alloc: Global,
+    context: &Ctx,
+    section: Section,
+    number: usize,
+    statement: &Statement,
+    left: &Term,
+) -> Result<Equation, AllocError>
+    requires statement { IsStatement context.now number statement.now }
+    requires left { left.now ≡ normal_form context.now.signature statement.now.left }
+    requires section { IsSectionOf context.now.signature left.now section }
+    ensures number { IfOk result (λ st. st.number ≡ number) }
+    ensures is { let sig = context.now.signature in
+        IfOk result (λ st. (top : Option ℕ) → Asks section top → IsEquation sig top statement.now st) }
+{
+    context.shows();
+    let places = Places::new(alloc, statement.variables.as_slice())?;
+    let right = normal(alloc, context.facts(), &statement.right)?;
+    let right = pattern_of(alloc, &places, &right)?;
+    let free = is_free(context.facts(), &right);
+    let left = left_of(alloc, context, &places, section, number, statement, left)?;
+    let sorts = places.sorts(alloc)?;
+    Ok(Equation {
+        number,
+        left,
+        right,
+        free,
+        sorts,
+    })
+}

@@ -1,0 +1,10 @@
+pub mod Totals
+pub mod Keeping
+pub mod Begun
+pub mod Alike
+pub mod WaysIn
+pub mod UnderKept
+pub mod Numbering
+pub mod Once
+pub mod Written
+pub mod Between
