@@ -3,8 +3,8 @@ use Rattle.std.proofs.Common.{◌≡◌, ◌∙◌, List, [], ◌∷◌, ◌++�
 use Rattle.mw_logic.specs.Term.{Variable, variable}
 use Rattle.mw_logic.specs.Substitution.{same_variable}
 use Rattle.mw_logic.proofs.SameConditions.{same_variable-is}
-use Rattle.mw_machine.specs.Variables.{is_in, met}
-use Rattle.mw_machine.proofs.Meeting.{same_turned}
+use Rattle.mw_position.specs.Variables.{is_in, met}
+use Rattle.mw_position.proofs.Meeting.{same_turned}
 use Rattle.mw_text.specs.Mentions.{is_met, with_variable}
 
 either_way : (x y : Variable) → same_variable x y ≡ same_variable y x

@@ -20,12 +20,11 @@ use Rattle.mw_term.specs.declared.term.View.{View}
 use Rattle.mw_term.specs.declared.term.View.TheVariants as seen
 use Rattle.mw_term.specs.Shapes.{viewed}
 use Rattle.mw_term.specs.Raws.{raw_term}
-use Rattle.mw_machine.specs.Simple.{AreSides}
-use Rattle.mw_machine.specs.Variables.{is_in, met, all_met}
-use Rattle.mw_machine.proofs.Meeting.{is_in-met}
+use Rattle.mw_position.specs.Variables.{is_in, met, all_met}
+use Rattle.mw_position.proofs.Meeting.{is_in-met}
 use Rattle.mw_sorting.specs.PreregularModulo.{IsPreregularModulo}
 use Rattle.mw_logic.proofs.FreeSignature.{IsBareSignature}
-use Rattle.mw_least.specs.Workable.{IsPlainEquation, IsWorkable}
+use Rattle.mw_least.specs.Workable.{AreSides, IsPlainEquation, IsWorkable}
 use Rattle.mw_text.specs.Mixfix.{Reads, Spells}
 use Rattle.mw_text.specs.Readings.{ReadsPair}
 use Rattle.mw_text.proofs.RawTerms.{spelled_raw}

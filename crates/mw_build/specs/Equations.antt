@@ -5,7 +5,7 @@ use Rattle.mw_logic.specs.Signature.{Signature}
 use Rattle.mw_logic.specs.Axioms.{EqualModulo}
 use Rattle.mw_logic.specs.Parts.{IsTooDeep, IsTooLarge}
 use Rattle.mw_logic.specs.Module.{Statement}
-use Rattle.mw_machine.specs.Variables.{met}
+use Rattle.mw_position.specs.Variables.{met}
 use Rattle.mw_text.specs.Mentions.{missing_in}
 use Rattle.mw_module.specs.declared.faults.Fault.{Fault}
 use Rattle.mw_module.specs.declared.faults.FaultKind.{FaultKind}

@@ -9,7 +9,7 @@ ghost use Rattle.mw_term.specs.Raws.{raw_term};
 ghost use Rattle.mw_module.specs.Units.{seen_statements};
 ghost use Rattle.mw_module.specs.Words.{texts};
 ghost use Rattle.mw_text.specs.Mentions.{missing_in};
-ghost use Rattle.mw_machine.specs.Variables.{met};
+ghost use Rattle.mw_position.specs.Variables.{met};
 ghost use Rattle.mw_parse.specs.Answers.{HasPairCause};
 ghost use Rattle.mw_grammar.specs.Grammars.{IsGrammarOf, IsReading};
 ghost use Rattle.mw_build.specs.Equations.{FitsIn, Oversized, IsEquation, EquationFault, IsApplicable, ApplicationFault, IsStatementOf, SidesFault, AreEquations, FirstFault, unbound as unbound_in};

@@ -1,7 +1,8 @@
 //! Modules that were accepted: what their units declare, with their equations read and held for reduction.
 //!
 //! `build` makes a [`Module`] of a unit: its declarations (mw_declare), its operators' tables (mw_sorts) and axioms
-//! (mw_canon), its grammar (mw_grammar), its equations as statements, and all this as a context (mw_least).
+//! (mw_canon), its grammar (mw_grammar), its equations as statements, all this as a context (mw_least), and an
+//! index of its equations (mw_index).
 //! `Module::term` reads a term in which the module's variables may stand, `Module::pair` two of one kind, `canonical`
 //! makes such a term canonical.
 //!
@@ -18,7 +19,8 @@
 //!   texts spell, and no others of one kind (`IsAccepted`, specs/Modules).
 //! - `fault`: a fault is answered only where the unit has it, and it is the first (`IsRefused`; `FirstFault` of
 //!   specs/Equations).
-//! - The module is workable, as mw_least asks, and its signature has a grammar, as mw_parse asks (their `requires`).
+//! - The module is workable, as mw_least asks, its signature has a grammar, as mw_parse asks (their `requires`), and
+//!   `Module::index` is an index of its equations (`IsIndexOf` of mw_index).
 //! - The law `texts_read_back`: the text of each raw term of a module that a source's unit is, cut into tokens, spells
 //!   this term in the module, where the term's variables can be printed (specs/Printing). Ground terms have none, and
 //!   by `statements_are_printable` so it is for the variables of the module's statements.

@@ -16,6 +16,7 @@ ghost use Rattle.mw_parse.specs.Answers.{HasCause as HasReadingCause, HasPairCau
 ghost use Rattle.mw_poset.specs.SortOrder.{order_of};
 ghost use Rattle.mw_sorts.specs.Diagrams.{AreTablesOf};
 ghost use Rattle.mw_least.specs.Workable.{IsWorkable};
+ghost use Rattle.mw_index.specs.Index.{IsIndexOf};
 ghost use Rattle.mw_declare.specs.Declarations.{Declares};
 ghost use Rattle.mw_build.specs.Sides.{equations_of};
 ghost use Rattle.mw_build.specs.Equations.{AreEquations, FirstFault};
@@ -26,6 +27,7 @@ use crate::signature::tables;
 use mw_canon::Facts;
 use mw_declare::{Declarations, declare};
 use mw_grammar::Grammar;
+use mw_index::Index;
 use mw_least::Ctx;
 use mw_lex::Token;
 use mw_module::{Lined, Unit, UnitError};
@@ -41,6 +43,7 @@ use std::marker::Model;
 pub struct Module {
     name: Name,
     context: Box<Ctx>,
+    index: Box<Index>,
     variables: Seq<VarId>,
     grammar: Box<Grammar>,
 }
@@ -57,8 +60,9 @@ impl Model for Module {
     ghost view = { λ m. record { name = m.name; «module» = m.context.value; variables = m.variables } };
 
     ghost use Rattle.mw_grammar.specs.Grammars.{IsGrammarOf};
+    ghost use Rattle.mw_index.specs.Index.{IsIndexOf};
 
-    ghost invariant = { λ m. IsGrammarOf m.context.value.signature m.variables m.grammar.value };
+    ghost invariant = { λ m. IsGrammarOf m.context.value.signature m.variables m.grammar.value × IsIndexOf m.context.value m.index.value };
 }
 
 impl Module {
@@ -73,6 +77,13 @@ impl Module {
         ensures { result.now ≡ self.now.module }
     {
         &self.context
+    }
+
+    /// Its equations, by what their left sides are instances of.
+    pub fn index(&self) -> &Index
+        ensures { IsIndexOf self.now.module result.now }
+    {
+        &self.index
     }
 
     /// The one term that the tokens spell, in which the module's variables may stand. It is a term of the signature.
@@ -185,9 +196,12 @@ fn module_of(
         tables,
         variables,
     } = Box::into_inner(signed);
+    let context = Ctx::new(alloc, facts, order, Box::into_inner(tables), statements)?;
+    let index = Index::of(alloc, &context)?;
     Ok(Module {
         name,
-        context: Ctx::new(alloc, facts, order, Box::into_inner(tables), statements)?,
+        context,
+        index: Box::new(alloc, index)?,
         variables,
         grammar,
     })

@@ -9,7 +9,7 @@ use Rattle.mw_logic.specs.Terms.{terms_of}
 use Rattle.mw_logic.specs.Substitution.{occurs, occurs_in}
 use Rattle.mw_logic.proofs.SortLaws.{join-nil, join_assoc}
 use Rattle.mw_logic.proofs.Pushed.{terms_of-append}
-use Rattle.mw_machine.specs.Variables.{AreDistinct, bound_variables, met, placed, all_placed}
+use Rattle.mw_position.specs.Variables.{AreDistinct, bound_variables, met, placed, all_placed}
 use Rattle.mw_pattern.proofs.Lists.{drop_at}
 use Rattle.mw_pattern.proofs.Tables.{met_next}
 use Rattle.mw_term.specs.declared.subst.Binding.{Binding}

@@ -3,7 +3,7 @@ use Rattle.std.specs.Prelude.{◌≡◌, ◌≤◌, List, length, IsTrue}
 use Rattle.mw_logic.specs.Term.{Variable, RawTerm, RawTerms}
 use Rattle.mw_logic.specs.Signature.{Signature}
 use Rattle.mw_logic.specs.Substitution.{occurs, occurs_in}
-use Rattle.mw_machine.specs.Variables.{is_in, met, placed, sorts_of}
+use Rattle.mw_position.specs.Variables.{is_in, met, placed, sorts_of}
 use Rattle.mw_solving.specs.Reordered.{Reordered}
 use Rattle.mw_solving.specs.Values.{AreSure}
 use Rattle.mw_compile.specs.declared.compiled.Compiled.{Compiled}

@@ -1,6 +1,6 @@
 // Patterns whose variables stand by position.
 ghost use Rattle.std.specs.Prelude.{◌≤◌, length, IfOk};
-ghost use Rattle.mw_machine.specs.Variables.{AreDistinct, bound_variables};
+ghost use Rattle.mw_position.specs.Variables.{AreDistinct, bound_variables};
 ghost use Rattle.mw_solving.specs.Values.{AreSure};
 ghost use Rattle.mw_compile.specs.Compiled.{IsCompiled, IsNumbered};
 

@@ -1,6 +1,6 @@
 // The variables of a pattern, in the order in which they are met.
 ghost use Rattle.std.specs.Prelude.{◌≡◌, IfOk, OnOk};
-ghost use Rattle.mw_machine.specs.Variables.{AreDistinct, bound_variables, met};
+ghost use Rattle.mw_position.specs.Variables.{AreDistinct, bound_variables, met};
 
 use mw_pattern::Places;
 use mw_term::{Subst, Term, View};

@@ -2,8 +2,8 @@
 ghost use Rattle.std.specs.Prelude.{◌≡◌, IfOk, IsTrue};
 ghost use Rattle.mw_logic.specs.Term.{Variable, variable as a_variable};
 ghost use Rattle.mw_logic.specs.Terms.{terms_of};
-ghost use Rattle.mw_machine.specs.Positions.{position as position_of};
-ghost use Rattle.mw_machine.specs.Variables.{placed, all_placed};
+ghost use Rattle.mw_position.specs.Positions.{position as position_of};
+ghost use Rattle.mw_position.specs.Variables.{placed, all_placed};
 ghost use Rattle.mw_compile.specs.Compiled.{AreAmong, AreAllAmong};
 
 use mw_pattern::Places;

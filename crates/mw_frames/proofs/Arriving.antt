@@ -17,7 +17,7 @@ use Rattle.mw_logic.specs.Module.{Module}
 use Rattle.mw_logic.specs.Judgements.{admitted_judgements}
 use Rattle.mw_logic.proofs.SortLaws.{join_assoc, sorted_terms-left, sorted_terms-right, sorted_terms-comm}
 use Rattle.mw_logic.proofs.Canonical.{Each, Each-join, Each-arranged, IsElement, IsCanonical, AreCanonical, each_canonical, arranged-right, arranged-twice, arranged-one}
-use Rattle.mw_machine.specs.Positions.{position}
+use Rattle.mw_position.specs.Positions.{position}
 use Rattle.mw_arguments.proofs.Arguments.{in_order}
 use Rattle.mw_stack.specs.Own.{own, spread, IsOrdered}
 use Rattle.mw_frames.specs.declared.job.Job.{Job}

@@ -14,7 +14,7 @@ use Rattle.mw_logic.proofs.Inside.{raw_inside}
 use Rattle.mw_canon.proofs.Ordered.{uncounted}
 use Rattle.mw_canon.specs.Axioms.{HasAxioms}
 use Rattle.mw_canon.specs.declared.axioms.Axioms.TheVariants.{Plain}
-use Rattle.mw_machine.proofs.Steps.{part_ground}
+use Rattle.mw_position.proofs.Grounded.{part_ground}
 use Rattle.mw_solving.specs.Values.{IsValue}
 use Rattle.mw_deduction.specs.Standing.{round}
 use Rattle.mw_frames.specs.declared.job.Job.TheVariants.{Normal}

@@ -11,7 +11,7 @@ use Rattle.mw_logic.specs.Module.{Module, Statement}
 use Rattle.mw_logic.proofs.Inside.{raw_inside}
 use Rattle.mw_logic.specs.Judgements.{admitted_judgements}
 use Rattle.mw_canon.specs.Canonical.{meant}
-use Rattle.mw_machine.specs.Variables.{placed}
+use Rattle.mw_position.specs.Variables.{placed}
 use Rattle.mw_matching.specs.Matches.{evaluated}
 use Rattle.mw_deduction.specs.Standing.{Open, round, IsSeen, At}
 use Rattle.mw_deduction.specs.Replay.{Move, applies, Stand}

@@ -9,7 +9,7 @@ use Rattle.mw_logic.specs.NormalForm.{applied_in, height}
 use Rattle.mw_canon.specs.Axioms.{HasAxioms}
 use Rattle.mw_canon.specs.declared.axioms.Axioms.TheVariants.{Plain}
 use Rattle.mw_canon.proofs.Ordered.{uncounted}
-use Rattle.mw_machine.specs.Positions.{fill, fill_all}
+use Rattle.mw_position.specs.Positions.{fill, fill_all}
 use Rattle.mw_matching.specs.Matches.{evaluated, evaluated_all}
 use Rattle.mw_frames.specs.declared.job.Frame.{Frame}
 use Rattle.mw_frames.specs.Free.{IsFree, AreFree}

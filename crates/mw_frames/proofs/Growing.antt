@@ -7,7 +7,7 @@ use Rattle.mw_logic.specs.Signature.{Signature}
 use Rattle.mw_logic.specs.NormalForm.{is_comm, applied_in, arranged}
 use Rattle.mw_logic.specs.Module.{Module}
 use Rattle.mw_logic.proofs.Canonical.{Each}
-use Rattle.mw_machine.specs.Positions.{position}
+use Rattle.mw_position.specs.Positions.{position}
 use Rattle.mw_matching.specs.Matches.{evaluated, evaluated_all}
 use Rattle.mw_pattern.specs.Clean.{clean}
 use Rattle.mw_deduction.specs.Standing.{Open}

@@ -16,7 +16,7 @@ use Rattle.mw_logic.proofs.EqualTerms.{ground_kept}
 use Rattle.mw_logic.proofs.Inside.{raw_inside}
 use Rattle.mw_logic.proofs.RawKept.{raw_kept}
 use Rattle.mw_logic.proofs.Soundness.{normal_form-sound}
-use Rattle.mw_machine.proofs.Steps.{part_ground, ground_again}
+use Rattle.mw_position.proofs.Grounded.{part_ground, ground_again}
 use Rattle.mw_matching.specs.Matches.{evaluated}
 use Rattle.mw_solving.specs.Values.{IsValue}
 use Rattle.mw_solving.proofs.Parts.{arguments_several}

@@ -28,9 +28,9 @@ use Rattle.mw_logic.proofs.SameConditions.{same_variable-is, same_variable-refl}
 use Rattle.mw_logic.proofs.SolutionLaws.{instance_raw}
 use Rattle.mw_logic.proofs.Soundness.{normal_form-sound}
 use Rattle.mw_canon.specs.Canonical.{meant}
-use Rattle.mw_machine.specs.Variables.{is_in, place, placed, all_placed}
-use Rattle.mw_machine.proofs.Meeting.{place-within}
-use Rattle.mw_machine.proofs.Placing.{value_of, values_zip, at_place, bound_zip}
+use Rattle.mw_position.specs.Variables.{is_in, place, placed, all_placed}
+use Rattle.mw_position.proofs.Meeting.{place-within}
+use Rattle.mw_position.proofs.Placing.{value_of, values_zip, at_place, bound_zip}
 use Rattle.mw_matching.specs.Matches.{evaluated, evaluated_all, HasArities, AllHaveArities}
 use Rattle.mw_solving.proofs.Grounds.{nested_ground}
 use Rattle.mw_solving.proofs.Nesting.{nested_occurs}

@@ -7,7 +7,7 @@ use Rattle.mw_logic.specs.Module.{Module}
 use Rattle.mw_logic.specs.Accepted.{IsAccepted}
 use Rattle.mw_logic.specs.Parts.{number_of_terms}
 use Rattle.mw_logic.proofs.Canonical.{IsCanonical, AreCanonical, applied_canonical}
-use Rattle.mw_machine.specs.Positions.{position}
+use Rattle.mw_position.specs.Positions.{position}
 use Rattle.mw_matching.specs.Matches.{evaluated_all}
 use Rattle.mw_frames.specs.declared.job.Job.{Job}
 use Rattle.mw_frames.specs.Jobs.{instance_of, rest}

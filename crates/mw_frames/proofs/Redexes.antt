@@ -67,7 +67,7 @@ mutual
       and_from (binds s t) (binds_all s ts) (binds_from s t (λ x o. h x (or_left (occurs x t) (occurs_in x ts) o))) (binds_all_from s ts (λ x o. h x (or_right (occurs x t) (occurs_in x ts) o)))
 
 -- no condition, no evidence
-nothing_held : (M : Module) (n : ℕ) (s : Substitution) → (admitted_judgements M n).Held [] s proof.nil s
+pub nothing_held : (M : Module) (n : ℕ) (s : Substitution) → (admitted_judgements M n).Held [] s proof.nil s
 unfolding judgements_with
 nothing_held M zero s = (refl, refl)
 nothing_held M (suc n) s = (refl, refl)

@@ -18,10 +18,10 @@ use Rattle.mw_logic.proofs.Invariance.{normal_form-kept}
 use Rattle.mw_logic.proofs.SolutionLaws.{substitution_kinds}
 use Rattle.mw_logic.proofs.Soundness.{normal_form-sound}
 use Rattle.mw_canon.specs.Canonical.{meant}
-use Rattle.mw_machine.specs.Positions.{fill}
-use Rattle.mw_machine.specs.Variables.{is_in, AreDistinct, placed}
-use Rattle.mw_machine.proofs.Meeting.{is_in-met, AreDistinct-met}
-use Rattle.mw_machine.proofs.Placing.{values_of, values_zip}
+use Rattle.mw_position.specs.Positions.{fill}
+use Rattle.mw_position.specs.Variables.{is_in, AreDistinct, placed}
+use Rattle.mw_position.proofs.Meeting.{is_in-met, AreDistinct-met}
+use Rattle.mw_position.proofs.Placing.{values_of, values_zip}
 use Rattle.mw_matching.specs.Matches.{evaluated}
 use Rattle.mw_matching.proofs.Evaluated.{evaluated_is}
 use Rattle.mw_solving.proofs.Nesting.{nested_placed, filled}

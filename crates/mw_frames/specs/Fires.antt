@@ -8,7 +8,7 @@ use Rattle.mw_logic.specs.NormalForm.{normal_form}
 use Rattle.mw_logic.specs.Module.{Module, Statement, IsStatement}
 use Rattle.mw_solving.specs.Inside.{IsProperPart}
 use Rattle.mw_least.specs.Workable.{IsPlainEquation}
-use Rattle.mw_machine.specs.Variables.{placed}
+use Rattle.mw_position.specs.Variables.{placed}
 use Rattle.mw_pattern.specs.Clean.{clean}
 use Rattle.mw_deduction.specs.Replay.{Stand}
 use Rattle.mw_frames.specs.declared.applying.Fired.{Fired}

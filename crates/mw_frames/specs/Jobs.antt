@@ -5,7 +5,7 @@ use Rattle.mw_logic.specs.Terms.{terms_of}
 use Rattle.mw_logic.specs.Signature.{Signature, IsSuccessor}
 use Rattle.mw_logic.specs.Parts.{number_of_terms}
 use Rattle.mw_logic.specs.NormalForm.{is_comm, arranged}
-use Rattle.mw_machine.specs.Positions.{position}
+use Rattle.mw_position.specs.Positions.{position}
 use Rattle.mw_matching.specs.Matches.{evaluated}
 use Rattle.mw_pattern.specs.Clean.{clean}
 use Rattle.mw_deduction.specs.Standing.{Open, round}

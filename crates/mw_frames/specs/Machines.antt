@@ -25,6 +25,10 @@ with_job d x = record { frames = d.frames; done = d.done; jobs = d.jobs ++ x ∷
 abbrev pub FallsFrom : Module → Frame → Data → Machine → Hand → Type 0
 FallsFrom M f old new h = work_of M.signature (data_of M new) h < suc (work M.signature old.values (f ∷ old.frames) old.jobs)
 
+-- no more is left, with nothing in hand in the frame
+abbrev pub StaysFrom : Module → Frame → Data → Machine → Type 0
+StaysFrom M f old new = work M.signature (data_of M new).values (f ∷ (data_of M new).frames) (data_of M new).jobs ≤ work M.signature old.values (f ∷ old.frames) old.jobs
+
 -- Own arguments of a frame, in order, are cut where the term x comes among them.
 pub record IsCutAt (sig : Signature) (f : ℕ) (own : RawTerms) (x : RawTerm) (i : ℕ) : Type 0 where
   pub bound : i ≤ number_of_terms own

@@ -8,8 +8,8 @@ use Rattle.mw_logic.specs.Parts.{nested, IsTooDeep}
 use Rattle.mw_logic.specs.NormalForm.{normal_form, height}
 use Rattle.mw_logic.specs.Module.{Module, Statement, IsStatement}
 use Rattle.mw_canon.specs.Canonical.{meant}
-use Rattle.mw_machine.specs.Simple.{AreSides}
-use Rattle.mw_machine.specs.Variables.{placed}
+use Rattle.mw_least.specs.Workable.{AreSides}
+use Rattle.mw_position.specs.Variables.{placed}
 use Rattle.mw_least.specs.Workable.{IsPlainEquation}
 use Rattle.mw_solving.specs.Values.{AreValues}
 use Rattle.mw_stack.specs.Hidden.{IsHidden}

@@ -9,7 +9,7 @@ ghost use Rattle.mw_logic.specs.Parts.{is_assoc, continues};
 ghost use Rattle.mw_logic.specs.NormalForm.{is_comm};
 ghost use Rattle.mw_logic.specs.Module.{Module};
 ghost use Rattle.mw_logic.proofs.Canonical.{Each};
-ghost use Rattle.mw_machine.specs.Positions.{position};
+ghost use Rattle.mw_position.specs.Positions.{position};
 ghost use Rattle.mw_matching.specs.Matches.{evaluated_all};
 ghost use Rattle.mw_pattern.specs.Clean.{clean};
 ghost use Rattle.mw_stack.specs.Own.{spread};

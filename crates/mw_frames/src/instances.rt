@@ -2,7 +2,7 @@
 ghost use Rattle.std.specs.Prelude.{◌≡◌, IfOk, unwrap_or, slice_get};
 ghost use Rattle.mw_logic.specs.Term.{variable as a_variable};
 ghost use Rattle.mw_logic.specs.Terms.{terms_of};
-ghost use Rattle.mw_machine.specs.Positions.{position};
+ghost use Rattle.mw_position.specs.Positions.{position};
 ghost use Rattle.mw_matching.specs.Matches.{evaluated, evaluated_all};
 ghost use Rattle.mw_pattern.specs.Clean.{clean};
 

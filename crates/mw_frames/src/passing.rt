@@ -11,13 +11,14 @@ ghost use Rattle.mw_trail.specs.Tracks.{moves};
 ghost use Rattle.mw_stack.specs.Own.{own, spread, IsOrdered};
 ghost use Rattle.mw_frames.specs.Jobs.{term_of, work};
 ghost use Rattle.mw_frames.specs.State.{Run, IsRun, InHand, Settled, Holds, IsDone, IsAtHand};
-ghost use Rattle.mw_frames.specs.Machines.{data_of, with_job, FallsFrom, IsCutAt};
+ghost use Rattle.mw_frames.specs.Machines.{data_of, with_job, FallsFrom, StaysFrom, IsCutAt};
 ghost use Rattle.mw_frames.specs.declared.job.Job.{Job as JobOf};
 ghost use Rattle.mw_frames.specs.declared.job.Frame.{Frame as FrameOf};
 
 use crate::job::{Frame, Hand, Job};
 use crate::machine::Machine;
 use crate::waiting::term_at;
+use crate::whole::pop_behind;
 use mw_canon::{Axioms, Facts};
 use mw_stack::{close, place_of, put};
 use mw_term::{OpId, Term};
@@ -86,29 +87,8 @@ fn enter<'m>(
     Ok(Hand::One(job))
 }
 
-/// A job that waited comes next: it is done, or goes in hand.
-fn next<'m>(
-    alloc: Global,
-    facts: &Facts,
-    machine: &mut Machine<'m>,
-    top: Frame,
-    job: Job<'m>,
-) -> Result<Hand<'m>, AllocError>
-    ensures means { (K : Run) (k : ℕ) → IsRun K facts.now → top.waits ≤ length machine.old.jobs.items → Settled K k (with_job (data_of K.over machine.old) job.entry) top
-        → IfOk result (Holds K k (data_of K.over machine.new)) }
-    ensures falls { (M : Module) → IfOk result (FallsFrom M top (with_job (data_of M machine.old) job.entry) machine.new) }
-{
-    match job {
-        Job::Normal(term) => {
-            put(alloc, facts, top.op, &mut machine.done, top.from, term)?;
-            Ok(Hand::Over(top))
-        }
-        job => enter(facts, machine, top, job),
-    }
-}
-
 /// All arguments of a frame are done: the term that it is.
-fn finish<'m>(
+pub(crate) fn finish<'m>(
     alloc: Global,
     facts: &Facts,
     machine: &mut Machine<'m>,
@@ -126,22 +106,32 @@ fn finish<'m>(
     Ok(Hand::One(Job::Try(term)))
 }
 
-/// The next argument of a frame, or the term that it is.
+/// The next argument of a frame that isn't known to be normal goes in hand, and those before it are done; none where
+/// all are done.
 pub(crate) fn pass<'m>(
     alloc: Global,
     facts: &Facts,
     machine: &mut Machine<'m>,
     top: Frame,
-) -> Result<Hand<'m>, AllocError>
-    ensures means { (K : Run) (k : ℕ) → IsRun K facts.now → Settled K k (data_of K.over machine.old) top → IfOk result (Holds K k (data_of K.over machine.new)) }
-    ensures falls { (M : Module) → IfOk result (FallsFrom M top (data_of M machine.old) machine.new) }
+) -> Result<Option<Hand<'m>>, AllocError>
+    ensures means { (K : Run) (k : ℕ) → IsRun K facts.now → Settled K k (data_of K.over machine.old) top
+        → IfOk result (λ o. MatchOption o (Settled K k (data_of K.over machine.new) top × (length machine.new.jobs.items ≤ top.waits))
+        (Holds K k (data_of K.over machine.new))) }
+    ensures falls { (M : Module) → IfOk result (λ o. MatchOption o (StaysFrom M top (data_of M machine.old) machine.new)
+        (FallsFrom M top (data_of M machine.old) machine.new)) }
 {
-    if machine.jobs.len() > top.waits {
-        if let Some(job) = machine.jobs.pop() {
-            return next(alloc, facts, machine, top, job);
+    while let Some(job) = pop_behind(&mut machine.jobs, top.waits) {
+        match job {
+            Job::Normal(term) => {
+                put(alloc, facts, top.op, &mut machine.done, top.from, term)?;
+            }
+            job => {
+                let hand = enter(facts, machine, top, job)?;
+                return Ok(Some(hand));
+            }
         }
     }
-    finish(alloc, facts, machine, top)
+    Ok(None)
 }
 
 /// A term leaves the hole of a frame, where it is done.

@@ -12,7 +12,7 @@ use crate::job::{Frame, Hand, Job};
 use crate::looking::{Asked, Step, look, settle};
 use crate::machine::Machine;
 use crate::opening::{open_made, open_term};
-use crate::passing::pass;
+use crate::passing::{finish, pass};
 use mw_canon::{Axioms, Facts};
 use std::alloc::{AllocError, Global};
 
@@ -26,6 +26,24 @@ fn is_complete(facts: &Facts, machine: &Machine<'_>, top: Frame) -> bool
     matches!(facts.axioms(top.op), Axioms::Plain)
 }
 
+/// All arguments of a frame are done: equations are asked for, or the term is made that it is.
+fn all_done<'m>(
+    alloc: Global,
+    facts: &Facts,
+    machine: &mut Machine<'m>,
+    top: Frame,
+) -> Result<Step<'m>, AllocError>
+    ensures means { (K : Run) (k : ℕ) → IsRun K facts.now → length machine.old.jobs.items ≤ top.waits → Settled K k (data_of K.over machine.old) top
+        → IfOk result (Answers K k (data_of K.over machine.new)) }
+    ensures falls { (M : Module) → IfOk result (FallsBelow M (work_of M.signature (data_of M machine.old) (OverOf top)) machine.new) }
+{
+    if is_complete(facts, machine, top) {
+        return Ok(Step::Asks(Asked::Own(top)));
+    }
+    let hand = finish(alloc, facts, machine, top)?;
+    Ok(Step::Goes(hand))
+}
+
 /// The frame in which nothing is in hand goes on.
 fn over<'m>(
     alloc: Global,
@@ -36,11 +54,13 @@ fn over<'m>(
     ensures means { (K : Run) (k : ℕ) → IsRun K facts.now → Settled K k (data_of K.over machine.old) top → IfOk result (Answers K k (data_of K.over machine.new)) }
     ensures falls { (M : Module) → IfOk result (FallsBelow M (work_of M.signature (data_of M machine.old) (OverOf top)) machine.new) }
 {
-    if is_complete(facts, machine, top) {
-        return Ok(Step::Asks(Asked::Own(top)));
+    match pass(alloc, facts, machine, top)? {
+        Some(hand) => Ok(Step::Goes(hand)),
+        None => {
+            let step = all_done(alloc, facts, machine, top)?;
+            Ok(step)
+        }
     }
-    let hand = pass(alloc, facts, machine, top)?;
-    Ok(Step::Goes(hand))
 }
 
 /// A job in hand is looked at.

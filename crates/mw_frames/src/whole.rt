@@ -48,7 +48,7 @@ fn put_job(
 }
 
 /// Takes the last job out, where it stands from a place on.
-fn pop_behind<'m>(jobs: &mut Vec<Job<'m>>, waits: usize) -> Option<Job<'m>>
+pub(crate) fn pop_behind<'m>(jobs: &mut Vec<Job<'m>>, waits: usize) -> Option<Job<'m>>
     ensures items { jobs.old.items ≡ jobs.new.items ++ option_to_list result }
     ensures none { IsNone result → length jobs.old.items ≤ waits }
     ensures some { IsSome result → waits < length jobs.old.items }

@@ -1,24 +1,25 @@
 -- Equations that are asked one after another.
-use Rattle.std.specs.Prelude.{◌≡◌, ◌<◌, ◌≤◌, ◌+◌, ◌⊎◌, ℕ, zero, suc, List, [], ◌∷◌, ◌++◌, length, true, false, Option, Some, None, MatchOption, IfSome, is_some, slice_get, IsTrue, ⊤, refl}
+use Rattle.std.specs.Prelude.{◌≡◌, ◌<◌, ◌≤◌, ◌+◌, ◌-◌, ◌⊎◌, ℕ, zero, suc, List, [], ◌∷◌, ◌++◌, length, Bool, true, false, if◌then◌else◌, Option, Some, None, MatchOption, IfSome, is_some, slice_get, IsTrue, ⊤, refl}
 use Rattle.std.proofs.Common.{Box, Global, sym, ap, subst, ◌∙◌, arith, inl, inr, ⊎_elim}
 use Rattle.std.proofs.lemmas.Bool.{both_ways, or_left, or_right}
 use Rattle.std.proofs.lemmas.List.{length-map}
 use Rattle.std.proofs.lemmas.Option.{same_Some, slice_get_within}
+use Rattle.mw_logic.specs.Signature.{Member}
 use Rattle.mw_logic.specs.Term.{Variable, RawTerm, numeral, quoted, variable, apply, RawTerms, nil, cons}
 use Rattle.mw_logic.specs.Module.{Module, Statement, IsStatement}
 use Rattle.mw_logic.specs.NormalForm.{normal_form}
 use Rattle.mw_logic.specs.Substitution.{occurs, occurs_in}
 use Rattle.mw_logic.proofs.SameConditions.{same_variable-refl}
 use Rattle.mw_least.specs.Workable.{IsWorkable}
-use Rattle.mw_machine.specs.Positions.{IsWithin, AreWithin}
-use Rattle.mw_machine.specs.Variables.{is_in, placed, all_placed}
-use Rattle.mw_machine.proofs.Meeting.{place-within}
+use Rattle.mw_position.specs.Positions.{IsWithin, AreWithin}
+use Rattle.mw_position.specs.Variables.{is_in, placed, all_placed}
+use Rattle.mw_position.proofs.Meeting.{place-within}
 use Rattle.mw_match.proofs.Picking.{at_index, member_at}
 use Rattle.mw_pattern.specs.Clean.{clean}
 use Rattle.mw_solving.specs.Values.{IsValue}
 use Rattle.mw_index.specs.Equations.{IsLeft, IsSearchedLeft}
-use Rattle.mw_index.specs.Index.{operator_of, asked, IsOf, IsIndexOf}
-use Rattle.mw_index.specs.Choices.{Tried, tried_of, AreTried, AreAllTried, IsChoice, IsKept, IsUnderWay, IsAnswer, IsSized, Covers, IsSearch, IsPlainOne, IsSearchedOne}
+use Rattle.mw_index.specs.Index.{operator_of, asked, own_asked, others_asked, IsNextOf, IsOf, IsIndexOf}
+use Rattle.mw_index.specs.Choices.{Tried, tried_of, AreTried, AreAllTried, IsChoice, IsKept, IsUnderWay, IsAnswer, IsSized, Covers, Stays, Passes, IsSearch, IsPlainOne, IsSearchedOne}
 use Rattle.mw_index.specs.declared.equations.Equation.{Equation}
 use Rattle.mw_index.specs.declared.equations.Searched.{Searched}
 use Rattle.mw_index.specs.declared.equations.Left.{Left}
@@ -75,9 +76,30 @@ sized_within st (Some q) w (e, n) = (
   subst (λ n. IsWithin n (clean q.equation.now.right)) (sym n) (subst (λ (s : Equation). IsWithin (length st.sorts) (clean s.right)) (sym e) w),
 )
 
+-- members of two lists, one behind the other
+member_front : (x : Equation) (xs ys : List Equation) → Member x xs → Member x (xs ++ ys)
+member_front x [] ys h = absurd h
+member_front x (z ∷ xs) ys h = ⊎_elim (λ e. inl e) (λ k. inr (member_front x xs ys k)) h
+
+member_behind : (x : Equation) (xs ys : List Equation) → Member x ys → Member x (xs ++ ys)
+member_behind x [] ys h = h
+member_behind x (z ∷ xs) ys h = inr (member_behind x xs ys h)
+
+member_either : (x : Equation) (xs ys : List Equation) → Member x (xs ++ ys) → Member x xs ⊎ Member x ys
+member_either x [] ys h = inr h
+member_either x (z ∷ xs) ys h = ⊎_elim (λ e. inl (inl e)) (λ k. ⊎_elim (λ a. inl (inr a)) (λ b. inr b) (member_either x xs ys k)) h
+
 -- what is asked is an executable equation
-pub asked_of : (M : Module) (m : Index) (top : Option ℕ) (i : ℕ) (st : Equation) → IsIndexOf M m → slice_get (asked m top) i ≡ Some st → IsOf M top st
-asked_of M m top i st h e = h.sound top st (member_at st (asked m top) i e)
+asked_is : (m : Index) (top : Option ℕ) → asked m top ≡ own_asked m top ++ others_asked m top
+asked_is m None = refl
+asked_is m (Some f) = refl
+
+pub asked_of : (M : Module) (m : Index) (top : Option ℕ) (i j : ℕ) (st : Equation) (own : Bool) → IsIndexOf M m
+    → IsNextOf (slice_get (own_asked m top) i) (slice_get (others_asked m top) j) st own → IsOf M top st
+asked_of M m top i j st true h e =
+    h.sound top st (subst (Member st) (sym (asked_is m top)) (member_front st (own_asked m top) (others_asked m top) (member_at st (own_asked m top) i e.0)))
+asked_of M m top i j st false h e =
+    h.sound top st (subst (Member st) (sym (asked_is m top)) (member_behind st (own_asked m top) (others_asked m top) (member_at st (others_asked m top) j e.0)))
 
 no_value : {B : Type 0} (o : Option B) (P : B → Type 0) → o ≡ None → MatchOption o ⊤ P
 no_value None P e = tt
@@ -94,17 +116,32 @@ split_below (suc i) zero l = absurd (omega (arith, l))
 split_below (suc i) (suc n) l = ⊎_elim (λ a. inl (omega (arith, a))) (λ a. inr (ap suc a)) (split_below i n (omega (arith, l)))
 
 -- at the beginning
-pub nothing_passed : (M : Module) (m : Index) (t : RawTerm) (c : Choices) → c.next ≡ 0 → c.given ≡ false → c.search ≡ None → c.subject ≡ None → Covers M m t [] c
-nothing_passed M m t c n g s u = record {
+pub nothing_passed : (M : Module) (m : Index) (t : RawTerm) (c : Choices) → c.own ≡ 0 → c.others ≡ 0 → c.given ≡ false → c.search ≡ None → c.subject ≡ None → Covers M m t [] c
+nothing_passed M m t c n o g s u = record {
   subject = subst (IsKept t) (sym u) tt;
   passed = λ i st e l. absurd (omega (arith, l, n));
-  under_way = λ st e. record { given = λ h. absurd (both_ways _ g h); search = no_value _ _ s };
+  passed_others = λ i st e l. absurd (omega (arith, l, o));
+  under_way = λ st b e. record { given = λ h. absurd (both_ways _ g h); search = no_value _ _ s };
 }
 
+-- the next one of two lists is one alone
+next_alone : (a b : Option Equation) (st st' : Equation) (own own' : Bool) → IsNextOf a b st own → IsNextOf a b st' own' → st ≡ st'
+next_alone a b st st' true true h k = same_Some st st' (sym h.0 ∙ k.0)
+next_alone a b st st' true false h k = absurd (both_ways _ k.1 h.1)
+next_alone a b st st' false true h k = absurd (both_ways _ h.1 k.1)
+next_alone a b st st' false false h k = same_Some st st' (sym h.0 ∙ k.0)
+
 module _ (M : Module) (m : Index) (t : RawTerm) (tried : List Tried) where
-  module _ (c new : Choices) (st : Equation) (h : Covers M m t tried c) (is : slice_get (asked m (operator_of t)) c.next ≡ Some st) (stays : new.next ≡ c.next) where
-    same_one : (s : Equation) → slice_get (asked m (operator_of t)) new.next ≡ Some s → st ≡ s
-    same_one s e = same_Some st s (sym is ∙ ap (slice_get (asked m (operator_of t))) (sym stays) ∙ e)
+  abbrev mine : List Equation
+  mine = own_asked m (operator_of t)
+
+  abbrev other : List Equation
+  other = others_asked m (operator_of t)
+
+  module _ (c new : Choices) (st : Equation) (own : Bool) (h : Covers M m t tried c) (is : IsNextOf (slice_get mine c.own) (slice_get other c.others) st own) (stays : Stays c new) where
+    same_one : (s : Equation) (b : Bool) → IsNextOf (slice_get mine new.own) (slice_get other new.others) s b → st ≡ s
+    same_one s b e = next_alone (slice_get mine c.own) (slice_get other c.others) st s own b is
+        (subst (λ i. IsNextOf (slice_get mine i) (slice_get other c.others) s b) stays.own (subst (λ j. IsNextOf (slice_get mine new.own) (slice_get other j) s b) stays.others e))
 
     -- a choice
     pub chosen_covers : (o : Option Choice) → is_some o ≡ true → IsAnswer M t tried st o new → MatchOption o (AreAllTried M t tried) (λ q. IsChoice M t q × Covers M m t (tried ++ tried_of q ∷ []) new)
@@ -114,36 +151,66 @@ module _ (M : Module) (m : Index) (t : RawTerm) (tried : List Tried) where
           choice,
           record {
             subject = a.subject;
-            passed = λ i z e l g k. are_tried_more M.signature tried (tried_of q ∷ []) t z.number e (h.passed i z e (omega (arith, l, stays)) g k);
-            under_way = λ z e. subst (λ z. IsUnderWay M t (tried ++ tried_of q ∷ []) z new) (same_one z e) under;
+            passed = λ i z e l g k. are_tried_more M.signature tried (tried_of q ∷ []) t z.number e (h.passed i z e (omega (arith, l, stays.own)) g k);
+            passed_others = λ i z e l g k. are_tried_more M.signature tried (tried_of q ∷ []) t z.number e (h.passed_others i z e (omega (arith, l, stays.others)) g k);
+            under_way = λ z b e. subst (λ z. IsUnderWay M t (tried ++ tried_of q ∷ []) z new) (same_one z b e) under;
           },
         )
 
     -- none: the next equation is asked
-    pub passed_covers : (o : Option Choice) → is_some o ≡ false → IsAnswer M t tried st o new → (next : Choices) → next.next ≡ new.next + 1 → next.given ≡ false → next.search ≡ None → next.subject ≡ new.subject → Covers M m t tried next
-    passed_covers (Some q) s a next n g r u = absurd (both_ways _ s refl)
-    passed_covers None s a next n g r u = record {
-      subject = subst (IsKept t) (sym u) a.subject;
-      passed = passed;
-      under_way = λ z e. record {
-        given = λ k. absurd (both_ways _ g k);
-        search = no_value _ _ r;
+    pub passed_covers : (o : Option Choice) → is_some o ≡ false → IsAnswer M t tried st o new → (next : Choices) → Passes own new next → Covers M m t tried next
+    passed_covers (Some q) s a next p = absurd (both_ways _ s refl)
+    passed_covers None s a next p = record {
+      subject = subst (IsKept t) (sym p.subject) a.subject;
+      passed = in_first own refl;
+      passed_others = in_second own refl;
+      under_way = λ z b e. record {
+        given = λ k. absurd (both_ways _ p.given k);
+        search = no_value _ _ p.search;
       };
     }
       where
-        passed : (i : ℕ) (z : Equation) (e : Statement) → i < next.next → slice_get (asked m (operator_of t)) i ≡ Some z → IsStatement M z.number e → AreTried M.signature t tried z.number e
-        passed i z e l k b = ⊎_elim
-            (λ j. h.passed i z e (omega (arith, j, stays)) k b)
-            (λ (j : i ≡ new.next).
-            let w : st ≡ z = same_one z (ap (slice_get (asked m (operator_of t))) (sym j) ∙ k) in
-            subst (λ (z : Equation). AreTried M.signature t tried z.number e) w (a.answer e (subst (λ (z : Equation). IsStatement M z.number e) (sym w) b)))
-            (split_below i new.next (omega (arith, l, n)))
+        it : (z : Equation) (e : Statement) → st ≡ z → IsStatement M z.number e → AreTried M.signature t tried z.number e
+        it z e w b = subst (λ (z : Equation). AreTried M.signature t tried z.number e) w (a.answer e (subst (λ (z : Equation). IsStatement M z.number e) (sym w) b))
+
+        in_first : (b : Bool) → own ≡ b → (i : ℕ) (z : Equation) (e : Statement) → i < next.own → slice_get mine i ≡ Some z → IsStatement M z.number e → AreTried M.signature t tried z.number e
+        in_first true o i z e l k y =
+            let n : next.own ≡ new.own + 1 = p.own ∙ ap (λ b. new.own + (if b then 1 else 0)) o in
+            let here = subst (IsNextOf (slice_get mine c.own) (slice_get other c.others) st) o is in
+            ⊎_elim
+            (λ j. h.passed i z e (omega (arith, j, stays.own)) k y)
+            (λ (j : i ≡ new.own). it z e (same_Some st z (sym here.0 ∙ ap (slice_get mine) (sym stays.own ∙ sym j) ∙ k)) y)
+            (split_below i new.own (omega (arith, l, n)))
+        in_first false o i z e l k y =
+            let n : next.own ≡ new.own + 0 = p.own ∙ ap (λ b. new.own + (if b then 1 else 0)) o in h.passed i z e (omega (arith, l, n, stays.own)) k y
+
+        in_second : (b : Bool) → own ≡ b → (i : ℕ) (z : Equation) (e : Statement) → i < next.others → slice_get other i ≡ Some z → IsStatement M z.number e → AreTried M.signature t tried z.number e
+        in_second false o i z e l k y =
+            let n : next.others ≡ new.others + 1 = p.others ∙ ap (λ b. new.others + (if b then 0 else 1)) o in
+            let here = subst (IsNextOf (slice_get mine c.own) (slice_get other c.others) st) o is in
+            ⊎_elim
+            (λ j. h.passed_others i z e (omega (arith, j, stays.others)) k y)
+            (λ (j : i ≡ new.others). it z e (same_Some st z (sym here.0 ∙ ap (slice_get other) (sym stays.others ∙ sym j) ∙ k)) y)
+            (split_below i new.others (omega (arith, l, n)))
+        in_second true o i z e l k y =
+            let n : next.others ≡ new.others + 0 = p.others ∙ ap (λ b. new.others + (if b then 0 else 1)) o in h.passed_others i z e (omega (arith, l, n, stays.others)) k y
 
   -- no equation is left
-  pub all_passed : (c : Choices) → IsIndexOf M m → IsValue M.signature t → length (asked m (operator_of t)) ≤ c.next → Covers M m t tried c → AreAllTried M t tried
-  all_passed c index v l h k e is r w top s sol =
-      let (st, member, number) = index.complete k e is r t w v top s sol in
-      let (i, at) = at_index st (asked m (operator_of t)) member in
-      let b = slice_get_within (asked m (operator_of t)) i st at in
-      let (x, n, q, same) = h.passed i st e (omega (arith, b, l)) at (subst (λ k. IsStatement M k e) (sym number) is) w top s sol in
-      (x, n, q ∙ number, same)
+  pub all_passed : (c : Choices) → IsIndexOf M m → IsValue M.signature t → length mine ≤ c.own → length other ≤ c.others → Covers M m t tried c → AreAllTried M t tried
+  all_passed c index v l k h n e is r w top s sol =
+      let (st, member, number) = index.complete n e is r t w v top s sol in
+      let statement = subst (λ k. IsStatement M k e) (sym number) is in
+      let tried_it : AreTried M.signature t tried st.number e = ⊎_elim
+      (λ a. let (i, at) = at_index st mine a in let b = slice_get_within mine i st at in h.passed i st e (omega (arith, b, l)) at statement)
+      (λ a. let (i, at) = at_index st other a in let b = slice_get_within other i st at in h.passed_others i st e (omega (arith, b, k)) at statement)
+      (member_either st mine other (subst (Member st) (asked_is m (operator_of t)) member)) in
+      let (x, y, q, same) = tried_it w top s sol in (x, y, q ∙ number, same)
+
+-- fewer are left when one was passed
+pub fewer_left : (m : Index) (top : Option ℕ) (c new next : Choices) (st : Equation) (own : Bool)
+    → IsNextOf (slice_get (own_asked m top) c.own) (slice_get (others_asked m top) c.others) st own → Stays c new → Passes own new next
+    → (length (own_asked m top) - next.own) + (length (others_asked m top) - next.others) < (length (own_asked m top) - c.own) + (length (others_asked m top) - c.others)
+fewer_left m top c new next st true is stays p =
+    let w = slice_get_within (own_asked m top) c.own st is.0 in omega (arith, p.own, p.others, w, stays.own, stays.others)
+fewer_left m top c new next st false is stays p =
+    let w = slice_get_within (others_asked m top) c.others st is.0 in omega (arith, p.own, p.others, w, stays.own, stays.others)

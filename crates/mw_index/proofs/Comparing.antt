@@ -20,15 +20,15 @@ use Rattle.mw_logic.proofs.SolutionLaws.{solution_kept}
 use Rattle.mw_canon.specs.Canonical.{meant}
 use Rattle.mw_deduction.specs.Tops.{IsTop, whole, several}
 use Rattle.mw_least.specs.Workable.{IsWorkable}
-use Rattle.mw_machine.specs.Positions.{fill, fill_all, IsNumbered, counted, counted_all, Begins}
-use Rattle.mw_machine.specs.Variables.{met, placed, sorts_of}
-use Rattle.mw_machine.proofs.Values.{values_each}
+use Rattle.mw_position.specs.Positions.{fill, fill_all, IsNumbered, counted, counted_all, Begins}
+use Rattle.mw_position.specs.Variables.{met, placed, sorts_of}
+use Rattle.mw_position.proofs.Values.{values_each}
 use Rattle.mw_match.proofs.Candidates.{known}
 use Rattle.mw_matching.specs.Matches.{evaluated, IsMatch}
 use Rattle.mw_solving.specs.Values.{IsValue, AreValues, AreOfSorts}
 use Rattle.mw_solving.proofs.Solving.{match_values, match_solves}
 use Rattle.mw_solving.proofs.Solved.{solved_same, solved_values, solved_sorts, solved_size}
-use Rattle.mw_machine.proofs.Begins.{begins_same, begins_whole}
+use Rattle.mw_position.proofs.Begins.{begins_same, begins_whole}
 use Rattle.mw_match.specs.Matching.{Decides}
 use Rattle.mw_search.specs.Lacking.{HaveTheirSorts, OneLacksItsSort}
 use Rattle.mw_index.specs.Choices.{AreFitting, IsPlainOne, solution_of}

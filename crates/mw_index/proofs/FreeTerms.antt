@@ -4,7 +4,7 @@ use Rattle.std.proofs.Common.{ap, ◌∙◌}
 use Rattle.mw_logic.specs.Term.{RawTerm, numeral, quoted, variable, apply, RawTerms, nil, cons}
 use Rattle.mw_logic.specs.Signature.{Signature}
 use Rattle.mw_logic.specs.NormalForm.{counted, applied_in}
-use Rattle.mw_machine.specs.Positions.{fill, fill_all}
+use Rattle.mw_position.specs.Positions.{fill, fill_all}
 use Rattle.mw_canon.specs.Axioms.{HasAxioms}
 use Rattle.mw_canon.specs.declared.axioms.Axioms.TheVariants.{Plain}
 use Rattle.mw_matching.specs.Matches.{evaluated, evaluated_all}

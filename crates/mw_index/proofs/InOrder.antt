@@ -5,9 +5,9 @@ use Rattle.std.proofs.lemmas.Bool.{both_ways, or_left, or_right}
 use Rattle.mw_logic.specs.Term.{Variable, RawTerm, numeral, quoted, variable, apply, RawTerms, nil, cons}
 use Rattle.mw_logic.specs.Substitution.{same_variable, occurs, occurs_in}
 use Rattle.mw_logic.proofs.SameConditions.{same_variable-is, same_variable-refl}
-use Rattle.mw_machine.specs.Positions.{IsNumbered, AreNumbered, counted}
-use Rattle.mw_machine.specs.Variables.{is_in, met, all_met, place, placed, all_placed}
-use Rattle.mw_machine.proofs.Meeting.{neither, is_in-append, numbered_met}
+use Rattle.mw_position.specs.Positions.{IsNumbered, AreNumbered, counted}
+use Rattle.mw_position.specs.Variables.{is_in, met, all_met, place, placed, all_placed}
+use Rattle.mw_position.proofs.Meeting.{neither, is_in-append, numbered_met}
 
 place_behind : (x : Variable) (ys zs : List Variable) → is_in x ys ≡ false → place x (ys ++ zs) ≡ length ys + place x zs
 place_behind x [] zs h = sym (omega arith)

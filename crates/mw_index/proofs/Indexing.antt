@@ -9,7 +9,8 @@ use Rattle.mw_logic.specs.Module.{Module, Statement, IsStatement}
 use Rattle.mw_logic.specs.NormalForm.{normal_form}
 use Rattle.mw_logic.specs.Parts.{nested}
 use Rattle.mw_logic.specs.Substitution.{Substitution, IsSolution}
-use Rattle.mw_pattern.proofs.Indexing.{more, get_last, old_or_last, one_more, number_at}
+use Rattle.mw_pattern.proofs.Lists.{got}
+use Rattle.mw_index.proofs.Listed.{more, get_last, old_or_last, one_more}
 use Rattle.mw_least.specs.Workable.{IsWorkable}
 use Rattle.mw_solving.specs.Values.{IsValue}
 use Rattle.mw_deduction.specs.Tops.{IsTop}
@@ -79,7 +80,7 @@ module _ (M : Module) (n : ℕ) (e : Statement) (l : n < length M.statements) (i
     where
       here : IsStatement (upto M (n + 1)) st.number e
       here =
-          let a : at_number M.statements (suc n) ≡ Some e = number_at M.statements n e l is in
+          let a : at_number M.statements (suc n) ≡ Some e = got M.statements n e l is in
           let c : length (take n M.statements) ≡ n = length-take-le n M.statements (omega (arith, l)) in
           let b : st.number ≡ suc (length (take n M.statements)) = omega (arith, number, c) in
           record { is_there = ap (λ ss. at_number ss st.number) next_is ∙ ap (at_number (take n M.statements ++ e ∷ [])) b ∙ get_last (take n M.statements) e; executable = x }
@@ -96,7 +97,7 @@ module _ (M : Module) (n : ℕ) (e : Statement) (l : n < length M.statements) (i
           (λ a. let (z, j, c) = h.complete k d a f t w v d_top s sol in (z, p.kept (operator_of t) z j, c))
           (λ a.
           let sol' : IsSolution M.signature e.left (nested M.signature w) [] s = subst (λ (d : Statement). IsSolution M.signature d.left (nested M.signature w) [] s) (sym a.1) sol in
-          let raw = (ok.sides (suc n) e (number_at M.statements n e l is)).left in
+          let raw = (ok.sides (suc n) e (got M.statements n e l is)).left in
           let asks : Asks q (operator_of w) = section_asked M.signature ok.signature.accepted ok.signature.well_sorted e.left raw w (top_value M.signature ok.signature.accepted t w d_top v) s sol' q section in
           (st, p.put (operator_of t) (subst (Asks q) (top_operator M.signature t w d_top) asks), number ∙ omega (arith, a.0)))
           (is_new k d is_there)

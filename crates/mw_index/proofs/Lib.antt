@@ -1,3 +1,4 @@
+pub mod Listed
 -- Lists of terms and of patterns, one by one.
 pub mod Walking
 -- Terms without axioms.

@@ -4,10 +4,9 @@ use Rattle.std.specs.List.{zip}
 use Rattle.std.proofs.Common.{sym, ap, ◌∙◌, arith, inl, inr, append_assoc, append-nil, drop_of_length-le}
 use Rattle.mw_logic.specs.Term.{Variable, RawTerm}
 use Rattle.mw_logic.specs.Signature.{Member}
-use Rattle.mw_machine.specs.Variables.{bound_values, is_in, AreDistinct, place}
-use Rattle.mw_machine.proofs.Placing.{value_of, values_of, at_place, values_zip}
-use Rattle.mw_pattern.proofs.Lists.{drop_at}
-use Rattle.mw_match.proofs.Sorting.{got}
+use Rattle.mw_position.specs.Variables.{bound_values, is_in, AreDistinct, place}
+use Rattle.mw_position.proofs.Placing.{value_of, values_of, at_place, values_zip}
+use Rattle.mw_pattern.proofs.Lists.{drop_at, got}
 use Rattle.mw_term.specs.declared.subst.Binding.{Binding}
 use Rattle.mw_index.specs.Choices.{in_order}
 

@@ -2,7 +2,7 @@
 use Rattle.std.specs.Prelude.{◌≡◌, ◌≢◌, ◌⊎◌, ℕ, List, [], ◌∷◌, ◌++◌, Option, Some, None, refl}
 use Rattle.std.proofs.Common.{sym, ap, subst, inl, inr, ⊎_elim}
 use Rattle.mw_logic.specs.Signature.{Member}
-use Rattle.mw_pattern.proofs.Indexing.{same_or_not}
+use Rattle.mw_index.proofs.Listed.{same_or_not}
 use Rattle.mw_poset.proofs.Members.{member-left, member-right, member-append, member-last, member-push}
 use Rattle.mw_index.specs.Index.{listed, asked}
 use Rattle.mw_index.specs.Sections.{Asks, Puts}

@@ -17,8 +17,8 @@ use Rattle.mw_logic.proofs.InstanceLaws.{instance_same}
 use Rattle.mw_logic.proofs.SameConditions.{bound_some}
 use Rattle.mw_logic.proofs.SolutionLaws.{substitution_value}
 use Rattle.mw_canon.specs.Canonical.{meant}
-use Rattle.mw_machine.specs.Variables.{is_in, AreDistinct, sorts_of, bound_variables, bound_values}
-use Rattle.mw_machine.proofs.Placing.{value_of, values_of, bound_zip}
+use Rattle.mw_position.specs.Variables.{is_in, AreDistinct, sorts_of, bound_variables, bound_values}
+use Rattle.mw_position.proofs.Placing.{value_of, values_of, bound_zip}
 use Rattle.mw_solving.specs.Values.{IsValue, AreValues, AreOfSorts}
 use Rattle.mw_solving.proofs.Positions.{stands_in, meant_bound, zip_substitution, forms_of, same_solution}
 

@@ -12,9 +12,9 @@ use Rattle.mw_logic.specs.Substitution.{Substitution, is_bound, IsSubstitution, 
 use Rattle.mw_logic.proofs.SameSolutions.{same_solution-trans}
 use Rattle.mw_canon.specs.Canonical.{meant}
 use Rattle.mw_least.specs.Workable.{IsWorkable}
-use Rattle.mw_machine.specs.Variables.{is_in, place, bound_variables, bound_values}
-use Rattle.mw_machine.proofs.Placing.{values_of}
-use Rattle.mw_machine.proofs.Starting.{is_bound_in, same_length}
+use Rattle.mw_position.specs.Variables.{is_in, place, bound_variables, bound_values}
+use Rattle.mw_position.proofs.Placing.{values_of}
+use Rattle.mw_position.proofs.Placing.{is_bound_in, same_length}
 use Rattle.mw_match.specs.Solutions.{Coming, FitsSorts, Lacks, PassesTo}
 use Rattle.mw_match.specs.declared.solutions.Solution.{Solution}
 use Rattle.mw_poset.proofs.Members.{member-append, member-right, member-last}

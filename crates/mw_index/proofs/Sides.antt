@@ -13,8 +13,8 @@ use Rattle.mw_logic.proofs.Soundness.{normal_form-sound}
 use Rattle.mw_least.specs.Workable.{IsWorkable, IsPlainEquation}
 use Rattle.mw_compile.specs.Compiled.{IsCompiled, AreAmong}
 use Rattle.mw_compile.specs.declared.compiled.Compiled.{Compiled}
-use Rattle.mw_machine.specs.Variables.{is_in, met, AreDistinct, bound_variables}
-use Rattle.mw_machine.proofs.Meeting.{is_in-met, AreDistinct-met}
+use Rattle.mw_position.specs.Variables.{is_in, met, AreDistinct, bound_variables}
+use Rattle.mw_position.proofs.Meeting.{is_in-met, AreDistinct-met}
 use Rattle.mw_solving.proofs.Nesting.{nested_occurs}
 use Rattle.mw_solving.proofs.Compiled.{compiled_equal}
 use Rattle.mw_term.specs.declared.subst.Binding.{Binding}

@@ -18,7 +18,7 @@ use Rattle.mw_logic.proofs.Successor.{is_successor-sound}
 use Rattle.mw_logic.proofs.SolutionLaws.{solution_kept}
 use Rattle.mw_logic.proofs.Soundness.{IsLong, own_arguments-long, long-join, several-join, several-arranged, rebuilt-several, normal_form-sound}
 use Rattle.mw_logic.proofs.RawKept.{raw_kept}
-use Rattle.mw_machine.specs.Variables.{met, placed, all_placed}
+use Rattle.mw_position.specs.Variables.{met, placed, all_placed}
 use Rattle.mw_matching.specs.Matches.{Theory, evaluated, evaluated_all, IsMatch}
 use Rattle.mw_matching.proofs.Matches.{number_evaluated}
 use Rattle.mw_solving.specs.Values.{IsValue, AreValues}

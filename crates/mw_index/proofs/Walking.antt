@@ -7,8 +7,8 @@ use Rattle.mw_logic.specs.NormalForm.{normal_form, normal_forms}
 use Rattle.mw_logic.specs.Signature.{Signature}
 use Rattle.mw_logic.proofs.SortLaws.{join-nil, join_assoc}
 use Rattle.mw_logic.proofs.Pushed.{terms_of-append}
-use Rattle.mw_machine.specs.Positions.{IsNumbered, AreNumbered, counted, counted_all, IsWithin, AreWithin}
-use Rattle.mw_machine.specs.Variables.{placed, all_placed}
+use Rattle.mw_position.specs.Positions.{IsNumbered, AreNumbered, counted, counted_all, IsWithin, AreWithin}
+use Rattle.mw_position.specs.Variables.{placed, all_placed}
 use Rattle.mw_matching.specs.Matches.{evaluated, evaluated_all}
 use Rattle.mw_pattern.proofs.Lists.{drop_at}
 use Rattle.mw_pattern.specs.Clean.{clean, clean_all}

@@ -1,5 +1,5 @@
 -- The choices at a term: an equation with values of its variables that make its left side the term, or several of its arguments.
-use Rattle.std.specs.Prelude.{ℕ, ◌≡◌, ◌<◌, ◌⊎◌, Bool, true, false, List, [], ◌∷◌, ◌++◌, length, Option, Some, None, MatchOption, slice_get, IsFalse, ⊤}
+use Rattle.std.specs.Prelude.{ℕ, ◌≡◌, ◌<◌, ◌+◌, ◌⊎◌, Bool, true, false, if◌then◌else◌, List, [], ◌∷◌, ◌++◌, length, Option, Some, None, MatchOption, slice_get, IsFalse, ⊤}
 use Rattle.std.specs.List.{zip, filter_map}
 use Rattle.mw_logic.specs.Term.{Variable, RawTerm, RawTerms, apply}
 use Rattle.mw_logic.specs.Terms.{terms_of}
@@ -8,7 +8,7 @@ use Rattle.mw_logic.specs.Substitution.{Substitution, IsSolution, SameSolution}
 use Rattle.mw_logic.specs.Module.{Module, Statement, IsStatement}
 use Rattle.mw_logic.specs.Parts.{nested}
 use Rattle.mw_canon.specs.Canonical.{meant}
-use Rattle.mw_machine.specs.Positions.{fill_all}
+use Rattle.mw_position.specs.Positions.{fill_all}
 use Rattle.mw_search.specs.Lacking.{HaveTheirSorts, OneLacksItsSort}
 use Rattle.mw_deduction.specs.Tops.{IsTop}
 use Rattle.mw_solving.specs.Values.{AreValues}
@@ -16,7 +16,7 @@ use Rattle.mw_solving.specs.Inside.{IsProperPart, IsSolutionOf}
 use Rattle.mw_match.specs.Solutions.{Coming, FitsSorts, Lacks, AreNamed}
 use Rattle.mw_match.specs.declared.solutions.Solution.{Solution}
 use Rattle.mw_index.specs.Equations.{IsEquation, IsPlainLeft, IsSearchedLeft}
-use Rattle.mw_index.specs.Index.{operator_of, asked, IsOf}
+use Rattle.mw_index.specs.Index.{operator_of, own_asked, others_asked, IsNextOf, IsOf}
 use Rattle.mw_index.specs.declared.equations.Equation.{Equation}
 use Rattle.mw_index.specs.declared.equations.Searched.{Searched}
 use Rattle.mw_index.specs.declared.equations.Left.{Left}
@@ -97,8 +97,22 @@ pub record IsUnderWay (M : Module) (t : RawTerm) (tried : List Tried) (st : Equa
 -- Where the choices stand: each solution of an equation that they have passed is tried, and the next one is under way.
 pub record Covers (M : Module) (m : Index) (t : RawTerm) (tried : List Tried) (c : Choices) : Type 0 where
   pub subject : IsKept t c.subject
-  pub passed : (i : ℕ) (st : Equation) (e : Statement) → i < c.next → slice_get (asked m (operator_of t)) i ≡ Some st → IsStatement M st.number e → AreTried M.signature t tried st.number e
-  pub under_way : (st : Equation) → slice_get (asked m (operator_of t)) c.next ≡ Some st → IsUnderWay M t tried st c
+  pub passed : (i : ℕ) (st : Equation) (e : Statement) → i < c.own → slice_get (own_asked m (operator_of t)) i ≡ Some st → IsStatement M st.number e → AreTried M.signature t tried st.number e
+  pub passed_others : (i : ℕ) (st : Equation) (e : Statement) → i < c.others → slice_get (others_asked m (operator_of t)) i ≡ Some st → IsStatement M st.number e → AreTried M.signature t tried st.number e
+  pub under_way : (st : Equation) (own : Bool) → IsNextOf (slice_get (own_asked m (operator_of t)) c.own) (slice_get (others_asked m (operator_of t)) c.others) st own → IsUnderWay M t tried st c
+
+-- the same equation is under way
+pub record Stays (old new : Choices) : Type 0 where
+  pub own : new.own ≡ old.own
+  pub others : new.others ≡ old.others
+
+-- an equation more was passed, of the first list or of the second, and the next one hasn't begun
+pub record Passes (first : Bool) (old new : Choices) : Type 0 where
+  pub own : new.own ≡ old.own + (if first then 1 else 0)
+  pub others : new.others ≡ old.others + (if first then 0 else 1)
+  pub given : new.given ≡ false
+  pub search : new.search ≡ None
+  pub subject : new.subject ≡ old.subject
 
 -- What is answered for an equation: a choice, which is tried from then on; or all are tried.
 pub record IsAnswer (M : Module) (t : RawTerm) (tried : List Tried) (st : Equation) (o : Option Choice) (c : Choices) : Type 0 where

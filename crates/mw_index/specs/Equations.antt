@@ -4,8 +4,8 @@ use Rattle.mw_logic.specs.Term.{RawTerms, apply}
 use Rattle.mw_logic.specs.Signature.{Signature}
 use Rattle.mw_logic.specs.Module.{Statement}
 use Rattle.mw_logic.specs.NormalForm.{normal_form}
-use Rattle.mw_machine.specs.Positions.{AreNumbered, counted_all}
-use Rattle.mw_machine.specs.Variables.{met, place, placed, sorts_of}
+use Rattle.mw_position.specs.Positions.{AreNumbered, counted_all}
+use Rattle.mw_position.specs.Variables.{met, place, placed, sorts_of}
 use Rattle.mw_pattern.specs.Clean.{clean}
 use Rattle.mw_compile.specs.Compiled.{IsCompiled}
 use Rattle.mw_index.specs.Free.{IsFree}

@@ -2,8 +2,8 @@
 use Rattle.std.specs.Prelude.{ℕ, ◌≡◌, List, length, ⊤}
 use Rattle.mw_logic.specs.Term.{Variable, RawTerm, numeral, quoted, variable, apply, RawTerms, nil, cons}
 use Rattle.mw_logic.specs.Signature.{Signature}
-use Rattle.mw_machine.specs.Positions.{AreNumbered, counted_all}
-use Rattle.mw_machine.specs.Variables.{placed}
+use Rattle.mw_position.specs.Positions.{AreNumbered, counted_all}
+use Rattle.mw_position.specs.Variables.{placed}
 use Rattle.mw_canon.specs.Axioms.{HasAxioms}
 use Rattle.mw_canon.specs.declared.axioms.Axioms.TheVariants.{Plain}
 

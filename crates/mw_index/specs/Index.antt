@@ -1,5 +1,5 @@
 -- The index of a module's equations: which of them are asked for a term.
-use Rattle.std.specs.Prelude.{ℕ, ◌≡◌, List, [], ◌++◌, Option, Some, None, slice_get, IsFalse}
+use Rattle.std.specs.Prelude.{ℕ, ◌≡◌, List, [], ◌++◌, Bool, true, false, not, nat_lt, Option, Some, None, slice_get, IsFalse}
 use Rattle.mw_logic.specs.Term.{RawTerm, numeral, quoted, variable, apply}
 use Rattle.mw_logic.specs.Signature.{Member}
 use Rattle.mw_logic.specs.Substitution.{Substitution, IsSolution}
@@ -31,6 +31,26 @@ listed m f = items_in (slice_get m.by_top.items f)
 abbrev pub asked : Index → Option ℕ → List Equation
 asked m (Some f) = listed m f ++ m.any.items
 asked m None = m.any.items ++ m.leaves.items
+
+-- of two lists in the order of the module: those of the operator, or for every term where there is none; and the others
+abbrev pub own_asked : Index → Option ℕ → List Equation
+own_asked m (Some f) = listed m f
+own_asked m None = m.any.items
+
+abbrev pub others_asked : Index → Option ℕ → List Equation
+others_asked m (Some f) = m.any.items
+others_asked m None = m.leaves.items
+
+-- whether the next one of two lists is the first list's: the one with the lesser number
+abbrev pub is_own : Option Equation → Option Equation → Bool
+is_own None b = false
+is_own (Some a) None = true
+is_own (Some a) (Some b) = not (nat_lt b.number a.number)
+
+-- st is the next one of two lists, and stands in the first list or in the second
+abbrev pub IsNextOf : Option Equation → Option Equation → Equation → Bool → Type 0
+IsNextOf a b st true = (a ≡ Some st) × (is_own a b ≡ true)
+IsNextOf a b st false = (b ≡ Some st) × (is_own a b ≡ false)
 
 -- st is an executable equation of the module, by its number
 pub record IsOf (M : Module) (top : Option ℕ) (st : Equation) : Type 0 where

@@ -5,7 +5,7 @@ use Rattle.mw_logic.specs.Signature.{Signature, Member}
 use Rattle.mw_logic.specs.Kinds.{is_successor}
 use Rattle.mw_logic.specs.Module.{Module}
 use Rattle.mw_logic.specs.NormalForm.{identity_of}
-use Rattle.mw_machine.specs.Variables.{is_in}
+use Rattle.mw_position.specs.Variables.{is_in}
 use Rattle.mw_index.specs.Index.{asked, IsIndexOf}
 use Rattle.mw_index.specs.declared.equations.Equation.{Equation}
 use Rattle.mw_index.specs.declared.index.Index.{Index}

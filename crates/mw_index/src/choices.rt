@@ -1,17 +1,17 @@
 // The choices at a term, one after another.
-ghost use Rattle.std.specs.Prelude.{◌≡◌, ◌≢◌, ◌++◌, ◌∷◌, ℕ, List, [], length, map, IfOk, IfSome, MatchOption, ⊤};
+ghost use Rattle.std.specs.Prelude.{◌≡◌, ◌≢◌, ◌++◌, ◌∷◌, ℕ, List, [], length, map, IfOk, IfSome, MatchOption, ⊤, ◌+◌, ◌<◌, ◌^◌, true, false};
 ghost use Rattle.mw_logic.specs.Module.{Module, Statement as StatementOf};
 ghost use Rattle.mw_logic.specs.Signature.{IsRawTerm};
 ghost use Rattle.mw_logic.specs.Term.{RawTerm};
 ghost use Rattle.mw_logic.specs.Terms.{terms_of};
-ghost use Rattle.mw_machine.specs.Positions.{IsWithin, AreNumbered, counted_all};
-ghost use Rattle.mw_machine.specs.Variables.{bound_values, sorts_of};
+ghost use Rattle.mw_position.specs.Positions.{IsWithin, AreNumbered, counted_all};
+ghost use Rattle.mw_position.specs.Variables.{bound_values, sorts_of};
 ghost use Rattle.mw_pattern.specs.Clean.{clean};
 ghost use Rattle.mw_solving.specs.Values.{IsValue};
 ghost use Rattle.mw_term.specs.declared.subst.Binding.{Binding as BindingOf};
 ghost use Rattle.mw_index.specs.Index.{operator_of, IsOf, IsIndexOf};
 ghost use Rattle.mw_index.specs.Equations.{IsSearchedLeft};
-ghost use Rattle.mw_index.specs.Choices.{Tried, subject_of, tried_of, in_order as in_order_of, AreAllTried, AreComing, AreFitting, IsKept, IsChoice, IsUnderWay, IsAnswer, IsPlainOne, IsSearchedOne, IsSized, Covers};
+ghost use Rattle.mw_index.specs.Choices.{Tried, subject_of, tried_of, in_order as in_order_of, AreAllTried, AreComing, AreFitting, IsKept, IsChoice, IsUnderWay, IsAnswer, IsPlainOne, IsSearchedOne, IsSized, Covers, Stays, Passes};
 ghost use Rattle.mw_index.specs.declared.index.Index.{Index as IndexOf};
 
 use crate::equations::{Equation, Left, Searched};
@@ -36,8 +36,10 @@ pub struct Choice<'m> {
 /// Where the choices at a term stand.
 #[derive(Drop)]
 pub struct Choices<'m> {
-    /// Which of the equations is asked next.
-    next: usize,
+    /// How many equations of the operator on top were passed.
+    own: usize,
+    /// How many others.
+    others: usize,
     /// Whether its only choice was given.
     given: bool,
     /// The search for its choices, once it has begun.
@@ -117,7 +119,8 @@ impl<'m> Choices<'m> {
         ensures { (M : Module) (m : IndexOf) (t : RawTerm) → Covers M m t [] result }
     {
         Choices {
-            next: 0,
+            own: 0,
+            others: 0,
             given: false,
             search: None,
             subject: None,
@@ -129,7 +132,8 @@ impl<'m> Choices<'m> {
     pub fn again(&mut self)
         ensures { (M : Module) (m : IndexOf) (t : RawTerm) → Covers M m t [] self.new }
     {
-        self.next = 0;
+        self.own = 0;
+        self.others = 0;
         self.given = false;
         self.search = None;
         self.subject = None;
@@ -152,7 +156,7 @@ impl<'m> Choices<'m> {
         subject: Subject<'_>,
     ) -> Result<Option<Choice<'m>>, AllocError>
         requires { IsPlainOne context.now (operator_of (subject_of subject)) equation.now patterns.now }
-        ensures same { self.new.next ≡ self.old.next }
+        ensures same { Stays self.old self.new }
         ensures sized { IfOk result (IsSized equation.now) }
         ensures is { let M = context.now in let t = subject_of subject.entry in
             (tried : List Tried) → IsValue M.signature t
@@ -184,7 +188,7 @@ impl<'m> Choices<'m> {
         subject: Subject<'_>,
     ) -> Result<Box<Solutions<'m>>, AllocError>
         requires { searched.now.compiled.positions.sorts ≡ sorts_of searched.now.compiled.variables }
-        ensures next { self.new.next ≡ self.old.next }
+        ensures same { Stays self.old self.new }
         ensures given { self.new.given ≡ self.old.given }
         ensures kept { let t = subject_of subject.entry in
             IsKept t self.old.subject → IfOk result (λ _. IsKept t self.new.subject) }
@@ -216,7 +220,7 @@ impl<'m> Choices<'m> {
         subject: Subject<'_>,
     ) -> Result<Option<Choice<'m>>, AllocError>
         requires { IsSearchedOne context.now (operator_of (subject_of subject)) equation.now searched.now }
-        ensures same { self.new.next ≡ self.old.next }
+        ensures same { Stays self.old self.new }
         ensures sized { IfOk result (IsSized equation.now) }
         ensures is { let M = context.now in let t = subject_of subject.entry in
             (tried : List Tried) → IsValue M.signature t
@@ -245,7 +249,7 @@ impl<'m> Choices<'m> {
         subject: Subject<'_>,
     ) -> Result<Option<Choice<'m>>, AllocError>
         requires { IsOf context.now (operator_of (subject_of subject)) equation.now }
-        ensures same { self.new.next ≡ self.old.next }
+        ensures same { Stays self.old self.new }
         ensures sized { IfOk result (IsSized equation.now) }
         ensures is { let M = context.now in let t = subject_of subject.entry in
             (tried : List Tried) → IsValue M.signature t
@@ -255,6 +259,21 @@ impl<'m> Choices<'m> {
         match &equation.left {
             Left::Plain(patterns) => self.compare(alloc, context, equation, patterns, subject),
             Left::Searched(searched) => self.seek(alloc, context, equation, searched, subject),
+        }
+    }
+
+    /// An equation was asked, and the next one is: whether it was one of the operator's own.
+    fn pass(&mut self, own: bool)
+        requires own { own ≡ true → self.old.own + 1 < 2 ^ 64 }
+        requires others { own ≡ false → self.old.others + 1 < 2 ^ 64 }
+        ensures { Passes own self.old self.new }
+    {
+        self.given = false;
+        self.search = None;
+        if own {
+            self.own += 1;
+        } else {
+            self.others += 1;
         }
     }
 
@@ -278,14 +297,13 @@ impl<'m> Choices<'m> {
     {
         context.shows();
         let top = subject.operator();
-        while let Some(equation) = index.at(top, self.next) {
+        while let Some(turn) = index.at(top, self.own, self.others) {
+            let (equation, own) = turn;
             let found = self.ask(alloc, context, equation, subject)?;
             if found.is_some() {
                 return Ok(found);
             }
-            self.given = false;
-            self.search = None;
-            self.next += 1;
+            self.pass(own);
         }
         Ok(None)
     }

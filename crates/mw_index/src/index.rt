@@ -1,8 +1,8 @@
 // The index of a module's equations.
-ghost use Rattle.std.specs.Prelude.{◌≡◌, ◌≢◌, ◌++◌, ◌∷◌, ◌≤◌, ◌<◌, ◌+◌, ◌^◌, ℕ, [], false, None, Option, Some, length, slice_get, IfOk, IsSome, IsTrue, MatchOption, OnOk};
+ghost use Rattle.std.specs.Prelude.{◌≡◌, ◌≢◌, ◌++◌, ◌∷◌, ◌≤◌, ◌<◌, ◌+◌, ◌^◌, ℕ, [], false, true, None, Option, length, slice_get, IfOk, IfSome, IsTrue, MatchOption, OnOk};
 ghost use Rattle.mw_logic.specs.Kinds.{is_successor};
 ghost use Rattle.mw_logic.specs.NormalForm.{identity_of};
-ghost use Rattle.mw_index.specs.Index.{asked, listed, IsIndexOf};
+ghost use Rattle.mw_index.specs.Index.{asked, listed, own_asked, others_asked, IsNextOf, IsIndexOf};
 ghost use Rattle.mw_index.specs.Sections.{IsSectionOf, Puts, IsIndexUpTo};
 ghost use Rattle.mw_index.specs.declared.index.Section.TheVariants as Section;
 
@@ -161,31 +161,53 @@ impl Index {
         }
     }
 
-    /// One of the equations that are asked for terms with an operator on top, or with none: those from place 0 on are
-    /// asked one after another.
-    pub fn at(&self, top: Option<OpId>, place: usize) -> Option<&Equation>
-        ensures is { let sts = asked self.now top in MatchOption result (length sts ≤ place) (λ st. slice_get sts place ≡ Some st.now) }
-        ensures bound { IsSome result → place + 1 < 2 ^ 64 }
+    /// The equations that are asked for terms with an operator on top, or with none: two lists in order.
+    fn lists(&self, top: Option<OpId>) -> (&[Equation], &[Equation])
+        ensures own { result.0.now ≡ own_asked self.now top }
+        ensures others { result.1.now ≡ others_asked self.now top }
     {
-        let (first, second) = match top {
+        match top {
             Some(operator) => (self.under(operator), self.any.as_slice()),
             None => (self.any.as_slice(), self.leaves.as_slice()),
-        };
-        one_of(first, second, place)
+        }
+    }
+
+    /// The next of the equations that are asked for terms with an operator on top, or with none, in the order of the
+    /// module: where so many of the operator's own and so many others were passed. Whether it is one of its own.
+    pub fn at(&self, top: Option<OpId>, own: usize, others: usize) -> Option<(&Equation, bool)>
+        ensures is { let a = own_asked self.now top in let b = others_asked self.now top in
+            MatchOption result ((length a ≤ own) × (length b ≤ others)) (λ r. IsNextOf (slice_get a own) (slice_get b others) r.0.now r.1) }
+        ensures bound { IfSome result (λ r. (r.1 ≡ true → own + 1 < 2 ^ 64) × (r.1 ≡ false → others + 1 < 2 ^ 64)) }
+    {
+        let (first, second) = self.lists(top);
+        next_of(first, second, own, others)
     }
 }
 
-/// What stands at a place of two lists, one behind the other.
-fn one_of<'m>(first: &'m [Equation], second: &'m [Equation], place: usize) -> Option<&'m Equation>
-    ensures is { let sts = first.now ++ second.now in MatchOption result (length sts ≤ place) (λ st. slice_get sts place ≡ Some st.now) }
-    ensures bound { IsSome result → place + 1 < 2 ^ 64 }
+/// The next of two lists by number, the first list's where so many of the first and so many of the second were passed.
+fn next_of<'m>(
+    first: &'m [Equation],
+    second: &'m [Equation],
+    own: usize,
+    others: usize,
+) -> Option<(&'m Equation, bool)>
+    ensures is { MatchOption result ((length first.now ≤ own) × (length second.now ≤ others))
+        (λ r. IsNextOf (slice_get first.now own) (slice_get second.now others) r.0.now r.1) }
+    ensures bound { IfSome result (λ r. (r.1 ≡ true → own + 1 < 2 ^ 64) × (r.1 ≡ false → others + 1 < 2 ^ 64)) }
 {
-    if place < first.len() {
-        return Some(&first[place]);
+    if others >= second.len() {
+        if own >= first.len() {
+            return None;
+        }
+        return Some((&first[own], true));
     }
-    let behind = place - first.len();
-    if behind < second.len() {
-        return Some(&second[behind]);
+    let other = &second[others];
+    if own >= first.len() {
+        return Some((other, false));
     }
-    None
+    let mine = &first[own];
+    if other.number < mine.number {
+        return Some((other, false));
+    }
+    Some((mine, true))
 }

@@ -16,12 +16,10 @@
 //!   these. It holds at the beginning of none tried. `next` answers a choice (`IsChoice`: a solution of the left side
 //!   of an executable equation for a part of the term, by canonical values) and stands where that one is tried too; or
 //!   None, and then each solution of each executable equation at each top part of the term was tried (`AreAllTried`).
-//! - `evaluate` is the canonical instance of a pattern (`evaluated` of mw_matching). Where no operator has an axiom
-//!   that is the instance alone (`free_evaluated`, proofs/FreeTerms).
 //!
 //! Conditions: what `next` says of choices is of canonical terms that mean ground raw terms (`IsValue`); how many
-//! values a choice has is said of all terms. The index is one of the context's module. `evaluate` asks for a value of
-//! each variable. After an error of `next` nothing is said of where the choices stand.
+//! values a choice has is said of all terms. The index is one of the context's module. After an error of `next` nothing
+//! is said of where the choices stand.
 //!
 //! Cost: `Index::of` makes two canonical forms for each equation, and walks its patterns a few times. A plain equation
 //! costs what is compared, one count for each value and its test for sorts; nothing is allocated but the list of
@@ -30,13 +28,12 @@
 //! of mw_match do, and the values of a solution one count each. The native stack grows with the depth of patterns and
 //! of terms.
 //!
-//! Neither proved nor tested: time, memory, the order in which equations are asked (those of one operator in the order
-//! of the module, then those for every term), and that an answer comes with memory at hand.
+//! Neither proved nor tested: time, memory, the order in which equations are asked (that of the module), and that an
+//! answer comes with memory at hand.
 #![tactic(auto)]
 
 mod choices;
 mod equations;
-mod evaluating;
 mod index;
 mod making;
 mod normal;
@@ -45,6 +42,5 @@ mod subject;
 
 pub use choices::{Choice, Choices};
 pub use equations::{Equation, Left, Searched};
-pub use evaluating::evaluate;
 pub use index::Index;
 pub use subject::Subject;

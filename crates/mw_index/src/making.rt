@@ -3,7 +3,7 @@ ghost use Rattle.std.specs.Prelude.{◌≡◌, ℕ, Option, Some, length, map, I
 ghost use Rattle.mw_logic.specs.Term.{Variable};
 ghost use Rattle.mw_logic.specs.Module.{IsStatement};
 ghost use Rattle.mw_logic.specs.NormalForm.{normal_form};
-ghost use Rattle.mw_machine.specs.Variables.{is_in, place, AreDistinct};
+ghost use Rattle.mw_position.specs.Variables.{is_in, place, AreDistinct};
 ghost use Rattle.mw_compile.specs.Compiled.{AreAmong};
 ghost use Rattle.mw_index.specs.Equations.{IsLeft, IsSearchedLeft, IsEquation};
 ghost use Rattle.mw_index.specs.Sections.{AreIn, Asks, IsSectionOf};

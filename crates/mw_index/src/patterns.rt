@@ -4,8 +4,8 @@ ghost use Rattle.mw_logic.specs.Terms.{terms_of};
 ghost use Rattle.mw_canon.specs.Axioms.{HasAxioms};
 ghost use Rattle.mw_canon.specs.declared.axioms.Axioms.TheVariants.{Plain};
 ghost use Rattle.mw_compile.specs.Compiled.{AreAmong, AreAllAmong};
-ghost use Rattle.mw_machine.specs.Positions.{IsNumbered, AreNumbered, counted, counted_all};
-ghost use Rattle.mw_machine.specs.Variables.{placed, all_placed};
+ghost use Rattle.mw_position.specs.Positions.{IsNumbered, AreNumbered, counted, counted_all};
+ghost use Rattle.mw_position.specs.Variables.{placed, all_placed};
 ghost use Rattle.mw_pattern.specs.Clean.{clean};
 ghost use Rattle.mw_index.specs.Free.{IsFree, AreFree, ArePlainArguments};
 

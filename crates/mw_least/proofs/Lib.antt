@@ -1,5 +1,4 @@
-pub mod Compilable
+pub mod WellFormed
 pub mod Below
 pub mod Giving
-pub mod SimpleModules
 pub mod Tops

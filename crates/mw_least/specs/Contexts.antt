@@ -1,9 +1,6 @@
--- A module with the order of its sorts, its operators' tables and axioms, and, where it is simple, its equations by position.
-use Rattle.std.specs.Prelude.{◌≡◌, ◌↔◌, Bool, IsTrue}
+-- A module with the order of its sorts and what its operators' tables tell.
+use Rattle.std.specs.Prelude.{◌≡◌}
 use Rattle.mw_logic.specs.Module.{Module}
-use Rattle.mw_machine.specs.Simple.{IsSimpleModule}
-use Rattle.mw_pattern.specs.Compiled.{IsIndexOf}
-use Rattle.mw_pattern.specs.declared.equations.Equations.{Equations}
 use Rattle.mw_sorts.specs.Diagrams.{AreTablesOf}
 use Rattle.mw_poset.specs.SortOrder.{SortOrder, order_of}
 use Rattle.mw_sorts.specs.declared.tables.Tables.{Tables}
@@ -11,10 +8,8 @@ use Rattle.mw_least.specs.declared.sure.Sure.{Sure}
 use Rattle.mw_least.specs.Sure.{AreSure}
 use Rattle.mw_least.specs.Workable.{IsWorkable}
 
-pub record IsContext (M : Module) (sorts : SortOrder) (results : Tables) (sure : Sure) (simple : Bool) (m : Equations) : Type 0 where
+pub record IsContext (M : Module) (sorts : SortOrder) (results : Tables) (sure : Sure) : Type 0 where
   pub workable : IsWorkable M
   pub order : sorts ≡ order_of M.signature
   pub tables : AreTablesOf M.signature results
   pub each_sure : AreSure M.signature sure
-  pub decides : IsTrue simple ↔ IsSimpleModule M
-  pub index : IsTrue simple → IsIndexOf M.statements m

@@ -1,15 +1,21 @@
 -- The modules that contexts hold: their signature is preregular modulo its axioms and has nothing built in, and their equations have no conditions.
-use Rattle.std.specs.Prelude.{ℕ, ◌≡◌, [], false, IsTrue, Some}
+use Rattle.std.specs.Prelude.{ℕ, ◌≡◌, ◌||◌, [], false, IsTrue, Some}
 use Rattle.mw_logic.specs.Term.{Variable, variable}
-use Rattle.mw_logic.specs.Signature.{Signature, at_number}
+use Rattle.mw_logic.specs.Signature.{Signature, at_number, HasKind, IsRawTerm}
 use Rattle.mw_logic.specs.Axioms.{EqualModulo}
 use Rattle.mw_logic.specs.Substitution.{occurs}
-use Rattle.mw_logic.specs.Preregular.{HasItsSorts}
+use Rattle.mw_logic.specs.Preregular.{IsSortOf, HasItsSorts}
 use Rattle.mw_logic.proofs.FreeSignature.{IsBareSignature}
 use Rattle.mw_logic.specs.Module.{Module, Statement, IsStatement}
-use Rattle.mw_machine.specs.Simple.{AreSides}
-use Rattle.mw_machine.specs.Variables.{met}
+use Rattle.mw_position.specs.Variables.{met}
 use Rattle.mw_sorting.specs.PreregularModulo.{IsPreregularModulo}
+
+-- The sides are raw terms of one kind, and the sorts of their variables are there.
+pub record AreSides (sig : Signature) (e : Statement) : Type 0 where
+  pub left : IsRawTerm sig e.left
+  pub right : IsRawTerm sig e.right
+  pub kinds : (K : ℕ) × HasKind sig e.left K × HasKind sig e.right K
+  pub sorts : (x : Variable) → IsTrue (occurs x e.left || occurs x e.right) → IsSortOf sig x.sort
 
 -- An equation without conditions. Its left side isn't a variable, modulo the axioms, and has each variable of the right side.
 pub record IsPlainEquation (sig : Signature) (e : Statement) : Type 0 where

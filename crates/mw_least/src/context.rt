@@ -6,8 +6,6 @@ ghost use Rattle.mw_logic.specs.Signature.{Signature as SignatureOf, sort as sor
 ghost use Rattle.mw_logic.specs.Preregular.{IsSortOf};
 ghost use Rattle.mw_logic.specs.Sorts.{AtOrBelow, IsBelow, HasSort, IsLeastSort};
 ghost use Rattle.mw_logic.specs.Term.{is_ground, RawTerms, apply as applied};
-ghost use Rattle.mw_machine.specs.Simple.{IsSimpleModule};
-ghost use Rattle.mw_pattern.specs.Compiled.{IsIndexOf};
 ghost use Rattle.mw_sorts.specs.Diagrams.{AreTablesOf};
 ghost use Rattle.mw_poset.specs.SortOrder.{order_of};
 ghost use Rattle.mw_term.specs.Signatures.{sorted_of};
@@ -15,10 +13,8 @@ ghost use Rattle.mw_least.specs.Giving.{OneGives, MayGive};
 ghost use Rattle.mw_least.specs.Sure.{AreSure};
 ghost use Rattle.mw_least.specs.Workable.{IsWorkable};
 
-use crate::simple::is_simple;
 use crate::sure::{Sure, sure_sorts};
 use mw_canon::Facts;
-use mw_pattern::{Equations, index};
 use mw_poset::Poset;
 use mw_sorts::{Tables, least_sort};
 use mw_term::{Declaration, OpId, Seq, Signature, SortId, Sorted, Statement, Term, View, numbered};
@@ -26,8 +22,7 @@ use std::alloc::{AllocError, Global};
 use std::marker::Model;
 
 /// A signature and statements that were accepted, which contracts see as a module. The order of its sorts and the
-/// axioms and least results of its operators are kept with it. Of a simple module the executable equations are held by
-/// the operators on top of their left sides too, with positions for variables.
+/// axioms and least results of its operators are kept with it.
 #[derive(Drop)]
 pub struct Ctx {
     facts: Facts,
@@ -35,9 +30,6 @@ pub struct Ctx {
     tables: Tables,
     sure: Sure,
     statements: Seq<Statement>,
-    /// Whether the module is simple.
-    simple: bool,
-    equations: Equations,
 }
 
 impl Model for Ctx {
@@ -53,22 +45,7 @@ impl Model for Ctx {
 
     ghost use Rattle.mw_least.specs.Contexts.{IsContext};
 
-    ghost invariant = { λ c. IsContext (record { signature = c.facts; statements = c.statements }) c.order c.tables c.sure c.simple c.equations };
-}
-
-/// The executable equations by position where the module is simple, and none else.
-fn equations_by_position(
-    alloc: Global,
-    simple: bool,
-    statements: &[Statement],
-) -> Result<Equations, AllocError>
-    requires { IsTrue simple → (sig : SignatureOf) × IsSimpleModule (record { signature = sig; statements = statements.now }) }
-    ensures { IfOk result (λ m. IsTrue simple → IsIndexOf statements.now m) }
-{
-    if !simple {
-        return Ok(Equations::new(alloc));
-    }
-    index(alloc, statements)
+    ghost invariant = { λ c. IsContext (record { signature = c.facts; statements = c.statements }) c.order c.tables c.sure };
 }
 
 impl Ctx {
@@ -85,17 +62,13 @@ impl Ctx {
         requires tables { AreTablesOf facts tables }
         ensures { IfOk result (λ c. c.value ≡ record { signature = facts; statements = statements }) }
     {
-        let simple = is_simple(facts.signature());
         let sure = sure_sorts(alloc, facts.signature(), &order)?;
-        let equations = equations_by_position(alloc, simple, statements.as_slice())?;
         let context = Ctx {
             facts,
             order,
             tables,
             sure,
             statements,
-            simple,
-            equations,
         };
         Ok(Box::new(alloc, context)?)
     }
@@ -104,14 +77,7 @@ impl Ctx {
     pub fn shows(&self)
         ensures { IsWorkable self.now }
     {
-        let _ = &self.simple;
-    }
-
-    /// Whether the module is simple: it has no axioms, no built-in operators, no numbers and no quoted identifiers.
-    pub fn is_simple(&self) -> bool
-        ensures { IsTrue result ↔ IsSimpleModule self.now }
-    {
-        self.simple
+        let _ = &self.sure;
     }
 
     /// The signature with the axioms of its operators by number.
@@ -138,13 +104,6 @@ impl Ctx {
         ensures { result.now ≡ self.now.statements }
     {
         self.statements.as_slice()
-    }
-
-    /// The executable equations of a simple module, by the operators on top of their left sides.
-    pub fn equations(&self) -> &Equations
-        ensures { IsSimpleModule self.now → IsIndexOf self.now.statements result.now }
-    {
-        &self.equations
     }
 
     /// The least sort of a canonical term, or its kind. It takes no memory, and one look-up for each argument in the

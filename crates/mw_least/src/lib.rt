@@ -1,15 +1,12 @@
 //! Contexts: a module's signature and statements as they were accepted, with what the engine asks of them.
 //!
 //! A [`Ctx`] is seen as its module. Beside it stand, unseen, the order of its sorts, the axioms of its operators
-//! (`Facts` of mw_canon), their tables (mw_sorts) and, where the module is simple, its executable equations by position
-//! (mw_pattern), made once for a module.
+//! (`Facts` of mw_canon) and their tables (mw_sorts), made once for a module.
 //!
 //! - `Ctx::new` makes the module of the given signature and statements. Conditions: it is workable (`IsWorkable`,
 //!   specs/Workable: preregular modulo its axioms, with equations without conditions), the order is that of the
-//!   signature's sorts, the tables are the signature's. `shows` hands out that it is workable, `is_simple` tells
-//!   whether it is simple (`IsSimpleModule` of mw_machine).
-//! - `signature`, `facts`, `statements`, `order` are those of the module; `equations` of a simple one are exactly its
-//!   executable statements, by position (`IsIndexOf`).
+//!   signature's sorts, the tables are the signature's. `shows` hands out that it is workable.
+//! - `signature`, `facts`, `statements`, `order` are those of the module.
 //! - `least_sort` is the least sort of a canonical term, or its kind where no declaration gives it a sort
 //!   (`IsLeastSort`); `has_sort` whether such a term, if it is ground, has a sort (`HasSort`), exactly.
 //!   `may_give` is true exactly where a declaration of an operator has a result at or below a sort, and of a number
@@ -29,7 +26,6 @@
 #![tactic(auto)]
 
 mod context;
-mod simple;
 mod sure;
 
 pub use context::Ctx;

@@ -9,7 +9,7 @@ use Rattle.mw_logic.specs.NormalForm.{normal_form}
 use Rattle.mw_logic.specs.Substitution.{Substitution, IsSubstitution, SameSolution}
 use Rattle.mw_logic.proofs.CanonicalTerms.{fixed}
 use Rattle.mw_canon.specs.Canonical.{meant}
-use Rattle.mw_machine.specs.Variables.{met, placed, sorts_of, bound_variables, bound_values}
+use Rattle.mw_position.specs.Variables.{met, placed, sorts_of, bound_variables, bound_values}
 use Rattle.mw_matching.specs.Found.{Values}
 use Rattle.mw_solving.specs.Values.{IsValue, AreValues, AreSure}
 use Rattle.mw_solving.specs.Candidates.{AreOfSortsFrom}

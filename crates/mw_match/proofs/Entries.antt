@@ -7,7 +7,7 @@ use Rattle.std.proofs.lemmas.Grind.{flat_map-append}
 use Rattle.std.proofs.lemmas.Option.{none-some}
 use Rattle.mw_logic.specs.Term.{Variable, RawTerm}
 use Rattle.mw_logic.specs.Signature.{Signature}
-use Rattle.mw_machine.specs.Variables.{bound_values, sorts_of}
+use Rattle.mw_position.specs.Variables.{bound_values, sorts_of}
 use Rattle.mw_matching.specs.Found.{Values}
 use Rattle.mw_solving.specs.Inside.{Entry}
 use Rattle.mw_search.specs.Lacking.{HaveTheirSorts, OneLacksItsSort, Each, Skips}

@@ -2,11 +2,11 @@
 use Rattle.std.specs.Prelude.{◌≡◌, ◌≢◌, ◌≤◌, ◌<◌, ◌+◌, ◌↔◌, ℕ, zero, suc, List, [], ◌∷◌, ◌++◌, length, drop, get_or, Bool, true, false, Some, slice_get, unwrap_or, IsTrue, refl}
 use Rattle.std.proofs.Common.{sym, ap, ◌∙◌, arith, true≢false}
 use Rattle.mw_logic.specs.Term.{RawTerm, RawTerms, variable, cons}
-use Rattle.mw_machine.specs.Positions.{position, fill, fill_all, counted, counted_all, IsNumbered, AreNumbered, Begins}
+use Rattle.mw_position.specs.Positions.{position, fill, fill_all, counted, counted_all, IsNumbered, AreNumbered, Begins}
 use Rattle.mw_logic.specs.NormalForm.{height, highest}
 use Rattle.mw_logic.specs.Terms.{terms_of}
-use Rattle.mw_machine.proofs.Begins.{begins_same, begins_then, begins_at, begins_put, begins_last, begins_append}
-use Rattle.mw_machine.proofs.Counting.{all_counted_grows}
+use Rattle.mw_position.proofs.Begins.{begins_same, begins_then, begins_at, begins_put, begins_last, begins_append}
+use Rattle.mw_position.proofs.Counting.{all_counted_grows}
 use Rattle.mw_pattern.specs.Clean.{clean, clean_all}
 use Rattle.mw_match.specs.Matching.{Decides}
 use Rattle.mw_pattern.specs.declared.pattern.Pattern.{Pattern}

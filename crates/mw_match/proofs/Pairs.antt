@@ -7,7 +7,7 @@ use Rattle.std.proofs.lemmas.Option.{slice_get-get_or}
 use Rattle.std.proofs.lemmas.Slice.Zip.{get_or-zip, length-zip}
 use Rattle.mw_logic.specs.Term.{Variable, RawTerm}
 use Rattle.mw_logic.specs.Substitution.{Substitution}
-use Rattle.mw_machine.specs.Variables.{bound_values}
+use Rattle.mw_position.specs.Variables.{bound_values}
 use Rattle.mw_term.specs.declared.subst.Binding.{Binding}
 
 abbrev pub pairs_of : List Binding → Substitution

@@ -9,7 +9,7 @@ use Rattle.mw_logic.specs.Parts.{is_assoc, number_of_terms}
 use Rattle.mw_logic.specs.NormalForm.{is_comm, identity_of, elements}
 use Rattle.mw_logic.proofs.Pushed.{join_pushed}
 use Rattle.mw_logic.proofs.SortLaws.{join-nil}
-use Rattle.mw_machine.specs.Positions.{position}
+use Rattle.mw_position.specs.Positions.{position}
 use Rattle.mw_arguments.specs.Splits.{orders}
 use Rattle.mw_matching.specs.Found.{Values, is_single, are_none, found, found_all, found_row, found_bag, found_orders, has_top, has_before, before}
 use Rattle.mw_matching.specs.Patterns.{is_rigid}

@@ -6,24 +6,10 @@ use Rattle.std.proofs.lemmas.Option.{slice_get_within}
 use Rattle.mw_logic.specs.Term.{RawTerm, is_ground}
 use Rattle.mw_logic.specs.Parts.{nested}
 use Rattle.mw_logic.specs.NormalForm.{normal_form}
-use Rattle.mw_logic.specs.Free.{IsFreeSignature}
 use Rattle.mw_logic.specs.Signature.{Signature, sort, IsRawTerm}
 use Rattle.mw_logic.specs.Sorts.{HasSort}
-use Rattle.mw_machine.specs.Simple.{AreGround, HaveSorts}
-use Rattle.mw_machine.specs.Simple.{IsGround}
 use Rattle.mw_search.specs.Lacking.{IsKnown, HaveTheirSorts, OneLacksItsSort}
-use Rattle.mw_canon.proofs.Free.{nested_free, normal_form_free}
-
--- whether a value has a sort, as the flattened term has it
-plain_sort : (sig : Signature) → IsFreeSignature sig → (v : RawTerm) (S : ℕ) (b : Bool) → (normal_form sig (nested sig v) ≡ v → IsRawTerm sig (nested sig v) → IsTrue (is_ground v) → (IsTrue b ↔ HasSort sig (nested sig v) (sort S)))
-    → IsGround sig v → (IsTrue b ↔ HasSort sig v (sort S))
-plain_sort sig free v S b h g =
-    let e = nested_free sig free v in
-    subst (λ u. IsTrue b ↔ HasSort sig u (sort S)) e (h (normal_form_free sig free (nested sig v) ∙ e) (subst (IsRawTerm sig) (sym e) g.1) g.0)
-
--- the first ones have their sorts
-abbrev pub HaveFirst : Signature → List RawTerm → List ℕ → ℕ → Type 0
-HaveFirst sig vs Ss n = (i : ℕ) (v : RawTerm) (S : ℕ) → i < n → slice_get vs i ≡ Some v → slice_get Ss i ≡ Some S → HasSort sig v (sort S)
+use Rattle.mw_pattern.proofs.Lists.{got}
 
 split : (j i : ℕ) → j < i + 1 → (j < i) ⊎ (j ≡ i)
 split zero zero h = inr refl
@@ -31,44 +17,10 @@ split zero (suc i) h = inl (omega arith)
 split (suc j) zero h = absurd (omega (arith, h))
 split (suc j) (suc i) h = ⊎_elim (λ a. inl (omega (arith, a))) (λ a. inr (ap suc a)) (split j i (omega (arith, h)))
 
-pub got : {X : Type 0} (xs : List X) (i : ℕ) (x : X) → i < length xs → x ≡ get_or xs i x → slice_get xs i ≡ Some x
-got [] i x h e = absurd (omega (arith, h))
-got (y ∷ xs) zero x h e = ap Some (sym e)
-got (y ∷ xs) (suc i) x h e = got xs i x (omega (arith, h)) e
-
 number_got : (xs : List ℕ) (i : ℕ) → i < length xs → slice_get xs i ≡ Some (get_or xs i 0)
 number_got [] i h = absurd (omega (arith, h))
 number_got (y ∷ xs) zero h = refl
 number_got (y ∷ xs) (suc i) h = number_got xs i (omega (arith, h))
-
-module _ (sig : Signature) (vs : List RawTerm) (Ss : List ℕ) where
-  pub one_more : (i : ℕ) (v : RawTerm) (S : ℕ) → slice_get vs i ≡ Some v → slice_get Ss i ≡ Some S → HasSort sig v (sort S) → HaveFirst sig vs Ss i → HaveFirst sig vs Ss (i + 1)
-  one_more i v S a b h all j w R l c d = ⊎_elim
-      (λ k. all j w R k c d)
-      (λ (k : j ≡ i).
-      let e : v ≡ w = let x : Some v ≡ Some w = sym a ∙ ap (slice_get vs) (sym k) ∙ c in cc in
-      let f : S ≡ R = let x : Some S ≡ Some R = sym b ∙ ap (slice_get Ss) (sym k) ∙ d in cc in
-      subst (λ u. HasSort sig u (sort R)) e (subst (λ T. HasSort sig v (sort T)) f h))
-      (split j i l)
-
-  pub all_first : (n : ℕ) → length vs ≤ n → HaveFirst sig vs Ss n → HaveSorts sig vs Ss
-  all_first n l h i v S a b = let w = slice_get_within vs i v a in h i v S (omega (arith, w, l)) a b
-
-  -- one more value that has its sort, and one that hasn't
-  pub next_has : IsFreeSignature sig → length vs ≡ length Ss → (i : ℕ) (v : RawTerm) (b : Bool) → i < length vs → v ≡ get_or vs i v
-      → (normal_form sig (nested sig v) ≡ v → IsRawTerm sig (nested sig v) → IsTrue (is_ground v) → (IsTrue b ↔ HasSort sig (nested sig v) (sort (get_or Ss i 0)))) → b ≡ true → (AreGround sig vs → HaveFirst sig vs Ss i) → AreGround sig vs → HaveFirst sig vs Ss (i + 1)
-  next_has free l i v b h e k t all g =
-      let a = got vs i v h e in
-      one_more i v (get_or Ss i 0) a (number_got Ss i (omega (arith, h, l))) ((plain_sort sig free v (get_or Ss i 0) b k (g i v a)).0 t) (all g)
-
-  pub next_lacks : IsFreeSignature sig → length vs ≡ length Ss → (i : ℕ) (v : RawTerm) (b : Bool) → i < length vs → v ≡ get_or vs i v
-      → (normal_form sig (nested sig v) ≡ v → IsRawTerm sig (nested sig v) → IsTrue (is_ground v) → (IsTrue b ↔ HasSort sig (nested sig v) (sort (get_or Ss i 0)))) → b ≡ false → AreGround sig vs → (IsTrue false ↔ HaveSorts sig vs Ss)
-  next_lacks free l i v b h e k t g = (
-    λ f. absurd (both_ways false refl f),
-    λ (all : HaveSorts sig vs Ss).
-        let a = got vs i v h e in
-        absurd (both_ways b t ((plain_sort sig free v (get_or Ss i 0) b k (g i v a)).1 (all i v (get_or Ss i 0) a (number_got Ss i (omega (arith, h, l)))))),
-  )
 
 -- what a test of a sort says of a term
 abbrev pub Tells : Signature → RawTerm → ℕ → Bool → Type 0

@@ -1,6 +1,6 @@
 -- A search with a match at hand, and what is still to come of it and behind it.
 use Rattle.std.specs.Prelude.{ℕ, suc, ◌+◌, ◌≡◌, List, [], ◌∷◌, map, length, Option, Some, None, MatchOption, ⊤}
-use Rattle.mw_machine.specs.Variables.{sorts_of}
+use Rattle.mw_position.specs.Variables.{sorts_of}
 use Rattle.mw_matching.specs.Found.{Values, found}
 use Rattle.mw_search.specs.Searches.{Matches, FitsSorts as FitsBySearch}
 use Rattle.mw_match.specs.declared.parts.Place.{Place}

@@ -5,7 +5,7 @@ use Rattle.mw_logic.specs.Term.{Variable, RawTerm}
 use Rattle.mw_logic.specs.Signature.{Signature, Member}
 use Rattle.mw_logic.specs.Substitution.{Substitution, SameSolution}
 use Rattle.mw_canon.specs.Canonical.{meant}
-use Rattle.mw_machine.specs.Variables.{bound_variables, bound_values}
+use Rattle.mw_position.specs.Variables.{bound_variables, bound_values}
 use Rattle.mw_matching.specs.Found.{Values}
 use Rattle.mw_solving.specs.Values.{AreValues}
 use Rattle.mw_solving.specs.Inside.{IsSolutionOf, Entry}

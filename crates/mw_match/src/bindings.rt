@@ -1,7 +1,7 @@
 // Substitutions as variables and values in order.
 ghost use Rattle.std.specs.Prelude.{◌≡◌, IfOk};
 ghost use Rattle.std.specs.List.{zip};
-ghost use Rattle.mw_machine.specs.Variables.{bound_values};
+ghost use Rattle.mw_position.specs.Variables.{bound_values};
 
 use mw_term::{Binding, Seq, Subst, Term, VarId, copy, copy_name};
 use std::alloc::{AllocError, Global};

@@ -2,7 +2,7 @@
 ghost use Rattle.std.specs.Prelude.{◌≡◌, ◌↔◌, IfOk, IsTrue, length};
 ghost use Rattle.mw_logic.specs.Term.{numeral, quoted};
 ghost use Rattle.mw_logic.specs.Terms.{terms_of};
-ghost use Rattle.mw_machine.specs.Positions.{fill, fill_all, IsNumbered, AreNumbered, counted, counted_all, Begins};
+ghost use Rattle.mw_position.specs.Positions.{fill, fill_all, IsNumbered, AreNumbered, counted, counted_all, Begins};
 ghost use Rattle.mw_pattern.specs.Clean.{clean};
 ghost use Rattle.mw_match.specs.Matching.{Decides};
 

@@ -4,7 +4,7 @@ ghost use Rattle.mw_logic.specs.NormalForm.{normal_form};
 ghost use Rattle.mw_logic.specs.Signature.{IsRawTerm};
 ghost use Rattle.mw_logic.specs.Substitution.{IsSubstitution};
 ghost use Rattle.mw_logic.specs.Term.{RawTerm};
-ghost use Rattle.mw_machine.specs.Variables.{bound_variables, bound_values, sorts_of};
+ghost use Rattle.mw_position.specs.Variables.{bound_variables, bound_values, sorts_of};
 ghost use Rattle.mw_canon.specs.Canonical.{meant};
 ghost use Rattle.mw_solving.specs.Values.{IsValue, AreValues};
 ghost use Rattle.mw_compile.specs.Compiled.{IsCompiled};

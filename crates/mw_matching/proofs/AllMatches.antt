@@ -11,9 +11,9 @@ use Rattle.mw_logic.specs.TermOrder.{sorted_terms}
 use Rattle.mw_logic.proofs.Canonical.{IsCanonical, AreCanonical, elements_are}
 use Rattle.mw_logic.proofs.SortedLists.{climbs}
 use Rattle.mw_split.specs.Lists.{AllOnce}
-use Rattle.mw_machine.specs.Positions.{IsNumbered, AreNumbered}
-use Rattle.mw_machine.proofs.Counting.{all_within_counted}
-use Rattle.mw_machine.proofs.Begins.{begins_same, begins_whole, begins_unique}
+use Rattle.mw_position.specs.Positions.{IsNumbered, AreNumbered}
+use Rattle.mw_position.proofs.Counting.{all_within_counted}
+use Rattle.mw_position.proofs.Begins.{begins_same, begins_whole, begins_unique}
 use Rattle.mw_arguments.specs.Arguments.{Gives, Spells}
 use Rattle.mw_arguments.specs.Splits.{splits_of}
 use Rattle.mw_arguments.proofs.Once.{once_flat_mapped, once_same, once_one, once_none, flat_map-same}

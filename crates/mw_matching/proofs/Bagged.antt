@@ -16,9 +16,9 @@ use Rattle.mw_logic.proofs.Inside.{Among-insert}
 use Rattle.mw_logic.proofs.Invariance.{elements_kept}
 use Rattle.mw_logic.proofs.SortedLists.{Climbs, climbs, sorted_terms-climbing}
 use Rattle.mw_split.specs.Lists.{AllOnce}
-use Rattle.mw_machine.specs.Positions.{IsNumbered, AreNumbered, AreWithin}
-use Rattle.mw_machine.proofs.Counting.{within_counted, all_within_counted}
-use Rattle.mw_machine.proofs.Begins.{begins_same, begins_whole, begins_unique}
+use Rattle.mw_position.specs.Positions.{IsNumbered, AreNumbered, AreWithin}
+use Rattle.mw_position.proofs.Counting.{within_counted, all_within_counted}
+use Rattle.mw_position.proofs.Begins.{begins_same, begins_whole, begins_unique}
 use Rattle.mw_arguments.specs.Pieces.{ArePieces, is_backed}
 use Rattle.mw_arguments.specs.Bags.{runs, heads}
 use Rattle.mw_arguments.specs.Splits.{pieces}

@@ -9,7 +9,7 @@ use Rattle.mw_logic.specs.Parts.{is_assoc, nested, all_nested, nest, chain}
 use Rattle.mw_logic.specs.NormalForm.{applied_in, normal_form, normal_forms}
 use Rattle.mw_logic.proofs.Canonical.{IsCanonical}
 use Rattle.mw_logic.proofs.CanonicalTerms.{fixed, normal_form-chain}
-use Rattle.mw_machine.specs.Positions.{fill, fill_all}
+use Rattle.mw_position.specs.Positions.{fill, fill_all}
 use Rattle.mw_matching.specs.Matches.{evaluated, evaluated_all}
 
 module _ (sig : Signature) (ok : IsAccepted sig) where

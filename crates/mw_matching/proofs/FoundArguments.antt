@@ -12,9 +12,9 @@ use Rattle.mw_logic.specs.Parts.{is_assoc, number_of_terms}
 use Rattle.mw_logic.specs.NormalForm.{is_comm, applied_in}
 use Rattle.mw_logic.proofs.Canonical.{IsCanonical, AreCanonical}
 use Rattle.mw_split.specs.Lists.{AllOnce}
-use Rattle.mw_machine.specs.Positions.{IsNumbered, AreNumbered}
-use Rattle.mw_machine.proofs.Counting.{all_within_counted}
-use Rattle.mw_machine.proofs.Begins.{begins_same, begins_whole, begins_unique}
+use Rattle.mw_position.specs.Positions.{IsNumbered, AreNumbered}
+use Rattle.mw_position.proofs.Counting.{all_within_counted}
+use Rattle.mw_position.proofs.Begins.{begins_same, begins_whole, begins_unique}
 use Rattle.mw_arguments.specs.Arguments.{Gives, HasArity}
 use Rattle.mw_arguments.specs.Bags.{same}
 use Rattle.mw_arguments.specs.Splits.{orders, exchanges, own, splits_of}

@@ -12,8 +12,8 @@ use Rattle.mw_logic.proofs.Elements.{taken}
 use Rattle.mw_logic.proofs.Canonical.{Each, IsElement, IsCanonical, elements-backed}
 use Rattle.mw_logic.proofs.SortedLists.{occurrences, same_itself, climbs, sorted_terms-climbing}
 use Rattle.mw_split.specs.Lists.{AllOnce}
-use Rattle.mw_machine.specs.Positions.{Begins, IsNumbered, AreNumbered, AreWithin}
-use Rattle.mw_machine.proofs.Begins.{begins_at}
+use Rattle.mw_position.specs.Positions.{Begins, IsNumbered, AreNumbered, AreWithin}
+use Rattle.mw_position.proofs.Begins.{begins_at}
 use Rattle.mw_arguments.specs.Pieces.{is_backed}
 use Rattle.mw_arguments.specs.Bags.{runs, heads}
 use Rattle.mw_arguments.proofs.Once.{once_mapped, once_same, once_one, once_none}

@@ -10,7 +10,7 @@ use Rattle.mw_logic.specs.Parts.{is_assoc}
 use Rattle.mw_logic.specs.NormalForm.{is_comm, identity_of, elements}
 use Rattle.mw_logic.proofs.Canonical.{IsCanonical}
 use Rattle.mw_split.specs.Lists.{AllOnce}
-use Rattle.mw_machine.specs.Positions.{IsNumbered}
+use Rattle.mw_position.specs.Positions.{IsNumbered}
 use Rattle.mw_arguments.specs.Splits.{orders}
 use Rattle.mw_matching.specs.Matches.{Theory, at_position, Fits, IsMatch, HasArities, AllHaveArities}
 use Rattle.mw_matching.specs.Patterns.{theory}

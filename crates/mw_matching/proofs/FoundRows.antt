@@ -11,7 +11,7 @@ use Rattle.mw_logic.specs.Parts.{is_assoc, number_of_terms}
 use Rattle.mw_logic.specs.NormalForm.{is_comm, identity_of, elements, rebuilt}
 use Rattle.mw_logic.proofs.Canonical.{IsElement, Backed, elements-backed}
 use Rattle.mw_split.specs.Lists.{Member, AllOnce}
-use Rattle.mw_machine.specs.Positions.{IsNumbered, AreNumbered}
+use Rattle.mw_position.specs.Positions.{IsNumbered, AreNumbered}
 use Rattle.mw_arguments.specs.Pieces.{is_backed}
 use Rattle.mw_arguments.proofs.Once.{once_mapped, once_same, once_one, once_none}
 use Rattle.mw_arguments.proofs.ListPieces.{front_join, skip_join, join_parts, number_skip, number_join}

@@ -13,9 +13,9 @@ use Rattle.mw_logic.proofs.Canonical.{Each, IsElement, IsCanonical, AreCanonical
 use Rattle.mw_logic.proofs.Holes.{Each-unarranged, Each-parts}
 use Rattle.mw_logic.proofs.Invariance.{elements_kept}
 use Rattle.mw_split.specs.Lists.{AllOnce}
-use Rattle.mw_machine.specs.Positions.{Begins, counted_all, AreWithin}
-use Rattle.mw_machine.proofs.Counting.{within_counted, all_within_counted}
-use Rattle.mw_machine.proofs.Begins.{begins_same, begins_whole, begins_unique}
+use Rattle.mw_position.specs.Positions.{Begins, counted_all, AreWithin}
+use Rattle.mw_position.proofs.Counting.{within_counted, all_within_counted}
+use Rattle.mw_position.proofs.Begins.{begins_same, begins_whole, begins_unique}
 use Rattle.mw_arguments.specs.Arguments.{Gives, Spells, HasArity}
 use Rattle.mw_arguments.specs.Pieces.{is_backed}
 use Rattle.mw_arguments.proofs.Once.{once_flat_mapped, once_same, once_one, once_none}

@@ -12,9 +12,9 @@ use Rattle.mw_logic.specs.NormalForm.{applied_in}
 use Rattle.mw_logic.proofs.SortedLists.{same_term}
 use Rattle.mw_logic.proofs.Canonical.{IsCanonical, AreCanonical, applied_canonical}
 use Rattle.mw_split.specs.Lists.{AllOnce}
-use Rattle.mw_machine.specs.Positions.{counted, counted_all, Begins, IsNumbered, AreNumbered, IsWithin, AreWithin}
-use Rattle.mw_machine.proofs.Begins.{begins_same, begins_then, begins_at, begins_put, begins_last, begins_append, begins_whole, begins_unique, begins_take, take_begins}
-use Rattle.mw_machine.proofs.Counting.{counted_grows, all_counted_grows, within_counted, all_within_counted}
+use Rattle.mw_position.specs.Positions.{counted, counted_all, Begins, IsNumbered, AreNumbered, IsWithin, AreWithin}
+use Rattle.mw_position.proofs.Begins.{begins_same, begins_then, begins_at, begins_put, begins_last, begins_append, begins_whole, begins_unique, begins_take, take_begins}
+use Rattle.mw_position.proofs.Counting.{counted_grows, all_counted_grows, within_counted, all_within_counted}
 use Rattle.mw_arguments.specs.Arguments.{Gives}
 use Rattle.mw_arguments.specs.Bags.{same}
 use Rattle.mw_arguments.proofs.Once.{once_flat_mapped, once_same, once_one, once_none}

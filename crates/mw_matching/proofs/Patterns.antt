@@ -11,7 +11,7 @@ use Rattle.mw_logic.specs.TermOrder.{insert_term, sorted_terms, stands_after}
 use Rattle.mw_logic.specs.NormalForm.{is_comm, identity_of, is_identity, elements, arranged, counted, applied_in}
 use Rattle.mw_logic.proofs.Canonical.{IsElement, IsCanonical, is_identity-arguments, arranged-nil}
 use Rattle.mw_split.specs.Lists.{AllOnce}
-use Rattle.mw_machine.specs.Positions.{IsNumbered, IsWithin, AreWithin}
+use Rattle.mw_position.specs.Positions.{IsNumbered, IsWithin, AreWithin}
 use Rattle.mw_arguments.specs.Arguments.{Gives, HasArity}
 use Rattle.mw_arguments.proofs.Once.{once_same}
 use Rattle.mw_arguments.proofs.Splits.{exact}

@@ -8,7 +8,7 @@ use Rattle.mw_logic.specs.NormalForm.{identity_of}
 use Rattle.mw_logic.proofs.RowsOfSet.{sig, a, b, mt}
 use Rattle.mw_split.specs.Cuts.{bag_cuts, list_cuts}
 use Rattle.mw_arguments.specs.Splits.{splits_of}
-use Rattle.mw_machine.specs.Positions.{position}
+use Rattle.mw_position.specs.Positions.{position}
 use Rattle.mw_matching.specs.Matches.{Theory, matches}
 use Rattle.mw_matching.specs.Rigid.{rigid_splits}
 use Rattle.mw_matching.specs.Patterns.{theory}

@@ -6,7 +6,7 @@ use Rattle.mw_logic.specs.TermOrder.{sorted_terms}
 use Rattle.mw_logic.specs.NormalForm.{identity_of, elements, flattened, rebuilt}
 use Rattle.mw_logic.proofs.Elements.{taken}
 use Rattle.mw_logic.proofs.Canonical.{IsCanonical, IsElement}
-use Rattle.mw_machine.specs.Positions.{counted_all, Begins}
+use Rattle.mw_position.specs.Positions.{counted_all, Begins}
 use Rattle.mw_arguments.specs.Pieces.{is_backed}
 use Rattle.mw_arguments.specs.Bags.{runs, heads}
 use Rattle.mw_arguments.specs.Splits.{pieces}

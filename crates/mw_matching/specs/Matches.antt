@@ -7,7 +7,7 @@ use Rattle.mw_logic.specs.Parts.{number_of_terms}
 use Rattle.mw_logic.specs.NormalForm.{applied_in}
 use Rattle.mw_logic.proofs.Canonical.{IsCanonical}
 use Rattle.mw_split.specs.Lists.{AllOnce}
-use Rattle.mw_machine.specs.Positions.{counted, counted_all, Begins, AreWithin}
+use Rattle.mw_position.specs.Positions.{counted, counted_all, Begins, AreWithin}
 use Rattle.mw_arguments.specs.Arguments.{Gives, HasArity}
 use Rattle.mw_arguments.specs.Bags.{same}
 

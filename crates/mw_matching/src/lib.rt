@@ -1,5 +1,5 @@
 //! All matches of a pattern modulo the axioms, each once. Definitions and laws over mw_arguments, for patterns whose
-//! variables stand by position (mw_machine). It has no code, and no crate with code stands on it yet.
+//! variables stand by position (mw_position). It has no code, and no crate with code stands on it yet.
 //!
 //! A match (`IsMatch`, specs/Matches) extends the values that were there; each new value is canonical and one that its
 //! position may have, and the canonical instance of the pattern is the term. All is in an accepted signature, for a

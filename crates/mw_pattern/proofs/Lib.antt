@@ -1,4 +1,2 @@
 pub mod Lists
 pub mod Tables
-pub mod Compiling
-pub mod Indexing

@@ -5,8 +5,8 @@ use Rattle.std.proofs.lemmas.List.{take_more, map-append, take-append-drop}
 use denote.Ref.{Bor}
 use Rattle.mw_logic.specs.Term.{Variable, variable}
 use Rattle.mw_logic.specs.Substitution.{same_variable}
-use Rattle.mw_machine.specs.Variables.{is_in, met, AreDistinct, place}
-use Rattle.mw_machine.proofs.Meeting.{or_none, is_in-append, place-append, place-put, place-within, place_at}
+use Rattle.mw_position.specs.Variables.{is_in, met, AreDistinct, place}
+use Rattle.mw_position.proofs.Meeting.{or_none, is_in-append, place-append, place-put, place-within, place_at}
 use Rattle.mw_pattern.specs.Tables.{Key, same_key, variable_of, pointed, position_in}
 use Rattle.mw_logic.proofs.SameConditions.{same_variable-is, same_variable-refl}
 

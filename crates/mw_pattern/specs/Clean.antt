@@ -3,7 +3,7 @@ use Rattle.std.specs.Prelude.{List, [], ◌∷◌}
 use Rattle.mw_pattern.specs.declared.pattern.Pattern.{Pattern}
 use Rattle.mw_pattern.specs.declared.pattern.Pattern.TheVariants.{Nat, Qid, Var, Op}
 use Rattle.mw_logic.specs.Term.{RawTerm, numeral, quoted, variable, apply, RawTerms, nil, cons}
-use Rattle.mw_machine.specs.Positions.{position}
+use Rattle.mw_position.specs.Positions.{position}
 
 abbrev pub clean : Pattern → RawTerm
 clean (Nat n) = numeral n

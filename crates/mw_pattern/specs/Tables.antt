@@ -3,7 +3,7 @@ use Rattle.std.specs.Prelude.{ℕ, ◌≡◌, List, map, Option, Some, None, Boo
 use denote.Ref.{Bor}
 use Rattle.std.specs.HashMap.{HashMap, get}
 use Rattle.mw_logic.specs.Term.{Variable}
-use Rattle.mw_machine.specs.Variables.{is_in, place}
+use Rattle.mw_position.specs.Variables.{is_in, place}
 
 -- a name and a sort
 abbrev pub Key : Type 0

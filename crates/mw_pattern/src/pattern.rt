@@ -1,13 +1,10 @@
 // Patterns, whose variables are numbered by position.
-ghost use Rattle.std.specs.Prelude.{◌≡◌, ◌-◌, ◌^◌, min, IfOk, length};
+ghost use Rattle.std.specs.Prelude.{◌≡◌, ◌-◌, ◌^◌, min};
 ghost use Rattle.mw_logic.specs.NormalForm.{height, highest};
-ghost use Rattle.mw_machine.specs.Positions.{fill, fill_all};
-ghost use Rattle.mw_logic.specs.Terms.{terms_of};
+ghost use Rattle.mw_position.specs.Positions.{fill, fill_all};
 ghost use Rattle.mw_pattern.specs.Clean.{clean, clean_all};
-ghost use Rattle.mw_machine.specs.Positions.{IsWithin, AreWithin};
 
-use mw_term::{Name, OpId, Term, copy, copy_name, depth};
-use std::alloc::{AllocError, Global};
+use mw_term::{Name, OpId, Term, depth};
 use std::marker::Model;
 
 #[derive(Drop)]
@@ -90,40 +87,5 @@ impl Patterns {
             most = most.max(depth_at(p, values));
         }
         most
-    }
-}
-
-/// The instance.
-#[cycle(instance)]
-pub fn instance(alloc: Global, pattern: &Pattern, values: &[Term]) -> Result<Term, AllocError>
-    requires { IsWithin (length values.now) (clean pattern.now) }
-    ensures { IfOk result (λ t. t ≡ fill values.now (clean pattern.now)) }
-{
-    match pattern {
-        Pattern::Nat(number) => Term::numeral(alloc, *number),
-        Pattern::Qid(name) => {
-            let name = copy_name(alloc, name)?;
-            Term::quoted(alloc, name)
-        }
-        Pattern::Var(i) => copy(&values[*i]),
-        Pattern::Op(f, args) => {
-            let made = args.instances(alloc, values)?;
-            Term::apply(alloc, *f, made)
-        }
-    }
-}
-
-impl Patterns {
-    #[cycle(instance)]
-    pub fn instances(&self, alloc: Global, values: &[Term]) -> Result<Vec<Term>, AllocError>
-        requires { AreWithin (length values.now) self.now }
-        ensures { IfOk result (λ ts. terms_of ts.items ≡ fill_all values.now self.now) }
-    {
-        let mut made = Vec::new(alloc);
-        for p in &self.list {
-            let t = instance(alloc, p, values)?;
-            made.push(t)?;
-        }
-        Ok(made)
     }
 }

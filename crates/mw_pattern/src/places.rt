@@ -1,7 +1,7 @@
 // Where variables stand.
 ghost use Rattle.std.specs.Prelude.{◌≡◌, ◌<◌, ◌++◌, List, [], IfOk, OnOk, OnErr, IsTrue, Some, length, slice_get};
 ghost use Rattle.mw_logic.specs.Term.{Variable, variable as a_variable};
-ghost use Rattle.mw_machine.specs.Variables.{is_in, AreDistinct, place, met, sorts_of};
+ghost use Rattle.mw_position.specs.Variables.{is_in, AreDistinct, place, met, sorts_of};
 ghost use Rattle.mw_term.specs.Raws.{raw_term};
 
 use mw_term::{Raw, Seq, SortId, VarId};

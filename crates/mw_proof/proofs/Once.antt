@@ -1,131 +1,257 @@
--- In a simple module a proof of one replacement may stand under an operator wherever its ends may: the terms before and after that replacement are the ends.
-use Rattle.std.specs.Prelude.{◌≡◌, ◌⊎◌, ℕ, suc, List, [], ◌∷◌, ◌++◌, Bool, false, refl}
-use Rattle.std.proofs.Common.{sym, ap, ◌∙◌, subst, inl, inr, ⊎_elim, true≢false, arith}
-use Rattle.mw_logic.specs.Term.{RawTerm, RawTerms, Frame, Context, plug, join, apply}
-use Rattle.mw_logic.specs.Term as term
-use Rattle.mw_logic.specs.Signature.{Signature, IsIdentity, IsSuccessor}
-use Rattle.mw_logic.specs.Free.{IsFreeSignature}
-use Rattle.mw_logic.specs.Substitution.{Substitution}
-use Rattle.mw_logic.specs.Parts.{nested, IsAdmitted, ReplacesPart}
-use Rattle.mw_logic.specs.Module.{Fragment, Module}
-use Rattle.mw_logic.specs.Proof.{Proof, reflexivity, equality, congruence, transitivity, replacement, row, Proofs}
-use Rattle.mw_logic.specs.Proof as proof
-use Rattle.mw_logic.specs.Judgements.{StepTest, Leads, LeadsIn, judgements_with}
-use Rattle.mw_logic.proofs.FreeSignature.{free_equal, free_clean}
-use Rattle.mw_logic.proofs.Lifting.{fill, IsVisible}
-use Rattle.mw_machine.specs.Moves.{Place}
-use Rattle.mw_machine.specs.Replacements.{Replacement, number_of_proofs, carried, carried_in, LiftedStep}
-use Rattle.mw_machine.specs.Simple.{IsSimpleModule}
-use Rattle.mw_machine.proofs.Firing.{free_module}
-use Rattle.mw_machine.proofs.Trees.{join-assoc}
-use Rattle.mw_canon.specs.Canonical.{IsAdmittedTerm}
-use Rattle.mw_proof.specs.Deductions.{Deduction, IsDeduction, filled, frame_of, IsLiftable}
-use Rattle.mw_proof.proofs.Joining.{filled_free}
+-- One replacement of a whole term, with its evidence, is kept.
+use Rattle.std.specs.Prelude.{◌≡◌, ◌≤◌, ◌<◌, ◌-◌, ◌++◌, ℕ, List, [], ◌∷◌, Bool, false, Some, option_map, unwrap_or, refl}
+use Rattle.std.specs.List.{zip}
+use Rattle.std.proofs.Common.{sym, subst, ap, ◌∙◌, arith, append_assoc}
+use Rattle.mw_logic.specs.Term.{RawTerm}
+use Rattle.mw_logic.specs.Signature.{Signature, IsRawTerm, at_number}
+use Rattle.mw_logic.specs.Accepted.{IsAccepted, IsWellSorted}
+use Rattle.mw_logic.specs.Substitution.{Substitution, instance}
+use Rattle.mw_logic.specs.Parts.{nested}
+use Rattle.mw_logic.specs.NormalForm.{normal_form}
+use Rattle.mw_logic.specs.Module.{Module, Statement}
+use Rattle.mw_logic.specs.Proof.{Proof, equality, transitivity, replacement, row, Proofs, nil, cons}
+use Rattle.mw_logic.proofs.AxiomLaws.{sym as back}
+use Rattle.mw_logic.proofs.Canonical.{IsCanonical, canonical}
+use Rattle.mw_logic.proofs.EqualTerms.{IsAdmitted-equal}
+use Rattle.mw_logic.proofs.Soundness.{normal_form-sound}
+use Rattle.mw_logic.proofs.SolutionLaws.{instance_raw}
+use Rattle.mw_canon.specs.Canonical.{IsAdmittedTerm, meant}
+use Rattle.mw_deduction.specs.Chains.{proof_of}
+use Rattle.mw_deduction.specs.Reading.{behind}
+use Rattle.mw_deduction.specs.Frontier.{together}
+use Rattle.mw_deduction.specs.Runs.{by_statement, by_row, none, one, Runs, end, another, Run, run}
+use Rattle.mw_deduction.specs.Replay.{Move, begins, ends, applies, meets, Stand, begun, becomes, put_behind, replacing, showing, plays, MayReplace, MayBegin, AreMoves}
+use Rattle.mw_deduction.specs.Above.{ranked}
+use Rattle.mw_deduction.proofs.Concluding.{IsOutermostOf, played_of}
+use Rattle.mw_deduction.proofs.Moves.{plays-append, moves-append, plays_over}
+use Rattle.mw_deduction.proofs.MoveStands.{becomes_is}
+use Rattle.mw_trail.specs.Tracks.{Track, moves, variables_of, is_rule}
+use Rattle.mw_proof.specs.Deductions.{Deduction, first_of, end_of, deduced, IsKept}
+use Rattle.mw_proof.specs.Replacing.{shortened, evidence, carried_out, AreBelow, AreSides, bindings, values_of, instance_in, MayApply, Applies, MeetsRow}
+use Rattle.mw_proof.proofs.Keeping.{kept_above}
 
-none_in : {A : Type 0} (xs ys : List A) → xs ++ ys ≡ [] → (xs ≡ []) × (ys ≡ [])
-none_in [] ys e = (refl, e)
-none_in (x ∷ xs) ys e = cc
+together-nil : (es : Proofs) → together es nil ≡ es
+together-nil nil = refl
+together-nil (cons e es) = ap (cons e) (together-nil es)
 
-one_in : {A : Type 0} (xs ys : List A) (r : A) → xs ++ ys ≡ r ∷ [] → ((xs ≡ []) × (ys ≡ r ∷ [])) ⊎ ((xs ≡ r ∷ []) × (ys ≡ []))
-one_in [] ys r e = inl (refl, e)
-one_in (x ∷ xs) ys r e = let h : xs ++ ys ≡ [] = cc in let n = none_in xs ys h in let k : x ≡ r = cc in inr (rw (k, n.0) refl, n.1)
+together-behind : (es : Proofs) (p : Proof) (qs : Proofs) → together (behind es p) qs ≡ together es (cons p qs)
+together-behind nil p qs = refl
+together-behind (cons e es) p qs = ap (cons e) (together-behind es p qs)
 
-module _ (M : Module) (free : IsFreeSignature M.signature) (H : List Fragment → Substitution → Proofs → Substitution → Type 0) (F : List Fragment → Substitution → Type 0) (Step Tep : StepTest) where
-  mutual
-    -- nothing is replaced
-    pub never : (p : Proof) (ls : Place) (C : Context) (t u : RawTerm) → Leads M Step H F C p t u → carried ls p ≡ [] → (t ≡ u) × Leads M Tep H F C p t u
-    never reflexivity ls C t u l e = (l, l)
-    never equality ls C t u l e = (free_equal M.signature free l, l)
-    never (congruence ps) ls C t u (f, ts, us, a, b, l) e =
-        let h = never_in ps ls 0 C f term.nil ts us l e in (a ∙ ap (apply f) h.0 ∙ sym b, (f, ts, us, a, b, h.1))
-    never (transitivity p q) ls C t u (m, a, b) e =
-        let n = none_in (carried ls p) (carried ls q) e in let x = never p ls C t m a n.0 in let y = never q ls C m u b n.1 in (x.0 ∙ y.0, (m, x.1, y.1))
-    never (replacement k r s es) ls C t u l e = cc
-    never row ls C t u l e = cc
+-- runs and then others
+abbrev all_runs : Runs → Runs → Runs
+all_runs end qs = qs
+all_runs (another r rs) qs = another r (all_runs rs qs)
 
-    never_in : (ps : Proofs) (ls : Place) (i : ℕ) (C : Context) (f : ℕ) (done ts us : RawTerms) → LeadsIn M Step H F C f done ps ts us → carried_in ls i ps ≡ [] → (ts ≡ us) × LeadsIn M Tep H F C f done ps ts us
-    never_in proof.nil ls i C f done ts us l e = (l.0 ∙ sym l.1, l)
-    never_in (proof.cons p ps) ls i C f done ts us (t, u, ts', us', a, b, l, more) e =
-        let ks : Place = record { before = i; after = number_of_proofs ps } ∷ ls in
-        let n = none_in (carried ks p) (carried_in ls (suc i) ps) e in
-        let x = never p ks (record { operator = f; before = done; after = ts' } ∷ C) t u l n.0 in
-        let y = never_in ps ls (suc i) C f (join done (term.cons u term.nil)) ts' us' more n.1 in
-        let z : term.cons t ts' ≡ term.cons u us' = rw (x.0, y.0) refl in
-        (a ∙ z ∙ sym b, (t, u, ts', us', a, b, x.1, y.1))
+all_runs-end : (rs : Runs) → all_runs rs end ≡ rs
+all_runs-end end = refl
+all_runs-end (another r rs) = ap (another r) (all_runs-end rs)
 
-module _ (M : Module) (simple : IsSimpleModule M) (H : List Fragment → Substitution → Proofs → Substitution → Type 0) (F : List Fragment → Substitution → Type 0)
-    (Step Tep : StepTest) (T U : RawTerm) (j : (w v : RawTerm) → Step false T w v U → Tep false T w v U) where
-  free : IsFreeSignature M.signature
-  free = (free_module M simple).signature
+all_runs-behind : (rs : Runs) (q : Run) (qs : Runs) → all_runs (put_behind rs q) qs ≡ all_runs rs (another q qs)
+all_runs-behind end q qs = refl
+all_runs-behind (another r rs) q qs = ap (another r) (all_runs-behind rs q qs)
 
-  turned : (r : Bool) (x w v y : RawTerm) → r ≡ false → x ≡ T → y ≡ U → Step r x w v y → Tep r x w v y
-  turned r x w v y e f g s =
-      subst (λ z. Tep z x w v y) (sym e) (subst (λ z. Tep false z w v y) (sym f) (subst (λ z. Tep false T w v z) (sym g)
-      (j w v (subst (λ z. Step false T w v z) g (subst (λ z. Step false z w v y) f (subst (λ z. Step z x w v y) e s))))))
+-- a proof at its beginning, with this evidence that waits
+abbrev waiting : ℕ → RawTerm → Proofs → Runs → Stand
+waiting n t es rs = record { rank = n; from = t; opens = []; hand = t; read = record { entered = []; done = []; ready = es }; run = none; sides = rs }
 
-  mutual
-    pub once : (p : Proof) (ls : Place) (r : Replacement) (C : Context) (t u : RawTerm) → plug C t ≡ T → plug C u ≡ U → Leads M Step H F C p t u → carried ls p ≡ r ∷ [] → Leads M Tep H F C p t u
-    once reflexivity ls r C t u a b l e = cc
-    once equality ls r C t u a b l e = cc
-    once (congruence ps) ls r C t u a b (f, ts, us, x, y, l) e =
-        (f, ts, us, x, y, once_in ps ls 0 r C f term.nil ts us (ap (plug C) (sym x) ∙ a) (ap (plug C) (sym y) ∙ b) l e)
-    once (transitivity p q) ls r C t u a b (m, x, y) e =
-        ⊎_elim
-        (λ n. let h = never M free H F Step Tep p ls C t m x n.0 in (m, h.1, once q ls r C m u (ap (plug C) (sym h.0) ∙ a) b y n.1))
-        (λ n. let h = never M free H F Step Tep q ls C m u y n.1 in (m, once p ls r C t m a (ap (plug C) h.0 ∙ b) x n.0, h.1))
-        (one_in (carried ls p) (carried ls q) r e)
-    once (replacement k c s es) ls r C t u a b (x, y) e = (x, turned c (plug C t) t u (plug C u) (sym x.rule ∙ (simple.equations k x.statement x.is_there).equation) a b y)
-    once row ls r C t u a b (x, c, y) e = (x, c, turned false (plug C t) t u (plug C u) refl a b y)
-
-    once_in : (ps : Proofs) (ls : Place) (i : ℕ) (r : Replacement) (C : Context) (f : ℕ) (done ts us : RawTerms) → plug C (apply f (join done ts)) ≡ T → plug C (apply f (join done us)) ≡ U
-        → LeadsIn M Step H F C f done ps ts us → carried_in ls i ps ≡ r ∷ [] → LeadsIn M Tep H F C f done ps ts us
-    once_in proof.nil ls i r C f done ts us a b l e = cc
-    once_in (proof.cons p ps) ls i r C f done ts us a b (t, u, ts', us', x, y, l, more) e =
-        let ks : Place = record { before = i; after = number_of_proofs ps } ∷ ls in
-        let c : Frame = record { operator = f; before = done; after = ts' } in
-        let W : RawTerms → RawTerm = λ zs. plug C (apply f (join done zs)) in
-        let a' : W (term.cons t ts') ≡ T = ap W (sym x) ∙ a in
-        let b' : W (term.cons u us') ≡ U = ap W (sym y) ∙ b in
-        let on : (zs : RawTerms) → plug C (apply f (join (join done (term.cons u term.nil)) zs)) ≡ W (term.cons u zs) = λ zs. ap (λ ys. plug C (apply f ys)) (join-assoc done (term.cons u term.nil) zs) in
-        ⊎_elim
-        (λ n. let h = never M free H F Step Tep p ks (c ∷ C) t u l n.0 in
-        (t, u, ts', us', x, y, h.1, once_in ps ls (suc i) r C f (join done (term.cons u term.nil)) ts' us' (on ts' ∙ ap (λ z. W (term.cons z ts')) (sym h.0) ∙ a') (on us' ∙ b') more n.1))
-        (λ n. let h = never_in M free H F Step Tep ps ls (suc i) C f (join done (term.cons u term.nil)) ts' us' more n.1 in
-        (t, u, ts', us', x, y, once p ks r (c ∷ C) t u a' (ap (λ zs. W (term.cons u zs)) h.0 ∙ b') l n.0, h.1))
-        (one_in (carried ks p) (carried_in ls (suc i) ps) r e)
-
--- each term is visible under each operator
-visible : (sig : Signature) → IsFreeSignature sig → (c : Frame) (t : RawTerm) → IsVisible sig c t
-visible sig free c t = record {
-  before = (free_clean sig free (apply 0 c.before)).0;
-  after = (free_clean sig free (apply 0 c.after)).0;
-  others = λ e is. absurd (no_identity e is);
-  not_identity = λ e is. absurd (no_identity e is);
-  not_numeral = λ n is. absurd (no_successor is);
-}
-  where
-    no_identity : (e : RawTerm) → IsIdentity sig c.operator e → ⊥
-    no_identity e is = (free_clean sig free (apply c.operator (term.cons e term.nil))).1 e is (inl refl)
-
-    no_successor : IsSuccessor sig c.operator → ⊥
-    no_successor is = (free_clean sig free (apply c.operator (term.cons (term.numeral 0) term.nil))).2 0 is refl (omega arith)
-
-module _ (d : Deduction) (simple : IsSimpleModule d.over) (f : ℕ) (xs ys : List RawTerm) where
+module _ (M : Module) (ok : IsAccepted M.signature) (n : ℕ) (t : RawTerm) where
   abbrev sig : Signature
-  sig = d.over.signature
+  sig = M.signature
 
-  abbrev c : Frame
-  c = frame_of sig f xs ys
+  -- one side
+  module _ (low : n ≤ 63) (d : Deduction) (over : d.over ≡ M) (below : d.rank < n) (k : Track) (kept : IsKept d.over d.rank d.from d.to k) (is : d ≡ deduced d.over d.rank d.from d.to k) (es : Proofs) (rs : Runs) where
+    here : IsKept M d.rank d.from d.to k
+    here = subst (λ X. IsKept X d.rank d.from d.to k) over kept
 
-  plain : IsFreeSignature sig
-  plain = (free_module d.over simple).signature
+    lower : IsKept M (n - 1) d.from d.to k × ((i : ℕ) × (end_of M (n - 1) d.from k ≡ ranked i (end_of M d.rank d.from k)))
+    lower = kept_above M d.rank (n - 1) d.from d.to k (omega (arith, below)) (omega (arith, low)) here
 
-  -- the whole is admitted
-  whole : (t : RawTerm) → IsAdmittedTerm sig (filled sig f xs t ys) → IsAdmitted sig (fill c (nested sig t))
-  whole t a = subst (IsAdmitted sig) (filled_free sig plain f xs t ys) a.admitted
+    last_is : lower.0.last ≡ ranked lower.1.0 (end_of d.over d.rank d.from k)
+    last_is = ap first_of (sym lower.0.stands) ∙ lower.1.1 ∙ ap (λ X. ranked lower.1.0 (end_of X d.rank d.from k)) (sym over)
 
-  pub liftable_once : IsDeduction d → (r : Replacement) → carried [] d.proof ≡ r ∷ [] → IsAdmittedTerm sig (filled sig f xs d.from ys) → IsAdmittedTerm sig (filled sig f xs d.to ys) → IsLiftable d c
-  unfolding judgements_with
-  liftable_once is r e begins ends =
-      once d.over simple _ _ (ReplacesPart sig) (LiftedStep d.over c) (nested sig d.from) (nested sig d.to)
-      (λ w v s. ((visible sig plain c (nested sig d.from), (λ h. absurd (true≢false (sym h))), s), whole d.from begins, whole d.to ends)) d.proof [] r [] (nested sig d.from) (nested sig d.to) refl refl is.proves e
+    may_begin : MayBegin M d.from (waiting n t es rs)
+    may_begin = record {
+      rank = n - 1;
+      above = omega (arith, below);
+      canonical = subst (IsCanonical sig) here.begins.canonical (canonical sig ok (nested sig d.from));
+      raw = here.begins.raw;
+      admitted = here.begins.admitted;
+    }
+
+    abbrev last : Stand
+    last = lower.0.last
+
+    -- what comes of it
+    abbrev shown : Stand
+    shown = waiting n t (behind es (transitivity equality (shortened d.proof))) (put_behind rs (run (nested sig d.from) (nested sig d.to) d.run))
+
+    done_is : proof_of last.read.done ≡ shortened d.proof
+    done_is = ap (λ (S : Stand). proof_of S.read.done) last_is ∙ sym (ap (λ (x : Deduction). shortened x.proof) is)
+
+    run_is : run (nested sig last.from) (nested sig last.hand) last.run ≡ run (nested sig d.from) (nested sig d.to) d.run
+    run_is =
+        let (r, f) = subst (IsOutermostOf (n - 1) d.from) lower.0.stands (played_of M (moves M k) (n - 1) d.from (begun (n - 1) d.from ∷ []) (refl, refl)) in
+        let ds = ap (λ (S : Stand). S.run) last_is ∙ sym (ap (λ (x : Deduction). x.run) is) in
+        ap (λ x. run (nested sig x) (nested sig last.hand) last.run) f ∙ ap (λ x. run (nested sig d.from) (nested sig x) last.run) lower.0.reaches ∙ ap (run (nested sig d.from) (nested sig d.to)) ds
+
+    shows_it : showing sig last (waiting n t es rs) ≡ shown
+    shows_it = ap (λ p. waiting n t (behind es (transitivity equality p)) (put_behind rs (run (nested sig last.from) (nested sig last.hand) last.run))) done_is
+        ∙ ap (λ r. waiting n t (behind es (transitivity equality (shortened d.proof))) (put_behind rs r)) run_is
+
+    inside : AreMoves M (moves M k) (begun (n - 1) d.from ∷ waiting n t es rs ∷ []) × (plays M (moves M k) (begun (n - 1) d.from ∷ waiting n t es rs ∷ []) ≡ last ∷ waiting n t es rs ∷ [])
+    inside =
+        let (a, e) = plays_over M (moves M k) (begun (n - 1) d.from ∷ []) (waiting n t es rs ∷ []) lower.0.made in
+        (a, e ∙ ap (λ B. B ++ waiting n t es rs ∷ []) lower.0.stands)
+
+    pub one_side : AreMoves M (begins d.from ∷ moves M k ++ ends ∷ []) (waiting n t es rs ∷ []) × (plays M (begins d.from ∷ moves M k ++ ends ∷ []) (waiting n t es rs ∷ []) ≡ shown ∷ [])
+    one_side = (
+      (
+        may_begin,
+        moves-append M (moves M k) (ends ∷ []) (begun (n - 1) d.from ∷ waiting n t es rs ∷ []) inside.0 (subst (AreMoves M (ends ∷ [])) (sym inside.1) (record { outside = lower.0.closed; nothing_waits = lower.0.used }, tt)),
+      ),
+      plays-append M (moves M k) (ends ∷ []) (begun (n - 1) d.from ∷ waiting n t es rs ∷ []) ∙ ap (plays M (ends ∷ [])) inside.1 ∙ ap (λ S. S ∷ []) shows_it,
+    )
+
+  -- all
+  pub all_sides : n ≤ 63 → (ds : List Deduction) (ms : List Move) → AreBelow M n ds → AreSides M ds ms → (es : Proofs) (rs : Runs)
+      → AreMoves M ms (waiting n t es rs ∷ []) × (plays M ms (waiting n t es rs ∷ []) ≡ waiting n t (together es (evidence ds)) (all_runs rs (carried_out sig ds)) ∷ [])
+  all_sides low [] ms b e es rs = (
+    subst (λ ns. AreMoves M ns (waiting n t es rs ∷ [])) (sym e) tt,
+    ap (λ ns. plays M ns (waiting n t es rs ∷ [])) e ∙ ap (λ qs. waiting n t qs rs ∷ []) (sym (together-nil es)) ∙ ap (λ qs. waiting n t (together es nil) qs ∷ []) (sym (all_runs-end rs)),
+  )
+  all_sides low (d ∷ ds) ms (over, below, b) (k, rest, kept, is, e, more) es rs =
+      let p : Proof = transitivity equality (shortened d.proof) in
+      let r : Run = run (nested sig d.from) (nested sig d.to) d.run in
+      let (x, y) = one_side low d over below k kept is es rs in
+      let (v, w) = all_sides low ds rest b more (behind es p) (put_behind rs r) in
+      let q : ms ≡ (begins d.from ∷ moves M k ++ ends ∷ []) ++ rest = e ∙ ap (λ ns. begins d.from ∷ ns) (sym (append_assoc (moves M k) (ends ∷ []) rest)) in (
+        subst (λ ns. AreMoves M ns (waiting n t es rs ∷ [])) (sym q) (moves-append M (begins d.from ∷ moves M k ++ ends ∷ []) rest (waiting n t es rs ∷ []) x (subst (AreMoves M rest) (sym y) v)),
+        ap (λ ns. plays M ns (waiting n t es rs ∷ [])) q ∙ plays-append M (begins d.from ∷ moves M k ++ ends ∷ []) rest (waiting n t es rs ∷ []) ∙ ap (plays M rest) y ∙ w
+            ∙ ap (λ qs. waiting n t qs (all_runs (put_behind rs r) (carried_out sig ds)) ∷ []) (together-behind es p (evidence ds)) ∙ ap (λ qs. waiting n t (together es (cons p (evidence ds))) qs ∷ []) (all_runs-behind rs r (carried_out sig ds)),
+      )
+
+-- the variables and the kind of the statement of this number
+pub variables_at : (M : Module) (k : ℕ) (e : Statement) → at_number M.statements k ≡ Some e → variables_of M k ≡ e.variables
+variables_at M k e h = ap (λ o. unwrap_or (option_map (λ (e : Statement). e.variables) o) []) h
+
+pub rule_at : (M : Module) (k : ℕ) (e : Statement) → at_number M.statements k ≡ Some e → is_rule M k ≡ e.rule
+rule_at M k e h = ap (λ o. unwrap_or (option_map (λ (e : Statement). e.rule) o) false) h
+
+module _ (M : Module) (ok : IsAccepted M.signature) (n : ℕ) (low : n ≤ 63) (t : RawTerm) (whole : IsAdmittedTerm M.signature t) where
+  -- a whole that is replaced, and what comes for it
+  may_replace : (by_rule : Bool) (w v : RawTerm) → IsRawTerm M.signature w → normal_form M.signature w ≡ t → IsRawTerm M.signature v → IsAdmittedTerm M.signature (normal_form M.signature v) → MayReplace M by_rule [] t w v
+  may_replace by_rule w v rw is rv a = record {
+    seen = tt;
+    free = λ x y. y;
+    raw_part = rw;
+    is_part = is;
+    raw = rv;
+    admitted = IsAdmitted-equal M.signature (back (normal_form-sound M.signature ok rv)) a.admitted;
+  }
+
+  module _ (k : ℕ) (s : Substitution) (ds : List Deduction) (may : MayApply M n k s ds) (left : IsRawTerm M.signature may.statement.left) (right : IsRawTerm M.signature may.statement.right) (sorted : IsWellSorted M.signature) where
+    abbrev b : Substitution
+    b = meant M.signature (bindings s may.statement.variables)
+
+    abbrev u : RawTerm
+    u = instance_in M.signature (bindings s may.statement.variables) may.statement.right
+
+    pub applied_kept : t ≡ instance_in M.signature (bindings s may.statement.variables) may.statement.left → (ms : List Move) → AreSides M ds ms → (l : Track)
+        → moves M l ≡ ms ++ applies k (is_rule M k) (meant M.signature (zip (variables_of M k) (values_of s may.statement.variables))) ∷ []
+        → IsKept M n t u l × ((end_of M n t l).run ≡ one (by_statement k b (carried_out M.signature ds) (nested M.signature t) (nested M.signature u)))
+    applied_kept from ms shown l is =
+        let there = may.is_there.is_there in
+        let last : Move = applies k may.statement.rule b in
+        let e : moves M l ≡ ms ++ last ∷ [] = is ∙ ap (λ r. ms ++ applies k r (meant M.signature (zip (variables_of M k) (values_of s may.statement.variables))) ∷ []) (rule_at M k may.statement there)
+        ∙ ap (λ xs. ms ++ applies k may.statement.rule (meant M.signature (zip xs (values_of s may.statement.variables))) ∷ []) (variables_at M k may.statement there) in
+        let (a, p) = all_sides M ok n t low ds ms may.below shown nil end in
+        let S : Stand = waiting n t (evidence ds) (carried_out M.signature ds) in
+        let Q : Stand = replacing M.signature (replacement k may.statement.rule b (evidence ds)) (by_statement k b (carried_out M.signature ds)) (becomes M k b t) S in
+        let c : becomes M k b t ≡ u = becomes_is M ok k b t may.statement there in
+        let applied : AreMoves M (last ∷ []) (S ∷ []) = (
+          record {
+            statement = may.statement;
+            is_there = there;
+            rule = refl;
+            replaces = record {
+              statement = may.statement;
+              is_there = may.is_there;
+              rule = refl;
+              substitution = may.substitution;
+              all_bound = may.bound;
+              condition = may.condition;
+              plain = may.plain;
+              from = refl;
+              to = refl;
+            };
+            may = may_replace may.statement.rule (instance b may.statement.left) (instance b may.statement.right) (instance_raw M.signature ok sorted b may.substitution left) (sym from)
+                (instance_raw M.signature ok sorted b may.substitution right) may.ends;
+          },
+          tt,
+        ) in
+        let all : AreMoves M (ms ++ last ∷ []) (begun n t ∷ []) = moves-append M ms (last ∷ []) (begun n t ∷ []) a (subst (AreMoves M (last ∷ [])) (sym p) applied) in
+        let ends_there : plays M (moves M l) (begun n t ∷ []) ≡ Q ∷ [] = ap (λ ns. plays M ns (begun n t ∷ [])) e ∙ plays-append M ms (last ∷ []) (begun n t ∷ []) ∙ ap (plays M (last ∷ [])) p in (
+          record {
+            low = low;
+            begins = whole;
+            made = subst (λ ns. AreMoves M ns (begun n t ∷ [])) (sym e) all;
+            last = Q;
+            stands = ends_there;
+            closed = refl;
+            used = refl;
+            reaches = c;
+          },
+          ap (λ B. (first_of B).run) ends_there ∙ ap (λ x. one (by_statement k b (carried_out M.signature ds) (nested M.signature t) (nested M.signature x))) c,
+        )
+
+  -- the same of a row
+  pub row_kept : (u : RawTerm) → MeetsRow M n t u → (l : Track) → moves M l ≡ meets u ∷ [] → IsKept M n t u l × ((end_of M n t l).run ≡ one (by_row (nested M.signature t) (nested M.signature u)))
+  row_kept u m l e =
+      let Q : Stand = replacing M.signature row by_row u (begun n t) in
+      let met : AreMoves M (meets u ∷ []) (begun n t ∷ []) = (
+        record {
+          form = m.form;
+          result = m.result;
+          meets = m.meets;
+          clean = m.clean;
+          is = m.ends_in_order;
+          may = may_replace false m.form m.result m.raw m.begins_in_order m.raw_result (subst (IsAdmittedTerm M.signature) (sym m.ends_in_order) m.ends);
+          nothing_waits = refl;
+        },
+        tt,
+      ) in
+      let ends_there : plays M (moves M l) (begun n t ∷ []) ≡ Q ∷ [] = ap (λ ns. plays M ns (begun n t ∷ [])) e in (
+        record {
+          low = low;
+          begins = whole;
+          made = subst (λ ns. AreMoves M ns (begun n t ∷ [])) (sym e) met;
+          last = Q;
+          stands = ends_there;
+          closed = refl;
+          used = refl;
+          reaches = refl;
+        },
+        ap (λ B. (first_of B).run) ends_there,
+      )
+
+-- as it is built
+module _ (M : Module) (ok : IsAccepted M.signature) (sorted : IsWellSorted M.signature) (n : ℕ) (low : n ≤ 63) (k : ℕ) (s : Substitution) (ds : List Deduction) (may : MayApply M n k s ds)
+    (left : IsRawTerm M.signature may.statement.left) (right : IsRawTerm M.signature may.statement.right) (t u : RawTerm) (vs : List RawTerm)
+    (from : t ≡ instance_in M.signature (bindings s may.statement.variables) may.statement.left) (to : u ≡ instance_in M.signature (bindings s may.statement.variables) may.statement.right)
+    (values : vs ≡ values_of s may.statement.variables) (ms : List Move) (shown : AreSides M ds ms) (l : Track) (is : moves M l ≡ ms ++ applies k (is_rule M k) (meant M.signature (zip (variables_of M k) vs)) ∷ []) where
+  built : IsKept M n t u l × ((end_of M n t l).run ≡ one (by_statement k (meant M.signature (bindings s may.statement.variables)) (carried_out M.signature ds) (nested M.signature t) (nested M.signature u)))
+  built =
+      let IsIt : RawTerm → Type 0 = λ x. IsKept M n t x l × ((end_of M n t l).run ≡ one (by_statement k (meant M.signature (bindings s may.statement.variables)) (carried_out M.signature ds) (nested M.signature t) (nested M.signature x))) in
+      subst IsIt (sym to) (applied_kept M ok n low t (subst (IsAdmittedTerm M.signature) (sym from) may.begins) k s ds may left right sorted from ms shown l
+      (is ∙ ap (λ ws. ms ++ applies k (is_rule M k) (meant M.signature (zip (variables_of M k) ws)) ∷ []) values))
+
+  pub kept_built : IsKept M n t u l
+  kept_built = built.0
+
+  pub applies_built : (d : Deduction) → d ≡ deduced M n t u l → (st : Statement) → at_number M.statements k ≡ Some st → Applies M k s ds st d
+  applies_built d q st there =
+      let same : Some may.statement ≡ Some st = sym may.is_there.is_there ∙ there in
+      let e : may.statement ≡ st = cc in
+      let at : Applies M k s ds may.statement (deduced M n t u l) = record { from = from; to = to; run = built.1 } in
+      subst (Applies M k s ds st) (sym q) (subst (λ x. Applies M k s ds x (deduced M n t u l)) e at)

@@ -1,7 +1,3 @@
-pub mod Lists
-pub mod Finding
-pub mod Turns
-pub mod Rest
-pub mod Moving
-pub mod Describing
-pub mod Deducing
+pub mod Asks
+pub mod Applying
+pub mod Reduced

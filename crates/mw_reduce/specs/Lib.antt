@@ -1,4 +1,6 @@
-pub mod Stack
-pub mod State
-pub mod Run
+-- What comes of a turn.
+pub mod Turns
+-- How a run ends.
+pub mod Driven
+-- What a reduction gives.
 pub mod Reductions

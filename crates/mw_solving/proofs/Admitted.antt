@@ -14,8 +14,8 @@ use Rattle.mw_logic.proofs.Admitted.{admitted-iff}
 use Rattle.mw_logic.proofs.Canonical.{IsCanonical, canonical}
 use Rattle.mw_logic.proofs.CanonicalTerms.{fixed}
 use Rattle.mw_canon.specs.Canonical.{IsAdmittedTerm, HasAdmittedValues, meant}
-use Rattle.mw_machine.specs.Variables.{bound_values, placed}
-use Rattle.mw_machine.proofs.Begins.{begins_get}
+use Rattle.mw_position.specs.Variables.{bound_values, placed}
+use Rattle.mw_position.proofs.Begins.{begins_get}
 use Rattle.mw_matching.specs.Matches.{Theory, evaluated, IsMatch}
 use Rattle.mw_solving.specs.Values.{IsValue, AreValues}
 use Rattle.mw_solving.proofs.Limits.{IsWithinDepth, value_within}

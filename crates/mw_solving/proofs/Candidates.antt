@@ -15,10 +15,10 @@ use Rattle.mw_logic.specs.Substitution.{Substitution, IsSubstitution, IsSolution
 use Rattle.mw_logic.proofs.AxiomLaws.{sym as back}
 use Rattle.mw_logic.proofs.SolutionLaws.{solution_kept}
 use Rattle.mw_canon.specs.Canonical.{meant}
-use Rattle.mw_machine.specs.Variables.{met, placed, sorts_of, bound_variables, bound_values}
-use Rattle.mw_machine.proofs.Begins.{begins_get}
-use Rattle.mw_machine.proofs.Meeting.{met_grows}
-use Rattle.mw_machine.proofs.Starting.{same_length}
+use Rattle.mw_position.specs.Variables.{met, placed, sorts_of, bound_variables, bound_values}
+use Rattle.mw_position.proofs.Begins.{begins_get}
+use Rattle.mw_position.proofs.Meeting.{met_grows}
+use Rattle.mw_position.proofs.Placing.{same_length}
 use Rattle.mw_split.specs.Lists.{AllOnce}
 use Rattle.mw_matching.specs.Found.{fits, is_single, found}
 use Rattle.mw_matching.specs.Matches.{Theory, IsMatch}

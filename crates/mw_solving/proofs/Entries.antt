@@ -11,8 +11,8 @@ use Rattle.mw_logic.specs.Parts.{is_assoc, number_of_terms}
 use Rattle.mw_logic.specs.NormalForm.{is_comm, identity_of, is_identity, own_arguments, elements, applied_in}
 use Rattle.mw_logic.proofs.Canonical.{IsElement, assoc-true, arranged-nil, is_identity-arguments}
 use Rattle.mw_split.specs.Lists.{AllOnce}
-use Rattle.mw_machine.specs.Positions.{counted, IsNumbered}
-use Rattle.mw_machine.proofs.Counting.{within_counted}
+use Rattle.mw_position.specs.Positions.{counted, IsNumbered}
+use Rattle.mw_position.proofs.Counting.{within_counted}
 use Rattle.mw_arguments.specs.Places.{chosen}
 use Rattle.mw_arguments.proofs.Once.{once_mapped, once_same, once_none}
 use Rattle.mw_matching.specs.Matches.{Theory, evaluated, Fits, IsMatch, HasArities}

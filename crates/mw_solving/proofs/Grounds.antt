@@ -11,7 +11,7 @@ use Rattle.mw_logic.specs.NormalForm.{is_comm, identity_of, is_identity, own_arg
 use Rattle.mw_logic.specs.Substitution.{occurs, occurs_in}
 use Rattle.mw_logic.proofs.Canonical.{named}
 use Rattle.mw_logic.proofs.SameConditions.{same_variable-is}
-use Rattle.mw_machine.specs.Variables.{placed, all_placed}
+use Rattle.mw_position.specs.Variables.{placed, all_placed}
 use Rattle.mw_matching.specs.Matches.{evaluated, evaluated_all}
 
 and_true : (a : Bool) → (a && true) ≡ a

@@ -12,7 +12,7 @@ use Rattle.mw_logic.specs.Substitution.{Substitution, IsSubstitution, SameSoluti
 use Rattle.mw_logic.proofs.AxiomLaws.{sym as back}
 use Rattle.mw_logic.proofs.SolutionLaws.{solution_kept}
 use Rattle.mw_canon.specs.Canonical.{meant}
-use Rattle.mw_machine.specs.Variables.{met, placed, sorts_of, bound_variables, bound_values}
+use Rattle.mw_position.specs.Variables.{met, placed, sorts_of, bound_variables, bound_values}
 use Rattle.mw_split.specs.Lists.{AllOnce}
 use Rattle.mw_matching.specs.Found.{Values, fits, is_single}
 use Rattle.mw_matching.specs.Matches.{Theory, IsMatch}

@@ -16,7 +16,7 @@ use Rattle.mw_logic.proofs.RawKept.{kind_unique}
 use Rattle.mw_logic.proofs.SameConditions.{same_variable-is}
 use Rattle.mw_logic.proofs.SortLaws.{join-nil}
 use Rattle.mw_logic.proofs.Soundness.{HasKind-same}
-use Rattle.mw_machine.specs.Variables.{placed, all_placed}
+use Rattle.mw_position.specs.Variables.{placed, all_placed}
 use Rattle.mw_matching.specs.Matches.{evaluated, evaluated_all}
 use Rattle.mw_solving.proofs.RawValues.{plain_values, all_evaluated_canonical}
 

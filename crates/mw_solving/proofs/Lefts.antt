@@ -16,9 +16,9 @@ use Rattle.mw_logic.proofs.SortLaws.{sorted_terms-comm}
 use Rattle.mw_logic.proofs.SortedLists.{climbs}
 use Rattle.mw_logic.proofs.Soundness.{rebuilt-several}
 use Rattle.mw_split.specs.Lists.{AllOnce}
-use Rattle.mw_machine.specs.Positions.{counted, IsNumbered}
-use Rattle.mw_machine.proofs.Begins.{begins_same, begins_last}
-use Rattle.mw_machine.proofs.Counting.{within_counted}
+use Rattle.mw_position.specs.Positions.{counted, IsNumbered}
+use Rattle.mw_position.proofs.Begins.{begins_same, begins_last}
+use Rattle.mw_position.proofs.Counting.{within_counted}
 use Rattle.mw_arguments.specs.Pieces.{is_backed}
 use Rattle.mw_arguments.specs.Places.{numbers_of}
 use Rattle.mw_arguments.proofs.Arguments.{in_order}

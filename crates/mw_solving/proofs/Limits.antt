@@ -15,7 +15,7 @@ use Rattle.mw_logic.proofs.Holes.{Each-parts, Each-unarranged}
 use Rattle.mw_logic.proofs.Invariance.{elements_kept}
 use Rattle.mw_logic.proofs.SameConditions.{same_variable-is}
 use Rattle.mw_logic.proofs.Soundness.{several-arranged, rebuilt-several}
-use Rattle.mw_machine.specs.Variables.{placed, all_placed}
+use Rattle.mw_position.specs.Variables.{placed, all_placed}
 use Rattle.mw_matching.specs.Matches.{evaluated, evaluated_all}
 use Rattle.mw_solving.proofs.RawArguments.{IsFew, few_parts}
 use Rattle.mw_solving.proofs.RawValues.{all_evaluated_canonical}

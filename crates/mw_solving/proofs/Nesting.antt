@@ -8,10 +8,10 @@ use Rattle.mw_logic.specs.Signature.{Signature}
 use Rattle.mw_logic.specs.Parts.{is_assoc, nested, all_nested, nest, chain}
 use Rattle.mw_logic.specs.Substitution.{Substitution, instance, instances, occurs, occurs_in}
 use Rattle.mw_logic.proofs.SameConditions.{same_variable-refl}
-use Rattle.mw_machine.specs.Positions.{fill, fill_all}
-use Rattle.mw_machine.specs.Variables.{is_in, placed, all_placed}
-use Rattle.mw_machine.proofs.Meeting.{or_none}
-use Rattle.mw_machine.proofs.Placing.{values_of, at_place}
+use Rattle.mw_position.specs.Positions.{fill, fill_all}
+use Rattle.mw_position.specs.Variables.{is_in, placed, all_placed}
+use Rattle.mw_position.proofs.Meeting.{or_none}
+use Rattle.mw_position.proofs.Placing.{values_of, at_place}
 
 module _ (sig : Signature) where
   chain_occurs : (x : Variable) (f : ℕ) (t : RawTerm) (ts : RawTerms) → occurs x (chain f t ts) ≡ occurs_in x (cons t ts)

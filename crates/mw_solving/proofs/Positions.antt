@@ -19,10 +19,10 @@ use Rattle.mw_logic.proofs.Invariance.{normal_form-kept}
 use Rattle.mw_logic.proofs.Soundness.{normal_form-sound}
 use Rattle.mw_logic.proofs.SameConditions.{same_variable-is, same_variable-refl}
 use Rattle.mw_canon.specs.Canonical.{meant}
-use Rattle.mw_machine.specs.Positions.{Begins}
-use Rattle.mw_machine.specs.Variables.{is_in, AreDistinct, place, sorts_of, bound_variables, bound_values}
-use Rattle.mw_machine.proofs.Meeting.{place_at}
-use Rattle.mw_machine.proofs.Placing.{value_of, values_of, bound_zip}
+use Rattle.mw_position.specs.Positions.{Begins}
+use Rattle.mw_position.specs.Variables.{is_in, AreDistinct, place, sorts_of, bound_variables, bound_values}
+use Rattle.mw_position.proofs.Meeting.{place_at}
+use Rattle.mw_position.proofs.Placing.{value_of, values_of, bound_zip}
 use Rattle.mw_solving.specs.Values.{IsValue, AreValues, AreOfSorts}
 
 -- the variable at an index

@@ -16,7 +16,7 @@ use Rattle.mw_logic.proofs.Inside.{associative}
 use Rattle.mw_logic.proofs.SortLaws.{join-nil, sorted_terms-right, sorted_terms-idempotent}
 use Rattle.mw_logic.proofs.SortedLists.{Climbs, climbs, sorted_terms-climbing}
 use Rattle.mw_split.specs.Lists.{AllOnce}
-use Rattle.mw_machine.specs.Positions.{counted, IsNumbered}
+use Rattle.mw_position.specs.Positions.{counted, IsNumbered}
 use Rattle.mw_arguments.specs.Places.{chosen, others, Rise, Follow, numbers_of}
 use Rattle.mw_arguments.proofs.ListPieces.{front_join, join_parts, number_join, number_skip}
 use Rattle.mw_arguments.proofs.Once.{once_mapped, once_flat_mapped, once_same}

@@ -11,8 +11,8 @@ use Rattle.mw_logic.specs.Substitution.{occurs, occurs_in}
 use Rattle.mw_logic.proofs.Canonical.{Each, IsCanonical, AreCanonical, canonical, assoc_operator, comm_operator, no_arguments}
 use Rattle.mw_logic.proofs.RawArguments.{operator_of, arguments_raw}
 use Rattle.mw_logic.proofs.SameConditions.{same_variable-is}
-use Rattle.mw_machine.specs.Positions.{fill}
-use Rattle.mw_machine.specs.Variables.{placed, all_placed}
+use Rattle.mw_position.specs.Positions.{fill}
+use Rattle.mw_position.specs.Variables.{placed, all_placed}
 use Rattle.mw_arguments.specs.Arguments.{HasArity}
 use Rattle.mw_matching.specs.Matches.{evaluated, evaluated_all, HasArities, AllHaveArities}
 use Rattle.mw_matching.proofs.Evaluated.{evaluated_is}

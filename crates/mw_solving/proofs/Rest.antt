@@ -14,9 +14,9 @@ use Rattle.mw_logic.proofs.Canonical.{IsCanonical, arranged-left}
 use Rattle.mw_logic.proofs.CanonicalTerms.{elements-applied, flattened-backed}
 use Rattle.mw_logic.proofs.Replacing.{flattened-join}
 use Rattle.mw_split.specs.Lists.{AllOnce}
-use Rattle.mw_machine.specs.Positions.{position, counted, counted_all, IsNumbered, AreNumbered, IsWithin, Begins}
-use Rattle.mw_machine.proofs.Begins.{begins_same, begins_then, begins_at, begins_put, begins_last, begins_append, begins_whole, begins_take, take_begins}
-use Rattle.mw_machine.proofs.Counting.{counted_grows, within_counted, all_within_counted}
+use Rattle.mw_position.specs.Positions.{position, counted, counted_all, IsNumbered, AreNumbered, IsWithin, Begins}
+use Rattle.mw_position.proofs.Begins.{begins_same, begins_then, begins_at, begins_put, begins_last, begins_append, begins_whole, begins_take, take_begins}
+use Rattle.mw_position.proofs.Counting.{counted_grows, within_counted, all_within_counted}
 use Rattle.mw_arguments.specs.Arguments.{Gives, Spells, HasArity}
 use Rattle.mw_arguments.proofs.Arguments.{in_order, spelled, given}
 use Rattle.mw_arguments.proofs.ListPieces.{number_join}

@@ -24,12 +24,12 @@ use Rattle.mw_logic.proofs.SameConditions.{bound_some, same_variable-is, same_va
 use Rattle.mw_logic.proofs.SolutionLaws.{substitution_value}
 use Rattle.mw_logic.proofs.Soundness.{normal_form-sound}
 use Rattle.mw_canon.specs.Canonical.{meant}
-use Rattle.mw_machine.specs.Positions.{Begins}
-use Rattle.mw_machine.specs.Variables.{is_in, sorts_of, bound_variables, bound_values}
-use Rattle.mw_machine.proofs.Begins.{begins_append}
-use Rattle.mw_machine.proofs.Meeting.{met_grows}
-use Rattle.mw_machine.proofs.Placing.{value_of, values_of}
-use Rattle.mw_machine.proofs.Starting.{same_length}
+use Rattle.mw_position.specs.Positions.{Begins}
+use Rattle.mw_position.specs.Variables.{is_in, sorts_of, bound_variables, bound_values}
+use Rattle.mw_position.proofs.Begins.{begins_append}
+use Rattle.mw_position.proofs.Meeting.{met_grows}
+use Rattle.mw_position.proofs.Placing.{value_of, values_of}
+use Rattle.mw_position.proofs.Placing.{same_length}
 use Rattle.mw_matching.specs.Found.{is_among, is_element, is_element_under_all, operators_at, fits}
 use Rattle.mw_matching.specs.Matches.{Theory, Fits, IsMatch}
 use Rattle.mw_solving.specs.Values.{IsValue, AreValues, AreOfSorts, AreSure, MayStand}

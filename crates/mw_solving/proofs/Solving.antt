@@ -17,12 +17,12 @@ use Rattle.mw_logic.proofs.EqualByNormalForm.{equal_by_normal_form}
 use Rattle.mw_logic.proofs.RawArguments.{IsTermOf}
 use Rattle.mw_logic.proofs.SolutionLaws.{instance_raw}
 use Rattle.mw_canon.specs.Canonical.{meant}
-use Rattle.mw_machine.specs.Positions.{fill, counted, IsNumbered, Begins}
-use Rattle.mw_machine.specs.Variables.{is_in, met, AreDistinct, place, placed, sorts_of, bound_variables, bound_values}
-use Rattle.mw_machine.proofs.Begins.{begins_get}
-use Rattle.mw_machine.proofs.Meeting.{is_in-met, AreDistinct-met, met_grows, place-append, place-within, numbered_met}
-use Rattle.mw_machine.proofs.Placing.{values_of, values_zip, bound_zip}
-use Rattle.mw_machine.proofs.Starting.{is_bound_in, same_length, distinct_variables}
+use Rattle.mw_position.specs.Positions.{fill, counted, IsNumbered, Begins}
+use Rattle.mw_position.specs.Variables.{is_in, met, AreDistinct, place, placed, sorts_of, bound_variables, bound_values}
+use Rattle.mw_position.proofs.Begins.{begins_get}
+use Rattle.mw_position.proofs.Meeting.{is_in-met, AreDistinct-met, met_grows, place-append, place-within, numbered_met}
+use Rattle.mw_position.proofs.Placing.{values_of, values_zip, bound_zip}
+use Rattle.mw_position.proofs.Placing.{is_bound_in, same_length, distinct_variables}
 use Rattle.mw_matching.specs.Matches.{Theory, evaluated, IsMatch, HasArities}
 use Rattle.mw_matching.proofs.Evaluated.{evaluated_is}
 use Rattle.mw_solving.specs.Values.{IsValue, AreValues, AreOfSorts}

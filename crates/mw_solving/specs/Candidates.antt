@@ -7,7 +7,7 @@ use Rattle.mw_logic.specs.Parts.{nested}
 use Rattle.mw_logic.specs.Sorts.{HasSort}
 use Rattle.mw_logic.specs.Substitution.{Substitution, IsSolution, SameSolution}
 use Rattle.mw_canon.specs.Canonical.{meant}
-use Rattle.mw_machine.specs.Variables.{sorts_of}
+use Rattle.mw_position.specs.Variables.{sorts_of}
 use Rattle.mw_solving.specs.Values.{AreValues, AreOfSorts}
 
 -- each value from place n on has the sort that stands at its place

@@ -9,8 +9,8 @@ use Rattle.mw_logic.specs.Parts.{is_assoc, nested, number_of_terms}
 use Rattle.mw_logic.specs.NormalForm.{is_comm, identity_of, elements}
 use Rattle.mw_logic.specs.Substitution.{Substitution, IsSolution, SameSolution}
 use Rattle.mw_canon.specs.Canonical.{meant}
-use Rattle.mw_machine.specs.Positions.{position}
-use Rattle.mw_machine.specs.Variables.{sorts_of}
+use Rattle.mw_position.specs.Positions.{position}
+use Rattle.mw_position.specs.Variables.{sorts_of}
 use Rattle.mw_arguments.specs.Places.{Takes, numbers_of}
 use Rattle.mw_matching.specs.Found.{Values, are_none, is_single, found, numbers_from}
 use Rattle.mw_matching.specs.Multisets.{left_behind}

@@ -3,7 +3,7 @@
 //!
 //! A pattern is compiled: its flattened form, with some arguments in another order, and positions for variables, the
 //! given ones first and then those of the pattern as they are met. What is matched and what variables get are canonical
-//! terms that mean ground raw terms (`IsValue`, specs/Values). `placed` of mw_machine puts positions for variables,
+//! terms that mean ground raw terms (`IsValue`, specs/Values). `placed` of mw_position puts positions for variables,
 //! `meant` of mw_canon says what a substitution of flattened terms means.
 //!
 //! - **Values** of a match are raw and ground (`match_values`, proofs/Solving): whatever sorts they have, so that a

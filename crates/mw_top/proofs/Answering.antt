@@ -19,11 +19,10 @@ use Rattle.mw_logic.proofs.RawKept.{raw_kept}
 use Rattle.mw_logic.proofs.Soundness.{normal_form-sound}
 use Rattle.mw_print.specs.Sorts.{IsKindThere}
 use Rattle.mw_proof.specs.Deductions.{Deduction, IsDeduction}
-use Rattle.mw_reduce.specs.Reductions.{IsReductionOf}
-use Rattle.mw_reduce.specs.Run.{IsOutcome}
+use Rattle.mw_reduce.specs.Reductions.{IsOutcome, IsReductionOf}
 use Rattle.mw_reduce.specs.declared.reducing.Budget.{Budget}
-use Rattle.mw_reduce.specs.declared.progress.Outcome.{Outcome}
-use Rattle.mw_reduce.specs.declared.progress.Outcome.TheVariants.{Done, Stopped}
+use Rattle.mw_reduce.specs.declared.drive.Outcome.{Outcome}
+use Rattle.mw_reduce.specs.declared.drive.Outcome.TheVariants.{Done, Stopped}
 use Rattle.mw_canon.specs.Canonical.{IsAdmittedTerm}
 use Rattle.mw_least.specs.Workable.{IsWorkable}
 use Rattle.mw_text.specs.Mixfix.{Reads}
@@ -107,6 +106,7 @@ reduced_by a most w t b d o text canonical is r proved S least written =
       kept = d;
       deduction = proved;
       over = r.over;
+      rank = r.rank ∙ ap (λ (x : Budget). x.nest) is;
       begins = r.from ∙ canonical;
       S = S;
       word = word_of o;

@@ -11,7 +11,7 @@ use Rattle.mw_command.specs.Commands.{SeenCommand, command_of}
 use Rattle.mw_build.specs.Equations.{Oversized}
 use Rattle.mw_build.specs.Modules.{Accepted, IsAccepted, IsRefused}
 use Rattle.mw_command.specs.declared.commands.Word.{Word}
-use Rattle.mw_top.specs.Commands.{IsTerm, IsAnswer, reduction, parsing, matching, inside_of, TermFault, long, unread, unclear, opened, big, AnswerFault, in_term, undivided, in_sides, CommandFault, nowhere, unknown, not_for, unanswered, IsFor, module_for}
+use Rattle.mw_top.specs.Commands.{IsTerm, IsAnswer, reduction, parsing, matching, inside_of, TermFault, long, unread, unclear, opened, big, AnswerFault, in_term, undivided, in_sides, CommandFault, nowhere, unknown, unanswered, module_for}
 use Rattle.mw_top.specs.Matches.{AreSides, AreOversized, deep, large as too_large, SidesFault, long as sides_long, unread as sides_unread, unclear as sides_unclear, opened as sides_opened, big as sides_big}
 use Rattle.mw_top.specs.Sources.{IsTaken, name_of, Gives, formless, taken, refused, accepted, no_command, faulty, answered, Answered, nothing_yet, one_more}
 use Rattle.mw_top.specs.Outputs.{IsOutput, unlexed, answered as of_tokens}
@@ -61,11 +61,10 @@ answer_holds a most c text (matching inside behind p t block word at are matched
     sides_hold a (texts c.term) (texts behind) p t are why (subst (λ ts. SidesFault a (texts c.term) (texts ts) why) same fault)
 
 command_holds : (a : Accepted) (most : ℕ) (text : List ℕ) (ms : List Accepted) (c : SeenCommand) (cause : FaultKind) → module_for ms c.module ≡ Some a
-    → IsFor a.module c.word → IsAnswer a most c text → CommandFault ms c cause → ⊥
-command_holds a most text ms c cause m for is (nowhere e none) = none-some a (sym none ∙ m)
-command_holds a most text ms c cause m for is (unknown n e none) = none-some a (sym none ∙ m)
-command_holds a most text ms c cause m for is (not_for b other not) = not (subst (λ (x : Accepted). IsFor x.module c.word) (sym (same_Some b a (sym other ∙ m))) for)
-command_holds a most text ms c cause m for is (unanswered b why other asked fault) =
+    → IsAnswer a most c text → CommandFault ms c cause → ⊥
+command_holds a most text ms c cause m is (nowhere e none) = none-some a (sym none ∙ m)
+command_holds a most text ms c cause m is (unknown n e none) = none-some a (sym none ∙ m)
+command_holds a most text ms c cause m is (unanswered b why other fault) =
     let same : b ≡ a = same_Some b a (sym other ∙ m) in
     answer_holds a most c text is why (subst (λ x. AnswerFault x c why) same fault)
 
@@ -90,39 +89,39 @@ module _ (most : ℕ) (before : List Accepted) where
       let unit : v ≡ u = cc in absurd (none-some n (sym unnamed ∙ ap name_of unit ∙ named))
   from_accepted u n a named free is o e text bad after (faulty v c cause unnamed command wrong) =
       let unit : v ≡ u = cc in absurd (none-some n (sym unnamed ∙ ap name_of unit ∙ named))
-  from_accepted u n a named free is o e text bad after (answered v c b block unnamed command m for answer) =
+  from_accepted u n a named free is o e text bad after (answered v c b block unnamed command m answer) =
       let unit : v ≡ u = cc in absurd (none-some n (sym unnamed ∙ ap name_of unit ∙ named))
 
   -- what a command gives that is answered
   from_answered : (u : SeenUnit) (c : SeenCommand) (a : Accepted) (block : List ℕ) → name_of u ≡ None → command_of u ≡ Ok c → module_for before c.module ≡ Some a
-      → IsFor a.module c.word → IsAnswer a most c block
+      → IsAnswer a most c block
       → (o : Outcome) → o ≡ Ok u → (text : List ℕ) (bad : Bool) (after : List Accepted) → Gives most before o text bad after → (false ≡ bad) × (before ≡ after)
-  from_answered u c a block unnamed command m for is o e text bad after (formless f) = cc
-  from_answered u c a block unnamed command m for is o e text bad after (taken v n named is_taken) =
+  from_answered u c a block unnamed command m is o e text bad after (formless f) = cc
+  from_answered u c a block unnamed command m is o e text bad after (taken v n named is_taken) =
       let unit : v ≡ u = cc in absurd (none-some n (sym unnamed ∙ ap name_of (sym unit) ∙ named))
-  from_answered u c a block unnamed command m for is o e text bad after (refused v n r named not_taken wrong) =
+  from_answered u c a block unnamed command m is o e text bad after (refused v n r named not_taken wrong) =
       let unit : v ≡ u = cc in absurd (none-some n (sym unnamed ∙ ap name_of (sym unit) ∙ named))
-  from_answered u c a block unnamed command m for is o e text bad after (accepted v n b named not_taken module_is) =
+  from_answered u c a block unnamed command m is o e text bad after (accepted v n b named not_taken module_is) =
       let unit : v ≡ u = cc in absurd (none-some n (sym unnamed ∙ ap name_of (sym unit) ∙ named))
-  from_answered u c a block unnamed command m for is o e text bad after (no_command v f other wrong) =
+  from_answered u c a block unnamed command m is o e text bad after (no_command v f other wrong) =
       let unit : v ≡ u = cc in
       let both : Ok c ≡ Err f = sym command ∙ ap command_of (sym unit) ∙ wrong in cc
-  from_answered u c a block unnamed command m for is o e text bad after (faulty v d cause other asked wrong) =
+  from_answered u c a block unnamed command m is o e text bad after (faulty v d cause other asked wrong) =
       let unit : v ≡ u = cc in
       let both : Ok d ≡ Ok c = sym asked ∙ ap command_of unit ∙ command in
       let same : d ≡ c = cc in
-      absurd (command_holds a most block before c cause m for is (subst (λ k. CommandFault before k cause) same wrong))
-  from_answered u c a block unnamed command m for is o e text bad after (answered v d b other_block other asked at done answer) = (refl, refl)
+      absurd (command_holds a most block before c cause m is (subst (λ k. CommandFault before k cause) same wrong))
+  from_answered u c a block unnamed command m is o e text bad after (answered v d b other_block other asked at answer) = (refl, refl)
 
   -- a unit gives refusals alone or none, and the same modules after it
   gives_one : (o : Outcome) (text other : List ℕ) (bad worse : Bool) (after later : List Accepted) → Gives most before o text bad after → Gives most before o other worse later
       → (bad ≡ worse) × (after ≡ later)
   gives_one o text other bad worse after later (accepted u n a named free is) q = from_accepted u n a named free is o refl other worse later q
-  gives_one o text other bad worse after later (answered u c a block unnamed command m for is) q = from_answered u c a block unnamed command m for is o refl other worse later q
+  gives_one o text other bad worse after later (answered u c a block unnamed command m is) q = from_answered u c a block unnamed command m is o refl other worse later q
   gives_one o text other bad worse after later p (accepted u n a named free is) =
       let back = from_accepted u n a named free is o refl text bad after p in (sym back.0, sym back.1)
-  gives_one o text other bad worse after later p (answered u c a block unnamed command m for is) =
-      let back = from_answered u c a block unnamed command m for is o refl text bad after p in (sym back.0, sym back.1)
+  gives_one o text other bad worse after later p (answered u c a block unnamed command m is) =
+      let back = from_answered u c a block unnamed command m is o refl text bad after p in (sym back.0, sym back.1)
   gives_one o text other bad worse after later p q = (refl, refl)
 
 -- the unit at a place, and the place of the next one, are determined

@@ -1,5 +1,5 @@
 -- What the block of a command claims, and why a command is refused.
-use Rattle.std.specs.Prelude.{◌≡◌, ◌<◌, ◌-◌, ◌^◌, ℕ, Bool, true, false, List, [], ◌∷◌, length, min, bytes_eq, Option, Some, None, IsTrue, IsFalse, ⊤, if◌then◌else◌}
+use Rattle.std.specs.Prelude.{◌≡◌, ◌<◌, ◌-◌, ◌^◌, ℕ, Bool, true, false, List, [], ◌∷◌, length, min, bytes_eq, Option, Some, None, IsTrue, IsFalse, if◌then◌else◌}
 use Rattle.mw_logic.specs.Term.{RawTerm, is_ground}
 use Rattle.mw_logic.specs.Signature.{Sorted}
 use Rattle.mw_logic.specs.Sorts.{IsLeastSort}
@@ -10,12 +10,11 @@ use Rattle.mw_logic.specs.Proof.{Proof, rules, steps, count}
 use Rattle.mw_logic.specs.Judgements.{IsNormal}
 use Rattle.mw_logic.specs.Ends.{limits_of, Stops}
 use Rattle.mw_canon.specs.Canonical.{IsAdmittedTerm}
-use Rattle.mw_machine.specs.Simple.{IsSimpleModule}
 use Rattle.mw_text.specs.Mixfix.{IsSpelled, Reads}
 use Rattle.mw_text.specs.Readings.{NoneHas, TwoHave, IsShort}
 use Rattle.mw_lex.specs.declared.token.Token.{Token}
 use Rattle.mw_module.specs.declared.faults.FaultKind.{FaultKind}
-use Rattle.mw_module.specs.declared.faults.FaultKind.TheVariants.{NotInProfile, TermTooLong, NoParse, Ambiguous, OpenTerm, NoModule, UnknownModule}
+use Rattle.mw_module.specs.declared.faults.FaultKind.TheVariants.{TermTooLong, NoParse, Ambiguous, OpenTerm, NoModule, UnknownModule}
 use Rattle.mw_module.specs.Words.{texts}
 use Rattle.mw_command.specs.Commands.{SeenCommand}
 use Rattle.mw_command.specs.declared.commands.Word.{Word as CommandWord}
@@ -47,12 +46,13 @@ pub record IsCanonicalTerm (a : Accepted) (words : List (List ℕ)) (t : RawTerm
   pub admitted : IsAdmittedTerm a.module.signature t
 
 -- The text is the block of the kept deduction in this module: what the `Proved` that was made is seen as, with all that its type keeps of it (`IsDeduction`: its
--- proof leads from the one canonical term to the other, through admitted terms alone). It begins at the canonical form of this term, which the block repeats, and leads to
+-- proof leads from the one canonical term to the other, through admitted terms alone), at rank 63. It begins at the canonical form of this term, which the block repeats, and leads to
 -- the canonical term that is printed, with its least sort or kind; the count is that of the proof, and the status word is true of it.
 pub record IsReduced (a : Accepted) (most : ℕ) (t : RawTerm) (text : List ℕ) : Type 0 where
   pub kept : Deduction
   pub deduction : IsDeduction kept
   pub over : kept.over ≡ a.module
+  pub rank : kept.rank ≡ 63
   pub begins : kept.from ≡ normal_form a.module.signature t
   pub S : Sorted
   pub word : Word
@@ -81,13 +81,6 @@ pub data IsAnswer (a : Accepted) (most : ℕ) (c : SeenCommand) : List ℕ → T
   parsing : (term : RawTerm) (text : List ℕ) → c.word ≡ Parse → IsTerm a (texts c.term) term → IsParsed a term text → IsAnswer a most c text
   matching : (inside : Bool) (behind : List Token) (p t : RawTerm) (text : List ℕ) → inside_of c.word ≡ Some inside → c.subject ≡ Some behind
       → AreSides a (texts c.term) (texts behind) p t → IsMatched a inside most p t text → IsAnswer a most c text
-
--- Commands of this word are answered in this module: until the reducer knows axioms, a reduction in a simple one alone.
-abbrev pub IsFor : Module → CommandWord → Type 0
-IsFor M Reduce = IsSimpleModule M
-IsFor M Parse = ⊤
-IsFor M Match = ⊤
-IsFor M Xmatch = ⊤
 
 -- the module of a name, and the last one
 abbrev pub module_named : List Accepted → List ℕ → Option Accepted
@@ -124,5 +117,4 @@ pub data AnswerFault (a : Accepted) (c : SeenCommand) : FaultKind → Type 0 whe
 pub data CommandFault (ms : List Accepted) (c : SeenCommand) : FaultKind → Type 0 where
   nowhere : c.module ≡ None → module_for ms c.module ≡ None → CommandFault ms c NoModule
   unknown : (n : List ℕ) → c.module ≡ Some n → module_for ms c.module ≡ None → CommandFault ms c (UnknownModule n)
-  not_for : (a : Accepted) → module_for ms c.module ≡ Some a → (IsFor a.module c.word → ⊥) → CommandFault ms c NotInProfile
-  unanswered : (a : Accepted) (cause : FaultKind) → module_for ms c.module ≡ Some a → IsFor a.module c.word → AnswerFault a c cause → CommandFault ms c cause
+  unanswered : (a : Accepted) (cause : FaultKind) → module_for ms c.module ≡ Some a → AnswerFault a c cause → CommandFault ms c cause

@@ -3,8 +3,8 @@ use Rattle.std.specs.Prelude.{◌≡◌, ℕ, List, [], ◌∷◌, ⊤}
 use Rattle.std.specs.Global.{Vec}
 use Rattle.mw_build.specs.declared.modules.Module.{Module}
 use Rattle.mw_build.specs.Modules.{Accepted}
-use Rattle.mw_reduce.specs.declared.progress.Outcome.{Outcome}
-use Rattle.mw_reduce.specs.declared.progress.Outcome.TheVariants.{Done, Stopped}
+use Rattle.mw_reduce.specs.declared.drive.Outcome.{Outcome}
+use Rattle.mw_reduce.specs.declared.drive.Outcome.TheVariants.{Done, Stopped}
 use Rattle.mw_proof.specs.Reasons.{reason_of}
 use Rattle.mw_block.specs.Blocks.{Word, reduced, limit}
 

@@ -10,7 +10,7 @@ use Rattle.mw_module.specs.Units.{SeenUnit, Outcome, Reads}
 use Rattle.mw_command.specs.Commands.{SeenCommand, command_of}
 use Rattle.mw_build.specs.Modules.{Accepted, IsAccepted, IsRefused}
 use Rattle.mw_block.specs.Refused.{refusal_line}
-use Rattle.mw_top.specs.Commands.{IsFor, IsAnswer, CommandFault, module_for}
+use Rattle.mw_top.specs.Commands.{IsAnswer, CommandFault, module_for}
 
 -- the names of modules that are there from the start
 abbrev pub kept_names : List (List ℕ)
@@ -38,7 +38,7 @@ pub data Gives (most : ℕ) (before : List Accepted) : Outcome → List ℕ → 
   faulty : (u : SeenUnit) (c : SeenCommand) (cause : FaultKind) → name_of u ≡ None → command_of u ≡ Ok c → CommandFault before c cause
       → Gives most before (Ok u) (refusal_line (record { line = u.line; kind = cause })) true before
   answered : (u : SeenUnit) (c : SeenCommand) (a : Accepted) (text : List ℕ) → name_of u ≡ None → command_of u ≡ Ok c → module_for before c.module ≡ Some a
-      → IsFor a.module c.word → IsAnswer a most c text → Gives most before (Ok u) text false before
+      → IsAnswer a most c text → Gives most before (Ok u) text false before
 
 -- The units of these tokens up to a place are answered, in order: their texts, whether one of them was refused, and the modules that were accepted.
 pub data Answered (most : ℕ) (tokens : List Token) : ℕ → List Accepted → List ℕ → Bool → Type 0 where

@@ -19,11 +19,11 @@
 //!
 //! A fault is never hidden: a count of the source that rose gives 3, one of the sink 4. The status is one of these, no
 //! count of faults falls, and at most 8,388,609 bytes are taken. What a unit gives is `Gives` (specs/Sources) and, of a
-//! command, `IsAnswer` (specs/Commands); after a refusal the accepted modules are as before. A reduction is answered in
-//! simple modules alone (`IsFor`). The clause `exact` (`IsExactFor`) adds, for bytes that are known, words that ask for
-//! a run, no failure and memory that didn't run out: 0 exactly where the bytes have an output without a refusal, 1
-//! exactly where they have one with a refusal, 6 exactly where they are too many, and never another status. The law
-//! `outputs_agree`: no two outputs of the same bytes, by the same limit, differ in whether something is refused.
+//! command, `IsAnswer` (specs/Commands); after a refusal the accepted modules are as before. The clause `exact`
+//! (`IsExactFor`) adds, for bytes that are known, words that ask for a run, no failure and memory that didn't run out: 0
+//! exactly where the bytes have an output without a refusal, 1 exactly where they have one with a refusal, 6 exactly
+//! where they are too many, and never another status. The law `outputs_agree`: no two outputs of the same bytes, by the
+//! same limit, differ in whether something is refused.
 //! docs/PROOFS.md says what it all comes to.
 //!
 //! No clause ties want of memory to a cause. Tested by mw_tests (runs over memory, one of each status but 5, with

@@ -9,7 +9,7 @@ ghost use Rattle.mw_module.specs.Words.{texts};
 ghost use Rattle.mw_module.specs.declared.faults.FaultKind.TheVariants.{TooDeep};
 ghost use Rattle.mw_parse.specs.Answers.{HasPairCause};
 ghost use Rattle.mw_solving.specs.Values.{IsValue};
-ghost use Rattle.mw_machine.specs.Variables.{sorts_of};
+ghost use Rattle.mw_position.specs.Variables.{sorts_of};
 ghost use Rattle.mw_compile.specs.Compiled.{IsCompiled};
 ghost use Rattle.mw_match.specs.Solutions.{IsAllSolutions};
 ghost use Rattle.mw_match.specs.Listing.{AreListed};

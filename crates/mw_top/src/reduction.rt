@@ -7,7 +7,6 @@ ghost use Rattle.mw_logic.specs.Proof.{count};
 ghost use Rattle.mw_logic.specs.Signature.{Sorted as SortedOf, IsRawTerm};
 ghost use Rattle.mw_logic.specs.Sorts.{IsLeastSort};
 ghost use Rattle.mw_block.specs.Blocks.{block as block_of};
-ghost use Rattle.mw_machine.specs.Simple.{IsSimpleModule};
 ghost use Rattle.mw_term.specs.Raws.{raw_term};
 ghost use Rattle.mw_text.specs.Mixfix.{Reads};
 ghost use Rattle.mw_module.specs.Words.{texts};
@@ -85,7 +84,7 @@ fn status_of(outcome: Outcome) -> Status
     }
 }
 
-/// The block for a kept deduction in a simple module, with the least sort of its end.
+/// The block for a kept deduction, with the least sort of its end.
 fn block(
     alloc: Global,
     accepted: &Module,
@@ -121,8 +120,7 @@ fn reduced_term(
     term: Term,
     most: u64,
 ) -> Result<Vec<u8>, AllocError>
-    requires simple { IsSimpleModule accepted.now.module }
-    requires admitted { IsAdmittedTerm accepted.now.module.signature term }
+    requires { IsAdmittedTerm accepted.now.module.signature term }
     ensures { (written : RawTerm) → term ≡ normal_form accepted.now.module.signature written → IfOk result (λ text. IsReduced accepted.now most written text.items) }
 {
     let context = accepted.context();
@@ -131,7 +129,7 @@ fn reduced_term(
         side: most,
         nest: 63,
     };
-    let (proved, outcome) = reduce(alloc, context, term, budget)?;
+    let (proved, outcome) = reduce(alloc, context, accepted.index(), term, budget)?;
     proved.shows();
     block(alloc, accepted, &proved, outcome)
 }
@@ -161,7 +159,6 @@ pub fn reduction_of(
     tokens: &[Token],
     most: u64,
 ) -> Result<Result<Vec<u8>, FaultKind>, AllocError>
-    requires { IsSimpleModule accepted.now.module }
     ensures { let words = texts tokens.now in
         IfOk result (λ r. MatchResult r
         (λ text. (t : RawTerm) × IsTerm accepted.now words t × IsReduced accepted.now most t text.items)

@@ -1,7 +1,7 @@
 // What a command gives in the module in which it stands: its block, or a fault.
-ghost use Rattle.std.specs.Prelude.{◌≡◌, ◌↔◌, Some, IfOk, MatchResult, IsTrue};
+ghost use Rattle.std.specs.Prelude.{◌≡◌, Some, IfOk, MatchResult};
 ghost use Rattle.mw_command.specs.Commands.{seen_command};
-ghost use Rattle.mw_top.specs.Commands.{IsFor, IsAnswer, AnswerFault, inside_of};
+ghost use Rattle.mw_top.specs.Commands.{IsAnswer, AnswerFault, inside_of};
 
 use crate::matching::matches_of;
 use crate::reduction::{parsed_of, reduction_of};
@@ -9,16 +9,6 @@ use mw_build::Module;
 use mw_command::{Command, Word};
 use mw_module::FaultKind;
 use std::alloc::{AllocError, Global};
-
-/// Whether commands of a word are answered in a module.
-pub fn is_for(accepted: &Module, word: Word) -> bool
-    ensures { IsTrue result ↔ IsFor accepted.now.module word }
-{
-    match word {
-        Word::Reduce => accepted.context().is_simple(),
-        Word::Parse | Word::Match | Word::Xmatch => true,
-    }
-}
 
 /// What a command that matches a pattern gives, for parts on top too where these count.
 fn match_reply(
@@ -46,7 +36,6 @@ pub fn reply(
     command: &Command<'_>,
     most: u64,
 ) -> Result<Result<Vec<u8>, FaultKind>, AllocError>
-    requires { IsFor accepted.now.module command.now.word }
     ensures { let c = seen_command command.now in
         IfOk result (λ r. MatchResult r (λ text. IsAnswer accepted.now most c text.items) (AnswerFault accepted.now c)) }
 {

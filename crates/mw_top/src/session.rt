@@ -9,7 +9,7 @@ ghost use Rattle.mw_build.specs.Modules.{Accepted};
 ghost use Rattle.mw_top.specs.Commands.{CommandFault, module_named, last_module, module_for};
 ghost use Rattle.mw_top.specs.Sources.{IsTaken, Gives, name_of, kept_names};
 
-use crate::replies::{is_for, reply};
+use crate::replies::reply;
 use indexmap::IndexMap;
 use mw_block::refusal;
 use mw_build::{Module, build};
@@ -177,9 +177,6 @@ impl Session {
         let Some(module) = self.module_for(command) else {
             return refused(alloc, line, missing(alloc, command)?);
         };
-        if !is_for(module, command.word) {
-            return refused(alloc, line, FaultKind::NotInProfile);
-        }
         match reply(alloc, module, command, most)? {
             Ok(text) => Ok(Answer {
                 text,

@@ -1,6 +1,6 @@
 use Rattle.std.proofs.Common.{◌∙◌, ℕ, List, sym, ap}
 use Rattle.mw_term.specs.Raws.{raw_term}
-use Rattle.mw_machine.specs.Variables.{met}
+use Rattle.mw_position.specs.Variables.{met}
 use Rattle.mw_text.specs.Mentions.{with_variable}
 use Rattle.mw_build.proofs.Mentioned.{with_met}
 use Rattle.mw_build.proofs.equations.+meet_all.Goals as goal

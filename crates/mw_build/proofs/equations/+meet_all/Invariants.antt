@@ -1,7 +1,7 @@
 use Rattle.std.proofs.Common.{◌≡◌, ◌≤◌, ◌+◌, length}
 use Rattle.mw_logic.specs.NormalForm.{height, highest}
 use Rattle.mw_term.specs.Raws.{raw_term, raw_terms}
-use Rattle.mw_machine.specs.Variables.{met, all_met}
+use Rattle.mw_position.specs.Variables.{met, all_met}
 use Rattle.mw_build.proofs.equations.+meet_all.Given as goal
 
 abbrev pub decreases-meet_all : goal.decreases-meet_all

@@ -1,6 +1,6 @@
 use Rattle.std.proofs.Common.{◌≡◌, List, [], Option, IfOk, subst}
 use Rattle.mw_logic.specs.Term.{Variable}
-use Rattle.mw_machine.specs.Variables.{met}
+use Rattle.mw_position.specs.Variables.{met}
 use Rattle.mw_term.specs.Raws.{raw_term}
 use Rattle.mw_text.specs.Mentions.{missing_in}
 use Rattle.mw_build.proofs.equations.unbound.Goals as goal

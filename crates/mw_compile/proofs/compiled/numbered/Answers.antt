@@ -1,8 +1,8 @@
 use Rattle.std.proofs.Common.{◌∙◌, ap, subst}
 use Rattle.std.proofs.lemmas.Bool.{or_right}
 use Rattle.mw_logic.specs.Substitution.{occurs}
-use Rattle.mw_machine.specs.Variables.{is_in}
-use Rattle.mw_machine.proofs.Meeting.{is_in-met}
+use Rattle.mw_position.specs.Variables.{is_in}
+use Rattle.mw_position.proofs.Meeting.{is_in-met}
 use Rattle.mw_solving.specs.Values.{AreSure}
 use Rattle.mw_compile.proofs.compiled.numbered.Goals as goal
 

@@ -1,7 +1,7 @@
 use Rattle.std.proofs.Common.{◌≡◌, ◌≤◌, ◌+◌, length}
 use Rattle.mw_logic.specs.NormalForm.{height, highest}
 use Rattle.mw_logic.specs.Terms.{terms_of}
-use Rattle.mw_machine.specs.Variables.{met, all_met}
+use Rattle.mw_position.specs.Variables.{met, all_met}
 use Rattle.mw_compile.proofs.meeting.+meet_all.Given as goal
 
 abbrev pub decreases-meet_all : goal.decreases-meet_all

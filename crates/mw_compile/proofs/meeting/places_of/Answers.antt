@@ -2,7 +2,7 @@ use Rattle.std.proofs.Common.{◌≡◌, ◌∙◌, List, ap, subst, sym}
 use Rattle.std.proofs.lemmas.List.{take_all, length-map}
 use Rattle.std.proofs.Common.{arith}
 use Rattle.mw_logic.specs.Term.{variable}
-use Rattle.mw_machine.specs.Variables.{AreDistinct, bound_variables, met}
+use Rattle.mw_position.specs.Variables.{AreDistinct, bound_variables, met}
 use Rattle.mw_term.specs.declared.subst.Binding.{Binding}
 use Rattle.mw_compile.proofs.ByPosition.{variables_in, bound_in, met_pair}
 use Rattle.mw_compile.proofs.meeting.places_of.Goals as goal

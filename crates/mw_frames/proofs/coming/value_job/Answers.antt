@@ -1,7 +1,7 @@
 use Rattle.std.proofs.Common.{◌≡◌, ◌∙◌, ap, subst, sym, arith}
 use Rattle.std.specs.Prelude.{unwrap_or, slice_get}
 use Rattle.mw_logic.specs.Term.{variable}
-use Rattle.mw_machine.specs.Positions.{position}
+use Rattle.mw_position.specs.Positions.{position}
 use Rattle.mw_frames.specs.Jobs.{value_at}
 use Rattle.mw_frames.specs.State.{IsKnown}
 use Rattle.mw_frames.proofs.Values.{size_least}

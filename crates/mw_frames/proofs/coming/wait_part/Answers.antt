@@ -2,7 +2,7 @@ use Rattle.std.proofs.Common.{◌≡◌, ◌∙◌, List, sym, ap, arith}
 use Rattle.std.specs.Prelude.{unwrap_or, slice_get, drop}
 use Rattle.std.proofs.lemmas.Result.{on_ok_weaker}
 use Rattle.mw_logic.specs.Term.{RawTerm, variable}
-use Rattle.mw_machine.specs.Positions.{position}
+use Rattle.mw_position.specs.Positions.{position}
 use Rattle.mw_pattern.specs.Clean.{clean}
 use Rattle.mw_frames.specs.Jobs.{value_at, sizes}
 use Rattle.mw_stack.specs.Own.{spread}

@@ -1,5 +1,5 @@
 use Rattle.std.proofs.Common.{◌≡◌, ◌∙◌, length, ap, arith, refl}
-use Rattle.mw_machine.specs.Variables.{bound_values}
+use Rattle.mw_position.specs.Variables.{bound_values}
 use Rattle.mw_index.specs.Choices.{in_order}
 use Rattle.mw_index.proofs.choices.chosen.Goals as goal
 

@@ -2,7 +2,7 @@ use Rattle.std.proofs.Common.{◌≡◌, ◌∙◌, List, map, ap}
 use Rattle.std.proofs.Common.{Vec, Global}
 use Rattle.mw_term.specs.declared.term.Term.{Term}
 use Rattle.mw_logic.specs.Term.{RawTerm}
-use Rattle.mw_machine.specs.Variables.{bound_values}
+use Rattle.mw_position.specs.Variables.{bound_values}
 use Rattle.mw_index.specs.Choices.{in_order}
 use Rattle.mw_term.specs.declared.subst.Binding.{Binding}
 use Rattle.mw_index.proofs.Orders.{order_more, order_past, order_all, values_bound}

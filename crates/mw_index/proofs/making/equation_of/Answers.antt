@@ -2,7 +2,7 @@ use Rattle.std.proofs.Common.{◌≡◌, ◌∙◌, subst, sym, ap}
 use Rattle.mw_logic.specs.Module.{Statement}
 use Rattle.mw_logic.specs.NormalForm.{normal_form}
 use Rattle.mw_term.specs.Raws.{raw_term}
-use Rattle.mw_machine.specs.Variables.{AreDistinct}
+use Rattle.mw_position.specs.Variables.{AreDistinct}
 use Rattle.mw_compile.specs.Compiled.{AreAmong}
 use Rattle.mw_index.proofs.Sides.{variables_distinct, right_among}
 use Rattle.mw_index.proofs.making.equation_of.Goals as goal

@@ -1,5 +1,5 @@
 use Rattle.std.proofs.Common.{◌≡◌, ◌++◌, drop, map}
-use Rattle.mw_machine.specs.Variables.{place}
+use Rattle.mw_position.specs.Variables.{place}
 use Rattle.mw_index.specs.Sections.{AreIn}
 use Rattle.mw_index.proofs.making.order_of.Given as goal
 

@@ -3,7 +3,7 @@ use Rattle.mw_logic.specs.Term.{Variable}
 use Rattle.mw_logic.specs.Signature.{Signature}
 use Rattle.mw_logic.specs.Module.{Statement}
 use Rattle.mw_logic.specs.NormalForm.{normal_form}
-use Rattle.mw_machine.specs.Variables.{AreDistinct, met, place}
+use Rattle.mw_position.specs.Variables.{AreDistinct, met, place}
 use Rattle.mw_compile.specs.Compiled.{IsCompiled}
 use Rattle.mw_index.specs.Sections.{AreIn}
 use Rattle.mw_index.proofs.Sides.{variables_are, compiled_from, compiled_distinct, compiled_has}

@@ -1,5 +1,5 @@
 use Rattle.std.proofs.Common.{arith}
-use Rattle.mw_pattern.proofs.Compiling.{raw_element}
+use Rattle.mw_pattern.proofs.Lists.{raw_element}
 use Rattle.mw_index.proofs.Walking.{normal_more, normal_all}
 use Rattle.mw_index.proofs.normal.+normal.Goals as goal
 

@@ -1,7 +1,7 @@
 use Rattle.std.proofs.Common.{◌≡◌, arith, ap, subst}
 use Rattle.mw_logic.specs.Term.{RawTerms}
 use Rattle.mw_logic.specs.NormalForm.{highest}
-use Rattle.mw_machine.specs.Positions.{AreNumbered, counted_all}
+use Rattle.mw_position.specs.Positions.{AreNumbered, counted_all}
 use Rattle.mw_pattern.specs.Clean.{clean_all}
 use Rattle.mw_match.proofs.Matching.{pattern_height}
 use Rattle.mw_index.proofs.Walking.{numbers_first, numbers_more, numbers_end}

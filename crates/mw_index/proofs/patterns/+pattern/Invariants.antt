@@ -2,7 +2,7 @@ use Rattle.std.proofs.Common.{◌≡◌, ◌+◌, ◌*◌, drop}
 use Rattle.mw_logic.specs.NormalForm.{height, highest}
 use Rattle.mw_logic.specs.Term.{join}
 use Rattle.mw_logic.specs.Terms.{terms_of}
-use Rattle.mw_machine.specs.Variables.{all_placed}
+use Rattle.mw_position.specs.Variables.{all_placed}
 use Rattle.mw_compile.specs.Compiled.{AreAllAmong}
 use Rattle.mw_pattern.specs.Clean.{clean_all}
 use Rattle.mw_index.proofs.patterns.+pattern.Given as goal

@@ -1,12 +1,12 @@
 use Rattle.std.proofs.Common.{◌≡◌, ◌≤◌, ◌<◌, length, List, ap, sym, ◌∙◌, subst, arith, refl, get_or, true, false, ◌++◌, [], ◌∷◌}
 use Rattle.mw_logic.specs.Term.{RawTerm, RawTerms, numeral, quoted, variable}
 use Rattle.mw_logic.specs.NormalForm.{highest}
-use Rattle.mw_machine.specs.Positions.{position, fill, fill_all, counted, counted_all, AreNumbered, IsNumbered, Begins}
+use Rattle.mw_position.specs.Positions.{position, fill, fill_all, counted, counted_all, AreNumbered, IsNumbered, Begins}
 use Rattle.mw_logic.specs.Terms.{terms_of}
 use Rattle.mw_pattern.specs.Clean.{clean, clean_all}
 use Rattle.mw_match.specs.Matching.{Decides}
 use Rattle.mw_pattern.proofs.Lists.{got}
-use Rattle.mw_machine.proofs.Begins.{begins_same, begins_then, begins_append}
+use Rattle.mw_position.proofs.Begins.{begins_same, begins_then, begins_append}
 use Rattle.mw_match.proofs.Matching.{lengths_differ, matching_starts, numbered_here, pattern_height, matching_on, matching_fails, decides_same, decides_var_old, decides_var_new}
 use Rattle.mw_match.proofs.by_position.+matches.Goals as goal
 

@@ -1,7 +1,7 @@
 use Rattle.std.proofs.Common.{◌∙◌, ap, sym, length}
 use Rattle.mw_logic.specs.Term.{variable}
 use Rattle.mw_logic.specs.Terms.{terms_of}
-use Rattle.mw_machine.specs.Positions.{position}
+use Rattle.mw_position.specs.Positions.{position}
 use Rattle.mw_match.proofs.Places.{pattern_made}
 use Rattle.mw_match.proofs.Taking.{is_some}
 use Rattle.mw_match.proofs.parts.pattern_with_rest.Goals as goal

@@ -1,8 +1,5 @@
-use Rattle.mw_machine.specs.Simple.{IsSimpleSignature, AreGround}
-use Rattle.mw_match.proofs.Sorting.{HaveFirst, HaveFirstSorts}
+use Rattle.mw_match.proofs.Sorting.{HaveFirstSorts}
 use Rattle.mw_match.proofs.sorts.have_sorts.Given as goal
 
 abbrev pub invariant-loop-i : goal.invariant-loop-i
-invariant-loop-i l =
-    HaveFirstSorts l.context.signature l.values l.sorts l.i
-    × (IsSimpleSignature l.context.signature → AreGround l.context.signature l.values → HaveFirst l.context.signature l.values l.sorts l.i)
+invariant-loop-i l = HaveFirstSorts l.context.signature l.values l.sorts l.i

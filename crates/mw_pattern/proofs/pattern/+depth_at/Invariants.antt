@@ -1,6 +1,6 @@
 use Rattle.std.proofs.Common.{◌≡◌, ◌-◌, ◌^◌, ◌≤◌, min, max, drop}
 use Rattle.mw_logic.specs.NormalForm.{highest}
-use Rattle.mw_machine.specs.Positions.{fill_all}
+use Rattle.mw_position.specs.Positions.{fill_all}
 use Rattle.mw_pattern.specs.Clean.{clean_all}
 use Rattle.mw_pattern.proofs.pattern.+depth_at.Given as goal
 

@@ -2,7 +2,7 @@ use Rattle.std.proofs.Common.{◌≡◌, ◌++◌, ◌∙◌, List, ap, append_a
 use Rattle.std.proofs.lemmas.Grind.{common_steps}
 use Rattle.mw_logic.specs.Term.{Variable}
 use Rattle.mw_term.specs.Raws.{raw_term}
-use Rattle.mw_machine.proofs.Meeting.{met_grows}
+use Rattle.mw_position.proofs.Meeting.{met_grows}
 use Rattle.mw_pattern.proofs.places.+meet_all.Goals as goal
 
 -- what one argument adds stands behind what the ones before it added

@@ -2,7 +2,7 @@ use Rattle.std.proofs.Common.{◌≡◌, ◌≤◌, ◌+◌, ◌++◌, List, len
 use Rattle.mw_logic.specs.Term.{Variable}
 use Rattle.mw_logic.specs.NormalForm.{height, highest}
 use Rattle.mw_term.specs.Raws.{raw_term, raw_terms}
-use Rattle.mw_machine.specs.Variables.{met, all_met}
+use Rattle.mw_position.specs.Variables.{met, all_met}
 use Rattle.mw_pattern.proofs.places.+meet_all.Given as goal
 
 abbrev pub decreases-meet_all : goal.decreases-meet_all

@@ -1,5 +1,5 @@
 use Rattle.std.proofs.Common.{◌≡◌, take}
-use Rattle.mw_machine.proofs.Placing.{values_of}
+use Rattle.mw_proof.specs.Replacing.{values_of}
 use Rattle.mw_proof.proofs.replacing.in_order.Given as goal
 
 abbrev pub invariant-loop-variable : goal.invariant-loop-variable

@@ -1,21 +1,21 @@
 use Rattle.std.proofs.Common.{refl, subst, sym}
 use Rattle.mw_logic.specs.Module.{Module}
-use Rattle.mw_machine.specs.Simple.{IsSimpleModule}
 use Rattle.mw_canon.specs.Canonical.{IsAdmittedTerm}
+use Rattle.mw_index.specs.Index.{IsIndexOf}
 use Rattle.mw_reduce.specs.Reductions.{IsReductionOf}
 use Rattle.mw_top.proofs.Answering.{reduced_by, if_ok}
 use Rattle.mw_top.proofs.reduction.reduced_term.Goals as goal
 
 pub reduce-requires-clause-admitted : goal.reduce-requires-clause-admitted
-reduce-requires-clause-admitted c = subst (λ (M : Module). IsAdmittedTerm M.signature c.args.term) (sym c.context-context.ensures) c.requires.admitted
+reduce-requires-clause-admitted c = subst (λ (M : Module). IsAdmittedTerm M.signature c.args.term) (sym c.context-context.ensures) c.requires
+
+pub reduce-requires-clause-index : goal.reduce-requires-clause-index
+reduce-requires-clause-index c = subst (λ (M : Module). IsIndexOf M c.index.result.now) (sym c.context-context.ensures) c.index.ensures
 
 pub block-requires : goal.block-requires
 block-requires c =
     let over = subst (λ (M : Module). IsAdmittedTerm M.signature c.in_ok-proved.proved.to) c.in_ok-proved.ensures.over c.shows.ensures.ends in
     subst (λ (M : Module). IsAdmittedTerm M.signature c.in_ok-proved.proved.to) c.context-context.ensures over
-
-pub reduce-requires-clause-simple : goal.reduce-requires-clause-simple
-reduce-requires-clause-simple c = subst IsSimpleModule (sym c.context-context.ensures) c.requires.simple
 
 pub returns : goal.returns
 returns c = λ written canonical.

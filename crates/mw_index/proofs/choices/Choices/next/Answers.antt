@@ -1,61 +1,68 @@
-use Rattle.std.proofs.Common.{◌∙◌, ◌≤◌, length, ap, sym, subst, refl, arith}
+use Rattle.std.proofs.Common.{◌≡◌, ◌≤◌, ℕ, Bool, Option, length, sym, subst, ◌∙◌, arith}
 use Rattle.std.specs.Prelude.{slice_get}
-use Rattle.std.proofs.lemmas.Option.{slice_get_within}
 use Rattle.mw_logic.specs.Term.{RawTerm}
 use Rattle.mw_logic.specs.Module.{Module}
-use Rattle.mw_index.specs.Index.{operator_of, asked}
+use Rattle.mw_index.specs.Index.{operator_of, own_asked, others_asked, IsNextOf}
 use Rattle.mw_index.specs.Choices.{subject_of}
 use Rattle.mw_index.specs.declared.equations.Equation.{Equation}
 use Rattle.mw_index.specs.declared.index.Index.{Index}
-use Rattle.mw_index.proofs.Asking.{asked_of, right_within, sized_within, chosen_covers, passed_covers, all_passed, nothing_left}
+use Rattle.mw_index.proofs.Asking.{asked_of, right_within, sized_within, chosen_covers, passed_covers, fewer_left, all_passed, nothing_left}
 use Rattle.mw_index.proofs.choices.Choices.next.Goals as goal
+
+turn_is : (m : Index) (r top : Option ℕ) → r ≡ top → (i j : ℕ) (st : Equation) (own : Bool) → IsNextOf (slice_get (own_asked m r) i) (slice_get (others_asked m r) j) st own
+    → IsNextOf (slice_get (own_asked m top) i) (slice_get (others_asked m top) j) st own
+turn_is m r top e i j st own h = subst (λ t. IsNextOf (slice_get (own_asked m t) i) (slice_get (others_asked m t) j) st own) e h
 
 pub ask-requires : goal.ask-requires
 ask-requires c =
     let m : Index = c.args.index.now in
-    let is = ap (λ top. slice_get (asked m top) c.loop-equation.self.next) (sym c.operator-top.ensures) ∙ c.in-Some.ensures.is in
-    asked_of c.args.context.now m (operator_of (subject_of c.args.subject)) c.loop-equation.self.next c.in-Some.equation.now c.requires is
+    let is = turn_is m _ (operator_of (subject_of c.args.subject)) c.operator-top.ensures c.loop-turn.self.own c.loop-turn.self.others c.in-Some.turn.0.now c.in-Some.turn.1 c.in-Some.ensures.is in
+    asked_of c.args.context.now m (operator_of (subject_of c.args.subject)) c.loop-turn.self.own c.loop-turn.self.others c.in-Some.turn.0.now c.in-Some.turn.1 c.requires is
 
 pub returns-then-is_some-clause-values : goal.returns-then-is_some-clause-values
 returns-then-is_some-clause-values c =
     let M : Module = c.args.context.now in
     let m : Index = c.args.index.now in
-    let st : Equation = c.in-Some.equation.now in
-    let is = ap (λ top. slice_get (asked m top) c.loop-equation.self.next) (sym c.operator-top.ensures) ∙ c.in-Some.ensures.is in
-    sized_within st c.in_ok-found.found (right_within M c.shows.ensures _ st (asked_of M m (operator_of (subject_of c.args.subject)) c.loop-equation.self.next st c.requires is)) c.in_ok-found.ensures.sized
+    let st : Equation = c.in-Some.turn.0.now in
+    let is = turn_is m _ (operator_of (subject_of c.args.subject)) c.operator-top.ensures c.loop-turn.self.own c.loop-turn.self.others st c.in-Some.turn.1 c.in-Some.ensures.is in
+    sized_within st c.in_ok-found.found
+    (right_within M c.shows.ensures _ st (asked_of M m (operator_of (subject_of c.args.subject)) c.loop-turn.self.own c.loop-turn.self.others st c.in-Some.turn.1 c.requires is)) c.in_ok-found.ensures.sized
 
 pub returns-then-is_some-clause-is : goal.returns-then-is_some-clause-is
-returns-then-is_some-clause-is c tried v h =
+returns-then-is_some-clause-is c = λ tried v h.
     let M : Module = c.args.context.now in
     let m : Index = c.args.index.now in
     let t : RawTerm = subject_of c.args.subject in
-    let st : Equation = c.in-Some.equation.now in
-    let is = ap (λ top. slice_get (asked m top) c.loop-equation.self.next) (sym c.operator-top.ensures) ∙ c.in-Some.ensures.is in
-    let now = c.loop-equation.invariant tried v h in
-    chosen_covers M m t tried c.loop-equation.self c.ask.new.self st now is c.in_ok-found.ensures.same c.in_ok-found.found (sym c.is_some.ensures ∙ c.if-is_some.true) (c.in_ok-found.ensures.is tried v now.subject (now.under_way st is))
+    let st : Equation = c.in-Some.turn.0.now in
+    let is = turn_is m _ (operator_of t) c.operator-top.ensures c.loop-turn.self.own c.loop-turn.self.others st c.in-Some.turn.1 c.in-Some.ensures.is in
+    let now = c.loop-turn.invariant tried v h in
+    chosen_covers M m t tried c.loop-turn.self c.ask.new.self st c.in-Some.turn.1 now is c.in_ok-found.ensures.same c.in_ok-found.found (sym c.is_some.ensures ∙ c.if-is_some.true)
+    (c.in_ok-found.ensures.is tried v now.subject (now.under_way st c.in-Some.turn.1 is))
 
-pub loop-equation-smaller : goal.loop-equation-smaller
-loop-equation-smaller c =
+pub loop-turn-smaller : goal.loop-turn-smaller
+loop-turn-smaller c =
     let m : Index = c.args.index.now in
-    let is = ap (λ top. slice_get (asked m top) c.loop-equation.self.next) (sym c.operator-top.ensures) ∙ c.in-Some.ensures.is in
-    let w = slice_get_within (asked m (operator_of (subject_of c.args.subject))) c.loop-equation.self.next c.in-Some.equation.now is in
-    let s = c.in_ok-found.ensures.same in
-    omega (arith, w, s)
+    let t : RawTerm = subject_of c.args.subject in
+    let st : Equation = c.in-Some.turn.0.now in
+    let is = turn_is m _ (operator_of t) c.operator-top.ensures c.loop-turn.self.own c.loop-turn.self.others st c.in-Some.turn.1 c.in-Some.ensures.is in
+    fewer_left m (operator_of t) c.loop-turn.self c.ask.new.self c.pass.new.self st c.in-Some.turn.1 is c.in_ok-found.ensures.same c.pass.ensures
 
-pub loop-equation-preserved : goal.loop-equation-preserved
-loop-equation-preserved c tried v h =
+pub loop-turn-preserved : goal.loop-turn-preserved
+loop-turn-preserved c = λ tried v h.
     let M : Module = c.args.context.now in
     let m : Index = c.args.index.now in
     let t : RawTerm = subject_of c.args.subject in
-    let st : Equation = c.in-Some.equation.now in
-    let is = ap (λ top. slice_get (asked m top) c.loop-equation.self.next) (sym c.operator-top.ensures) ∙ c.in-Some.ensures.is in
-    let now = c.loop-equation.invariant tried v h in
-    passed_covers M m t tried c.loop-equation.self c.ask.new.self st now is c.in_ok-found.ensures.same c.in_ok-found.found (sym c.is_some.ensures ∙ c.if-is_some.false) (c.in_ok-found.ensures.is tried v now.subject (now.under_way st is)) _ refl refl refl refl
+    let st : Equation = c.in-Some.turn.0.now in
+    let is = turn_is m _ (operator_of t) c.operator-top.ensures c.loop-turn.self.own c.loop-turn.self.others st c.in-Some.turn.1 c.in-Some.ensures.is in
+    let now = c.loop-turn.invariant tried v h in
+    passed_covers M m t tried c.loop-turn.self c.ask.new.self st c.in-Some.turn.1 now is c.in_ok-found.ensures.same c.in_ok-found.found (sym c.is_some.ensures ∙ c.if-is_some.false)
+    (c.in_ok-found.ensures.is tried v now.subject (now.under_way st c.in-Some.turn.1 is)) c.pass.new.self c.pass.ensures
 
 pub returns-clause-is : goal.returns-clause-is
-returns-clause-is c tried v h =
+returns-clause-is c = λ tried v h.
     let m : Index = c.args.index.now in
     let t : RawTerm = subject_of c.args.subject in
-    let l : length (asked m c.operator-top.result) ≤ c.loop-equation.self.next = nothing_left c.at.result _ _ c.at.ensures.is c.in_default.not-Some in
-    let k : length (asked m (operator_of t)) ≤ c.loop-equation.self.next = subst (λ top. length (asked m top) ≤ c.loop-equation.self.next) c.operator-top.ensures l in
-    all_passed c.args.context.now m t tried c.loop-equation.self c.requires v k (c.loop-equation.invariant tried v h)
+    let l = nothing_left c.at.result _ _ c.at.ensures.is c.in_default.not-Some in
+    let k : (length (own_asked m (operator_of t)) ≤ c.loop-turn.self.own) × (length (others_asked m (operator_of t)) ≤ c.loop-turn.self.others) =
+    subst (λ top. (length (own_asked m top) ≤ c.loop-turn.self.own) × (length (others_asked m top) ≤ c.loop-turn.self.others)) c.operator-top.ensures l in
+    all_passed c.args.context.now m t tried c.loop-turn.self c.requires v k.0 k.1 (c.loop-turn.invariant tried v h)

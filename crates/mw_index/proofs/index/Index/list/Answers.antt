@@ -2,7 +2,7 @@ use Rattle.std.proofs.Common.{◌≡◌, ◌∙◌, ◌+◌, ◌||◌, not, subs
 use Rattle.mw_logic.specs.Signature.{at_number}
 use Rattle.mw_logic.specs.NormalForm.{normal_form}
 use Rattle.mw_logic.specs.Module.{Module, Statement}
-use Rattle.mw_pattern.proofs.Indexing.{number_at}
+use Rattle.mw_pattern.proofs.Lists.{got}
 use Rattle.mw_term.specs.Raws.{raw_term}
 use Rattle.mw_index.specs.Sections.{IsSectionOf}
 use Rattle.mw_index.proofs.Indexing.{index_past, index_more}
@@ -30,7 +30,7 @@ equation_of-requires-clause-statement c =
     let is : e ≡ get_or c.args.context.now.statements c.args.at e = c.index-statements-at.is ∙ ap (λ ss. get_or ss c.args.at e) c.statements.ensures in
     let n : c.args.at + 1 ≡ suc c.args.at = omega arith in
     record {
-      is_there = ap (at_number c.args.context.now.statements) n ∙ number_at c.args.context.now.statements c.args.at e c.requires is;
+      is_there = ap (at_number c.args.context.now.statements) n ∙ got c.args.context.now.statements c.args.at e c.requires is;
       executable = sym (ap (λ (s : Statement). s.executable) c.statement.view_is) ∙ c.if-not-statement.false;
     }
 

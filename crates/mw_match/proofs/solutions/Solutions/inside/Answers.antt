@@ -1,7 +1,7 @@
 use Rattle.std.proofs.Common.{◌≡◌, true, length, ◌∙◌, ap, subst, sym}
 use Rattle.mw_canon.specs.Canonical.{meant}
 use Rattle.mw_logic.specs.Signature.{Signature}
-use Rattle.mw_machine.specs.Variables.{bound_values}
+use Rattle.mw_position.specs.Variables.{bound_values}
 use Rattle.mw_compile.specs.declared.compiled.Compiled.{Compiled}
 use Rattle.mw_match.specs.Solutions.{IsAllSolutions}
 use Rattle.mw_match.specs.Parts.{rest_of, rest_pattern}

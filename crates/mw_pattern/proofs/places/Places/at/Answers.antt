@@ -1,6 +1,6 @@
 use Rattle.std.proofs.Common.{◌≡◌, ◌∙◌, ap, Some, None, true}
 use Rattle.std.specs.HashMap.{get}
-use Rattle.mw_machine.specs.Variables.{is_in, place}
+use Rattle.mw_position.specs.Variables.{is_in, place}
 use Rattle.mw_pattern.specs.Tables.{same_key, variable_of, pointed}
 use Rattle.mw_pattern.proofs.Tables.{found_in, none_some, some_parts}
 use Rattle.mw_pattern.proofs.places.Places.at.Goals as goal

@@ -1,7 +1,7 @@
 use Rattle.std.proofs.Common.{◌≡◌, ◌∙◌, ◌++◌, [], ◌∷◌, ap, sym, subst, length, true, false, cond, is_some, Some, arith}
 use Rattle.std.proofs.lemmas.List.{length-map}
 use Rattle.std.specs.HashMap.{get}
-use Rattle.mw_machine.specs.Variables.{is_in}
+use Rattle.mw_position.specs.Variables.{is_in}
 use Rattle.mw_pattern.specs.Tables.{Key, same_key, variable_of, pointed, position_in}
 use Rattle.mw_pattern.proofs.Tables.{is_found, met_again, table_met, pointed_more}
 use Rattle.mw_pattern.proofs.places.Places.meet.Goals as goal

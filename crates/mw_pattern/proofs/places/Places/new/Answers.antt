@@ -1,7 +1,7 @@
 use Rattle.std.proofs.Common.{◌∙◌, ap}
 use Rattle.std.proofs.lemmas.List.{take_all}
 use Rattle.mw_logic.specs.Term.{variable}
-use Rattle.mw_machine.specs.Variables.{met}
+use Rattle.mw_position.specs.Variables.{met}
 use Rattle.mw_pattern.proofs.Tables.{met_next}
 use Rattle.mw_pattern.proofs.places.Places.new.Goals as goal
 

@@ -1,5 +1,5 @@
 use Rattle.std.proofs.Common.{◌≡◌, take}
-use Rattle.mw_machine.specs.Variables.{sorts_of}
+use Rattle.mw_position.specs.Variables.{sorts_of}
 use Rattle.mw_pattern.proofs.places.Places.sorts.Given as goal
 
 abbrev pub invariant-loop-i : goal.invariant-loop-i

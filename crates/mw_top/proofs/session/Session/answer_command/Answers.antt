@@ -1,8 +1,6 @@
 use Rattle.std.proofs.Common.{sym, Ok}
-use Rattle.std.proofs.lemmas.Bool.{both_ways}
-use Rattle.mw_module.specs.declared.faults.FaultKind.TheVariants.{NotInProfile}
 use Rattle.mw_command.specs.Commands.{seen_command}
-use Rattle.mw_top.specs.Commands.{unanswered, not_for}
+use Rattle.mw_top.specs.Commands.{unanswered}
 use Rattle.mw_top.specs.Sources.{faulty, answered}
 use Rattle.mw_top.proofs.Answering.{if_ok}
 use Rattle.mw_top.proofs.Giving.{refused_gives, none_there, match_ok, match_err}
@@ -15,18 +13,8 @@ returns-in_default c = λ u line named command.
     (λ a h. refused_gives c.args.most c.args.self.now (Ok u) (record { line = c.args.line; kind = c.in_ok-missing.field-0 }) a.text.items a.refused
     (rw (sym line) (faulty u (seen_command c.args.command.now) c.in_ok-missing.field-0 named command (c.in_ok-missing.ensures c.args.self.now none))) h)
 
-pub returns-then-not-is_for : goal.returns-then-not-is_for
-returns-then-not-is_for c = λ u line named command.
-    let not = not_for c.in-Some.module.now (sym c.in-Some.ensures) (λ h. both_ways _ c.if-not-is_for.true (c.is_for.ensures.1 h)) in
-    if_ok c.refused-then-not-is_for.result c.refused-then-not-is_for.ensures
-    (λ a h. refused_gives c.args.most c.args.self.now (Ok u) (record { line = c.args.line; kind = NotInProfile }) a.text.items a.refused
-    (rw (sym line) (faulty u (seen_command c.args.command.now) NotInProfile named command not)) h)
-
-pub reply-requires : goal.reply-requires
-reply-requires c = c.is_for.ensures.0 c.if-not-is_for.false
-
 pub returns-in-Ok : goal.returns-in-Ok
-returns-in-Ok c = λ u line named command. answered u (seen_command c.args.command.now) c.in-Some.module.now c.in-Ok.text.items named command (sym c.in-Some.ensures) (c.is_for.ensures.0 c.if-not-is_for.false)
+returns-in-Ok c = λ u line named command. answered u (seen_command c.args.command.now) c.in-Some.module.now c.in-Ok.text.items named command (sym c.in-Some.ensures)
     (match_ok _ _ c.in_ok-text.field-0 c.in_ok-text.ensures c.in-Ok.text c.in-Ok.is)
 
 pub returns-in-Err : goal.returns-in-Err
@@ -34,4 +22,4 @@ returns-in-Err c = λ u line named command.
     let wrong = match_err _ _ c.in_ok-text.field-0 c.in_ok-text.ensures c.in-Err.kind c.in-Err.is in
     if_ok c.refused-in-Err.result c.refused-in-Err.ensures
     (λ a h. refused_gives c.args.most c.args.self.now (Ok u) (record { line = c.args.line; kind = c.in-Err.kind }) a.text.items a.refused
-    (rw (sym line) (faulty u (seen_command c.args.command.now) c.in-Err.kind named command (unanswered c.in-Some.module.now c.in-Err.kind (sym c.in-Some.ensures) (c.is_for.ensures.0 c.if-not-is_for.false) wrong))) h)
+    (rw (sym line) (faulty u (seen_command c.args.command.now) c.in-Err.kind named command (unanswered c.in-Some.module.now c.in-Err.kind (sym c.in-Some.ensures) wrong))) h)

@@ -1,7 +1,0 @@
-use Rattle.std.proofs.Common.{◌≡◌}
-use Rattle.mw_frames.specs.State.{Run, IsRun, Holds}
-use Rattle.mw_frames.specs.Machines.{data_of}
-use Rattle.mw_drive.proofs.drive.drive.Given as goal
-
-abbrev pub invariant-loop : goal.invariant-loop
-invariant-loop l = (K : Run) → IsRun K l.context.signature → K.over ≡ l.context → Holds K 0 (data_of K.over l.fn.machine) l.fn.hand → Holds K l.counter (data_of K.over l.machine) l.hand

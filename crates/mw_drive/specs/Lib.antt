@@ -1,6 +1,0 @@
--- What comes of a turn.
-pub mod Turns
--- How a run ends.
-pub mod Driven
--- What a reduction gives.
-pub mod Reductions

@@ -1,6 +1,0 @@
-use Rattle.std.proofs.Common.{◌≡◌, take}
-use Rattle.mw_kept.specs.Replacing.{values_of}
-use Rattle.mw_kept.proofs.replacing.in_order.Given as goal
-
-abbrev pub invariant-loop-variable : goal.invariant-loop-variable
-invariant-loop-variable l = l.found.items ≡ values_of l.values (take l.variable-index l.variables)

@@ -1,0 +1,6 @@
+pub mod Begins
+pub mod Counting
+pub mod Meeting
+pub mod Placing
+pub mod Values
+pub mod Grounded

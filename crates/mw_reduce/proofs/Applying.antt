@@ -1,0 +1,65 @@
+-- A choice is an equation that applies.
+use Rattle.std.specs.Prelude.{◌≡◌, ℕ, suc, List, [], ◌∷◌, length, Option, Some, None, refl}
+use Rattle.std.proofs.Common.{sym, subst, ap, ◌∙◌}
+use Rattle.mw_logic.specs.Term.{Variable, RawTerm, RawTerms, numeral, quoted, variable, apply, nil, cons}
+use Rattle.mw_logic.specs.Signature.{Signature}
+use Rattle.mw_logic.specs.NormalForm.{normal_form}
+use Rattle.mw_logic.specs.Module.{Module, IsStatement}
+use Rattle.mw_position.specs.Variables.{placed, sorts_of}
+use Rattle.mw_pattern.specs.Clean.{clean}
+use Rattle.mw_least.specs.Workable.{IsWorkable}
+use Rattle.mw_index.specs.Choices.{IsTaken, IsChoice}
+use Rattle.mw_index.specs.Equations.{IsLeft, IsPlainLeft}
+use Rattle.mw_index.specs.Index.{operator_of}
+use Rattle.mw_index.specs.Free as index
+use Rattle.mw_index.specs.declared.choices.Choice.{Choice}
+use Rattle.mw_index.specs.declared.equations.Left.{Left}
+use Rattle.mw_index.specs.declared.equations.Left.TheVariants.{Plain}
+use Rattle.mw_frames.specs.Free as frames
+use Rattle.mw_frames.specs.Fires.{IsPartTaken, IsApplied}
+use Rattle.mw_frames.specs.declared.applying.Applied.{Applied}
+use Rattle.mw_reduce.specs.Driven.{IsAppliedAs}
+
+mutual
+  free_same : (sig : Signature) (t : RawTerm) → index.IsFree sig t → frames.IsFree sig t
+  free_same sig (numeral n) h = tt
+  free_same sig (quoted q) h = tt
+  free_same sig (variable x) h = tt
+  free_same sig (apply f ts) h = (h.0, free_same_all sig ts h.1)
+
+  free_same_all : (sig : Signature) (ts : RawTerms) → index.AreFree sig ts → frames.AreFree sig ts
+  free_same_all sig nil h = tt
+  free_same_all sig (cons t ts) h = (free_same sig t h.0, free_same_all sig ts h.1)
+
+taken_same : (sig : Signature) (o : Option (List ℕ)) (t w : RawTerm) → IsTaken sig o t w → IsPartTaken sig o t w
+taken_same sig None t w h = h
+taken_same sig (Some ks) t w h = h
+
+length_sorts : (xs : List Variable) → length (sorts_of xs) ≡ length xs
+length_sorts [] = refl
+length_sorts (x ∷ xs) = ap suc (length_sorts xs)
+
+plain_left : (sig : Signature) (top : Option ℕ) (e : Rattle.mw_logic.specs.Module.Statement) (l : Left) (ps : RawTerms) → IsLeft sig top e l → l ≡ Plain ps
+    → (f : ℕ) × (qs : RawTerms) × (apply f qs ≡ placed e.variables (normal_form sig e.left)) × frames.IsFree sig (apply f qs)
+plain_left sig None e l ps h q = absurd (subst (IsLeft sig None e) q h)
+plain_left sig (Some f) e l ps h q = let p : IsPlainLeft sig f e ps = subst (IsLeft sig (Some f) e) q h in (f, ps, p.pattern, free_same sig (apply f ps) p.free)
+
+pub choice_applies : (M : Module) → IsWorkable M → (t : RawTerm) (c : Choice) → (i : IsChoice M t c) → length c.values.items ≡ length c.equation.now.sorts → (a : Applied) → IsAppliedAs c.equation.now a
+    → IsPartTaken M.signature c.take t i.part × IsApplied M a c.values.items i.part
+choice_applies M w t c i sized a is = (
+  taken_same M.signature c.take t i.part i.taken,
+  record {
+    redex = record {
+      statement = i.statement;
+      is_there = subst (λ k. IsStatement M k i.statement) (sym is.number) i.is_there;
+      plain = w.equations c.equation.now.number i.statement i.is_there;
+      sides = w.sides c.equation.now.number i.statement i.is_there.is_there;
+      size = sized ∙ ap length i.is.sorts ∙ length_sorts i.statement.variables;
+      values = i.values;
+      solution = i.solution;
+      right = ap clean is.right ∙ i.is.right;
+    };
+    free = λ h. subst (λ p. frames.IsFree M.signature (clean p)) (sym is.right) (free_same M.signature (clean c.equation.now.right) (i.is.free (sym is.free ∙ h)));
+    sure = λ h. let (ps, e) = is.sure h in plain_left M.signature (operator_of t) i.statement c.equation.now.left ps i.is.left e;
+  },
+)

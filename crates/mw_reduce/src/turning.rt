@@ -1,0 +1,86 @@
+// The machine's steps until an equation applies.
+ghost use Rattle.std.specs.Prelude.{◌≡◌, ◌<◌, ℕ, IfOk};
+ghost use Rattle.mw_logic.specs.Module.{Module};
+ghost use Rattle.mw_index.specs.Index.{IsIndexOf};
+ghost use Rattle.mw_index.specs.Choices.{subject_of};
+ghost use Rattle.mw_frames.specs.State.{Run, IsRun, Holds, work_of};
+ghost use Rattle.mw_frames.specs.Machines.{data_of};
+ghost use Rattle.mw_frames.specs.Steps.{IsAskedFor, asked_term, FallsTo};
+ghost use Rattle.mw_frames.specs.declared.job.Job.TheVariants.{Normal as NormalOf};
+ghost use Rattle.mw_frames.specs.declared.job.Hand.TheVariants.{One as OneOf};
+ghost use Rattle.mw_reduce.specs.Turns.{IsTurn, TurnFalls};
+
+use mw_frames::{Asked, Hand, Machine, Step, rest, step};
+use mw_index::{Choice, Choices, Index, Subject};
+use mw_least::Ctx;
+use mw_term::{Term, behind};
+use std::alloc::{AllocError, Global};
+
+/// What comes of one turn.
+#[derive(Drop)]
+pub enum Turn<'m> {
+    /// It goes on.
+    Goes(Hand<'m>),
+    /// The whole is this term, which is normal.
+    Ended(Term),
+    /// An equation has a solution for what was asked for, or for several of its arguments. Its condition isn't looked at.
+    Found(Asked, Choice<'m>),
+}
+
+fn subject_at<'t>(machine: &'t Machine<'_>, asked: &'t Asked) -> Subject<'t>
+    ensures { (M : Module) → subject_of result ≡ asked_term (data_of M machine.now) asked.now }
+{
+    match asked {
+        Asked::Term(term) => Subject::Term(term),
+        Asked::Own(frame) => Subject::Op(frame.op, behind(machine.done.as_slice(), frame.from)),
+    }
+}
+
+/// The first equation that has a solution for what is asked for; or it is normal.
+fn ask<'m>(
+    alloc: Global,
+    context: &'m Ctx,
+    index: &'m Index,
+    machine: &mut Machine<'m>,
+    choices: &mut Choices<'m>,
+    asked: Asked,
+) -> Result<Turn<'m>, AllocError>
+    requires { IsIndexOf context.now index.now }
+    ensures means { (K : Run) (k : ℕ) → IsRun K context.now.signature → K.over ≡ context.now → IsAskedFor K k (data_of K.over machine.old) asked
+        → IfOk result (IsTurn K k index.now (data_of K.over machine.new) choices.new) }
+    ensures falls { (M : Module) (w : ℕ) → FallsTo M w machine.old (OneOf (NormalOf (asked_term (data_of M machine.old) asked))) → IfOk result (TurnFalls M w machine.new) }
+{
+    choices.again();
+    let subject = subject_at(machine, &asked);
+    match choices.next(alloc, context, index, subject)? {
+        Some(choice) => Ok(Turn::Found(asked, choice)),
+        None => {
+            let hand = rest(alloc, context.facts(), machine, asked)?;
+            Ok(Turn::Goes(hand))
+        }
+    }
+}
+
+/// One step, and equations where they are asked for.
+pub fn take_turn<'m>(
+    alloc: Global,
+    context: &'m Ctx,
+    index: &'m Index,
+    machine: &mut Machine<'m>,
+    choices: &mut Choices<'m>,
+    hand: Hand<'m>,
+) -> Result<Turn<'m>, AllocError>
+    requires { IsIndexOf context.now index.now }
+    ensures means { (K : Run) (k : ℕ) → IsRun K context.now.signature → K.over ≡ context.now → Holds K k (data_of K.over machine.old) hand.entry
+        → IfOk result (IsTurn K k index.now (data_of K.over machine.new) choices.new) }
+    ensures falls { (M : Module) → M.signature ≡ context.now.signature → IfOk result (TurnFalls M (work_of M.signature (data_of M machine.old) hand.entry) machine.new) }
+{
+    match step(alloc, context.facts(), machine, hand)? {
+        Step::Goes(next) => Ok(Turn::Goes(next)),
+        Step::Ended(term) => Ok(Turn::Ended(term)),
+        Step::Asks(asked) => {
+            let turn = ask(alloc, context, index, machine, choices, asked)?;
+            Ok(turn)
+        }
+    }
+}
