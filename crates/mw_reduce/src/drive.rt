@@ -14,8 +14,8 @@ use crate::turning::{Turn, take_turn};
 use mw_canon::Facts;
 use mw_frames::{Applied, Asked, Fired, Hand, Machine, fire, stop};
 use mw_index::{Choice, Choices, Equation, Index, Left};
-use mw_proof::Reason;
 use mw_least::Ctx;
+use mw_proof::Reason;
 use mw_term::Term;
 use std::alloc::{AllocError, Global};
 

@@ -7,8 +7,8 @@ ghost use Rattle.mw_reduce.specs.Reductions.{IsReductionOf};
 use crate::drive::{Outcome, drive};
 use mw_frames::{Hand, Job, Machine};
 use mw_index::{Choices, Index};
-use mw_proof::Proved;
 use mw_least::Ctx;
+use mw_proof::Proved;
 use mw_term::{Term, copy};
 use std::alloc::{AllocError, Global};
 
