@@ -31,7 +31,7 @@ pub record GoesOn (vs us : Values) : Type 0 where
 here : (vs : Values) → GoesOn vs vs
 here vs = record { more = []; is = sym (append-nil vs) }
 
-further : (vs us ws : Values) → GoesOn vs us → GoesOn us ws → GoesOn vs ws
+pub further : (vs us ws : Values) → GoesOn vs us → GoesOn us ws → GoesOn vs ws
 further vs us ws a b = record { more = a.more ++ b.more; is = b.is ∙ ap (λ l. l ++ b.more) a.is ∙ append_assoc vs a.more b.more }
 
 pub each_append : {X : Type 0} (P : X → Type 0) (xs ys : List X) → Each P xs → Each P ys → Each P (xs ++ ys)
@@ -64,7 +64,7 @@ module _ (sig : Signature) (single : List (List ℕ)) where
   placed_on i t vs None = both_so (GoesOn vs) (fits sig single i t) _ _ (record { more = t ∷ []; is = refl }, tt) tt
 
   mutual
-    found_on : (p t : RawTerm) (vs : Values) → Each (GoesOn vs) (found sig single p t vs)
+    pub found_on : (p t : RawTerm) (vs : Values) → Each (GoesOn vs) (found sig single p t vs)
     found_on (numeral n) t vs = both_so (GoesOn vs) (same (numeral n) t) _ _ (here vs, tt) tt
     found_on (quoted q) t vs = both_so (GoesOn vs) (same (quoted q) t) _ _ (here vs, tt) tt
     found_on (variable x) t vs = placed_on x.sort t vs (slice_get vs x.sort)

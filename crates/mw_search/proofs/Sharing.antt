@@ -29,7 +29,7 @@ pub none_behind : (p : RawTerm) (ps : List RawTerm) (i : ℕ) → terms_of ps �
 none_behind p ps i e h = none_left p ps (i + 1) e false (λ w. absurd (both_ways _ refl w)) (λ _. h)
 
 -- the first of the different elements that are left, and those behind it
-heads_begin : (s : Singles) (zs : RawTerms) (n : ℕ) (ns : List ℕ) → zs ≡ args_of s.bag → news zs s.next (number_of_terms zs - s.next) ≡ n ∷ ns → heads_left s ≡ head_share s n ∷ map (head_share s) ns
+pub heads_begin : (s : Singles) (zs : RawTerms) (n : ℕ) (ns : List ℕ) → zs ≡ args_of s.bag → news zs s.next (number_of_terms zs - s.next) ≡ n ∷ ns → heads_left s ≡ head_share s n ∷ map (head_share s) ns
 heads_begin s zs n ns e h = ap (map (head_share s)) (ap (λ ys. news ys s.next (number_of_terms ys - s.next)) (sym e) ∙ h)
 
 pub heads_pass : (old new : Singles) (zs : RawTerms) (n : ℕ) → new ≡ record old { next = n + 1 } → zs ≡ args_of old.bag → news zs old.next (number_of_terms zs - old.next) ≡ n ∷ news zs (n + 1) (number_of_terms zs - (n + 1))

@@ -6,10 +6,11 @@ use Rattle.std.proofs.Math.Seq.{take-length, take-append_seam}
 use Rattle.std.proofs.lemmas.List.{append-nil, length-take-le}
 use Rattle.mw_logic.specs.Term.{RawTerm}
 use Rattle.mw_logic.specs.Signature.{Signature}
-use Rattle.mw_matching.specs.Found.{Values}
-use Rattle.mw_search.specs.Traces.{Trace, finish, ticked}
+use Rattle.std.specs.List.{flat_map}
+use Rattle.mw_matching.specs.Found.{Values, found}
+use Rattle.mw_search.specs.Traces.{Trace, finish, ticked, somes}
 use Rattle.mw_search.specs.Goals.{Share, goal_trace, share_trace, shares_left, hand_trace, outcome_trace, IsOutcome}
-use Rattle.mw_search.specs.Lacking.{HasItsSort, LacksItsSort, HaveTheirSorts}
+use Rattle.mw_search.specs.Lacking.{HasItsSort, LacksItsSort, HaveTheirSorts, Each}
 use Rattle.mw_search.specs.Machines.{Rise, choice_trace, stack_trace, machine_trace, IsReady, IsLeftOut, Stepped, Applied}
 use Rattle.mw_search.specs.declared.positions.Positions.{Positions}
 use Rattle.mw_search.specs.declared.shares.Shares.{Shares}
@@ -19,6 +20,7 @@ use Rattle.mw_search.specs.declared.goals.Outcome.{Outcome}
 use Rattle.mw_search.specs.declared.goals.Outcome.TheVariants.{Binds, Becomes, First, Opens}
 use Rattle.mw_search.specs.declared.machine.Choice.{Choice}
 use Rattle.mw_search.specs.declared.machine.Machine.{Machine}
+use Rattle.mw_search.proofs.Finding.{finds_goal}
 use Rattle.mw_search.proofs.Beginning.{hand_all}
 use Rattle.mw_search.proofs.BagLists.{is_last_of}
 use Rattle.mw_search.proofs.Ends.{set_last, set_below, set_end, take_less, take_twice, got_taken, got_pushed, got_last}
@@ -231,3 +233,39 @@ module _ (sig : Signature) (ps : Positions) where
       ∙ ap (λ l. None ∷ l) (append_assoc (share_trace sig ps.single.items c.pattern ws K (t, g)) (ticked (share_trace sig ps.single.items c.pattern ws K) ss) (stack_trace sig ps cs vs) ∙ sym after))
       gv
       (ready_by new old.given ws (cs ++ d ∷ []) gv ev s2 (rise_push old.given c.below (length ws) cs d r.0 (omega (arith, eb)) (omega (arith, size, eb))) (sorted_taken old.given c.below vs m.sorted))
+
+  -- the choice on top passes over a share of which no match comes
+  pub passed : (old new : Machine) (c d : Choice) (t : RawTerm) (g : Goal) (ss : List Share) → IsReady sig ps old → new.given ≡ old.given → old.running ≡ false → 0 < length old.stack.items
+      → c ≡ get_or old.stack.items (length old.stack.items - 1) c → shares_left c.shares ≡ (t, g) ∷ ss → found sig ps.single.items c.pattern t (take c.below old.values.items) ≡ []
+      → d.pattern ≡ c.pattern → d.goals.items ≡ c.goals.items → d.below ≡ c.below → shares_left d.shares ≡ ss
+      → new.running ≡ old.running → new.values.items ≡ old.values.items → new.stack.items ≡ set old.stack.items (length old.stack.items - 1) d → Stepped sig ps old new
+  passed old new c d t g ss m gv ot h ec en nn ep eg eb ed er ev es =
+      let vs : Values = old.values.items in
+      let ws : Values = take c.below vs in
+      let cs : List Choice = take (length old.stack.items - 1) old.stack.items in
+      let K : Values → Trace = λ us. hand_trace sig ps.single.items c.goals.items us finish in
+      let s : old.stack.items ≡ cs ++ c ∷ [] = is_last_of old.stack.items c h ec in
+      let s2 : new.stack.items ≡ cs ++ d ∷ [] = es ∙ set_last old.stack.items d h in
+      let r = rise_pop old.given (length vs) cs c (subst (λ ds. Rise old.given ds (length vs)) s m.marked) in
+      let choice : choice_trace sig ps d vs ≡ ticked (share_trace sig ps.single.items c.pattern ws K) ss =
+      ap (λ q. ticked (share_trace sig ps.single.items q (take d.below vs) (λ us. hand_trace sig ps.single.items d.goals.items us finish)) (shares_left d.shares)) ep
+      ∙ ap (λ (hs : List Goal). ticked (share_trace sig ps.single.items c.pattern (take d.below vs) (λ us. hand_trace sig ps.single.items hs us finish)) (shares_left d.shares)) eg
+      ∙ ap (λ (hs : List Share). ticked (share_trace sig ps.single.items c.pattern (take d.below vs) K) hs) ed
+      ∙ ap (λ n. ticked (share_trace sig ps.single.items c.pattern (take n vs) K) ss) eb in
+      let after : machine_trace sig ps new ≡ ticked (share_trace sig ps.single.items c.pattern ws K) ss ++ stack_trace sig ps cs vs =
+      ap (λ b. cond b (hand_trace sig ps.single.items new.goals.items new.values.items finish) [] ++ stack_trace sig ps new.stack.items new.values.items) (er ∙ ot)
+      ∙ ap (λ us. stack_trace sig ps new.stack.items us) ev ∙ ap (λ ds. stack_trace sig ps ds vs) s2
+      ∙ stack_push cs d vs ∙ ap (λ l. l ++ stack_trace sig ps cs vs) choice in
+      let lost : somes (share_trace sig ps.single.items c.pattern ws K (t, g)) ≡ [] =
+      finds_goal sig ps.single.items (Meet c.pattern t) ws (λ us. goal_trace sig ps.single.items g us K) ∙ ap (flat_map (λ us. somes (goal_trace sig ps.single.items g us K))) nn in
+      record {
+        dropped = share_trace sig ps.single.items c.pattern ws K (t, g);
+        lack = subst (Each (IsLeftOut sig ps old)) (sym lost) tt;
+        step = ap (λ b. cond b (hand_trace sig ps.single.items old.goals.items vs finish) [] ++ stack_trace sig ps old.stack.items vs) ot
+            ∙ ap (λ ds. stack_trace sig ps ds vs) s ∙ stack_push cs c vs
+            ∙ ap (λ (hs : List Share). ticked (share_trace sig ps.single.items c.pattern ws K) hs ++ stack_trace sig ps cs vs) en
+            ∙ ap (λ l. None ∷ l) (append_assoc (share_trace sig ps.single.items c.pattern ws K (t, g)) (ticked (share_trace sig ps.single.items c.pattern ws K) ss) (stack_trace sig ps cs vs)
+            ∙ ap (λ l. share_trace sig ps.single.items c.pattern ws K (t, g) ++ l) (sym after));
+        given = gv;
+        ready = ready_by new old.given vs (cs ++ d ∷ []) gv ev s2 (rise_push old.given c.below (length vs) cs d r.0 (omega (arith, eb)) (let b = r.1 in omega (arith, b, eb))) m.sorted;
+      }

@@ -31,6 +31,7 @@
 #![tactic(auto)]
 
 mod bags;
+mod clashes;
 mod goals;
 mod machine;
 mod multisets;

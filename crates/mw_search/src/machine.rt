@@ -1,5 +1,5 @@
 // The enumeration: goals in hand, the values so far, and a stack of choices.
-ghost use Rattle.std.specs.Prelude.{◌≡◌, ◌<◌, [], ◌∷◌, length, true, false, IfOk, OnOk, OnErr, MatchBool, MatchOption};
+ghost use Rattle.std.specs.Prelude.{◌≡◌, ◌<◌, [], ◌∷◌, length, true, false, IfOk, OnOk, OnErr, IsTrue, IsFalse, MatchBool, MatchOption};
 ghost use Rattle.mw_search.specs.Lacking.{HasItsSort, LacksItsSort};
 
 use crate::goals::{Goal, Outcome, all_copied};
@@ -7,6 +7,7 @@ use crate::outcomes::outcome;
 use crate::positions::Positions;
 use crate::shares::Shares;
 use crate::terms::all_terms;
+use mw_canon::Facts;
 use mw_least::Ctx;
 use mw_term::{Term, copy};
 use std::alloc::{AllocError, Global};
@@ -168,6 +169,25 @@ impl Machine {
         Ok(())
     }
 
+    /// Passes over the next share of the choice on top, whose term the pattern clashes with.
+    fn pass_over(&mut self, facts: &Facts) -> bool
+        requires resting { self.old.running ≡ false }
+        requires some { 0 < length self.old.stack.items }
+        ensures passed { IsTrue result → (ps : Positions) → IsReady facts.now ps self.old →
+            Stepped facts.now ps self.old self.new }
+        ensures stays { IsFalse result → self.new ≡ self.old }
+    {
+        let last = self.stack.len() - 1;
+        let top = &self.stack[last];
+        let below = top.below.min(self.values.len());
+        let values = &self.values.as_slice()[..below];
+        if !top.shares.clash(facts, &top.pattern, values) {
+            return false;
+        }
+        self.stack[last].shares.pass();
+        true
+    }
+
     /// Goes on with the next share of the choice on top.
     fn turn(&mut self, alloc: Global) -> Result<(), AllocError>
         requires resting { self.old.running ≡ false }
@@ -229,7 +249,9 @@ impl Machine {
                 if self.stack.is_empty() {
                     return Ok(None);
                 }
-                self.turn(alloc)?;
+                if !self.pass_over(context.facts()) {
+                    self.turn(alloc)?;
+                }
             }
         }
     }

@@ -1,11 +1,14 @@
 // What a choice goes through: the terms that the next pattern may meet, each with the goal that it leaves.
-ghost use Rattle.std.specs.Prelude.{◌≡◌, IfOk, option_map};
+ghost use Rattle.std.specs.Prelude.{◌≡◌, IfOk, IsTrue, option_map};
 ghost use Rattle.mw_matching.specs.Multisets.{behind_first};
 ghost use Rattle.mw_search.specs.Goals.{IsNext};
+ghost use Rattle.mw_search.specs.Clashes.{IsPassed};
 
 use crate::bags::{Parts, first_new};
+use crate::clashes::clashes;
 use crate::goals::Goal;
 use crate::terms::{arguments, first_of, part, rebuilt_of, top};
+use mw_canon::Facts;
 use mw_term::{Identity, Term, copy};
 use std::alloc::{AllocError, Global};
 
@@ -90,6 +93,17 @@ impl Singles {
         Ok(Some((term, Goal::Left(pattern, self.then, bag, at))))
     }
 
+    /// Whether the pattern clashes with the element.
+    fn clash(&self, facts: &Facts, pattern: &Term, values: &[Term]) -> bool
+        ensures { IsTrue result → IsPassed facts.now values.now pattern.now (heads_left self.now) }
+    {
+        let elements = arguments(&self.bag);
+        match first_new(elements, self.next) {
+            Some(at) => clashes(facts, pattern, &elements[at], values),
+            None => false,
+        }
+    }
+
     fn pass(&mut self)
         ensures { heads_left self.new ≡ behind_first (heads_left self.old) }
     {
@@ -165,6 +179,16 @@ impl Shares {
             Shares::OfHeads(singles) => singles.share(),
             Shares::OfParts(pieces) => pieces.share(alloc),
             Shares::OfOrders(orders) => orders.share(alloc),
+        }
+    }
+
+    /// Whether the pattern clashes with the next share's term, which is looked at where it is an element of a multiset.
+    pub fn clash(&self, facts: &Facts, pattern: &Term, values: &[Term]) -> bool
+        ensures { IsTrue result → IsPassed facts.now values.now pattern.now (shares_left self.now) }
+    {
+        match self {
+            Shares::OfHeads(singles) => singles.clash(facts, pattern, values),
+            _ => false,
         }
     }
 
