@@ -29,5 +29,8 @@ among_element sig f (g ∷ gs) t a b = let (first, others) = and_parts _ _ b in 
     by_test first true q a r = subst (λ g. is_element (identity_of sig g) g t ≡ true) (sym (eqb-true f g q)) first
     by_test first false q a r = r a
 
+pub fitting_element : (sig : Signature) (single : List (List ℕ)) (f i : ℕ) (u : RawTerm) → is_single single f i ≡ true → fits sig single i u ≡ true → IsElement (identity_of sig f) f u
+fitting_element sig single f i u s h = element (identity_of sig f) f u (among_element sig f (operators_at single i) u s h)
+
 pub fits_single : (sig : Signature) (single : List (List ℕ)) → AreSingle sig (fits sig single) (is_single single)
-fits_single sig single f i u s k h = element (identity_of sig f) f u (among_element sig f (operators_at single i) u s h)
+fits_single sig single f i u s k h = fitting_element sig single f i u s h

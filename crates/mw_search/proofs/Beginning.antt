@@ -28,7 +28,7 @@ pub record GoesOn (vs us : Values) : Type 0 where
   pub more : Values
   pub is : us ≡ vs ++ more
 
-here : (vs : Values) → GoesOn vs vs
+pub here : (vs : Values) → GoesOn vs vs
 here vs = record { more = []; is = sym (append-nil vs) }
 
 pub further : (vs us ws : Values) → GoesOn vs us → GoesOn us ws → GoesOn vs ws

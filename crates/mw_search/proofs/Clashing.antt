@@ -1,15 +1,24 @@
--- Patterns that have no match, whatever values come behind those that stand.
-use Rattle.std.specs.Prelude.{◌<◌, Some, None, slice_get, cond, refl}
+-- Patterns that have no match, whatever values come behind those that stand, and shares of which no match comes.
+use Rattle.std.specs.Prelude.{◌<◌, Bool, true, Option, Some, None, slice_get, cond, refl}
 use Rattle.std.proofs.Common.{◌≡◌, ◌∙◌, ℕ, zero, suc, List, [], ◌∷◌, ◌++◌, length, get_or, ap, sym, subst, arith, false}
 use Rattle.std.specs.List.{flat_map}
-use Rattle.mw_logic.specs.Term.{RawTerm}
-use Rattle.mw_logic.specs.Terms.{terms_of}
+use Rattle.std.proofs.lemmas.List.{append-nil}
+use Rattle.mw_logic.specs.Term.{RawTerm, variable, RawTerms, nil, cons}
+use Rattle.mw_logic.specs.Terms.{args_of, terms_of, skip}
 use Rattle.mw_logic.specs.Signature.{Signature}
+use Rattle.mw_logic.specs.NormalForm.{identity_of, elements}
 use Rattle.mw_arguments.specs.Bags.{same}
-use Rattle.mw_matching.specs.Found.{Values, placed, found, found_all}
+use Rattle.mw_matching.specs.Patterns.{is_rigid}
+use Rattle.mw_matching.specs.Multisets.{is_within, left_behind, term_at, without}
+use Rattle.mw_matching.specs.Found.{Values, value_of, fits, is_single, placed, found, found_all, found_row, found_bag}
+use Rattle.mw_matching.proofs.FoundSingle.{fitting_element}
 use Rattle.mw_search.specs.Lacking.{Each}
-use Rattle.mw_search.specs.Clashes.{Clash, AllClash}
-use Rattle.mw_search.proofs.Beginning.{GoesOn, further, found_on}
+use Rattle.mw_search.specs.Bags.{IsAlone}
+use Rattle.mw_search.specs.Goals.{Share, top_of, goal_found}
+use Rattle.mw_search.specs.Clashes.{Clash, AllClash, IsTwice, IsBarren}
+use Rattle.mw_search.specs.declared.goals.Goal.TheVariants.{Row, Left}
+use Rattle.mw_search.proofs.Ends.{got_end, got_past}
+use Rattle.mw_search.proofs.Beginning.{GoesOn, here, further, found_on}
 
 none_after : (vs ws : Values) (L : List Values) (F : Values → List Values) → GoesOn vs ws → Each (GoesOn ws) L → ((us : Values) → GoesOn vs us → F us ≡ []) → flat_map F L ≡ []
 none_after vs ws [] F a e h = refl
@@ -29,3 +38,39 @@ none_at sig single vs (q ∷ ps) (u ∷ ts) (suc i) p t hp ht gp gt n ws a =
 pub all_clash : (sig : Signature) (vs : Values) (ps ts : List RawTerm) (i : ℕ) (p t : RawTerm) → i < length ps → i < length ts → p ≡ get_or ps i p → t ≡ get_or ts i t → Clash sig vs p t → AllClash sig vs (terms_of ps) (terms_of ts)
 all_clash sig vs ps ts i p t hp ht gp gt c = λ single more.
     none_at sig single vs ps ts i p t hp ht gp gt (λ us a. subst (λ ws. found sig single p t ws ≡ []) (sym a.is) (c single a.more)) (vs ++ more) (record { more = more; is = refl })
+
+module _ (sig : Signature) (single : List (List ℕ)) where
+  -- a pattern that clashes with the share's term has no match
+  pub clash_barren : (vs : Values) (q : RawTerm) (s : Share) → Clash sig vs q s.0 → IsBarren sig single vs q s
+  clash_barren vs q s c = ap (flat_map (λ us. goal_found sig single s.1 us)) (ap (found sig single q s.0) (sym (append-nil vs)) ∙ c single [])
+
+  -- and so it is where the argument behind has to be one element, and clashes with the first one that is left
+  pub behind_barren : (vs : Values) (q t p r b z : RawTerm) (i j : ℕ) (bs zs : RawTerms) → skip i (args_of p) ≡ cons b bs → skip j (args_of r) ≡ cons z zs
+      → is_rigid sig (is_single single) (top_of p) b ≡ true → Clash sig vs b z → IsBarren sig single vs q (t, Row p i r j)
+  behind_barren vs q t p r b z i j bs zs eb ez er c =
+      none_after vs vs (found sig single q t vs) (λ us. found_row sig single (top_of p) (skip i (args_of p)) (skip j (args_of r)) us) (here vs) (found_on sig single q t vs)
+      (λ us a. ap (λ xs. found_row sig single (top_of p) xs (skip j (args_of r)) us) eb ∙ ap (λ ys. found_row sig single (top_of p) (cons b bs) ys us) ez
+      ∙ rw er (ap (flat_map (λ ws. found_row sig single (top_of p) bs zs ws)) (ap (found sig single b z) a.is ∙ c single a.more)))
+
+  -- a variable that has a value that isn't within
+  given_bag : (f : ℕ) (q t : RawTerm) (qs zs : RawTerms) (us : Values) → value_of q us ≡ Some t → is_within (elements (identity_of sig f) f t) zs ≡ false → found_bag sig single f (cons q qs) zs us ≡ []
+  given_bag f q t qs zs us e h = rw e (rw h refl)
+
+  -- a variable that has to be one element, and comes again, wants an element twice
+  pub twice_barren : (vs : Values) (p q b : RawTerm) (i k : ℕ) → IsTwice single p i (length vs) q → IsAlone (args_of b) k → IsBarren sig single vs q (term_at k (args_of b), Left p i b k)
+  twice_barren vs p q b i k w alone =
+      ap (λ (x : RawTerm). flat_map (λ us. found_bag sig single (top_of p) (skip i (args_of p)) (without k (args_of b)) us) (found sig single x (term_at k (args_of b)) vs)) w.is
+      ∙ ap (λ n. flat_map (λ us. found_bag sig single (top_of p) (skip i (args_of p)) (without k (args_of b)) us) (placed sig single n (term_at k (args_of b)) vs (slice_get vs n))) w.comes
+      ∙ ap (λ o. flat_map (λ us. found_bag sig single (top_of p) (skip i (args_of p)) (without k (args_of b)) us) (placed sig single (length vs) (term_at k (args_of b)) vs o)) (got_past vs)
+      ∙ by_test (fits sig single (length vs) (term_at k (args_of b))) refl
+    where
+      by_test : (x : Bool) → fits sig single (length vs) (term_at k (args_of b)) ≡ x → flat_map (λ us. found_bag sig single (top_of p) (skip i (args_of p)) (without k (args_of b)) us) (cond x ((vs ++ term_at k (args_of b) ∷ []) ∷ []) []) ≡ []
+      by_test true e =
+          let t = term_at k (args_of b) in
+          let f = top_of p in
+          let us : Values = vs ++ t ∷ [] in
+          let zs = without k (args_of b) in
+          let value : slice_get us w.second.sort ≡ Some t = ap (slice_get us) w.again ∙ got_end vs t in
+          let gone : is_within (elements (identity_of sig f) f t) zs ≡ false = ap (λ ts. is_within ts zs) (fitting_element sig single f (length vs) t w.single e) ∙ alone in
+          append-nil _ ∙ ap (λ xs. found_bag sig single f xs zs us) w.behind ∙ given_bag f (variable w.second) t w.others zs us value gone
+      by_test false e = refl

@@ -1,6 +1,6 @@
 -- Lists at their ends: the last of a list, and what stands in front of it.
 use Rattle.std.proofs.Common.{◌≡◌, ◌∙◌, ℕ, zero, suc, ◌+◌, ◌-◌, ◌<◌, ◌≤◌, List, [], ◌∷◌, ◌++◌, length, take, set, ap, refl, arith, inl, inr}
-use Rattle.std.specs.Prelude.{◌⊎◌, Some, slice_get}
+use Rattle.std.specs.Prelude.{◌⊎◌, Some, None, slice_get}
 
 pub set_at : {X : Type 0} (xs : List X) (n : ℕ) (x : X) → n + 1 ≡ length xs → set xs n x ≡ take n xs ++ x ∷ []
 set_at [] n x h = absurd (omega (arith, h))
@@ -56,6 +56,14 @@ got_pushed (z ∷ xs) y (suc i) x e = under (got_pushed xs y i x e)
     under : (slice_get xs i ≡ Some x) ⊎ ((i ≡ length xs) × (y ≡ x)) → (slice_get xs i ≡ Some x) ⊎ ((suc i ≡ suc (length xs)) × (y ≡ x))
     under (inl h) = inl h
     under (inr (h, k)) = inr (ap suc h, k)
+
+pub got_end : {X : Type 0} (xs : List X) (y : X) → slice_get (xs ++ y ∷ []) (length xs) ≡ Some y
+got_end [] y = refl
+got_end (x ∷ xs) y = got_end xs y
+
+pub got_past : {X : Type 0} (xs : List X) → slice_get xs (length xs) ≡ None
+got_past [] = refl
+got_past (x ∷ xs) = got_past xs
 
 pub got_last : {X : Type 0} (xs : List X) (y : X) (ys : List X) → slice_get ((xs ++ y ∷ []) ++ ys) (length xs) ≡ Some y
 got_last [] y ys = refl

@@ -9,6 +9,7 @@ pub mod Sharing
 -- The matches of a trace.
 pub mod Finding
 pub mod Beginning
+pub mod Alone
 pub mod Clashing
 -- What steps do to what is still to come.
 pub mod Steps

@@ -243,6 +243,12 @@ orders_pass f (x ∷ xs) (suc n) = ap (λ m. map f (drop m (x ∷ xs))) (next n)
     next : (n : ℕ) → suc n + 1 ≡ suc (n + 1)
     next n = omega arith
 
+pub fronts_begin : {Y : Type 0} (f : ℕ → Y) (next end : ℕ) → next < end → map f (numbers_from next (end - next)) ≡ f next ∷ map f (numbers_from (next + 1) (end - (next + 1)))
+fronts_begin f next end h =
+    let e : end - next ≡ suc (end - (next + 1)) = omega (arith, h) in
+    let s : suc next ≡ next + 1 = omega arith in
+    ap (λ m. map f (numbers_from next m)) e ∙ ap (λ n. f next ∷ map f (numbers_from n (end - (next + 1)))) s
+
 pub fronts_pass : {Y : Type 0} (f : ℕ → Y) (next end : ℕ) → next < end → map f (numbers_from (next + 1) (end - (next + 1))) ≡ behind_first (map f (numbers_from next (end - next)))
 fronts_pass f next end h =
     let e : end - next ≡ suc (end - (next + 1)) = omega (arith, h) in

@@ -9,7 +9,8 @@ use Rattle.mw_logic.specs.Signature.{Signature}
 use Rattle.std.specs.List.{flat_map}
 use Rattle.mw_matching.specs.Found.{Values, found}
 use Rattle.mw_search.specs.Traces.{Trace, finish, ticked, somes}
-use Rattle.mw_search.specs.Goals.{Share, goal_trace, share_trace, shares_left, hand_trace, outcome_trace, IsOutcome}
+use Rattle.mw_search.specs.Clashes.{IsBarren}
+use Rattle.mw_search.specs.Goals.{Share, goal_trace, goal_found, share_trace, shares_left, hand_trace, outcome_trace, IsOutcome}
 use Rattle.mw_search.specs.Lacking.{HasItsSort, LacksItsSort, HaveTheirSorts, Each}
 use Rattle.mw_search.specs.Machines.{Rise, choice_trace, stack_trace, machine_trace, IsReady, IsLeftOut, Stepped, Applied}
 use Rattle.mw_search.specs.declared.positions.Positions.{Positions}
@@ -20,6 +21,7 @@ use Rattle.mw_search.specs.declared.goals.Outcome.{Outcome}
 use Rattle.mw_search.specs.declared.goals.Outcome.TheVariants.{Binds, Becomes, First, Opens}
 use Rattle.mw_search.specs.declared.machine.Choice.{Choice}
 use Rattle.mw_search.specs.declared.machine.Machine.{Machine}
+use Rattle.mw_arguments.proofs.Once.{flat_map-flat_map, flat_map-same}
 use Rattle.mw_search.proofs.Finding.{finds_goal}
 use Rattle.mw_search.proofs.Beginning.{hand_all}
 use Rattle.mw_search.proofs.BagLists.{is_last_of}
@@ -236,7 +238,7 @@ module _ (sig : Signature) (ps : Positions) where
 
   -- the choice on top passes over a share of which no match comes
   pub passed : (old new : Machine) (c d : Choice) (t : RawTerm) (g : Goal) (ss : List Share) → IsReady sig ps old → new.given ≡ old.given → old.running ≡ false → 0 < length old.stack.items
-      → c ≡ get_or old.stack.items (length old.stack.items - 1) c → shares_left c.shares ≡ (t, g) ∷ ss → found sig ps.single.items c.pattern t (take c.below old.values.items) ≡ []
+      → c ≡ get_or old.stack.items (length old.stack.items - 1) c → shares_left c.shares ≡ (t, g) ∷ ss → IsBarren sig ps.single.items (take c.below old.values.items) c.pattern (t, g)
       → d.pattern ≡ c.pattern → d.goals.items ≡ c.goals.items → d.below ≡ c.below → shares_left d.shares ≡ ss
       → new.running ≡ old.running → new.values.items ≡ old.values.items → new.stack.items ≡ set old.stack.items (length old.stack.items - 1) d → Stepped sig ps old new
   passed old new c d t g ss m gv ot h ec en nn ep eg eb ed er ev es =
@@ -257,7 +259,10 @@ module _ (sig : Signature) (ps : Positions) where
       ∙ ap (λ us. stack_trace sig ps new.stack.items us) ev ∙ ap (λ ds. stack_trace sig ps ds vs) s2
       ∙ stack_push cs d vs ∙ ap (λ l. l ++ stack_trace sig ps cs vs) choice in
       let lost : somes (share_trace sig ps.single.items c.pattern ws K (t, g)) ≡ [] =
-      finds_goal sig ps.single.items (Meet c.pattern t) ws (λ us. goal_trace sig ps.single.items g us K) ∙ ap (flat_map (λ us. somes (goal_trace sig ps.single.items g us K))) nn in
+      finds_goal sig ps.single.items (Meet c.pattern t) ws (λ us. goal_trace sig ps.single.items g us K)
+      ∙ flat_map-same _ _ (found sig ps.single.items c.pattern t ws) (λ us. finds_goal sig ps.single.items g us K)
+      ∙ sym (flat_map-flat_map (λ us. somes (K us)) (λ us. goal_found sig ps.single.items g us) (found sig ps.single.items c.pattern t ws))
+      ∙ ap (flat_map (λ us. somes (K us))) nn in
       record {
         dropped = share_trace sig ps.single.items c.pattern ws K (t, g);
         lack = subst (Each (IsLeftOut sig ps old)) (sym lost) tt;

@@ -1,10 +1,11 @@
 -- What is still to come of a multiset: its parts, by numbers of each different element.
-use Rattle.std.specs.Prelude.{◌≡◌, ℕ, List, [], ◌∷◌, refl, Option, Some, None}
+use Rattle.std.specs.Prelude.{◌≡◌, ℕ, List, [], ◌∷◌, refl, Option, Some, None, false}
 use Rattle.std.specs.Coded.{Coded, coded_ℕ, coded_list, coded×, code_by}
-use Rattle.mw_logic.specs.Term.{RawTerm, RawTerms}
+use Rattle.mw_logic.specs.Term.{RawTerm, RawTerms, nil, cons}
 use Rattle.mw_logic.specs.TermCode.{coded_terms}
 use Rattle.mw_split.specs.Splits.{Splits}
 use Rattle.mw_arguments.specs.Bags.{spread, runs, heads, numbers}
+use Rattle.mw_matching.specs.Multisets.{is_within, term_at, without}
 
 -- elements, and cuts of them
 pub record Cuts : Type 0 where
@@ -26,3 +27,7 @@ cuts_left s = with_current s.current s.remaining
 pub record AreRuns (ds : List RawTerm) (ns : List ℕ) : Type 0 where
   pub terms : ds ≡ heads (runs (spread ds ns))
   pub numbers_are : ns ≡ numbers (runs (spread ds ns))
+
+-- the element at an index stands among the others nowhere
+abbrev pub IsAlone : RawTerms → ℕ → Type 0
+IsAlone zs n = is_within (cons (term_at n zs) nil) (without n zs) ≡ false

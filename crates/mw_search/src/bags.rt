@@ -79,7 +79,8 @@ pub fn first_new(elements: &[Term], from: usize) -> Option<usize>
     ensures { let zs = terms_of elements.now in
         let left = news zs from (number_of_terms zs - from) in
         MatchOption result (left ≡ [])
-        (λ i. (i < length elements.now) × (left ≡ i ∷ news zs (i + 1) (number_of_terms zs - (i + 1)))) }
+        (λ i. (i < length elements.now) × (left ≡ i ∷ news zs (i + 1) (number_of_terms zs - (i + 1)))
+        × (is_new_is zs i ≡ true)) }
 {
     for i in from..elements.len() {
         if is_new(elements, i) {

@@ -11,6 +11,8 @@
 //! - `next` takes matches off the front. It passes over some in each of which a new value lacks its sort, and answers
 //!   the next one, in which each new value has its sort; or it passes over all that are left and answers None, and so
 //!   for ever. For want of memory it may have passed over some, and the others are still to come (`SkipsTo`).
+//! - `clashes` answers yes only where a pattern has no match with a term, whatever values come behind those that stand
+//!   (`Clash`). It walks the pattern at most.
 //!
 //! A value is asked for its sort by mw_least's `has_sort` when it is bound, so one that lacks it ends all matches that
 //! begin so. That answer is told of canonical, raw and ground terms (`IsKnown`), and so is what this says of sorts.
@@ -22,17 +24,26 @@
 //! next argument takes of a list, which element or which part of a multiset, which order of two arguments. No choice is
 //! opened for an argument that is one element of a list, for the last one, which takes all, and for a variable that has
 //! its value. A state stands for its trace (specs/Traces): what is to come, with a mark for each step. A step takes the
-//! first mark off, so steps end, and the matches stay the same.
+//! first mark off, and may take a share's matches off where there are none, so steps end, and the matches stay the same.
+//!
+//! A share is passed over where it is seen at once that no match comes of it (`IsBarren`, specs/Clashes): where the
+//! pattern clashes with an element of a multiset, or the argument behind a piece of a list, which has to be one element,
+//! with the first element that is left. [`clashes`] tells that: they differ in an operator without axioms, a number, an
+//! identifier, or from the value of a variable. And where a variable that has to be one element stands twice, and the
+//! element once, which its neighbours tell where the elements stand in order (`Gathered`).
 //!
 //! Cost: terms are copied by one count. A share of a list copies the elements of its piece, a part of a multiset all
 //! elements. One element of a multiset is met before the others are copied, so one that the pattern fails on costs no
-//! such copy. Each share copies the goals that wait behind its choice. Nothing recurs but comparing terms and walking
-//! them for sorts. Neither proved nor tested: time and memory, and that calls answer with memory at hand.
+//! such copy, and one that is passed over a few comparisons. Whether elements stand in order is looked at once, for a
+//! variable that stands twice. Each share copies the goals that wait behind its choice. Nothing recurs but comparing
+//! terms, walking them for sorts and looking for clashes. Neither proved nor tested: time and memory, and that calls
+//! answer with memory at hand.
 #![tactic(auto)]
 
 mod bags;
-mod clashes;
+mod gathered;
 mod goals;
+mod lookahead;
 mod machine;
 mod multisets;
 mod outcomes;
@@ -42,5 +53,6 @@ mod search;
 mod shares;
 mod terms;
 
+pub use lookahead::clashes;
 pub use positions::Positions;
 pub use search::Search;

@@ -169,19 +169,19 @@ impl Machine {
         Ok(())
     }
 
-    /// Passes over the next share of the choice on top, whose term the pattern clashes with.
-    fn pass_over(&mut self, facts: &Facts) -> bool
+    /// Passes over the next share of the choice on top, where it is seen at once that no match comes of it.
+    fn pass_over(&mut self, facts: &Facts, positions: &Positions) -> bool
         requires resting { self.old.running ≡ false }
         requires some { 0 < length self.old.stack.items }
-        ensures passed { IsTrue result → (ps : Positions) → IsReady facts.now ps self.old →
-            Stepped facts.now ps self.old self.new }
+        ensures passed { IsTrue result → IsReady facts.now positions.now self.old →
+            Stepped facts.now positions.now self.old self.new }
         ensures stays { IsFalse result → self.new ≡ self.old }
     {
         let last = self.stack.len() - 1;
         let top = &self.stack[last];
         let below = top.below.min(self.values.len());
         let values = &self.values.as_slice()[..below];
-        if !top.shares.clash(facts, &top.pattern, values) {
+        if !top.shares.is_barren(facts, positions, &top.pattern, values) {
             return false;
         }
         self.stack[last].shares.pass();
@@ -249,7 +249,7 @@ impl Machine {
                 if self.stack.is_empty() {
                     return Ok(None);
                 }
-                if !self.pass_over(context.facts()) {
+                if !self.pass_over(context.facts(), positions) {
                     self.turn(alloc)?;
                 }
             }

@@ -9,10 +9,11 @@ ghost use Rattle.mw_search.specs.Traces.{taken_trace, heads_trace, parts_trace};
 ghost use Rattle.mw_search.specs.declared.goals.Goal.TheVariants.{Bag, Left};
 
 use crate::bags::{Parts, taken_away, times, without};
+use crate::gathered::Gathered;
 use crate::goals::{Goal, Outcome};
 use crate::positions::{Positions, identity};
 use crate::rows::whole;
-use crate::shares::{Pieces, Shares, Singles};
+use crate::shares::{Pieces, Shares, Singles, is_variable_at};
 use crate::terms::{arguments, rest_of, row_of, top};
 use mw_canon::Facts;
 use mw_term::{Term, View, copy};
@@ -124,9 +125,13 @@ fn heads_met(pattern: &Term, first: &Term, then: usize, bag: &Term) -> Result<Ou
     ensures { let qs = skip then (args_of pattern.now) in
         IfOk result (Gives (λ sig single. heads_trace sig single (top_of pattern.now) first.now qs (args_of bag.now))) }
 {
+    let again = match first.view() {
+        View::Var(x) => is_variable_at(pattern, then, x.sort),
+        _ => false,
+    };
     let first = copy(first)?;
     let pattern = copy(pattern)?;
-    let bag = copy(bag)?;
+    let bag = Gathered::of(copy(bag)?, again);
     let singles = Singles {
         pattern,
         then,

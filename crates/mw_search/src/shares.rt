@@ -1,15 +1,19 @@
 // What a choice goes through: the terms that the next pattern may meet, each with the goal that it leaves.
 ghost use Rattle.std.specs.Prelude.{◌≡◌, IfOk, IsTrue, option_map};
+ghost use Rattle.mw_logic.specs.Term.{Variable, variable as a_variable, RawTerms, cons};
+ghost use Rattle.mw_logic.specs.Terms.{args_of, skip};
 ghost use Rattle.mw_matching.specs.Multisets.{behind_first};
 ghost use Rattle.mw_search.specs.Goals.{IsNext};
-ghost use Rattle.mw_search.specs.Clashes.{IsPassed};
+ghost use Rattle.mw_search.specs.Clashes.{IsPassed, IsTwice};
 
 use crate::bags::{Parts, first_new};
-use crate::clashes::clashes;
+use crate::gathered::Gathered;
 use crate::goals::Goal;
+use crate::lookahead::clashes;
+use crate::positions::Positions;
 use crate::terms::{arguments, first_of, part, rebuilt_of, top};
 use mw_canon::Facts;
-use mw_term::{Identity, Term, copy};
+use mw_term::{Identity, Term, View, copy};
 use std::alloc::{AllocError, Global};
 
 /// The first elements of those from `from` on: `next` of them, and then one more each time, fewer than `end`.
@@ -30,8 +34,7 @@ pub struct Fronts {
 pub struct Singles {
     pub pattern: Term,
     pub then: usize,
-    /// An operator on the elements.
-    pub bag: Term,
+    pub bag: Gathered,
     pub next: usize,
 }
 
@@ -61,7 +64,8 @@ pub enum Shares {
 }
 
 impl Fronts {
-    ghost use Rattle.mw_search.specs.Goals.{front_share};
+    ghost use Rattle.mw_logic.specs.Term.{RawTerm};
+    ghost use Rattle.mw_search.specs.Goals.{front_share, fronts_left};
 
     /// The share of `next` elements.
     fn share(&self, alloc: Global) -> Result<(Term, Goal), AllocError>
@@ -74,6 +78,29 @@ impl Fronts {
         let goal = Goal::Row(copy(&self.pattern)?, self.then, copy(&self.row)?, from);
         Ok((term, goal))
     }
+
+    /// Whether no match comes of the share: the argument behind has to be one element, and clashes with the first one
+    /// that is left.
+    fn is_barren(&self, facts: &Facts, positions: &Positions, values: &[Term]) -> bool
+        ensures { let single = positions.now.single.items in
+            (q : RawTerm) → IsTrue result → IsPassed facts.now single values.now q (fronts_left self.now) }
+    {
+        if self.next >= self.end {
+            return false;
+        }
+        let Some(behind) = arguments(&self.pattern).get(self.then) else {
+            return false;
+        };
+        let elements = arguments(&self.row);
+        let left = self.from.saturating_add(self.next).min(elements.len());
+        let Some(first) = elements.get(left) else {
+            return false;
+        };
+        if !positions.is_rigid(facts, top(&self.pattern), behind) {
+            return false;
+        }
+        clashes(facts, behind, first, values)
+    }
 }
 
 impl Singles {
@@ -83,31 +110,62 @@ impl Singles {
     fn share(&self) -> Result<Option<(Term, Goal)>, AllocError>
         ensures { IfOk result (λ o. IsNext (option_map (λ s. (s.0, s.1)) o) (heads_left self.now)) }
     {
-        let elements = arguments(&self.bag);
+        let elements = self.bag.elements();
         let Some(at) = first_new(elements, self.next) else {
             return Ok(None);
         };
         let term = copy(&elements[at])?;
         let pattern = copy(&self.pattern)?;
-        let bag = copy(&self.bag)?;
+        let bag = self.bag.copied()?;
         Ok(Some((term, Goal::Left(pattern, self.then, bag, at))))
     }
 
-    /// Whether the pattern clashes with the element.
-    fn clash(&self, facts: &Facts, pattern: &Term, values: &[Term]) -> bool
-        ensures { IsTrue result → IsPassed facts.now values.now pattern.now (heads_left self.now) }
+    /// Whether the pattern is a variable without a value yet that has to be one element, and the next one again. So many
+    /// positions have values.
+    fn is_twice(&self, facts: &Facts, positions: &Positions, pattern: &Term, count: usize) -> bool
+        ensures { let p = self.now.pattern in
+            IsTrue result → IsTwice positions.now.single.items p self.now.then count pattern.now }
     {
-        let elements = arguments(&self.bag);
-        match first_new(elements, self.next) {
-            Some(at) => clashes(facts, pattern, &elements[at], values),
-            None => false,
+        let View::Var(x) = pattern.view() else {
+            return false;
+        };
+        if x.sort as usize != count {
+            return false;
         }
+        if !is_variable_at(&self.pattern, self.then, x.sort) {
+            return false;
+        }
+        positions.is_rigid(facts, top(&self.pattern), pattern)
+    }
+
+    /// Whether no match comes of the element: the pattern clashes with it, or wants it twice where it stands once.
+    fn is_barren(
+        &self,
+        facts: &Facts,
+        positions: &Positions,
+        pattern: &Term,
+        values: &[Term],
+    ) -> bool
+        ensures { let single = positions.now.single.items in
+            IsTrue result → IsPassed facts.now single values.now pattern.now (heads_left self.now) }
+    {
+        let elements = self.bag.elements();
+        let Some(at) = first_new(elements, self.next) else {
+            return false;
+        };
+        if clashes(facts, pattern, &elements[at], values) {
+            return true;
+        }
+        if !self.bag.is_alone(at) {
+            return false;
+        }
+        self.is_twice(facts, positions, pattern, values.len())
     }
 
     fn pass(&mut self)
         ensures { heads_left self.new ≡ behind_first (heads_left self.old) }
     {
-        if let Some(at) = first_new(arguments(&self.bag), self.next) {
+        if let Some(at) = first_new(self.bag.elements(), self.next) {
             self.next = at + 1;
         }
     }
@@ -182,12 +240,20 @@ impl Shares {
         }
     }
 
-    /// Whether the pattern clashes with the next share's term, which is looked at where it is an element of a multiset.
-    pub fn clash(&self, facts: &Facts, pattern: &Term, values: &[Term]) -> bool
-        ensures { IsTrue result → IsPassed facts.now values.now pattern.now (shares_left self.now) }
+    /// Whether no match comes of the next share, as far as that is seen at once.
+    pub fn is_barren(
+        &self,
+        facts: &Facts,
+        positions: &Positions,
+        pattern: &Term,
+        values: &[Term],
+    ) -> bool
+        ensures { let single = positions.now.single.items in
+            IsTrue result → IsPassed facts.now single values.now pattern.now (shares_left self.now) }
     {
         match self {
-            Shares::OfHeads(singles) => singles.clash(facts, pattern, values),
+            Shares::OfRow(fronts) => fronts.is_barren(facts, positions, values),
+            Shares::OfHeads(singles) => singles.is_barren(facts, positions, pattern, values),
             _ => false,
         }
     }
@@ -206,5 +272,19 @@ impl Shares {
             Shares::OfParts(pieces) => pieces.pass(),
             Shares::OfOrders(orders) => orders.pass(),
         }
+    }
+}
+
+/// Whether the variable of a position stands there among a pattern's arguments.
+pub fn is_variable_at(pattern: &Term, at: usize, position: u32) -> bool
+    ensures { let qs = skip at (args_of pattern.now) in
+        IsTrue result → (x : Variable) × (ps : RawTerms) × (qs ≡ cons (a_variable x) ps) × (x.sort ≡ position) }
+{
+    let Some(argument) = arguments(pattern).get(at) else {
+        return false;
+    };
+    match argument.view() {
+        View::Var(x) => x.sort == position,
+        _ => false,
     }
 }

@@ -9,7 +9,7 @@ pub returns-then-is_new : goal.returns-then-is_new
 returns-then-is_new c =
     let zs : RawTerms = terms_of c.args.elements.now in
     let n : number_of_terms zs ≡ length c.args.elements.now = number_terms c.args.elements.now in
-    (c.loop-i-test.true, c.loop-i.invariant ∙ news_here zs c.loop-i.i (number_of_terms zs) (omega arith) (sym c.is_new.ensures ∙ c.if-is_new.true))
+    (c.loop-i-test.true, c.loop-i.invariant ∙ news_here zs c.loop-i.i (number_of_terms zs) (omega arith) (sym c.is_new.ensures ∙ c.if-is_new.true), sym c.is_new.ensures ∙ c.if-is_new.true)
 
 pub loop-i-preserved : goal.loop-i-preserved
 loop-i-preserved c =

@@ -37,11 +37,11 @@ loop-self-preserved c =
     let sig = c.args.context.now.signature in
     let ps = c.args.positions.now in
     by_step sig ps c.args.self.now c.loop-self.self c.pass_over.new.self c.loop-self.invariant
-    (step_in sig c.facts.result.now ps c.loop-self.self c.pass_over.new.self c.facts.ensures c.loop-self.invariant.ready (c.pass_over.ensures.passed c.if-not-pass_over.false ps))
+    (step_in sig c.facts.result.now ps c.loop-self.self c.pass_over.new.self c.facts.ensures c.loop-self.invariant.ready (c.pass_over.ensures.passed c.if-not-pass_over.false))
 
 pub loop-self-smaller : goal.loop-self-smaller
 loop-self-smaller c =
     let sig = c.args.context.now.signature in
     let ps = c.args.positions.now in
     falls sig ps c.loop-self.self c.pass_over.new.self
-    (step_in sig c.facts.result.now ps c.loop-self.self c.pass_over.new.self c.facts.ensures c.loop-self.invariant.ready (c.pass_over.ensures.passed c.if-not-pass_over.false ps))
+    (step_in sig c.facts.result.now ps c.loop-self.self c.pass_over.new.self c.facts.ensures c.loop-self.invariant.ready (c.pass_over.ensures.passed c.if-not-pass_over.false))

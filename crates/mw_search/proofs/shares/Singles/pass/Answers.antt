@@ -8,4 +8,4 @@ pub returns-in-Some : goal.returns-in-Some
 returns-in-Some c =
     let old : Singles = c.args.self.now in
     let new : Singles = record { pattern = old.pattern; then = old.then; bag = old.bag; next = c.in-Some.at + 1 } in
-    heads_pass old new (terms_of c.arguments.result.now) c.in-Some.at refl c.arguments.ensures c.in-Some.ensures.1
+    heads_pass old new (terms_of c.elements.result.now) c.in-Some.at refl c.elements.ensures c.in-Some.ensures.1

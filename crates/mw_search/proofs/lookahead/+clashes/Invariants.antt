@@ -1,7 +1,7 @@
 use Rattle.std.proofs.Common.{◌+◌, ◌*◌}
 use Rattle.mw_logic.specs.NormalForm.{height, highest}
 use Rattle.mw_logic.specs.Terms.{terms_of}
-use Rattle.mw_search.proofs.clashes.+clashes.Given as goal
+use Rattle.mw_search.proofs.lookahead.+clashes.Given as goal
 
 abbrev pub decreases-clashes : goal.decreases-clashes
 decreases-clashes l = 3 * height l.pattern.now

@@ -4,7 +4,7 @@ use Rattle.mw_logic.specs.Terms.{terms_of}
 use Rattle.mw_term.proofs.Terms.{element}
 use Rattle.mw_search.specs.Clashes.{Clash}
 use Rattle.mw_search.proofs.Clashing.{all_clash}
-use Rattle.mw_search.proofs.clashes.+clashes.Goals as goal
+use Rattle.mw_search.proofs.lookahead.+clashes.Goals as goal
 
 pub some_clash-clashes-requires : goal.some_clash-clashes-requires
 some_clash-clashes-requires t c =
