@@ -26,9 +26,10 @@
 //!
 //! Cost: a few walks over the pattern, with a few look-ups of a variable in hash tables for each place where it stands,
 //! one more for each associative and commutative operator around it, and for each position, each argument of such an
-//! operator and each operator on a variable a look at the operator's declarations and at its identity's sort. A part is
-//! shared if each argument of an associative and commutative operator in it becomes one element; it is looked at once
-//! for each part around it that isn't shared. Neither proved nor tested: time and memory.
+//! operator and each operator on a variable a look at the operator's declarations and at its identity's sort. Where such
+//! an argument stands on an operator with an identity, its own arguments are looked at in the same way. A part is shared
+//! if each argument of an associative and commutative operator in it becomes one element; it is looked at once for each
+//! part around it that isn't shared. Neither proved nor tested: time and memory.
 #![tactic(auto)]
 
 mod compiled;

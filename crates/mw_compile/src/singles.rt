@@ -72,6 +72,14 @@ fn has_variable(terms: &[Term]) -> bool {
     false
 }
 
+/// Whether an operator has an identity.
+fn has_identity(facts: &Facts, operator: OpId) -> bool {
+    match facts.axioms(operator) {
+        Axioms::Associative { identity, .. } => identity.is_some(),
+        _ => false,
+    }
+}
+
 /// Whether each value of a sort is one element under an operator.
 fn is_one_under(context: &Ctx, joining: &Joining, sort: SortId) -> bool
     requires { IsJoining context.now.signature joining.now }
@@ -170,11 +178,32 @@ impl<'c> Singles<'c> {
     }
 
     /// Whether an argument of an operator becomes one element, whatever its variables' values are.
+    #[cycle(rigid)]
     pub fn is_rigid(&self, operator: OpId, argument: &Term) -> bool {
         match argument.view() {
             View::Var(x) => self.is_one(operator, x.sort),
+            View::Op(top, args) if has_identity(self.facts(), top) => {
+                operator != top && self.has_two_rigid(top, args)
+            }
             _ => self.nowhere.is_rigid(self.facts(), operator, argument),
         }
+    }
+
+    /// Whether two arguments of an operator at least become one element each.
+    #[cycle(rigid)]
+    fn has_two_rigid(&self, operator: OpId, args: &[Term]) -> bool {
+        let mut has_one = false;
+        let mut rest = args;
+        while let [arg, after @ ..] = rest {
+            if self.is_rigid(operator, arg) {
+                if has_one {
+                    return true;
+                }
+                has_one = true;
+            }
+            rest = after;
+        }
+        false
     }
 
     /// The operators under which each value of a sort is one element.

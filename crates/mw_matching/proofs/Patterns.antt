@@ -1,24 +1,25 @@
 -- Rigid arguments become elements; so the splits that take them first lose nothing.
-use Rattle.std.specs.Prelude.{◌≡◌, ◌+◌, ℕ, suc, List, length, Bool, true, false, ◌&&◌, cond, nat_eq, Option, Some, None, unwrap_or, refl}
-use Rattle.std.proofs.Common.{ap, sym, subst, arith}
-use Rattle.std.proofs.lemmas.Bool.{and_parts, not-true}
+use Rattle.std.specs.Prelude.{◌≡◌, ◌≤◌, ◌+◌, ℕ, suc, List, length, Bool, true, false, not, ◌&&◌, cond, nat_eq, nat_lt, Option, Some, None, is_some, unwrap_or, refl}
+use Rattle.std.proofs.Common.{ap, sym, subst, ◌∙◌, arith}
+use Rattle.std.proofs.lemmas.Bool.{and_parts, not-true, ltb-true}
 use Rattle.mw_logic.specs.Term.{RawTerm, numeral, quoted, variable, apply, RawTerms, nil, cons}
 use Rattle.mw_logic.specs.Signature.{Signature, Identity, constant_of, numeral_of}
 use Rattle.mw_logic.specs.Accepted.{IsAccepted}
 use Rattle.mw_logic.specs.Kinds.{is_successor}
 use Rattle.mw_logic.specs.Parts.{is_assoc, number_of_terms}
 use Rattle.mw_logic.specs.TermOrder.{insert_term, sorted_terms, stands_after}
-use Rattle.mw_logic.specs.NormalForm.{is_comm, identity_of, is_identity, elements, arranged, counted, applied_in}
-use Rattle.mw_logic.proofs.Canonical.{IsElement, IsCanonical, is_identity-arguments, arranged-nil}
+use Rattle.mw_logic.specs.NormalForm.{is_comm, identity_of, is_identity, own_arguments, elements, flattened, rebuilt, arranged, counted, applied_in}
+use Rattle.mw_logic.proofs.Canonical.{IsElement, IsCanonical, is_identity-arguments, arranged-nil, Backed, own_arguments-backed}
 use Rattle.mw_split.specs.Lists.{AllOnce}
 use Rattle.mw_position.specs.Positions.{IsNumbered, IsWithin, AreWithin}
 use Rattle.mw_arguments.specs.Arguments.{Gives, HasArity}
+use Rattle.mw_arguments.proofs.ListPieces.{number_join}
 use Rattle.mw_arguments.proofs.Once.{once_same}
 use Rattle.mw_arguments.proofs.Splits.{exact}
 use Rattle.mw_matching.specs.Matches.{matches, evaluated, evaluated_all, Fits, IsMatch, HasArities, IsTheory}
 use Rattle.mw_matching.specs.Rigid.{FirstAreElements, rigid_splits}
-use Rattle.mw_matching.specs.Patterns.{is_rigid, leading, behind, splits_for, theory, AreSingle, InCase, FrontsFit}
-use Rattle.mw_matching.proofs.Matches.{get_there, matches_once}
+use Rattle.mw_matching.specs.Patterns.{is_rigid, number_rigid, leading, behind, splits_for, theory, AreSingle, InCase, FrontsFit}
+use Rattle.mw_matching.proofs.Matches.{get_there, number_evaluated, matches_once}
 use Rattle.mw_matching.proofs.Rigid.{rigid_given_once}
 
 insert_some : (t : RawTerm) (us : RawTerms) → (u : RawTerm) × (vs : RawTerms) × (insert_term t us ≡ cons u vs)
@@ -46,6 +47,42 @@ quoted_element None f q = refl
 quoted_element (Some (constant_of c)) f q = refl
 quoted_element (Some (numeral_of n)) f q = refl
 
+-- in order they are as many
+number_insert : (t : RawTerm) (us : RawTerms) → number_of_terms (insert_term t us) ≡ suc (number_of_terms us)
+number_insert t nil = refl
+number_insert t (cons u us) = by_test (stands_after t u) (number_insert t us)
+  where
+    by_test : (b : Bool) → number_of_terms (insert_term t us) ≡ suc (number_of_terms us) → number_of_terms (cond b (cons u (insert_term t us)) (cons t (cons u us))) ≡ suc (suc (number_of_terms us))
+    by_test true r = ap suc r
+    by_test false r = refl
+
+number_sorted : (ts : RawTerms) → number_of_terms (sorted_terms ts) ≡ number_of_terms ts
+number_sorted nil = refl
+number_sorted (cons t ts) = number_insert t (sorted_terms ts) ∙ ap suc (number_sorted ts)
+
+number_arranged : (c : Bool) (ts : RawTerms) → number_of_terms (arranged c ts) ≡ number_of_terms ts
+number_arranged true ts = number_sorted ts
+number_arranged false ts = refl
+
+-- two terms or more, put under g, are one element under another operator
+several_element : (e : Option Identity) (f : ℕ) (d : Option Identity) (g : ℕ) (ts : RawTerms) → nat_eq f g ≡ false → 2 ≤ number_of_terms ts → IsElement e f (rebuilt d g ts)
+several_element e f d g nil n l = absurd (omega (arith, l))
+several_element e f d g (cons t nil) n l = absurd (omega (arith, l))
+several_element e f d g (cons t (cons u us)) n l = rw (is_identity-arguments e g t (cons u us), n) refl
+
+some_backed : (ts : RawTerms) → Backed None ts → 1 ≤ number_of_terms ts
+some_backed nil b = cc
+some_backed (cons t ts) b = omega arith
+
+-- where there is no identity each term becomes an element, or more
+all_become : (f : ℕ) (ts : RawTerms) → number_of_terms ts ≤ number_of_terms (flattened None f ts)
+all_become f nil = omega arith
+all_become f (cons t ts) =
+    let m = number_join (own_arguments f t) (flattened None f ts) in
+    let s = some_backed (own_arguments f t) (own_arguments-backed None f t) in
+    let l = all_become f ts in
+    omega (arith, m, s, l)
+
 module _ (sig : Signature) (ok : IsAccepted sig) (has : ℕ → RawTerm → Bool) (single : ℕ → ℕ → Bool) (singles : AreSingle sig has single) where
   -- under a free operator other than f stands one element
   free_element : (f g : ℕ) (ts : RawTerms) → nat_eq f g ≡ false → is_assoc sig g ≡ false → is_successor sig g ≡ false → (ts ≡ nil → is_identity (identity_of sig f) (apply g nil) ≡ false)
@@ -60,22 +97,58 @@ module _ (sig : Signature) (ok : IsAccepted sig) (has : ℕ → RawTerm → Bool
           let (u, us, w) = arranged_some (is_comm sig g) t ts in
           subst (λ us. IsElement (identity_of sig f) f (apply g us)) (sym w) (rw (is_identity-arguments (identity_of sig f) g u us, n) refl)
 
-  pub rigid_element : (f : ℕ) (q : RawTerm) (us : List RawTerm) → is_rigid sig single f q ≡ true → Fits sig (theory sig has single) 0 us → IsWithin (length us) q → IsElement (identity_of sig f) f (evaluated sig us q)
-  rigid_element f (numeral n) us h g w = rw (not-true (is_identity (identity_of sig f) (numeral n)) h) refl
-  rigid_element f (quoted q) us h g w = quoted_element (identity_of sig f) f q
-  rigid_element f (variable x) us h g w =
-      let (u, e) = get_there us x.sort w in
-      let p = g x.sort u (omega arith) e in
-      subst (IsElement (identity_of sig f) f) (ap (λ o. unwrap_or o (variable x)) (sym e)) (singles f x.sort u h p.0 p.1)
-  rigid_element f (apply h ts) us r g w =
-      let (n, r1) = and_parts _ _ r in
-      let (a, r2) = and_parts _ _ r1 in
-      let (s, i) = and_parts _ _ r2 in
-      free_element f h (evaluated_all sig us ts) (not-true (nat_eq f h) n) (not-true (is_assoc sig h) a) (not-true (is_successor sig h) s) (λ e. not_named ts (not-true (is_identity (identity_of sig f) (apply h ts)) i) e)
-    where
-      not_named : (ts : RawTerms) → is_identity (identity_of sig f) (apply h ts) ≡ false → evaluated_all sig us ts ≡ nil → is_identity (identity_of sig f) (apply h nil) ≡ false
-      not_named nil i e = i
-      not_named (cons t ts) i e = cc
+  -- so does it under an associative one that stands on two elements or more
+  assoc_element : (f g : ℕ) (ts : RawTerms) → nat_eq f g ≡ false → is_assoc sig g ≡ true → 2 ≤ number_of_terms (flattened (identity_of sig g) g ts) → IsElement (identity_of sig f) f (applied_in sig g ts)
+  assoc_element f g ts n a l =
+      let m = number_arranged (is_comm sig g) (flattened (identity_of sig g) g ts) in
+      rw a (several_element (identity_of sig f) f (identity_of sig g) g (arranged (is_comm sig g) (flattened (identity_of sig g) g ts)) n (omega (arith, m, l)))
+
+  mutual
+    pub rigid_element : (f : ℕ) (q : RawTerm) (us : List RawTerm) → is_rigid sig single f q ≡ true → Fits sig (theory sig has single) 0 us → IsWithin (length us) q → IsElement (identity_of sig f) f (evaluated sig us q)
+    rigid_element f (numeral n) us h g w = rw (not-true (is_identity (identity_of sig f) (numeral n)) h) refl
+    rigid_element f (quoted q) us h g w = quoted_element (identity_of sig f) f q
+    rigid_element f (variable x) us h g w =
+        let (u, e) = get_there us x.sort w in
+        let p = g x.sort u (omega arith) e in
+        subst (IsElement (identity_of sig f) f) (ap (λ o. unwrap_or o (variable x)) (sym e)) (singles f x.sort u h p.0 p.1)
+    rigid_element f (apply h ts) us r g w =
+        let (n, r1) = and_parts _ _ r in
+        let (s, i) = and_parts _ _ r1 in
+        by_assoc (rigid_become h ts us g w) (not-true (nat_eq f h) n) (not-true (is_identity (identity_of sig f) (apply h ts)) i) (is_assoc sig h) refl s
+      where
+        not_named : (ts : RawTerms) → is_identity (identity_of sig f) (apply h ts) ≡ false → evaluated_all sig us ts ≡ nil → is_identity (identity_of sig f) (apply h nil) ≡ false
+        not_named nil i e = i
+        not_named (cons t ts) i e = cc
+
+        several : number_rigid sig single h ts ≤ number_of_terms (flattened (identity_of sig h) h (evaluated_all sig us ts)) → (d : Option Identity) → identity_of sig h ≡ d
+            → nat_lt 1 (cond (is_some d) (number_rigid sig single h ts) (number_of_terms ts)) ≡ true → 2 ≤ number_of_terms (flattened (identity_of sig h) h (evaluated_all sig us ts))
+        several l None e s =
+            let a = ltb-true 1 (number_of_terms ts) s in
+            let m = number_evaluated sig ok (theory sig has single) us ts in
+            let k : number_of_terms (evaluated_all sig us ts) ≤ number_of_terms (flattened (identity_of sig h) h (evaluated_all sig us ts)) = rw e (all_become h (evaluated_all sig us ts)) in
+            omega (arith, a, m, k)
+        several l (Some d) e s = let a = ltb-true 1 (number_rigid sig single h ts) s in omega (arith, a, l)
+
+        by_assoc : number_rigid sig single h ts ≤ number_of_terms (flattened (identity_of sig h) h (evaluated_all sig us ts)) → nat_eq f h ≡ false → is_identity (identity_of sig f) (apply h ts) ≡ false → (b : Bool) → is_assoc sig h ≡ b
+            → cond b (nat_lt 1 (cond (is_some (identity_of sig h)) (number_rigid sig single h ts) (number_of_terms ts))) (not (is_successor sig h)) ≡ true → IsElement (identity_of sig f) f (applied_in sig h (evaluated_all sig us ts))
+        by_assoc l n i false a s = free_element f h (evaluated_all sig us ts) n a (not-true (is_successor sig h) s) (λ e. not_named ts i e)
+        by_assoc l n i true a s = assoc_element f h (evaluated_all sig us ts) n a (several l (identity_of sig h) refl s)
+
+    -- rigid arguments become an element each, and the others maybe more
+    rigid_become : (f : ℕ) (qs : RawTerms) (us : List RawTerm) → Fits sig (theory sig has single) 0 us → AreWithin (length us) qs → number_rigid sig single f qs ≤ number_of_terms (flattened (identity_of sig f) f (evaluated_all sig us qs))
+    rigid_become f nil us g w = omega arith
+    rigid_become f (cons q qs) us g w =
+        let m = number_join (elements (identity_of sig f) f (evaluated sig us q)) (flattened (identity_of sig f) f (evaluated_all sig us qs)) in
+        by_test m (λ r. rigid_element f q us r g w.0) (rigid_become f qs us g w.1) (is_rigid sig single f q) refl
+      where
+        by_test : number_of_terms (flattened (identity_of sig f) f (evaluated_all sig us (cons q qs))) ≡ number_of_terms (elements (identity_of sig f) f (evaluated sig us q)) + number_of_terms (flattened (identity_of sig f) f (evaluated_all sig us qs))
+            → (is_rigid sig single f q ≡ true → IsElement (identity_of sig f) f (evaluated sig us q))
+            → number_rigid sig single f qs ≤ number_of_terms (flattened (identity_of sig f) f (evaluated_all sig us qs)) → (b : Bool) → is_rigid sig single f q ≡ b
+            → cond b (suc (number_rigid sig single f qs)) (number_rigid sig single f qs) ≤ number_of_terms (flattened (identity_of sig f) f (evaluated_all sig us (cons q qs)))
+        by_test m one l true r =
+            let k : number_of_terms (elements (identity_of sig f) f (evaluated sig us q)) ≡ 1 = ap number_of_terms (one r) in
+            omega (arith, m, k, l)
+        by_test m one l false r = omega (arith, m, l)
 
   first_elements : (f : ℕ) (qs : RawTerms) (us : List RawTerm) → Fits sig (theory sig has single) 0 us → AreWithin (length us) qs → FirstAreElements (identity_of sig f) f (leading sig single f qs) (evaluated_all sig us qs)
   first_elements f nil us g w = tt

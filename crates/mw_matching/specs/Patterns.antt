@@ -1,5 +1,5 @@
 -- Which arguments of a pattern become one element, whatever their values are; and the splits that take these first.
-use Rattle.std.specs.Prelude.{◌≡◌, ℕ, suc, List, Bool, true, false, not, ◌&&◌, cond, nat_eq, ⊤}
+use Rattle.std.specs.Prelude.{◌≡◌, ℕ, suc, List, Bool, true, false, not, ◌&&◌, cond, nat_eq, nat_lt, is_some, ⊤}
 use Rattle.mw_logic.specs.Term.{RawTerm, numeral, quoted, variable, apply, RawTerms, nil, cons}
 use Rattle.mw_logic.specs.Signature.{Signature}
 use Rattle.mw_logic.specs.Kinds.{is_successor}
@@ -10,12 +10,23 @@ use Rattle.mw_arguments.specs.Splits.{splits_of}
 use Rattle.mw_matching.specs.Matches.{Theory}
 use Rattle.mw_matching.specs.Rigid.{FirstAreElements, rigid_splits}
 
+-- Operator g stays on top of n arguments, r of which are rigid, whatever values their variables have: it isn't the successor, and of an associative one two
+-- arguments at least become elements, as each does where there is no identity.
+abbrev pub stays : Signature → ℕ → ℕ → ℕ → Bool
+stays sig g n r = cond (is_assoc sig g) (nat_lt 1 (cond (is_some (identity_of sig g)) r n)) (not (is_successor sig g))
+
 -- `single f i` says that what may stand at position i is one element under f, by its sort
-abbrev pub is_rigid : Signature → (ℕ → ℕ → Bool) → ℕ → RawTerm → Bool
-is_rigid sig single f (numeral n) = not (is_identity (identity_of sig f) (numeral n))
-is_rigid sig single f (quoted q) = true
-is_rigid sig single f (variable x) = single f x.sort
-is_rigid sig single f (apply g ts) = not (nat_eq f g) && (not (is_assoc sig g) && (not (is_successor sig g) && not (is_identity (identity_of sig f) (apply g ts))))
+abbrev mutual
+  pub is_rigid : Signature → (ℕ → ℕ → Bool) → ℕ → RawTerm → Bool
+  is_rigid sig single f (numeral n) = not (is_identity (identity_of sig f) (numeral n))
+  is_rigid sig single f (quoted q) = true
+  is_rigid sig single f (variable x) = single f x.sort
+  is_rigid sig single f (apply g ts) = not (nat_eq f g) && (stays sig g (number_of_terms ts) (number_rigid sig single g ts) && not (is_identity (identity_of sig f) (apply g ts)))
+
+  -- how many arguments are rigid
+  pub number_rigid : Signature → (ℕ → ℕ → Bool) → ℕ → RawTerms → ℕ
+  number_rigid sig single f nil = 0
+  number_rigid sig single f (cons t ts) = cond (is_rigid sig single f t) (suc (number_rigid sig single f ts)) (number_rigid sig single f ts)
 
 -- how many arguments at the front are rigid, and how many stand behind
 abbrev pub leading : Signature → (ℕ → ℕ → Bool) → ℕ → RawTerms → ℕ

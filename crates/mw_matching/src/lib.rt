@@ -8,8 +8,9 @@
 //!
 //! - **By splits**: `matches` goes through lists of arguments. Where these are all, each once (`IsTheory`), so are the
 //!   matches (`matches_once`).
-//! - **Rigid arguments first** (specs/Rigid, Patterns): those that become one element whatever their values are. Splits
-//!   that take them first lose no match (`rigid_theory`, `matches_by_splits_once`).
+//! - **Rigid arguments first** (specs/Rigid, Patterns): those that become one element whatever their values are
+//!   (`is_rigid`). An argument is one if another operator stays on top of it. Splits that take rigid arguments first
+//!   lose no match (`rigid_theory`, `matches_by_splits_once`).
 //! - **One argument at a time** (specs/Bagged, AllMatches): under an associative and commutative operator an argument
 //!   is matched with its share before the others take theirs. `all_matches` too has all matches, each once
 //!   (`all_matches_once`).

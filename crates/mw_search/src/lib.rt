@@ -35,9 +35,11 @@
 //! Cost: terms are copied by one count. A share of a list copies the elements of its piece, a part of a multiset all
 //! elements. One element of a multiset is met before the others are copied, so one that the pattern fails on costs no
 //! such copy, and one that is passed over a few comparisons. Whether elements stand in order is looked at once, for a
-//! variable that stands twice. Each share copies the goals that wait behind its choice. Nothing recurs but comparing
-//! terms, walking them for sorts and looking for clashes. Neither proved nor tested: time and memory, and that calls
-//! answer with memory at hand.
+//! variable that stands twice. Each share copies the goals that wait behind its choice. An argument is looked at again
+//! at each step that comes to it: whether it is one element whatever its variables' values are. That is one look, but
+//! for an argument that stands on an operator with an identity: its own arguments are looked at too, until two are found
+//! that are one element each. Nothing recurs but that, comparing terms, walking them for sorts and looking for clashes.
+//! Neither proved nor tested: time and memory, and that calls answer with memory at hand.
 #![tactic(auto)]
 
 mod bags;

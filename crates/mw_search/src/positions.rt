@@ -1,8 +1,8 @@
 // What may stand at the positions of a pattern.
-ghost use Rattle.std.specs.Prelude.{◌≡◌, ◌&&◌, not, option_map};
-ghost use Rattle.mw_logic.specs.Kinds.{is_successor};
+ghost use Rattle.std.specs.Prelude.{◌≡◌, nat_lt, option_map};
 ghost use Rattle.mw_logic.specs.NormalForm.{identity_of, is_identity as is_identity_of};
-ghost use Rattle.mw_logic.specs.Parts.{is_assoc};
+ghost use Rattle.mw_logic.specs.Parts.{number_of_terms};
+ghost use Rattle.mw_logic.specs.Terms.{terms_of};
 ghost use Rattle.mw_term.specs.Signatures.{identity_of as identity_named};
 ghost use Rattle.mw_matching.specs.Found.{is_among as is_among_of, is_element as is_element_of, is_element_under_all as is_element_under_all_of, stands as stands_of};
 
@@ -19,7 +19,7 @@ pub struct Positions {
 
 impl Positions {
     ghost use Rattle.mw_matching.specs.Found.{operators_at, is_single, fits};
-    ghost use Rattle.mw_matching.specs.Patterns.{is_rigid};
+    ghost use Rattle.mw_matching.specs.Patterns.{is_rigid, stays, number_rigid};
 
     fn operators_at(&self, position: u32) -> &[OpId]
         ensures { result.now ≡ operators_at self.now.single.items position }
@@ -45,6 +45,7 @@ impl Positions {
     }
 
     /// Whether a pattern becomes one element under an operator, whatever its variables' values are.
+    #[cycle(rigid)]
     pub fn is_rigid(&self, facts: &Facts, operator: OpId, pattern: &Term) -> bool
         ensures { result ≡ is_rigid facts.now (is_single self.now.single.items) operator pattern.now }
     {
@@ -52,10 +53,49 @@ impl Positions {
             View::Nat(_) => !is_identity(facts, operator, pattern),
             View::Qid(_) => true,
             View::Var(x) => self.is_single(operator, x.sort),
-            View::Op(top, _) => {
-                operator != top && is_kept(facts, top) && !is_identity(facts, operator, pattern)
+            View::Op(top, args) => {
+                operator != top
+                    && self.stays(facts, top, args)
+                    && !is_identity(facts, operator, pattern)
             }
         }
+    }
+
+    /// Whether an operator stays on top of its arguments, whatever their variables' values are.
+    #[cycle(rigid)]
+    fn stays(&self, facts: &Facts, operator: OpId, args: &[Term]) -> bool
+        ensures { let ts = terms_of args.now in let single = is_single self.now.single.items in
+            result ≡ stays facts.now operator (number_of_terms ts) (number_rigid facts.now single operator ts) }
+    {
+        match facts.axioms(operator) {
+            Axioms::Plain => true,
+            Axioms::Commutative => true,
+            Axioms::Successor => false,
+            Axioms::Associative { identity, .. } => match identity {
+                Some(_) => self.has_two_rigid(facts, operator, args),
+                None => 1 < args.len(),
+            },
+        }
+    }
+
+    /// Whether two terms at least become one element each under an operator.
+    #[cycle(rigid)]
+    fn has_two_rigid(&self, facts: &Facts, operator: OpId, terms: &[Term]) -> bool
+        ensures { let single = is_single self.now.single.items in
+            result ≡ nat_lt 1 (number_rigid facts.now single operator (terms_of terms.now)) }
+    {
+        let mut has_one = false;
+        let mut rest = terms;
+        while let [term, after @ ..] = rest {
+            if self.is_rigid(facts, operator, term) {
+                if has_one {
+                    return true;
+                }
+                has_one = true;
+            }
+            rest = after;
+        }
+        false
     }
 }
 
@@ -70,18 +110,6 @@ fn is_among(operator: OpId, operators: &[OpId]) -> bool
         rest = after;
     }
     false
-}
-
-/// Whether the operator's terms are built of their arguments as these are, or in order.
-fn is_kept(facts: &Facts, operator: OpId) -> bool
-    ensures { result ≡ (not (is_assoc facts.now operator) && not (is_successor facts.now operator)) }
-{
-    match facts.axioms(operator) {
-        Axioms::Plain => true,
-        Axioms::Commutative => true,
-        Axioms::Successor => false,
-        Axioms::Associative { .. } => false,
-    }
 }
 
 /// The identity of an operator, where it has one.
