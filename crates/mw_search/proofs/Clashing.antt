@@ -1,23 +1,23 @@
 -- Patterns that have no match, whatever values come behind those that stand, and shares of which no match comes.
-use Rattle.std.specs.Prelude.{◌<◌, Bool, true, Option, Some, None, slice_get, cond, refl}
+use Rattle.std.specs.Prelude.{◌<◌, ◌≤◌, Bool, true, Option, Some, None, slice_get, cond, refl}
 use Rattle.std.proofs.Common.{◌≡◌, ◌∙◌, ℕ, zero, suc, List, [], ◌∷◌, ◌++◌, length, get_or, ap, sym, subst, arith, false}
 use Rattle.std.specs.List.{flat_map}
 use Rattle.std.proofs.lemmas.List.{append-nil}
-use Rattle.mw_logic.specs.Term.{RawTerm, variable, RawTerms, nil, cons}
+use Rattle.mw_logic.specs.Term.{RawTerm, Variable, variable, RawTerms, nil, cons}
 use Rattle.mw_logic.specs.Terms.{args_of, terms_of, skip}
 use Rattle.mw_logic.specs.Signature.{Signature}
 use Rattle.mw_logic.specs.NormalForm.{identity_of, elements}
 use Rattle.mw_arguments.specs.Bags.{same}
 use Rattle.mw_matching.specs.Patterns.{is_rigid}
 use Rattle.mw_matching.specs.Multisets.{is_within, left_behind, term_at, without}
-use Rattle.mw_matching.specs.Found.{Values, value_of, fits, is_single, placed, found, found_all, found_row, found_bag}
+use Rattle.mw_matching.specs.Found.{Values, value_of, fits, is_single, placed, found, found_all, found_orders, found_row, found_bag}
 use Rattle.mw_matching.proofs.FoundSingle.{fitting_element}
 use Rattle.mw_search.specs.Lacking.{Each}
 use Rattle.mw_search.specs.Bags.{IsAlone}
 use Rattle.mw_search.specs.Goals.{Share, top_of, goal_found}
-use Rattle.mw_search.specs.Clashes.{Clash, AllClash, IsTwice, IsBarren}
+use Rattle.mw_search.specs.Clashes.{Clash, AllClash, OrdersClash, IsTwice, IsBarren}
 use Rattle.mw_search.specs.declared.goals.Goal.TheVariants.{Row, Left}
-use Rattle.mw_search.proofs.Ends.{got_end, got_past}
+use Rattle.mw_search.proofs.Ends.{got_before, got_end, got_past}
 use Rattle.mw_search.proofs.Beginning.{GoesOn, here, further, found_on}
 
 none_after : (vs ws : Values) (L : List Values) (F : Values → List Values) → GoesOn vs ws → Each (GoesOn ws) L → ((us : Values) → GoesOn vs us → F us ≡ []) → flat_map F L ≡ []
@@ -38,6 +38,25 @@ none_at sig single vs (q ∷ ps) (u ∷ ts) (suc i) p t hp ht gp gt n ws a =
 pub all_clash : (sig : Signature) (vs : Values) (ps ts : List RawTerm) (i : ℕ) (p t : RawTerm) → i < length ps → i < length ts → p ≡ get_or ps i p → t ≡ get_or ts i t → Clash sig vs p t → AllClash sig vs (terms_of ps) (terms_of ts)
 all_clash sig vs ps ts i p t hp ht gp gt c = λ single more.
     none_at sig single vs ps ts i p t hp ht gp gt (λ us a. subst (λ ws. found sig single p t ws ≡ []) (sym a.is) (c single a.more)) (vs ++ more) (record { more = more; is = refl })
+
+-- a variable clashes with what differs from its value
+pub value_clash : (sig : Signature) (vs : Values) (x : Variable) (v t : RawTerm) → x.sort < length vs → v ≡ get_or vs x.sort v → same v t ≡ false → Clash sig vs (variable x) t
+value_clash sig vs x v t h e d = λ single more. ap (placed sig single x.sort t (vs ++ more)) (got_before vs more x.sort v h e) ∙ rw d refl
+
+pub two_items : (xs : List RawTerm) (p q : RawTerm) → 2 ≤ length xs → length xs < 3 → p ≡ get_or xs 0 p → q ≡ get_or xs 1 q → xs ≡ p ∷ q ∷ []
+two_items [] p q l m e f = absurd (omega (arith, l))
+two_items (x ∷ []) p q l m e f = absurd (omega (arith, l))
+two_items (x ∷ y ∷ []) p q l m e f = ap (λ a. a ∷ y ∷ []) (sym e) ∙ ap (λ b. p ∷ b ∷ []) (sym f)
+two_items (x ∷ y ∷ z ∷ xs) p q l m e f = absurd (omega (arith, m))
+
+-- one pair that clashes in each order is enough
+pub in_orders : (sig : Signature) (vs : Values) (p q x y : RawTerm) → AllClash sig vs (terms_of (p ∷ q ∷ [])) (terms_of (x ∷ y ∷ [])) → AllClash sig vs (terms_of (p ∷ q ∷ [])) (terms_of (y ∷ x ∷ []))
+    → OrdersClash sig vs (terms_of (p ∷ q ∷ [])) (terms_of (x ∷ y ∷ []))
+in_orders sig vs p q x y a b = λ single more. by_test single more (same x y)
+  where
+    by_test : (single : List (List ℕ)) (more : Values) (e : Bool) → found_orders sig single (terms_of (p ∷ q ∷ [])) (cond e (terms_of (x ∷ y ∷ []) ∷ []) (terms_of (x ∷ y ∷ []) ∷ terms_of (y ∷ x ∷ []) ∷ [])) (vs ++ more) ≡ []
+    by_test single more true = append-nil _ ∙ a single more
+    by_test single more false = ap (λ l. l ++ (found_all sig single (terms_of (p ∷ q ∷ [])) (terms_of (y ∷ x ∷ [])) (vs ++ more) ++ [])) (a single more) ∙ append-nil _ ∙ b single more
 
 module _ (sig : Signature) (single : List (List ℕ)) where
   -- a pattern that clashes with the share's term has no match

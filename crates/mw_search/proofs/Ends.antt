@@ -1,5 +1,5 @@
 -- Lists at their ends: the last of a list, and what stands in front of it.
-use Rattle.std.proofs.Common.{◌≡◌, ◌∙◌, ℕ, zero, suc, ◌+◌, ◌-◌, ◌<◌, ◌≤◌, List, [], ◌∷◌, ◌++◌, length, take, set, ap, refl, arith, inl, inr}
+use Rattle.std.proofs.Common.{◌≡◌, ◌∙◌, ℕ, zero, suc, ◌+◌, ◌-◌, ◌<◌, ◌≤◌, List, [], ◌∷◌, ◌++◌, length, get_or, take, set, ap, sym, refl, arith, inl, inr}
 use Rattle.std.specs.Prelude.{◌⊎◌, Some, None, slice_get}
 
 pub set_at : {X : Type 0} (xs : List X) (n : ℕ) (x : X) → n + 1 ≡ length xs → set xs n x ≡ take n xs ++ x ∷ []
@@ -56,6 +56,11 @@ got_pushed (z ∷ xs) y (suc i) x e = under (got_pushed xs y i x e)
     under : (slice_get xs i ≡ Some x) ⊎ ((i ≡ length xs) × (y ≡ x)) → (slice_get xs i ≡ Some x) ⊎ ((suc i ≡ suc (length xs)) × (y ≡ x))
     under (inl h) = inl h
     under (inr (h, k)) = inr (ap suc h, k)
+
+pub got_before : {X : Type 0} (xs ys : List X) (i : ℕ) (x : X) → i < length xs → x ≡ get_or xs i x → slice_get (xs ++ ys) i ≡ Some x
+got_before [] ys i x h e = absurd (omega (arith, h))
+got_before (z ∷ xs) ys zero x h e = ap Some (sym e)
+got_before (z ∷ xs) ys (suc i) x h e = got_before xs ys i x (omega (arith, h)) e
 
 pub got_end : {X : Type 0} (xs : List X) (y : X) → slice_get (xs ++ y ∷ []) (length xs) ≡ Some y
 got_end [] y = refl

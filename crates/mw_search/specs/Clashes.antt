@@ -3,7 +3,8 @@ use Rattle.std.specs.Prelude.{◌≡◌, ℕ, List, [], ◌∷◌, ◌++◌, fla
 use Rattle.mw_logic.specs.Term.{RawTerm, RawTerms, Variable, variable, cons}
 use Rattle.mw_logic.specs.Terms.{args_of, skip}
 use Rattle.mw_logic.specs.Signature.{Signature}
-use Rattle.mw_matching.specs.Found.{Values, has_top, is_single, found, found_all}
+use Rattle.mw_arguments.specs.Splits.{orders}
+use Rattle.mw_matching.specs.Found.{Values, has_top, is_single, found, found_all, found_orders}
 use Rattle.mw_search.specs.Goals.{Share, top_of, goal_found}
 
 -- a pattern has no match with a term, whatever values come behind those that stand
@@ -16,6 +17,13 @@ ClashUnder sig vs f qs t = (single : List (List ℕ)) (more : Values) → cond (
 
 abbrev pub AllClash : Signature → Values → RawTerms → RawTerms → Type 0
 AllClash sig vs qs ts = (single : List (List ℕ)) (more : Values) → found_all sig single qs ts (vs ++ more) ≡ []
+
+-- and an operator whose arguments are met in each order
+abbrev pub OrdersClash : Signature → Values → RawTerms → RawTerms → Type 0
+OrdersClash sig vs qs ts = (single : List (List ℕ)) (more : Values) → found_orders sig single qs (orders ts) (vs ++ more) ≡ []
+
+abbrev pub ClashSwapped : Signature → Values → ℕ → RawTerms → RawTerm → Type 0
+ClashSwapped sig vs f qs t = (single : List (List ℕ)) (more : Values) → cond (has_top f t) (found_orders sig single qs (orders (args_of t)) (vs ++ more)) [] ≡ []
 
 -- The pattern is a variable that gets the value of position n and has to be one element, and the argument i of p is that
 -- variable again.

@@ -70,6 +70,21 @@ impl Machine {
         })
     }
 
+    /// Nothing is to be met, with values that are given.
+    pub fn ended(alloc: Global, given: Vec<Term>) -> Machine
+        ensures ends { (sig : Signature) (ps : Positions) → to_come sig ps result ≡ [] }
+        ensures given { result.given ≡ length given.items }
+        ensures ready { (sig : Signature) (ps : Positions) → IsReady sig ps result }
+    {
+        Machine {
+            given: given.len(),
+            running: false,
+            goals: Vec::new(alloc),
+            values: given,
+            stack: Vec::new(alloc),
+        }
+    }
+
     /// Does what became of the goal on top.
     fn apply(
         &mut self,

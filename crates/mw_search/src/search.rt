@@ -1,9 +1,13 @@
 // The matches of a pattern, one by one.
 ghost use Rattle.std.specs.Prelude.{◌≡◌, ◌∷◌, [], length, IfOk, OnErr, MatchOption};
+ghost use Rattle.mw_matching.specs.Found.{found};
+ghost use Rattle.mw_search.specs.Machines.{to_come, IsReady};
 
 use crate::goals::Goal;
+use crate::lookahead::clashes;
 use crate::machine::Machine;
 use crate::positions::Positions;
+use mw_canon::Facts;
 use mw_least::Ctx;
 use mw_term::Term;
 use std::alloc::{AllocError, Global};
@@ -40,9 +44,29 @@ impl<'c> Model for Search<'c> {
     ghost invariant = { λ s. IsReady s.context.now.signature s.positions.now s.machine };
 }
 
+/// A pattern to be met by a term, with values that are given; nothing, where they clash.
+fn machine_for(
+    alloc: Global,
+    facts: &Facts,
+    pattern: Term,
+    term: Term,
+    given: Vec<Term>,
+) -> Result<Machine, AllocError>
+    ensures starts { IfOk result (λ m. (ps : Positions) →
+        to_come facts.now ps m ≡ found facts.now ps.single.items pattern term given.items) }
+    ensures given { IfOk result (λ m. m.given ≡ length given.items) }
+    ensures ready { IfOk result (λ m. (ps : Positions) → IsReady facts.now ps m) }
+{
+    if clashes(facts, &pattern, &term, given.as_slice()) {
+        return Ok(Machine::ended(alloc, given));
+    }
+    let machine = Machine::new(alloc, Goal::Meet(pattern, term), given)?;
+    Ok(machine)
+}
+
 impl<'c> Search<'c> {
     ghost use Rattle.mw_logic.specs.Terms.{args_of, skip};
-    ghost use Rattle.mw_matching.specs.Found.{found, found_row};
+    ghost use Rattle.mw_matching.specs.Found.{found_row};
     ghost use Rattle.mw_search.specs.Goals.{top_of};
     ghost use Rattle.mw_search.specs.Searches.{SkipsTo, FitsSorts};
 
@@ -64,7 +88,7 @@ impl<'c> Search<'c> {
               coming = found sig positions.now.single.items pattern term given.items;
             }) }
     {
-        let machine = Machine::new(alloc, Goal::Meet(pattern, term), given)?;
+        let machine = machine_for(alloc, context.facts(), pattern, term, given)?;
         Ok(Search {
             alloc,
             context,

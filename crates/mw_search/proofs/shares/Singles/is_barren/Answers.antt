@@ -22,13 +22,12 @@ returns-then-clashes c = λ _.
     let xs = c.elements-elements.result.now in
     let zs = terms_of xs in
     let n = c.in-Some.at in
-    let here : c.index-elements-at.result ≡ term_at n (args_of s.bag) = at_index xs n c.index-elements-at.result c.in-Some.ensures.0 c.index-elements-at.is ∙ ap (term_at n) c.elements-elements.ensures in
-    (
+    let here : c.index-elements-at.result ≡ term_at n (args_of s.bag) = at_index xs n c.index-elements-at.result c.in-Some.ensures.0 c.index-elements-at.is ∙ ap (term_at n) c.elements-elements.ensures in (
       head_share s n,
       map (head_share s) (news zs (n + 1) (number_of_terms zs - (n + 1))),
       heads_begin s zs n (news zs (n + 1) (number_of_terms zs - (n + 1))) c.elements-elements.ensures c.in-Some.ensures.1,
       clash_barren c.args.facts.now c.args.positions.now.single.items c.args.values.now c.args.pattern.now (head_share s n)
-      (subst (Clash c.args.facts.now c.args.values.now c.args.pattern.now) here (c.clashes.ensures c.if-clashes.true)),
+          (subst (Clash c.args.facts.now c.args.values.now c.args.pattern.now) here (c.clashes.ensures c.if-clashes.true)),
     )
 
 pub returns : goal.returns
@@ -36,8 +35,7 @@ returns c = λ w.
     let s = c.args.self.now in
     let xs = c.elements-elements.result.now in
     let zs = terms_of xs in
-    let n = c.in-Some.at in
-    (
+    let n = c.in-Some.at in (
       head_share s n,
       map (head_share s) (news zs (n + 1) (number_of_terms zs - (n + 1))),
       heads_begin s zs n (news zs (n + 1) (number_of_terms zs - (n + 1))) c.elements-elements.ensures c.in-Some.ensures.1,
