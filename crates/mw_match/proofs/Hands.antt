@@ -119,7 +119,7 @@ module _ (p : Parts) (old h : Hand) (r : IsReached p old h) (none : h.found ≡ 
       ap (λ us. map (candidate p.compiled.now.variables) (flat_map (entries_at p h.place) us ++ entries_of p (searches_behind p h.place)))
       (ap (λ f. matches_of f h.search.coming) none ∙ empty)
 
-  pub reached_turned : (new : Hand) → searches_behind p h.place ≡ (new.place, new.search.coming) ∷ searches_behind p new.place → HasBegun p new.place new.search → new.found ≡ h.found → IsReached p old new
+  pub reached_turned : (new : Hand) → entries_of p (searches_behind p h.place) ≡ entries_of p ((new.place, new.search.coming) ∷ searches_behind p new.place) → HasBegun p new.place new.search → new.found ≡ h.found → IsReached p old new
   reached_turned new more (rest, is, begun) found =
       let k = r.kept in
       let C : List Solution = (coming_of p new).candidates in
@@ -128,7 +128,7 @@ module _ (p : Parts) (old h : Hand) (r : IsReached p old h) (none : h.found ≡ 
       let given : new.search.given ≡ h.search.given = ap (λ (m : Matches). m.given) begun ∙ sym (k.given rest is) in
       let here : new.found ≡ None = found ∙ none in
       let e : (coming_of p h).candidates ≡ C =
-      behind_alone ∙ ap (λ ss. map (candidate p.compiled.now.variables) (entries_of p ss)) more
+      behind_alone ∙ ap (map (candidate p.compiled.now.variables)) more
       ∙ ap (λ f. map (candidate p.compiled.now.variables) (flat_map (entries_at p new.place) (matches_of f new.search.coming) ++ entries_of p (searches_behind p new.place))) (sym here) in
       let step : IsReached p h new = record {
         passes = skips_none (Lacks (coming_of p h)) (coming_of p h).candidates C e;
@@ -144,9 +144,9 @@ module _ (p : Parts) (old h : Hand) (r : IsReached p old h) (none : h.found ≡ 
       reached_more p old h new r step
 
   -- there is none
-  pub none_answer : searches_behind p h.place ≡ [] → (new : Hand) → new ≡ h → IsNext (coming_of p old) (coming_of p new) None
+  pub none_answer : entries_of p (searches_behind p h.place) ≡ [] → (new : Hand) → new ≡ h → IsNext (coming_of p old) (coming_of p new) None
   none_answer e new is =
-      let all : (coming_of p h).candidates ≡ [] = behind_alone ∙ ap (λ ss. map (candidate p.compiled.now.variables) (entries_of p ss)) e in
+      let all : (coming_of p h).candidates ≡ [] = behind_alone ∙ ap (map (candidate p.compiled.now.variables)) e in
       subst (λ k. IsNext (coming_of p old) (coming_of p k) None) (sym is) (subst (PassesTo (coming_of p old)) all r.passes, all)
 
 -- what none is found of

@@ -9,3 +9,4 @@ pub mod Entries
 pub mod Hands
 pub mod Inside
 pub mod Candidates
+pub mod RowLists

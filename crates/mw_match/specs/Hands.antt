@@ -1,5 +1,5 @@
 -- A search with a match at hand, and what is still to come of it and behind it.
-use Rattle.std.specs.Prelude.{ℕ, suc, ◌+◌, ◌≡◌, List, [], ◌∷◌, map, length, Option, Some, None, MatchOption, ⊤}
+use Rattle.std.specs.Prelude.{ℕ, suc, ◌+◌, ◌≡◌, ◌≤◌, List, [], ◌∷◌, map, length, Option, Some, None, MatchOption, ⊤}
 use Rattle.mw_position.specs.Variables.{sorts_of}
 use Rattle.mw_matching.specs.Found.{Values, found}
 use Rattle.mw_search.specs.Searches.{Matches, FitsSorts as FitsBySearch}
@@ -45,6 +45,10 @@ IsNext old new o = MatchOption o (PassesTo old [] × (new.candidates ≡ [])) (�
 abbrev pub steps_of : List Searched → ℕ
 steps_of [] = 0
 steps_of (s ∷ ss) = suc (length s.1 + steps_of ss)
+
+-- of other searches the same is to come, in no more steps
+abbrev pub ComesTo : Parts → List Searched → List Searched → Type 0
+ComesTo p ss rs = (entries_of p ss ≡ entries_of p rs) × (steps_of rs ≤ steps_of ss)
 
 -- the solutions with which a search for the whole begins
 abbrev pub first_of : Parts → Values → Coming

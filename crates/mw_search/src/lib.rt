@@ -31,7 +31,7 @@
 #![tactic(auto)]
 
 mod bags;
-mod clashes;
+pub mod clashes;
 mod goals;
 mod machine;
 mod multisets;
