@@ -10,3 +10,4 @@ pub mod Hands
 pub mod Inside
 pub mod Candidates
 pub mod RowLists
+pub mod Numbers

@@ -1,5 +1,5 @@
 -- The searches from which the solutions of a pattern come: one for the whole of a term, and others for its proper parts, one behind another.
-use Rattle.std.specs.Prelude.{◌≡◌, ℕ, zero, suc, ◌-◌, ◌+◌, List, [], ◌∷◌, map, flat_map, length, Bool, cond, ◌&&◌, nat_eq, Option, Some, None, option_map, option_and_then, option_to_list, slice_get, take}
+use Rattle.std.specs.Prelude.{◌≡◌, ℕ, zero, suc, ◌-◌, ◌+◌, List, [], ◌∷◌, map, flat_map, length, Bool, true, cond, ◌&&◌, nat_eq, Option, Some, None, option_map, option_and_then, option_to_list, slice_get, take}
 use Rattle.mw_logic.specs.Term.{RawTerm, numeral, quoted, variable, apply}
 use Rattle.mw_logic.specs.Terms.{args_of, skip}
 use Rattle.mw_logic.specs.Signature.{Signature}
@@ -40,6 +40,13 @@ left_of sig (numeral n) i r = None
 left_of sig (quoted q) i r = None
 left_of sig (variable x) i r = None
 left_of sig (apply f ts) i r = cond (is_assoc sig f) (left_numbers (is_comm sig f) ts i (elements (identity_of sig f) f r)) None
+
+-- the arguments of a pattern become one element each under the associative operator on top, and a term has another number of elements
+pub record HasOtherNumber (sig : Signature) (single : List (List ℕ)) (p t : RawTerm) : Type 0 where
+  pub is : p ≡ apply (top_of p) (args_of p)
+  pub assoc : is_assoc sig (top_of p) ≡ true
+  pub rigid : leading sig (is_single single) (top_of p) (args_of p) ≡ number_of_terms (args_of p)
+  pub differs : number_of_terms (elements (identity_of sig (top_of p)) (top_of p) t) ≡ number_of_terms (args_of p) → ⊥
 
 -- a match with a last value that is left
 abbrev pub left_match : Signature → RawTerm → ℕ → Values → List Entry

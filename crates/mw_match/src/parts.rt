@@ -6,7 +6,7 @@ ghost use Rattle.mw_logic.specs.Terms.{args_of, skip};
 ghost use Rattle.mw_matching.specs.Found.{Values, found, found_row};
 ghost use Rattle.mw_search.specs.Goals.{top_of};
 ghost use Rattle.mw_match.specs.Solutions.{candidate};
-ghost use Rattle.mw_match.specs.Parts.{places_behind, places_of, arguments_from as arguments_from_of, from_of, rest_pattern, rest_of, rigid_in, AreRigid, entries_at, matches_at, behind_with, searches_behind, entries_of, from_index, begins};
+ghost use Rattle.mw_match.specs.Parts.{places_behind, places_of, arguments_from as arguments_from_of, from_of, rest_pattern, rest_of, HasOtherNumber, rigid_in, AreRigid, entries_at, matches_at, behind_with, searches_behind, entries_of, from_index, begins};
 ghost use Rattle.mw_match.specs.Hands.{ComesTo, HasBegun};
 
 use crate::bindings::{bound, copied};
@@ -254,6 +254,25 @@ impl<'c> Parts<'c> {
         let term = arguments_from(self.alloc, &self.subject, from)?;
         let search = Search::new(self.alloc, self.context, positions, pattern, term, given)?;
         Ok(search)
+    }
+
+    /// Whether the pattern's arguments become one element each, and the term has another number of elements.
+    pub fn has_other_number(&self) -> bool
+        ensures { let single = self.now.compiled.now.positions.single.items in IsTrue result
+            → HasOtherNumber self.now.context.now.signature single self.now.compiled.now.pattern self.now.subject }
+    {
+        let View::Op(operator, patterns) = self.compiled.pattern.view() else {
+            return false;
+        };
+        let facts = self.context.facts();
+        let Axioms::Associative { .. } = facts.axioms(operator) else {
+            return false;
+        };
+        let number = parts(facts, operator, &self.subject).len();
+        if number == patterns.len() {
+            return false;
+        }
+        leading_rigid(facts, &self.compiled.positions, operator, patterns) == patterns.len()
     }
 
     /// How many of a pattern's arguments at the front become one element each, whatever their variables' values are.
