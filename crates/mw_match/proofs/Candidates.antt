@@ -10,7 +10,15 @@ use Rattle.mw_logic.specs.Substitution.{Substitution, IsSubstitution, SameSoluti
 use Rattle.mw_logic.proofs.CanonicalTerms.{fixed}
 use Rattle.mw_canon.specs.Canonical.{meant}
 use Rattle.mw_position.specs.Variables.{met, placed, sorts_of, bound_variables, bound_values}
-use Rattle.mw_matching.specs.Found.{Values}
+use Rattle.mw_logic.specs.Parts.{nested}
+use Rattle.mw_logic.proofs.Canonical.{IsCanonical}
+use Rattle.mw_position.specs.Positions.{IsNumbered}
+use Rattle.mw_matching.specs.Matches.{Theory, HasArities}
+use Rattle.mw_matching.specs.Patterns.{theory}
+use Rattle.mw_matching.specs.Found.{Values, fits, is_single}
+use Rattle.mw_solving.proofs.Compiled.{compiled_raw}
+use Rattle.mw_solving.proofs.Solving.{pattern_numbered, pattern_arities}
+use Rattle.mw_solving.proofs.Solved.{given_fit, sure_fits}
 use Rattle.mw_solving.specs.Values.{IsValue, AreValues, AreSure}
 use Rattle.mw_solving.specs.Candidates.{AreOfSortsFrom}
 use Rattle.mw_solving.specs.Inside.{IsSolutionOf, Entry, AreEntries, entries}
@@ -23,9 +31,10 @@ use Rattle.mw_compile.specs.Compiled.{IsCompiled}
 use Rattle.mw_compile.specs.declared.compiled.Compiled.{Compiled}
 use Rattle.mw_match.specs.Solutions.{Coming, FitsSorts, Lacks, AreNamed, IsAllSolutions, candidate}
 use Rattle.mw_match.specs.Parts.{rest_of}
-use Rattle.mw_match.specs.Hands.{first_of}
+use Rattle.mw_match.specs.Hands.{IsNoneByNumber, first_of}
 use Rattle.mw_match.specs.declared.parts.Parts.{Parts}
 use Rattle.mw_match.specs.declared.solutions.Solution.{Solution}
+use Rattle.mw_match.proofs.Numbers.{other_number_none}
 use Rattle.mw_match.proofs.Inside.{Sized, own_rest, all_entries}
 
 -- a value's sorts can be told
@@ -141,6 +150,22 @@ module _ (parts : Parts) (ok : IsAccepted parts.context.now.signature) (fitting 
   -- and they are all
   pub compiled_solutions : IsAllSolutions parts.context.now.signature inside p t (meant parts.context.now.signature s0) (first_of parts (bound_values s0))
   compiled_solutions = of_entries parts ok inside p t s0 h subject rest all_there
+
+  -- the number of elements tells where the whole has no match
+  pub compiled_none : IsNoneByNumber parts (bound_values s0)
+  compiled_none k =
+      let sig : Signature = parts.context.now.signature in
+      let xs : List Variable = met (bound_variables s0) h.q in
+      let single : List (List ℕ) = parts.compiled.now.positions.single.items in
+      let T : Theory = theory sig (fits sig single) (is_single single) in
+      let sure : AreSure sig single (sorts_of xs) = subst (AreSure sig single) (h.sorts ∙ ap sorts_of h.variables) h.sure in
+      let reordered : IsRawTerm sig (nested sig h.q) = compiled_raw sig ok raw h.reordered in
+      let pattern : parts.compiled.now.pattern ≡ placed xs h.q = h.pattern ∙ ap (λ ys. placed ys h.q) h.variables in
+      other_number_none sig ok single parts.compiled.now.pattern parts.subject (bound_values s0) k
+      (subst (HasArities sig) (sym pattern) (pattern_arities sig ok h.q reordered s0 substitution old))
+      (subst (IsNumbered (length (bound_values s0))) (sym pattern) (pattern_numbered sig ok h.q reordered s0 substitution old).0)
+      (given_fit sig ok h.q reordered s0 substitution old T (sure_fits sig single (sorts_of xs) sure))
+      (subst (IsCanonical sig) (sym subject) v.canonical)
 
   pub compiled_named : AreNamed parts.context.now.signature parts.compiled.now.variables (first_of parts (bound_values s0))
   compiled_named = of_entries_named parts ok inside p t s0 h subject rest all_there

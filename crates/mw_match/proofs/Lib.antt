@@ -9,3 +9,5 @@ pub mod Entries
 pub mod Hands
 pub mod Inside
 pub mod Candidates
+pub mod RowLists
+pub mod Numbers

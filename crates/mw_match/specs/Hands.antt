@@ -1,5 +1,5 @@
 -- A search with a match at hand, and what is still to come of it and behind it.
-use Rattle.std.specs.Prelude.{ℕ, suc, ◌+◌, ◌≡◌, List, [], ◌∷◌, map, length, Option, Some, None, MatchOption, ⊤}
+use Rattle.std.specs.Prelude.{ℕ, suc, ◌+◌, ◌≡◌, ◌≤◌, List, [], ◌∷◌, map, length, Option, Some, None, MatchOption, ⊤}
 use Rattle.mw_position.specs.Variables.{sorts_of}
 use Rattle.mw_matching.specs.Found.{Values, found}
 use Rattle.mw_search.specs.Searches.{Matches, FitsSorts as FitsBySearch}
@@ -10,7 +10,7 @@ use Rattle.mw_match.specs.declared.parts.Parts.{Parts}
 use Rattle.mw_match.specs.declared.hand.Hand.{Hand}
 use Rattle.mw_match.specs.declared.solutions.Solution.{Solution}
 use Rattle.mw_match.specs.Solutions.{Coming, PassesTo, FitsSorts, candidate, matches_of}
-use Rattle.mw_match.specs.Parts.{Searched, searches_behind, entries_of, begins}
+use Rattle.mw_match.specs.Parts.{HasOtherNumber, Searched, searches_behind, entries_of, begins}
 
 -- this search has just begun
 abbrev pub HasBegun : Parts → Place → Matches → Type 0
@@ -45,6 +45,16 @@ IsNext old new o = MatchOption o (PassesTo old [] × (new.candidates ≡ [])) (�
 abbrev pub steps_of : List Searched → ℕ
 steps_of [] = 0
 steps_of (s ∷ ss) = suc (length s.1 + steps_of ss)
+
+-- of other searches the same is to come, in no more steps
+abbrev pub ComesTo : Parts → List Searched → List Searched → Type 0
+ComesTo p ss rs = (entries_of p ss ≡ entries_of p rs) × (steps_of rs ≤ steps_of ss)
+
+-- the whole has no match where it has another number of elements
+abbrev pub IsNoneByNumber : Parts → Values → Type 0
+IsNoneByNumber p vs =
+    HasOtherNumber p.context.now.signature p.compiled.now.positions.single.items p.compiled.now.pattern p.subject
+    → found p.context.now.signature p.compiled.now.positions.single.items p.compiled.now.pattern p.subject vs ≡ []
 
 -- the solutions with which a search for the whole begins
 abbrev pub first_of : Parts → Values → Coming

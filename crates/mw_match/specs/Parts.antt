@@ -1,17 +1,19 @@
 -- The searches from which the solutions of a pattern come: one for the whole of a term, and others for its proper parts, one behind another.
-use Rattle.std.specs.Prelude.{ℕ, zero, suc, ◌-◌, ◌+◌, List, [], ◌∷◌, map, flat_map, length, Bool, cond, ◌&&◌, nat_eq, Option, Some, None, option_map, option_and_then, option_to_list, slice_get, take}
+use Rattle.std.specs.Prelude.{◌≡◌, ℕ, zero, suc, ◌-◌, ◌+◌, List, [], ◌∷◌, map, flat_map, length, Bool, true, cond, ◌&&◌, nat_eq, Option, Some, None, option_map, option_and_then, option_to_list, slice_get, take}
 use Rattle.mw_logic.specs.Term.{RawTerm, numeral, quoted, variable, apply}
 use Rattle.mw_logic.specs.Terms.{args_of, skip}
 use Rattle.mw_logic.specs.Signature.{Signature}
 use Rattle.mw_logic.specs.Parts.{is_assoc, number_of_terms}
 use Rattle.mw_logic.specs.NormalForm.{is_comm, identity_of, elements}
-use Rattle.mw_matching.specs.Found.{Values, found}
+use Rattle.mw_matching.specs.Found.{Values, is_single, found}
+use Rattle.mw_matching.specs.Patterns.{leading}
 use Rattle.mw_search.specs.Goals.{top_of}
 use Rattle.mw_search.specs.Searches.{Matches}
 use Rattle.mw_solving.specs.Inside.{Entry, whole_entry, end_entry, left_numbers, joins, with_rest}
 use Rattle.mw_match.specs.declared.parts.Place.{Place}
 use Rattle.mw_match.specs.declared.parts.Place.TheVariants.{Whole, Left, End}
 use Rattle.mw_match.specs.declared.parts.Rest.{Rest}
+use Rattle.mw_match.specs.declared.parts.Rigid.{Rigid}
 use Rattle.mw_match.specs.declared.parts.Parts.{Parts}
 
 -- from argument i on, so many arguments on: to the end, and with some left behind
@@ -38,6 +40,13 @@ left_of sig (numeral n) i r = None
 left_of sig (quoted q) i r = None
 left_of sig (variable x) i r = None
 left_of sig (apply f ts) i r = cond (is_assoc sig f) (left_numbers (is_comm sig f) ts i (elements (identity_of sig f) f r)) None
+
+-- the arguments of a pattern become one element each under the associative operator on top, and a term has another number of elements
+pub record HasOtherNumber (sig : Signature) (single : List (List ℕ)) (p t : RawTerm) : Type 0 where
+  pub is : p ≡ apply (top_of p) (args_of p)
+  pub assoc : is_assoc sig (top_of p) ≡ true
+  pub rigid : leading sig (is_single single) (top_of p) (args_of p) ≡ number_of_terms (args_of p)
+  pub differs : number_of_terms (elements (identity_of sig (top_of p)) (top_of p) t) ≡ number_of_terms (args_of p) → ⊥
 
 -- a match with a last value that is left
 abbrev pub left_match : Signature → RawTerm → ℕ → Values → List Entry
@@ -97,6 +106,17 @@ module _ (p : Parts) where
 
   abbrev pub entries_of : List Searched → List Entry
   entries_of ss = flat_map (λ s. flat_map (entries_at s.0) s.1) ss
+
+  -- the searches behind a place with this rest
+  abbrev pub behind_with : Rest → Place → List Searched
+  behind_with r q = searches_at (Some r) (places_of p.context.now.signature p.subject q)
+
+  -- how many arguments of a pattern at the front are rigid under the operator on top
+  abbrev pub rigid_in : RawTerm → ℕ
+  rigid_in q = leading p.context.now.signature (is_single p.compiled.now.positions.single.items) (top_of q) (args_of q)
+
+  abbrev pub AreRigid : Rest → Rigid → Type 0
+  AreRigid r c = (c.end ≡ rigid_in p.compiled.now.pattern) × (c.left ≡ rigid_in r.pattern)
 
   -- a search that begins with a pattern, for the arguments from i on, and one at a place
   abbrev pub from_index : RawTerm → ℕ → Values → Matches

@@ -3,8 +3,8 @@ ghost use Rattle.std.specs.Prelude.{◌≡◌, ◌∷◌, [], false, true, map, 
 ghost use Rattle.mw_search.specs.Lacking.{Skips};
 ghost use Rattle.mw_search.specs.Searches.{FitsSorts as FitsBySearch};
 ghost use Rattle.mw_match.specs.Solutions.{PassesTo, LacksBySearch, candidate, matches_of};
-ghost use Rattle.mw_match.specs.Parts.{entries_at, searches_behind};
-ghost use Rattle.mw_match.specs.Hands.{IsKept, IsNext, HasBegun, coming_of};
+ghost use Rattle.mw_match.specs.Parts.{entries_at, entries_of, searches_behind};
+ghost use Rattle.mw_match.specs.Hands.{IsKept, IsNext, HasBegun, ComesTo, coming_of};
 
 use crate::parts::{Parts, Place};
 use crate::solutions::Solution;
@@ -54,12 +54,14 @@ impl<'c> Hand<'c> {
         Ok(made)
     }
 
-    /// Goes on with the next search, if there is one.
+    /// Goes on with the next search, if there is one that may have matches.
     fn turn(&mut self, parts: &Parts<'c>) -> Result<bool, AllocError>
         ensures more { let behind = searches_behind parts.now in
-            IfOk result (λ b. b ≡ true → (behind self.old.place ≡ (self.new.place, self.new.search.coming) ∷ behind self.new.place)
+            IfOk result (λ b. b ≡ true
+            → ComesTo parts.now (behind self.old.place) ((self.new.place, self.new.search.coming) ∷ behind self.new.place)
             × HasBegun parts.now self.new.place self.new.search × (self.new.found ≡ self.old.found)) }
-        ensures none { IfOk result (λ b. b ≡ false → (searches_behind parts.now self.old.place ≡ []) × (self.new ≡ self.old)) }
+        ensures none { IfOk result (λ b. b ≡ false
+            → (entries_of parts.now (searches_behind parts.now self.old.place) ≡ []) × (self.new ≡ self.old)) }
         ensures err { OnErr result (self.new ≡ self.old) }
     {
         let Some((place, search)) = parts.next_search(self.place)? else {

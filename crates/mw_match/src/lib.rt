@@ -60,6 +60,7 @@ mod by_position;
 mod hand;
 mod listing;
 mod parts;
+mod rows;
 mod solutions;
 mod sorts;
 mod takes;

@@ -1,15 +1,16 @@
 // The searches for the proper parts of a term, one behind another.
-ghost use Rattle.std.specs.Prelude.{◌≡◌, ◌∷◌, [], true, length, map, option_to_list, IfOk, MatchOption};
+ghost use Rattle.std.specs.Prelude.{◌≡◌, ◌∷◌, [], true, length, map, option_to_list, IfOk, MatchOption, IsTrue};
 ghost use Rattle.mw_logic.specs.NormalForm.{is_comm as is_comm_of};
 ghost use Rattle.mw_logic.specs.Parts.{number_of_terms};
 ghost use Rattle.mw_logic.specs.Terms.{args_of, skip};
 ghost use Rattle.mw_matching.specs.Found.{Values, found, found_row};
 ghost use Rattle.mw_search.specs.Goals.{top_of};
 ghost use Rattle.mw_match.specs.Solutions.{candidate};
-ghost use Rattle.mw_match.specs.Parts.{places_behind, places_of, arguments_from as arguments_from_of, from_of, rest_pattern, rest_of, entries_at, searches_behind, from_index, begins};
-ghost use Rattle.mw_match.specs.Hands.{HasBegun};
+ghost use Rattle.mw_match.specs.Parts.{places_behind, places_of, arguments_from as arguments_from_of, from_of, rest_pattern, rest_of, HasOtherNumber, rigid_in, AreRigid, entries_at, matches_at, behind_with, searches_behind, entries_of, from_index, begins};
+ghost use Rattle.mw_match.specs.Hands.{ComesTo, HasBegun};
 
 use crate::bindings::{bound, copied};
+use crate::rows::{elements_from, leading_rigid, row_clashes};
 use crate::solutions::Solution;
 use crate::takes::{left_numbers, numbers};
 use mw_canon::{Axioms, Facts, parts};
@@ -35,6 +36,13 @@ pub enum Place {
 pub struct Rest {
     pub pattern: Term,
     pub given: Seq<Term>,
+}
+
+/// How many arguments at the front become one element each, of the pattern and of that with a rest.
+#[derive(Clone, Copy)]
+pub struct Rigid {
+    pub end: usize,
+    pub left: usize,
 }
 
 /// A term with a pattern, as the searches for its parts need them.
@@ -248,16 +256,99 @@ impl<'c> Parts<'c> {
         Ok(search)
     }
 
-    /// The search behind the one at a place, where there is one.
+    /// Whether the pattern's arguments become one element each, and the term has another number of elements.
+    pub fn has_other_number(&self) -> bool
+        ensures { let single = self.now.compiled.now.positions.single.items in IsTrue result
+            → HasOtherNumber self.now.context.now.signature single self.now.compiled.now.pattern self.now.subject }
+    {
+        let View::Op(operator, patterns) = self.compiled.pattern.view() else {
+            return false;
+        };
+        let facts = self.context.facts();
+        let Axioms::Associative { .. } = facts.axioms(operator) else {
+            return false;
+        };
+        let number = parts(facts, operator, &self.subject).len();
+        if number == patterns.len() {
+            return false;
+        }
+        leading_rigid(facts, &self.compiled.positions, operator, patterns) == patterns.len()
+    }
+
+    /// How many of a pattern's arguments at the front become one element each, whatever their variables' values are.
+    fn rigid_front(&self, pattern: &Term) -> usize
+        ensures { result ≡ rigid_in self.now pattern.now }
+    {
+        match pattern.view() {
+            View::Op(operator, patterns) => {
+                let facts = self.context.facts();
+                leading_rigid(facts, &self.compiled.positions, operator, patterns)
+            }
+            _ => 0,
+        }
+    }
+
+    fn rigid(&self, rest: &Rest) -> Rigid
+        ensures { AreRigid self.now rest.now result }
+    {
+        let end = self.rigid_front(&self.compiled.pattern);
+        let left = self.rigid_front(&rest.pattern);
+        Rigid { end, left }
+    }
+
+    /// Whether the arguments from an index on are known to have no match, by those of the pattern at the front that
+    /// become one element each: so many.
+    fn is_none_from(&self, pattern: &Term, rigid: usize, from: usize, given: &[Term]) -> bool
+        ensures { IsTrue result → rigid ≡ rigid_in self.now pattern.now
+            → (from_index self.now pattern.now from given.now).coming ≡ [] }
+    {
+        if !self.is_row(pattern, from) {
+            return false;
+        }
+        let elements = elements_from(&self.subject, from);
+        let patterns = elements_from(pattern, 0);
+        row_clashes(self.context.facts(), patterns, rigid, elements, given)
+    }
+
+    /// Whether a place is known to have no match.
+    fn is_passed(&self, rest: &Rest, rigid: Rigid, place: Place) -> bool
+        ensures { IsTrue result → AreRigid self.now rest.now rigid → matches_at self.now rest.now place ≡ [] }
+    {
+        let given = rest.given.as_slice();
+        match place {
+            Place::Whole => false,
+            Place::End(from) => self.is_none_from(&self.compiled.pattern, rigid.end, from, given),
+            Place::Left(from) => self.is_none_from(&rest.pattern, rigid.left, from, given),
+        }
+    }
+
+    /// The place behind one, past those that are known to have no match.
+    fn next_place(&self, rest: &Rest, place: Place) -> Option<Place>
+        ensures { let behind = behind_with self.now rest.now in
+            MatchOption result (entries_of self.now (behind place) ≡ [])
+            (λ next. ComesTo self.now (behind place) ((next, matches_at self.now rest.now next) ∷ behind next)) }
+    {
+        let rigid = self.rigid(rest);
+        let mut at = place;
+        while let Some(next) = self.following(at) {
+            if !self.is_passed(rest, rigid, next) {
+                return Some(next);
+            }
+            at = next;
+        }
+        None
+    }
+
+    /// The search behind the one at a place, where there is one that may have matches.
     pub fn next_search(&self, place: Place) -> Result<Option<(Place, Search<'c>)>, AllocError>
         ensures { let behind = searches_behind self.now in
-            IfOk result (λ o. MatchOption o (behind place ≡ [])
-            (λ n. (behind place ≡ (n.0, n.1.coming) ∷ behind n.0) × HasBegun self.now n.0 n.1)) }
+            IfOk result (λ o. MatchOption o (entries_of self.now (behind place) ≡ [])
+            (λ n. ComesTo self.now (behind place) ((n.0, n.1.coming) ∷ behind n.0) × HasBegun self.now n.0 n.1)) }
     {
         let Some(rest) = &self.rest else {
             return Ok(None);
         };
-        let Some(next) = self.following(place) else {
+        let Some(next) = self.next_place(rest, place) else {
             return Ok(None);
         };
         let search = self.search_at(rest, next)?;

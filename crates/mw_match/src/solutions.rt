@@ -9,10 +9,10 @@ ghost use Rattle.mw_canon.specs.Canonical.{meant};
 ghost use Rattle.mw_solving.specs.Values.{IsValue, AreValues};
 ghost use Rattle.mw_compile.specs.Compiled.{IsCompiled};
 ghost use Rattle.mw_match.specs.Solutions.{AreNamed, IsAllSolutions, FitsSorts, PassesTo};
-ghost use Rattle.mw_match.specs.Hands.{first_of};
+ghost use Rattle.mw_match.specs.Hands.{IsKept, IsNoneByNumber, coming_of, first_of};
 ghost use Rattle.mw_match.specs.declared.parts.Rest.{Rest as RestOf};
 
-use crate::bindings::values_of;
+use crate::bindings::{copied, values_of};
 use crate::hand::Hand;
 use crate::parts::{Parts, Place, rest_for};
 use mw_compile::Compiled;
@@ -53,15 +53,17 @@ impl<'c> Model for Solutions<'c> {
     ghost invariant = { λ s. IsKept s.parts s.hand };
 }
 
-/// The solutions that the searches for a term and its parts give.
-fn begin<'c>(parts: Parts<'c>, given: Vec<Term>) -> Result<Solutions<'c>, AllocError>
-    requires sorts { parts.compiled.now.positions.sorts ≡ sorts_of parts.compiled.now.variables }
-    requires given { (r : RestOf) → parts.rest ≡ Some r → length given.items ≡ length r.given }
-    ensures { IfOk result (λ s. s ≡ first_of parts.entry given.items) }
+/// The search for the whole term.
+fn whole<'c>(parts: &Parts<'c>, given: &[Term]) -> Result<Hand<'c>, AllocError>
+    requires sorts { parts.now.compiled.now.positions.sorts ≡ sorts_of parts.now.compiled.now.variables }
+    requires given { (r : RestOf) → parts.now.rest ≡ Some r → length given.now ≡ length r.given }
+    ensures kept { IfOk result (IsKept parts.now) }
+    ensures first { IfOk result (λ h. coming_of parts.now h ≡ first_of parts.now given.now) }
 {
     let compiled = parts.compiled;
     let pattern = copy(&compiled.pattern)?;
     let subject = copy(&parts.subject)?;
+    let given = copied(parts.alloc, given)?;
     let search = Search::new(
         parts.alloc,
         parts.context,
@@ -70,11 +72,41 @@ fn begin<'c>(parts: Parts<'c>, given: Vec<Term>) -> Result<Solutions<'c>, AllocE
         subject,
         given,
     )?;
-    let hand = Hand {
+    Ok(Hand {
         place: Place::Whole,
         search,
         found: None,
-    };
+    })
+}
+
+/// The search for the whole term, or the one behind it where the number of elements tells that it has no match.
+fn first<'c>(parts: &Parts<'c>, given: &[Term]) -> Result<Hand<'c>, AllocError>
+    requires sorts { parts.now.compiled.now.positions.sorts ≡ sorts_of parts.now.compiled.now.variables }
+    requires given { (r : RestOf) → parts.now.rest ≡ Some r → length given.now ≡ length r.given }
+    ensures kept { IfOk result (IsKept parts.now) }
+    ensures first { IsNoneByNumber parts.now given.now
+        → IfOk result (λ h. coming_of parts.now h ≡ first_of parts.now given.now) }
+{
+    if parts.has_other_number() {
+        if let Some((place, search)) = parts.next_search(Place::Whole)? {
+            return Ok(Hand {
+                place,
+                search,
+                found: None,
+            });
+        }
+    }
+    let hand = whole(parts, given)?;
+    Ok(hand)
+}
+
+/// The solutions that the searches for a term and its parts give.
+fn begin<'c>(parts: Parts<'c>, given: &[Term]) -> Result<Solutions<'c>, AllocError>
+    requires sorts { parts.compiled.now.positions.sorts ≡ sorts_of parts.compiled.now.variables }
+    requires given { (r : RestOf) → parts.rest ≡ Some r → length given.now ≡ length r.given }
+    ensures { IsNoneByNumber parts.entry given.now → IfOk result (λ s. s ≡ first_of parts.entry given.now) }
+{
+    let hand = first(&parts, given)?;
     Ok(Solutions { parts, hand })
 }
 
@@ -105,7 +137,7 @@ impl<'c> Solutions<'c> {
             subject,
             rest: None,
         };
-        let solutions = begin(parts, values)?;
+        let solutions = begin(parts, values.as_slice())?;
         Ok(solutions)
     }
 
@@ -138,7 +170,7 @@ impl<'c> Solutions<'c> {
             subject,
             rest,
         };
-        let solutions = begin(parts, values)?;
+        let solutions = begin(parts, values.as_slice())?;
         Ok(solutions)
     }
 
@@ -168,7 +200,7 @@ impl<'c> Solutions<'c> {
             subject,
             rest,
         };
-        let solutions = begin(parts, Vec::new(alloc))?;
+        let solutions = begin(parts, &[])?;
         Ok(solutions)
     }
 

@@ -53,4 +53,4 @@ loop-self-preserved c =
     let r = reached_found c.args.parts.now c.args.self.now c.loop-self.self c.loop-self.invariant c.find.new.search c.find.new.found e.skips e.sorted e.same in
     let (none, empty) = none_found c.find.new.found c.find.new.search.coming (sym c.is_some.ensures ∙ c.if-is_some.false) c.in_ok-find.ensures.none in
     let (more, begun, found) = c.in_ok-turn.ensures.more c.if-not-branch.false in
-    reached_turned c.args.parts.now c.args.self.now h r none empty c.turn.new.self more begun found
+    reached_turned c.args.parts.now c.args.self.now h r none empty c.turn.new.self more.0 begun found

@@ -5,9 +5,9 @@ use Rattle.mw_solving.specs.Values.{AreValues}
 use Rattle.mw_compile.specs.declared.compiled.Compiled.{Compiled}
 use Rattle.mw_match.specs.Solutions.{AreNamed, IsAllSolutions}
 use Rattle.mw_match.specs.Parts.{rest_of, rest_pattern}
-use Rattle.mw_match.specs.Hands.{first_of}
+use Rattle.mw_match.specs.Hands.{IsNoneByNumber}
 use Rattle.mw_match.specs.declared.parts.Parts.{Parts}
-use Rattle.mw_match.proofs.Candidates.{compiled_solutions, compiled_named}
+use Rattle.mw_match.proofs.Candidates.{compiled_solutions, compiled_none, compiled_named}
 use Rattle.mw_match.proofs.solutions.Solutions.anywhere.Goals as goal
 
 none_valued : (sig : Signature) → AreValues sig []
@@ -24,7 +24,8 @@ returns-clause-all c p raw h v =
     let k = c.shows.ensures.signature in
     let sig : Signature = c.args.context.now.signature in
     let parts : Parts = record { alloc = c.args.alloc; context = c.args.context; compiled = c.args.compiled; subject = c.in_ok-subject.subject; rest = c.in_ok-rest.rest } in
-    subst (IsAllSolutions sig true p c.args.subject.now []) (sym (c.in_ok-solutions.ensures ∙ ap (first_of parts) c.new.ensures.items))
+    let none : IsNoneByNumber parts [] = compiled_none parts k.accepted k.well_sorted true p raw c.args.subject.now [] h tt (none_valued sig) v c.in_ok-subject.ensures (rest_is c) in
+    subst (IsAllSolutions sig true p c.args.subject.now []) (sym (c.in_ok-solutions.ensures none))
     (compiled_solutions parts k.accepted k.well_sorted true p raw c.args.subject.now [] h tt (none_valued sig) v c.in_ok-subject.ensures (rest_is c))
 
 pub returns-clause-named : goal.returns-clause-named
@@ -32,5 +33,6 @@ returns-clause-named c p raw h v =
     let k = c.shows.ensures.signature in
     let sig : Signature = c.args.context.now.signature in
     let parts : Parts = record { alloc = c.args.alloc; context = c.args.context; compiled = c.args.compiled; subject = c.in_ok-subject.subject; rest = c.in_ok-rest.rest } in
-    subst (AreNamed sig c.args.compiled.now.variables) (sym (c.in_ok-solutions.ensures ∙ ap (first_of parts) c.new.ensures.items))
+    let none : IsNoneByNumber parts [] = compiled_none parts k.accepted k.well_sorted true p raw c.args.subject.now [] h tt (none_valued sig) v c.in_ok-subject.ensures (rest_is c) in
+    subst (AreNamed sig c.args.compiled.now.variables) (sym (c.in_ok-solutions.ensures none))
     (compiled_named parts k.accepted k.well_sorted true p raw c.args.subject.now [] h tt (none_valued sig) v c.in_ok-subject.ensures (rest_is c))

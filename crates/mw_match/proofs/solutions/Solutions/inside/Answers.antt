@@ -5,9 +5,9 @@ use Rattle.mw_position.specs.Variables.{bound_values}
 use Rattle.mw_compile.specs.declared.compiled.Compiled.{Compiled}
 use Rattle.mw_match.specs.Solutions.{IsAllSolutions}
 use Rattle.mw_match.specs.Parts.{rest_of, rest_pattern}
-use Rattle.mw_match.specs.Hands.{first_of}
+use Rattle.mw_match.specs.Hands.{IsNoneByNumber, first_of}
 use Rattle.mw_match.specs.declared.parts.Parts.{Parts}
-use Rattle.mw_match.proofs.Candidates.{compiled_solutions}
+use Rattle.mw_match.proofs.Candidates.{compiled_solutions, compiled_none}
 use Rattle.mw_match.proofs.solutions.Solutions.inside.Goals as goal
 
 pub returns : goal.returns
@@ -20,5 +20,8 @@ returns c p raw h =
     c.in_ok-rest.ensures
     ∙ ap (λ vs. rest_of vs (rest_pattern c.facts.result.now compiled.positions.single.items compiled.pattern (length compiled.variables) c.args.subject.now)) (c.as_slice.ensures.value ∙ c.in_ok-values.ensures)
     ∙ ap (λ s. rest_of (bound_values c.args.given.now) (rest_pattern s compiled.positions.single.items compiled.pattern (length compiled.variables) c.args.subject.now)) c.facts.ensures in
-    subst (IsAllSolutions sig true p c.args.subject.now (meant sig c.args.given.now)) (sym (c.in_ok-solutions.ensures ∙ ap (first_of parts) c.in_ok-values.ensures))
+    let given : c.as_slice-2.result.now ≡ bound_values c.args.given.now = c.as_slice-2.ensures.value ∙ c.in_ok-values.ensures in
+    let none : IsNoneByNumber parts (bound_values c.args.given.now) =
+    compiled_none parts k.accepted k.well_sorted true p raw c.args.subject.now c.args.given.now h c.requires.given c.requires.values c.requires.subject c.in_ok-subject.ensures rest in
+    subst (IsAllSolutions sig true p c.args.subject.now (meant sig c.args.given.now)) (sym (c.in_ok-solutions.ensures (subst (IsNoneByNumber parts) (sym given) none) ∙ ap (first_of parts) given))
     (compiled_solutions parts k.accepted k.well_sorted true p raw c.args.subject.now c.args.given.now h c.requires.given c.requires.values c.requires.subject c.in_ok-subject.ensures rest)
