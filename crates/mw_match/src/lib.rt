@@ -37,7 +37,10 @@
 //! where the operator isn't commutative from each one on, beside searches without a rest there. What a match takes
 //! follows from the value of its rest; one that leaves nothing or takes a single argument is none. There are no such
 //! searches for a pattern that becomes one element, whatever its variables' values are, and for a subject without an
-//! associative operator on top. A search begins when the one before has no match left.
+//! associative operator on top. A search begins when the one before has no match left. None begins for the whole where
+//! each argument of the pattern becomes one element and the subject has another number of them, nor for neighbours where
+//! the arguments at the pattern's front, as far as each becomes one element, are more than those that are left or clash
+//! with them (`clashes` of mw_search).
 //!
 //! Conditions of `new` and `inside`: the subject and the given values are canonical terms that mean ground raw terms,
 //! the latter of their variables' sorts, each variable once; the compiled pattern has as many sorts as variables, and
