@@ -28,9 +28,9 @@
 //! elements. One element of a multiset is met before the others are copied, so one that the pattern fails on costs no
 //! such copy. Each share copies the goals that wait behind its choice. An argument is looked at again at each step that
 //! comes to it: whether it is one element whatever its variables' values are. That is one look, but for an argument
-//! that stands on an operator with an identity: its own arguments are looked at too, until two are found that are one
-//! element each. Nothing recurs but that, comparing terms and walking them for sorts. Neither proved nor tested: time
-//! and memory, and that calls answer with memory at hand.
+//! that stands on an associative operator with an identity: of its own arguments each is looked at three times at most.
+//! Nothing recurs but comparing terms and walking them for sorts. Neither proved nor tested: time and memory, and that
+//! calls answer with memory at hand.
 #![tactic(auto)]
 
 mod bags;
