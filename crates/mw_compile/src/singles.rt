@@ -177,26 +177,35 @@ impl<'c> Singles<'c> {
         false
     }
 
-    /// Whether an argument of an operator becomes one element, whatever its variables' values are.
-    #[cycle(rigid)]
-    pub fn is_rigid(&self, operator: OpId, argument: &Term) -> bool {
+    /// Whether an argument of an operator becomes one element, by what is on top of it.
+    fn is_one_argument(&self, operator: OpId, argument: &Term) -> bool {
         match argument.view() {
             View::Var(x) => self.is_one(operator, x.sort),
-            View::Op(top, args) if has_identity(self.facts(), top) => {
-                operator != top && self.has_two_rigid(top, args)
-            }
-            _ => self.nowhere.is_rigid(self.facts(), operator, argument),
+            _ => self.nowhere.is_one(self.facts(), operator, argument),
         }
     }
 
-    /// Whether two arguments of an operator at least become one element each.
-    #[cycle(rigid)]
-    fn has_two_rigid(&self, operator: OpId, args: &[Term]) -> bool {
+    /// Whether an argument of an operator becomes one element, whatever its variables' values are.
+    pub fn is_rigid(&self, operator: OpId, argument: &Term) -> bool {
+        if self.is_one_argument(operator, argument) {
+            return true;
+        }
+        match argument.view() {
+            View::Op(top, args) if operator != top && has_identity(self.facts(), top) => {
+                self.holds(operator, top, args)
+            }
+            _ => false,
+        }
+    }
+
+    /// Whether an associative operator on top of an argument of another one becomes one element by what it stands on:
+    /// two of its arguments are one element each, or one is one under both operators.
+    fn holds(&self, operator: OpId, top: OpId, args: &[Term]) -> bool {
         let mut has_one = false;
         let mut rest = args;
         while let [arg, after @ ..] = rest {
-            if self.is_rigid(operator, arg) {
-                if has_one {
+            if self.is_one_argument(top, arg) {
+                if has_one || self.is_one_argument(operator, arg) {
                     return true;
                 }
                 has_one = true;

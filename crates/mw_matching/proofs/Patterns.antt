@@ -1,15 +1,15 @@
 -- Rigid arguments become elements; so the splits that take them first lose nothing.
-use Rattle.std.specs.Prelude.{◌≡◌, ◌≤◌, ◌+◌, ℕ, suc, List, length, Bool, true, false, not, ◌&&◌, cond, nat_eq, nat_lt, Option, Some, None, is_some, unwrap_or, refl}
-use Rattle.std.proofs.Common.{ap, sym, subst, ◌∙◌, arith}
-use Rattle.std.proofs.lemmas.Bool.{and_parts, not-true, ltb-true}
-use Rattle.mw_logic.specs.Term.{RawTerm, numeral, quoted, variable, apply, RawTerms, nil, cons}
+use Rattle.std.specs.Prelude.{◌≡◌, ◌<◌, ◌≤◌, ◌⊎◌, ◌+◌, ℕ, suc, List, length, Bool, true, false, not, ◌&&◌, ◌||◌, cond, nat_eq, nat_lt, Option, Some, None, is_some, unwrap_or, refl}
+use Rattle.std.proofs.Common.{ap, sym, subst, ◌∙◌, inl, inr, arith}
+use Rattle.std.proofs.lemmas.Bool.{and_parts, not-true, ltb-true, cases_lt}
+use Rattle.mw_logic.specs.Term.{RawTerm, numeral, quoted, variable, apply, RawTerms, nil, cons, join}
 use Rattle.mw_logic.specs.Signature.{Signature, Identity, constant_of, numeral_of}
 use Rattle.mw_logic.specs.Accepted.{IsAccepted}
 use Rattle.mw_logic.specs.Kinds.{is_successor}
 use Rattle.mw_logic.specs.Parts.{is_assoc, number_of_terms}
 use Rattle.mw_logic.specs.TermOrder.{insert_term, sorted_terms, stands_after}
 use Rattle.mw_logic.specs.NormalForm.{is_comm, identity_of, is_identity, own_arguments, elements, flattened, rebuilt, arranged, counted, applied_in}
-use Rattle.mw_logic.proofs.Canonical.{IsElement, IsCanonical, is_identity-arguments, arranged-nil, Backed, own_arguments-backed}
+use Rattle.mw_logic.proofs.Canonical.{IsElement, IsCanonical, is_identity-arguments, arranged-nil, arranged-one, Backed, own_arguments-backed}
 use Rattle.mw_split.specs.Lists.{AllOnce}
 use Rattle.mw_position.specs.Positions.{IsNumbered, IsWithin, AreWithin}
 use Rattle.mw_arguments.specs.Arguments.{Gives, HasArity}
@@ -18,7 +18,7 @@ use Rattle.mw_arguments.proofs.Once.{once_same}
 use Rattle.mw_arguments.proofs.Splits.{exact}
 use Rattle.mw_matching.specs.Matches.{matches, evaluated, evaluated_all, Fits, IsMatch, HasArities, IsTheory}
 use Rattle.mw_matching.specs.Rigid.{FirstAreElements, rigid_splits}
-use Rattle.mw_matching.specs.Patterns.{is_rigid, number_rigid, leading, behind, splits_for, theory, AreSingle, InCase, FrontsFit}
+use Rattle.mw_matching.specs.Patterns.{is_one, number_ones, has_one_under_both, is_rigid, leading, behind, splits_for, theory, AreSingle, InCase, FrontsFit}
 use Rattle.mw_matching.proofs.Matches.{get_there, number_evaluated, matches_once}
 use Rattle.mw_matching.proofs.Rigid.{rigid_given_once}
 
@@ -70,6 +70,14 @@ several_element e f d g nil n l = absurd (omega (arith, l))
 several_element e f d g (cons t nil) n l = absurd (omega (arith, l))
 several_element e f d g (cons t (cons u us)) n l = rw (is_identity-arguments e g t (cons u us), n) refl
 
+-- one term is itself
+alone_element : (e : Option Identity) (f : ℕ) (d : Option Identity) (g : ℕ) (c : Bool) (ts : RawTerms) (t : RawTerm) → ts ≡ cons t nil → IsElement e f t → IsElement e f (rebuilt d g (arranged c ts))
+alone_element e f d g c ts t w o = subst (λ us. IsElement e f (rebuilt d g us)) (sym (ap (arranged c) w ∙ arranged-one c t)) o
+
+none_left : (ts : RawTerms) → number_of_terms ts ≤ 0 → ts ≡ nil
+none_left nil l = refl
+none_left (cons t ts) l = absurd (omega (arith, l))
+
 some_backed : (ts : RawTerms) → Backed None ts → 1 ≤ number_of_terms ts
 some_backed nil b = cc
 some_backed (cons t ts) b = omega arith
@@ -103,52 +111,106 @@ module _ (sig : Signature) (ok : IsAccepted sig) (has : ℕ → RawTerm → Bool
       let m = number_arranged (is_comm sig g) (flattened (identity_of sig g) g ts) in
       rw a (several_element (identity_of sig f) f (identity_of sig g) g (arranged (is_comm sig g) (flattened (identity_of sig g) g ts)) n (omega (arith, m, l)))
 
-  mutual
-    pub rigid_element : (f : ℕ) (q : RawTerm) (us : List RawTerm) → is_rigid sig single f q ≡ true → Fits sig (theory sig has single) 0 us → IsWithin (length us) q → IsElement (identity_of sig f) f (evaluated sig us q)
-    rigid_element f (numeral n) us h g w = rw (not-true (is_identity (identity_of sig f) (numeral n)) h) refl
-    rigid_element f (quoted q) us h g w = quoted_element (identity_of sig f) f q
-    rigid_element f (variable x) us h g w =
-        let (u, e) = get_there us x.sort w in
-        let p = g x.sort u (omega arith) e in
-        subst (IsElement (identity_of sig f) f) (ap (λ o. unwrap_or o (variable x)) (sym e)) (singles f x.sort u h p.0 p.1)
-    rigid_element f (apply h ts) us r g w =
-        let (n, r1) = and_parts _ _ r in
-        let (s, i) = and_parts _ _ r1 in
-        by_assoc (rigid_become h ts us g w) (not-true (nat_eq f h) n) (not-true (is_identity (identity_of sig f) (apply h ts)) i) (is_assoc sig h) refl s
-      where
-        not_named : (ts : RawTerms) → is_identity (identity_of sig f) (apply h ts) ≡ false → evaluated_all sig us ts ≡ nil → is_identity (identity_of sig f) (apply h nil) ≡ false
-        not_named nil i e = i
-        not_named (cons t ts) i e = cc
+  one_element : (f : ℕ) (q : RawTerm) (us : List RawTerm) → is_one sig single f q ≡ true → Fits sig (theory sig has single) 0 us → IsWithin (length us) q → IsElement (identity_of sig f) f (evaluated sig us q)
+  one_element f (numeral n) us h g w = rw (not-true (is_identity (identity_of sig f) (numeral n)) h) refl
+  one_element f (quoted q) us h g w = quoted_element (identity_of sig f) f q
+  one_element f (variable x) us h g w =
+      let (u, e) = get_there us x.sort w in
+      let p = g x.sort u (omega arith) e in
+      subst (IsElement (identity_of sig f) f) (ap (λ o. unwrap_or o (variable x)) (sym e)) (singles f x.sort u h p.0 p.1)
+  one_element f (apply h ts) us r g w =
+      let (n, r1) = and_parts _ _ r in
+      let (s, i) = and_parts _ _ r1 in
+      by_assoc (not-true (nat_eq f h) n) (not-true (is_identity (identity_of sig f) (apply h ts)) i) (is_assoc sig h) refl s
+    where
+      not_named : (ts : RawTerms) → is_identity (identity_of sig f) (apply h ts) ≡ false → evaluated_all sig us ts ≡ nil → is_identity (identity_of sig f) (apply h nil) ≡ false
+      not_named nil i e = i
+      not_named (cons t ts) i e = cc
 
-        several : number_rigid sig single h ts ≤ number_of_terms (flattened (identity_of sig h) h (evaluated_all sig us ts)) → (d : Option Identity) → identity_of sig h ≡ d
-            → nat_lt 1 (cond (is_some d) (number_rigid sig single h ts) (number_of_terms ts)) ≡ true → 2 ≤ number_of_terms (flattened (identity_of sig h) h (evaluated_all sig us ts))
-        several l None e s =
-            let a = ltb-true 1 (number_of_terms ts) s in
-            let m = number_evaluated sig ok (theory sig has single) us ts in
-            let k : number_of_terms (evaluated_all sig us ts) ≤ number_of_terms (flattened (identity_of sig h) h (evaluated_all sig us ts)) = rw e (all_become h (evaluated_all sig us ts)) in
-            omega (arith, a, m, k)
-        several l (Some d) e s = let a = ltb-true 1 (number_rigid sig single h ts) s in omega (arith, a, l)
+      several : (d : Option Identity) → identity_of sig h ≡ d → not (is_some d) ≡ true → nat_lt 1 (number_of_terms ts) ≡ true → 2 ≤ number_of_terms (flattened (identity_of sig h) h (evaluated_all sig us ts))
+      several None e n l =
+          let a = ltb-true 1 (number_of_terms ts) l in
+          let m = number_evaluated sig ok (theory sig has single) us ts in
+          let k : number_of_terms (evaluated_all sig us ts) ≤ number_of_terms (flattened (identity_of sig h) h (evaluated_all sig us ts)) = rw e (all_become h (evaluated_all sig us ts)) in
+          omega (arith, a, m, k)
+      several (Some d) e n l = cc
 
-        by_assoc : number_rigid sig single h ts ≤ number_of_terms (flattened (identity_of sig h) h (evaluated_all sig us ts)) → nat_eq f h ≡ false → is_identity (identity_of sig f) (apply h ts) ≡ false → (b : Bool) → is_assoc sig h ≡ b
-            → cond b (nat_lt 1 (cond (is_some (identity_of sig h)) (number_rigid sig single h ts) (number_of_terms ts))) (not (is_successor sig h)) ≡ true → IsElement (identity_of sig f) f (applied_in sig h (evaluated_all sig us ts))
-        by_assoc l n i false a s = free_element f h (evaluated_all sig us ts) n a (not-true (is_successor sig h) s) (λ e. not_named ts i e)
-        by_assoc l n i true a s = assoc_element f h (evaluated_all sig us ts) n a (several l (identity_of sig h) refl s)
+      by_assoc : nat_eq f h ≡ false → is_identity (identity_of sig f) (apply h ts) ≡ false → (b : Bool) → is_assoc sig h ≡ b
+          → cond b (not (is_some (identity_of sig h)) && nat_lt 1 (number_of_terms ts)) (not (is_successor sig h)) ≡ true → IsElement (identity_of sig f) f (applied_in sig h (evaluated_all sig us ts))
+      by_assoc n i false a s = free_element f h (evaluated_all sig us ts) n a (not-true (is_successor sig h) s) (λ e. not_named ts i e)
+      by_assoc n i true a s = let (d, l) = and_parts _ _ s in assoc_element f h (evaluated_all sig us ts) n a (several (identity_of sig h) refl d l)
 
-    -- rigid arguments become an element each, and the others maybe more
-    rigid_become : (f : ℕ) (qs : RawTerms) (us : List RawTerm) → Fits sig (theory sig has single) 0 us → AreWithin (length us) qs → number_rigid sig single f qs ≤ number_of_terms (flattened (identity_of sig f) f (evaluated_all sig us qs))
-    rigid_become f nil us g w = omega arith
-    rigid_become f (cons q qs) us g w =
-        let m = number_join (elements (identity_of sig f) f (evaluated sig us q)) (flattened (identity_of sig f) f (evaluated_all sig us qs)) in
-        by_test m (λ r. rigid_element f q us r g w.0) (rigid_become f qs us g w.1) (is_rigid sig single f q) refl
-      where
-        by_test : number_of_terms (flattened (identity_of sig f) f (evaluated_all sig us (cons q qs))) ≡ number_of_terms (elements (identity_of sig f) f (evaluated sig us q)) + number_of_terms (flattened (identity_of sig f) f (evaluated_all sig us qs))
-            → (is_rigid sig single f q ≡ true → IsElement (identity_of sig f) f (evaluated sig us q))
-            → number_rigid sig single f qs ≤ number_of_terms (flattened (identity_of sig f) f (evaluated_all sig us qs)) → (b : Bool) → is_rigid sig single f q ≡ b
-            → cond b (suc (number_rigid sig single f qs)) (number_rigid sig single f qs) ≤ number_of_terms (flattened (identity_of sig f) f (evaluated_all sig us (cons q qs)))
-        by_test m one l true r =
-            let k : number_of_terms (elements (identity_of sig f) f (evaluated sig us q)) ≡ 1 = ap number_of_terms (one r) in
-            omega (arith, m, k, l)
-        by_test m one l false r = omega (arith, m, l)
+  -- what becomes one element stays one, and the others may become more
+  ones_become : (f : ℕ) (qs : RawTerms) (us : List RawTerm) → Fits sig (theory sig has single) 0 us → AreWithin (length us) qs → number_ones sig single f qs ≤ number_of_terms (flattened (identity_of sig f) f (evaluated_all sig us qs))
+  ones_become f nil us g w = omega arith
+  ones_become f (cons q qs) us g w = by_test (ones_become f qs us g w.1) (is_one sig single f q) refl
+    where
+      m : number_of_terms (flattened (identity_of sig f) f (evaluated_all sig us (cons q qs))) ≡ number_of_terms (elements (identity_of sig f) f (evaluated sig us q)) + number_of_terms (flattened (identity_of sig f) f (evaluated_all sig us qs))
+      m = number_join (elements (identity_of sig f) f (evaluated sig us q)) (flattened (identity_of sig f) f (evaluated_all sig us qs))
+
+      by_test : number_ones sig single f qs ≤ number_of_terms (flattened (identity_of sig f) f (evaluated_all sig us qs)) → (b : Bool) → is_one sig single f q ≡ b
+          → cond b (suc (number_ones sig single f qs)) (number_ones sig single f qs) ≤ number_of_terms (flattened (identity_of sig f) f (evaluated_all sig us (cons q qs)))
+      by_test l true r =
+          let k : number_of_terms (elements (identity_of sig f) f (evaluated sig us q)) ≡ 1 = ap number_of_terms (one_element f q us r g w.0) in
+          omega (arith, m, k, l)
+      by_test l false r = omega (arith, m, l)
+
+  -- zs is one term, which is an element under f
+  abbrev IsAlone : ℕ → RawTerms → Type 0
+  IsAlone f zs = (t : RawTerm) × (zs ≡ cons t nil) × IsElement (identity_of sig f) f t
+
+  -- of arguments that become one element under g alone it is one under f too, if one of them becomes one under both
+  one_left : (f g : ℕ) (qs : RawTerms) (us : List RawTerm) → has_one_under_both sig single f g qs ≡ true → Fits sig (theory sig has single) 0 us → AreWithin (length us) qs
+      → number_of_terms (flattened (identity_of sig g) g (evaluated_all sig us qs)) ≤ 1 → IsAlone f (flattened (identity_of sig g) g (evaluated_all sig us qs))
+  one_left f g nil us h k w l = cc
+  one_left f g (cons q qs) us h k w l =
+      by_test (elements (identity_of sig g) g (evaluated sig us q)) (flattened (identity_of sig g) g (evaluated_all sig us qs)) (λ i. one_element g q us i k w.0) (λ h l. one_left f g qs us h k w.1 l)
+      (is_one sig single f q && is_one sig single g q) refl h l
+    where
+      by_test : (own rest : RawTerms) → (is_one sig single g q ≡ true → own ≡ cons (evaluated sig us q) nil) → (has_one_under_both sig single f g qs ≡ true → number_of_terms rest ≤ 1 → IsAlone f rest)
+          → (b : Bool) → (is_one sig single f q && is_one sig single g q) ≡ b → (b || has_one_under_both sig single f g qs) ≡ true → number_of_terms (join own rest) ≤ 1 → IsAlone f (join own rest)
+      by_test own rest one later true e h l =
+          let (a, b) = and_parts _ _ e in
+          let o = one b in
+          let n : number_of_terms own ≡ 1 = ap number_of_terms o in
+          let m = number_join own rest in
+          (evaluated sig us q, ap (λ xs. join xs rest) o ∙ ap (cons (evaluated sig us q)) (none_left rest (omega (arith, m, n, l))), one_element f q us a k w.0)
+      by_test own rest one later false e h l =
+          let m = number_join own rest in
+          let (t, z, o) = later h (omega (arith, m, l)) in
+          let n : number_of_terms rest ≡ 1 = ap number_of_terms z in
+          (t, ap (λ xs. join xs rest) (none_left own (omega (arith, m, n, l))) ∙ z, o)
+
+  -- under an associative operator stand two elements, or one that is one under f
+  held_element : (f g : ℕ) (ts : RawTerms) → nat_eq f g ≡ false → is_assoc sig g ≡ true → (number_of_terms (flattened (identity_of sig g) g ts) ≤ 1 → IsAlone f (flattened (identity_of sig g) g ts))
+      → IsElement (identity_of sig f) f (applied_in sig g ts)
+  held_element f g ts n a one = by_number (cases_lt 1 (number_of_terms (flattened (identity_of sig g) g ts)))
+    where
+      by_number : (1 < number_of_terms (flattened (identity_of sig g) g ts)) ⊎ (number_of_terms (flattened (identity_of sig g) g ts) ≤ 1) → IsElement (identity_of sig f) f (applied_in sig g ts)
+      by_number (inl l) = assoc_element f g ts n a (omega (arith, l))
+      by_number (inr l) = let (t, w, o) = one l in rw a (alone_element (identity_of sig f) f (identity_of sig g) g (is_comm sig g) (flattened (identity_of sig g) g ts) t w o)
+
+  pub rigid_element : (f : ℕ) (q : RawTerm) (us : List RawTerm) → is_rigid sig single f q ≡ true → Fits sig (theory sig has single) 0 us → IsWithin (length us) q → IsElement (identity_of sig f) f (evaluated sig us q)
+  rigid_element f (numeral n) us h g w = one_element f (numeral n) us h g w
+  rigid_element f (quoted q) us h g w = one_element f (quoted q) us h g w
+  rigid_element f (variable x) us h g w = one_element f (variable x) us h g w
+  rigid_element f (apply h ts) us r g w = by_top (is_one sig single f (apply h ts)) refl r
+    where
+      by_ones : (b : Bool) → nat_lt 1 (number_ones sig single h ts) ≡ b → (b || has_one_under_both sig single f h ts) ≡ true → number_of_terms (flattened (identity_of sig h) h (evaluated_all sig us ts)) ≤ 1
+          → IsAlone f (flattened (identity_of sig h) h (evaluated_all sig us ts))
+      by_ones true e r l =
+          let a = ltb-true 1 (number_ones sig single h ts) e in
+          let k = ones_become h ts us g w in
+          absurd (omega (arith, a, k, l))
+      by_ones false e r l = one_left f h ts us r g w l
+
+      by_top : (b : Bool) → is_one sig single f (apply h ts) ≡ b
+          → (b || (not (nat_eq f h) && (is_assoc sig h && (nat_lt 1 (number_ones sig single h ts) || has_one_under_both sig single f h ts)))) ≡ true → IsElement (identity_of sig f) f (applied_in sig h (evaluated_all sig us ts))
+      by_top true e r = one_element f (apply h ts) us e g w
+      by_top false e r =
+          let (n, r1) = and_parts _ _ r in
+          let (a, r2) = and_parts _ _ r1 in
+          held_element f h (evaluated_all sig us ts) (not-true (nat_eq f h) n) a (λ l. by_ones (nat_lt 1 (number_ones sig single h ts)) refl r2 l)
 
   first_elements : (f : ℕ) (qs : RawTerms) (us : List RawTerm) → Fits sig (theory sig has single) 0 us → AreWithin (length us) qs → FirstAreElements (identity_of sig f) f (leading sig single f qs) (evaluated_all sig us qs)
   first_elements f nil us g w = tt

@@ -1,5 +1,5 @@
 -- Which arguments of a pattern become one element, whatever their values are; and the splits that take these first.
-use Rattle.std.specs.Prelude.{◌≡◌, ℕ, suc, List, Bool, true, false, not, ◌&&◌, cond, nat_eq, nat_lt, is_some, ⊤}
+use Rattle.std.specs.Prelude.{◌≡◌, ℕ, suc, List, Bool, true, false, not, ◌&&◌, ◌||◌, cond, nat_eq, nat_lt, is_some, ⊤}
 use Rattle.mw_logic.specs.Term.{RawTerm, numeral, quoted, variable, apply, RawTerms, nil, cons}
 use Rattle.mw_logic.specs.Signature.{Signature}
 use Rattle.mw_logic.specs.Kinds.{is_successor}
@@ -10,23 +10,35 @@ use Rattle.mw_arguments.specs.Splits.{splits_of}
 use Rattle.mw_matching.specs.Matches.{Theory}
 use Rattle.mw_matching.specs.Rigid.{FirstAreElements, rigid_splits}
 
--- Operator g stays on top of n arguments, r of which are rigid, whatever values their variables have: it isn't the successor, and of an associative one two
--- arguments at least become elements, as each does where there is no identity.
-abbrev pub stays : Signature → ℕ → ℕ → ℕ → Bool
-stays sig g n r = cond (is_assoc sig g) (nat_lt 1 (cond (is_some (identity_of sig g)) r n)) (not (is_successor sig g))
+-- Operator g stays on top of n arguments, whatever these become: it isn't the successor and, where it is associative, has no identity and two arguments at least.
+abbrev pub stays : Signature → ℕ → ℕ → Bool
+stays sig g n = cond (is_assoc sig g) (not (is_some (identity_of sig g)) && nat_lt 1 n) (not (is_successor sig g))
 
--- `single f i` says that what may stand at position i is one element under f, by its sort
-abbrev mutual
-  pub is_rigid : Signature → (ℕ → ℕ → Bool) → ℕ → RawTerm → Bool
-  is_rigid sig single f (numeral n) = not (is_identity (identity_of sig f) (numeral n))
-  is_rigid sig single f (quoted q) = true
-  is_rigid sig single f (variable x) = single f x.sort
-  is_rigid sig single f (apply g ts) = not (nat_eq f g) && (stays sig g (number_of_terms ts) (number_rigid sig single g ts) && not (is_identity (identity_of sig f) (apply g ts)))
+-- q becomes one element under f, by what is on top of it; `single f i` says that what may stand at position i is one, by its sort
+abbrev pub is_one : Signature → (ℕ → ℕ → Bool) → ℕ → RawTerm → Bool
+is_one sig single f (numeral n) = not (is_identity (identity_of sig f) (numeral n))
+is_one sig single f (quoted q) = true
+is_one sig single f (variable x) = single f x.sort
+is_one sig single f (apply g ts) = not (nat_eq f g) && (stays sig g (number_of_terms ts) && not (is_identity (identity_of sig f) (apply g ts)))
 
-  -- how many arguments are rigid
-  pub number_rigid : Signature → (ℕ → ℕ → Bool) → ℕ → RawTerms → ℕ
-  number_rigid sig single f nil = 0
-  number_rigid sig single f (cons t ts) = cond (is_rigid sig single f t) (suc (number_rigid sig single f ts)) (number_rigid sig single f ts)
+-- how many arguments become one element
+abbrev pub number_ones : Signature → (ℕ → ℕ → Bool) → ℕ → RawTerms → ℕ
+number_ones sig single f nil = 0
+number_ones sig single f (cons q qs) = cond (is_one sig single f q) (suc (number_ones sig single f qs)) (number_ones sig single f qs)
+
+-- an argument becomes one element under f, and under g too
+abbrev pub has_one_under_both : Signature → (ℕ → ℕ → Bool) → ℕ → ℕ → RawTerms → Bool
+has_one_under_both sig single f g nil = false
+has_one_under_both sig single f g (cons q qs) = (is_one sig single f q && is_one sig single g q) || has_one_under_both sig single f g qs
+
+-- An argument is rigid by what is on top of it, or by what an associative operator g on top stands on: two arguments that become one element each keep g on
+-- top, and one is left, if the others vanish, as an element under f.
+abbrev pub is_rigid : Signature → (ℕ → ℕ → Bool) → ℕ → RawTerm → Bool
+is_rigid sig single f (numeral n) = is_one sig single f (numeral n)
+is_rigid sig single f (quoted q) = true
+is_rigid sig single f (variable x) = single f x.sort
+is_rigid sig single f (apply g ts) = is_one sig single f (apply g ts)
+    || (not (nat_eq f g) && (is_assoc sig g && (nat_lt 1 (number_ones sig single g ts) || has_one_under_both sig single f g ts)))
 
 -- how many arguments at the front are rigid, and how many stand behind
 abbrev pub leading : Signature → (ℕ → ℕ → Bool) → ℕ → RawTerms → ℕ

@@ -37,9 +37,9 @@
 //! such copy, and one that is passed over a few comparisons. Whether elements stand in order is looked at once, for a
 //! variable that stands twice. Each share copies the goals that wait behind its choice. An argument is looked at again
 //! at each step that comes to it: whether it is one element whatever its variables' values are. That is one look, but
-//! for an argument that stands on an operator with an identity: its own arguments are looked at too, until two are found
-//! that are one element each. Nothing recurs but that, comparing terms, walking them for sorts and looking for clashes.
-//! Neither proved nor tested: time and memory, and that calls answer with memory at hand.
+//! for an argument that stands on an associative operator with an identity: of its own arguments each is looked at three
+//! times at most. Nothing recurs but comparing terms, walking them for sorts and looking for clashes. Neither proved nor
+//! tested: time and memory, and that calls answer with memory at hand.
 #![tactic(auto)]
 
 mod bags;

@@ -1,10 +1,11 @@
 // What may stand at the positions of a pattern.
-ghost use Rattle.std.specs.Prelude.{◌≡◌, nat_lt, option_map};
+ghost use Rattle.std.specs.Prelude.{◌≡◌, ◌&&◌, ◌||◌, not, nat_eq, nat_lt, option_map};
 ghost use Rattle.mw_logic.specs.NormalForm.{identity_of, is_identity as is_identity_of};
-ghost use Rattle.mw_logic.specs.Parts.{number_of_terms};
+ghost use Rattle.mw_logic.specs.Parts.{is_assoc as is_assoc_in, number_of_terms};
 ghost use Rattle.mw_logic.specs.Terms.{terms_of};
 ghost use Rattle.mw_term.specs.Signatures.{identity_of as identity_named};
 ghost use Rattle.mw_matching.specs.Found.{is_among as is_among_of, is_element as is_element_of, is_element_under_all as is_element_under_all_of, stands as stands_of};
+ghost use Rattle.mw_matching.specs.Patterns.{stays as stays_on};
 
 use mw_canon::{Axioms, Facts, parts};
 use mw_term::{Identity, OpId, Seq, SortId, Term, View};
@@ -19,7 +20,7 @@ pub struct Positions {
 
 impl Positions {
     ghost use Rattle.mw_matching.specs.Found.{operators_at, is_single, fits};
-    ghost use Rattle.mw_matching.specs.Patterns.{is_rigid, stays, number_rigid};
+    ghost use Rattle.mw_matching.specs.Patterns.{is_one, is_rigid, number_ones, has_one_under_both};
 
     fn operators_at(&self, position: u32) -> &[OpId]
         ensures { result.now ≡ operators_at self.now.single.items position }
@@ -45,49 +46,52 @@ impl Positions {
     }
 
     /// Whether a pattern becomes one element under an operator, whatever its variables' values are.
-    #[cycle(rigid)]
     pub fn is_rigid(&self, facts: &Facts, operator: OpId, pattern: &Term) -> bool
         ensures { result ≡ is_rigid facts.now (is_single self.now.single.items) operator pattern.now }
+    {
+        match pattern.view() {
+            View::Nat(_) | View::Qid(_) | View::Var(_) => self.is_one(facts, operator, pattern),
+            View::Op(top, args) => {
+                self.is_one(facts, operator, pattern) || self.holds(facts, operator, top, args)
+            }
+        }
+    }
+
+    /// Whether a pattern becomes one element under an operator, by what is on top of it.
+    pub fn is_one(&self, facts: &Facts, operator: OpId, pattern: &Term) -> bool
+        ensures { result ≡ is_one facts.now (is_single self.now.single.items) operator pattern.now }
     {
         match pattern.view() {
             View::Nat(_) => !is_identity(facts, operator, pattern),
             View::Qid(_) => true,
             View::Var(x) => self.is_single(operator, x.sort),
             View::Op(top, args) => {
-                operator != top
-                    && self.stays(facts, top, args)
-                    && !is_identity(facts, operator, pattern)
+                operator != top && stays(facts, top, args) && !is_identity(facts, operator, pattern)
             }
         }
     }
 
-    /// Whether an operator stays on top of its arguments, whatever their variables' values are.
-    #[cycle(rigid)]
-    fn stays(&self, facts: &Facts, operator: OpId, args: &[Term]) -> bool
-        ensures { let ts = terms_of args.now in let single = is_single self.now.single.items in
-            result ≡ stays facts.now operator (number_of_terms ts) (number_rigid facts.now single operator ts) }
+    /// Whether another associative operator on top becomes one element by what it stands on.
+    fn holds(&self, facts: &Facts, operator: OpId, top: OpId, args: &[Term]) -> bool
+        ensures { let single = is_single self.now.single.items in let ts = terms_of args.now in
+            result ≡ (not (nat_eq operator top) && (is_assoc_in facts.now top && (nat_lt 1 (number_ones facts.now single top ts)
+            || has_one_under_both facts.now single operator top ts))) }
     {
-        match facts.axioms(operator) {
-            Axioms::Plain => true,
-            Axioms::Commutative => true,
-            Axioms::Successor => false,
-            Axioms::Associative { identity, .. } => match identity {
-                Some(_) => self.has_two_rigid(facts, operator, args),
-                None => 1 < args.len(),
-            },
-        }
+        operator != top
+            && is_assoc(facts, top)
+            && (self.has_two_ones(facts, top, args)
+                || self.has_one_under_both(facts, operator, top, args))
     }
 
-    /// Whether two terms at least become one element each under an operator.
-    #[cycle(rigid)]
-    fn has_two_rigid(&self, facts: &Facts, operator: OpId, terms: &[Term]) -> bool
+    /// Whether two terms at least become one element each under an operator, by what is on top of them.
+    fn has_two_ones(&self, facts: &Facts, operator: OpId, terms: &[Term]) -> bool
         ensures { let single = is_single self.now.single.items in
-            result ≡ nat_lt 1 (number_rigid facts.now single operator (terms_of terms.now)) }
+            result ≡ nat_lt 1 (number_ones facts.now single operator (terms_of terms.now)) }
     {
         let mut has_one = false;
         let mut rest = terms;
         while let [term, after @ ..] = rest {
-            if self.is_rigid(facts, operator, term) {
+            if self.is_one(facts, operator, term) {
                 if has_one {
                     return true;
                 }
@@ -96,6 +100,48 @@ impl Positions {
             rest = after;
         }
         false
+    }
+
+    /// Whether a term becomes one element under two operators, by what is on top of it.
+    fn has_one_under_both(&self, facts: &Facts, first: OpId, second: OpId, terms: &[Term]) -> bool
+        ensures { let single = is_single self.now.single.items in
+            result ≡ has_one_under_both facts.now single first second (terms_of terms.now) }
+    {
+        let mut rest = terms;
+        while let [term, after @ ..] = rest {
+            if self.is_one(facts, first, term) && self.is_one(facts, second, term) {
+                return true;
+            }
+            rest = after;
+        }
+        false
+    }
+}
+
+/// Whether an operator stays on top of its arguments, whatever these become.
+fn stays(facts: &Facts, operator: OpId, args: &[Term]) -> bool
+    ensures { result ≡ stays_on facts.now operator (number_of_terms (terms_of args.now)) }
+{
+    match facts.axioms(operator) {
+        Axioms::Plain => true,
+        Axioms::Commutative => true,
+        Axioms::Successor => false,
+        Axioms::Associative { identity, .. } => match identity {
+            Some(_) => false,
+            None => 1 < args.len(),
+        },
+    }
+}
+
+/// Whether an operator is associative.
+fn is_assoc(facts: &Facts, operator: OpId) -> bool
+    ensures { result ≡ is_assoc_in facts.now operator }
+{
+    match facts.axioms(operator) {
+        Axioms::Plain => false,
+        Axioms::Commutative => false,
+        Axioms::Successor => false,
+        Axioms::Associative { .. } => true,
     }
 }
 
