@@ -1,11 +1,12 @@
 -- How many levels a right side has where it comes, by what is told of it.
-use Rattle.std.specs.Prelude.{◌≡◌, ◌↔◌, ◌&&◌, ◌≤◌, ◌-◌, ◌+◌, ◌^◌, min, ℕ, List, Bool, true, false, cond, nat_eq, Option, Some, None, option_to_list, IsTrue, refl}
+use Rattle.std.specs.Prelude.{◌≡◌, ◌↔◌, ◌&&◌, ◌≤◌, ◌-◌, ◌+◌, ◌^◌, min, max, ℕ, zero, suc, List, [], ◌∷◌, unwrap_or, slice_get, Bool, true, false, cond, nat_eq, Option, Some, None, option_to_list, IsTrue, refl}
 use Rattle.std.proofs.Common.{sym, subst, ap, ◌∙◌, arith}
 use Rattle.std.proofs.lemmas.Bool.{both_ways, and_parts, eqb-true}
-use Rattle.mw_logic.specs.Term.{RawTerm, RawTerms, numeral, quoted, variable, apply, nil, cons}
+use Rattle.mw_logic.specs.Term.{Variable, RawTerm, RawTerms, numeral, quoted, variable, apply, nil, cons}
 use Rattle.mw_logic.specs.Signature.{Signature}
 use Rattle.mw_logic.specs.Parts.{is_assoc}
-use Rattle.mw_logic.specs.NormalForm.{applied_in, height}
+use Rattle.mw_logic.specs.NormalForm.{applied_in, height, highest}
+use Rattle.mw_logic.specs.Terms.{terms_of}
 use Rattle.mw_canon.specs.Axioms.{HasAxioms}
 use Rattle.mw_canon.specs.declared.axioms.Axioms.TheVariants.{Plain}
 use Rattle.mw_canon.proofs.Ordered.{uncounted}
@@ -64,3 +65,27 @@ plain_told sig vs p f ts hole b above d e q t ed l =
     let m : height (fill vs p) ≡ height (evaluated sig vs p) = ap height (sym (evaluated_free sig vs p q)) in
     let P : RawTerm → Type 0 = λ v. IsTrue b ↔ (hole_level sig (option_to_list hole) v + height v ≤ 1000) in
     subst P (sym k) (fits_told b above d (hole_level sig (option_to_list hole) (apply f (fill_all vs ts))) (height (apply f (fill_all vs ts))) t (ed ∙ ap (λ h. min h (2 ^ 16 - 1)) (m ∙ ap height k)) (l (fill_all vs ts) (height (apply f (fill_all vs ts))) g.0.0))
+
+-- a value is no deeper than the deepest one
+value_low : (vs : List RawTerm) (i : ℕ) (x : Variable) → height (unwrap_or (slice_get vs i) (variable x)) ≤ 1 + highest (terms_of vs)
+value_low [] i x = omega arith
+value_low (v ∷ vs) zero x = omega arith
+value_low (v ∷ vs) (suc i) x = let h = value_low vs i x in omega (arith, h)
+
+-- An instance has no more levels than the pattern and the deepest value have together.
+module _ (vs : List RawTerm) where
+  mutual
+    pub filled_low : (p : RawTerm) → height (fill vs p) ≤ height (fill [] p) + highest (terms_of vs)
+    filled_low (numeral n) = omega arith
+    filled_low (quoted q) = omega arith
+    filled_low (variable x) = value_low vs x.sort x
+    filled_low (apply f ts) = let h = all_filled_low ts in omega (arith, h)
+
+    all_filled_low : (ts : RawTerms) → highest (fill_all vs ts) ≤ highest (fill_all [] ts) + highest (terms_of vs)
+    all_filled_low nil = omega arith
+    all_filled_low (cons t ts) = let h = filled_low t in let k = all_filled_low ts in omega (arith, h, k)
+
+-- so it fits where these come to no more than a term may have
+pub surely_low : (vs : List RawTerm) (p : RawTerm) (above levels most : ℕ) → levels ≡ min (height (fill [] p)) (2 ^ 16 - 1) → most ≡ min (highest (terms_of vs)) (2 ^ 16 - 1)
+    → above + levels + most ≤ 1000 → above + height (fill vs p) ≤ 1000
+surely_low vs p above levels most e d h = let l = filled_low vs p in omega (arith, e, d, h, l)

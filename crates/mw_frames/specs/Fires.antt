@@ -1,13 +1,14 @@
 -- What comes where an equation is applied, and where a run stops.
-use Rattle.std.specs.Prelude.{◌≡◌, ℕ, suc, List, [], Option, Some, None, IsTrue}
+use Rattle.std.specs.Prelude.{◌≡◌, ◌-◌, ◌^◌, min, ℕ, suc, List, [], Option, Some, None, IsTrue}
 use Rattle.mw_logic.specs.Term.{RawTerm, RawTerms, apply, Context, plug}
 use Rattle.mw_logic.specs.Signature.{Signature}
 use Rattle.mw_logic.specs.Substitution.{Substitution, instance, IsSolution}
 use Rattle.mw_logic.specs.Parts.{nested, IsPart, IsTooDeep}
-use Rattle.mw_logic.specs.NormalForm.{normal_form}
+use Rattle.mw_logic.specs.NormalForm.{normal_form, height}
 use Rattle.mw_logic.specs.Module.{Module, Statement, IsStatement}
 use Rattle.mw_solving.specs.Inside.{IsProperPart}
 use Rattle.mw_least.specs.Workable.{IsPlainEquation}
+use Rattle.mw_position.specs.Positions.{fill}
 use Rattle.mw_position.specs.Variables.{placed}
 use Rattle.mw_pattern.specs.Clean.{clean}
 use Rattle.mw_deduction.specs.Replay.{Stand}
@@ -27,6 +28,8 @@ IsPartTaken sig (Some ks) t w = IsProperPart sig ks t w
 pub record IsApplied (M : Module) (e : Applied) (vs : List RawTerm) (w : RawTerm) : Type 0 where
   pub redex : IsRedex M e.number vs (clean e.right.now) w
   pub free : IsTrue e.free → IsFree M.signature (clean e.right.now)
+  -- the variables of the right side stay
+  pub levels : e.levels ≡ min (height (fill [] (clean e.right.now))) (2 ^ 16 - 1)
   -- no operator of the left side has an axiom
   pub sure : IsTrue e.sure → (f : ℕ) × (ps : RawTerms) × (apply f ps ≡ placed redex.statement.variables (normal_form M.signature redex.statement.left)) × IsFree M.signature (apply f ps)
 

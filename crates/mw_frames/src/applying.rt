@@ -36,6 +36,8 @@ pub struct Applied<'m> {
     pub right: &'m Pattern,
     /// No operator of the canonical right side has an axiom.
     pub free: bool,
+    /// How many levels the right side has with its variables in place, or 65,535 where it has more.
+    pub levels: u16,
     /// Nor has one of the left side.
     pub sure: bool,
 }
@@ -49,6 +51,7 @@ pub enum Fired<'m> {
 }
 
 /// The operator on top, or any where there is none.
+#[inline(always)]
 fn top_of(term: &Term) -> OpId
     ensures top { HasOnTop result term.now }
     ensures leaf { ((f : ℕ) (ts : RawTerms) → term.now ≡ applied f ts → ⊥) → result ≡ 1 }
@@ -60,6 +63,7 @@ fn top_of(term: &Term) -> OpId
 }
 
 /// By which operator it is known whether values are normal.
+#[inline(always)]
 fn known_by(by: Applied<'_>, top: OpId) -> OpId
     ensures sure { IsTrue by.entry.sure → result ≡ 0 }
     ensures unsure { IsFalse by.entry.sure → result ≡ top }
@@ -68,6 +72,7 @@ fn known_by(by: Applied<'_>, top: OpId) -> OpId
 }
 
 /// The equation is applied to the term in hand, which has this operator on top: its right side is in hand.
+#[inline(always)]
 fn go_whole<'m>(
     alloc: Global,
     facts: &Facts,
@@ -108,7 +113,15 @@ fn fire_whole<'m>(
         → IsApplied K.over by.entry values.old.items term → IfOk result (IsFired K k (data_of K.over machine.new)) }
 {
     let hole = innermost(machine.frames.as_slice());
-    if !may_fire(alloc, facts, hole, by.right, by.free, values.as_slice())? {
+    if !may_fire(
+        alloc,
+        facts,
+        hole,
+        by.right,
+        by.free,
+        by.levels,
+        values.as_slice(),
+    )? {
         let whole = whole(alloc, facts, machine, term)?;
         return Ok(Fired::TooDeep(whole));
     }
@@ -165,6 +178,7 @@ fn fire_several<'m>(
         Some(frame),
         by.right,
         by.free,
+        by.levels,
         values.as_slice(),
     )? {
         let whole = whole(alloc, facts, machine, term)?;
@@ -175,6 +189,7 @@ fn fire_several<'m>(
 }
 
 /// The equation is applied to the term in hand, or to several of its arguments.
+#[inline(never)]
 fn fire_term<'m>(
     alloc: Global,
     facts: &Facts,
@@ -201,6 +216,7 @@ fn fire_term<'m>(
 }
 
 /// Whether the equation may be applied to the whole of a frame's operator over its own arguments.
+#[inline(always)]
 fn may_fire_own(
     alloc: Global,
     facts: &Facts,
@@ -217,11 +233,12 @@ fn may_fire_own(
         return Ok(false);
     }
     let hole = innermost(machine.frames.as_slice());
-    let may = may_fire(alloc, facts, hole, by.right, by.free, values)?;
+    let may = may_fire(alloc, facts, hole, by.right, by.free, by.levels, values)?;
     Ok(may)
 }
 
 /// The equation is applied to a frame's operator over its own arguments, all of which are done.
+#[inline(always)]
 fn fire_own<'m>(
     alloc: Global,
     facts: &Facts,
@@ -246,6 +263,7 @@ fn fire_own<'m>(
 }
 
 /// An equation is applied to what was asked for, or to several of its arguments, by these values, which are taken.
+#[inline(always)]
 pub fn fire<'m>(
     alloc: Global,
     facts: &Facts,

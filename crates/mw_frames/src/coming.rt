@@ -1,5 +1,5 @@
 // Parts of right sides, and how they come to frames.
-ghost use Rattle.std.specs.Prelude.{◌≡◌, ◌+◌, ◌++◌, ◌≤◌, ◌⊎◌, ℕ, List, [], drop, true, false};
+ghost use Rattle.std.specs.Prelude.{◌≡◌, ◌+◌, ◌++◌, ◌∷◌, ◌≤◌, ◌⊎◌, ℕ, List, [], drop, true, false};
 ghost use Rattle.std.specs.Prelude.{IsTrue, IfOk, IfNone, IfSome, OnOk};
 ghost use Rattle.mw_logic.specs.Term.{RawTerm, RawTerms, variable as a_variable, apply as applied, nil, cons};
 ghost use Rattle.mw_logic.specs.Terms.{terms_of};
@@ -30,6 +30,7 @@ use std::alloc::{AllocError, Global};
 
 /// Whether a value is known to be normal: each of its right side's is, or it has arguments, and another operator on
 /// top than the term that the right side came for.
+#[inline(always)]
 fn is_sure(top: OpId, value: &Term) -> bool
     ensures { result ≡ is_sure_of top value.now }
 {
@@ -43,6 +44,7 @@ fn is_sure(top: OpId, value: &Term) -> bool
 }
 
 /// A value as a job.
+#[inline(always)]
 fn job_of<'m>(value: Term, top: OpId) -> Job<'m>
     ensures term { (sig : Signature) (vs : List RawTerm) → term_of sig vs result ≡ value }
     ensures known { (M : Module) (n : ℕ) (vs : List RawTerm) → IsAccepted M.signature → IsWellSorted M.signature
@@ -58,6 +60,7 @@ fn job_of<'m>(value: Term, top: OpId) -> Job<'m>
 }
 
 /// The value of a position, of those from a place on, as a job.
+#[inline(always)]
 fn value_job<'m>(
     alloc: Global,
     values: &[Term],
@@ -74,6 +77,7 @@ fn value_job<'m>(
 }
 
 /// Whether it is an operator without arguments that isn't associative.
+#[inline(always)]
 fn is_constant(facts: &Facts, operator: OpId, args: &Patterns) -> bool
     ensures { IsTrue result → (is_assoc facts.now operator ≡ false) × (args.now ≡ nil) }
 {
@@ -84,6 +88,7 @@ fn is_constant(facts: &Facts, operator: OpId, args: &Patterns) -> bool
 }
 
 /// An instance without arguments as a job.
+#[inline(never)]
 fn bare_job<'m>(
     alloc: Global,
     facts: &Facts,
@@ -100,6 +105,7 @@ fn bare_job<'m>(
 }
 
 /// A part of a right side as a job, which is built only where it has no arguments.
+#[inline(always)]
 pub(crate) fn part_job<'m>(
     alloc: Global,
     facts: &Facts,
@@ -124,7 +130,53 @@ pub(crate) fn part_job<'m>(
     }
 }
 
+/// The value of a position, of those from a place on, comes to those that wait, in front of them.
+#[inline(always)]
+fn wait_value<'m>(
+    alloc: Global,
+    values: &[Term],
+    base: usize,
+    i: usize,
+    top: OpId,
+    jobs: &mut Vec<Job<'m>>,
+) -> Result<(), AllocError>
+    ensures { OnOk result ((sig : Signature) → (x : Job) × (jobs.new.items ≡ jobs.old.items ++ x ∷ [])
+        × StandsFor sig values.now base top (a_variable (position i)) x) }
+{
+    let value = value(alloc, behind(values, base), i)?;
+    jobs.push(job_of(value, top))?;
+    Ok(())
+}
+
+/// A part of a right side comes to those that wait, in front of them, as a job.
+#[inline(always)]
+fn wait_one<'m>(
+    alloc: Global,
+    facts: &Facts,
+    values: &[Term],
+    pattern: &'m Pattern,
+    base: usize,
+    top: OpId,
+    jobs: &mut Vec<Job<'m>>,
+) -> Result<(), AllocError>
+    ensures { OnOk result ((x : Job) × (jobs.new.items ≡ jobs.old.items ++ x ∷ [])
+        × StandsFor facts.now values.now base top (clean pattern.now) x) }
+{
+    match pattern {
+        Pattern::Var(i) => {
+            wait_value(alloc, values, base, *i, top, jobs)?;
+            Ok(())
+        }
+        _ => {
+            let job = part_job(alloc, facts, values, pattern, base, top)?;
+            jobs.push(job)?;
+            Ok(())
+        }
+    }
+}
+
 /// Parts of a right side come to those that wait, in front of them, as jobs.
+#[inline(always)]
 pub(crate) fn wait_made<'m>(
     alloc: Global,
     facts: &Facts,
@@ -142,8 +194,15 @@ pub(crate) fn wait_made<'m>(
     let mut left = list.len();
     while left > 0 {
         left -= 1;
-        let job = part_job(alloc, facts, machine.kept.values(), &list[left], base, top)?;
-        machine.jobs.push(job)?;
+        wait_one(
+            alloc,
+            facts,
+            machine.kept.values(),
+            &list[left],
+            base,
+            top,
+            &mut machine.jobs,
+        )?;
     }
     Ok(())
 }
@@ -287,6 +346,7 @@ fn wait_built<'m>(
 
 /// A part of a right side comes to a frame: the elements of its canonical instance come in front of those that wait,
 /// or, under a commutative operator, in order among them, or, where they are normal, among those that are done.
+#[inline(never)]
 pub(crate) fn wait_part<'m>(
     alloc: Global,
     facts: &Facts,
@@ -322,6 +382,7 @@ pub(crate) fn wait_part<'m>(
 }
 
 /// Parts of a right side come to a frame, from the last to the first.
+#[inline(never)]
 pub(crate) fn wait_all<'m>(
     alloc: Global,
     facts: &Facts,
@@ -378,6 +439,7 @@ pub(crate) fn wait_parts<'m>(
 }
 
 /// Whether an associative operator stands under itself.
+#[inline(always)]
 pub(crate) fn is_over_itself(facts: &Facts, operator: OpId, inner: OpId) -> bool
     ensures { result ≡ continues facts.now operator (applied inner nil) }
 {

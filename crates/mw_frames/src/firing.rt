@@ -1,13 +1,14 @@
 // An equation is applied to the term in hand, or to several of its arguments.
-ghost use Rattle.std.specs.Prelude.{◌≡◌, ◌+◌, ◌<◌, ◌≤◌, ◌↔◌, ℕ, suc, false, IsTrue, IfOk, OnOk};
+ghost use Rattle.std.specs.Prelude.{◌≡◌, ◌+◌, ◌-◌, ◌^◌, ◌<◌, ◌≤◌, ◌↔◌, ℕ, suc, min, false, IsTrue, IfOk, OnOk};
 ghost use Rattle.std.specs.Prelude.{List, [], ◌∷◌, ◌++◌, length, reverse, option_to_list};
 ghost use Rattle.mw_logic.specs.Term.{RawTerm, RawTerms, apply as applied, join};
 ghost use Rattle.mw_logic.specs.Terms.{terms_of, args_of};
 ghost use Rattle.mw_logic.specs.Signature.{Signature};
 ghost use Rattle.mw_logic.specs.Parts.{is_assoc, number_of_terms};
 ghost use Rattle.mw_logic.specs.Module.{Module};
-ghost use Rattle.mw_logic.specs.NormalForm.{height, is_comm as comm_of};
+ghost use Rattle.mw_logic.specs.NormalForm.{height, highest, is_comm as comm_of};
 ghost use Rattle.mw_arguments.specs.Places.{others, Takes};
+ghost use Rattle.mw_position.specs.Positions.{fill};
 ghost use Rattle.mw_matching.specs.Matches.{evaluated};
 ghost use Rattle.mw_pattern.specs.Clean.{clean};
 ghost use Rattle.mw_frames.specs.State.{Run, IsRun, InHand};
@@ -32,10 +33,46 @@ use std::alloc::{AllocError, Global};
 const LEVELS: usize = 1000;
 
 /// Whether a term of this depth has no more levels than a term may have, so many levels further down.
+#[inline(always)]
 fn fits(above: usize, depth: u16) -> bool
     ensures { IsTrue result ↔ (above + depth ≤ 1000) }
 {
     above <= LEVELS && above + depth as usize <= LEVELS
+}
+
+/// How deep the deepest of these terms is, or 65,535 where that is more.
+#[inline(always)]
+fn deepest(terms: &[Term]) -> u16
+    ensures { result ≡ min (highest (terms_of terms.now)) (2 ^ 16 - 1) }
+{
+    let mut most = 0;
+    for term in terms {
+        most = most.max(depth(term));
+    }
+    most
+}
+
+/// Whether the levels of a right side, with its variables in place, and those of the deepest value come to no more
+/// than a term may have, so many levels further down. Then the instance doesn't either.
+#[inline(always)]
+fn is_surely_low(above: usize, levels: u16, values: &[Term]) -> bool
+    ensures { (p : RawTerm) → levels ≡ min (height (fill [] p)) (2 ^ 16 - 1)
+        → IsTrue result → above + height (fill values.now p) ≤ 1000 }
+{
+    above <= LEVELS && above + levels as usize + deepest(values) as usize <= LEVELS
+}
+
+/// Whether the instance of a right side by these values has no more levels than a term may have, so many levels
+/// further down. The instance is walked only where it may have more.
+#[inline(always)]
+fn fits_at(above: usize, levels: u16, right: &Pattern, values: &[Term]) -> bool
+    ensures { levels ≡ min (height (fill [] (clean right.now))) (2 ^ 16 - 1)
+        → (IsTrue result ↔ (above + min (height (fill values.now (clean right.now))) (2 ^ 16 - 1) ≤ 1000)) }
+{
+    if is_surely_low(above, levels, values) {
+        return true;
+    }
+    fits(above, depth_at(right, values))
 }
 
 /// How many levels stand above a term in the hole of a frame.
@@ -52,6 +89,7 @@ fn levels_above(facts: &Facts, hole: Option<Frame>, term: &Term) -> usize
 }
 
 /// The same of a term with an operator on top that isn't associative.
+#[inline(always)]
 fn levels_above_plain(hole: Option<Frame>) -> usize
     ensures { (sig : Signature) (f : ℕ) (ts : RawTerms) (h : ℕ) → is_assoc sig f ≡ false
         → (result + h ≤ 1000) ↔ (hole_level sig (option_to_list hole) (applied f ts) + h ≤ 1000) }
@@ -64,26 +102,30 @@ fn levels_above_plain(hole: Option<Frame>) -> usize
 
 /// Whether the instance of a right side by these values has no more than 1,000 levels where it comes: in the hole of
 /// this frame, or as the whole. Where no operator in it has an axiom (`free`) it isn't built.
+#[inline(always)]
 pub(crate) fn may_fire(
     alloc: Global,
     facts: &Facts,
     hole: Option<Frame>,
     right: &Pattern,
     free: bool,
+    levels: u16,
     values: &[Term],
 ) -> Result<bool, AllocError>
     ensures { (IsTrue free → IsFree facts.now (clean right.now))
+        → levels ≡ min (height (fill [] (clean right.now))) (2 ^ 16 - 1)
         → let v = evaluated facts.now values.now (clean right.now) in
         IfOk result (λ b. IsTrue b ↔ (hole_level facts.now (option_to_list hole) v + height v ≤ 1000)) }
 {
     if free && matches!(right, Pattern::Op(_, _)) {
-        return Ok(fits(levels_above_plain(hole), depth_at(right, values)));
+        return Ok(fits_at(levels_above_plain(hole), levels, right, values));
     }
     let term = evaluate(alloc, facts, right, values)?;
     Ok(fits(levels_above(facts, hole, &term), depth(&term)))
 }
 
 /// The innermost frame.
+#[inline(always)]
 pub(crate) fn innermost(frames: &[Frame]) -> Option<Frame>
     ensures { (sig : Signature) (t : RawTerm)
         → hole_level sig (option_to_list result) t ≡ hole_level sig (reverse frames.now) t }
@@ -92,6 +134,7 @@ pub(crate) fn innermost(frames: &[Frame]) -> Option<Frame>
 }
 
 /// The equation of this number is applied to the term in hand, by these values, which are taken.
+#[inline(always)]
 pub(crate) fn apply_whole(
     machine: &mut Machine<'_>,
     number: usize,

@@ -56,6 +56,7 @@ fn all_evaluated(
 
 /// The value of a position, or the position itself where there is none. More than numbers can tell counts as want of
 /// memory.
+#[inline(always)]
 pub(crate) fn value(alloc: Global, values: &[Term], i: usize) -> Result<Term, AllocError>
     ensures { IfOk result (λ t. t ≡ unwrap_or (slice_get values.now i) (a_variable (position i))) }
 {
@@ -66,6 +67,7 @@ pub(crate) fn value(alloc: Global, values: &[Term], i: usize) -> Result<Term, Al
 }
 
 /// The variable of a position.
+#[cold]
 fn placeholder(alloc: Global, i: usize) -> Result<Term, AllocError>
     ensures { IfOk result (λ t. t ≡ a_variable (position i)) }
 {

@@ -40,6 +40,7 @@ pub enum Asked {
 }
 
 /// Whether the term is hidden in the innermost frame.
+#[inline]
 pub(crate) fn is_hidden(facts: &Facts, frames: &[Frame], term: &Term) -> bool
     ensures yes { IsTrue result → (f : FrameOf) × (fs : List FrameOf) × (reverse frames.now ≡ f ∷ fs) × IsHidden facts.now f.op term.now }
     ensures no { IsFalse result → (f : FrameOf) (fs : List FrameOf) → reverse frames.now ≡ f ∷ fs → IsHidden facts.now f.op term.now → ⊥ }
@@ -51,6 +52,7 @@ pub(crate) fn is_hidden(facts: &Facts, frames: &[Frame], term: &Term) -> bool
 }
 
 /// A term that is done leaves its hole, or is the whole.
+#[inline]
 pub(crate) fn settle<'m>(
     alloc: Global,
     facts: &Facts,
@@ -73,6 +75,7 @@ pub(crate) fn settle<'m>(
 }
 
 /// A term in hand over normal arguments is asked for statements, or leaves the hole in which it is hidden.
+#[inline]
 pub(crate) fn look<'m>(
     alloc: Global,
     facts: &Facts,

@@ -26,6 +26,7 @@ use mw_term::{OpId, Term, View, behind};
 use std::alloc::{AllocError, Global};
 
 /// How many levels an operator adds to another right under it.
+#[inline(always)]
 fn levels_between(facts: &Facts, operator: OpId, inner: OpId) -> usize
     ensures { result ≡ levels_added facts.now operator (applied inner nil) }
 {
@@ -38,6 +39,7 @@ fn levels_between(facts: &Facts, operator: OpId, inner: OpId) -> usize
 
 /// How many levels stand above a term with this operator on top in the hole of the innermost frame. More than numbers
 /// can tell counts as want of memory.
+#[inline(always)]
 fn level_here(facts: &Facts, frames: &[Frame], operator: OpId) -> Result<usize, AllocError>
     ensures { IfOk result (λ level. level ≡ level_over facts.now (reverse frames.now) operator) }
 {
@@ -51,6 +53,7 @@ fn level_here(facts: &Facts, frames: &[Frame], operator: OpId) -> Result<usize, 
 }
 
 /// A frame in the hole of the innermost one, without arguments.
+#[inline(always)]
 pub(crate) fn new_frame(
     facts: &Facts,
     machine: &Machine<'_>,
@@ -70,6 +73,7 @@ pub(crate) fn new_frame(
 
 /// A term in hand of which nothing is known: a new frame, in which all its arguments wait, or, where it has none, the
 /// term to be tried.
+#[inline]
 pub(crate) fn open_term<'m>(
     facts: &Facts,
     machine: &mut Machine<'m>,
@@ -93,6 +97,7 @@ pub(crate) fn open_term<'m>(
 }
 
 /// An instance that is an operator right on the instances of its arguments: a new frame in which they wait.
+#[inline(always)]
 fn open_plain<'m>(
     alloc: Global,
     facts: &Facts,
@@ -121,6 +126,7 @@ fn open_plain<'m>(
 }
 
 /// An instance under an operator that is commutative or associative: a new frame to which its parts come.
+#[inline(never)]
 fn open_among<'m>(
     alloc: Global,
     facts: &Facts,
@@ -152,6 +158,7 @@ fn is_numeral(term: &Term) -> bool
 }
 
 /// The instance, where it is a numeral.
+#[inline(never)]
 fn numeral_of<'m>(
     alloc: Global,
     facts: &Facts,
@@ -173,6 +180,7 @@ fn numeral_of<'m>(
 
 /// A part of a right side in hand: a new frame in which its arguments wait as far as they are known. Under an operator
 /// with axioms they are built, and come to the frame as its arguments. What has no arguments is to be tried.
+#[inline]
 pub(crate) fn open_made<'m>(
     alloc: Global,
     facts: &Facts,

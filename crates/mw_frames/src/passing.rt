@@ -24,6 +24,7 @@ use mw_stack::{close, place_of, put};
 use mw_term::{OpId, Term};
 use std::alloc::{AllocError, Global};
 
+#[inline(always)]
 pub(crate) fn is_assoc(facts: &Facts, operator: OpId) -> bool
     ensures { result ≡ assoc_of facts.now operator }
 {
@@ -31,6 +32,7 @@ pub(crate) fn is_assoc(facts: &Facts, operator: OpId) -> bool
 }
 
 /// How many of a frame's arguments stand before the one that comes next.
+#[inline(always)]
 fn before(facts: &Facts, done: &[Term], top: Frame, job: &Job<'_>) -> usize
     ensures { (vs : List RawTerm) → (comm_of facts.now top.op ≡ true → IsAtHand job.now) → IsOrdered facts.now top.op (own top.from done.now)
         → IsCutAt facts.now top.op (own top.from done.now) (term_of facts.now vs job.now) result }
@@ -42,6 +44,7 @@ fn before(facts: &Facts, done: &[Term], top: Frame, job: &Job<'_>) -> usize
 }
 
 /// Whether an argument that comes next has others beside it, where an operator that is associative needs them.
+#[inline(always)]
 fn stands_beside(facts: &Facts, machine: &Machine<'_>, top: Frame) -> bool
     ensures no { IsFalse result → (assoc_of facts.now top.op ≡ true) × (length machine.now.done.items ≤ top.from) × (length machine.now.jobs.items ≤ top.waits) }
     ensures yes { IsTrue result → assoc_of facts.now top.op ≡ true → (top.from < length machine.now.done.items) ⊎ (top.waits < length machine.now.jobs.items) }
@@ -53,6 +56,7 @@ fn stands_beside(facts: &Facts, machine: &Machine<'_>, top: Frame) -> bool
 }
 
 /// Into an argument of a frame, with so many before it.
+#[inline(always)]
 fn go_in(machine: &mut Machine<'_>, top: Frame, before: usize) -> Result<(), AllocError>
     ensures frames { OnOk result (machine.new.frames.items ≡ machine.old.frames.items ++ top ∷ []) }
     ensures done { OnOk result (machine.new.done.items ≡ machine.old.done.items) }
@@ -69,6 +73,7 @@ fn go_in(machine: &mut Machine<'_>, top: Frame, before: usize) -> Result<(), All
 }
 
 /// A job that waited goes in hand. An associative operator with that argument alone is gone.
+#[inline(always)]
 fn enter<'m>(
     facts: &Facts,
     machine: &mut Machine<'m>,
@@ -88,6 +93,7 @@ fn enter<'m>(
 }
 
 /// All arguments of a frame are done: the term that it is.
+#[inline(never)]
 pub(crate) fn finish<'m>(
     alloc: Global,
     facts: &Facts,
@@ -108,6 +114,7 @@ pub(crate) fn finish<'m>(
 
 /// The next argument of a frame that isn't known to be normal goes in hand, and those before it are done; none where
 /// all are done.
+#[inline(always)]
 pub(crate) fn pass<'m>(
     alloc: Global,
     facts: &Facts,
@@ -135,6 +142,7 @@ pub(crate) fn pass<'m>(
 }
 
 /// A term leaves the hole of a frame, where it is done.
+#[inline(always)]
 pub(crate) fn leave(
     alloc: Global,
     facts: &Facts,

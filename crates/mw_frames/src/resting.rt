@@ -17,6 +17,7 @@ use mw_stack::close;
 use std::alloc::{AllocError, Global};
 
 /// Nothing applies to what was asked for: it is normal.
+#[inline(always)]
 pub fn rest<'m>(
     alloc: Global,
     facts: &Facts,

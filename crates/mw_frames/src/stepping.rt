@@ -17,6 +17,7 @@ use mw_canon::{Axioms, Facts};
 use std::alloc::{AllocError, Global};
 
 /// Whether all arguments of a frame are done, and its operator has no axioms and some argument.
+#[inline(always)]
 fn is_complete(facts: &Facts, machine: &Machine<'_>, top: Frame) -> bool
     ensures { IsTrue result → (length machine.now.jobs.items ≤ top.waits) × (top.from < length machine.now.done.items) × HasAxioms facts.now top.op PlainOf }
 {
@@ -27,6 +28,7 @@ fn is_complete(facts: &Facts, machine: &Machine<'_>, top: Frame) -> bool
 }
 
 /// All arguments of a frame are done: equations are asked for, or the term is made that it is.
+#[inline(always)]
 fn all_done<'m>(
     alloc: Global,
     facts: &Facts,
@@ -45,6 +47,7 @@ fn all_done<'m>(
 }
 
 /// The frame in which nothing is in hand goes on.
+#[inline(always)]
 fn over<'m>(
     alloc: Global,
     facts: &Facts,
@@ -64,6 +67,7 @@ fn over<'m>(
 }
 
 /// A job in hand is looked at.
+#[inline(always)]
 fn one<'m>(
     alloc: Global,
     facts: &Facts,
@@ -98,6 +102,7 @@ fn one<'m>(
 }
 
 /// One step: it goes on, the whole is normal, or statements are asked for.
+#[inline(always)]
 pub fn step<'m>(
     alloc: Global,
     facts: &Facts,

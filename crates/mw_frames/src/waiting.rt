@@ -15,6 +15,7 @@ use mw_term::{Term, compare, copy};
 use std::alloc::AllocError;
 
 /// The term of a job, where it is at hand.
+#[inline]
 pub(crate) fn term_at<'t>(job: &'t Job<'_>) -> Option<&'t Term>
     ensures { MatchOption result (IsAtHand job.now → ⊥) (λ t. (sig : Signature) (vs : List RawTerm)
         → t.now ≡ term_of sig vs job.now) }

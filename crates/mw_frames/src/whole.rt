@@ -48,6 +48,7 @@ fn put_job(
 }
 
 /// Takes the last job out, where it stands from a place on.
+#[inline(always)]
 pub(crate) fn pop_behind<'m>(jobs: &mut Vec<Job<'m>>, waits: usize) -> Option<Job<'m>>
     ensures items { jobs.old.items ≡ jobs.new.items ++ option_to_list result }
     ensures none { IsNone result → length jobs.old.items ≤ waits }
@@ -128,6 +129,7 @@ fn put_together(
 }
 
 /// All frames are left, from the innermost on, with a term in its hole: the whole term.
+#[inline(never)]
 pub(crate) fn whole(
     alloc: Global,
     facts: &Facts,
@@ -170,6 +172,7 @@ fn term_of_hand(
 }
 
 /// The whole, wherever the machine stands: all frames are left.
+#[inline(never)]
 pub fn stop(
     alloc: Global,
     facts: &Facts,

@@ -1,10 +1,10 @@
 -- Equations as they are indexed: by their canonical sides, with positions for variables.
-use Rattle.std.specs.Prelude.{ℕ, ◌≡◌, [], map, length, Option, Some, None, IsTrue}
+use Rattle.std.specs.Prelude.{ℕ, ◌≡◌, ◌-◌, ◌^◌, min, [], map, length, Option, Some, None, IsTrue}
 use Rattle.mw_logic.specs.Term.{RawTerms, apply}
 use Rattle.mw_logic.specs.Signature.{Signature}
 use Rattle.mw_logic.specs.Module.{Statement}
-use Rattle.mw_logic.specs.NormalForm.{normal_form}
-use Rattle.mw_position.specs.Positions.{AreNumbered, counted_all}
+use Rattle.mw_logic.specs.NormalForm.{normal_form, height}
+use Rattle.mw_position.specs.Positions.{fill, AreNumbered, counted_all}
 use Rattle.mw_position.specs.Variables.{met, place, placed, sorts_of}
 use Rattle.mw_pattern.specs.Clean.{clean}
 use Rattle.mw_compile.specs.Compiled.{IsCompiled}
@@ -38,4 +38,6 @@ pub record IsEquation (sig : Signature) (top : Option ℕ) (e : Statement) (st :
   pub left : IsLeft sig top e st.left
   pub right : clean st.right ≡ placed e.variables (normal_form sig e.right)
   pub free : IsTrue st.free → IsFree sig (clean st.right)
+  -- its variables stay
+  pub levels : st.levels ≡ min (height (fill [] (clean st.right))) (2 ^ 16 - 1)
   pub sorts : st.sorts ≡ sorts_of e.variables

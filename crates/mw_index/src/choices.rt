@@ -93,6 +93,7 @@ fn chosen<'m>(
 }
 
 /// Whether an equation's left side has these arguments, by values of its variables' sorts, which are found.
+#[inline(always)]
 fn fits(
     context: &Ctx,
     equation: &Equation,
@@ -129,6 +130,7 @@ impl<'m> Choices<'m> {
     }
 
     /// At the beginning again, for another term.
+    #[inline(always)]
     pub fn again(&mut self)
         ensures { (M : Module) (m : IndexOf) (t : RawTerm) → Covers M m t [] self.new }
     {
@@ -140,6 +142,7 @@ impl<'m> Choices<'m> {
     }
 
     /// Room for values, which aren't needed any more.
+    #[inline(always)]
     pub fn give_back(&mut self, spare: Vec<Term>)
         ensures { (M : Module) (m : IndexOf) (t : RawTerm) (tried : List Tried) → Covers M m t tried self.old → Covers M m t tried self.new }
     {
@@ -147,6 +150,7 @@ impl<'m> Choices<'m> {
     }
 
     /// The choice of an equation whose left side is compared.
+    #[inline(always)]
     fn compare(
         &mut self,
         alloc: Global,
@@ -211,6 +215,7 @@ impl<'m> Choices<'m> {
     }
 
     /// The next choice of an equation whose left side is searched for.
+    #[inline(never)]
     fn seek(
         &mut self,
         alloc: Global,
@@ -241,6 +246,7 @@ impl<'m> Choices<'m> {
     }
 
     /// The next choice of an equation.
+    #[inline(always)]
     fn ask(
         &mut self,
         alloc: Global,
@@ -263,6 +269,7 @@ impl<'m> Choices<'m> {
     }
 
     /// An equation was asked, and the next one is: whether it was one of the operator's own.
+    #[inline(always)]
     fn pass(&mut self, own: bool)
         requires own { own ≡ true → self.old.own + 1 < 2 ^ 64 }
         requires others { own ≡ false → self.old.others + 1 < 2 ^ 64 }
@@ -279,6 +286,7 @@ impl<'m> Choices<'m> {
 
     /// The next choice at a canonical term that means a ground raw term; none where there is none. After an error it
     /// isn't said where the choices stand.
+    #[inline(always)]
     pub fn next(
         &mut self,
         alloc: Global,

@@ -29,6 +29,8 @@ pub struct Equation {
     pub right: Pattern,
     /// Whether no operator of the right side has an axiom.
     pub free: bool,
+    /// How many levels the right side has with its variables in place, or 65,535 where it has more.
+    pub levels: u16,
     /// The sorts of the statement's variables, in their order.
     pub sorts: Seq<SortId>,
 }

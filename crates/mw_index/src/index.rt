@@ -152,6 +152,7 @@ impl Index {
         Ok(index)
     }
 
+    #[inline(always)]
     fn under(&self, operator: OpId) -> &[Equation]
         ensures { result.now ≡ listed self.now operator }
     {
@@ -162,6 +163,7 @@ impl Index {
     }
 
     /// The equations that are asked for terms with an operator on top, or with none: two lists in order.
+    #[inline(always)]
     fn lists(&self, top: Option<OpId>) -> (&[Equation], &[Equation])
         ensures own { result.0.now ≡ own_asked self.now top }
         ensures others { result.1.now ≡ others_asked self.now top }
@@ -174,6 +176,7 @@ impl Index {
 
     /// The next of the equations that are asked for terms with an operator on top, or with none, in the order of the
     /// module: where so many of the operator's own and so many others were passed. Whether it is one of its own.
+    #[inline(always)]
     pub fn at(&self, top: Option<OpId>, own: usize, others: usize) -> Option<(&Equation, bool)>
         ensures is { let a = own_asked self.now top in let b = others_asked self.now top in
             MatchOption result ((length a ≤ own) × (length b ≤ others)) (λ r. IsNextOf (slice_get a own) (slice_get b others) r.0.now r.1) }
@@ -185,6 +188,7 @@ impl Index {
 }
 
 /// The next of two lists by number, the first list's where so many of the first and so many of the second were passed.
+#[inline(always)]
 fn next_of<'m>(
     first: &'m [Equation],
     second: &'m [Equation],

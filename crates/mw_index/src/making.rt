@@ -14,7 +14,7 @@ use crate::normal::normal;
 use crate::patterns::{is_free, pattern_of, plain_arguments};
 use mw_compile::compile;
 use mw_least::Ctx;
-use mw_pattern::Places;
+use mw_pattern::{Places, depth_at};
 use mw_term::{Seq, Statement, Subst, Term, VarId};
 use std::alloc::{AllocError, Global};
 
@@ -117,6 +117,7 @@ pub fn equation_of(
     let right = normal(alloc, context.facts(), &statement.right)?;
     let right = pattern_of(alloc, &places, &right)?;
     let free = is_free(context.facts(), &right);
+    let levels = depth_at(&right, &[]);
     let left = left_of(alloc, context, &places, section, number, statement, left)?;
     let sorts = places.sorts(alloc)?;
     Ok(Equation {
@@ -124,6 +125,7 @@ pub fn equation_of(
         left,
         right,
         free,
+        levels,
         sorts,
     })
 }

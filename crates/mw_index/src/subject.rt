@@ -17,6 +17,7 @@ pub enum Subject<'t> {
 
 impl<'t> Subject<'t> {
     /// The operator on top, where there is one.
+    #[inline(always)]
     pub fn operator(self) -> Option<OpId>
         ensures { result ≡ operator_of (subject_of self.entry) }
     {
@@ -30,6 +31,7 @@ impl<'t> Subject<'t> {
     }
 
     /// Its arguments, none without an operator.
+    #[inline(always)]
     pub fn args(self) -> &'t [Term]
         ensures { terms_of result.now ≡ args_of (subject_of self.entry) }
     {

@@ -1,10 +1,11 @@
 -- A choice is an equation that applies.
-use Rattle.std.specs.Prelude.{◌≡◌, ℕ, suc, List, [], ◌∷◌, length, Option, Some, None, refl}
+use Rattle.std.specs.Prelude.{◌≡◌, ◌-◌, ◌^◌, min, ℕ, suc, List, [], ◌∷◌, length, Option, Some, None, refl}
 use Rattle.std.proofs.Common.{sym, subst, ap, ◌∙◌}
 use Rattle.mw_logic.specs.Term.{Variable, RawTerm, RawTerms, numeral, quoted, variable, apply, nil, cons}
 use Rattle.mw_logic.specs.Signature.{Signature}
-use Rattle.mw_logic.specs.NormalForm.{normal_form}
+use Rattle.mw_logic.specs.NormalForm.{normal_form, height}
 use Rattle.mw_logic.specs.Module.{Module, IsStatement}
+use Rattle.mw_position.specs.Positions.{fill}
 use Rattle.mw_position.specs.Variables.{placed, sorts_of}
 use Rattle.mw_pattern.specs.Clean.{clean}
 use Rattle.mw_least.specs.Workable.{IsWorkable}
@@ -60,6 +61,7 @@ choice_applies M w t c i sized a is = (
       right = ap clean is.right ∙ i.is.right;
     };
     free = λ h. subst (λ p. frames.IsFree M.signature (clean p)) (sym is.right) (free_same M.signature (clean c.equation.now.right) (i.is.free (sym is.free ∙ h)));
+    levels = is.levels ∙ i.is.levels ∙ ap (λ p. min (height (fill [] (clean p))) (2 ^ 16 - 1)) (sym is.right);
     sure = λ h. let (ps, e) = is.sure h in plain_left M.signature (operator_of t) i.statement c.equation.now.left ps i.is.left e;
   },
 )

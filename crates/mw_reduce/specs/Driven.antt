@@ -23,6 +23,7 @@ pub record IsAppliedAs (e : Equation) (a : Applied) : Type 0 where
   pub number : a.number ≡ e.number
   pub right : a.right.now ≡ e.right
   pub free : a.free ≡ e.free
+  pub levels : a.levels ≡ e.levels
   pub sure : IsTrue a.sure → (ps : RawTerms) × (e.left ≡ Plain ps)
 
 abbrev pub IsPause : Run → ℕ → Index → Data → Choices → Pause → Type 0

@@ -42,6 +42,7 @@ pub enum Pause<'m> {
 }
 
 /// Turns until the whole is normal, or an equation has a solution.
+#[inline(always)]
 fn advance<'m>(
     alloc: Global,
     context: &'m Ctx,
@@ -71,6 +72,7 @@ fn advance<'m>(
 }
 
 /// The equation as the machine applies it.
+#[inline(always)]
 fn applied<'m>(equation: &'m Equation) -> Applied<'m>
     ensures { IsAppliedAs equation.now result }
 {
@@ -78,11 +80,13 @@ fn applied<'m>(equation: &'m Equation) -> Applied<'m>
         number: equation.number,
         right: &equation.right,
         free: equation.free,
+        levels: equation.levels,
         sure: matches!(equation.left, Left::Plain(_)),
     }
 }
 
 /// The equation is applied.
+#[inline(always)]
 fn apply<'m>(
     alloc: Global,
     facts: &Facts,

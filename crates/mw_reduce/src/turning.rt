@@ -27,6 +27,7 @@ pub enum Turn<'m> {
     Found(Asked, Choice<'m>),
 }
 
+#[inline(always)]
 fn subject_at<'t>(machine: &'t Machine<'_>, asked: &'t Asked) -> Subject<'t>
     ensures { (M : Module) → subject_of result ≡ asked_term (data_of M machine.now) asked.now }
 {
@@ -37,6 +38,7 @@ fn subject_at<'t>(machine: &'t Machine<'_>, asked: &'t Asked) -> Subject<'t>
 }
 
 /// The first equation that has a solution for what is asked for; or it is normal.
+#[inline(always)]
 fn ask<'m>(
     alloc: Global,
     context: &'m Ctx,
@@ -62,6 +64,7 @@ fn ask<'m>(
 }
 
 /// One step, and equations where they are asked for.
+#[inline(always)]
 pub fn take_turn<'m>(
     alloc: Global,
     context: &'m Ctx,
