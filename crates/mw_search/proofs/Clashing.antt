@@ -1,15 +1,15 @@
 -- Patterns that have no match, whatever values come behind those that stand, and shares of which no match comes.
-use Rattle.std.specs.Prelude.{◌<◌, ◌≤◌, Bool, true, Option, Some, None, slice_get, cond, refl}
+use Rattle.std.specs.Prelude.{◌<◌, ◌≤◌, Bool, true, Some, slice_get, cond, refl}
 use Rattle.std.proofs.Common.{◌≡◌, ◌∙◌, ℕ, zero, suc, List, [], ◌∷◌, ◌++◌, length, get_or, ap, sym, subst, arith, false}
 use Rattle.std.specs.List.{flat_map}
 use Rattle.std.proofs.lemmas.List.{append-nil}
-use Rattle.mw_logic.specs.Term.{RawTerm, Variable, variable, RawTerms, nil, cons}
+use Rattle.mw_logic.specs.Term.{RawTerm, Variable, variable, RawTerms, cons}
 use Rattle.mw_logic.specs.Terms.{args_of, terms_of, skip}
 use Rattle.mw_logic.specs.Signature.{Signature}
 use Rattle.mw_logic.specs.NormalForm.{identity_of, elements}
 use Rattle.mw_arguments.specs.Bags.{same}
 use Rattle.mw_matching.specs.Patterns.{is_rigid}
-use Rattle.mw_matching.specs.Multisets.{is_within, left_behind, term_at, without}
+use Rattle.mw_matching.specs.Multisets.{is_within, term_at, without}
 use Rattle.mw_matching.specs.Found.{Values, value_of, fits, is_single, placed, found, found_all, found_orders, found_row, found_bag}
 use Rattle.mw_matching.proofs.FoundSingle.{fitting_element}
 use Rattle.mw_search.specs.Lacking.{Each}

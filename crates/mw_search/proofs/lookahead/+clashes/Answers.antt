@@ -1,11 +1,11 @@
-use Rattle.std.proofs.Common.{◌≡◌, ◌∙◌, ◌<◌, ◌≤◌, List, [], ◌∷◌, length, get_or, arith, ap, refl, subst, sym, IsTrue, true}
+use Rattle.std.proofs.Common.{◌≡◌, ◌∙◌, ◌<◌, ◌≤◌, List, [], ◌∷◌, length, get_or, arith, ap, refl, subst, sym}
 use Rattle.std.proofs.lemmas.Bool.{not-true}
 use Rattle.mw_logic.specs.Term.{RawTerm, Variable}
 use Rattle.mw_term.specs.Shapes.{viewed}
 use Rattle.mw_logic.specs.NormalForm.{height, highest}
 use Rattle.mw_logic.specs.Terms.{terms_of}
 use Rattle.mw_term.proofs.Terms.{element}
-use Rattle.mw_search.specs.Clashes.{Clash, AllClash, OrdersClash}
+use Rattle.mw_search.specs.Clashes.{Clash, OrdersClash}
 use Rattle.mw_search.proofs.Clashing.{all_clash, in_orders, value_clash, two_items}
 use Rattle.mw_search.proofs.lookahead.+clashes.Goals as goal
 

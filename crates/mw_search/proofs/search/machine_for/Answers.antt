@@ -1,4 +1,4 @@
-use Rattle.std.proofs.Common.{◌≡◌, ◌∙◌, [], ◌++◌, ap, sym}
+use Rattle.std.proofs.Common.{◌∙◌, [], ◌++◌, ap, sym}
 use Rattle.std.proofs.lemmas.List.{append-nil}
 use Rattle.mw_matching.specs.Found.{found}
 use Rattle.mw_search.proofs.search.machine_for.Goals as goal

@@ -1,4 +1,4 @@
-use Rattle.std.proofs.Common.{◌≡◌, ◌∙◌, ◌<◌, ◌+◌, ℕ, length, ap, sym, subst, arith, true, false}
+use Rattle.std.proofs.Common.{◌≡◌, ◌∙◌, ◌+◌, ℕ, length, ap, sym, subst, arith, false}
 use Rattle.std.proofs.lemmas.Bool.{not-true}
 use Rattle.mw_logic.specs.Term.{RawTerms}
 use Rattle.mw_logic.specs.Terms.{args_of, terms_of}
@@ -6,7 +6,6 @@ use Rattle.mw_logic.specs.Parts.{number_of_terms}
 use Rattle.mw_logic.proofs.SortedLists.{Climbs}
 use Rattle.mw_arguments.specs.Bags.{same}
 use Rattle.mw_matching.specs.Multisets.{term_at}
-use Rattle.mw_search.specs.Bags.{IsAlone}
 use Rattle.mw_search.proofs.Alone.{alone}
 use Rattle.mw_search.proofs.BagLists.{number_terms}
 use Rattle.mw_search.proofs.gathered.Gathered.is_alone.Goals as goal

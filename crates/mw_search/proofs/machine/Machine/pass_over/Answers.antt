@@ -1,4 +1,4 @@
-use Rattle.std.proofs.Common.{◌≡◌, ◌∙◌, ℕ, ◌-◌, ◌≤◌, min, List, [], ◌∷◌, ◌++◌, length, take, set, get_or, ap, refl, arith, sym, subst}
+use Rattle.std.proofs.Common.{◌≡◌, ◌∙◌, ℕ, ◌-◌, ◌≤◌, length, take, set, get_or, ap, refl, arith, sym, subst}
 use Rattle.std.specs.Vec.{with_item}
 use Rattle.mw_matching.specs.Multisets.{behind_first}
 use Rattle.mw_search.specs.Clashes.{IsPassed}

@@ -1,4 +1,4 @@
-use Rattle.std.proofs.Common.{◌≡◌, ◌∙◌, ◌+◌, ◌-◌, ◌<◌, min, map, length, ap, sym, subst, arith, true}
+use Rattle.std.proofs.Common.{◌≡◌, ◌∙◌, ◌+◌, ◌-◌, ◌<◌, min, map, length, ap, sym, arith, true}
 use Rattle.mw_logic.specs.Parts.{number_of_terms}
 use Rattle.mw_logic.specs.Terms.{args_of, skip}
 use Rattle.mw_matching.specs.Patterns.{is_rigid}
