@@ -11,3 +11,4 @@ pub mod Inside
 pub mod Candidates
 pub mod RowLists
 pub mod Numbers
+pub mod Passed

@@ -96,3 +96,6 @@ row_found sig single q t f g i qs args is_term is_pattern assoc not_comm top wit
 
 pub is_below : (m n : ℕ) → nat_lt m n ≡ true → m < n
 is_below m n h = grind arith
+
+pub same_numbers : (m n : ℕ) → nat_eq m n ≡ true → m ≡ n
+same_numbers m n h = grind arith

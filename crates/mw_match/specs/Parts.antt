@@ -1,11 +1,11 @@
 -- The searches from which the solutions of a pattern come: one for the whole of a term, and others for its proper parts, one behind another.
-use Rattle.std.specs.Prelude.{◌≡◌, ℕ, zero, suc, ◌-◌, ◌+◌, List, [], ◌∷◌, map, flat_map, length, Bool, true, cond, ◌&&◌, nat_eq, Option, Some, None, option_map, option_and_then, option_to_list, slice_get, take}
+use Rattle.std.specs.Prelude.{◌≡◌, ◌<◌, ℕ, zero, suc, ◌-◌, ◌+◌, List, [], ◌∷◌, map, flat_map, length, Bool, true, cond, ◌&&◌, nat_eq, Option, Some, None, option_map, option_and_then, option_to_list, slice_get, take}
 use Rattle.mw_logic.specs.Term.{RawTerm, numeral, quoted, variable, apply}
-use Rattle.mw_logic.specs.Terms.{args_of, skip}
+use Rattle.mw_logic.specs.Terms.{args_of, terms_of, skip}
 use Rattle.mw_logic.specs.Signature.{Signature}
 use Rattle.mw_logic.specs.Parts.{is_assoc, number_of_terms}
 use Rattle.mw_logic.specs.NormalForm.{is_comm, identity_of, elements}
-use Rattle.mw_matching.specs.Found.{Values, is_single, found}
+use Rattle.mw_matching.specs.Found.{Values, is_single, found, found_row}
 use Rattle.mw_matching.specs.Patterns.{leading}
 use Rattle.mw_search.specs.Goals.{top_of}
 use Rattle.mw_search.specs.Searches.{Matches}
@@ -13,7 +13,7 @@ use Rattle.mw_solving.specs.Inside.{Entry, whole_entry, end_entry, left_numbers,
 use Rattle.mw_match.specs.declared.parts.Place.{Place}
 use Rattle.mw_match.specs.declared.parts.Place.TheVariants.{Whole, Left, End}
 use Rattle.mw_match.specs.declared.parts.Rest.{Rest}
-use Rattle.mw_match.specs.declared.parts.Rigid.{Rigid}
+use Rattle.mw_match.specs.declared.parts.Front.{Front}
 use Rattle.mw_match.specs.declared.parts.Parts.{Parts}
 
 -- from argument i on, so many arguments on: to the end, and with some left behind
@@ -115,8 +115,14 @@ module _ (p : Parts) where
   abbrev pub rigid_in : RawTerm → ℕ
   rigid_in q = leading p.context.now.signature (is_single p.compiled.now.positions.single.items) (top_of q) (args_of q)
 
-  abbrev pub AreRigid : Rest → Rigid → Type 0
-  AreRigid r c = (c.end ≡ rigid_in p.compiled.now.pattern) × (c.left ≡ rigid_in r.pattern)
+  -- a pattern meets the arguments from each index on as the elements of a row
+  abbrev pub MeetsRows : RawTerm → Type 0
+  MeetsRows q = (i : ℕ) → i < number_of_terms (args_of p.subject) → (vs : Values) → found p.context.now.signature p.compiled.now.positions.single.items q (arguments_from i p.subject) vs
+      ≡ found_row p.context.now.signature p.compiled.now.positions.single.items (top_of q) (args_of q) (skip i (args_of p.subject)) vs
+
+  -- its arguments, of which the first are rigid
+  abbrev pub HasFront : RawTerm → Front → Type 0
+  HasFront q c = (terms_of c.patterns.now ≡ args_of q) × (c.rigid ≡ rigid_in q) × MeetsRows q
 
   -- a search that begins with a pattern, for the arguments from i on, and one at a place
   abbrev pub from_index : RawTerm → ℕ → Values → Matches

@@ -37,10 +37,13 @@
 //! where the operator isn't commutative from each one on, beside searches without a rest there. What a match takes
 //! follows from the value of its rest; one that leaves nothing or takes a single argument is none. There are no such
 //! searches for a pattern that becomes one element, whatever its variables' values are, and for a subject without an
-//! associative operator on top. A search begins when the one before has no match left. None begins for the whole where
-//! each argument of the pattern becomes one element and the subject has another number of them, nor for neighbours where
-//! the arguments at the pattern's front, as far as each becomes one element, are more than those that are left or clash
-//! with them (`clashes` of mw_search).
+//! associative operator on top. A search begins when the one before has no match left.
+//!
+//! A search doesn't begin where it is plain that it has no match. The whole is left out where all arguments of the
+//! pattern become one element each and the subject has another number of elements. From an argument on, where the
+//! operator isn't commutative, the pattern's arguments at the front that become one element each meet the next
+//! elements one by one: there is no match where one of them clashes with its element (`clashes` of mw_search), where
+//! there are fewer elements, and where these are all of the pattern and there are more (`row_clashes`).
 //!
 //! Conditions of `new` and `inside`: the subject and the given values are canonical terms that mean ground raw terms,
 //! the latter of their variables' sorts, each variable once; the compiled pattern has as many sorts as variables, and
@@ -49,10 +52,11 @@
 //!
 //! Cost: `matches` costs what is compared, a value one count. `Solutions` costs what its searches do, and for each
 //! solution a copy of the variables' names, a count for each value and a number for each argument that it takes. For
-//! proper parts there are up to two searches for each argument, each with a count for each given value; the arguments
-//! aren't copied for one but where a pattern without the operator on top is searched for. A match of a commutative
-//! operator with a rest costs two walks over the arguments. The native stack grows with the depth of the pattern in
-//! `matches`, and with that of terms where they are compared or walked for sorts.
+//! proper parts there are up to two searches for each argument, each with a count for each given value; one that
+//! doesn't begin takes no memory. The arguments aren't copied for a search but where a pattern without the operator on
+//! top is searched for. A match of a commutative operator with a rest costs two walks over the arguments. The native
+//! stack grows with the depth of the pattern in `matches`, and with that of terms where they are compared or walked for
+//! sorts.
 //!
 //! Tested by the sources in cases/, and for given values by mw_tests: that `new`, `inside` and `next` answer with
 //! memory at hand. No clause says the order of solutions, time or memory.

@@ -1,16 +1,17 @@
 // The searches for the proper parts of a term, one behind another.
-ghost use Rattle.std.specs.Prelude.{◌≡◌, ◌∷◌, [], true, length, map, option_to_list, IfOk, MatchOption, IsTrue};
+ghost use Rattle.std.specs.Prelude.{◌≡◌, ◌∷◌, [], true, length, map, option_to_list, IfOk, MatchOption, IsTrue, ⊤};
 ghost use Rattle.mw_logic.specs.NormalForm.{is_comm as is_comm_of};
 ghost use Rattle.mw_logic.specs.Parts.{number_of_terms};
-ghost use Rattle.mw_logic.specs.Terms.{args_of, skip};
+ghost use Rattle.mw_logic.specs.Term.{RawTerm};
+ghost use Rattle.mw_logic.specs.Terms.{args_of, terms_of, skip};
 ghost use Rattle.mw_matching.specs.Found.{Values, found, found_row};
 ghost use Rattle.mw_search.specs.Goals.{top_of};
 ghost use Rattle.mw_match.specs.Solutions.{candidate};
-ghost use Rattle.mw_match.specs.Parts.{places_behind, places_of, arguments_from as arguments_from_of, from_of, rest_pattern, rest_of, HasOtherNumber, rigid_in, AreRigid, entries_at, matches_at, behind_with, searches_behind, entries_of, from_index, begins};
+ghost use Rattle.mw_match.specs.Parts.{places_behind, places_of, arguments_from as arguments_from_of, from_of, rest_pattern, rest_of, HasOtherNumber, MeetsRows, HasFront, entries_at, matches_at, behind_with, searches_behind, entries_of, from_index, begins};
 ghost use Rattle.mw_match.specs.Hands.{ComesTo, HasBegun};
 
 use crate::bindings::{bound, copied};
-use crate::rows::{elements_from, leading_rigid, row_clashes};
+use crate::rows::{leading_rigid, row_clashes};
 use crate::solutions::Solution;
 use crate::takes::{left_numbers, numbers};
 use mw_canon::{Axioms, Facts, parts};
@@ -38,11 +39,11 @@ pub struct Rest {
     pub given: Seq<Term>,
 }
 
-/// How many arguments at the front become one element each, of the pattern and of that with a rest.
+/// Arguments of a pattern, of which so many at the front become one element each, whatever their variables' values are.
 #[derive(Clone, Copy)]
-pub struct Rigid {
-    pub end: usize,
-    pub left: usize,
+pub struct Front<'p> {
+    pub patterns: &'p [Term],
+    pub rigid: usize,
 }
 
 /// A term with a pattern, as the searches for its parts need them.
@@ -175,27 +176,11 @@ impl<'c> Parts<'c> {
         }
     }
 
-    /// The place behind one.
-    fn following(&self, place: Place) -> Option<Place>
-        ensures { let behind = places_of self.now.context.now.signature self.now.subject in
-            MatchOption result (behind place ≡ []) (λ next. behind place ≡ next ∷ behind next) }
+    /// Whether a pattern meets the arguments from each index on as the elements of a row.
+    fn meets_rows(&self, pattern: &Term) -> bool
+        ensures { result ≡ true → MeetsRows self.now pattern.now }
     {
-        let View::Op(operator, args) = self.subject.view() else {
-            return None;
-        };
-        let comm = is_comm(self.context.facts(), operator);
-        place_behind(comm, args.len(), place)
-    }
-
-    /// Whether a pattern meets the arguments from an index on as the elements of a row.
-    fn is_row(&self, pattern: &Term, from: usize) -> bool
-        ensures { let sig = self.now.context.now.signature in
-            let single = self.now.compiled.now.positions.single.items in
-            let t = self.now.subject in
-            result ≡ true → (vs : Values) → found sig single pattern.now (arguments_from_of from t) vs
-            ≡ found_row sig single (top_of pattern.now) (args_of pattern.now) (skip from (args_of t)) vs }
-    {
-        let View::Op(operator, args) = self.subject.view() else {
+        let View::Op(operator, _) = self.subject.view() else {
             return false;
         };
         let View::Op(top, _) = pattern.view() else {
@@ -207,10 +192,21 @@ impl<'c> Parts<'c> {
         if comm {
             return false;
         }
-        if top != operator {
+        top == operator
+    }
+
+    /// Whether a pattern meets the arguments from an index on as the elements of a row.
+    fn is_row(&self, pattern: &Term, from: usize) -> bool
+        ensures { let sig = self.now.context.now.signature in
+            let single = self.now.compiled.now.positions.single.items in
+            let t = self.now.subject in
+            result ≡ true → (vs : Values) → found sig single pattern.now (arguments_from_of from t) vs
+            ≡ found_row sig single (top_of pattern.now) (args_of pattern.now) (skip from (args_of t)) vs }
+    {
+        if !self.meets_rows(pattern) {
             return false;
         }
-        from < args.len()
+        from < self.count()
     }
 
     /// The search at a place.
@@ -275,50 +271,61 @@ impl<'c> Parts<'c> {
         leading_rigid(facts, &self.compiled.positions, operator, patterns) == patterns.len()
     }
 
-    /// How many of a pattern's arguments at the front become one element each, whatever their variables' values are.
-    fn rigid_front(&self, pattern: &Term) -> usize
-        ensures { result ≡ rigid_in self.now pattern.now }
+    /// A pattern's arguments, where they meet those of the term as the elements of a row.
+    fn front<'p>(&self, pattern: &'p Term) -> Option<Front<'p>>
+        ensures { MatchOption result ⊤ (HasFront self.now pattern.now) }
     {
-        match pattern.view() {
-            View::Op(operator, patterns) => {
-                let facts = self.context.facts();
-                leading_rigid(facts, &self.compiled.positions, operator, patterns)
-            }
-            _ => 0,
+        let View::Op(operator, patterns) = pattern.view() else {
+            return None;
+        };
+        if !self.meets_rows(pattern) {
+            return None;
         }
+        let facts = self.context.facts();
+        let rigid = leading_rigid(facts, &self.compiled.positions, operator, patterns);
+        Some(Front { patterns, rigid })
     }
 
-    fn rigid(&self, rest: &Rest) -> Rigid
-        ensures { AreRigid self.now rest.now result }
+    /// Whether the arguments of the term from an index on are known to have no match.
+    fn is_none_from(
+        &self,
+        front: Option<Front<'_>>,
+        elements: &[Term],
+        from: usize,
+        given: &[Term],
+    ) -> bool
+        ensures { IsTrue result → (q : RawTerm) → MatchOption front.entry ⊤ (HasFront self.now q)
+            → terms_of elements.now ≡ args_of self.now.subject
+            → (from_index self.now q from given.now).coming ≡ [] }
     {
-        let end = self.rigid_front(&self.compiled.pattern);
-        let left = self.rigid_front(&rest.pattern);
-        Rigid { end, left }
-    }
-
-    /// Whether the arguments from an index on are known to have no match, by those of the pattern at the front that
-    /// become one element each: so many.
-    fn is_none_from(&self, pattern: &Term, rigid: usize, from: usize, given: &[Term]) -> bool
-        ensures { IsTrue result → rigid ≡ rigid_in self.now pattern.now
-            → (from_index self.now pattern.now from given.now).coming ≡ [] }
-    {
-        if !self.is_row(pattern, from) {
+        let Some(front) = front else {
+            return false;
+        };
+        if from >= elements.len() {
             return false;
         }
-        let elements = elements_from(&self.subject, from);
-        let patterns = elements_from(pattern, 0);
-        row_clashes(self.context.facts(), patterns, rigid, elements, given)
+        let facts = self.context.facts();
+        row_clashes(facts, front.patterns, front.rigid, &elements[from..], given)
     }
 
     /// Whether a place is known to have no match.
-    fn is_passed(&self, rest: &Rest, rigid: Rigid, place: Place) -> bool
-        ensures { IsTrue result → AreRigid self.now rest.now rigid → matches_at self.now rest.now place ≡ [] }
+    fn is_passed(
+        &self,
+        rest: &Rest,
+        end: Option<Front<'_>>,
+        left: Option<Front<'_>>,
+        elements: &[Term],
+        place: Place,
+    ) -> bool
+        ensures { IsTrue result → MatchOption end.entry ⊤ (HasFront self.now self.now.compiled.now.pattern)
+            → MatchOption left.entry ⊤ (HasFront self.now rest.now.pattern)
+            → terms_of elements.now ≡ args_of self.now.subject → matches_at self.now rest.now place ≡ [] }
     {
         let given = rest.given.as_slice();
         match place {
             Place::Whole => false,
-            Place::End(from) => self.is_none_from(&self.compiled.pattern, rigid.end, from, given),
-            Place::Left(from) => self.is_none_from(&rest.pattern, rigid.left, from, given),
+            Place::End(from) => self.is_none_from(end, elements, from, given),
+            Place::Left(from) => self.is_none_from(left, elements, from, given),
         }
     }
 
@@ -328,10 +335,15 @@ impl<'c> Parts<'c> {
             MatchOption result (entries_of self.now (behind place) ≡ [])
             (λ next. ComesTo self.now (behind place) ((next, matches_at self.now rest.now next) ∷ behind next)) }
     {
-        let rigid = self.rigid(rest);
+        let View::Op(operator, elements) = self.subject.view() else {
+            return None;
+        };
+        let comm = is_comm(self.context.facts(), operator);
+        let end = self.front(&self.compiled.pattern);
+        let left = self.front(&rest.pattern);
         let mut at = place;
-        while let Some(next) = self.following(at) {
-            if !self.is_passed(rest, rigid, next) {
+        while let Some(next) = place_behind(comm, elements.len(), at) {
+            if !self.is_passed(rest, end, left, elements, next) {
                 return Some(next);
             }
             at = next;

@@ -1,25 +1,12 @@
 // Rows of elements that the arguments of a pattern meet by no values.
 ghost use Rattle.std.specs.Prelude.{◌≡◌, ℕ, List, [], IsTrue};
-ghost use Rattle.mw_logic.specs.Terms.{args_of, terms_of, skip};
+ghost use Rattle.mw_logic.specs.Terms.{terms_of};
 ghost use Rattle.mw_matching.specs.Found.{is_single, found_row};
 ghost use Rattle.mw_matching.specs.Patterns.{leading};
 
 use mw_canon::Facts;
 use mw_search::{Positions, clashes};
-use mw_term::{OpId, Term, View};
-
-/// The arguments on top from an index on.
-pub fn elements_from(term: &Term, from: usize) -> &[Term]
-    ensures { terms_of result.now ≡ skip from (args_of term.now) }
-{
-    match term.view() {
-        View::Op(_, args) => {
-            let start = from.min(args.len());
-            &args[start..]
-        }
-        _ => &[],
-    }
-}
+use mw_term::{OpId, Term};
 
 /// How many patterns at the front become one element each, whatever their variables' values are.
 pub fn leading_rigid(
