@@ -9,8 +9,7 @@ use Rattle.mw_frames.proofs.coming.wait_value.Goals as goal
 
 pub returns : goal.returns
 returns c = λ sig.
-    let e : c.in_ok-value.value ≡ value_at c.args.values.now c.args.base c.args.i = c.in_ok-value.ensures ∙ ap (λ vs. unwrap_or (slice_get vs c.args.i) (variable (position c.args.i))) c.behind.ensures in
-    (
+    let e : c.in_ok-value.value ≡ value_at c.args.values.now c.args.base c.args.i = c.in_ok-value.ensures ∙ ap (λ vs. unwrap_or (slice_get vs c.args.i) (variable (position c.args.i))) c.behind.ensures in (
       c.job_of.result,
       c.in_ok-push.ensures.items,
       record {
