@@ -1,5 +1,5 @@
 -- How many levels a right side has where it comes, by what is told of it.
-use Rattle.std.specs.Prelude.{◌≡◌, ◌↔◌, ◌&&◌, ◌≤◌, ◌-◌, ◌+◌, ◌^◌, min, max, ℕ, zero, suc, List, [], ◌∷◌, unwrap_or, slice_get, Bool, true, false, cond, nat_eq, Option, Some, None, option_to_list, IsTrue, refl}
+use Rattle.std.specs.Prelude.{◌≡◌, ◌↔◌, ◌&&◌, ◌≤◌, ◌-◌, ◌+◌, ◌^◌, min, ℕ, zero, suc, List, [], ◌∷◌, unwrap_or, slice_get, Bool, true, false, cond, nat_eq, Option, Some, None, option_to_list, IsTrue, refl}
 use Rattle.std.proofs.Common.{sym, subst, ap, ◌∙◌, arith}
 use Rattle.std.proofs.lemmas.Bool.{both_ways, and_parts, eqb-true}
 use Rattle.mw_logic.specs.Term.{Variable, RawTerm, RawTerms, numeral, quoted, variable, apply, nil, cons}

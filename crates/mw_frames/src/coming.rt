@@ -119,11 +119,15 @@ pub(crate) fn part_job<'m>(
         → IfOk result (λ x. weight facts.now values.now x ≤ 3) }
 {
     match pattern {
-        Pattern::Nat(_) | Pattern::Qid(_) => bare_job(alloc, facts, values, pattern, base),
+        Pattern::Nat(_) | Pattern::Qid(_) => {
+            let job = bare_job(alloc, facts, values, pattern, base)?;
+            Ok(job)
+        }
         Pattern::Var(i) => value_job(alloc, values, base, *i, top),
         Pattern::Op(operator, args) => {
             if is_constant(facts, *operator, args) {
-                return bare_job(alloc, facts, values, pattern, base);
+                let job = bare_job(alloc, facts, values, pattern, base)?;
+                return Ok(job);
             }
             Ok(Job::Made(pattern, base, top))
         }

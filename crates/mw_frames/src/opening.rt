@@ -203,7 +203,10 @@ pub(crate) fn open_made<'m>(
                 Some(term) => Ok(Hand::One(Job::Try(term))),
                 None => open_plain(alloc, facts, machine, *operator, args, base, top),
             },
-            _ => open_among(alloc, facts, machine, *operator, args, base, top),
+            _ => {
+                let hand = open_among(alloc, facts, machine, *operator, args, base, top)?;
+                Ok(hand)
+            }
         },
         _ => {
             let job = part_job(alloc, facts, machine.kept.values(), pattern, base, top)?;

@@ -264,7 +264,10 @@ impl<'m> Choices<'m> {
     {
         match &equation.left {
             Left::Plain(patterns) => self.compare(alloc, context, equation, patterns, subject),
-            Left::Searched(searched) => self.seek(alloc, context, equation, searched, subject),
+            Left::Searched(searched) => {
+                let found = self.seek(alloc, context, equation, searched, subject)?;
+                Ok(found)
+            }
         }
     }
 

@@ -1,7 +1,6 @@
 use Rattle.std.proofs.Common.{◌≡◌, ◌∙◌, ◌-◌, ◌++◌, ◌∷◌, [], List, drop, sym, subst, ap, append_assoc, arith}
 use Rattle.mw_logic.specs.Term.{RawTerm}
 use Rattle.mw_pattern.specs.Clean.{clean, clean_all}
-use Rattle.mw_frames.specs.declared.job.Job.{Job}
 use Rattle.mw_frames.specs.Arrivals.{StandsFor, StandForAll}
 use Rattle.mw_frames.proofs.JobOrder.{one_more}
 use Rattle.mw_frames.proofs.PartsWaiting.{stand_more}

@@ -29,11 +29,10 @@ returns-in-None-clause-means c = λ K k run h.
     (successor_stays c.args.facts.now c.in-Op.operator (evaluated_all c.args.facts.now (drop c.args.base vs) c.in-Op.args) a.0 a.1
     (λ n q. none n (ap (λ p. instance_of c.args.facts.now vs p c.args.base) e ∙ q))))
 
-pub returns-in_default-axioms-clause-means : goal.returns-in_default-axioms-clause-means
-returns-in_default-axioms-clause-means c = λ K k run h.
-    IfOk-weaker c.open_among.result _ _
-    (λ hand o. op_opens K k c.args.facts.now c.args.machine.now c.open_among.new.machine c.args.pattern c.in-Op.operator c.in-Op.args c.args.base c.args.top hand (ap clean c.in-Op.is) run h o)
-    (c.open_among.ensures.opens (among_axioms c.args.facts.now c.in-Op.operator c.axioms.result c.axioms.ensures c.in_default-axioms.not-Plain c.in_default-axioms.not-Successor))
+pub returns-in_ok-hand-in_default-axioms-clause-means : goal.returns-in_ok-hand-in_default-axioms-clause-means
+returns-in_ok-hand-in_default-axioms-clause-means c = λ K k run h.
+    op_opens K k c.args.facts.now c.args.machine.now c.open_among.new.machine c.args.pattern c.in-Op.operator c.in-Op.args c.args.base c.args.top c.in_ok-hand-in_default-axioms.hand (ap clean c.in-Op.is) run h
+    (c.in_ok-hand-in_default-axioms.ensures.opens (among_axioms c.args.facts.now c.in-Op.operator c.axioms.result c.axioms.ensures c.in_default-axioms.not-Plain c.in_default-axioms.not-Successor))
 
 pub returns-in_ok-job-in_default : goal.returns-in_ok-job-in_default
 returns-in_ok-job-in_default c =

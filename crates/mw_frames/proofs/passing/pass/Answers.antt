@@ -1,8 +1,7 @@
-use Rattle.std.proofs.Common.{◌≡◌, ◌≤◌, ◌<◌, ◌∙◌, ◌*◌, ◌+◌, ◌++◌, ◌∷◌, [], List, suc, length, take, reverse, refl, ap, sym, subst, arith, length-append, append-nil}
-use Rattle.mw_logic.specs.Term.{RawTerm, join}
+use Rattle.std.proofs.Common.{◌≡◌, ◌≤◌, ◌<◌, ◌∙◌, ◌++◌, ◌∷◌, [], List, suc, length, take, reverse, refl, ap, subst, arith, length-append, append-nil}
+use Rattle.mw_logic.specs.Term.{join}
 use Rattle.mw_logic.specs.Signature.{Signature}
 use Rattle.mw_logic.specs.NormalForm.{is_comm, arranged}
-use Rattle.mw_logic.specs.Module.{Module}
 use Rattle.mw_stack.specs.Own.{own, spread}
 use Rattle.mw_trail.specs.Tracks.{Track, moves}
 use Rattle.mw_frames.specs.declared.job.Job.{Job}

@@ -1,4 +1,4 @@
-use Rattle.std.proofs.Common.{◌≤◌, ◌∷◌, ℕ, suc, reverse, arith}
+use Rattle.std.proofs.Common.{◌≤◌, ℕ, arith}
 use Rattle.mw_logic.specs.Module.{Module}
 use Rattle.mw_frames.specs.declared.machine.Machine.{Machine}
 use Rattle.mw_frames.specs.declared.looking.Step.{Step}
