@@ -128,6 +128,7 @@ impl Ctx {
     }
 
     /// Whether a sort is at or below another.
+    #[inline(always)]
     fn is_below(&self, lower: SortId, upper: SortId) -> bool
         ensures { IsTrue result ↔ AtOrBelow self.now.signature.pairs lower upper }
     {
@@ -139,6 +140,7 @@ impl Ctx {
     }
 
     /// Whether a sort is one that a term has by its operators alone.
+    #[inline(always)]
     fn is_sure(&self, term: &Term, sort: SortId) -> bool
         ensures { let sig = self.now.signature in normal_form sig (nested sig term.now) ≡ term.now → IsRawTerm sig (nested sig term.now) → IsTrue (is_ground term.now) → IsTrue result → HasSort sig (nested sig term.now) (sort_of sort) }
     {
@@ -205,6 +207,7 @@ impl Ctx {
     /// Whether a canonical ground term has a sort. It takes no memory. It is a look-up where the term's operators tell a yes, as they
     /// do where each of them is total on its kind, and a look-up for each declaration of the operator on top where
     /// they tell a no; else it takes the time of `least_sort`.
+    #[inline(always)]
     pub fn has_sort(&self, term: &Term, sort: SortId) -> bool
         ensures { let sig = self.now.signature in normal_form sig (nested sig term.now) ≡ term.now → IsRawTerm sig (nested sig term.now) → IsTrue (is_ground term.now) → (IsTrue result ↔ HasSort sig (nested sig term.now) (sort_of sort)) }
     {

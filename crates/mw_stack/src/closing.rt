@@ -11,6 +11,7 @@ use mw_term::{OpId, Term};
 use std::alloc::{AllocError, Global};
 
 /// The operator over its own arguments, which are in order, and are taken out: as a canonical term.
+#[inline(always)]
 pub fn close(
     alloc: Global,
     facts: &Facts,
@@ -33,6 +34,7 @@ pub fn close(
 }
 
 /// An associative operator over its own elements. A list is made for more than two of them alone.
+#[inline(never)]
 fn collected(
     alloc: Global,
     facts: &Facts,

@@ -85,6 +85,7 @@ impl Model for Term {
     ghost size_decreases = { λ a h. Prim.omega (arith, shape_falls a.node.value.shape) };
 }
 
+#[inline(always)]
 fn made(alloc: Global, remainders: u64, shape: Shape) -> Result<Term, AllocError>
     requires { facts_kept remainders shape ≡ facts_of (shaped shape) }
     ensures { IfOk result (λ t. t ≡ shaped shape) }
@@ -93,6 +94,7 @@ fn made(alloc: Global, remainders: u64, shape: Shape) -> Result<Term, AllocError
     Ok(Term { node })
 }
 
+#[inline(always)]
 fn facts_in(args: &[Term]) -> Facts
     ensures { result ≡ facts_of_all (terms_of args.now) }
 {
@@ -104,6 +106,7 @@ fn facts_in(args: &[Term]) -> Facts
 }
 
 /// The operator on a list of arguments, which it keeps.
+#[inline(never)]
 fn many(alloc: Global, operator: OpId, args: Vec<Term>) -> Result<Term, AllocError>
     ensures { IfOk result (λ t. t ≡ applied operator (terms_of args.items)) }
 {
@@ -181,6 +184,7 @@ impl Term {
 
     /// The operator on the terms of a list that stand from a place on, which are taken out of it. Up to two take no
     /// list of their own, more take one of exactly that many. For want of memory the list may have lost them.
+    #[inline(always)]
     pub fn apply_behind(
         alloc: Global,
         operator: OpId,

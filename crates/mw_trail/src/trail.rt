@@ -98,6 +98,7 @@ fn short(number: usize) -> Result<u16, AllocError>
 
 /// Out of where the last item that goes in went. Where that is the last item at all, it is taken back, with so many
 /// numbers.
+#[inline(always)]
 fn go_out(items: &mut Vec<Item>) -> Result<usize, AllocError>
     ensures out { IfOk result (TakesBack items.old.items items.new.items) }
     ensures same { OnErr result (items.new.items ≡ items.old.items) }
@@ -149,6 +150,7 @@ impl Trail {
     }
 
     /// Into the argument of this number, from 1.
+    #[inline(always)]
     pub fn enter(&mut self, number: usize) -> Result<(), AllocError>
         ensures moves { OnOk result ((M : Module) → moves M self.new ≡ moves M self.old ++ into number ∷ []) }
         ensures values { OnOk result (self.new.values ≡ self.old.values) }
@@ -175,6 +177,7 @@ impl Trail {
     }
 
     /// Out again. Where nothing was done inside, it was never gone into.
+    #[inline(always)]
     pub fn leave(&mut self) -> Result<(), AllocError>
         ensures moves { OnOk result ((M : Module) → Leaves (moves M self.old) (moves M self.new)) }
         ensures values { OnOk result (self.new.values ≡ self.old.values) }
@@ -212,6 +215,7 @@ impl Trail {
     }
 
     /// The statement of this number is applied, by these values, which are taken, and by the sides that wait.
+    #[inline(always)]
     pub fn apply(&mut self, number: usize, values: &mut Vec<Term>) -> Result<(), AllocError>
         ensures moves { OnOk result ((M : Module) → moves M self.new ≡ moves M self.old ++ applies number (is_rule M number) (meant M.signature (zip (variables_of M number) values.old.items)) ∷ []) }
         ensures values { OnOk result (self.new.values ≡ self.old.values ++ values.old.items) }
