@@ -1,17 +1,14 @@
 -- What a hand has handed out and passed over, step by step.
-use Rattle.std.specs.Prelude.{◌≡◌, ℕ, List, [], ◌∷◌, ◌++◌, length, map, flat_map, Option, None, Some, option_to_list, is_some, true, false, MatchOption, ⊤, refl}
+use Rattle.std.specs.Prelude.{◌≡◌, ℕ, List, [], ◌∷◌, ◌++◌, map, flat_map, Option, None, Some, option_to_list, is_some, true, false, MatchOption, ⊤, refl}
 use Rattle.std.proofs.Common.{sym, ap, subst, ◌∙◌, append_assoc}
 use Rattle.std.proofs.lemmas.Bool.{both_ways}
 use Rattle.mw_logic.specs.Signature.{Signature}
 use Rattle.mw_matching.specs.Found.{Values, found as found_in}
-use Rattle.mw_position.specs.Variables.{sorts_of}
 use Rattle.mw_search.specs.Lacking.{Each, Skips}
 use Rattle.mw_search.specs.Searches.{Matches, FitsSorts as FitsBySearch}
 use Rattle.mw_match.specs.Solutions.{Coming, FitsSorts, Lacks, PassesTo, LacksBySearch, candidate, matches_of}
 use Rattle.mw_match.specs.Parts.{entries_at, entries_of, searches_behind}
-use Rattle.mw_match.specs.Hands.{IsKept, IsNext, HasBegun, ComesTo, coming_of, first_of}
-use Rattle.mw_match.specs.declared.parts.Place.TheVariants.{Whole}
-use Rattle.mw_match.specs.declared.parts.Rest.{Rest}
+use Rattle.mw_match.specs.Hands.{IsKept, IsNext, HasBegun, coming_of}
 use Rattle.mw_match.specs.declared.parts.Parts.{Parts}
 use Rattle.mw_match.specs.declared.hand.Hand.{Hand}
 use Rattle.mw_match.specs.declared.solutions.Solution.{Solution}
@@ -156,32 +153,3 @@ module _ (p : Parts) (old h : Hand) (r : IsReached p old h) (none : h.found ≡ 
 pub none_found : (f : Option Values) (rest : List Values) → is_some f ≡ false → MatchOption f (rest ≡ []) (λ _. ⊤) → (f ≡ None) × (rest ≡ [])
 none_found None rest e h = (refl, h)
 none_found (Some us) rest e h = absurd (both_ways true e refl)
-
--- The first search is for the whole, or the next one where that has no match.
-module _ (p : Parts) (vs : Values) (sorts : p.compiled.now.positions.sorts ≡ sorts_of p.compiled.now.variables) (given : (r : Rest) → p.rest ≡ Some r → length vs ≡ length r.given)
-    (new : Hand) (begun : HasBegun p new.place new.search) (found : new.found ≡ None) where
-  begun_given : new.search.given ≡ length vs
-  begun_given = let (rest, is, same) = begun in ap (λ (m : Matches). m.given) same ∙ sym (given rest is)
-
-  pub first_kept : IsKept p new
-  first_kept =
-      let (rest, is, same) = begun in
-      record {
-        signature = ap (λ (m : Matches). m.signature) same;
-        positions = ap (λ (m : Matches). m.sorts) same;
-        sorts = ap (λ (m : Matches). m.sorts) same ∙ sorts;
-        given = λ r e. begun_given ∙ given r e;
-        sorted = subst (λ o. MatchOption o ⊤ (FitsBySearch new.search)) (sym found) tt;
-      }
-
-  pub first_same : ComesTo p (searches_behind p Whole) ((new.place, new.search.coming) ∷ searches_behind p new.place)
-      → found_in p.context.now.signature p.compiled.now.positions.single.items p.compiled.now.pattern p.subject vs ≡ [] → coming_of p new ≡ first_of p vs
-  first_same more none =
-      let (rest, is, same) = begun in
-      let candidates_are : (coming_of p new).candidates ≡ (first_of p vs).candidates =
-      ap (λ f. map (candidate p.compiled.now.variables) (flat_map (entries_at p new.place) (matches_of f new.search.coming) ++ entries_of p (searches_behind p new.place))) found
-      ∙ ap (map (candidate p.compiled.now.variables)) (sym more.0)
-      ∙ ap (λ us. map (candidate p.compiled.now.variables) (flat_map (entries_at p Whole) us ++ entries_of p (searches_behind p Whole))) (sym none) in
-      same_coming new.search.signature p.context.now.signature new.search.sorts p.compiled.now.positions.sorts new.search.given (length vs) (coming_of p new).candidates
-      (ap (λ (m : Matches). m.signature) same) (ap (λ (m : Matches). m.sorts) same) begun_given
-      ∙ ap (λ rs. record { signature = p.context.now.signature; sorts = p.compiled.now.positions.sorts; given = length vs; candidates = rs }) candidates_are

@@ -1,5 +1,5 @@
 -- Places without matches, passed over: the same is to come behind them.
-use Rattle.std.specs.Prelude.{◌≡◌, ◌<◌, ◌+◌, suc, List, [], ◌∷◌, ◌++◌, length, flat_map, Some, refl}
+use Rattle.std.specs.Prelude.{◌≡◌, ◌<◌, ◌+◌, suc, List, [], ◌∷◌, ◌++◌, length, flat_map, Some}
 use Rattle.std.proofs.Common.{ap, subst, ◌∙◌, arith}
 use Rattle.mw_match.specs.Parts.{places_of, entries_at, matches_at, searches_at, behind_with, entries_of}
 use Rattle.mw_match.specs.Hands.{ComesTo, steps_of}
@@ -10,9 +10,6 @@ use Rattle.mw_match.specs.declared.parts.Parts.{Parts}
 module _ (p : Parts) (r : Rest) where
   abbrev places : Place → List Place
   places q = places_of p.context.now.signature p.subject q
-
-  pub passed_first : (place : Place) → ComesTo p (behind_with p r place) (behind_with p r place)
-  passed_first place = (refl, omega arith)
 
   begins_with : (at next : Place) → places at ≡ next ∷ places next → behind_with p r at ≡ (next, matches_at p r next) ∷ behind_with p r next
   begins_with at next h = ap (searches_at p (Some r)) h

@@ -21,15 +21,6 @@ leading_on sig single f i ps p h is rigid so =
     let one : leading sig (is_single single) f (terms_of (drop i ps)) ≡ suc r = ap (leading sig (is_single single) f) (terms_at ps i p h is) ∙ ap (λ b. cond b (suc r) 0) rigid in
     omega (arith, so, one)
 
--- and no more
-pub leading_end : (sig : Signature) (single : List (List ℕ)) (f i : ℕ) (ps : List RawTerm) (p : RawTerm) → i < length ps → p ≡ get_or ps i p → is_rigid sig (is_single single) f p ≡ false
-    → leading sig (is_single single) f (terms_of ps) ≡ i + leading sig (is_single single) f (terms_of (drop i ps))
-    → i ≡ leading sig (is_single single) f (terms_of ps)
-leading_end sig single f i ps p h is free so =
-    let r : ℕ = leading sig (is_single single) f (terms_of (drop (i + 1) ps)) in
-    let none : leading sig (is_single single) f (terms_of (drop i ps)) ≡ 0 = ap (leading sig (is_single single) f) (terms_at ps i p h is) ∙ ap (λ b. cond b (suc r) 0) free in
-    omega (arith, so, none)
-
 none_any : {X Y : Type 0} (F : X → List Y) (L : List X) → ((x : X) → F x ≡ []) → flat_map F L ≡ []
 none_any F [] h = refl
 none_any F (x ∷ L) h = ap (λ l. l ++ flat_map F L) (h x) ∙ none_any F L h

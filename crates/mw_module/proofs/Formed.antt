@@ -16,7 +16,7 @@ use Rattle.mw_module.specs.declared.table.Role.{Role}
 use Rattle.mw_module.specs.declared.table.Role.TheVariants as role
 use Rattle.mw_module.specs.declared.table.Want.TheVariants as want
 use Rattle.mw_module.specs.declared.table.Wrong.{Wrong}
-use Rattle.mw_module.specs.declared.table.Wrong.TheVariants.{Bad}
+use Rattle.mw_module.specs.declared.table.Wrong.TheVariants.{Bad, Unread}
 use Rattle.mw_module.specs.Words.{is, texts, count_before}
 use Rattle.mw_module.specs.Openings.{opening_of}
 use Rattle.mw_module.specs.OperatorNames.{items_in, is_name, fits, all_fit}
@@ -26,7 +26,7 @@ use Rattle.mw_module.specs.Equations.{unlabelled, attributes_len, group_at_end}
 use Rattle.mw_module.specs.Known.{IsNameFor, IsMark, IsPrecedence, IsGather, AreAttributes, IsKnown}
 use Rattle.mw_module.specs.Parts.{IsFine, AreParts}
 use Rattle.mw_module.specs.Reading.{then_of, tokens_of, has_marks, is_fine, read_at, lists_of, first_token}
-use Rattle.mw_module.specs.Forms.{Shape, Sorts, Operators, Formed, Shaped, grouped, typed, typed_names, said_from, Value, valued_with, valued, value_form, Profile, profiled, profile_form, declared, names_form, operators_form, sided, sides_form, form_behind, formed, form_of}
+use Rattle.mw_module.specs.Forms.{Shape, Import, Sorts, Operators, Formed, Shaped, import_form, grouped, typed, typed_names, said_from, Value, valued_with, valued, value_form, Profile, profiled, profile_form, declared, names_form, operators_form, sided, sides_form, form_behind, formed, form_of}
 use Rattle.mw_module.proofs.Parts.{then_holds, parts_read}
 
 abbrev pub IsKnownWhereFormed : Formed → Type 0
@@ -276,6 +276,15 @@ sides_known : (sides said : List Token) → IfOk (sides_form sides said) IsKnown
 sides_known sides said =
     behind_any (read_at place.Left role.Words want.Nothing sides) _ (λ parts. behind_any (read_at place.Statement role.Silent want.Nothing said) _ (λ more. sided_known sides parts _))
 
+import_known : (ts : List Token) → IfOk (import_form ts) IsKnown
+import_known [] = tt
+import_known (t ∷ []) = of (is (codes "{") t)
+  where
+    of : (b : Bool) → IfOk (if b then Err Unread else Ok (Import t)) IsKnown
+    of true = tt
+    of false = tt
+import_known (t ∷ u ∷ ts) = tt
+
 behind_known : (o : Opening) (ts : List Token) → IfOk (form_behind o ts) IsKnown
 behind_known opening.Sorts ts = sorts_known ts
 behind_known opening.Subsorts ts = behind_any (read_at place.Group role.Words want.Nothing ts) (grouped ts) (grouped_known ts)
@@ -283,6 +292,7 @@ behind_known opening.Operator ts = operators_known true ts
 behind_known opening.Operators ts = operators_known false ts
 behind_known opening.Variables ts = variables_known ts
 behind_known opening.Equation ts = let us = unlabelled ts in let n = attributes_len us in sides_known (take (length us - n) us) (group_at_end n us)
+behind_known opening.Import ts = import_known ts
 behind_known opening.Elsewhere ts = tt
 behind_known opening.Unread ts = tt
 

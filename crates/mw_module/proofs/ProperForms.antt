@@ -20,13 +20,13 @@ use Rattle.mw_module.specs.declared.table.Wrong.{Wrong}
 use Rattle.mw_module.specs.declared.table.Wrong.TheVariants.{Bad, Unread}
 use Rattle.mw_module.specs.declared.table.Act.TheVariants.{Skip}
 use Rattle.mw_module.specs.declared.table.Test.TheVariants as test
-use Rattle.mw_module.specs.Words.{texts, count_before, is_punctuation_word, is_quoted, is_no_piece}
+use Rattle.mw_module.specs.Words.{is, texts, count_before, is_punctuation_word, is_quoted, is_no_piece}
 use Rattle.mw_module.specs.Openings.{opening_of}
 use Rattle.mw_module.specs.OperatorNames.{items_in, is_fine, is_name}
 use Rattle.mw_module.specs.Equations.{has_label, unlabelled, attributes_len, group_at_end}
 use Rattle.mw_module.specs.Rows.{row}
 use Rattle.mw_module.specs.Reading.{then_of, tokens_of, followed, reading, read_at, lists_of, first_token}
-use Rattle.mw_module.specs.Forms.{Sorts, Operators, grouped, typed, typed_names, Profile, profile_form, declared, names_form, sided, sides_form, form_behind, form_of}
+use Rattle.mw_module.specs.Forms.{Import, Sorts, Operators, import_form, grouped, typed, typed_names, Profile, profile_form, declared, names_form, sided, sides_form, form_behind, form_of}
 use Rattle.mw_module.specs.Tokens.{HasProperParts}
 use Rattle.mw_module.proofs.Parts.{then_holds}
 use Rattle.mw_module.proofs.Formed.{AreNames, names_named, formed_holds}
@@ -192,6 +192,15 @@ sorts_proper [] all = tt
 sorts_proper (t ∷ ts) all =
     then_holds (AreRuns (t ∷ ts)) HasProperParts (read_at place.Sorts role.Silent want.Nothing (t ∷ ts)) (λ parts. Ok (Sorts (t ∷ ts))) (sorts_run (t ∷ ts) (t ∷ ts) 0 0 0 role.Silent [] all) (λ parts runs. runs)
 
+import_proper : (ts : List Token) → IfOk (import_form ts) HasProperParts
+import_proper [] = tt
+import_proper (t ∷ []) = of (is (codes "{") t)
+  where
+    of : (b : Bool) → IfOk (if b then Err Unread else Ok (Import t)) HasProperParts
+    of true = tt
+    of false = tt
+import_proper (t ∷ u ∷ ts) = tt
+
 behind_proper : NamesAreProper → (o : Opening) (ts : List Token) → AreTokens ts → IfOk (form_behind o ts) HasProperParts
 behind_proper law opening.Sorts ts all = sorts_proper ts all
 behind_proper law opening.Subsorts ts all = any_holds HasProperParts (read_at place.Group role.Words want.Nothing ts) (grouped ts) (grouped_proper ts)
@@ -202,6 +211,7 @@ behind_proper law opening.Equation ts all =
     let us = unlabelled ts in
     let n = attributes_len us in
     sides_proper (take (length us - n) us) (group_at_end n us) (All-take IsToken (length us - n) us (unlabelled_tokens ts all))
+behind_proper law opening.Import ts all = import_proper ts
 behind_proper law opening.Elsewhere ts all = tt
 behind_proper law opening.Unread ts all = tt
 

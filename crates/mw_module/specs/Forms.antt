@@ -23,7 +23,7 @@ use Rattle.mw_module.specs.Attributes.{Attributes, seen_attributes, no_attribute
 use Rattle.mw_module.specs.Equations.{unlabelled, attributes_len, group_at_end}
 use Rattle.mw_module.specs.Reading.{told, then_of, tokens_of, read_at, lists_of, first_token}
 use Rattle.mw_module.specs.Sortings.{WrittenSort, seen_sorting, seen_sortings, sorting_of, sortings_of}
-use Rattle.mw_module.specs.Words.{seen_lists, count_before}
+use Rattle.mw_module.specs.Words.{seen_lists, is, count_before}
 
 -- a statement by its form, with its parts
 pub data Shape : Type 0 where
@@ -35,6 +35,8 @@ pub data Shape : Type 0 where
   Variables : List Token → Token → Shape
   -- the sides, and whether it is executable
   Equation : List Token → List Token → Bool → Shape
+  -- a module's name
+  Import : Token → Shape
 
 -- a form as its readers see it
 abbrev pub shape_of : Form → Shape
@@ -43,6 +45,7 @@ shape_of (form.Subsorts groups) = Subsorts (seen_lists groups.items)
 shape_of (form.Operators names args result attributes) = Operators (seen_lists names.items) (seen_sortings args.items) (seen_sorting result) (seen_attributes attributes)
 shape_of (form.Variables names sort) = Variables names.now sort.now
 shape_of (form.Equation left right executable) = Equation left.now right.now executable
+shape_of (form.Import m) = Import m.now
 
 -- the form, or what is wrong
 abbrev pub Formed : Type 0
@@ -187,6 +190,12 @@ sides_form sides said = then_of (read_at place.Left role.Words want.Nothing side
 abbrev pub equation_form : List Token → Shaped
 equation_form ts = let us = unlabelled ts in let n = attributes_len us in sides_form (take (length us - n) us) (group_at_end n us)
 
+-- an import: a module's name and nothing more; module expressions aren't read
+abbrev pub import_form : List Token → Shaped
+import_form [] = Err Bad
+import_form (t ∷ []) = if is (codes "{") t then Err Unread else Ok (Import t)
+import_form (t ∷ u ∷ ts) = Err Unread
+
 -- what stands behind the first word of a statement
 abbrev pub form_behind : Opening → List Token → Shaped
 form_behind opening.Sorts ts = sorts_form ts
@@ -195,6 +204,7 @@ form_behind opening.Operator ts = operators_form true ts
 form_behind opening.Operators ts = operators_form false ts
 form_behind opening.Variables ts = variables_form ts
 form_behind opening.Equation ts = equation_form ts
+form_behind opening.Import ts = import_form ts
 form_behind opening.Elsewhere ts = Err Bad
 form_behind opening.Unread ts = Err Unread
 

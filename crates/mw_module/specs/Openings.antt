@@ -4,6 +4,11 @@ use Rattle.std.specs.Str.{bytes_eq}
 use Rattle.mw_module.specs.declared.openings.Opening.{Opening}
 use Rattle.mw_module.specs.declared.openings.Opening.TheVariants as opening
 
+-- a word of imports, which all mean the same
+abbrev pub is_import : List ℕ → Bool
+is_import word = bytes_eq word (codes "protecting") || bytes_eq word (codes "pr") || bytes_eq word (codes "extending") || bytes_eq word (codes "ex")
+    || bytes_eq word (codes "including") || bytes_eq word (codes "inc")
+
 -- a word of rules, which stand in system and object modules alone
 abbrev pub is_rule : List ℕ → Bool
 is_rule word = bytes_eq word (codes "rl") || bytes_eq word (codes "crl")
@@ -21,5 +26,6 @@ opening_of rules word = if bytes_eq word (codes "sort") || bytes_eq word (codes 
     else if bytes_eq word (codes "ops") then opening.Operators
     else if bytes_eq word (codes "var") || bytes_eq word (codes "vars") then opening.Variables
     else if bytes_eq word (codes "eq") then opening.Equation
+    else if is_import word then opening.Import
     else if rules && is_rule word then opening.Unread
     else if is_rule word || is_of_objects word then opening.Elsewhere else opening.Unread

@@ -5,7 +5,7 @@ use Rattle.mw_lex.specs.Texts.{IsRun, AreTokens}
 use Rattle.mw_text.specs.Names.{name_of_tokens}
 use Rattle.mw_text.specs.Proper.{IsProperName}
 use Rattle.mw_module.specs.Words.{texts}
-use Rattle.mw_module.specs.Forms.{Shape, Sorts, Subsorts, Operators, Variables, Equation}
+use Rattle.mw_module.specs.Forms.{Shape, Sorts, Subsorts, Operators, Variables, Equation, Import}
 use Rattle.mw_module.specs.Units.{SeenLined, SeenUnit, Reads}
 
 -- Names of sorts and variables are runs, names of operators are proper, and sides are made of tokens.
@@ -15,6 +15,7 @@ HasProperParts (Subsorts groups) = ⊤
 HasProperParts (Operators names args result said) = All (λ (name : List Token). IsProperName (name_of_tokens (texts name))) names
 HasProperParts (Variables names sort) = All IsRun (texts names)
 HasProperParts (Equation left right executable) = AreTokens left × AreTokens right
+HasProperParts (Import m) = ⊤
 
 abbrev pub AreProperStatements : List SeenLined → Type 0
 AreProperStatements = All (λ (s : SeenLined). HasProperParts s.shape)

@@ -3,6 +3,7 @@ use Rattle.std.specs.Prelude.{◌≡◌, ◌<◌, ◌≤◌, ℕ, Bool, true, fa
 use Rattle.std.specs.Borrow.{Bor}
 use Rattle.std.specs.Global.{Vec}
 use Rattle.mw_lex.specs.declared.token.Token.{Token}
+use Rattle.mw_logic.specs.Signature.{Member}
 use Rattle.mw_module.specs.declared.faults.Fault.{Fault}
 use Rattle.mw_module.specs.declared.faults.FaultKind.{FaultKind}
 use Rattle.mw_module.specs.declared.faults.FaultKind.TheVariants.{NotInProfile, BadStatement}
@@ -10,6 +11,7 @@ use Rattle.mw_module.specs.declared.kinds.Kind.{Kind}
 use Rattle.mw_module.specs.declared.kinds.Kind.TheVariants as kind
 use Rattle.mw_module.specs.declared.units.Unit.{Unit as SourceUnit}
 use Rattle.mw_module.specs.declared.units.Lined.{Lined}
+use Rattle.mw_module.specs.declared.units.Stated.{Stated}
 use Rattle.mw_module.specs.Forms.{Shape, shape_of, Formed, form_of}
 use Rattle.mw_module.specs.Kinds.{kind_of, end_word, unended}
 use Rattle.mw_module.specs.Words.{is, begins, count_before}
@@ -26,6 +28,18 @@ seen_lined s = record { line = s.line; shape = shape_of s.form }
 -- statements as their readers see them
 abbrev pub seen_statements : List Lined → List SeenLined
 seen_statements = map seen_lined
+
+-- a statement among those of several modules
+abbrev pub seen_stated : Stated → SeenLined
+seen_stated s = record { line = s.line; shape = shape_of s.form.now }
+
+-- such statements as their readers see them
+abbrev pub seen_all : List Stated → List SeenLined
+seen_all = map seen_stated
+
+-- each form of the first statements is one of the second
+abbrev pub IsWithin : List SeenLined → List SeenLined → Type 0
+IsWithin ss ts = (s : SeenLined) → Member s ss → (t : SeenLined) × Member t ts × (t.shape ≡ s.shape)
 
 -- a unit as its readers see it
 pub record SeenUnit : Type 0 where

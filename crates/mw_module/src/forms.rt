@@ -10,7 +10,7 @@ use crate::openings::{Opening, opening_of};
 use crate::operators::operators_form;
 use crate::sortings::WrittenSort;
 use crate::table::{Place, Read, Role, Want, Wrong, told};
-use crate::words::{count_before, tokens_from};
+use crate::words::{count_before, is_word, tokens_from};
 use mw_lex::Token;
 use std::alloc::{AllocError, Global};
 
@@ -43,6 +43,10 @@ pub enum Form<'s> {
         left: &'s [Token],
         right: &'s [Token],
         executable: bool,
+    },
+    /// A module that is imported, by its name.
+    Import {
+        module: &'s Token,
     },
 }
 
@@ -105,6 +109,17 @@ fn variables_form<'s>(alloc: Global, tokens: &'s [Token]) -> Read<Form<'s>>
     typed_names(alloc, &tokens[..colon], tokens_from(tokens, colon + 1))
 }
 
+// The name of a module and nothing more.
+fn import_form<'s>(tokens: &'s [Token]) -> Result<Form<'s>, Wrong>
+    ensures { forms.seen_shaped result ≡ forms.import_form tokens.now }
+{
+    match tokens {
+        [] => Err(Wrong::Bad),
+        [module] if !is_word(module, b"{") => Ok(Form::Import { module }),
+        _ => Err(Wrong::Unread),
+    }
+}
+
 // What stands behind the first word of a statement.
 fn form_behind<'s>(alloc: Global, opening: Opening, tokens: &'s [Token]) -> Read<Form<'s>>
     ensures { IfOk result (λ r. forms.seen_shaped r ≡ forms.form_behind opening tokens.now) }
@@ -116,6 +131,7 @@ fn form_behind<'s>(alloc: Global, opening: Opening, tokens: &'s [Token]) -> Read
         Opening::Operators => operators_form(alloc, false, tokens),
         Opening::Variables => variables_form(alloc, tokens),
         Opening::Equation => equation_form(alloc, tokens),
+        Opening::Import => Ok(import_form(tokens)),
         Opening::Elsewhere => Ok(Err(Wrong::Bad)),
         Opening::Unread => Ok(Err(Wrong::Unread)),
     }

@@ -61,5 +61,5 @@ pub use forms::Form;
 pub use machine::parts_ascend;
 pub use operators::operators_are_written;
 pub use sortings::WrittenSort;
-pub use units::{Lined, Unit, read_unit, units_are_proper};
+pub use units::{Lined, Stated, Unit, read_unit, units_are_proper};
 pub use words::{count_before, is_word, tokens_from};

@@ -13,10 +13,23 @@ pub enum Opening {
     Operators,
     Variables,
     Equation,
+    Import,
     /// A statement of other kinds of modules.
     Elsewhere,
     /// A statement that isn't read yet, or no statement's word.
     Unread,
+}
+
+// A word of imports, which all mean the same.
+fn is_import(word: &[u8]) -> bool
+    ensures { result ≡ openings.is_import word.now }
+{
+    same(word, b"protecting")
+        || same(word, b"pr")
+        || same(word, b"extending")
+        || same(word, b"ex")
+        || same(word, b"including")
+        || same(word, b"inc")
 }
 
 // A word of rules, which stand in system and object modules alone.
@@ -53,6 +66,8 @@ pub fn opening_of(rules: bool, word: &[u8]) -> Opening
         Opening::Variables
     } else if same(word, b"eq") {
         Opening::Equation
+    } else if is_import(word) {
+        Opening::Import
     } else if rules && is_rule(word) {
         Opening::Unread
     } else if is_rule(word) || is_of_objects(word) {

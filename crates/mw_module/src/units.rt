@@ -18,6 +18,13 @@ pub struct Lined<'s> {
     pub form: Form<'s>,
 }
 
+/// A statement among those of several modules, with the line at which its faults are told.
+#[derive(Clone, Copy)]
+pub struct Stated<'u, 's> {
+    pub line: u32,
+    pub form: &'u Form<'s>,
+}
+
 /// A unit of a source, with the line of its first token and that token's text.
 #[derive(Drop)]
 pub struct Unit<'s> {

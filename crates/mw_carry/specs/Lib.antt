@@ -1,0 +1,3 @@
+-- Terms and statements of one signature as they stand in another.
+pub mod Carried
+pub mod Laws

@@ -1,0 +1,3 @@
+-- The modules that imports reach.
+pub mod Flat
+pub mod Laws
