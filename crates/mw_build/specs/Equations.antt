@@ -12,6 +12,7 @@ use Rattle.mw_module.specs.declared.faults.FaultKind.{FaultKind}
 use Rattle.mw_module.specs.declared.faults.FaultKind.TheVariants.{TermTooLong, NoParse, Ambiguous, TooDeep, NumberTooLarge, LoneVariable, UnboundVariable}
 use Rattle.mw_text.specs.Readings.{NoneHas, TwoHave, IsShort, ArePair, ReadsPair}
 use Rattle.mw_module.specs.Words.{texts}
+use Rattle.mw_build.specs.Pairwise.{AreRelated, IsFirstWrong}
 use Rattle.mw_build.specs.Sides.{Sides}
 
 -- the first variable of the right side that the left side hasn't
@@ -84,15 +85,13 @@ module _ (sig : Signature) (variables : List Variable) where
         → EquationFault e cause
 
   -- the equations are these statements, one for one
-  pub record AreEquations (es : List Sides) (sts : List Statement) : Type 0 where
-    pub count : length sts ≡ length es
-    pub each : (i : ℕ) (e : Sides) (st : Statement) → slice_get es i ≡ Some e → slice_get sts i ≡ Some st → IsEquation e st
+  abbrev pub AreEquations : List Sides → List Statement → Type 0
+  AreEquations es sts = AreRelated IsEquation es sts
+
+  -- an equation that has this fault, at its line
+  abbrev pub HasFault : Fault → Sides → Type 0
+  HasFault r e = EquationFault e r.kind × (r.line ≡ e.line)
 
   -- the first equation that isn't a statement is at fault
-  pub record FirstFault (es : List Sides) (r : Fault) : Type 0 where
-    pub place : ℕ
-    pub equation : Sides
-    pub is_there : slice_get es place ≡ Some equation
-    pub fault : EquationFault equation r.kind
-    pub line : r.line ≡ equation.line
-    pub before : (i : ℕ) (e : Sides) → i < place → slice_get es i ≡ Some e → (st : Statement) × IsEquation e st
+  abbrev pub FirstFault : List Sides → Fault → Type 0
+  FirstFault es r = IsFirstWrong IsEquation (HasFault r) es

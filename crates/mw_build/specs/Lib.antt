@@ -1,6 +1,8 @@
 -- Modules that were accepted, and why others are refused.
+pub mod Pairwise
 pub mod Sides
 pub mod Equations
+pub mod Imported
 pub mod Modules
 pub mod Printing
 pub mod SignatureFaults

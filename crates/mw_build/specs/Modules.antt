@@ -1,38 +1,111 @@
 -- Modules that were accepted, and why others are refused.
-use Rattle.std.specs.Prelude.{◌≡◌, ℕ, List}
+pub use Rattle.mw_build.specs.Imported.{Accepted}
+use Rattle.std.specs.Prelude.{◌≡◌, ◌++◌, ◌≤◌, ℕ, List, map, take, drop, length, All, slice_get, Some, Ok, Err}
 use Rattle.mw_logic.specs.Term.{Variable}
 use Rattle.mw_sorting.specs.PreregularModulo.{IsPreregularModulo}
-use Rattle.mw_logic.specs.Module.{Module}
-use Rattle.mw_module.specs.Units.{SeenUnit}
+use Rattle.mw_logic.specs.Module.{Module, Statement}
+use Rattle.mw_module.specs.Units.{SeenLined, SeenUnit, IsWithin}
+use Rattle.mw_grammar.specs.declared.grammar.Grammar.{Grammar}
+use Rattle.mw_grammar.specs.Grammars.{IsGrammarOf}
+use Rattle.mw_index.specs.declared.index.Index.{Index}
+use Rattle.mw_index.specs.Index.{IsIndexOf}
+use Rattle.mw_logic.specs.Signature.{Signature}
+use Rattle.mw_module.specs.Known.{AreKnown}
 use Rattle.mw_module.specs.declared.faults.Fault.{Fault}
+use Rattle.mw_import.specs.Flat.{FlatUnit, IsFlat, ImportFault, all_statements}
 use Rattle.mw_declare.specs.declared.declarations.Declarations.{Declarations}
+use Rattle.mw_declare.specs.Faults.{Typing, typing_of}
 use Rattle.mw_declare.specs.Declarations.{Declares, DeclarationFault}
 use Rattle.mw_build.specs.Sides.{Sides, equations_of}
 use Rattle.mw_build.specs.Equations.{AreEquations, FirstFault}
+use Rattle.mw_build.specs.Imported.{Origin, IsUnconditional, origins_of, AreImported, FirstImportedFault}
 use Rattle.mw_build.specs.SignatureFaults.{SignatureFault}
 
--- a module with its name, and the variables that are declared in it
-pub record Accepted : Type 0 where
-  pub name : List ℕ
-  pub «module» : Module
-  pub variables : List Variable
+-- the module's own variables have these sorts, and its imports reach these units
+pub record IsFlattened (us : List FlatUnit) (u : SeenUnit) (typing : Typing) (reached : List ℕ) : Type 0 where
+  pub typed : typing_of u.statements ≡ Ok typing
+  pub flat : IsFlat us u.statements reached
 
--- The module has this name, the signature and the variables that are declared, and these equations.
-pub record IsDeclaredModule (name : List ℕ) (d : Declarations) (equations : List Sides) (a : Accepted) : Type 0 where
+-- all statements of the flattened module
+abbrev pub flattened : List FlatUnit → SeenUnit → List ℕ → List SeenLined
+flattened us u reached = all_statements us u.line reached u.statements
+
+-- The module has this name, the signature and the variables that are declared, and for its statements these, that stand for those of the modules that it
+-- reaches, and then its own equations.
+pub record IsDeclaredModule (name : List ℕ) (d : Declarations) (origins : List Origin) (equations : List Sides) (a : Accepted) : Type 0 where
+  pub preregular : IsPreregularModulo d.signature
   pub named : a.name ≡ name
   pub signature : a.module.signature ≡ d.signature
   pub variables : a.variables ≡ d.variables
-  pub equations_are : AreEquations d.signature d.variables equations a.module.statements
+  pub imported : List Statement
+  pub imported_are : AreImported d.signature origins imported
+  pub equations_are : AreEquations d.signature d.variables equations a.own
+  pub statements : a.module.statements ≡ imported ++ a.own
 
--- The unit is this module: it declares it, and the signature is preregular modulo its axioms.
-pub record IsAccepted (u : SeenUnit) (name : List ℕ) (a : Accepted) : Type 0 where
+-- Why there is none, told at this line or that of an equation: the signature isn't preregular modulo its axioms, or else a statement that is imported has a
+-- fault, or else an equation has.
+pub data StatementsFault (line : ℕ) (d : Declarations) (origins : List Origin) (equations : List Sides) (r : Fault) : Type 0 where
+  by_signature : SignatureFault line d.signature r → StatementsFault line d origins equations r
+  by_imported : IsPreregularModulo d.signature → FirstImportedFault d.signature line origins r → StatementsFault line d origins equations r
+  by_equations : (imported : List Statement) → IsPreregularModulo d.signature → AreImported d.signature origins imported
+      → FirstFault d.signature d.variables equations r → StatementsFault line d origins equations r
+
+-- The unit is this module, where these units were accepted as these modules: flattened it declares it.
+pub record IsAccepted (us : List FlatUnit) (ms : List Accepted) (u : SeenUnit) (name : List ℕ) (reached : List ℕ) (a : Accepted) : Type 0 where
+  pub typing : Typing
+  pub flat : IsFlattened us u typing reached
   pub declarations : Declarations
-  pub declared : Declares u.statements declarations
-  pub preregular : IsPreregularModulo declarations.signature
-  pub holds : IsDeclaredModule name declarations (equations_of u.statements) a
+  pub declared : Declares typing (flattened us u reached) declarations
+  pub holds : IsDeclaredModule name declarations (origins_of ms reached) (equations_of u.statements) a
 
--- why it is none: a fault of its declarations, or else of its signature, or else of its equations
-pub data IsRefused (u : SeenUnit) (r : Fault) : Type 0 where
-  by_declarations : DeclarationFault u.line u.statements r → IsRefused u r
-  by_signature : (d : Declarations) → Declares u.statements d → SignatureFault u.line d.signature r → IsRefused u r
-  by_equations : (d : Declarations) → Declares u.statements d → IsPreregularModulo d.signature → FirstFault d.signature d.variables (equations_of u.statements) r → IsRefused u r
+-- Why it is none: the first of its own variables that has two sorts, or else its first import at fault, or else what its flattened module declares, or else its
+-- signature or statements.
+pub data IsRefused (us : List FlatUnit) (ms : List Accepted) (u : SeenUnit) (name : List ℕ) (r : Fault) : Type 0 where
+  by_variables : typing_of u.statements ≡ Err r → IsRefused us ms u name r
+  by_imports : (typing : Typing) → typing_of u.statements ≡ Ok typing → ImportFault us name u.statements r → IsRefused us ms u name r
+  by_declarations : (typing : Typing) (reached : List ℕ) → IsFlattened us u typing reached → DeclarationFault u.line (flattened us u reached) r
+      → IsRefused us ms u name r
+  by_statements : (typing : Typing) (reached : List ℕ) (d : Declarations) → IsFlattened us u typing reached → Declares typing (flattened us u reached) d
+      → StatementsFault u.line d (origins_of ms reached) (equations_of u.statements) r → IsRefused us ms u name r
+
+-- what an accepted unit's module has of what the unit declares: its signature, whatever line faults are told at
+pub record IsOfUnit (us : List FlatUnit) (u : FlatUnit) (m : Accepted) : Type 0 where
+  pub line : ℕ
+  pub typing : Typing
+  pub declarations : Declarations
+  pub declared : Declares typing (all_statements us line u.reached u.statements) declarations
+  pub signature : m.module.signature ≡ declarations.signature
+
+-- These units were accepted as these modules, of the same names, one by one; and the statements of the units are known.
+pub record AreLoaded (us : List FlatUnit) (ms : List Accepted) : Type 0 where
+  pub names : map (λ (m : Accepted). m.name) ms ≡ map (λ (u : FlatUnit). u.name) us
+  pub known : (k : ℕ) (u : FlatUnit) → slice_get us k ≡ Some u → AreKnown u.statements
+  pub declared : (k : ℕ) (u : FlatUnit) (m : Accepted) → slice_get us k ≡ Some u → slice_get ms k ≡ Some m → IsOfUnit us u m
+
+-- What is kept for a module, of whose statements so many are imported: its grammar and its index; and its own statements are equations without conditions.
+pub record IsHeld (M : Module) (imported : ℕ) (variables : List Variable) (g : Grammar) (index : Index) : Type 0 where
+  pub grammar : IsGrammarOf M.signature variables g
+  pub index : IsIndexOf M index
+  pub within : imported ≤ length M.statements
+  pub plain : All IsUnconditional (drop imported M.statements)
+
+-- declarations of statements that are known, among which those with the module's own variables are
+pub record IsOfKnown (d : Declarations) : Type 0 where
+  pub own : List SeenLined
+  pub statements : List SeenLined
+  pub typing : Typing
+  pub typed : typing_of own ≡ Ok typing
+  pub within : IsWithin own statements
+  pub known : AreKnown statements
+  pub declared : Declares typing statements d
+
+-- The first so many statements stand for those of others, and the rest for the equations.
+pub record AreAll (sig : Signature) (variables : List Variable) (origins : List Origin) (equations : List Sides) (imported : ℕ) (sts : List Statement) : Type 0 where
+  pub within : imported ≤ length sts
+  pub imported_are : AreImported sig origins (take imported sts)
+  pub equations_are : AreEquations sig variables equations (drop imported sts)
+
+-- the first of either that is at fault
+pub data NotAll (sig : Signature) (variables : List Variable) (line : ℕ) (origins : List Origin) (equations : List Sides) (r : Fault) : Type 0 where
+  imported_fault : FirstImportedFault sig line origins r → NotAll sig variables line origins equations r
+  equation_fault : (imported : List Statement) → AreImported sig origins imported → FirstFault sig variables equations r → NotAll sig variables line origins equations r

@@ -1,7 +1,7 @@
 -- The equations among a module's statements.
 use Rattle.std.specs.Prelude.{ℕ, List, [], ◌∷◌, ◌++◌, Bool, map}
 use Rattle.mw_lex.specs.declared.token.Token.{Token}
-use Rattle.mw_module.specs.Forms.{Shape, Sorts, Subsorts, Operators, Variables, Equation}
+use Rattle.mw_module.specs.Forms.{Shape, Sorts, Subsorts, Operators, Variables, Equation, Import}
 use Rattle.mw_module.specs.Units.{SeenLined}
 use Rattle.mw_build.specs.declared.equations.Equation.{Equation as EquationHeld}
 
@@ -18,6 +18,7 @@ sides_in line (Subsorts groups) = []
 sides_in line (Operators names args result said) = []
 sides_in line (Variables names S) = []
 sides_in line (Equation left right executable) = record { line = line; left = left; right = right; executable = executable } ∷ []
+sides_in line (Import m) = []
 
 -- all equations, in order
 abbrev pub equations_of : List SeenLined → List Sides

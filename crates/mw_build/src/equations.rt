@@ -194,7 +194,7 @@ fn variables_of(alloc: Global, left: &Raw, right: &Raw) -> Result<Seq<VarId>, Al
 }
 
 /// The statement of an equation's sides, or what is wrong with them.
-fn sides_statement(
+pub fn sides_statement(
     alloc: Global,
     facts: &Facts,
     left: Raw,

@@ -34,10 +34,11 @@
 #![tactic(auto)]
 
 mod equations;
+mod imported;
 mod laws;
 mod modules;
 mod signature;
 
 pub use equations::canonical;
 pub use laws::{statements_are_printable, texts_read_back};
-pub use modules::{Module, build};
+pub use modules::{Built, Module, build};

@@ -1,5 +1,5 @@
 // Modules that were accepted.
-ghost use Rattle.std.specs.Prelude.{◌≡◌, ℕ, List, IfOk, IfErr, None};
+ghost use Rattle.std.specs.Prelude.{◌≡◌, ◌≤◌, ◌++◌, ℕ, List, length, drop, All, IfOk, IfErr, None};
 ghost use Rattle.mw_logic.specs.Term.{Variable};
 ghost use Rattle.mw_logic.specs.Signature.{IsRawTerm};
 ghost use Rattle.mw_logic.specs.Accepted.{IsAccepted as IsAcceptedSignature, IsWellSorted};
@@ -17,16 +17,20 @@ ghost use Rattle.mw_poset.specs.SortOrder.{order_of};
 ghost use Rattle.mw_sorts.specs.Diagrams.{AreTablesOf};
 ghost use Rattle.mw_least.specs.Workable.{IsWorkable};
 ghost use Rattle.mw_index.specs.Index.{IsIndexOf};
-ghost use Rattle.mw_declare.specs.Declarations.{Declares};
+ghost use Rattle.mw_import.specs.Flat.{IsFlat};
+ghost use Rattle.mw_declare.specs.Declarations.{Declares, DeclarationFault};
 ghost use Rattle.mw_build.specs.Sides.{equations_of};
 ghost use Rattle.mw_build.specs.Equations.{AreEquations, FirstFault};
-ghost use Rattle.mw_build.specs.Modules.{IsAccepted, IsRefused};
+ghost use Rattle.mw_build.specs.Imported.{IsUnconditional, ArePartsOf, origins_of};
+ghost use Rattle.mw_build.specs.Modules.{IsDeclaredModule, StatementsFault, IsAccepted, IsRefused, AreLoaded, AreAll, NotAll, IsOfKnown, flattened};
 
 use crate::equations::{equations, statements_of};
+use crate::imported::imported;
 use crate::signature::tables;
 use mw_canon::Facts;
-use mw_declare::{Declarations, declare};
+use mw_declare::{Declarations, Typing, all_typed, declare};
 use mw_grammar::Grammar;
+use mw_import::{Flat, Units};
 use mw_index::Index;
 use mw_least::Ctx;
 use mw_lex::Token;
@@ -43,26 +47,30 @@ use std::marker::Model;
 pub struct Module {
     name: Name,
     context: Box<Ctx>,
+    // How many statements of others stand before its own.
+    imported: usize,
     index: Box<Index>,
     variables: Seq<VarId>,
     grammar: Box<Grammar>,
 }
 
 impl Model for Module {
+    ghost use Rattle.std.specs.Prelude.{drop};
     ghost use Rattle.std.specs.Coded.{codes};
     ghost use Rattle.mw_logic.specs.TermCode.{coded_term, coded_variable};
-    ghost use Rattle.mw_build.specs.Modules.{Accepted};
+    ghost use Rattle.mw_build.specs.Imported.{Accepted};
 
     ghost Value = { Accepted };
 
     ghost coded = { Prim.hlevel (codes, coded_term, coded_variable) };
 
-    ghost view = { λ m. record { name = m.name; «module» = m.context.value; variables = m.variables } };
+    ghost view = { λ m. record { name = m.name; «module» = m.context.value; variables = m.variables; own = drop m.imported m.context.value.statements } };
 
     ghost use Rattle.mw_grammar.specs.Grammars.{IsGrammarOf};
     ghost use Rattle.mw_index.specs.Index.{IsIndexOf};
+    ghost use Rattle.mw_build.specs.Modules.{IsHeld};
 
-    ghost invariant = { λ m. IsGrammarOf m.context.value.signature m.variables m.grammar.value × IsIndexOf m.context.value m.index.value };
+    ghost invariant = { λ m. IsHeld m.context.value m.imported m.variables m.grammar.value m.index.value };
 }
 
 impl Module {
@@ -77,6 +85,15 @@ impl Module {
         ensures { result.now ≡ self.now.module }
     {
         &self.context
+    }
+
+    /// The statements that stand in it itself, in order.
+    pub fn own(&self) -> &[Statement]
+        ensures own { result.now ≡ self.now.own }
+        ensures plain { All IsUnconditional result.now }
+    {
+        let (_, own) = self.context.statements().split_at(self.imported);
+        own
     }
 
     /// Its equations, by what their left sides are instances of.
@@ -119,19 +136,39 @@ fn read(
     facts: &Facts,
     grammar: &Grammar,
     statements: &[Lined<'_>],
-) -> Result<Seq<Statement>, UnitError>
+) -> Result<Vec<Statement>, UnitError>
     requires reading { IsReading grammar.now }
     requires grammar { (variables : List Variable) × IsGrammarOf facts.now variables grammar.now }
     ensures statements { (variables : List Variable) → IsGrammarOf facts.now variables grammar.now
-        → IfOk result (AreEquations facts.now variables (equations_of (seen_statements statements.now))) }
+        → IfOk result (λ v. AreEquations facts.now variables (equations_of (seen_statements statements.now)) v.items) }
     ensures fault { (variables : List Variable) → IsGrammarOf facts.now variables grammar.now
         → IfErr result (HasCause (FirstFault facts.now variables (equations_of (seen_statements statements.now)))) }
 {
     let equations = equations(alloc, statements)?;
     match statements_of(alloc, facts, grammar, equations.as_slice())? {
-        Ok(found) => Ok(Seq::of(found)),
+        Ok(found) => Ok(found),
         Err(fault) => Err(UnitError::Fault(fault)),
     }
+}
+
+/// The statements of a module, of which so many stand for those of others.
+#[derive(Drop)]
+struct Statements {
+    imported: usize,
+    list: Vec<Statement>,
+}
+
+/// The first statements, and then the others.
+fn joined(first: Vec<Statement>, others: Vec<Statement>) -> Result<Statements, AllocError>
+    ensures imported { IfOk result (λ s. s.imported ≡ length first.entry.items) }
+    ensures list { IfOk result (λ s. s.list.items ≡ first.entry.items ++ others.entry.items) }
+{
+    let imported = first.len();
+    let mut list = first;
+    for other in others {
+        list.push(other)?;
+    }
+    Ok(Statements { imported, list })
 }
 
 /// A module's signature with its order, its axioms and its tables, and the module's variables.
@@ -172,22 +209,57 @@ fn with_tables(
     Ok(Box::new(alloc, signed)?)
 }
 
-/// The module of this name with this signature.
+/// The statements of a module with this signature, which reaches these modules: those that stand for statements of
+/// others, and then its own; or the first fault.
+fn all_statements(
+    alloc: Global,
+    signed: &Signed,
+    grammar: &Grammar,
+    modules: &[Module],
+    reached: &[usize],
+    unit: &Unit<'_>,
+) -> Result<Statements, UnitError>
+    requires numbers { HasItsSorts signed.now.facts }
+    requires order { signed.now.order ≡ order_of signed.now.facts }
+    requires parts { ArePartsOf modules.now reached.now signed.now.facts }
+    requires reading { IsReading grammar.now }
+    requires grammar { (variables : List Variable) × IsGrammarOf signed.now.facts variables grammar.now }
+    ensures all { (variables : List Variable) → IsGrammarOf signed.now.facts variables grammar.now → IfOk result (λ s.
+        AreAll signed.now.facts variables (origins_of modules.now reached.now) (equations_of (seen_unit unit.now).statements) s.imported s.list.items) }
+    ensures fault { (variables : List Variable) → IsGrammarOf signed.now.facts variables grammar.now → IfErr result (HasCause
+        (NotAll signed.now.facts variables (seen_unit unit.now).line (origins_of modules.now reached.now) (equations_of (seen_unit unit.now).statements))) }
+{
+    let imported = imported(
+        alloc,
+        &signed.facts,
+        &signed.order,
+        modules,
+        reached,
+        unit.line,
+    )?;
+    let own = read(alloc, &signed.facts, grammar, unit.statements.as_slice())?;
+    Ok(joined(imported, own)?)
+}
+
+/// The module of this name with this signature and these statements.
 fn module_of(
     alloc: Global,
     name: Name,
     signed: Box<Signed>,
     grammar: Box<Grammar>,
-    statements: Seq<Statement>,
+    statements: Statements,
 ) -> Result<Module, AllocError>
-    requires workable { IsWorkable (record { signature = signed.value.facts; statements = statements }) }
+    requires workable { IsWorkable (record { signature = signed.value.facts; statements = statements.list.items }) }
     requires order { signed.value.order ≡ order_of signed.value.facts }
     requires tables { AreTablesOf signed.value.facts signed.value.tables.value }
     requires grammar { IsGrammarOf signed.value.facts signed.value.variables grammar.value }
+    requires within { statements.imported ≤ length statements.list.items }
+    requires plain { All IsUnconditional (drop statements.imported statements.list.items) }
     ensures { IfOk result (λ m. m ≡ record {
       name = name;
-      «module» = record { signature = signed.value.facts; statements = statements };
+      «module» = record { signature = signed.value.facts; statements = statements.list.items };
       variables = signed.value.variables;
+      own = drop statements.imported statements.list.items;
     }) }
 {
     let Signed {
@@ -196,31 +268,37 @@ fn module_of(
         tables,
         variables,
     } = Box::into_inner(signed);
-    let context = Ctx::new(alloc, facts, order, Box::into_inner(tables), statements)?;
+    let Statements { imported, list } = statements;
+    let context = Ctx::new(alloc, facts, order, Box::into_inner(tables), Seq::of(list))?;
     let index = Index::of(alloc, &context)?;
     Ok(Module {
         name,
         context,
+        imported,
         index: Box::new(alloc, index)?,
         variables,
         grammar,
     })
 }
 
-/// The module of this name that a unit is, by what it declares, or its first fault.
+/// The module of this name that a unit is, by what its flattened module declares, where it reaches these modules; or
+/// its first fault.
 fn declared_module(
     alloc: Global,
     name: Name,
     unit: &Unit<'_>,
+    modules: &[Module],
+    reached: &[usize],
     declarations: Box<Declarations>,
 ) -> Result<Module, UnitError>
-    requires known { AreKnown (seen_unit unit.now).statements }
-    requires declared { Declares (seen_unit unit.now).statements declarations.value }
+    requires declared { IsOfKnown declarations.value }
+    requires parts { ArePartsOf modules.now reached.now declarations.value.signature }
+    requires order { declarations.value.order ≡ order_of declarations.value.signature }
     requires accepted { IsAcceptedSignature declarations.value.signature }
     requires well_sorted { IsWellSorted declarations.value.signature }
     requires sorts { HasItsSorts declarations.value.signature }
-    ensures accepted { IfOk result (IsAccepted (seen_unit unit.now) name) }
-    ensures fault { IfErr result (HasCause (IsRefused (seen_unit unit.now))) }
+    ensures holds { IfOk result (IsDeclaredModule name declarations.value (origins_of modules.now reached.now) (equations_of (seen_unit unit.now).statements)) }
+    ensures fault { IfErr result (HasCause (StatementsFault (seen_unit unit.now).line declarations.value (origins_of modules.now reached.now) (equations_of (seen_unit unit.now).statements))) }
 {
     let tables = tables(
         alloc,
@@ -235,17 +313,55 @@ fn declared_module(
         &signed.order,
         signed.variables.as_slice(),
     )?;
-    let statements = read(alloc, &signed.facts, &grammar, unit.statements.as_slice())?;
+    let statements = all_statements(alloc, &signed, &grammar, modules, reached, unit)?;
     Ok(module_of(alloc, name, signed, grammar, statements)?)
 }
 
-/// The module that a unit is, or its first fault: of its declarations, then of its signature, and then of its
-/// equations in order.
-pub fn build(alloc: Global, unit: &Unit<'_>, name: Name) -> Result<Module, UnitError>
-    requires { AreKnown (seen_unit unit.now).statements }
-    ensures accepted { IfOk result (IsAccepted (seen_unit unit.now) name) }
-    ensures fault { IfErr result (HasCause (IsRefused (seen_unit unit.now))) }
+/// What the flattened module of a unit declares, whose own variables have these sorts and which reaches these units; or
+/// its first fault.
+fn flattened_declarations(
+    alloc: Global,
+    units: &Units<'_>,
+    unit: &Unit<'_>,
+    typing: &Typing,
+    flat: &Flat,
+) -> Result<Box<Declarations>, UnitError>
+    requires flat { IsFlat units.now (seen_unit unit.now).statements flat.now }
+    ensures declared { IfOk result (λ d. Declares typing.now (flattened units.now (seen_unit unit.now) flat.now) d.value) }
+    ensures order { IfOk result (λ d. d.value.order ≡ order_of d.value.signature) }
+    ensures accepted { IfOk result (λ d. IsAcceptedSignature d.value.signature) }
+    ensures well_sorted { IfOk result (λ d. IsWellSorted d.value.signature) }
+    ensures numbers { IfOk result (λ d. HasItsSorts d.value.signature) }
+    ensures fault { IfErr result (HasCause (DeclarationFault (seen_unit unit.now).line (flattened units.now (seen_unit unit.now) flat.now))) }
 {
-    let declarations = declare(alloc, unit.line, unit.statements.as_slice())?;
-    declared_module(alloc, name, unit, declarations)
+    let statements = units.statements(alloc, unit.line, flat, unit.statements.as_slice())?;
+    declare(alloc, unit.line, typing, statements.as_slice())
+}
+
+/// A module, with the units that it reaches.
+#[derive(Drop)]
+pub struct Built {
+    pub flat: Flat,
+    pub module: Module,
+}
+
+/// The module of this name that a unit is, or its first fault; where these units were accepted as these modules.
+pub fn build(
+    alloc: Global,
+    units: &Units<'_>,
+    modules: &[Module],
+    unit: &Unit<'_>,
+    name: Name,
+) -> Result<Built, UnitError>
+    requires loaded { AreLoaded units.now modules.now }
+    requires known { AreKnown (seen_unit unit.now).statements }
+    ensures accepted { IfOk result (λ b. IsAccepted units.now modules.now (seen_unit unit.now) name b.flat b.module) }
+    ensures fault { IfErr result (HasCause (IsRefused units.now modules.now (seen_unit unit.now) name)) }
+{
+    units.shows();
+    let typing = all_typed(alloc, unit.statements.as_slice())?;
+    let flat = units.flatten(alloc, name.as_slice(), unit.statements.as_slice())?;
+    let declarations = flattened_declarations(alloc, units, unit, &typing, &flat)?;
+    let module = declared_module(alloc, name, unit, modules, flat.as_slice(), declarations)?;
+    Ok(Built { flat, module })
 }
