@@ -5,6 +5,7 @@ pub mod Holes
 pub mod Unknown
 pub mod LeastKinds
 pub mod Pairs
+pub mod Within
 pub mod Causes
 pub mod OneDeclaration
 pub mod Folding
@@ -15,5 +16,6 @@ pub mod Axioms
 pub mod Wrong
 pub mod Apart
 pub mod SortNames
+pub mod KindsApart
 pub mod Accepting
 pub mod Proper

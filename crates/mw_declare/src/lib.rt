@@ -43,3 +43,4 @@ mod spelling;
 mod variables;
 
 pub use declarations::{Declarations, declare};
+pub use variables::{Typing, all_typed};
