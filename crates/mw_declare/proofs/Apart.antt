@@ -16,7 +16,7 @@ use Rattle.mw_declare.proofs.Folding.{declared_once, all_with}
 use Rattle.mw_declare.proofs.Proper.{all_at}
 use Rattle.mw_declare.proofs.Ranked.{same_args, same_result}
 
-same_spelling : (p q : Profile) → same_profile p q ≡ true → p.spelling ≡ q.spelling
+pub same_spelling : (p q : Profile) → same_profile p q ≡ true → p.spelling ≡ q.spelling
 same_spelling p q e = (bytes_eq-Decides p.spelling q.spelling).0 (and_parts (bytes_eq p.spelling q.spelling) _ e).0
 
 pub same_of : (p q : Profile) → p.spelling ≡ q.spelling → p.args ≡ q.args → p.result ≡ q.result → same_profile p q ≡ true

@@ -17,5 +17,9 @@ pub mod Wrong
 pub mod Apart
 pub mod SortNames
 pub mod KindsApart
+pub mod Named
+pub mod NamePairs
+pub mod Found
+pub mod Parts
 pub mod Accepting
 pub mod Proper
