@@ -1,5 +1,5 @@
 -- What a module declares is an accepted signature, whose sorts are there and lie in their kinds.
-use Rattle.std.proofs.Common.{◌≡◌, ◌∙◌, ℕ, List, [], ◌∷◌, length, map, Bool, true, false, Option, Some, None, Ok, All, if◌then◌else◌, refl, sym, ap, subst}
+use Rattle.std.proofs.Common.{◌≡◌, ◌∙◌, ℕ, List, [], ◌∷◌, length, map, Bool, true, false, Option, Some, None, All, if◌then◌else◌, refl, sym, ap, subst}
 use Rattle.std.specs.Option.{option_or}
 use Rattle.std.proofs.lemmas.Bool.{and_from, both_ways}
 use Rattle.std.proofs.lemmas.List.Elements.{All-nil, All-cons, All-head, All-tail}
@@ -7,6 +7,7 @@ use Rattle.mw_logic.specs.Signature.{Signature, Operator, IsOperator}
 use Rattle.mw_logic.specs.Accepted.{is_accepted_operator, are_accepted_operators, IsAccepted, IsWellSorted}
 use Rattle.mw_logic.specs.Preregular.{IsSortOf, IsDeclarationOf, HasItsSorts}
 use Rattle.mw_logic.proofs.AcceptedTest.{is_accepted-sound}
+use Rattle.mw_carry.specs.Laws.{OperatorsApart}
 use Rattle.mw_poset.specs.Order.{IsSort}
 use Rattle.mw_poset.proofs.Members.{member-all}
 use Rattle.mw_module.specs.declared.faults.Fault.{Fault}
@@ -16,9 +17,9 @@ use Rattle.mw_declare.specs.declared.declarations.Declarations.{Declarations}
 use Rattle.mw_declare.specs.Hierarchy.{Hierarchy, hierarchy_of}
 use Rattle.mw_declare.specs.Meaning.{sorts_of}
 use Rattle.mw_declare.specs.Operators.{Declared, operators_from, operators_of, operator_of, IsOfLeastKinds, signature_of}
-use Rattle.mw_declare.specs.Faults.{Typing, typing_of, wrong_with, wrong_among, operator_fault, told_at}
-use Rattle.mw_declare.specs.Declarations.{declarations_with, unknown_in_all, IsAcyclic, OperatorsDiffer, Declares, DeclarationFault, of_operator}
-use Rattle.mw_declare.proofs.Apart.{operators_apart}
+use Rattle.mw_declare.specs.Faults.{Typing, wrong_with, wrong_among, operator_fault, told_at}
+use Rattle.mw_declare.specs.Declarations.{declarations_with, unknown_in_all, IsAcyclic, Declares, DeclarationFault, of_operator}
+use Rattle.mw_declare.proofs.KindsApart.{declared_apart}
 use Rattle.mw_declare.proofs.Pairs.{pairs_there}
 use Rattle.mw_declare.proofs.Proper.{all_at}
 use Rattle.mw_declare.proofs.Ranked.{IsRankedOperator, ranked_operators}
@@ -78,7 +79,7 @@ all_least : (ss : List SeenLined) → unknown_in_all ss ≡ None → All (IsOfLe
 all_least ss known = least_kinds ss known (operators_of ss) (ranked_operators (signature_of ss) ss known)
 
 -- the sorts h and the operators os of statements that are fine declare d
-module _ (ss : List SeenLined) (typing : Typing) (typed : typing_of ss ≡ Ok typing) (known : unknown_in_all ss ≡ None) (acyclic : IsAcyclic (hierarchy_of ss))
+module _ (ss : List SeenLined) (known : unknown_in_all ss ≡ None) (acyclic : IsAcyclic (hierarchy_of ss))
     (h : Hierarchy) (sorts : h ≡ hierarchy_of ss) (os : List Declared) (operators : os ≡ operators_from h [] ss) where
   pub operators_are : os ≡ operators_of ss
   operators_are = operators ∙ ap (λ h. operators_from h [] ss) sorts
@@ -87,12 +88,10 @@ module _ (ss : List SeenLined) (typing : Typing) (typed : typing_of ss ≡ Ok ty
   least_held = subst (All (IsOfLeastKinds (hierarchy_of ss))) (sym operators_are) (all_least ss known)
 
   pub fault_held : (line : ℕ) (f : Fault) → told_at line (operator_fault (hierarchy_of ss) os) ≡ Some f → DeclarationFault line ss f
-  fault_held line f e = of_operator typing typed known acyclic (ap (λ os. told_at line (operator_fault (hierarchy_of ss) os)) (sym operators_are) ∙ e)
+  fault_held line f e = of_operator known acyclic (ap (λ os. told_at line (operator_fault (hierarchy_of ss) os)) (sym operators_are) ∙ e)
 
-  pub declared_held : operator_fault (hierarchy_of ss) os ≡ None → (d : Declarations) → d ≡ declarations_with h os typing → Declares ss d
-  declared_held fine d is = record {
-    typing = typing;
-    typed = typed;
+  pub declared_held : operator_fault (hierarchy_of ss) os ≡ None → (typing : Typing) (d : Declarations) → d ≡ declarations_with h os typing → Declares typing ss d
+  declared_held fine typing d is = record {
     known = known;
     acyclic = acyclic;
     fine = ap (operator_fault (hierarchy_of ss)) (sym operators_are) ∙ fine;
@@ -100,7 +99,7 @@ module _ (ss : List SeenLined) (typing : Typing) (typed : typing_of ss ≡ Ok ty
   }
 
 -- what statements declare
-module _ (ss : List SeenLined) (d : Declarations) (p : Declares ss d) where
+module _ (typing : Typing) (ss : List SeenLined) (d : Declarations) (p : Declares typing ss d) where
   signature_is : d.signature ≡ signature_of ss
   signature_is = ap (λ (d : Declarations). d.signature) p.declared
 
@@ -116,8 +115,8 @@ module _ (ss : List SeenLined) (d : Declarations) (p : Declares ss d) where
   pub well_sorted_declared : IsWellSorted d.signature
   well_sorted_declared = subst IsWellSorted (sym signature_is) (well_sorted ss p.known)
 
-  pub operators_differ_declared : OperatorsDiffer d.signature
-  operators_differ_declared = subst OperatorsDiffer (sym signature_is) (operators_apart ss)
+  pub apart_declared : OperatorsApart d.signature
+  apart_declared = subst OperatorsApart (sym signature_is) (declared_apart ss p.known)
 
   pub sorts_declared : HasItsSorts d.signature
   sorts_declared = subst HasItsSorts (sym signature_is) (sorts_held ss p.known)

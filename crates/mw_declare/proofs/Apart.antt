@@ -1,4 +1,4 @@
--- Operators that a module declares differ in their names or in their kinds.
+-- Operators that a module declares differ in their names or in their kinds, each named by its least sort.
 use Rattle.std.proofs.Common.{◌≡◌, ◌∙◌, ℕ, zero, suc, List, [], ◌∷◌, map, Bool, true, false, Option, Some, None, option_map, slice_get, All, bytes_eq, if◌then◌else◌, refl, sym, ap, subst}
 use Rattle.std.specs.Prelude.{⊤}
 use Rattle.std.proofs.lemmas.Bool.{and_from, and_parts, both_ways, eq-eqb}
@@ -8,7 +8,7 @@ use Rattle.std.proofs.lemmas.Slice.Eq.{bytes_eq-Decides}
 use Rattle.mw_lex.specs.declared.token.Token.{Token}
 use Rattle.mw_logic.specs.Signature.{Operator, Declaration, IsOperator}
 use Rattle.mw_module.specs.Attributes.{Attributes}
-use Rattle.mw_module.specs.Forms.{Shape, Sorts, Subsorts, Operators, Variables, Equation}
+use Rattle.mw_module.specs.Forms.{Shape, Sorts, Subsorts, Operators, Variables, Equation, Import}
 use Rattle.mw_module.specs.Units.{SeenLined}
 use Rattle.mw_declare.specs.Hierarchy.{Hierarchy, hierarchy_of}
 use Rattle.mw_declare.specs.Operators.{Rank, rank_of, Profile, same_profile, Declared, declared_again, with_operator, profile_of, with_named, with_operators, operators_from, operators_of, operator_of, signature_of}
@@ -16,10 +16,10 @@ use Rattle.mw_declare.proofs.Folding.{declared_once, all_with}
 use Rattle.mw_declare.proofs.Proper.{all_at}
 use Rattle.mw_declare.proofs.Ranked.{same_args, same_result}
 
-same_spelling : (p q : Profile) → same_profile p q ≡ true → p.spelling ≡ q.spelling
+pub same_spelling : (p q : Profile) → same_profile p q ≡ true → p.spelling ≡ q.spelling
 same_spelling p q e = (bytes_eq-Decides p.spelling q.spelling).0 (and_parts (bytes_eq p.spelling q.spelling) _ e).0
 
-same_of : (p q : Profile) → p.spelling ≡ q.spelling → p.args ≡ q.args → p.result ≡ q.result → same_profile p q ≡ true
+pub same_of : (p q : Profile) → p.spelling ≡ q.spelling → p.args ≡ q.args → p.result ≡ q.result → same_profile p q ≡ true
 same_of p q s a r = and_from _ _ ((bytes_eq-Decides p.spelling q.spelling).1 s) (and_from _ _ ((bytes_eq-Decides p.args q.args).1 a) (eq-eqb p.result q.result r))
 
 turned : (p q : Profile) → same_profile p q ≡ false → same_profile q p ≡ false
@@ -60,6 +60,7 @@ module _ (h : Hierarchy) where
   apart_shape os (Operators names args result said) a = apart_named os names (rank_of h args result) said a
   apart_shape os (Variables names S) a = a
   apart_shape os (Equation left right executable) a = a
+  apart_shape os (Import m) a = a
 
   apart_from : (os : List Declared) (ss : List SeenLined) → AreApart os → AreApart (operators_from h os ss)
   apart_from os [] a = a
@@ -76,7 +77,7 @@ one_place (x ∷ xs) a (suc i) zero o p e k same =
 one_place (x ∷ xs) a (suc i) (suc j) o p e k same = ap suc (one_place xs a.1 i j o p e k same)
 
 -- an operator is that of a declared one
-declared_at : (all os : List Declared) (i : ℕ) (o : Operator) → slice_get (map (operator_of all) os) i ≡ Some o → (d : Declared) × (slice_get os i ≡ Some d) × (operator_of all d ≡ o)
+pub declared_at : (all os : List Declared) (i : ℕ) (o : Operator) → slice_get (map (operator_of all) os) i ≡ Some o → (d : Declared) × (slice_get os i ≡ Some d) × (operator_of all d ≡ o)
 declared_at all os i o e = of (slice_get os i) refl
   where
     of : (x : Option Declared) → slice_get os i ≡ x → (d : Declared) × (slice_get os i ≡ Some d) × (operator_of all d ≡ o)

@@ -20,7 +20,7 @@ use Rattle.mw_declare.proofs.Ranked.{same_args, same_result}
 
 -- two kinds are one where their numbers are
 module _ (h : Hierarchy) (within : ArePairsOf (length h.names) h.pairs) (sig : Signature) (e : sig.pairs ≡ h.pairs) where
-  one_least : (K L : ℕ) → IsLeastKind h K → IsLeastKind h L → SameKind sig K L → K ≡ L
+  pub one_least : (K L : ℕ) → IsLeastKind h K → IsLeastKind h L → SameKind sig K L → K ≡ L
   one_least K L (S, there, k) (T, here, l) m =
       let up : SameKind sig S K = subst (SameKind sig S) (sym k) (kind_same h S there sig e) in
       let down : SameKind sig T L = subst (SameKind sig T) (sym l) (kind_same h T here sig e) in
@@ -55,7 +55,7 @@ module _ (h : Hierarchy) (within : ArePairsOf (length h.names) h.pairs) (sig : S
   two_of R r (K ∷ L ∷ M ∷ Ks) all = refl
 
 -- the first place at which a test passes
-place_there : {X : Type 0} (test : X → Bool) (xs : List X) → nat_lt (position_or_len test xs) (length xs) ≡ true → (x : X) × (slice_get xs (position_or_len test xs) ≡ Some x) × (test x ≡ true)
+pub place_there : {X : Type 0} (test : X → Bool) (xs : List X) → nat_lt (position_or_len test xs) (length xs) ≡ true → (x : X) × (slice_get xs (position_or_len test xs) ≡ Some x) × (test x ≡ true)
 place_there test [] e = cc
 place_there {X} test (x ∷ xs) e = of (test x) refl e (place_there test xs)
   where

@@ -5,7 +5,7 @@ use Rattle.std.proofs.lemmas.List.Elements.{All-nil, All-cons, All-head, All-tai
 use Rattle.mw_lex.specs.declared.token.Token.{Token}
 use Rattle.mw_logic.specs.Signature.{Declaration}
 use Rattle.mw_module.specs.Attributes.{Attributes}
-use Rattle.mw_module.specs.Forms.{Shape, Sorts, Subsorts, Operators, Variables, Equation}
+use Rattle.mw_module.specs.Forms.{Shape, Sorts, Subsorts, Operators, Variables, Equation, Import}
 use Rattle.mw_module.specs.Units.{SeenLined}
 use Rattle.mw_declare.specs.Hierarchy.{Hierarchy}
 use Rattle.mw_declare.specs.Operators.{Rank, rank_of, Profile, same_profile, Declared, declared_again, with_operator, profile_of, with_named, with_operators, operators_from}
@@ -44,6 +44,7 @@ module _ (P : Declared → Type 0) (again : (o : Declared) (p : Profile) (d : De
     HasEach (Operators names args result said) = All (HasNamed (rank_of h args result) said) names
     HasEach (Variables names S) = ⊤
     HasEach (Equation left right executable) = ⊤
+    HasEach (Import m) = ⊤
 
     abbrev pub HasEachLined : SeenLined → Type 0
     HasEachLined s = HasEach s.shape
@@ -54,6 +55,7 @@ module _ (P : Declared → Type 0) (again : (o : Declared) (p : Profile) (d : De
     all_shaped os (Operators names args result said) all each = all_named os names (rank_of h args result) said all each
     all_shaped os (Variables names S) all each = all
     all_shaped os (Equation left right executable) all each = all
+    all_shaped os (Import m) all each = all
 
     all_from : (os : List Declared) (ss : List SeenLined) → All P os → All HasEachLined ss → All P (operators_from h os ss)
     all_from os [] all each = all

@@ -5,6 +5,7 @@ pub mod Holes
 pub mod Unknown
 pub mod LeastKinds
 pub mod Pairs
+pub mod Within
 pub mod Causes
 pub mod OneDeclaration
 pub mod Folding
@@ -15,5 +16,10 @@ pub mod Axioms
 pub mod Wrong
 pub mod Apart
 pub mod SortNames
+pub mod KindsApart
+pub mod Named
+pub mod NamePairs
+pub mod Found
+pub mod Parts
 pub mod Accepting
 pub mod Proper

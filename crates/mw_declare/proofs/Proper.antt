@@ -2,7 +2,7 @@
 use Rattle.std.proofs.Common.{◌≡◌, ℕ, zero, suc, List, [], ◌∷◌, ◌++◌, map, Bool, true, false, Option, Some, None, Result, Ok, Err, All, bytes_eq, if◌then◌else◌, sym, subst}
 use Rattle.std.specs.Prelude.{⊤}
 use Rattle.std.proofs.lemmas.Option.{same_Some}
-use Rattle.std.proofs.lemmas.List.Elements.{All-nil, All-cons, All-head, All-tail, All-append, All-map}
+use Rattle.std.proofs.lemmas.List.Elements.{All-nil, All-cons, All-head, All-tail, All-append, All-map, All-weaker}
 use Rattle.mw_lex.specs.declared.token.Token.{Token}
 use Rattle.mw_lex.specs.Texts.{IsRun}
 use Rattle.mw_logic.specs.Term.{Variable}
@@ -12,21 +12,21 @@ use Rattle.mw_text.specs.Names.{name_of_tokens}
 use Rattle.mw_text.specs.Proper.{IsProperName}
 use Rattle.mw_module.specs.Attributes.{Attributes}
 use Rattle.mw_module.specs.Sortings.{WrittenSort}
-use Rattle.mw_module.specs.Forms.{Shape, Sorts, Subsorts, Operators, Variables, Equation}
+use Rattle.mw_module.specs.Forms.{Shape, Sorts, Subsorts, Operators, Variables, Equation, Import}
 use Rattle.mw_module.specs.declared.faults.Fault.{Fault}
 use Rattle.mw_module.specs.declared.faults.FaultKind.TheVariants.{AlreadyDefined}
 use Rattle.mw_module.specs.Tokens.{HasProperParts}
-use Rattle.mw_module.specs.Units.{SeenLined}
+use Rattle.mw_module.specs.Units.{SeenLined, IsWithin}
 use Rattle.mw_declare.specs.Meaning.{Name, texts, is_among, with_name, with_names, with_sorts, sorts_from, sorts_of, number_of}
 use Rattle.mw_declare.specs.Operators.{rank_of, Profile, same_profile, Declared, declared_again, operators_from, operators_of, operator_of, signature_of}
 use Rattle.mw_declare.specs.Hierarchy.{Hierarchy, hierarchy_of}
-use Rattle.mw_declare.specs.Faults.{Typing, sort_in, joined, typed, typed_by, typing_from, typing_of, variables_with, unknown_among, mentioned, unknown_from}
+use Rattle.mw_declare.specs.Faults.{Typing, sort_in, joined, typed, typed_by, typing_from, typing_of, variables_with, unknown_from}
 use Rattle.mw_declare.specs.declared.declarations.Declarations.{Declarations}
 use Rattle.mw_declare.specs.Declarations.{Declares}
 use Rattle.mw_declare.specs.Proper.{IsProperVariable, AreProper, DeclarationsAreProper}
 use Rattle.mw_declare.proofs.Folding.{declared_once, HasNamed, HasEach, HasEachLined, all_declared}
 use Rattle.mw_declare.proofs.Unknown.{known_front, number_there}
-use Rattle.mw_declare.proofs.Pairs.{known_statement}
+use Rattle.mw_declare.proofs.Within.{IsKnownIn, all_known, shaped_within}
 
 -- what all have, the one of a number has
 pub all_at : {X : Type 0} (P : X → Type 0) (xs : List X) → All P xs → (f : ℕ) (x : X) → at_number xs f ≡ Some x → P x
@@ -47,7 +47,7 @@ module _ (P : Name → Type 0) where
       of true = all
       of false = All-append P ns (n ∷ []) all (All-cons P n [] p (All-nil P))
 
-  all_names : (ns ms : List Name) → All P ns → All P ms → All P (with_names ns ms)
+  pub all_names : (ns ms : List Name) → All P ns → All P ms → All P (with_names ns ms)
   all_names ns [] all more = all
   all_names ns (m ∷ ms) all more = all_names (with_name ns m) ms (all_with ns m all (All-head P m ms more)) (All-tail P m ms more)
 
@@ -57,6 +57,7 @@ sorts_with ns (Subsorts groups) all p = all
 sorts_with ns (Operators names args result said) all p = all
 sorts_with ns (Variables names S) all p = all
 sorts_with ns (Equation left right executable) all p = all
+sorts_with ns (Import m) all p = all
 
 sorts_proper : (ns : List Name) (ss : List SeenLined) → All IsRun ns → All IsProperLined ss → All IsRun (sorts_from ns ss)
 sorts_proper ns [] all p = all
@@ -88,6 +89,7 @@ module _ (h : Hierarchy) where
   shape_proper (Operators names args result said) p = names_proper names args result said p
   shape_proper (Variables names S) p = tt
   shape_proper (Equation left right executable) p = tt
+  shape_proper (Import m) p = tt
 
   lined_proper : (ss : List SeenLined) → All IsProperLined ss → All (HasEachLined IsProperDeclared proper_again h) ss
   lined_proper [] p = All-nil (HasEachLined IsProperDeclared proper_again h)
@@ -104,6 +106,7 @@ module _ (Q : Name × Name → Type 0) where
   HasVariables (Operators names args result said) = ⊤
   HasVariables (Variables names S) = All (λ (t : Token). Q (t.text, S.text)) names
   HasVariables (Equation left right executable) = ⊤
+  HasVariables (Import m) = ⊤
 
   abbrev HaveVariables : List SeenLined → Type 0
   HaveVariables ss = All (λ (s : SeenLined). HasVariables s.shape) ss
@@ -134,6 +137,7 @@ module _ (Q : Name × Name → Type 0) where
   shape_typed es line (Operators names args result said) all q = all
   shape_typed es line (Variables names S) all q = all_typed line (Ok es) names S.text all q
   shape_typed es line (Equation left right executable) all q = all
+  shape_typed es line (Import m) all q = all
 
   from_typed : (r : Result Typing Fault) (ss : List SeenLined) → AllTyped r → HaveVariables ss → AllTyped (typing_from r ss)
   from_typed (Err f) ss all q = tt
@@ -158,6 +162,7 @@ variables_in (Subsorts groups) p = tt
 variables_in (Operators names args result said) p = tt
 variables_in (Variables names S) p = run_names names S.text p
 variables_in (Equation left right executable) p = tt
+variables_in (Import m) p = tt
 
 variables_run : (ss : List SeenLined) → All IsProperLined ss → HaveVariables RunNamed ss
 variables_run [] p = All-nil (λ (s : SeenLined). HasVariables RunNamed s.shape)
@@ -173,19 +178,19 @@ module _ (sorts : List Name) where
   all_there [] S e = All-nil (λ (t : Token). SortThere (t.text, S))
   all_there (t ∷ names) S e = All-cons (λ (t : Token). SortThere (t.text, S)) t names e (all_there names S e)
 
-  there_in : (s : SeenLined) (ss : List SeenLined) → unknown_from sorts (s ∷ ss) ≡ None → HasVariables SortThere s.shape
-  there_in s ss e = of s.shape (known_statement sorts s ss e).0
-    where
-      of : (shape : Shape) → unknown_among sorts (mentioned shape) ≡ None → HasVariables SortThere shape
-      of (Sorts names) k = tt
-      of (Subsorts groups) k = tt
-      of (Operators names args result said) k = tt
-      of (Variables names S) k = all_there names S.text (known_front sorts S.text [] k).0
-      of (Equation left right executable) k = tt
+  there_in : (s : Shape) → IsKnownIn sorts s → HasVariables SortThere s
+  there_in (Sorts names) k = tt
+  there_in (Subsorts groups) k = tt
+  there_in (Operators names args result said) k = tt
+  there_in (Variables names S) k = all_there names S.text (known_front sorts S.text [] k).0
+  there_in (Equation left right executable) k = tt
+  there_in (Import m) k = tt
 
-  variables_there : (ss : List SeenLined) → unknown_from sorts ss ≡ None → HaveVariables SortThere ss
-  variables_there [] e = All-nil (λ (s : SeenLined). HasVariables SortThere s.shape)
-  variables_there (s ∷ ss) e = All-cons (λ (s : SeenLined). HasVariables SortThere s.shape) s ss (there_in s ss e) (variables_there ss (known_statement sorts s ss e).1)
+  -- the variables of statements that are among others, of which all sorts are known
+  variables_there : (own ss : List SeenLined) → IsWithin own ss → unknown_from sorts ss ≡ None → HaveVariables SortThere own
+  variables_there own ss within e =
+      All-weaker (λ (s : SeenLined). IsKnownIn sorts s.shape) (λ (s : SeenLined). HasVariables SortThere s.shape) (λ s. there_in s.shape) own
+      (shaped_within (IsKnownIn sorts) own ss within (all_known sorts ss e))
 
 -- variables with their sorts
 module _ (sig : Signature) where
@@ -206,19 +211,21 @@ module _ (sig : Signature) where
       (proper_variables es (All-tail RunNamed e es run) (All-tail (SortThere sig.sorts) e es all))
 
 -- the sorts of variables are there
-pub declared_sorted : (ss : List SeenLined) (d : Declarations) → Declares ss d → All (λ (x : Variable). IsSortOf d.signature x.sort) d.variables
-declared_sorted ss d h =
-    subst (λ (d : Declarations). All (λ (x : Variable). IsSortOf d.signature x.sort) d.variables) (sym h.declared)
-    (sorted_variables (signature_of ss) h.typing (typing_has (SortThere (sorts_of ss)) ss h.typing h.typed (variables_there (sorts_of ss) ss h.known)))
+module _ (own ss : List SeenLined) (within : IsWithin own ss) (typing : Typing) (typed : typing_of own ≡ Ok typing) (d : Declarations) (h : Declares typing ss d) where
+  sorts_there : All (SortThere (sorts_of ss)) typing
+  sorts_there = typing_has (SortThere (sorts_of ss)) own typing typed (variables_there (sorts_of ss) own ss within h.known)
+
+  pub declared_sorted : All (λ (x : Variable). IsSortOf d.signature x.sort) d.variables
+  declared_sorted =
+      subst (λ (d : Declarations). All (λ (x : Variable). IsSortOf d.signature x.sort) d.variables) (sym h.declared) (sorted_variables (signature_of ss) typing sorts_there)
 
 pub declarations_are_proper : DeclarationsAreProper
-declarations_are_proper ss d proper h =
+declarations_are_proper own ss typing d within runs typed proper h =
     let sig = signature_of ss in
     let os = operators_of ss in
     let names = All-map (λ (o : Operator). IsProperName o.spelling) (operator_of os) os (operators_proper (hierarchy_of ss) ss proper) in
     subst AreProper (sym h.declared) (record {
       operators = all_at (λ (o : Operator). IsProperName o.spelling) (map (operator_of os) os) names;
       sorts = sorts_proper [] ss (All-nil IsRun) proper;
-      variables = proper_variables sig h.typing (typing_has RunNamed ss h.typing h.typed (variables_run ss proper))
-          (typing_has (SortThere (sorts_of ss)) ss h.typing h.typed (variables_there (sorts_of ss) ss h.known));
+      variables = proper_variables sig typing (typing_has RunNamed own typing typed (variables_run own runs)) (sorts_there own ss within typing typed d h);
     })

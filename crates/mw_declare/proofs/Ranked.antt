@@ -9,7 +9,7 @@ use Rattle.mw_logic.specs.Accepted.{number_of_sort}
 use Rattle.mw_logic.specs.Preregular.{IsSortOf, AreOfKinds}
 use Rattle.mw_logic.proofs.KindLaws.{SameKind-sym}
 use Rattle.mw_module.specs.Attributes.{Attributes}
-use Rattle.mw_module.specs.Forms.{Shape, Sorts, Subsorts, Operators, Variables, Equation}
+use Rattle.mw_module.specs.Forms.{Shape, Sorts, Subsorts, Operators, Variables, Equation, Import}
 use Rattle.mw_module.specs.Sortings.{WrittenSort}
 use Rattle.mw_module.specs.Units.{SeenLined}
 use Rattle.mw_declare.specs.Meaning.{is_among, number_of}
@@ -143,6 +143,7 @@ module _ (sig : Signature) where
   ranked_shape (Operators names args result said) there = ranked_names args result there names said
   ranked_shape (Variables names S) there = tt
   ranked_shape (Equation left right executable) there = tt
+  ranked_shape (Import m) there = tt
 
   ranked_lined : (ss : List SeenLined) → unknown_from sig.sorts ss ≡ None → All (HasEachLined (IsRankedOperator sig) (ranked_again sig) (sorts_held sig)) ss
   ranked_lined [] there = All-nil (HasEachLined (IsRankedOperator sig) (ranked_again sig) (sorts_held sig))

@@ -6,4 +6,5 @@ pub mod Operators
 pub mod Faults
 pub mod Declarations
 pub mod Proper
+pub mod Laws
 pub mod Seen

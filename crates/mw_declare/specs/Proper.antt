@@ -1,13 +1,14 @@
 -- What a module declares can be printed as tokens.
-use Rattle.std.specs.Prelude.{List, All}
+use Rattle.std.specs.Prelude.{◌≡◌, List, All, Ok}
 use Rattle.mw_lex.specs.Texts.{IsRun}
 use Rattle.mw_logic.specs.Term.{Variable}
 use Rattle.mw_logic.specs.Signature.{Signature}
 use Rattle.mw_logic.specs.Preregular.{IsSortOf}
 use Rattle.mw_text.specs.Proper.{AreProperNames}
-use Rattle.mw_module.specs.Units.{SeenLined}
+use Rattle.mw_module.specs.Units.{SeenLined, IsWithin}
 use Rattle.mw_module.specs.Tokens.{AreProperStatements}
 use Rattle.mw_declare.specs.declared.declarations.Declarations.{Declarations}
+use Rattle.mw_declare.specs.Faults.{Typing, typing_of}
 use Rattle.mw_declare.specs.Declarations.{Declares}
 
 -- the variable's name is a run, and its sort is there
@@ -20,6 +21,7 @@ pub record AreProper (d : Declarations) : Type 0 where
   pub sorts : All IsRun d.signature.sorts
   pub variables : All (IsProperVariable d.signature) d.variables
 
--- What statements of proper parts declare is proper.
+-- What statements of proper parts declare is proper, together with the variables of a module's own statements, which are among them.
 abbrev pub DeclarationsAreProper : Type 0
-DeclarationsAreProper = (ss : List SeenLined) (d : Declarations) → AreProperStatements ss → Declares ss d → AreProper d
+DeclarationsAreProper = (own ss : List SeenLined) (typing : Typing) (d : Declarations) → IsWithin own ss → AreProperStatements own → typing_of own ≡ Ok typing
+    → AreProperStatements ss → Declares typing ss d → AreProper d

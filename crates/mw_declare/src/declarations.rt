@@ -4,14 +4,15 @@ ghost use Rattle.mw_logic.specs.Accepted.{IsAccepted, IsWellSorted};
 ghost use Rattle.mw_logic.specs.Preregular.{HasItsSorts};
 ghost use Rattle.mw_term.specs.Signatures.{identity_of};
 ghost use Rattle.mw_declare.specs.Operators.{identity_in};
-ghost use Rattle.mw_module.specs.Units.{seen_statements};
+ghost use Rattle.mw_module.specs.Units.{seen_all};
 ghost use Rattle.mw_module.specs.Causes.{HasCause};
-ghost use Rattle.mw_declare.specs.Declarations.{Declares, DeclarationFault, declarations_with, OperatorsDiffer};
+ghost use Rattle.mw_carry.specs.Laws.{OperatorsApart};
+ghost use Rattle.mw_declare.specs.Declarations.{Declares, DeclarationFault, declarations_with};
 
 use crate::hierarchy::{Hierarchy, order_sorts};
 use crate::operators::{DeclaredOperators, all_operators};
-use crate::variables::{Typing, all_typed};
-use mw_module::{Lined, UnitError};
+use crate::variables::Typing;
+use mw_module::{Stated, UnitError};
 use mw_poset::Poset;
 use mw_term::{Identity, Seq, Signature, VarId};
 use std::alloc::{AllocError, Global};
@@ -54,27 +55,28 @@ fn all_declared(
     Ok(Box::new(alloc, declarations)?)
 }
 
-/// What statements declare, or the first fault of their declarations: first that of a variable that is declared again
-/// with another sort, then that of a sort that isn't declared, then that of a sort below itself, then that of an
-/// operator whose axioms aren't kept, or whose attributes disagree; the last two have this line.
+/// What statements declare together with these variables, or the first fault of their declarations: first that of a sort
+/// that isn't declared, then that of a sort below itself, then that of an operator whose axioms aren't kept, or whose
+/// attributes disagree; the last two have this line. Sorts of the variables that aren't declared are no fault, and have
+/// the number 0.
 pub fn declare(
     alloc: Global,
     line: u32,
-    statements: &[Lined<'_>],
+    typing: &Typing,
+    statements: &[Stated<'_, '_>],
 ) -> Result<Box<Declarations>, UnitError>
-    ensures declared { IfOk result (λ d. Declares (seen_statements statements.now) d.value) }
+    ensures declared { IfOk result (λ d. Declares typing.now (seen_all statements.now) d.value) }
     ensures order { IfOk result (λ d. let sig = d.value.signature in
         d.value.order ≡ record { sorts = length sig.sorts; pairs = sig.pairs }) }
     ensures accepted { IfOk result (λ d. IsAccepted d.value.signature) }
     ensures well_sorted { IfOk result (λ d. IsWellSorted d.value.signature) }
     ensures numbers { IfOk result (λ d. HasItsSorts d.value.signature) }
-    ensures apart { IfOk result (λ d. OperatorsDiffer d.value.signature) }
-    ensures fault { IfErr result (HasCause (DeclarationFault line (seen_statements statements.now))) }
+    ensures apart { IfOk result (λ d. OperatorsApart d.value.signature) }
+    ensures fault { IfErr result (HasCause (DeclarationFault line (seen_all statements.now))) }
 {
-    let typing = all_typed(alloc, statements)?;
     let hierarchy = order_sorts(alloc, line, statements)?;
     let operators = all_operators(alloc, &hierarchy, statements)?;
     let identities = operators.identities(alloc, line)?;
     let identities = identities.as_slice();
-    Ok(all_declared(alloc, &typing, hierarchy, operators, identities)?)
+    Ok(all_declared(alloc, typing, hierarchy, operators, identities)?)
 }

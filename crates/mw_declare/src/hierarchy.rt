@@ -4,7 +4,7 @@ ghost use Rattle.mw_logic.specs.Signature.{at_number};
 ghost use Rattle.mw_term.specs.Signatures.{sorted_of};
 ghost use Rattle.mw_module.specs.declared.faults.FaultKind.TheVariants.{SortCycle};
 ghost use Rattle.mw_module.specs.Sortings.{seen_sorting, seen_sortings};
-ghost use Rattle.mw_module.specs.Units.{seen_statements};
+ghost use Rattle.mw_module.specs.Units.{seen_all};
 ghost use Rattle.mw_module.specs.Causes.{HasCause};
 ghost use Rattle.mw_poset.specs.Order.{IsSort};
 ghost use Rattle.mw_module.specs.Words.{seen_lists};
@@ -12,12 +12,12 @@ ghost use Rattle.mw_declare.specs.Meaning.{Name, is_among, numbers_of};
 ghost use Rattle.mw_declare.specs.Hierarchy.{pairs_between, pairs_behind, pairs_from, hierarchy_of, kind_in, sorted_in};
 ghost use Rattle.mw_declare.specs.Operators.{rank_of};
 ghost use Rattle.mw_declare.specs.Faults.{unknown_among, mentioned_by};
-ghost use Rattle.mw_declare.specs.Declarations.{unknown_in_all, IsAcyclic, SortFault};
+ghost use Rattle.mw_declare.specs.Declarations.{unknown_in_all, IsAcyclic, DeclarationFault};
 ghost use Rattle.mw_declare.specs.Seen.{seen_rank};
 
 use crate::sorts::{all_known, all_sorts};
 use mw_lex::Token;
-use mw_module::{Fault, FaultKind, Form, Lined, UnitError, WrittenSort};
+use mw_module::{Fault, FaultKind, Form, Stated, UnitError, WrittenSort};
 use mw_poset::{Poset, PosetError};
 use mw_term::{KindId, Name, SortId, Sorted};
 use mw_text::Names;
@@ -100,13 +100,13 @@ fn add_groups(
 fn all_pairs(
     alloc: Global,
     names: &Names,
-    statements: &[Lined<'_>],
+    statements: &[Stated<'_, '_>],
 ) -> Result<Vec<(SortId, SortId)>, AllocError>
-    ensures { IfOk result (λ v. v.items ≡ pairs_from names.now (seen_statements statements.now)) }
+    ensures { IfOk result (λ v. v.items ≡ pairs_from names.now (seen_all statements.now)) }
 {
     let mut pairs = Vec::new(alloc);
     for statement in statements {
-        if let Form::Subsorts { groups } = &statement.form {
+        if let Form::Subsorts { groups } = statement.form {
             add_groups(alloc, &mut pairs, names, groups.as_slice())?;
         }
     }
@@ -126,12 +126,12 @@ fn cycle_fault(alloc: Global, line: u32, names: &Names, sort: SortId) -> Result<
 pub fn order_sorts(
     alloc: Global,
     line: u32,
-    statements: &[Lined<'_>],
+    statements: &[Stated<'_, '_>],
 ) -> Result<Box<Hierarchy>, UnitError>
-    ensures same { IfOk result (λ h. h.value ≡ hierarchy_of (seen_statements statements.now)) }
-    ensures known { IfOk result (λ _. unknown_in_all (seen_statements statements.now) ≡ None) }
-    ensures acyclic { IfOk result (λ _. IsAcyclic (hierarchy_of (seen_statements statements.now))) }
-    ensures fault { IfErr result (HasCause (SortFault line (seen_statements statements.now))) }
+    ensures same { IfOk result (λ h. h.value ≡ hierarchy_of (seen_all statements.now)) }
+    ensures known { IfOk result (λ _. unknown_in_all (seen_all statements.now) ≡ None) }
+    ensures acyclic { IfOk result (λ _. IsAcyclic (hierarchy_of (seen_all statements.now))) }
+    ensures fault { IfErr result (HasCause (DeclarationFault line (seen_all statements.now))) }
 {
     let names = all_sorts(alloc, statements)?;
     all_known(alloc, &names, statements)?;

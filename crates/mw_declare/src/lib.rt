@@ -37,9 +37,12 @@ mod declarations;
 mod grouping;
 mod hierarchy;
 mod judging;
+mod laws;
 mod operators;
 mod sorts;
 mod spelling;
 mod variables;
 
 pub use declarations::{Declarations, declare};
+pub use laws::{declared_apart, parts_are_there};
+pub use variables::{Typing, all_typed};

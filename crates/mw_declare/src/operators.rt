@@ -3,7 +3,7 @@ ghost use Rattle.std.specs.Prelude.{◌≡◌, ◌∷◌, List, [], map, Option,
 ghost use Rattle.mw_logic.specs.Signature.{Identity as IdentityOf};
 ghost use Rattle.mw_term.specs.Signatures.{sorted_of, identity_of};
 ghost use Rattle.mw_module.specs.Attributes.{seen_attributes};
-ghost use Rattle.mw_module.specs.Units.{seen_statements};
+ghost use Rattle.mw_module.specs.Units.{seen_all};
 ghost use Rattle.mw_module.specs.Causes.{HasCause};
 ghost use Rattle.mw_module.specs.Words.{seen_lists};
 ghost use Rattle.mw_declare.specs.Hierarchy.{Hierarchy as HierarchyOf};
@@ -19,7 +19,7 @@ use crate::judging::fault;
 use crate::spelling::{spelling_of, spelling_of_text};
 use indexmap::IndexMap;
 use mw_lex::Token;
-use mw_module::{Attributes, Fault, Form, Lined, UnitError};
+use mw_module::{Attributes, Fault, Form, Stated, UnitError};
 use mw_term::{Declaration, Identity, KindId, Name, OpId, Operator, Seq, Sorted};
 use std::alloc::{AllocError, Global};
 use std::marker::Model;
@@ -206,13 +206,13 @@ impl<'u> DeclaredOperators<'u> {
 }
 
 /// The operators that statements declare which mention no other sorts.
-pub fn all_operators<'u>(
+pub fn all_operators<'s>(
     alloc: Global,
     hierarchy: &Hierarchy,
-    statements: &[Lined<'u>],
-) -> Result<DeclaredOperators<'u>, AllocError>
-    requires { unknown_from hierarchy.now.names (seen_statements statements.now) ≡ None }
-    ensures { IfOk result (λ os. os ≡ operators_from hierarchy.now [] (seen_statements statements.now)) }
+    statements: &[Stated<'_, 's>],
+) -> Result<DeclaredOperators<'s>, AllocError>
+    requires { unknown_from hierarchy.now.names (seen_all statements.now) ≡ None }
+    ensures { IfOk result (λ os. os ≡ operators_from hierarchy.now [] (seen_all statements.now)) }
 {
     let mut operators = DeclaredOperators::new(alloc)?;
     for statement in statements {
@@ -221,7 +221,7 @@ pub fn all_operators<'u>(
             args,
             result: value,
             attributes,
-        } = &statement.form
+        } = statement.form
         {
             let rank = hierarchy.rank(alloc, args.as_slice(), *value)?;
             operators.add_all(alloc, names.as_slice(), &rank, *attributes)?;

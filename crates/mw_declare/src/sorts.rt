@@ -1,7 +1,7 @@
 // The sorts of a module.
 ghost use Rattle.std.specs.Prelude.{◌≡◌, List, [], ◌++◌, ◌∷◌, Some, None, IfOk, IfErr, OnOk, map, option_map};
 ghost use Rattle.mw_module.specs.Forms.{shape_of};
-ghost use Rattle.mw_module.specs.Units.{seen_statements};
+ghost use Rattle.mw_module.specs.Units.{seen_all};
 ghost use Rattle.mw_module.specs.Sortings.{seen_sorting, seen_sortings};
 ghost use Rattle.mw_module.specs.Causes.{HasCause};
 ghost use Rattle.mw_module.specs.Words.{seen_lists};
@@ -9,7 +9,7 @@ ghost use Rattle.mw_declare.specs.Meaning.{texts, with_names, sorts_of};
 ghost use Rattle.mw_declare.specs.Faults.{unknown_among, mentioned_in, mentioned_by, mentioned, unknown_from};
 
 use mw_lex::Token;
-use mw_module::{Fault, FaultKind, Form, Lined, UnitError, WrittenSort};
+use mw_module::{Fault, FaultKind, Form, Stated, UnitError, WrittenSort};
 use mw_term::copy_name;
 use mw_text::Names;
 use std::alloc::{AllocError, Global};
@@ -25,12 +25,12 @@ fn add_names(alloc: Global, sorts: &mut Names, names: &[Token]) -> Result<(), Al
 }
 
 /// The sorts that statements declare, in order of first mention.
-pub fn all_sorts(alloc: Global, statements: &[Lined<'_>]) -> Result<Names, AllocError>
-    ensures { IfOk result (λ names. names ≡ sorts_of (seen_statements statements.now)) }
+pub fn all_sorts(alloc: Global, statements: &[Stated<'_, '_>]) -> Result<Names, AllocError>
+    ensures { IfOk result (λ names. names ≡ sorts_of (seen_all statements.now)) }
 {
     let mut sorts = Names::new(alloc)?;
     for statement in statements {
-        if let Form::Sorts { names } = &statement.form {
+        if let Form::Sorts { names } = statement.form {
             add_names(alloc, &mut sorts, names)?;
         }
     }
@@ -86,13 +86,17 @@ fn unknown_mentioned<'t>(sorts: &Names, form: &Form<'t>) -> Option<&'t Token>
 }
 
 /// Whether each sort that statements mention is declared, or else the fault of the first that isn't.
-pub fn all_known(alloc: Global, sorts: &Names, statements: &[Lined<'_>]) -> Result<(), UnitError>
-    ensures known { OnOk result (unknown_from sorts.now (seen_statements statements.now) ≡ None) }
+pub fn all_known(
+    alloc: Global,
+    sorts: &Names,
+    statements: &[Stated<'_, '_>],
+) -> Result<(), UnitError>
+    ensures known { OnOk result (unknown_from sorts.now (seen_all statements.now) ≡ None) }
     ensures fault { IfErr result
-        (HasCause (λ fault. unknown_from sorts.now (seen_statements statements.now) ≡ Some fault)) }
+        (HasCause (λ fault. unknown_from sorts.now (seen_all statements.now) ≡ Some fault)) }
 {
     for statement in statements {
-        if let Some(token) = unknown_mentioned(sorts, &statement.form) {
+        if let Some(token) = unknown_mentioned(sorts, statement.form) {
             let kind = FaultKind::UnknownSort(copy_name(alloc, &token.text)?);
             let line = statement.line;
             return Err(UnitError::Fault(Fault { line, kind }));

@@ -12,7 +12,8 @@ use mw_text::Names;
 use std::alloc::{AllocError, Global};
 use std::marker::Model;
 
-/// Variables' names, each with the name of its sort, in order of first mention.
+/// Variables of statements, in order of first mention. It is seen as their names, each with the name of its sort, which
+/// needn't be declared.
 #[derive(Drop)]
 pub struct Typing {
     sorts: Box<IndexMap<Vec<u8>, Vec<u8>>>,
@@ -88,7 +89,7 @@ impl Typing {
     }
 
     /// The variables, each with its sort's number.
-    pub fn variables(&self, alloc: Global, sorts: &Names) -> Result<Seq<VarId>, AllocError>
+    pub(crate) fn variables(&self, alloc: Global, sorts: &Names) -> Result<Seq<VarId>, AllocError>
         ensures { IfOk result (λ xs. xs ≡ variables_with sorts.now self.now) }
     {
         let mut variables = Vec::new(alloc);
@@ -101,7 +102,8 @@ impl Typing {
     }
 }
 
-/// The variables that statements declare, or the fault of the first that is declared again with another sort.
+/// The variables that statements declare, or the fault of the first that is declared again with another sort, at the
+/// line of the statement that declares it again. Sorts aren't looked at.
 pub fn all_typed(alloc: Global, statements: &[Lined<'_>]) -> Result<Typing, UnitError>
     ensures typed { IfOk result (λ typing. typing_of (seen_statements statements.now) ≡ Ok typing) }
     ensures fault { IfErr result (HasCause (λ fault. typing_of (seen_statements statements.now) ≡ Err fault)) }
