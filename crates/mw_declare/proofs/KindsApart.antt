@@ -1,5 +1,5 @@
 -- Operators that a module declares differ in their names or in their kinds.
-use Rattle.std.proofs.Common.{◌≡◌, ◌∙◌, ℕ, zero, suc, List, [], ◌∷◌, None, All, refl, sym, ap, subst}
+use Rattle.std.proofs.Common.{◌≡◌, ◌∙◌, ℕ, zero, suc, List, [], ◌∷◌, None, All, refl, ap, subst}
 use Rattle.std.proofs.lemmas.List.Elements.{All-head, All-tail}
 use Rattle.mw_logic.specs.Signature.{Operator, IsOperator, SameKind}
 use Rattle.mw_carry.specs.Laws.{AreAlike}

@@ -1,11 +1,10 @@
 -- Sorts by their names and numbers.
-use Rattle.std.proofs.Common.{◌≡◌, ◌∙◌, ◌≤◌, ◌<◌, ◌||◌, nat_lt, ℕ, zero, suc, List, [], ◌∷◌, ◌++◌, length, Bool, true, false, cond, Option, Some, None, option_map, unwrap_or, slice_get, All, bytes_eq, if◌then◌else◌, refl, sym, ap, arith}
+use Rattle.std.proofs.Common.{◌≡◌, ◌∙◌, ◌≤◌, ◌<◌, ◌||◌, nat_lt, ℕ, zero, suc, List, [], ◌∷◌, ◌++◌, length, Bool, true, false, cond, Some, None, option_map, unwrap_or, slice_get, All, bytes_eq, if◌then◌else◌, refl, sym, ap, arith}
 use Rattle.std.specs.Prelude.{⊤}
 use Rattle.std.specs.List.{position_or_len}
 use Rattle.std.proofs.lemmas.Bool.{and_from}
 use Rattle.std.proofs.lemmas.List.Elements.{All-nil, All-cons, All-head, All-tail, All-weaker}
 use Rattle.std.proofs.lemmas.Slice.Eq.{bytes_eq-Decides}
-use Rattle.mw_lex.specs.declared.token.Token.{Token}
 use Rattle.mw_logic.specs.Signature.{at_number}
 use Rattle.mw_logic.specs.Accepted.{names_differ}
 use Rattle.mw_logic.proofs.AcceptedTest.{is_accepted-sound}

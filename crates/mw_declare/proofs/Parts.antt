@@ -1,7 +1,6 @@
 -- What statements declare is part of what they declare together with others: sorts of the same names, connected where they are connected, and operators of the
 -- same names on the same kinds.
 use Rattle.std.proofs.Common.{◌≡◌, ◌∙◌, ◌≤◌, true, ℕ, zero, suc, List, [], ◌∷◌, length, map, option_map, slice_get, Some, None, All, refl, sym, ap, subst, inl, inr}
-use Rattle.std.proofs.lemmas.Bool.{and_parts}
 use Rattle.std.proofs.lemmas.List.Elements.{All-nil, All-cons, All-head, All-tail}
 use Rattle.std.proofs.lemmas.Option.{same_Some, slice_get-map}
 use Rattle.mw_lex.specs.declared.token.Token.{Token}
@@ -9,14 +8,14 @@ use Rattle.mw_logic.specs.Signature.{Signature, Operator, Declaration, IsOperato
 use Rattle.mw_logic.proofs.KindLaws.{SameKind-trans, SameKind-sym, SameKind-equal}
 use Rattle.mw_poset.specs.Order.{IsSort}
 use Rattle.mw_poset.proofs.Members.{member-all}
-use Rattle.mw_carry.specs.Carried.{IsSameSort, IsSameKind, AreSameKinds, IsSameOperator, IsPart}
+use Rattle.mw_carry.specs.Carried.{IsSameSort, IsSameKind, AreSameKinds, IsSameOperator}
 use Rattle.mw_module.specs.Attributes.{Attributes}
 use Rattle.mw_module.specs.Forms.{Shape, Sorts, Subsorts, Operators, Variables, Equation, Import}
 use Rattle.mw_module.specs.Sortings.{WrittenSort}
 use Rattle.mw_module.specs.Units.{SeenLined, IsWithin}
 use Rattle.mw_declare.specs.Meaning.{Name, is_among, sorts_of, number_of}
-use Rattle.mw_declare.specs.Hierarchy.{Hierarchy, hierarchy_of, kind_of, kind_in}
-use Rattle.mw_declare.specs.Operators.{Rank, rank_of, Profile, same_profile, Declared, declared_again, profile_of, operators_of, operator_of, signature_of}
+use Rattle.mw_declare.specs.Hierarchy.{hierarchy_of, kind_of, kind_in}
+use Rattle.mw_declare.specs.Operators.{rank_of, Profile, same_profile, Declared, declared_again, profile_of, operators_of, operator_of, signature_of}
 use Rattle.mw_declare.specs.Faults.{unknown_among, name_in, mentioned_by}
 use Rattle.mw_declare.specs.Declarations.{unknown_in_all}
 use Rattle.mw_declare.specs.Laws.{PartsAreThere}
@@ -188,16 +187,18 @@ module _ (A B : List SeenLined) (within : IsWithin A B) (known : unknown_in_all 
   operator_carried (suc i) o e =
       let (d, at, is) = declared_at (operators_of A) (operators_of A) i o e in
       let h = all_at IsOperatorThere (operators_of A) operators_there (suc i) d at in
-      let (j, place) = placed h.operator (operators_of B) h.is in
-      (suc j, record {
-        here = o;
-        there = operator_of (operators_of B) h.operator;
-        is_here = e;
-        is_there = slice_get-map (operator_of (operators_of B)) (operators_of B) j ∙ ap (option_map (operator_of (operators_of B))) place;
-        spelling = ap (λ (o : Operator). o.spelling) (sym is) ∙ h.spelling;
-        args = subst (λ (o : Operator). AreSameKinds here there o.args h.operator.profile.args) is h.args;
-        result = subst (λ (o : Operator). IsSameKind here there o.result h.operator.profile.result) is h.result;
-      })
+      let (j, place) = placed h.operator (operators_of B) h.is in (
+        suc j,
+        record {
+          here = o;
+          there = operator_of (operators_of B) h.operator;
+          is_here = e;
+          is_there = slice_get-map (operator_of (operators_of B)) (operators_of B) j ∙ ap (option_map (operator_of (operators_of B))) place;
+          spelling = ap (λ (o : Operator). o.spelling) (sym is) ∙ h.spelling;
+          args = subst (λ (o : Operator). AreSameKinds here there o.args h.operator.profile.args) is h.args;
+          result = subst (λ (o : Operator). IsSameKind here there o.result h.operator.profile.result) is h.result;
+        },
+      )
 
 pub parts_are_there : PartsAreThere
 parts_are_there A B within known other = record {

@@ -55,10 +55,10 @@ fn all_declared(
     Ok(Box::new(alloc, declarations)?)
 }
 
-/// What statements declare together with these variables, or the first fault of their declarations: first that of a sort
-/// that isn't declared, then that of a sort below itself, then that of an operator whose axioms aren't kept, or whose
-/// attributes disagree; the last two have this line. Sorts of the variables that aren't declared are no fault, and have
-/// the number 0.
+/// What statements declare together with these variables, or the first fault of their declarations: first that of a
+/// sort that isn't declared, then that of a sort below itself, then that of an operator whose axioms aren't kept, or
+/// whose attributes disagree; the last two have this line. Variables that these statements don't declare may have a
+/// sort that isn't declared; its number is 0.
 pub fn declare(
     alloc: Global,
     line: u32,

@@ -1,8 +1,8 @@
 // What holds of the signatures of statements.
 ghost use Rattle.mw_declare.specs.Laws.{PartsAreThere, DeclaredApart};
 
-/// The law that the signature of statements is part of that of statements among which theirs are: its sorts and operators
-/// are there, and sorts of one kind are of one kind there.
+/// The law that the signature of statements is part of that of others, among which their forms are: its sorts and
+/// operators are there, and sorts that it orders are of one kind there.
 pub fn parts_are_there()
     ensures { PartsAreThere }
 {}

@@ -1,36 +1,46 @@
-//! What the statements of a functional module declare, and what is wrong with its declarations.
+//! What the statements of a flattened module declare, and what is wrong with its declarations.
 //!
-//! `declare` answers the module's signature, the order of its sorts, and its variables; or the first fault. It takes
-//! statements with their forms, of one unit or of several one after the other.
+//! A module's statements are those of the modules that it imports, one module after the other, and then its own.
+//! `declare` takes all of them (`Stated` of mw_module), and answers the module's signature, the order of its sorts,
+//! and its variables; or the first fault. The variables are those of the module's own statements alone, which
+//! `all_typed` answers before, from these, or their fault. An import statement declares nothing, and mentions nothing.
 //!
 //! - Sorts and operators are numbered, and variables stand, in the order of their first declaration, which may come
-//!   behind a use. The pairs of a signature are those of all `subsort` statements, in the order of the text: for two
-//!   groups side by side each sort of the first below each of the second.
+//!   behind a use. What several modules declare is one, as what one module declares again. The pairs of a signature
+//!   are those of all `subsort` statements, in the order of the text: for two groups side by side each sort of the
+//!   first below each of the second.
 //! - An operator is a name with the kinds of its arguments and of its value, a kind being named by its least sort. Its
 //!   declarations are all those of that name and those kinds, each with its sorts; `[S]`, and each sort of a
 //!   declaration with `~>`, is the kind of S. A name is known by its prefix spelling, so `a b` and `` a`b `` are one.
 //! - The attributes of an operator are those of all its declarations together, axioms too, or the defaults of
 //!   docs/LANGUAGE.md. An identity is the constant of that name in the kind of the operator's value, wherever that is
 //!   declared.
-//! - Faults, of which each kind's first in the text decides: a variable that is declared again with another sort; then
-//!   a sort that isn't declared, of a `subsort` statement, an operator or a variable, both with the line of the
-//!   statement; then the least sort that is below itself; then the operator of least number with axioms that aren't
-//!   kept, or don't fit its kinds, or with an identity that isn't there (`is_accepted_operator` of mw_logic), or else
-//!   with two different identities, precedences or gathers; both with the line that `declare` is given, of the unit's
-//!   first token.
+//! - `all_typed` has one fault, that of the first variable that is declared again with another sort, with the line of
+//!   the statement. Those of `declare`, of which each kind's first in the text decides: a sort that isn't declared, of
+//!   a `subsort` statement, an operator or a variable, also of one that is imported, with the line of the statement;
+//!   then the least sort that is below itself; then the operator of least number with axioms that aren't kept, or
+//!   don't fit its kinds, or with an identity that isn't there (`is_accepted_operator` of mw_logic), or else with two
+//!   different identities, precedences or gathers; both with the line that `declare` is given, of the unit's first
+//!   token.
 //!
-//! Proved: the answer is exactly what the statements declare, with the order of its sorts and pairs (`Declares`,
-//! specs/Declarations), and a fault is answered exactly where there is one, and is the first (`DeclarationFault`).
-//! Statements declare one thing at most and have one first fault at most, and not both (proofs/OneDeclaration).
-//! The signature is an accepted one: its axioms are kept ones that fit, and no two sorts have one name; its sorts are
-//! there, and those of declarations lie in their operators' kinds; no two operators have one name and the same kinds
-//! (`declare`; as lemmas in proofs/Accepting). `Memory` may come at any call. What the crates above know of the
-//! operators stands in proofs/Known, and of names as tokens in specs/Proper.
+//! Proved: the answer is exactly what the statements declare together with the variables, with the order of its sorts
+//! and pairs (`Declares`, specs/Declarations), and a fault is answered exactly where there is one, and is the first
+//! (`DeclarationFault`; of variables `typing_of`, specs/Faults). With the same variables, statements declare one thing
+//! at most; they have one first fault at most, and not both (proofs/OneDeclaration). The signature is an accepted one:
+//! its axioms are kept ones that fit, and no two sorts have one name; its sorts are there, and those of declarations
+//! lie in their operators' kinds; no two operators have one name and kinds that are connected (`declare`; as lemmas in
+//! proofs/Accepting). `Memory` may come at any call. What the crates above know of the operators stands in
+//! proofs/Known, and of names as tokens in specs/Proper.
 //!
-//! How it works: each question is one loop over the statements. Tables of names, variables and operators keep the order
-//! of insertion, so a name is looked up once or twice for each mention, by its hash, and a sort's kind once more; an
-//! identity once, when all operators are known. Only tested, by the sources in cases/: that the definitions are the
-//! declarations that are meant.
+//! Two laws of signatures (specs/Laws), each the contract of a function that does nothing: where the forms of some
+//! statements are among those of others, the signature of the first is part of that of the others, by the names of its
+//! sorts and the names and kinds of its operators (`parts_are_there`); so a module's terms can be carried to each
+//! module that imports it. And no two operators of a signature can be taken for one another (`declared_apart`).
+//!
+//! How it works: each question is one loop over the statements. Tables of names, variables and operators keep the
+//! order of insertion, so a name is looked up once or twice for each mention, by its hash, and a sort's kind once
+//! more; an identity once, when all operators are known. Only tested, by the sources in cases/: that the definitions
+//! are the declarations that are meant.
 #![tactic(auto)]
 
 mod declarations;
