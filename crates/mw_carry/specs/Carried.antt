@@ -19,7 +19,7 @@ module _ (sig to : Signature) where
     pub kind : SameKind to sort L
 
   -- one by one
-  pub AreSameKinds : List ℕ → List ℕ → Type 0
+  abbrev pub AreSameKinds : List ℕ → List ℕ → Type 0
   AreSameKinds [] [] = ⊤
   AreSameKinds [] (L ∷ Ls) = ⊥
   AreSameKinds (K ∷ Ks) [] = ⊥
@@ -61,7 +61,7 @@ module _ (sig to : Signature) where
 
   pub data AreCarriedFragments : List Fragment → List Fragment → Type 0 where
     none : AreCarriedFragments [] []
-    more : (a b : Fragment) (as bs : List Fragment) → IsCarriedFragment a b → AreCarriedFragments as bs → AreCarriedFragments (a ∷ as) (b ∷ bs)
+    more : (a b : Fragment) (cs ds : List Fragment) → IsCarriedFragment a b → AreCarriedFragments cs ds → AreCarriedFragments (a ∷ cs) (b ∷ ds)
 
   -- The second statement stands for the first. Its variables are those of its own terms, in their order.
   pub record IsCarriedStatement (st new : Statement) : Type 0 where
