@@ -1,7 +1,9 @@
 -- Laws of modules that are accepted.
 pub mod Readable
 pub mod Mentioned
+pub mod Pairwise
 pub mod Sides
+pub mod Imported
 pub mod Reading
 pub mod Accepting
 pub mod Naming

@@ -14,7 +14,7 @@ use Rattle.mw_declare.specs.Proper.{IsProperVariable}
 use Rattle.mw_declare.proofs.Proper.{all_at}
 use Rattle.mw_print.specs.Laws.{IsPrintable}
 use Rattle.mw_print.proofs.Bytes.{run_byte}
-use Rattle.mw_build.proofs.Reading.{there}
+use Rattle.mw_build.proofs.Pairwise.{there}
 
 -- a sort that has a name is there, and one that is there has a name
 pub named_there : (sig : Signature) (S : ℕ) (name : List ℕ) → IsSortNamed sig S name → IsSortOf sig S

@@ -25,7 +25,7 @@ use Rattle.mw_print.proofs.ReadBack.{printed_reads_back}
 use Rattle.mw_build.specs.Equations.{IsEquation, AreEquations}
 use Rattle.mw_build.specs.Modules.{Accepted}
 use Rattle.mw_build.specs.Printing.{IsOfSource, TextsReadBack, StatementsArePrintable}
-use Rattle.mw_build.proofs.Reading.{there}
+use Rattle.mw_build.proofs.Pairwise.{there}
 use Rattle.mw_declare.proofs.Accepting.{accepted_declared, nat_declared, qid_declared}
 use Rattle.mw_build.proofs.PrintedVariables.{with_sort_printable, declared_printable}
 

@@ -1,5 +1,5 @@
 -- Sides of equations: canonical forms tell which are lone, and a module of them is one that contexts hold.
-use Rattle.std.proofs.Common.{◌≡◌, ◌∙◌, ◌||◌, ◌++◌, ℕ, zero, suc, List, [], ◌∷◌, Bool, true, false, cond, if◌then◌else◌, Option, Some, None, IsTrue, Result, Ok, Err, IfOk, MatchOption, MatchResult, refl, sym, ap, subst, arith, inl, inr}
+use Rattle.std.proofs.Common.{◌≡◌, ◌∙◌, ◌||◌, ◌++◌, ℕ, zero, suc, List, [], ◌∷◌, Bool, true, false, cond, if◌then◌else◌, slice_get, Option, Some, None, IsTrue, Result, Ok, Err, IfOk, MatchOption, MatchResult, refl, sym, ap, subst, arith, inl, inr}
 use Rattle.std.specs.Prelude.{⊤}
 use Rattle.std.proofs.lemmas.Bool.{both_ways, or_left, or_right, or_cases}
 use Rattle.std.proofs.lemmas.Option.{slice_get_within}
@@ -31,8 +31,9 @@ use Rattle.mw_text.proofs.RawTerms.{spelled_raw}
 use Rattle.mw_text.proofs.SpelledVariables.{spelled_variables}
 use Rattle.mw_text.specs.Mentions.{is_met, missing_in}
 use Rattle.mw_build.specs.Sides.{Sides}
+use Rattle.mw_build.specs.Imported.{IsUnconditional}
 use Rattle.mw_build.proofs.Mentioned.{is_met-is}
-use Rattle.mw_build.proofs.Reading.{there}
+use Rattle.mw_build.proofs.Pairwise.{there}
 use Rattle.mw_build.proofs.PrintedVariables.{named_there}
 use Rattle.mw_module.specs.declared.faults.FaultKind.{FaultKind}
 use Rattle.mw_build.specs.Equations.{unbound, FitsIn, Oversized, IsLone, statement_of, IsApplicable, ApplicationFault, SidesFault, inapplicable, IsStatementOf, IsEquation, AreEquations}
@@ -132,51 +133,61 @@ module _ (sig : Signature) (left right : RawTerm) (executable : Bool) where
   of_sides_so None h n st e = record { left_fits = h.0; right_fits = h.1; applicable = h.2; statement = e }
   of_sides_so (Some x) h n st e = absurd (n x refl)
 
-module _ (sig : Signature) (ok : IsPreregularModulo sig) (numbers : HasItsSorts sig) (variables : List Variable) where
-  pub plain_equation : (e : Sides) (st : Statement) → IsEquation sig variables e st → IsTrue st.executable → IsPlainEquation sig st
-  plain_equation e st is h = subst (IsPlainEquation sig) (sym is.sides.statement) (record {
-    equation = refl;
-    unconditional = refl;
-    ordinary = refl;
-    not_lone = λ x k. applicable.not_lone (x, k);
-    variables = met_again (met [] is.left) is.right (λ x o. is_in-met x [] is.left ∙ all_bound is.left is.right applicable.bound x o);
-    bound = all_bound is.left is.right applicable.bound;
-  })
-    where
-      applicable : IsApplicable sig is.left is.right
-      applicable = is.sides.applicable (sym (ap (λ (s : Statement). s.executable) is.sides.statement) ∙ h)
+-- a statement that can be applied is an equation that contexts hold
+pub plain_statement : (sig : Signature) (left right : RawTerm) (executable : Bool) (st : Statement) → IsStatementOf sig left right executable st → IsTrue st.executable → IsPlainEquation sig st
+plain_statement sig left right executable st is h = subst (IsPlainEquation sig) (sym is.statement) (record {
+  equation = refl;
+  unconditional = refl;
+  ordinary = refl;
+  not_lone = λ x k. applicable.not_lone (x, k);
+  variables = met_again (met [] left) right (λ x o. is_in-met x [] left ∙ all_bound left right applicable.bound x o);
+  bound = all_bound left right applicable.bound;
+})
+  where
+    applicable : IsApplicable sig left right
+    applicable = is.applicable (sym (ap (λ (s : Statement). s.executable) is.statement) ∙ h)
 
-  module _ (sorted : (x : Variable) → Member x variables → IsSortOf sig x.sort) where
-    -- the sorts of what tokens spell are there
-    sorts_there : {t : RawTerm} {p : ℕ} {text : List (List ℕ)} → Spells sig variables t p text → (x : Variable) → IsTrue (occurs x t) → IsSortOf sig x.sort
-    sorts_there s = spelled_variables sig variables (λ (x : Variable). IsSortOf sig x.sort) (λ w. ⊤) sorted (λ x S n v h. named_there sig x.sort S n) s (λ w m. tt)
+-- and has no condition
+pub unconditional_statement : (sig : Signature) (left right : RawTerm) (executable : Bool) (st : Statement) → IsStatementOf sig left right executable st → IsUnconditional st
+unconditional_statement sig left right executable st is = subst IsUnconditional (sym is.statement) (record { equation = refl; unconditional = refl; ordinary = refl })
 
-    -- the sides of a statement are those that its texts spell
-    sides_of : (e : Sides) (st : Statement) → IsEquation sig variables e st → AreSides sig st
-    sides_of e st is =
-        let first = is.read.only.0.first.spells in
-        let second = is.read.only.0.second.spells in
-        subst (AreSides sig) (sym is.sides.statement) (record {
+-- what can stand in a context
+pub record CanStand (sig : Signature) (st : Statement) : Type 0 where
+  pub sides : AreSides sig st
+  pub plain : IsTrue st.executable → IsPlainEquation sig st
+
+module _ (sig : Signature) (ok : IsPreregularModulo sig) (variables : List Variable) (sorted : (x : Variable) → Member x variables → IsSortOf sig x.sort) where
+  -- the sorts of what tokens spell are there
+  sorts_there : {t : RawTerm} {p : ℕ} {text : List (List ℕ)} → Spells sig variables t p text → (x : Variable) → IsTrue (occurs x t) → IsSortOf sig x.sort
+  sorts_there s = spelled_variables sig variables (λ (x : Variable). IsSortOf sig x.sort) (λ w. ⊤) sorted (λ x S n v h. named_there sig x.sort S n) s (λ w m. tt)
+
+  -- the sides of a statement are those that its texts spell
+  pub read_stands : (e : Sides) (st : Statement) → IsEquation sig variables e st → CanStand sig st
+  read_stands e st is =
+      let first = is.read.only.0.first.spells in
+      let second = is.read.only.0.second.spells in
+      record {
+        sides = subst (AreSides sig) (sym is.sides.statement) (record {
           left = spelled_raw sig ok.accepted variables first;
           right = spelled_raw sig ok.accepted variables second;
           kinds = (is.read.only.0.kind, is.read.only.0.of_first, is.read.only.0.of_second);
           sorts = λ x o. elim (or_cases (occurs x is.left) (occurs x is.right) o) [ inl h ↦ sorts_there first x h | inr h ↦ sorts_there second x h ];
-        })
+        });
+        plain = plain_statement sig is.left is.right e.executable st is.sides;
+      }
 
-    pub workable_module : IsBareSignature sig → (es : List Sides) (sts : List Statement) → AreEquations sig variables es sts → IsWorkable (record { signature = sig; statements = sts })
-    workable_module bare es sts all = record { signature = ok; numbers = numbers; bare = bare; sides = all_sides; equations = at_each }
-      where
-        all_sides : (k : ℕ) (st : Statement) → at_number sts k ≡ Some st → AreSides sig st
-        all_sides zero st is = cc
-        all_sides (suc i) st is =
-            let w = slice_get_within sts i st is in
-            let e = there es i (omega (arith, w, all.count)) in sides_of e.0 st (all.each i e.0 st e.1 is)
+-- a module of statements that can stand in a context
+pub workable_module : (sig : Signature) → IsPreregularModulo sig → HasItsSorts sig → IsBareSignature sig → (sts : List Statement)
+    → ((i : ℕ) (st : Statement) → slice_get sts i ≡ Some st → CanStand sig st) → IsWorkable (record { signature = sig; statements = sts })
+workable_module sig ok numbers bare sts all = record { signature = ok; numbers = numbers; bare = bare; sides = all_sides; equations = at_each }
+  where
+    all_sides : (k : ℕ) (st : Statement) → at_number sts k ≡ Some st → AreSides sig st
+    all_sides zero st is = cc
+    all_sides (suc i) st is = (all i st is).sides
 
-        at_each : (k : ℕ) (st : Statement) → IsStatement (record { signature = sig; statements = sts }) k st → IsPlainEquation sig st
-        at_each zero st is = let h = is.is_there in cc
-        at_each (suc i) st is =
-            let w = slice_get_within sts i st is.is_there in
-            let e = there es i (omega (arith, w, all.count)) in plain_equation e.0 st (all.each i e.0 st e.1 is.is_there) is.executable
+    at_each : (k : ℕ) (st : Statement) → IsStatement (record { signature = sig; statements = sts }) k st → IsPlainEquation sig st
+    at_each zero st is = let h = is.is_there in cc
+    at_each (suc i) st is = (all i st is.is_there).plain is.executable
 
 -- what a text is read as is a term of the signature
 pub raw_read : {E : Type 0} (sig : Signature) (variables : List Variable) (words : List (List ℕ)) → IsAccepted sig → (r : Result Raw E)

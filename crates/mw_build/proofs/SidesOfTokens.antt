@@ -2,7 +2,7 @@
 use Rattle.std.proofs.Common.{ℕ, List, [], ◌∷◌, All}
 use Rattle.std.proofs.lemmas.List.Elements.{All-nil, All-cons, All-head, All-tail, All-append}
 use Rattle.mw_lex.specs.Texts.{AreTokens}
-use Rattle.mw_module.specs.Forms.{Shape, Sorts, Subsorts, Operators, Variables, Equation}
+use Rattle.mw_module.specs.Forms.{Shape, Sorts, Subsorts, Operators, Variables, Equation, Import}
 use Rattle.mw_module.specs.Tokens.{HasProperParts, AreProperStatements}
 use Rattle.mw_module.specs.Units.{SeenLined}
 use Rattle.mw_build.specs.Sides.{Sides, sides_in, equations_of}
@@ -20,6 +20,7 @@ sides_proper line (Operators names args result said) p = All-nil AreSides
 sides_proper line (Variables names S) p = All-nil AreSides
 sides_proper line (Equation left right executable) p =
     All-cons AreSides (record { line = line; left = left; right = right; executable = executable }) [] p (All-nil AreSides)
+sides_proper line (Import m) p = All-nil AreSides
 
 pub equations_proper : (ss : List SeenLined) → AreProperStatements ss → All AreSides (equations_of ss)
 equations_proper [] p = All-nil AreSides

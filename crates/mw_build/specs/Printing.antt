@@ -1,24 +1,36 @@
 -- What is printed of an accepted module's terms reads back.
-use Rattle.std.specs.Prelude.{◌≡◌, ℕ, false, List, Ok, Some}
+use Rattle.std.specs.Prelude.{◌≡◌, ℕ, false, List, [], ◌∷◌, ◌++◌, Ok, Some}
 use Rattle.mw_lex.specs.declared.token.Token.{Token}
 use Rattle.mw_lex.specs.Lexing.{tokens_of}
 use Rattle.mw_logic.specs.Term.{RawTerm}
 use Rattle.mw_logic.specs.Signature.{at_number, IsRawTerm}
 use Rattle.mw_logic.specs.Module.{Statement}
 use Rattle.mw_module.specs.Units.{SeenUnit, Reads}
+use Rattle.mw_import.specs.Flat.{FlatUnit}
 use Rattle.mw_print.specs.Printing.{mixfix_text}
 use Rattle.mw_print.specs.Laws.{ArePrintable, ReadsBack}
 use Rattle.mw_build.specs.Modules.{Accepted, IsAccepted}
 
--- The module is that of a unit of this source.
+-- These modules are of units of these tokens, each accepted where those before it were.
+pub data AreOfTokens (tokens : List Token) : List FlatUnit → List Accepted → Type 0 where
+  none_yet : AreOfTokens tokens [] []
+  one_more : (us : List FlatUnit) (ms : List Accepted) (at next : ℕ) (u : SeenUnit) (name reached : List ℕ) (a : Accepted) → AreOfTokens tokens us ms
+      → Reads false tokens at (Ok u) next → IsAccepted us ms u name reached a
+      → AreOfTokens tokens (us ++ record { name = name; statements = u.statements; reached = reached } ∷ []) (ms ++ a ∷ [])
+
+-- The module is that of a unit of this source, and so are those that were accepted before it.
 pub record IsOfSource (source : List ℕ) (a : Accepted) : Type 0 where
   pub tokens : List Token
   pub cut : tokens_of source ≡ Ok tokens
+  pub units : List FlatUnit
+  pub modules : List Accepted
+  pub before : AreOfTokens tokens units modules
   pub at : ℕ
   pub next : ℕ
   pub unit : SeenUnit
   pub read : Reads false tokens at (Ok unit) next
-  pub accepted : IsAccepted unit a.name a
+  pub reached : List ℕ
+  pub accepted : IsAccepted units modules unit a.name reached a
 
 -- The text of each raw term of an accepted module, cut into tokens, spells this term in the module; where the term's variables can be printed. So it is for each
 -- ground term.

@@ -1,3 +1,4 @@
 -- Terms and statements of one signature as they stand in another.
 pub mod Carried
 pub mod Laws
+pub mod Carriage

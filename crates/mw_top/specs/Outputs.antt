@@ -11,9 +11,8 @@ use Rattle.mw_module.specs.declared.faults.Fault.{Fault}
 use Rattle.mw_module.specs.declared.faults.FaultKind.{FaultKind}
 use Rattle.mw_module.specs.declared.faults.FaultKind.TheVariants as kind
 use Rattle.mw_module.specs.Units.{Outcome, Reads}
-use Rattle.mw_build.specs.Modules.{Accepted}
 use Rattle.mw_block.specs.Refused.{refusal_line}
-use Rattle.mw_top.specs.Sources.{Gives, Answered}
+use Rattle.mw_top.specs.Sources.{Loaded, Gives, Answered}
 
 abbrev pub lexing_kind : LexKind → FaultKind
 lexing_kind BadByte = kind.BadByte
@@ -25,7 +24,7 @@ lexing_refusal f = record { line = f.line; kind = lexing_kind f.kind }
 
 -- What a sink has got of the texts of units: of all, of the first ones and not all, or of the first ones and a proper prefix of the next one's.
 pub record AreDone (most : ℕ) (tokens : List Token) (held held_after : Option (List ℕ)) (bad : Bool) : Type 0 where
-  pub modules : List Accepted
+  pub modules : Loaded
   pub text : List ℕ
   pub answered : Answered most tokens (length tokens) modules text bad
   pub written : Appends held held_after text
@@ -33,7 +32,7 @@ pub record AreDone (most : ℕ) (tokens : List Token) (held held_after : Option 
 pub record AreBegun (most : ℕ) (tokens : List Token) (held held_after : Option (List ℕ)) : Type 0 where
   pub at : ℕ
   pub undone : at < length tokens
-  pub modules : List Accepted
+  pub modules : Loaded
   pub text : List ℕ
   pub bad : Bool
   pub answered : Answered most tokens at modules text bad
@@ -41,7 +40,7 @@ pub record AreBegun (most : ℕ) (tokens : List Token) (held held_after : Option
 
 pub record AreCut (most : ℕ) (tokens : List Token) (held held_after : Option (List ℕ)) : Type 0 where
   pub at : ℕ
-  pub modules : List Accepted
+  pub modules : Loaded
   pub text : List ℕ
   pub bad : Bool
   pub answered : Answered most tokens at modules text bad
@@ -49,7 +48,7 @@ pub record AreCut (most : ℕ) (tokens : List Token) (held held_after : Option (
   pub next : ℕ
   pub last : List ℕ
   pub refused : Bool
-  pub after : List Accepted
+  pub after : Loaded
   pub read : Reads false tokens at outcome next
   pub gives : Gives most modules outcome last refused after
   pub part : ℕ
@@ -59,7 +58,7 @@ pub record AreCut (most : ℕ) (tokens : List Token) (held held_after : Option (
 -- the whole text for a source, and whether something was refused
 pub data IsOutput (most : ℕ) (bytes : List ℕ) : List ℕ → Bool → Type 0 where
   unlexed : (f : LexFault) → tokens_of bytes ≡ Err f → IsOutput most bytes (refusal_line (lexing_refusal f)) true
-  answered : (tokens : List Token) (after : List Accepted) (text : List ℕ) (bad : Bool) → tokens_of bytes ≡ Ok tokens
+  answered : (tokens : List Token) (after : Loaded) (text : List ℕ) (bad : Bool) → tokens_of bytes ≡ Ok tokens
       → Answered most tokens (length tokens) after text bad → IsOutput most bytes text bad
 
 -- of the same bytes, by the same limit, no two outputs differ in whether something was refused
@@ -69,14 +68,14 @@ AgreeInRefusal = (most : ℕ) (bytes text other : List ℕ) (bad worse : Bool) �
 -- the texts of the first units, of which one at least is undone, or nothing
 pub data IsBegun (most : ℕ) (bytes : List ℕ) : List ℕ → Type 0 where
   nothing : IsBegun most bytes []
-  units : (tokens : List Token) (at : ℕ) (modules : List Accepted) (text : List ℕ) (bad : Bool) → tokens_of bytes ≡ Ok tokens → at < length tokens
+  units : (tokens : List Token) (at : ℕ) (modules : Loaded) (text : List ℕ) (bad : Bool) → tokens_of bytes ≡ Ok tokens → at < length tokens
       → Answered most tokens at modules text bad → IsBegun most bytes text
 
 -- the texts of the first units, and a proper prefix of the next one's
 pub data IsCut (most : ℕ) (bytes : List ℕ) : List ℕ → Type 0 where
   in_refusal : (f : LexFault) (n : ℕ) → tokens_of bytes ≡ Err f → n < length (refusal_line (lexing_refusal f))
       → IsCut most bytes (take n (refusal_line (lexing_refusal f)))
-  in_unit : (tokens : List Token) (at : ℕ) (before : List Accepted) (text : List ℕ) (bad : Bool) → tokens_of bytes ≡ Ok tokens
-      → Answered most tokens at before text bad → (outcome : Outcome) (next : ℕ) (last : List ℕ) (refused : Bool) (after : List Accepted)
+  in_unit : (tokens : List Token) (at : ℕ) (before : Loaded) (text : List ℕ) (bad : Bool) → tokens_of bytes ≡ Ok tokens
+      → Answered most tokens at before text bad → (outcome : Outcome) (next : ℕ) (last : List ℕ) (refused : Bool) (after : Loaded)
       → Reads false tokens at outcome next → Gives most before outcome last refused after → (n : ℕ) → n < length last
       → IsCut most bytes (text ++ take n last)

@@ -8,9 +8,25 @@ use Rattle.mw_module.specs.declared.faults.FaultKind.{FaultKind}
 use Rattle.mw_module.specs.declared.faults.FaultKind.TheVariants.{AlreadyDefined}
 use Rattle.mw_module.specs.Units.{SeenUnit, Outcome, Reads}
 use Rattle.mw_command.specs.Commands.{SeenCommand, command_of}
+use Rattle.mw_import.specs.Flat.{FlatUnit}
 use Rattle.mw_build.specs.Modules.{Accepted, IsAccepted, IsRefused}
 use Rattle.mw_block.specs.Refused.{refusal_line}
 use Rattle.mw_top.specs.Commands.{IsAnswer, CommandFault, module_for}
+
+-- the units that were accepted, and the modules that they are, one by one
+pub record Loaded : Type 0 where
+  pub units : List FlatUnit
+  pub modules : List Accepted
+
+abbrev pub no_modules : Loaded
+no_modules = record { units = []; modules = [] }
+
+-- with one module more, of this name, that a unit is which reaches these
+abbrev pub with_module : Loaded → List ℕ → SeenUnit → List ℕ → Accepted → Loaded
+with_module before n u reached a = record {
+  units = before.units ++ record { name = n; statements = u.statements; reached = reached } ∷ [];
+  modules = before.modules ++ a ∷ [];
+}
 
 -- the names of modules that are there from the start
 abbrev pub kept_names : List (List ℕ)
@@ -24,25 +40,26 @@ abbrev pub name_of : SeenUnit → Option (List ℕ)
 name_of u = option_map (λ (t : Token). t.text) u.name
 
 -- What a unit gives, where these modules were accepted: its text, whether it is refused, and the modules after it.
-pub data Gives (most : ℕ) (before : List Accepted) : Outcome → List ℕ → Bool → List Accepted → Type 0 where
+pub data Gives (most : ℕ) (before : Loaded) : Outcome → List ℕ → Bool → Loaded → Type 0 where
   -- what isn't a unit by its form
   formless : (f : Fault) → Gives most before (Err f) (refusal_line f) true before
   -- a module: its name is taken, it has a fault, or it is accepted
-  taken : (u : SeenUnit) (n : List ℕ) → name_of u ≡ Some n → IsTaken before n
+  taken : (u : SeenUnit) (n : List ℕ) → name_of u ≡ Some n → IsTaken before.modules n
       → Gives most before (Ok u) (refusal_line (record { line = u.line; kind = AlreadyDefined n })) true before
-  refused : (u : SeenUnit) (n : List ℕ) (r : Fault) → name_of u ≡ Some n → (IsTaken before n → ⊥) → IsRefused u r → Gives most before (Ok u) (refusal_line r) true before
-  accepted : (u : SeenUnit) (n : List ℕ) (a : Accepted) → name_of u ≡ Some n → (IsTaken before n → ⊥) → IsAccepted u n a
-      → Gives most before (Ok u) [] false (before ++ a ∷ [])
+  refused : (u : SeenUnit) (n : List ℕ) (r : Fault) → name_of u ≡ Some n → (IsTaken before.modules n → ⊥) → IsRefused before.units before.modules u n r
+      → Gives most before (Ok u) (refusal_line r) true before
+  accepted : (u : SeenUnit) (n reached : List ℕ) (a : Accepted) → name_of u ≡ Some n → (IsTaken before.modules n → ⊥)
+      → IsAccepted before.units before.modules u n reached a → Gives most before (Ok u) [] false (with_module before n u reached a)
   -- a command: it isn't of its form, it has a fault, or it is answered
   no_command : (u : SeenUnit) (f : Fault) → name_of u ≡ None → command_of u ≡ Err f → Gives most before (Ok u) (refusal_line f) true before
-  faulty : (u : SeenUnit) (c : SeenCommand) (cause : FaultKind) → name_of u ≡ None → command_of u ≡ Ok c → CommandFault before c cause
+  faulty : (u : SeenUnit) (c : SeenCommand) (cause : FaultKind) → name_of u ≡ None → command_of u ≡ Ok c → CommandFault before.modules c cause
       → Gives most before (Ok u) (refusal_line (record { line = u.line; kind = cause })) true before
-  answered : (u : SeenUnit) (c : SeenCommand) (a : Accepted) (text : List ℕ) → name_of u ≡ None → command_of u ≡ Ok c → module_for before c.module ≡ Some a
+  answered : (u : SeenUnit) (c : SeenCommand) (a : Accepted) (text : List ℕ) → name_of u ≡ None → command_of u ≡ Ok c → module_for before.modules c.module ≡ Some a
       → IsAnswer a most c text → Gives most before (Ok u) text false before
 
 -- The units of these tokens up to a place are answered, in order: their texts, whether one of them was refused, and the modules that were accepted.
-pub data Answered (most : ℕ) (tokens : List Token) : ℕ → List Accepted → List ℕ → Bool → Type 0 where
-  nothing_yet : Answered most tokens 0 [] [] false
-  one_more : (at : ℕ) (before : List Accepted) (text : List ℕ) (bad : Bool) → Answered most tokens at before text bad
-      → (outcome : Outcome) (next : ℕ) (last : List ℕ) (refused : Bool) (after : List Accepted) → Reads false tokens at outcome next
+pub data Answered (most : ℕ) (tokens : List Token) : ℕ → Loaded → List ℕ → Bool → Type 0 where
+  nothing_yet : Answered most tokens 0 no_modules [] false
+  one_more : (at : ℕ) (before : Loaded) (text : List ℕ) (bad : Bool) → Answered most tokens at before text bad
+      → (outcome : Outcome) (next : ℕ) (last : List ℕ) (refused : Bool) (after : Loaded) → Reads false tokens at outcome next
       → Gives most before outcome last refused after → Answered most tokens next after (text ++ last) (bad || refused)

@@ -1,19 +1,19 @@
 // The modules that were accepted, and what a unit gives among them.
-ghost use Rattle.std.specs.Prelude.{◌≡◌, ◌↔◌, ◌++◌, ◌∷◌, List, [], Some, None, Ok, IfOk, OnOk, option_map, true, IsTrue};
+ghost use Rattle.std.specs.Prelude.{◌≡◌, ◌↔◌, ◌++◌, ◌∷◌, ℕ, List, [], Some, None, Ok, IfOk, OnOk, option_map, true, IsTrue};
 ghost use Rattle.mw_logic.specs.Signature.{Member};
 ghost use Rattle.mw_module.specs.Known.{AreKnown};
 ghost use Rattle.mw_module.specs.Units.{SeenUnit, seen_unit};
 ghost use Rattle.mw_command.specs.Commands.{command_of, seen_command};
 ghost use Rattle.mw_block.specs.Refused.{refusal_line};
-ghost use Rattle.mw_build.specs.Modules.{Accepted};
+ghost use Rattle.mw_build.specs.Modules.{Accepted, IsAccepted};
 ghost use Rattle.mw_top.specs.Commands.{CommandFault, module_named, last_module, module_for};
-ghost use Rattle.mw_top.specs.Sources.{IsTaken, Gives, name_of, kept_names};
+ghost use Rattle.mw_top.specs.Sources.{IsTaken, Gives, name_of, kept_names, no_modules, with_module};
 
 use crate::replies::reply;
-use indexmap::IndexMap;
 use mw_block::refusal;
-use mw_build::{Module, build};
+use mw_build::{Built, Module, build};
 use mw_command::{Command, read};
+use mw_import::Units;
 use mw_lex::Token;
 use mw_module::{Fault, FaultKind, Unit, UnitError};
 use mw_term::copy_name;
@@ -27,27 +27,27 @@ pub struct Answer {
     pub refused: bool,
 }
 
-/// The modules that were accepted, by name, in order.
+/// The modules that were accepted, in order, and the units that they are.
 #[derive(Drop)]
-pub struct Session {
-    modules: IndexMap<Vec<u8>, Module>,
+pub struct Session<'s> {
+    units: Units<'s>,
+    modules: Vec<Module>,
 }
 
-impl Model for Session {
-    ghost use Rattle.std.specs.Prelude.{List};
+impl<'s> Model for Session<'s> {
     ghost use Rattle.std.specs.Coded.{codes};
     ghost use Rattle.mw_logic.specs.TermCode.{coded_term, coded_variable};
-    ghost use Rattle.mw_build.specs.Modules.{Accepted};
+    ghost use Rattle.mw_top.specs.Sources.{Loaded};
 
-    ghost Value = { List Accepted };
+    ghost Value = { Loaded };
 
     ghost coded = { Prim.hlevel (codes, coded_term, coded_variable) };
 
-    ghost use Rattle.mw_top.specs.Seen.{modules_in, AreNamed};
+    ghost view = { λ s. record { units = s.units; modules = s.modules.items } };
 
-    ghost view = { λ s. modules_in s.modules.entries };
+    ghost use Rattle.mw_build.specs.Modules.{AreLoaded};
 
-    ghost invariant = { λ s. AreNamed s.modules.entries };
+    ghost invariant = { λ s. AreLoaded s.units s.modules.items };
 }
 
 /// A refusal at a line.
@@ -82,67 +82,82 @@ fn is_kept(name: &[u8]) -> bool
     same(name, b"BOOL") || same(name, b"NAT") || same(name, b"QID") || same(name, b"CONFIGURATION")
 }
 
-impl Session {
+impl<'s> Session<'s> {
     /// No module.
-    pub fn new(alloc: Global) -> Session
-        ensures { result ≡ [] }
+    pub fn new(alloc: Global) -> Session<'s>
+        ensures { result ≡ no_modules }
     {
         Session {
-            modules: IndexMap::new(alloc),
+            units: Units::new(alloc),
+            modules: Vec::new(alloc),
         }
     }
 
     /// The module of this name.
     fn named(&self, name: &[u8]) -> Option<&Module>
-        ensures { option_map (λ m. m.now) result ≡ module_named self.now name.now }
+        ensures { option_map (λ m. m.now) result ≡ module_named self.now.modules name.now }
     {
-        self.modules.get(name)
+        let number = self.units.number(name)?;
+        self.modules.get(number)
     }
 
     /// The module that was accepted last.
     fn last(&self) -> Option<&Module>
-        ensures { option_map (λ m. m.now) result ≡ last_module self.now }
+        ensures { option_map (λ m. m.now) result ≡ last_module self.now.modules }
     {
-        let (_, accepted) = self.modules.last()?;
-        Some(accepted)
+        self.modules.last()
     }
 
     /// Whether a name is a module's, or kept.
     fn is_taken(&self, name: &[u8]) -> bool
-        ensures { IsTrue result ↔ IsTaken self.now name.now }
+        ensures { IsTrue result ↔ IsTaken self.now.modules name.now }
     {
         is_kept(name) || self.named(name).is_some()
     }
 
-    /// Accepts a module whose name isn't taken.
-    fn accept(&mut self, alloc: Global, accepted: Module) -> Result<(), AllocError>
-        requires { module_named self.old accepted.name ≡ None }
-        ensures { OnOk result (self.new ≡ self.old ++ accepted ∷ []) }
+    /// Accepts the module of this name that a unit was built as. Where memory runs out nothing is accepted.
+    fn accept(
+        &mut self,
+        alloc: Global,
+        name: &[u8],
+        unit: Unit<'s>,
+        built: Built,
+    ) -> Result<(), AllocError>
+        requires new { module_named self.old.modules name.now ≡ None }
+        requires known { AreKnown (seen_unit unit).statements }
+        requires accepted { IsAccepted self.old.units self.old.modules (seen_unit unit) name.now built.flat built.module }
+        ensures { OnOk result (self.new ≡ with_module self.old name.now (seen_unit unit.entry) built.entry.flat built.entry.module) }
     {
-        let name = accepted.name().as_slice().to_vec(alloc)?;
-        self.modules.insert(name, accepted)?;
-        Ok(())
+        let Built { flat, module } = built;
+        self.modules.push(module)?;
+        match self.units.accept(alloc, name, unit, flat) {
+            Ok(()) => Ok(()),
+            Err(error) => {
+                self.modules.pop();
+                Err(error)
+            }
+        }
     }
 
     /// What a module's unit gives.
     fn answer_module(
         &mut self,
         alloc: Global,
-        unit: &Unit<'_>,
+        unit: Unit<'s>,
         name: &Token,
-        most: u64,
     ) -> Result<Answer, AllocError>
-        requires named { name_of (seen_unit unit.now) ≡ Some name.now.text }
-        requires known { AreKnown (seen_unit unit.now).statements }
-        ensures { IfOk result (λ a. Gives most self.old (Ok (seen_unit unit.now)) a.text.items a.refused self.new) }
+        requires named { name_of (seen_unit unit) ≡ Some name.now.text }
+        requires known { AreKnown (seen_unit unit).statements }
+        ensures { (most : ℕ) → IfOk result (λ a. Gives most self.old (Ok (seen_unit unit.entry)) a.text.items a.refused self.new) }
     {
+        let text = name.text.as_slice();
         let name = copy_name(alloc, &name.text)?;
-        if self.is_taken(name.as_slice()) {
+        if self.is_taken(text) {
             return refused(alloc, unit.line, FaultKind::AlreadyDefined(name));
         }
-        match build(alloc, unit, name) {
-            Ok(module) => {
-                self.accept(alloc, module)?;
+        match build(alloc, &self.units, self.modules.as_slice(), &unit, name) {
+            Ok(built) => {
+                self.accept(alloc, text, unit, built)?;
                 Ok(Answer {
                     text: Vec::new(alloc),
                     refused: false,
@@ -155,7 +170,7 @@ impl Session {
 
     /// The module in which a command stands.
     fn module_for(&self, command: &Command<'_>) -> Option<&Module>
-        ensures { option_map (λ m. m.now) result ≡ module_for self.now (seen_command command.now).module }
+        ensures { option_map (λ m. m.now) result ≡ module_for self.now.modules (seen_command command.now).module }
     {
         match &command.module {
             Some(name) => self.named(name.text.as_slice()),
@@ -190,16 +205,16 @@ impl Session {
     pub fn answer(
         &mut self,
         alloc: Global,
-        unit: &Unit<'_>,
+        unit: Unit<'s>,
         most: u64,
     ) -> Result<Answer, AllocError>
-        requires { AreKnown (seen_unit unit.now).statements }
-        ensures { IfOk result (λ a. Gives most self.old (Ok (seen_unit unit.now)) a.text.items a.refused self.new) }
+        requires { AreKnown (seen_unit unit).statements }
+        ensures { IfOk result (λ a. Gives most self.old (Ok (seen_unit unit.entry)) a.text.items a.refused self.new) }
     {
         if let Some(name) = unit.name {
-            return self.answer_module(alloc, unit, name, most);
+            return self.answer_module(alloc, unit, name);
         }
-        match read(unit) {
+        match read(&unit) {
             Ok(command) => self.answer_command(alloc, unit.line, &command, most),
             Err(fault) => refused_by(alloc, fault),
         }

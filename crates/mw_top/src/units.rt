@@ -13,10 +13,10 @@ use mw_outside::Sink;
 use std::alloc::{AllocError, Global};
 
 /// Answers the unit that begins at this place, and tells where the next one does.
-fn answer_next(
+fn answer_next<'s>(
     alloc: Global,
-    session: &mut Session,
-    tokens: &[Token],
+    session: &mut Session<'s>,
+    tokens: &'s [Token],
     at: usize,
     most: u64,
 ) -> Result<(Answer, usize), AllocError>
@@ -26,7 +26,7 @@ fn answer_next(
 {
     let (outcome, next) = read_unit(alloc, tokens, at, false)?;
     match outcome {
-        Ok(unit) => Ok((session.answer(alloc, &unit, most)?, next)),
+        Ok(unit) => Ok((session.answer(alloc, unit, most)?, next)),
         Err(fault) => Ok((refused_by(alloc, fault)?, next)),
     }
 }

@@ -1,0 +1,82 @@
+-- Statements of other modules, as they stand in a module that reaches them.
+use Rattle.std.proofs.Common.{◌≡◌, ◌||◌, ◌++◌, ℕ, List, [], Bool, IsTrue, IfOk, MatchResult, Result, Ok, Err, inl, inr, refl, sym, ap, subst}
+use Rattle.std.proofs.lemmas.Bool.{or_left, or_right, or_cases}
+use Rattle.mw_logic.specs.Term.{Variable, RawTerm}
+use Rattle.mw_logic.specs.Signature.{Signature, IsRawTerm, HasKind, of_numeral, of_quoted, of_variable, of_operator, SameKind, same}
+use Rattle.mw_logic.specs.Accepted.{IsAccepted}
+use Rattle.mw_logic.specs.Substitution.{occurs}
+use Rattle.mw_logic.specs.Preregular.{HasItsSorts, IsSortOf}
+use Rattle.mw_logic.specs.Module.{Statement, Fragment}
+use Rattle.mw_logic.proofs.KindLaws.{SameKind-sym}
+use Rattle.mw_logic.proofs.SameConditions.{same_variable-refl}
+use Rattle.mw_sorts.proofs.Connected.{there-with}
+use Rattle.mw_least.specs.Workable.{AreSides}
+use Rattle.mw_carry.specs.Carried.{IsPart, IsSameKind, IsCarried, AreCarriedFragments, none}
+use Rattle.mw_carry.specs.Laws.{HasSortsOf}
+use Rattle.mw_carry.proofs.Numbers.{within_at}
+use Rattle.mw_carry.proofs.Kept.{sort_carried, HasKind-carried, IsRawTerm-carried, sorts-carried}
+use Rattle.mw_module.specs.declared.faults.FaultKind.{FaultKind}
+use Rattle.mw_build.specs.Equations.{IsStatementOf, SidesFault, statement_of}
+use Rattle.mw_build.specs.Imported.{Origin, IsUnconditional, IsImported, ImportedFault}
+use Rattle.mw_build.proofs.Sides.{CanStand, plain_statement}
+
+-- the kind of a term whose variables have sorts that are there is there
+kind_there : (sig : Signature) → HasItsSorts sig → (t : RawTerm) (K : ℕ) → HasSortsOf sig t → HasKind sig t K → IsSortOf sig K
+kind_there sig numbers t K sorts (of_numeral S named nat p) = there-with sig numbers K S (SameKind-sym p) (within_at sig.sorts S _ named)
+kind_there sig numbers t K sorts (of_quoted S named qid p) = there-with sig numbers K S (SameKind-sym p) (within_at sig.sorts S _ named)
+kind_there sig numbers t K sorts (of_variable {x = x} p) = there-with sig numbers K x.sort (SameKind-sym p) (sorts x (same_variable-refl x))
+kind_there sig numbers t K sorts (of_operator {f = f} o is p) = there-with sig numbers K o.result (SameKind-sym p) (numbers.results f o is)
+
+pub left_sorts : (sig : Signature) (e : Statement) → AreSides sig e → HasSortsOf sig e.left
+left_sorts sig e sides x h = sides.sorts x (or_left (occurs x e.left) (occurs x e.right) h)
+
+pub right_sorts : (sig : Signature) (e : Statement) → AreSides sig e → HasSortsOf sig e.right
+right_sorts sig e sides x h = sides.sorts x (or_right (occurs x e.left) (occurs x e.right) h)
+
+module _ (from sig : Signature) (part : IsPart from sig) (numbers : HasItsSorts from) (ok : IsAccepted sig) where
+  -- carried sides are sides
+  pub sides_carried : (e st : Statement) → AreSides from e → IsCarried from sig e.left st.left → IsCarried from sig e.right st.right → AreSides sig st
+  sides_carried e st sides left right = record {
+    left = IsRawTerm-carried from sig part numbers ok left sides.left;
+    right = IsRawTerm-carried from sig part numbers ok right sides.right;
+    kinds =
+        let (K, first, second) = sides.kinds in
+        let (T, named) = sort_carried from sig part numbers K (kind_there from numbers e.left K (left_sorts from e sides) first) in
+        let kind : IsSameKind from sig K T = record { sort = T; same = named; kind = same } in
+        (T, HasKind-carried from sig part numbers ok left first kind, HasKind-carried from sig part numbers ok right second kind);
+    sorts = λ x o. elim (or_cases (occurs x st.left) (occurs x st.right) o) [ inl h ↦ sorts-carried from sig left x h | inr h ↦ sorts-carried from sig right x h ];
+  }
+
+  pub imported_stands : (e st : Statement) → AreSides from e → IsImported sig (record { signature = from; statement = e }) st → CanStand sig st
+  imported_stands e st sides is = record {
+    sides = sides_carried e st sides is.carried.left is.carried.right;
+    plain = plain_statement sig st.left st.right e.executable st is.holds;
+  }
+
+-- no fragments stand for none
+none_carried : (from sig : Signature) (C D : List Fragment) → C ≡ [] → D ≡ [] → AreCarriedFragments from sig C D
+none_carried from sig C D a b = subst (λ X. AreCarriedFragments from sig X D) (sym a) (subst (λ X. AreCarriedFragments from sig [] X) (sym b) none)
+
+module _ (from sig : Signature) (e : Statement) (plain : IsUnconditional e) (left right : RawTerm) (first : IsCarried from sig e.left left) (second : IsCarried from sig e.right right) where
+  -- the statement of these sides stands for the one that they were carried from
+  stands_for : (st : Statement) → IsStatementOf sig left right e.executable st → IsImported sig (record { signature = from; statement = e }) st
+  stands_for st is =
+      let of : IsImported sig (record { signature = from; statement = e }) (statement_of left right e.executable) = record {
+        carried = record {
+          left = first;
+          right = second;
+          fragments = none_carried from sig e.fragments [] plain.unconditional refl;
+          rule = sym plain.equation;
+          executable = refl;
+          owise = sym plain.ordinary;
+        };
+        holds = subst (IsStatementOf sig left right e.executable) is.statement is;
+      } in
+      subst (IsImported sig (record { signature = from; statement = e })) (sym is.statement) of
+
+  pub of_carried : {E : Type 0} (r : Result (Result Statement FaultKind) E)
+      → IfOk r (λ s. MatchResult s (IsStatementOf sig left right e.executable) (λ kind. SidesFault sig left right e.executable kind))
+      → IfOk r (λ s. MatchResult s (IsImported sig (record { signature = from; statement = e })) (λ kind. ImportedFault sig (record { signature = from; statement = e }) kind))
+  of_carried (Err x) h = h
+  of_carried (Ok (Ok st)) h = stands_for st h
+  of_carried (Ok (Err kind)) h = record { left = left; right = right; carried_left = first; carried_right = second; fault = h }
