@@ -16,9 +16,10 @@ member_brought us j k m = of (slice_get us k) refl m
     of None e (inl h) = inl (sym h)
     of None e (inr h) = absurd h
     of (Some u) e h =
-        elim (member-append j u.reached (k ∷ []) h)
-        [ inl n ↦ inr (u, e, n)
-        | inr n ↦ elim n [ inl i ↦ inl (sym i) | inr f ↦ absurd f ] ]
+        elim (member-append j u.reached (k ∷ []) h) [
+          | inl n ↦ inr (u, e, n)
+          | inr n ↦ elim n [ inl i ↦ inl (sym i) | inr f ↦ absurd f ]
+        ]
 
 pub itself_brought : (us : List FlatUnit) (k : ℕ) → Member k (brought_by us k)
 itself_brought us k = member-right k (reached_by (slice_get us k)) (k ∷ []) (inl refl)
@@ -30,15 +31,17 @@ module _ (us : List FlatUnit) (all : AreAccepted us) where
   -- all that comes with a unit comes with what brings it
   pub brought_closed : (k : ℕ) → IsClosed us (brought_by us k)
   brought_closed k j m i n =
-      elim (member_brought us j k m)
-      [ inl e ↦ subst (λ j. Member i (brought_by us j)) e n
-      | inr h ↦ reached_brought us i k h.0 h.1 (all.closed k h.0 h.1 j h.2 i n) ]
+      elim (member_brought us j k m) [
+        | inl e ↦ subst (λ j. Member i (brought_by us j)) e n
+        | inr h ↦ reached_brought us i k h.0 h.1 (all.closed k h.0 h.1 j h.2 i n)
+      ]
 
   pub bring_closed : (there : List ℕ) (k : ℕ) → IsClosed us there → IsClosed us (gathered there (brought_by us k))
   bring_closed there k closed j m i n =
-      elim (member_gathered j there (brought_by us k) m)
-      [ inl h ↦ gathered_member i there (brought_by us k) (inl (closed j h i n))
-      | inr h ↦ gathered_member i there (brought_by us k) (inr (brought_closed k j h i n)) ]
+      elim (member_gathered j there (brought_by us k) m) [
+        | inl h ↦ gathered_member i there (brought_by us k) (inl (closed j h i n))
+        | inr h ↦ gathered_member i there (brought_by us k) (inr (brought_closed k j h i n))
+      ]
 
   firsts_closed : (ks : List ℕ) → IsClosed us (firsts (flat_map (brought_by us) ks))
   firsts_closed ks j m i n =

@@ -46,23 +46,25 @@ kept us more line k u all at =
 -- a statement of a unit that is reached is told at the line
 told_within : (us : List FlatUnit) (ss : List SeenLined) (line j : ℕ) (reached : List ℕ) (s : SeenLined) → Member j reached → Member s (statements_at (slice_get us j))
     → (t : SeenLined) × Member t (all_statements us line reached ss) × (t.shape ≡ s.shape)
-told_within us ss line j reached s m n =
-    (told_at line s,
-    member-left (told_at line s) (map (told_at line) (statements_of us reached)) ss
-    (member-map (told_at line) s (statements_of us reached) (member-flat_map (λ (k : ℕ). statements_at (slice_get us k)) s j reached m n)),
-    refl)
+told_within us ss line j reached s m n = (
+  told_at line s,
+  member-left (told_at line s) (map (told_at line) (statements_of us reached)) ss
+      (member-map (told_at line) s (statements_of us reached) (member-flat_map (λ (k : ℕ). statements_at (slice_get us k)) s j reached m n)),
+  refl,
+)
 
 within : (us : List FlatUnit) (ss : List SeenLined) (line from k : ℕ) (reached : List ℕ) (u : FlatUnit) → AreAccepted us → IsFlat us ss reached → Member k reached
     → slice_get us k ≡ Some u → IsWithin (all_statements us from u.reached u.statements) (all_statements us line reached ss)
 within us ss line from k reached u all flat m at s n =
-    elim (member-append s (map (told_at from) (statements_of us u.reached)) u.statements n)
-    [ inl h ↦
-        let told = map-member (told_at from) s (statements_of us u.reached) h in
-        let of = flat_map-member (λ (k : ℕ). statements_at (slice_get us k)) told.0 u.reached told.1 in
-        let there = flat_closed us all ss reached flat k m of.0 (reached_brought us of.0 k u at of.1) in
-        let t = told_within us ss line of.0 reached told.0 there of.2 in
-        (t.0, t.1, t.2 ∙ ap (λ (s : SeenLined). s.shape) told.2)
-    | inr h ↦ told_within us ss line k reached s m (subst (λ o. Member s (statements_at o)) (sym at) h) ]
+    elim (member-append s (map (told_at from) (statements_of us u.reached)) u.statements n) [
+      | inl h ↦
+          let told = map-member (told_at from) s (statements_of us u.reached) h in
+          let of = flat_map-member (λ (k : ℕ). statements_at (slice_get us k)) told.0 u.reached told.1 in
+          let there = flat_closed us all ss reached flat k m of.0 (reached_brought us of.0 k u at of.1) in
+          let t = told_within us ss line of.0 reached told.0 there of.2 in
+          (t.0, t.1, t.2 ∙ ap (λ (s : SeenLined). s.shape) told.2)
+      | inr h ↦ told_within us ss line k reached s m (subst (λ o. Member s (statements_at o)) (sym at) h)
+    ]
 
 pub flattened_within : FlattenedWithin
 flattened_within = record { within = within; kept = kept }

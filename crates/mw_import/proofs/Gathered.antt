@@ -36,9 +36,10 @@ gathered-there there (k ∷ ks) h =
 pub member_gathered : (j : ℕ) (there ks : List ℕ) → Member j (gathered there ks) → Member j there ⊎ Member j ks
 member_gathered j there [] m = inl m
 member_gathered j there (k ∷ ks) m =
-    elim (member_gathered j (gathered_with there k) ks m)
-    [ inl n ↦ elim (of (is_among k there) n) [ inl i ↦ inl i | inr e ↦ inr (inl e) ]
-    | inr n ↦ inr (inr n) ]
+    elim (member_gathered j (gathered_with there k) ks m) [
+      | inl n ↦ elim (of (is_among k there) n) [ inl i ↦ inl i | inr e ↦ inr (inl e) ]
+      | inr n ↦ inr (inr n)
+    ]
   where
     of : (b : Bool) → Member j (if b then there else there ++ k ∷ []) → Member j there ⊎ (k ≡ j)
     of true n = inl n
@@ -58,6 +59,7 @@ gathered_new j there (k ∷ ks) (inl e) = gathered_before j (gathered_with there
   where
     found : is_among k there ≡ true → Member j (gathered_with there k)
     found t = rw t (subst (λ j. Member j there) e (among_member k there t))
+
     lacking : is_among k there ≡ false → Member j (gathered_with there k)
     lacking f = rw f (member-right j there (k ∷ []) (inl e))
 gathered_new j there (k ∷ ks) (inr m) = gathered_new j (gathered_with there k) ks m

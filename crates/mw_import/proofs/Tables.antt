@@ -71,40 +71,46 @@ pub flat_within : (us : List FlatUnit) → AreAccepted us → (ss : List SeenLin
 flat_within us all ss reached flat j m =
     let from = flat_map-member (brought_by us) j flat.numbers (member_firsts j (flat_map (brought_by us) flat.numbers) (subst (Member j) flat.flat m)) in
     let there : from.0 < length us = numbers_within us (imports_of ss) flat.numbers flat.named from.0 from.1 in
-    elim (member_brought us j from.0 from.2)
-    [ inl e ↦ subst (λ j. j < length us) (sym e) there
-    | inr h ↦ let below = all.before from.0 h.0 h.1 j h.2 in omega (arith, below, there) ]
+    elim (member_brought us j from.0 from.2) [
+      | inl e ↦ subst (λ j. j < length us) (sym e) there
+      | inr h ↦ let below = all.before from.0 h.0 h.1 j h.2 in omega (arith, below, there)
+    ]
 
 -- with one more unit behind the others, which reaches what its imports bring, what holds of accepted units holds
 module _ (us : List FlatUnit) (all : AreAccepted us) (u : FlatUnit) (new : number_named us u.name ≡ None) (flat : IsFlat us u.statements u.reached) where
   before : (k : ℕ) (v : FlatUnit) → slice_get (us ++ u ∷ []) k ≡ Some v → (j : ℕ) → Member j v.reached → j < k
   before k v at j m =
-      elim (place_of us u v k at)
-      [ inl e ↦ all.before k v e j m
-      | inr e ↦ let there = flat_within us all u.statements u.reached flat j (subst (λ (w : FlatUnit). Member j w.reached) (sym e.1) m) in omega (arith, e.0, there) ]
+      elim (place_of us u v k at) [
+        | inl e ↦ all.before k v e j m
+        | inr e ↦ let there = flat_within us all u.statements u.reached flat j (subst (λ (w : FlatUnit). Member j w.reached) (sym e.1) m) in omega (arith, e.0, there)
+      ]
 
   closed : (k : ℕ) (v : FlatUnit) → slice_get (us ++ u ∷ []) k ≡ Some v → (j : ℕ) → Member j v.reached → (i : ℕ) → Member i (brought_by (us ++ u ∷ []) j) → Member i v.reached
   closed k v at j m i n =
-      elim (place_of us u v k at)
-      [ inl e ↦
-          let below : j < k = all.before k v e j m in
-          let inside : k < length us = slice_get_within us k v e in
-          all.closed k v e j m i (subst (Member i) (brought_kept us (u ∷ []) j (omega (arith, below, inside))) n)
-      | inr e ↦
-          let mine = subst (λ (w : FlatUnit). Member j w.reached) (sym e.1) m in
-          let there = flat_within us all u.statements u.reached flat j mine in
-          subst (λ (w : FlatUnit). Member i w.reached) e.1
-          (flat_closed us all u.statements u.reached flat j mine i (subst (Member i) (brought_kept us (u ∷ []) j there) n)) ]
+      elim (place_of us u v k at) [
+        | inl e ↦
+            let below : j < k = all.before k v e j m in
+            let inside : k < length us = slice_get_within us k v e in
+            all.closed k v e j m i (subst (Member i) (brought_kept us (u ∷ []) j (omega (arith, below, inside))) n)
+        | inr e ↦
+            let mine = subst (λ (w : FlatUnit). Member j w.reached) (sym e.1) m in
+            let there = flat_within us all u.statements u.reached flat j mine in
+            subst (λ (w : FlatUnit). Member i w.reached) e.1
+            (flat_closed us all u.statements u.reached flat j mine i (subst (Member i) (brought_kept us (u ∷ []) j there) n))
+      ]
 
   apart : (j k : ℕ) (v w : FlatUnit) → slice_get (us ++ u ∷ []) j ≡ Some v → slice_get (us ++ u ∷ []) k ≡ Some w → v.name ≡ w.name → j ≡ k
   apart j k v w at also same =
-      elim (place_of us u v j at)
-      [ inl e ↦ elim (place_of us u w k also)
-          [ inl f ↦ all.apart j k v w e f same
-          | inr f ↦ absurd (no_name us u.name new j v e (same ∙ ap (λ (x : FlatUnit). x.name) (sym f.1))) ]
-      | inr e ↦ elim (place_of us u w k also)
-          [ inl f ↦ absurd (no_name us u.name new k w f (sym same ∙ ap (λ (x : FlatUnit). x.name) (sym e.1)))
-          | inr f ↦ e.0 ∙ sym f.0 ] ]
+      elim (place_of us u v j at) [
+        | inl e ↦ elim (place_of us u w k also) [
+          | inl f ↦ all.apart j k v w e f same
+          | inr f ↦ absurd (no_name us u.name new j v e (same ∙ ap (λ (x : FlatUnit). x.name) (sym f.1)))
+        ]
+        | inr e ↦ elim (place_of us u w k also) [
+          | inl f ↦ absurd (no_name us u.name new k w f (sym same ∙ ap (λ (x : FlatUnit). x.name) (sym e.1)))
+          | inr f ↦ e.0 ∙ sym f.0
+        ]
+      ]
 
   pub accepted_more : AreAccepted (us ++ u ∷ [])
   accepted_more = record { before = before; closed = closed; apart = apart }

@@ -90,10 +90,7 @@ fn tell<'u, 's>(
 }
 
 /// Adds statements, each told at its own line, behind those that are there.
-fn add_own<'u, 's>(
-    all: &mut Vec<Stated<'u, 's>>,
-    own: &'u [Lined<'s>],
-) -> Result<(), AllocError>
+fn add_own<'u, 's>(all: &mut Vec<Stated<'u, 's>>, own: &'u [Lined<'s>]) -> Result<(), AllocError>
     ensures { OnOk result (seen_all all.new.items ≡ seen_all all.old.items ++ seen_statements own.now) }
 {
     for statement in own {

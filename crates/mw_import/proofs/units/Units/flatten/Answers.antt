@@ -26,8 +26,8 @@ returns-in_err-unit-clause-fault c =
     let w = subst (λ rest. IsOnTheWay us own all rest there) left c.loop-statement.invariant in
     let m : ImportOf = record { line = s.line; name = c.as_slice-text.result.now } in
     let is : imports_in s.line (shape_of s.form) ≡ m ∷ [] =
-            ap (λ f. imports_in s.line (shape_of f)) c.in-Import.is
-            ∙ ap (λ n. let e : ImportOf = record { line = s.line; name = n } in e ∷ []) (sym c.as_slice-text.ensures) in
+    ap (λ f. imports_in s.line (shape_of f)) c.in-Import.is
+    ∙ ap (λ n. let e : ImportOf = record { line = s.line; name = n } in e ∷ []) (sym c.as_slice-text.ensures) in
     passed_on (IsWrong us own m) (ImportFault us own all) (λ f h. wrong us own all (seen_lined s) rest there w m is f h)
     c.from_residual.result c.in_err-unit.field-0.0 c.from_residual.ensures.1 c.in_err-unit.ensures.fault
 
@@ -46,8 +46,8 @@ loop-statement-preserved c =
       | in-Import+in_ok-unit+in_ok-bring b ↦
           let m : ImportOf = record { line = s.line; name = b.as_slice-text.result.now } in
           let is : imports_in s.line (shape_of s.form) ≡ m ∷ [] =
-                  ap (λ f. imports_in s.line (shape_of f)) b.in-Import.is
-                  ∙ ap (λ n. let e : ImportOf = record { line = s.line; name = n } in e ∷ []) (sym b.as_slice-text.ensures) in
+          ap (λ f. imports_in s.line (shape_of f)) b.in-Import.is
+          ∙ ap (λ n. let e : ImportOf = record { line = s.line; name = n } in e ∷ []) (sym b.as_slice-text.ensures) in
           subst (λ ks. IsOnTheWay us own all rest ks) (sym (ap (λ t. t.keys) b.there-is))
           (led us own all (seen_lined s) rest there w m is b.in_ok-unit.unit b.bring.new.there.keys b.in_ok-unit.ensures.number b.in_ok-bring.ensures.brought b.in_ok-bring.ensures.closed)
       | in_default b ↦
@@ -56,4 +56,11 @@ loop-statement-preserved c =
     ]
 
 pub returns-clause-flat : goal.returns-clause-flat
-returns-clause-flat c = ?
+returns-clause-flat c =
+    let us = c.args.self.now in
+    let own = c.args.name.now in
+    let all = seen_statements c.args.statements.now in
+    let there = c.loop-statement.there.keys in
+    let end = ap seen_statements (drop_all c.loop-statement.statement-index c.args.statements.now c.loop-statement-test.false) in
+    subst (IsFlat us all) (sym (c.in_ok-reached.ensures.items_if_clones_equal (λ x y e. e) ∙ c.as_slice.ensures.keys))
+    (at_end us own all there (subst (λ rest. IsOnTheWay us own all rest there) end c.loop-statement.invariant))
