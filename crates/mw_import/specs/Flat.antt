@@ -1,6 +1,6 @@
 -- Flattening: the modules that imports reach, each once, in order. (Maude Manual, chapter 6, "Module importation"; that imports come first, depth first in the
 -- order of their lines, is this project's own.)
-use Rattle.std.specs.Prelude.{◌≡◌, ◌≢◌, ◌<◌, ℕ, Bool, ◌||◌, List, [], ◌∷◌, ◌++◌, map, flat_map, length, position, option_map, bytes_eq, nat_eq, slice_get, Option, Some, None, if◌then◌else◌}
+use Rattle.std.specs.Prelude.{◌≡◌, ◌≢◌, ◌<◌, ℕ, Bool, false, ◌||◌, List, [], ◌∷◌, ◌++◌, map, flat_map, length, position, option_map, bytes_eq, nat_eq, slice_get, Option, Some, None, if◌then◌else◌}
 use Rattle.mw_logic.specs.Signature.{Member}
 use Rattle.mw_lex.specs.declared.token.Token.{Token}
 use Rattle.mw_module.specs.declared.faults.Fault.{Fault}

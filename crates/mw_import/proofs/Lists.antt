@@ -1,0 +1,73 @@
+-- Membership in lists of units.
+use Rattle.std.proofs.Common.{◌≡◌, ◌⊎◌, ◌∙◌, ℕ, ◌<◌, Bool, true, false, ◌||◌, nat_eq, List, [], ◌∷◌, ◌++◌, map, flat_map, length, Option, None, Some, refl, sym, ap, inl, inr, subst, true≢false}
+use Rattle.std.specs.List.{list_any}
+use Rattle.std.proofs.lemmas.Bool.{eqb-true, eq-eqb}
+use Rattle.mw_logic.specs.Signature.{Member}
+use Rattle.mw_import.specs.Flat.{is_among}
+
+pub member-left : {X : Type 0} (x : X) (xs ys : List X) → Member x xs → Member x (xs ++ ys)
+member-left x [] ys m = absurd m
+member-left x (y ∷ xs) ys (inl e) = inl e
+member-left x (y ∷ xs) ys (inr m) = inr (member-left x xs ys m)
+
+pub member-right : {X : Type 0} (x : X) (xs ys : List X) → Member x ys → Member x (xs ++ ys)
+member-right x [] ys m = m
+member-right x (y ∷ xs) ys m = inr (member-right x xs ys m)
+
+pub member-append : {X : Type 0} (x : X) (xs ys : List X) → Member x (xs ++ ys) → Member x xs ⊎ Member x ys
+member-append x [] ys m = inr m
+member-append x (y ∷ xs) ys (inl e) = inl (inl e)
+member-append x (y ∷ xs) ys (inr m) = elim (member-append x xs ys m) [ inl k ↦ inl (inr k) | inr k ↦ inr k ]
+
+-- what stands in the list of one of them stands in all their lists
+pub member-flat_map : {X Y : Type 0} (f : X → List Y) (y : Y) (x : X) (xs : List X) → Member x xs → Member y (f x) → Member y (flat_map f xs)
+member-flat_map f y x [] m n = absurd m
+member-flat_map f y x (z ∷ xs) (inl e) n = member-left y (f z) (flat_map f xs) (subst (λ x. Member y (f x)) (sym e) n)
+member-flat_map f y x (z ∷ xs) (inr m) n = member-right y (f z) (flat_map f xs) (member-flat_map f y x xs m n)
+
+-- and what stands in all their lists stands in the list of one of them
+pub flat_map-member : {X Y : Type 0} (f : X → List Y) (y : Y) (xs : List X) → Member y (flat_map f xs) → (x : X) × Member x xs × Member y (f x)
+flat_map-member f y [] m = absurd m
+flat_map-member f y (z ∷ xs) m =
+    elim (member-append y (f z) (flat_map f xs) m) [ inl n ↦ (z, inl refl, n) | inr n ↦ let k = flat_map-member f y xs n in (k.0, inr k.1, k.2) ]
+
+pub member-map : {X Y : Type 0} (f : X → Y) (x : X) (xs : List X) → Member x xs → Member (f x) (map f xs)
+member-map f x [] m = absurd m
+member-map f x (z ∷ xs) (inl e) = inl (ap f e)
+member-map f x (z ∷ xs) (inr m) = inr (member-map f x xs m)
+
+pub map-member : {X Y : Type 0} (f : X → Y) (y : Y) (xs : List X) → Member y (map f xs) → (x : X) × Member x xs × (f x ≡ y)
+map-member f y [] m = absurd m
+map-member f y (z ∷ xs) (inl e) = (z, inl refl, e)
+map-member f y (z ∷ xs) (inr m) = let k = map-member f y xs m in (k.0, inr k.1, k.2)
+
+-- a test holds or it doesn't
+pub by_test : {Y : Type 0} (b : Bool) → (b ≡ true → Y) → (b ≡ false → Y) → Y
+by_test true t f = t refl
+by_test false t f = f refl
+
+-- the test among a list is std's
+pub among_any : (k : ℕ) (js : List ℕ) → list_any (nat_eq k) js ≡ is_among k js
+among_any k [] = refl
+among_any k (j ∷ js) = ap (λ b. nat_eq k j || b) (among_any k js)
+
+pub among_member : (k : ℕ) (js : List ℕ) → is_among k js ≡ true → Member k js
+among_member k [] h = absurd (true≢false (sym h))
+among_member k (j ∷ js) h =
+    by_test (nat_eq k j) (λ e. inl (sym (eqb-true k j e))) (λ e. inr (among_member k js (ap (λ b. b || is_among k js) (sym e) ∙ h)))
+
+pub member_among : (k : ℕ) (js : List ℕ) → Member k js → is_among k js ≡ true
+member_among k [] m = absurd m
+member_among k (j ∷ js) (inl e) = ap (λ b. b || is_among k js) (eq-eqb k j (sym e))
+member_among k (j ∷ js) (inr m) = by_test (nat_eq k j) (λ e. ap (λ b. b || is_among k js) e) (λ e. ap (λ b. b || is_among k js) e ∙ member_among k js m)
+
+-- with one more at the end, or at the front
+pub among-push : (j k : ℕ) (ks : List ℕ) → is_among j (ks ++ k ∷ []) ≡ (nat_eq j k || is_among j ks)
+among-push j k [] = refl
+among-push j k (i ∷ ks) = of (nat_eq j i) (nat_eq j k) (among-push j k ks)
+  where
+    of : (a b : Bool) → is_among j (ks ++ k ∷ []) ≡ (b || is_among j ks) → (a || is_among j (ks ++ k ∷ [])) ≡ (b || (a || is_among j ks))
+    of true true h = refl
+    of true false h = refl
+    of false true h = h
+    of false false h = h
