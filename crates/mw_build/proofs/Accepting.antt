@@ -1,28 +1,83 @@
 -- A module that was built, from what its unit declares.
-use Rattle.std.proofs.Common.{◌≡◌, ℕ, List, refl, sym, subst}
+use Rattle.std.proofs.Common.{◌≡◌, ℕ, zero, suc, List, [], ◌∷◌, take, drop, All, slice_get, Some, inl, inr, arith, refl, sym, subst}
+use Rattle.std.proofs.lemmas.List.{take-append-drop}
+use Rattle.std.proofs.lemmas.List.Elements.{All-nil, All-cons}
+use Rattle.std.proofs.lemmas.Option.{slice_get_within}
 use Rattle.mw_logic.specs.Term.{Variable}
-use Rattle.mw_logic.specs.Signature.{Signature}
+use Rattle.mw_logic.specs.Signature.{Signature, Member}
+use Rattle.mw_logic.specs.Preregular.{IsSortOf}
 use Rattle.mw_logic.specs.Module.{Statement}
 use Rattle.mw_sorting.specs.PreregularModulo.{IsPreregularModulo}
 use Rattle.mw_grammar.specs.declared.grammar.Grammar.{Grammar}
 use Rattle.mw_grammar.specs.Grammars.{IsGrammarOf}
-use Rattle.mw_module.specs.Units.{SeenUnit}
+use Rattle.mw_module.specs.declared.faults.Fault.{Fault}
 use Rattle.mw_declare.specs.declared.declarations.Declarations.{Declarations}
-use Rattle.mw_declare.specs.Declarations.{Declares}
-use Rattle.mw_build.specs.Sides.{equations_of}
-use Rattle.mw_build.specs.Equations.{AreEquations}
-use Rattle.mw_build.specs.Modules.{Accepted, IsAccepted}
+use Rattle.mw_build.specs.Sides.{Sides}
+use Rattle.mw_build.specs.Imported.{Accepted, Origin, IsUnconditional}
+use Rattle.mw_build.specs.Modules.{IsDeclaredModule, StatementsFault, by_imported, by_equations, AreAll, NotAll, imported_fault, equation_fault}
+use Rattle.mw_build.proofs.Pairwise.{there, either}
+use Rattle.mw_build.proofs.Sides.{CanStand, read_stands, unconditional_statement}
+use Rattle.mw_build.proofs.Imported.{imported_stands}
 
 -- the grammar of one signature is that of the other
 pub grammar_held : (S T : Signature) (xs ys : List Variable) (g h : Grammar) → S ≡ T → xs ≡ ys → g ≡ h → IsGrammarOf S xs g → IsGrammarOf T ys h
 grammar_held S T xs ys g h s v e k = subst (IsGrammarOf T ys) e (subst (λ zs. IsGrammarOf T zs g) v (subst (λ Z. IsGrammarOf Z xs g) s k))
 
-pub accepted_by : (u : SeenUnit) (name : List ℕ) (d : Declarations) → Declares u.statements d → IsPreregularModulo d.signature → (sts : List Statement)
-    → AreEquations d.signature d.variables (equations_of u.statements) sts → (S : Signature) (vs : List Variable) → S ≡ d.signature → vs ≡ d.variables → (a : Accepted)
-    → a ≡ record { name = name; «module» = record { signature = S; statements = sts }; variables = vs } → IsAccepted u name a
-accepted_by u name d declared preregular sts equations S vs s v a is = subst (IsAccepted u name) (sym is) (record {
-  declarations = d;
-  declared = declared;
+-- a module that was built of what is declared
+pub declared_by : (name : List ℕ) (d : Declarations) → IsPreregularModulo d.signature → (origins : List Origin) (equations : List Sides) (count : ℕ) (sts : List Statement)
+    → AreAll d.signature d.variables origins equations count sts → (S : Signature) (vs : List Variable) → S ≡ d.signature → vs ≡ d.variables → (a : Accepted)
+    → a ≡ record { name = name; «module» = record { signature = S; statements = sts }; variables = vs; own = drop count sts } → IsDeclaredModule name d origins equations a
+declared_by name d preregular origins equations count sts all S vs s v a is = subst (IsDeclaredModule name d origins equations) (sym is) (record {
   preregular = preregular;
-  holds = record { named = refl; signature = s; variables = v; equations_are = equations };
+  named = refl;
+  signature = s;
+  variables = v;
+  imported = take count sts;
+  imported_are = all.imported_are;
+  equations_are = all.equations_are;
+  statements = sym (take-append-drop count sts);
 })
+
+-- of signatures that are one
+pub all_held : (S T : Signature) (vs : List Variable) (origins : List Origin) (equations : List Sides) (count : ℕ) (sts : List Statement) → S ≡ T
+    → AreAll S vs origins equations count sts → AreAll T vs origins equations count sts
+all_held S T vs origins equations count sts e all = subst (λ X. AreAll X vs origins equations count sts) e all
+
+-- a fault of statements
+pub not_all : (line : ℕ) (d : Declarations) (origins : List Origin) (equations : List Sides) (r : Fault) → IsPreregularModulo d.signature
+    → NotAll d.signature d.variables line origins equations r → StatementsFault line d origins equations r
+not_all line d origins equations r preregular (imported_fault f) = by_imported preregular f
+not_all line d origins equations r preregular (equation_fault imported all f) = by_equations imported preregular all f
+
+module _ (sig : Signature) (ok : IsPreregularModulo sig) (variables : List Variable) (sorted : (x : Variable) → Member x variables → IsSortOf sig x.sort)
+    (origins : List Origin) (equations : List Sides) (count : ℕ) (sts : List Statement) (all : AreAll sig variables origins equations count sts) where
+  -- own statements have no conditions
+  pub own_plain : All IsUnconditional (drop count sts)
+  own_plain = at_places IsUnconditional (drop count sts) (λ i st is.
+      let low = slice_get_within (drop count sts) i st is in
+      let (e, at) = there equations i (omega (arith, low, all.equations_are.count)) in
+      let of = all.equations_are.each i e st at is in
+      unconditional_statement sig of.left of.right e.executable st of.sides)
+    where
+      at_places : (P : Statement → Type 0) (xs : List Statement) → ((i : ℕ) (x : Statement) → slice_get xs i ≡ Some x → P x) → All P xs
+      at_places P [] h = All-nil P
+      at_places P (x ∷ xs) h = All-cons P x xs (h zero x refl) (at_places P xs (λ i y e. h (suc i) y e))
+
+  -- and all can stand in a context
+  front_stands : (i : ℕ) (st : Statement) → slice_get (take count sts) i ≡ Some st → CanStand sig st
+  front_stands i st is =
+      let low = slice_get_within (take count sts) i st is in
+      let (e, at) = there origins i (omega (arith, low, all.imported_are.count)) in
+      imported_stands sig e st (all.imported_are.each i e st at is)
+
+  own_stands : (i : ℕ) (st : Statement) → slice_get (drop count sts) i ≡ Some st → CanStand sig st
+  own_stands i st is =
+      let low = slice_get_within (drop count sts) i st is in
+      let (e, at) = there equations i (omega (arith, low, all.equations_are.count)) in
+      read_stands sig ok variables sorted e st (all.equations_are.each i e st at is)
+
+  pub all_stand : (i : ℕ) (st : Statement) → slice_get sts i ≡ Some st → CanStand sig st
+  all_stand i st is = elim (either (take count sts) (drop count sts) i st (subst (λ xs. slice_get xs i ≡ Some st) (sym (take-append-drop count sts)) is)) [
+      | inl h ↦ front_stands i st h
+      | inr h ↦ own_stands h.0 st h.1
+    ]

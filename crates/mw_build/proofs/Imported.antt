@@ -47,21 +47,23 @@ module _ (from sig : Signature) (part : IsPart from sig) (numbers : HasItsSorts 
     sorts = λ x o. elim (or_cases (occurs x st.left) (occurs x st.right) o) [ inl h ↦ sorts-carried from sig left x h | inr h ↦ sorts-carried from sig right x h ];
   }
 
-  pub imported_stands : (e st : Statement) → AreSides from e → IsImported sig (record { signature = from; statement = e }) st → CanStand sig st
-  imported_stands e st sides is = record {
-    sides = sides_carried e st sides is.carried.left is.carried.right;
-    plain = plain_statement sig st.left st.right e.executable st is.holds;
-  }
+pub imported_stands : (sig : Signature) (e : Origin) (st : Statement) → IsImported sig e st → CanStand sig st
+imported_stands sig e st is = record { sides = is.sides; plain = plain_statement sig st.left st.right e.statement.executable st is.holds }
 
 -- no fragments stand for none
 none_carried : (from sig : Signature) (C D : List Fragment) → C ≡ [] → D ≡ [] → AreCarriedFragments from sig C D
 none_carried from sig C D a b = subst (λ X. AreCarriedFragments from sig X D) (sym a) (subst (λ X. AreCarriedFragments from sig [] X) (sym b) none)
 
-module _ (from sig : Signature) (e : Statement) (plain : IsUnconditional e) (left right : RawTerm) (first : IsCarried from sig e.left left) (second : IsCarried from sig e.right right) where
+module _ (from sig : Signature) (part : IsPart from sig) (numbers : HasItsSorts from) (ok : IsAccepted sig) (e : Statement) (sides : AreSides from e) (plain : IsUnconditional e)
+    (left right : RawTerm) (first : IsCarried from sig e.left left) (second : IsCarried from sig e.right right) where
+  abbrev origin : Origin
+  origin = record { signature = from; statement = e }
+
   -- the statement of these sides stands for the one that they were carried from
-  stands_for : (st : Statement) → IsStatementOf sig left right e.executable st → IsImported sig (record { signature = from; statement = e }) st
+  stands_for : (st : Statement) → IsStatementOf sig left right e.executable st → IsImported sig origin st
   stands_for st is =
-      let of : IsImported sig (record { signature = from; statement = e }) (statement_of left right e.executable) = record {
+      let made = statement_of left right e.executable in
+      let of : IsImported sig origin made = record {
         carried = record {
           left = first;
           right = second;
@@ -71,12 +73,13 @@ module _ (from sig : Signature) (e : Statement) (plain : IsUnconditional e) (lef
           owise = sym plain.ordinary;
         };
         holds = subst (IsStatementOf sig left right e.executable) is.statement is;
+        sides = sides_carried from sig part numbers ok e made sides first second;
       } in
-      subst (IsImported sig (record { signature = from; statement = e })) (sym is.statement) of
+      subst (IsImported sig origin) (sym is.statement) of
 
   pub of_carried : {E : Type 0} (r : Result (Result Statement FaultKind) E)
       → IfOk r (λ s. MatchResult s (IsStatementOf sig left right e.executable) (λ kind. SidesFault sig left right e.executable kind))
-      → IfOk r (λ s. MatchResult s (IsImported sig (record { signature = from; statement = e })) (λ kind. ImportedFault sig (record { signature = from; statement = e }) kind))
+      → IfOk r (λ s. MatchResult s (IsImported sig origin) (λ kind. ImportedFault sig origin kind))
   of_carried (Err x) h = h
   of_carried (Ok (Ok st)) h = stands_for st h
   of_carried (Ok (Err kind)) h = record { left = left; right = right; carried_left = first; carried_right = second; fault = h }

@@ -5,7 +5,7 @@ use Rattle.std.proofs.lemmas.Option.{none-some, same_Some, slice_get_within}
 use Rattle.std.proofs.Math.Seq.{split_at}
 use Rattle.mw_build.specs.Pairwise.{AreRelated, IsFirstWrong}
 
-get_pushed : {X : Type 0} (xs : List X) (y : X) (i : ℕ) (z : X) → slice_get (xs ++ y ∷ []) i ≡ Some z → (slice_get xs i ≡ Some z) ⊎ ((i ≡ length xs) × (y ≡ z))
+pub get_pushed : {X : Type 0} (xs : List X) (y : X) (i : ℕ) (z : X) → slice_get (xs ++ y ∷ []) i ≡ Some z → (slice_get xs i ≡ Some z) ⊎ ((i ≡ length xs) × (y ≡ z))
 get_pushed [] y zero z e = inr (refl, same_Some y z e)
 get_pushed [] y (suc i) z e = absurd (none-some z e)
 get_pushed (x ∷ xs) y zero z e = inl e
@@ -26,6 +26,12 @@ front_get : {X : Type 0} (xs ys : List X) (i : ℕ) (x : X) → i < length xs �
 front_get [] ys i x h e = absurd (omega (arith, h))
 front_get (y ∷ xs) ys zero x h e = e
 front_get (y ∷ xs) ys (suc i) x h e = front_get xs ys i x (omega (arith, h)) e
+
+-- what stands in two lists joined stands in one of them
+pub either : {X : Type 0} (xs ys : List X) (i : ℕ) (x : X) → slice_get (xs ++ ys) i ≡ Some x → (slice_get xs i ≡ Some x) ⊎ ((j : ℕ) × (slice_get ys j ≡ Some x))
+either [] ys i x e = inr (i, e)
+either (y ∷ xs) ys zero x e = inl e
+either (y ∷ xs) ys (suc i) x e = either xs ys i x e
 
 get_at : {X : Type 0} (xs ys : List X) (x : X) → slice_get (xs ++ x ∷ ys) (length xs) ≡ Some x
 get_at [] ys x = refl

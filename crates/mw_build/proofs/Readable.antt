@@ -12,7 +12,8 @@ use Rattle.mw_declare.specs.Operators.{operator_of, operators_of, signature_of}
 use Rattle.mw_logic.proofs.FreeSignature.{IsBareSignature, none_built, is_bare-sound}
 use Rattle.mw_declare.specs.Operators.{Declared}
 use Rattle.mw_declare.specs.declared.declarations.Declarations.{Declarations}
-use Rattle.mw_declare.specs.Declarations.{unknown_in_all, Declares}
+use Rattle.mw_declare.specs.Declarations.{unknown_in_all}
+use Rattle.mw_build.specs.Modules.{IsOfKnown}
 use Rattle.mw_declare.proofs.Accepting.{accepted_declared}
 use Rattle.mw_declare.proofs.Known.{IsDeclared, declared_operators}
 use Rattle.mw_declare.proofs.Proper.{all_at, declared_sorted}
@@ -37,16 +38,17 @@ not_built all (o ∷ os) = not_built all os
 bare_signature : (ss : List SeenLined) → IsBareSignature (signature_of ss)
 bare_signature ss = is_bare-sound (signature_of ss) (not_built (operators_of ss) (operators_of ss))
 
-module _ (ss : List SeenLined) (d : Declarations) (p : Declares ss d) where
+module _ (d : Declarations) (k : IsOfKnown d) where
   pub bare_declared : IsBareSignature d.signature
-  bare_declared = subst (λ (d : Declarations). IsBareSignature d.signature) (sym p.declared) (bare_signature ss)
+  bare_declared = subst (λ (d : Declarations). IsBareSignature d.signature) (sym k.declared.declared) (bare_signature k.statements)
 
-  pub readable_declared : AreKnown ss → IsReadable d.signature
-  readable_declared formed = subst (λ (d : Declarations). IsReadable d.signature) (sym p.declared) (readable_signature ss formed p.known (subst (λ (d : Declarations). IsAccepted d.signature) p.declared (accepted_declared ss d p)))
+  pub readable_declared : IsReadable d.signature
+  readable_declared = subst (λ (d : Declarations). IsReadable d.signature) (sym k.declared.declared)
+      (readable_signature k.statements k.known k.declared.known (subst (λ (d : Declarations). IsAccepted d.signature) k.declared.declared (accepted_declared k.typing k.statements d k.declared)))
 
   -- the sorts of variables are there
   pub sorted_variables : (x : Variable) → Member x d.variables → IsSortOf d.signature x.sort
-  sorted_variables = member-all (λ (x : Variable). IsSortOf d.signature x.sort) d.variables (declared_sorted ss d p)
+  sorted_variables = member-all (λ (x : Variable). IsSortOf d.signature x.sort) d.variables (declared_sorted k.own k.statements k.within k.typing k.typed d k.declared)
 
   pub variables_declared : AreVariables d.signature d.variables
   variables_declared x m = (sorted_variables x m).1

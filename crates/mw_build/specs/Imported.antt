@@ -5,6 +5,7 @@ use Rattle.mw_logic.specs.Signature.{Signature, Member}
 use Rattle.mw_logic.specs.Module.{Module, Statement}
 use Rattle.mw_module.specs.declared.faults.FaultKind.{FaultKind}
 use Rattle.mw_module.specs.declared.faults.Fault.{Fault}
+use Rattle.mw_least.specs.Workable.{AreSides}
 use Rattle.mw_carry.specs.Carried.{IsCarried, IsCarriedStatement, IsPart}
 use Rattle.mw_build.specs.Pairwise.{AreRelated, IsFirstWrong}
 use Rattle.mw_build.specs.Equations.{IsStatementOf, SidesFault}
@@ -41,6 +42,7 @@ module _ (sig : Signature) where
   pub record IsImported (e : Origin) (st : Statement) : Type 0 where
     pub carried : IsCarriedStatement e.signature sig e.statement st
     pub holds : IsStatementOf sig st.left st.right e.statement.executable st
+    pub sides : AreSides sig st
 
   -- what is wrong here with a statement that was read elsewhere
   pub record ImportedFault (e : Origin) (kind : FaultKind) : Type 0 where

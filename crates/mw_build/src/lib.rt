@@ -33,8 +33,8 @@
 //! is meant. Neither: time.
 #![tactic(auto)]
 
+mod carrying;
 mod equations;
-mod imported;
 mod laws;
 mod modules;
 mod signature;

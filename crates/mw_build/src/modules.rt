@@ -24,8 +24,8 @@ ghost use Rattle.mw_build.specs.Equations.{AreEquations, FirstFault};
 ghost use Rattle.mw_build.specs.Imported.{IsUnconditional, ArePartsOf, origins_of};
 ghost use Rattle.mw_build.specs.Modules.{IsDeclaredModule, StatementsFault, IsAccepted, IsRefused, AreLoaded, AreAll, NotAll, IsOfKnown, flattened};
 
+use crate::carrying::imported;
 use crate::equations::{equations, statements_of};
-use crate::imported::imported;
 use crate::signature::tables;
 use mw_canon::Facts;
 use mw_declare::{Declarations, Typing, all_typed, declare};

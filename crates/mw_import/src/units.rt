@@ -45,7 +45,7 @@ struct Kept<'s> {
 /// The units whose modules were accepted, in order, by their modules' names.
 #[derive(Drop)]
 pub struct Units<'s> {
-    kept: Box<IndexMap<Vec<u8>, Kept<'s>>>,
+    kept: IndexMap<Vec<u8>, Kept<'s>>,
 }
 
 impl<'s> Model for Units<'s> {
@@ -56,9 +56,9 @@ impl<'s> Model for Units<'s> {
 
     ghost use Rattle.mw_import.specs.Seen.{flat_units};
 
-    ghost view = { λ m. flat_units m.kept.value.entries };
+    ghost view = { λ m. flat_units m.kept.entries };
 
-    ghost invariant = { λ m. AreAccepted (flat_units m.kept.value.entries) };
+    ghost invariant = { λ m. AreAccepted (flat_units m.kept.entries) };
 }
 
 /// Adds units behind those that are there, each unless it is among them.
@@ -104,11 +104,12 @@ fn add_own<'u, 's>(all: &mut Vec<Stated<'u, 's>>, own: &'u [Lined<'s>]) -> Resul
 
 impl<'s> Units<'s> {
     /// No unit.
-    pub fn new(alloc: Global) -> Result<Units<'s>, AllocError>
-        ensures { IfOk result (λ units. units ≡ []) }
+    pub fn new(alloc: Global) -> Units<'s>
+        ensures { result ≡ [] }
     {
-        let kept = Box::new(alloc, IndexMap::new(alloc))?;
-        Ok(Units { kept })
+        Units {
+            kept: IndexMap::new(alloc),
+        }
     }
 
     /// What holds of accepted units.

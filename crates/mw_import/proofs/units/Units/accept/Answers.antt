@@ -10,9 +10,9 @@ use Rattle.mw_import.proofs.units.Units.accept.Goals as goal
 
 pub invariant_of-self-2 : goal.invariant_of-self-2
 invariant_of-self-2 c =
-    let table = c.deref_mut.result.now in
+    let table = c.self.inside.kept in
     let us = flat_units table.entries in
-    let old : us ≡ c.args.self.now = ap (λ t. flat_units t.entries) c.deref_mut.ensures.value ∙ c.self.view_is in
+    let old : us ≡ c.args.self.now = c.self.view_is in
     let key : c.in_ok-name.name.items ≡ c.args.name.now = c.in_ok-name.ensures.items_if_clones_equal (λ x y e. e) in
     let new : number_named us c.in_ok-name.name.items ≡ None = ap (number_named us) key ∙ ap (λ us. number_named us c.args.name.now) old ∙ c.requires.new in
     let none = lookup_held c.in_ok-name.name.items table.entries (none_named us c.in_ok-name.name.items new) in
@@ -20,14 +20,14 @@ invariant_of-self-2 c =
     let u = flat_unit (c.in_ok-name.name, kept) in
     let more = ap flat_units (c.in_ok-insert.ensures.entries ∙ insert_entry-new _ table c.in_ok-name.name kept none) ∙ map-append flat_unit table.entries ((c.in_ok-name.name, kept) ∷ []) in
     subst AreAccepted (sym more)
-    (accepted_more us (subst AreAccepted (ap (λ t. flat_units t.entries) (sym c.deref_mut.ensures.value)) c.self.invariant) u new
+    (accepted_more us c.self.invariant u new
     (subst (λ us. IsFlat us u.statements u.reached) (sym old) c.requires.flat))
 
 pub returns-clause-accepted : goal.returns-clause-accepted
 returns-clause-accepted c =
-    let table = c.deref_mut.result.now in
+    let table = c.self.inside.kept in
     let us = flat_units table.entries in
-    let old : us ≡ c.args.self.now = ap (λ t. flat_units t.entries) c.deref_mut.ensures.value ∙ c.self.view_is in
+    let old : us ≡ c.args.self.now = c.self.view_is in
     let key : c.in_ok-name.name.items ≡ c.args.name.now = c.in_ok-name.ensures.items_if_clones_equal (λ x y e. e) in
     let new : number_named us c.in_ok-name.name.items ≡ None = ap (number_named us) key ∙ ap (λ us. number_named us c.args.name.now) old ∙ c.requires.new in
     let none = lookup_held c.in_ok-name.name.items table.entries (none_named us c.in_ok-name.name.items new) in

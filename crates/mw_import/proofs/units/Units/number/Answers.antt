@@ -6,5 +6,5 @@ use Rattle.mw_import.proofs.units.Units.number.Goals as goal
 
 pub returns : goal.returns
 returns c =
-    c.get_index_of.ensures.index ∙ number_held c.args.name.now c.deref.result.now.entries
-    ∙ ap (λ us. number_named us c.args.name.now) (ap (λ t. flat_units t.entries) c.deref.ensures ∙ c.self.view_is)
+    c.get_index_of.ensures.index ∙ number_held c.args.name.now c.self.inside.kept.entries
+    ∙ ap (λ us. number_named us c.args.name.now) c.self.view_is

@@ -8,7 +8,7 @@ use Rattle.mw_import.proofs.units.Units.tell_unit.Goals as goal
 
 pub returns-in-None : goal.returns-in-None
 returns-in-None c =
-    let es = c.deref.result.now.entries in
+    let es = c.self.inside.kept.entries in
     let all = seen_all c.args.all.now.items in
     sym (append-nil all) ∙ ap (λ o. all ++ map (told_at c.args.line) (statements_at (option_map flat_unit o))) c.in-None.ensures.entry
-    ∙ ap (λ o. all ++ map (told_at c.args.line) (statements_at o)) (at_held c.args.self.now es (ap (λ t. flat_units t.entries) c.deref.ensures ∙ c.self.view_is) c.args.unit)
+    ∙ ap (λ o. all ++ map (told_at c.args.line) (statements_at o)) (at_held c.args.self.now es c.self.view_is c.args.unit)

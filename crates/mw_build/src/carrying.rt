@@ -45,21 +45,21 @@ fn add_module(
     alloc: Global,
     target: &Target<'_>,
     facts: &Facts,
-    module: &Module,
+    other: &Module,
     line: u32,
     found: &mut Vec<Statement>,
 ) -> Result<(), UnitError>
     requires target { target.now ≡ facts.now }
-    requires part { IsPart module.now.module.signature facts.now }
+    requires part { IsPart other.now.module.signature facts.now }
     ensures added { (es : List Origin) → AreImported facts.now es found.old.items
-        → OnOk result (AreImported facts.now (es ++ origins_in (Some module.now)) found.new.items) }
+        → OnOk result (AreImported facts.now (es ++ origins_in (Some other.now)) found.new.items) }
     ensures fault { (es more : List Origin) → AreImported facts.now es found.old.items
-        → IfErr result (HasCause (FirstImportedFault facts.now line (es ++ origins_in (Some module.now) ++ more))) }
+        → IfErr result (HasCause (FirstImportedFault facts.now line (es ++ origins_in (Some other.now) ++ more))) }
 {
-    let context = module.context();
+    let context = other.context();
     context.shows();
     let mut carrier = Carrier::new(alloc, context.signature(), target);
-    for origin in module.own() {
+    for origin in other.own() {
         match statement(alloc, &mut carrier, facts, origin)? {
             Ok(carried) => found.push(carried)?,
             Err(kind) => return Err(UnitError::Fault(Fault { line, kind })),
@@ -90,8 +90,7 @@ pub fn imported(
     }
     let target = Target::of(alloc, facts.signature(), order)?;
     for number in reached {
-        let module = &modules[*number];
-        add_module(alloc, &target, facts, module, line, &mut found)?;
+        add_module(alloc, &target, facts, &modules[*number], line, &mut found)?;
     }
     Ok(found)
 }
