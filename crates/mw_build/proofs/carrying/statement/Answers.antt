@@ -10,12 +10,11 @@ use Rattle.mw_build.specs.Equations.{IsStatementOf, SidesFault}
 use Rattle.mw_build.proofs.Imported.{of_carried}
 use Rattle.mw_build.proofs.carrying.statement.Goals as goal
 
-module _ (c : goal.In_ok-left) where
+module _ (c : goal.In_ok-right) where
   left_carried : IsCarried c.args.carrier.now.from c.args.facts.now c.args.statement.now.left (raw_term c.in_ok-left.left)
   left_carried = subst (λ (s : Statement). IsCarried c.args.carrier.now.from c.args.facts.now s.left (raw_term c.in_ok-left.left)) c.statement.view_is
       (subst (λ (S : Signature). IsCarried c.args.carrier.now.from S (raw_term c.statement.inside.left) (raw_term c.in_ok-left.left)) c.requires.to c.in_ok-left.ensures.carried)
 
-module _ (c : goal.In_ok-right) where
   right_carried : IsCarried c.args.carrier.now.from c.args.facts.now c.args.statement.now.right (raw_term c.in_ok-right.right)
   right_carried =
       let right = raw_term c.in_ok-right.right in
