@@ -1,5 +1,5 @@
 -- A profile is one: an operator has no other, and two that are tested alike are equal.
-use Rattle.std.proofs.Common.{◌≡◌, ◌∙◌, ◌≤◌, ℕ, List, [], ◌∷◌, Bool, true, false, ◌&&◌, nat_eq, bytes_eq, refl, sym, ap, subst, arith}
+use Rattle.std.proofs.Common.{◌≡◌, ◌∙◌, ◌≤◌, ℕ, List, [], ◌∷◌, Bool, true, false, ◌&&◌, nat_eq, bytes_eq, Option, Some, None, Result, IfOk, refl, sym, ap, subst, arith}
 use Rattle.std.specs.Prelude.{⊤}
 use Rattle.std.proofs.lemmas.Bool.{eqb-true, eq-eqb}
 use Rattle.std.proofs.lemmas.Slice.Eq.{bytes_eq-Decides}
@@ -8,7 +8,8 @@ use Rattle.mw_logic.proofs.KindLaws.{SameKind-trans, SameKind-sym}
 use Rattle.mw_poset.specs.Order.{IsKindOf}
 use Rattle.mw_carry.specs.Carried.{IsSameKind, AreSameKinds, IsSameOperator}
 use Rattle.mw_carry.specs.Profiles.{Pairwise, Profile, HasProfile, IsProfiled, IsLeastFor, IsProfileFor}
-use Rattle.mw_carry.specs.Tables.{same_profile}
+use Rattle.std.specs.Option.{ok_or}
+use Rattle.mw_carry.specs.Tables.{IsFound, same_profile}
 
 -- a signature with these pairs alone
 abbrev with_pairs : List (ℕ × ℕ) → Signature
@@ -82,3 +83,9 @@ module _ (sig to : Signature) where
     args = all_same o.args p.args b.operator.args a.args b.profile.args;
     result = one_same o.result p.result b.operator.result a.result b.profile.result;
   }
+
+  -- and so does one that is found
+  pub found_stands : {E : Type 0} (f : ℕ) (o : Operator) (p : Profile) → IsOperator sig f o → IsProfileFor sig to o p → (n : ℕ) (found : Option ℕ) → IsFound n (IsProfiled to p) found
+      → (e : E) (r : Result ℕ E) → r ≡ ok_or found e → IfOk r (IsSameOperator sig to f)
+  found_stands f o p is a n None b e r h = subst (λ r. IfOk r (IsSameOperator sig to f)) (sym h) tt
+  found_stands f o p is a n (Some g) b e r h = subst (λ r. IfOk r (IsSameOperator sig to f)) (sym h) (stands_for f g o p is a b)

@@ -155,11 +155,9 @@ impl<'c> Carrier<'c> {
         ensures same { self.new ≡ self.old }
     {
         let mut carried = Vec::with_capacity(alloc, terms.len())?;
-        let mut rest = terms;
-        while let [term, after @ ..] = rest {
+        for term in terms {
             let one = self.carry(alloc, term)?;
             carried.push(one)?;
-            rest = after;
         }
         Ok(carried)
     }
