@@ -1,15 +1,23 @@
 -- A profile is one: an operator has no other, and two that are tested alike are equal.
-use Rattle.std.proofs.Common.{◌≡◌, ◌∙◌, ◌≤◌, ℕ, List, [], ◌∷◌, Bool, true, false, ◌&&◌, nat_eq, bytes_eq, Option, Some, None, Result, IfOk, refl, sym, ap, subst, arith}
+use Rattle.std.proofs.Common.{◌≡◌, ◌∙◌, ◌≤◌, ℕ, List, [], ◌∷◌, Bool, true, false, ◌&&◌, nat_eq, bytes_eq, Option, Some, None, MatchOption, length, refl, sym, ap, subst, arith}
 use Rattle.std.specs.Prelude.{⊤}
 use Rattle.std.proofs.lemmas.Bool.{eqb-true, eq-eqb}
 use Rattle.std.proofs.lemmas.Slice.Eq.{bytes_eq-Decides}
-use Rattle.mw_logic.specs.Signature.{Signature, Operator, IsOperator, SameKind}
-use Rattle.mw_logic.proofs.KindLaws.{SameKind-trans, SameKind-sym}
+use Rattle.mw_logic.specs.Signature.{Signature, Operator, IsOperator, SameKind, same, up, down, Member}
+use Rattle.mw_logic.specs.Accepted.{IsAccepted}
+use Rattle.mw_logic.proofs.KindLaws.{SameKind-trans, SameKind-sym, SameKind-equal}
 use Rattle.mw_poset.specs.Order.{IsKindOf}
-use Rattle.mw_carry.specs.Carried.{IsSameKind, AreSameKinds, IsSameOperator}
+use Rattle.mw_carry.specs.Carried.{IsPart, IsSameKind, AreSameKinds, IsSameOperator}
 use Rattle.mw_carry.specs.Profiles.{Pairwise, Profile, HasProfile, IsProfiled, IsLeastFor, IsProfileFor}
-use Rattle.std.specs.Option.{ok_or}
 use Rattle.mw_carry.specs.Tables.{IsFound, same_profile}
+use Rattle.mw_carry.proofs.Numbers.{within_at}
+use Rattle.mw_carry.proofs.Kept.{one_operator, one_sort}
+
+-- kinds are told by the pairs alone
+SameKind-pairs : (to s : Signature) → to.pairs ≡ s.pairs → {S T : ℕ} → SameKind to S T → SameKind s S T
+SameKind-pairs to s e same = same
+SameKind-pairs to s e (up {S} {T} m p) = up (subst (λ ps. Member (S, T) ps) e m) (SameKind-pairs to s e p)
+SameKind-pairs to s e (down {S} {T} m p) = down (subst (λ ps. Member (T, S) ps) e m) (SameKind-pairs to s e p)
 
 -- a signature with these pairs alone
 abbrev with_pairs : List (ℕ × ℕ) → Signature
@@ -84,8 +92,42 @@ module _ (sig to : Signature) where
     result = one_same o.result p.result b.operator.result a.result b.profile.result;
   }
 
-  -- and so does one that is found
-  pub found_stands : {E : Type 0} (f : ℕ) (o : Operator) (p : Profile) → IsOperator sig f o → IsProfileFor sig to o p → (n : ℕ) (found : Option ℕ) → IsFound n (IsProfiled to p) found
-      → (e : E) (r : Result ℕ E) → r ≡ ok_or found e → IfOk r (IsSameOperator sig to f)
-  found_stands f o p is a n None b e r h = subst (λ r. IfOk r (IsSameOperator sig to f)) (sym h) tt
-  found_stands f o p is a n (Some g) b e r h = subst (λ r. IfOk r (IsSameOperator sig to f)) (sym h) (stands_for f g o p is a b)
+  -- The profile for an operator is that of one that stands for it, where sorts of one name are one.
+  module _ (ok : IsAccepted to) where
+    least_of : (K M L : ℕ) → IsSameKind sig to K M → IsLeastFor sig to K L → IsKindOf to.pairs M L
+    least_of K M L a b = record {
+      same = λ s e. SameKind-trans (joined s e) (b.kind.same s e);
+      least = λ s e T k. b.kind.least s e T (SameKind-trans (SameKind-sym (joined s e)) k);
+    }
+      where
+        joined : (s : Signature) → s.pairs ≡ to.pairs → SameKind s M b.sort
+        joined s e = SameKind-sym (SameKind-trans (SameKind-equal (one_sort sig to ok K b.sort a.sort b.same a.same)) (SameKind-pairs to s (sym e) a.kind))
+
+    all_least_of : (Ks Ms Ls : List ℕ) → AreSameKinds sig to Ks Ms → Pairwise (IsLeastFor sig to) Ks Ls → Pairwise (IsKindOf to.pairs) Ms Ls
+    all_least_of [] [] [] a b = tt
+    all_least_of [] [] (L ∷ Ls) a b = absurd b
+    all_least_of [] (M ∷ Ms) Ls a b = absurd a
+    all_least_of (K ∷ Ks) [] Ls a b = absurd a
+    all_least_of (K ∷ Ks) (M ∷ Ms) [] a b = absurd b
+    all_least_of (K ∷ Ks) (M ∷ Ms) (L ∷ Ls) a b = (least_of K M L a.0 b.0, all_least_of Ks Ms Ls a.1 b.1)
+
+    profiled : (f g : ℕ) (o : Operator) (p : Profile) → IsOperator sig f o → IsProfileFor sig to o p → IsSameOperator sig to f g → IsProfiled to p g
+    profiled f g o p is a b =
+        let here : o ≡ b.here = one_operator sig f o b.here is b.is_here in
+        record {
+          operator = b.there;
+          is_there = b.is_there;
+          profile = record {
+            spelling = sym b.spelling ∙ ap (λ (o : Operator). o.spelling) (sym here) ∙ a.spelling;
+            args = all_least_of b.here.args b.there.args p.args b.args (subst (λ (o : Operator). Pairwise (IsLeastFor sig to) o.args p.args) here a.args);
+            result = least_of b.here.result b.there.result p.result b.result (subst (λ (o : Operator). IsLeastFor sig to o.result p.result) here a.result);
+          };
+        }
+
+  -- what is found stands for it, and none is found only where some sorts have one name
+  pub found_stands : IsPart sig to → (f : ℕ) (o : Operator) (p : Profile) → IsOperator sig f o → IsProfileFor sig to o p → (found : Option ℕ) → IsFound (length to.operators) (IsProfiled to p) found
+      → MatchOption found (¬ IsAccepted to) (IsSameOperator sig to f)
+  found_stands part f o p is a (Some g) b = stands_for f g o p is a b
+  found_stands part f o p is a None b = λ ok.
+      let (g, stands) = part.operators f o is in
+      b g (within_at to.operators g stands.there stands.is_there).1 (profiled ok f g o p is a stands)

@@ -1,6 +1,7 @@
 // Terms carried from one signature to another.
-ghost use Rattle.std.specs.Prelude.{◌≡◌, ℕ, List, IfOk};
+ghost use Rattle.std.specs.Prelude.{◌≡◌, ℕ, List, IfOk, MatchOption};
 ghost use Rattle.mw_logic.specs.Signature.{Operator as OperatorOf, IsOperator, IsRawTerm, AreRawTerms, Member};
+ghost use Rattle.mw_logic.specs.Accepted.{IsAccepted};
 ghost use Rattle.mw_logic.specs.Preregular.{HasItsSorts, IsSortOf};
 ghost use Rattle.mw_term.specs.Raws.{raw_term, raw_terms};
 ghost use Rattle.mw_carry.specs.Carried.{IsPart, IsSameSort, IsSameOperator, IsCarried, AreCarried};
@@ -75,7 +76,7 @@ impl<'c> Carrier<'c> {
         requires { (K : ℕ) → Member K kinds.now → IsSortOf self.now.from K }
         ensures { IfOk result (λ found. Pairwise (IsLeastFor self.now.from self.now.to) kinds.now found.items) }
     {
-        let mut found = Vec::new(alloc);
+        let mut found = Vec::with_capacity(alloc, kinds.len())?;
         for kind in kinds {
             found.push(self.kind(*kind))?;
         }
@@ -95,21 +96,22 @@ impl<'c> Carrier<'c> {
         })
     }
 
-    /// Looks for an operator that stands for this one. There is one, unless two sorts there have one name, which no
-    /// accepted signature has; that it isn't found counts as want of memory.
-    fn find(&self, alloc: Global, operator: OpId) -> Result<OpId, AllocError>
+    /// Looks for an operator that stands for this one. An accepted signature has one.
+    fn look_for(&self, alloc: Global, operator: OpId) -> Result<Option<OpId>, AllocError>
         requires { (o : OperatorOf) × IsOperator self.now.from operator o }
-        ensures { IfOk result (IsSameOperator self.now.from self.now.to operator) }
+        ensures { IfOk result
+            (λ found. MatchOption found (¬ IsAccepted self.now.to) (IsSameOperator self.now.from self.now.to operator)) }
     {
         let from = self.from;
         let Some(known) = numbered(from.operators.as_slice(), operator) else {
             unreachable!()
         };
         let profile = self.profile(alloc, known)?;
-        self.to.operator(&profile).ok_or(AllocError)
+        Ok(self.to.operator(&profile))
     }
 
-    /// The operator that stands for this one, which is looked for where it wasn't met before.
+    /// The operator that stands for this one, which is looked for where it wasn't met before. That there is none
+    /// counts as want of memory.
     fn operator(&mut self, alloc: Global, operator: OpId) -> Result<OpId, AllocError>
         requires { (o : OperatorOf) × IsOperator self.old.from operator o }
         ensures found { IfOk result (IsSameOperator self.old.from self.old.to operator) }
@@ -118,7 +120,9 @@ impl<'c> Carrier<'c> {
         if let Some(same) = self.met.get(&operator) {
             return Ok(*same);
         }
-        let same = self.find(alloc, operator)?;
+        let Some(same) = self.look_for(alloc, operator)? else {
+            return Err(AllocError);
+        };
         self.met.insert(operator, same)?;
         Ok(same)
     }

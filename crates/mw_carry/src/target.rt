@@ -26,7 +26,7 @@ fn kinds_of(alloc: Global, order: &Poset, sorts: &[SortId]) -> Result<Vec<KindId
     requires { (S : ℕ) → Member S sorts.now → IsSort order.now.sorts S }
     ensures { IfOk result (λ kinds. Pairwise (IsKindOf order.now.pairs) sorts.now kinds.items) }
 {
-    let mut kinds = Vec::new(alloc);
+    let mut kinds = Vec::with_capacity(alloc, sorts.len())?;
     for sort in sorts {
         kinds.push(order.kind_of(*sort))?;
     }
@@ -53,10 +53,9 @@ fn sort_numbers(
 ) -> Result<IndexMap<Vec<u8>, SortId>, AllocError>
     ensures { IfOk result (λ t. FindSorts signature.now (length signature.now.sorts) t.entries) }
 {
-    let names = signature.sorts.as_slice();
     let mut numbers = IndexMap::new(alloc);
-    for index in 0..names.len() {
-        let name = names[index].as_slice().to_vec(alloc)?;
+    for (index, name) in signature.sorts.as_slice().iter().enumerate() {
+        let name = name.as_slice().to_vec(alloc)?;
         numbers.insert(name, number_at(index)?)?;
     }
     Ok(numbers)
@@ -72,10 +71,9 @@ fn operator_numbers(
     requires order { order.now ≡ order_of signature.now }
     ensures { IfOk result (λ t. FindOperators signature.now (length signature.now.operators) t.entries) }
 {
-    let operators = signature.operators.as_slice();
     let mut numbers = IndexMap::new(alloc);
-    for index in 0..operators.len() {
-        let profile = profile_of(alloc, order, &operators[index])?;
+    for (index, operator) in signature.operators.as_slice().iter().enumerate() {
+        let profile = profile_of(alloc, order, operator)?;
         numbers.insert(profile, number_at(index)?)?;
     }
     Ok(numbers)

@@ -8,9 +8,9 @@ pub loop-index-preserved : goal.loop-index-preserved
 loop-index-preserved c =
     let sig = c.args.signature.now in
     let i = c.loop-index.index in
-    let key : c.in_ok-name.name.items ≡ c.index-names-index.result = c.in_ok-name.ensures.items_if_clones_equal (λ x y e. e) ∙ c.as_slice.ensures in
-    let all = c.as_slice-names.ensures ∙ ap (λ (s : Signature). s.sorts) c.signature.view_is in
+    let key : c.in_ok-name.name.items ≡ c.name-item.result = c.in_ok-name.ensures.items_if_clones_equal (λ x y e. e) ∙ c.as_slice.ensures in
+    let all = c.as_slice-name-items.ensures ∙ ap (λ (s : Signature). s.sorts) c.signature.view_is in
     sorts_more sig i (i + 1) refl _ (λ p q. refl) c.in_ok-name.name c.loop-index.numbers.entries c.insert.new.self.entries
-    (read_at _ sig.sorts i c.index-names-index.result all c.loop-index-test.true c.index-names-index.is ∙ ap Some (sym key))
+    (read_at _ sig.sorts i c.name-item.result all c.loop-index-test.true c.name-item.is ∙ ap Some (sym key))
     (c.in_ok-insert.ensures.entries ∙ ap (insert_entry _ c.loop-index.numbers.entries c.in_ok-name.name) c.in_ok-number_at.ensures)
     c.loop-index.invariant

@@ -1,11 +1,12 @@
 use Rattle.std.proofs.Common.{◌≡◌, ◌∙◌, List, length, sym, ap, subst}
 use Rattle.mw_logic.specs.Signature.{Signature, Operator, IsOperator, at_number}
 use Rattle.mw_logic.specs.Preregular.{HasItsSorts}
+use Rattle.mw_carry.specs.Carried.{IsPart}
 use Rattle.mw_carry.specs.Carriage.{Carriage}
 use Rattle.mw_carry.specs.Profiles.{IsProfiled}
 use Rattle.mw_carry.specs.Tables.{IsFound, seen_profile}
 use Rattle.mw_carry.proofs.Profiles.{found_stands}
-use Rattle.mw_carry.proofs.carrier.Carrier.find.Goals as goal
+use Rattle.mw_carry.proofs.carrier.Carrier.look_for.Goals as goal
 
 pub profile-requires-clause-args : goal.profile-requires-clause-args
 profile-requires-clause-args c K m =
@@ -20,6 +21,7 @@ returns c =
     let all = c.as_slice.ensures ∙ ap (λ (s : Signature). s.operators) c.from.view_is ∙ ap (λ (b : Carriage). b.from.operators) c.self.view_is in
     let is : IsOperator both.from c.args.operator c.in-Some.known.now = ap (λ (os : List Operator). at_number os c.args.operator) (sym all) ∙ sym c.in-Some.ensures in
     let to : c.self.inside.to.now ≡ both.to = ap (λ (b : Carriage). b.to) c.self.view_is in
-    found_stands both.from both.to c.args.operator c.in-Some.known.now (seen_profile c.in_ok-profile.profile) is c.in_ok-profile.ensures (length both.to.operators) c.operator.result
-    (subst (λ (s : Signature). IsFound (length s.operators) (IsProfiled s (seen_profile c.in_ok-profile.profile)) c.operator.result) to c.operator.ensures) _
-    c.ok_or.result c.ok_or.ensures.value
+    let part : IsPart both.from both.to = subst (λ (b : Carriage). IsPart b.from b.to) c.self.view_is c.self.invariant.part in
+    let p = seen_profile c.in_ok-profile.profile in
+    found_stands both.from both.to part c.args.operator c.in-Some.known.now p is c.in_ok-profile.ensures c.operator.result
+    (subst (λ (s : Signature). IsFound (length s.operators) (IsProfiled s p) c.operator.result) to c.operator.ensures)
