@@ -1,6 +1,5 @@
 -- A profile is one: an operator has no other, and two that are tested alike are equal.
 use Rattle.std.proofs.Common.{◌≡◌, ◌∙◌, ◌≤◌, ℕ, List, [], ◌∷◌, Bool, true, false, ◌&&◌, nat_eq, bytes_eq, Option, Some, None, MatchOption, length, refl, sym, ap, subst, arith}
-use Rattle.std.specs.Prelude.{⊤}
 use Rattle.std.proofs.lemmas.Bool.{eqb-true, eq-eqb}
 use Rattle.std.proofs.lemmas.Slice.Eq.{bytes_eq-Decides}
 use Rattle.mw_logic.specs.Signature.{Signature, Operator, IsOperator, SameKind, same, up, down, Member}

@@ -9,7 +9,7 @@ use Rattle.mw_logic.specs.Preregular.{IsSortOf}
 use Rattle.mw_poset.specs.Order.{IsSort}
 use Rattle.mw_poset.specs.SortOrder.{SortOrder, order_of}
 use Rattle.mw_carry.specs.declared.target.Profile.{Profile as ProfileHeld}
-use Rattle.mw_carry.specs.Profiles.{Profile, HasProfile, IsProfiled}
+use Rattle.mw_carry.specs.Profiles.{HasProfile, IsProfiled}
 use Rattle.mw_carry.specs.Tables.{FindSorts, FindOperators, IsFound, sort_in, operator_in, seen_profile, same_profile}
 use Rattle.mw_carry.proofs.Lookups.{lookup_inserted, found_more}
 use Rattle.mw_carry.proofs.Kept.{one_operator}

@@ -72,6 +72,7 @@ impl<'c> Carrier<'c> {
         self.to.kind_of(self.sort(kind))
     }
 
+    /// The kinds that stand for kinds, one by one.
     fn kinds(&self, alloc: Global, kinds: &[KindId]) -> Result<Vec<KindId>, AllocError>
         requires { (K : ℕ) → Member K kinds.now → IsSortOf self.now.from K }
         ensures { IfOk result (λ found. Pairwise (IsLeastFor self.now.from self.now.to) kinds.now found.items) }
@@ -99,8 +100,9 @@ impl<'c> Carrier<'c> {
     /// Looks for an operator that stands for this one. An accepted signature has one.
     fn look_for(&self, alloc: Global, operator: OpId) -> Result<Option<OpId>, AllocError>
         requires { (o : OperatorOf) × IsOperator self.now.from operator o }
-        ensures { IfOk result
-            (λ found. MatchOption found (¬ IsAccepted self.now.to) (IsSameOperator self.now.from self.now.to operator)) }
+        ensures { IfOk result (λ found. MatchOption found
+            (¬ IsAccepted self.now.to)
+            (IsSameOperator self.now.from self.now.to operator)) }
     {
         let from = self.from;
         let Some(known) = numbered(from.operators.as_slice(), operator) else {
@@ -151,11 +153,13 @@ impl<'c> Carrier<'c> {
         }
     }
 
+    /// The terms that stand for these, one by one.
     #[cycle(carry)]
     fn carry_all(&mut self, alloc: Global, terms: &[Raw]) -> Result<Vec<Raw>, AllocError>
         requires raw { (Ks : List ℕ) × AreRawTerms self.old.from (raw_terms terms.now) Ks }
         requires sorts { HaveSortsOf self.old.from (raw_terms terms.now) }
-        ensures carried { IfOk result (λ rs. AreCarried self.old.from self.old.to (raw_terms terms.now) (raw_terms rs.items)) }
+        ensures carried { IfOk result
+            (λ rs. AreCarried self.old.from self.old.to (raw_terms terms.now) (raw_terms rs.items)) }
         ensures same { self.new ≡ self.old }
     {
         let mut carried = Vec::with_capacity(alloc, terms.len())?;

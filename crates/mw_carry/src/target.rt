@@ -1,6 +1,6 @@
 // The sorts and operators of a signature, by what tells them apart.
 ghost use Rattle.std.specs.Prelude.{◌≡◌, ℕ, length, IfOk, MatchOption};
-ghost use Rattle.mw_logic.specs.Signature.{Signature as SignatureOf, Operator as OperatorOf, IsSortNamed, IsOperator, Member};
+ghost use Rattle.mw_logic.specs.Signature.{IsSortNamed, Member};
 ghost use Rattle.mw_logic.specs.Preregular.{HasItsSorts, IsSortOf};
 ghost use Rattle.mw_poset.specs.Order.{IsSort, IsKindOf};
 ghost use Rattle.mw_poset.specs.SortOrder.{order_of};

@@ -1,7 +1,6 @@
-use Rattle.std.proofs.Common.{◌≡◌, ◌∙◌, ◌+◌, ◌≤◌, suc, List, Some, length, slice_get, refl, sym, ap, subst}
-use Rattle.std.proofs.lemmas.Option.{slice_get_read}
+use Rattle.std.proofs.Common.{◌∙◌, ◌+◌, ◌≤◌, suc, List, length, refl, ap, subst}
 use Rattle.indexmap.specs.IndexMap.{insert_entry}
-use Rattle.mw_logic.specs.Signature.{Signature, Operator, IsOperator}
+use Rattle.mw_logic.specs.Signature.{Signature, Operator}
 use Rattle.mw_poset.specs.SortOrder.{SortOrder}
 use Rattle.mw_carry.specs.Profiles.{HasProfile, IsProfiled}
 use Rattle.mw_carry.specs.Tables.{operator_in, seen_profile}

@@ -1,6 +1,5 @@
-use Rattle.std.proofs.Common.{subst, sym, ℕ, List, ap, ◌∙◌}
+use Rattle.std.proofs.Common.{subst, ℕ, List, ap, ◌∙◌}
 use Rattle.mw_logic.specs.Signature.{Operator, Member}
-use Rattle.mw_poset.specs.Order.{IsSort}
 use Rattle.mw_carry.proofs.target.profile_of.Goals as goal
 
 pub kinds_of-requires : goal.kinds_of-requires

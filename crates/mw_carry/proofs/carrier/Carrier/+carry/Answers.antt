@@ -1,13 +1,12 @@
-use Rattle.std.proofs.Common.{◌≡◌, ◌∙◌, ◌+◌, ◌*◌, ◌<◌, sym, ap, subst, arith}
+use Rattle.std.proofs.Common.{◌∙◌, sym, ap, subst, arith}
 use Rattle.std.proofs.lemmas.List.{drop_all}
-use Rattle.mw_logic.specs.Term.{Variable, RawTerm, RawTerms, numeral, quoted, variable, apply}
+use Rattle.mw_logic.specs.Term.{Variable, numeral, quoted, variable, apply}
 use Rattle.mw_logic.specs.NormalForm.{height, highest}
 use Rattle.mw_logic.specs.Signature.{IsRawTerm, AreRawTerms}
 use Rattle.mw_logic.specs.Preregular.{IsSortOf}
 use Rattle.mw_logic.proofs.SameConditions.{same_variable-refl}
-use Rattle.mw_term.specs.declared.raw.Raw.{Raw}
 use Rattle.mw_term.specs.Raws.{raw_term, raw_terms}
-use Rattle.mw_carry.specs.Carried.{IsSameSort, IsSameOperator, IsCarried, AreCarried, a_numeral, a_quoted, a_variable, an_operator}
+use Rattle.mw_carry.specs.Carried.{IsSameOperator, IsCarried, AreCarried, a_numeral, a_quoted, a_variable, an_operator}
 use Rattle.mw_carry.specs.Carriage.{Carriage, HaveSortsOf}
 use Rattle.mw_carry.specs.Laws.{HasSortsOf}
 use Rattle.mw_carry.proofs.Carrying.{raw_low, applied_raw, left_at, carried_at, carried_all}
@@ -32,10 +31,13 @@ carry-carry_all-requires t c =
     let top = ap (λ r. height (raw_term r)) c.in-Op.is in
     let same = sym c.in_ok-same-in-Op.ensures.same in
     let raws : AreRawTerms from (raw_terms c.as_slice.result.now) o.args = subst (λ ts. AreRawTerms from ts o.args) (sym c.as_slice.ensures) raw in
-    let sorts : HaveSortsOf from c.in-Op.args = subst (λ r. HasSortsOf from (raw_term r)) c.in-Op.is c.requires.sorts in
-    ( omega (arith, high, top, c.decreases)
-    , ( (o.args, subst (λ (b : Carriage). AreRawTerms b.from (raw_terms c.as_slice.result.now) o.args) same raws)
-      , subst (λ (b : Carriage). HaveSortsOf b.from (raw_terms c.as_slice.result.now)) same (subst (λ ts. HaveSortsOf from ts) (sym c.as_slice.ensures) sorts)))
+    let sorts : HaveSortsOf from c.in-Op.args = subst (λ r. HasSortsOf from (raw_term r)) c.in-Op.is c.requires.sorts in (
+      omega (arith, high, top, c.decreases),
+      (
+        (o.args, subst (λ (b : Carriage). AreRawTerms b.from (raw_terms c.as_slice.result.now) o.args) same raws),
+        subst (λ (b : Carriage). HaveSortsOf b.from (raw_terms c.as_slice.result.now)) same (subst (λ ts. HaveSortsOf from ts) (sym c.as_slice.ensures) sorts),
+      ),
+    )
 
 pub carry-returns-in-Nat-clause-carried : goal.carry-returns-in-Nat-clause-carried
 carry-returns-in-Nat-clause-carried t c =
@@ -71,10 +73,13 @@ pub carry_all-carry-requires : goal.carry_all-carry-requires
 carry_all-carry-requires t c =
     let h = raw_low c.args.terms.now c.loop-term.term-index c.term-item.result c.term-item.result c.loop-term-test.true c.term-item.is in
     let (raw, sorts, rest) = left_at c.args.self.now.from c.args.terms.now c.loop-term.term-index c.term-item.result c.loop-term-test.true c.term-item.is c.loop-term.invariant.left in
-    let same = sym c.loop-term.invariant.same in
-    ( omega (arith, h, c.decreases)
-    , ( subst (λ (b : Carriage). IsRawTerm b.from (raw_term c.term-item.result)) same raw
-      , subst (λ (b : Carriage). HasSortsOf b.from (raw_term c.term-item.result)) same sorts))
+    let same = sym c.loop-term.invariant.same in (
+      omega (arith, h, c.decreases),
+      (
+        subst (λ (b : Carriage). IsRawTerm b.from (raw_term c.term-item.result)) same raw,
+        subst (λ (b : Carriage). HasSortsOf b.from (raw_term c.term-item.result)) same sorts,
+      ),
+    )
 
 pub carry_all-loop-term-preserved : goal.carry_all-loop-term-preserved
 carry_all-loop-term-preserved t c =
@@ -82,7 +87,7 @@ carry_all-loop-term-preserved t c =
     let one = c.in_ok-one.one in
     let (raw, sorts, rest) = left_at both.from c.args.terms.now c.loop-term.term-index c.term-item.result c.loop-term-test.true c.term-item.is c.loop-term.invariant.left in
     let is : IsCarried both.from both.to (raw_term c.term-item.result) (raw_term one) =
-        subst (λ (b : Carriage). IsCarried b.from b.to (raw_term c.term-item.result) (raw_term one)) c.loop-term.invariant.same c.in_ok-one.ensures.carried in
+    subst (λ (b : Carriage). IsCarried b.from b.to (raw_term c.term-item.result) (raw_term one)) c.loop-term.invariant.same c.in_ok-one.ensures.carried in
     record {
       same = c.in_ok-one.ensures.same ∙ c.loop-term.invariant.same;
       left = rest;
