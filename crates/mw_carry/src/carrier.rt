@@ -16,18 +16,12 @@ use mw_term::{KindId, OpId, Operator, Raw, Raws, Signature, SortId, VarId, copy_
 use std::alloc::{AllocError, Global};
 use std::marker::Model;
 
+/// What carries the terms of a signature to another. Operators that were met are kept, so that each is looked for once.
 #[derive(Drop)]
 pub struct Carrier<'c> {
     from: &'c Signature,
     to: &'c Target<'c>,
-}
-
-impl<'c> Model for Carrier<'c> {
-    ghost use Rattle.mw_carry.specs.Carriage.{Carriage};
-
-    ghost Value = { Carriage };
-
-    ghost view = { λ c. record { from = c.from.now; to = c.to.now } };
+    met: IndexMap<OpId, OpId>,
 }
 
 impl<'c> Model for Carrier<'c> {
@@ -41,13 +35,18 @@ impl<'c> Model for Carrier<'c> {
 }
 
 impl<'c> Carrier<'c> {
-    pub fn new(_alloc: Global, from: &'c Signature, to: &'c Target<'c>) -> Carrier<'c>
+    /// From a signature that is part of the other one.
+    pub fn new(alloc: Global, from: &'c Signature, to: &'c Target<'c>) -> Carrier<'c>
         requires part { IsPart from.now to.now }
         requires numbers { HasItsSorts from.now }
         ensures from { result.from ≡ from.now }
         ensures to { result.to ≡ to.now }
     {
-        Carrier { from, to }
+        Carrier {
+            from,
+            to,
+            met: IndexMap::new(alloc),
+        }
     }
 
     /// The sort of the same name.

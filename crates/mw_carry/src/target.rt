@@ -7,6 +7,7 @@ ghost use Rattle.mw_poset.specs.SortOrder.{order_of};
 ghost use Rattle.mw_carry.specs.Profiles.{Pairwise, HasProfile, IsProfiled};
 ghost use Rattle.mw_carry.specs.Tables.{FindSorts, FindOperators, IsFound, seen_profile};
 
+use indexmap::IndexMap;
 use mw_poset::Poset;
 use mw_term::{KindId, Name, OpId, Operator, Signature, SortId, number_at};
 use std::alloc::{AllocError, Global};
@@ -83,14 +84,8 @@ fn operator_numbers(
 pub struct Target<'c> {
     signature: &'c Signature,
     order: &'c Poset,
-}
-
-impl<'c> Model for Target<'c> {
-    ghost use Rattle.mw_logic.specs.Signature.{Signature as SignatureOf};
-
-    ghost Value = { SignatureOf };
-
-    ghost view = { λ t. t.signature.now };
+    sorts: IndexMap<Vec<u8>, SortId>,
+    operators: IndexMap<Profile, OpId>,
 }
 
 impl<'c> Model for Target<'c> {
@@ -105,14 +100,15 @@ impl<'c> Model for Target<'c> {
 }
 
 impl<'c> Target<'c> {
+    /// A signature with the order of its sorts.
     pub fn of(
-        _alloc: Global,
-        _signature: &'c Signature,
-        _order: &'c Poset,
+        alloc: Global,
+        signature: &'c Signature,
+        order: &'c Poset,
     ) -> Result<Box<Target<'c>>, AllocError>
-        requires numbers { HasItsSorts _signature.now }
-        requires order { _order.now ≡ order_of _signature.now }
-        ensures { IfOk result (λ t. t.value ≡ _signature.now) }
+        requires numbers { HasItsSorts signature.now }
+        requires order { order.now ≡ order_of signature.now }
+        ensures { IfOk result (λ t. t.value ≡ signature.now) }
     {
         let sorts = sort_numbers(alloc, signature)?;
         let operators = operator_numbers(alloc, signature, order)?;

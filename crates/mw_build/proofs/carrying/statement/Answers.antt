@@ -38,5 +38,5 @@ returns-clause-imported c =
     let left = raw_term c.in_ok-left.left in
     let right = raw_term c.in_ok-right.right in
     let same : c.statement.inside.executable ≡ c.args.statement.now.executable = ap (λ (s : Statement). s.executable) c.statement.view_is in
-    of_carried from sig c.requires.part c.requires.numbers c.shows.ensures c.args.statement.now c.requires.sides c.requires.plain left right (left_carried c) (right_carried c) c.sides_statement.result
+    of_carried from sig c.requires.part c.requires.numbers c.shows.ensures c.args.statement.now c.requires.sides c.requires.plain left right (left_carried c.before) (right_carried c.before) c.sides_statement.result
     (subst (λ (b : Bool). IfOk c.sides_statement.result (λ r. MatchResult r (IsStatementOf sig left right b) (λ kind. SidesFault sig left right b kind))) same c.sides_statement.ensures)
