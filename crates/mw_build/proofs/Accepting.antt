@@ -1,5 +1,6 @@
 -- A module that was built, from what its unit declares.
-use Rattle.std.proofs.Common.{◌≡◌, ℕ, zero, suc, List, [], ◌∷◌, take, drop, All, slice_get, Some, inl, inr, arith, refl, sym, subst}
+use Rattle.std.proofs.Common.{◌≡◌, ◌++◌, ℕ, zero, suc, List, [], ◌∷◌, length, length-append, take, drop, All, slice_get, Some, inl, inr, arith, refl, sym, subst}
+use Rattle.std.proofs.Math.Seq.{take-append_seam, drop-append_seam}
 use Rattle.std.proofs.lemmas.List.{take-append-drop}
 use Rattle.std.proofs.lemmas.List.Elements.{All-nil, All-cons}
 use Rattle.std.proofs.lemmas.Option.{slice_get_within}
@@ -13,7 +14,8 @@ use Rattle.mw_grammar.specs.Grammars.{IsGrammarOf}
 use Rattle.mw_module.specs.declared.faults.Fault.{Fault}
 use Rattle.mw_declare.specs.declared.declarations.Declarations.{Declarations}
 use Rattle.mw_build.specs.Sides.{Sides}
-use Rattle.mw_build.specs.Imported.{Accepted, Origin, IsUnconditional}
+use Rattle.mw_build.specs.Equations.{AreEquations}
+use Rattle.mw_build.specs.Imported.{Accepted, Origin, IsUnconditional, AreImported}
 use Rattle.mw_build.specs.Modules.{IsDeclaredModule, StatementsFault, by_imported, by_equations, AreAll, NotAll, imported_fault, equation_fault}
 use Rattle.mw_build.proofs.Pairwise.{there, either}
 use Rattle.mw_build.proofs.Sides.{CanStand, read_stands, unconditional_statement}
@@ -37,6 +39,16 @@ declared_by name d preregular origins equations count sts all S vs s v a is = su
   equations_are = all.equations_are;
   statements = sym (take-append-drop count sts);
 })
+
+-- statements that stand for those of others, and then own ones
+pub all_joined : (sig : Signature) (vs : List Variable) (origins : List Origin) (equations : List Sides) (first others list : List Statement) (count : ℕ) → count ≡ length first → list ≡ first ++ others
+    → AreImported sig origins first → AreEquations sig vs equations others → AreAll sig vs origins equations count list
+all_joined sig vs origins equations first others list count n is imported own =
+    subst (λ k. AreAll sig vs origins equations k list) (sym n) (subst (AreAll sig vs origins equations (length first)) (sym is) (record {
+      within = let h = length-append first others in omega (arith, h);
+      imported_are = subst (AreImported sig origins) (sym (take-append_seam first others)) imported;
+      equations_are = subst (AreEquations sig vs equations) (sym (drop-append_seam first others)) own;
+    }))
 
 -- of signatures that are one
 pub all_held : (S T : Signature) (vs : List Variable) (origins : List Origin) (equations : List Sides) (count : ℕ) (sts : List Statement) → S ≡ T

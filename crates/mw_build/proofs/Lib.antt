@@ -4,6 +4,7 @@ pub mod Mentioned
 pub mod Pairwise
 pub mod Sides
 pub mod Imported
+pub mod Origins
 pub mod Loading
 pub mod Reading
 pub mod Accepting

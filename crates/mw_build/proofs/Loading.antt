@@ -10,7 +10,7 @@ use Rattle.mw_module.specs.Units.{SeenLined, SeenUnit, IsWithin}
 use Rattle.mw_carry.specs.Carried.{IsPart}
 use Rattle.mw_import.specs.Flat.{FlatUnit, AreAccepted, IsFlat, statements_at, statements_of, told_at, all_statements}
 use Rattle.mw_import.proofs.Flattened.{kept_at, flattened_within}
-use Rattle.mw_import.proofs.Lists.{member-right}
+use Rattle.mw_import.proofs.Lists.{member-right, pushed_at}
 use Rattle.mw_import.proofs.Tables.{flat_within}
 use Rattle.mw_declare.specs.declared.declarations.Declarations.{Declarations}
 use Rattle.mw_declare.specs.Faults.{Typing}
@@ -19,7 +19,7 @@ use Rattle.mw_declare.specs.Declarations.{Declares}
 use Rattle.mw_declare.proofs.Parts.{parts_are_there}
 use Rattle.mw_build.specs.Imported.{Accepted, ArePartsOf}
 use Rattle.mw_build.specs.Modules.{IsOfUnit, AreLoaded, IsAccepted}
-use Rattle.mw_build.proofs.Pairwise.{there, get_pushed}
+use Rattle.mw_build.proofs.Pairwise.{there}
 
 -- lists with the same names are as long as each other
 same_length : {A B C : Type 0} (f : A → C) (g : B → C) (xs : List A) (ys : List B) → map f xs ≡ map g ys → length xs ≡ length ys
@@ -109,12 +109,12 @@ module _ (us : List FlatUnit) (ms : List Accepted) (accepted : AreAccepted us) (
   loaded_more = record {
     names = map-append (λ (m : Accepted). m.name) ms (a ∷ []) ∙ ap (λ n. map (λ (m : Accepted). m.name) ms ++ n ∷ []) is.holds.named
         ∙ ap (λ ns. ns ++ name ∷ []) loaded.names ∙ sym (map-append (λ (v : FlatUnit). v.name) us (unit ∷ []));
-    known = λ k v at. ⊎_elim (λ h. loaded.known k v h) (λ h. subst (λ (w : FlatUnit). AreKnown w.statements) h.1 known) (get_pushed us unit k v at);
+    known = λ k v at. ⊎_elim (λ h. loaded.known k v h) (λ h. subst (λ (w : FlatUnit). AreKnown w.statements) h.1 known) (pushed_at us unit v k at);
     declared = λ k v m at there. ⊎_elim
-        (λ h. ⊎_elim (λ i. of_old k v m h i) (λ i. let low = slice_get_within us k v h in absurd (omega (arith, low, i.0, as_many us ms accepted loaded))) (get_pushed ms a k m there))
+        (λ h. ⊎_elim (λ i. of_old k v m h i) (λ i. let low = slice_get_within us k v h in absurd (omega (arith, low, i.0, as_many us ms accepted loaded))) (pushed_at ms a m k there))
         (λ h. ⊎_elim
         (λ i. let low = slice_get_within ms k m i in absurd (omega (arith, low, h.0, as_many us ms accepted loaded)))
         (λ i. subst (λ (w : FlatUnit). IsOfUnit (us ++ unit ∷ []) w m) h.1 (subst (λ (b : Accepted). IsOfUnit (us ++ unit ∷ []) unit b) i.1 of_new))
-        (get_pushed ms a k m there))
-        (get_pushed us unit k v at);
+        (pushed_at ms a m k there))
+        (pushed_at us unit v k at);
   }

@@ -3,13 +3,8 @@ use Rattle.std.proofs.Common.{◌≡◌, ◌∙◌, ◌<◌, ◌+◌, ◌⊎◌,
 use Rattle.std.proofs.lemmas.List.{map-append, map_more}
 use Rattle.std.proofs.lemmas.Option.{none-some, same_Some, slice_get_within}
 use Rattle.std.proofs.Math.Seq.{split_at}
+use Rattle.mw_import.proofs.Lists.{pushed_at}
 use Rattle.mw_build.specs.Pairwise.{AreRelated, IsFirstWrong}
-
-pub get_pushed : {X : Type 0} (xs : List X) (y : X) (i : ℕ) (z : X) → slice_get (xs ++ y ∷ []) i ≡ Some z → (slice_get xs i ≡ Some z) ⊎ ((i ≡ length xs) × (y ≡ z))
-get_pushed [] y zero z e = inr (refl, same_Some y z e)
-get_pushed [] y (suc i) z e = absurd (none-some z e)
-get_pushed (x ∷ xs) y zero z e = inl e
-get_pushed (x ∷ xs) y (suc i) z e = ⊎_elim (λ h. inl h) (λ h. inr (ap suc h.0, h.1)) (get_pushed xs y i z e)
 
 pub there : {X : Type 0} (xs : List X) (i : ℕ) → i < length xs → (x : X) × (slice_get xs i ≡ Some x)
 there [] i h = absurd (omega (arith, h))
@@ -45,12 +40,12 @@ module _ {A B : Type 0} (R : A → B → Type 0) where
   related_pushed ps bs a b all is = record {
     count = let p = length-append ps (a ∷ []) in let q = length-append bs (b ∷ []) in omega (arith, p, q, all.count);
     each = λ i x y p q. ⊎_elim
-        (λ h. ⊎_elim (λ k. all.each i x y h k) (λ k. let w = slice_get_within ps i x h in absurd (omega (arith, w, k.0, all.count))) (get_pushed bs b i y q))
+        (λ h. ⊎_elim (λ k. all.each i x y h k) (λ k. let w = slice_get_within ps i x h in absurd (omega (arith, w, k.0, all.count))) (pushed_at bs b y i q))
         (λ h. ⊎_elim
         (λ k. let w = slice_get_within bs i y k in absurd (omega (arith, w, h.0, all.count)))
         (λ k. subst (λ z. R x z) k.1 (subst (λ z. R z b) h.1 is))
-        (get_pushed bs b i y q))
-        (get_pushed ps a i x p);
+        (pushed_at bs b y i q))
+        (pushed_at ps a x i p);
   }
 
   module _ (W : A → Type 0) where

@@ -20,7 +20,7 @@ use Rattle.mw_module.specs.Tokens.{HasProperParts, AreProperStatements, IsOfToke
 use Rattle.mw_module.specs.Units.{SeenUnit}
 use Rattle.mw_sorts.proofs.Getting.{get-member, member-get}
 use Rattle.mw_carry.specs.Carried.{IsSameSort, IsCarried, AreCarried, a_numeral, a_quoted, a_variable, an_operator, end, next}
-use Rattle.mw_import.proofs.Lists.{flat_map-member, map-member}
+use Rattle.mw_import.proofs.Lists.{flat_map-member, map-member, pushed_at}
 use Rattle.mw_module.proofs.Sources.{units_are_of_tokens}
 use Rattle.mw_build.specs.Sides.{Sides, equations_of}
 use Rattle.mw_build.proofs.SidesOfTokens.{AreSides, equations_proper}
@@ -35,7 +35,7 @@ use Rattle.mw_build.specs.Equations.{IsEquation, AreEquations}
 use Rattle.mw_build.specs.Imported.{Accepted, Origin, origins_in, origins_of}
 use Rattle.mw_build.specs.Modules.{IsAccepted, flattened}
 use Rattle.mw_build.specs.Printing.{AreOfTokens, none_yet, one_more, IsOfSource, IsPrintableStatement, TextsReadBack, StatementsArePrintable}
-use Rattle.mw_build.proofs.Pairwise.{there, get_pushed, either}
+use Rattle.mw_build.proofs.Pairwise.{there, either}
 use Rattle.mw_build.proofs.Loading.{flattened_all, own_within}
 use Rattle.mw_declare.proofs.Accepting.{accepted_declared, nat_declared, qid_declared}
 use Rattle.mw_build.proofs.PrintedVariables.{with_sort_printable, declared_printable}
@@ -134,8 +134,8 @@ module _ (tokens : List Token) (of_tokens : AreTokens tokens) where
       let printable : (i : ℕ) (st : Statement) → slice_get a.own i ≡ Some st → IsPrintableStatement a.module.signature st =
       λ i st e. subst (λ S. IsPrintableStatement S st) (sym (signature_is vs ns rest.proper u made.statements name reached a is)) (own_printable vs ns rest.proper u made.statements name reached a is i st e) in
       record {
-        proper = λ k v e. ⊎_elim (λ h. rest.proper k v h) (λ h. subst (λ (w : FlatUnit). AreProperStatements w.statements) h.1 made.statements) (get_pushed vs new k v e);
-        own = λ k m e. ⊎_elim (λ h. rest.own k m h) (λ h. subst (λ (b : Accepted). (i : ℕ) (st : Statement) → slice_get b.own i ≡ Some st → IsPrintableStatement b.module.signature st) h.1 printable) (get_pushed ns a k m e);
+        proper = λ k v e. ⊎_elim (λ h. rest.proper k v h) (λ h. subst (λ (w : FlatUnit). AreProperStatements w.statements) h.1 made.statements) (pushed_at vs new v k e);
+        own = λ k m e. ⊎_elim (λ h. rest.own k m h) (λ h. subst (λ (b : Accepted). (i : ℕ) (st : Statement) → slice_get b.own i ≡ Some st → IsPrintableStatement b.module.signature st) h.1 printable) (pushed_at ns a m k e);
       }
 
 -- Where modules' own statements can be printed, so can be those that stand for them.

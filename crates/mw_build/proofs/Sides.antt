@@ -1,8 +1,8 @@
 -- Sides of equations: canonical forms tell which are lone, and a module of them is one that contexts hold.
-use Rattle.std.proofs.Common.{◌≡◌, ◌∙◌, ◌||◌, ◌++◌, ℕ, zero, suc, List, [], ◌∷◌, Bool, true, false, cond, if◌then◌else◌, slice_get, Option, Some, None, IsTrue, Result, Ok, Err, IfOk, MatchOption, MatchResult, refl, sym, ap, subst, arith, inl, inr}
+use Rattle.std.proofs.Common.{◌≡◌, ◌∙◌, ◌||◌, ◌++◌, ℕ, zero, suc, List, [], ◌∷◌, Bool, true, false, cond, if◌then◌else◌, slice_get, All, Option, Some, None, IsTrue, Result, Ok, Err, IfOk, MatchOption, MatchResult, refl, sym, ap, subst, arith, inl, inr}
 use Rattle.std.specs.Prelude.{⊤}
 use Rattle.std.proofs.lemmas.Bool.{both_ways, or_left, or_right, or_cases}
-use Rattle.std.proofs.lemmas.Option.{slice_get_within}
+use Rattle.std.proofs.lemmas.List.Elements.{All-nil, All-cons}
 use Rattle.mw_logic.specs.Term.{Variable, RawTerm, numeral, quoted, variable, apply, RawTerms, nil, cons}
 use Rattle.mw_logic.specs.Signature.{Signature, Operator, Member, at_number, IsRawTerm, a_variable, an_operator, AreRawTerms, end, next}
 use Rattle.mw_logic.specs.Accepted.{IsAccepted}
@@ -10,7 +10,7 @@ use Rattle.mw_logic.specs.Substitution.{same_variable, occurs, occurs_in}
 use Rattle.mw_logic.specs.Preregular.{IsSortOf, HasItsSorts}
 use Rattle.mw_logic.specs.Parts.{is_assoc, nested, all_nested, nest}
 use Rattle.mw_logic.specs.NormalForm.{normal_form}
-use Rattle.mw_logic.specs.Module.{Statement, Fragment, IsStatement}
+use Rattle.mw_logic.specs.Module.{Module, Statement, Fragment, IsStatement}
 use Rattle.mw_logic.proofs.Canonical.{assoc_operator, same_operator}
 use Rattle.mw_logic.proofs.EqualByNormalForm.{equal_by_normal_form}
 use Rattle.mw_logic.proofs.SameConditions.{same_variable-is, same_variable-refl}
@@ -188,6 +188,14 @@ workable_module sig ok numbers bare sts all = record { signature = ok; numbers =
     at_each : (k : ℕ) (st : Statement) → IsStatement (record { signature = sig; statements = sts }) k st → IsPlainEquation sig st
     at_each zero st is = let h = is.is_there in cc
     at_each (suc i) st is = (all i st is.is_there).plain is.executable
+
+-- the sides of all statements of a module that contexts hold
+pub sides_at_all : (M : Module) → IsWorkable M → All (AreSides M.signature) M.statements
+sides_at_all M h = at_places M.statements (λ i st is. h.sides (suc i) st is)
+  where
+    at_places : (xs : List Statement) → ((i : ℕ) (x : Statement) → slice_get xs i ≡ Some x → AreSides M.signature x) → All (AreSides M.signature) xs
+    at_places [] h = All-nil (AreSides M.signature)
+    at_places (x ∷ xs) h = All-cons (AreSides M.signature) x xs (h zero x refl) (at_places xs (λ i y e. h (suc i) y e))
 
 -- what a text is read as is a term of the signature
 pub raw_read : {E : Type 0} (sig : Signature) (variables : List Variable) (words : List (List ℕ)) → IsAccepted sig → (r : Result Raw E)

@@ -15,7 +15,7 @@ ghost use Rattle.mw_grammar.specs.Grammars.{IsGrammarOf, IsReading};
 ghost use Rattle.mw_parse.specs.Answers.{HasCause as HasReadingCause, HasPairCause};
 ghost use Rattle.mw_poset.specs.SortOrder.{order_of};
 ghost use Rattle.mw_sorts.specs.Diagrams.{AreTablesOf};
-ghost use Rattle.mw_least.specs.Workable.{IsWorkable};
+ghost use Rattle.mw_least.specs.Workable.{AreSides, IsWorkable};
 ghost use Rattle.mw_index.specs.Index.{IsIndexOf};
 ghost use Rattle.mw_import.specs.Flat.{IsFlat};
 ghost use Rattle.mw_declare.specs.Declarations.{Declares, DeclarationFault};
@@ -91,7 +91,9 @@ impl Module {
     pub fn own(&self) -> &[Statement]
         ensures own { result.now ≡ self.now.own }
         ensures plain { All IsUnconditional result.now }
+        ensures sides { All (AreSides self.now.module.signature) result.now }
     {
+        self.context.shows();
         let (_, own) = self.context.statements().split_at(self.imported);
         own
     }

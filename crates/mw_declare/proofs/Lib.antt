@@ -6,7 +6,6 @@ pub mod Unknown
 pub mod LeastKinds
 pub mod Pairs
 pub mod Within
-pub mod Causes
 pub mod OneDeclaration
 pub mod Folding
 pub mod Ranked

@@ -18,13 +18,6 @@ pub last_at : (us : List FlatUnit) (u : FlatUnit) → slice_get (us ++ u ∷ [])
 last_at [] u = refl
 last_at (v ∷ us) u = last_at us u
 
--- a place among the units and one more is one of the units', or the last
-pub place_of : (us : List FlatUnit) (u v : FlatUnit) (k : ℕ) → slice_get (us ++ u ∷ []) k ≡ Some v → (slice_get us k ≡ Some v) ⊎ ((k ≡ length us) × (u ≡ v))
-place_of [] u v zero h = inr (refl, same_Some u v h)
-place_of [] u v (suc k) h = cc
-place_of (w ∷ us) u v zero h = inl h
-place_of (w ∷ us) u v (suc k) h = elim (place_of us u v k h) [ inl e ↦ inl e | inr e ↦ inr (ap suc e.0, e.1) ]
-
 pub brought_kept : (us more : List FlatUnit) (k : ℕ) → k < length us → brought_by (us ++ more) k ≡ brought_by us k
 brought_kept us more k h = ap (λ o. reached_by o ++ k ∷ []) (kept_at us more k h)
 

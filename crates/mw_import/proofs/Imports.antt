@@ -101,13 +101,3 @@ pub left_at : {X : Type 0} (xs : List X) (i : ℕ) (x : X) → i < length xs →
 left_at xs i x inside is =
     let next : suc i ≡ i + 1 = omega arith in
     drop-cons xs i x inside ∙ ap (λ y. y ∷ drop (suc i) xs) (sym is) ∙ ap (λ n. x ∷ drop n xs) next
-
-pub cause_kept : (P Q : Fault → Type 0) → ((f : Fault) → P f → Q f) → (e : UnitError) → HasCause P e → HasCause Q e
-cause_kept P Q k error.Memory h = tt
-cause_kept P Q k (error.Fault f) h = k f h
-
--- where an error is passed on
-pub passed_on : {X : Type 0} (P Q : Fault → Type 0) → ((f : Fault) → P f → Q f) → (r : Result X UnitError) (e : UnitError) → IsErrAnd r (λ x. x ≡ e) → HasCause P e → IfErr r (HasCause Q)
-passed_on {X} P Q k r e is h =
-    let p = err_from_is_err_and r is in
-    subst (λ (r : Result X UnitError). IfErr r (HasCause Q)) (sym p.1) (subst (HasCause Q) (sym p.2) (cause_kept P Q k e h))

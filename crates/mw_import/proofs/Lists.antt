@@ -1,6 +1,7 @@
--- Membership in lists of units.
-use Rattle.std.proofs.Common.{◌≡◌, ◌⊎◌, ◌∙◌, ℕ, Bool, true, false, ◌||◌, nat_eq, List, [], ◌∷◌, ◌++◌, map, flat_map, refl, sym, ap, inl, inr, subst, true≢false}
+-- Membership in lists, and places in them.
+use Rattle.std.proofs.Common.{◌≡◌, ◌⊎◌, ◌∙◌, ℕ, zero, suc, Bool, true, false, ◌||◌, nat_eq, List, [], ◌∷◌, ◌++◌, length, slice_get, Some, map, flat_map, refl, sym, ap, inl, inr, subst, true≢false}
 use Rattle.std.specs.List.{list_any}
+use Rattle.std.proofs.lemmas.Option.{same_Some}
 use Rattle.std.proofs.lemmas.Bool.{eqb-true, eq-eqb}
 use Rattle.mw_logic.specs.Signature.{Member}
 use Rattle.mw_import.specs.Flat.{is_among}
@@ -71,3 +72,10 @@ among-push j k (i ∷ ks) = of (nat_eq j i) (nat_eq j k) (among-push j k ks)
     of true false h = refl
     of false true h = h
     of false false h = h
+
+-- a place in a list with one more is one in the list, or the last
+pub pushed_at : {X : Type 0} (xs : List X) (x y : X) (k : ℕ) → slice_get (xs ++ x ∷ []) k ≡ Some y → (slice_get xs k ≡ Some y) ⊎ ((k ≡ length xs) × (x ≡ y))
+pushed_at [] x y zero h = inr (refl, same_Some x y h)
+pushed_at [] x y (suc k) h = cc
+pushed_at (z ∷ xs) x y zero h = inl h
+pushed_at (z ∷ xs) x y (suc k) h = elim (pushed_at xs x y k h) [ inl e ↦ inl e | inr e ↦ inr (ap suc e.0, e.1) ]

@@ -13,10 +13,10 @@ use Rattle.mw_module.specs.Units.{SeenLined}
 use Rattle.mw_import.specs.declared.units.Kept.{Kept}
 use Rattle.mw_import.specs.Flat.{FlatUnit, ImportOf, number_named, imports_of, brought_by, IsFlat, AreAccepted}
 use Rattle.mw_import.specs.Seen.{flat_unit, flat_units}
-use Rattle.mw_import.proofs.Lists.{flat_map-member}
+use Rattle.mw_import.proofs.Lists.{flat_map-member, pushed_at}
 use Rattle.mw_import.proofs.Gathered.{member_firsts}
 use Rattle.mw_import.proofs.Brought.{member_brought, flat_closed}
-use Rattle.mw_import.proofs.Flattened.{place_of, brought_kept}
+use Rattle.mw_import.proofs.Flattened.{brought_kept}
 
 -- the place of a name in the table is its unit's number
 place_held : (n : List ℕ) (es : List (Vec ℕ × Kept)) → position_or_len (λ (k : Vec ℕ). bytes_eq n k.items) (keys_of es) ≡ position_or_len (λ (u : FlatUnit). bytes_eq n u.name) (flat_units es)
@@ -79,14 +79,14 @@ flat_within us all ss reached flat j m =
 module _ (us : List FlatUnit) (all : AreAccepted us) (u : FlatUnit) (new : number_named us u.name ≡ None) (flat : IsFlat us u.statements u.reached) where
   before : (k : ℕ) (v : FlatUnit) → slice_get (us ++ u ∷ []) k ≡ Some v → (j : ℕ) → Member j v.reached → j < k
   before k v at j m =
-      elim (place_of us u v k at) [
+      elim (pushed_at us u v k at) [
         | inl e ↦ all.before k v e j m
         | inr e ↦ let there = flat_within us all u.statements u.reached flat j (subst (λ (w : FlatUnit). Member j w.reached) (sym e.1) m) in omega (arith, e.0, there)
       ]
 
   closed : (k : ℕ) (v : FlatUnit) → slice_get (us ++ u ∷ []) k ≡ Some v → (j : ℕ) → Member j v.reached → (i : ℕ) → Member i (brought_by (us ++ u ∷ []) j) → Member i v.reached
   closed k v at j m i n =
-      elim (place_of us u v k at) [
+      elim (pushed_at us u v k at) [
         | inl e ↦
             let below : j < k = all.before k v e j m in
             let inside : k < length us = slice_get_within us k v e in
@@ -100,12 +100,12 @@ module _ (us : List FlatUnit) (all : AreAccepted us) (u : FlatUnit) (new : numbe
 
   apart : (j k : ℕ) (v w : FlatUnit) → slice_get (us ++ u ∷ []) j ≡ Some v → slice_get (us ++ u ∷ []) k ≡ Some w → v.name ≡ w.name → j ≡ k
   apart j k v w at also same =
-      elim (place_of us u v j at) [
-        | inl e ↦ elim (place_of us u w k also) [
+      elim (pushed_at us u v j at) [
+        | inl e ↦ elim (pushed_at us u w k also) [
           | inl f ↦ all.apart j k v w e f same
           | inr f ↦ absurd (no_name us u.name new j v e (same ∙ ap (λ (x : FlatUnit). x.name) (sym f.1)))
         ]
-        | inr e ↦ elim (place_of us u w k also) [
+        | inr e ↦ elim (pushed_at us u w k also) [
           | inl f ↦ absurd (no_name us u.name new k w f (sym same ∙ ap (λ (x : FlatUnit). x.name) (sym e.1)))
           | inr f ↦ e.0 ∙ sym f.0
         ]

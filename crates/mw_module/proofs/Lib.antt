@@ -7,4 +7,5 @@ pub mod Parts
 pub mod Formed
 pub mod ProperForms
 pub mod Sources
+pub mod Causes
 pub mod Written

@@ -1,17 +1,74 @@
-use Rattle.std.proofs.Common.{List, map, subst}
+use Rattle.std.proofs.Common.{◌≡◌, List, ℕ, map, Ok, subst, sym}
+use Rattle.mw_module.specs.Known.{IsKnown}
 use Rattle.mw_module.specs.Units.{seen_lined, seen_unit}
 use Rattle.mw_module.specs.declared.units.Lined.{Lined}
-use Rattle.mw_declare.specs.Declarations.{Declares, DeclarationFault}
-use Rattle.mw_declare.proofs.Causes.{passed_on}
-use Rattle.mw_build.specs.Modules.{IsRefused, by_declarations}
+use Rattle.mw_module.proofs.Causes.{passed_on}
+use Rattle.mw_import.specs.Flat.{IsFlat, ImportFault}
+use Rattle.mw_declare.specs.Faults.{typing_of}
+use Rattle.mw_declare.specs.Declarations.{DeclarationFault}
+use Rattle.mw_build.specs.Sides.{equations_of}
+use Rattle.mw_build.specs.Imported.{ArePartsOf, origins_of}
+use Rattle.mw_build.specs.Modules.{IsFlattened, IsRefused, StatementsFault, by_imports, by_declarations, by_statements, flattened}
+use Rattle.mw_build.proofs.Loading.{loaded_parts, flattened_all, own_within}
 use Rattle.mw_build.proofs.modules.build.Goals as goal
 
-pub declared_module-requires-clause-declared : goal.declared_module-requires-clause-declared
-declared_module-requires-clause-declared c = subst (λ (ts : List Lined). Declares (map seen_lined ts) c.in_ok-declarations.declarations.value) c.as_slice.ensures.value c.in_ok-declarations.ensures.declared
+pub returns-in_err-flat-clause-fault : goal.returns-in_err-flat-clause-fault
+returns-in_err-flat-clause-fault c =
+    let us = c.args.units.now in
+    let u = seen_unit c.args.unit.now in
+    let typed = subst (λ (ts : List Lined). typing_of (map seen_lined ts) ≡ Ok c.in_ok-typing.typing) c.as_slice.ensures.value c.in_ok-typing.ensures.typed in
+    passed_on (ImportFault us c.as_slice-2.result.now (map seen_lined c.as_slice-3.result.now)) (IsRefused us c.args.modules.now u c.args.name)
+    (λ f h. by_imports c.in_ok-typing.typing typed
+    (subst (λ (n : List ℕ). ImportFault us n u.statements f) c.as_slice-2.ensures (subst (λ (ts : List Lined). ImportFault us c.as_slice-2.result.now (map seen_lined ts) f) c.as_slice-3.ensures.value h)))
+    c.from_residual-in_err-flat.result c.in_err-flat.field-0.0 c.from_residual-in_err-flat.ensures.1 c.in_err-flat.ensures.fault
 
 pub returns-in_err-declarations-clause-fault : goal.returns-in_err-declarations-clause-fault
 returns-in_err-declarations-clause-fault c =
+    let us = c.args.units.now in
     let u = seen_unit c.args.unit.now in
-    passed_on (DeclarationFault u.line (map seen_lined c.as_slice.result.now)) (IsRefused u)
-    (λ f h. by_declarations (subst (λ (ts : List Lined). DeclarationFault u.line (map seen_lined ts) f) c.as_slice.ensures.value h))
-    c.from_residual.result c.in_err-declarations.field-0.0 c.from_residual.ensures.1 c.in_err-declarations.ensures.fault
+    let flat : IsFlattened us u c.in_ok-typing.typing c.in_ok-flat.flat = record {
+      typed = subst (λ (ts : List Lined). typing_of (map seen_lined ts) ≡ Ok c.in_ok-typing.typing) c.as_slice.ensures.value c.in_ok-typing.ensures.typed;
+      flat = subst (λ (ts : List Lined). IsFlat us (map seen_lined ts) c.in_ok-flat.flat) c.as_slice-3.ensures.value c.in_ok-flat.ensures.flat;
+    } in
+    passed_on (DeclarationFault u.line (flattened us u c.in_ok-flat.flat)) (IsRefused us c.args.modules.now u c.args.name)
+    (λ f h. by_declarations c.in_ok-typing.typing c.in_ok-flat.flat flat h)
+    c.from_residual-in_err-declarations.result c.in_err-declarations.field-0.0 c.from_residual-in_err-declarations.ensures.1 c.in_err-declarations.ensures.fault
+
+pub declared_module-requires-clause-declared : goal.declared_module-requires-clause-declared
+declared_module-requires-clause-declared c =
+    let us = c.args.units.now in
+    let u = seen_unit c.args.unit.now in
+    let reached = c.in_ok-flat.flat in
+    record {
+      own = u.statements;
+      statements = flattened us u reached;
+      typing = c.in_ok-typing.typing;
+      typed = subst (λ (ts : List Lined). typing_of (map seen_lined ts) ≡ Ok c.in_ok-typing.typing) c.as_slice.ensures.value c.in_ok-typing.ensures.typed;
+      within = own_within us u.line reached u.statements;
+      known = flattened_all IsKnown us c.requires.loaded.known u.line reached u.statements c.requires.known;
+      declared = c.in_ok-declarations.ensures.declared;
+    }
+
+pub declared_module-requires-clause-parts : goal.declared_module-requires-clause-parts
+declared_module-requires-clause-parts c =
+    let us = c.args.units.now in
+    let u = seen_unit c.args.unit.now in
+    let flat = subst (λ (ts : List Lined). IsFlat us (map seen_lined ts) c.in_ok-flat.flat) c.as_slice-3.ensures.value c.in_ok-flat.ensures.flat in
+    let d = c.in_ok-declarations.declarations.value in
+    subst (λ (ks : List ℕ). ArePartsOf c.args.modules.now ks d.signature) (sym c.as_slice-4.ensures)
+    (loaded_parts us c.args.modules.now c.shows.ensures c.requires.loaded u.statements c.in_ok-flat.flat u.line c.in_ok-typing.typing d flat c.in_ok-declarations.ensures.declared)
+
+pub returns-in_err-module-clause-fault : goal.returns-in_err-module-clause-fault
+returns-in_err-module-clause-fault c =
+    let us = c.args.units.now in
+    let ms = c.args.modules.now in
+    let u = seen_unit c.args.unit.now in
+    let d = c.in_ok-declarations.declarations.value in
+    let flat : IsFlattened us u c.in_ok-typing.typing c.in_ok-flat.flat = record {
+      typed = subst (λ (ts : List Lined). typing_of (map seen_lined ts) ≡ Ok c.in_ok-typing.typing) c.as_slice.ensures.value c.in_ok-typing.ensures.typed;
+      flat = subst (λ (ts : List Lined). IsFlat us (map seen_lined ts) c.in_ok-flat.flat) c.as_slice-3.ensures.value c.in_ok-flat.ensures.flat;
+    } in
+    passed_on (StatementsFault u.line d (origins_of ms c.as_slice-4.result.now) (equations_of u.statements)) (IsRefused us ms u c.args.name)
+    (λ f h. by_statements c.in_ok-typing.typing c.in_ok-flat.flat d flat c.in_ok-declarations.ensures.declared
+    (subst (λ (ks : List ℕ). StatementsFault u.line d (origins_of ms ks) (equations_of u.statements) f) c.as_slice-4.ensures h))
+    c.from_residual-in_err-module.result c.in_err-module.field-0.0 c.from_residual-in_err-module.ensures.1 c.in_err-module.ensures.fault

@@ -4,7 +4,7 @@ use Rattle.mw_declare.specs.Hierarchy.{hierarchy_of}
 use Rattle.mw_declare.specs.Faults.{operator_fault, told_at}
 use Rattle.mw_declare.specs.Declarations.{declarations_with, DeclarationFault}
 use Rattle.mw_declare.proofs.Accepting.{least_held, fault_held, declared_held, accepted_declared, well_sorted_declared, apart_declared, sorts_declared}
-use Rattle.mw_declare.proofs.Causes.{passed_on}
+use Rattle.mw_module.proofs.Causes.{passed_on}
 use Rattle.mw_declare.proofs.declarations.declare.Goals as goal
 
 pub returns-in_err-identities-clause-fault : goal.returns-in_err-identities-clause-fault

@@ -8,7 +8,7 @@ use Rattle.mw_declare.specs.Meaning.{Name, sorts_of}
 use Rattle.mw_declare.specs.Hierarchy.{pairs_from}
 use Rattle.mw_declare.specs.Faults.{unknown_from}
 use Rattle.mw_declare.specs.Declarations.{DeclarationFault, of_sort, of_cycle}
-use Rattle.mw_declare.proofs.Causes.{passed_on}
+use Rattle.mw_module.proofs.Causes.{passed_on}
 use Rattle.mw_declare.proofs.Pairs.{pairs_there, cycle_there}
 use Rattle.mw_declare.proofs.hierarchy.order_sorts.Goals as goal
 
