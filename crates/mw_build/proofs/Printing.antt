@@ -1,87 +1,195 @@
 -- What is printed of an accepted module's terms reads back.
-use Rattle.std.proofs.Common.{length, ◌≡◌, ◌∙◌, ℕ, zero, suc, List, false, Some, IsFalse, sym, ap, subst, arith}
-use Rattle.std.proofs.lemmas.Option.{slice_get_within}
+use Rattle.std.proofs.Common.{length, ◌≡◌, ◌∙◌, ◌++◌, ◌||◌, ℕ, zero, suc, List, false, Option, Some, None, IsFalse, IsTrue, slice_get, codes, sym, ap, subst, refl, arith, inl, inr, ⊎_elim}
+use Rattle.std.proofs.lemmas.Bool.{or_left, or_right, or_cases}
+use Rattle.std.proofs.lemmas.Option.{slice_get_within, none-some}
 use Rattle.std.proofs.lemmas.List.Elements.{All-map}
 use Rattle.mw_lex.specs.declared.token.Token.{Token}
-use Rattle.mw_lex.specs.Texts.{IsTokenText, AreTokens}
+use Rattle.mw_lex.specs.Texts.{IsProper, IsTokenText, AreTokens}
 use Rattle.mw_lex.proofs.Texts.{lexed_are_tokens}
-use Rattle.mw_logic.specs.Term.{RawTerm}
-use Rattle.mw_logic.specs.Signature.{Signature, at_number}
+use Rattle.mw_logic.specs.Term.{Variable, RawTerm, RawTerms}
+use Rattle.mw_logic.specs.Substitution.{occurs, occurs_in}
+use Rattle.mw_logic.proofs.SameConditions.{same_variable-is, same_variable-refl}
+use Rattle.mw_logic.specs.Signature.{Signature, IsSortNamed, Member, at_number}
 use Rattle.mw_logic.specs.Module.{Statement}
 use Rattle.mw_poset.proofs.Members.{member-all}
 use Rattle.mw_text.specs.Proper.{AreProperNames}
-use Rattle.mw_text.specs.Mixfix.{Spells}
+use Rattle.mw_text.specs.Mixfix.{Spells, IsVariableName}
 use Rattle.mw_text.proofs.SpelledVariables.{Each, spelled_variables}
 use Rattle.mw_module.specs.Words.{texts}
-use Rattle.mw_module.specs.Tokens.{IsOfTokens}
+use Rattle.mw_module.specs.Tokens.{HasProperParts, AreProperStatements, IsOfTokens}
+use Rattle.mw_module.specs.Units.{SeenUnit}
+use Rattle.mw_sorts.proofs.Getting.{get-member, member-get}
+use Rattle.mw_carry.specs.Carried.{IsSameSort, IsCarried, AreCarried, a_numeral, a_quoted, a_variable, an_operator, end, next}
+use Rattle.mw_import.proofs.Lists.{flat_map-member, map-member}
 use Rattle.mw_module.proofs.Sources.{units_are_of_tokens}
 use Rattle.mw_build.specs.Sides.{Sides, equations_of}
 use Rattle.mw_build.proofs.SidesOfTokens.{AreSides, equations_proper}
 use Rattle.mw_declare.specs.declared.declarations.Declarations.{Declarations}
+use Rattle.mw_declare.specs.Faults.{Typing}
+use Rattle.mw_import.specs.Flat.{FlatUnit}
 use Rattle.mw_declare.specs.Proper.{IsProperVariable, AreProper}
 use Rattle.mw_declare.proofs.Proper.{all_at, declarations_are_proper}
 use Rattle.mw_print.specs.Laws.{AreBinary, ArePrintable, IsPrintable}
 use Rattle.mw_print.proofs.ReadBack.{printed_reads_back}
 use Rattle.mw_build.specs.Equations.{IsEquation, AreEquations}
-use Rattle.mw_build.specs.Modules.{Accepted}
-use Rattle.mw_build.specs.Printing.{IsOfSource, TextsReadBack, StatementsArePrintable}
-use Rattle.mw_build.proofs.Pairwise.{there}
+use Rattle.mw_build.specs.Imported.{Accepted, Origin, origins_in, origins_of}
+use Rattle.mw_build.specs.Modules.{IsAccepted, flattened}
+use Rattle.mw_build.specs.Printing.{AreOfTokens, none_yet, one_more, IsOfSource, IsPrintableStatement, TextsReadBack, StatementsArePrintable}
+use Rattle.mw_build.proofs.Pairwise.{there, get_pushed, either}
+use Rattle.mw_build.proofs.Loading.{flattened_all, own_within}
 use Rattle.mw_declare.proofs.Accepting.{accepted_declared, nat_declared, qid_declared}
 use Rattle.mw_build.proofs.PrintedVariables.{with_sort_printable, declared_printable}
 
-module _ (source : List ℕ) (a : Accepted) (of : IsOfSource source a) where
+-- a module of a unit that is made of tokens, where the units that were accepted have proper statements
+module _ (us : List FlatUnit) (ms : List Accepted) (proper : (k : ℕ) (v : FlatUnit) → slice_get us k ≡ Some v → AreProperStatements v.statements)
+    (u : SeenUnit) (own : AreProperStatements u.statements) (name reached : List ℕ) (a : Accepted) (is : IsAccepted us ms u name reached a) where
   abbrev d : Declarations
-  d = of.accepted.declarations
+  d = is.declarations
 
-  made : IsOfTokens of.unit
-  made = units_are_of_tokens false of.tokens of.at of.next of.unit (lexed_are_tokens source of.tokens of.cut) of.read
-
-  proper : AreProper d
-  proper = declarations_are_proper of.unit.statements d made.statements of.accepted.declared
+  declared_proper : AreProper d
+  declared_proper =
+      declarations_are_proper u.statements (flattened us u reached) is.typing d (own_within us u.line reached u.statements) own is.flat.typed
+      (flattened_all HasProperParts us proper u.line reached u.statements own) is.declared
 
   -- the signature and the variables are those that are declared
   signature_is : a.module.signature ≡ d.signature
-  signature_is = of.accepted.holds.signature
+  signature_is = is.holds.signature
 
   binary : AreBinary a.module.signature
-  binary = subst AreBinary (sym signature_is) (λ f o e h. let (K, L, two, k, l) = (accepted_declared of.unit.statements d of.accepted.declared).assoc f o e h in ap length two)
+  binary = subst AreBinary (sym signature_is)
+      (λ f o e h. let (K, L, two, k, l) = (accepted_declared is.typing (flattened us u reached) d is.declared).assoc f o e h in ap length two)
 
   names : AreProperNames a.module.signature
-  names = subst AreProperNames (sym signature_is) proper.operators
+  names = subst AreProperNames (sym signature_is) declared_proper.operators
 
   nat : IsFalse a.module.signature.nat
-  nat = ap (λ (s : Signature). s.nat) signature_is ∙ nat_declared of.unit.statements d of.accepted.declared
+  nat = ap (λ (s : Signature). s.nat) signature_is ∙ nat_declared is.typing (flattened us u reached) d is.declared
 
   qid : IsFalse a.module.signature.qid
-  qid = ap (λ (s : Signature). s.qid) signature_is ∙ qid_declared of.unit.statements d of.accepted.declared
+  qid = ap (λ (s : Signature). s.qid) signature_is ∙ qid_declared is.typing (flattened us u reached) d is.declared
 
   -- the variables of what tokens spell
   side_printable : (ts : List Token) (t : RawTerm) (p : ℕ) → AreTokens ts → Spells d.signature d.variables t p (texts ts) → ArePrintable d.signature t
   side_printable ts t p tokens s x o =
       let each : Each IsTokenText (texts ts) = member-all IsTokenText (texts ts) (All-map IsTokenText (λ (t : Token). t.text) ts tokens) in
       spelled_variables d.signature d.variables (IsPrintable d.signature) IsTokenText
-      (λ y m. declared_printable d.signature proper.sorts y (member-all (IsProperVariable d.signature) d.variables proper.variables y m))
+      (λ y m. declared_printable d.signature declared_proper.sorts y (member-all (IsProperVariable d.signature) d.variables declared_proper.variables y m))
       (with_sort_printable d.signature) s each x o
 
-  statement_printable : (e : Sides) (st : Statement) → AreTokens e.left × AreTokens e.right → IsEquation d.signature d.variables e st → ArePrintable d.signature st.left × ArePrintable d.signature st.right
-  statement_printable e st tokens is =
-      let left = side_printable e.left is.left _ tokens.0 is.read.only.0.first.spells in
-      let right = side_printable e.right is.right _ tokens.1 is.read.only.0.second.spells in
-      subst (λ (s : Statement). ArePrintable d.signature s.left × ArePrintable d.signature s.right) (sym is.sides.statement) (left, right)
+  statement_printable : (e : Sides) (st : Statement) → AreTokens e.left × AreTokens e.right → IsEquation d.signature d.variables e st → IsPrintableStatement d.signature st
+  statement_printable e st tokens equation =
+      let left = side_printable e.left equation.left _ tokens.0 equation.read.only.0.first.spells in
+      let right = side_printable e.right equation.right _ tokens.1 equation.read.only.0.second.spells in
+      subst (IsPrintableStatement d.signature) (sym equation.sides.statement) (left, right)
 
-  statements_printable : (k : ℕ) (st : Statement) → at_number a.module.statements k ≡ Some st → ArePrintable d.signature st.left × ArePrintable d.signature st.right
-  statements_printable zero st is = cc
-  statements_printable (suc i) st is =
-      let es = equations_of of.unit.statements in
-      let all : AreEquations d.signature d.variables es a.module.statements = of.accepted.holds.equations_are in
-      let w = slice_get_within a.module.statements i st is in
+  own_printable : (i : ℕ) (st : Statement) → slice_get a.own i ≡ Some st → IsPrintableStatement d.signature st
+  own_printable i st at =
+      let es = equations_of u.statements in
+      let all = is.holds.equations_are in
+      let w = slice_get_within a.own i st at in
       let e = there es i (omega (arith, w, all.count)) in
-      statement_printable e.0 st (all_at AreSides es (equations_proper of.unit.statements made.statements) (suc i) e.0 e.1) (all.each i e.0 st e.1 is)
+      statement_printable e.0 st (all_at AreSides es (equations_proper u.statements own) (suc i) e.0 e.1) (all.each i e.0 st e.1 at)
+
+-- variables that stand for others have their names
+variable_carried : (sig to : Signature) (x y : Variable) → x.name ≡ y.name → IsSameSort sig to x.sort y.sort → IsPrintable sig x → IsPrintable to y
+variable_carried sig to x y n s p =
+    let same : p.sort ≡ s.name = one_name sig x.sort p.sort s.name p.sorted s.here in
+    record {
+      named = subst IsVariableName n p.named;
+      sort = s.name;
+      sorted = s.there;
+      proper = subst IsProper (ap (λ name. name ++ codes ":" ++ p.sort) n ∙ ap (λ S. y.name ++ codes ":" ++ S) same) p.proper;
+    }
+  where
+    one_name : (sig : Signature) (S : ℕ) (m n : List ℕ) → IsSortNamed sig S m → IsSortNamed sig S n → m ≡ n
+    one_name sig S m n e f = cc
+
+mutual
+  carried_printable : (sig to : Signature) (t u : RawTerm) → IsCarried sig to t u → ArePrintable sig t → ArePrintable to u
+  carried_printable sig to t u (a_numeral n) p x h = cc
+  carried_printable sig to t u (a_quoted q) p x h = cc
+  carried_printable sig to t u (a_variable y z n s) p x h = subst (IsPrintable to) (same_variable-is z x h) (variable_carried sig to y z n s (p y (same_variable-refl y)))
+  carried_printable sig to t u (an_operator f g ts us is args) p x h = all_printable sig to ts us args p x h
+
+  all_printable : (sig to : Signature) (ts us : RawTerms) → AreCarried sig to ts us → ((x : Variable) → IsTrue (occurs_in x ts) → IsPrintable sig x)
+      → (x : Variable) → IsTrue (occurs_in x us) → IsPrintable to x
+  all_printable sig to ts us end p x h = cc
+  all_printable sig to ts us (next t u vs ws c cs) p x h = elim (or_cases (occurs x u) (occurs_in x ws) h) [
+      | inl k ↦ carried_printable sig to t u c (λ y o. p y (or_left (occurs y t) (occurs_in y vs) o)) x k
+      | inr k ↦ all_printable sig to vs ws cs (λ y o. p y (or_right (occurs y t) (occurs_in y vs) o)) x k
+    ]
+
+-- The modules of units of tokens: units have proper statements, and the modules' own statements can be printed.
+record AreFine (us : List FlatUnit) (ms : List Accepted) : Type 0 where
+  pub proper : (k : ℕ) (v : FlatUnit) → slice_get us k ≡ Some v → AreProperStatements v.statements
+  pub own : (k : ℕ) (m : Accepted) → slice_get ms k ≡ Some m → (i : ℕ) (st : Statement) → slice_get m.own i ≡ Some st → IsPrintableStatement m.module.signature st
+
+module _ (tokens : List Token) (of_tokens : AreTokens tokens) where
+  fine : (us : List FlatUnit) (ms : List Accepted) → AreOfTokens tokens us ms → AreFine us ms
+  fine us ms none_yet = record { proper = λ k v e. absurd (none-some v e); own = λ k m e. absurd (none-some m e) }
+  fine us ms (one_more vs ns at next u name reached a before read is) =
+      let rest = fine vs ns before in
+      let made : IsOfTokens u = units_are_of_tokens false tokens at next u of_tokens read in
+      let new : FlatUnit = record { name = name; statements = u.statements; reached = reached } in
+      let printable : (i : ℕ) (st : Statement) → slice_get a.own i ≡ Some st → IsPrintableStatement a.module.signature st =
+      λ i st e. subst (λ S. IsPrintableStatement S st) (sym (signature_is vs ns rest.proper u made.statements name reached a is)) (own_printable vs ns rest.proper u made.statements name reached a is i st e) in
+      record {
+        proper = λ k v e. ⊎_elim (λ h. rest.proper k v h) (λ h. subst (λ (w : FlatUnit). AreProperStatements w.statements) h.1 made.statements) (get_pushed vs new k v e);
+        own = λ k m e. ⊎_elim (λ h. rest.own k m h) (λ h. subst (λ (b : Accepted). (i : ℕ) (st : Statement) → slice_get b.own i ≡ Some st → IsPrintableStatement b.module.signature st) h.1 printable) (get_pushed ns a k m e);
+      }
+
+-- Where modules' own statements can be printed, so can be those that stand for them.
+origin_printable : (ms : List Accepted) (ks : List ℕ)
+    → ((k : ℕ) (m : Accepted) → slice_get ms k ≡ Some m → (i : ℕ) (st : Statement) → slice_get m.own i ≡ Some st → IsPrintableStatement m.module.signature st)
+    → (e : Origin) → Member e (origins_of ms ks) → IsPrintableStatement e.signature e.statement
+origin_printable ms ks own e m =
+    let (k, there, inside) = flat_map-member (λ (k : ℕ). origins_in (slice_get ms k)) e ks m in in_one (slice_get ms k) (own k) inside
+  where
+    in_one : (o : Option Accepted) → ((m : Accepted) → o ≡ Some m → (i : ℕ) (st : Statement) → slice_get m.own i ≡ Some st → IsPrintableStatement m.module.signature st)
+        → Member e (origins_in o) → IsPrintableStatement e.signature e.statement
+    in_one None h inside = absurd inside
+    in_one (Some a) h inside =
+        let (st, member, is) = map-member (λ (st : Statement). let o : Origin = record { signature = a.module.signature; statement = st } in o) e a.own inside in
+        let (i, at) = member-get a.own st member in
+        subst (λ (o : Origin). IsPrintableStatement o.signature o.statement) is (h a refl i st at)
+
+module _ (source : List ℕ) (a : Accepted) (of : IsOfSource source a) where
+  of_tokens : AreTokens of.tokens
+  of_tokens = lexed_are_tokens source of.tokens of.cut
+
+  before : AreFine of.units of.modules
+  before = fine of.tokens of_tokens of.units of.modules of.before
+
+  made : IsOfTokens of.unit
+  made = units_are_of_tokens false of.tokens of.at of.next of.unit of_tokens of.read
+
+  imported_printable : (i : ℕ) (st : Statement) → slice_get of.accepted.holds.imported i ≡ Some st → IsPrintableStatement of.accepted.declarations.signature st
+  imported_printable i st at =
+      let origins = origins_of of.modules of.reached in
+      let all = of.accepted.holds.imported_are in
+      let w = slice_get_within of.accepted.holds.imported i st at in
+      let (e, there_is) = there origins i (omega (arith, w, all.count)) in
+      let p = origin_printable of.modules of.reached before.own e (get-member origins i e there_is) in
+      let c = (all.each i e st there_is at).carried in
+      let sig = of.accepted.declarations.signature in
+      (carried_printable e.signature sig e.statement.left st.left c.left p.0, carried_printable e.signature sig e.statement.right st.right c.right p.1)
+
+  statements_printable : (k : ℕ) (st : Statement) → at_number a.module.statements k ≡ Some st → IsPrintableStatement of.accepted.declarations.signature st
+  statements_printable zero st is = cc
+  statements_printable (suc i) st is = elim (either of.accepted.holds.imported a.own i st (subst (λ sts. slice_get sts i ≡ Some st) of.accepted.holds.statements is)) [
+      | inl h ↦ imported_printable i st h
+      | inr h ↦ own_printable of.units of.modules before.proper of.unit made.statements a.name of.reached a of.accepted h.0 st h.1
+    ]
 
 pub texts_read_back : TextsReadBack
 texts_read_back source a t of raw printable =
-    printed_reads_back a.module.signature a.variables t (binary source a of) (names source a of) (nat source a of) (qid source a of) raw printable
+    let us = of.units in
+    let ms = of.modules in
+    let proper = (before source a of).proper in
+    let own = (made source a of).statements in
+    printed_reads_back a.module.signature a.variables t (binary us ms proper of.unit own a.name of.reached a of.accepted) (names us ms proper of.unit own a.name of.reached a of.accepted)
+    (nat us ms proper of.unit own a.name of.reached a of.accepted) (qid us ms proper of.unit own a.name of.reached a of.accepted) raw printable
 
 pub statements_are_printable : StatementsArePrintable
 statements_are_printable source a k st of is =
-    subst (λ (s : Signature). ArePrintable s st.left × ArePrintable s st.right) (sym (signature_is source a of)) (statements_printable source a of k st is)
+    subst (λ S. IsPrintableStatement S st) (sym of.accepted.holds.signature) (statements_printable source a of k st is)

@@ -83,9 +83,9 @@ pub record AreLoaded (us : List FlatUnit) (ms : List Accepted) : Type 0 where
   pub declared : (k : ℕ) (u : FlatUnit) (m : Accepted) → slice_get us k ≡ Some u → slice_get ms k ≡ Some m → IsOfUnit us u m
 
 -- What is kept for a module, of whose statements so many are imported: its grammar and its index; and its own statements are equations without conditions.
-pub record IsHeld (M : Module) (imported : ℕ) (variables : List Variable) (g : Grammar) (index : Index) : Type 0 where
+pub record IsHeld (M : Module) (imported : ℕ) (variables : List Variable) (g : Grammar) (kept : Index) : Type 0 where
   pub grammar : IsGrammarOf M.signature variables g
-  pub index : IsIndexOf M index
+  pub index : IsIndexOf M kept
   pub within : imported ≤ length M.statements
   pub plain : All IsUnconditional (drop imported M.statements)
 

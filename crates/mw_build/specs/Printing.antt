@@ -3,7 +3,7 @@ use Rattle.std.specs.Prelude.{◌≡◌, ℕ, false, List, [], ◌∷◌, ◌++�
 use Rattle.mw_lex.specs.declared.token.Token.{Token}
 use Rattle.mw_lex.specs.Lexing.{tokens_of}
 use Rattle.mw_logic.specs.Term.{RawTerm}
-use Rattle.mw_logic.specs.Signature.{at_number, IsRawTerm}
+use Rattle.mw_logic.specs.Signature.{Signature, at_number, IsRawTerm}
 use Rattle.mw_logic.specs.Module.{Statement}
 use Rattle.mw_module.specs.Units.{SeenUnit, Reads}
 use Rattle.mw_import.specs.Flat.{FlatUnit}
@@ -38,7 +38,11 @@ abbrev pub TextsReadBack : Type 0
 TextsReadBack = (source : List ℕ) (a : Accepted) (t : RawTerm) → IsOfSource source a → IsRawTerm a.module.signature t → ArePrintable a.module.signature t
     → ReadsBack a.module.signature a.variables t (mixfix_text a.module.signature t)
 
+-- the variables of its sides can be printed
+abbrev pub IsPrintableStatement : Signature → Statement → Type 0
+IsPrintableStatement sig st = ArePrintable sig st.left × ArePrintable sig st.right
+
 -- The variables of an accepted module's statements can be printed.
 abbrev pub StatementsArePrintable : Type 0
 StatementsArePrintable = (source : List ℕ) (a : Accepted) (k : ℕ) (st : Statement) → IsOfSource source a → at_number a.module.statements k ≡ Some st
-    → ArePrintable a.module.signature st.left × ArePrintable a.module.signature st.right
+    → IsPrintableStatement a.module.signature st

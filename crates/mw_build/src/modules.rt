@@ -160,8 +160,8 @@ struct Statements {
 
 /// The first statements, and then the others.
 fn joined(first: Vec<Statement>, others: Vec<Statement>) -> Result<Statements, AllocError>
-    ensures imported { IfOk result (λ s. s.imported ≡ length first.entry.items) }
-    ensures list { IfOk result (λ s. s.list.items ≡ first.entry.items ++ others.entry.items) }
+    ensures imported { IfOk result (λ s. s.imported ≡ length first.items) }
+    ensures list { IfOk result (λ s. s.list.items ≡ first.items ++ others.items) }
 {
     let imported = first.len();
     let mut list = first;

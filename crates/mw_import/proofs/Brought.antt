@@ -1,9 +1,8 @@
 -- What the import of a unit brings, and lists of units with which all that they bring is there.
-use Rattle.std.proofs.Common.{◌≡◌, ◌⊎◌, ◌∙◌, ℕ, ◌<◌, List, [], ◌∷◌, ◌++◌, map, flat_map, length, Option, None, Some, refl, sym, ap, inl, inr, subst, slice_get, arith}
-use Rattle.std.proofs.lemmas.Option.{slice_get_within}
+use Rattle.std.proofs.Common.{◌≡◌, ◌⊎◌, ℕ, List, [], ◌∷◌, ◌++◌, flat_map, Option, None, Some, refl, sym, inl, inr, subst, slice_get}
 use Rattle.mw_logic.specs.Signature.{Member}
 use Rattle.mw_module.specs.Units.{SeenLined}
-use Rattle.mw_import.specs.Flat.{FlatUnit, ImportOf, number_named, imports_of, reached_by, brought_by, firsts, IsFlat, AreAccepted}
+use Rattle.mw_import.specs.Flat.{FlatUnit, reached_by, brought_by, firsts, IsFlat, AreAccepted}
 use Rattle.mw_import.specs.Gathering.{gathered, IsClosed}
 use Rattle.mw_import.proofs.Lists.{member-left, member-right, member-append, member-flat_map, flat_map-member}
 use Rattle.mw_import.proofs.Gathered.{member_gathered, gathered_member, gathered-there, firsts_member, member_firsts}

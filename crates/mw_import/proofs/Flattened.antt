@@ -1,14 +1,12 @@
 -- What a module reaches, among more units, and the statements of flattened modules.
-use Rattle.std.proofs.Common.{◌≡◌, ◌⊎◌, ◌∙◌, ℕ, zero, suc, ◌<◌, ◌≤◌, List, [], ◌∷◌, ◌++◌, map, flat_map, length, Option, None, Some, refl, sym, ap, inl, inr, subst, slice_get, arith}
+use Rattle.std.proofs.Common.{◌≡◌, ◌⊎◌, ◌∙◌, ℕ, zero, suc, ◌<◌, List, [], ◌∷◌, ◌++◌, map, length, Some, refl, sym, ap, inl, inr, subst, slice_get, arith}
 use Rattle.std.proofs.lemmas.Option.{slice_get_within, same_Some}
 use Rattle.mw_logic.specs.Signature.{Member}
 use Rattle.mw_module.specs.Units.{SeenLined, IsWithin}
-use Rattle.mw_import.specs.Flat.{FlatUnit, ImportOf, number_named, imports_of, reached_by, brought_by, firsts, IsFlat, AreAccepted, statements_at, statements_of, told_at, all_statements}
-use Rattle.mw_import.specs.Gathering.{gathered, IsClosed}
+use Rattle.mw_import.specs.Flat.{FlatUnit, reached_by, brought_by, IsFlat, AreAccepted, statements_at, statements_of, told_at, all_statements}
 use Rattle.mw_import.specs.Laws.{FlattenedWithin}
-use Rattle.mw_import.proofs.Lists.{member-left, member-right, member-append, member-flat_map, flat_map-member, member-map, map-member}
-use Rattle.mw_import.proofs.Gathered.{member_firsts}
-use Rattle.mw_import.proofs.Brought.{member_brought, reached_brought, flat_closed}
+use Rattle.mw_import.proofs.Lists.{member-left, member-append, member-flat_map, flat_map-member, member-map, map-member}
+use Rattle.mw_import.proofs.Brought.{reached_brought, flat_closed}
 
 -- the unit at a place stays when more come
 pub kept_at : (us more : List FlatUnit) (k : ℕ) → k < length us → slice_get (us ++ more) k ≡ slice_get us k

@@ -1,7 +1,6 @@
 -- Units that are gathered one after the other, each where it first stands.
 use Rattle.std.proofs.Common.{◌≡◌, ◌⊎◌, ◌∙◌, ℕ, Bool, true, false, ◌||◌, nat_eq, List, [], ◌∷◌, ◌++◌, if◌then◌else◌, refl, sym, ap, inl, inr, append_assoc, subst}
 use Rattle.std.proofs.lemmas.List.{append-nil}
-use Rattle.std.proofs.lemmas.Bool.{eqb-true}
 use Rattle.mw_logic.specs.Signature.{Member}
 use Rattle.mw_import.specs.Flat.{is_among, firsts_behind, firsts}
 use Rattle.mw_import.specs.Gathering.{gathered_with, gathered}

@@ -1,9 +1,8 @@
 -- Imports, one after the other.
-use Rattle.std.proofs.Common.{◌≡◌, ◌≢◌, ◌⊎◌, ◌∙◌, ℕ, zero, suc, ◌<◌, List, [], ◌∷◌, ◌++◌, map, flat_map, length, get_or, drop, drop-cons, ◌+◌, Bor, Result, Ok, Err, IfErr, Option, None, Some, refl, sym, ap, inl, inr, subst, slice_get, arith}
+use Rattle.std.proofs.Common.{◌≡◌, ◌∙◌, ℕ, zero, suc, ◌<◌, List, [], ◌∷◌, ◌++◌, map, flat_map, length, get_or, drop, drop-cons, ◌+◌, Bor, Result, IfErr, Option, Some, refl, sym, ap, subst, slice_get, arith}
 use Rattle.std.specs.Result.{IsErrAnd}
 use Rattle.std.proofs.lemmas.Result.{err_from_is_err_and}
 use Rattle.std.proofs.lemmas.Option.{same_Some}
-use Rattle.mw_logic.specs.Signature.{Member}
 use Rattle.mw_module.specs.declared.faults.Fault.{Fault}
 use Rattle.mw_module.specs.declared.faults.UnitError.{UnitError}
 use Rattle.mw_module.specs.declared.faults.UnitError.TheVariants as error
@@ -13,7 +12,7 @@ use Rattle.mw_module.specs.declared.forms.Form.TheVariants as form
 use Rattle.mw_module.specs.Forms.{shape_of}
 use Rattle.mw_module.specs.Causes.{HasCause}
 use Rattle.mw_module.specs.Units.{SeenLined}
-use Rattle.mw_import.specs.Flat.{FlatUnit, ImportOf, number_named, imports_in, imports_of, brought_by, firsts, IsFlat, IsThere, IsWrong, ImportFault, AreAccepted}
+use Rattle.mw_import.specs.Flat.{FlatUnit, ImportOf, number_named, imports_in, imports_of, brought_by, IsFlat, IsThere, IsWrong, ImportFault}
 use Rattle.mw_import.specs.Gathering.{gathered, IsClosed, IsOf}
 use Rattle.mw_import.proofs.Gathered.{gathered-append, gathered-firsts}
 

@@ -1,18 +1,17 @@
 -- Units that a table holds, and one more.
-use Rattle.std.proofs.Common.{◌≡◌, ◌≢◌, ◌⊎◌, ◌∙◌, ℕ, zero, suc, ◌+◌, ◌<◌, ◌≤◌, not, List, [], ◌∷◌, ◌++◌, map, flat_map, length, position, get_or, cond, Bool, true, false, true≢false, Option, None, Some, option_map, bytes_eq, refl, sym, ap, inl, inr, subst, slice_get, arith}
+use Rattle.std.proofs.Common.{◌≡◌, ◌≢◌, ◌∙◌, ℕ, suc, ◌+◌, ◌<◌, ◌≤◌, not, List, [], ◌∷◌, ◌++◌, map, flat_map, length, position, cond, Bool, false, true≢false, None, Some, option_map, bytes_eq, refl, sym, ap, inl, inr, subst, slice_get, arith}
 use Rattle.std.specs.Global.{Vec}
 use Rattle.std.specs.List.{position_or_len}
 use Rattle.std.specs.Map.{lookup, keys_of}
 use Rattle.std.proofs.lemmas.Grind.{common_steps}
-use Rattle.std.proofs.lemmas.Option.{slice_get_within, get_or_from_slice_get, slice_get-map, same_Some}
+use Rattle.std.proofs.lemmas.Option.{slice_get_within, get_or_from_slice_get, slice_get-map}
 use Rattle.std.proofs.lemmas.List.Quantifiers.{position-Some}
 use Rattle.std.proofs.lemmas.List.Sums.{fails_before_first}
 use Rattle.std.proofs.lemmas.Slice.Eq.{bytes_eq-Decides}
 use Rattle.mw_logic.specs.Signature.{Member}
 use Rattle.mw_module.specs.Units.{SeenLined}
 use Rattle.mw_import.specs.declared.units.Kept.{Kept}
-use Rattle.mw_import.specs.Flat.{FlatUnit, ImportOf, number_named, imports_of, brought_by, firsts, IsFlat, AreAccepted}
-use Rattle.mw_import.specs.Gathering.{IsClosed}
+use Rattle.mw_import.specs.Flat.{FlatUnit, ImportOf, number_named, imports_of, brought_by, IsFlat, AreAccepted}
 use Rattle.mw_import.specs.Seen.{flat_unit, flat_units}
 use Rattle.mw_import.proofs.Lists.{flat_map-member}
 use Rattle.mw_import.proofs.Gathered.{member_firsts}

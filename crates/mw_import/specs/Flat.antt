@@ -1,8 +1,7 @@
 -- Flattening: the modules that imports reach, each once, in order. (Maude Manual, chapter 6, "Module importation"; that imports come first, depth first in the
 -- order of their lines, is this project's own.)
-use Rattle.std.specs.Prelude.{◌≡◌, ◌≢◌, ◌<◌, ℕ, Bool, false, ◌||◌, List, [], ◌∷◌, ◌++◌, map, flat_map, length, position, option_map, bytes_eq, nat_eq, slice_get, Option, Some, None, if◌then◌else◌}
+use Rattle.std.specs.Prelude.{◌≡◌, ◌≢◌, ◌<◌, ℕ, Bool, false, ◌||◌, List, [], ◌∷◌, ◌++◌, map, flat_map, position, bytes_eq, nat_eq, slice_get, Option, Some, None, if◌then◌else◌}
 use Rattle.mw_logic.specs.Signature.{Member}
-use Rattle.mw_lex.specs.declared.token.Token.{Token}
 use Rattle.mw_module.specs.declared.faults.Fault.{Fault}
 use Rattle.mw_module.specs.declared.faults.FaultKind.TheVariants.{UnknownModule, CircularImport}
 use Rattle.mw_module.specs.Forms.{Shape, Sorts, Subsorts, Operators, Variables, Equation, Import}
@@ -101,8 +100,7 @@ told_at line s = record { line = line; shape = s.shape }
 abbrev pub all_statements : List FlatUnit → ℕ → List ℕ → List SeenLined → List SeenLined
 all_statements us line reached own = map (told_at line) (statements_of us reached) ++ own
 
--- What holds of accepted units: each reaches units before it alone, each of these once, and with one all that this one reaches; and the same is brought by its
--- own imports.
+-- What holds of accepted units: each reaches units before it alone, and with one all that this one brings; and no two have one name.
 pub record AreAccepted (us : List FlatUnit) : Type 0 where
   pub before : (k : ℕ) (u : FlatUnit) → slice_get us k ≡ Some u → (j : ℕ) → Member j u.reached → j < k
   pub closed : (k : ℕ) (u : FlatUnit) → slice_get us k ≡ Some u → (j : ℕ) → Member j u.reached → (i : ℕ) → Member i (brought_by us j) → Member i u.reached

@@ -1,7 +1,7 @@
 -- Units as they are gathered, one after the other.
 use Rattle.std.specs.Prelude.{◌≡◌, ◌≢◌, ℕ, List, [], ◌∷◌, ◌++◌, Some, if◌then◌else◌}
 use Rattle.mw_logic.specs.Signature.{Member}
-use Rattle.mw_import.specs.Flat.{FlatUnit, ImportOf, number_named, brought_by, is_among}
+use Rattle.mw_import.specs.Flat.{FlatUnit, number_named, brought_by, is_among}
 
 -- a unit behind those that are there, unless it is among them
 abbrev pub gathered_with : List ℕ → ℕ → List ℕ

@@ -1,5 +1,5 @@
 -- What holds of flattened modules.
-use Rattle.std.specs.Prelude.{◌≡◌, ◌++◌, ◌∷◌, [], ℕ, List, slice_get, Some}
+use Rattle.std.specs.Prelude.{◌≡◌, ◌++◌, ℕ, List, slice_get, Some}
 use Rattle.mw_logic.specs.Signature.{Member}
 use Rattle.mw_module.specs.Units.{SeenLined, IsWithin}
 use Rattle.mw_import.specs.Flat.{FlatUnit, AreAccepted, IsFlat, all_statements}

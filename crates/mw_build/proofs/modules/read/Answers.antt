@@ -1,9 +1,8 @@
-use Rattle.std.proofs.Common.{◌∙◌, Result, MatchResult, sym, ap, subst}
+use Rattle.std.proofs.Common.{◌∙◌, Result, MatchResult, ap, subst}
 use Rattle.std.specs.Global.{Vec}
 use Rattle.mw_logic.specs.Module.{Statement}
 use Rattle.mw_module.specs.declared.faults.Fault.{Fault}
-use Rattle.mw_module.specs.Units.{seen_statements}
-use Rattle.mw_build.specs.Sides.{equations_of, seen_equations}
+use Rattle.mw_build.specs.Sides.{seen_equations}
 use Rattle.mw_build.specs.Equations.{AreEquations, FirstFault}
 use Rattle.mw_build.proofs.modules.read.Goals as goal
 
@@ -14,8 +13,7 @@ returns-in-Ok-clause-statements c = λ variables grammar.
     let found = subst (λ (r : Result (Vec Statement) Fault). MatchResult r
     (λ sts. AreEquations sig variables (seen_equations c.as_slice.result.now) sts.items)
     (λ fault. FirstFault sig variables (seen_equations c.as_slice.result.now) fault)) c.in-Ok.is (c.in_ok-found.ensures variables grammar) in
-    subst (AreEquations sig variables (equations_of (seen_statements c.args.statements.now))) (sym c.of.ensures)
-    (subst (λ es. AreEquations sig variables es c.in-Ok.found.items) same found)
+    subst (λ es. AreEquations sig variables es c.in-Ok.found.items) same found
 
 pub returns-clause-fault : goal.returns-clause-fault
 returns-clause-fault c = λ variables grammar.

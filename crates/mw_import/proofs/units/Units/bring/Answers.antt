@@ -1,5 +1,5 @@
-use Rattle.std.proofs.Common.{◌≡◌, ◌∙◌, ◌++◌, ◌∷◌, [], if◌then◌else◌, ap, sym, subst, slice_get}
-use Rattle.mw_import.specs.Flat.{brought_by, reached_by}
+use Rattle.std.proofs.Common.{◌∙◌, ◌++◌, ◌∷◌, [], if◌then◌else◌, ap, sym, subst, slice_get}
+use Rattle.mw_import.specs.Flat.{reached_by}
 use Rattle.mw_import.specs.Gathering.{gathered_with, gathered, IsClosed}
 use Rattle.mw_import.proofs.Lists.{among_any, among_member}
 use Rattle.mw_import.proofs.Gathered.{gathered-append}

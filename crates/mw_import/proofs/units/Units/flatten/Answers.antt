@@ -2,8 +2,7 @@ use Rattle.std.proofs.Common.{◌≡◌, ◌∙◌, ◌∷◌, [], ap, sym, subs
 use Rattle.std.proofs.lemmas.List.{drop_all}
 use Rattle.mw_module.specs.Forms.{shape_of}
 use Rattle.mw_module.specs.Units.{seen_lined, seen_statements}
-use Rattle.mw_import.specs.Flat.{ImportOf, imports_in, IsFlat, IsWrong, ImportFault, brought_by}
-use Rattle.mw_import.specs.Gathering.{gathered, IsClosed, IsOf}
+use Rattle.mw_import.specs.Flat.{ImportOf, imports_in, IsFlat, IsWrong, ImportFault}
 use Rattle.mw_import.proofs.Imports.{IsOnTheWay, at_start, at_end, passed, led, wrong, no_import, left_at, passed_on}
 use Rattle.mw_import.proofs.units.Units.flatten.Goals as goal
 use Rattle.mw_import.proofs.units.Units.flatten.Goals.{in-Import+in_ok-unit+in_ok-bring, in_default}
