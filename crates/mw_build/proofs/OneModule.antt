@@ -103,8 +103,8 @@ module _ (sig : Signature) (ok : IsAcceptedSignature sig) (apart : OperatorsApar
       let left : f.left ≡ st.left = carried_one e.signature sig ok apart f.carried_left p.carried.left in
       let right : f.right ≡ st.right = carried_one e.signature sig ok apart f.carried_right p.carried.right in
       sides_hold sig st.left st.right e.statement.executable st cause p.holds
-          (subst (λ t. SidesFault sig t st.right e.statement.executable cause) left
-          (subst (λ t. SidesFault sig f.left t e.statement.executable cause) right f.fault))
+      (subst (λ t. SidesFault sig t st.right e.statement.executable cause) left
+      (subst (λ t. SidesFault sig f.left t e.statement.executable cause) right f.fault))
 
 entries_of_kinds : (sig : Signature) (Ss : List Sorted) (Ks : List ℕ) → AreEntries sig Ss Ks → AreOfKinds sig Ss Ks
 entries_of_kinds sig [] [] a = tt
@@ -227,7 +227,7 @@ module _ (us : List FlatUnit) (ms : List Accepted) (u : SeenUnit) (n r : List �
       let d : q.declarations ≡ p.declarations = same_declarations q.typing s q.declarations q.flat q.declared in
       let holds : IsDeclaredModule n p.declarations (origins_of ms r) (equations_of u.statements) b =
       subst (λ k. IsDeclaredModule n k (origins_of ms r) (equations_of u.statements) b) d
-          (subst (λ ks. IsDeclaredModule n q.declarations (origins_of ms ks) (equations_of u.statements) b) reached q.holds) in
+      (subst (λ ks. IsDeclaredModule n q.declarations (origins_of ms ks) (equations_of u.statements) b) reached q.holds) in
       (sym reached, one_declared n p.declarations apart (origins_of ms r) (equations_of u.statements) a p.holds b holds)
 
   -- and then it isn't refused
@@ -239,7 +239,7 @@ module _ (us : List FlatUnit) (ms : List Accepted) (u : SeenUnit) (n r : List �
   none_refused new f (by_statements t s d flat e fault) =
       statements_hold n p.declarations apart (origins_of ms r) (equations_of u.statements) a p.holds u.line f
       (subst (λ k. StatementsFault u.line k (origins_of ms r) (equations_of u.statements) f) (same_declarations t s d flat e)
-          (subst (λ ks. StatementsFault u.line d (origins_of ms ks) (equations_of u.statements) f) (same_reached t s flat) fault))
+      (subst (λ ks. StatementsFault u.line d (origins_of ms ks) (equations_of u.statements) f) (same_reached t s flat) fault))
 
 pub one_module : (us : List FlatUnit) (ms : List Accepted) (u : SeenUnit) (n r s : List ℕ) (a b : Accepted) → IsAccepted us ms u n r a → IsAccepted us ms u n s b → (r ≡ s) × (a ≡ b)
 one_module us ms u n r s a b p q = one_more us ms u n r a p s b q

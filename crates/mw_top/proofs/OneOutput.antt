@@ -136,14 +136,16 @@ module _ (most : ℕ) (before : Loaded) (alike : AreNamed before) where
       let unit : v ≡ u = cc in
       let name : m ≡ n = same_Some m n (sym other ∙ ap name_of unit ∙ named) in
       absurd (not_refused before.units before.modules u n reached a is (not_there before alike n free) r
-          (subst (λ k. IsRefused before.units before.modules u k r) name (subst (λ w. IsRefused before.units before.modules w m r) unit wrong)))
+      (subst (λ k. IsRefused before.units before.modules u k r) name (subst (λ w. IsRefused before.units before.modules w m r) unit wrong)))
   from_accepted u n reached a named free is o e text bad after (accepted v m others b other not_taken module_is) =
       let unit : v ≡ u = cc in
       let name : m ≡ n = same_Some m n (sym other ∙ ap name_of unit ∙ named) in
       let same = one_module before.units before.modules u n reached others a b is
-          (subst (λ k. IsAccepted before.units before.modules u k others b) name (subst (λ w. IsAccepted before.units before.modules w m others b) unit module_is)) in
-      (refl, ap (λ ks. with_module before n u ks a) same.0 ∙ ap (with_module before n u others) same.1 ∙ ap (λ k. with_module before k u others b) (sym name)
-          ∙ ap (λ w. with_module before m w others b) (sym unit))
+      (subst (λ k. IsAccepted before.units before.modules u k others b) name (subst (λ w. IsAccepted before.units before.modules w m others b) unit module_is)) in (
+        refl,
+        ap (λ ks. with_module before n u ks a) same.0 ∙ ap (with_module before n u others) same.1 ∙ ap (λ k. with_module before k u others b) (sym name)
+            ∙ ap (λ w. with_module before m w others b) (sym unit),
+      )
   from_accepted u n reached a named free is o e text bad after (no_command v f unnamed wrong) =
       let unit : v ≡ u = cc in absurd (none-some n (sym unnamed ∙ ap name_of unit ∙ named))
   from_accepted u n reached a named free is o e text bad after (faulty v c cause unnamed command wrong) =
