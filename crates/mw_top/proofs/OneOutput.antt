@@ -86,12 +86,12 @@ AreNamed l = named_modules l.modules ≡ named_units l.units
 
 member_at : (us : List FlatUnit) (k : ℕ) (u : FlatUnit) → slice_get us k ≡ Some u → Member u.name (named_units us)
 member_at [] k u at = absurd (none-some u at)
-member_at (v ∷ us) zero u at = inl (ap (λ (w : FlatUnit). w.name) (sym (same_Some v u at)))
+member_at (v ∷ us) zero u at = inl (ap (λ (w : FlatUnit). w.name) (same_Some v u at))
 member_at (v ∷ us) (suc k) u at = inr (member_at us k u at)
 
 -- a name that no unit has isn't found
 not_found : (us : List FlatUnit) (n : List ℕ) → (Member n (named_units us) → ⊥) → number_named us n ≡ None
-not_found us n no = of (number_named us n) refl
+not_found us n unnamed = of (number_named us n) refl
   where
     none : FlatUnit
     none = record { name = []; statements = []; reached = [] }
@@ -105,7 +105,7 @@ not_found us n no = of (number_named us n) refl
 
     of : (o : Option ℕ) → number_named us n ≡ o → o ≡ None
     of None e = refl
-    of (Some k) e = absurd (no (found k e))
+    of (Some k) e = absurd (unnamed (found k e))
 
 -- nor is one that isn't taken
 not_there : (l : Loaded) → AreNamed l → (n : List ℕ) → (IsTaken l.modules n → ⊥) → number_named l.units n ≡ None
