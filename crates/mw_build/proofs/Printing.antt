@@ -127,9 +127,9 @@ record AreFine (us : List FlatUnit) (ms : List Accepted) : Type 0 where
 module _ (tokens : List Token) (of_tokens : AreTokens tokens) where
   fine : (us : List FlatUnit) (ms : List Accepted) → AreOfTokens tokens us ms → AreFine us ms
   fine us ms none_yet = record { proper = λ k v e. absurd (none-some v e); own = λ k m e. absurd (none-some m e) }
-  fine us ms (one_more vs ns at next u name reached a before read is) =
+  fine us ms (one_more vs ns at further u name reached a before read is) =
       let rest = fine vs ns before in
-      let made : IsOfTokens u = units_are_of_tokens false tokens at next u of_tokens read in
+      let made : IsOfTokens u = units_are_of_tokens false tokens at further u of_tokens read in
       let new : FlatUnit = record { name = name; statements = u.statements; reached = reached } in
       let printable : (i : ℕ) (st : Statement) → slice_get a.own i ≡ Some st → IsPrintableStatement a.module.signature st =
       λ i st e. subst (λ S. IsPrintableStatement S st) (sym (signature_is vs ns rest.proper u made.statements name reached a is)) (own_printable vs ns rest.proper u made.statements name reached a is i st e) in

@@ -1,15 +1,15 @@
 -- Carried terms are raw terms of the kinds that they had.
-use Rattle.std.proofs.Common.{◌≡◌, ◌<◌, ℕ, List, [], ◌∷◌, Bool, Some, refl, sym, subst, ap, ◌∙◌}
-use Rattle.std.specs.Prelude.{IsTrue, ⊤, ◌||◌, true, false, codes}
-use Rattle.mw_logic.specs.Term.{Variable, RawTerm, numeral, quoted, variable, apply, RawTerms, nil, cons}
+use Rattle.std.proofs.Common.{◌≡◌, ℕ, List, [], ◌∷◌, Bool, subst}
+use Rattle.std.specs.Prelude.{IsTrue, ◌||◌, true, false, codes}
+use Rattle.mw_logic.specs.Term.{Variable, RawTerm, RawTerms}
 use Rattle.mw_logic.specs.Signature.{Signature, Operator, IsOperator, IsSortNamed, SameKind, same, up, down, Member, HasKind, of_numeral, of_quoted, of_variable, of_operator, IsRawTerm, AreRawTerms}
 use Rattle.mw_logic.specs.Signature as sorted
 use Rattle.mw_logic.specs.Accepted.{IsAccepted}
 use Rattle.mw_logic.specs.Preregular.{HasItsSorts, IsSortOf}
-use Rattle.mw_logic.specs.Substitution.{occurs, occurs_in, same_variable}
+use Rattle.mw_logic.specs.Substitution.{occurs, occurs_in}
 use Rattle.mw_logic.proofs.KindLaws.{SameKind-trans, SameKind-sym, SameKind-equal}
 use Rattle.mw_logic.proofs.SameConditions.{same_variable-is}
-use Rattle.mw_carry.specs.Carried.{IsSameSort, IsSameKind, AreSameKinds, IsSameOperator, IsCarried, AreCarried, a_numeral, a_quoted, a_variable, an_operator, end, next, IsPart}
+use Rattle.mw_carry.specs.Carried.{IsSameSort, IsSameKind, AreSameKinds, IsCarried, AreCarried, a_numeral, a_quoted, a_variable, an_operator, end, next, IsPart}
 use Rattle.mw_carry.specs.Laws.{HasSortsOf}
 use Rattle.mw_carry.proofs.Numbers.{there_at, within_at}
 

@@ -1,11 +1,10 @@
 -- No two terms stand for one, where operators are told by their names and kinds.
 use Rattle.std.proofs.Common.{◌≡◌, ℕ, List, [], ◌∷◌, sym, subst, ap, ◌∙◌, refl}
-use Rattle.std.specs.Prelude.{⊤}
-use Rattle.mw_logic.specs.Term.{Variable, RawTerm, numeral, quoted, variable, apply, RawTerms, nil, cons}
+use Rattle.mw_logic.specs.Term.{Variable, RawTerm, variable, apply, RawTerms, cons}
 use Rattle.mw_logic.specs.Signature.{Signature, Operator, SameKind}
 use Rattle.mw_logic.specs.Accepted.{IsAccepted}
 use Rattle.mw_logic.proofs.KindLaws.{SameKind-trans, SameKind-sym, SameKind-equal}
-use Rattle.mw_carry.specs.Carried.{IsSameSort, IsSameKind, AreSameKinds, IsSameOperator, IsCarried, AreCarried, a_numeral, a_quoted, a_variable, an_operator, end, next}
+use Rattle.mw_carry.specs.Carried.{IsSameKind, AreSameKinds, IsSameOperator, IsCarried, AreCarried, a_numeral, a_quoted, a_variable, an_operator, end, next}
 use Rattle.mw_carry.specs.Laws.{AreAlike, OperatorsApart}
 use Rattle.mw_carry.proofs.Kept.{one_operator, one_sort}
 
@@ -28,9 +27,9 @@ module _ (sig to : Signature) (ok : IsAccepted to) where
     operators_one f g h a b =
         let here : a.here ≡ b.here = one_operator sig f a.here b.here a.is_here b.is_here in
         apart g h a.there b.there a.is_there b.is_there
-            (sym a.spelling ∙ ap (λ (o : Operator). o.spelling) here ∙ b.spelling)
-            (all_one_kind a.here.args a.there.args b.there.args a.args (subst (λ (o : Operator). AreSameKinds sig to o.args b.there.args) (sym here) b.args))
-            (one_kind a.here.result a.there.result b.there.result a.result (subst (λ (o : Operator). IsSameKind sig to o.result b.there.result) (sym here) b.result))
+        (sym a.spelling ∙ ap (λ (o : Operator). o.spelling) here ∙ b.spelling)
+        (all_one_kind a.here.args a.there.args b.there.args a.args (subst (λ (o : Operator). AreSameKinds sig to o.args b.there.args) (sym here) b.args))
+        (one_kind a.here.result a.there.result b.there.result a.result (subst (λ (o : Operator). IsSameKind sig to o.result b.there.result) (sym here) b.result))
 
     mutual
       pub carried_one : {t u v : RawTerm} → IsCarried sig to t u → IsCarried sig to t v → u ≡ v

@@ -1,6 +1,6 @@
 -- What stands for a term or a statement of one signature in another that has its sorts and operators too: the sorts and kinds of the same names, and the
 -- operators of the same names on the same kinds. (Maude Manual, chapter 6, "Module importation": sorts of one name are one sort.)
-use Rattle.std.specs.Prelude.{ℕ, ◌≡◌, List, [], ◌∷◌, Bool, IsTrue, ⊤}
+use Rattle.std.specs.Prelude.{ℕ, ◌≡◌, List, [], ◌∷◌, IsTrue, ⊤}
 use Rattle.mw_logic.specs.Term.{Variable, RawTerm, numeral, quoted, variable, apply, RawTerms, nil, cons}
 use Rattle.mw_logic.specs.Signature.{Signature, Sorted, sort, kind, Operator, IsOperator, IsSortNamed, SameKind, Member}
 use Rattle.mw_logic.specs.Module.{Fragment, equal, matches, has_sort, is_true, Statement}

@@ -10,12 +10,11 @@ use Rattle.mw_build.specs.Equations.{IsStatementOf, SidesFault}
 use Rattle.mw_build.proofs.Imported.{of_carried}
 use Rattle.mw_build.proofs.carrying.statement.Goals as goal
 
-module _ (c : goal.In_ok-left) where
+module _ (c : goal.In_ok-right) where
   left_carried : IsCarried c.args.carrier.now.from c.args.facts.now c.args.statement.now.left (raw_term c.in_ok-left.left)
   left_carried = subst (λ (s : Statement). IsCarried c.args.carrier.now.from c.args.facts.now s.left (raw_term c.in_ok-left.left)) c.statement.view_is
       (subst (λ (S : Signature). IsCarried c.args.carrier.now.from S (raw_term c.statement.inside.left) (raw_term c.in_ok-left.left)) c.requires.to c.in_ok-left.ensures.carried)
 
-module _ (c : goal.In_ok-right) where
   right_carried : IsCarried c.args.carrier.now.from c.args.facts.now c.args.statement.now.right (raw_term c.in_ok-right.right)
   right_carried =
       let right = raw_term c.in_ok-right.right in
@@ -39,5 +38,5 @@ returns-clause-imported c =
     let left = raw_term c.in_ok-left.left in
     let right = raw_term c.in_ok-right.right in
     let same : c.statement.inside.executable ≡ c.args.statement.now.executable = ap (λ (s : Statement). s.executable) c.statement.view_is in
-    of_carried from sig c.requires.part c.requires.numbers c.shows.ensures c.args.statement.now c.requires.sides c.requires.plain left right (left_carried c) (right_carried c) c.sides_statement.result
+    of_carried from sig c.requires.part c.requires.numbers c.shows.ensures c.args.statement.now c.requires.sides c.requires.plain left right (left_carried c.before) (right_carried c.before) c.sides_statement.result
     (subst (λ (b : Bool). IfOk c.sides_statement.result (λ r. MatchResult r (IsStatementOf sig left right b) (λ kind. SidesFault sig left right b kind))) same c.sides_statement.ensures)
