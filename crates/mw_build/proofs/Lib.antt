@@ -12,3 +12,4 @@ pub mod Naming
 pub mod PrintedVariables
 pub mod SidesOfTokens
 pub mod Printing
+pub mod OneModule

@@ -5,6 +5,5 @@ pub mod Told
 pub mod Sessions
 pub mod Giving
 pub mod Bytes
-pub mod OneModule
 pub mod OneOutput
 pub mod Doing

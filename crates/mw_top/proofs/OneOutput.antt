@@ -1,21 +1,27 @@
 -- Of the same units no two texts differ in whether something was refused.
-use Rattle.std.proofs.Common.{◌≡◌, ◌∙◌, ◌≤◌, ◌<◌, ◌+◌, ◌-◌, ◌++◌, ◌||◌, ℕ, zero, suc, Bool, false, List, [], ◌∷◌, length, Some, None, Ok, Err, refl, sym, ap, subst, arith, ⊎_elim}
+use Rattle.std.proofs.Common.{◌≡◌, ◌∙◌, ◌≤◌, ◌<◌, ◌+◌, ◌-◌, ◌++◌, ◌||◌, ℕ, zero, suc, Bool, false, List, [], ◌∷◌, map, length, slice_get, Option, Some, None, Ok, Err, bytes_eq, refl, sym, ap, subst, arith, inl, inr, ⊎_elim}
 use Rattle.std.proofs.lemmas.Bool.{both_ways, cases_order}
-use Rattle.std.proofs.lemmas.Option.{none-some, same_Some}
+use Rattle.std.proofs.lemmas.List.{map-append}
+use Rattle.std.proofs.lemmas.List.Quantifiers.{position-Some}
+use Rattle.std.proofs.lemmas.Option.{none-some, same_Some, get_or_from_slice_get}
+use Rattle.std.proofs.lemmas.Slice.Eq.{bytes_eq-Decides}
 use Rattle.mw_logic.specs.Term.{RawTerm, is_ground}
+use Rattle.mw_logic.specs.Signature.{Member}
 use Rattle.mw_lex.specs.declared.token.Token.{Token}
 use Rattle.mw_module.specs.declared.faults.FaultKind.{FaultKind}
 use Rattle.mw_module.specs.Units.{SeenUnit, Outcome, Reading, Reads}
 use Rattle.mw_module.specs.Words.{texts}
 use Rattle.mw_command.specs.Commands.{SeenCommand, command_of}
+use Rattle.mw_import.specs.Flat.{FlatUnit, number_named}
 use Rattle.mw_build.specs.Equations.{Oversized}
 use Rattle.mw_build.specs.Modules.{Accepted, IsAccepted, IsRefused}
+use Rattle.mw_build.proofs.OneModule.{not_big, one_module, not_refused}
+use Rattle.mw_build.proofs.Pairwise.{there}
 use Rattle.mw_command.specs.declared.commands.Word.{Word}
 use Rattle.mw_top.specs.Commands.{IsTerm, IsAnswer, reduction, parsing, matching, inside_of, TermFault, long, unread, unclear, opened, big, AnswerFault, in_term, undivided, in_sides, CommandFault, nowhere, unknown, unanswered, module_for}
 use Rattle.mw_top.specs.Matches.{AreSides, AreOversized, deep, large as too_large, SidesFault, long as sides_long, unread as sides_unread, unclear as sides_unclear, opened as sides_opened, big as sides_big}
-use Rattle.mw_top.specs.Sources.{IsTaken, name_of, Gives, formless, taken, refused, accepted, no_command, faulty, answered, Answered, nothing_yet, one_more}
+use Rattle.mw_top.specs.Sources.{Loaded, with_module, IsTaken, name_of, Gives, formless, taken, refused, accepted, no_command, faulty, answered, Answered, nothing_yet, one_more}
 use Rattle.mw_top.specs.Outputs.{IsOutput, unlexed, answered as of_tokens}
-use Rattle.mw_top.proofs.OneModule.{not_big, one_module, not_refused}
 
 -- a term that is read has no fault
 term_holds : (a : Accepted) (words : List (List ℕ)) (term : RawTerm) → IsTerm a words term → (cause : FaultKind) → TermFault a words cause → ⊥
@@ -68,40 +74,95 @@ command_holds a most text ms c cause m is (unanswered b why other fault) =
     let same : b ≡ a = same_Some b a (sym other ∙ m) in
     answer_holds a most c text is why (subst (λ x. AnswerFault x c why) same fault)
 
-module _ (most : ℕ) (before : List Accepted) where
+abbrev named_modules : List Accepted → List (List ℕ)
+named_modules ms = map (λ (m : Accepted). m.name) ms
+
+abbrev named_units : List FlatUnit → List (List ℕ)
+named_units us = map (λ (u : FlatUnit). u.name) us
+
+-- the modules have the names of the units, one by one
+abbrev AreNamed : Loaded → Type 0
+AreNamed l = named_modules l.modules ≡ named_units l.units
+
+member_at : (us : List FlatUnit) (k : ℕ) (u : FlatUnit) → slice_get us k ≡ Some u → Member u.name (named_units us)
+member_at [] k u at = absurd (none-some u at)
+member_at (v ∷ us) zero u at = inl (ap (λ (w : FlatUnit). w.name) (same_Some v u at))
+member_at (v ∷ us) (suc k) u at = inr (member_at us k u at)
+
+-- a name that no unit has isn't found
+not_found : (us : List FlatUnit) (n : List ℕ) → (Member n (named_units us) → ⊥) → number_named us n ≡ None
+not_found us n unnamed = of (number_named us n) refl
+  where
+    none : FlatUnit
+    none = record { name = []; statements = []; reached = [] }
+
+    found : (k : ℕ) → number_named us n ≡ Some k → Member n (named_units us)
+    found k e =
+        let first = position-Some (λ (u : FlatUnit). bytes_eq n u.name) us k none e in
+        let (u, at) = there us k first.0 in
+        let same : n ≡ u.name = (bytes_eq-Decides n u.name).0 (ap (λ (v : FlatUnit). bytes_eq n v.name) (sym (get_or_from_slice_get us k u none at)) ∙ first.1) in
+        subst (λ m. Member m (named_units us)) (sym same) (member_at us k u at)
+
+    of : (o : Option ℕ) → number_named us n ≡ o → o ≡ None
+    of None e = refl
+    of (Some k) e = absurd (unnamed (found k e))
+
+-- nor is one that isn't taken
+not_there : (l : Loaded) → AreNamed l → (n : List ℕ) → (IsTaken l.modules n → ⊥) → number_named l.units n ≡ None
+not_there l named n free = not_found l.units n (λ m. free (inl (subst (Member n) (sym named) m)))
+
+module _ (most : ℕ) (before : Loaded) (alike : AreNamed before) where
+  names_kept : (o : Outcome) (text : List ℕ) (bad : Bool) (after : Loaded) → Gives most before o text bad after → AreNamed after
+  names_kept o text bad after (formless f) = alike
+  names_kept o text bad after (taken u n named is_taken) = alike
+  names_kept o text bad after (refused u n r named free wrong) = alike
+  names_kept o text bad after (accepted u n reached a named free is) =
+      map-append (λ (m : Accepted). m.name) before.modules (a ∷ []) ∙ ap (λ ns. ns ++ a.name ∷ []) alike ∙ ap (λ m. named_units before.units ++ m ∷ []) is.holds.named
+      ∙ sym (map-append (λ (u : FlatUnit). u.name) before.units (record { name = n; statements = u.statements; reached = reached } ∷ []))
+  names_kept o text bad after (no_command u f unnamed wrong) = alike
+  names_kept o text bad after (faulty u c cause unnamed command wrong) = alike
+  names_kept o text bad after (answered u c b block unnamed command m answer) = alike
+
   -- what a module gives that is accepted
-  from_accepted : (u : SeenUnit) (n : List ℕ) (a : Accepted) → name_of u ≡ Some n → (IsTaken before n → ⊥) → IsAccepted u n a
-      → (o : Outcome) → o ≡ Ok u → (text : List ℕ) (bad : Bool) (after : List Accepted) → Gives most before o text bad after → (false ≡ bad) × (before ++ a ∷ [] ≡ after)
-  from_accepted u n a named free is o e text bad after (formless f) = cc
-  from_accepted u n a named free is o e text bad after (taken v m other is_taken) =
+  from_accepted : (u : SeenUnit) (n reached : List ℕ) (a : Accepted) → name_of u ≡ Some n → (IsTaken before.modules n → ⊥)
+      → IsAccepted before.units before.modules u n reached a → (o : Outcome) → o ≡ Ok u → (text : List ℕ) (bad : Bool) (after : Loaded) → Gives most before o text bad after
+      → (false ≡ bad) × (with_module before n u reached a ≡ after)
+  from_accepted u n reached a named free is o e text bad after (formless f) = cc
+  from_accepted u n reached a named free is o e text bad after (taken v m other is_taken) =
       let unit : v ≡ u = cc in
       let name : m ≡ n = same_Some m n (sym other ∙ ap name_of unit ∙ named) in
-      absurd (free (subst (IsTaken before) name is_taken))
-  from_accepted u n a named free is o e text bad after (refused v m r other not_taken wrong) =
-      let unit : v ≡ u = cc in
-      absurd (not_refused u n a is r (subst (λ w. IsRefused w r) unit wrong))
-  from_accepted u n a named free is o e text bad after (accepted v m b other not_taken module_is) =
+      absurd (free (subst (IsTaken before.modules) name is_taken))
+  from_accepted u n reached a named free is o e text bad after (refused v m r other not_taken wrong) =
       let unit : v ≡ u = cc in
       let name : m ≡ n = same_Some m n (sym other ∙ ap name_of unit ∙ named) in
-      let same : a ≡ b = one_module u n a is b (subst (λ k. IsAccepted u k b) name (subst (λ w. IsAccepted w m b) unit module_is)) in
-      (refl, ap (λ x. before ++ x ∷ []) same)
-  from_accepted u n a named free is o e text bad after (no_command v f unnamed wrong) =
+      absurd (not_refused before.units before.modules u n reached a is (not_there before alike n free) r
+      (subst (λ k. IsRefused before.units before.modules u k r) name (subst (λ w. IsRefused before.units before.modules w m r) unit wrong)))
+  from_accepted u n reached a named free is o e text bad after (accepted v m others b other not_taken module_is) =
+      let unit : v ≡ u = cc in
+      let name : m ≡ n = same_Some m n (sym other ∙ ap name_of unit ∙ named) in
+      let same = one_module before.units before.modules u n reached others a b is
+      (subst (λ k. IsAccepted before.units before.modules u k others b) name (subst (λ w. IsAccepted before.units before.modules w m others b) unit module_is)) in (
+        refl,
+        ap (λ ks. with_module before n u ks a) same.0 ∙ ap (with_module before n u others) same.1 ∙ ap (λ k. with_module before k u others b) (sym name)
+            ∙ ap (λ w. with_module before m w others b) (sym unit),
+      )
+  from_accepted u n reached a named free is o e text bad after (no_command v f unnamed wrong) =
       let unit : v ≡ u = cc in absurd (none-some n (sym unnamed ∙ ap name_of unit ∙ named))
-  from_accepted u n a named free is o e text bad after (faulty v c cause unnamed command wrong) =
+  from_accepted u n reached a named free is o e text bad after (faulty v c cause unnamed command wrong) =
       let unit : v ≡ u = cc in absurd (none-some n (sym unnamed ∙ ap name_of unit ∙ named))
-  from_accepted u n a named free is o e text bad after (answered v c b block unnamed command m answer) =
+  from_accepted u n reached a named free is o e text bad after (answered v c b block unnamed command m answer) =
       let unit : v ≡ u = cc in absurd (none-some n (sym unnamed ∙ ap name_of unit ∙ named))
 
   -- what a command gives that is answered
-  from_answered : (u : SeenUnit) (c : SeenCommand) (a : Accepted) (block : List ℕ) → name_of u ≡ None → command_of u ≡ Ok c → module_for before c.module ≡ Some a
+  from_answered : (u : SeenUnit) (c : SeenCommand) (a : Accepted) (block : List ℕ) → name_of u ≡ None → command_of u ≡ Ok c → module_for before.modules c.module ≡ Some a
       → IsAnswer a most c block
-      → (o : Outcome) → o ≡ Ok u → (text : List ℕ) (bad : Bool) (after : List Accepted) → Gives most before o text bad after → (false ≡ bad) × (before ≡ after)
+      → (o : Outcome) → o ≡ Ok u → (text : List ℕ) (bad : Bool) (after : Loaded) → Gives most before o text bad after → (false ≡ bad) × (before ≡ after)
   from_answered u c a block unnamed command m is o e text bad after (formless f) = cc
   from_answered u c a block unnamed command m is o e text bad after (taken v n named is_taken) =
       let unit : v ≡ u = cc in absurd (none-some n (sym unnamed ∙ ap name_of (sym unit) ∙ named))
   from_answered u c a block unnamed command m is o e text bad after (refused v n r named not_taken wrong) =
       let unit : v ≡ u = cc in absurd (none-some n (sym unnamed ∙ ap name_of (sym unit) ∙ named))
-  from_answered u c a block unnamed command m is o e text bad after (accepted v n b named not_taken module_is) =
+  from_answered u c a block unnamed command m is o e text bad after (accepted v n reached b named not_taken module_is) =
       let unit : v ≡ u = cc in absurd (none-some n (sym unnamed ∙ ap name_of (sym unit) ∙ named))
   from_answered u c a block unnamed command m is o e text bad after (no_command v f other wrong) =
       let unit : v ≡ u = cc in
@@ -110,16 +171,16 @@ module _ (most : ℕ) (before : List Accepted) where
       let unit : v ≡ u = cc in
       let both : Ok d ≡ Ok c = sym asked ∙ ap command_of unit ∙ command in
       let same : d ≡ c = cc in
-      absurd (command_holds a most block before c cause m is (subst (λ k. CommandFault before k cause) same wrong))
+      absurd (command_holds a most block before.modules c cause m is (subst (λ k. CommandFault before.modules k cause) same wrong))
   from_answered u c a block unnamed command m is o e text bad after (answered v d b other_block other asked at answer) = (refl, refl)
 
   -- a unit gives refusals alone or none, and the same modules after it
-  gives_one : (o : Outcome) (text other : List ℕ) (bad worse : Bool) (after later : List Accepted) → Gives most before o text bad after → Gives most before o other worse later
+  gives_one : (o : Outcome) (text other : List ℕ) (bad worse : Bool) (after later : Loaded) → Gives most before o text bad after → Gives most before o other worse later
       → (bad ≡ worse) × (after ≡ later)
-  gives_one o text other bad worse after later (accepted u n a named free is) q = from_accepted u n a named free is o refl other worse later q
+  gives_one o text other bad worse after later (accepted u n reached a named free is) q = from_accepted u n reached a named free is o refl other worse later q
   gives_one o text other bad worse after later (answered u c a block unnamed command m is) q = from_answered u c a block unnamed command m is o refl other worse later q
-  gives_one o text other bad worse after later p (accepted u n a named free is) =
-      let back = from_accepted u n a named free is o refl text bad after p in (sym back.0, sym back.1)
+  gives_one o text other bad worse after later p (accepted u n reached a named free is) =
+      let back = from_accepted u n reached a named free is o refl text bad after p in (sym back.0, sym back.1)
   gives_one o text other bad worse after later p (answered u c a block unnamed command m is) =
       let back = from_answered u c a block unnamed command m is o refl text bad after p in (sym back.0, sym back.1)
   gives_one o text other bad worse after later p q = (refl, refl)
@@ -135,7 +196,7 @@ one_unit tokens at o other next behind p q =
 
 module _ (most : ℕ) (tokens : List Token) where
   -- no place within a unit is reached
-  none_within : (fuel p q : ℕ) (ms ns : List Accepted) (t u : List ℕ) (bad worse : Bool) → Answered most tokens p ms t bad → Answered most tokens q ns u worse → p + q ≤ fuel → p < q
+  none_within : (fuel p q : ℕ) (ms ns : Loaded) (t u : List ℕ) (bad worse : Bool) → Answered most tokens p ms t bad → Answered most tokens q ns u worse → p + q ≤ fuel → p < q
       → (o : Outcome) (next : ℕ) → Reads false tokens p o next → next ≤ q
   none_within zero p q ms ns t u bad worse d e small less o next reads = absurd (omega (arith, small, less))
   none_within (suc fuel) p zero ms ns t u bad worse d nothing_yet small less o next reads = absurd (omega (arith, less))
@@ -149,8 +210,14 @@ module _ (most : ℕ) (tokens : List Token) where
       apart)
       (cases_order at p)
 
+  -- the units and the modules have the same names
+  names_held : (p : ℕ) (l : Loaded) (t : List ℕ) (bad : Bool) → Answered most tokens p l t bad → AreNamed l
+  names_held p l t bad nothing_yet = refl
+  names_held p l t bad (one_more at before text was d outcome next last flag after read gives) =
+      names_kept most before (names_held at before text was d) outcome last flag after gives
+
   -- the modules at a place are determined, and whether something was refused
-  answered_one : (p q : ℕ) (ms ns : List Accepted) (t u : List ℕ) (bad worse : Bool) → Answered most tokens p ms t bad → Answered most tokens q ns u worse → p ≡ q → (ms ≡ ns) × (bad ≡ worse)
+  answered_one : (p q : ℕ) (ms ns : Loaded) (t u : List ℕ) (bad worse : Bool) → Answered most tokens p ms t bad → Answered most tokens q ns u worse → p ≡ q → (ms ≡ ns) × (bad ≡ worse)
   answered_one p q ms ns t u bad worse nothing_yet nothing_yet e = (refl, refl)
   answered_one p q ms ns t u bad worse nothing_yet (one_more at before text was d outcome next last flag after read gives) e =
       let further = read.further in absurd (omega (arith, further, e))
@@ -163,7 +230,7 @@ module _ (most : ℕ) (tokens : List Token) where
       let rest = answered_one at place before earlier text written was wrong d k same in
       let one = one_unit tokens place outcome out p q (subst (λ i. Reads false tokens i outcome p) same read) reads in
       let first : Gives most earlier out last flag after = subst (λ x. Gives most earlier x last flag after) one.0 (subst (λ xs. Gives most xs outcome last flag after) rest.0 gives) in
-      let here = gives_one most earlier out last behind flag worst after later first given in
+      let here = gives_one most earlier (names_held place earlier written wrong k) out last behind flag worst after later first given in
       (here.1, ap (λ b. b || flag) rest.1 ∙ ap (λ b. wrong || b) here.0))
       (λ apart. ⊎_elim
       (λ below. let on = none_within (at + place) at place before earlier text written was wrong d k (omega arith) below outcome p read in

@@ -1,0 +1,249 @@
+-- A unit is one module at most, which reaches the same units, and none where it is refused.
+use Rattle.std.proofs.Common.{◌≡◌, ◌∙◌, ℕ, zero, suc, Bool, List, [], ◌∷◌, ◌++◌, map, flat_map, length, slice_get, Some, None, Ok, Err, Result, refl, sym, ap, subst, arith, ⊎_elim}
+use Rattle.std.proofs.lemmas.Option.{none-some, slice_get_within}
+use Rattle.mw_logic.specs.Term.{Variable, RawTerm}
+use Rattle.mw_logic.specs.Signature.{Signature, Sorted, sort, kind, SameKind, same}
+use Rattle.mw_logic.specs.Accepted.{IsAccepted as IsAcceptedSignature}
+use Rattle.mw_logic.specs.Preregular.{AreOfKinds}
+use Rattle.mw_logic.specs.Module.{Statement}
+use Rattle.mw_sorting.specs.PreregularModulo.{IsOfKind, IsPreregularModulo}
+use Rattle.mw_sorts.specs.Entries.{IsEntry, AreEntries}
+use Rattle.mw_sorts.specs.Faults.{IsFirstFault}
+use Rattle.mw_sorts.specs.Groupings.{IsFirstGroupingFault, three_of}
+use Rattle.mw_sorts.specs.Leaving.{IsFirstIdentityFault}
+use Rattle.mw_carry.specs.Laws.{OperatorsApart}
+use Rattle.mw_carry.proofs.Once.{carried_one}
+use Rattle.mw_module.specs.declared.faults.Fault.{Fault}
+use Rattle.mw_module.specs.declared.faults.FaultKind.{FaultKind}
+use Rattle.mw_module.specs.Units.{SeenLined, SeenUnit}
+use Rattle.mw_import.specs.Flat.{FlatUnit, ImportOf, imports_of, number_named, brought_by, firsts, IsFlat, IsWrong, circular, unknown, ImportFault}
+use Rattle.mw_declare.specs.declared.declarations.Declarations.{Declarations}
+use Rattle.mw_declare.specs.Faults.{Typing, typing_of}
+use Rattle.mw_declare.specs.Declarations.{Declares, DeclarationFault}
+use Rattle.mw_declare.proofs.Accepting.{apart_declared}
+use Rattle.mw_declare.proofs.OneDeclaration.{one_declaration, none_at_fault}
+use Rattle.mw_build.specs.SignatureFaults.{SignatureFault, no_least, groupings, identity}
+use Rattle.mw_build.specs.Pairwise.{AreRelated, IsFirstWrong}
+use Rattle.mw_build.specs.Sides.{Sides, equations_of}
+use Rattle.mw_build.specs.Equations.{FitsIn, Oversized, deep, large, statement_of, IsApplicable, ApplicationFault, lone, open_right, IsStatementOf, SidesFault, big_left, big_right, inapplicable, IsEquation, EquationFault, long, unread, unclear, sides, HasFault}
+use Rattle.mw_build.specs.Imported.{Accepted, Origin, origins_of, IsImported, ImportedFault, HasFaultAt}
+use Rattle.mw_build.specs.Modules.{IsFlattened, flattened, IsDeclaredModule, StatementsFault, by_signature, by_imported, by_equations, IsAccepted, IsRefused, by_variables, by_imports, by_declarations, by_statements}
+use Rattle.mw_build.proofs.Pairwise.{there}
+
+-- lists as long as each other that agree at each place are one
+same_lists : {X : Type 0} (xs ys : List X) → length xs ≡ length ys → ((i : ℕ) (x y : X) → slice_get xs i ≡ Some x → slice_get ys i ≡ Some y → x ≡ y) → xs ≡ ys
+same_lists [] [] n h = refl
+same_lists [] (y ∷ ys) n h = absurd (omega (arith, n))
+same_lists (x ∷ xs) [] n h = absurd (omega (arith, n))
+same_lists (x ∷ xs) (y ∷ ys) n h =
+    let front = h zero x y refl refl in
+    let rest = same_lists xs ys (omega (arith, n)) (λ i a b. h (suc i) a b) in
+    cc
+
+module _ {A B : Type 0} (R : A → B → Type 0) where
+  -- where one thing corresponds to each item, one list does
+  one_related : ((a : A) (b c : B) → R a b → R a c → b ≡ c) → (ps : List A) (bs cs : List B) → AreRelated R ps bs → AreRelated R ps cs → bs ≡ cs
+  one_related one ps bs cs p q = same_lists bs cs (p.count ∙ sym q.count)
+      (λ i b c at_b at_c.
+      let w = slice_get_within bs i b at_b in
+      let e = there ps i (omega (arith, w, p.count)) in
+      one e.0 b c (p.each i e.0 b e.1 at_b) (q.each i e.0 c e.1 at_c))
+
+  -- and none is wrong where one corresponds to each, and to none that is wrong
+  none_wrong : (W : A → Type 0) → ((a : A) (b : B) → R a b → W a → ⊥) → (ps : List A) (bs : List B) → AreRelated R ps bs → IsFirstWrong R W ps → ⊥
+  none_wrong W not ps bs p f =
+      let w = slice_get_within ps f.place f.item f.is_there in
+      let b = there bs f.place (omega (arith, w, p.count)) in
+      not f.item b.0 (p.each f.place f.item b.0 f.is_there b.1) f.fault
+
+pub not_big : (sig : Signature) (t : RawTerm) (cause : FaultKind) → FitsIn sig t → Oversized sig t cause → ⊥
+not_big sig t cause f (deep k) = f.not_deep k
+not_big sig t cause f (large s k) = f.not_large k
+
+module _ (sig : Signature) where
+  application_holds : (left right : RawTerm) (cause : FaultKind) → IsApplicable sig left right → ApplicationFault sig left right cause → ⊥
+  application_holds left right cause a (lone is) = a.not_lone is
+  application_holds left right cause a (open_right x not is) = absurd (none-some x (sym a.bound ∙ is))
+
+  sides_hold : (left right : RawTerm) (executable : Bool) (st : Statement) (cause : FaultKind) → IsStatementOf sig left right executable st → SidesFault sig left right executable cause → ⊥
+  sides_hold left right executable st cause s (big_left why big) = not_big sig left why s.left_fits big
+  sides_hold left right executable st cause s (big_right why fits big) = not_big sig right why s.right_fits big
+  sides_hold left right executable st cause s (inapplicable why f g is fault) = application_holds left right why (s.applicable is) fault
+
+  module _ (variables : List Variable) where
+    same_sides : (e : Sides) (st other : Statement) (p : IsEquation sig variables e st) (q : IsEquation sig variables e other) → ◌≡◌ {A = RawTerm × RawTerm} (p.left, p.right) (q.left, q.right)
+    same_sides e st other p q = q.read.only.1 (p.left, p.right) p.read.only.0
+
+    -- an equation is one statement
+    one_statement : (e : Sides) (st other : Statement) → IsEquation sig variables e st → IsEquation sig variables e other → st ≡ other
+    one_statement e st other p q =
+        let left : p.left ≡ q.left = ap (λ (s : RawTerm × RawTerm). s.0) (same_sides e st other p q) in
+        let right : p.right ≡ q.right = ap (λ (s : RawTerm × RawTerm). s.1) (same_sides e st other p q) in
+        p.sides.statement ∙ ap (λ t. statement_of t p.right e.executable) left ∙ ap (λ t. statement_of q.left t e.executable) right ∙ sym q.sides.statement
+
+    equation_holds : (e : Sides) (st : Statement) (cause : FaultKind) → IsEquation sig variables e st → EquationFault sig variables e cause → ⊥
+    equation_holds e st cause p (long h) = ⊎_elim (λ k. omega (arith, k, p.read.short_left)) (λ k. omega (arith, k, p.read.short_right)) h
+    equation_holds e st cause p (unread f g none) = none (p.left, p.right) p.read.only.0
+    equation_holds e st cause p (unclear f g (x, y, (of_x, of_y, differ))) = differ (p.read.only.1 x of_x ∙ sym (p.read.only.1 y of_y))
+    equation_holds e st cause p (sides left right why read fault) =
+        let pair : ◌≡◌ {A = RawTerm × RawTerm} (left, right) (p.left, p.right) = p.read.only.1 (left, right) read.only.0 in
+        sides_hold p.left p.right e.executable st why p.sides (subst (λ (s : RawTerm × RawTerm). SidesFault sig s.0 s.1 e.executable why) pair fault)
+
+module _ (sig : Signature) (ok : IsAcceptedSignature sig) (apart : OperatorsApart sig) where
+  -- a statement of another signature is one statement here
+  one_imported : (e : Origin) (st other : Statement) → IsImported sig e st → IsImported sig e other → st ≡ other
+  one_imported e st other p q =
+      let left : st.left ≡ other.left = carried_one e.signature sig ok apart p.carried.left q.carried.left in
+      let right : st.right ≡ other.right = carried_one e.signature sig ok apart p.carried.right q.carried.right in
+      p.holds.statement ∙ ap (λ t. statement_of t st.right e.statement.executable) left ∙ ap (λ t. statement_of other.left t e.statement.executable) right
+      ∙ sym q.holds.statement
+
+  imported_holds : (e : Origin) (st : Statement) (cause : FaultKind) → IsImported sig e st → ImportedFault sig e cause → ⊥
+  imported_holds e st cause p f =
+      let left : f.left ≡ st.left = carried_one e.signature sig ok apart f.carried_left p.carried.left in
+      let right : f.right ≡ st.right = carried_one e.signature sig ok apart f.carried_right p.carried.right in
+      sides_hold sig st.left st.right e.statement.executable st cause p.holds
+      (subst (λ t. SidesFault sig t st.right e.statement.executable cause) left
+      (subst (λ t. SidesFault sig f.left t e.statement.executable cause) right f.fault))
+
+entries_of_kinds : (sig : Signature) (Ss : List Sorted) (Ks : List ℕ) → AreEntries sig Ss Ks → AreOfKinds sig Ss Ks
+entries_of_kinds sig [] [] a = tt
+entries_of_kinds sig [] (K ∷ Ks) a = absurd a
+entries_of_kinds sig (S ∷ Ss) [] a = absurd a
+entries_of_kinds sig (sort S ∷ Ss) (K ∷ Ks) a = (a.0, entries_of_kinds sig Ss Ks a.1)
+entries_of_kinds sig (kind L ∷ Ss) (K ∷ Ks) a = (subst (SameKind sig L) a.0 same, entries_of_kinds sig Ss Ks a.1)
+
+-- a preregular signature has no operator without a least result
+no_lack : (sig : Signature) (f : ℕ) (Ss : List Sorted) → IsPreregularModulo sig → IsFirstFault sig f Ss → ⊥
+no_lack sig f Ss p first =
+    let lack = first.lack in
+    let (R, r) = p.results f first.operator first.is_there Ss (entries_of_kinds sig Ss first.operator.args lack.entries) in
+    ⊎_elim (λ l. lack.lacks.no_least R l) (λ n. n.0 lack.lacks.taken.0 lack.lacks.taken.1) r
+
+-- nor one whose groupings differ
+no_grouping : (sig : Signature) (f : ℕ) (Ss : List Sorted) → IsPreregularModulo sig → IsFirstGroupingFault sig f Ss → ⊥
+no_grouping sig f Ss p first =
+    let (V, W, g, differ) = first.grouping.differs in
+    let kinds = subst (λ Ts. AreOfKinds sig Ts (three_of first.operator)) g.sorts (entries_of_kinds sig Ss (three_of first.operator) first.grouping.entries) in
+    differ (p.associative f first.operator first.is_there first.assoc g.first g.middle g.last g.front g.back V W kinds.0 kinds.1.0 kinds.1.1.0 g.front_is g.front_gives g.back_is g.back_gives)
+
+of_entry : (sig : Signature) (S : Sorted) (K : ℕ) → IsEntry sig K S → IsOfKind sig K S
+of_entry sig (sort S) K e = e
+of_entry sig (kind L) K e = subst (SameKind sig L) e same
+
+-- nor one whose identity raises a sort
+no_raising : (sig : Signature) (f : ℕ) (S : Sorted) → IsPreregularModulo sig → IsFirstIdentityFault sig f S → ⊥
+no_raising sig f S p first =
+    let (E, is, (R, beside, not)) = first.left.raises in
+    let low = p.identity f first.operator is.0 first.is_there is.1 E S R is.2 (of_entry sig S first.operator.result first.left.entry) in
+    not (⊎_elim low.0 low.1 beside)
+
+signature_holds : (line : ℕ) (sig : Signature) (r : Fault) → IsPreregularModulo sig → SignatureFault line sig r → ⊥
+signature_holds line sig r p (no_least f Ss first is) = no_lack sig f Ss p first
+signature_holds line sig r p (groupings f Ss first preregular is) = no_grouping sig f Ss p first
+signature_holds line sig r p (identity f S first preregular alike is) = no_raising sig f S p first
+
+-- modules are one whose parts are
+same_module : (a b : Accepted) → a.name ≡ b.name → a.module.signature ≡ b.module.signature → a.module.statements ≡ b.module.statements → a.variables ≡ b.variables
+    → a.own ≡ b.own → a ≡ b
+same_module a b n s e v o = λ i. record { name = n i; «module» = record { signature = s i; statements = e i }; variables = v i; own = o i }
+
+-- what declarations and statements are
+module _ (name : List ℕ) (d : Declarations) (apart : OperatorsApart d.signature) (origins : List Origin) (equations : List Sides) (a : Accepted)
+    (p : IsDeclaredModule name d origins equations a) where
+  one_declared : (b : Accepted) → IsDeclaredModule name d origins equations b → a ≡ b
+  one_declared b q =
+      let imported : p.imported ≡ q.imported =
+      one_related (IsImported d.signature) (one_imported d.signature p.preregular.accepted apart) origins p.imported q.imported p.imported_are q.imported_are in
+      let own : a.own ≡ b.own =
+      one_related (IsEquation d.signature d.variables) (one_statement d.signature d.variables) equations a.own b.own p.equations_are q.equations_are in
+      let statements : a.module.statements ≡ b.module.statements =
+      p.statements ∙ ap (λ xs. xs ++ a.own) imported ∙ ap (λ xs. q.imported ++ xs) own ∙ sym q.statements in
+      same_module a b (p.named ∙ sym q.named) (p.signature ∙ sym q.signature) statements (p.variables ∙ sym q.variables) own
+
+  statements_hold : (line : ℕ) (r : Fault) → StatementsFault line d origins equations r → ⊥
+  statements_hold line r (by_signature f) = signature_holds line d.signature r p.preregular f
+  statements_hold line r (by_imported preregular f) = none_wrong (IsImported d.signature) (HasFaultAt d.signature line r)
+      (λ e st is w. imported_holds d.signature p.preregular.accepted apart e st r.kind is w.0) origins p.imported p.imported_are f
+  statements_hold line r (by_equations imported preregular are f) = none_wrong (IsEquation d.signature d.variables) (HasFault d.signature d.variables r)
+      (λ e st is w. equation_holds d.signature d.variables e st r.kind is w.0) equations a.own p.equations_are f
+
+-- numbers that are all there are told by the list
+same_numbers : (js ks : List ℕ) → map Some js ≡ map Some ks → js ≡ ks
+same_numbers [] [] e = refl
+same_numbers [] (k ∷ ks) e = cc
+same_numbers (j ∷ js) [] e = cc
+same_numbers (j ∷ js) (k ∷ ks) e =
+    let head : j ≡ k = cc in
+    let tail : map Some js ≡ map Some ks = cc in
+    let rest = same_numbers js ks tail in
+    cc
+
+module _ (us : List FlatUnit) where
+  one_reached : (ss : List SeenLined) (r s : List ℕ) → IsFlat us ss r → IsFlat us ss s → r ≡ s
+  one_reached ss r s p q =
+      p.flat ∙ ap (λ ks. firsts (flat_map (brought_by us) ks)) (same_numbers p.numbers q.numbers (sym p.named ∙ q.named)) ∙ sym q.flat
+
+  number_at : (is : List ImportOf) (ks : List ℕ) → map (λ (i : ImportOf). number_named us i.name) is ≡ map Some ks → (place : ℕ) (i : ImportOf) → slice_get is place ≡ Some i
+      → (k : ℕ) × (number_named us i.name ≡ Some k)
+  number_at [] ks e place i at = absurd (none-some i at)
+  number_at (h ∷ is) [] e place i at = cc
+  number_at (h ∷ is) (k ∷ ks) e zero i at =
+      let item : h ≡ i = cc in
+      let number : number_named us h.name ≡ Some k = cc in
+      (k, ap (λ (x : ImportOf). number_named us x.name) (sym item) ∙ number)
+  number_at (h ∷ is) (k ∷ ks) e (suc place) i at =
+      let rest : map (λ (i : ImportOf). number_named us i.name) is ≡ map Some ks = cc in
+      number_at is ks rest place i at
+
+  module _ (own : List ℕ) (new : number_named us own ≡ None) where
+    not_wrong : (i : ImportOf) (k : ℕ) → number_named us i.name ≡ Some k → (r : Fault) → IsWrong us own i r → ⊥
+    not_wrong i k is r (circular e) = none-some k (sym new ∙ ap (number_named us) (sym e) ∙ is)
+    not_wrong i k is r (unknown other none) = none-some k (sym none ∙ is)
+
+    imports_hold : (ss : List SeenLined) (reached : List ℕ) (r : Fault) → IsFlat us ss reached → ImportFault us own ss r → ⊥
+    imports_hold ss reached r p f =
+        let k = number_at (imports_of ss) p.numbers p.named f.place f.wrong f.is_there in
+        not_wrong f.wrong k.0 k.1 r f.is
+
+module _ (us : List FlatUnit) (ms : List Accepted) (u : SeenUnit) (n r : List ℕ) (a : Accepted) (p : IsAccepted us ms u n r a) where
+  same_typing : (t : Typing) → typing_of u.statements ≡ Ok t → t ≡ p.typing
+  same_typing t e = let both : ◌≡◌ {A = Result Typing Fault} (Ok t) (Ok p.typing) = sym e ∙ p.flat.typed in cc
+
+  same_reached : (t : Typing) (s : List ℕ) → IsFlattened us u t s → s ≡ r
+  same_reached t s f = one_reached us u.statements s r f.flat p.flat.flat
+
+  same_declarations : (t : Typing) (s : List ℕ) (d : Declarations) → IsFlattened us u t s → Declares t (flattened us u s) d → d ≡ p.declarations
+  same_declarations t s d f e = one_declaration p.typing (flattened us u r) d p.declarations
+      (subst (λ k. Declares p.typing (flattened us u k) d) (same_reached t s f) (subst (λ k. Declares k (flattened us u s) d) (same_typing t f.typed) e)) p.declared
+
+  apart : OperatorsApart p.declarations.signature
+  apart = apart_declared p.typing (flattened us u r) p.declarations p.declared
+
+  -- a unit is one module
+  one_more : (s : List ℕ) (b : Accepted) → IsAccepted us ms u n s b → (r ≡ s) × (a ≡ b)
+  one_more s b q =
+      let reached : s ≡ r = same_reached q.typing s q.flat in
+      let d : q.declarations ≡ p.declarations = same_declarations q.typing s q.declarations q.flat q.declared in
+      let holds : IsDeclaredModule n p.declarations (origins_of ms r) (equations_of u.statements) b =
+      subst (λ k. IsDeclaredModule n k (origins_of ms r) (equations_of u.statements) b) d
+      (subst (λ ks. IsDeclaredModule n q.declarations (origins_of ms ks) (equations_of u.statements) b) reached q.holds) in
+      (sym reached, one_declared n p.declarations apart (origins_of ms r) (equations_of u.statements) a p.holds b holds)
+
+  -- and then it isn't refused
+  none_refused : number_named us n ≡ None → (f : Fault) → IsRefused us ms u n f → ⊥
+  none_refused new f (by_variables e) = let both : ◌≡◌ {A = Result Typing Fault} (Err f) (Ok p.typing) = sym e ∙ p.flat.typed in cc
+  none_refused new f (by_imports t e fault) = imports_hold us n new u.statements r f p.flat.flat fault
+  none_refused new f (by_declarations t s flat fault) = none_at_fault u.line (flattened us u r) p.typing p.declarations f p.declared
+      (subst (λ ks. DeclarationFault u.line (flattened us u ks) f) (same_reached t s flat) fault)
+  none_refused new f (by_statements t s d flat e fault) =
+      statements_hold n p.declarations apart (origins_of ms r) (equations_of u.statements) a p.holds u.line f
+      (subst (λ k. StatementsFault u.line k (origins_of ms r) (equations_of u.statements) f) (same_declarations t s d flat e)
+      (subst (λ ks. StatementsFault u.line d (origins_of ms ks) (equations_of u.statements) f) (same_reached t s flat) fault))
+
+pub one_module : (us : List FlatUnit) (ms : List Accepted) (u : SeenUnit) (n r s : List ℕ) (a b : Accepted) → IsAccepted us ms u n r a → IsAccepted us ms u n s b → (r ≡ s) × (a ≡ b)
+one_module us ms u n r s a b p q = one_more us ms u n r a p s b q
+
+pub not_refused : (us : List FlatUnit) (ms : List Accepted) (u : SeenUnit) (n r : List ℕ) (a : Accepted) → IsAccepted us ms u n r a → number_named us n ≡ None → (f : Fault)
+    → IsRefused us ms u n f → ⊥
+not_refused us ms u n r a p new f refused = none_refused us ms u n r a p new f refused
