@@ -90,6 +90,6 @@ module _ (sig : Signature) (ok : IsPreregularModulo sig) (variables : List Varia
 
   pub all_stand : (i : ℕ) (st : Statement) → slice_get sts i ≡ Some st → CanStand sig st
   all_stand i st is = elim (either (take count sts) (drop count sts) i st (subst (λ xs. slice_get xs i ≡ Some st) (sym (take-append-drop count sts)) is)) [
-      | inl h ↦ front_stands i st h
-      | inr h ↦ own_stands h.0 st h.1
-    ]
+    | inl h ↦ front_stands i st h
+    | inr h ↦ own_stands h.0 st h.1
+  ]

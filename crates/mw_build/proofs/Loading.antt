@@ -1,5 +1,5 @@
 -- Modules that were accepted one after another.
-use Rattle.std.proofs.Common.{◌≡◌, ◌∙◌, ◌<◌, ◌++◌, ◌⊎◌, ℕ, zero, suc, List, [], ◌∷◌, length, map, flat_map, slice_get, Option, Some, None, All, refl, sym, ap, subst, inl, inr, ⊎_elim, arith}
+use Rattle.std.proofs.Common.{◌≡◌, ◌∙◌, ◌<◌, ◌++◌, ℕ, suc, List, [], ◌∷◌, length, map, slice_get, Option, Some, None, All, refl, sym, ap, subst, inl, inr, ⊎_elim, arith}
 use Rattle.std.proofs.lemmas.List.{map-append}
 use Rattle.std.proofs.lemmas.Option.{slice_get_within}
 use Rattle.std.proofs.lemmas.List.Elements.{All-nil, All-append, All-map}
@@ -47,9 +47,12 @@ module _ (us : List FlatUnit) (ms : List Accepted) (accepted : AreAccepted us) (
       let inner = all_statements us of.line u.reached u.statements in
       let within = flattened_within.within us ss line of.line k reached u accepted flat member at in
       let part : IsPart (signature_of inner) (signature_of (all_statements us line reached ss)) =
-      parts_are_there inner (all_statements us line reached ss) within of.declared.known declared.known in
-      (m, is, subst (λ (S : Signature). IsPart S d.signature) (sym (of.signature ∙ signature_is of.typing inner of.declarations of.declared))
-      (subst (IsPart (signature_of inner)) (sym (signature_is typing (all_statements us line reached ss) d declared)) part))
+      parts_are_there inner (all_statements us line reached ss) within of.declared.known declared.known in (
+        m,
+        is,
+        subst (λ (S : Signature). IsPart S d.signature) (sym (of.signature ∙ signature_is of.typing inner of.declarations of.declared))
+            (subst (IsPart (signature_of inner)) (sym (signature_is typing (all_statements us line reached ss) d declared)) part),
+      )
 
 -- What holds of the forms of statements of units holds of those of a flattened module.
 module _ (P : Shape → Type 0) (us : List FlatUnit) (each : (k : ℕ) (u : FlatUnit) → slice_get us k ≡ Some u → All (λ (s : SeenLined). P s.shape) u.statements) where

@@ -1,10 +1,10 @@
 -- The statements of modules that are reached, one module after the other.
-use Rattle.std.proofs.Common.{◌≡◌, ◌∙◌, ◌<◌, ◌+◌, ◌++◌, ℕ, zero, suc, List, [], ◌∷◌, length, get_or, take, drop, flat_map, slice_get, Some, refl, sym, ap, subst, arith, append_assoc}
+use Rattle.std.proofs.Common.{◌≡◌, ◌∙◌, ◌<◌, ◌+◌, ◌++◌, ℕ, zero, suc, List, [], ◌∷◌, length, get_or, take, drop, slice_get, Some, refl, sym, ap, subst, arith, append_assoc}
 use Rattle.std.proofs.lemmas.List.{append-nil}
 use Rattle.std.proofs.lemmas.Grind.{flat_map-append}
 use Rattle.std.proofs.lemmas.Option.{slice_get-get_or, get_or_from_slice_get}
 use Rattle.std.proofs.Math.Seq.{split_at}
-use Rattle.mw_logic.specs.Signature.{Signature, Member}
+use Rattle.mw_logic.specs.Signature.{Signature}
 use Rattle.mw_sorts.proofs.Getting.{get-member}
 use Rattle.mw_carry.specs.Carried.{IsPart}
 use Rattle.mw_build.specs.Imported.{Accepted, Origin, origins_in, origins_of, ArePartsOf}

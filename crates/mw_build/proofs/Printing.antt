@@ -1,5 +1,5 @@
 -- What is printed of an accepted module's terms reads back.
-use Rattle.std.proofs.Common.{length, ◌≡◌, ◌∙◌, ◌++◌, ◌||◌, ℕ, zero, suc, List, false, Option, Some, None, IsFalse, IsTrue, slice_get, codes, sym, ap, subst, refl, arith, inl, inr, ⊎_elim}
+use Rattle.std.proofs.Common.{length, ◌≡◌, ◌∙◌, ◌++◌, ℕ, zero, suc, List, false, Option, Some, None, IsFalse, IsTrue, slice_get, codes, sym, ap, subst, refl, arith, inl, inr, ⊎_elim}
 use Rattle.std.proofs.lemmas.Bool.{or_left, or_right, or_cases}
 use Rattle.std.proofs.lemmas.Option.{slice_get_within, none-some}
 use Rattle.std.proofs.lemmas.List.Elements.{All-map}
@@ -25,13 +25,12 @@ use Rattle.mw_module.proofs.Sources.{units_are_of_tokens}
 use Rattle.mw_build.specs.Sides.{Sides, equations_of}
 use Rattle.mw_build.proofs.SidesOfTokens.{AreSides, equations_proper}
 use Rattle.mw_declare.specs.declared.declarations.Declarations.{Declarations}
-use Rattle.mw_declare.specs.Faults.{Typing}
 use Rattle.mw_import.specs.Flat.{FlatUnit}
 use Rattle.mw_declare.specs.Proper.{IsProperVariable, AreProper}
 use Rattle.mw_declare.proofs.Proper.{all_at, declarations_are_proper}
 use Rattle.mw_print.specs.Laws.{AreBinary, ArePrintable, IsPrintable}
 use Rattle.mw_print.proofs.ReadBack.{printed_reads_back}
-use Rattle.mw_build.specs.Equations.{IsEquation, AreEquations}
+use Rattle.mw_build.specs.Equations.{IsEquation}
 use Rattle.mw_build.specs.Imported.{Accepted, Origin, origins_in, origins_of}
 use Rattle.mw_build.specs.Modules.{IsAccepted, flattened}
 use Rattle.mw_build.specs.Printing.{AreOfTokens, none_yet, one_more, IsOfSource, IsPrintableStatement, TextsReadBack, StatementsArePrintable}
@@ -115,9 +114,9 @@ mutual
       → (x : Variable) → IsTrue (occurs_in x us) → IsPrintable to x
   all_printable sig to ts us end p x h = cc
   all_printable sig to ts us (next t u vs ws c cs) p x h = elim (or_cases (occurs x u) (occurs_in x ws) h) [
-      | inl k ↦ carried_printable sig to t u c (λ y o. p y (or_left (occurs y t) (occurs_in y vs) o)) x k
-      | inr k ↦ all_printable sig to vs ws cs (λ y o. p y (or_right (occurs y t) (occurs_in y vs) o)) x k
-    ]
+    | inl k ↦ carried_printable sig to t u c (λ y o. p y (or_left (occurs y t) (occurs_in y vs) o)) x k
+    | inr k ↦ all_printable sig to vs ws cs (λ y o. p y (or_right (occurs y t) (occurs_in y vs) o)) x k
+  ]
 
 -- The modules of units of tokens: units have proper statements, and the modules' own statements can be printed.
 record AreFine (us : List FlatUnit) (ms : List Accepted) : Type 0 where
@@ -177,9 +176,9 @@ module _ (source : List ℕ) (a : Accepted) (of : IsOfSource source a) where
   statements_printable : (k : ℕ) (st : Statement) → at_number a.module.statements k ≡ Some st → IsPrintableStatement of.accepted.declarations.signature st
   statements_printable zero st is = cc
   statements_printable (suc i) st is = elim (either of.accepted.holds.imported a.own i st (subst (λ sts. slice_get sts i ≡ Some st) of.accepted.holds.statements is)) [
-      | inl h ↦ imported_printable i st h
-      | inr h ↦ own_printable of.units of.modules before.proper of.unit made.statements a.name of.reached a of.accepted h.0 st h.1
-    ]
+    | inl h ↦ imported_printable i st h
+    | inr h ↦ own_printable of.units of.modules before.proper of.unit made.statements a.name of.reached a of.accepted h.0 st h.1
+  ]
 
 pub texts_read_back : TextsReadBack
 texts_read_back source a t of raw printable =

@@ -1,5 +1,5 @@
 -- Sides of equations: canonical forms tell which are lone, and a module of them is one that contexts hold.
-use Rattle.std.proofs.Common.{◌≡◌, ◌∙◌, ◌||◌, ◌++◌, ℕ, zero, suc, List, [], ◌∷◌, Bool, true, false, cond, if◌then◌else◌, slice_get, All, Option, Some, None, IsTrue, Result, Ok, Err, IfOk, MatchOption, MatchResult, refl, sym, ap, subst, arith, inl, inr}
+use Rattle.std.proofs.Common.{◌≡◌, ◌∙◌, ◌||◌, ◌++◌, ℕ, zero, suc, List, [], ◌∷◌, Bool, true, false, cond, if◌then◌else◌, slice_get, All, Option, Some, None, IsTrue, Result, Ok, Err, IfOk, MatchOption, MatchResult, refl, sym, ap, subst, inl, inr}
 use Rattle.std.specs.Prelude.{⊤}
 use Rattle.std.proofs.lemmas.Bool.{both_ways, or_left, or_right, or_cases}
 use Rattle.std.proofs.lemmas.List.Elements.{All-nil, All-cons}
@@ -36,7 +36,7 @@ use Rattle.mw_build.proofs.Mentioned.{is_met-is}
 use Rattle.mw_build.proofs.Pairwise.{there}
 use Rattle.mw_build.proofs.PrintedVariables.{named_there}
 use Rattle.mw_module.specs.declared.faults.FaultKind.{FaultKind}
-use Rattle.mw_build.specs.Equations.{unbound, FitsIn, Oversized, IsLone, statement_of, IsApplicable, ApplicationFault, SidesFault, inapplicable, IsStatementOf, IsEquation, AreEquations}
+use Rattle.mw_build.specs.Equations.{unbound, FitsIn, Oversized, IsLone, statement_of, IsApplicable, ApplicationFault, SidesFault, inapplicable, IsStatementOf, IsEquation}
 
 -- where none is missing, each is bound
 none_missing : (bound xs : List Variable) → missing_in bound xs ≡ None → (x : Variable) → is_in x xs ≡ true → is_met bound x ≡ true

@@ -1,5 +1,5 @@
 -- Which statement an equation is, and what is wrong with one. (Maude Manual, chapter 4, "Unconditional equations".)
-use Rattle.std.specs.Prelude.{◌≡◌, ◌<◌, ◌⊎◌, ℕ, List, [], length, slice_get, Bool, false, IsTrue, Option, Some, None}
+use Rattle.std.specs.Prelude.{◌≡◌, ◌<◌, ◌⊎◌, List, [], length, Bool, false, IsTrue, Option, Some, None}
 use Rattle.mw_logic.specs.Term.{Variable, RawTerm, variable}
 use Rattle.mw_logic.specs.Signature.{Signature}
 use Rattle.mw_logic.specs.Axioms.{EqualModulo}

@@ -1,6 +1,6 @@
 -- What a module reaches, among more units, and the statements of flattened modules.
-use Rattle.std.proofs.Common.{◌≡◌, ◌⊎◌, ◌∙◌, ℕ, zero, suc, ◌<◌, List, [], ◌∷◌, ◌++◌, map, length, Some, refl, sym, ap, inl, inr, subst, slice_get, arith}
-use Rattle.std.proofs.lemmas.Option.{slice_get_within, same_Some}
+use Rattle.std.proofs.Common.{◌≡◌, ◌∙◌, ℕ, zero, suc, ◌<◌, List, [], ◌∷◌, ◌++◌, map, length, Some, refl, sym, ap, inl, inr, subst, slice_get, arith}
+use Rattle.std.proofs.lemmas.Option.{slice_get_within}
 use Rattle.mw_logic.specs.Signature.{Member}
 use Rattle.mw_module.specs.Units.{SeenLined, IsWithin}
 use Rattle.mw_import.specs.Flat.{FlatUnit, reached_by, brought_by, IsFlat, AreAccepted, statements_at, statements_of, told_at, all_statements}

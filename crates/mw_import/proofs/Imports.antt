@@ -1,16 +1,11 @@
 -- Imports, one after the other.
-use Rattle.std.proofs.Common.{◌≡◌, ◌∙◌, ℕ, zero, suc, ◌<◌, List, [], ◌∷◌, ◌++◌, map, flat_map, length, get_or, drop, drop-cons, ◌+◌, Bor, Result, IfErr, Option, Some, refl, sym, ap, subst, slice_get, arith}
-use Rattle.std.specs.Result.{IsErrAnd}
-use Rattle.std.proofs.lemmas.Result.{err_from_is_err_and}
+use Rattle.std.proofs.Common.{◌≡◌, ◌∙◌, ℕ, zero, suc, ◌<◌, List, [], ◌∷◌, ◌++◌, map, flat_map, length, get_or, drop, drop-cons, ◌+◌, Bor, Option, Some, refl, sym, ap, subst, slice_get, arith}
 use Rattle.std.proofs.lemmas.Option.{same_Some}
 use Rattle.mw_module.specs.declared.faults.Fault.{Fault}
-use Rattle.mw_module.specs.declared.faults.UnitError.{UnitError}
-use Rattle.mw_module.specs.declared.faults.UnitError.TheVariants as error
 use Rattle.mw_lex.specs.declared.token.Token.{Token}
 use Rattle.mw_module.specs.declared.forms.Form.{Form}
 use Rattle.mw_module.specs.declared.forms.Form.TheVariants as form
 use Rattle.mw_module.specs.Forms.{shape_of}
-use Rattle.mw_module.specs.Causes.{HasCause}
 use Rattle.mw_module.specs.Units.{SeenLined}
 use Rattle.mw_import.specs.Flat.{FlatUnit, ImportOf, number_named, imports_in, imports_of, brought_by, IsFlat, IsThere, IsWrong, ImportFault}
 use Rattle.mw_import.specs.Gathering.{gathered, IsClosed, IsOf}

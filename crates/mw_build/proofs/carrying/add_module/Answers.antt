@@ -1,4 +1,4 @@
-use Rattle.std.proofs.Common.{◌≡◌, ◌∙◌, ◌++◌, ◌+◌, List, map, take, Result, MatchResult, ap, refl, sym, subst}
+use Rattle.std.proofs.Common.{◌∙◌, ◌++◌, ◌+◌, map, take, Result, MatchResult, ap, refl, sym, subst}
 use Rattle.std.proofs.lemmas.List.{take_all}
 use Rattle.mw_logic.specs.Signature.{Signature}
 use Rattle.mw_logic.specs.Module.{Statement}

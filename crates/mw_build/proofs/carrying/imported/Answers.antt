@@ -1,4 +1,4 @@
-use Rattle.std.proofs.Common.{rules, ◌≡◌, ◌∙◌, ◌++◌, ◌<◌, ◌+◌, suc, List, length, get_or, take, drop, Some, ap, sym, subst}
+use Rattle.std.proofs.Common.{rules, ◌∙◌, ◌++◌, ◌<◌, suc, length, get_or, take, drop, Some, ap, sym, subst}
 use Rattle.std.proofs.lemmas.Option.{slice_get_within}
 use Rattle.mw_carry.specs.Carried.{IsPart}
 use Rattle.mw_module.proofs.Causes.{passed_on}

@@ -1,6 +1,5 @@
-use Rattle.std.proofs.Common.{◌≡◌, ◌∙◌, Result, IfOk, MatchResult, Bool, ap, subst, sym}
-use Rattle.mw_logic.specs.Term.{RawTerm}
-use Rattle.mw_logic.specs.Signature.{Signature, IsRawTerm}
+use Rattle.std.proofs.Common.{◌≡◌, IfOk, MatchResult, Bool, ap, subst}
+use Rattle.mw_logic.specs.Signature.{Signature}
 use Rattle.mw_logic.specs.Module.{Statement}
 use Rattle.mw_term.specs.Raws.{raw_term}
 use Rattle.mw_carry.specs.Carriage.{Carriage}

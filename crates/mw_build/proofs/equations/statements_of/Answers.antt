@@ -1,6 +1,6 @@
 use Rattle.std.proofs.Common.{◌+◌, take, subst, sym, refl, [], MatchResult}
 use Rattle.std.proofs.lemmas.List.{take_all, append-nil}
-use Rattle.mw_build.specs.Sides.{Sides, seen_equation, seen_equations}
+use Rattle.mw_build.specs.Sides.{seen_equation, seen_equations}
 use Rattle.mw_build.specs.Pairwise.{IsFirstWrong}
 use Rattle.mw_build.specs.Equations.{IsEquation, EquationFault, AreEquations, HasFault}
 use Rattle.mw_build.proofs.Pairwise.{related_more, wrong_at}

@@ -1,4 +1,4 @@
-use Rattle.std.proofs.Common.{◌≡◌, ◌∙◌, All, IsTrue, List, ap, drop, refl, subst, sym}
+use Rattle.std.proofs.Common.{◌≡◌, ◌∙◌, IsTrue, List, ap, refl, subst, sym}
 use Rattle.std.proofs.lemmas.Bool.{both_ways}
 use Rattle.mw_logic.specs.Signature.{Signature}
 use Rattle.mw_logic.specs.Term.{Variable}
@@ -7,7 +7,6 @@ use Rattle.mw_sorting.specs.PreregularModulo.{IsPreregularModulo}
 use Rattle.mw_module.specs.Units.{seen_unit}
 use Rattle.mw_module.proofs.Causes.{passed_on}
 use Rattle.mw_grammar.specs.Readable.{IsReadable, AreVariables}
-use Rattle.mw_grammar.specs.Grammars.{IsGrammarOf}
 use Rattle.mw_declare.specs.declared.declarations.Declarations.{Declarations}
 use Rattle.mw_declare.proofs.Accepting.{nat_declared, qid_declared}
 use Rattle.mw_least.specs.Workable.{IsWorkable}

@@ -1,6 +1,6 @@
-use Rattle.std.proofs.Common.{◌≡◌, ◌∙◌, All, List, drop, ap, subst, sym}
+use Rattle.std.proofs.Common.{◌≡◌, ◌∙◌, All, drop, ap, subst, sym}
 use Rattle.std.proofs.lemmas.List.Elements.{All-drop}
-use Rattle.mw_logic.specs.Module.{Module, Statement}
+use Rattle.mw_logic.specs.Module.{Module}
 use Rattle.mw_least.specs.Workable.{AreSides, IsWorkable}
 use Rattle.mw_build.specs.Imported.{Accepted}
 use Rattle.mw_build.proofs.Sides.{sides_at_all}

@@ -1,6 +1,5 @@
 use Rattle.std.proofs.Common.{◌∙◌, ap}
 use Rattle.mw_import.specs.Flat.{number_named}
-use Rattle.mw_import.specs.Seen.{flat_units}
 use Rattle.mw_import.proofs.Tables.{number_held}
 use Rattle.mw_import.proofs.units.Units.number.Goals as goal
 

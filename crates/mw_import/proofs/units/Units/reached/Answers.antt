@@ -1,6 +1,6 @@
 use Rattle.std.proofs.Common.{◌∙◌, ap, option_map}
 use Rattle.mw_import.specs.Flat.{reached_by}
-use Rattle.mw_import.specs.Seen.{flat_unit, flat_units}
+use Rattle.mw_import.specs.Seen.{flat_unit}
 use Rattle.mw_import.proofs.Tables.{at_held}
 use Rattle.mw_import.proofs.units.Units.reached.Goals as goal
 

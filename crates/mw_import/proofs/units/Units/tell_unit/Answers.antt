@@ -2,7 +2,7 @@ use Rattle.std.proofs.Common.{◌∙◌, ◌++◌, ap, sym, map, option_map}
 use Rattle.std.proofs.lemmas.List.{append-nil}
 use Rattle.mw_module.specs.Units.{seen_all}
 use Rattle.mw_import.specs.Flat.{statements_at, told_at}
-use Rattle.mw_import.specs.Seen.{flat_unit, flat_units}
+use Rattle.mw_import.specs.Seen.{flat_unit}
 use Rattle.mw_import.proofs.Tables.{at_held}
 use Rattle.mw_import.proofs.units.Units.tell_unit.Goals as goal
 
