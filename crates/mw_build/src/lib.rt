@@ -1,24 +1,35 @@
-//! Modules that were accepted: what their units declare, with their equations read and held for reduction.
+//! Modules that were accepted: what their units declare, with their equations read, and those of the modules that they
+//! import, held for reduction.
 //!
-//! `build` makes a [`Module`] of a unit: its declarations (mw_declare), its operators' tables (mw_sorts) and axioms
-//! (mw_canon), its grammar (mw_grammar), its equations as statements, all this as a context (mw_least), and an
-//! index of its equations (mw_index).
-//! `Module::term` reads a term in which the module's variables may stand, `Module::pair` two of one kind, `canonical`
-//! makes such a term canonical.
+//! `build` makes a [`Module`] of a unit, where others were accepted before: the units that its imports reach
+//! (mw_import), the declarations of all their statements and its own (mw_declare), the operators' tables (mw_sorts) and
+//! axioms (mw_canon), its grammar (mw_grammar), the equations as statements, all this as a context (mw_least), and an
+//! index of its equations (mw_index). A module keeps the statements that stand in it itself as they were read in its
+//! own signature (`Module::own`): a module that imports it has them carried to its own signature (mw_carry), so no text
+//! is read twice. `Module::term` reads a term in which the module's own variables may stand, `Module::pair` two of one
+//! kind, `canonical` makes such a term canonical.
 //!
-//! Faults come in this order, and the first one decides: those of the declarations; an operator without a least result
-//! on some sorts, one whose groupings of three sorts differ, or one whose identity, left out, raises a sort, at the
-//! line of the unit's first token; then equation after equation, with the equation's line. Of one equation: a side of
-//! more than 1,024 tokens; sides that spell no pair of terms of one kind, or two; the left side, then the right one, of
-//! more than 1,000 levels or with too large a number; and where it is executable, a left side that is a variable modulo
-//! the axioms, or the first variable of the right side, in order of mention, that the left one hasn't.
+//! Faults come in this order, and the first one decides: a variable of its own that is declared again with another
+//! sort; the first import at fault; those of the declarations of the flattened module; an operator without a least
+//! result on some sorts, one whose groupings of three sorts differ, or one whose identity, left out, raises a sort, at
+//! the line of the unit's first token; then statement after statement: imported ones, told at the line of the unit's
+//! first token, and then its own equations, each with its line. Of one equation: a side of more than 1,024 tokens;
+//! sides that spell no pair of terms of one kind, or two; the left side, then the right one, of more than 1,000 levels
+//! or with too large a number; and where it is executable, a left side that is a variable modulo the axioms, or the
+//! first variable of the right side, in order of mention, that the left one hasn't. The text of an imported one isn't
+//! looked at again. As axioms that an importer adds make terms no deeper, and variables stay apart, only a left side
+//! that has become a variable is new with it; that the others can't come isn't proved, and they are tested too.
 //!
 //! Proved:
 //!
-//! - `accepted`: the module is what the unit declares, and for each equation in order the statement whose sides its
-//!   texts spell, and no others of one kind (`IsAccepted`, specs/Modules).
-//! - `fault`: a fault is answered only where the unit has it, and it is the first (`IsRefused`; `FirstFault` of
-//!   specs/Equations).
+//! - `accepted`: the module has the signature that the flattened module declares, the variables of its own statements,
+//!   and for its statements, in flattened order, those that stand for the own statements of the modules that it reaches
+//!   (`IsImported`, specs/Imported), and then for each of its equations the statement whose sides its texts spell in
+//!   its own signature, and no others of one kind (`IsAccepted`, specs/Modules).
+//! - `fault`: a fault is answered only where the unit has it, and it is the first (`IsRefused`; `IsFirstWrong` of
+//!   specs/Pairwise). A unit is one module at most, and none where it is refused (proofs/OneModule).
+//! - `build` wants that the units before were accepted as the modules before (`AreLoaded`); with one more it is so
+//!   again (proofs/Loading).
 //! - The module is workable, as mw_least asks, its signature has a grammar, as mw_parse asks (their `requires`), and
 //!   `Module::index` is an index of its equations (`IsIndexOf` of mw_index).
 //! - The law `texts_read_back`: the text of each raw term of a module that a source's unit is, cut into tokens, spells
@@ -30,7 +41,8 @@
 //!
 //! The definitions speak of levels and of a lone variable modulo the axioms; the tests ask the canonical forms
 //! (proofs/Sides). `Memory` may come at any call. Only tested, by the sources in cases/: that the definitions are what
-//! is meant. Neither: time.
+//! is meant. Neither: time. A module costs what its flattened statements cost: each is declared anew, and each imported
+//! equation is carried and made canonical once.
 #![tactic(auto)]
 
 mod carrying;

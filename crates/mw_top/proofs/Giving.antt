@@ -4,11 +4,10 @@ use Rattle.std.specs.Borrow.{Bor}
 use Rattle.mw_lex.specs.declared.token.Token.{Token}
 use Rattle.mw_module.specs.declared.faults.Fault.{Fault}
 use Rattle.mw_module.specs.Units.{Outcome}
-use Rattle.mw_build.specs.Modules.{Accepted}
 use Rattle.mw_block.specs.Refused.{refusal_line}
-use Rattle.mw_top.specs.Sources.{Gives}
+use Rattle.mw_top.specs.Sources.{Loaded, Gives}
 
-pub refused_gives : (most : ℕ) (before : List Accepted) (out : Outcome) (r : Fault) (text : List ℕ) (refused : Bool) → Gives most before out (refusal_line r) true before
+pub refused_gives : (most : ℕ) (before : Loaded) (out : Outcome) (r : Fault) (text : List ℕ) (refused : Bool) → Gives most before out (refusal_line r) true before
     → (text ≡ refusal_line r) × (refused ≡ true) → Gives most before out text refused before
 refused_gives most before out r text refused g h =
     subst (λ b. Gives most before out text b before) (sym h.1) (subst (λ t. Gives most before out t true before) (sym h.0) g)

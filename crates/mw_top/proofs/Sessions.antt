@@ -1,40 +1,108 @@
--- The modules of a table, by name and in order.
-use Rattle.std.proofs.Common.{◌≡◌, ◌∙◌, ◌-◌, ℕ, List, [], ◌∷◌, ◌++◌, length, map, Bool, true, false, cond, is_some, Option, Some, None, option_map, bytes_eq, IsTrue, refl, sym, ap, inl, inr, arith, ⊎_elim}
-use Rattle.std.specs.List.{slice_get}
-use Rattle.std.specs.Map.{lookup}
-use Rattle.std.specs.Global.{Vec}
+-- Modules by the names and the numbers of their units, and in order.
+use Rattle.std.proofs.Common.{◌≡◌, ◌∙◌, ◌<◌, ◌+◌, ◌-◌, not, ℕ, zero, suc, List, [], ◌∷◌, ◌++◌, get_or, take, length-append, length, map, Bool, true, false, cond, is_some, Option, Some, None, option_map, bytes_eq, position, slice_get, IsTrue, refl, sym, ap, inl, inr, arith, ⊎_elim}
+use Rattle.std.specs.Borrow.{Bor}
+use Rattle.std.specs.List.{position_or_len}
+use Rattle.std.specs.Slice.{IsItemAt}
+use Rattle.std.proofs.Math.Seq.{take-append_seam}
+use Rattle.std.proofs.lemmas.List.Quantifiers.{position-Some}
+use Rattle.std.proofs.lemmas.Option.{none-some, same_Some, slice_get_within, slice_get-get_or, slice_get_past}
 use Rattle.std.proofs.lemmas.Slice.Eq.{bytes_eq-Decides}
 use Rattle.mw_logic.specs.Signature.{Member}
-use Rattle.mw_build.specs.declared.modules.Module.{Module}
+use Rattle.mw_import.specs.Flat.{FlatUnit, number_named}
+use Rattle.mw_import.proofs.Tables.{none_named, number_within}
 use Rattle.mw_build.specs.Modules.{Accepted}
+use Rattle.mw_build.proofs.Pairwise.{there}
 use Rattle.mw_top.specs.Commands.{module_named, last_module}
 use Rattle.mw_top.specs.Sources.{IsTaken, kept_names}
-use Rattle.mw_top.specs.Seen.{modules_in, AreNamed}
 
 abbrev pub names_of : List Accepted → List (List ℕ)
 names_of ms = map (λ (a : Accepted). a.name) ms
 
--- a look-up in the table finds the module of the name
-pub lookup_named : (es : List (Vec ℕ × Module)) (n : List ℕ) → AreNamed es → lookup (λ k. bytes_eq n k.items) es ≡ module_named (modules_in es) n
-lookup_named [] n h = refl
-lookup_named (e ∷ es) n h =
-    ap (λ r. cond (bytes_eq n e.0.items) (Some e.1) r) (lookup_named es n h.1) ∙ ap (λ m. cond (bytes_eq n m) (Some e.1) (module_named (modules_in es) n)) h.0
+place_named : (n : List ℕ) (us : List FlatUnit) (ms : List Accepted) → names_of ms ≡ map (λ (u : FlatUnit). u.name) us
+    → position_or_len (λ (u : FlatUnit). bytes_eq n u.name) us ≡ position_or_len (λ (m : Accepted). bytes_eq n m.name) ms
+place_named n [] [] e = refl
+place_named n [] (m ∷ ms) e = cc
+place_named n (u ∷ us) [] e = cc
+place_named n (u ∷ us) (m ∷ ms) e =
+    let name : u.name ≡ m.name = cc in
+    let rest : names_of ms ≡ map (λ (u : FlatUnit). u.name) us = cc in
+    ap (λ k. cond (not (bytes_eq n u.name)) (1 + k) 0) (place_named n us ms rest) ∙ ap (λ x. cond (not (bytes_eq n x)) (1 + position_or_len (λ (m : Accepted). bytes_eq n m.name) ms) 0) name
 
-last_from : (d : Vec ℕ × Module) (es : List (Vec ℕ × Module)) (e : Vec ℕ × Module) → slice_get (d ∷ es) (length es) ≡ Some e → last_module (modules_in (d ∷ es)) ≡ Some e.1
-last_from d [] e h = cc
-last_from d (f ∷ es) e h = last_from f es e h
+size_named : (us : List FlatUnit) (ms : List Accepted) → names_of ms ≡ map (λ (u : FlatUnit). u.name) us → length us ≡ length ms
+size_named [] [] e = refl
+size_named [] (m ∷ ms) e = cc
+size_named (u ∷ us) [] e = cc
+size_named (u ∷ us) (m ∷ ms) e = ap suc (size_named us ms (cc))
 
-pub last_in : (es : List (Vec ℕ × Module)) (e : Vec ℕ × Module) → slice_get es (length es - 1) ≡ Some e → last_module (modules_in es) ≡ Some e.1
-last_in [] e h = cc
-last_in (d ∷ es) e h = let n : length (d ∷ es) - 1 ≡ length es = omega arith in last_from d es e (ap (slice_get (d ∷ es)) (sym n) ∙ h)
+-- the unit of a name has the number of the module of that name
+number_is : (n : List ℕ) (us : List FlatUnit) (ms : List Accepted) → names_of ms ≡ map (λ (u : FlatUnit). u.name) us
+    → number_named us n ≡ position (λ (m : Accepted). bytes_eq n m.name) ms
+number_is n us ms e = rw (place_named n us ms e, size_named us ms e) refl
 
-pub modules_push : (es : List (Vec ℕ × Module)) (e : Vec ℕ × Module) → modules_in (es ++ e ∷ []) ≡ modules_in es ++ e.1 ∷ []
-modules_push [] e = refl
-modules_push (d ∷ es) e = ap (λ ms. d.1 ∷ ms) (modules_push es e)
+-- the first module that has the name is the one that is found
+first_named : (ms : List Accepted) (n : List ℕ) (k : ℕ) (d : Accepted) → k < length ms → bytes_eq n (get_or ms k d).name ≡ true
+    → ((i : ℕ) → i < k → bytes_eq n (get_or ms i d).name ≡ false) → slice_get ms k ≡ module_named ms n
+first_named [] n k d h here before = absurd (omega (arith, h))
+first_named (m ∷ ms) n zero d h here before = ap (λ b. cond b (Some m) (module_named ms n)) (sym here)
+first_named (m ∷ ms) n (suc k) d h here before =
+    first_named ms n k d (omega (arith, h)) here (λ i l. before (suc i) (omega (arith, l))) ∙ ap (λ b. cond b (Some m) (module_named ms n)) (sym (before 0 (omega arith)))
 
-pub named_push : (es : List (Vec ℕ × Module)) (e : Vec ℕ × Module) → AreNamed es → e.0.items ≡ e.1.name → AreNamed (es ++ e ∷ [])
-named_push [] e h n = (n, tt)
-named_push (d ∷ es) e h n = (h.0, named_push es e h.1 n)
+none_found : (ms : List Accepted) (n : List ℕ) → ((k : ℕ) (m : Accepted) → slice_get ms k ≡ Some m → bytes_eq n m.name ≡ false) → module_named ms n ≡ None
+none_found [] n none = refl
+none_found (m ∷ ms) n none = ap (λ b. cond b (Some m) (module_named ms n)) (none 0 m refl) ∙ none_found ms n (λ k d at. none (suc k) d at)
+
+module _ (us : List FlatUnit) (ms : List Accepted) (names : names_of ms ≡ map (λ (u : FlatUnit). u.name) us) (n : List ℕ) where
+  -- the module of a unit's number is that of its name
+  pub number_found : (k : ℕ) → number_named us n ≡ Some k → slice_get ms k ≡ module_named ms n
+  number_found k e = of ms k (sym (number_is n us ms names) ∙ e)
+    where
+      of : (xs : List Accepted) (k : ℕ) → position (λ (m : Accepted). bytes_eq n m.name) xs ≡ Some k → slice_get xs k ≡ module_named xs n
+      of [] k h = cc
+      of (x ∷ xs) k h = let (low, here, before) = position-Some (λ (m : Accepted). bytes_eq n m.name) (x ∷ xs) k x h in first_named (x ∷ xs) n k x low here before
+
+  -- where no unit has the name no module has
+  pub number_none : number_named us n ≡ None → module_named ms n ≡ None
+  number_none e = none_found ms n (λ k m at.
+      let low = slice_get_within ms k m at in
+      let (u, there_is) = there us k (let h = size_named us ms names in omega (arith, low, h)) in
+      ap (bytes_eq n) (same_name us ms names k u m there_is at) ∙ none_named us n e k u there_is)
+    where
+      same_name : (us : List FlatUnit) (ms : List Accepted) → names_of ms ≡ map (λ (u : FlatUnit). u.name) us → (k : ℕ) (u : FlatUnit) (m : Accepted) → slice_get us k ≡ Some u
+          → slice_get ms k ≡ Some m → m.name ≡ u.name
+      same_name [] ms e k u m a b = absurd (none-some u a)
+      same_name (v ∷ us) [] e k u m a b = absurd (none-some m b)
+      same_name (v ∷ us) (l ∷ ms) e zero u m a b = let s : v ≡ u = same_Some v u a in let t : l ≡ m = same_Some l m b in cc
+      same_name (v ∷ us) (l ∷ ms) e (suc k) u m a b = same_name us ms (cc) k u m a b
+
+  -- a name that isn't a module's is no unit's
+  pub none_there : module_named ms n ≡ None → number_named us n ≡ None
+  none_there h = of (number_named us n) refl
+    where
+      of : (o : Option ℕ) → number_named us n ≡ o → o ≡ None
+      of None e = refl
+      of (Some k) e =
+          let low = number_within us n k e in
+          let (m, at) = there ms k (let s = size_named us ms names in omega (arith, low, s)) in
+          absurd (none-some m (sym h ∙ sym (number_found k e) ∙ at))
+
+-- the last module
+pub last_at : (ms : List Accepted) → slice_get ms (length ms - 1) ≡ last_module ms
+last_at [] = refl
+last_at (m ∷ []) = refl
+last_at (m ∷ l ∷ ms) =
+    let n : length (m ∷ l ∷ ms) - 1 ≡ suc (length (l ∷ ms) - 1) = omega arith in
+    ap (slice_get (m ∷ l ∷ ms)) n ∙ last_at (l ∷ ms)
+
+-- what `get` lends
+pub item_is : (xs : List Accepted) (i : ℕ) (r : Option (Bor Accepted)) → IsItemAt xs i r → option_map (λ (m : Bor Accepted). m.now) r ≡ slice_get xs i
+item_is xs i None h = sym (slice_get_past xs i h.3)
+item_is xs i (Some x) h = sym (slice_get-get_or xs i x.now h.3.0 ∙ ap (λ m. Some m) (sym h.1))
+
+-- a module that is put behind others and taken away again
+pub popped : (old new : List Accepted) (a : Accepted) → new ≡ old ++ a ∷ [] → (k : ℕ) → k ≡ length new → take (k - 1) new ≡ old
+popped old new a e k is =
+    let n : k - 1 ≡ length old = let h = ap length e ∙ length-append old (a ∷ []) in omega (arith, h, is) in
+    ap (λ j. take j new) n ∙ ap (take (length old)) e ∙ take-append_seam old (a ∷ [])
 
 by_bytes : {Y : Type 0} (n m : List ℕ) → (n ≡ m → Y) → (bytes_eq n m ≡ false → Y) → Y
 by_bytes {Y} n m t f = by_test (bytes_eq n m) refl

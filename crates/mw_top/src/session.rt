@@ -1,11 +1,11 @@
 // The modules that were accepted, and what a unit gives among them.
-ghost use Rattle.std.specs.Prelude.{◌≡◌, ◌↔◌, ◌++◌, ◌∷◌, ℕ, List, [], Some, None, Ok, IfOk, OnOk, option_map, true, IsTrue};
+ghost use Rattle.std.specs.Prelude.{◌≡◌, ◌↔◌, ◌++◌, ◌∷◌, ℕ, List, [], Some, None, Ok, IfOk, OnOk, option_map, true, IsTrue, MatchResult};
 ghost use Rattle.mw_logic.specs.Signature.{Member};
 ghost use Rattle.mw_module.specs.Known.{AreKnown};
 ghost use Rattle.mw_module.specs.Units.{SeenUnit, seen_unit};
 ghost use Rattle.mw_command.specs.Commands.{command_of, seen_command};
 ghost use Rattle.mw_block.specs.Refused.{refusal_line};
-ghost use Rattle.mw_build.specs.Modules.{Accepted, IsAccepted};
+ghost use Rattle.mw_build.specs.Modules.{Accepted, IsAccepted, IsRefused};
 ghost use Rattle.mw_top.specs.Commands.{CommandFault, module_named, last_module, module_for};
 ghost use Rattle.mw_top.specs.Sources.{IsTaken, Gives, name_of, kept_names, no_modules, with_module};
 
@@ -16,7 +16,7 @@ use mw_command::{Command, read};
 use mw_import::Units;
 use mw_lex::Token;
 use mw_module::{Fault, FaultKind, Unit, UnitError};
-use mw_term::copy_name;
+use mw_term::{Name, copy_name};
 use std::alloc::{AllocError, Global};
 use std::marker::Model;
 
@@ -115,6 +115,25 @@ impl<'s> Session<'s> {
         is_kept(name) || self.named(name).is_some()
     }
 
+    /// The module of this name that a unit is, or its fault.
+    fn built(
+        &self,
+        alloc: Global,
+        unit: &Unit<'s>,
+        name: Name,
+    ) -> Result<Result<Built, Fault>, AllocError>
+        requires { AreKnown (seen_unit unit.now).statements }
+        ensures { IfOk result (λ r. MatchResult r
+            (λ b. IsAccepted self.now.units self.now.modules (seen_unit unit.now) name b.flat b.module)
+            (λ f. IsRefused self.now.units self.now.modules (seen_unit unit.now) name f)) }
+    {
+        match build(alloc, &self.units, self.modules.as_slice(), unit, name) {
+            Ok(built) => Ok(Ok(built)),
+            Err(UnitError::Fault(fault)) => Ok(Err(fault)),
+            Err(UnitError::Memory) => Err(AllocError),
+        }
+    }
+
     /// Accepts the module of this name that a unit was built as. Where memory runs out nothing is accepted.
     fn accept(
         &mut self,
@@ -126,8 +145,9 @@ impl<'s> Session<'s> {
         requires new { module_named self.old.modules name.now ≡ None }
         requires known { AreKnown (seen_unit unit).statements }
         requires accepted { IsAccepted self.old.units self.old.modules (seen_unit unit) name.now built.flat built.module }
-        ensures { OnOk result (self.new ≡ with_module self.old name.now (seen_unit unit.entry) built.entry.flat built.entry.module) }
+        ensures { OnOk result (self.new ≡ with_module self.old name.now (seen_unit unit.entry) built.flat built.module) }
     {
+        self.units.shows();
         let Built { flat, module } = built;
         self.modules.push(module)?;
         match self.units.accept(alloc, name, unit, flat) {
@@ -155,7 +175,7 @@ impl<'s> Session<'s> {
         if self.is_taken(text) {
             return refused(alloc, unit.line, FaultKind::AlreadyDefined(name));
         }
-        match build(alloc, &self.units, self.modules.as_slice(), &unit, name) {
+        match self.built(alloc, &unit, name)? {
             Ok(built) => {
                 self.accept(alloc, text, unit, built)?;
                 Ok(Answer {
@@ -163,8 +183,7 @@ impl<'s> Session<'s> {
                     refused: false,
                 })
             }
-            Err(UnitError::Fault(fault)) => refused_by(alloc, fault),
-            Err(UnitError::Memory) => Err(AllocError),
+            Err(fault) => refused_by(alloc, fault),
         }
     }
 

@@ -1,22 +1,33 @@
-use Rattle.std.proofs.Common.{◌≡◌, ◌∙◌, ◌++◌, ◌∷◌, [], sym, ap, subst}
-use Rattle.indexmap.proofs.CallerLemmas.{insert_entry-new}
+use Rattle.std.proofs.Common.{◌≡◌, ◌∙◌, ◌++◌, ◌∷◌, ◌-◌, [], List, length, take, None, ap, sym, subst}
+use Rattle.std.proofs.Math.Seq.{take-append_seam}
+use Rattle.mw_import.specs.Flat.{FlatUnit}
+use Rattle.mw_build.specs.Modules.{Accepted, AreLoaded, IsAccepted}
+use Rattle.mw_build.proofs.Loading.{loaded_more}
+use Rattle.mw_module.specs.Units.{seen_unit}
 use Rattle.mw_top.specs.Commands.{module_named}
-use Rattle.mw_top.specs.Seen.{modules_in, AreNamed}
-use Rattle.mw_top.proofs.Sessions.{lookup_named, modules_push, named_push}
+use Rattle.mw_top.specs.Sources.{Loaded}
+use Rattle.mw_sorts.proofs.Counting.{vec_length}
+use Rattle.mw_top.proofs.Sessions.{none_there, popped}
 use Rattle.mw_top.proofs.session.Session.accept.Goals as goal
 
-pub invariant_of-self-2 : goal.invariant_of-self-2
-invariant_of-self-2 c =
-    let key : c.in_ok-name.name.items ≡ c.args.accepted.name = c.in_ok-name.ensures.items_if_clones_equal (λ x y e. e) ∙ c.as_slice.ensures ∙ c.name.ensures in
-    let none = lookup_named c.self.inside.modules.entries c.in_ok-name.name.items c.self.invariant ∙ ap (module_named (modules_in c.self.inside.modules.entries)) key
-    ∙ ap (λ ms. module_named ms c.args.accepted.name) c.self.view_is ∙ c.requires in
-    let more = c.in_ok-insert.ensures.entries ∙ insert_entry-new _ c.self.inside.modules c.in_ok-name.name c.args.accepted none in
-    subst AreNamed (sym more) (named_push c.self.inside.modules.entries (c.in_ok-name.name, c.args.accepted) c.self.invariant key)
+pub accept-requires-clause-new : goal.accept-requires-clause-new
+accept-requires-clause-new c =
+    none_there c.self.inside.units c.self.inside.modules.items c.self.invariant.names c.args.name.now
+    (ap (λ (l : Loaded). module_named l.modules c.args.name.now) c.self.view_is ∙ c.requires.new)
 
-pub returns : goal.returns
-returns c =
-    let key : c.in_ok-name.name.items ≡ c.args.accepted.name = c.in_ok-name.ensures.items_if_clones_equal (λ x y e. e) ∙ c.as_slice.ensures ∙ c.name.ensures in
-    let none = lookup_named c.self.inside.modules.entries c.in_ok-name.name.items c.self.invariant ∙ ap (module_named (modules_in c.self.inside.modules.entries)) key
-    ∙ ap (λ ms. module_named ms c.args.accepted.name) c.self.view_is ∙ c.requires in
-    let more = c.in_ok-insert.ensures.entries ∙ insert_entry-new _ c.self.inside.modules c.in_ok-name.name c.args.accepted none in
-    ap modules_in more ∙ modules_push c.self.inside.modules.entries (c.in_ok-name.name, c.args.accepted) ∙ ap (λ ms. ms ++ c.args.accepted ∷ []) c.self.view_is
+pub invariant_of-self-in-Ok : goal.invariant_of-self-in-Ok
+invariant_of-self-in-Ok c =
+    let us = c.self.inside.units in
+    let ms = c.self.inside.modules.items in
+    let u = seen_unit c.args.unit in
+    let unit : FlatUnit = record { name = c.args.name.now; statements = u.statements; reached = c.args.built.flat } in
+    let is : IsAccepted us ms u c.args.name.now c.args.built.flat c.args.built.module =
+    subst (λ (l : Loaded). IsAccepted l.units l.modules u c.args.name.now c.args.built.flat c.args.built.module) (sym c.self.view_is) c.requires.accepted in
+    subst (λ vs. AreLoaded vs c.push.new.self.items) (sym c.in-Ok.ensures.accepted)
+    (subst (AreLoaded (us ++ unit ∷ [])) (sym c.in_ok-push.ensures.items)
+    (loaded_more us ms c.shows.ensures c.self.invariant u c.requires.known c.args.name.now c.args.built.flat c.args.built.module is))
+
+pub invariant_of-self-in-Err : goal.invariant_of-self-in-Err
+invariant_of-self-in-Err c =
+    let same : c.pop.new.self.items ≡ c.self.inside.modules.items = c.pop.ensures.rest ∙ popped c.self.inside.modules.items c.push.new.self.items c.args.built.module c.in_ok-push.ensures.items _ (vec_length c.push.new.self) in
+    subst (λ us. AreLoaded us c.pop.new.self.items) (sym c.in-Err.ensures.kept) (subst (AreLoaded c.self.inside.units) (sym same) c.self.invariant)

@@ -11,11 +11,11 @@ pub answer_module-requires-clause-named : goal.answer_module-requires-clause-nam
 answer_module-requires-clause-named c = ap (λ o. option_map (λ (t : Token). t.text) (option_map (λ (t : Bor Token). t.now) o)) c.in-Some.is
 
 pub returns-in-Ok : goal.returns-in-Ok
-returns-in-Ok c = c.answer_command.ensures (seen_unit c.args.unit.now) refl (none_named c.args.unit.now.name c.in_default.not-Some) c.in-Ok.ensures.command
+returns-in-Ok c = c.answer_command.ensures (seen_unit c.args.unit) refl (none_named c.args.unit.name c.in_default.not-Some) c.in-Ok.ensures.command
 
-pub returns-in-Err : goal.returns-in-Err
-returns-in-Err c =
-    let none = none_named c.args.unit.now.name c.in_default.not-Some in
+pub returns : goal.returns
+returns c =
+    let u = seen_unit c.args.unit in
+    let none = none_named c.args.unit.name c.in_default.not-Some in
     if_ok c.refused_by.result c.refused_by.ensures
-    (λ a h. refused_gives c.args.most c.args.self.now (Ok (seen_unit c.args.unit.now)) c.in-Err.fault a.text.items a.refused
-    (no_command (seen_unit c.args.unit.now) c.in-Err.fault none c.in-Err.ensures.fault) h)
+    (λ a h. refused_gives c.args.most c.args.self.now (Ok u) c.in-Err.fault a.text.items a.refused (no_command u c.in-Err.fault none c.in-Err.ensures.fault) h)

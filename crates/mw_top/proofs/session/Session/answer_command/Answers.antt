@@ -11,7 +11,7 @@ returns-in_default c = λ u line named command.
     let none = none_there (λ m. m.now) c.module_for.result _ c.in_default.not-Some c.module_for.ensures in
     if_ok c.refused.result c.refused.ensures
     (λ a h. refused_gives c.args.most c.args.self.now (Ok u) (record { line = c.args.line; kind = c.in_ok-missing.field-0 }) a.text.items a.refused
-    (rw (sym line) (faulty u (seen_command c.args.command.now) c.in_ok-missing.field-0 named command (c.in_ok-missing.ensures c.args.self.now none))) h)
+    (rw (sym line) (faulty u (seen_command c.args.command.now) c.in_ok-missing.field-0 named command (c.in_ok-missing.ensures c.args.self.now.modules none))) h)
 
 pub returns-in-Ok : goal.returns-in-Ok
 returns-in-Ok c = λ u line named command. answered u (seen_command c.args.command.now) c.in-Some.module.now c.in-Ok.text.items named command (sym c.in-Some.ensures)

@@ -1,44 +1,49 @@
-use Rattle.std.proofs.Common.{◌∙◌, sym, ap, subst, Ok, Some, [], ◌∷◌, ◌++◌, false}
+use Rattle.std.proofs.Common.{◌≡◌, ◌∙◌, List, ℕ, sym, ap, subst, Ok, Some, [], false}
 use Rattle.std.proofs.lemmas.Bool.{both_ways}
 use Rattle.mw_module.specs.declared.faults.FaultKind.TheVariants.{AlreadyDefined}
-use Rattle.mw_module.specs.Causes.{HasCause}
 use Rattle.mw_module.specs.Units.{seen_unit}
-use Rattle.mw_build.specs.Modules.{IsRefused}
-use Rattle.mw_top.specs.Sources.{IsTaken, Gives, taken, refused, accepted}
+use Rattle.mw_build.specs.Modules.{IsAccepted, IsRefused}
+use Rattle.mw_top.specs.Sources.{IsTaken, Gives, taken, refused, accepted, with_module}
 use Rattle.mw_top.proofs.Answering.{if_ok}
-use Rattle.mw_top.proofs.Giving.{refused_gives}
+use Rattle.mw_top.proofs.Giving.{refused_gives, match_ok, match_err}
 use Rattle.mw_top.proofs.Sessions.{is_untaken}
 use Rattle.mw_top.proofs.session.Session.answer_module.Goals as goal
 
 pub returns-then-is_taken : goal.returns-then-is_taken
-returns-then-is_taken c =
-    let u = seen_unit c.args.unit.now in
+returns-then-is_taken c = λ most.
+    let u = seen_unit c.args.unit in
     let named = c.requires.named ∙ ap Some (sym c.in_ok-name.ensures) in
-    let is = subst (IsTaken c.args.self.now) c.as_slice.ensures (c.is_taken.ensures.0 c.if-is_taken.true) in
+    let text : c.as_slice-text.result.now ≡ c.in_ok-name.name = c.as_slice-text.ensures ∙ sym c.in_ok-name.ensures in
+    let is = subst (IsTaken c.args.self.now.modules) text (c.is_taken.ensures.0 c.if-is_taken.true) in
     if_ok c.refused.result c.refused.ensures
-    (λ a h. refused_gives c.args.most c.args.self.now (Ok u) (record { line = u.line; kind = AlreadyDefined c.in_ok-name.name }) a.text.items a.refused
+    (λ a h. refused_gives most c.args.self.now (Ok u) (record { line = u.line; kind = AlreadyDefined c.in_ok-name.name }) a.text.items a.refused
     (taken u c.in_ok-name.name named is) h)
 
-pub accept-requires : goal.accept-requires
-accept-requires c =
-    let name = c.in-Ok.ensures.accepted.holds.named in
-    is_untaken c.args.self.now c.in-Ok.module.name
-    (λ k. both_ways _ c.if-is_taken.false (c.is_taken.ensures.1 (subst (IsTaken c.args.self.now) (name ∙ sym c.as_slice.ensures) k)))
+pub accept-requires-clause-new : goal.accept-requires-clause-new
+accept-requires-clause-new c =
+    is_untaken c.args.self.now.modules c.as_slice-text.result.now (λ k. both_ways _ c.if-is_taken.false (c.is_taken.ensures.1 k))
 
 pub returns-in_ok-accept-in-Ok : goal.returns-in_ok-accept-in-Ok
-returns-in_ok-accept-in-Ok c =
-    let u = seen_unit c.args.unit.now in
+returns-in_ok-accept-in-Ok c = λ most.
+    let u = seen_unit c.args.unit in
+    let before = c.args.self.now in
     let named = c.requires.named ∙ ap Some (sym c.in_ok-name.ensures) in
-    let free : IsTaken c.args.self.now c.in_ok-name.name → ⊥ = λ k. both_ways _ c.if-is_taken.false (c.is_taken.ensures.1 (subst (IsTaken c.args.self.now) (sym c.as_slice.ensures) k)) in
-    subst (Gives c.args.most c.args.self.now (Ok u) c.new.result.items false) (sym c.in_ok-accept-in-Ok.ensures)
-    (subst (λ t. Gives c.args.most c.args.self.now (Ok u) t false (c.args.self.now ++ c.in-Ok.module ∷ [])) (sym c.new.ensures.items)
-    (accepted u c.in_ok-name.name c.in-Ok.module named free c.in-Ok.ensures.accepted))
+    let text : c.as_slice-text.result.now ≡ c.in_ok-name.name = c.as_slice-text.ensures ∙ sym c.in_ok-name.ensures in
+    let free : IsTaken before.modules c.in_ok-name.name → ⊥ = λ k. both_ways _ c.if-is_taken.false (c.is_taken.ensures.1 (subst (IsTaken before.modules) (sym text) k)) in
+    let flat = c.in-Ok.built.flat in
+    let made = c.in-Ok.built.module in
+    let is : IsAccepted before.units before.modules u c.in_ok-name.name flat made = match_ok _ _ c.in_ok-built.field-0 c.in_ok-built.ensures c.in-Ok.built c.in-Ok.is in
+    subst (Gives most before (Ok u) c.new.result.items false) (sym (c.in_ok-accept-in-Ok.ensures ∙ ap (λ n. with_module before n u flat made) text))
+    (subst (λ t. Gives most before (Ok u) t false (with_module before c.in_ok-name.name u flat made)) (sym c.new.ensures.items)
+    (accepted u c.in_ok-name.name flat made named free is))
 
-pub returns-in-Err-Fault : goal.returns-in-Err-Fault
-returns-in-Err-Fault c =
-    let u = seen_unit c.args.unit.now in
+pub returns-in-Err : goal.returns-in-Err
+returns-in-Err c = λ most.
+    let u = seen_unit c.args.unit in
+    let before = c.args.self.now in
     let named = c.requires.named ∙ ap Some (sym c.in_ok-name.ensures) in
-    let free : IsTaken c.args.self.now c.in_ok-name.name → ⊥ = λ k. both_ways _ c.if-is_taken.false (c.is_taken.ensures.1 (subst (IsTaken c.args.self.now) (sym c.as_slice.ensures) k)) in
+    let text : c.as_slice-text.result.now ≡ c.in_ok-name.name = c.as_slice-text.ensures ∙ sym c.in_ok-name.ensures in
+    let free : IsTaken before.modules c.in_ok-name.name → ⊥ = λ k. both_ways _ c.if-is_taken.false (c.is_taken.ensures.1 (subst (IsTaken before.modules) (sym text) k)) in
+    let is : IsRefused before.units before.modules u c.in_ok-name.name c.in-Err.fault = match_err _ _ c.in_ok-built.field-0 c.in_ok-built.ensures c.in-Err.fault c.in-Err.is in
     if_ok c.refused_by.result c.refused_by.ensures
-    (λ a h. refused_gives c.args.most c.args.self.now (Ok u) c.in-Err-Fault.fault a.text.items a.refused
-    (refused u c.in_ok-name.name c.in-Err-Fault.fault named free (subst (HasCause (IsRefused u)) c.in-Err-Fault.field-0-is c.in-Err-Fault.ensures.fault)) h)
+    (λ a h. refused_gives most before (Ok u) c.in-Err.fault a.text.items a.refused (refused u c.in_ok-name.name c.in-Err.fault named free is) h)

@@ -1,8 +1,12 @@
-use Rattle.std.proofs.Common.{◌∙◌, sym, ap}
+use Rattle.std.proofs.Common.{◌∙◌, ◌-◌, List, length, ap}
+use Rattle.std.specs.List.{slice_get}
+use Rattle.mw_build.specs.Modules.{Accepted}
 use Rattle.mw_top.specs.Commands.{last_module}
-use Rattle.mw_top.proofs.Sessions.{last_in}
+use Rattle.mw_top.specs.Sources.{Loaded}
+use Rattle.mw_top.proofs.Sessions.{last_at}
 use Rattle.mw_top.proofs.session.Session.last.Goals as goal
 
 pub returns : goal.returns
 returns c =
-    sym (last_in c.self.inside.modules.entries (c.in_ok-accepted.field-0-0.now, c.in_ok-accepted.accepted.now) (sym c.in_ok-accepted.ensures.entry)) ∙ ap last_module c.self.view_is
+    c.last.ensures.value ∙ ap (λ (ms : List Accepted). slice_get ms (length ms - 1)) c.deref.ensures.value ∙ last_at c.self.inside.modules.items
+    ∙ ap (λ (l : Loaded). last_module l.modules) c.self.view_is
