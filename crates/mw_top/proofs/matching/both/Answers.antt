@@ -1,4 +1,3 @@
-use Rattle.std.proofs.Common.{Result, MatchResult, subst}
 use Rattle.mw_top.proofs.Giving.{match_ok, match_err}
 use Rattle.mw_top.proofs.Told.{first_alone, second_alone}
 use Rattle.mw_top.proofs.matching.both.Goals as goal

@@ -1,4 +1,4 @@
-use Rattle.std.proofs.Common.{◌∙◌, ap, subst, sym}
+use Rattle.std.proofs.Common.{◌∙◌, subst, sym}
 use Rattle.mw_term.specs.Raws.{raw_term}
 use Rattle.mw_least.specs.Workable.{IsWorkable}
 use Rattle.mw_top.specs.Matches.{opened}

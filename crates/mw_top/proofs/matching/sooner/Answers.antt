@@ -1,4 +1,4 @@
-use Rattle.std.proofs.Common.{inl, sym}
+use Rattle.std.proofs.Common.{inl}
 use Rattle.std.proofs.lemmas.Bool.{both_ways}
 use Rattle.mw_top.specs.Matches.{deep}
 use Rattle.mw_top.proofs.Told.{too_deep, second_told}

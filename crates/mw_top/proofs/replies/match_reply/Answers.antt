@@ -1,5 +1,4 @@
 use Rattle.std.proofs.Common.{◌≡◌, Some, ap, option_map, refl}
-use Rattle.std.specs.Borrow.{Bor}
 use Rattle.mw_lex.specs.declared.token.Token.{Token}
 use Rattle.std.specs.Prelude.{List}
 use Rattle.mw_command.specs.Commands.{seen_command}

@@ -1,7 +1,6 @@
-use Rattle.std.proofs.Common.{◌≡◌, ◌∙◌, ◌++◌, ◌∷◌, ◌-◌, [], List, length, take, None, ap, sym, subst}
-use Rattle.std.proofs.Math.Seq.{take-append_seam}
+use Rattle.std.proofs.Common.{◌≡◌, ◌∙◌, ◌++◌, ◌∷◌, [], ap, sym, subst}
 use Rattle.mw_import.specs.Flat.{FlatUnit}
-use Rattle.mw_build.specs.Modules.{Accepted, AreLoaded, IsAccepted}
+use Rattle.mw_build.specs.Modules.{AreLoaded, IsAccepted}
 use Rattle.mw_build.proofs.Loading.{loaded_more}
 use Rattle.mw_module.specs.Units.{seen_unit}
 use Rattle.mw_top.specs.Commands.{module_named}

@@ -1,4 +1,4 @@
-use Rattle.std.proofs.Common.{◌≡◌, ◌∙◌, List, None, Some, option_map, ap, sym}
+use Rattle.std.proofs.Common.{◌≡◌, ◌∙◌, List, Some, option_map, ap, sym}
 use Rattle.std.specs.Borrow.{Bor}
 use Rattle.std.specs.List.{slice_get}
 use Rattle.mw_build.specs.Modules.{Accepted}
