@@ -1,6 +1,7 @@
 -- Modules that were accepted, and why others are refused.
 pub use Rattle.mw_build.specs.Imported.{Accepted}
-use Rattle.std.specs.Prelude.{◌≡◌, ◌++◌, ◌≤◌, ℕ, List, map, take, drop, length, All, slice_get, Some, Ok, Err}
+use Rattle.std.specs.Prelude.{◌≡◌, ◌++◌, ◌≤◌, ℕ, List, map, take, drop, length, All, slice_get, Option, IfSome, Some, Ok, Err}
+use Rattle.std.specs.Global.{Box}
 use Rattle.mw_logic.specs.Term.{Variable}
 use Rattle.mw_sorting.specs.PreregularModulo.{IsPreregularModulo}
 use Rattle.mw_logic.specs.Module.{Module, Statement}
@@ -82,10 +83,10 @@ pub record AreLoaded (us : List FlatUnit) (ms : List Accepted) : Type 0 where
   pub known : (k : ℕ) (u : FlatUnit) → slice_get us k ≡ Some u → AreKnown u.statements
   pub declared : (k : ℕ) (u : FlatUnit) (m : Accepted) → slice_get us k ≡ Some u → slice_get ms k ≡ Some m → IsOfUnit us u m
 
--- What is kept for a module, of whose statements so many are imported: its grammar and its index; and its own statements are equations without conditions.
-pub record IsHeld (M : Module) (imported : ℕ) (variables : List Variable) (g : Grammar) (kept : Index) : Type 0 where
+-- What is kept for a module, of whose statements so many are imported: its grammar, and its index where it was made; and its own statements are equations without conditions.
+pub record IsHeld (M : Module) (imported : ℕ) (variables : List Variable) (g : Grammar) (kept : Option (Box Index)) : Type 0 where
   pub grammar : IsGrammarOf M.signature variables g
-  pub index : IsIndexOf M kept
+  pub index : IfSome kept (λ (index : Box Index). IsIndexOf M index.value)
   pub within : imported ≤ length M.statements
   pub plain : All IsUnconditional (drop imported M.statements)
 

@@ -3,11 +3,11 @@
 //!
 //! `build` makes a [`Module`] of a unit, where others were accepted before: the units that its imports reach
 //! (mw_import), the declarations of all their statements and its own (mw_declare), the operators' tables (mw_sorts) and
-//! axioms (mw_canon), its grammar (mw_grammar), the equations as statements, all this as a context (mw_least), and an
-//! index of its equations (mw_index). A module keeps the statements that stand in it itself as they were read in its
-//! own signature (`Module::own`): a module that imports it has them carried to its own signature (mw_carry), so no text
-//! is read twice. `Module::term` reads a term in which the module's own variables may stand, `Module::pair` two of one
-//! kind, `canonical` makes such a term canonical.
+//! axioms (mw_canon), its grammar (mw_grammar), the equations as statements, and all this as a context (mw_least); an
+//! index of its equations (mw_index) is made when it is first wanted (`Module::prepare`). A module keeps the statements
+//! that stand in it itself as they were read in its own signature (`Module::own`): a module that imports it has them
+//! carried to its own signature (mw_carry), so no text is read twice. `Module::term` reads a term in which the module's
+//! own variables may stand, `Module::pair` two of one kind, `canonical` makes such a term canonical.
 //!
 //! Faults come in this order, and the first one decides: a variable of its own that is declared again with another
 //! sort; the first import at fault; those of the declarations of the flattened module; an operator without a least
@@ -31,7 +31,8 @@
 //! - `build` wants that the units before were accepted as the modules before (`AreLoaded`); with one more it is so
 //!   again (proofs/Loading).
 //! - The module is workable, as mw_least asks, its signature has a grammar, as mw_parse asks (their `requires`), and
-//!   `Module::index` is an index of its equations (`IsIndexOf` of mw_index).
+//!   `Module::index` is an index of its equations where there is one (`IsIndexOf` of mw_index); `prepare` changes
+//!   nothing else.
 //! - The law `texts_read_back`: the text of each raw term of a module that a source's unit is, cut into tokens, spells
 //!   this term in the module, where the term's variables can be printed (specs/Printing). Ground terms have none, and
 //!   by `statements_are_printable` so it is for the variables of the module's statements.

@@ -1,5 +1,5 @@
 // Modules that were accepted.
-ghost use Rattle.std.specs.Prelude.{◌≡◌, ◌≤◌, ◌++◌, ℕ, List, length, drop, All, IfOk, IfErr, None};
+ghost use Rattle.std.specs.Prelude.{◌≡◌, ◌≤◌, ◌++◌, ℕ, List, length, drop, All, IfOk, IfErr, IfSome, None};
 ghost use Rattle.mw_logic.specs.Term.{Variable};
 ghost use Rattle.mw_logic.specs.Signature.{IsRawTerm};
 ghost use Rattle.mw_logic.specs.Accepted.{IsAccepted as IsAcceptedSignature, IsWellSorted};
@@ -49,7 +49,8 @@ pub struct Module {
     context: Box<Ctx>,
     // How many statements of others stand before its own.
     imported: usize,
-    index: Box<Index>,
+    // Made when it is first wanted.
+    index: Option<Box<Index>>,
     variables: Seq<VarId>,
     grammar: Box<Grammar>,
 }
@@ -70,7 +71,7 @@ impl Model for Module {
     ghost use Rattle.mw_index.specs.Index.{IsIndexOf};
     ghost use Rattle.mw_build.specs.Modules.{IsHeld};
 
-    ghost invariant = { λ m. IsHeld m.context.value m.imported m.variables m.grammar.value m.index.value };
+    ghost invariant = { λ m. IsHeld m.context.value m.imported m.variables m.grammar.value m.index };
 }
 
 impl Module {
@@ -98,11 +99,25 @@ impl Module {
         own
     }
 
-    /// Its equations, by what their left sides are instances of.
-    pub fn index(&self) -> &Index
-        ensures { IsIndexOf self.now.module result.now }
+    /// Its equations, by what their left sides are instances of, where `prepare` has made that.
+    pub fn index(&self) -> Option<&Index>
+        ensures { IfSome result (λ index. IsIndexOf self.now.module index.now) }
     {
-        &self.index
+        match &self.index {
+            Some(index) => Some(index),
+            None => None,
+        }
+    }
+
+    /// Makes the index where there is none yet: a module in which nothing is reduced needs none.
+    pub fn prepare(&mut self, alloc: Global) -> Result<(), AllocError>
+        ensures { self.new ≡ self.old }
+    {
+        if self.index.is_none() {
+            let index = Index::of(alloc, &self.context)?;
+            self.index = Some(Box::new(alloc, index)?);
+        }
+        Ok(())
     }
 
     /// The one term that the tokens spell, in which the module's variables may stand. It is a term of the signature.
@@ -272,12 +287,11 @@ fn module_of(
     } = Box::into_inner(signed);
     let Statements { imported, list } = statements;
     let context = Ctx::new(alloc, facts, order, Box::into_inner(tables), Seq::of(list))?;
-    let index = Index::of(alloc, &context)?;
     Ok(Module {
         name,
         context,
         imported,
-        index: Box::new(alloc, index)?,
+        index: None,
         variables,
         grammar,
     })

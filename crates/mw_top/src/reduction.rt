@@ -16,9 +16,11 @@ ghost use Rattle.mw_block.specs.Seen.{word_of as word_of_status};
 ghost use Rattle.mw_top.specs.Commands.{IsTerm, IsCanonicalTerm, IsReduced, IsParsed, TermFault};
 ghost use Rattle.mw_top.specs.Seen.{word_of};
 ghost use Rattle.mw_canon.specs.Canonical.{IsAdmittedTerm};
+ghost use Rattle.mw_index.specs.Index.{IsIndexOf};
 
 use mw_block::{Reached, Status, parsed, reduction};
 use mw_build::{Module, canonical};
+use mw_index::Index;
 use mw_lex::Token;
 use mw_module::FaultKind;
 use mw_parse::ParseError;
@@ -113,6 +115,29 @@ fn block(
     )
 }
 
+/// Reduces a term by at most so many steps, by an index of the module's equations, and gives the block.
+fn reduced_over(
+    alloc: Global,
+    accepted: &Module,
+    index: &Index,
+    term: Term,
+    most: u64,
+) -> Result<Vec<u8>, AllocError>
+    requires admitted { IsAdmittedTerm accepted.now.module.signature term }
+    requires index { IsIndexOf accepted.now.module index.now }
+    ensures { (written : RawTerm) → term ≡ normal_form accepted.now.module.signature written → IfOk result (λ text. IsReduced accepted.now most written text.items) }
+{
+    let context = accepted.context();
+    let budget = Budget {
+        steps: most,
+        side: most,
+        nest: 63,
+    };
+    let (proved, outcome) = reduce(alloc, context, index, term, budget)?;
+    proved.shows();
+    block(alloc, accepted, &proved, outcome)
+}
+
 /// Reduces a term by at most so many steps, and gives the block.
 fn reduced_term(
     alloc: Global,
@@ -123,15 +148,11 @@ fn reduced_term(
     requires { IsAdmittedTerm accepted.now.module.signature term }
     ensures { (written : RawTerm) → term ≡ normal_form accepted.now.module.signature written → IfOk result (λ text. IsReduced accepted.now most written text.items) }
 {
-    let context = accepted.context();
-    let budget = Budget {
-        steps: most,
-        side: most,
-        nest: 63,
-    };
-    let (proved, outcome) = reduce(alloc, context, accepted.index(), term, budget)?;
-    proved.shows();
-    block(alloc, accepted, &proved, outcome)
+    if let Some(index) = accepted.index() {
+        return reduced_over(alloc, accepted, index, term, most);
+    }
+    let index = Index::of(alloc, accepted.context())?;
+    reduced_over(alloc, accepted, &index, term, most)
 }
 
 /// The block that tells a term with its sort.

@@ -12,7 +12,7 @@ ghost use Rattle.mw_top.specs.Sources.{IsTaken, Gives, name_of, kept_names, no_m
 use crate::replies::reply;
 use mw_block::refusal;
 use mw_build::{Built, Module, build};
-use mw_command::{Command, read};
+use mw_command::{Command, Word, read};
 use mw_import::Units;
 use mw_lex::Token;
 use mw_module::{Fault, FaultKind, Unit, UnitError};
@@ -197,6 +197,30 @@ impl<'s> Session<'s> {
         }
     }
 
+    /// The number of the module in which a command stands.
+    fn number_for(&self, command: &Command<'_>) -> Option<usize> {
+        match &command.module {
+            Some(name) => self.units.number(name.text.as_slice()),
+            None => self.modules.len().checked_sub(1),
+        }
+    }
+
+    /// Has the index of the equations made of the module in which a command is to be reduced.
+    fn prepare(&mut self, alloc: Global, command: &Command<'_>) -> Result<(), AllocError>
+        ensures { self.new ≡ self.old }
+    {
+        if !matches!(command.word, Word::Reduce) {
+            return Ok(());
+        }
+        let Some(number) = self.number_for(command) else {
+            return Ok(());
+        };
+        match self.modules.get_mut(number) {
+            Some(module) => module.prepare(alloc),
+            None => Ok(()),
+        }
+    }
+
     /// What a command gives.
     fn answer_command(
         &self,
@@ -229,7 +253,10 @@ impl<'s> Session<'s> {
             return self.answer_module(alloc, unit, name);
         }
         match read(&unit) {
-            Ok(command) => self.answer_command(alloc, unit.line, &command, most),
+            Ok(command) => {
+                self.prepare(alloc, &command)?;
+                self.answer_command(alloc, unit.line, &command, most)
+            }
             Err(fault) => refused_by(alloc, fault),
         }
     }

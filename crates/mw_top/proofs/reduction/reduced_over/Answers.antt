@@ -4,13 +4,13 @@ use Rattle.mw_canon.specs.Canonical.{IsAdmittedTerm}
 use Rattle.mw_index.specs.Index.{IsIndexOf}
 use Rattle.mw_reduce.specs.Reductions.{IsReductionOf}
 use Rattle.mw_top.proofs.Answering.{reduced_by, if_ok}
-use Rattle.mw_top.proofs.reduction.reduced_term.Goals as goal
+use Rattle.mw_top.proofs.reduction.reduced_over.Goals as goal
 
 pub reduce-requires-clause-admitted : goal.reduce-requires-clause-admitted
-reduce-requires-clause-admitted c = subst (λ (M : Module). IsAdmittedTerm M.signature c.args.term) (sym c.context-context.ensures) c.requires
+reduce-requires-clause-admitted c = subst (λ (M : Module). IsAdmittedTerm M.signature c.args.term) (sym c.context-context.ensures) c.requires.admitted
 
 pub reduce-requires-clause-index : goal.reduce-requires-clause-index
-reduce-requires-clause-index c = subst (λ (M : Module). IsIndexOf M c.index.result.now) (sym c.context-context.ensures) c.index.ensures
+reduce-requires-clause-index c = subst (λ (M : Module). IsIndexOf M c.args.index.now) (sym c.context-context.ensures) c.requires.index
 
 pub block-requires : goal.block-requires
 block-requires c =
