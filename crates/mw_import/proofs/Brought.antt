@@ -2,9 +2,9 @@
 use Rattle.std.proofs.Common.{◌≡◌, ◌⊎◌, ℕ, List, [], ◌∷◌, ◌++◌, flat_map, Option, None, Some, refl, sym, inl, inr, subst, slice_get}
 use Rattle.mw_logic.specs.Signature.{Member}
 use Rattle.mw_module.specs.Units.{SeenLined}
-use Rattle.mw_import.specs.Flat.{FlatUnit, reached_by, brought_by, firsts, IsFlat, AreAccepted}
+use Rattle.mw_import.specs.Flat.{FlatUnit, reached_by, brought_by, first_unit, firsts, IsFlat, AreAccepted}
 use Rattle.mw_import.specs.Gathering.{gathered, IsClosed}
-use Rattle.mw_import.proofs.Lists.{member-left, member-right, member-append, member-flat_map, flat_map-member}
+use Rattle.mw_import.proofs.Lists.{member-left, member-append, member-flat_map, flat_map-member}
 use Rattle.mw_import.proofs.Gathered.{member_gathered, gathered_member, gathered-there, firsts_member, member_firsts}
 
 -- what a unit brings is itself, and what it reaches
@@ -19,9 +19,6 @@ member_brought us j k m = of (slice_get us k) refl m
           | inl n ↦ inr (u, e, n)
           | inr n ↦ elim n [ inl i ↦ inl (sym i) | inr f ↦ absurd f ]
         ]
-
-pub itself_brought : (us : List FlatUnit) (k : ℕ) → Member k (brought_by us k)
-itself_brought us k = member-right k (reached_by (slice_get us k)) (k ∷ []) (inl refl)
 
 pub reached_brought : (us : List FlatUnit) (j k : ℕ) (u : FlatUnit) → slice_get us k ≡ Some u → Member j u.reached → Member j (brought_by us k)
 reached_brought us j k u e m = subst (λ o. Member j (reached_by o ++ k ∷ [])) (sym e) (member-left j u.reached (k ∷ []) m)
@@ -49,7 +46,7 @@ module _ (us : List FlatUnit) (all : AreAccepted us) where
 
   -- what a module reaches comes with all that it brings
   pub flat_closed : (ss : List SeenLined) (reached : List ℕ) → IsFlat us ss reached → IsClosed us reached
-  flat_closed ss reached flat = subst (IsClosed us) (sym flat.flat) (firsts_closed flat.numbers)
+  flat_closed ss reached flat = subst (IsClosed us) (sym flat.flat) (firsts_closed (first_unit us ++ flat.numbers))
 
 -- where a unit is there, nothing more comes with it
 pub nothing_more : (us : List FlatUnit) (there : List ℕ) (k : ℕ) → IsClosed us there → Member k there → gathered there (brought_by us k) ≡ there

@@ -1,5 +1,6 @@
 -- Imports, one after the other.
 use Rattle.std.proofs.Common.{◌≡◌, ◌∙◌, ℕ, zero, suc, ◌<◌, List, [], ◌∷◌, ◌++◌, map, flat_map, length, get_or, drop, drop-cons, ◌+◌, Bor, Option, Some, refl, sym, ap, subst, slice_get, arith}
+use Rattle.std.proofs.lemmas.Grind.{flat_map-append}
 use Rattle.std.proofs.lemmas.Option.{same_Some}
 use Rattle.mw_module.specs.declared.faults.Fault.{Fault}
 use Rattle.mw_lex.specs.declared.token.Token.{Token}
@@ -7,7 +8,7 @@ use Rattle.mw_module.specs.declared.forms.Form.{Form}
 use Rattle.mw_module.specs.declared.forms.Form.TheVariants as form
 use Rattle.mw_module.specs.Forms.{shape_of}
 use Rattle.mw_module.specs.Units.{SeenLined}
-use Rattle.mw_import.specs.Flat.{FlatUnit, ImportOf, number_named, imports_in, imports_of, brought_by, IsFlat, IsThere, IsWrong, ImportFault}
+use Rattle.mw_import.specs.Flat.{FlatUnit, ImportOf, number_named, imports_in, imports_of, brought_by, first_unit, IsFlat, IsThere, IsWrong, ImportFault}
 use Rattle.mw_import.specs.Gathering.{gathered, IsClosed, IsOf}
 use Rattle.mw_import.proofs.Gathered.{gathered-append, gathered-firsts}
 
@@ -20,11 +21,19 @@ pub record IsOnTheWay (us : List FlatUnit) (own : List ℕ) (all rest : List See
   pub fault : (f : Fault) → ImportFault us own rest f → ImportFault us own all f
   pub closed : IsClosed us there
 
-pub at_start : (us : List FlatUnit) (own : List ℕ) (all : List SeenLined) → IsOnTheWay us own all all []
-at_start us own all = record {
-  flat = λ ks e. record { numbers = ks; named = e; flat = gathered-firsts (flat_map (brought_by us) ks) };
+-- where what the first unit brings is there
+pub at_start : (us : List FlatUnit) (own : List ℕ) (all : List SeenLined) (there : List ℕ) → there ≡ gathered [] (flat_map (brought_by us) (first_unit us)) → IsClosed us there
+    → IsOnTheWay us own all all there
+at_start us own all there first closed = record {
+  flat = λ ks e. record {
+    numbers = ks;
+    named = e;
+    flat = ap (λ js. gathered js (flat_map (brought_by us) ks)) first
+        ∙ sym (gathered-append [] (flat_map (brought_by us) (first_unit us)) (flat_map (brought_by us) ks))
+        ∙ ap (gathered []) (sym (flat_map-append (brought_by us) (first_unit us) ks)) ∙ gathered-firsts (flat_map (brought_by us) (first_unit us ++ ks));
+  };
   fault = λ f h. h;
-  closed = λ j m. absurd m;
+  closed = closed;
 }
 
 pub at_end : (us : List FlatUnit) (own : List ℕ) (all : List SeenLined) (there : List ℕ) → IsOnTheWay us own all [] there → IsFlat us all there

@@ -52,6 +52,20 @@ pub among_any : (k : ℕ) (js : List ℕ) → list_any (nat_eq k) js ≡ is_amon
 among_any k [] = refl
 among_any k (j ∷ js) = ap (λ b. nat_eq k j || b) (among_any k js)
 
+equal_either : (j k : ℕ) → nat_eq j k ≡ nat_eq k j
+equal_either j k = of (nat_eq j k) refl (nat_eq k j) refl
+  where
+    of : (a : Bool) → nat_eq j k ≡ a → (b : Bool) → nat_eq k j ≡ b → a ≡ b
+    of true p true q = refl
+    of false p false q = refl
+    of true p false q = sym (eq-eqb k j (sym (eqb-true j k p))) ∙ q
+    of false p true q = sym p ∙ eq-eqb j k (sym (eqb-true k j q))
+
+-- also where each is compared with the number
+pub any_among : (k : ℕ) (js : List ℕ) → list_any (λ j. nat_eq j k) js ≡ is_among k js
+any_among k [] = refl
+any_among k (j ∷ js) = ap (λ b. b || list_any (λ j. nat_eq j k) js) (equal_either j k) ∙ ap (λ b. nat_eq k j || b) (any_among k js)
+
 pub among_member : (k : ℕ) (js : List ℕ) → is_among k js ≡ true → Member k js
 among_member k [] h = absurd (true≢false (sym h))
 among_member k (j ∷ js) h =

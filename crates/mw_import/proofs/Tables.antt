@@ -11,9 +11,9 @@ use Rattle.std.proofs.lemmas.Slice.Eq.{bytes_eq-Decides}
 use Rattle.mw_logic.specs.Signature.{Member}
 use Rattle.mw_module.specs.Units.{SeenLined}
 use Rattle.mw_import.specs.declared.units.Kept.{Kept}
-use Rattle.mw_import.specs.Flat.{FlatUnit, ImportOf, number_named, imports_of, brought_by, IsFlat, AreAccepted}
+use Rattle.mw_import.specs.Flat.{FlatUnit, ImportOf, number_named, imports_of, brought_by, first_unit, IsFlat, AreAccepted}
 use Rattle.mw_import.specs.Seen.{flat_unit, flat_units}
-use Rattle.mw_import.proofs.Lists.{flat_map-member, pushed_at}
+use Rattle.mw_import.proofs.Lists.{member-append, flat_map-member, pushed_at}
 use Rattle.mw_import.proofs.Gathered.{member_firsts}
 use Rattle.mw_import.proofs.Brought.{member_brought, flat_closed}
 use Rattle.mw_import.proofs.Flattened.{brought_kept}
@@ -65,11 +65,19 @@ numbers_within us [] (k ∷ ks) e j m = cc
 numbers_within us (i ∷ is) (k ∷ ks) e j (inl same) = subst (λ j. j < length us) same (number_within us i.name k (cc))
 numbers_within us (i ∷ is) (k ∷ ks) e j (inr m) = numbers_within us is ks (cc) j m
 
+-- so is that of the first unit
+first_within : (us : List FlatUnit) (j : ℕ) → Member j (first_unit us) → j < length us
+first_within [] j m = absurd m
+first_within (u ∷ us) j (inl e) = omega (arith, e)
+first_within (u ∷ us) j (inr m) = absurd m
+
 -- what a module reaches are units that are there
 pub flat_within : (us : List FlatUnit) → AreAccepted us → (ss : List SeenLined) (reached : List ℕ) → IsFlat us ss reached → (j : ℕ) → Member j reached → j < length us
 flat_within us all ss reached flat j m =
-    let from = flat_map-member (brought_by us) j flat.numbers (member_firsts j (flat_map (brought_by us) flat.numbers) (subst (Member j) flat.flat m)) in
-    let there : from.0 < length us = numbers_within us (imports_of ss) flat.numbers flat.named from.0 from.1 in
+    let all_numbers = first_unit us ++ flat.numbers in
+    let from = flat_map-member (brought_by us) j all_numbers (member_firsts j (flat_map (brought_by us) all_numbers) (subst (Member j) flat.flat m)) in
+    let there : from.0 < length us =
+    elim (member-append from.0 (first_unit us) flat.numbers from.1) [ inl k ↦ first_within us from.0 k | inr k ↦ numbers_within us (imports_of ss) flat.numbers flat.named from.0 k ] in
     elim (member_brought us j from.0 from.2) [
       | inl e ↦ subst (λ j. j < length us) (sym e) there
       | inr h ↦ let below = all.before from.0 h.0 h.1 j h.2 in omega (arith, below, there)

@@ -1,5 +1,5 @@
 -- Flattening: the modules that imports reach, each once, in order. (Maude Manual, chapter 6, "Module importation"; that imports come first, depth first in the
--- order of their lines, is this project's own.)
+-- order of their lines, and that the first accepted module is imported by each later one, is this project's own.)
 use Rattle.std.specs.Prelude.{◌≡◌, ◌≢◌, ◌<◌, ℕ, Bool, false, ◌||◌, List, [], ◌∷◌, ◌++◌, map, flat_map, position, bytes_eq, nat_eq, slice_get, Option, Some, None, if◌then◌else◌}
 use Rattle.mw_logic.specs.Signature.{Member}
 use Rattle.mw_module.specs.declared.faults.Fault.{Fault}
@@ -58,11 +58,17 @@ firsts_behind seen (k ∷ ks) = if is_among k seen then firsts_behind seen ks el
 abbrev pub firsts : List ℕ → List ℕ
 firsts ks = firsts_behind [] ks
 
--- Statements with imports of accepted modules alone reach these units: what their imports bring, one import after the other, each unit where it first stands.
+-- the unit that each module imports before all others: the first one, where there is one
+abbrev pub first_unit : List FlatUnit → List ℕ
+first_unit [] = []
+first_unit (u ∷ us) = 0 ∷ []
+
+-- Statements with imports of accepted modules alone reach these units: what the first unit brings, and then what their imports bring, one import after the
+-- other, each unit where it first stands.
 pub record IsFlat (us : List FlatUnit) (ss : List SeenLined) (reached : List ℕ) : Type 0 where
   pub numbers : List ℕ
   pub named : map (λ (i : ImportOf). number_named us i.name) (imports_of ss) ≡ map Some numbers
-  pub flat : reached ≡ firsts (flat_map (brought_by us) numbers)
+  pub flat : reached ≡ firsts (flat_map (brought_by us) (first_unit us ++ numbers))
 
 -- the import is of an accepted module, and not of the module in which it stands
 pub record IsThere (us : List FlatUnit) (own : List ℕ) (i : ImportOf) : Type 0 where
@@ -83,6 +89,15 @@ pub record ImportFault (us : List FlatUnit) (own : List ℕ) (ss : List SeenLine
   pub is_there : slice_get (imports_of ss) place ≡ Some wrong
   pub is : IsWrong us own wrong fault
   pub before : (i : ℕ) (e : ImportOf) → i < place → slice_get (imports_of ss) i ≡ Some e → IsThere us own e
+
+-- the unit is among these
+abbrev pub is_unit_among : List ℕ → Option ℕ → Bool
+is_unit_among reached None = false
+is_unit_among reached (Some k) = is_among k reached
+
+-- the module of the first name, which reaches these units, has a module of the second name: itself, or one of them
+abbrev pub is_reached : List FlatUnit → List ℕ → List ℕ → List ℕ → Bool
+is_reached us reached own name = bytes_eq own name || is_unit_among reached (number_named us name)
 
 abbrev pub statements_at : Option FlatUnit → List SeenLined
 statements_at None = []

@@ -3,6 +3,7 @@
 //! [`Units`] holds the units whose modules were accepted, each with the units that it reaches. A module's imports
 //! come first, in the order of their lines, each with what it reaches before itself; each module stands once, where
 //! it first comes; the module's own statements come last. `protecting`, `extending` and `including` mean the same.
+//! The first accepted unit is imported by each later one, before its own imports and without a statement.
 //!
 //! - Units are named by their numbers, from 0 in the order in which they were accepted. [`Flat`] is the list of those
 //!   that a module reaches, without the module itself.
@@ -10,13 +11,16 @@
 //!   not a unit has that name; else an import of a name that no unit has is unknown: the first import at fault
 //!   decides. What an import brings goes into a set that keeps order. Where its unit is in the set already, nothing
 //!   is done, since all that the unit reaches is there too.
+//! - `reaches` says whether a module has a module of a name: itself, or one that it reaches.
 //! - `accept` adds a unit behind the others, with the list that `flatten` gave, so a list is made once for each
 //!   module. A unit imports units before it alone, so no longer way leads round.
 //! - `statements` lends the forms of a flattened module's statements, from the units and from the module's own: those
 //!   of the units that are reached are told at the line that the caller gives, its own at their own lines.
 //!
-//! Proved (specs/Flat): `flatten` answers the list that the imports name (`IsFlat`), each unit where it first stands,
-//! or the fault of the first import that has one (`ImportFault`), with its line and name. `statements` are exactly
+//! Proved (specs/Flat): `flatten` answers the list of what the first unit brings and of what the imports name
+//! (`IsFlat`), each unit where it first stands, or the fault of the first import that has one (`ImportFault`), with its
+//! line and name. `reaches` is exactly whether the unit of that name is in the list, or the name is the module's own
+//! (`is_reached`). `statements` are exactly
 //! those of the units in the list and then its own (`all_statements`). `accept` adds exactly that unit, and leaves
 //! the units as they were where memory ran out; `number` is the place of the unit of a name. Of all `Units` it holds
 //! that each unit reaches units before it alone, that with one it reaches all that this one brings, and that no two

@@ -1,8 +1,9 @@
 // Accepted units, and what they reach.
-ghost use Rattle.std.specs.Prelude.{◌≡◌, ◌++◌, ◌∷◌, List, [], None, IfOk, IfErr, OnOk, OnErr, map, slice_get};
+ghost use Rattle.std.specs.Prelude.{◌≡◌, ◌++◌, ◌∷◌, List, [], None, IfOk, IfErr, OnOk, OnErr, map, flat_map, slice_get};
 ghost use Rattle.mw_module.specs.Causes.{HasCause};
 ghost use Rattle.mw_module.specs.Units.{seen_statements, seen_unit, seen_all};
-ghost use Rattle.mw_import.specs.Flat.{number_named, reached_by, brought_by, statements_at, told_at, all_statements};
+ghost use Rattle.mw_import.specs.Flat.{number_named, reached_by, brought_by, first_unit, is_reached, statements_at, told_at};
+ghost use Rattle.mw_import.specs.Flat.{all_statements};
 ghost use Rattle.mw_import.specs.Flat.{IsFlat, IsWrong, ImportFault, AreAccepted};
 ghost use Rattle.mw_import.specs.Gathering.{gathered, IsClosed, IsOf};
 
@@ -192,6 +193,20 @@ impl<'s> Units<'s> {
         Ok(())
     }
 
+    /// Adds what the first unit brings to none, where there is one.
+    fn bring_first(&self, there: &mut IndexSet<usize>) -> Result<(), AllocError>
+        requires { there.old.keys ≡ [] }
+        ensures brought { OnOk result
+            (there.new.keys ≡ gathered [] (flat_map (brought_by self.now) (first_unit self.now))) }
+        ensures closed { OnOk result (IsClosed self.now there.new.keys) }
+    {
+        if self.kept.is_empty() {
+            return Ok(());
+        }
+        self.bring(there, 0)?;
+        Ok(())
+    }
+
     /// The units that a module of this name with these statements reaches, or the fault of its first import that has
     /// one.
     pub fn flatten(
@@ -204,6 +219,7 @@ impl<'s> Units<'s> {
         ensures fault { IfErr result (HasCause (ImportFault self.now name.now (seen_statements statements.now))) }
     {
         let mut there = IndexSet::new(alloc);
+        self.bring_first(&mut there)?;
         for statement in statements {
             if let Form::Import { module } = &statement.form {
                 let text = module.text.as_slice();
@@ -213,6 +229,20 @@ impl<'s> Units<'s> {
         }
         let reached = there.as_slice().to_vec(alloc)?;
         Ok(Flat { reached })
+    }
+
+    /// Whether the module of the name `own`, which reaches these units, has a module of this name: itself, or one of
+    /// them.
+    pub fn reaches(&self, flat: &Flat, own: &[u8], name: &[u8]) -> bool
+        ensures { result ≡ is_reached self.now flat.now own.now name.now }
+    {
+        if own == name {
+            return true;
+        }
+        match self.number(name) {
+            Some(unit) => flat.as_slice().contains(&unit),
+            None => false,
+        }
     }
 
     /// The statements of a flattened module, in order: those of the units that it reaches, told at this line, and its

@@ -10,8 +10,7 @@ use Rattle.mw_import.proofs.units.Units.flatten.Goals.{in-Import+in_ok-unit+in_o
 
 pub loop-statement-init : goal.loop-statement-init
 loop-statement-init c =
-    let all = seen_statements c.args.statements.now in
-    subst (IsOnTheWay c.args.self.now c.args.name.now all all) (sym c.new-there.ensures.empty) (at_start c.args.self.now c.args.name.now all)
+    at_start c.args.self.now c.args.name.now (seen_statements c.args.statements.now) c.bring_first.new.there.keys c.in_ok-bring_first.ensures.brought c.in_ok-bring_first.ensures.closed
 
 pub returns-in_err-unit-clause-fault : goal.returns-in_err-unit-clause-fault
 returns-in_err-unit-clause-fault c =
@@ -29,7 +28,7 @@ returns-in_err-unit-clause-fault c =
     ap (λ f. imports_in s.line (shape_of f)) c.in-Import.is
     ∙ ap (λ n. let e : ImportOf = record { line = s.line; name = n } in e ∷ []) (sym c.as_slice-text.ensures) in
     passed_on (IsWrong us own m) (ImportFault us own all) (λ f h. wrong us own all (seen_lined s) rest there w m is f h)
-    c.from_residual.result c.in_err-unit.field-0.0 c.from_residual.ensures.1 c.in_err-unit.ensures.fault
+    c.from_residual-in_err-unit.result c.in_err-unit.field-0.0 c.from_residual-in_err-unit.ensures.1 c.in_err-unit.ensures.fault
 
 pub loop-statement-preserved : goal.loop-statement-preserved
 loop-statement-preserved c =

@@ -1,0 +1,2 @@
+-- What texts mention, one after the other.
+pub mod Mentioning
