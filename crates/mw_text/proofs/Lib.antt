@@ -6,3 +6,4 @@ pub mod Proper
 pub mod SpelledVariables
 mod Held
 pub mod Keys
+mod Numbers

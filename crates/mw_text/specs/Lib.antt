@@ -7,3 +7,4 @@ pub mod Mixfix
 pub mod Readings
 pub mod Interned
 pub mod Mentions
+pub mod Numerals
