@@ -2,7 +2,9 @@
 use Rattle.std.proofs.Common.{rules, tests, inl, inr, ◌≡◌, ◌⊎◌, ◌<◌, ◌≤◌, ◌+◌, ◌*◌, ◌^◌, ℕ, List, [], ◌∷◌, Bool, true, false, ◌&&◌, nat_lt, Option, None, Some, if◌then◌else◌, refl, arith}
 use Rattle.std.specs.Char.{is_ascii_digit, digit_value}
 use Rattle.std.specs.Str.{all_ascii_digits}
-use Rattle.std.specs.Str.Parse.{digits_value_after}
+use Rattle.std.specs.Str.Parse.{digits_value, digits_value_after}
+use Rattle.std.proofs.lemmas.Bool.{ltb-true, lt-ltb}
+use Rattle.mw_text.specs.Numerals.{are_digits, number_in}
 
 -- the number of digits that stand behind those of n, which may be none
 abbrev pub number_behind : ℕ → List ℕ → Option ℕ
@@ -40,3 +42,16 @@ at_end n h = rw (below n h) refl
   where
     below : (k : ℕ) → k < 2 ^ 128 → nat_lt k (2 ^ 128) ≡ true
     below k h = search (rules, tests)
+
+-- what a text is, is below 2^128
+pub number_below : (text : List ℕ) (n : ℕ) → number_in text ≡ Some n → n < 2 ^ 128
+number_below text n e = of (are_digits text) (nat_lt (digits_value 10 text) (2 ^ 128)) refl e
+  where
+    of : (p q : Bool) → nat_lt (digits_value 10 text) (2 ^ 128) ≡ q → (if p && q then Some (digits_value 10 text) else None) ≡ Some n → n < 2 ^ 128
+    of true true h f = let same : digits_value 10 text ≡ n = (cc) in let below = ltb-true (digits_value 10 text) (2 ^ 128) h in omega (arith, same, below)
+    of true false h f = let bad : ⊥ = (cc) in absurd bad
+    of false q h f = let bad : ⊥ = (cc) in absurd bad
+
+-- digits whose value is below it are that number
+pub number_is : (text : List ℕ) (n : ℕ) → are_digits text ≡ true → digits_value 10 text ≡ n → n < 2 ^ 128 → number_in text ≡ Some n
+number_is text n d e h = rw (d, e, lt-ltb n (2 ^ 128) h) refl
