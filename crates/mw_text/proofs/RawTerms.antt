@@ -1,12 +1,13 @@
 -- What tokens spell is a raw term of the signature.
 use Rattle.std.proofs.Common.{ℕ, List, IsTrue, sym, subst, ⊎_elim}
 use Rattle.mw_logic.specs.Term.{Variable, RawTerm, RawTerms, nil, cons, apply}
-use Rattle.mw_logic.specs.Signature.{Signature, Operator, IsOperator, Member, SameKind, same, HasKind, of_operator, IsRawTerm, a_variable, an_operator, AreRawTerms, end, next}
+use Rattle.mw_logic.specs.Signature.{Signature, Operator, IsOperator, Member, SameKind, same, HasKind, of_operator, IsRawTerm, a_numeral, a_quoted, a_variable, an_operator, AreRawTerms, end, next}
 use Rattle.mw_logic.specs.Accepted.{IsAccepted}
 use Rattle.mw_logic.proofs.KindLaws.{SameKind-trans, SameKind-sym, SameKind-equal}
 use Rattle.mw_logic.proofs.Soundness.{HasKind-same}
 use Rattle.mw_text.specs.Names.{NameItem}
-use Rattle.mw_text.specs.Mixfix.{Spells, declared, with_sort, grouped, a_constant, prefixed, flattened, mixfix, SpellsArguments, last, more, SpellsNested, two, another, SpellsItems, no_items, over_piece, over_hole}
+use Rattle.mw_text.proofs.Numbers.{number_below}
+use Rattle.mw_text.specs.Mixfix.{Spells, declared, with_sort, numbered, identified, grouped, a_constant, prefixed, flattened, mixfix, SpellsArguments, last, more, SpellsNested, two, another, SpellsItems, no_items, over_piece, over_hole}
 
 module _ (sig : Signature) (accepted : IsAccepted sig) (variables : List Variable) where
   -- the arguments of an associative operator have its result's kind
@@ -30,6 +31,8 @@ module _ (sig : Signature) (accepted : IsAccepted sig) (variables : List Variabl
     pub spelled_raw : {t : RawTerm} {p : ℕ} {text : List (List ℕ)} → Spells sig variables t p text → IsRawTerm sig t
     spelled_raw (declared x m) = a_variable
     spelled_raw (with_sort x S n v) = a_variable
+    spelled_raw (numbered n token h e) = a_numeral h (number_below token n e)
+    spelled_raw (identified q h i) = a_quoted h
     spelled_raw (grouped t p text s) = spelled_raw s
     spelled_raw (a_constant f o head is e h) = an_operator o is (subst (AreRawTerms sig nil) (sym e) end)
     spelled_raw (prefixed f o t ts head inner is h all) = an_operator o is (arguments_raw all)

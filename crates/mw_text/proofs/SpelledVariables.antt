@@ -5,7 +5,7 @@ use Rattle.mw_logic.specs.Term.{Variable, RawTerm, variable, RawTerms}
 use Rattle.mw_logic.specs.Signature.{Signature, Operator, Gather, Member, IsSortNamed}
 use Rattle.mw_logic.specs.Substitution.{occurs, occurs_in}
 use Rattle.mw_text.specs.Names.{NameItem}
-use Rattle.mw_text.specs.Mixfix.{IsVariableName, Spells, declared, with_sort, grouped, a_constant, prefixed, flattened, mixfix, SpellsArguments, last, more, SpellsNested, two, another, SpellsItems, no_items, over_piece, over_hole}
+use Rattle.mw_text.specs.Mixfix.{IsVariableName, Spells, declared, with_sort, numbered, identified, grouped, a_constant, prefixed, flattened, mixfix, SpellsArguments, last, more, SpellsNested, two, another, SpellsItems, no_items, over_piece, over_hole}
 use Rattle.mw_logic.proofs.SameConditions.{same_variable-is}
 use Rattle.mw_text.proofs.Joined.{Member-left, Member-right}
 
@@ -14,17 +14,17 @@ abbrev pub Each : (List ℕ → Type 0) → List (List ℕ) → Type 0
 Each T text = (w : List ℕ) → Member w text → T w
 
 module _ (T : List ℕ → Type 0) where
-  left_of : (xs ys : List (List ℕ)) → Each T (xs ++ ys) → Each T xs
+  pub left_of : (xs ys : List (List ℕ)) → Each T (xs ++ ys) → Each T xs
   left_of xs ys h w m = h w (Member-left w xs ys m)
 
-  right_of : (xs ys : List (List ℕ)) → Each T (xs ++ ys) → Each T ys
+  pub right_of : (xs ys : List (List ℕ)) → Each T (xs ++ ys) → Each T ys
   right_of xs ys h w m = h w (Member-right w xs ys m)
 
-  behind : (x : List ℕ) (xs : List (List ℕ)) → Each T (x ∷ xs) → Each T xs
+  pub behind : (x : List ℕ) (xs : List (List ℕ)) → Each T (x ∷ xs) → Each T xs
   behind x xs h w m = h w (inr m)
 
   -- what stands behind a head and a token
-  past : (head : List (List ℕ)) (x : List ℕ) (inner : List (List ℕ)) → Each T (head ++ x ∷ inner) → Each T inner
+  pub past : (head : List (List ℕ)) (x : List ℕ) (inner : List (List ℕ)) → Each T (head ++ x ∷ inner) → Each T inner
   past head x inner h = behind x inner (right_of head (x ∷ inner) h)
 
 module _ (sig : Signature) (variables : List Variable) (P : Variable → Type 0) (T : List ℕ → Type 0) (known : (x : Variable) → Member x variables → P x)
@@ -44,6 +44,8 @@ module _ (sig : Signature) (variables : List Variable) (P : Variable → Type 0)
     pub spelled_variables : {t : RawTerm} {p : ℕ} {text : List (List ℕ)} → Spells sig variables t p text → Each T text → (x : Variable) → IsTrue (occurs x t) → P x
     spelled_variables (declared y m) h x o = same x y o (known y m)
     spelled_variables (with_sort y S n v) h x o = same x y o (sorted y S n v (h (y.name ++ codes ":" ++ S) (inl refl)))
+    spelled_variables (numbered n token i e) h x o = none o
+    spelled_variables (identified q i e) h x o = none o
     spelled_variables (grouped t p text s) h x o = spelled_variables s (behind T (codes "(") text (left_of T (codes "(" ∷ text) (codes ")" ∷ []) h)) x o
     spelled_variables (a_constant f o head is e k) h x i = none i
     spelled_variables (prefixed f o t ts head inner is k all) h x i = arguments_variables all (past T head (codes "(") inner (left_of T (head ++ codes "(" ∷ inner) (codes ")" ∷ []) h)) x i

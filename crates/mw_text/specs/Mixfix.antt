@@ -2,9 +2,10 @@
 -- of them is chosen, is this project's own.)
 use Rattle.std.specs.Prelude.{◌≡◌, ◌≢◌, ◌<◌, ◌≤◌, ◌⊎◌, ◌++◌, ℕ, List, [], ◌∷◌, length, codes, Option, Some, None, IsTrue, IsFalse, ⊤}
 use Rattle.mw_lex.specs.Bytes.{is_punctuation}
-use Rattle.mw_logic.specs.Term.{Variable, RawTerm, variable, apply, RawTerms, nil, cons}
+use Rattle.mw_logic.specs.Term.{Variable, RawTerm, numeral, quoted, variable, apply, RawTerms, nil, cons}
 use Rattle.mw_logic.specs.Signature.{Signature, Operator, Gather, less, most, any, IsOperator, IsSortNamed, HasKind, Member}
 use Rattle.mw_text.specs.Names.{NameItem, piece, hole, items_of, has_hole, pieces}
+use Rattle.mw_text.specs.Numerals.{number_in}
 
 -- a hole with this mark, in a form of precedence p, takes texts of precedence q
 abbrev pub IsTaken : Gather → ℕ → ℕ → Type 0
@@ -19,6 +20,12 @@ IsVariableName [] = ⊥
 IsVariableName (b ∷ []) = IsFalse (is_punctuation b) × (b ≢ 34)
 IsVariableName (b ∷ c ∷ rest) = b ≢ 34
 
+-- A text that is a quoted identifier: an apostrophe, and a byte at least behind it.
+abbrev pub IsIdentifier : List ℕ → Type 0
+IsIdentifier [] = ⊥
+IsIdentifier (b ∷ []) = ⊥
+IsIdentifier (b ∷ c ∷ rest) = b ≡ 39
+
 -- What stands before the parenthesis of a prefix form, and for a constant: the name as one token, or the pieces of a name without holes.
 abbrev pub IsHead : Operator → List (List ℕ) → Type 0
 IsHead o head = (head ≡ o.spelling ∷ []) ⊎ (IsFalse (has_hole (items_of o.spelling)) × (head ≡ pieces (items_of o.spelling)))
@@ -31,6 +38,10 @@ module _ (sig : Signature) (variables : List Variable) where
       declared : (x : Variable) → Member x variables → Spells (variable x) 0 (x.name ∷ [])
       -- a variable with its sort
       with_sort : (x : Variable) (S : List ℕ) → IsSortNamed sig x.sort S → IsVariableName x.name → Spells (variable x) 0 ((x.name ++ codes ":" ++ S) ∷ [])
+      -- a numeral
+      numbered : (n : ℕ) (token : List ℕ) → IsTrue sig.nat → number_in token ≡ Some n → Spells (numeral n) 0 (token ∷ [])
+      -- a quoted identifier, which is its token, with the apostrophe
+      identified : (q : List ℕ) → IsTrue sig.qid → IsIdentifier q → Spells (quoted q) 0 (q ∷ [])
       -- a text in parentheses
       grouped : (t : RawTerm) (p : ℕ) (text : List (List ℕ)) → Spells t p text → Spells t 0 (codes "(" ∷ text ++ codes ")" ∷ [])
       a_constant : (f : ℕ) (o : Operator) (head : List (List ℕ)) → IsOperator sig f o → o.args ≡ [] → IsHead o head → Spells (apply f nil) 0 head

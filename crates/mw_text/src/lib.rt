@@ -22,8 +22,10 @@
 
 mod interned;
 mod items;
+mod numerals;
 mod variables;
 
 pub use interned::Names;
 pub use items::{NameItem, first_item, has_hole, holes, spellings_read};
+pub use numerals::number;
 pub use variables::Variables;
