@@ -109,7 +109,7 @@ not_found us n unnamed = of (number_named us n) refl
 
 -- nor is one that isn't taken
 not_there : (l : Loaded) → AreNamed l → (n : List ℕ) → (IsTaken l.modules n → ⊥) → number_named l.units n ≡ None
-not_there l named n free = not_found l.units n (λ m. free (inl (subst (Member n) (sym named) m)))
+not_there l named n free = not_found l.units n (λ m. free (subst (Member n) (sym named) m))
 
 module _ (most : ℕ) (before : Loaded) (alike : AreNamed before) where
   names_kept : (o : Outcome) (text : List ℕ) (bad : Bool) (after : Loaded) → Gives most before o text bad after → AreNamed after

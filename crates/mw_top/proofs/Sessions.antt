@@ -1,5 +1,5 @@
 -- Modules by the names and the numbers of their units, and in order.
-use Rattle.std.proofs.Common.{◌≡◌, ◌∙◌, ◌<◌, ◌+◌, ◌-◌, not, ℕ, zero, suc, List, [], ◌∷◌, ◌++◌, get_or, take, length-append, length, map, Bool, true, false, cond, is_some, Option, Some, None, option_map, bytes_eq, position, slice_get, IsTrue, refl, sym, ap, inl, inr, arith, ⊎_elim}
+use Rattle.std.proofs.Common.{◌≡◌, ◌∙◌, ◌<◌, ◌+◌, ◌-◌, not, ℕ, zero, suc, List, [], ◌∷◌, ◌++◌, get_or, take, length-append, length, map, Bool, true, false, cond, is_some, Option, Some, None, option_map, bytes_eq, position, slice_get, IsTrue, refl, sym, ap, inl, inr, arith, ⊎_elim, if◌then◌else◌}
 use Rattle.std.specs.Borrow.{Bor}
 use Rattle.std.specs.List.{position_or_len}
 use Rattle.std.specs.Slice.{IsItemAt}
@@ -12,8 +12,9 @@ use Rattle.mw_import.specs.Flat.{FlatUnit, number_named}
 use Rattle.mw_import.proofs.Tables.{none_named, number_within}
 use Rattle.mw_build.specs.Modules.{Accepted}
 use Rattle.mw_build.proofs.Pairwise.{there}
-use Rattle.mw_top.specs.Commands.{module_named, last_module}
-use Rattle.mw_top.specs.Sources.{IsTaken, kept_names}
+use Rattle.mw_top.specs.Commands.{module_named, is_kept, last_module}
+use Rattle.mw_top.specs.Sources.{IsTaken}
+use Rattle.std.specs.Option.{option_or}
 
 abbrev pub names_of : List Accepted → List (List ℕ)
 names_of ms = map (λ (a : Accepted). a.name) ms
@@ -85,13 +86,15 @@ module _ (us : List FlatUnit) (ms : List Accepted) (names : names_of ms ≡ map 
           let (m, at) = there ms k (let s = size_named us ms names in omega (arith, low, s)) in
           absurd (none-some m (sym h ∙ sym (number_found k e) ∙ at))
 
--- the last module
-pub last_at : (ms : List Accepted) → slice_get ms (length ms - 1) ≡ last_module ms
-last_at [] = refl
-last_at (m ∷ []) = refl
-last_at (m ∷ l ∷ ms) =
-    let n : length (m ∷ l ∷ ms) - 1 ≡ suc (length (l ∷ ms) - 1) = omega arith in
-    ap (slice_get (m ∷ l ∷ ms)) n ∙ last_at (l ∷ ms)
+-- the last module of a source, where the modules behind these are the prelude's
+pub last_kept : (ms : List Accepted) (a : Accepted) → is_kept a.name ≡ true → last_module (ms ++ a ∷ []) ≡ last_module ms
+last_kept [] a h = rw h refl
+last_kept (m ∷ ms) a h = ap (λ o. option_or o (if is_kept m.name then None else Some m)) (last_kept ms a h)
+
+-- where the last one isn't
+pub last_own : (ms : List Accepted) (a : Accepted) → is_kept a.name ≡ false → last_module (ms ++ a ∷ []) ≡ Some a
+last_own [] a h = rw h refl
+last_own (m ∷ ms) a h = ap (λ o. option_or o (if is_kept m.name then None else Some m)) (last_own ms a h)
 
 -- what `get` lends
 pub item_is : (xs : List Accepted) (i : ℕ) (r : Option (Bor Accepted)) → IsItemAt xs i r → option_map (λ (m : Bor Accepted). m.now) r ≡ slice_get xs i
@@ -126,20 +129,19 @@ named_found (m ∷ ms) n h k =
     (λ b. ⊎_elim (λ e. let t : bytes_eq n m.name ≡ true = (bytes_eq-Decides n m.name).1 (sym e) in let wrong : true ≡ false = sym t ∙ b in cc)
     (λ k'. named_found ms n (ap (λ c. cond c (Some m) (module_named ms n)) (sym b) ∙ h) k') k)
 
-pub taken_by : (ms : List Accepted) (n : List ℕ) (o : Option Accepted) → module_named ms n ≡ o → (Member n kept_names → ⊥)
-    → (IsTrue (is_some o) → IsTaken ms n) × (IsTaken ms n → IsTrue (is_some o))
-taken_by ms n (Some a) e free = (λ h. inl (found_named ms n a e), λ h. refl)
-taken_by ms n None e free = (λ h. let wrong : false ≡ true = h in cc, λ h. ⊎_elim (λ k. absurd (named_found ms n e k)) (λ k. absurd (free k)) h)
+pub taken_by : (ms : List Accepted) (n : List ℕ) (o : Option Accepted) → module_named ms n ≡ o → (IsTrue (is_some o) → IsTaken ms n) × (IsTaken ms n → IsTrue (is_some o))
+taken_by ms n (Some a) e = (λ h. found_named ms n a e, λ h. refl)
+taken_by ms n None e = (λ h. let wrong : false ≡ true = h in cc, λ h. absurd (named_found ms n e h))
 
 -- what isn't taken is no module's name
 pub untaken_none : (ms : List Accepted) (n : List ℕ) (o : Option Accepted) → module_named ms n ≡ o → (IsTaken ms n → ⊥) → module_named ms n ≡ None
 untaken_none ms n None e free = e
-untaken_none ms n (Some a) e free = absurd (free (inl (found_named ms n a e)))
+untaken_none ms n (Some a) e free = absurd (free (found_named ms n a e))
 
 pub taken_as : {A : Type 0} (ms : List Accepted) (n : List ℕ) (b : Bool) (f : A → Accepted) (r : Option A) → option_map f r ≡ module_named ms n → b ≡ is_some r
-    → (Member n kept_names → ⊥) → (IsTrue b → IsTaken ms n) × (IsTaken ms n → IsTrue b)
-taken_as ms n b f None e is free = rw is (taken_by ms n None (sym e) free)
-taken_as ms n b f (Some x) e is free = rw is (taken_by ms n (Some (f x)) (sym e) free)
+    → (IsTrue b → IsTaken ms n) × (IsTaken ms n → IsTrue b)
+taken_as ms n b f None e is = rw is (taken_by ms n None (sym e))
+taken_as ms n b f (Some x) e is = rw is (taken_by ms n (Some (f x)) (sym e))
 
 pub is_untaken : (ms : List Accepted) (n : List ℕ) → (IsTaken ms n → ⊥) → module_named ms n ≡ None
 is_untaken ms n free = untaken_none ms n (module_named ms n) refl free

@@ -1,5 +1,7 @@
 -- What the block of a command claims, and why a command is refused.
-use Rattle.std.specs.Prelude.{◌≡◌, ◌<◌, ◌-◌, ◌^◌, ℕ, Bool, true, false, List, [], ◌∷◌, length, min, bytes_eq, Option, Some, None, IsTrue, IsFalse, if◌then◌else◌}
+use Rattle.std.specs.Prelude.{◌≡◌, ◌<◌, ◌-◌, ◌^◌, ℕ, Bool, true, false, List, [], ◌∷◌, length, min, bytes_eq, slice_get, codes, Option, Some, None, IsTrue, IsFalse, if◌then◌else◌}
+use Rattle.std.specs.List.{list_any}
+use Rattle.std.specs.Option.{option_or}
 use Rattle.mw_logic.specs.Term.{RawTerm, is_ground}
 use Rattle.mw_logic.specs.Signature.{Sorted}
 use Rattle.mw_logic.specs.Sorts.{IsLeastSort}
@@ -82,17 +84,29 @@ pub data IsAnswer (a : Accepted) (most : ℕ) (c : SeenCommand) : List ℕ → T
   matching : (inside : Bool) (behind : List Token) (p t : RawTerm) (text : List ℕ) → inside_of c.word ≡ Some inside → c.subject ≡ Some behind
       → AreSides a (texts c.term) (texts behind) p t → IsMatched a inside most p t text → IsAnswer a most c text
 
--- the module of a name, and the last one
+-- the module of a name
 abbrev pub module_named : List Accepted → List ℕ → Option Accepted
 module_named [] n = None
 module_named (a ∷ ms) n = if bytes_eq n a.name then Some a else module_named ms n
 
+-- the names of the prelude's modules
+abbrev pub kept_names : List (List ℕ)
+kept_names = codes "BOOL" ∷ codes "NAT" ∷ codes "QID" ∷ codes "CONFIGURATION" ∷ []
+
+abbrev pub is_kept : List ℕ → Bool
+is_kept n = list_any (bytes_eq n) kept_names
+
+-- the last module that a source has itself
 abbrev pub last_module : List Accepted → Option Accepted
 last_module [] = None
-last_module (a ∷ []) = Some a
-last_module (a ∷ b ∷ ms) = last_module (b ∷ ms)
+last_module (a ∷ ms) = option_or (last_module ms) (if is_kept a.name then None else Some a)
 
--- the module in which a command stands: the one that it names, or else the last one that was accepted
+-- the module at a place, where there is one
+abbrev pub module_at : List Accepted → Option ℕ → Option Accepted
+module_at ms None = None
+module_at ms (Some k) = slice_get ms k
+
+-- the module in which a command stands: the one that it names, or else the last one of the source that was accepted
 abbrev pub module_for : List Accepted → Option (List ℕ) → Option Accepted
 module_for ms (Some n) = module_named ms n
 module_for ms None = last_module ms

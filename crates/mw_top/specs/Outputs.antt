@@ -6,7 +6,7 @@ use Rattle.mw_lex.specs.declared.token.LexFault.{LexFault}
 use Rattle.mw_lex.specs.declared.token.LexKind.{LexKind}
 use Rattle.mw_lex.specs.declared.token.LexKind.TheVariants.{BadByte, UnendedComment}
 use Rattle.mw_lex.specs.declared.token.Token.{Token}
-use Rattle.mw_lex.specs.Lexing.{tokens_of}
+use Rattle.mw_top.specs.Preludes.{source_tokens}
 use Rattle.mw_module.specs.declared.faults.Fault.{Fault}
 use Rattle.mw_module.specs.declared.faults.FaultKind.{FaultKind}
 use Rattle.mw_module.specs.declared.faults.FaultKind.TheVariants as kind
@@ -55,10 +55,11 @@ pub record AreCut (most : ℕ) (tokens : List Token) (held held_after : Option (
   pub proper : part < length last
   pub written : Appends held held_after (text ++ take part last)
 
--- the whole text for a source, and whether something was refused
+-- The whole text for a source, and whether something was refused. The modules of the prelude that it needs are read before it, as units like its own; where
+-- they are accepted they write nothing.
 pub data IsOutput (most : ℕ) (bytes : List ℕ) : List ℕ → Bool → Type 0 where
-  unlexed : (f : LexFault) → tokens_of bytes ≡ Err f → IsOutput most bytes (refusal_line (lexing_refusal f)) true
-  answered : (tokens : List Token) (after : Loaded) (text : List ℕ) (bad : Bool) → tokens_of bytes ≡ Ok tokens
+  unlexed : (f : LexFault) → source_tokens bytes ≡ Err f → IsOutput most bytes (refusal_line (lexing_refusal f)) true
+  answered : (tokens : List Token) (after : Loaded) (text : List ℕ) (bad : Bool) → source_tokens bytes ≡ Ok tokens
       → Answered most tokens (length tokens) after text bad → IsOutput most bytes text bad
 
 -- of the same bytes, by the same limit, no two outputs differ in whether something was refused
@@ -68,14 +69,14 @@ AgreeInRefusal = (most : ℕ) (bytes text other : List ℕ) (bad worse : Bool) �
 -- the texts of the first units, of which one at least is undone, or nothing
 pub data IsBegun (most : ℕ) (bytes : List ℕ) : List ℕ → Type 0 where
   nothing : IsBegun most bytes []
-  units : (tokens : List Token) (at : ℕ) (modules : Loaded) (text : List ℕ) (bad : Bool) → tokens_of bytes ≡ Ok tokens → at < length tokens
+  units : (tokens : List Token) (at : ℕ) (modules : Loaded) (text : List ℕ) (bad : Bool) → source_tokens bytes ≡ Ok tokens → at < length tokens
       → Answered most tokens at modules text bad → IsBegun most bytes text
 
 -- the texts of the first units, and a proper prefix of the next one's
 pub data IsCut (most : ℕ) (bytes : List ℕ) : List ℕ → Type 0 where
-  in_refusal : (f : LexFault) (n : ℕ) → tokens_of bytes ≡ Err f → n < length (refusal_line (lexing_refusal f))
+  in_refusal : (f : LexFault) (n : ℕ) → source_tokens bytes ≡ Err f → n < length (refusal_line (lexing_refusal f))
       → IsCut most bytes (take n (refusal_line (lexing_refusal f)))
-  in_unit : (tokens : List Token) (at : ℕ) (before : Loaded) (text : List ℕ) (bad : Bool) → tokens_of bytes ≡ Ok tokens
+  in_unit : (tokens : List Token) (at : ℕ) (before : Loaded) (text : List ℕ) (bad : Bool) → source_tokens bytes ≡ Ok tokens
       → Answered most tokens at before text bad → (outcome : Outcome) (next : ℕ) (last : List ℕ) (refused : Bool) (after : Loaded)
       → Reads false tokens at outcome next → Gives most before outcome last refused after → (n : ℕ) → n < length last
       → IsCut most bytes (text ++ take n last)

@@ -1,5 +1,5 @@
 -- What is written for the units of a source, one after another.
-use Rattle.std.specs.Prelude.{◌≡◌, ◌⊎◌, ◌++◌, ◌||◌, ℕ, Bool, true, false, List, [], ◌∷◌, map, codes, Option, Some, None, option_map, Ok, Err}
+use Rattle.std.specs.Prelude.{◌≡◌, ◌++◌, ◌||◌, ℕ, Bool, true, false, List, [], ◌∷◌, map, Option, Some, None, option_map, Ok, Err}
 use Rattle.mw_lex.specs.declared.token.Token.{Token}
 use Rattle.mw_logic.specs.Signature.{Member}
 use Rattle.mw_module.specs.declared.faults.Fault.{Fault}
@@ -27,13 +27,9 @@ with_module before n u reached a = record {
   modules = before.modules ++ a ∷ [];
 }
 
--- the names of modules that are there from the start
-abbrev pub kept_names : List (List ℕ)
-kept_names = codes "BOOL" ∷ codes "NAT" ∷ codes "QID" ∷ codes "CONFIGURATION" ∷ []
-
--- a module has this name, or it is kept
+-- a module has this name
 abbrev pub IsTaken : List Accepted → List ℕ → Type 0
-IsTaken ms n = Member n (map (λ (a : Accepted). a.name) ms) ⊎ Member n kept_names
+IsTaken ms n = Member n (map (λ (a : Accepted). a.name) ms)
 
 abbrev pub name_of : SeenUnit → Option (List ℕ)
 name_of u = option_map (λ (t : Token). t.text) u.name

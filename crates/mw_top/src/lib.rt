@@ -41,6 +41,7 @@ ghost use Rattle.mw_top.specs.Call.{Did, IsExact};
 ghost use Rattle.mw_top.specs.Outputs.{IsOutput, AgreeInRefusal, IsBegun, IsCut, lexing_refusal};
 
 mod matching;
+mod prelude;
 mod reduction;
 mod replies;
 mod session;
@@ -49,10 +50,11 @@ mod units;
 
 use mw_block::refusal;
 use mw_gate::Gate;
-use mw_lex::{LexError, LexFault, LexKind, tokens};
+use mw_lex::{LexError, LexFault, LexKind};
 use mw_module::{Fault, FaultKind};
 use mw_outside::{Sink, Source};
 use mw_words::{Asked, WordsError, help_text, read_words, version_text};
+use prelude::source_tokens;
 use std::alloc::Global;
 use std::sync::Wait;
 use std::thread::Threads;
@@ -166,7 +168,7 @@ fn answer_bytes<K: Sink>(alloc: Global, bytes: &[u8], most: u64, sink: &mut K) -
     ensures cut { result ≡ 4 → Wrote (K.held sink.old) (K.held sink.new) (IsCut most bytes.now) }
     ensures memory { result ≡ 5 → Wrote (K.held sink.old) (K.held sink.new) (IsBegun most bytes.now) }
 {
-    match tokens(alloc, bytes) {
+    match source_tokens(alloc, bytes) {
         Ok(tokens) => answer_units(alloc, tokens.as_slice(), most, sink),
         Err(LexError::Fault(fault)) => refuse_whole(alloc, fault, sink),
         Err(LexError::Memory) => 5,

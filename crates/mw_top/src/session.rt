@@ -6,8 +6,8 @@ ghost use Rattle.mw_module.specs.Units.{SeenUnit, seen_unit};
 ghost use Rattle.mw_command.specs.Commands.{command_of, seen_command};
 ghost use Rattle.mw_block.specs.Refused.{refusal_line};
 ghost use Rattle.mw_build.specs.Modules.{Accepted, IsAccepted, IsRefused};
-ghost use Rattle.mw_top.specs.Commands.{CommandFault, module_named, last_module, module_for};
-ghost use Rattle.mw_top.specs.Sources.{IsTaken, Gives, name_of, kept_names, no_modules, with_module};
+ghost use Rattle.mw_top.specs.Commands.{CommandFault, is_kept as is_kept_name, module_named, module_at, last_module, module_for};
+ghost use Rattle.mw_top.specs.Sources.{IsTaken, Gives, name_of, no_modules, with_module};
 
 use crate::replies::reply;
 use mw_block::refusal;
@@ -68,18 +68,25 @@ pub fn refused_by(alloc: Global, fault: Fault) -> Result<Answer, AllocError>
     })
 }
 
-/// Whether two names are one.
-fn same(name: &[u8], other: &[u8]) -> bool
-    ensures { IsTrue result ↔ (other.now ≡ name.now) }
+/// Whether a name is that of a module of the prelude.
+fn is_kept(name: &[u8]) -> bool
+    ensures { result ≡ is_kept_name name.now }
 {
-    other == name
+    name == b"BOOL" || name == b"NAT" || name == b"QID" || name == b"CONFIGURATION"
 }
 
-/// Whether a module of this name is there from the start.
-fn is_kept(name: &[u8]) -> bool
-    ensures { IsTrue result ↔ Member name.now kept_names }
+/// How many of these modules stand before the last one that isn't of the prelude, if there is one.
+fn last_own(modules: &[Module]) -> Option<usize>
+    ensures { module_at modules.now result ≡ last_module modules.now }
 {
-    same(name, b"BOOL") || same(name, b"NAT") || same(name, b"QID") || same(name, b"CONFIGURATION")
+    let mut rest = modules;
+    while let [before @ .., module] = rest {
+        if !is_kept(module.name()) {
+            return Some(before.len());
+        }
+        rest = before;
+    }
+    None
 }
 
 impl<'s> Session<'s> {
@@ -101,18 +108,11 @@ impl<'s> Session<'s> {
         self.modules.get(number)
     }
 
-    /// The module that was accepted last.
-    fn last(&self) -> Option<&Module>
-        ensures { option_map (λ m. m.now) result ≡ last_module self.now.modules }
-    {
-        self.modules.last()
-    }
-
-    /// Whether a name is a module's, or kept.
+    /// Whether a name is a module's.
     fn is_taken(&self, name: &[u8]) -> bool
         ensures { IsTrue result ↔ IsTaken self.now.modules name.now }
     {
-        is_kept(name) || self.named(name).is_some()
+        self.named(name).is_some()
     }
 
     /// The module of this name that a unit is, or its fault.
@@ -187,22 +187,22 @@ impl<'s> Session<'s> {
         }
     }
 
+    /// The number of the module in which a command stands.
+    fn number_for(&self, command: &Command<'_>) -> Option<usize>
+        ensures { module_at self.now.modules result ≡ module_for self.now.modules (seen_command command.now).module }
+    {
+        match &command.module {
+            Some(name) => self.units.number(name.text.as_slice()),
+            None => last_own(self.modules.as_slice()),
+        }
+    }
+
     /// The module in which a command stands.
     fn module_for(&self, command: &Command<'_>) -> Option<&Module>
         ensures { option_map (λ m. m.now) result ≡ module_for self.now.modules (seen_command command.now).module }
     {
-        match &command.module {
-            Some(name) => self.named(name.text.as_slice()),
-            None => self.last(),
-        }
-    }
-
-    /// The number of the module in which a command stands.
-    fn number_for(&self, command: &Command<'_>) -> Option<usize> {
-        match &command.module {
-            Some(name) => self.units.number(name.text.as_slice()),
-            None => self.modules.len().checked_sub(1),
-        }
+        let number = self.number_for(command)?;
+        self.modules.get(number)
     }
 
     /// Has the index of the equations made of the module in which a command is to be reduced.

@@ -1,5 +1,6 @@
 use Rattle.std.proofs.Common.{subst, false, true}
-use Rattle.mw_lex.specs.Lexing.{tokens_of, HasCause}
+use Rattle.mw_lex.specs.Lexing.{HasCause}
+use Rattle.mw_top.specs.Preludes.{source_tokens}
 use Rattle.mw_top.proofs.Bytes.{done_output, cut_output, begun_output, refused_output, refused_cut, nothing_begun, keeps_same}
 use Rattle.mw_top.proofs.answer_bytes.Goals as goal
 
@@ -17,11 +18,11 @@ returns-in-Ok-clause-memory g c = λ s. begun_output c.args.most c.args.bytes.no
 
 pub returns-in-Err-Fault-clause-refused : goal.returns-in-Err-Fault-clause-refused
 returns-in-Err-Fault-clause-refused g c = λ s.
-    refused_output c.args.most c.args.bytes.now _ _ c.in-Err-Fault.fault (subst (λ e. HasCause e (tokens_of c.args.bytes.now)) c.in-Err-Fault.field-0-is c.in-Err-Fault.ensures.fault) (c.refuse_whole.ensures.whole s)
+    refused_output c.args.most c.args.bytes.now _ _ c.in-Err-Fault.fault (subst (λ e. HasCause e (source_tokens c.args.bytes.now)) c.in-Err-Fault.field-0-is c.in-Err-Fault.ensures.fault) (c.refuse_whole.ensures.whole s)
 
 pub returns-in-Err-Fault-clause-cut : goal.returns-in-Err-Fault-clause-cut
 returns-in-Err-Fault-clause-cut g c = λ s.
-    refused_cut c.args.most c.args.bytes.now _ _ c.in-Err-Fault.fault (subst (λ e. HasCause e (tokens_of c.args.bytes.now)) c.in-Err-Fault.field-0-is c.in-Err-Fault.ensures.fault) (c.refuse_whole.ensures.part s)
+    refused_cut c.args.most c.args.bytes.now _ _ c.in-Err-Fault.fault (subst (λ e. HasCause e (source_tokens c.args.bytes.now)) c.in-Err-Fault.field-0-is c.in-Err-Fault.ensures.fault) (c.refuse_whole.ensures.part s)
 
 pub returns-in-Err-Fault-clause-memory : goal.returns-in-Err-Fault-clause-memory
 returns-in-Err-Fault-clause-memory g c = λ s. nothing_begun c.args.most c.args.bytes.now _ _ (c.refuse_whole.ensures.memory s)
