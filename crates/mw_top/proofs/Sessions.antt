@@ -1,5 +1,5 @@
 -- Modules by the names and the numbers of their units, and in order.
-use Rattle.std.proofs.Common.{◌≡◌, ◌∙◌, ◌<◌, ◌+◌, ◌-◌, not, ℕ, zero, suc, List, [], ◌∷◌, ◌++◌, get_or, take, length-append, length, map, Bool, true, false, cond, is_some, Option, Some, None, option_map, bytes_eq, position, slice_get, IsTrue, refl, sym, ap, inl, inr, arith, ⊎_elim, if◌then◌else◌}
+use Rattle.std.proofs.Common.{◌≡◌, ◌∙◌, ◌<◌, ◌≤◌, append_assoc, ◌+◌, ◌-◌, not, ℕ, zero, suc, List, [], ◌∷◌, ◌++◌, get_or, take, length-append, length, map, Bool, true, false, cond, is_some, Option, Some, None, option_map, bytes_eq, position, slice_get, IsTrue, refl, sym, ap, inl, inr, arith, ⊎_elim, if◌then◌else◌}
 use Rattle.std.specs.Borrow.{Bor}
 use Rattle.std.specs.List.{position_or_len}
 use Rattle.std.specs.Slice.{IsItemAt}
@@ -12,7 +12,7 @@ use Rattle.mw_import.specs.Flat.{FlatUnit, number_named}
 use Rattle.mw_import.proofs.Tables.{none_named, number_within}
 use Rattle.mw_build.specs.Modules.{Accepted}
 use Rattle.mw_build.proofs.Pairwise.{there}
-use Rattle.mw_top.specs.Commands.{module_named, is_kept, last_module}
+use Rattle.mw_top.specs.Commands.{module_named, module_at, is_kept, last_module}
 use Rattle.mw_top.specs.Sources.{IsTaken}
 use Rattle.std.specs.Option.{option_or}
 
@@ -74,6 +74,11 @@ module _ (us : List FlatUnit) (ms : List Accepted) (names : names_of ms ≡ map 
       same_name (v ∷ us) [] e k u m a b = absurd (none-some m b)
       same_name (v ∷ us) (l ∷ ms) e zero u m a b = let s : v ≡ u = same_Some v u a in let t : l ≡ m = same_Some l m b in cc
       same_name (v ∷ us) (l ∷ ms) e (suc k) u m a b = same_name us ms (cc) k u m a b
+
+  -- so the module at it is that of the name
+  pub number_at : (o : Option ℕ) → number_named us n ≡ o → module_at ms o ≡ module_named ms n
+  number_at None e = sym (number_none e)
+  number_at (Some k) e = number_found k e
 
   -- a name that isn't a module's is no unit's
   pub none_there : module_named ms n ≡ None → number_named us n ≡ None
@@ -145,3 +150,33 @@ taken_as ms n b f (Some x) e is = rw is (taken_by ms n (Some (f x)) (sym e))
 
 pub is_untaken : (ms : List Accepted) (n : List ℕ) → (IsTaken ms n → ⊥) → module_named ms n ≡ None
 is_untaken ms n free = untaken_none ms n (module_named ms n) refl free
+
+at_seam : (ms : List Accepted) (a : Accepted) (more : List Accepted) → slice_get (ms ++ a ∷ more) (length ms) ≡ Some a
+at_seam [] a more = refl
+at_seam (m ∷ ms) a more = at_seam ms a more
+
+-- modules with the last one behind the others
+split_last : (ms : List Accepted) (a : Accepted) → 1 ≤ length ms → a ≡ get_or ms (length ms - 1) a → ms ≡ take (length ms - 1) ms ++ a ∷ []
+split_last [] a low is = absurd (omega (arith, low))
+split_last (m ∷ []) a low is = ap (λ x. x ∷ []) (sym is)
+split_last (m ∷ l ∷ ms) a low is =
+    let n : length (m ∷ l ∷ ms) - 1 ≡ suc (length (l ∷ ms) - 1) = omega arith in
+    let h : a ≡ get_or (l ∷ ms) (length (l ∷ ms) - 1) a = is ∙ ap (λ k. get_or (m ∷ l ∷ ms) k a) n in
+    ap (λ xs. m ∷ xs) (split_last (l ∷ ms) a (omega arith) h) ∙ sym (ap (λ k. take k (m ∷ l ∷ ms) ++ a ∷ []) n)
+
+module _ (all rest : List Accepted) (a : Accepted) (more : List Accepted) (front : all ≡ rest ++ more) (last : last_module all ≡ last_module rest) (low : 1 ≤ length rest)
+    (is : a ≡ get_or rest (length rest - 1) a) where
+  -- the last one is the source's own
+  pub own_last : is_kept a.name ≡ false → slice_get all (length (take (length rest - 1) rest)) ≡ last_module all
+  own_last h =
+      let before = take (length rest - 1) rest in
+      let s = split_last rest a low is in
+      let whole : all ≡ before ++ a ∷ more = front ∙ ap (λ xs. xs ++ more) s ∙ append_assoc before (a ∷ []) more in
+      ap (λ xs. slice_get xs (length before)) whole ∙ at_seam before a more ∙ sym (last_own before a h) ∙ ap last_module (sym s) ∙ sym last
+
+  -- it is one of the prelude
+  pub kept_front : (xs : List Accepted) × (all ≡ take (length rest - 1) rest ++ xs)
+  kept_front = (a ∷ more, front ∙ ap (λ xs. xs ++ more) (split_last rest a low is) ∙ append_assoc (take (length rest - 1) rest) (a ∷ []) more)
+
+  pub kept_last : is_kept a.name ≡ true → last_module all ≡ last_module (take (length rest - 1) rest)
+  kept_last h = last ∙ ap last_module (split_last rest a low is) ∙ last_kept (take (length rest - 1) rest) a h

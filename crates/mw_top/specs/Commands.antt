@@ -1,5 +1,5 @@
 -- What the block of a command claims, and why a command is refused.
-use Rattle.std.specs.Prelude.{◌≡◌, ◌<◌, ◌-◌, ◌^◌, ℕ, Bool, true, false, List, [], ◌∷◌, length, min, bytes_eq, slice_get, codes, Option, Some, None, IsTrue, IsFalse, if◌then◌else◌}
+use Rattle.std.specs.Prelude.{◌≡◌, ◌<◌, ◌-◌, ◌^◌, ℕ, Bool, true, false, List, [], ◌∷◌, length, min, bytes_eq, map, slice_get, Option, Some, None, IsTrue, IsFalse, if◌then◌else◌}
 use Rattle.std.specs.List.{list_any}
 use Rattle.std.specs.Option.{option_or}
 use Rattle.mw_logic.specs.Term.{RawTerm, is_ground}
@@ -23,6 +23,8 @@ use Rattle.mw_command.specs.declared.commands.Word.{Word as CommandWord}
 use Rattle.mw_command.specs.declared.commands.Word.TheVariants.{Reduce, Parse, Match, Xmatch}
 use Rattle.mw_build.specs.Equations.{FitsIn, Oversized}
 use Rattle.mw_build.specs.Modules.{Accepted}
+use Rattle.mw_prelude.specs.Modules.{name_of}
+use Rattle.mw_prelude.specs.declared.modules.Predefined.TheVariants as predefined
 use Rattle.mw_proof.specs.Deductions.{Deduction, IsDeduction}
 use Rattle.mw_block.specs.Blocks.{Word, reduced, limit, block, parsed_block}
 use Rattle.mw_top.specs.Matches.{AreSides, IsMatched, SidesFault}
@@ -91,7 +93,7 @@ module_named (a ∷ ms) n = if bytes_eq n a.name then Some a else module_named m
 
 -- the names of the prelude's modules
 abbrev pub kept_names : List (List ℕ)
-kept_names = codes "BOOL" ∷ codes "NAT" ∷ codes "QID" ∷ codes "CONFIGURATION" ∷ []
+kept_names = map name_of (predefined.Bool ∷ predefined.Nat ∷ predefined.Qid ∷ predefined.Configuration ∷ [])
 
 abbrev pub is_kept : List ℕ → Bool
 is_kept n = list_any (bytes_eq n) kept_names

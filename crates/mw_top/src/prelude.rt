@@ -1,5 +1,5 @@
 // What is read before a source.
-ghost use Rattle.std.specs.Prelude.{◌≡◌, ◌<◌, ◌^◌, length, Ok, IfOk, IfErr};
+ghost use Rattle.std.specs.Prelude.{◌≡◌, ◌<◌, ◌-◌, ◌^◌, length, Ok, IfOk, IfErr};
 ghost use Rattle.mw_lex.specs.Lexing.{tokens_of, HasCause};
 ghost use Rattle.mw_module.specs.Words.{texts};
 ghost use Rattle.mw_prelude.specs.Mentions.{mentioned_in, prelude_for};

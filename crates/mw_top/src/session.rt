@@ -16,6 +16,7 @@ use mw_command::{Command, Word, read};
 use mw_import::Units;
 use mw_lex::Token;
 use mw_module::{Fault, FaultKind, Unit, UnitError};
+use mw_prelude::Predefined;
 use mw_term::{Name, copy_name};
 use std::alloc::{AllocError, Global};
 use std::marker::Model;
@@ -72,7 +73,10 @@ pub fn refused_by(alloc: Global, fault: Fault) -> Result<Answer, AllocError>
 fn is_kept(name: &[u8]) -> bool
     ensures { result ≡ is_kept_name name.now }
 {
-    name == b"BOOL" || name == b"NAT" || name == b"QID" || name == b"CONFIGURATION"
+    name == Predefined::Bool.name()
+        || name == Predefined::Nat.name()
+        || name == Predefined::Qid.name()
+        || name == Predefined::Configuration.name()
 }
 
 /// How many of these modules stand before the last one that isn't of the prelude, if there is one.
@@ -81,7 +85,7 @@ fn last_own(modules: &[Module]) -> Option<usize>
 {
     let mut rest = modules;
     while let [before @ .., module] = rest {
-        if !is_kept(module.name()) {
+        if !is_kept(module.name().as_slice()) {
             return Some(before.len());
         }
         rest = before;
