@@ -2,6 +2,7 @@
 pub mod Over
 pub mod Closed
 pub mod Spelled
+pub mod LeafTerms
 pub mod Means
 -- It is what the table's states spell.
 pub mod Numbers

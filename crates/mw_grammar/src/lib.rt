@@ -32,6 +32,7 @@
 //! for each token a look-up, one more for each colon in it, and one for each variable that it spells, all by hash.
 #![tactic(auto)]
 
+mod alone;
 mod compile;
 mod grammar;
 mod kinds;
@@ -40,4 +41,5 @@ mod listing;
 mod notations;
 mod parts;
 
+pub use alone::{Alone, Leaves};
 pub use grammar::{Grammar, Words, trees_are_terms};
