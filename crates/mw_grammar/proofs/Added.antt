@@ -1,12 +1,14 @@
 -- Leaves that are added.
-use Rattle.std.proofs.Common.{ℕ, zero, suc, ◌≡◌, ◌∙◌, ◌⊎◌, List, [], ◌∷◌, ◌++◌, Some, refl, sym, ap, subst, inl, inr}
+use Rattle.std.proofs.Common.{ℕ, ◌≡◌, ◌∙◌, ◌⊎◌, List, [], ◌∷◌, ◌++◌, Option, Some, refl, sym, ap, subst, inl, inr}
 use Rattle.std.specs.List.{slice_get}
-use Rattle.mw_logic.specs.Term.{Variable, RawTerm, variable}
+use Rattle.mw_logic.specs.Term.{Variable, RawTerm, numeral, quoted, variable}
 use Rattle.mw_logic.specs.Signature.{Member}
 use Rattle.mw_chart.specs.declared.terminal.Leaf.{Leaf}
 use Rattle.mw_text.proofs.Joined.{Member-cases, Member-left, Member-right}
+use Rattle.mw_text.specs.Mixfix.{IsIdentifier}
+use Rattle.mw_text.specs.Numerals.{number_in}
 use Rattle.mw_grammar.specs.Compiled.{Extends}
-use Rattle.mw_grammar.specs.Leaves.{IsLeaf, IsVariableLeaf}
+use Rattle.mw_grammar.specs.Leaves.{IsLeaf, IsNumeralLeaf, IsIdentifierLeaf, IsVariableLeaf}
 use Rattle.mw_grammar.specs.Worded.{AllDiffer, Adds}
 use Rattle.mw_grammar.proofs.Made.{get_grows, Extends-same, Extends-trans}
 
@@ -95,3 +97,28 @@ module _ (kind : ℕ → ℕ) where
 
       from : (t : RawTerm) (L : ℕ) → IsVariableLeaf kind (λ x. x ≡ y) t L → IsLeaf u K t L
       from t L (x, a, b, same) = (a ∙ ap (λ (z : Variable). variable z) same ∙ sym e, b ∙ ap (λ (z : Variable). kind z.sort) same ∙ sym k)
+
+-- the leaf of a numeral, and that of a quoted identifier
+pub numeral_one : (numbers : Option ℕ) (token : List ℕ) (old new : List RawTerm) (before after : List Leaf) (n K : ℕ) → numbers ≡ Some K → number_in token ≡ Some n
+    → Adds old new before after (IsLeaf (numeral n) K) → Adds old new before after (IsNumeralLeaf numbers token)
+numeral_one numbers token old new before after n K k e a = adds_same old new before after (IsLeaf (numeral n) K) (IsNumeralLeaf numbers token) to from a
+  where
+    to : (t : RawTerm) (L : ℕ) → IsLeaf (numeral n) K t L → IsNumeralLeaf numbers token t L
+    to t L (a, b) = (n, a, k ∙ ap (λ (m : ℕ). Some m) (sym b), e)
+
+    from : (t : RawTerm) (L : ℕ) → IsNumeralLeaf numbers token t L → IsLeaf (numeral n) K t L
+    from t L (m, a, b, f) =
+        let number : Some m ≡ Some n = sym f ∙ e in
+        let same : m ≡ n = (cc) in
+        let kind : Some L ≡ Some K = sym b ∙ k in
+        (a ∙ ap numeral same, (cc))
+
+pub identifier_one : (identifiers : Option ℕ) (token : List ℕ) (old new : List RawTerm) (before after : List Leaf) (q : List ℕ) (K : ℕ) → q ≡ token → identifiers ≡ Some K → IsIdentifier token
+    → Adds old new before after (IsLeaf (quoted q) K) → Adds old new before after (IsIdentifierLeaf identifiers token)
+identifier_one identifiers token old new before after q K e k i a = adds_same old new before after (IsLeaf (quoted q) K) (IsIdentifierLeaf identifiers token) to from a
+  where
+    to : (t : RawTerm) (L : ℕ) → IsLeaf (quoted q) K t L → IsIdentifierLeaf identifiers token t L
+    to t L (a, b) = (a ∙ ap quoted e, k ∙ ap (λ (m : ℕ). Some m) (sym b), i)
+
+    from : (t : RawTerm) (L : ℕ) → IsIdentifierLeaf identifiers token t L → IsLeaf (quoted q) K t L
+    from t L (a, b, i) = let kind : Some L ≡ Some K = sym b ∙ k in (a ∙ ap quoted (sym e), (cc))

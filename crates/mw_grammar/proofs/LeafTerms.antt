@@ -1,5 +1,5 @@
 -- Terms that tokens are by themselves.
-use Rattle.std.proofs.Common.{ℕ, List, [], ◌∷◌, ◌++◌, codes, sym, subst, inl, inr}
+use Rattle.std.proofs.Common.{ℕ, List, [], ◌∷◌, codes, sym, subst, inl, inr}
 use Rattle.mw_logic.specs.Term.{Variable, RawTerm, numeral, quoted, variable, apply}
 use Rattle.mw_logic.specs.Signature.{Signature, IsSortNamed, SameKind, HasKind, of_numeral, of_quoted, of_variable, of_operator}
 use Rattle.mw_text.specs.Mixfix.{Spells, declared, with_sort, numbered, identified}

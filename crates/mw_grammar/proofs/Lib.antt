@@ -16,6 +16,7 @@ pub mod Going
 pub mod ItemByItem
 pub mod Made
 pub mod Writing
+pub mod Meeting
 pub mod Added
 pub mod Tokens
 pub mod WordByWord

@@ -1,6 +1,6 @@
 -- The mixfix texts of a signature are closed under its forms.
 use Rattle.std.proofs.Common.{ℕ, zero, suc, ◌≡◌, ◌<◌, ◌⊎◌, ◌+◌, ◌∙◌, List, [], ◌∷◌, ◌++◌, length, codes, IsTrue, Option, None, Some, option_map, refl, sym, ap, subst, inl, inr, arith, append_assoc, append-nil}
-use Rattle.mw_logic.specs.Term.{Variable, RawTerm, variable, apply, RawTerms, nil, cons}
+use Rattle.mw_logic.specs.Term.{Variable, RawTerm, apply, RawTerms, nil, cons}
 use Rattle.mw_logic.specs.Signature.{Signature, Operator, Gather, less, most, any, IsOperator, HasKind, of_operator, Member}
 use Rattle.mw_logic.proofs.KindLaws.{SameKind-sym}
 use Rattle.mw_logic.proofs.Canonical.{same_operator}

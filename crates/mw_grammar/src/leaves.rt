@@ -71,10 +71,10 @@ impl Grammar {
         let Some(kind) = self.numbers else {
             return Ok(());
         };
-        match number(token) {
-            Some(number) => push_leaf(leaves, found, Alone::Number(number), kind),
-            None => Ok(()),
+        if let Some(number) = number(token) {
+            push_leaf(leaves, found, Alone::Number(number), kind)?;
         }
+        Ok(())
     }
 
     /// The quoted identifier.
@@ -94,8 +94,9 @@ impl Grammar {
         if !is_identifier(token) {
             return Ok(());
         }
-        let term = Alone::Identifier(token.to_vec(alloc)?);
-        push_leaf(leaves, found, term, kind)
+        let token = token.to_vec(alloc)?;
+        push_leaf(leaves, found, Alone::Identifier(token), kind)?;
+        Ok(())
     }
 
     /// The variable of this name and this sort.
@@ -111,7 +112,9 @@ impl Grammar {
             (IsVariableLeaf (kind_in self.now.kinds) (λ x. x ≡ record { name = name.now; sort = sort }))) }
     {
         let name = name.to_vec(alloc)?;
-        push_leaf(leaves, found, Alone::Variable { name, sort }, self.kind_of(sort))
+        let kind = self.kind_of(sort);
+        push_leaf(leaves, found, Alone::Variable { name, sort }, kind)?;
+        Ok(())
     }
 
     /// The variables of this name, and of these sorts.

@@ -1,7 +1,6 @@
 use Rattle.mw_chart.proofs.Lists.{get_is}
 use Rattle.mw_grammar.specs.Readable.{kind_in}
-use Rattle.mw_grammar.specs.Leaves.{IsOfOne, IsVariableLeaf}
-use Rattle.mw_grammar.proofs.Added.{adds_none, variables_then}
+use Rattle.mw_grammar.proofs.Added.{variables_then}
 use Rattle.mw_grammar.proofs.Listings.{of_one_to, of_one_from}
 use Rattle.mw_grammar.proofs.grammar.Grammar.push_sorts.Goals as goal
 
