@@ -1,7 +1,7 @@
 -- The chart's trees over a grammar's table are the terms that tokens spell.
 use Rattle.std.proofs.Common.{ℕ, ◌≡◌, ◌∙◌, ◌≤◌, ◌+◌, List, [], length, Option, None, Some, refl, sym, ap, subst, arith, append-nil}
 use Rattle.mw_logic.specs.Term.{Variable, RawTerm}
-use Rattle.mw_logic.specs.Signature.{Signature, HasKind, of_variable, of_operator, same}
+use Rattle.mw_logic.specs.Signature.{Signature, HasKind, of_numeral, of_quoted, of_variable, of_operator, same}
 use Rattle.mw_logic.proofs.KindLaws.{SameKind-sym}
 use Rattle.mw_logic.proofs.Soundness.{HasKind-same}
 use Rattle.mw_chart.specs.Tree.{Tree}
@@ -9,7 +9,7 @@ use Rattle.mw_chart.specs.Spelling.{NextAt, IsItem}
 use Rattle.mw_chart.specs.declared.table.Next.TheVariants.{Whole}
 use Rattle.mw_chart.specs.declared.table.Table.{Table}
 use Rattle.mw_chart.specs.declared.terminal.Terminal.{Terminal}
-use Rattle.mw_text.specs.Mixfix.{Spells, declared, with_sort, grouped, a_constant, prefixed, flattened, mixfix, IsWanted, IsSpelled, Reads}
+use Rattle.mw_text.specs.Mixfix.{Spells, declared, with_sort, numbered, identified, grouped, a_constant, prefixed, flattened, mixfix, IsWanted, IsSpelled, Reads}
 use Rattle.mw_grammar.specs.Notations.{IsNotation}
 use Rattle.mw_grammar.specs.Readable.{AreKinds, IsReadable, AreVariables}
 use Rattle.mw_grammar.specs.Compiled.{IsCompiled}
@@ -28,6 +28,8 @@ module _ (sig : Signature) (variables : List Variable) (kind : ℕ → ℕ) (ks 
   some_kind : (t : RawTerm) (p : ℕ) (text : List (List ℕ)) → Spells sig variables t p text → (K : ℕ) × HasKind sig t K
   some_kind t p text (declared x m) = (x.sort, of_variable same)
   some_kind t p text (with_sort x S is name) = (x.sort, of_variable same)
+  some_kind t p text (numbered n token h e) = let S = ok.numbers h in (S.0, of_numeral S.0 S.1 h same)
+  some_kind t p text (identified q h i) = let S = ok.identifiers h in (S.0, of_quoted S.0 S.1 h same)
   some_kind t p text (grouped u q text2 d) = some_kind u q text2 d
   some_kind t p text (a_constant f o head is none h) = (o.result, of_operator o is same)
   some_kind t p text (prefixed f o u us head inner is h d) = (o.result, of_operator o is same)
@@ -40,7 +42,7 @@ module _ (sig : Signature) (variables : List Variable) (kind : ℕ → ℕ) (ks 
   chosen_kind (Some S) t p text d w = (S, w, refl)
 
   module _ (names : List (List ℕ)) (g : Table) (compiled : IsCompiled (length sig.sorts) (IsNotation kind sig) names g) where
-    module _ (leaves : List Variable) (tokens : List (List ℕ)) (words : List Terminal) (worded : AreWords sig.sorts variables kind names leaves tokens words) where
+    module _ (leaves : List RawTerm) (tokens : List (List ℕ)) (words : List Terminal) (worded : AreWords sig variables kind names leaves tokens words) where
       complete : (wanted : Option ℕ) (t : RawTerm) → IsSpelled sig variables wanted tokens t → (tree : Tree) × IsTree sig kind g wanted words tree × (term_of leaves tree ≡ t)
       complete wanted t h =
           let S = chosen_kind wanted t h.precedence tokens h.spells h.kind in

@@ -2,6 +2,7 @@
 pub mod Over
 pub mod Closed
 pub mod Spelled
+pub mod LeafTerms
 pub mod Means
 -- It is what the table's states spell.
 pub mod Numbers
@@ -15,6 +16,7 @@ pub mod Going
 pub mod ItemByItem
 pub mod Made
 pub mod Writing
+pub mod Meeting
 pub mod Added
 pub mod Tokens
 pub mod WordByWord

@@ -1,22 +1,23 @@
 -- The mixfix texts of a signature are closed under its forms.
 use Rattle.std.proofs.Common.{ℕ, zero, suc, ◌≡◌, ◌<◌, ◌⊎◌, ◌+◌, ◌∙◌, List, [], ◌∷◌, ◌++◌, length, codes, IsTrue, Option, None, Some, option_map, refl, sym, ap, subst, inl, inr, arith, append_assoc, append-nil}
-use Rattle.mw_logic.specs.Term.{Variable, RawTerm, variable, apply, RawTerms, nil, cons}
-use Rattle.mw_logic.specs.Signature.{Signature, Operator, Gather, less, most, any, IsOperator, HasKind, of_variable, of_operator, Member}
+use Rattle.mw_logic.specs.Term.{Variable, RawTerm, apply, RawTerms, nil, cons}
+use Rattle.mw_logic.specs.Signature.{Signature, Operator, Gather, less, most, any, IsOperator, HasKind, of_operator, Member}
 use Rattle.mw_logic.proofs.KindLaws.{SameKind-sym}
 use Rattle.mw_logic.proofs.Canonical.{same_operator}
 use Rattle.mw_logic.proofs.Soundness.{HasKind-same}
 use Rattle.mw_text.specs.Names.{NameItem, piece, hole, items_of}
 use Rattle.mw_text.specs.Mixfix as text
-use Rattle.mw_text.specs.Mixfix.{IsHead, IsTaken, Spells, declared, with_sort, grouped, a_constant, prefixed, flattened, mixfix, SpellsArguments, last, more, SpellsNested, two, another, SpellsItems, no_items}
+use Rattle.mw_text.specs.Mixfix.{IsHead, IsTaken, Spells, grouped, a_constant, prefixed, flattened, mixfix, SpellsArguments, last, more, SpellsNested, two, another, SpellsItems, no_items}
 use Rattle.mw_grammar.specs.declared.parts.Symbol.{Symbol}
 use Rattle.mw_grammar.specs.declared.parts.Symbol.TheVariants.{Piece, Hole}
 use Rattle.mw_grammar.specs.Notations.{Notation}
 use Rattle.mw_grammar.specs.Notations.{pieces_as, arguments, prefix_parts, in_parentheses, bound, mixfix_parts, two_parts, IsNotationOf, is_prefix, is_mixfix, is_flattened, is_tail}
 use Rattle.mw_grammar.specs.Readable.{IsWithin, AreKinds, IsReadable, AreVariables}
-use Rattle.mw_grammar.specs.Leaves.{IsVariableToken}
+use Rattle.mw_grammar.specs.Leaves.{IsAlone}
 use Rattle.mw_grammar.proofs.Over.{Over, pieces_back, alone_back, none_back, piece_back, hole_back, last_back, Held}
 use Rattle.mw_grammar.proofs.Closed.{IsClosed}
-use Rattle.mw_grammar.proofs.Spelled.{sort_within, two_are}
+use Rattle.mw_grammar.proofs.LeafTerms.{alone_spelled, alone_within}
+use Rattle.mw_grammar.proofs.Spelled.{two_are}
 
 module _ (sig : Signature) (variables : List Variable) (kind : ℕ → ℕ) (ks : AreKinds sig kind) (ok : IsReadable sig) (vs : AreVariables sig variables) where
   -- What a text means: of a kind of terms, it spells one; of the kind of an operator's last arguments, it spells these.
@@ -36,16 +37,8 @@ module _ (sig : Signature) (variables : List Variable) (kind : ℕ → ℕ) (ks 
   as_kind : (K p : ℕ) (t : RawTerm) (words : List (List ℕ)) → IsWithin sig K → Means (kind K) p t words → Spells sig variables t p words × HasKind sig t K
   as_kind K p t words h m = let r = m.term (ks.within K h) in (r.0, HasKind-same r.1 (SameKind-sym (ks.same K)))
 
-  token_within : (x : Variable) (token : List ℕ) → IsVariableToken sig.sorts variables token x → IsWithin sig x.sort
-  token_within x token (inl (m, e)) = vs x m
-  token_within x token (inr (S, is, name, e)) = sort_within sig x.sort S is
-
-  means_alone : (x : Variable) (token : List ℕ) → IsVariableToken sig.sorts variables token x → Means (kind x.sort) 0 (variable x) (token ∷ [])
-  means_alone x token h = of_term (kind x.sort) 0 (variable x) (token ∷ []) (ks.within x.sort (token_within x token h)) (spells h) (of_variable (ks.same x.sort))
-    where
-      spells : IsVariableToken sig.sorts variables token x → Spells sig variables (variable x) 0 (token ∷ [])
-      spells (inl (m, e)) = subst (λ (y : List ℕ). Spells sig variables (variable x) 0 (y ∷ [])) (sym e) (declared x m)
-      spells (inr (S, is, name, e)) = subst (λ (y : List ℕ). Spells sig variables (variable x) 0 (y ∷ [])) (sym e) (with_sort x S is name)
+  means_alone : (t : RawTerm) (K : ℕ) (token : List ℕ) → IsAlone sig variables token t → HasKind sig t K → Means (kind K) 0 t (token ∷ [])
+  means_alone t K token h k = of_term (kind K) 0 t (token ∷ []) (alone_within sig variables kind ks vs t K k token h) (alone_spelled sig variables t token h) (HasKind-same k (ks.same K))
 
   means_enclosed : (K p : ℕ) (t : RawTerm) (words : List (List ℕ)) → IsWithin sig K → Means K p t words → Means K 0 t (codes "(" ∷ words ++ codes ")" ∷ [])
   means_enclosed K p t words h m = let r = m.term h in of_term K 0 t (codes "(" ∷ words ++ codes ")" ∷ []) h (grouped t p words r.0) r.1

@@ -1,8 +1,8 @@
 -- What stands in the chart's sense between two places, whatever stands before and behind, is closed under the forms.
 use Rattle.std.proofs.Common.{ℕ, zero, suc, ◌≡◌, ◌<◌, ◌∙◌, ◌+◌, List, [], ◌∷◌, ◌++◌, length, codes, Some, refl, sym, ap, subst, inl, inr, arith, append_assoc, length-append}
 use Rattle.std.specs.List.{slice_get}
-use Rattle.mw_logic.specs.Term.{Variable, RawTerm, variable, apply, RawTerms, nil, cons, join}
-use Rattle.mw_logic.specs.Signature.{Signature, Member}
+use Rattle.mw_logic.specs.Term.{Variable, RawTerm, apply, RawTerms, nil, cons, join}
+use Rattle.mw_logic.specs.Signature.{Signature, HasKind, Member}
 use Rattle.mw_chart.specs.Tree.{Tree, leaf, head, app}
 use Rattle.mw_chart.specs.Spelling as chart
 use Rattle.mw_chart.specs.Spelling.{NextAt, IsProduction, TokenAt, LeafAt, IsItem, predicted, scanned, grouped}
@@ -13,18 +13,14 @@ use Rattle.mw_grammar.specs.declared.parts.Symbol.{Symbol}
 use Rattle.mw_grammar.specs.Notations.{Notation}
 use Rattle.mw_grammar.specs.Notations.{IsNotation}
 use Rattle.mw_grammar.specs.Readable.{IsWithin, AreKinds, AreVariables}
-use Rattle.mw_grammar.specs.Leaves.{IsVariableToken}
+use Rattle.mw_grammar.specs.Leaves.{IsAlone}
 use Rattle.mw_grammar.specs.Compiled.{IsNumber, Leads, there, past_piece, past_hole, IsCompiled}
 use Rattle.mw_grammar.specs.Worded.{IsWord, AreWords}
-use Rattle.mw_grammar.specs.Meaning.{variable_at, with_last, term_of}
+use Rattle.mw_grammar.specs.Meaning.{leaf_at, with_last, term_of}
 use Rattle.mw_grammar.proofs.Over.{Over, done, over_piece, over_hole}
 use Rattle.mw_grammar.proofs.Closed.{IsClosed}
 use Rattle.mw_grammar.proofs.Joined.{join-nil, join-one}
-use Rattle.mw_grammar.proofs.Spelled.{sort_within}
-
-pub token_within : (sig : Signature) (variables : List Variable) → AreVariables sig variables → (x : Variable) (token : List ℕ) → IsVariableToken sig.sorts variables token x → IsWithin sig x.sort
-token_within sig variables vs x token (inl (m, e)) = vs x m
-token_within sig variables vs x token (inr (S, is, name, e)) = sort_within sig x.sort S is
+use Rattle.mw_grammar.proofs.LeafTerms.{alone_within}
 
 stands : {X : Type 0} (pre : List X) (x : X) (post : List X) → slice_get (pre ++ x ∷ post) (length pre) ≡ Some x
 stands [] x post = refl
@@ -47,7 +43,7 @@ member_at (y ∷ xs) (suc n) x e = inr (member_at xs n x e)
 
 module _ (sig : Signature) (variables : List Variable) (kind : ℕ → ℕ) (ks : AreKinds sig kind) (vs : AreVariables sig variables) where
   module _ (names : List (List ℕ)) (g : Table) (compiled : IsCompiled (length sig.sorts) (IsNotation kind sig) names g) where
-    module _ (leaves : List Variable) (full : List (List ℕ)) (words : List Terminal) (worded : AreWords sig.sorts variables kind names leaves full words) where
+    module _ (leaves : List RawTerm) (full : List (List ℕ)) (words : List Terminal) (worded : AreWords sig variables kind names leaves full words) where
       -- between any two places where the text stands, a tree stands that is the term
       abbrev pub Stands : ℕ → ℕ → RawTerm → List (List ℕ) → Type 0
       Stands K p t text = (pre post : List (List ℕ)) → full ≡ pre ++ (text ++ post)
@@ -55,7 +51,7 @@ module _ (sig : Signature) (variables : List Variable) (kind : ℕ → ℕ) (ks 
 
       -- the word of a token that stands there
       word_at : (pre : List (List ℕ)) (x : List ℕ) (post : List (List ℕ)) → full ≡ pre ++ x ∷ post
-          → (word : Terminal) × (slice_get words (length pre) ≡ Some word) × IsWord sig.sorts variables kind names leaves x word
+          → (word : Terminal) × (slice_get words (length pre) ≡ Some word) × IsWord sig variables kind names leaves x word
       word_at pre x post e =
           let l = length-append pre (x ∷ post) in
           let m = ap length e in
@@ -67,14 +63,14 @@ module _ (sig : Signature) (variables : List Variable) (kind : ℕ → ℕ) (ks 
       token_at : (pre : List (List ℕ)) (x : List ℕ) (post : List (List ℕ)) (n : ℕ) → full ≡ pre ++ x ∷ post → IsNumber names n x → TokenAt words (length pre) n
       token_at pre x post n e is = let r = word_at pre x post e in (r.0, r.1, r.2.number ∙ is.0)
 
-      stands_alone : (x : Variable) (token : List ℕ) → IsVariableToken sig.sorts variables token x → Stands (kind x.sort) 0 (variable x) (token ∷ [])
-      stands_alone x token h pre post e =
+      stands_alone : (t : RawTerm) (K : ℕ) (token : List ℕ) → IsAlone sig variables token t → HasKind sig t K → Stands (kind K) 0 t (token ∷ [])
+      stands_alone t K token h k pre post e =
           let r = word_at pre token post e in
-          let l = r.2.complete x h in
+          let l = r.2.complete t h in
           let place = place_of r.0.leaves.items l.0 l.1 in
-          let at : LeafAt words (length pre) (kind x.sort) l.0.value = (r.0, r.1, (place.0, l.0, place.1, l.2.1, refl)) in
-          let whole = compiled.kinds (kind x.sort) (ks.within x.sort (token_within sig variables vs x token h)) in
-          (kind x.sort, leaf l.0.value, chart.alone (kind x.sort) l.0.value (length pre) at, whole, ap (λ m. variable (variable_at m)) l.2.0)
+          let at : LeafAt words (length pre) (kind K) l.0.value = (r.0, r.1, (place.0, l.0, place.1, l.2.1.all K k, refl)) in
+          let whole = compiled.kinds (kind K) (alone_within sig variables kind ks vs t K k token h) in
+          (kind K, leaf l.0.value, chart.alone (kind K) l.0.value (length pre) at, whole, ap leaf_at l.2.0)
 
       stands_enclosed : (K p : ℕ) (t : RawTerm) (text : List (List ℕ)) → IsWithin sig K → Stands K p t text → Stands K 0 t (codes "(" ∷ text ++ codes ")" ∷ [])
       stands_enclosed K p t text within s pre post e =

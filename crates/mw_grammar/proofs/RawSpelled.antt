@@ -1,11 +1,12 @@
 -- What tokens spell is a raw term.
 use Rattle.std.proofs.Common.{ℕ, List, IsTrue, sym, subst}
 use Rattle.mw_logic.specs.Term.{Variable, RawTerm, apply, RawTerms, nil, cons}
-use Rattle.mw_logic.specs.Signature.{Signature, Operator, Gather, IsOperator, same, HasKind, of_operator, IsRawTerm, a_variable, an_operator, AreRawTerms, end, next}
+use Rattle.mw_logic.specs.Signature.{Signature, Operator, Gather, IsOperator, same, HasKind, of_operator, IsRawTerm, a_numeral, a_quoted, a_variable, an_operator, AreRawTerms, end, next}
 use Rattle.mw_logic.proofs.KindLaws.{SameKind-sym}
 use Rattle.mw_logic.proofs.Soundness.{HasKind-same}
 use Rattle.mw_text.specs.Names.{NameItem, items_of}
-use Rattle.mw_text.specs.Mixfix.{Spells, declared, with_sort, grouped, a_constant, prefixed, flattened, mixfix, SpellsArguments, last, more, SpellsNested, two, another, SpellsItems, no_items, over_piece, over_hole}
+use Rattle.mw_text.specs.Mixfix.{Spells, declared, with_sort, numbered, identified, grouped, a_constant, prefixed, flattened, mixfix, SpellsArguments, last, more, SpellsNested, two, another, SpellsItems, no_items, over_piece, over_hole}
+use Rattle.mw_text.proofs.Numbers.{number_below}
 use Rattle.mw_grammar.specs.Readable.{AreKinds, IsReadable, AreVariables}
 use Rattle.mw_grammar.proofs.Spelled.{argument_kind}
 
@@ -21,6 +22,8 @@ module _ (sig : Signature) (variables : List Variable) (kind : ℕ → ℕ) (ks 
     pub spelled_raw : (t : RawTerm) (p : ℕ) (text : List (List ℕ)) → Spells sig variables t p text → IsRawTerm sig t
     spelled_raw t p text (declared x m) = a_variable
     spelled_raw t p text (with_sort x S is name) = a_variable
+    spelled_raw t p text (numbered n token h e) = a_numeral h (number_below token n e)
+    spelled_raw t p text (identified q h i) = a_quoted h
     spelled_raw t p text (grouped u q text2 d) = spelled_raw u q text2 d
     spelled_raw t p text (a_constant f o head is none h) = an_operator o is (subst (λ (Ks : List ℕ). AreRawTerms sig nil Ks) (sym none) end)
     spelled_raw t p text (prefixed f o u us head inner is h d) = an_operator o is (arguments_raw o.args (cons u us) inner d)

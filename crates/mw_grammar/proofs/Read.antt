@@ -1,7 +1,7 @@
 -- What stands in the chart's sense between two places is so in each sense that is closed under the forms, by the tokens between.
 use Rattle.std.proofs.Common.{ℕ, zero, suc, ◌≡◌, ◌<◌, ◌≤◌, ◌⊎◌, ◌∙◌, ◌+◌, List, [], ◌∷◌, ◌++◌, length, take, drop, codes, Some, refl, sym, ap, subst, inl, inr, arith, append_assoc, append-nil, length-append}
 use Rattle.std.specs.List.{slice_get}
-use Rattle.mw_logic.specs.Term.{Variable, RawTerm, variable, apply, RawTerms, nil, cons, join}
+use Rattle.mw_logic.specs.Term.{Variable, RawTerm, apply, RawTerms, nil, cons, join}
 use Rattle.mw_logic.specs.Signature.{Signature}
 use Rattle.mw_chart.specs.Tree.{Tree, leaf, head, app}
 use Rattle.mw_chart.specs.Spelling.{NextAt, IsProduction, TokenAt, IsItem, predicted, scanned, completed, grouped, alone}
@@ -14,14 +14,15 @@ use Rattle.mw_grammar.specs.declared.parts.Symbol.TheVariants as part
 use Rattle.mw_grammar.specs.Notations.{Notation}
 use Rattle.mw_grammar.specs.Notations.{IsNotation}
 use Rattle.mw_grammar.specs.Readable.{AreKinds, AreVariables}
-use Rattle.mw_grammar.specs.Leaves.{IsVariableToken}
+use Rattle.mw_grammar.specs.Leaves.{IsAlone, IsKindOf}
 use Rattle.mw_grammar.specs.Compiled.{IsNumber, Leads, there, past_piece, past_hole, IsCompiled}
 use Rattle.mw_grammar.specs.Worded.{AreWords}
-use Rattle.mw_grammar.specs.Meaning.{variable_at, with_last, term_of}
+use Rattle.mw_grammar.specs.Meaning.{leaf_at, with_last, term_of}
 use Rattle.mw_grammar.proofs.Over.{Over, done, snoc_piece, snoc_hole}
 use Rattle.mw_grammar.proofs.Closed.{IsClosed}
 use Rattle.mw_grammar.proofs.Numbers.{same_number}
-use Rattle.mw_grammar.proofs.Placed.{token_within, some_at, member_at}
+use Rattle.mw_grammar.proofs.LeafTerms.{alone_within}
+use Rattle.mw_grammar.proofs.Placed.{some_at, member_at}
 
 pub one_there : {X : Type 0} (xs : List X) (k : ℕ) (x y : X) → slice_get xs k ≡ Some x → slice_get xs k ≡ Some y → x ≡ y
 one_there xs k x y a b = cc
@@ -106,7 +107,7 @@ pub record Between (full text : List (List ℕ)) (i k : ℕ) : Type 0 where
 
 module _ (sig : Signature) (variables : List Variable) (kind : ℕ → ℕ) (ks : AreKinds sig kind) (vs : AreVariables sig variables) where
   module _ (names : List (List ℕ)) (g : Table) (compiled : IsCompiled (length sig.sorts) (IsNotation kind sig) names g) where
-    module _ (leaves : List Variable) (full : List (List ℕ)) (words : List Terminal) (worded : AreWords sig.sorts variables kind names leaves full words) where
+    module _ (leaves : List RawTerm) (full : List (List ℕ)) (words : List Terminal) (worded : AreWords sig variables kind names leaves full words) where
       module _ (S : ℕ → ℕ → RawTerm → List (List ℕ) → Type 0) (closed : IsClosed sig variables kind S) where
         -- how far a form's text has come
         pub record Progress (s : ℕ) (v : Tree) (text : List (List ℕ)) : Type 0 where
@@ -261,17 +262,19 @@ module _ (sig : Signature) (variables : List Variable) (kind : ℕ → ℕ) (ks 
             )
 
         leaf_read : (s x i : ℕ) (word : Terminal) → slice_get words i ≡ Some word → (token : List ℕ) → slice_get full i ≡ Some token
-            → (y : Variable) → slice_get leaves x ≡ Some y → IsVariableToken sig.sorts variables token y → s ≡ kind y.sort → Readable s (leaf x) i (i + 1)
-        leaf_read s x i word at token here y is h e =
+            → (t : RawTerm) → slice_get leaves x ≡ Some t → IsAlone sig variables token t → IsKindOf sig kind t s → Readable s (leaf x) i (i + 1)
+        leaf_read s x i word at token here t is h k =
             let n = below full i token here in
             let split = parted full i in
             let l = length_front full i (omega (arith, n)) in
             let rest = head_of (take i full) (drop i full) token (subst (λ (m : List (List ℕ)). slice_get m (length (take i full)) ≡ Some token) (sym split) (subst (λ (m : ℕ). slice_get full m ≡ Some token) (sym l) here)) in
-            let whole = compiled.kinds (kind y.sort) (ks.within y.sort (token_within sig variables vs y token h)) in
-            let value : variable y ≡ term_of leaves (leaf x) = ap (λ m. variable (variable_at m)) (sym is) in (
+            let K = kind k.one in
+            let e : s ≡ K = k.all k.one k.has in
+            let whole = compiled.kinds K (alone_within sig variables kind ks vs t k.one k.has token h) in
+            let value : t ≡ term_of leaves (leaf x) = ap leaf_at (sym is) in (
               token ∷ [],
               record { before = take i full; behind = rest.0; parts = sym split ∙ ap (λ m. take i full ++ m) rest.1; from = l; to = omega arith },
-              inr (kind y.sort, subst (λ (m : ℕ). NextAt g m (Whole (kind y.sort) 0)) (sym e) whole, subst (λ (m : RawTerm). S (kind y.sort) 0 m (token ∷ [])) value (closed.alone y token h)),
+              inr (K, subst (λ (m : ℕ). NextAt g m (Whole K 0)) (sym e) whole, subst (λ (m : RawTerm). S K 0 m (token ∷ [])) value (closed.alone t k.one token h k.has)),
             )
 
         pub read : (s : ℕ) (v : Tree) (i k : ℕ) → IsItem g words s v i k → i ≤ length full → Readable s v i k
@@ -299,7 +302,7 @@ module _ (sig : Signature) (variables : List Variable) (kind : ℕ → ℕ) (ks 
             let r = some_at full i2 (omega (arith, b, n)) in
             let w = worded.each i2 r.0 word r.1 at in
             let y = w.sound leafs.1 (member_at word.leaves.items leafs.0 leafs.1 leafs.2) in
-            leaf_read s2 x i2 word at r.0 r.1 y.0 (ap (slice_get leaves) (sym leafs.4) ∙ y.1.0) y.2 (sym leafs.3 ∙ y.1.1)
+            leaf_read s2 x i2 word at r.0 r.1 y.0 (ap (slice_get leaves) (sym leafs.4) ∙ y.1.0) y.2 (subst (IsKindOf sig kind y.0) leafs.3 y.1.1)
 
         none_left : (xs : List (List ℕ)) → length xs ≡ 0 → xs ≡ []
         none_left [] e = refl

@@ -1,11 +1,11 @@
 -- What a signature's tokens spell is so in each sense that is closed under its forms.
 use Rattle.std.proofs.Common.{ℕ, zero, suc, ◌≡◌, ◌<◌, ◌≤◌, ◌+◌, ◌∙◌, List, [], ◌∷◌, ◌++◌, length, codes, IsTrue, Some, option_map, refl, sym, ap, subst, inl, inr, arith, lit<, append-nil, append_assoc}
 use Rattle.std.specs.List.{slice_get}
-use Rattle.mw_logic.specs.Term.{Variable, RawTerm, variable, apply, RawTerms, nil, cons}
-use Rattle.mw_logic.specs.Signature.{Signature, Operator, Gather, less, most, any, IsOperator, IsSortNamed, SameKind, HasKind, of_variable, of_operator, Member}
+use Rattle.mw_logic.specs.Term.{Variable, RawTerm, numeral, quoted, variable, apply, RawTerms, nil, cons}
+use Rattle.mw_logic.specs.Signature.{Signature, Operator, Gather, less, most, any, IsOperator, IsSortNamed, SameKind, HasKind, of_numeral, of_quoted, of_variable, of_operator, Member}
 use Rattle.mw_logic.proofs.Canonical.{same_operator}
 use Rattle.mw_text.specs.Names.{NameItem, items_of}
-use Rattle.mw_text.specs.Mixfix.{IsTaken, Spells, declared, with_sort, grouped, a_constant, prefixed, flattened, mixfix, SpellsArguments, last, more, SpellsNested, two, another, SpellsItems, no_items, over_piece, over_hole}
+use Rattle.mw_text.specs.Mixfix.{IsTaken, Spells, declared, with_sort, numbered, identified, grouped, a_constant, prefixed, flattened, mixfix, SpellsArguments, last, more, SpellsNested, two, another, SpellsItems, no_items, over_piece, over_hole}
 use Rattle.mw_grammar.specs.declared.parts.Symbol.{Symbol}
 use Rattle.mw_grammar.specs.declared.parts.Symbol.TheVariants.{Piece, Hole}
 use Rattle.mw_grammar.specs.Notations.{pieces_as, arguments, in_parentheses, prefix_parts, prefix_notation, bound, mixfix_parts, two_parts, flattened_notation, tail_notation, is_prefix, is_mixfix, is_flattened, is_tail}
@@ -34,16 +34,26 @@ module _ (sig : Signature) (variables : List Variable) (kind : ℕ → ℕ) (ks 
   pub precedence_below : (t : RawTerm) (p : ℕ) (text : List (List ℕ)) → Spells sig variables t p text → p < 128
   precedence_below t p text (declared x m) = lit< tt
   precedence_below t p text (with_sort x S is name) = lit< tt
+  precedence_below t p text (numbered n token h e) = lit< tt
+  precedence_below t p text (identified q h i) = lit< tt
   precedence_below t p text (grouped u q text2 d) = lit< tt
   precedence_below t p text (a_constant f o head is none h) = lit< tt
   precedence_below t p text (prefixed f o u us head inner is h d) = lit< tt
   precedence_below t p text (flattened f o u v head inner is a h q K text2 d m k n) = lit< tt
   precedence_below t p text (mixfix f o ts text2 is h d) = ok.precedences f o is
 
+  number_within : (n K : ℕ) → HasKind sig (numeral n) K → IsWithin sig (kind K)
+  number_within n K (of_numeral S is h s) = subst (IsWithin sig) (ks.agree S K s) (ks.within S (sort_within sig S (codes "Nat") is))
+
+  identifier_within : (q : List ℕ) (K : ℕ) → HasKind sig (quoted q) K → IsWithin sig (kind K)
+  identifier_within q K (of_quoted S is h s) = subst (IsWithin sig) (ks.agree S K s) (ks.within S (sort_within sig S (codes "Qid") is))
+
   -- the kind of a term that is spelled is that of a sort
   pub kind_within : (t : RawTerm) (p : ℕ) (text : List (List ℕ)) → Spells sig variables t p text → (K : ℕ) → HasKind sig t K → IsWithin sig (kind K)
   kind_within t p text (declared x m) K h = subst (IsWithin sig) (ks.agree x.sort K (variable_kind sig x K h)) (ks.within x.sort (vs x m))
   kind_within t p text (with_sort x S is name) K h = subst (IsWithin sig) (ks.agree x.sort K (variable_kind sig x K h)) (ks.within x.sort (sort_within sig x.sort S is))
+  kind_within t p text (numbered n token nat e) K h = number_within n K h
+  kind_within t p text (identified q qid i) K h = identifier_within q K h
   kind_within t p text (grouped u q text2 d) K h = kind_within u q text2 d K h
   kind_within t p text (a_constant f o head is none h2) K h = subst (IsWithin sig) (ks.agree o.result K (operator_kind sig f o nil K is h)) (ks.within o.result (ok.results f o is))
   kind_within t p text (prefixed f o u us head inner is h2 d) K h =
@@ -106,10 +116,10 @@ module _ (sig : Signature) (variables : List Variable) (kind : ℕ → ℕ) (ks 
 
     mutual
       pub spelled : (t : RawTerm) (p : ℕ) (text : List (List ℕ)) → Spells sig variables t p text → (K : ℕ) → HasKind sig t K → S (kind K) p t text
-      spelled t p text (declared x m) K h =
-          at_kind x.sort K 0 (variable x) (x.name ∷ []) (variable_kind sig x K h) (closed.alone x x.name (inl (m, refl)))
-      spelled t p text (with_sort x N is name) K h =
-          at_kind x.sort K 0 (variable x) _ (variable_kind sig x K h) (closed.alone x (x.name ++ codes ":" ++ N) (inr (N, is, name, refl)))
+      spelled t p text (declared x m) K h = closed.alone (variable x) K x.name (inl (m, refl)) h
+      spelled t p text (with_sort x N is name) K h = closed.alone (variable x) K (x.name ++ codes ":" ++ N) (inr (N, is, name, refl)) h
+      spelled t p text (numbered n token nat e) K h = closed.alone (numeral n) K token (nat, e) h
+      spelled t p text (identified q qid i) K h = closed.alone (quoted q) K q (qid, i, refl) h
       spelled t p text (grouped u q text2 d) K h = closed.enclosed (kind K) q u text2 (kind_within u q text2 d K h) (spelled u q text2 d K h)
       spelled t p text (a_constant f o head is none isHead) K h =
           at_kind o.result K 0 (apply f nil) head (operator_kind sig f o nil K is h)

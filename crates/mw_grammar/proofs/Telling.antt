@@ -1,7 +1,7 @@
 -- Different trees of the chart stand for different terms.
 use Rattle.std.proofs.Common.{ℕ, ◌≡◌, ◌⊎◌, ◌∙◌, List, length, Some, refl, sym, ap, subst, inl, inr, arith, ◌+◌}
 use Rattle.std.specs.List.{slice_get}
-use Rattle.mw_logic.specs.Term.{Variable, RawTerm, variable, apply, RawTerms, nil, cons, join}
+use Rattle.mw_logic.specs.Term.{Variable, RawTerm, apply, RawTerms, nil, cons, join}
 use Rattle.mw_logic.specs.Signature.{Signature}
 use Rattle.mw_chart.specs.Tree.{Tree, leaf, head, app}
 use Rattle.mw_chart.specs.Spelling.{NextAt, IsItem, predicted, scanned, completed, grouped, alone}
@@ -11,12 +11,13 @@ use Rattle.mw_chart.specs.declared.terminal.Terminal.{Terminal}
 use Rattle.mw_grammar.specs.Notations.{IsNotation}
 use Rattle.mw_grammar.specs.Readable.{AreKinds, AreVariables}
 use Rattle.mw_grammar.specs.Compiled.{IsCompiled}
-use Rattle.mw_grammar.specs.Worded.{AreWords}
-use Rattle.mw_grammar.specs.Meaning.{variable_at, with_last, term_of}
-use Rattle.mw_grammar.proofs.Placed.{token_within, some_at, member_at}
+use Rattle.mw_grammar.specs.Worded.{AllDiffer, AreWords}
+use Rattle.mw_grammar.specs.Meaning.{leaf_at, with_last, term_of}
+use Rattle.mw_grammar.proofs.LeafTerms.{IsLeafTerm, alone_leaf, alone_within}
+use Rattle.mw_grammar.proofs.Placed.{some_at, member_at}
 use Rattle.mw_grammar.proofs.Read.{one_there, below}
 
-module _ (leaves : List Variable) (differ : (v w : ℕ) (x : Variable) → slice_get leaves v ≡ Some x → slice_get leaves w ≡ Some x → v ≡ w) where
+module _ (leaves : List RawTerm) (differ : AllDiffer leaves) where
   -- an operator on whole trees, and a whole tree
   mutual
     pub data IsSpine : Tree → Type 0 where
@@ -25,7 +26,7 @@ module _ (leaves : List Variable) (differ : (v w : ℕ) (x : Variable) → slice
 
     pub data IsValue : Tree → Type 0 where
       of_spine : (t : Tree) → IsSpine t → IsValue t
-      of_leaf : (v : ℕ) (x : Variable) → slice_get leaves v ≡ Some x → IsValue (leaf v)
+      of_leaf : (v : ℕ) (t : RawTerm) → slice_get leaves v ≡ Some t → IsLeafTerm t → IsValue (leaf v)
 
   spine_term : (t : Tree) → IsSpine t → (f : ℕ) × (ts : RawTerms) × (term_of leaves t ≡ apply f ts)
   spine_term t (spine_head f) = (f, nil, refl)
@@ -56,11 +57,14 @@ module _ (leaves : List Variable) (differ : (v w : ℕ) (x : Variable) → slice
       let r = last_same ts us t u args in
       (p ∙ ap (λ m. apply m ts) fg ∙ ap (apply g) r.0 ∙ sym q, r.1)
 
-  same_variable : (v w : ℕ) (x y : Variable) → slice_get leaves v ≡ Some x → slice_get leaves w ≡ Some y → term_of leaves (leaf v) ≡ term_of leaves (leaf w) → v ≡ w
-  same_variable v w x y p q e =
-      let a : variable x ≡ variable y = sym (ap (λ m. variable (variable_at m)) p) ∙ e ∙ ap (λ m. variable (variable_at m)) q in
-      let same : x ≡ y = (cc) in
-      differ v w x p (q ∙ ap (λ m. Some m) (sym same))
+  same_leaf : (v w : ℕ) (t u : RawTerm) → slice_get leaves v ≡ Some t → slice_get leaves w ≡ Some u → term_of leaves (leaf v) ≡ term_of leaves (leaf w) → v ≡ w
+  same_leaf v w t u p q e =
+      let same : t ≡ u = sym (ap leaf_at p) ∙ e ∙ ap leaf_at q in
+      differ v w t p (q ∙ ap (λ m. Some m) (sym same))
+
+  -- a leaf is no operator on terms
+  leaf_apart : (v : ℕ) (t : RawTerm) (f : ℕ) (ts : RawTerms) → slice_get leaves v ≡ Some t → IsLeafTerm t → term_of leaves (leaf v) ≡ apply f ts → ⊥
+  leaf_apart v t f ts p h e = let same : t ≡ apply f ts = sym (ap leaf_at p) ∙ e in subst IsLeafTerm same h
 
   mutual
     same_spine : (a b : Tree) → IsSpine a → IsSpine b → term_of leaves a ≡ term_of leaves b → a ≡ b
@@ -77,13 +81,13 @@ module _ (leaves : List Variable) (differ : (v w : ℕ) (x : Variable) → slice
 
     pub same_value : (a b : Tree) → IsValue a → IsValue b → term_of leaves a ≡ term_of leaves b → a ≡ b
     same_value a b (of_spine t p) (of_spine u q) e = same_spine t u p q e
-    same_value a b (of_spine t p) (of_leaf v x h) e = let r = spine_term t p in let bad : ⊥ = (let k = sym r.2 ∙ e in cc) in absurd bad
-    same_value a b (of_leaf v x h) (of_spine t p) e = let r = spine_term t p in let bad : ⊥ = (let k = sym r.2 ∙ sym e in cc) in absurd bad
-    same_value a b (of_leaf v x h) (of_leaf w y k) e = ap leaf (same_variable v w x y h k e)
+    same_value a b (of_spine t p) (of_leaf v x h l) e = let r = spine_term t p in absurd (leaf_apart v x r.0 r.1 h l (sym e ∙ r.2))
+    same_value a b (of_leaf v x h l) (of_spine t p) e = let r = spine_term t p in absurd (leaf_apart v x r.0 r.1 h l (e ∙ r.2))
+    same_value a b (of_leaf v x h l) (of_leaf w y k m) e = ap leaf (same_leaf v w x y h k e)
 
 module _ (sig : Signature) (variables : List Variable) (kind : ℕ → ℕ) (ks : AreKinds sig kind) (vs : AreVariables sig variables) where
   module _ (names : List (List ℕ)) (g : Table) (compiled : IsCompiled (length sig.sorts) (IsNotation kind sig) names g) where
-    module _ (leaves : List Variable) (full : List (List ℕ)) (words : List Terminal) (worded : AreWords sig.sorts variables kind names leaves full words) where
+    module _ (leaves : List RawTerm) (full : List (List ℕ)) (words : List Terminal) (worded : AreWords sig variables kind names leaves full words) where
       abbrev IsStage : ℕ → Tree → Type 0
       IsStage s v = IsSpine leaves worded.differ v ⊎ (IsValue leaves worded.differ v × ((K : ℕ) × (p : ℕ) × NextAt g s (Whole K p)))
 
@@ -110,8 +114,9 @@ module _ (sig : Signature) (variables : List Variable) (kind : ℕ → ℕ) (ks 
           let r = some_at full i2 (omega (arith, b, n)) in
           let w = worded.each i2 r.0 word r.1 at in
           let y = w.sound leafs.1 (member_at word.leaves.items leafs.0 leafs.1 leafs.2) in
-          let whole = compiled.kinds (kind y.0.sort) (ks.within y.0.sort (token_within sig variables vs y.0 r.0 y.2)) in
-          inr (of_leaf x y.0 (ap (slice_get leaves) (sym leafs.4) ∙ y.1.0), (kind y.0.sort, 0, subst (λ (m : ℕ). NextAt g m (Whole (kind y.0.sort) 0)) (sym (sym leafs.3 ∙ y.1.1)) whole))
+          let k = y.1.1 in
+          let whole = compiled.kinds (kind k.one) (alone_within sig variables kind ks vs y.0 k.one k.has r.0 y.2) in
+          inr (of_leaf x y.0 (ap (slice_get leaves) (sym leafs.4) ∙ y.1.0) (alone_leaf sig variables y.0 r.0 y.2), (kind k.one, 0, subst (λ (m : ℕ). NextAt g m (Whole (kind k.one) 0)) (sym (sym leafs.3 ∙ k.all k.one k.has)) whole))
 
       -- trees that stand for one term are one
       pub told : (s r : ℕ) (v u : Tree) (i k j l : ℕ) → IsItem g words s v i k → IsItem g words r u j l → term_of leaves v ≡ term_of leaves u → v ≡ u

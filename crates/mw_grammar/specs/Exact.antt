@@ -23,7 +23,7 @@ pub record IsTree (sig : Signature) (kind : ℕ → ℕ) (g : Table) (wanted : O
   pub spelled : IsOf g words K tree
 
 -- The words' trees are the terms that the tokens spell.
-pub record AreExact (sig : Signature) (variables : List Variable) (kind : ℕ → ℕ) (g : Table) (leaves : List Variable) (tokens : List (List ℕ)) (words : List Terminal) : Type 0 where
+pub record AreExact (sig : Signature) (variables : List Variable) (kind : ℕ → ℕ) (g : Table) (leaves : List RawTerm) (tokens : List (List ℕ)) (words : List Terminal) : Type 0 where
   -- each term that they spell is that of a tree
   pub complete : (wanted : Option ℕ) (t : RawTerm) → IsSpelled sig variables wanted tokens t → (tree : Tree) × IsTree sig kind g wanted words tree × (term_of leaves tree ≡ t)
   -- each tree's term is spelled

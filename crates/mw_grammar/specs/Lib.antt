@@ -2,6 +2,7 @@
 pub mod Notations
 pub mod Readable
 pub mod Leaves
+pub mod AloneTerms
 pub mod Listing
 pub mod Compiled
 pub mod Worded

@@ -8,14 +8,15 @@ ghost use Rattle.mw_grammar.specs.Readable.{kind_in, IsReadable, AreVariables};
 ghost use Rattle.mw_grammar.specs.Grammars.{IsGrammarOf, IsReading, IsWordsOf, texts};
 ghost use Rattle.mw_grammar.specs.Exact.{AreExact};
 
+use crate::alone::Leaves;
 use crate::compile::compile;
-use crate::kinds::{kind_of, kinds_of};
+use crate::kinds::{kind_named, kind_of, kinds_of};
 use crate::listing::{sorts_by_name, variables_by_name};
 use mw_chart::{Table, Terminal};
 use mw_lex::Token;
 use mw_poset::Poset;
 use mw_term::{KindId, Seq, Signature, SortId, VarId};
-use mw_text::{Names, Variables};
+use mw_text::Names;
 use std::alloc::{AllocError, Global};
 
 /// The grammar of a signature, in which some variables are declared.
@@ -29,13 +30,16 @@ pub struct Grammar {
     pub(crate) declared: Vec<Vec<SortId>>,
     /// For the number of a name the sorts of this name.
     pub(crate) named: Vec<Vec<SortId>>,
+    /// The kinds of numerals and of quoted identifiers, where there are any.
+    pub(crate) numbers: Option<KindId>,
+    pub(crate) identifiers: Option<KindId>,
 }
 
-/// The words of tokens, and the variables that their leaves are.
+/// The words of tokens, and the terms that their leaves are.
 #[derive(Drop)]
 pub struct Words {
     pub words: Vec<Terminal>,
-    pub leaves: Variables,
+    pub leaves: Leaves,
 }
 
 impl Grammar {
@@ -55,6 +59,9 @@ impl Grammar {
         let kinds = kinds_of(alloc, signature, order)?;
         let mut names = Names::new(alloc)?;
         let named = sorts_by_name(alloc, &mut names, signature.sorts.as_slice())?;
+        let (nat, qid) = (signature.nat, signature.qid);
+        let numbers = kind_named(&names, &named, kinds.as_slice(), b"Nat", nat)?;
+        let identifiers = kind_named(&names, &named, kinds.as_slice(), b"Qid", qid)?;
         let declared = variables_by_name(alloc, &mut names, variables)?;
         let table = compile(alloc, &mut names, signature, kinds.as_slice())?;
         let grammar = Grammar {
@@ -63,6 +70,8 @@ impl Grammar {
             names,
             declared,
             named,
+            numbers,
+            identifiers,
         };
         Ok(Box::new(alloc, grammar)?)
     }
@@ -86,7 +95,7 @@ impl Grammar {
         ensures { (sig : SignatureOf) (variables : List Variable) → IsGrammarOf sig variables self.now
             → IfOk result (IsWordsOf sig variables self.now tokens.now) }
     {
-        let mut leaves = Variables::new(alloc)?;
+        let mut leaves = Leaves::new(alloc)?;
         let mut words = Vec::new(alloc);
         for token in tokens {
             words.push(self.word(alloc, &mut leaves, token.text.as_slice())?)?;

@@ -29,14 +29,15 @@ use Rattle.mw_parse.specs.declared.fault.ParseError.TheVariants as error
 use Rattle.mw_parse.specs.declared.fault.PairError.{PairError}
 use Rattle.mw_parse.specs.declared.fault.PairError.TheVariants as pair_error
 use Rattle.mw_parse.specs.declared.terms.Top.{Top}
-use Rattle.mw_parse.specs.declared.terms.Top.TheVariants.{Operator, Variable as VariableTop}
+use Rattle.mw_parse.specs.declared.terms.Top.TheVariants.{Operator, Leaf}
+use Rattle.mw_grammar.specs.declared.alone.Alone.TheVariants.{Number, Identifier, Variable as VariableToken}
 
 pub exact_words : (sig : Signature) (variables : List Variable) (g : Grammar) (tokens : List Token) (w : Words) → IsGrammarOf sig variables g → IsWordsOf sig variables g tokens w
     → AreExact sig variables (kind_in g.kinds) g.table w.leaves (texts tokens) w.words.items
 exact_words sig variables g tokens w is words =
     exactly sig variables (kind_in g.kinds) is.kinds is.readable is.declared g.names g.table is.compiled w.leaves (texts tokens) w.words.items words
 
-module _ (sig : Signature) (variables : List Variable) (kind : ℕ → ℕ) (g : Table) (terms : g.kinds ≡ length sig.sorts) (leaves : List Variable) (tokens : List (List ℕ)) (words : List Terminal)
+module _ (sig : Signature) (variables : List Variable) (kind : ℕ → ℕ) (g : Table) (terms : g.kinds ≡ length sig.sorts) (leaves : List RawTerm) (tokens : List (List ℕ)) (words : List Terminal)
     (count : length words ≡ length tokens) (exact : AreExact sig variables kind g leaves tokens words) where
   -- the chart's trees of the wanted kind are the grammar's
   tree : (wanted : Option ℕ) (t : Tree) → chart.IsSpelled g (option_map kind wanted) words t → IsTree sig kind g wanted words t
@@ -91,8 +92,8 @@ of_any : (sig : Signature) (variables : List Variable) (K : ℕ) (text : List (L
 of_any sig variables K text t h = record { precedence = h.precedence; spells = h.spells; kind = tt }
 
 module _ (sig : Signature) (variables : List Variable) (kind : ℕ → ℕ) (g : Table) (terms : g.kinds ≡ length sig.sorts)
-    (ls : List Variable) (left : List (List ℕ)) (lw : List Terminal) (lc : length lw ≡ length left) (le : AreExact sig variables kind g ls left lw)
-    (rs : List Variable) (right : List (List ℕ)) (rw : List Terminal) (rc : length rw ≡ length right) (re : AreExact sig variables kind g rs right rw) where
+    (ls : List RawTerm) (left : List (List ℕ)) (lw : List Terminal) (lc : length lw ≡ length left) (le : AreExact sig variables kind g ls left lw)
+    (rs : List RawTerm) (right : List (List ℕ)) (rw : List Terminal) (rc : length rw ≡ length right) (re : AreExact sig variables kind g rs right rw) where
   pair : (a b : Tree) → chart.IsPair g lw rw a b → ArePair sig variables left right (term_of ls a, term_of rs b)
   pair a b (K, within, h, k) =
       let first = of_kind sig variables kind g terms ls left lw lc le K a within h in
@@ -126,8 +127,8 @@ module _ (sig : Signature) (variables : List Variable) (kind : ℕ → ℕ) (g :
   none_pair never p h = let t = trees p h in never t.0 t.1 t.2
 
 module _ (sig : Signature) (variables : List Variable) (kind : ℕ → ℕ) (g : Table) (terms : g.kinds ≡ length sig.sorts)
-    (ls : List Variable) (left : List (List ℕ)) (lw : List Terminal) (lc : length lw ≡ length left) (le : AreExact sig variables kind g ls left lw)
-    (rs : List Variable) (right : List (List ℕ)) (rw : List Terminal) (rc : length rw ≡ length right) (re : AreExact sig variables kind g rs right rw) where
+    (ls : List RawTerm) (left : List (List ℕ)) (lw : List Terminal) (lc : length lw ≡ length left) (le : AreExact sig variables kind g ls left lw)
+    (rs : List RawTerm) (right : List (List ℕ)) (rw : List Terminal) (rc : length rw ≡ length right) (re : AreExact sig variables kind g rs right rw) where
   same_trees : (p q : TreePair) → p.left ≡ q.left → p.right ≡ q.right → p ≡ q
   same_trees p q e f = ap (λ (x : Tree). let r : TreePair = record { left = x; right = p.right } in r) e ∙ ap (λ (y : Tree). let r : TreePair = record { left = q.left; right = y } in r) f
 
@@ -170,9 +171,11 @@ raws_push [] r = refl
 raws_push (s ∷ rs) r = ap (cons (raw_term s)) (raws_push rs r)
 
 -- with one argument more
-pub top_more : (leaves : List Variable) (t u : Tree) (top : Top) (args more : List Raw) (r : Raw) → IsTop top args (term_of leaves t) → raw_term r ≡ term_of leaves u → more ≡ args ++ r ∷ []
+pub top_more : (leaves : List RawTerm) (t u : Tree) (top : Top) (args more : List Raw) (r : Raw) → IsTop top args (term_of leaves t) → raw_term r ≡ term_of leaves u → more ≡ args ++ r ∷ []
     → IsTop top more (term_of leaves (app t u))
 top_more leaves t u (Operator f) args more r h e m =
     let a : with_last (term_of leaves t) (term_of leaves u) ≡ with_last (apply f (raw_terms args)) (raw_term r) = ap (λ x. with_last x (term_of leaves u)) h ∙ ap (with_last (apply f (raw_terms args))) (sym e) in
     a ∙ ap (apply f) (sym (raws_push args r)) ∙ ap (λ x. apply f (raw_terms x)) (sym m)
-top_more leaves t u (VariableTop x) args more r h e m = ap (λ y. with_last y (term_of leaves u)) h
+top_more leaves t u (Leaf (Number n)) args more r h e m = ap (λ y. with_last y (term_of leaves u)) h
+top_more leaves t u (Leaf (Identifier q)) args more r h e m = ap (λ y. with_last y (term_of leaves u)) h
+top_more leaves t u (Leaf (VariableToken x S)) args more r h e m = ap (λ y. with_last y (term_of leaves u)) h

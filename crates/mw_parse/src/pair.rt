@@ -11,18 +11,17 @@ ghost use Rattle.mw_parse.specs.Tops.{ArePairOf, IsPairTold};
 use crate::fault::PairError;
 use crate::terms::raw;
 use mw_chart::{LIMIT, NoPair, TreePair};
-use mw_grammar::Grammar;
+use mw_grammar::{Grammar, Leaves};
 use mw_lex::Token;
 use mw_term::Raw;
-use mw_text::Variables;
 use std::alloc::{AllocError, Global};
 
 /// The terms of a pair of trees.
 fn terms(
     alloc: Global,
     pair: &TreePair,
-    lefts: &Variables,
-    rights: &Variables,
+    lefts: &Leaves,
+    rights: &Leaves,
 ) -> Result<(Raw, Raw), AllocError>
     ensures { IfOk result (ArePairOf lefts.now rights.now pair.now) }
 {
@@ -35,8 +34,8 @@ fn terms(
 fn told(
     alloc: Global,
     fault: &NoPair,
-    lefts: &Variables,
-    rights: &Variables,
+    lefts: &Leaves,
+    rights: &Leaves,
 ) -> Result<PairError, AllocError>
     ensures { IfOk result (IsPairTold lefts.now rights.now fault.now) }
 {

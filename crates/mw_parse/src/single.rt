@@ -12,14 +12,13 @@ ghost use Rattle.mw_parse.specs.Tops.{IsTold};
 use crate::fault::ParseError;
 use crate::terms::raw;
 use mw_chart::{LIMIT, NoReading};
-use mw_grammar::Grammar;
+use mw_grammar::{Grammar, Leaves};
 use mw_lex::Token;
 use mw_term::{KindId, Raw, SortId};
-use mw_text::Variables;
 use std::alloc::{AllocError, Global};
 
 /// What the chart's fault tells.
-fn told(alloc: Global, fault: &NoReading, leaves: &Variables) -> Result<ParseError, AllocError>
+fn told(alloc: Global, fault: &NoReading, leaves: &Leaves) -> Result<ParseError, AllocError>
     ensures { IfOk result (IsTold leaves.now fault.now) }
 {
     match fault {

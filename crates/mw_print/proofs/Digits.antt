@@ -1,13 +1,16 @@
--- A numeral is a proper token.
-use Rattle.std.proofs.Common.{◌≡◌, ◌<◌, ◌≤◌, ◌+◌, ◌%◌, ◌^◌, ◌==◌, inl, inr, ℕ, true, false, List, [], ◌∷◌, ◌++◌, length, arith, refl}
+-- A numeral is a proper token, which is read as its number.
+use Rattle.std.proofs.Common.{◌≡◌, ◌<◌, ◌≤◌, ◌+◌, ◌%◌, ◌^◌, ◌==◌, inl, inr, ℕ, true, false, List, [], ◌∷◌, ◌++◌, length, Some, arith, refl}
 use Rattle.std.specs.Prelude.{⊤}
 use Rattle.std.specs.Fmt.{decimal}
-use Rattle.std.proofs.lemmas.Fmt.{decimal_by_steps_wide}
+use Rattle.std.specs.Str.{all_ascii_digits}
+use Rattle.std.proofs.lemmas.Fmt.{decimal_by_steps_wide, decimal_is_IsNumeral_wide}
 use Rattle.std.proofs.lemmas.Bool.{cases_Bool, ne_eqb, le-leb, and_from}
 use Rattle.mw_lex.specs.Bytes.{is_punctuation, is_run_byte}
 use Rattle.mw_lex.specs.Pieces.{run_len}
 use Rattle.mw_lex.specs.Texts.{IsProper}
 use Rattle.mw_lex.proofs.Comments.{no_comment}
+use Rattle.mw_text.specs.Numerals.{are_digits, number_in}
+use Rattle.mw_text.proofs.Numbers.{number_is}
 use Rattle.mw_print.proofs.Bytes.{seven}
 
 abbrev IsDigit : ℕ → Type 0
@@ -51,7 +54,21 @@ digits_proper [] d = absurd d
 digits_proper (b ∷ bs) d =
     inr (digits_run (b ∷ bs) d, (λ e. absurd (omega (arith, d.0))), no_comment b (ne_eqb b 42 (λ e. absurd (omega (arith, d.0)))) (ne_eqb b 45 (λ e. absurd (omega (arith, d.0)))) bs)
 
+decimal_digits : (n : ℕ) → n < 2 ^ 128 → AreSome (decimal n)
+decimal_digits n h =
+    decimal_by_steps_wide (λ n ds. AreSome ds) (λ n h. ((omega arith, omega arith), tt)) (λ n ds h d. more_digits ds (48 + n % 10) d (omega arith, omega arith)) n (omega (arith, h))
+
 pub decimal_proper : (n : ℕ) → n < 2 ^ 128 → IsProper (decimal n)
-decimal_proper n h =
-    digits_proper (decimal n)
-    (decimal_by_steps_wide (λ n ds. AreSome ds) (λ n h. ((omega arith, omega arith), tt)) (λ n ds h d. more_digits ds (48 + n % 10) d (omega arith, omega arith)) n (omega (arith, h)))
+decimal_proper n h = digits_proper (decimal n) (decimal_digits n h)
+
+-- and its text is the number
+digits_all : (bs : List ℕ) → AreDigits bs → all_ascii_digits bs ≡ true
+digits_all [] d = refl
+digits_all (b ∷ bs) d = and_from _ _ (and_from _ _ (le-leb 48 b d.0.0) (le-leb b 57 d.0.1)) (digits_all bs d.1)
+
+digits_are : (bs : List ℕ) → AreSome bs → are_digits bs ≡ true
+digits_are [] d = absurd d
+digits_are (b ∷ bs) d = digits_all (b ∷ bs) d
+
+pub decimal_number : (n : ℕ) → n < 2 ^ 128 → number_in (decimal n) ≡ Some n
+decimal_number n h = number_is (decimal n) n (digits_are (decimal n) (decimal_digits n h)) (decimal_is_IsNumeral_wide n (omega (arith, h))).1 h

@@ -7,10 +7,12 @@ use Rattle.mw_logic.specs.Term.{Variable, RawTerm, apply, RawTerms, nil, cons}
 use Rattle.mw_logic.specs.Signature.{Signature, Operator, Gather, less, most, any, IsOperator, Member, HasKind, IsRawTerm, a_numeral, a_quoted, a_variable, an_operator, AreRawTerms, end, next}
 use Rattle.mw_logic.specs.Parts.{is_assoc}
 use Rattle.mw_text.specs.Names.{NameItem, piece, hole, items_of, has_hole, count_holes, pieces}
-use Rattle.mw_text.specs.Mixfix.{IsTaken, IsHead, Spells, with_sort, grouped, a_constant, prefixed, flattened, mixfix, SpellsArguments, last, more, SpellsNested, two, another, SpellsItems, no_items, over_piece, over_hole}
+use Rattle.mw_text.specs.Mixfix.{IsTaken, IsHead, Spells, with_sort, numbered, identified, grouped, a_constant, prefixed, flattened, mixfix, SpellsArguments, last, more, SpellsNested, two, another, SpellsItems, no_items, over_piece, over_hole}
 use Rattle.mw_print.specs.Tokens.{Token, token, opening, text_of, texts, comma}
 use Rattle.mw_print.specs.Printing.{Printed, has_less, is_mixfix, takes, in_hole, in_holes, head, divided, called, has_arguments, spread, arguments_of, printed, printed_all}
 use Rattle.mw_print.specs.Laws.{AreBinary, IsNamed, AreNamed, PrintedSpells}
+use Rattle.std.specs.Fmt.{decimal}
+use Rattle.mw_print.proofs.Digits.{decimal_number}
 use Rattle.mw_print.proofs.Forms.{arguments_some, divided_more, list_more, called_some}
 
 texts_both : (xs ys : List Token) → texts (xs ++ ys) ≡ texts xs ++ texts ys
@@ -225,8 +227,14 @@ module _ (sig : Signature) (variables : List Variable) where
   module _ (binary : AreBinary sig) where
     mutual
       part : {t : RawTerm} → IsRawTerm sig t → IsNamed sig t → Part t
-      part (a_numeral h k) named = absurd named
-      part (a_quoted h) named = absurd named
+      part (a_numeral {n} h k) named = record {
+        spells = numbered n (decimal n) h (decimal_number n k);
+        nested = λ f o is joint e h. absurd (true≢false (sym h));
+      }
+      part (a_quoted {q} h) named = record {
+        spells = identified q h named;
+        nested = λ f o is joint e h. absurd (true≢false (sym h));
+      }
       part (a_variable {x}) named = record {
         spells = rw named.2 (with_sort x named.1 named.2 named.0);
         nested = λ f o is joint e h. absurd (true≢false (sym h));

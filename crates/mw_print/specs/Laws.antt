@@ -1,13 +1,13 @@
 -- What is printed can be read.
-use Rattle.std.specs.Prelude.{◌≡◌, ◌<◌, ◌^◌, ℕ, List, ◌++◌, map, length, codes, All, IsTrue, IsFalse, Ok, ⊤}
+use Rattle.std.specs.Prelude.{◌≡◌, ◌<◌, ◌^◌, ℕ, List, ◌++◌, map, length, codes, All, IsTrue, Ok, ⊤}
 use Rattle.mw_lex.specs.declared.token.Token.{Token}
 use Rattle.mw_lex.specs.Lexing.{tokens_of}
 use Rattle.mw_lex.specs.Texts.{IsProper}
 use Rattle.mw_logic.specs.Term.{Variable, RawTerm, numeral, quoted, variable, apply, RawTerms, nil, cons}
 use Rattle.mw_logic.specs.Signature.{Signature, Operator, IsOperator, IsSortNamed, IsRawTerm}
 use Rattle.mw_logic.specs.Substitution.{occurs}
-use Rattle.mw_text.specs.Mixfix.{Spells, IsVariableName}
-use Rattle.mw_text.specs.Proper.{AreProperNames}
+use Rattle.mw_text.specs.Mixfix.{Spells, IsVariableName, IsIdentifier}
+use Rattle.mw_text.specs.Proper.{AreProperNames, HasIdentifiers}
 use Rattle.mw_print.specs.Tokens.{texts}
 use Rattle.mw_print.specs.Printing.{printed, sort_name, mixfix_text}
 
@@ -15,11 +15,11 @@ use Rattle.mw_print.specs.Printing.{printed, sort_name, mixfix_text}
 abbrev pub AreBinary : Signature → Type 0
 AreBinary sig = (f : ℕ) (o : Operator) → IsOperator sig f o → IsTrue o.assoc → length o.args ≡ 2
 
--- Each variable has a name that stands before a sort's, and a sort with a name; there are no numerals and no quoted identifiers.
+-- Each variable has a name that stands before a sort's, and a sort with a name; each quoted identifier begins with an apostrophe.
 abbrev mutual
   pub IsNamed : Signature → RawTerm → Type 0
-  IsNamed sig (numeral n) = ⊥
-  IsNamed sig (quoted q) = ⊥
+  IsNamed sig (numeral n) = ⊤
+  IsNamed sig (quoted q) = IsIdentifier q
   IsNamed sig (variable x) = IsVariableName x.name × (S : List ℕ) × IsSortNamed sig x.sort S
   IsNamed sig (apply f ts) = AreNamed sig ts
 
@@ -44,7 +44,7 @@ PrintedLexes = (sig : Signature) (t : RawTerm) → All IsProper (texts (printed 
 abbrev mutual
   pub HasProperLeaves : Signature → RawTerm → Type 0
   HasProperLeaves sig (numeral n) = n < 2 ^ 128
-  HasProperLeaves sig (quoted q) = IsProper (codes "'" ++ q)
+  HasProperLeaves sig (quoted q) = IsProper q
   HasProperLeaves sig (variable x) = IsProper (x.name ++ codes ":" ++ sort_name sig x.sort)
   HasProperLeaves sig (apply f ts) = HaveProperLeaves sig ts
 
@@ -73,8 +73,8 @@ pub record IsPrintable (sig : Signature) (x : Variable) : Type 0 where
 abbrev pub ArePrintable : Signature → RawTerm → Type 0
 ArePrintable sig t = (x : Variable) → IsTrue (occurs x t) → IsPrintable sig x
 
--- The text of a raw term reads back, where names of operators are proper, associative operators have two arguments, and the term's variables can be printed; in
--- signatures without numbers and quoted identifiers, which no text spells yet.
+-- The text of a raw term reads back, where names of operators are proper, associative operators have two arguments, the term's variables can be printed, and its
+-- quoted identifiers are tokens.
 abbrev pub PrintedReadsBack : Type 0
-PrintedReadsBack = (sig : Signature) (variables : List Variable) (t : RawTerm) → AreBinary sig → AreProperNames sig → IsFalse sig.nat → IsFalse sig.qid → IsRawTerm sig t
-    → ArePrintable sig t → ReadsBack sig variables t (mixfix_text sig t)
+PrintedReadsBack = (sig : Signature) (variables : List Variable) (t : RawTerm) → AreBinary sig → AreProperNames sig → IsRawTerm sig t → ArePrintable sig t → HasIdentifiers t
+    → ReadsBack sig variables t (mixfix_text sig t)

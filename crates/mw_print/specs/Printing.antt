@@ -100,11 +100,11 @@ applied sig f args = let o = at_number sig.operators f in let listed = arguments
 abbrev pub sort_name : Signature → ℕ → List ℕ
 sort_name sig S = unwrap_or (at_number sig.sorts S) []
 
--- A variable is printed with its sort, as one token.
+-- A numeral is printed in decimal, a quoted identifier as its own token, and a variable with its sort, as one token.
 abbrev mutual
   pub printed : Signature → RawTerm → Printed
   printed sig (numeral n) = alone (decimal n)
-  printed sig (quoted q) = alone (codes "'" ++ q)
+  printed sig (quoted q) = alone q
   printed sig (variable x) = alone (x.name ++ codes ":" ++ sort_name sig x.sort)
   printed sig (apply f ts) = applied sig f (printed_all sig ts)
 

@@ -15,12 +15,12 @@
 //!   Conditions: the order is that of the signature's sorts, and a kind is named by the number of a sort.
 //!   Where memory is wanting these two leave the text as it was.
 //! - The law `printed_reads_back`: the text of a raw term, cut into tokens, spells the term, whatever variables are
-//!   declared; where operators' names are proper tokens, associative operators have two arguments, and each variable of
-//!   the term has a name and a sort's name that make one token; in signatures without numbers and quoted identifiers.
-//!   So the text of a canonical term spells the term nested. mw_build shows the premises of the modules that it
-//!   accepts. It has three parts (specs/Laws): the printed tokens spell the term, at the precedence at which it was
-//!   printed (`PrintedSpells`); they are proper (`PrintedProper`, with numerals and quoted identifiers); and the text of
-//!   proper tokens is cut into these (`PrintedLexes`).
+//!   declared; where operators' names are proper tokens, associative operators have two arguments, each variable of the
+//!   term has a name and a sort's name that make one token, and each quoted identifier, which is printed as it is, is
+//!   one token that begins with an apostrophe (`HasIdentifiers` of mw_text). So the text of a canonical term spells the
+//!   term nested. mw_build shows the premises of the modules that it accepts. It has three parts (specs/Laws): the
+//!   printed tokens spell the term, at the precedence at which it was printed (`PrintedSpells`); they are proper
+//!   (`PrintedProper`); and the text of proper tokens is cut into these (`PrintedLexes`).
 //!
 //! `Memory` may come at any call. Only tested, by the sources in cases/: that the definition is the form that is meant.
 //! Neither: time, and that a printed text has no second reading (two terms may be printed alike). Cost: the length of

@@ -44,10 +44,7 @@ fn print(
             let digits = format!(in alloc; "{number}")?;
             writer.token(digits.as_bytes())
         }
-        View::Qid(name) => {
-            let token = quoted(alloc, name.as_slice())?;
-            writer.token(token.as_slice())
-        }
+        View::Qid(token) => writer.token(token.as_slice()),
         View::Var(variable) => {
             let token = sorted(alloc, signature, variable)?;
             writer.token(token.as_slice())
@@ -480,15 +477,6 @@ fn print_head(operator: &Operator, writer: &mut Writer) -> Result<(), AllocError
         name = front.1;
     }
     Ok(())
-}
-
-/// A quoted identifier as a token.
-fn quoted(alloc: Global, name: &[u8]) -> Result<Vec<u8>, AllocError>
-    ensures { IfOk result (λ v. v.items ≡ codes "'" ++ name.now) }
-{
-    let mut token = vec![in alloc; b'\'']?;
-    token.extend_from_slice(name)?;
-    Ok(token)
 }
 
 /// A variable as a token: its name, a colon and its sort's name.

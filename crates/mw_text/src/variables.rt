@@ -1,5 +1,5 @@
 // Variables in order of first mention.
-ghost use Rattle.std.specs.Prelude.{◌≡◌, [], slice_get, Some, IfOk, OnOk};
+ghost use Rattle.std.specs.Prelude.{◌≡◌, [], IfOk, OnOk};
 ghost use Rattle.mw_text.specs.Mentions.{seen_key, is_met, with_variable, missing_in};
 
 use indexmap::IndexSet;
@@ -51,14 +51,13 @@ impl Variables {
         Ok(Variables { set })
     }
 
-    /// Adds a variable behind the others, unless it is there, and tells its place.
-    pub fn meet(&mut self, alloc: Global, name: &[u8], sort: SortId) -> Result<usize, AllocError>
+    /// Adds a variable behind the others, unless it is there.
+    pub fn meet(&mut self, alloc: Global, name: &[u8], sort: SortId) -> Result<(), AllocError>
         ensures variables { OnOk result (self.new ≡ with_variable self.old (record { name = name.now; sort = sort })) }
-        ensures place { IfOk result (λ k. slice_get self.new k ≡ Some (record { name = name.now; sort = sort })) }
     {
         let name = name.to_vec(alloc)?;
-        let (place, _is_new) = self.set.insert_full(Key { name, sort })?;
-        Ok(place)
+        self.set.insert(Key { name, sort })?;
+        Ok(())
     }
 
     /// Whether a variable is there.
@@ -66,16 +65,6 @@ impl Variables {
         ensures { result ≡ is_met self.now (seen_key key.now) }
     {
         self.set.contains(key)
-    }
-
-    /// The variable at a place, if there is one.
-    pub fn at(&self, alloc: Global, place: usize) -> Result<Option<VarId>, AllocError>
-        ensures { IfOk result (λ o. o ≡ slice_get self.now place) }
-    {
-        match self.set.get_index(place) {
-            Some(key) => Ok(Some(variable_of(alloc, key)?)),
-            None => Ok(None),
-        }
     }
 
     /// The first of these variables that others haven't.

@@ -12,7 +12,7 @@ use Rattle.mw_grammar.proofs.grammar.Grammar.words.Goals as goal
 
 pub loop-token-init : goal.loop-token-init
 loop-token-init c = λ sig variables is.
-    no_words sig.sorts c.args.self.now.names variables (kind_in c.args.self.now.kinds) c.in_ok-leaves.leaves (texts c.args.tokens.now) c.new-words.result.items c.in_ok-leaves.ensures c.new-words.ensures.items
+    no_words sig c.args.self.now.names variables (kind_in c.args.self.now.kinds) c.in_ok-leaves.leaves (texts c.args.tokens.now) c.new-words.result.items c.in_ok-leaves.ensures c.new-words.ensures.items
 
 pub loop-token-preserved : goal.loop-token-preserved
 loop-token-preserved c = λ sig variables is.
@@ -21,9 +21,9 @@ loop-token-preserved c = λ sig variables is.
     let i = c.loop-token.token-index in
     let got = get_item c.args.tokens.now i c.token-item.result c.loop-token-test.true c.token-item.is in
     let there = get-map (λ (t : Token). t.text) c.args.tokens.now i c.token-item.result got in
-    let word = subst (λ (t : List ℕ). IsWord sig.sorts variables kind g.names c.word.new.leaves t c.in_ok-word.field-0) c.as_slice.ensures (c.in_ok-word.ensures.word sig variables is) in
-    subst (λ (ws : List Terminal). HasWords sig.sorts g.names variables kind c.word.new.leaves (texts c.args.tokens.now) (i + 1) ws) (sym c.in_ok-push.ensures.items)
-    (words_push sig.sorts g.names variables kind c.loop-token.leaves c.word.new.leaves (texts c.args.tokens.now) i c.loop-token.words.items c.token-item.result.text
+    let word = subst (λ (t : List ℕ). IsWord sig variables kind g.names c.word.new.leaves t c.in_ok-word.field-0) c.as_slice.ensures (c.in_ok-word.ensures.word sig variables is) in
+    subst (λ (ws : List Terminal). HasWords sig g.names variables kind c.word.new.leaves (texts c.args.tokens.now) (i + 1) ws) (sym c.in_ok-push.ensures.items)
+    (words_push sig g.names variables kind c.loop-token.leaves c.word.new.leaves (texts c.args.tokens.now) i c.loop-token.words.items c.token-item.result.text
     c.in_ok-word.field-0 c.in_ok-word.ensures.leaves c.in_ok-word.ensures.differ there word (c.loop-token.invariant sig variables is))
 
 pub returns : goal.returns
@@ -33,4 +33,4 @@ returns c = λ sig variables is.
     let l = length-map c.args.tokens.now (λ (t : Token). t.text) in
     let a = c.loop-token-test.false in
     let b = c.loop-token.auto.token-index-end in
-    words_are sig.sorts g.names variables (kind_in g.kinds) c.loop-token.leaves (texts c.args.tokens.now) i c.loop-token.words.items (omega (arith, l, a, b)) (c.loop-token.invariant sig variables is)
+    words_are sig g.names variables (kind_in g.kinds) c.loop-token.leaves (texts c.args.tokens.now) i c.loop-token.words.items (omega (arith, l, a, b)) (c.loop-token.invariant sig variables is)

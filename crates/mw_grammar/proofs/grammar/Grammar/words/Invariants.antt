@@ -8,4 +8,4 @@ use Rattle.mw_grammar.proofs.grammar.Grammar.words.Given as goal
 
 abbrev pub invariant-loop-token : goal.invariant-loop-token
 invariant-loop-token l = (sig : Signature) (variables : List Variable) → IsGrammarOf sig variables l.self
-    → HasWords sig.sorts l.self.names variables (kind_in l.self.kinds) l.leaves (texts l.tokens) l.token-index l.words.items
+    → HasWords sig l.self.names variables (kind_in l.self.kinds) l.leaves (texts l.tokens) l.token-index l.words.items
