@@ -1,10 +1,10 @@
 -- What is built into a module is what the logic asks for: numbers, quoted identifiers, truth values, and the operators that each kind has.
-use Rattle.std.proofs.Common.{◌≡◌, ◌∙◌, ◌⊎◌, ◌&&◌, ◌||◌, ℕ, zero, suc, List, [], ◌∷◌, length, map, option_map, Bool, true, false, nat_eq, bytes_eq, Option, Some, None, slice_get, if◌then◌else◌, refl, sym, ap, subst, inl, inr, arith}
+use Rattle.std.proofs.Common.{◌≡◌, ◌∙◌, ◌⊎◌, ◌&&◌, ◌||◌, ℕ, zero, suc, List, [], ◌∷◌, length, option_map, true, false, nat_eq, bytes_eq, Option, Some, None, refl, sym, ap, subst, inl, inr}
 use Rattle.std.specs.Prelude.{IsTrue, is_some, codes}
 use Rattle.std.proofs.lemmas.Bool.{and_parts, or_cases, eqb-true}
 use Rattle.std.proofs.lemmas.Option.{slice_get-map}
 use Rattle.std.proofs.lemmas.Slice.Eq.{bytes_eq-Decides}
-use Rattle.mw_logic.specs.Term.{RawTerm, constant}
+use Rattle.mw_logic.specs.Term.{constant}
 use Rattle.mw_logic.specs.Signature.{Signature, Operator, Declaration, sort, IsOperator, IsSortNamed, IsSuccessor, Member, SameKind, same, down}
 use Rattle.mw_logic.specs.Sorts.{above, same as itself}
 use Rattle.mw_logic.specs.Accepted.{are_two}
@@ -20,10 +20,10 @@ use Rattle.mw_module.specs.Units.{SeenLined}
 use Rattle.mw_declare.specs.declared.built.Reached.{Reached}
 use Rattle.mw_declare.specs.declared.built.Truth.{Truth}
 use Rattle.mw_declare.specs.declared.built.Built.{Built}
-use Rattle.mw_declare.specs.Meaning.{Name, is_among, sorts_of, number_of}
-use Rattle.mw_declare.specs.Hierarchy.{Hierarchy, hierarchy_of, kind_of}
-use Rattle.mw_declare.specs.Built.{some_declares, has_truths, has_numbers, is_pair, kind_named, truth_of, numbers_in, built_in}
-use Rattle.mw_declare.specs.Operators.{Profile, same_profile, Declared, is_test_of, is_choice_of, is_built, are_choice, operators_of, operator_of, signature_of}
+use Rattle.mw_declare.specs.Meaning.{Name, is_among, number_of}
+use Rattle.mw_declare.specs.Hierarchy.{Hierarchy, hierarchy_of}
+use Rattle.mw_declare.specs.Built.{some_declares, has_numbers, is_pair, kind_named, truth_of, numbers_in, built_in}
+use Rattle.mw_declare.specs.Operators.{Profile, Declared, is_test_of, is_choice_of, is_built, are_choice, operators_of, operator_of, signature_of}
 use Rattle.mw_declare.specs.Declarations.{unknown_in_all}
 use Rattle.mw_declare.proofs.Apart.{declared_at, same_spelling}
 use Rattle.mw_declare.proofs.Declaring.{placed, some_member, value_known, stated_profile, stated_declaration}

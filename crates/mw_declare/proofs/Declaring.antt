@@ -1,5 +1,5 @@
 -- Statements that declare an operator, by its name and the names of its sorts.
-use Rattle.std.proofs.Common.{◌≡◌, ◌∙◌, ◌&&◌, not, ℕ, suc, List, [], ◌∷◌, map, slice_get, cond, Bool, true, false, Option, Some, None, All, bytes_eq, refl, sym, ap, subst, inl, inr}
+use Rattle.std.proofs.Common.{◌≡◌, ◌∙◌, ◌&&◌, not, ℕ, suc, List, [], ◌∷◌, map, slice_get, cond, Bool, true, false, Option, Some, None, bytes_eq, refl, sym, ap, subst, inl, inr}
 use Rattle.std.specs.List.{list_any}
 use Rattle.std.proofs.lemmas.Bool.{and_parts, or_cases, or_left, or_right}
 use Rattle.std.proofs.lemmas.Slice.Eq.{bytes_eq-Decides}
@@ -12,10 +12,10 @@ use Rattle.mw_module.specs.Forms.{Shape, Sorts, Subsorts, Operators, Variables, 
 use Rattle.mw_module.specs.Sortings.{WrittenSort}
 use Rattle.mw_module.specs.Units.{SeenLined, IsWithin}
 use Rattle.mw_declare.specs.Meaning.{Name, texts, is_among, number_of}
-use Rattle.mw_declare.specs.Hierarchy.{Hierarchy, kind_in, sorted_in, kind_of}
+use Rattle.mw_declare.specs.Hierarchy.{Hierarchy, kind_in, sorted_in}
 use Rattle.mw_declare.specs.Built.{is_sort, takes, is_name, declares_in, some_declares, kind_named}
-use Rattle.mw_declare.specs.Operators.{Rank, rank_of, Profile, profile_of}
-use Rattle.mw_declare.specs.Faults.{unknown_among, name_in, mentioned_by, unknown_from}
+use Rattle.mw_declare.specs.Operators.{rank_of, Profile, profile_of}
+use Rattle.mw_declare.specs.Faults.{unknown_among, name_in, unknown_from}
 use Rattle.mw_declare.proofs.Unknown.{known_front, known_append}
 use Rattle.mw_declare.proofs.Within.{IsKnownIn, all_known}
 

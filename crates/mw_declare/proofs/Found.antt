@@ -144,7 +144,7 @@ new_kind t os K =
     let first = with_operator os g.profile g.declaration g.attributes in
     let second = with_operator first e.profile e.declaration e.attributes in (
       kept_with second d.profile d.declaration d.attributes g.profile g.declaration
-      (kept_with first e.profile e.declaration e.attributes g.profile g.declaration (new_with os g.profile g.declaration g.attributes)),
+          (kept_with first e.profile e.declaration e.attributes g.profile g.declaration (new_with os g.profile g.declaration g.attributes)),
       kept_with second d.profile d.declaration d.attributes e.profile e.declaration (new_with first e.profile e.declaration e.attributes),
       new_with second d.profile d.declaration d.attributes,
     )

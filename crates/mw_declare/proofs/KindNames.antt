@@ -1,5 +1,5 @@
 -- Kinds, each by its least sort, and the kinds of what is built in.
-use Rattle.std.proofs.Common.{◌≡◌, ◌≢◌, ◌∙◌, ◌+◌, ◌-◌, ◌<◌, ◌≤◌, ◌&&◌, ℕ, zero, suc, List, [], ◌∷◌, length, Bool, true, false, cond, nat_eq, Option, Some, None, All, if◌then◌else◌, refl, sym, ap, subst, inl, inr, arith}
+use Rattle.std.proofs.Common.{◌≡◌, ◌≢◌, ◌∙◌, ◌+◌, ◌-◌, ◌<◌, ◌≤◌, ◌&&◌, ℕ, zero, suc, List, [], ◌∷◌, length, Bool, true, false, nat_eq, Some, None, All, if◌then◌else◌, refl, sym, ap, subst, inl, inr, arith}
 use Rattle.std.specs.Prelude.{codes}
 use Rattle.std.proofs.lemmas.Bool.{and_parts, both_ways, eqb-true, eq-eqb}
 use Rattle.std.proofs.lemmas.List.Elements.{All-nil, All-cons}
@@ -12,7 +12,7 @@ use Rattle.mw_declare.specs.declared.built.Truth.{Truth}
 use Rattle.mw_declare.specs.declared.built.Reached.{Reached}
 use Rattle.mw_declare.specs.Meaning.{is_among, number_of}
 use Rattle.mw_declare.specs.Hierarchy.{Hierarchy, hierarchy_of, kind_of}
-use Rattle.mw_declare.specs.Built.{some_declares, has_truths, has_numbers, is_pair, kind_named, truth_of, numbers_in, built_in, kinds_from}
+use Rattle.mw_declare.specs.Built.{has_truths, has_numbers, kind_named, truth_of, numbers_in, built_in, kinds_from}
 use Rattle.mw_declare.specs.Operators.{IsNumbered}
 use Rattle.mw_declare.specs.Declarations.{unknown_in_all}
 use Rattle.mw_declare.proofs.Declaring.{value_known, arg_known}

@@ -1,6 +1,6 @@
 -- What statements declare is part of what they declare together with others: sorts of the same names, connected where they are connected, and operators of the
 -- same names on the same kinds.
-use Rattle.std.proofs.Common.{◌≡◌, ◌∙◌, ◌≤◌, ◌&&◌, Bool, true, false, nat_eq, bytes_eq, if◌then◌else◌, ℕ, zero, suc, List, [], ◌∷◌, length, map, option_map, slice_get, Some, None, All, refl, sym, ap, subst, inl, inr}
+use Rattle.std.proofs.Common.{◌≡◌, ◌∙◌, ◌≤◌, ◌&&◌, Bool, true, false, nat_eq, bytes_eq, if◌then◌else◌, ℕ, zero, suc, List, [], ◌∷◌, length, map, option_map, Some, None, All, refl, sym, ap, subst}
 use Rattle.std.proofs.lemmas.List.Elements.{All-nil, All-cons, All-head, All-tail}
 use Rattle.std.specs.Prelude.{IsTrue, is_some, codes}
 use Rattle.std.proofs.lemmas.Bool.{and_from, and_parts, or_left, or_right, eqb-true, eq-eqb}

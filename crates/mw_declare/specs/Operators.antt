@@ -2,7 +2,7 @@
 -- values"; that an operator has the attributes of all its declarations together is this project's own.)
 use Rattle.std.specs.Prelude.{◌≡◌, ℕ, zero, suc, List, [], ◌∷◌, ◌++◌, map, Bool, false, ◌&&◌, ◌||◌, Option, Some, None, is_some, option_map, unwrap_or, position, length, All, bytes_eq, nat_eq, if◌then◌else◌, codes, IsTrue}
 use Rattle.mw_lex.specs.declared.token.Token.{Token}
-use Rattle.mw_logic.specs.Signature.{Signature, Operator, Declaration, Sorted, sort, kind, Identity, constant_of, numeral_of, at_number}
+use Rattle.mw_logic.specs.Signature.{Signature, Operator, Declaration, sort, kind, Identity, constant_of, numeral_of, at_number}
 use Rattle.mw_logic.specs.Accepted.{are_two, names_differ}
 use Rattle.mw_poset.specs.Order.{IsSort, ArePairsOf}
 use Rattle.mw_text.specs.Names.{name_of_tokens, items_of}

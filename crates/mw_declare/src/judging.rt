@@ -47,12 +47,7 @@ fn is_of_numbers(nat: Option<KindId>, kind: KindId) -> bool
 
 /// Whether an identity is there, where `assoc` says whether its operator is associative, whose values are of this kind.
 /// A numeral is of the kind of numbers.
-fn fits_identity(
-    nat: Option<KindId>,
-    assoc: bool,
-    kind: KindId,
-    identity: Option<Identity>,
-) -> bool
+fn fits_identity(nat: Option<KindId>, assoc: bool, kind: KindId, identity: Option<Identity>) -> bool
     ensures none { option_map identity_of identity ≡ None → result ≡ true }
     ensures constant { (n : ℕ) → option_map identity_of identity ≡ Some (constant_of n)
         → result ≡ assoc && not (nat_eq n 0) }
@@ -80,8 +75,7 @@ fn has_kept_axioms(
     let args = profile.args.as_slice();
     let Attributes { assoc, comm, .. } = said.attributes;
     fits_assoc(assoc, args, profile.result)
-        & (fits_comm(comm, args)
-            & fits_identity(built.nat, assoc, profile.result, identity))
+        & (fits_comm(comm, args) & fits_identity(built.nat, assoc, profile.result, identity))
 }
 
 /// What is wrong with an operator of this identity.

@@ -78,11 +78,7 @@ fn choice_profile(alloc: Global, truth: Truth, kind: KindId) -> Result<Profile, 
 }
 
 /// Its declaration.
-fn choice_declaration(
-    alloc: Global,
-    truth: Truth,
-    kind: KindId,
-) -> Result<Declaration, AllocError>
+fn choice_declaration(alloc: Global, truth: Truth, kind: KindId) -> Result<Declaration, AllocError>
     ensures { IfOk result (λ d. d ≡ (choice_of truth kind).declaration) }
 {
     let branch = Sorted::Kind(kind);

@@ -1,9 +1,5 @@
 use Rattle.std.proofs.Common.{◌≡◌, ◌&&◌, ℕ, nat_eq, drop}
 use Rattle.std.specs.List.{list_any}
-use Rattle.mw_module.specs.Units.{seen_all}
-use Rattle.mw_module.specs.Words.{seen_lists}
-use Rattle.mw_declare.specs.Built as built
-use Rattle.mw_declare.specs.Seen.{seen_name}
 use Rattle.mw_declare.proofs.built.is_pair.Given as goal
 
 abbrev pub invariant-loop-pair : goal.invariant-loop-pair

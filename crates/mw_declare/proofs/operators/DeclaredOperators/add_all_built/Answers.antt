@@ -1,4 +1,4 @@
-use Rattle.std.proofs.Common.{◌≡◌, ◌<◌, ◌∙◌, ◌+◌, ◌-◌, List, ℕ, length, ap, sym, arith}
+use Rattle.std.proofs.Common.{◌≡◌, ◌<◌, ◌∙◌, ◌+◌, ◌-◌, List, length, ap, sym, arith}
 use Rattle.mw_declare.specs.Hierarchy.{Hierarchy}
 use Rattle.mw_declare.specs.Built.{kinds_from}
 use Rattle.mw_declare.specs.Operators.{Declared, with_kinds}
