@@ -1,5 +1,5 @@
 -- Operators that a module declares differ in their names or in their kinds, each named by its least sort.
-use Rattle.std.proofs.Common.{◌≡◌, ◌∙◌, ℕ, zero, suc, List, [], ◌∷◌, map, Bool, true, false, Option, Some, None, option_map, slice_get, All, bytes_eq, if◌then◌else◌, refl, sym, ap, subst}
+use Rattle.std.proofs.Common.{◌≡◌, ◌∙◌, ℕ, zero, suc, List, [], ◌∷◌, map, length, Bool, true, false, Option, Some, None, option_map, slice_get, All, bytes_eq, if◌then◌else◌, refl, sym, ap, subst}
 use Rattle.std.specs.Prelude.{⊤}
 use Rattle.std.proofs.lemmas.Bool.{and_from, and_parts, both_ways, eq-eqb}
 use Rattle.std.proofs.lemmas.List.Elements.{All-nil}
@@ -10,8 +10,12 @@ use Rattle.mw_logic.specs.Signature.{Operator, Declaration, IsOperator}
 use Rattle.mw_module.specs.Attributes.{Attributes}
 use Rattle.mw_module.specs.Forms.{Shape, Sorts, Subsorts, Operators, Variables, Equation, Import}
 use Rattle.mw_module.specs.Units.{SeenLined}
+use Rattle.mw_declare.specs.declared.built.Reached.{Reached}
+use Rattle.mw_declare.specs.declared.built.Truth.{Truth}
+use Rattle.mw_declare.specs.declared.built.Built.{Built}
+use Rattle.mw_declare.specs.Built.{truth_of, built_in, kinds_from}
 use Rattle.mw_declare.specs.Hierarchy.{Hierarchy, hierarchy_of}
-use Rattle.mw_declare.specs.Operators.{Rank, rank_of, Profile, same_profile, Declared, declared_again, with_operator, profile_of, with_named, with_operators, operators_from, operators_of, operator_of, signature_of}
+use Rattle.mw_declare.specs.Operators.{Rank, rank_of, Profile, same_profile, Declared, declared_again, with_operator, profile_of, with_named, with_operators, operators_from, Single, with_singles, built_for, with_kinds, with_built, operators_of, operator_of, signature_of}
 use Rattle.mw_declare.proofs.Folding.{declared_once, all_with}
 use Rattle.mw_declare.proofs.Proper.{all_at}
 use Rattle.mw_declare.proofs.Ranked.{same_args, same_result}
@@ -66,6 +70,22 @@ module _ (h : Hierarchy) where
   apart_from os [] a = a
   apart_from os (s ∷ ss) a = apart_from (with_operators h os s.shape) ss (apart_shape os s.shape a)
 
+apart_kinds : (t : Truth) (os : List Declared) (Ks : List ℕ) → AreApart os → AreApart (with_kinds t os Ks)
+apart_kinds t os [] a = a
+apart_kinds t os (K ∷ Ks) a = apart_kinds t (with_singles os (built_for t K)) Ks (singles os (built_for t K) a)
+  where
+    singles : (os : List Declared) (gs : List Single) → AreApart os → AreApart (with_singles os gs)
+    singles os [] a = a
+    singles os (g ∷ gs) a = singles (with_operator os g.profile g.declaration g.attributes) gs (apart_with os g.profile g.declaration g.attributes a)
+
+apart_all : (ss : List SeenLined) → AreApart (operators_of ss)
+apart_all ss = of (truth_of (hierarchy_of ss) ss)
+  where
+    of : (truth : Option Truth) → AreApart (with_built truth (hierarchy_of ss) (operators_from (hierarchy_of ss) [] ss))
+    of None = apart_from (hierarchy_of ss) [] ss tt
+    of (Some t) =
+        apart_kinds t (operators_from (hierarchy_of ss) [] ss) (kinds_from (hierarchy_of ss) (length (hierarchy_of ss).names) 1) (apart_from (hierarchy_of ss) [] ss tt)
+
 one_place : (os : List Declared) → AreApart os → (i j : ℕ) (o p : Declared) → slice_get os i ≡ Some o → slice_get os j ≡ Some p → same_profile o.profile p.profile ≡ true → i ≡ j
 one_place [] a i j o p e k same = cc
 one_place (x ∷ xs) a zero zero o p e k same = refl
@@ -77,21 +97,23 @@ one_place (x ∷ xs) a (suc i) zero o p e k same =
 one_place (x ∷ xs) a (suc i) (suc j) o p e k same = ap suc (one_place xs a.1 i j o p e k same)
 
 -- an operator is that of a declared one
-pub declared_at : (all os : List Declared) (i : ℕ) (o : Operator) → slice_get (map (operator_of all) os) i ≡ Some o → (d : Declared) × (slice_get os i ≡ Some d) × (operator_of all d ≡ o)
-declared_at all os i o e = of (slice_get os i) refl
+pub declared_at : (b : Built) (all os : List Declared) (i : ℕ) (o : Operator) → slice_get (map (operator_of b all) os) i ≡ Some o
+    → (d : Declared) × (slice_get os i ≡ Some d) × (operator_of b all d ≡ o)
+declared_at b all os i o e = of (slice_get os i) refl
   where
-    of : (x : Option Declared) → slice_get os i ≡ x → (d : Declared) × (slice_get os i ≡ Some d) × (operator_of all d ≡ o)
-    of None k = let found : option_map (operator_of all) None ≡ Some o = ap (option_map (operator_of all)) (sym k) ∙ sym (slice_get-map (operator_of all) os i) ∙ e in cc
-    of (Some d) k = (d, k, same_Some (operator_of all d) o (ap (option_map (operator_of all)) (sym k) ∙ sym (slice_get-map (operator_of all) os i) ∙ e))
+    of : (x : Option Declared) → slice_get os i ≡ x → (d : Declared) × (slice_get os i ≡ Some d) × (operator_of b all d ≡ o)
+    of None k = let found : option_map (operator_of b all) None ≡ Some o = ap (option_map (operator_of b all)) (sym k) ∙ sym (slice_get-map (operator_of b all) os i) ∙ e in cc
+    of (Some d) k = (d, k, same_Some (operator_of b all d) o (ap (option_map (operator_of b all)) (sym k) ∙ sym (slice_get-map (operator_of b all) os i) ∙ e))
 
-pub operators_apart : (ss : List SeenLined) (f g : ℕ) (o p : Operator) → IsOperator (signature_of ss) f o → IsOperator (signature_of ss) g p
+pub operators_apart : (reached : Reached) (ss : List SeenLined) (f g : ℕ) (o p : Operator) → IsOperator (signature_of reached ss) f o → IsOperator (signature_of reached ss) g p
     → o.spelling ≡ p.spelling → o.args ≡ p.args → o.result ≡ p.result → f ≡ g
-operators_apart ss zero g o p e k s a r = cc
-operators_apart ss (suc i) zero o p e k s a r = cc
-operators_apart ss (suc i) (suc j) o p e k s a r =
+operators_apart reached ss zero g o p e k s a r = cc
+operators_apart reached ss (suc i) zero o p e k s a r = cc
+operators_apart reached ss (suc i) (suc j) o p e k s a r =
     let os = operators_of ss in
-    let (d, at, is) = declared_at os os i o e in
-    let (c, by, that) = declared_at os os j p k in
+    let b = built_in reached (hierarchy_of ss) ss in
+    let (d, at, is) = declared_at b os os i o e in
+    let (c, by, that) = declared_at b os os j p k in
     let same = same_of d.profile c.profile (ap (λ o. o.spelling) is ∙ s ∙ ap (λ o. o.spelling) (sym that)) (ap (λ o. o.args) is ∙ a ∙ ap (λ o. o.args) (sym that))
     (ap (λ o. o.result) is ∙ r ∙ ap (λ o. o.result) (sym that)) in
-    ap suc (one_place os (apart_from (hierarchy_of ss) [] ss tt) i j d c at by same)
+    ap suc (one_place os (apart_all ss) i j d c at by same)

@@ -1,22 +1,29 @@
 -- Whether an operator's axioms are kept ones and fit it, by the numbers of kinds and of the identity.
-use Rattle.std.proofs.Common.{◌≡◌, ◌∙◌, ◌+◌, ◌&&◌, ◌||◌, not, ℕ, suc, List, [], ◌∷◌, length, map, Bool, true, false, cond, nat_eq, nat_lt, Option, Some, None, option_map, unwrap_or, slice_get, All, if◌then◌else◌, refl, sym, ap, subst, arith}
+use Rattle.std.proofs.Common.{◌≡◌, ◌∙◌, ◌&&◌, ◌||◌, ◌^◌, not, ℕ, zero, suc, List, [], ◌∷◌, length, map, Bool, true, false, cond, nat_eq, nat_lt, Option, Some, None, option_map, unwrap_or, slice_get, All, if◌then◌else◌, refl, sym, ap, subst, arith}
 use Rattle.std.specs.List.{position_or_len}
-use Rattle.std.proofs.lemmas.Bool.{both_ways, eqb-true, eq-eqb, ne_eqb, ltb-true, lt-ltb}
+use Rattle.std.proofs.lemmas.Bool.{both_ways, eqb-true, eq-eqb, ne_eqb}
 use Rattle.std.proofs.lemmas.List.Elements.{All-head, All-tail}
-use Rattle.std.proofs.lemmas.Option.{slice_get-map}
-use Rattle.mw_logic.specs.Signature.{Signature, Identity, constant_of, at_number, SameKind}
-use Rattle.mw_logic.specs.Accepted.{are_two, is_same_kind, is_constant_of_kind, is_accepted_identity, is_accepted_operator}
-use Rattle.mw_logic.specs.Kinds.{kind_number}
-use Rattle.mw_logic.proofs.KindLaws.{SameKind-trans, SameKind-sym, kind_number-sound}
-use Rattle.mw_poset.specs.Order.{ArePairsOf}
+use Rattle.std.proofs.lemmas.Option.{same_Some, slice_get-map}
+use Rattle.mw_logic.specs.Signature.{Signature, Identity, constant_of, numeral_of, at_number, SameKind}
+use Rattle.mw_logic.specs.Accepted.{are_two, is_same_kind, is_constant_of_kind, is_identity_of_kind, is_accepted_identity, is_accepted_operator}
+use Rattle.mw_logic.specs.Kinds.{kind_number, some_sort}
+use Rattle.mw_logic.proofs.Successor.{some_sort-from, some_sort-true}
+use Rattle.mw_logic.proofs.KindLaws.{SameKind-trans, SameKind-sym, kind_number-same, kind_number-sound}
+use Rattle.mw_poset.specs.Order.{IsSort, ArePairsOf}
+use Rattle.mw_text.specs.Numerals.{are_digits, number_in}
+use Rattle.std.specs.Str.Parse.{digits_value}
+use Rattle.std.specs.Prelude.{codes}
 use Rattle.mw_module.specs.declared.faults.FaultKind.{FaultKind}
 use Rattle.mw_module.specs.declared.faults.FaultKind.TheVariants.{BadAxioms, AttributesDisagree}
 use Rattle.mw_declare.specs.Meaning.{Name}
 use Rattle.mw_declare.specs.Faults.{wrong_with}
-use Rattle.mw_declare.specs.Hierarchy.{Hierarchy, IsLeastKind}
-use Rattle.mw_declare.specs.Operators.{Profile, same_profile, Declared, constant_profile, operator_number, identity_in, operator_of, IsOfLeastKinds, signature_with}
+use Rattle.mw_declare.specs.declared.built.Built.{Built}
+use Rattle.mw_declare.specs.Hierarchy.{Hierarchy, kind_of, IsLeastKind}
+use Rattle.mw_declare.specs.Operators.{Profile, same_profile, Declared, constant_profile, operator_number, numeral_or_none, numeral_for, identity_at, identity_in, is_numeric, operator_of, IsOfLeastKinds, IsNumbered, signature_with}
 use Rattle.mw_declare.proofs.LeastKinds.{kind_same, kind_least}
+use Rattle.mw_declare.proofs.Named.{one_number}
 use Rattle.mw_declare.proofs.Ranked.{same_args, same_result}
+use Rattle.mw_declare.proofs.Unknown.{place_there}
 
 -- two kinds are one where their numbers are
 module _ (h : Hierarchy) (within : ArePairsOf (length h.names) h.pairs) (sig : Signature) (e : sig.pairs ≡ h.pairs) where
@@ -54,57 +61,87 @@ module _ (h : Hierarchy) (within : ArePairsOf (length h.names) h.pairs) (sig : S
       rw (first, second) refl
   two_of R r (K ∷ L ∷ M ∷ Ks) all = refl
 
--- the first place at which a test passes
-pub place_there : {X : Type 0} (test : X → Bool) (xs : List X) → nat_lt (position_or_len test xs) (length xs) ≡ true → (x : X) × (slice_get xs (position_or_len test xs) ≡ Some x) × (test x ≡ true)
-place_there test [] e = cc
-place_there {X} test (x ∷ xs) e = of (test x) refl e (place_there test xs)
+-- a number in a text is small
+number_small : (text : Name) (m : ℕ) → number_in text ≡ Some m → nat_lt m (2 ^ 128) ≡ true
+number_small text m e = of (are_digits text) (nat_lt (digits_value 10 text) (2 ^ 128)) refl e
   where
-    place : ℕ
-    place = position_or_len test xs
+    of : (a b : Bool) → nat_lt (digits_value 10 text) (2 ^ 128) ≡ b → (if a && b then Some (digits_value 10 text) else None) ≡ Some m → nat_lt m (2 ^ 128) ≡ true
+    of true true small k = subst (λ (n : ℕ). nat_lt n (2 ^ 128) ≡ true) (same_Some (digits_value 10 text) m k) small
+    of true false small k = cc
+    of false b small k = cc
 
-    of : (b : Bool) → test x ≡ b → nat_lt (cond (not b) (1 + place) 0) (suc (length xs)) ≡ true → (nat_lt place (length xs) ≡ true → (y : X) × (slice_get xs place ≡ Some y) × (test y ≡ true))
-        → (y : X) × (slice_get (x ∷ xs) (cond (not b) (1 + place) 0) ≡ Some y) × (test y ≡ true)
-    of true t e more = (x, refl, t)
-    of false t e more =
-        let (y, at, passes) = more (lt-ltb place (length xs) (omega (arith, ltb-true (1 + place) (suc (length xs)) e))) in
-        let next : 1 + place ≡ suc place = omega arith in
-        (y, ap (slice_get (x ∷ xs)) next ∙ at, passes)
+module _ (b : Built) (h : Hierarchy) (os : List Declared) where
+  abbrev sig : Signature
+  sig = signature_with b h os
 
--- a constant's number is 0 exactly where it isn't there
-module _ (h : Hierarchy) (os : List Declared) where
-  constant_at : (p : Profile) (o : Declared) → p.args ≡ [] → same_profile p o.profile ≡ true → is_constant_of_kind (signature_with h os) p.result (Some (operator_of os o)) ≡ true
+  -- a constant's number is 0 exactly where it isn't there
+  constant_at : (p : Profile) (o : Declared) → p.args ≡ [] → same_profile p o.profile ≡ true → is_constant_of_kind sig p.result (Some (operator_of b os o)) ≡ true
   constant_at p o none same =
       let args : o.profile.args ≡ [] = sym (same_args p o.profile same) ∙ none in
       let result : p.result ≡ o.profile.result = same_result p o.profile same in
       rw (args, result) (eq-eqb _ _ refl)
 
-  constant_there : (p : Profile) → p.args ≡ [] → is_constant_of_kind (signature_with h os) p.result (at_number (map (operator_of os) os) (operator_number os p)) ≡ not (nat_eq (operator_number os p) 0)
+  constant_there : (p : Profile) → p.args ≡ [] → is_constant_of_kind sig p.result (at_number (map (operator_of b os) os) (operator_number os p)) ≡ not (nat_eq (operator_number os p) 0)
   constant_there p none = of (nat_lt place (length os)) refl
     where
       place : ℕ
       place = position_or_len (λ (o : Declared). same_profile p o.profile) os
 
-      of : (b : Bool) → nat_lt place (length os) ≡ b → let n = unwrap_or (option_map suc (cond b (Some place) None)) 0 in
-          is_constant_of_kind (signature_with h os) p.result (at_number (map (operator_of os) os) n) ≡ not (nat_eq n 0)
+      of : (c : Bool) → nat_lt place (length os) ≡ c → let n = unwrap_or (option_map suc (cond c (Some place) None)) 0 in
+          is_constant_of_kind sig p.result (at_number (map (operator_of b os) os) n) ≡ not (nat_eq n 0)
       of true e =
           let (o, at, same) = place_there (λ (o : Declared). same_profile p o.profile) os e in
-          let found : slice_get (map (operator_of os) os) place ≡ Some (operator_of os o) = slice_get-map (operator_of os) os place ∙ ap (option_map (operator_of os)) at in
+          let found : slice_get (map (operator_of b os) os) place ≡ Some (operator_of b os o) = slice_get-map (operator_of b os) os place ∙ ap (option_map (operator_of b os)) at in
           let some : nat_eq (suc place) 0 ≡ false = ne_eqb (suc place) 0 (λ e. absurd (omega arith)) in
           rw (found, some) (constant_at p o none same)
       of false e = refl
 
-  identity_kept : (o : Declared) (n : ℕ) → identity_in os o ≡ Some (constant_of n) → is_accepted_identity (signature_with h os) (operator_of os o) (identity_in os o) ≡ (o.attributes.assoc && not (nat_eq n 0))
-  identity_kept o n e = of o.attributes.identity refl e
-    where
-      of : (text : Option Name) → o.attributes.identity ≡ text → option_map (λ (t : Name). constant_of (operator_number os (constant_profile o.profile.result t))) text ≡ Some (constant_of n)
-          → is_accepted_identity (signature_with h os) (operator_of os o) (option_map (λ (t : Name). constant_of (operator_number os (constant_profile o.profile.result t))) text) ≡ (o.attributes.assoc && not (nat_eq n 0))
-      of None a k = cc
-      of (Some t) a k =
-          let number : operator_number os (constant_profile o.profile.result t) ≡ n = cc in
-          ap (λ b. o.attributes.assoc && b) (constant_there (constant_profile o.profile.result t) refl ∙ ap (λ m. not (nat_eq m 0)) number)
+  -- a numeral is of a kind exactly where that is the kind of numbers
+  module _ (numbered : IsNumbered h b) (within : ArePairsOf (length h.names) h.pairs) (K : ℕ) (least : IsLeastKind h K) where
+    numeric : (N : ℕ) → b.nat ≡ Some N → some_sort sig (codes "Nat") (kind_number sig K) 1 sig.sorts ≡ nat_eq N K
+    numeric N e = of (some_sort sig (codes "Nat") (kind_number sig K) 1 sig.sorts) refl (nat_eq N K) refl (numbered.nat N e)
+      where
+        held : (S : ℕ) → at_number h.names S ≡ Some (codes "Nat") → kind_number sig S ≡ kind_number sig K → some_sort sig (codes "Nat") (kind_number sig K) 1 sig.sorts ≡ true
+        held zero at k = cc
+        held (suc j) at k = some_sort-from sig (codes "Nat") (kind_number sig K) 1 sig.sorts j at (ap (kind_number sig) (omega arith) ∙ k)
 
-  identity_none : (o : Declared) → identity_in os o ≡ None → is_accepted_identity (signature_with h os) (operator_of os o) (identity_in os o) ≡ true
-  identity_none o e = rw e refl
+        of : (x : Bool) → some_sort sig (codes "Nat") (kind_number sig K) 1 sig.sorts ≡ x → (y : Bool) → nat_eq N K ≡ y
+            → (S : ℕ) × (at_number h.names S ≡ Some (codes "Nat")) × IsSort (length h.names) S × (N ≡ kind_of h S) → x ≡ y
+        of true p true q n = refl
+        of false p false q n = refl
+        of true p false q (S, named, there, is) =
+            let (j, at, k) = some_sort-true sig (codes "Nat") (kind_number sig K) 1 sig.sorts p in
+            let same : suc j ≡ S = one_number h.names numbered.differ (suc j) S (codes "Nat") at named in
+            let alike : SameKind sig S K = kind_number-sound sig S K (ap (kind_number sig) (sym same ∙ omega arith) ∙ k) in
+            let lower : SameKind sig N S = subst (λ (N : ℕ). SameKind sig N S) (sym is) (SameKind-sym (kind_same h S there sig refl)) in
+            absurd (both_ways (nat_eq N K) q (eq-eqb N K (one_least h within sig refl N K (S, there, is) least (SameKind-trans lower alike))))
+        of false p true q (S, named, there, is) =
+            let same : kind_of h S ≡ K = sym is ∙ eqb-true N K q in
+            absurd (both_ways (some_sort sig (codes "Nat") (kind_number sig K) 1 sig.sorts) p
+            (held S named (kind_number-same (kind_same h S there sig refl) ∙ ap (kind_number sig) same)))
+
+    -- what an identity needs, where it is found by its text
+    abbrev fits : Identity → Bool
+    fits (constant_of c) = not (nat_eq c 0)
+    fits (numeral_of n) = is_numeric b.nat K
+
+    missing : is_identity_of_kind sig K (constant_of 0) ≡ fits (constant_of 0)
+    missing = refl
+
+    numeral_fits : (text : Name) (nat : Option ℕ) → b.nat ≡ nat → is_identity_of_kind sig K (numeral_for nat text) ≡ fits (numeral_for nat text)
+    numeral_fits text None e = refl
+    numeral_fits text (Some N) e = of (number_in text) refl
+      where
+        of : (o : Option ℕ) → number_in text ≡ o → is_identity_of_kind sig K (numeral_or_none o) ≡ fits (numeral_or_none o)
+        of None k = refl
+        of (Some n) k = let small = number_small text n k in let kinds = numeric N e in rw (e, small, kinds) refl
+
+    identity_fits : (text : Name) → let i = identity_at (operator_number os (constant_profile K text)) b.nat text in is_identity_of_kind sig K i ≡ fits i
+    identity_fits text = of (operator_number os (constant_profile K text)) (constant_there (constant_profile K text) refl)
+      where
+        of : (n : ℕ) → is_constant_of_kind sig K (at_number (map (operator_of b os) os) n) ≡ not (nat_eq n 0) → let i = identity_at n b.nat text in is_identity_of_kind sig K i ≡ fits i
+        of zero e = numeral_fits text b.nat refl
+        of (suc c) e = e
 
   last : (x y z w : Bool) → (x && (y && z)) ≡ (x && (y && (z && (not w || true))))
   last true true true true = refl
@@ -117,40 +154,50 @@ module _ (h : Hierarchy) (os : List Declared) where
   four x y z a b c w p q r = rw (p, q, r) (last a b c w)
 
   -- all axioms of an operator, by three tests
-  module _ (o : Declared) (least : IsOfLeastKinds h o) (assoc comm : Bool) (identity : Option Identity) (kept : Bool) where
+  module _ (numbered : IsNumbered h b) (o : Declared) (least : IsOfLeastKinds h o) (assoc comm : Bool) (identity : Option Identity) (kept : Bool) where
     kept_by : assoc ≡ (not o.attributes.assoc || are_two (λ K L. nat_eq K o.profile.result && nat_eq L o.profile.result) o.profile.args) → comm ≡ (not o.attributes.comm || are_two nat_eq o.profile.args)
-        → kept ≡ is_accepted_identity (signature_with h os) (operator_of os o) (identity_in os o)
-        → (assoc && (comm && kept)) ≡ is_accepted_operator (signature_with h os) (operator_of os o)
+        → kept ≡ is_accepted_identity sig (operator_of b os o) (identity_in b os o)
+        → (assoc && (comm && kept)) ≡ is_accepted_operator sig (operator_of b os o)
     kept_by a c i =
-        let sig = signature_with h os in
         let first = two_of h least.within sig refl o.profile.result least.result o.profile.args least.args in
         let second = two_alike h least.within sig refl o.profile.args least.args in
         four assoc comm kept (not o.attributes.assoc || are_two (λ K L. is_same_kind sig K o.profile.result && is_same_kind sig L o.profile.result) o.profile.args)
-        (not o.attributes.comm || are_two (is_same_kind sig) o.profile.args) (is_accepted_identity sig (operator_of os o) (identity_in os o)) (o.attributes.assoc || o.attributes.comm)
+        (not o.attributes.comm || are_two (is_same_kind sig) o.profile.args) (is_accepted_identity sig (operator_of b os o) (identity_in b os o)) (o.attributes.assoc || o.attributes.comm)
         (a ∙ ap (λ b. not o.attributes.assoc || b) (sym first)) (c ∙ ap (λ b. not o.attributes.comm || b) (sym second)) i
 
     pub kept_axioms : assoc ≡ (not o.attributes.assoc || are_two (λ K L. nat_eq K o.profile.result && nat_eq L o.profile.result) o.profile.args) → comm ≡ (not o.attributes.comm || are_two nat_eq o.profile.args)
-        → identity ≡ identity_in os o → (identity ≡ None → kept ≡ true) → ((n : ℕ) → identity ≡ Some (constant_of n) → kept ≡ (o.attributes.assoc && not (nat_eq n 0)))
-        → (assoc && (comm && kept)) ≡ is_accepted_operator (signature_with h os) (operator_of os o)
-    kept_axioms a c i none some = kept_by a c (of o.attributes.identity refl)
+        → identity ≡ identity_in b os o → (identity ≡ None → kept ≡ true) → ((n : ℕ) → identity ≡ Some (constant_of n) → kept ≡ (o.attributes.assoc && not (nat_eq n 0)))
+        → ((n : ℕ) → identity ≡ Some (numeral_of n) → kept ≡ (o.attributes.assoc && is_numeric b.nat o.profile.result))
+        → (assoc && (comm && kept)) ≡ is_accepted_operator sig (operator_of b os o)
+    kept_axioms a c i none some numeral = kept_by a c (of o.attributes.identity refl)
       where
-        of : (text : Option Name) → o.attributes.identity ≡ text → kept ≡ is_accepted_identity (signature_with h os) (operator_of os o) (identity_in os o)
-        of None e = let is : identity_in os o ≡ None = rw e refl in none (i ∙ is) ∙ sym (identity_none o is)
+        K : ℕ
+        K = o.profile.result
+
+        of : (text : Option Name) → o.attributes.identity ≡ text → kept ≡ is_accepted_identity sig (operator_of b os o) (identity_in b os o)
+        of None e =
+            let is : identity_in b os o ≡ None = rw e refl in
+            none (i ∙ is) ∙ ap (is_accepted_identity sig (operator_of b os o)) (sym is)
         of (Some t) e =
-            let n : ℕ = operator_number os (constant_profile o.profile.result t) in
-            let is : identity_in os o ≡ Some (constant_of n) = rw e refl in
-            some n (i ∙ is) ∙ sym (identity_kept o n is)
+            let found : Identity = identity_at (operator_number os (constant_profile o.profile.result t)) b.nat t in
+            let is : identity_in b os o ≡ Some found = rw e refl in
+            let fit = identity_fits numbered least.within o.profile.result least.result t in
+            by found refl (i ∙ is) ∙ ap (λ b. o.attributes.assoc && b) (sym fit) ∙ ap (is_accepted_identity sig (operator_of b os o)) (sym is)
+          where
+            by : (j : Identity) → j ≡ j → identity ≡ Some j → kept ≡ (o.attributes.assoc && fits numbered least.within o.profile.result least.result j)
+            by (constant_of n) s k = some n k
+            by (numeral_of n) s k = numeral n k
 
 -- what is wrong with an operator
-module _ (sig : Signature) (os : List Declared) (o : Declared) where
+module _ (sig : Signature) (b : Built) (os : List Declared) (o : Declared) where
   abbrev told_of : Bool → Bool → Option FaultKind
   told_of kept clash = if kept then (if clash then Some (AttributesDisagree o.profile.spelling) else None) else Some (BadAxioms o.profile.spelling)
 
-  pub wrong_axioms : is_accepted_operator sig (operator_of os o) ≡ false → wrong_with sig os o ≡ Some (BadAxioms o.profile.spelling)
-  wrong_axioms e = ap (λ b. told_of b o.attributes.clash) e
+  pub wrong_axioms : is_accepted_operator sig (operator_of b os o) ≡ false → wrong_with sig b os o ≡ Some (BadAxioms o.profile.spelling)
+  wrong_axioms e = ap (λ k. told_of k o.attributes.clash) e
 
-  pub wrong_attributes : is_accepted_operator sig (operator_of os o) ≡ true → o.attributes.clash ≡ true → wrong_with sig os o ≡ Some (AttributesDisagree o.profile.spelling)
-  wrong_attributes e k = ap (λ b. told_of b o.attributes.clash) e ∙ ap (told_of true) k
+  pub wrong_attributes : is_accepted_operator sig (operator_of b os o) ≡ true → o.attributes.clash ≡ true → wrong_with sig b os o ≡ Some (AttributesDisagree o.profile.spelling)
+  wrong_attributes e k = ap (λ k. told_of k o.attributes.clash) e ∙ ap (told_of true) k
 
-  pub none_wrong : is_accepted_operator sig (operator_of os o) ≡ true → o.attributes.clash ≡ false → wrong_with sig os o ≡ None
-  none_wrong e k = ap (λ b. told_of b o.attributes.clash) e ∙ ap (told_of true) k
+  pub none_wrong : is_accepted_operator sig (operator_of b os o) ≡ true → o.attributes.clash ≡ false → wrong_with sig b os o ≡ None
+  none_wrong e k = ap (λ k. told_of k o.attributes.clash) e ∙ ap (told_of true) k

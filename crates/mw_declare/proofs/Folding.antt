@@ -1,14 +1,17 @@
 -- What each operator has that statements declare, where a declaration of a new one gives it, and one more declaration keeps it.
-use Rattle.std.proofs.Common.{◌≡◌, List, [], ◌∷◌, Bool, true, false, All, if◌then◌else◌, refl}
-use Rattle.std.specs.Prelude.{⊤}
-use Rattle.std.proofs.lemmas.List.Elements.{All-nil, All-cons, All-head, All-tail}
+use Rattle.std.proofs.Common.{◌≡◌, ℕ, List, [], ◌∷◌, length, Bool, true, false, Option, Some, None, All, if◌then◌else◌, refl}
+use Rattle.std.specs.Prelude.{⊤, codes}
+use Rattle.std.proofs.lemmas.List.Elements.{All-nil, All-cons, All-head, All-tail, All-weaker}
 use Rattle.mw_lex.specs.declared.token.Token.{Token}
 use Rattle.mw_logic.specs.Signature.{Declaration}
 use Rattle.mw_module.specs.Attributes.{Attributes}
 use Rattle.mw_module.specs.Forms.{Shape, Sorts, Subsorts, Operators, Variables, Equation, Import}
 use Rattle.mw_module.specs.Units.{SeenLined}
-use Rattle.mw_declare.specs.Hierarchy.{Hierarchy}
-use Rattle.mw_declare.specs.Operators.{Rank, rank_of, Profile, same_profile, Declared, declared_again, with_operator, profile_of, with_named, with_operators, operators_from}
+use Rattle.mw_declare.specs.declared.built.Truth.{Truth}
+use Rattle.mw_declare.specs.Built.{truth_of, kinds_from}
+use Rattle.mw_declare.specs.Hierarchy.{Hierarchy, hierarchy_of}
+use Rattle.mw_declare.proofs.KindNames.{NamesKind, kinds_named}
+use Rattle.mw_declare.specs.Operators.{Rank, rank_of, Profile, same_profile, Declared, declared_again, with_operator, profile_of, with_named, with_operators, operators_from, Single, with_singles, choice_of, test_of, built_for, with_kinds, with_built, operators_of}
 
 -- an operator of one declaration
 abbrev pub declared_once : Profile → Declaration → Attributes → Declared
@@ -63,3 +66,32 @@ module _ (P : Declared → Type 0) (again : (o : Declared) (p : Profile) (d : De
 
     pub all_declared : (ss : List SeenLined) → All HasEachLined ss → All P (operators_from h [] ss)
     all_declared ss each = all_from [] ss (All-nil P) each
+
+  -- and those that each kind has
+  abbrev pub HasSingle : Single → Type 0
+  HasSingle g = P (declared_once g.profile g.declaration g.attributes)
+
+  abbrev pub HasKind : Truth → ℕ → Type 0
+  HasKind t K = HasSingle (choice_of t K) × HasSingle (test_of t (codes "_==_") K) × HasSingle (test_of t (codes "_=/=_") K)
+
+  all_kinds : (t : Truth) (os : List Declared) (Ks : List ℕ) → All P os → All (HasKind t) Ks → All P (with_kinds t os Ks)
+  all_kinds t os [] all each = all
+  all_kinds t os (K ∷ Ks) all each =
+      let k = All-head (HasKind t) K Ks each in
+      let c = choice_of t K in
+      let e = test_of t (codes "_==_") K in
+      let d = test_of t (codes "_=/=_") K in
+      let first = all_with os c.profile c.declaration c.attributes all k.0 in
+      let second = all_with (with_operator os c.profile c.declaration c.attributes) e.profile e.declaration e.attributes first k.1 in
+      let third = all_with (with_operator (with_operator os c.profile c.declaration c.attributes) e.profile e.declaration e.attributes) d.profile d.declaration d.attributes second k.2 in
+      all_kinds t (with_singles os (built_for t K)) Ks third (All-tail (HasKind t) K Ks each)
+
+  pub all_operators : (ss : List SeenLined) → All (HasEachLined (hierarchy_of ss)) ss
+      → ((t : Truth) → truth_of (hierarchy_of ss) ss ≡ Some t → (K : ℕ) → NamesKind (hierarchy_of ss) K → HasKind t K) → All P (operators_of ss)
+  all_operators ss each built = of (truth_of (hierarchy_of ss) ss) refl
+    where
+      of : (truth : Option Truth) → truth_of (hierarchy_of ss) ss ≡ truth → All P (with_built truth (hierarchy_of ss) (operators_from (hierarchy_of ss) [] ss))
+      of None e = all_declared (hierarchy_of ss) ss each
+      of (Some t) e =
+          all_kinds t (operators_from (hierarchy_of ss) [] ss) (kinds_from (hierarchy_of ss) (length (hierarchy_of ss).names) 1) (all_declared (hierarchy_of ss) ss each)
+          (All-weaker (NamesKind (hierarchy_of ss)) (HasKind t) (built t e) (kinds_from (hierarchy_of ss) (length (hierarchy_of ss).names) 1) (kinds_named (hierarchy_of ss)))

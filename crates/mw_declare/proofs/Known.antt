@@ -1,5 +1,6 @@
 -- What is known of the operators and variables that a module declares.
-use Rattle.std.proofs.Common.{◌≡◌, ◌≢◌, ◌∙◌, ◌<◌, ◌⊎◌, ◌&&◌, ◌||◌, ◌==◌, ℕ, zero, suc, List, [], ◌∷◌, length, map, Bool, true, false, Option, Some, None, IfSome, All, if◌then◌else◌, refl, sym, ap, subst, ⊎_elim, arith}
+use Rattle.std.proofs.Common.{◌≡◌, ◌≢◌, ◌∙◌, ◌<◌, ◌⊎◌, ◌&&◌, ◌||◌, ◌==◌, ℕ, zero, suc, List, [], ◌∷◌, length, map, Bool, true, false, Option, Some, None, IfSome, All, if◌then◌else◌, refl, sym, ap, subst, inr, ⊎_elim, arith}
+use Rattle.std.specs.Prelude.{codes}
 use Rattle.std.proofs.lemmas.Bool.{and_parts, eqb-true}
 use Rattle.std.proofs.lemmas.List.{length-map}
 use Rattle.std.proofs.lemmas.List.Elements.{All-nil, All-cons, All-head, All-tail}
@@ -15,11 +16,14 @@ use Rattle.mw_module.specs.Forms.{Shape, Sorts, Subsorts, Operators, Variables, 
 use Rattle.mw_module.specs.Known.{IsNameFor, IsPrecedence, IsGather, AreAttributes, IsKnown, AreKnown}
 use Rattle.mw_module.proofs.Formed.{joined_known}
 use Rattle.mw_module.specs.Units.{SeenLined}
+use Rattle.mw_declare.specs.declared.built.Reached.{Reached}
+use Rattle.mw_declare.specs.declared.built.Truth.{Truth}
+use Rattle.mw_declare.specs.Built.{built_in}
 use Rattle.mw_declare.specs.Hierarchy.{Hierarchy, hierarchy_of, kind_in}
 use Rattle.mw_declare.specs.Grouping.{begins_open, ends_open, gather_behind, is_infix, default_gather, default_precedence, gather_of_mark, precedence_of, gather_of}
-use Rattle.mw_declare.specs.Operators.{rank_of, Profile, same_profile, Declared, declared_again, operators_from, operators_of, operator_of, signature_of}
+use Rattle.mw_declare.specs.Operators.{rank_of, Profile, same_profile, Declared, declared_again, choice_of, test_of, operators_of, operator_of, signature_of}
 use Rattle.mw_declare.specs.Declarations.{unknown_in_all}
-use Rattle.mw_declare.proofs.Folding.{declared_once, HasNamed, HasEach, HasEachLined, all_declared}
+use Rattle.mw_declare.proofs.Folding.{declared_once, HasNamed, HasEach, HasEachLined, all_operators}
 use Rattle.mw_declare.proofs.Holes.{with_holes, without_holes}
 use Rattle.mw_declare.proofs.Ranked.{same_args}
 use Rattle.mw_declare.proofs.Sorted.{HasItsSortsIn, operators_sorted}
@@ -72,8 +76,28 @@ module _ (h : Hierarchy) where
   said_lined [] known = All-nil (HasEachLined IsSaid said_again h)
   said_lined (s ∷ ss) known = All-cons (HasEachLined IsSaid said_again h) s ss (said_shape s.shape (All-head IsKnownLined s ss known)) (said_lined ss (All-tail IsKnownLined s ss known))
 
-  said_operators : (ss : List SeenLined) → AreKnown ss → All IsSaid (operators_from h [] ss)
-  said_operators ss known = all_declared IsSaid said_again h ss (said_lined ss known)
+-- those that each kind has
+said_choice : (t : Truth) (K : ℕ) → let g = choice_of t K in IsSaid (declared_once g.profile g.declaration g.attributes)
+said_choice t K = record {
+  name = record { some = λ e. cc; no_hole = λ e. cc; fits = inr refl };
+  attributes = record { precedence = omega arith; gather = tt };
+}
+
+said_equal : (t : Truth) (K : ℕ) → let g = test_of t (codes "_==_") K in IsSaid (declared_once g.profile g.declaration g.attributes)
+said_equal t K = record {
+  name = record { some = λ e. cc; no_hole = λ e. cc; fits = inr refl };
+  attributes = record { precedence = omega arith; gather = tt };
+}
+
+said_different : (t : Truth) (K : ℕ) → let g = test_of t (codes "_=/=_") K in IsSaid (declared_once g.profile g.declaration g.attributes)
+said_different t K = record {
+  name = record { some = λ e. cc; no_hole = λ e. cc; fits = inr refl };
+  attributes = record { precedence = omega arith; gather = tt };
+}
+
+said_operators : (ss : List SeenLined) → AreKnown ss → All IsSaid (operators_of ss)
+said_operators ss known =
+    all_operators IsSaid said_again ss (said_lined (hierarchy_of ss) ss known) (λ t e K n. (said_choice t K, said_equal t K, said_different t K))
 
 -- how a mixfix form groups
 default_small : (items : List NameItem) → default_precedence items < 128
@@ -124,8 +148,11 @@ pub record IsDeclared (sig : Signature) (o : Operator) : Type 0 where
   pub precedence : o.prec < 128
   pub gather : length o.gather ≡ count_holes (items_of o.spelling)
 
-module _ (ss : List SeenLined) where
-  declared : (o : Declared) → IsSaid o → HasItsSortsIn (signature_of ss) (operator_of (operators_of ss) o) → IsDeclared (signature_of ss) (operator_of (operators_of ss) o)
+module _ (r : Reached) (ss : List SeenLined) where
+  abbrev of_declared : Declared → Operator
+  of_declared = operator_of (built_in r (hierarchy_of ss) ss) (operators_of ss)
+
+  declared : (o : Declared) → IsSaid o → HasItsSortsIn (signature_of r ss) (of_declared o) → IsDeclared (signature_of r ss) (of_declared o)
   declared o h k = record {
     name = h.name;
     args = k.args;
@@ -135,15 +162,15 @@ module _ (ss : List SeenLined) where
     gather = marks (length o.profile.args) o.attributes.assoc o.attributes.gather (items_of o.profile.spelling) h.attributes.gather h.name.fits;
   }
 
-  all_are_declared : (os : List Declared) → All IsSaid os → All (HasItsSortsIn (signature_of ss)) (map (operator_of (operators_of ss)) os)
-      → All (IsDeclared (signature_of ss)) (map (operator_of (operators_of ss)) os)
-  all_are_declared [] all there = All-nil (IsDeclared (signature_of ss))
+  all_are_declared : (os : List Declared) → All IsSaid os → All (HasItsSortsIn (signature_of r ss)) (map of_declared os)
+      → All (IsDeclared (signature_of r ss)) (map of_declared os)
+  all_are_declared [] all there = All-nil (IsDeclared (signature_of r ss))
   all_are_declared (o ∷ os) all there =
-      let rest = map (operator_of (operators_of ss)) os in
-      let this = operator_of (operators_of ss) o in
-      All-cons (IsDeclared (signature_of ss)) this rest (declared o (All-head IsSaid o os all) (All-head (HasItsSortsIn (signature_of ss)) this rest there))
-      (all_are_declared os (All-tail IsSaid o os all) (All-tail (HasItsSortsIn (signature_of ss)) this rest there))
+      let rest = map of_declared os in
+      let this = of_declared o in
+      All-cons (IsDeclared (signature_of r ss)) this rest (declared o (All-head IsSaid o os all) (All-head (HasItsSortsIn (signature_of r ss)) this rest there))
+      (all_are_declared os (All-tail IsSaid o os all) (All-tail (HasItsSortsIn (signature_of r ss)) this rest there))
 
   -- the operators of statements whose sorts are all known
-  pub declared_operators : AreKnown ss → unknown_in_all ss ≡ None → All (IsDeclared (signature_of ss)) (map (operator_of (operators_of ss)) (operators_of ss))
-  declared_operators formed known = all_are_declared (operators_of ss) (said_operators (hierarchy_of ss) ss formed) (operators_sorted ss known)
+  pub declared_operators : AreKnown ss → unknown_in_all ss ≡ None → All (IsDeclared (signature_of r ss)) (signature_of r ss).operators
+  declared_operators formed known = all_are_declared (operators_of ss) (said_operators ss formed) (operators_sorted r ss known)

@@ -68,6 +68,13 @@ module _ (h : Hierarchy) (S : ℕ) (there : IsSort (length h.names) S) where
       let b = kind_least within (bare h.pairs) refl K (k.same (bare h.pairs) refl) in
       omega (arith, a, b)
 
+-- the kind that a poset gives, where a hierarchy holds h
+pub kind_here : (h held : Hierarchy) → held ≡ h → (order : SortOrder) → IsHeld held order → (sort K : ℕ) → IsSort (length h.names) sort → IsKindOf order.pairs sort K → K ≡ kind_of h sort
+kind_here h held is order keeps sort K there k =
+    let ordered : order ≡ order_of h = keeps.same ∙ ap order_of is in
+    let within = subst (λ (k : Hierarchy). ArePairsOf (length k.names) k.pairs) is keeps.within in
+    one_kind h sort there within K (subst (λ ps. IsKindOf ps sort K) (ap (λ (o : SortOrder). o.pairs) ordered) k)
+
 -- a sort that is looked up by its name, where a hierarchy holds h
 module _ (h held : Hierarchy) (is : held ≡ h) (order : SortOrder) (keeps : IsHeld held order) (name text : Name) (spelled : text ≡ name) (known : is_among h.names name ≡ true)
     (sort : ℕ) (number : sort ≡ number_of held.names text) where
@@ -85,5 +92,4 @@ module _ (h held : Hierarchy) (is : held ≡ h) (order : SortOrder) (keeps : IsH
 
   pub kind_found : (K : ℕ) → IsKindOf order.pairs sort K → K ≡ kind_of h (number_of h.names name)
   kind_found K k =
-      let within = subst (λ (k : Hierarchy). ArePairsOf (length k.names) k.pairs) is keeps.within in
-      one_kind h sort there_in within K (subst (λ ps. IsKindOf ps sort K) (ap (λ (o : SortOrder). o.pairs) ordered) k) ∙ ap (kind_of h) numbered
+      kind_here h held is order keeps sort K there_in k ∙ ap (kind_of h) numbered

@@ -6,6 +6,8 @@ pub mod Unknown
 pub mod LeastKinds
 pub mod Pairs
 pub mod Within
+pub mod Declaring
+pub mod KindNames
 pub mod OneDeclaration
 pub mod Folding
 pub mod Ranked
@@ -19,6 +21,7 @@ pub mod KindsApart
 pub mod Named
 pub mod NamePairs
 pub mod Found
+pub mod Building
 pub mod Parts
 pub mod Accepting
 pub mod Proper

@@ -1,7 +1,6 @@
 -- Sorts by their names and numbers.
-use Rattle.std.proofs.Common.{◌≡◌, ◌∙◌, ◌≤◌, ◌<◌, ◌||◌, nat_lt, ℕ, zero, suc, List, [], ◌∷◌, ◌++◌, length, Bool, true, false, cond, Some, None, option_map, unwrap_or, slice_get, All, bytes_eq, if◌then◌else◌, refl, sym, ap, arith}
+use Rattle.std.proofs.Common.{◌≡◌, ◌<◌, ◌||◌, ℕ, zero, suc, List, [], ◌∷◌, ◌++◌, length, Bool, true, false, Some, slice_get, All, bytes_eq, if◌then◌else◌, refl, arith}
 use Rattle.std.specs.Prelude.{⊤}
-use Rattle.std.specs.List.{position_or_len}
 use Rattle.std.proofs.lemmas.Bool.{and_from}
 use Rattle.std.proofs.lemmas.List.Elements.{All-nil, All-cons, All-head, All-tail, All-weaker}
 use Rattle.std.proofs.lemmas.Slice.Eq.{bytes_eq-Decides}
@@ -11,21 +10,9 @@ use Rattle.mw_logic.proofs.AcceptedTest.{is_accepted-sound}
 use Rattle.mw_poset.specs.Order.{IsSort}
 use Rattle.mw_module.specs.Forms.{Shape, Sorts, Subsorts, Operators, Variables, Equation, Import}
 use Rattle.mw_module.specs.Units.{SeenLined}
-use Rattle.mw_declare.specs.Meaning.{Name, texts, is_among, with_name, with_names, with_sorts, sorts_from, number_of}
-use Rattle.mw_declare.proofs.Axioms.{place_there}
+use Rattle.mw_declare.specs.Meaning.{Name, texts, is_among, with_name, with_names, with_sorts, sorts_from}
 use Rattle.mw_declare.proofs.Proper.{all_names}
 use Rattle.mw_declare.proofs.Within.{AllShaped}
-
--- what stands at a name's number is the name
-pub named_number : (ns : List Name) (n : Name) → 1 ≤ number_of ns n → at_number ns (number_of ns n) ≡ Some n
-named_number ns n low = of (nat_lt place (length ns)) refl low
-  where
-    place : ℕ
-    place = position_or_len (bytes_eq n) ns
-
-    of : (b : Bool) → nat_lt place (length ns) ≡ b → let k = unwrap_or (option_map suc (cond b (Some place) None)) 0 in 1 ≤ k → at_number ns k ≡ Some n
-    of true e low = let (m, at, same) = place_there (bytes_eq n) ns e in at ∙ ap Some (sym ((bytes_eq-Decides n m).0 same))
-    of false e low = absurd (omega (arith, low))
 
 -- where names differ, a name stands at one number
 pub one_number : (ns : List Name) → names_differ ns ≡ true → (S T : ℕ) (n : Name) → at_number ns S ≡ Some n → at_number ns T ≡ Some n → S ≡ T

@@ -5,6 +5,7 @@ use Rattle.mw_module.specs.declared.faults.Fault.{Fault}
 use Rattle.mw_module.specs.declared.faults.FaultKind.TheVariants.{SortCycle}
 use Rattle.mw_module.specs.Units.{SeenLined}
 use Rattle.mw_logic.specs.Signature.{at_number}
+use Rattle.mw_declare.specs.declared.built.Reached.{Reached}
 use Rattle.mw_declare.specs.Meaning.{Name}
 use Rattle.mw_declare.specs.Hierarchy.{Hierarchy}
 use Rattle.mw_declare.specs.Faults.{Typing, told_at}
@@ -23,16 +24,16 @@ one_cycle line h r s f g =
 not_acyclic : (line : ℕ) (h : Hierarchy) (r : Fault) → CycleFault line h r → IsAcyclic h → ⊥
 not_acyclic line h r f none = none f.sort f.least.on
 
-pub one_declaration : (typing : Typing) (ss : List SeenLined) (d e : Declarations) → Declares typing ss d → Declares typing ss e → d ≡ e
-one_declaration typing ss d e p q = p.declared ∙ sym q.declared
+pub one_declaration : (r : Reached) (typing : Typing) (ss : List SeenLined) (d e : Declarations) → Declares r typing ss d → Declares r typing ss e → d ≡ e
+one_declaration r typing ss d e p q = p.declared ∙ sym q.declared
 
-module _ (line : ℕ) (ss : List SeenLined) where
-  pub none_at_fault : (typing : Typing) (d : Declarations) (r : Fault) → Declares typing ss d → DeclarationFault line ss r → ⊥
+module _ (reached : Reached) (line : ℕ) (ss : List SeenLined) where
+  pub none_at_fault : (typing : Typing) (d : Declarations) (r : Fault) → Declares reached typing ss d → DeclarationFault reached line ss r → ⊥
   none_at_fault typing d r p (of_sort e) = none-some r (sym p.known ∙ e)
   none_at_fault typing d r p (of_cycle k f) = not_acyclic line _ r f p.acyclic
   none_at_fault typing d r p (of_operator k a e) = none-some r (ap (told_at line) (sym p.fine) ∙ e)
 
-  pub one_fault : (r s : Fault) → DeclarationFault line ss r → DeclarationFault line ss s → r ≡ s
+  pub one_fault : (r s : Fault) → DeclarationFault reached line ss r → DeclarationFault reached line ss s → r ≡ s
   one_fault r s (of_sort e) (of_sort k) = same_Some r s (sym e ∙ k)
   one_fault r s (of_sort e) (of_cycle n f) = absurd (none-some r (sym n ∙ e))
   one_fault r s (of_sort e) (of_operator n a k) = absurd (none-some r (sym n ∙ e))

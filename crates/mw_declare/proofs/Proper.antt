@@ -1,10 +1,10 @@
 -- What statements of proper parts declare is proper.
-use Rattle.std.proofs.Common.{◌≡◌, ℕ, zero, suc, List, [], ◌∷◌, ◌++◌, map, Bool, true, false, Option, Some, None, Result, Ok, Err, All, bytes_eq, if◌then◌else◌, sym, subst}
-use Rattle.std.specs.Prelude.{⊤}
+use Rattle.std.proofs.Common.{◌≡◌, ℕ, zero, suc, List, [], ◌∷◌, ◌++◌, Bool, true, false, Option, Some, None, Result, Ok, Err, All, bytes_eq, if◌then◌else◌, refl, sym, subst, inr}
+use Rattle.std.specs.Prelude.{⊤, codes}
 use Rattle.std.proofs.lemmas.Option.{same_Some}
 use Rattle.std.proofs.lemmas.List.Elements.{All-nil, All-cons, All-head, All-tail, All-append, All-map, All-weaker}
 use Rattle.mw_lex.specs.declared.token.Token.{Token}
-use Rattle.mw_lex.specs.Texts.{IsRun}
+use Rattle.mw_lex.specs.Texts.{IsRun, IsProper}
 use Rattle.mw_logic.specs.Term.{Variable}
 use Rattle.mw_logic.specs.Signature.{Signature, Operator, Declaration, at_number}
 use Rattle.mw_logic.specs.Preregular.{IsSortOf}
@@ -18,13 +18,15 @@ use Rattle.mw_module.specs.declared.faults.FaultKind.TheVariants.{AlreadyDefined
 use Rattle.mw_module.specs.Tokens.{HasProperParts}
 use Rattle.mw_module.specs.Units.{SeenLined, IsWithin}
 use Rattle.mw_declare.specs.Meaning.{Name, texts, is_among, with_name, with_names, with_sorts, sorts_from, sorts_of, number_of}
-use Rattle.mw_declare.specs.Operators.{rank_of, Profile, same_profile, Declared, declared_again, operators_from, operators_of, operator_of, signature_of}
+use Rattle.mw_declare.specs.Operators.{rank_of, Profile, same_profile, Declared, declared_again, operators_of, operator_of, signature_of}
+use Rattle.mw_declare.specs.declared.built.Reached.{Reached}
+use Rattle.mw_declare.specs.Built.{built_in}
 use Rattle.mw_declare.specs.Hierarchy.{Hierarchy, hierarchy_of}
 use Rattle.mw_declare.specs.Faults.{Typing, sort_in, joined, typed, typed_by, typing_from, typing_of, variables_with, unknown_from}
 use Rattle.mw_declare.specs.declared.declarations.Declarations.{Declarations}
 use Rattle.mw_declare.specs.Declarations.{Declares}
 use Rattle.mw_declare.specs.Proper.{IsProperVariable, AreProper, DeclarationsAreProper}
-use Rattle.mw_declare.proofs.Folding.{declared_once, HasNamed, HasEach, HasEachLined, all_declared}
+use Rattle.mw_declare.proofs.Folding.{declared_once, HasNamed, HasEach, HasEachLined, all_operators}
 use Rattle.mw_declare.proofs.Unknown.{known_front, number_there}
 use Rattle.mw_declare.proofs.Within.{IsKnownIn, all_known, shaped_within}
 
@@ -95,8 +97,24 @@ module _ (h : Hierarchy) where
   lined_proper [] p = All-nil (HasEachLined IsProperDeclared proper_again h)
   lined_proper (s ∷ ss) p = All-cons (HasEachLined IsProperDeclared proper_again h) s ss (shape_proper s.shape (All-head IsProperLined s ss p)) (lined_proper ss (All-tail IsProperLined s ss p))
 
-  operators_proper : (ss : List SeenLined) → All IsProperLined ss → All IsProperDeclared (operators_from h [] ss)
-  operators_proper ss p = all_declared IsProperDeclared proper_again h ss (lined_proper ss p)
+-- those that each kind has
+proper_choice : IsProperName (codes "if_then_else_fi")
+proper_choice = (
+  All-cons IsProper (codes "if") (codes "then" ∷ codes "else" ∷ codes "fi" ∷ []) (inr (refl, λ e. cc, refl))
+      (All-cons IsProper (codes "then") (codes "else" ∷ codes "fi" ∷ []) (inr (refl, λ e. cc, refl))
+      (All-cons IsProper (codes "else") (codes "fi" ∷ []) (inr (refl, λ e. cc, refl)) (All-cons IsProper (codes "fi") [] (inr (refl, λ e. cc, refl)) (All-nil IsProper)))),
+  λ e. inr (refl, λ e. cc, refl),
+)
+
+proper_equal : IsProperName (codes "_==_")
+proper_equal = (All-cons IsProper (codes "==") [] (inr (refl, λ e. cc, refl)) (All-nil IsProper), λ e. inr (refl, λ e. cc, refl))
+
+proper_different : IsProperName (codes "_=/=_")
+proper_different = (All-cons IsProper (codes "=/=") [] (inr (refl, λ e. cc, refl)) (All-nil IsProper), λ e. inr (refl, λ e. cc, refl))
+
+operators_proper : (ss : List SeenLined) → All IsProperLined ss → All IsProperDeclared (operators_of ss)
+operators_proper ss p =
+    all_operators IsProperDeclared proper_again ss (lined_proper (hierarchy_of ss) ss p) (λ t e K n. (proper_choice, proper_equal, proper_different))
 
 -- Variables: what each variable has that a statement declares, all have.
 module _ (Q : Name × Name → Type 0) where
@@ -211,21 +229,21 @@ module _ (sig : Signature) where
       (proper_variables es (All-tail RunNamed e es run) (All-tail (SortThere sig.sorts) e es all))
 
 -- the sorts of variables are there
-module _ (own ss : List SeenLined) (within : IsWithin own ss) (typing : Typing) (typed : typing_of own ≡ Ok typing) (d : Declarations) (h : Declares typing ss d) where
+module _ (own ss : List SeenLined) (within : IsWithin own ss) (typing : Typing) (typed : typing_of own ≡ Ok typing) (r : Reached) (d : Declarations) (h : Declares r typing ss d) where
   sorts_there : All (SortThere (sorts_of ss)) typing
   sorts_there = typing_has (SortThere (sorts_of ss)) own typing typed (variables_there (sorts_of ss) own ss within h.known)
 
   pub declared_sorted : All (λ (x : Variable). IsSortOf d.signature x.sort) d.variables
   declared_sorted =
-      subst (λ (d : Declarations). All (λ (x : Variable). IsSortOf d.signature x.sort) d.variables) (sym h.declared) (sorted_variables (signature_of ss) typing sorts_there)
+      subst (λ (d : Declarations). All (λ (x : Variable). IsSortOf d.signature x.sort) d.variables) (sym h.declared) (sorted_variables (signature_of r ss) typing sorts_there)
 
 pub declarations_are_proper : DeclarationsAreProper
-declarations_are_proper own ss typing d within runs typed proper h =
-    let sig = signature_of ss in
+declarations_are_proper r own ss typing d within runs typed proper h =
+    let sig = signature_of r ss in
     let os = operators_of ss in
-    let names = All-map (λ (o : Operator). IsProperName o.spelling) (operator_of os) os (operators_proper (hierarchy_of ss) ss proper) in
+    let names = All-map (λ (o : Operator). IsProperName o.spelling) (operator_of (built_in r (hierarchy_of ss) ss) os) os (operators_proper ss proper) in
     subst AreProper (sym h.declared) (record {
-      operators = all_at (λ (o : Operator). IsProperName o.spelling) (map (operator_of os) os) names;
+      operators = all_at (λ (o : Operator). IsProperName o.spelling) sig.operators names;
       sorts = sorts_proper [] ss (All-nil IsRun) proper;
-      variables = proper_variables sig typing (typing_has RunNamed own typing typed (variables_run own runs)) (sorts_there own ss within typing typed d h);
+      variables = proper_variables sig typing (typing_has RunNamed own typing typed (variables_run own runs)) (sorts_there own ss within typing typed r d h);
     })

@@ -1,5 +1,6 @@
 -- The kinds and sorts of the operators that statements declare whose sorts are all known.
 use Rattle.std.proofs.Common.{◌≡◌, ◌&&◌, ℕ, List, [], ◌∷◌, map, Bool, true, false, nat_eq, None, All, bytes_eq, if◌then◌else◌, refl, sym, subst, inl, inr}
+use Rattle.std.specs.Prelude.{codes}
 use Rattle.std.proofs.lemmas.Bool.{and_parts, eqb-true}
 use Rattle.std.proofs.lemmas.List.Elements.{All-nil, All-cons, All-head, All-append}
 use Rattle.std.proofs.lemmas.Slice.Eq.{bytes_eq-Decides}
@@ -12,11 +13,15 @@ use Rattle.mw_module.specs.Attributes.{Attributes}
 use Rattle.mw_module.specs.Forms.{Shape, Sorts, Subsorts, Operators, Variables, Equation, Import}
 use Rattle.mw_module.specs.Sortings.{WrittenSort}
 use Rattle.mw_module.specs.Units.{SeenLined}
-use Rattle.mw_declare.specs.Meaning.{is_among, number_of}
+use Rattle.mw_declare.specs.declared.built.Reached.{Reached}
+use Rattle.mw_declare.specs.declared.built.Truth.{Truth}
+use Rattle.mw_declare.specs.Meaning.{Name, is_among, number_of}
 use Rattle.mw_declare.specs.Hierarchy.{Hierarchy, kind_in, sorted_in, IsLeastKind}
-use Rattle.mw_declare.specs.Operators.{Rank, rank_of, Profile, same_profile, Declared, declared_again, profile_of, operators_from}
+use Rattle.mw_declare.specs.Operators.{Rank, rank_of, Profile, same_profile, Declared, declared_again, profile_of, choice_of, test_of, operators_of, signature_of}
 use Rattle.mw_declare.specs.Faults.{unknown_among, name_in, mentioned_by, mentioned, unknown_from}
-use Rattle.mw_declare.proofs.Folding.{declared_once, HasNamed, HasEach, HasEachLined, all_declared}
+use Rattle.mw_declare.specs.Declarations.{unknown_in_all}
+use Rattle.mw_declare.proofs.Folding.{declared_once, HasNamed, HasEach, HasEachLined, all_operators}
+use Rattle.mw_declare.proofs.KindNames.{NamesKind, IsTruthOf, truth_held}
 use Rattle.mw_declare.proofs.LeastKinds.{kind_there, kind_same}
 use Rattle.mw_declare.proofs.Pairs.{known_statement}
 use Rattle.mw_declare.proofs.Unknown.{known_front, known_append, number_there}
@@ -149,5 +154,61 @@ module _ (sig : Signature) where
   ranked_lined [] there = All-nil (HasEachLined (IsRankedOperator sig) (ranked_again sig) (sorts_held sig))
   ranked_lined (s ∷ ss) there = let k = known_statement sig.sorts s ss there in All-cons (HasEachLined (IsRankedOperator sig) (ranked_again sig) (sorts_held sig)) s ss (ranked_shape s.shape k.0) (ranked_lined ss k.1)
 
-  pub ranked_operators : (ss : List SeenLined) → unknown_from sig.sorts ss ≡ None → All (IsRankedOperator sig) (operators_from (sorts_held sig) [] ss)
-  ranked_operators ss there = all_declared (IsRankedOperator sig) (ranked_again sig) (sorts_held sig) ss (ranked_lined ss there)
+  -- those that a kind has
+  module _ (t : Truth) (truth : IsTruthOf (sorts_held sig) t) (K : ℕ) (n : NamesKind (sorts_held sig) K) where
+    abbrev IsLeast : ℕ → Type 0
+    IsLeast = IsLeastKind (sorts_held sig)
+
+    this_least : IsLeast K
+    this_least = (K, n.0, sym n.1)
+
+    truth_least : IsLeast t.kind
+    truth_least = (t.sort, truth.there, truth.kind_is)
+
+    test_ranked : (name : Name) → let g = test_of t name K in IsRankedOperator sig (declared_once g.profile g.declaration g.attributes)
+    test_ranked name =
+        let g = test_of t name K in
+        let Own : Declaration → Type 0 = IsRanked sig g.profile.args g.profile.result in
+        let of_sort : SameKind sig t.kind t.sort = subst (λ (C : ℕ). SameKind sig C t.sort) (sym truth.kind_is) (SameKind-sym (kind_same (sorts_held sig) t.sort truth.there sig refl)) in
+        let each : Own g.declaration = record { args_of = (same, (same, tt)); result_of = of_sort; args_there = two_there; result_there = truth.there } in
+        record {
+          args = All-cons IsLeast K (K ∷ []) this_least (All-cons IsLeast K [] this_least (All-nil IsLeast));
+          result = truth_least;
+          declarations = All-cons Own g.declaration [] each (All-nil Own);
+        }
+      where
+        two_there : (S : Sorted) → Member S (kind K ∷ kind K ∷ []) → IsSortOf sig (number_of_sort S)
+        two_there S (inl e) = subst (λ (S : Sorted). IsSortOf sig (number_of_sort S)) e n.0
+        two_there S (inr (inl e)) = subst (λ (S : Sorted). IsSortOf sig (number_of_sort S)) e n.0
+        two_there S (inr (inr m)) = absurd m
+
+    choice_ranked : let g = choice_of t K in IsRankedOperator sig (declared_once g.profile g.declaration g.attributes)
+    choice_ranked =
+        let g = choice_of t K in
+        let Own : Declaration → Type 0 = IsRanked sig g.profile.args g.profile.result in
+        let each : Own g.declaration = record { args_of = (same, (same, (same, tt))); result_of = same; args_there = three_there; result_there = n.0 } in
+        record {
+          args = All-cons IsLeast t.kind (K ∷ K ∷ []) truth_least (All-cons IsLeast K (K ∷ []) this_least (All-cons IsLeast K [] this_least (All-nil IsLeast)));
+          result = this_least;
+          declarations = All-cons Own g.declaration [] each (All-nil Own);
+        }
+      where
+        kind_of_truth : IsSortOf sig t.kind
+        kind_of_truth = least_there sig t.kind truth_least
+
+        three_there : (S : Sorted) → Member S (kind t.kind ∷ kind K ∷ kind K ∷ []) → IsSortOf sig (number_of_sort S)
+        three_there S (inl e) = subst (λ (S : Sorted). IsSortOf sig (number_of_sort S)) e kind_of_truth
+        three_there S (inr (inl e)) = subst (λ (S : Sorted). IsSortOf sig (number_of_sort S)) e n.0
+        three_there S (inr (inr (inl e))) = subst (λ (S : Sorted). IsSortOf sig (number_of_sort S)) e n.0
+        three_there S (inr (inr (inr m))) = absurd m
+
+pub ranked_operators : (r : Reached) (ss : List SeenLined) → unknown_in_all ss ≡ None → All (IsRankedOperator (signature_of r ss)) (operators_of ss)
+ranked_operators r ss known =
+    let sig = signature_of r ss in
+    all_operators (IsRankedOperator sig) (ranked_again sig) ss (ranked_lined sig ss known)
+    (λ t e K n.
+    let truth = truth_held ss known t e in (
+      choice_ranked sig t truth K n,
+      test_ranked sig t truth K n (codes "_==_"),
+      test_ranked sig t truth K n (codes "_=/=_"),
+    ))

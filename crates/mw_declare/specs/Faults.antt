@@ -12,6 +12,7 @@ use Rattle.mw_module.specs.declared.faults.Fault.{Fault}
 use Rattle.mw_module.specs.declared.faults.FaultKind.{FaultKind}
 use Rattle.mw_module.specs.declared.faults.FaultKind.TheVariants.{AlreadyDefined, UnknownSort, BadAxioms, AttributesDisagree}
 use Rattle.mw_module.specs.Units.{SeenLined}
+use Rattle.mw_declare.specs.declared.built.Built.{Built}
 use Rattle.mw_declare.specs.Meaning.{Name, texts, is_among, number_of}
 use Rattle.mw_declare.specs.Hierarchy.{Hierarchy}
 use Rattle.mw_declare.specs.Operators.{Declared, operator_of, signature_with}
@@ -90,18 +91,18 @@ unknown_from sorts (s ∷ ss) = unknown_in (unknown_among sorts (mentioned s.sha
 
 -- what is wrong with an operator: axioms that aren't kept, or don't fit its kinds, or an identity that isn't there; or else different identities, precedences
 -- or gathers that are said of it
-abbrev pub wrong_with : Signature → List Declared → Declared → Option FaultKind
-wrong_with sig os o = if is_accepted_operator sig (operator_of os o) then (if o.attributes.clash then Some (AttributesDisagree o.profile.spelling) else None)
+abbrev pub wrong_with : Signature → Built → List Declared → Declared → Option FaultKind
+wrong_with sig b os o = if is_accepted_operator sig (operator_of b os o) then (if o.attributes.clash then Some (AttributesDisagree o.profile.spelling) else None)
     else Some (BadAxioms o.profile.spelling)
 
 -- the same of the first of these, among all operators, with which something is wrong
-abbrev pub wrong_among : Signature → List Declared → List Declared → Option FaultKind
-wrong_among sig all [] = None
-wrong_among sig all (o ∷ os) = option_or (wrong_with sig all o) (wrong_among sig all os)
+abbrev pub wrong_among : Signature → Built → List Declared → List Declared → Option FaultKind
+wrong_among sig b all [] = None
+wrong_among sig b all (o ∷ os) = option_or (wrong_with sig b all o) (wrong_among sig b all os)
 
 -- what is wrong with the first operator with which something is
-abbrev pub operator_fault : Hierarchy → List Declared → Option FaultKind
-operator_fault h os = wrong_among (signature_with h os) os os
+abbrev pub operator_fault : Built → Hierarchy → List Declared → Option FaultKind
+operator_fault b h os = wrong_among (signature_with b h os) b os os
 
 -- a fault of this kind, at a line
 abbrev pub told_at : ℕ → Option FaultKind → Option Fault

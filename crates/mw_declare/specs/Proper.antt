@@ -8,6 +8,7 @@ use Rattle.mw_text.specs.Proper.{AreProperNames}
 use Rattle.mw_module.specs.Units.{SeenLined, IsWithin}
 use Rattle.mw_module.specs.Tokens.{AreProperStatements}
 use Rattle.mw_declare.specs.declared.declarations.Declarations.{Declarations}
+use Rattle.mw_declare.specs.declared.built.Reached.{Reached}
 use Rattle.mw_declare.specs.Faults.{Typing, typing_of}
 use Rattle.mw_declare.specs.Declarations.{Declares}
 
@@ -23,5 +24,5 @@ pub record AreProper (d : Declarations) : Type 0 where
 
 -- What statements of proper parts declare is proper, together with the variables of a module's own statements, which are among them.
 abbrev pub DeclarationsAreProper : Type 0
-DeclarationsAreProper = (own ss : List SeenLined) (typing : Typing) (d : Declarations) → IsWithin own ss → AreProperStatements own → typing_of own ≡ Ok typing
-    → AreProperStatements ss → Declares typing ss d → AreProper d
+DeclarationsAreProper = (r : Reached) (own ss : List SeenLined) (typing : Typing) (d : Declarations) → IsWithin own ss → AreProperStatements own → typing_of own ≡ Ok typing
+    → AreProperStatements ss → Declares r typing ss d → AreProper d

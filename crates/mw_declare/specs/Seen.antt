@@ -1,11 +1,15 @@
 -- The crate's values as their readers see them.
-use Rattle.std.specs.Prelude.{map}
+use Rattle.std.specs.Prelude.{ℕ, List, Option, map, option_map}
+use Rattle.std.specs.Borrow.{Bor}
 use Rattle.mw_term.specs.Signatures.{sorted_of}
 use Rattle.mw_module.specs.Attributes.{seen_attributes}
 use Rattle.mw_declare.specs.declared.hierarchy.Rank.{Rank as RankHeld}
 use Rattle.mw_declare.specs.declared.operators.Profile.{Profile}
 use Rattle.mw_declare.specs.declared.operators.Said.{Said}
 use Rattle.mw_declare.specs.Operators.{Rank, Profile as ProfileOf, Declared}
+
+abbrev pub seen_name : Option (Bor (List ℕ)) → Option (List ℕ)
+seen_name name = option_map (λ (n : Bor (List ℕ)). n.now) name
 
 abbrev pub seen_profile : Profile → ProfileOf
 seen_profile p = record { spelling = p.spelling.items; args = p.args.items; result = p.result }

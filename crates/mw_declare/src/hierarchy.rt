@@ -1,5 +1,5 @@
 // The sorts of a module in the order of its subsort statements.
-ghost use Rattle.std.specs.Prelude.{◌≡◌, ◌≤◌, ◌++◌, ◌∷◌, ◌-◌, ℕ, List, [], length, map, true, Some, None, IfOk, IfErr, OnOk};
+ghost use Rattle.std.specs.Prelude.{◌≡◌, ◌≤◌, ◌++◌, ◌∷◌, ◌-◌, ℕ, List, [], length, map, nat_eq, true, Some, None, IfOk, IfErr, OnOk};
 ghost use Rattle.mw_logic.specs.Signature.{at_number};
 ghost use Rattle.mw_term.specs.Signatures.{sorted_of};
 ghost use Rattle.mw_module.specs.declared.faults.FaultKind.TheVariants.{SortCycle};
@@ -8,12 +8,14 @@ ghost use Rattle.mw_module.specs.Units.{seen_all};
 ghost use Rattle.mw_module.specs.Causes.{HasCause};
 ghost use Rattle.mw_poset.specs.Order.{IsSort};
 ghost use Rattle.mw_module.specs.Words.{seen_lists};
-ghost use Rattle.mw_declare.specs.Meaning.{Name, is_among, numbers_of};
-ghost use Rattle.mw_declare.specs.Hierarchy.{pairs_between, pairs_behind, pairs_from, hierarchy_of, kind_in, sorted_in};
+ghost use Rattle.mw_declare.specs.Meaning.{Name, is_among, number_of, numbers_of};
+ghost use Rattle.mw_declare.specs.Built.{kind_named};
+ghost use Rattle.mw_declare.specs.Hierarchy.{pairs_between, pairs_behind, pairs_from, hierarchy_of, kind_of, kind_in, sorted_in};
 ghost use Rattle.mw_declare.specs.Operators.{rank_of};
 ghost use Rattle.mw_declare.specs.Faults.{unknown_among, mentioned_by};
 ghost use Rattle.mw_declare.specs.Declarations.{unknown_in_all, IsAcyclic, DeclarationFault};
 ghost use Rattle.mw_declare.specs.Seen.{seen_rank};
+ghost use Rattle.mw_declare.specs.declared.built.Reached.{Reached};
 
 use crate::sorts::{all_known, all_sorts};
 use mw_lex::Token;
@@ -131,7 +133,7 @@ pub fn order_sorts(
     ensures same { IfOk result (λ h. h.value ≡ hierarchy_of (seen_all statements.now)) }
     ensures known { IfOk result (λ _. unknown_in_all (seen_all statements.now) ≡ None) }
     ensures acyclic { IfOk result (λ _. IsAcyclic (hierarchy_of (seen_all statements.now))) }
-    ensures fault { IfErr result (HasCause (DeclarationFault line (seen_all statements.now))) }
+    ensures fault { (r : Reached) → IfErr result (HasCause (DeclarationFault r line (seen_all statements.now))) }
 {
     let names = all_sorts(alloc, statements)?;
     all_known(alloc, &names, statements)?;
@@ -153,14 +155,32 @@ pub fn order_sorts(
 }
 
 impl Hierarchy {
+    /// The number of a sort, and its kind.
+    pub fn named(&self, name: &[u8]) -> Result<(SortId, KindId), AllocError>
+        requires { is_among self.now.names name.now ≡ true }
+        ensures number { IfOk result (λ r. r.0 ≡ number_of self.now.names name.now) }
+        ensures kind { IfOk result (λ r. r.1 ≡ kind_named self.now name.now) }
+    {
+        let sort = self.names.number(name)?;
+        let kind = self.order.kind_of(sort);
+        Ok((sort, kind))
+    }
+
+    /// Whether a kind is named by this sort.
+    pub fn names_kind(&self, sort: SortId) -> bool
+        requires { IsSort (length self.now.names) sort }
+        ensures { result ≡ nat_eq (kind_of self.now sort) sort }
+    {
+        self.order.kind_of(sort) == sort
+    }
+
     /// The sort that is written, or its kind, and its kind in any case.
     fn sorted(&self, sorting: WrittenSort<'_>) -> Result<(Sorted, KindId), AllocError>
         requires { is_among self.now.names (seen_sorting sorting).name.text ≡ true }
         ensures sorted { IfOk result (λ r. sorted_of r.0 ≡ sorted_in self.now (seen_sorting sorting.entry)) }
         ensures kind { IfOk result (λ r. r.1 ≡ kind_in self.now (seen_sorting sorting.entry)) }
     {
-        let sort = self.names.number(sorting.name.text.as_slice())?;
-        let kind = self.order.kind_of(sort);
+        let (sort, kind) = self.named(sorting.name.text.as_slice())?;
         if sorting.kind {
             Ok((Sorted::Kind(kind), kind))
         } else {

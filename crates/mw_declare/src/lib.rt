@@ -43,6 +43,7 @@
 //! are the declarations that are meant.
 #![tactic(auto)]
 
+mod built;
 mod declarations;
 mod grouping;
 mod hierarchy;
@@ -53,6 +54,7 @@ mod sorts;
 mod spelling;
 mod variables;
 
+pub use built::Reached;
 pub use declarations::{Declarations, declare};
 pub use laws::{declared_apart, parts_are_there};
 pub use variables::{Typing, all_typed};

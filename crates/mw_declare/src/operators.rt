@@ -1,5 +1,5 @@
 // The operators of a module.
-ghost use Rattle.std.specs.Prelude.{◌≡◌, ◌∷◌, List, [], map, Option, All, IfOk, IfErr, OnOk, Some, None, option_map};
+ghost use Rattle.std.specs.Prelude.{◌≡◌, ◌∷◌, List, [], map, length, Option, All, IfOk, IfErr, OnOk, Some, None, option_map};
 ghost use Rattle.mw_logic.specs.Signature.{Identity as IdentityOf};
 ghost use Rattle.mw_term.specs.Signatures.{sorted_of, identity_of};
 ghost use Rattle.mw_module.specs.Attributes.{seen_attributes};
@@ -8,11 +8,16 @@ ghost use Rattle.mw_module.specs.Causes.{HasCause};
 ghost use Rattle.mw_module.specs.Words.{seen_lists};
 ghost use Rattle.mw_declare.specs.Hierarchy.{Hierarchy as HierarchyOf};
 ghost use Rattle.mw_declare.specs.Operators.{profile_of as profile_with, with_operator, with_named, operators_from};
-ghost use Rattle.mw_declare.specs.Operators.{operator_number, identity_in, operator_with, IsOfLeastKinds};
+ghost use Rattle.mw_declare.specs.Operators.{operator_number, identity_in, operator_with, IsOfLeastKinds, IsNumbered};
+ghost use Rattle.mw_declare.specs.Operators.{choice_of, test_of, built_for, with_singles, with_kinds, with_built};
+ghost use Rattle.mw_declare.specs.Operators.{is_test_of, is_choice_of, is_built as is_built_in};
+ghost use Rattle.mw_declare.specs.Operators.{said_precedence as said_alone, identity_at as identity_with};
+ghost use Rattle.mw_declare.specs.Built.{kinds_from};
 ghost use Rattle.mw_declare.specs.Operators.{operator_of as operator_among};
 ghost use Rattle.mw_declare.specs.Faults.{unknown_from, operator_fault, told_at};
 ghost use Rattle.mw_declare.specs.Seen.{seen_rank, seen_profile, seen_operator};
 
+use crate::built::{Built, Truth};
 use crate::grouping::{gather, precedence};
 use crate::hierarchy::{Hierarchy, Rank};
 use crate::judging::fault;
@@ -21,6 +26,7 @@ use indexmap::IndexMap;
 use mw_lex::Token;
 use mw_module::{Attributes, Fault, Form, Stated, UnitError};
 use mw_term::{Declaration, Identity, KindId, Name, OpId, Operator, Seq, Sorted};
+use mw_text::number;
 use std::alloc::{AllocError, Global};
 use std::marker::Model;
 
@@ -57,6 +63,54 @@ fn declaration_of(alloc: Global, rank: &Rank) -> Result<Declaration, AllocError>
     Ok(Declaration {
         args: Seq::of(rank.args.as_slice().to_vec(alloc)?),
         result: rank.result,
+    })
+}
+
+/// The profile of the choice between two terms of a kind.
+fn choice_profile(alloc: Global, truth: Truth, kind: KindId) -> Result<Profile, AllocError>
+    ensures { IfOk result (λ p. seen_profile p ≡ (choice_of truth kind).profile) }
+{
+    Ok(Profile {
+        spelling: b"if_then_else_fi".as_slice().to_vec(alloc)?,
+        args: vec![in alloc; truth.kind, kind, kind]?,
+        result: kind,
+    })
+}
+
+/// Its declaration.
+fn choice_declaration(alloc: Global, truth: Truth, kind: KindId) -> Result<Declaration, AllocError>
+    ensures { IfOk result (λ d. d ≡ (choice_of truth kind).declaration) }
+{
+    let branch = Sorted::Kind(kind);
+    Ok(Declaration {
+        args: Seq::of(vec![in alloc; Sorted::Kind(truth.kind), branch, branch]?),
+        result: branch,
+    })
+}
+
+/// The profile of the test of this name on two terms of a kind.
+fn test_profile(
+    alloc: Global,
+    truth: Truth,
+    name: &[u8],
+    kind: KindId,
+) -> Result<Profile, AllocError>
+    ensures { IfOk result (λ p. seen_profile p ≡ (test_of truth name.now kind).profile) }
+{
+    Ok(Profile {
+        spelling: name.to_vec(alloc)?,
+        args: vec![in alloc; kind, kind]?,
+        result: truth.kind,
+    })
+}
+
+/// Its declaration.
+fn test_declaration(alloc: Global, truth: Truth, kind: KindId) -> Result<Declaration, AllocError>
+    ensures { IfOk result (λ d. d ≡ (test_of truth [] kind).declaration) }
+{
+    Ok(Declaration {
+        args: Seq::of(vec![in alloc; Sorted::Kind(kind), Sorted::Kind(kind)]?),
+        result: Sorted::Sort(truth.sort),
     })
 }
 
@@ -131,6 +185,62 @@ impl<'u> DeclaredOperators<'u> {
         Ok(())
     }
 
+    /// Adds the choice between two terms of a kind.
+    fn add_choice(&mut self, alloc: Global, truth: Truth, kind: KindId) -> Result<(), AllocError>
+        ensures { let g = choice_of truth kind in
+            OnOk result (self.new ≡ with_operator self.old g.profile g.declaration g.attributes) }
+    {
+        let profile = choice_profile(alloc, truth, kind)?;
+        let declaration = choice_declaration(alloc, truth, kind)?;
+        self.add(alloc, profile, declaration, said_precedence(0))?;
+        Ok(())
+    }
+
+    /// Adds the test of this name on two terms of a kind.
+    fn add_test(
+        &mut self,
+        alloc: Global,
+        truth: Truth,
+        name: &[u8],
+        kind: KindId,
+    ) -> Result<(), AllocError>
+        ensures { let g = test_of truth name.now kind in
+            OnOk result (self.new ≡ with_operator self.old g.profile g.declaration g.attributes) }
+    {
+        let profile = test_profile(alloc, truth, name, kind)?;
+        let declaration = test_declaration(alloc, truth, kind)?;
+        self.add(alloc, profile, declaration, said_precedence(51))?;
+        Ok(())
+    }
+
+    /// Adds the operators that a kind has from the start.
+    fn add_built(&mut self, alloc: Global, truth: Truth, kind: KindId) -> Result<(), AllocError>
+        ensures { OnOk result (self.new ≡ with_singles self.old (built_for truth kind)) }
+    {
+        self.add_choice(alloc, truth, kind)?;
+        self.add_test(alloc, truth, b"_==_", kind)?;
+        self.add_test(alloc, truth, b"_=/=_", kind)?;
+        Ok(())
+    }
+
+    /// Adds those of all kinds, kind by kind in the order of their least sorts.
+    fn add_all_built(
+        &mut self,
+        alloc: Global,
+        hierarchy: &Hierarchy,
+        truth: Truth,
+    ) -> Result<(), AllocError>
+        ensures { let h = hierarchy.now in
+            OnOk result (self.new ≡ with_kinds truth self.old (kinds_from h (length h.names) 1)) }
+    {
+        for place in 0..hierarchy.names.count()? {
+            if hierarchy.names_kind(place + 1) {
+                self.add_built(alloc, truth, place + 1)?;
+            }
+        }
+        Ok(())
+    }
+
     /// The number of an operator, from 1, or 0 where it isn't there. More operators than numbers can tell count as
     /// want of memory.
     fn number(&self, profile: &Profile) -> Result<OpId, AllocError>
@@ -147,11 +257,12 @@ impl<'u> DeclaredOperators<'u> {
     fn identity(
         &self,
         alloc: Global,
+        built: Built,
         profile: &Profile,
         said: &Said<'_>,
     ) -> Result<Option<Identity>, AllocError>
         ensures { let o = seen_operator (profile.now, said.now) in
-            IfOk result (λ i. option_map identity_of i ≡ identity_in self.now o) }
+            IfOk result (λ i. option_map identity_of i ≡ identity_in built self.now o) }
     {
         let Some(token) = said.attributes.identity else {
             return Ok(None);
@@ -161,23 +272,29 @@ impl<'u> DeclaredOperators<'u> {
             args: Vec::new(alloc),
             result: profile.result,
         };
-        Ok(Some(Identity::Constant(self.number(&constant)?)))
+        let number = self.number(&constant)?;
+        Ok(Some(identity_at(number, built.nat, token.text.as_slice())))
     }
 
     /// The identities of the operators, where nothing is wrong with any; or else what is wrong with the first with
     /// which something is, at a line.
-    pub fn identities(&self, alloc: Global, line: u32) -> Result<Vec<Option<Identity>>, UnitError>
-        ensures fine { (h : HierarchyOf) → All (IsOfLeastKinds h) self.now
-            → OnOk result (operator_fault h self.now ≡ None) }
+    pub fn identities(
+        &self,
+        alloc: Global,
+        line: u32,
+        built: Built,
+    ) -> Result<Vec<Option<Identity>>, UnitError>
+        ensures fine { (h : HierarchyOf) → IsNumbered h built → All (IsOfLeastKinds h) self.now
+            → OnOk result (operator_fault built h self.now ≡ None) }
         ensures identities { IfOk result
-            (λ v. map (option_map identity_of) v.items ≡ map (identity_in self.now) self.now) }
-        ensures fault { (h : HierarchyOf) → All (IsOfLeastKinds h) self.now
-            → IfErr result (HasCause (λ fault. told_at line (operator_fault h self.now) ≡ Some fault)) }
+            (λ v. map (option_map identity_of) v.items ≡ map (identity_in built self.now) self.now) }
+        ensures fault { (h : HierarchyOf) → IsNumbered h built → All (IsOfLeastKinds h) self.now
+            → IfErr result (HasCause (λ fault. told_at line (operator_fault built h self.now) ≡ Some fault)) }
     {
         let mut identities = Vec::new(alloc);
         for (profile, said) in self.table.iter() {
-            let identity = self.identity(alloc, profile, said)?;
-            if let Some(kind) = fault(alloc, profile, said, identity)? {
+            let identity = self.identity(alloc, built, profile, said)?;
+            if let Some(kind) = fault(alloc, built, profile, said, identity)? {
                 return Err(UnitError::Fault(Fault { line, kind }));
             }
             identities.push(identity)?;
@@ -189,16 +306,17 @@ impl<'u> DeclaredOperators<'u> {
     pub fn list(
         self,
         alloc: Global,
+        built: Built,
         identities: &[Option<Identity>],
     ) -> Result<Seq<Operator>, AllocError>
-        requires { map (option_map identity_of) identities.now ≡ map (identity_in self) self }
-        ensures { IfOk result (λ os. os ≡ map (operator_among self.entry) self.entry) }
+        requires { map (option_map identity_of) identities.now ≡ map (identity_in built self) self }
+        ensures { IfOk result (λ os. os ≡ map (operator_among built self.entry) self.entry) }
     {
         let mut operators = Vec::new(alloc);
         let mut rest = identities;
         for (profile, said) in Box::into_inner(self.table) {
             let (identity, others) = first_of(rest);
-            operators.push(operator_of(alloc, profile, said, identity)?)?;
+            operators.push(operator_of(alloc, built.truth, profile, said, identity)?)?;
             rest = others;
         }
         Ok(Seq::of(operators))
@@ -206,7 +324,7 @@ impl<'u> DeclaredOperators<'u> {
 }
 
 /// The operators that statements declare which mention no other sorts.
-pub fn all_operators<'s>(
+fn stated_operators<'s>(
     alloc: Global,
     hierarchy: &Hierarchy,
     statements: &[Stated<'_, 's>],
@@ -230,6 +348,87 @@ pub fn all_operators<'s>(
     Ok(operators)
 }
 
+/// The same, and those that each kind has where there are truth values.
+pub fn all_operators<'s>(
+    alloc: Global,
+    hierarchy: &Hierarchy,
+    truth: Option<Truth>,
+    statements: &[Stated<'_, 's>],
+) -> Result<DeclaredOperators<'s>, AllocError>
+    requires { unknown_from hierarchy.now.names (seen_all statements.now) ≡ None }
+    ensures { let h = hierarchy.now in
+        IfOk result (λ os. os ≡ with_built truth h (operators_from h [] (seen_all statements.now))) }
+{
+    let mut operators = stated_operators(alloc, hierarchy, statements)?;
+    if let Some(truth) = truth {
+        operators.add_all_built(alloc, hierarchy, truth)?;
+    }
+    Ok(operators)
+}
+
+/// What is said of an operator of which the precedence alone is said.
+fn said_precedence<'u>(precedence: u32) -> Attributes<'u>
+    ensures { seen_attributes result ≡ said_alone precedence }
+{
+    Attributes {
+        assoc: false,
+        comm: false,
+        identity: None,
+        precedence: Some(precedence),
+        gather: None,
+        config: false,
+        clash: false,
+    }
+}
+
+/// The constant of this number; where it is 0 and there are numbers, the numeral that the text is, if it is one.
+fn identity_at(constant: OpId, nat: Option<KindId>, text: &[u8]) -> Identity
+    ensures { identity_of result ≡ identity_with constant nat text.now }
+{
+    if constant == 0 && nat.is_some() {
+        if let Some(numeral) = number(text) {
+            return Identity::Nat(numeral);
+        }
+    }
+    Identity::Constant(constant)
+}
+
+/// Whether a profile is that of a test that some kind has.
+fn is_test(truth: Truth, profile: &Profile) -> bool
+    ensures { result ≡ is_test_of truth (seen_profile profile.now) }
+{
+    let spelling = profile.spelling.as_slice();
+    let named = spelling == b"_==_".as_slice() || spelling == b"_=/=_".as_slice();
+    match profile.args.as_slice() {
+        [first, second] => named && (first == second && profile.result == truth.kind),
+        _ => false,
+    }
+}
+
+/// Whether a profile is that of a choice that some kind has.
+fn is_choice(truth: Truth, profile: &Profile) -> bool
+    ensures { result ≡ is_choice_of truth (seen_profile profile.now) }
+{
+    let named = profile.spelling.as_slice() == b"if_then_else_fi".as_slice();
+    match profile.args.as_slice() {
+        [test, first, second] => {
+            let kind = profile.result;
+            named && (*test == truth.kind && (*first == kind && *second == kind))
+        }
+        _ => false,
+    }
+}
+
+/// Whether a profile is that of an operator that some kind has.
+fn is_built(truth: Option<Truth>, profile: &Profile) -> bool
+    ensures { result ≡ is_built_in truth (seen_profile profile.now) }
+{
+    match truth {
+        Some(truth) => is_test(truth, profile) || is_choice(truth, profile),
+        None => false,
+    }
+}
+
 /// The first of these identities, and the others.
 fn first_of(identities: &[Option<Identity>]) -> (Option<Identity>, &[Option<Identity>])
     ensures { (i : Option IdentityOf) (more : List (Option IdentityOf))
@@ -242,16 +441,18 @@ fn first_of(identities: &[Option<Identity>]) -> (Option<Identity>, &[Option<Iden
     }
 }
 
-/// The operator of a profile of which this is said, with this identity.
+/// The operator of a profile of which this is said, with this identity, where these truth values are there.
 fn operator_of(
     alloc: Global,
+    truth: Option<Truth>,
     profile: Profile,
     said: Said<'_>,
     identity: Option<Identity>,
 ) -> Result<Operator, AllocError>
     ensures { let o = seen_operator (profile, said.entry) in
-        IfOk result (λ p. p ≡ operator_with (option_map identity_of identity) o) }
+        IfOk result (λ p. p ≡ operator_with truth (option_map identity_of identity) o) }
 {
+    let built = is_built(truth, &profile);
     let spelling = profile.spelling.as_slice();
     let prec = precedence(said.attributes.precedence, spelling);
     let gather = gather(
@@ -272,6 +473,6 @@ fn operator_of(
         gather,
         config: said.attributes.config,
         frozen: Seq::of(Vec::new(alloc)),
-        built: false,
+        built,
     })
 }

@@ -4,9 +4,10 @@ use Rattle.std.proofs.lemmas.Option.{slice_get_within}
 use Rattle.mw_logic.specs.Signature.{Member}
 use Rattle.mw_module.specs.Units.{SeenLined, IsWithin}
 use Rattle.mw_import.specs.Flat.{FlatUnit, reached_by, brought_by, IsFlat, AreAccepted, statements_at, statements_of, told_at, all_statements}
-use Rattle.mw_import.specs.Laws.{FlattenedWithin}
 use Rattle.mw_import.proofs.Lists.{member-left, member-append, member-flat_map, flat_map-member, member-map, map-member}
+use Rattle.mw_import.specs.Laws.{FlattenedWithin}
 use Rattle.mw_import.proofs.Brought.{reached_brought, flat_closed}
+use Rattle.mw_import.proofs.Reaching.{reaches, reaches_kept}
 
 -- the unit at a place stays when more come
 pub kept_at : (us more : List FlatUnit) (k : ℕ) → k < length us → slice_get (us ++ more) k ≡ slice_get us k
@@ -58,4 +59,9 @@ within us ss line from k reached u all flat m at s n =
     ]
 
 pub flattened_within : FlattenedWithin
-flattened_within = record { within = within; kept = kept }
+flattened_within = record {
+  within = within;
+  kept = kept;
+  reaches = λ us ss k reached u own name all flat m at. reaches us all ss k reached u own name flat m at;
+  reaches_kept = λ us more k u name all at. reaches_kept us more k u name all at;
+}

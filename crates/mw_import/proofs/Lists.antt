@@ -1,10 +1,14 @@
--- Membership in lists, and places in them.
-use Rattle.std.proofs.Common.{◌≡◌, ◌⊎◌, ◌∙◌, ℕ, zero, suc, Bool, true, false, ◌||◌, nat_eq, List, [], ◌∷◌, ◌++◌, length, slice_get, Some, map, flat_map, refl, sym, ap, inl, inr, subst, true≢false}
+-- Membership in lists, and places in them and among units.
+use Rattle.std.proofs.Common.{◌<◌, ◌≤◌, position, None, bytes_eq, arith, ◌≡◌, ◌⊎◌, ◌∙◌, ℕ, zero, suc, Bool, true, false, ◌||◌, nat_eq, List, [], ◌∷◌, ◌++◌, length, slice_get, Some, map, flat_map, refl, sym, ap, inl, inr, subst, true≢false}
 use Rattle.std.specs.List.{list_any}
 use Rattle.std.proofs.lemmas.Option.{same_Some}
 use Rattle.std.proofs.lemmas.Bool.{eqb-true, eq-eqb}
 use Rattle.mw_logic.specs.Signature.{Member}
-use Rattle.mw_import.specs.Flat.{is_among}
+use Rattle.std.specs.List.{position_or_len}
+use Rattle.std.proofs.lemmas.Grind.{common_steps}
+use Rattle.std.proofs.lemmas.Option.{slice_get_within, get_or_from_slice_get}
+use Rattle.std.proofs.lemmas.List.Sums.{fails_before_first}
+use Rattle.mw_import.specs.Flat.{FlatUnit, number_named, is_among}
 
 pub member-left : {X : Type 0} (x : X) (xs ys : List X) → Member x xs → Member x (xs ++ ys)
 member-left x [] ys m = absurd m
@@ -93,3 +97,14 @@ pushed_at [] x y zero h = inr (refl, same_Some x y h)
 pushed_at [] x y (suc k) h = cc
 pushed_at (z ∷ xs) x y zero h = inl h
 pushed_at (z ∷ xs) x y (suc k) h = elim (pushed_at xs x y k h) [ inl e ↦ inl e | inr e ↦ inr (ap suc e.0, e.1) ]
+
+nowhere : {X : Type 0} (p : X → Bool) (xs : List X) → position p xs ≡ None → length xs ≤ position_or_len p xs
+nowhere p xs e = grind (arith, common_steps)
+
+-- where no unit has the name
+pub none_named : (us : List FlatUnit) (n : List ℕ) → number_named us n ≡ None → (k : ℕ) (u : FlatUnit) → slice_get us k ≡ Some u → bytes_eq n u.name ≡ false
+none_named us n e k u at =
+    let p : FlatUnit → Bool = λ u. bytes_eq n u.name in
+    let past : length us ≤ position_or_len p us = nowhere p us e in
+    let inside : k < length us = slice_get_within us k u at in
+    ap p (sym (get_or_from_slice_get us k u u at)) ∙ fails_before_first p us k u (omega (arith, past, inside))

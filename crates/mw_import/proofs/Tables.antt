@@ -13,7 +13,7 @@ use Rattle.mw_module.specs.Units.{SeenLined}
 use Rattle.mw_import.specs.declared.units.Kept.{Kept}
 use Rattle.mw_import.specs.Flat.{FlatUnit, ImportOf, number_named, imports_of, brought_by, first_unit, IsFlat, AreAccepted}
 use Rattle.mw_import.specs.Seen.{flat_unit, flat_units}
-use Rattle.mw_import.proofs.Lists.{member-append, flat_map-member, pushed_at}
+use Rattle.mw_import.proofs.Lists.{member-append, flat_map-member, pushed_at, none_named}
 use Rattle.mw_import.proofs.Gathered.{member_firsts}
 use Rattle.mw_import.proofs.Brought.{member_brought, flat_closed}
 use Rattle.mw_import.proofs.Flattened.{brought_kept}
@@ -37,17 +37,6 @@ at_held us es held k = sym (slice_get-map flat_unit es k) ∙ ap (λ us. slice_g
 -- the unit of a name is there
 pub number_within : (us : List FlatUnit) (n : List ℕ) (k : ℕ) → number_named us n ≡ Some k → k < length us
 number_within us n k e = (position-Some (λ (u : FlatUnit). bytes_eq n u.name) us k (record { name = []; statements = []; reached = [] }) e).0
-
-nowhere : {X : Type 0} (p : X → Bool) (xs : List X) → position p xs ≡ None → length xs ≤ position_or_len p xs
-nowhere p xs e = grind (arith, common_steps)
-
--- where no unit has the name
-pub none_named : (us : List FlatUnit) (n : List ℕ) → number_named us n ≡ None → (k : ℕ) (u : FlatUnit) → slice_get us k ≡ Some u → bytes_eq n u.name ≡ false
-none_named us n e k u at =
-    let p : FlatUnit → Bool = λ u. bytes_eq n u.name in
-    let past : length us ≤ position_or_len p us = nowhere p us e in
-    let inside : k < length us = slice_get_within us k u at in
-    ap p (sym (get_or_from_slice_get us k u u at)) ∙ fails_before_first p us k u (omega (arith, past, inside))
 
 pub no_name : (us : List FlatUnit) (n : List ℕ) → number_named us n ≡ None → (k : ℕ) (u : FlatUnit) → slice_get us k ≡ Some u → u.name ≢ n
 no_name us n e k u at same = true≢false (sym ((bytes_eq-Decides n u.name).1 (sym same)) ∙ none_named us n e k u at)

@@ -20,18 +20,17 @@
 //! Proved (specs/Flat): `flatten` answers the list of what the first unit brings and of what the imports name
 //! (`IsFlat`), each unit where it first stands, or the fault of the first import that has one (`ImportFault`), with its
 //! line and name. `reaches` is exactly whether the unit of that name is in the list, or the name is the module's own
-//! (`is_reached`). `statements` are exactly
-//! those of the units in the list and then its own (`all_statements`). `accept` adds exactly that unit, and leaves
-//! the units as they were where memory ran out; `number` is the place of the unit of a name. Of all `Units` it holds
-//! that each unit reaches units before it alone, that with one it reaches all that this one brings, and that no two
-//! have one name (`AreAccepted`, which `shows` tells). `flattened_within` has two laws (specs/Laws): each statement
-//! of a module that is reached is among those of the module that reaches it, by its form; and the statements of a
-//! flattened unit stay the same when more units are accepted. That a list is of these units is a `requires` of
-//! `statements` and `accept`, and that no unit has the name is one of `accept`. `Memory` may come at any call that
-//! takes an allocator.
+//! (`is_reached`). `statements` are exactly those of the units in the list and then its own (`all_statements`).
+//! `accept` adds exactly that unit, and leaves the units as they were where memory ran out; `number` is the place of
+//! the unit of a name. Of all `Units` it holds that each unit reaches units before it alone, that with one it reaches
+//! all that this one brings, and that no two have one name (`AreAccepted`, which `shows` tells). `flattened_within` has
+//! the laws (specs/Laws): each statement of a module that is reached is among those of the module that reaches it, by
+//! its form, and each of its modules is one of that module's; and the statements and the modules of a flattened unit
+//! stay the same when more units are accepted. That a list is of these units is a `requires` of `statements` and
+//! `accept`, and that no unit has the name is one of `accept`. `Memory` may come at any call that takes an allocator.
 //!
 //! Cost: a module's list costs a look-up for each import, and what the lists of the imports that are new to it hold;
-//! the list of statements has one entry for each, and no form is copied. Only tested, by the sources in cases/: that
+//! `reaches` a look-up and one pass over the list; the list of statements has one entry for each, and no form is copied. Only tested, by the sources in cases/: that
 //! the definitions are the language that is meant.
 #![tactic(auto)]
 

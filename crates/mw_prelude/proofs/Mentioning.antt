@@ -1,5 +1,5 @@
 -- What texts mention, one after the other.
-use Rattle.std.proofs.Common.{◌≡◌, ◌∙◌, ◌||◌, ◌++◌, ℕ, List, [], ◌∷◌, Bool, true, false, bytes_eq, if◌then◌else◌, refl, sym, ap, append_assoc}
+use Rattle.std.proofs.Common.{◌≡◌, ◌∙◌, ◌||◌, ◌++◌, ℕ, List, [], ◌∷◌, Bool, true, false, bytes_eq, if◌then◌else◌, refl, ap, append_assoc}
 use Rattle.std.specs.List.{list_any}
 use Rattle.mw_prelude.specs.declared.modules.Predefined.{Predefined}
 use Rattle.mw_prelude.specs.declared.modules.Predefined.TheVariants as module_of

@@ -1,5 +1,5 @@
 -- Which modules of the prelude a source needs, by the texts of its tokens.
-use Rattle.std.specs.Prelude.{ℕ, List, [], ◌∷◌, ◌++◌, Bool, true, false, ◌||◌, bytes_eq, if◌then◌else◌}
+use Rattle.std.specs.Prelude.{ℕ, List, [], ◌∷◌, ◌++◌, true, false, ◌||◌, bytes_eq, if◌then◌else◌}
 use Rattle.std.specs.List.{list_any}
 use Rattle.mw_prelude.specs.declared.modules.Predefined.{Predefined}
 use Rattle.mw_prelude.specs.declared.modules.Predefined.TheVariants as module_of

@@ -13,9 +13,9 @@ use Rattle.mw_declare.proofs.Pairs.{pairs_there, cycle_there}
 use Rattle.mw_declare.proofs.hierarchy.order_sorts.Goals as goal
 
 pub returns-in_err-all_known-clause-fault : goal.returns-in_err-all_known-clause-fault
-returns-in_err-all_known-clause-fault c =
+returns-in_err-all_known-clause-fault c r =
     let ss = seen_all c.args.statements.now in
-    passed_on (λ f. unknown_from c.in_ok-names.names ss ≡ Some f) (DeclarationFault c.args.line ss)
+    passed_on (λ f. unknown_from c.in_ok-names.names ss ≡ Some f) (DeclarationFault r c.args.line ss)
     (λ f h. of_sort (ap (λ names. unknown_from names ss) (sym c.in_ok-names.ensures) ∙ h))
     c.from_residual-in_err-all_known.result c.in_err-all_known.field-0.0 c.from_residual-in_err-all_known.ensures.1 c.in_err-all_known.ensures.fault
 
@@ -40,7 +40,7 @@ cycle_fault-requires c =
     cycle_there (length c.in_ok-names.names) (pairs_from c.in_ok-names.names ss) c.in-Err-Cycle.sort there (subst (λ ps. IsOnCycle ps c.in-Err-Cycle.sort) pairs cycle.on)
 
 pub returns-in-Err-Cycle-clause-fault : goal.returns-in-Err-Cycle-clause-fault
-returns-in-Err-Cycle-clause-fault c =
+returns-in-Err-Cycle-clause-fault c r =
     let ss = seen_all c.args.statements.now in
     let pairs : c.as_slice.result.now ≡ pairs_from (sorts_of ss) ss = c.as_slice.ensures.value ∙ c.in_ok-pairs.ensures ∙ ap (λ (names : List Name). pairs_from names ss) c.in_ok-names.ensures in
     let cycle : IsLeastOnCycle c.as_slice.result.now c.in-Err-Cycle.sort = c.in-Err-Cycle.ensures.cycle c.in-Err-Cycle.sort (ap (λ (e : PosetError). let r : Result SortOrder PosetError = Err e in r) c.in-Err-Cycle.field-0-is) in

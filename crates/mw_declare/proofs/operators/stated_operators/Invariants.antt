@@ -2,7 +2,7 @@ use Rattle.std.proofs.Common.{◌≡◌, [], None, drop}
 use Rattle.mw_module.specs.Units.{seen_all}
 use Rattle.mw_declare.specs.Operators.{operators_from}
 use Rattle.mw_declare.specs.Faults.{unknown_from}
-use Rattle.mw_declare.proofs.operators.all_operators.Given as goal
+use Rattle.mw_declare.proofs.operators.stated_operators.Given as goal
 
 abbrev pub invariant-loop-statement : goal.invariant-loop-statement
 invariant-loop-statement l = record {
