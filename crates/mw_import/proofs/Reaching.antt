@@ -1,5 +1,5 @@
 -- Which modules a module has.
-use Rattle.std.proofs.Common.{◌≡◌, ◌∙◌, ◌+◌, ◌<◌, ◌≤◌, ◌||◌, ℕ, suc, List, [], ◌∷◌, ◌++◌, length, position, cond, Bool, true, false, Option, None, Some, bytes_eq, refl, sym, ap, inl, inr, slice_get, arith}
+use Rattle.std.proofs.Common.{◌≡◌, ◌∙◌, ◌+◌, ◌<◌, ◌≤◌, ◌||◌, ℕ, suc, List, [], ◌∷◌, ◌++◌, length, cond, Bool, true, false, Option, None, Some, bytes_eq, refl, sym, ap, inl, inr, slice_get, arith}
 use Rattle.std.specs.List.{position_from}
 use Rattle.std.proofs.lemmas.Bool.{both_ways, or_cases, or_right}
 use Rattle.std.proofs.lemmas.Iterator.Adapters.{position_from-zero}

@@ -1,12 +1,10 @@
 -- Units that a table holds, and one more.
-use Rattle.std.proofs.Common.{◌≡◌, ◌≢◌, ◌∙◌, ℕ, suc, ◌+◌, ◌<◌, ◌≤◌, not, List, [], ◌∷◌, ◌++◌, map, flat_map, length, position, cond, Bool, false, true≢false, None, Some, option_map, bytes_eq, refl, sym, ap, inl, inr, subst, slice_get, arith}
+use Rattle.std.proofs.Common.{◌≡◌, ◌≢◌, ◌∙◌, ℕ, suc, ◌+◌, ◌<◌, not, List, [], ◌∷◌, ◌++◌, map, flat_map, length, position, cond, false, true≢false, None, Some, option_map, bytes_eq, refl, sym, ap, inl, inr, subst, slice_get, arith}
 use Rattle.std.specs.Global.{Vec}
 use Rattle.std.specs.List.{position_or_len}
 use Rattle.std.specs.Map.{lookup, keys_of}
-use Rattle.std.proofs.lemmas.Grind.{common_steps}
-use Rattle.std.proofs.lemmas.Option.{slice_get_within, get_or_from_slice_get, slice_get-map}
+use Rattle.std.proofs.lemmas.Option.{slice_get_within, slice_get-map}
 use Rattle.std.proofs.lemmas.List.Quantifiers.{position-Some}
-use Rattle.std.proofs.lemmas.List.Sums.{fails_before_first}
 use Rattle.std.proofs.lemmas.Slice.Eq.{bytes_eq-Decides}
 use Rattle.mw_logic.specs.Signature.{Member}
 use Rattle.mw_module.specs.Units.{SeenLined}

@@ -5,7 +5,8 @@ use Rattle.mw_module.specs.Units.{seen_unit}
 use Rattle.mw_import.specs.declared.units.Kept.{Kept}
 use Rattle.mw_import.specs.Flat.{FlatUnit, number_named, IsFlat, AreAccepted}
 use Rattle.mw_import.specs.Seen.{flat_unit, flat_units}
-use Rattle.mw_import.proofs.Tables.{none_named, lookup_held, accepted_more}
+use Rattle.mw_import.proofs.Lists.{none_named}
+use Rattle.mw_import.proofs.Tables.{lookup_held, accepted_more}
 use Rattle.mw_import.proofs.units.Units.accept.Goals as goal
 
 pub invariant_of-self-2 : goal.invariant_of-self-2
