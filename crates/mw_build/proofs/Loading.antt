@@ -1,5 +1,5 @@
 -- Modules that were accepted one after another.
-use Rattle.std.proofs.Common.{◌≡◌, ◌∙◌, ◌<◌, ◌++◌, ℕ, suc, List, [], ◌∷◌, length, map, slice_get, Option, Some, None, All, refl, sym, ap, subst, inl, inr, ⊎_elim, arith}
+use Rattle.std.proofs.Common.{◌≡◌, ◌∙◌, ◌<◌, ◌++◌, ℕ, suc, List, [], ◌∷◌, length, map, slice_get, Bool, Option, Some, None, All, refl, sym, ap, subst, inl, inr, ⊎_elim, arith, codes}
 use Rattle.std.proofs.lemmas.List.{map-append}
 use Rattle.std.proofs.lemmas.Option.{slice_get_within}
 use Rattle.std.proofs.lemmas.List.Elements.{All-nil, All-append, All-map}
@@ -10,15 +10,18 @@ use Rattle.mw_module.specs.Units.{SeenLined, SeenUnit, IsWithin}
 use Rattle.mw_carry.specs.Carried.{IsPart}
 use Rattle.mw_import.specs.Flat.{FlatUnit, AreAccepted, IsFlat, statements_at, statements_of, told_at, all_statements}
 use Rattle.mw_import.proofs.Flattened.{kept_at, flattened_within}
+use Rattle.mw_import.proofs.Reaching.{reached_stays}
 use Rattle.mw_import.proofs.Lists.{member-right, pushed_at}
 use Rattle.mw_import.proofs.Tables.{flat_within}
 use Rattle.mw_declare.specs.declared.declarations.Declarations.{Declarations}
+use Rattle.mw_declare.specs.declared.built.Reached.{Reached}
+use Rattle.mw_declare.specs.Laws.{ReachesMore}
 use Rattle.mw_declare.specs.Faults.{Typing}
 use Rattle.mw_declare.specs.Operators.{signature_of}
 use Rattle.mw_declare.specs.Declarations.{Declares}
 use Rattle.mw_declare.proofs.Parts.{parts_are_there}
 use Rattle.mw_build.specs.Imported.{Accepted, ArePartsOf}
-use Rattle.mw_build.specs.Modules.{IsOfUnit, AreLoaded, IsAccepted}
+use Rattle.mw_build.specs.Modules.{IsOfUnit, AreLoaded, IsAccepted, reached_of}
 use Rattle.mw_build.proofs.Pairwise.{there}
 
 -- lists with the same names are as long as each other
@@ -29,29 +32,39 @@ same_length f g (x ∷ xs) [] e = cc
 same_length f g (x ∷ xs) (y ∷ ys) e = ap suc (same_length f g xs ys (cc))
 
 -- what is declared is the signature of the statements
-signature_is : (typing : Typing) (ss : List SeenLined) (d : Declarations) → Declares typing ss d → d.signature ≡ signature_of ss
-signature_is typing ss d p = ap (λ (e : Declarations). e.signature) p.declared
+signature_is : (r : Reached) (typing : Typing) (ss : List SeenLined) (d : Declarations) → Declares r typing ss d → d.signature ≡ signature_of r ss
+signature_is r typing ss d p = ap (λ (e : Declarations). e.signature) p.declared
 
 module _ (us : List FlatUnit) (ms : List Accepted) (accepted : AreAccepted us) (loaded : AreLoaded us ms) where
   as_many : length ms ≡ length us
   as_many = same_length (λ (m : Accepted). m.name) (λ (u : FlatUnit). u.name) ms us loaded.names
 
+  -- what a module has that is reached, the one that reaches it has
+  more_reached : (ss : List SeenLined) (reached : List ℕ) (own : List ℕ) (k : ℕ) (u : FlatUnit) → IsFlat us ss reached → Member k reached → slice_get us k ≡ Some u
+      → ReachesMore (reached_of us u.name u.reached) (reached_of us own reached)
+  more_reached ss reached own k u flat member at = record {
+    nat = λ h. flattened_within.reaches us ss k reached u own (codes "NAT") accepted flat member at h;
+    qid = λ h. flattened_within.reaches us ss k reached u own (codes "QID") accepted flat member at h;
+  }
+
   -- the signatures of the modules that are reached are parts of what is declared
-  pub loaded_parts : (ss : List SeenLined) (reached : List ℕ) (line : ℕ) (typing : Typing) (d : Declarations) → IsFlat us ss reached
-      → Declares typing (all_statements us line reached ss) d → ArePartsOf ms reached d.signature
-  loaded_parts ss reached line typing d flat declared k member =
+  pub loaded_parts : (ss : List SeenLined) (reached own : List ℕ) (line : ℕ) (typing : Typing) (d : Declarations) → IsFlat us ss reached
+      → Declares (reached_of us own reached) typing (all_statements us line reached ss) d → ArePartsOf ms reached d.signature
+  loaded_parts ss reached own line typing d flat declared k member =
       let low = flat_within us accepted ss reached flat k member in
       let (u, at) = there us k low in
       let (m, is) = there ms k (omega (arith, low, as_many)) in
       let of = loaded.declared k u m at is in
+      let has : Reached = reached_of us u.name u.reached in
+      let more : Reached = reached_of us own reached in
       let inner = all_statements us of.line u.reached u.statements in
       let within = flattened_within.within us ss line of.line k reached u accepted flat member at in
-      let part : IsPart (signature_of inner) (signature_of (all_statements us line reached ss)) =
-      parts_are_there inner (all_statements us line reached ss) within of.declared.known declared.known in (
+      let part : IsPart (signature_of has inner) (signature_of more (all_statements us line reached ss)) =
+      parts_are_there has more inner (all_statements us line reached ss) (more_reached ss reached own k u flat member at) within of.declared.known declared.known in (
         m,
         is,
-        subst (λ (S : Signature). IsPart S d.signature) (sym (of.signature ∙ signature_is of.typing inner of.declarations of.declared))
-            (subst (IsPart (signature_of inner)) (sym (signature_is typing (all_statements us line reached ss) d declared)) part),
+        subst (λ (S : Signature). IsPart S d.signature) (sym (of.signature ∙ signature_is has of.typing inner of.declarations of.declared))
+            (subst (IsPart (signature_of has inner)) (sym (signature_is more typing (all_statements us line reached ss) d declared)) part),
       )
 
 -- What holds of the forms of statements of units holds of those of a flattened module.
@@ -80,10 +93,23 @@ statements_kept us more [] low = refl
 statements_kept us more (k ∷ ks) low =
     ap (λ o. statements_at o ++ statements_of (us ++ more) ks) (kept_at us more k (low k (inl refl))) ∙ ap (λ ss. statements_at (slice_get us k) ++ ss) (statements_kept us more ks (λ j h. low j (inr h)))
 
+reached_same : {a b c d : Bool} → a ≡ b → c ≡ d → ◌≡◌ {A = Reached} (record { nat = a; qid = c }) (record { nat = b; qid = d })
+reached_same e f = cc
+
 -- With one module more. It was accepted where these were.
 module _ (us : List FlatUnit) (ms : List Accepted) (accepted : AreAccepted us) (loaded : AreLoaded us ms) (u : SeenUnit) (known : AreKnown u.statements) (name reached : List ℕ) (a : Accepted) (is : IsAccepted us ms u name reached a) where
   abbrev unit : FlatUnit
   unit = record { name = name; statements = u.statements; reached = reached }
+
+  -- with it each module has what it had
+  same_new : reached_of (us ++ unit ∷ []) name reached ≡ reached_of us name reached
+  same_new =
+      let low = flat_within us accepted u.statements reached is.flat.flat in
+      reached_same (reached_stays us (unit ∷ []) reached name (codes "NAT") low) (reached_stays us (unit ∷ []) reached name (codes "QID") low)
+
+  same_old : (k : ℕ) (v : FlatUnit) → slice_get us k ≡ Some v → reached_of (us ++ unit ∷ []) v.name v.reached ≡ reached_of us v.name v.reached
+  same_old k v at =
+      reached_same (flattened_within.reaches_kept us (unit ∷ []) k v (codes "NAT") accepted at) (flattened_within.reaches_kept us (unit ∷ []) k v (codes "QID") accepted at)
 
   of_new : IsOfUnit (us ++ unit ∷ []) unit a
   of_new =
@@ -93,7 +119,8 @@ module _ (us : List FlatUnit) (ms : List Accepted) (accepted : AreAccepted us) (
         line = u.line;
         typing = is.typing;
         declarations = is.declarations;
-        declared = subst (λ ss. Declares is.typing ss is.declarations) (sym same) is.declared;
+        declared = subst (λ (r : Reached). Declares r is.typing (all_statements (us ++ unit ∷ []) u.line reached u.statements) is.declarations) (sym same_new)
+            (subst (λ ss. Declares (reached_of us name reached) is.typing ss is.declarations) (sym same) is.declared);
         signature = is.holds.signature;
       }
 
@@ -104,7 +131,8 @@ module _ (us : List FlatUnit) (ms : List Accepted) (accepted : AreAccepted us) (
         line = of.line;
         typing = of.typing;
         declarations = of.declarations;
-        declared = subst (λ ss. Declares of.typing ss of.declarations) (sym (flattened_within.kept us (unit ∷ []) of.line k v accepted at)) of.declared;
+        declared = subst (λ (r : Reached). Declares r of.typing (all_statements (us ++ unit ∷ []) of.line v.reached v.statements) of.declarations) (sym (same_old k v at))
+            (subst (λ ss. Declares (reached_of us v.name v.reached) of.typing ss of.declarations) (sym (flattened_within.kept us (unit ∷ []) of.line k v accepted at)) of.declared);
         signature = of.signature;
       }
 

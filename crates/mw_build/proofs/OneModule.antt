@@ -16,7 +16,7 @@ use Rattle.mw_carry.proofs.Once.{carried_one}
 use Rattle.mw_module.specs.declared.faults.Fault.{Fault}
 use Rattle.mw_module.specs.declared.faults.FaultKind.{FaultKind}
 use Rattle.mw_module.specs.Units.{SeenLined, SeenUnit}
-use Rattle.mw_import.specs.Flat.{FlatUnit, ImportOf, imports_of, number_named, brought_by, firsts, IsFlat, IsWrong, circular, unknown, ImportFault}
+use Rattle.mw_import.specs.Flat.{FlatUnit, ImportOf, imports_of, number_named, brought_by, first_unit, firsts, IsFlat, IsWrong, circular, unknown, ImportFault}
 use Rattle.mw_declare.specs.declared.declarations.Declarations.{Declarations}
 use Rattle.mw_declare.specs.Faults.{Typing, typing_of}
 use Rattle.mw_declare.specs.Declarations.{Declares, DeclarationFault}
@@ -27,7 +27,7 @@ use Rattle.mw_build.specs.Pairwise.{AreRelated, IsFirstWrong}
 use Rattle.mw_build.specs.Sides.{Sides, equations_of}
 use Rattle.mw_build.specs.Equations.{FitsIn, Oversized, deep, large, statement_of, IsApplicable, ApplicationFault, lone, open_right, IsStatementOf, SidesFault, big_left, big_right, inapplicable, IsEquation, EquationFault, long, unread, unclear, sides, HasFault}
 use Rattle.mw_build.specs.Imported.{Accepted, Origin, origins_of, IsImported, ImportedFault, HasFaultAt}
-use Rattle.mw_build.specs.Modules.{IsFlattened, flattened, IsDeclaredModule, StatementsFault, by_signature, by_imported, by_equations, IsAccepted, IsRefused, by_variables, by_imports, by_declarations, by_statements}
+use Rattle.mw_build.specs.Modules.{IsFlattened, flattened, reached_of, IsDeclaredModule, StatementsFault, by_signature, by_imported, by_equations, IsAccepted, IsRefused, by_variables, by_imports, by_declarations, by_statements}
 use Rattle.mw_build.proofs.Pairwise.{there}
 
 -- lists as long as each other that agree at each place are one
@@ -182,7 +182,7 @@ same_numbers (j ∷ js) (k ∷ ks) e =
 module _ (us : List FlatUnit) where
   one_reached : (ss : List SeenLined) (r s : List ℕ) → IsFlat us ss r → IsFlat us ss s → r ≡ s
   one_reached ss r s p q =
-      p.flat ∙ ap (λ ks. firsts (flat_map (brought_by us) ks)) (same_numbers p.numbers q.numbers (sym p.named ∙ q.named)) ∙ sym q.flat
+      p.flat ∙ ap (λ ks. firsts (flat_map (brought_by us) (first_unit us ++ ks))) (same_numbers p.numbers q.numbers (sym p.named ∙ q.named)) ∙ sym q.flat
 
   number_at : (is : List ImportOf) (ks : List ℕ) → map (λ (i : ImportOf). number_named us i.name) is ≡ map Some ks → (place : ℕ) (i : ImportOf) → slice_get is place ≡ Some i
       → (k : ℕ) × (number_named us i.name ≡ Some k)
@@ -213,12 +213,12 @@ module _ (us : List FlatUnit) (ms : List Accepted) (u : SeenUnit) (n r : List �
   same_reached : (t : Typing) (s : List ℕ) → IsFlattened us u t s → s ≡ r
   same_reached t s f = one_reached us u.statements s r f.flat p.flat.flat
 
-  same_declarations : (t : Typing) (s : List ℕ) (d : Declarations) → IsFlattened us u t s → Declares t (flattened us u s) d → d ≡ p.declarations
-  same_declarations t s d f e = one_declaration p.typing (flattened us u r) d p.declarations
-      (subst (λ k. Declares p.typing (flattened us u k) d) (same_reached t s f) (subst (λ k. Declares k (flattened us u s) d) (same_typing t f.typed) e)) p.declared
+  same_declarations : (t : Typing) (s : List ℕ) (d : Declarations) → IsFlattened us u t s → Declares (reached_of us n s) t (flattened us u s) d → d ≡ p.declarations
+  same_declarations t s d f e = one_declaration (reached_of us n r) p.typing (flattened us u r) d p.declarations
+      (subst (λ k. Declares (reached_of us n k) p.typing (flattened us u k) d) (same_reached t s f) (subst (λ k. Declares (reached_of us n s) k (flattened us u s) d) (same_typing t f.typed) e)) p.declared
 
   apart : OperatorsApart p.declarations.signature
-  apart = apart_declared p.typing (flattened us u r) p.declarations p.declared
+  apart = apart_declared (reached_of us n r) p.typing (flattened us u r) p.declarations p.declared
 
   -- a unit is one module
   one_more : (s : List ℕ) (b : Accepted) → IsAccepted us ms u n s b → (r ≡ s) × (a ≡ b)
@@ -234,8 +234,8 @@ module _ (us : List FlatUnit) (ms : List Accepted) (u : SeenUnit) (n r : List �
   none_refused : number_named us n ≡ None → (f : Fault) → IsRefused us ms u n f → ⊥
   none_refused new f (by_variables e) = let both : ◌≡◌ {A = Result Typing Fault} (Err f) (Ok p.typing) = sym e ∙ p.flat.typed in cc
   none_refused new f (by_imports t e fault) = imports_hold us n new u.statements r f p.flat.flat fault
-  none_refused new f (by_declarations t s flat fault) = none_at_fault u.line (flattened us u r) p.typing p.declarations f p.declared
-      (subst (λ ks. DeclarationFault u.line (flattened us u ks) f) (same_reached t s flat) fault)
+  none_refused new f (by_declarations t s flat fault) = none_at_fault (reached_of us n r) u.line (flattened us u r) p.typing p.declarations f p.declared
+      (subst (λ ks. DeclarationFault (reached_of us n ks) u.line (flattened us u ks) f) (same_reached t s flat) fault)
   none_refused new f (by_statements t s d flat e fault) =
       statements_hold n p.declarations apart (origins_of ms r) (equations_of u.statements) a p.holds u.line f
       (subst (λ k. StatementsFault u.line k (origins_of ms r) (equations_of u.statements) f) (same_declarations t s d flat e)

@@ -1,8 +1,8 @@
 -- What is printed of an accepted module's terms reads back.
-use Rattle.std.proofs.Common.{length, ◌≡◌, ◌∙◌, ◌++◌, ℕ, zero, suc, List, false, Option, Some, None, IsFalse, IsTrue, slice_get, codes, sym, ap, subst, refl, arith, inl, inr, ⊎_elim}
+use Rattle.std.proofs.Common.{length, ◌≡◌, ◌∙◌, ◌++◌, ℕ, zero, suc, List, Option, Some, None, IsTrue, slice_get, codes, sym, ap, subst, refl, arith, inl, inr, ⊎_elim}
 use Rattle.std.proofs.lemmas.Bool.{or_left, or_right, or_cases}
 use Rattle.std.proofs.lemmas.Option.{slice_get_within, none-some}
-use Rattle.std.proofs.lemmas.List.Elements.{All-map}
+use Rattle.std.proofs.lemmas.List.Elements.{All-nil, All-append, All-map}
 use Rattle.mw_lex.specs.declared.token.Token.{Token}
 use Rattle.mw_lex.specs.Texts.{IsProper, IsTokenText, AreTokens}
 use Rattle.mw_lex.proofs.Texts.{lexed_are_tokens}
@@ -14,6 +14,8 @@ use Rattle.mw_logic.specs.Module.{Statement}
 use Rattle.mw_poset.proofs.Members.{member-all}
 use Rattle.mw_text.specs.Proper.{AreProperNames}
 use Rattle.mw_text.specs.Mixfix.{Spells, IsVariableName}
+use Rattle.mw_text.specs.Proper.{HasIdentifiers, HaveIdentifiers}
+use Rattle.mw_text.proofs.Identifiers.{spelled_identifiers}
 use Rattle.mw_text.proofs.SpelledVariables.{Each, spelled_variables}
 use Rattle.mw_module.specs.Words.{texts}
 use Rattle.mw_module.specs.Tokens.{HasProperParts, AreProperStatements, IsOfTokens}
@@ -32,11 +34,11 @@ use Rattle.mw_print.specs.Laws.{AreBinary, ArePrintable, IsPrintable}
 use Rattle.mw_print.proofs.ReadBack.{printed_reads_back}
 use Rattle.mw_build.specs.Equations.{IsEquation}
 use Rattle.mw_build.specs.Imported.{Accepted, Origin, origins_in, origins_of}
-use Rattle.mw_build.specs.Modules.{IsAccepted, flattened}
-use Rattle.mw_build.specs.Printing.{AreOfTokens, none_yet, one_more, IsOfSource, IsPrintableStatement, TextsReadBack, StatementsArePrintable}
+use Rattle.mw_build.specs.Modules.{IsAccepted, flattened, reached_of}
+use Rattle.mw_build.specs.Printing.{AreCut, no_text, one_text, AreOfTokens, none_yet, one_more, IsOfTexts, IsPrintableTerm, IsPrintableStatement, TextsReadBack, StatementsArePrintable}
 use Rattle.mw_build.proofs.Pairwise.{there, either}
 use Rattle.mw_build.proofs.Loading.{flattened_all, own_within}
-use Rattle.mw_declare.proofs.Accepting.{accepted_declared, nat_declared, qid_declared}
+use Rattle.mw_declare.proofs.Accepting.{accepted_declared}
 use Rattle.mw_build.proofs.PrintedVariables.{with_sort_printable, declared_printable}
 
 -- a module of a unit that is made of tokens, where the units that were accepted have proper statements
@@ -47,7 +49,7 @@ module _ (us : List FlatUnit) (ms : List Accepted) (proper : (k : ℕ) (v : Flat
 
   declared_proper : AreProper d
   declared_proper =
-      declarations_are_proper u.statements (flattened us u reached) is.typing d (own_within us u.line reached u.statements) own is.flat.typed
+      declarations_are_proper (reached_of us name reached) u.statements (flattened us u reached) is.typing d (own_within us u.line reached u.statements) own is.flat.typed
       (flattened_all HasProperParts us proper u.line reached u.statements own) is.declared
 
   -- the signature and the variables are those that are declared
@@ -56,24 +58,21 @@ module _ (us : List FlatUnit) (ms : List Accepted) (proper : (k : ℕ) (v : Flat
 
   binary : AreBinary a.module.signature
   binary = subst AreBinary (sym signature_is)
-      (λ f o e h. let (K, L, two, k, l) = (accepted_declared is.typing (flattened us u reached) d is.declared).assoc f o e h in ap length two)
+      (λ f o e h. let (K, L, two, k, l) = (accepted_declared (reached_of us name reached) is.typing (flattened us u reached) d is.declared).assoc f o e h in ap length two)
 
   names : AreProperNames a.module.signature
   names = subst AreProperNames (sym signature_is) declared_proper.operators
 
-  nat : IsFalse a.module.signature.nat
-  nat = ap (λ (s : Signature). s.nat) signature_is ∙ nat_declared is.typing (flattened us u reached) d is.declared
-
-  qid : IsFalse a.module.signature.qid
-  qid = ap (λ (s : Signature). s.qid) signature_is ∙ qid_declared is.typing (flattened us u reached) d is.declared
-
-  -- the variables of what tokens spell
-  side_printable : (ts : List Token) (t : RawTerm) (p : ℕ) → AreTokens ts → Spells d.signature d.variables t p (texts ts) → ArePrintable d.signature t
-  side_printable ts t p tokens s x o =
+  -- the variables and the quoted identifiers of what tokens spell
+  side_printable : (ts : List Token) (t : RawTerm) (p : ℕ) → AreTokens ts → Spells d.signature d.variables t p (texts ts) → IsPrintableTerm d.signature t
+  side_printable ts t p tokens s =
       let each : Each IsTokenText (texts ts) = member-all IsTokenText (texts ts) (All-map IsTokenText (λ (t : Token). t.text) ts tokens) in
-      spelled_variables d.signature d.variables (IsPrintable d.signature) IsTokenText
-      (λ y m. declared_printable d.signature declared_proper.sorts y (member-all (IsProperVariable d.signature) d.variables declared_proper.variables y m))
-      (with_sort_printable d.signature) s each x o
+      record {
+        variables = λ x o. spelled_variables d.signature d.variables (IsPrintable d.signature) IsTokenText
+            (λ y m. declared_printable d.signature declared_proper.sorts y (member-all (IsProperVariable d.signature) d.variables declared_proper.variables y m))
+            (with_sort_printable d.signature) s each x o;
+        identifiers = spelled_identifiers d.signature d.variables s each;
+      }
 
   statement_printable : (e : Sides) (st : Statement) → AreTokens e.left × AreTokens e.right → IsEquation d.signature d.variables e st → IsPrintableStatement d.signature st
   statement_printable e st tokens equation =
@@ -118,6 +117,26 @@ mutual
     | inr k ↦ all_printable sig to vs ws cs (λ y o. p y (or_right (occurs y t) (occurs_in y vs) o)) x k
   ]
 
+-- so are quoted identifiers what they were
+mutual
+  carried_identifiers : (sig to : Signature) (t u : RawTerm) → IsCarried sig to t u → HasIdentifiers t → HasIdentifiers u
+  carried_identifiers sig to t u (a_numeral n) h = h
+  carried_identifiers sig to t u (a_quoted q) h = h
+  carried_identifiers sig to t u (a_variable y z n s) h = tt
+  carried_identifiers sig to t u (an_operator f g ts us is args) h = all_identifiers sig to ts us args h
+
+  all_identifiers : (sig to : Signature) (ts us : RawTerms) → AreCarried sig to ts us → HaveIdentifiers ts → HaveIdentifiers us
+  all_identifiers sig to ts us end h = tt
+  all_identifiers sig to ts us (next t u vs ws c cs) h = (carried_identifiers sig to t u c h.0, all_identifiers sig to vs ws cs h.1)
+
+carried_term : (sig to : Signature) (t u : RawTerm) → IsCarried sig to t u → IsPrintableTerm sig t → IsPrintableTerm to u
+carried_term sig to t u c p = record { variables = carried_printable sig to t u c p.variables; identifiers = carried_identifiers sig to t u c p.identifiers }
+
+-- texts that are cut are tokens
+cut_tokens : (texts : List (List ℕ)) (tokens : List Token) → AreCut texts tokens → AreTokens tokens
+cut_tokens texts tokens no_text = All-nil (λ (t : Token). IsTokenText t.text)
+cut_tokens texts tokens (one_text text more first rest is cut) = All-append (λ (t : Token). IsTokenText t.text) first rest (lexed_are_tokens text first is) (cut_tokens more rest cut)
+
 -- The modules of units of tokens: units have proper statements, and the modules' own statements can be printed.
 record AreFine (us : List FlatUnit) (ms : List Accepted) : Type 0 where
   pub proper : (k : ℕ) (v : FlatUnit) → slice_get us k ≡ Some v → AreProperStatements v.statements
@@ -152,9 +171,9 @@ origin_printable ms ks own e m =
         let (i, at) = member-get a.own st member in
         subst (λ (o : Origin). IsPrintableStatement o.signature o.statement) is (h a refl i st at)
 
-module _ (source : List ℕ) (a : Accepted) (of : IsOfSource source a) where
+module _ (texts : List (List ℕ)) (a : Accepted) (of : IsOfTexts texts a) where
   of_tokens : AreTokens of.tokens
-  of_tokens = lexed_are_tokens source of.tokens of.cut
+  of_tokens = cut_tokens texts of.tokens of.cut
 
   before : AreFine of.units of.modules
   before = fine of.tokens of_tokens of.units of.modules of.before
@@ -171,7 +190,7 @@ module _ (source : List ℕ) (a : Accepted) (of : IsOfSource source a) where
       let p = origin_printable of.modules of.reached before.own e (get-member origins i e there_is) in
       let c = (all.each i e st there_is at).carried in
       let sig = of.accepted.declarations.signature in
-      (carried_printable e.signature sig e.statement.left st.left c.left p.0, carried_printable e.signature sig e.statement.right st.right c.right p.1)
+      (carried_term e.signature sig e.statement.left st.left c.left p.0, carried_term e.signature sig e.statement.right st.right c.right p.1)
 
   statements_printable : (k : ℕ) (st : Statement) → at_number a.module.statements k ≡ Some st → IsPrintableStatement of.accepted.declarations.signature st
   statements_printable zero st is = cc
@@ -181,14 +200,14 @@ module _ (source : List ℕ) (a : Accepted) (of : IsOfSource source a) where
   ]
 
 pub texts_read_back : TextsReadBack
-texts_read_back source a t of raw printable =
+texts_read_back texts a t of raw printable identifiers =
     let us = of.units in
     let ms = of.modules in
-    let proper = (before source a of).proper in
-    let own = (made source a of).statements in
+    let proper = (before texts a of).proper in
+    let own = (made texts a of).statements in
     printed_reads_back a.module.signature a.variables t (binary us ms proper of.unit own a.name of.reached a of.accepted) (names us ms proper of.unit own a.name of.reached a of.accepted)
-    (nat us ms proper of.unit own a.name of.reached a of.accepted) (qid us ms proper of.unit own a.name of.reached a of.accepted) raw printable
+    raw printable identifiers
 
 pub statements_are_printable : StatementsArePrintable
-statements_are_printable source a k st of is =
-    subst (λ S. IsPrintableStatement S st) (sym of.accepted.holds.signature) (statements_printable source a of k st is)
+statements_are_printable texts a k st of is =
+    subst (λ S. IsPrintableStatement S st) (sym of.accepted.holds.signature) (statements_printable texts a of k st is)

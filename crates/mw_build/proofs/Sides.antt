@@ -23,7 +23,7 @@ use Rattle.mw_term.specs.Raws.{raw_term}
 use Rattle.mw_position.specs.Variables.{is_in, met, all_met}
 use Rattle.mw_position.proofs.Meeting.{is_in-met}
 use Rattle.mw_sorting.specs.PreregularModulo.{IsPreregularModulo}
-use Rattle.mw_logic.proofs.FreeSignature.{IsBareSignature}
+use Rattle.mw_logic.specs.Built.{HasBuiltIns}
 use Rattle.mw_least.specs.Workable.{AreSides, IsPlainEquation, IsWorkable}
 use Rattle.mw_text.specs.Mixfix.{Reads, Spells}
 use Rattle.mw_text.specs.Readings.{ReadsPair}
@@ -177,9 +177,9 @@ module _ (sig : Signature) (ok : IsPreregularModulo sig) (variables : List Varia
       }
 
 -- a module of statements that can stand in a context
-pub workable_module : (sig : Signature) → IsPreregularModulo sig → HasItsSorts sig → IsBareSignature sig → (sts : List Statement)
+pub workable_module : (sig : Signature) → IsPreregularModulo sig → HasItsSorts sig → HasBuiltIns sig → (sts : List Statement)
     → ((i : ℕ) (st : Statement) → slice_get sts i ≡ Some st → CanStand sig st) → IsWorkable (record { signature = sig; statements = sts })
-workable_module sig ok numbers bare sts all = record { signature = ok; numbers = numbers; bare = bare; sides = all_sides; equations = at_each }
+workable_module sig ok numbers built sts all = record { signature = ok; numbers = numbers; built = built; sides = all_sides; equations = at_each }
   where
     all_sides : (k : ℕ) (st : Statement) → at_number sts k ≡ Some st → AreSides sig st
     all_sides zero st is = cc

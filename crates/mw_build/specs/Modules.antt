@@ -1,6 +1,6 @@
 -- Modules that were accepted, and why others are refused.
 pub use Rattle.mw_build.specs.Imported.{Accepted}
-use Rattle.std.specs.Prelude.{◌≡◌, ◌++◌, ◌≤◌, ℕ, List, map, take, drop, length, All, slice_get, Option, IfSome, Some, Ok, Err}
+use Rattle.std.specs.Prelude.{◌≡◌, ◌++◌, ◌≤◌, ℕ, List, map, take, drop, length, All, slice_get, Option, IfSome, Some, Ok, Err, codes}
 use Rattle.std.specs.Global.{Box}
 use Rattle.mw_logic.specs.Term.{Variable}
 use Rattle.mw_sorting.specs.PreregularModulo.{IsPreregularModulo}
@@ -13,8 +13,9 @@ use Rattle.mw_index.specs.Index.{IsIndexOf}
 use Rattle.mw_logic.specs.Signature.{Signature}
 use Rattle.mw_module.specs.Known.{AreKnown}
 use Rattle.mw_module.specs.declared.faults.Fault.{Fault}
-use Rattle.mw_import.specs.Flat.{FlatUnit, IsFlat, ImportFault, all_statements}
+use Rattle.mw_import.specs.Flat.{FlatUnit, IsFlat, ImportFault, is_reached, all_statements}
 use Rattle.mw_declare.specs.declared.declarations.Declarations.{Declarations}
+use Rattle.mw_declare.specs.declared.built.Reached.{Reached}
 use Rattle.mw_declare.specs.Faults.{Typing, typing_of}
 use Rattle.mw_declare.specs.Declarations.{Declares, DeclarationFault}
 use Rattle.mw_build.specs.Sides.{Sides, equations_of}
@@ -30,6 +31,10 @@ pub record IsFlattened (us : List FlatUnit) (u : SeenUnit) (typing : Typing) (re
 -- all statements of the flattened module
 abbrev pub flattened : List FlatUnit → SeenUnit → List ℕ → List SeenLined
 flattened us u reached = all_statements us u.line reached u.statements
+
+-- the modules of numbers and of quoted identifiers, where the module of this name that reaches these units has them
+abbrev pub reached_of : List FlatUnit → List ℕ → List ℕ → Reached
+reached_of us name reached = record { nat = is_reached us reached name (codes "NAT"); qid = is_reached us reached name (codes "QID") }
 
 -- The module has this name, the signature and the variables that are declared, and for its statements these, that stand for those of the modules that it
 -- reaches, and then its own equations.
@@ -56,7 +61,7 @@ pub record IsAccepted (us : List FlatUnit) (ms : List Accepted) (u : SeenUnit) (
   pub typing : Typing
   pub flat : IsFlattened us u typing reached
   pub declarations : Declarations
-  pub declared : Declares typing (flattened us u reached) declarations
+  pub declared : Declares (reached_of us name reached) typing (flattened us u reached) declarations
   pub holds : IsDeclaredModule name declarations (origins_of ms reached) (equations_of u.statements) a
 
 -- Why it is none: the first of its own variables that has two sorts, or else its first import at fault, or else what its flattened module declares, or else its
@@ -64,9 +69,9 @@ pub record IsAccepted (us : List FlatUnit) (ms : List Accepted) (u : SeenUnit) (
 pub data IsRefused (us : List FlatUnit) (ms : List Accepted) (u : SeenUnit) (name : List ℕ) (r : Fault) : Type 0 where
   by_variables : typing_of u.statements ≡ Err r → IsRefused us ms u name r
   by_imports : (typing : Typing) → typing_of u.statements ≡ Ok typing → ImportFault us name u.statements r → IsRefused us ms u name r
-  by_declarations : (typing : Typing) (reached : List ℕ) → IsFlattened us u typing reached → DeclarationFault u.line (flattened us u reached) r
+  by_declarations : (typing : Typing) (reached : List ℕ) → IsFlattened us u typing reached → DeclarationFault (reached_of us name reached) u.line (flattened us u reached) r
       → IsRefused us ms u name r
-  by_statements : (typing : Typing) (reached : List ℕ) (d : Declarations) → IsFlattened us u typing reached → Declares typing (flattened us u reached) d
+  by_statements : (typing : Typing) (reached : List ℕ) (d : Declarations) → IsFlattened us u typing reached → Declares (reached_of us name reached) typing (flattened us u reached) d
       → StatementsFault u.line d (origins_of ms reached) (equations_of u.statements) r → IsRefused us ms u name r
 
 -- what an accepted unit's module has of what the unit declares: its signature, whatever line faults are told at
@@ -74,7 +79,7 @@ pub record IsOfUnit (us : List FlatUnit) (u : FlatUnit) (m : Accepted) : Type 0 
   pub line : ℕ
   pub typing : Typing
   pub declarations : Declarations
-  pub declared : Declares typing (all_statements us line u.reached u.statements) declarations
+  pub declared : Declares (reached_of us u.name u.reached) typing (all_statements us line u.reached u.statements) declarations
   pub signature : m.module.signature ≡ declarations.signature
 
 -- These units were accepted as these modules, of the same names, one by one; and the statements of the units are known.
@@ -92,13 +97,14 @@ pub record IsHeld (M : Module) (imported : ℕ) (variables : List Variable) (g :
 
 -- declarations of statements that are known, among which those with the module's own variables are
 pub record IsOfKnown (d : Declarations) : Type 0 where
+  pub reached : Reached
   pub own : List SeenLined
   pub statements : List SeenLined
   pub typing : Typing
   pub typed : typing_of own ≡ Ok typing
   pub within : IsWithin own statements
   pub known : AreKnown statements
-  pub declared : Declares typing statements d
+  pub declared : Declares reached typing statements d
 
 -- The first so many statements stand for those of others, and the rest for the equations.
 pub record AreAll (sig : Signature) (variables : List Variable) (origins : List Origin) (equations : List Sides) (imported : ℕ) (sts : List Statement) : Type 0 where

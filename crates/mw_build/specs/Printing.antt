@@ -9,6 +9,7 @@ use Rattle.mw_module.specs.Units.{SeenUnit, Reads}
 use Rattle.mw_import.specs.Flat.{FlatUnit}
 use Rattle.mw_print.specs.Printing.{mixfix_text}
 use Rattle.mw_print.specs.Laws.{ArePrintable, ReadsBack}
+use Rattle.mw_text.specs.Proper.{HasIdentifiers}
 use Rattle.mw_build.specs.Modules.{Accepted, IsAccepted}
 
 -- These modules are of units of these tokens, each accepted where those before it were.
@@ -18,10 +19,15 @@ pub data AreOfTokens (tokens : List Token) : List FlatUnit → List Accepted →
       → Reads false tokens at (Ok u) next → IsAccepted us ms u name reached a
       → AreOfTokens tokens (us ++ record { name = name; statements = u.statements; reached = reached } ∷ []) (ms ++ a ∷ [])
 
--- The module is that of a unit of this source, and so are those that were accepted before it.
-pub record IsOfSource (source : List ℕ) (a : Accepted) : Type 0 where
+-- the tokens of texts, one text after another
+pub data AreCut : List (List ℕ) → List Token → Type 0 where
+  no_text : AreCut [] []
+  one_text : (text : List ℕ) (texts : List (List ℕ)) (first more : List Token) → tokens_of text ≡ Ok first → AreCut texts more → AreCut (text ∷ texts) (first ++ more)
+
+-- The module is that of a unit of these texts, of which one may be a prelude and the next one a source; and so are those that were accepted before it.
+pub record IsOfTexts (texts : List (List ℕ)) (a : Accepted) : Type 0 where
   pub tokens : List Token
-  pub cut : tokens_of source ≡ Ok tokens
+  pub cut : AreCut texts tokens
   pub units : List FlatUnit
   pub modules : List Accepted
   pub before : AreOfTokens tokens units modules
@@ -32,17 +38,22 @@ pub record IsOfSource (source : List ℕ) (a : Accepted) : Type 0 where
   pub reached : List ℕ
   pub accepted : IsAccepted units modules unit a.name reached a
 
--- The text of each raw term of an accepted module, cut into tokens, spells this term in the module; where the term's variables can be printed. So it is for each
--- ground term.
+-- The text of each raw term of an accepted module, cut into tokens, spells this term in the module; where the term's variables can be printed, and its quoted
+-- identifiers are tokens. So it is for each ground term that a text spells.
 abbrev pub TextsReadBack : Type 0
-TextsReadBack = (source : List ℕ) (a : Accepted) (t : RawTerm) → IsOfSource source a → IsRawTerm a.module.signature t → ArePrintable a.module.signature t
+TextsReadBack = (texts : List (List ℕ)) (a : Accepted) (t : RawTerm) → IsOfTexts texts a → IsRawTerm a.module.signature t → ArePrintable a.module.signature t → HasIdentifiers t
     → ReadsBack a.module.signature a.variables t (mixfix_text a.module.signature t)
 
--- the variables of its sides can be printed
-abbrev pub IsPrintableStatement : Signature → Statement → Type 0
-IsPrintableStatement sig st = ArePrintable sig st.left × ArePrintable sig st.right
+-- the variables of a term can be printed, and its quoted identifiers
+pub record IsPrintableTerm (sig : Signature) (t : RawTerm) : Type 0 where
+  pub variables : ArePrintable sig t
+  pub identifiers : HasIdentifiers t
 
--- The variables of an accepted module's statements can be printed.
+-- so can those of its sides
+abbrev pub IsPrintableStatement : Signature → Statement → Type 0
+IsPrintableStatement sig st = IsPrintableTerm sig st.left × IsPrintableTerm sig st.right
+
+-- The variables and quoted identifiers of an accepted module's statements can be printed.
 abbrev pub StatementsArePrintable : Type 0
-StatementsArePrintable = (source : List ℕ) (a : Accepted) (k : ℕ) (st : Statement) → IsOfSource source a → at_number a.module.statements k ≡ Some st
+StatementsArePrintable = (texts : List (List ℕ)) (a : Accepted) (k : ℕ) (st : Statement) → IsOfTexts texts a → at_number a.module.statements k ≡ Some st
     → IsPrintableStatement a.module.signature st

@@ -1,7 +1,9 @@
 // Modules that were accepted.
-ghost use Rattle.std.specs.Prelude.{◌≡◌, ◌≤◌, ◌++◌, ℕ, List, length, drop, All, IfOk, IfErr, IfSome, None};
+ghost use Rattle.std.specs.Prelude.{◌≡◌, ◌≤◌, ◌++◌, ℕ, List, length, drop, All, IfOk, IfErr, IfSome, None, IsTrue, codes};
 ghost use Rattle.mw_logic.specs.Term.{Variable};
-ghost use Rattle.mw_logic.specs.Signature.{IsRawTerm};
+ghost use Rattle.mw_logic.specs.Signature.{IsRawTerm, IsSortNamed};
+ghost use Rattle.mw_logic.specs.Built.{HasBuiltIns};
+ghost use Rattle.mw_sorting.specs.PreregularModulo.{HasNaturals};
 ghost use Rattle.mw_logic.specs.Accepted.{IsAccepted as IsAcceptedSignature, IsWellSorted};
 ghost use Rattle.mw_logic.specs.Preregular.{HasItsSorts};
 ghost use Rattle.mw_term.specs.Raws.{raw_term};
@@ -22,13 +24,14 @@ ghost use Rattle.mw_declare.specs.Declarations.{Declares, DeclarationFault};
 ghost use Rattle.mw_build.specs.Sides.{equations_of};
 ghost use Rattle.mw_build.specs.Equations.{AreEquations, FirstFault};
 ghost use Rattle.mw_build.specs.Imported.{IsUnconditional, ArePartsOf, origins_of};
-ghost use Rattle.mw_build.specs.Modules.{IsDeclaredModule, StatementsFault, IsAccepted, IsRefused, AreLoaded, AreAll, NotAll, IsOfKnown, flattened};
+ghost use Rattle.mw_build.specs.Modules.{IsDeclaredModule, StatementsFault, IsAccepted, IsRefused, AreLoaded, AreAll, NotAll, IsOfKnown};
+ghost use Rattle.mw_build.specs.Modules.{reached_of, flattened};
 
 use crate::carrying::imported;
 use crate::equations::{equations, statements_of};
 use crate::signature::tables;
 use mw_canon::Facts;
-use mw_declare::{Declarations, Typing, all_typed, declare};
+use mw_declare::{Declarations, Reached, Typing, all_typed, declare};
 use mw_grammar::Grammar;
 use mw_import::{Flat, Units};
 use mw_index::Index;
@@ -313,6 +316,9 @@ fn declared_module(
     requires accepted { IsAcceptedSignature declarations.value.signature }
     requires well_sorted { IsWellSorted declarations.value.signature }
     requires sorts { HasItsSorts declarations.value.signature }
+    requires naturals { IsTrue declarations.value.signature.nat → HasNaturals declarations.value.signature }
+    requires quoted { IsTrue declarations.value.signature.qid → (S : ℕ) × IsSortNamed declarations.value.signature S (codes "Qid") }
+    requires built { HasBuiltIns declarations.value.signature }
     ensures holds { IfOk result (IsDeclaredModule name declarations.value (origins_of modules.now reached.now) (equations_of (seen_unit unit.now).statements)) }
     ensures fault { IfErr result (HasCause (StatementsFault (seen_unit unit.now).line declarations.value (origins_of modules.now reached.now) (equations_of (seen_unit unit.now).statements))) }
 {
@@ -333,25 +339,33 @@ fn declared_module(
     Ok(module_of(alloc, name, signed, grammar, statements)?)
 }
 
-/// What the flattened module of a unit declares, whose own variables have these sorts and which reaches these units; or
-/// its first fault.
+/// What the flattened module of a unit declares, which has this name, whose own variables have these sorts and which
+/// reaches these units; or its first fault.
 fn flattened_declarations(
     alloc: Global,
     units: &Units<'_>,
     unit: &Unit<'_>,
+    name: &[u8],
     typing: &Typing,
     flat: &Flat,
 ) -> Result<Box<Declarations>, UnitError>
     requires flat { IsFlat units.now (seen_unit unit.now).statements flat.now }
-    ensures declared { IfOk result (λ d. Declares typing.now (flattened units.now (seen_unit unit.now) flat.now) d.value) }
+    ensures declared { IfOk result (λ d. Declares (reached_of units.now name.now flat.now) typing.now (flattened units.now (seen_unit unit.now) flat.now) d.value) }
     ensures order { IfOk result (λ d. d.value.order ≡ order_of d.value.signature) }
     ensures accepted { IfOk result (λ d. IsAcceptedSignature d.value.signature) }
     ensures well_sorted { IfOk result (λ d. IsWellSorted d.value.signature) }
     ensures numbers { IfOk result (λ d. HasItsSorts d.value.signature) }
-    ensures fault { IfErr result (HasCause (DeclarationFault (seen_unit unit.now).line (flattened units.now (seen_unit unit.now) flat.now))) }
+    ensures naturals { IfOk result (λ d. IsTrue d.value.signature.nat → HasNaturals d.value.signature) }
+    ensures quoted { IfOk result (λ d. IsTrue d.value.signature.qid → (S : ℕ) × IsSortNamed d.value.signature S (codes "Qid")) }
+    ensures built { IfOk result (λ d. HasBuiltIns d.value.signature) }
+    ensures fault { IfErr result (HasCause (DeclarationFault (reached_of units.now name.now flat.now) (seen_unit unit.now).line (flattened units.now (seen_unit unit.now) flat.now))) }
 {
     let statements = units.statements(alloc, unit.line, flat, unit.statements.as_slice())?;
-    declare(alloc, unit.line, typing, statements.as_slice())
+    let reached = Reached {
+        nat: units.reaches(flat, name, b"NAT"),
+        qid: units.reaches(flat, name, b"QID"),
+    };
+    declare(alloc, unit.line, reached, typing, statements.as_slice())
 }
 
 /// A module, with the units that it reaches.
@@ -377,7 +391,8 @@ pub fn build(
     units.shows();
     let typing = all_typed(alloc, unit.statements.as_slice())?;
     let flat = units.flatten(alloc, name.as_slice(), unit.statements.as_slice())?;
-    let declarations = flattened_declarations(alloc, units, unit, &typing, &flat)?;
+    let declarations =
+        flattened_declarations(alloc, units, unit, name.as_slice(), &typing, &flat)?;
     let module = declared_module(alloc, name, unit, modules, flat.as_slice(), declarations)?;
     Ok(Built { flat, module })
 }

@@ -69,29 +69,34 @@ module _ {X : Type 0} (p : X → Bool) where
       of true h k more = cc
       of false h k more = let low = more h k in omega (arith, low)
 
-module _ (us more : List FlatUnit) (k : ℕ) (u : FlatUnit) (name : List ℕ) (all : AreAccepted us) (at : slice_get us k ≡ Some u) where
+module _ (us more : List FlatUnit) (reached own name : List ℕ) (low : (j : ℕ) → Member j reached → j < length us) where
   abbrev is : FlatUnit → Bool
   is v = bytes_eq name v.name
 
-  kept_among : is_unit_among u.reached (number_named (us ++ more) name) ≡ is_unit_among u.reached (number_named us name)
+  kept_among : is_unit_among reached (number_named (us ++ more) name) ≡ is_unit_among reached (number_named us name)
   kept_among = of (number_named us name) refl
     where
-      lacking : number_named us name ≡ None → (o : Option ℕ) → number_named (us ++ more) name ≡ o → is_unit_among u.reached o ≡ false
+      lacking : number_named us name ≡ None → (o : Option ℕ) → number_named (us ++ more) name ≡ o → is_unit_among reached o ≡ false
       lacking e None f = refl
-      lacking e (Some j) f = by (is_among j u.reached) refl
+      lacking e (Some j) f = by (is_among j reached) refl
         where
-          by : (b : Bool) → is_among j u.reached ≡ b → b ≡ false
+          by : (b : Bool) → is_among j reached ≡ b → b ≡ false
           by false h = refl
           by true h =
-              let low : j < k = all.before k u at j (among_member j u.reached h) in
-              let inside : k < length us = slice_get_within us k u at in
+              let inside : j < length us = low j (among_member j reached h) in
               let high : 0 + length us ≤ j = behind is us more 0 j (sym (position_from-zero is us) ∙ e) (sym (position_from-zero is (us ++ more)) ∙ f) in
-              absurd (omega (arith, low, inside, high))
+              absurd (omega (arith, inside, high))
 
-      of : (o : Option ℕ) → number_named us name ≡ o → is_unit_among u.reached (number_named (us ++ more) name) ≡ is_unit_among u.reached o
+      of : (o : Option ℕ) → number_named us name ≡ o → is_unit_among reached (number_named (us ++ more) name) ≡ is_unit_among reached o
       of None e = lacking e (number_named (us ++ more) name) refl
-      of (Some j) e = ap (is_unit_among u.reached) (position_from-zero is (us ++ more) ∙ stays is us more 0 j (sym (position_from-zero is us) ∙ e))
+      of (Some j) e = ap (is_unit_among reached) (position_from-zero is (us ++ more) ∙ stays is us more 0 j (sym (position_from-zero is us) ∙ e))
 
   -- more units change nothing
-  pub reaches_kept : is_reached (us ++ more) u.reached u.name name ≡ is_reached us u.reached u.name name
-  reaches_kept = ap (λ b. bytes_eq u.name name || b) kept_among
+  pub reached_stays : is_reached (us ++ more) reached own name ≡ is_reached us reached own name
+  reached_stays = ap (λ b. bytes_eq own name || b) kept_among
+
+-- nor for an accepted unit
+pub reaches_kept : (us more : List FlatUnit) (k : ℕ) (u : FlatUnit) (name : List ℕ) → AreAccepted us → slice_get us k ≡ Some u
+    → is_reached (us ++ more) u.reached u.name name ≡ is_reached us u.reached u.name name
+reaches_kept us more k u name all at =
+    reached_stays us more u.reached u.name name (λ j m. let low = all.before k u at j m in let inside = slice_get_within us k u at in omega (arith, low, inside))

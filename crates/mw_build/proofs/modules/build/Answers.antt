@@ -8,7 +8,7 @@ use Rattle.mw_declare.specs.Faults.{typing_of}
 use Rattle.mw_declare.specs.Declarations.{DeclarationFault}
 use Rattle.mw_build.specs.Sides.{equations_of}
 use Rattle.mw_build.specs.Imported.{ArePartsOf, origins_of}
-use Rattle.mw_build.specs.Modules.{IsFlattened, IsRefused, StatementsFault, by_imports, by_declarations, by_statements, flattened}
+use Rattle.mw_build.specs.Modules.{IsFlattened, IsRefused, StatementsFault, by_imports, by_declarations, by_statements, flattened, reached_of}
 use Rattle.mw_build.proofs.Loading.{loaded_parts, flattened_all, own_within}
 use Rattle.mw_build.proofs.modules.build.Goals as goal
 
@@ -30,7 +30,7 @@ returns-in_err-declarations-clause-fault c =
       typed = subst (λ (ts : List Lined). typing_of (map seen_lined ts) ≡ Ok c.in_ok-typing.typing) c.as_slice.ensures.value c.in_ok-typing.ensures.typed;
       flat = subst (λ (ts : List Lined). IsFlat us (map seen_lined ts) c.in_ok-flat.flat) c.as_slice-3.ensures.value c.in_ok-flat.ensures.flat;
     } in
-    passed_on (DeclarationFault u.line (flattened us u c.in_ok-flat.flat)) (IsRefused us c.args.modules.now u c.args.name)
+    passed_on (DeclarationFault (reached_of us c.as_slice-4.result.now c.in_ok-flat.flat) u.line (flattened us u c.in_ok-flat.flat)) (IsRefused us c.args.modules.now u c.args.name)
     (λ f h. by_declarations c.in_ok-typing.typing c.in_ok-flat.flat flat h)
     c.from_residual-in_err-declarations.result c.in_err-declarations.field-0.0 c.from_residual-in_err-declarations.ensures.1 c.in_err-declarations.ensures.fault
 
@@ -40,6 +40,7 @@ declared_module-requires-clause-declared c =
     let u = seen_unit c.args.unit.now in
     let reached = c.in_ok-flat.flat in
     record {
+      reached = reached_of us c.as_slice-4.result.now reached;
       own = u.statements;
       statements = flattened us u reached;
       typing = c.in_ok-typing.typing;

@@ -1,14 +1,12 @@
-use Rattle.std.proofs.Common.{◌≡◌, ◌∙◌, IsTrue, List, ap, refl, subst, sym}
-use Rattle.std.proofs.lemmas.Bool.{both_ways}
-use Rattle.mw_logic.specs.Signature.{Signature}
+use Rattle.std.proofs.Common.{◌≡◌, ◌∙◌, ℕ, IsTrue, List, ap, codes, refl, subst, sym}
+use Rattle.mw_logic.specs.Signature.{Signature, IsSortNamed}
 use Rattle.mw_logic.specs.Term.{Variable}
 use Rattle.mw_logic.specs.Module.{Statement}
-use Rattle.mw_sorting.specs.PreregularModulo.{IsPreregularModulo}
+use Rattle.mw_sorting.specs.PreregularModulo.{HasNaturals, IsPreregularModulo}
 use Rattle.mw_module.specs.Units.{seen_unit}
 use Rattle.mw_module.proofs.Causes.{passed_on}
 use Rattle.mw_grammar.specs.Readable.{IsReadable, AreVariables}
 use Rattle.mw_declare.specs.declared.declarations.Declarations.{Declarations}
-use Rattle.mw_declare.proofs.Accepting.{nat_declared, qid_declared}
 use Rattle.mw_least.specs.Workable.{IsWorkable}
 use Rattle.mw_build.specs.declared.modules.Signed.{Signed}
 use Rattle.mw_build.specs.Sides.{Sides, equations_of}
@@ -16,19 +14,15 @@ use Rattle.mw_build.specs.Imported.{Origin, ArePartsOf, origins_of}
 use Rattle.mw_build.specs.SignatureFaults.{SignatureFault}
 use Rattle.mw_build.specs.Modules.{StatementsFault, by_signature, AreAll, NotAll}
 use Rattle.mw_build.proofs.Accepting.{grammar_held, declared_by, not_all, own_plain, all_stand}
-use Rattle.mw_build.proofs.Readable.{readable_declared, sorted_variables, variables_declared, bare_declared}
+use Rattle.mw_build.proofs.Readable.{readable_declared, sorted_variables, variables_declared}
 use Rattle.mw_build.proofs.Sides.{workable_module}
 use Rattle.mw_build.proofs.modules.declared_module.Goals as goal
 
 pub tables-requires-clause-numbers : goal.tables-requires-clause-numbers
-tables-requires-clause-numbers c = λ h.
-    let k = c.requires.declared in
-    absurd (both_ways _ (nat_declared k.typing k.statements c.args.declarations.value k.declared) (subst (λ (d : Declarations). IsTrue d.signature.nat) c.deref.ensures h))
+tables-requires-clause-numbers c = subst (λ (d : Declarations). IsTrue d.signature.nat → HasNaturals d.signature) (sym c.deref.ensures) c.requires.naturals
 
 pub tables-requires-clause-quotes : goal.tables-requires-clause-quotes
-tables-requires-clause-quotes c = λ h.
-    let k = c.requires.declared in
-    absurd (both_ways _ (qid_declared k.typing k.statements c.args.declarations.value k.declared) (subst (λ (d : Declarations). IsTrue d.signature.qid) c.deref.ensures h))
+tables-requires-clause-quotes c = subst (λ (d : Declarations). IsTrue d.signature.qid → (S : ℕ) × IsSortNamed d.signature S (codes "Qid")) (sym c.deref.ensures) c.requires.quoted
 
 pub returns-in_err-tables-clause-fault : goal.returns-in_err-tables-clause-fault
 returns-in_err-tables-clause-fault c =
@@ -100,7 +94,7 @@ module_of-requires-clause-workable c =
     let d = c.args.declarations.value in
     let k = c.requires.declared in
     subst (λ (S : Signature). IsWorkable (record { signature = S; statements = sts c })) (sym c.in_ok-signed.ensures.facts)
-    (workable_module d.signature (preregular c) c.requires.sorts (bare_declared d k) (sts c)
+    (workable_module d.signature (preregular c) c.requires.sorts c.requires.built (sts c)
     (all_stand d.signature (preregular c) d.variables (sorted_variables d k) (origins c) (equations c) c.in_ok-statements.statements.imported (sts c) (all c)))
 
 pub module_of-requires-clause-grammar : goal.module_of-requires-clause-grammar
