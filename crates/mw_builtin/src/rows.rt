@@ -1,13 +1,13 @@
 // The table of the operators' schemata.
 ghost use Rattle.std.specs.Prelude.{◌≡◌, ◌↔◌, ◌<◌, ◌+◌, ℕ, List, [], ◌∷◌, length, IfOk, IsTrue, codes};
 ghost use Rattle.mw_logic.specs.Accepted.{IsAccepted};
-ghost use Rattle.mw_logic.specs.Module.{AreKindsOf, sort_of_result};
+ghost use Rattle.mw_logic.specs.Module.{AreKindsOf, IsBuiltIn, IsNamed, spelling_of, sort_of_result};
 ghost use Rattle.mw_logic.specs.Preregular.{HasItsSorts};
 ghost use Rattle.mw_logic.specs.Signature.{Signature as SignatureOf, IsOperator, Member};
 ghost use Rattle.mw_poset.specs.Order.{IsSort};
 ghost use Rattle.mw_poset.specs.SortOrder.{order_of};
 ghost use Rattle.mw_builtin.specs.Kinds.{IsKindNamed, AreKindsFor, HasSorts};
-ghost use Rattle.mw_builtin.specs.Schemata.{AreSchemas, IsSchemaOf, Computes, on_numbers};
+ghost use Rattle.mw_builtin.specs.Schemata.{AreSchemas, IsSchemaOf, Computes, on_numbers as on_numbers_of};
 ghost use Rattle.mw_builtin.specs.Spellings.{IsSpelled};
 
 use crate::schema::{BuiltIn, Schema};
@@ -95,21 +95,50 @@ fn computes(
     match schema {
         Schema::Nothing => false,
         Schema::Number(on_numbers) => {
-            let result = result_kind(kinds, on_numbers);
-            signature.nat
-                && are_two(order, kinds.numbers, operator.args.as_slice())
-                && is_of(order, result, operator.result)
+            is_on_numbers(signature, order, kinds, operator, on_numbers)
         }
         Schema::Equality | Schema::Inequality | Schema::Choice => operator.built,
-        Schema::Truth(_) => {
-            operator.args.as_slice().is_empty() && is_of(order, kinds.truths, operator.result)
-        }
+        Schema::Truth(_) => is_truth(order, kinds, operator),
     }
+}
+
+/// Whether an operator with the spelling of one on numbers takes two numbers and gives what that one does.
+fn is_on_numbers(
+    signature: &Signature,
+    order: &Poset,
+    kinds: Kinds,
+    operator: &Operator,
+    on_numbers: BuiltIn,
+) -> bool
+    requires accepted { IsAccepted signature.now }
+    requires order { order.now ≡ order_of signature.now }
+    requires kinds { AreKindsFor signature.now kinds }
+    requires sorts { HasSorts order.now.sorts operator.now }
+    ensures { (f : ℕ) → IsOperator signature.now f operator.now → spelling_of (on_numbers_of on_numbers) ≡ operator.now.spelling → (IsTrue result ↔ IsBuiltIn signature.now f (on_numbers_of on_numbers)) }
+{
+    if !signature.nat {
+        return false;
+    }
+    if !are_two(order, kinds.numbers, operator.args.as_slice()) {
+        return false;
+    }
+    is_of(order, result_kind(kinds, on_numbers), operator.result)
+}
+
+/// Whether an operator takes nothing and gives a truth value.
+fn is_truth(order: &Poset, kinds: Kinds, operator: &Operator) -> bool
+    requires { HasSorts order.now.sorts operator.now }
+    ensures { (sig : SignatureOf) (f : ℕ) (spelling : List ℕ) → IsAccepted sig → order.now ≡ order_of sig → AreKindsFor sig kinds → IsOperator sig f operator.now → spelling ≡ operator.now.spelling → (IsTrue result ↔ IsNamed sig f spelling [] (codes "Bool")) }
+{
+    if !operator.args.as_slice().is_empty() {
+        return false;
+    }
+    is_of(order, kinds.truths, operator.result)
 }
 
 /// The kind of what an operator on numbers gives: comparisons give a truth value.
 fn result_kind(kinds: Kinds, operator: BuiltIn) -> Option<KindId>
-    ensures { (sig : SignatureOf) → AreKindsFor sig kinds → IsKindNamed sig (sort_of_result (on_numbers operator)) result }
+    ensures { (sig : SignatureOf) → AreKindsFor sig kinds → IsKindNamed sig (sort_of_result (on_numbers_of operator)) result }
 {
     match operator {
         BuiltIn::LessThan | BuiltIn::AtMost | BuiltIn::MoreThan | BuiltIn::AtLeast => kinds.truths,

@@ -1,0 +1,4 @@
+-- Laws of the schemata.
+pub mod Denoting
+pub mod Naming
+pub mod Neighbours
