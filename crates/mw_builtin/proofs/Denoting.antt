@@ -1,16 +1,20 @@
 -- What two numbers give, in a signature with its truth values.
-use Rattle.std.specs.Prelude.{◌≡◌, ◌⊎◌, ℕ, zero, suc, ◌+◌, ◌≤◌, ◌<◌, List, length, get_or, Bool, true, Option, Some, None, unwrap_or, MatchOption, refl}
+use Rattle.std.specs.Prelude.{◌≡◌, ◌⊎◌, ℕ, zero, suc, ◌+◌, ◌≤◌, ◌<◌, List, [], ◌∷◌, length, get_or, Bool, true, false, ◌==◌, Option, Some, None, unwrap_or, MatchOption, refl}
 use Rattle.std.proofs.Common.{inl, inr, arith, ap, sym, subst, ◌∙◌}
-use Rattle.std.proofs.lemmas.Bool.{cases_lt}
+use Rattle.std.proofs.lemmas.Bool.{both_ways, cases_lt}
 use Rattle.std.proofs.lemmas.Option.{slice_get_past, unwrap_or-slice_get}
-use Rattle.mw_logic.specs.Term.{RawTerm, numeral}
+use Rattle.mw_logic.specs.Term.{RawTerm, numeral, apply, nil, constant}
+use Rattle.mw_logic.specs.Terms.{terms_of}
 use Rattle.mw_logic.specs.Signature.{Signature, at_number}
-use Rattle.mw_logic.specs.Module.{BuiltIn, Result, truth, result_of}
+use Rattle.mw_logic.specs.Module.{BuiltIn, Result, truth, plus, times, result_of, IsBuiltIn}
 use Rattle.mw_builtin.specs.Results.{IsBarren, AreBarren, DoGive, IsFound, IsFoundOrBarren, IsFoundInEither}
-use Rattle.mw_builtin.specs.Schemata.{IsConstantFor, AreSchemas, Computes, IsNamedTruth}
+use Rattle.mw_builtin.specs.Schemata.{IsConstantFor, AreSchemas, IsSchemaOf, Computes, IsNamedTruth, on_numbers, of_sum}
 use Rattle.mw_builtin.specs.declared.pairs.Found.{Found}
 use Rattle.mw_builtin.specs.declared.schema.Schema.{Schema}
-use Rattle.mw_builtin.specs.declared.schema.Schema.TheVariants.{Nothing, Truth}
+use Rattle.mw_builtin.specs.declared.schema.Schema.TheVariants.{Nothing, Number, Truth}
+use Rattle.mw_builtin.specs.declared.schema.BuiltIn.{BuiltIn as OnNumbers}
+use Rattle.mw_builtin.specs.declared.schema.BuiltIn.TheVariants.{Plus, Times}
+use Rattle.mw_builtin.specs.declared.table.Sum.{Sum}
 
 -- without a constant a truth value is nothing
 pub no_constant : (sig : Signature) (b : Bool) → IsConstantFor sig b None → IsBarren sig (truth b)
@@ -65,3 +69,27 @@ none_names sig rows b n all l h c named = by_place c (sym ((all c).only (Truth b
         by_case : (j < n) ⊎ (n ≤ j) → ⊥
         by_case (inl k) = h (suc j) (omega arith) e
         by_case (inr k) = nothing_there (at_number rows (suc j)) (slice_get_past rows j (omega (arith, l))) e
+
+-- an operator on arguments that is a constant
+pub same_constant : {f c : ℕ} (ts : List RawTerm) → apply f (terms_of ts) ≡ constant c → (f ≡ c) × (terms_of ts ≡ nil)
+same_constant ts e = (cc, cc)
+
+pub has_none : {X : Type 0} (ts : List RawTerm) (b : Bool) → b ≡ (length ts == 0) → b ≡ false → terms_of ts ≡ nil → X
+has_none [] b h k e = absurd (both_ways _ k h)
+has_none (t ∷ ts) b h k e = cc
+
+number_inj : {a b : OnNumbers} → Number a ≡ Number b → a ≡ b
+number_inj e = cc
+
+-- a sum or product by its schema, and without one
+pub sums : (sig : Signature) (f : ℕ) (b : OnNumbers) (x : Option Sum) → IsSchemaOf sig f (Number b) → MatchOption x ((on_numbers b ≡ plus → ⊥) × (on_numbers b ≡ times → ⊥)) (λ s. on_numbers b ≡ of_sum s)
+    → MatchOption x ((IsBuiltIn sig f plus → ⊥) × (IsBuiltIn sig f times → ⊥)) (λ s. IsBuiltIn sig f (of_sum s))
+sums sig f b None h k = (λ p. k.0 (sym (ap on_numbers (number_inj (h.only (Number Plus) p)))), λ p. k.1 (sym (ap on_numbers (number_inj (h.only (Number Times) p)))))
+sums sig f b (Some s) h k = by_schema h.computes
+  where
+    by_schema : (Number b ≡ Nothing) ⊎ Computes sig f (Number b) → IsBuiltIn sig f (of_sum s)
+    by_schema (inl e) = cc
+    by_schema (inr p) = subst (IsBuiltIn sig f) k p
+
+pub no_sums : (sig : Signature) (f : ℕ) (s : Schema) → IsSchemaOf sig f s → ((b : OnNumbers) → s ≡ Number b → ⊥) → (IsBuiltIn sig f plus → ⊥) × (IsBuiltIn sig f times → ⊥)
+no_sums sig f s h differs = (λ p. differs Plus (sym (h.only (Number Plus) p)), λ p. differs Times (sym (h.only (Number Times) p)))

@@ -1,6 +1,8 @@
 -- Neighbours among arguments that give nothing: then, in order, no two of them do.
-use Rattle.std.specs.Prelude.{◌≡◌, ◌⊎◌, ◌<◌, ◌≤◌, ◌+◌, ◌-◌, ◌*◌, ◌^◌, ◌/◌, ◌%◌, ℕ, zero, suc, Bool, true, false, cond, min, max, nat_lt, nat_le, refl, ⊤}
+use Rattle.std.specs.Prelude.{◌≡◌, ◌⊎◌, ◌<◌, ◌≤◌, ◌+◌, ◌-◌, ◌*◌, ◌^◌, ◌/◌, ◌%◌, ℕ, zero, suc, List, [], ◌∷◌, length, get_or, drop, Bool, true, false, cond, min, max, nat_lt, nat_le, refl, ⊤}
 use Rattle.std.proofs.Common.{inl, inr, arith, ap, sym, subst, ◌∙◌}
+use Rattle.std.proofs.lemmas.List.{drop_more, length-drop}
+use Rattle.mw_logic.specs.Terms.{terms_of}
 use Rattle.std.specs.Ordering.{nat_cmp, is_gt}
 use Rattle.std.proofs.lemmas.Bool.{both_ways, cases_eq, cases_lt, lt-ltb, le-ltb}
 use Rattle.mw_logic.specs.Term.{RawTerm, numeral, quoted, variable, apply, RawTerms, nil, cons, join}
@@ -188,3 +190,38 @@ module _ (sig : Signature) (b : BuiltIn) where
   pub quiet_past : (c : Bool) (t : RawTerm) (ts : RawTerms) → is_number t ≡ false → Climbs (cons t ts) → Quiet sig b c (cons t ts)
   quiet_past c t nil h k = tt
   quiet_past c t (cons u us) h k = (others_barren sig b c t u h, quiet_past c u us (others_behind t u h k.0.0) k.1)
+
+-- two neighbours in a list, from the first on
+pub two_behind : (xs : List RawTerm) (i : ℕ) (x y : RawTerm) → 1 ≤ i → i < length xs → x ≡ get_or xs (i - 1) x → y ≡ get_or xs i y → drop (i - 1) xs ≡ x ∷ y ∷ drop (i + 1) xs
+two_behind xs i x y h k e f =
+    let next : i - 1 + 1 ≡ i = omega (arith, h) in
+    let behind : drop i xs ≡ y ∷ drop (i + 1) xs = drop_more xs i y k ∙ ap (λ z. z ∷ drop (i + 1) xs) (sym f) in
+    drop_more xs (i - 1) x (omega (arith, h, k)) ∙ ap (λ z. z ∷ drop (i - 1 + 1) xs) (sym e) ∙ ap (λ j. x ∷ drop j xs) next ∙ ap (λ zs. x ∷ zs) behind
+
+short_quiet : (sig : Signature) (b : BuiltIn) (c : Bool) (xs : List RawTerm) → length xs ≤ 1 → Quiet sig b c (terms_of xs)
+short_quiet sig b c [] h = tt
+short_quiet sig b c (x ∷ []) h = tt
+short_quiet sig b c (x ∷ y ∷ xs) h = absurd (omega arith)
+
+-- one step on, at the end, and where no numeral follows
+pub quiet_step : (sig : Signature) (b : BuiltIn) (c : Bool) (xs : List RawTerm) (i : ℕ) (x y : RawTerm) → 1 ≤ i → i < length xs → x ≡ get_or xs (i - 1) x → y ≡ get_or xs i y → AreBarren sig b c x y
+    → Quiet sig b c (terms_of (drop (i + 1 - 1) xs)) → Quiet sig b c (terms_of (drop (i - 1) xs))
+quiet_step sig b c xs i x y h k e f a q =
+    let same : i + 1 - 1 ≡ i = omega arith in
+    let behind : drop i xs ≡ y ∷ drop (i + 1) xs = drop_more xs i y k ∙ ap (λ z. z ∷ drop (i + 1) xs) (sym f) in
+    subst (λ zs. Quiet sig b c (terms_of zs)) (sym (two_behind xs i x y h k e f)) (a, subst (λ zs. Quiet sig b c (terms_of zs)) (ap (λ j. drop j xs) same ∙ behind) q)
+
+pub quiet_end : (sig : Signature) (b : BuiltIn) (c : Bool) (xs : List RawTerm) (i : ℕ) → length xs ≤ i → Quiet sig b c (terms_of (drop (i - 1) xs))
+quiet_end sig b c xs i h = short_quiet sig b c (drop (i - 1) xs) (let l : length (drop (i - 1) xs) ≡ length xs - (i - 1) = length-drop (i - 1) xs in omega (arith, l, h))
+
+climbs_behind : (i : ℕ) (xs : List RawTerm) → Climbs (terms_of xs) → Climbs (terms_of (drop i xs))
+climbs_behind zero xs h = h
+climbs_behind (suc i) [] h = h
+climbs_behind (suc i) (x ∷ xs) h = climbs_behind i xs h.1
+
+pub quiet_rest : (sig : Signature) (b : BuiltIn) (c : Bool) (xs : List RawTerm) (i : ℕ) (x y : RawTerm) → 1 ≤ i → i < length xs → x ≡ get_or xs (i - 1) x → y ≡ get_or xs i y → AreBarren sig b c x y
+    → is_number y ≡ false → Climbs (terms_of xs) → Quiet sig b c (terms_of (drop (i - 1) xs))
+quiet_rest sig b c xs i x y h k e f a n up =
+    let there : drop (i - 1) xs ≡ x ∷ y ∷ drop (i + 1) xs = two_behind xs i x y h k e f in
+    let climb : Climbs (terms_of (x ∷ y ∷ drop (i + 1) xs)) = subst (λ zs. Climbs (terms_of zs)) there (climbs_behind (i - 1) xs up) in
+    subst (λ zs. Quiet sig b c (terms_of zs)) (sym there) (a, quiet_past sig b c y (terms_of (drop (i + 1) xs)) n climb.1)

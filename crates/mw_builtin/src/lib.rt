@@ -9,6 +9,5 @@ mod spelling;
 mod step;
 mod table;
 
-pub use schema::{BuiltIn, Schema};
 pub use step::Met;
 pub use table::{Schemata, Sum};

@@ -1,8 +1,8 @@
 // What operators compute.
 
 /// An operator on two numbers.
-#[derive(Clone, Copy, Debug, PartialEq, Eq)]
-pub enum BuiltIn {
+#[derive(Clone, Copy)]
+pub(crate) enum BuiltIn {
     Plus,
     Times,
     /// `sd`, the difference of the greater and the less.
@@ -18,8 +18,8 @@ pub enum BuiltIn {
 }
 
 /// What an operator computes.
-#[derive(Clone, Copy, Debug, PartialEq, Eq)]
-pub enum Schema {
+#[derive(Clone, Copy)]
+pub(crate) enum Schema {
     /// Nothing.
     Nothing,
     /// A number, or a truth value, of two numbers.

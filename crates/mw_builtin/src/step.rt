@@ -73,6 +73,12 @@ fn gives(alloc: Global, take: Option<Seq<u32>>, found: Found) -> Result<Met, All
     Ok(Met::Gives { take, to })
 }
 
+fn branch<'t>(truth: bool, first: &'t Term, second: &'t Term) -> &'t Term
+    ensures { result.now ≡ cond truth first.now second.now }
+{
+    if truth { first } else { second }
+}
+
 impl Schemata {
     /// The step by an operator on numbers.
     fn on_numbers(
@@ -114,15 +120,13 @@ impl Schemata {
         ensures { (M : Module) (n : ℕ) (f : ℕ) → IsAsked M (admitted_judgements M n).Fails self.now f args.now → IsPolymorphic M.signature f (codes "if_then_else_fi")
             → IfOk result (IsStepOf M.signature (IsNormalBy M (admitted_judgements M n).Fails) (applied f (terms_of args.now))) }
     {
-        let [test, first, second] = args else {
+        if args.len() != 3 {
+            return Ok(Met::Nothing);
+        }
+        let Some(truth) = self.truth(&args[0]) else {
             return Ok(Met::Nothing);
         };
-        let branch = match self.truth(test) {
-            Some(true) => first,
-            Some(false) => second,
-            None => return Ok(Met::Nothing),
-        };
-        let to = copy(branch)?;
+        let to = copy(branch(truth, &args[1], &args[2]))?;
         Ok(Met::Gives { take: None, to })
     }
 

@@ -5,8 +5,8 @@ ghost use Rattle.mw_logic.specs.Module.{IsPolymorphic, IsTruth, IsBuiltIn, plus,
 ghost use Rattle.mw_logic.specs.Preregular.{HasItsSorts};
 ghost use Rattle.mw_logic.specs.Signature.{Signature as SignatureOf, at_number};
 ghost use Rattle.mw_poset.specs.SortOrder.{order_of};
-ghost use Rattle.mw_builtin.specs.declared.schema.Schema.TheVariants.{Nothing as NothingOf};
-ghost use Rattle.mw_builtin.specs.Schemata.{AreSchemataOf, AreSchemas, IsConstantFor, of_sum};
+ghost use Rattle.mw_builtin.specs.declared.schema.Schema.TheVariants.{Nothing as NothingOf, Truth as TruthOf};
+ghost use Rattle.mw_builtin.specs.Schemata.{AreSchemataOf, AreSchemas, IsConstantFor, on_numbers, of_sum};
 
 use crate::rows::rows;
 use crate::schema::{BuiltIn, Schema};
@@ -29,12 +29,31 @@ pub enum Sum {
     Times,
 }
 
+fn sum_of(operator: BuiltIn) -> Option<Sum>
+    ensures { MatchOption result ((on_numbers operator ≡ plus → ⊥) × (on_numbers operator ≡ times → ⊥)) (λ s. on_numbers operator ≡ of_sum s) }
+{
+    match operator {
+        BuiltIn::Plus => Some(Sum::Plus),
+        BuiltIn::Times => Some(Sum::Times),
+        _ => None,
+    }
+}
+
+fn is_truth(schema: Schema, truth: bool) -> bool
+    ensures { IsTrue result ↔ (schema ≡ TruthOf truth) }
+{
+    match schema {
+        Schema::Truth(other) => other == truth,
+        _ => false,
+    }
+}
+
 /// A constant for a truth value, where there is one.
 fn constant_for(rows: &[Schema], truth: bool) -> Result<Option<OpId>, AllocError>
     ensures { IfOk result (λ c. (sig : SignatureOf) → AreSchemas sig rows.now → IsConstantFor sig truth c) }
 {
     for index in 0..rows.len() {
-        if rows[index] == Schema::Truth(truth) {
+        if is_truth(rows[index], truth) {
             let number = number_at(index)?;
             return Ok(Some(number));
         }
@@ -78,7 +97,10 @@ impl Schemata {
     pub fn is_choice(&self, operator: OpId) -> bool
         ensures { (sig : SignatureOf) → AreSchemataOf sig self.now → (IsTrue result ↔ IsPolymorphic sig operator (codes "if_then_else_fi")) }
     {
-        self.schema(operator) == Schema::Choice
+        match self.schema(operator) {
+            Schema::Choice => true,
+            _ => false,
+        }
     }
 
     /// Whether a term is `true` or `false`.
@@ -102,8 +124,7 @@ impl Schemata {
         ensures { (sig : SignatureOf) → AreSchemataOf sig self.now → MatchOption result ((IsBuiltIn sig operator plus → ⊥) × (IsBuiltIn sig operator times → ⊥)) (λ s. IsBuiltIn sig operator (of_sum s)) }
     {
         match self.schema(operator) {
-            Schema::Number(BuiltIn::Plus) => Some(Sum::Plus),
-            Schema::Number(BuiltIn::Times) => Some(Sum::Times),
+            Schema::Number(on_numbers) => sum_of(on_numbers),
             _ => None,
         }
     }
