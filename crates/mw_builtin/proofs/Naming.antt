@@ -37,7 +37,7 @@ of_kind sig order name K R S ok e k r = (there, back)
     there t = (k.0, k.1, kinds_agree order.pairs k.0 S K named (subst (λ x. IsKindOf order.pairs S x) (eqb-true R K t) r) sig pairs, tt)
 
     back : AreKindsOf sig (S ∷ []) (name ∷ []) → IsTrue (nat_eq R K)
-    back (T, is, same, u) = eq-eqb R K (kinds_same order.pairs sig S k.0 R K r named pairs (SameKind-sym (subst (λ N. SameKind sig N S) (ok.sorts_differ T k.0 name is k.1) same)))
+    back (T, is, alike, u) = eq-eqb R K (kinds_same order.pairs sig S k.0 R K r named pairs (SameKind-sym (subst (λ N. SameKind sig N S) (ok.sorts_differ T k.0 name is k.1) alike)))
 
 -- a list of two
 pub is_pair : (xs : List ℕ) → 2 ≤ length xs → length xs < 3 → xs ≡ get_or xs 0 0 ∷ get_or xs 1 0 ∷ []

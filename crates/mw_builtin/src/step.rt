@@ -1,5 +1,5 @@
 // Steps by the rows of the schemata.
-ghost use Rattle.std.specs.Prelude.{◌≡◌, ◌≤◌, ℕ, cond, codes, IfOk};
+ghost use Rattle.std.specs.Prelude.{◌≡◌, ℕ, cond, codes, IfOk};
 ghost use Rattle.mw_logic.specs.Accepted.{IsAccepted, IsWellSorted};
 ghost use Rattle.mw_logic.proofs.Canonical.{Each};
 ghost use Rattle.mw_logic.specs.Built.{HasBuiltIns};
@@ -44,7 +44,6 @@ fn is_commutative(axioms: Axioms) -> bool
 
 /// The numbers of two neighbours by the index of the second, where they aren't all arguments.
 fn neighbours(alloc: Global, count: usize, index: usize) -> Result<Option<Seq<u32>>, AllocError>
-    requires { 1 ≤ index }
     ensures { IfOk result (AreNeighbours count index) }
 {
     if count == 2 {
