@@ -5,3 +5,5 @@ pub mod Forms
 pub mod Giving
 pub mod Naming
 pub mod Neighbours
+pub mod NoRows
+pub mod Stepping

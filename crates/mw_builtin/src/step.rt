@@ -1,5 +1,5 @@
 // Steps by the rows of the schemata.
-ghost use Rattle.std.specs.Prelude.{◌≡◌, ℕ, cond, codes, IfOk};
+ghost use Rattle.std.specs.Prelude.{◌≡◌, ℕ, cond, not, codes, IfOk};
 ghost use Rattle.mw_logic.specs.Accepted.{IsAccepted, IsWellSorted};
 ghost use Rattle.mw_logic.proofs.Canonical.{Each};
 ghost use Rattle.mw_logic.specs.Built.{HasBuiltIns};
@@ -72,6 +72,13 @@ fn gives(alloc: Global, take: Option<Seq<u32>>, found: Found) -> Result<Met, All
     Ok(Met::Gives { take, to })
 }
 
+/// What a test of equality, or of the contrary, gives.
+fn tested(equal: bool, where_same: bool) -> bool
+    ensures { result ≡ cond where_same equal (not equal) }
+{
+    if where_same { equal } else { !equal }
+}
+
 fn branch<'t>(truth: bool, first: &'t Term, second: &'t Term) -> &'t Term
     ensures { result.now ≡ cond truth first.now second.now }
 {
@@ -106,7 +113,8 @@ impl Schemata {
         let [first, second, ..] = args else {
             return Ok(Met::Nothing);
         };
-        let Some(constant) = self.constant(same(first, second) == where_same) else {
+        let truth = tested(same(first, second), where_same);
+        let Some(constant) = self.constant(truth) else {
             return Ok(Met::Nothing);
         };
         let take = neighbours(alloc, args.len(), 1)?;
