@@ -10,14 +10,16 @@ ghost use Rattle.mw_declare.specs.Hierarchy.{Hierarchy as HierarchyOf};
 ghost use Rattle.mw_declare.specs.Operators.{profile_of as profile_with, with_operator, with_named, operators_from};
 ghost use Rattle.mw_declare.specs.Operators.{operator_number, identity_in, operator_with, IsOfLeastKinds, IsNumbered};
 ghost use Rattle.mw_declare.specs.Operators.{choice_of, test_of, built_for, with_singles, with_kinds, with_built};
-ghost use Rattle.mw_declare.specs.Operators.{is_test_of, is_choice_of, is_built as is_built_in};
-ghost use Rattle.mw_declare.specs.Operators.{said_precedence as said_alone, identity_at as identity_with};
+ghost use Rattle.mw_declare.specs.Operators.{identity_at as identity_with};
 ghost use Rattle.mw_declare.specs.Built.{kinds_from};
 ghost use Rattle.mw_declare.specs.Operators.{operator_of as operator_among};
 ghost use Rattle.mw_declare.specs.Faults.{unknown_from, operator_fault, told_at};
 ghost use Rattle.mw_declare.specs.Seen.{seen_rank, seen_profile, seen_operator};
 
 use crate::built::{Built, Truth};
+use crate::each_kind::{
+    choice_declaration, choice_profile, is_built, said_precedence, test_declaration, test_profile,
+};
 use crate::grouping::{gather, precedence};
 use crate::hierarchy::{Hierarchy, Rank};
 use crate::judging::fault;
@@ -63,54 +65,6 @@ fn declaration_of(alloc: Global, rank: &Rank) -> Result<Declaration, AllocError>
     Ok(Declaration {
         args: Seq::of(rank.args.as_slice().to_vec(alloc)?),
         result: rank.result,
-    })
-}
-
-/// The profile of the choice between two terms of a kind.
-fn choice_profile(alloc: Global, truth: Truth, kind: KindId) -> Result<Profile, AllocError>
-    ensures { IfOk result (λ p. seen_profile p ≡ (choice_of truth kind).profile) }
-{
-    Ok(Profile {
-        spelling: b"if_then_else_fi".as_slice().to_vec(alloc)?,
-        args: vec![in alloc; truth.kind, kind, kind]?,
-        result: kind,
-    })
-}
-
-/// Its declaration.
-fn choice_declaration(alloc: Global, truth: Truth, kind: KindId) -> Result<Declaration, AllocError>
-    ensures { IfOk result (λ d. d ≡ (choice_of truth kind).declaration) }
-{
-    let branch = Sorted::Kind(kind);
-    Ok(Declaration {
-        args: Seq::of(vec![in alloc; Sorted::Kind(truth.kind), branch, branch]?),
-        result: branch,
-    })
-}
-
-/// The profile of the test of this name on two terms of a kind.
-fn test_profile(
-    alloc: Global,
-    truth: Truth,
-    name: &[u8],
-    kind: KindId,
-) -> Result<Profile, AllocError>
-    ensures { IfOk result (λ p. seen_profile p ≡ (test_of truth name.now kind).profile) }
-{
-    Ok(Profile {
-        spelling: name.to_vec(alloc)?,
-        args: vec![in alloc; kind, kind]?,
-        result: truth.kind,
-    })
-}
-
-/// Its declaration.
-fn test_declaration(alloc: Global, truth: Truth, kind: KindId) -> Result<Declaration, AllocError>
-    ensures { IfOk result (λ d. d ≡ (test_of truth [] kind).declaration) }
-{
-    Ok(Declaration {
-        args: Seq::of(vec![in alloc; Sorted::Kind(kind), Sorted::Kind(kind)]?),
-        result: Sorted::Sort(truth.sort),
     })
 }
 
@@ -366,21 +320,6 @@ pub fn all_operators<'s>(
     Ok(operators)
 }
 
-/// What is said of an operator of which the precedence alone is said.
-fn said_precedence<'u>(precedence: u32) -> Attributes<'u>
-    ensures { seen_attributes result ≡ said_alone precedence }
-{
-    Attributes {
-        assoc: false,
-        comm: false,
-        identity: None,
-        precedence: Some(precedence),
-        gather: None,
-        config: false,
-        clash: false,
-    }
-}
-
 /// The constant of this number; where it is 0 and there are numbers, the numeral that the text is, if it is one.
 fn identity_at(constant: OpId, nat: Option<KindId>, text: &[u8]) -> Identity
     ensures { identity_of result ≡ identity_with constant nat text.now }
@@ -391,42 +330,6 @@ fn identity_at(constant: OpId, nat: Option<KindId>, text: &[u8]) -> Identity
         }
     }
     Identity::Constant(constant)
-}
-
-/// Whether a profile is that of a test that some kind has.
-fn is_test(truth: Truth, profile: &Profile) -> bool
-    ensures { result ≡ is_test_of truth (seen_profile profile.now) }
-{
-    let spelling = profile.spelling.as_slice();
-    let named = spelling == b"_==_".as_slice() || spelling == b"_=/=_".as_slice();
-    match profile.args.as_slice() {
-        [first, second] => named && (first == second && profile.result == truth.kind),
-        _ => false,
-    }
-}
-
-/// Whether a profile is that of a choice that some kind has.
-fn is_choice(truth: Truth, profile: &Profile) -> bool
-    ensures { result ≡ is_choice_of truth (seen_profile profile.now) }
-{
-    let named = profile.spelling.as_slice() == b"if_then_else_fi".as_slice();
-    match profile.args.as_slice() {
-        [test, first, second] => {
-            let kind = profile.result;
-            named && (*test == truth.kind && (*first == kind && *second == kind))
-        }
-        _ => false,
-    }
-}
-
-/// Whether a profile is that of an operator that some kind has.
-fn is_built(truth: Option<Truth>, profile: &Profile) -> bool
-    ensures { result ≡ is_built_in truth (seen_profile profile.now) }
-{
-    match truth {
-        Some(truth) => is_test(truth, profile) || is_choice(truth, profile),
-        None => false,
-    }
 }
 
 /// The first of these identities, and the others.

@@ -30,8 +30,8 @@
 //! `accept`, and that no unit has the name is one of `accept`. `Memory` may come at any call that takes an allocator.
 //!
 //! Cost: a module's list costs a look-up for each import, and what the lists of the imports that are new to it hold;
-//! `reaches` a look-up and one pass over the list; the list of statements has one entry for each, and no form is copied. Only tested, by the sources in cases/: that
-//! the definitions are the language that is meant.
+//! `reaches` a look-up and one pass over the list; the list of statements has one entry for each, and no form is
+//! copied. Only tested, by the sources in cases/: that the definitions are the language that is meant.
 #![tactic(auto)]
 
 mod laws;

@@ -53,7 +53,8 @@ impl Mentioned {
     /// The texts of the modules that are needed, one behind the other: none where no text is there; else that of BOOL,
     /// and then those that are mentioned.
     pub fn prelude(self, alloc: Global) -> Result<Vec<u8>, AllocError>
-        ensures { (texts : List (List ℕ)) → self ≡ mentioned_in texts → IfOk result (λ v. v.items ≡ prelude_for texts) }
+        ensures { (texts : List (List ℕ)) → self ≡ mentioned_in texts
+            → IfOk result (λ v. v.items ≡ prelude_for texts) }
     {
         let mut text = Vec::new(alloc);
         add(&mut text, self.some, Predefined::Bool)?;
