@@ -31,9 +31,9 @@
 //! 2^32 terms that tokens are.
 //!
 //! How it is proved: what tokens spell is the least relation between kinds, precedences, terms and texts that tokens by
-//! themselves, parentheses and notations keep (`IsClosed`), and so is what the states spell. Cost: the notations' parts;
-//! for each token one pass over it, a look-up, one more for each colon in it, and one for each term that it is by
-//! itself, all by hash.
+//! themselves, parentheses and notations keep (`IsClosed`), and so is what the states spell. Cost: the notations'
+//! parts; for each token one pass over it, a look-up, one more for each colon in it, and one for each term that it is
+//! by itself, all by hash.
 #![tactic(auto)]
 
 mod alone;

@@ -15,8 +15,8 @@ grows : (n : ℕ) (bs : List ℕ) → n ≤ digits_value_after 10 n bs
 grows n [] = omega arith
 grows n (b ∷ bs) = let more = grows (n * 10 + digit_value b) bs in omega (arith, more)
 
-pub digit_more : (n m b : ℕ) (bs : List ℕ) → is_ascii_digit b ≡ true → m ≡ n * 10 + digit_value b → number_behind n (b ∷ bs) ≡ number_behind m bs
-digit_more n m b bs d e = rw (d, e) refl
+pub goes_on : (n m b : ℕ) (bs : List ℕ) → is_ascii_digit b ≡ true → m ≡ n * 10 + digit_value b → number_behind n (b ∷ bs) ≡ number_behind m bs
+goes_on n m b bs d e = rw (d, e) refl
 
 no_digit : (n b : ℕ) (bs : List ℕ) → is_ascii_digit b ≡ false → number_behind n (b ∷ bs) ≡ None
 no_digit n b bs d = rw d refl

@@ -6,8 +6,8 @@
 //!   behind it, and none exactly where there is none. The law `spellings_read`: the prefix spelling of a name reads
 //!   back as its items. A name is proper (specs/Proper) where its pieces are tokens, and where it has holes, its
 //!   spelling is one too.
-//! - **Numerals** (specs/Numerals): `number_in` is the number that a text of decimal digits writes, leading zeros or not,
-//!   where it is below 2^128. `number` computes it in one pass, and ends where the bound is passed.
+//! - **Numerals** (specs/Numerals): `number_in` is the number that a text of decimal digits writes, leading zeros or
+//!   not, where it is below 2^128. `number` computes it in one pass, and ends where the bound is passed.
 //! - **What is met** (specs/Interned, specs/Mentions): `Names` and `Variables` hold each name or variable once, in
 //!   order of first mention, found by hash. A name's number counts from 1.
 //! - **Mixfix** (specs/Mixfix) says which terms tokens spell (`Spells`), as a family by cases on the term, with a

@@ -15,7 +15,7 @@ fn with_digit(number: u128, byte: u8) -> Option<u128>
     number.checked_mul(10)?.checked_add((byte - b'0') as u128)
 }
 
-#[tactic(auto, using(crate::proofs::Numbers::digit_more, crate::proofs::Numbers::no_more, crate::proofs::Numbers::at_end))]
+#[tactic(auto, using(crate::proofs::Numbers::goes_on, crate::proofs::Numbers::no_more, crate::proofs::Numbers::at_end))]
 /// The number that decimal digits write, where it is below 2^128 and there is nothing but digits, one at least.
 pub fn number(text: &[u8]) -> Option<u128>
     ensures { result ≡ number_in text.now }
