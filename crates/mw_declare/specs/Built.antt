@@ -1,5 +1,5 @@
 -- What is built into a module: numbers, quoted identifiers and truth values, where the modules that have them are reached and declare them. (Maude Manual,
--- chapter 7, "Some predefined data modules".)
+-- chapter 7, "Predefined data modules".)
 use Rattle.std.specs.Prelude.{ℕ, zero, suc, List, [], ◌∷◌, Bool, false, true, ◌&&◌, not, nat_eq, bytes_eq, Option, None, Some, if◌then◌else◌, codes}
 use Rattle.std.specs.List.{list_any}
 use Rattle.mw_lex.specs.declared.token.Token.{Token}

@@ -1,4 +1,4 @@
--- The texts of the modules of the prelude. (Maude Manual, chapter 7, "Some predefined data modules", and chapter 8, "Object-based programming": these are smaller,
+-- The texts of the modules of the prelude. (Maude Manual, chapter 7, "Predefined data modules", and chapter 8, "Object-based programming": these are smaller,
 -- and their equations are this project's own.)
 use Rattle.std.specs.Prelude.{ℕ, List, ◌++◌, codes}
 use Rattle.mw_prelude.specs.declared.modules.Predefined.{Predefined}
