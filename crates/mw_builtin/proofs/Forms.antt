@@ -1,19 +1,19 @@
 -- Two neighbours among the arguments of a canonical term as a part of it, and clean forms of that.
-use Rattle.std.specs.Prelude.{◌≡◌, ◌⊎◌, ◌<◌, ◌≤◌, ◌+◌, ◌-◌, ◌++◌, ℕ, zero, suc, List, [], ◌∷◌, length, take, drop, Bool, true, false, cond, Option, Some, None, IsTrue, refl}
-use Rattle.std.proofs.Common.{inl, inr, arith, ap, sym, subst, ◌∙◌, length-append}
+use Rattle.std.specs.Prelude.{◌≡◌, ◌⊎◌, ◌<◌, ◌≤◌, ◌+◌, ◌-◌, ◌++◌, ℕ, suc, List, [], ◌∷◌, length, take, drop, Bool, true, false, Option, Some, None, refl}
+use Rattle.std.proofs.Common.{inl, inr, arith, ap, sym, subst, ◌∙◌}
 use Rattle.std.proofs.lemmas.Bool.{both_ways, cases_eq}
 use Rattle.std.proofs.lemmas.List.{length-drop, length-take-le, take-append-drop}
-use Rattle.mw_logic.specs.Term.{RawTerm, numeral, apply, RawTerms, nil, cons, join, binary}
+use Rattle.mw_logic.specs.Term.{RawTerm, apply, RawTerms, nil, cons, join, binary}
 use Rattle.mw_logic.specs.Terms.{terms_of}
-use Rattle.mw_logic.specs.Signature.{Signature, Operator, IsOperator, IsAssociative, IsIdentity, IsSuccessor, IsRawTerm, an_operator, AreRawTerms, end, next}
+use Rattle.mw_logic.specs.Signature.{Signature, Operator, IsOperator, IsRawTerm, an_operator, AreRawTerms, end, next}
 use Rattle.mw_logic.specs.Accepted.{IsAccepted}
 use Rattle.mw_logic.specs.Axioms.{EqualModulo, done, then, forward, comm}
-use Rattle.mw_logic.specs.Parts.{is_assoc, nested, all_nested, chain, nest, IsClean, Among, number_of_terms}
-use Rattle.mw_logic.specs.TermOrder.{stands_after, sorted_terms}
-use Rattle.mw_logic.specs.NormalForm.{is_comm, identity_of, elements, rebuilt, arranged, counted, flattened, applied_in, normal_form, height}
+use Rattle.mw_logic.specs.Parts.{is_assoc, nested, all_nested, nest, IsClean, Among, number_of_terms}
+use Rattle.mw_logic.specs.TermOrder.{stands_after}
+use Rattle.mw_logic.specs.NormalForm.{is_comm, identity_of, rebuilt, arranged, counted, normal_form, height}
 use Rattle.mw_logic.specs.Kinds.{is_successor}
 use Rattle.mw_logic.specs.CanonicalPart.{AreSeveral, IsCut, IsPartOf, several}
-use Rattle.mw_logic.proofs.Canonical.{Each, IsCanonical, AreCanonical, IsElement, canonical, same_operator, arranged-one, flattened-elements, each_canonical}
+use Rattle.mw_logic.proofs.Canonical.{Each, IsCanonical, IsElement, same_operator, arranged-one, flattened-elements, each_canonical}
 use Rattle.mw_logic.proofs.CanonicalTerms.{fixed, clean}
 use Rattle.mw_logic.proofs.Holes.{Each-parts}
 use Rattle.mw_logic.proofs.Inside.{associative, raw_inside}
@@ -22,7 +22,7 @@ use Rattle.mw_logic.proofs.PartsOfNormalForm.{part_found}
 use Rattle.mw_logic.proofs.RawKept.{raw_kept}
 use Rattle.mw_logic.proofs.Soundness.{is_commutative, several-arranged}
 use Rattle.mw_logic.proofs.SortedLists.{Climbs, climbs}
-use Rattle.mw_arguments.specs.Places.{Takes, chosen, Rise, Follow}
+use Rattle.mw_arguments.specs.Places.{Takes, chosen}
 use Rattle.mw_arguments.proofs.Arguments.{args_in_order, rebuilt_again}
 use Rattle.mw_arguments.proofs.ListPieces.{number_join}
 use Rattle.mw_arguments.proofs.Middles.{chosen-middle}

@@ -1,5 +1,5 @@
 -- Neighbours among arguments that give nothing: then, in order, no two of them do.
-use Rattle.std.specs.Prelude.{◌≡◌, ◌⊎◌, ◌<◌, ◌≤◌, ◌+◌, ◌-◌, ◌*◌, ◌^◌, ◌/◌, ◌%◌, ℕ, zero, suc, List, [], ◌∷◌, length, get_or, drop, Bool, true, false, cond, min, max, nat_lt, nat_le, refl, ⊤}
+use Rattle.std.specs.Prelude.{◌≡◌, ◌⊎◌, ◌<◌, ◌≤◌, ◌+◌, ◌-◌, ◌*◌, ◌^◌, ℕ, zero, suc, List, [], ◌∷◌, length, get_or, drop, Bool, true, false, cond, nat_lt, nat_le, refl, ⊤}
 use Rattle.std.proofs.Common.{inl, inr, arith, ap, sym, subst, ◌∙◌}
 use Rattle.std.proofs.lemmas.List.{drop_more, length-drop}
 use Rattle.mw_logic.specs.Terms.{terms_of}
@@ -7,10 +7,9 @@ use Rattle.std.specs.Ordering.{nat_cmp, is_gt}
 use Rattle.std.proofs.lemmas.Bool.{both_ways, cases_eq, cases_lt, lt-ltb, le-ltb}
 use Rattle.mw_logic.specs.Term.{RawTerm, numeral, quoted, variable, apply, RawTerms, nil, cons, join}
 use Rattle.mw_logic.specs.Signature.{Signature}
-use Rattle.mw_logic.specs.TermOrder.{stands_after, insert_term, sorted_terms, compare_terms, order_terms}
+use Rattle.mw_logic.specs.TermOrder.{stands_after, insert_term, sorted_terms}
 use Rattle.mw_logic.specs.NormalForm.{arranged}
-use Rattle.mw_logic.specs.CanonicalPart.{IsCut}
-use Rattle.mw_logic.specs.Module.{BuiltIn, plus, times, difference, quotient, remainder, least, greatest, less_than, at_most, more_than, at_least, result_of, bounded, number, truth, nothing, too_big, Result, by_nonzero}
+use Rattle.mw_logic.specs.Module.{BuiltIn, plus, times, difference, quotient, remainder, least, greatest, less_than, at_most, more_than, at_least, result_of, bounded, number, truth, too_big}
 use Rattle.mw_logic.proofs.Canonical.{Each}
 use Rattle.mw_logic.proofs.CompareLaws.{compare_terms-order}
 use Rattle.mw_logic.proofs.SortedLists.{Climbs}

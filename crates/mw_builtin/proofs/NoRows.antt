@@ -1,14 +1,14 @@
 -- Where no row is met at the top of a canonical term.
-use Rattle.std.specs.Prelude.{◌≡◌, ◌⊎◌, ℕ, List, [], ◌∷◌, length, Bool, true, false, cond, IsTrue, codes, refl}
-use Rattle.std.proofs.Common.{inl, inr, ap, sym, subst, ◌∙◌}
+use Rattle.std.specs.Prelude.{◌≡◌, ℕ, [], ◌∷◌, Bool, true, false, refl}
+use Rattle.std.proofs.Common.{ap, sym, subst, ◌∙◌}
 use Rattle.std.proofs.lemmas.Bool.{both_ways}
-use Rattle.mw_logic.specs.Term.{RawTerm, numeral, apply, RawTerms, nil, cons, join, binary, constant}
+use Rattle.mw_logic.specs.Term.{RawTerm, numeral, apply, RawTerms, nil, cons, binary}
 use Rattle.mw_logic.specs.Signature.{Signature, Operator, IsOperator, IsAssociative, IsRawTerm}
 use Rattle.mw_logic.specs.Accepted.{IsAccepted}
 use Rattle.mw_logic.specs.Parts.{is_assoc, IsClean}
 use Rattle.mw_logic.specs.NormalForm.{is_comm, arranged, normal_form, normal_forms}
 use Rattle.mw_logic.specs.CanonicalPart.{IsCut}
-use Rattle.mw_logic.specs.Module.{BuiltIn, plus, times, difference, quotient, remainder, least, greatest, less_than, at_most, more_than, at_least, result_of, IsTruth, IsBuiltIn, IsPolymorphic, Row, arithmetic, equal_terms, unequal_terms, not_different, different, if_true, if_false, MeetsRow, by_row, an_equality, an_inequality, IsTooBigPair}
+use Rattle.mw_logic.specs.Module.{BuiltIn, plus, times, difference, quotient, remainder, least, greatest, less_than, at_most, more_than, at_least, result_of, IsTruth, IsBuiltIn, Row, arithmetic, equal_terms, unequal_terms, not_different, different, if_true, if_false, MeetsRow, by_row, an_equality, an_inequality}
 use Rattle.mw_logic.proofs.Canonical.{arranged-twice, same_operator, comm_operator, not_assoc}
 use Rattle.mw_logic.proofs.CleanForms.{keeps_top, plain_form}
 use Rattle.mw_logic.proofs.Inside.{tops}
@@ -16,7 +16,7 @@ use Rattle.mw_logic.proofs.SortLaws.{join-nil}
 use Rattle.mw_deduction.specs.Tops.{IsTop, whole, several}
 use Rattle.mw_deduction.proofs.Rows.{pair_form}
 use Rattle.mw_builtin.specs.Results.{IsBarren, HasNoPair}
-use Rattle.mw_builtin.specs.Schemata.{Computes, IsSchemaOf, IsNamedTruth, on_numbers}
+use Rattle.mw_builtin.specs.Schemata.{Computes, IsSchemaOf, on_numbers}
 use Rattle.mw_builtin.specs.Steps.{HasNoRow}
 use Rattle.mw_builtin.specs.declared.schema.BuiltIn.{BuiltIn as OnNumbers}
 use Rattle.mw_builtin.specs.declared.schema.BuiltIn.TheVariants.{Plus, Times, Difference, Quotient, Remainder, Least, Greatest, LessThan, AtMost, MoreThan, AtLeast}
