@@ -60,23 +60,20 @@ pub pair_in_order : (c : Bool) (x y : RawTerm) → (c ≡ true → stands_after 
 pair_in_order false x y h = refl
 pair_in_order true x y h = rw (h refl) refl
 
+-- no canonical term is an associative operator on one argument
+pub not_alone : (sig : Signature) (f : ℕ) (t : RawTerm) → is_assoc sig f ≡ true → IsCanonical sig (apply f (cons t nil)) → ⊥
+not_alone sig f t h k =
+    let alone : rebuilt (identity_of sig f) f (arranged (is_comm sig f) (cons t nil)) ≡ t = rw (arranged-one (is_comm sig f) t) refl in
+    let e : t ≡ apply f (cons t nil) = sym (rw (h, flattened-elements (identity_of sig f) f (cons t nil) (k.2 h)) alone) ∙ k.1 in
+    let high : height t ≡ height (apply f (cons t nil)) = ap height e in
+    omega (arith, high)
+
 module _ (sig : Signature) (ok : IsAccepted sig) (f : ℕ) (ts : RawTerms) (k : IsCanonical sig (apply f ts)) (raw : IsRawTerm sig (nested sig (apply f ts))) where
   -- without associativity there are as many arguments as the operator takes
   pub plain_number : (o : Operator) → IsOperator sig f o → is_assoc sig f ≡ false → number_of_terms ts ≡ length o.args
   plain_number o is h =
       let e : nested sig (apply f ts) ≡ apply f (all_nested sig ts) = rw h refl in
       sym (nested_number sig ts) ∙ as_many (raw_of o is (subst (IsRawTerm sig) e raw))
-
-  -- no canonical term is an associative operator on one argument
-  not_alone : (t : RawTerm) → is_assoc sig f ≡ true → ts ≡ cons t nil → ⊥
-  not_alone t h one =
-      let c : IsCanonical sig (apply f (cons t nil)) = subst (λ us. IsCanonical sig (apply f us)) one k in
-      let e : t ≡ apply f (cons t nil) = sym (rw (h, flattened-elements (identity_of sig f) f (cons t nil) (c.2 h)) (arranged_rebuilt t)) ∙ c.1 in
-      let high : height t ≡ height (apply f (cons t nil)) = ap height e in
-      omega (arith, high)
-    where
-      arranged_rebuilt : (t : RawTerm) → rebuilt (identity_of sig f) f (arranged (is_comm sig f) (cons t nil)) ≡ t
-      arranged_rebuilt t = rw (arranged-one (is_comm sig f) t) refl
 
   -- an operator on two kinds has two arguments or more
   pub are_several : (o : Operator) (K L : ℕ) → IsOperator sig f o → o.args ≡ K ∷ L ∷ [] → AreSeveral ts
@@ -95,7 +92,7 @@ module _ (sig : Signature) (ok : IsAccepted sig) (f : ℕ) (ts : RawTerms) (k : 
 
       by_shape : is_assoc sig f ≡ true → (us : RawTerms) → ts ≡ us → AreSeveral us
       by_shape h nil e = absurd (none h e)
-      by_shape h (cons t nil) e = absurd (not_alone t h e)
+      by_shape h (cons t nil) e = absurd (not_alone sig f t h (subst (λ us. IsCanonical sig (apply f us)) e k))
       by_shape h (cons t (cons u us)) e = tt
 
       by_assoc : (b : Bool) → is_assoc sig f ≡ b → AreSeveral ts
