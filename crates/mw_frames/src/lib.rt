@@ -32,6 +32,7 @@ mod coming;
 mod firing;
 mod instances;
 mod job;
+mod limits;
 mod looking;
 mod machine;
 mod opening;
