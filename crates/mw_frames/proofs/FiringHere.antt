@@ -52,12 +52,12 @@ module _ (K : Run) (sig : Signature) (run : IsRun K sig) (count : ℕ) where
     abbrev os : List Open
     os = h.stand.opens
 
-    abbrev at_it : At M (admitted_judgements M K.rank).Held (admitted_judgements M K.rank).Fails (nested here h.stand.from) h.stand.read os w
+    abbrev pub at_it : At M (admitted_judgements M K.rank).Held (admitted_judgements M K.rank).Fails (nested here h.stand.from) h.stand.read os w
     at_it = at_term m.moves h.stand w h.leads h.hand
 
     -- `s_` stands on the largest numeral nowhere
     pub small_here : AreClear here os × AreSmall here os × (has_largest here w ≡ false)
-    small_here = (at_it.clear, small_there here run.accepted os w at_it.clear at_it.canonical at_it.raw at_it.admitted)
+    small_here = let (a, b) = small_there here run.accepted os w at_it.clear at_it.canonical at_it.raw at_it.admitted in (at_it.clear, a, b)
 
     module _ (seen : IsSeenIn here m.frames w) where
       pub seen_there : IsSeen here os w

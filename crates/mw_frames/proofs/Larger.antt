@@ -33,12 +33,12 @@ or_swap true false c = refl
 or_swap false b c = refl
 
 number_inserted : (t : RawTerm) (us : RawTerms) → number_of_terms (insert_term t us) ≡ 1 + number_of_terms us
-number_inserted t nil = refl
+number_inserted t nil = omega arith
 number_inserted t (cons u us) = by_test (stands_after t u) (number_inserted t us)
   where
     by_test : (b : Bool) → number_of_terms (insert_term t us) ≡ 1 + number_of_terms us → number_of_terms (cond b (cons u (insert_term t us)) (cons t (cons u us))) ≡ 1 + number_of_terms (cons u us)
     by_test true e = omega (arith, e)
-    by_test false e = refl
+    by_test false e = omega arith
 
 number_sorted : (ts : RawTerms) → number_of_terms (sorted_terms ts) ≡ number_of_terms ts
 number_sorted nil = refl
@@ -67,8 +67,8 @@ branch_not_largest (quoted q) h = refl
 branch_not_largest (variable x) h = refl
 branch_not_largest (apply f ts) h = refl
 
-beside_branch : (c : Bool) (b : RawTerms) (t : RawTerm) (a : RawTerms) → IsBranch t → is_largest (arranged c (join b (cons t a))) ≡ false
-beside_branch c b t a h = by_test (is_largest (arranged c (join b (cons t a)))) refl
+beside_other : (c : Bool) (b : RawTerms) (t : RawTerm) (a : RawTerms) → is_largest (cons t nil) ≡ false → is_largest (arranged c (join b (cons t a))) ≡ false
+beside_other c b t a h = by_test (is_largest (arranged c (join b (cons t a)))) refl
   where
     by_test : (z : Bool) → is_largest (arranged c (join b (cons t a))) ≡ z → z ≡ false
     by_test false e = refl
@@ -78,7 +78,7 @@ beside_branch c b t a h = by_test (is_largest (arranged c (join b (cons t a)))) 
         several n us k e = let l = lone_largest (arranged c us) e in let m = number_arranged c us in omega (arith, k, l, m)
 
         by_list : (b a : RawTerms) → is_largest (arranged c (join b (cons t a))) ≡ true → ⊥
-        by_list nil nil e = both_ways _ (branch_not_largest t h) (ap is_largest (sym (alone_arranged c t)) ∙ e)
+        by_list nil nil e = both_ways _ h (ap is_largest (sym (alone_arranged c t)) ∙ e)
         by_list nil (cons y ys) e = several (number_of_terms ys) (cons t (cons y ys)) (omega arith) e
         by_list (cons y ys) a e = let n = number_middle ys t a in several (number_of_terms (join ys a)) (cons y (join ys (cons t a))) (omega (arith, n)) e
 
@@ -96,11 +96,18 @@ some_branch : (f : ℕ) (us : RawTerms) → 1 ≤ number_of_terms us → IsBranc
 some_branch f nil h = absurd (omega (arith, h))
 some_branch f (cons t us) h = tt
 
-branch_counted : (s : Bool) (f : ℕ) (t : RawTerm) → IsBranch t → IsBranch (successor_of s f t)
-branch_counted s f (numeral n) h = elim h [ ]
-branch_counted s f (quoted q) h = tt
-branch_counted s f (variable x) h = tt
-branch_counted s f (apply g ts) h = tt
+operator_counted : (s : Bool) (f g : ℕ) (ts : RawTerms) → IsBranch (successor_of s f (apply g ts))
+operator_counted s f g ts = tt
+
+-- an operator
+abbrev IsOperated : RawTerm → Type 0
+IsOperated t = (g : ℕ) × (ts : RawTerms) × (t ≡ apply g ts)
+
+branch_operated : (t : RawTerm) → IsBranch t → IsOperated t
+branch_operated (numeral n) h = elim h [ ]
+branch_operated (quoted q) h = elim h [ ]
+branch_operated (variable x) h = elim h [ ]
+branch_operated (apply g ts) h = (g, ts, refl)
 
 branch_no_identity : (e : Option Identity) (f : ℕ) (t : RawTerm) → IsBranch t → is_identity e t ≡ false
 branch_no_identity e f (numeral n) h = elim h [ ]
@@ -123,6 +130,10 @@ some_own f (apply g (cons t ts)) = by_test (nat_eq f g)
 long_number : (ts : RawTerms) → IsLong ts → 1 ≤ number_of_terms ts
 long_number nil h = elim h [ ]
 long_number (cons t ts) h = omega arith
+
+none : (s : Bool) {z : Bool} → z ≡ false → ((s && false) || z) ≡ false
+none true e = e
+none false e = e
 
 module _ (sig : Signature) (ok : IsAccepted sig) where
   some_middle : (b : RawTerms) (t : RawTerm) (a : RawTerms) → some_largest sig (join b (cons t a)) ≡ (has_largest sig t || some_largest sig (join b a))
@@ -175,14 +186,14 @@ module _ (sig : Signature) (ok : IsAccepted sig) where
   -- A term where it doesn't comes into a hole beside which it doesn't.
   pub grows_is : (os : List Open) (t : RawTerm) → AreSmall sig os → has_largest sig t ≡ false → has_largest sig (whole sig os t) ≡ grows sig os t
   grows_is [] t s h = h
-  grows_is (o ∷ os) t s h = by_test (above o t) refl
+  grows_is (o ∷ os) t s h =
+      let here : has_largest sig (filled sig o t) ≡ above o t = largest_filled o t ∙ ap (λ z. above o t || z) (rw (h, s.0) refl) ∙ or-false (above o t) in
+      by_test (above o t) (λ e. large_kept os (filled sig o t) (here ∙ e)) (λ e. grows_is os (filled sig o t) s.1 (here ∙ e)) refl
     where
-      here : has_largest sig (filled sig o t) ≡ above o t
-      here = largest_filled o t ∙ ap (λ z. above o t || z) (rw (h, s.0) refl) ∙ or-false (above o t)
-
-      by_test : (b : Bool) → above o t ≡ b → has_largest sig (whole sig os (filled sig o t)) ≡ (b || grows sig os (filled sig o t))
-      by_test true e = large_kept os (filled sig o t) (here ∙ e)
-      by_test false e = grows_is os (filled sig o t) s.1 (here ∙ e)
+      by_test : (b : Bool) → (above o t ≡ true → has_largest sig (whole sig os (filled sig o t)) ≡ true) → (above o t ≡ false → has_largest sig (whole sig os (filled sig o t)) ≡ grows sig os (filled sig o t))
+          → above o t ≡ b → has_largest sig (whole sig os (filled sig o t)) ≡ (b || grows sig os (filled sig o t))
+      by_test true l g e = l e
+      by_test false l g e = g e
 
   module _ (o : Open) (c : IsClear sig o) where
     -- how many elements an associative operator has
@@ -228,29 +239,41 @@ module _ (sig : Signature) (ok : IsAccepted sig) where
       where
         by_assoc : (m : Bool) → is_assoc sig o.operator ≡ m → IsBranch (filled sig o t)
         by_assoc true h = assoc_branch h t (omega (arith, l))
-        by_assoc false h = counted_branch h t (long_counted (is_successor sig o.operator) o.operator _ (let n = number_arranged (is_comm sig o.operator) (join o.before (cons t o.after)) in let m = number_middle o.before t o.after in omega (arith, n, m, l)))
+        by_assoc false h = counted_branch h t (long_counted (is_successor sig o.operator) o.operator (arranged (is_comm sig o.operator) (join o.before (cons t o.after))) (let n = number_arranged (is_comm sig o.operator) (join o.before (cons t o.after)) in let m = number_middle o.before t o.after in omega (arith, n, m, l)))
+
+    over_operator : is_assoc sig o.operator ≡ false → (t : RawTerm) → IsOperated t → IsBranch (filled sig o t)
+    over_operator h t (g, us, e) = counted_branch h t (by_list o.before o.after)
+      where
+        s : Bool
+        s = is_successor sig o.operator
+
+        c' : Bool
+        c' = is_comm sig o.operator
+
+        by_list : (before after : RawTerms) → IsBranch (counted s o.operator (arranged c' (join before (cons t after))))
+        by_list nil nil = subst (λ us. IsBranch (counted s o.operator us)) (sym (alone_arranged c' t)) (subst (λ u. IsBranch (successor_of s o.operator u)) (sym e) (operator_counted s o.operator g us))
+        by_list nil (cons y ys) = long_counted s o.operator (arranged c' (cons t (cons y ys))) (let n = number_arranged c' (cons t (cons y ys)) in omega (arith, n))
+        by_list (cons y ys) after =
+            long_counted s o.operator (arranged c' (cons y (join ys (cons t after)))) (let n = number_arranged c' (cons y (join ys (cons t after))) in let m = number_middle ys t after in omega (arith, n, m))
 
     pub over_branch : (t : RawTerm) → IsBranch t → IsBranch (filled sig o t)
     over_branch t b = by_assoc (is_assoc sig o.operator) refl
       where
-        by_list : (before after : RawTerms) → IsBranch (counted (is_successor sig o.operator) o.operator (arranged (is_comm sig o.operator) (join before (cons t after))))
-        by_list nil nil = subst (λ us. IsBranch (counted (is_successor sig o.operator) o.operator us)) (sym (alone_arranged (is_comm sig o.operator) t)) (branch_counted (is_successor sig o.operator) o.operator t b)
-        by_list nil (cons y ys) = long_counted (is_successor sig o.operator) o.operator _ (let n = number_arranged (is_comm sig o.operator) (cons t (cons y ys)) in omega (arith, n))
-        by_list (cons y ys) after =
-            long_counted (is_successor sig o.operator) o.operator _ (let n = number_arranged (is_comm sig o.operator) (cons y (join ys (cons t after))) in let m = number_middle ys t after in omega (arith, n, m))
-
         by_assoc : (m : Bool) → is_assoc sig o.operator ≡ m → IsBranch (filled sig o t)
         by_assoc true h = assoc_branch h t (let a = elements_there t (branch_no_identity (identity_of sig o.operator) o.operator t b) in let n = others_there h in omega (arith, a, n))
-        by_assoc false h = counted_branch h t (by_list o.before o.after)
+        by_assoc false h = over_operator h t (branch_operated t b)
 
   -- over an operator on arguments nothing grows
   pub branch_stays : (os : List Open) (t : RawTerm) → AreClear sig os → IsBranch t → grows sig os t ≡ false
   branch_stays [] t c b = refl
-  branch_stays (o ∷ os) t c b = rw (beside_branch (is_comm sig o.operator) o.before t o.after b) (none (is_successor sig o.operator) (branch_stays os (filled sig o t) c.1 (over_branch o c.0 t b)))
-    where
-      none : (s : Bool) {z : Bool} → z ≡ false → ((s && false) || z) ≡ false
-      none true e = e
-      none false e = e
+  branch_stays (o ∷ os) t c b = rw (beside_other (is_comm sig o.operator) o.before t o.after (branch_not_largest t b)) (none (is_successor sig o.operator) (branch_stays os (filled sig o t) c.1 (over_branch o c.0 t b)))
+
+  -- nor over a constant in an operator that has no identity
+  pub constant_stays : (os : List Open) (f : ℕ) → AreClear sig os → ((o : Open) (ps : List Open) → os ≡ o ∷ ps → is_assoc sig o.operator ≡ false) → grows sig os (apply f nil) ≡ false
+  constant_stays [] f c h = refl
+  constant_stays (o ∷ os) f c h =
+      rw (beside_other (is_comm sig o.operator) o.before (apply f nil) o.after refl)
+      (none (is_successor sig o.operator) (branch_stays os (filled sig o (apply f nil)) c.1 (over_operator o c.0 (h o os refl) (apply f nil) (f, nil, refl))))
 
   -- A frame's arguments, as it has them.
   module _ (vs : List RawTerm) (f : Frame) (o : Open) (own waiting : RawTerms) (is : IsOpenedAs sig vs f o own waiting) where

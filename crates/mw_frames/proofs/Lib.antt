@@ -17,6 +17,9 @@ pub mod Fitting
 pub mod FiringPart
 pub mod Refusing
 pub mod SmallValues
+pub mod FitsThere
+pub mod ChosenOnes
+pub mod HoleFits
 pub mod Asking
 pub mod OpeningTerms
 pub mod Values

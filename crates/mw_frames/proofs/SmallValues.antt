@@ -1,6 +1,7 @@
 -- `s_` stands on the largest numeral in no value of an equation that applies to a term in which it doesn't.
-use Rattle.std.specs.Prelude.{◌≡◌, ◌⊎◌, ◌&&◌, ◌||◌, ℕ, zero, suc, List, [], ◌∷◌, Bool, true, false, Some, unwrap_or, slice_get, IsTrue, refl}
+use Rattle.std.specs.Prelude.{◌≡◌, ◌⊎◌, ◌&&◌, ◌||◌, ℕ, zero, suc, List, [], ◌∷◌, ◌++◌, Bool, true, false, Some, unwrap_or, slice_get, IsTrue, refl}
 use Rattle.std.proofs.Common.{sym, subst, ap, ◌∙◌, ⊎_elim}
+use Rattle.std.proofs.Math.Bool.{or-false}
 use Rattle.std.proofs.lemmas.Bool.{both_ways, or_cases, or_left, or_right, or_parts, or_from}
 use Rattle.mw_logic.specs.Term.{Variable, RawTerm, numeral, quoted, variable, apply, RawTerms, nil, cons}
 use Rattle.mw_logic.specs.Terms.{terms_of}
@@ -8,7 +9,7 @@ use Rattle.mw_logic.specs.Signature.{Signature}
 use Rattle.mw_logic.specs.Accepted.{IsAccepted, IsWellSorted}
 use Rattle.mw_logic.specs.Kinds.{is_successor}
 use Rattle.mw_logic.specs.Substitution.{occurs, occurs_in}
-use Rattle.mw_logic.specs.NormalForm.{is_comm, arranged, normal_form, is_largest, has_largest, some_largest}
+use Rattle.mw_logic.specs.NormalForm.{is_comm, arranged, applied_in, normal_form, is_largest, has_largest, some_largest}
 use Rattle.mw_logic.specs.Module.{Module}
 use Rattle.mw_logic.proofs.Canonical.{IsCanonical}
 use Rattle.mw_logic.proofs.InstanceLaws.{occurs_kept}
@@ -85,3 +86,36 @@ module _ (M : Module) (ok : IsAccepted M.signature) (sorted : IsWellSorted M.sig
               let p : RawTerm = normal_form sig r.statement.left in
               let o : occurs x.of r.statement.left ≡ occurs x.of p = occurs_kept sig x.of (normal_form-sound sig ok r.sides.left) ∙ nested_occurs sig x.of p in
               absurd (both_ways _ h (ap (has_largest sig) (sym (left_is M ok sorted number vs right w r k)) ∙ in_instance p x.of (sym o ∙ x.occurs) (ap (has_largest sig) x.place ∙ e)))
+
+-- What is told of instances, as they are built.
+pub value_told : (sig : Signature) (vs : List RawTerm) (i : ℕ) (l : Bool) (u : RawTerm) → u ≡ unwrap_or (slice_get vs i) (variable (position i)) → some_largest sig (terms_of vs) ≡ false → l ≡ (l || has_largest sig u)
+value_told sig vs i l u e small = sym (ap (λ b. l || b) (ap (has_largest sig) e ∙ value_small sig vs i (position i) small) ∙ or-false l)
+
+told_all : (a s o : Bool) → ((a || s) || o) ≡ (a || (o || s))
+told_all true s o = refl
+told_all false true true = refl
+told_all false true false = refl
+told_all false false true = refl
+told_all false false false = refl
+
+pub applied_told : (sig : Signature) → IsAccepted sig → (f : ℕ) (ts : RawTerms) (before made after : Bool) (t : RawTerm) → made ≡ (before || some_largest sig ts) → after ≡ (made || (is_successor sig f && is_largest (arranged (is_comm sig f) ts)))
+    → t ≡ applied_in sig f ts → after ≡ (before || has_largest sig t)
+applied_told sig ok f ts before made after t m a e =
+    a ∙ ap (λ b. b || (is_successor sig f && is_largest (arranged (is_comm sig f) ts))) m ∙ told_all before (some_largest sig ts) (is_successor sig f && is_largest (arranged (is_comm sig f) ts))
+    ∙ ap (λ b. before || b) (sym (ap (has_largest sig) e ∙ largest_applied sig ok f ts))
+
+some_pushed : (sig : Signature) (ts : List RawTerm) (t : RawTerm) → some_largest sig (terms_of (ts ++ t ∷ [])) ≡ (some_largest sig (terms_of ts) || has_largest sig t)
+some_pushed sig [] t = or-false (has_largest sig t)
+some_pushed sig (u ∷ ts) t = ap (λ b. has_largest sig u || b) (some_pushed sig ts t) ∙ sym (or_assoc (has_largest sig u) (some_largest sig (terms_of ts)) (has_largest sig t))
+  where
+    or_assoc : (a b c : Bool) → ((a || b) || c) ≡ (a || (b || c))
+    or_assoc true b c = refl
+    or_assoc false b c = refl
+
+pub one_told : (sig : Signature) (ts us : List RawTerm) (t : RawTerm) (first before after : Bool) → before ≡ (first || some_largest sig (terms_of ts)) → after ≡ (before || has_largest sig t) → us ≡ ts ++ t ∷ [] → after ≡ (first || some_largest sig (terms_of us))
+one_told sig ts us t first before after b a e =
+    a ∙ ap (λ z. z || has_largest sig t) b ∙ joined first (some_largest sig (terms_of ts)) (has_largest sig t) ∙ ap (λ z. first || z) (sym (some_pushed sig ts t)) ∙ ap (λ zs. first || some_largest sig (terms_of zs)) (sym e)
+  where
+    joined : (a b c : Bool) → ((a || b) || c) ≡ (a || (b || c))
+    joined true b c = refl
+    joined false b c = refl

@@ -7,6 +7,7 @@ ghost use Rattle.mw_matching.specs.Matches.{evaluated};
 ghost use Rattle.mw_pattern.specs.Clean.{clean};
 ghost use Rattle.mw_solving.specs.Inside.{IsProperPart};
 ghost use Rattle.mw_deduction.specs.Replay.{whole as in_whole};
+ghost use Rattle.mw_trail.specs.Tracks.{moves};
 ghost use Rattle.mw_frames.specs.State.{Run, IsRun, InHand, Settled, Holds};
 ghost use Rattle.mw_frames.specs.Machines.{data_of};
 ghost use Rattle.mw_frames.specs.Redex.{MayFire, HasOnTop};
@@ -297,9 +298,10 @@ fn fits_own(
     values: &[Term],
     take: &Option<Seq<u32>>,
 ) -> Result<bool, AllocError>
-    ensures { (K : Run) (k : ℕ) (w : RawTerm) → IsRun K facts.now
-        → (h : InHand K k (record (data_of K.over machine.now) { done = take_first top.from machine.now.done.items }) (TryOf w))
-        → IsApplied K.over by.entry values.now w
+    ensures { (K : Run) (k : ℕ) (t : RawTerm) → IsRun K facts.now
+        → (h : InHand K k (record { frames = reverse machine.now.frames.items; done = take_first top.from machine.now.done.items;
+        jobs = machine.now.jobs.items; values = machine.now.kept.values; moves = moves K.over machine.now.kept }) (TryOf t))
+        → (take.now ≡ None → IsApplied K.over by.entry values.now t)
         → IfOk result (λ b. IsTrue b → (take.now ≡ None)
         × IsFit K.over.signature (reverse machine.now.frames.items) h.stand.opens (evaluated K.over.signature values.now (clean by.entry.right.now)) FitsOf) }
 {

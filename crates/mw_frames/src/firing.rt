@@ -155,7 +155,7 @@ pub(crate) fn take_out(
     subject: &Term,
     numbers: &[u32],
 ) -> Result<(), AllocError>
-    ensures means { (K : Run) (k : ℕ) (w : RawTerm) → IsRun K facts.now
+    ensures { (K : Run) (k : ℕ) (w : RawTerm) → IsRun K facts.now
         → InHand K k (data_of K.over machine.old) (TryOf subject.now)
         → IsNewFrame facts.now (reverse machine.old.frames.items)
         machine.old.done.items machine.old.jobs.items frame.op frame

@@ -1,7 +1,7 @@
 // Canonical instances of right sides.
 ghost use Rattle.std.specs.Prelude.{◌≡◌, ◌&&◌, ◌||◌, false, IfOk, unwrap_or, slice_get};
 ghost use Rattle.mw_logic.specs.Term.{variable as a_variable, nil, cons};
-ghost use Rattle.mw_logic.specs.Kinds.{is_successor};
+ghost use Rattle.mw_logic.specs.Kinds.{is_successor as successor_of};
 ghost use Rattle.mw_logic.specs.NormalForm.{is_comm, arranged, is_largest as is_largest_of, has_largest, some_largest};
 ghost use Rattle.mw_logic.specs.Terms.{terms_of};
 ghost use Rattle.mw_position.specs.Positions.{position};
@@ -14,7 +14,7 @@ use mw_term::{Name, OpId, Term, VarId, View, copy, copy_name};
 use std::alloc::{AllocError, Global};
 
 /// Whether a term is the largest numeral.
-pub(crate) fn is_largest(term: &Term) -> bool
+fn is_largest(term: &Term) -> bool
     ensures { result ≡ is_largest_of (cons term.now nil) }
 {
     match term.view() {
@@ -23,17 +23,45 @@ pub(crate) fn is_largest(term: &Term) -> bool
     }
 }
 
-/// Whether an operator on these arguments is `s_` on the largest numeral.
-#[inline]
-pub(crate) fn is_on_largest(facts: &Facts, operator: OpId, args: &[Term]) -> bool
-    ensures { result ≡ (is_successor facts.now operator
-        && is_largest_of (arranged (is_comm facts.now operator) (terms_of args.now))) }
+/// Whether the operator is `s_` of numbers.
+#[inline(always)]
+fn is_successor(facts: &Facts, operator: OpId) -> bool
+    ensures { result ≡ successor_of facts.now operator }
 {
     facts.shows();
-    if args.len() != 1 || !matches!(facts.axioms(operator), Axioms::Successor) {
-        return false;
+    match facts.axioms(operator) {
+        Axioms::Plain | Axioms::Commutative => false,
+        Axioms::Successor => true,
+        Axioms::Associative { .. } => false,
     }
-    is_largest(&args[0])
+}
+
+/// Whether an operator on a term is `s_` on the largest numeral.
+#[inline(always)]
+pub(crate) fn is_over_largest(facts: &Facts, operator: OpId, term: &Term) -> bool
+    ensures { result ≡ (successor_of facts.now operator && is_largest_of (cons term.now nil)) }
+{
+    is_successor(facts, operator) && is_largest(term)
+}
+
+/// Whether an operator on these arguments is `s_` on the largest numeral.
+#[inline(always)]
+fn is_on_largest(facts: &Facts, operator: OpId, args: &[Term]) -> bool
+    ensures { result ≡ (successor_of facts.now operator
+        && is_largest_of (arranged (is_comm facts.now operator) (terms_of args.now))) }
+{
+    args.len() == 1 && is_over_largest(facts, operator, &args[0])
+}
+
+/// Notes where an operator on these arguments is `s_` on the largest numeral.
+#[inline]
+fn note_largest(facts: &Facts, operator: OpId, args: &[Term], large: &mut bool)
+    ensures { large.new ≡ (large.old || (successor_of facts.now operator
+        && is_largest_of (arranged (is_comm facts.now operator) (terms_of args.now)))) }
+{
+    if is_on_largest(facts, operator, args) {
+        *large = true;
+    }
 }
 
 /// The canonical instance: operators with their axioms on the instances of their arguments. Positions that have no
@@ -70,11 +98,16 @@ pub(crate) fn build(
             let name = copy_name(alloc, name)?;
             Term::quoted(alloc, name)
         }
-        Pattern::Var(i) => value(alloc, values, *i),
+        Pattern::Var(i) => {
+            let value = value(alloc, values, *i)?;
+            Ok(value)
+        }
         Pattern::Op(operator, args) => {
+            facts.shows();
             let made = all_built(alloc, facts, args, values, large)?;
-            *large = *large || is_on_largest(facts, *operator, made.as_slice());
-            rebuild(alloc, facts, *operator, made)
+            note_largest(facts, *operator, made.as_slice(), large);
+            let term = rebuild(alloc, facts, *operator, made)?;
+            Ok(term)
         }
     }
 }

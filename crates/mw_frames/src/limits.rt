@@ -18,10 +18,10 @@ ghost use Rattle.mw_frames.specs.Larger.{grows as grows_of, AreSmall, StaysBranc
 ghost use Rattle.mw_frames.specs.Redex.{hole_level};
 
 use crate::firing::push_others;
-use crate::instances::{build, evaluate, is_largest};
+use crate::instances::{build, evaluate, is_over_largest};
 use crate::job::{Frame, Job};
 use mw_canon::{Axioms, Facts, rebuild};
-use mw_pattern::{Pattern, depth_at};
+use mw_pattern::{Pattern, Patterns, depth_at};
 use mw_stack::{added, hides};
 use mw_term::{OpId, Term, View, behind, copy, depth};
 use std::alloc::{AllocError, Global};
@@ -120,8 +120,7 @@ fn levels_above_plain(hole: Option<Frame>) -> usize
 /// The innermost frame.
 #[inline(always)]
 pub(crate) fn innermost(frames: &[Frame]) -> Option<Frame>
-    ensures { (sig : Signature) (t : RawTerm)
-        → hole_level sig (option_to_list result) t ≡ hole_level sig (reverse frames.now) t }
+    ensures { option_to_list result ≡ take 1 (reverse frames.now) }
 {
     frames.last().copied()
 }
@@ -140,7 +139,8 @@ pub(crate) fn is_branch(term: &Term) -> bool
 
 /// Whether an operator on a term, with so many others beside it, may be one of these alone, or a numeral.
 fn may_fold(facts: &Facts, operator: OpId, others: usize, term: &Term) -> bool
-    ensures { IsFalse result → StaysBranch facts.now operator others term.now }
+    ensures no { IsFalse result → StaysBranch facts.now operator others term.now }
+    ensures yes { IsTrue result → others ≤ 1 }
 {
     facts.shows();
     if others > 1 {
@@ -235,13 +235,14 @@ fn grows(
         → AreOpened facts.now around.entry.values.now (reverse around.entry.frames.now) around.entry.done.now around.entry.jobs.now os
         → IfOk result (λ b. b ≡ grows_of facts.now os term.now) }
 {
+    facts.shows();
     if is_branch(term) {
         return Ok(false);
     }
     let Some(top) = around.frames.last() else {
         return Ok(false);
     };
-    if is_largest(term) && matches!(facts.axioms(top.op), Axioms::Successor) {
+    if is_over_largest(facts, top.op, term) {
         return Ok(true);
     }
     let (done, own) = cut(around.done, top.from);
@@ -273,24 +274,37 @@ pub(crate) fn fit_built(
         → large ≡ has_largest facts.now term.now
         → IfOk result (IsFit facts.now (reverse around.entry.frames.now) os term.now) }
 {
+    facts.shows();
     let hole = innermost(around.frames);
     if !fits(levels_above(facts, hole, term), depth(term)) {
         return Ok(Fit::TooDeep);
     }
-    if large || grows(alloc, facts, around, term)? {
+    if large {
+        return Ok(Fit::TooLarge);
+    }
+    let grown = grows(alloc, facts, around, term)?;
+    if grown {
         return Ok(Fit::TooLarge);
     }
     Ok(Fit::Fits)
+}
+
+/// Whether there is a pattern.
+#[inline(always)]
+fn is_some(patterns: &Patterns) -> bool
+    ensures { IsTrue result → (t : RawTerm) × (ts : RawTerms) × (patterns.now ≡ cons t ts) }
+{
+    !patterns.slice().is_empty()
 }
 
 /// Whether a right side without axioms has an operator on top that stays as it is wherever it comes.
 #[inline(always)]
 fn stays_branch(facts: &Facts, hole: Option<Frame>, right: &Pattern) -> bool
     ensures { IsTrue result → (f : ℕ) × (ts : RawTerms) × (clean right.now ≡ applied f ts)
-        × (IsBranch (clean right.now) ⊎ IsUnfolded facts.now (option_to_list hole)) }
+        × (IsBranch (applied f ts) ⊎ IsUnfolded facts.now (option_to_list hole)) }
 {
     match right {
-        Pattern::Op(_, args) => !args.slice().is_empty() || is_unfolded(facts, hole),
+        Pattern::Op(_, args) => is_some(args) || is_unfolded(facts, hole),
         _ => false,
     }
 }
@@ -325,6 +339,7 @@ pub(crate) fn fit_right(
         → levels ≡ min (height (fill [] (clean right.now))) (2 ^ 16 - 1)
         → IfOk result (IsFit facts.now (reverse around.entry.frames.now) os (evaluated facts.now values.now (clean right.now))) }
 {
+    facts.shows();
     let hole = innermost(around.frames);
     if free && stays_branch(facts, hole, right) {
         if fits_at(levels_above_plain(hole), levels, right, values) {
