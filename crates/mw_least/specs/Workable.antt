@@ -1,11 +1,12 @@
--- The modules that contexts hold: their signature is preregular modulo its axioms and has nothing built in, and their equations have no conditions.
+-- The modules that contexts hold: their signature is preregular modulo its axioms, its built-in operators are tests of equality and choices with the truth
+-- values that they need, and their equations have no conditions.
 use Rattle.std.specs.Prelude.{ℕ, ◌≡◌, ◌||◌, [], false, IsTrue, Some}
 use Rattle.mw_logic.specs.Term.{Variable, variable}
 use Rattle.mw_logic.specs.Signature.{Signature, at_number, HasKind, IsRawTerm}
 use Rattle.mw_logic.specs.Axioms.{EqualModulo}
 use Rattle.mw_logic.specs.Substitution.{occurs}
 use Rattle.mw_logic.specs.Preregular.{IsSortOf, HasItsSorts}
-use Rattle.mw_logic.proofs.FreeSignature.{IsBareSignature}
+use Rattle.mw_logic.specs.Built.{HasBuiltIns}
 use Rattle.mw_logic.specs.Module.{Module, Statement, IsStatement}
 use Rattle.mw_position.specs.Variables.{met}
 use Rattle.mw_sorting.specs.PreregularModulo.{IsPreregularModulo}
@@ -30,6 +31,6 @@ pub record IsPlainEquation (sig : Signature) (e : Statement) : Type 0 where
 pub record IsWorkable (M : Module) : Type 0 where
   pub signature : IsPreregularModulo M.signature
   pub numbers : HasItsSorts M.signature
-  pub bare : IsBareSignature M.signature
+  pub built : HasBuiltIns M.signature
   pub sides : (k : ℕ) (e : Statement) → at_number M.statements k ≡ Some e → AreSides M.signature e
   pub equations : (k : ℕ) (e : Statement) → IsStatement M k e → IsPlainEquation M.signature e

@@ -7,6 +7,7 @@ ghost use Rattle.mw_logic.specs.Preregular.{IsSortOf};
 ghost use Rattle.mw_logic.specs.Sorts.{AtOrBelow, IsBelow, HasSort, IsLeastSort};
 ghost use Rattle.mw_logic.specs.Term.{is_ground, RawTerms, apply as applied};
 ghost use Rattle.mw_sorts.specs.Diagrams.{AreTablesOf};
+ghost use Rattle.mw_builtin.specs.Schemata.{AreSchemataOf};
 ghost use Rattle.mw_poset.specs.SortOrder.{order_of};
 ghost use Rattle.mw_term.specs.Signatures.{sorted_of};
 ghost use Rattle.mw_least.specs.Giving.{OneGives, MayGive};
@@ -14,6 +15,7 @@ ghost use Rattle.mw_least.specs.Sure.{AreSure};
 ghost use Rattle.mw_least.specs.Workable.{IsWorkable};
 
 use crate::sure::{Sure, sure_sorts};
+use mw_builtin::Schemata;
 use mw_canon::Facts;
 use mw_poset::Poset;
 use mw_sorts::{Tables, least_sort};
@@ -22,13 +24,14 @@ use std::alloc::{AllocError, Global};
 use std::marker::Model;
 
 /// A signature and statements that were accepted, which contracts see as a module. The order of its sorts and the
-/// axioms and least results of its operators are kept with it.
+/// axioms, least results and schemata of its operators are kept with it.
 #[derive(Drop)]
 pub struct Ctx {
     facts: Facts,
     order: Poset,
     tables: Tables,
     sure: Sure,
+    schemata: Schemata,
     statements: Seq<Statement>,
 }
 
@@ -45,7 +48,7 @@ impl Model for Ctx {
 
     ghost use Rattle.mw_least.specs.Contexts.{IsContext};
 
-    ghost invariant = { λ c. IsContext (record { signature = c.facts; statements = c.statements }) c.order c.tables c.sure };
+    ghost invariant = { λ c. IsContext (record { signature = c.facts; statements = c.statements }) c.order c.tables c.sure c.schemata };
 }
 
 impl Ctx {
@@ -63,11 +66,13 @@ impl Ctx {
         ensures { IfOk result (λ c. c.value ≡ record { signature = facts; statements = statements }) }
     {
         let sure = sure_sorts(alloc, facts.signature(), &order)?;
+        let schemata = Schemata::of(alloc, facts.signature(), &order)?;
         let context = Ctx {
             facts,
             order,
             tables,
             sure,
+            schemata,
             statements,
         };
         Ok(Box::new(alloc, context)?)
@@ -98,6 +103,13 @@ impl Ctx {
         ensures { result.now ≡ order_of self.now.signature }
     {
         &self.order
+    }
+
+    /// What its operators compute.
+    pub fn schemata(&self) -> &Schemata
+        ensures { AreSchemataOf self.now.signature result.now }
+    {
+        &self.schemata
     }
 
     pub fn statements(&self) -> &[Statement]

@@ -1,12 +1,14 @@
 //! Contexts: a module's signature and statements as they were accepted, with what the engine asks of them.
 //!
 //! A [`Ctx`] is seen as its module. Beside it stand, unseen, the order of its sorts, the axioms of its operators
-//! (`Facts` of mw_canon) and their tables (mw_sorts), made once for a module.
+//! (`Facts` of mw_canon), their tables (mw_sorts) and what they compute (`Schemata` of mw_builtin), made once for a
+//! module.
 //!
 //! - `Ctx::new` makes the module of the given signature and statements. Conditions: it is workable (`IsWorkable`,
-//!   specs/Workable: preregular modulo its axioms, with equations without conditions), the order is that of the
-//!   signature's sorts, the tables are the signature's. `shows` hands out that it is workable.
-//! - `signature`, `facts`, `statements`, `order` are those of the module.
+//!   specs/Workable: preregular modulo its axioms, its built-in operators are tests of equality and choices, with
+//!   equations without conditions), the order is that of the signature's sorts, the tables are the signature's. `shows`
+//!   hands out that it is workable; so it is well-formed (proofs/WellFormed).
+//! - `signature`, `facts`, `statements`, `order`, `schemata` are those of the module.
 //! - `least_sort` is the least sort of a canonical term, or its kind where no declaration gives it a sort
 //!   (`IsLeastSort`); `has_sort` whether such a term, if it is ground, has a sort (`HasSort`), exactly.
 //!   `may_give` is true exactly where a declaration of an operator has a result at or below a sort, and of a number

@@ -1,5 +1,6 @@
 use Rattle.std.proofs.Common.{subst}
 use Rattle.mw_logic.specs.Signature.{Signature}
+use Rattle.mw_builtin.specs.Schemata.{AreSchemataOf}
 use Rattle.mw_least.specs.Sure.{AreSure}
 use Rattle.mw_least.proofs.context.Ctx.new.Goals as goal
 
@@ -9,4 +10,5 @@ invariant_of-context c = record {
   order = c.requires.order;
   tables = c.requires.tables;
   each_sure = subst (λ (s : Signature). AreSure s c.in_ok-sure.sure) c.signature.ensures c.in_ok-sure.ensures;
+  computing = subst (λ (s : Signature). AreSchemataOf s c.in_ok-schemata.schemata) c.signature-2.ensures c.in_ok-schemata.ensures;
 }

@@ -1,0 +1,206 @@
+-- The steps of each schema, at a term that is asked about.
+use Rattle.std.specs.Prelude.{◌≡◌, ◌⊎◌, ◌↔◌, ◌<◌, ◌≤◌, ◌-◌, ◌&&◌, ℕ, zero, suc, List, [], ◌∷◌, length, get_or, drop, Bool, true, false, not, cond, Option, Some, None, unwrap_or, IsTrue, codes, refl}
+use Rattle.std.proofs.Common.{inl, inr, arith, ap, sym, subst, ◌∙◌, ⊎_elim}
+use Rattle.std.proofs.lemmas.Bool.{and_parts}
+use Rattle.std.proofs.lemmas.List.{drop_more}
+use Rattle.mw_logic.specs.Term.{RawTerm, numeral, apply, RawTerms, nil, cons, binary, constant, is_ground, are_ground}
+use Rattle.mw_logic.specs.Terms.{terms_of}
+use Rattle.mw_logic.specs.Signature.{Signature, Operator, IsOperator, IsRawTerm, at_number}
+use Rattle.mw_logic.specs.Substitution.{Substitution}
+use Rattle.mw_logic.specs.Judgements.{IsNormalBy}
+use Rattle.mw_logic.specs.Parts.{is_assoc, nested, all_nested, number_of_terms}
+use Rattle.mw_logic.specs.NormalForm.{is_comm, arranged, normal_form}
+use Rattle.mw_logic.specs.TermOrder.{sorted_terms}
+use Rattle.mw_logic.specs.CanonicalPart.{AreSeveral}
+use Rattle.mw_logic.specs.Module.{BuiltIn, AreKindsOf, IsBuiltIn, IsPolymorphic, IsTruth, result_of, Module, Fragment, Row, if_true, if_false}
+use Rattle.mw_logic.proofs.Canonical.{Each, IsCanonical, canonical, not_assoc}
+use Rattle.mw_logic.proofs.CanonicalTerms.{clean}
+use Rattle.mw_deduction.specs.Tops.{IsNormalTerm}
+use Rattle.mw_builtin.specs.Places.{IsPairAt}
+use Rattle.mw_builtin.specs.Results.{IsFound, DoGive}
+use Rattle.mw_builtin.specs.Schemata.{IsNamedTruth, IsConstantFor, IsSchemaOf, Computes, AreSchemataOf, on_numbers}
+use Rattle.mw_builtin.specs.Steps.{IsTaken, IsFormOf, IsGroundTerm, IsGiven, IsStepOf, IsAsked, HasNoRow, AreNeighbours, met_for}
+use Rattle.mw_builtin.specs.declared.pairs.Found.{Found}
+use Rattle.mw_builtin.specs.declared.pairs.Found.TheVariants.{Constant}
+use Rattle.mw_builtin.specs.declared.pairs.Pair.{Pair}
+use Rattle.mw_builtin.specs.declared.schema.Schema.{Schema}
+use Rattle.mw_builtin.specs.declared.schema.Schema.TheVariants.{Nothing, Choice}
+use Rattle.mw_builtin.specs.declared.table.Schemata.{Schemata}
+use Rattle.mw_builtin.proofs.BuiltLaws.{IsTest, test_args, choice_args}
+use Rattle.mw_builtin.proofs.Forms.{plain_number, are_several, in_order, form, turned, listed_number}
+use Rattle.mw_builtin.proofs.Giving.{number_step, test_step, nested_constant}
+use Rattle.mw_builtin.proofs.NoRows.{no_choice}
+
+-- an operator's only schema is the one that it computes by
+pub schema_of : (sig : Signature) (s : Schemata) → AreSchemataOf sig s → (f : ℕ) (schema : Schema) → Computes sig f schema → IsSchemaOf sig f schema
+schema_of sig s a f schema h = subst (IsSchemaOf sig f) (sym ((a.schemas f).only schema h)) (a.schemas f)
+
+-- a row that was looked up is the operator's schema, and if it isn't that it has none, the operator computes by it
+pub row_of : (sig : Signature) (s : Schemata) → AreSchemataOf sig s → (f : ℕ) (row schema : Schema) → row ≡ unwrap_or (at_number s.rows f) Nothing → row ≡ schema → IsSchemaOf sig f schema
+row_of sig s a f row schema e h = subst (IsSchemaOf sig f) (sym e ∙ h) (a.schemas f)
+
+pub computes_by : (sig : Signature) (f : ℕ) (schema : Schema) → IsSchemaOf sig f schema → (schema ≡ Nothing → ⊥) → Computes sig f schema
+computes_by sig f schema h some = ⊎_elim (λ e. absurd (some e)) (λ c. c) h.computes
+
+two_of : (sig : Signature) (Ks : List ℕ) (a b : List ℕ) → AreKindsOf sig Ks (a ∷ b ∷ []) → (K L : ℕ) × (Ks ≡ K ∷ L ∷ [])
+two_of sig [] a b h = absurd h
+two_of sig (K ∷ []) a b h = absurd (h.3)
+two_of sig (K ∷ L ∷ []) a b h = (K, L, refl)
+two_of sig (K ∷ L ∷ J ∷ Ks) a b h = absurd (h.3.3)
+
+none_two : (ts : List RawTerm) → terms_of ts ≡ nil → length ts ≡ 0
+none_two [] e = refl
+none_two (t ∷ ts) e = cc
+
+module _ (M : Module) (F : List Fragment → Substitution → Type 0) (s : Schemata) (f : ℕ) (xs : List RawTerm) (q : IsAsked M F s f xs) where
+  abbrev sig : Signature
+  sig = M.signature
+
+  abbrev t : RawTerm
+  t = apply f (terms_of xs)
+
+  abbrev N : RawTerm → Type 0
+  N = IsNormalBy M F
+
+  stands : IsCanonical M.signature (apply f (terms_of xs))
+  stands = subst (IsCanonical M.signature) q.term.canonical (canonical M.signature q.accepted (nested M.signature (apply f (terms_of xs))))
+
+  each_at : (P : RawTerm → Type 0) (ys : List RawTerm) (i : ℕ) (d : RawTerm) → Each P (terms_of ys) → i < length ys → P (get_or ys i d)
+  each_at P [] i d h l = absurd (omega arith)
+  each_at P (y ∷ ys) zero d h l = h.0
+  each_at P (y ∷ ys) (suc i) d h l = each_at P ys i d h.1 (omega arith)
+
+  -- arguments of a commutative operator on numbers are in order
+  pub numbers_in_order : (b : BuiltIn) → IsBuiltIn M.signature f b → (c : Bool) → c ≡ is_comm M.signature f → c ≡ true → sorted_terms (terms_of xs) ≡ terms_of xs
+  numbers_in_order b is c e h =
+      let (K, L, two) = two_of M.signature is.1.operator.args _ _ is.1.of_kinds in
+      let many = are_several M.signature q.accepted f (terms_of xs) stands q.term.raw is.1.operator K L is.1.is_there two in
+      subst (λ c. arranged c (terms_of xs) ≡ terms_of xs) (sym e ∙ h) (in_order M.signature q.accepted f (terms_of xs) stands q.term.raw many)
+
+  -- a pair of numerals that gives something
+  pub number_met : (b : BuiltIn) → IsBuiltIn M.signature f b → (c : Bool) → c ≡ is_comm M.signature f → (p : Pair) → IsPairAt M.signature b c xs p → (take : Option (List ℕ)) → AreNeighbours (length xs) p.index take
+      → IsStepOf M.signature (IsNormalBy M F) (apply f (terms_of xs)) (met_for take p.found)
+  number_met b is c e p h take n = by_order h.gives.gives
+    where
+      o : Operator
+      o = is.1.operator
+
+      kinds : (K L : ℕ) × (is.1.operator.args ≡ K ∷ L ∷ [])
+      kinds = two_of M.signature is.1.operator.args _ _ is.1.of_kinds
+
+      pair_form : IsFormOf M.signature take (apply f (terms_of xs)) (binary f (numeral h.gives.m) (numeral h.gives.n))
+      pair_form = subst (λ x. IsFormOf M.signature take (apply f (terms_of xs)) (binary f (nested M.signature x) (numeral h.gives.n))) h.gives.first (subst (λ y. IsFormOf M.signature take (apply f (terms_of xs)) (binary f (nested M.signature h.first) (nested M.signature y))) h.gives.second
+          (form M.signature q.accepted f xs stands q.term.raw is.1.operator is.1.is_there kinds.0 kinds.1 kinds.2 p.index h.first h.second h.rest h.positive h.there take n))
+
+      turned_form : is_comm M.signature f ≡ true → IsFormOf M.signature take (apply f (terms_of xs)) (binary f (numeral h.gives.n) (numeral h.gives.m))
+      turned_form k = subst (λ x. IsFormOf M.signature take (apply f (terms_of xs)) (binary f (numeral h.gives.n) (nested M.signature x))) h.gives.first (subst (λ y. IsFormOf M.signature take (apply f (terms_of xs)) (binary f (nested M.signature y) (nested M.signature h.first))) h.gives.second
+          (turned M.signature q.accepted f xs stands q.term.raw is.1.operator is.1.is_there kinds.0 kinds.1 kinds.2 p.index h.first h.second h.rest h.positive h.there take n k))
+
+      by_order : IsFound M.signature (result_of b h.gives.m h.gives.n) p.found ⊎ ((c ≡ true) × IsFound M.signature (result_of b h.gives.n h.gives.m) p.found) → IsStepOf M.signature (IsNormalBy M F) (apply f (terms_of xs)) (met_for take p.found)
+      by_order (inl g) = number_step M.signature q.accepted q.sorted q.built (IsNormalBy M F) (apply f (terms_of xs)) take f b is h.gives.m h.gives.n pair_form p.found g
+      by_order (inr (k, g)) = number_step M.signature q.accepted q.sorted q.built (IsNormalBy M F) (apply f (terms_of xs)) take f b is h.gives.n h.gives.m (turned_form (sym e ∙ k)) p.found g
+
+  -- a test
+  module _ (w : Bool) (is : IsPolymorphic M.signature f (cond w (codes "_==_") (codes "_=/=_"))) where
+    test : IsTest is.0.spelling
+    test = by_test w is.2
+      where
+        by_test : (w : Bool) → is.0.spelling ≡ cond w (codes "_==_") (codes "_=/=_") → IsTest is.0.spelling
+        by_test true e = inl e
+        by_test false e = inr e
+
+    kinds : (K : ℕ) × (is.0.args ≡ K ∷ K ∷ [])
+    kinds = test_args M.signature is.0 (q.built.shapes f is.0 is.1 is.3) test
+
+    -- has two arguments
+    pub two_or_more : {X : Type 0} → length xs < 2 → X
+    two_or_more h = absurd (by_list xs refl h (are_several M.signature q.accepted f (terms_of xs) stands q.term.raw is.0 kinds.0 kinds.0 is.1 kinds.1))
+      where
+        by_list : (ys : List RawTerm) → xs ≡ ys → length xs < 2 → AreSeveral (terms_of xs) → ⊥
+        by_list [] e h k = subst (λ ys. AreSeveral (terms_of ys)) e k
+        by_list (y ∷ []) e h k = subst (λ ys. AreSeveral (terms_of ys)) e k
+        by_list (y ∷ z ∷ ys) e h k = let l = ap length e in omega (arith, l, h)
+
+    -- and there are the truth values
+    pub truth_there : {X : Type 0} (b : Bool) → IsConstantFor M.signature b None → X
+    truth_there b none = let (r, (c, e, named)) = q.built.truths f is.0 is.1 is.3 b in absurd (none c named)
+
+    pub test_met : (u v : RawTerm) → 2 ≤ length xs → u ≡ get_or xs 0 u → v ≡ get_or xs 1 v → (take : Option (List ℕ)) → AreNeighbours (length xs) 1 take → (e : Bool) → (IsTrue e ↔ (u ≡ v)) → (c : ℕ) → IsNamedTruth M.signature (cond w e (not e)) c
+        → IsStepOf M.signature (IsNormalBy M F) (apply f (terms_of xs)) (met_for take (Constant c))
+    test_met u v long first second take n e same c named =
+        let nu : IsNormalTerm M F u = subst (IsNormalTerm M F) (sym first) (each_at (IsNormalTerm M F) xs 0 u q.normal (omega (arith, long))) in
+        let nv : IsNormalTerm M F v = subst (IsNormalTerm M F) (sym second) (each_at (IsNormalTerm M F) xs 1 v q.normal (omega (arith, long))) in
+        test_step M.signature q.accepted q.sorted q.built (IsNormalBy M F) (apply f (terms_of xs)) take f w is u v
+        (form M.signature q.accepted f xs stands q.term.raw is.0 is.1 kinds.0 kinds.0 kinds.1 1 u v (drop 2 xs) (omega arith) (two_first xs long first second) take n) nu.canonical nv.canonical nu.normal nv.normal e same c named
+      where
+        two_first : (ys : List RawTerm) → 2 ≤ length ys → u ≡ get_or ys 0 u → v ≡ get_or ys 1 v → ys ≡ u ∷ v ∷ drop 2 ys
+        two_first [] l a b = absurd (omega arith)
+        two_first (y ∷ []) l a b = absurd (omega arith)
+        two_first (y ∷ z ∷ ys) l a b = cc
+
+  -- a choice
+  module _ (is : IsPolymorphic M.signature f (codes "if_then_else_fi")) where
+    three : (C : ℕ) × (is.0.args ≡ C ∷ is.0.result ∷ is.0.result ∷ [])
+    three = choice_args M.signature is.0 (q.built.shapes f is.0 is.1 is.3) is.2
+
+    plain : is_assoc M.signature f ≡ false
+    plain = not_assoc M.signature q.accepted f is.0 is.1 (λ K L e. not_two (sym three.1 ∙ e))
+      where
+        not_two : {A B C K L : ℕ} → A ∷ B ∷ C ∷ [] ≡ K ∷ L ∷ [] → ⊥
+        not_two e = cc
+
+    -- has three arguments
+    pub three_args : length xs ≡ 3
+    three_args = sym (listed_number xs) ∙ plain_number M.signature q.accepted f (terms_of xs) stands q.term.raw is.0 is.1 plain ∙ ap length three.1
+
+    as_list : (ys : List RawTerm) → length ys ≡ 3 → (d : RawTerm) → ys ≡ get_or ys 0 d ∷ get_or ys 1 d ∷ get_or ys 2 d ∷ []
+    as_list [] e d = cc
+    as_list (x ∷ []) e d = cc
+    as_list (x ∷ y ∷ []) e d = cc
+    as_list (x ∷ y ∷ z ∷ []) e d = refl
+    as_list (x ∷ y ∷ z ∷ w ∷ ys) e d = cc
+
+    -- where the first is no truth value
+    pub nothing_chosen : (c : RawTerm) → c ≡ get_or xs 0 c → ((b : Bool) → IsTruth M.signature b c → ⊥) → HasNoRow M.signature (apply f (terms_of xs))
+    nothing_chosen c first none =
+        no_choice M.signature q.accepted f (terms_of xs) is.0 is.1 three.0 is.0.result is.0.result three.1 (schema_of M.signature s q.schemata f Choice is) c (cons (get_or xs 1 c) (cons (get_or xs 2 c) nil))
+        (ap terms_of (as_list xs three_args c) ∙ ap (λ x. cons x (cons (get_or xs 1 c) (cons (get_or xs 2 c) nil))) (sym first)) none
+
+    -- and where it is one
+    pub chosen_branch : (b : Bool) (c u v : RawTerm) → c ≡ get_or xs 0 c → u ≡ get_or xs 1 u → v ≡ get_or xs 2 v → IsTruth M.signature b c → (to : RawTerm) → to ≡ cond b u v → IsGiven M.signature (IsNormalBy M F) (apply f (terms_of xs)) None to
+    chosen_branch b c u v first second third truth to e = record {
+      form = nested M.signature (apply f (terms_of xs));
+      is_form = record { part = apply f (terms_of xs); taken = refl; raw = q.term.raw; clean = clean M.signature q.accepted (apply f (terms_of xs)) stands; is = q.term.canonical };
+      meets = subst (λ r. Row M.signature (IsNormalBy M F) (nested M.signature (apply f (terms_of xs))) (nested M.signature r)) (sym e) (subst (λ w. Row M.signature (IsNormalBy M F) w (nested M.signature (cond b u v))) (sym form_is) (by_truth b truth));
+      term = subst (IsGroundTerm M.signature) (sym e) (branch b);
+    }
+      where
+        listed : xs ≡ c ∷ u ∷ v ∷ []
+        listed = three_listed xs three_args first second third
+          where
+            three_listed : (ys : List RawTerm) → length ys ≡ 3 → c ≡ get_or ys 0 c → u ≡ get_or ys 1 u → v ≡ get_or ys 2 v → ys ≡ c ∷ u ∷ v ∷ []
+            three_listed [] l h i j = cc
+            three_listed (x ∷ []) l h i j = cc
+            three_listed (x ∷ y ∷ []) l h i j = cc
+            three_listed (x ∷ y ∷ z ∷ []) l h i j = cc
+            three_listed (x ∷ y ∷ z ∷ w ∷ ys) l h i j = cc
+
+        form_is : nested M.signature (apply f (terms_of xs)) ≡ apply f (cons (nested M.signature c) (cons (nested M.signature u) (cons (nested M.signature v) nil)))
+        form_is = ap (λ ys. nested M.signature (apply f (terms_of ys))) listed ∙ rw plain refl
+
+        truth_nested : (b : Bool) → IsTruth M.signature b c → IsTruth M.signature b (nested M.signature c)
+        truth_nested b (d, p, named) = (d, ap (nested M.signature) p ∙ nested_constant M.signature d, named)
+
+        by_truth : (b : Bool) → IsTruth M.signature b c → Row M.signature (IsNormalBy M F) (apply f (cons (nested M.signature c) (cons (nested M.signature u) (cons (nested M.signature v) nil)))) (nested M.signature (cond b u v))
+        by_truth true h = if_true is (truth_nested true h)
+        by_truth false h = if_false is (truth_nested false h)
+
+        normal : Each (IsNormalTerm M F) (terms_of (c ∷ u ∷ v ∷ []))
+        normal = subst (λ ys. Each (IsNormalTerm M F) (terms_of ys)) listed q.normal
+
+        ground : IsTrue (are_ground (terms_of (c ∷ u ∷ v ∷ [])))
+        ground = subst (λ ys. IsTrue (are_ground (terms_of ys))) listed q.term.ground
+
+        branch : (b : Bool) → IsGroundTerm M.signature (cond b u v)
+        branch true = record { raw = normal.1.0.raw; canonical = normal.1.0.canonical; ground = (and_parts _ _ (and_parts _ _ ground).1).0 }
+        branch false = record { raw = normal.1.1.0.raw; canonical = normal.1.1.0.canonical; ground = (and_parts _ _ (and_parts _ _ (and_parts _ _ ground).1).1).0 }
