@@ -16,8 +16,10 @@ pub mod LeftOver
 pub mod Fitting
 pub mod FiringPart
 pub mod Refusing
-pub mod SmallValues
+pub mod RowsMet
 pub mod FitsThere
+pub mod SmallValues
+
 pub mod ChosenOnes
 pub mod HoleFits
 pub mod Asking

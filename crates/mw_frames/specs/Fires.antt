@@ -5,9 +5,9 @@ use Rattle.mw_logic.specs.Signature.{Signature}
 use Rattle.mw_logic.specs.Substitution.{Substitution, instance, IsSolution}
 use Rattle.mw_logic.specs.Parts.{nested, IsPart, IsTooDeep, IsTooLarge}
 use Rattle.mw_logic.specs.NormalForm.{normal_form, height}
-use Rattle.mw_logic.specs.Module.{Module, Statement, IsStatement, Row}
+use Rattle.mw_logic.specs.Module.{Module, Statement, IsStatement, Row, IsTooBigPair}
 use Rattle.mw_logic.specs.Judgements.{IsNormalBy, admitted_judgements}
-use Rattle.mw_solving.specs.Inside.{IsProperPart}
+use Rattle.mw_frames.specs.Several.{IsSeveral}
 use Rattle.mw_least.specs.Workable.{IsPlainEquation}
 use Rattle.mw_position.specs.Positions.{fill}
 use Rattle.mw_position.specs.Variables.{placed}
@@ -23,7 +23,7 @@ use Rattle.mw_frames.specs.State.{Run, Data, Leads, Holds}
 -- w is the whole of t, or what these numbers take of it
 abbrev pub IsPartTaken : Signature → Option (List ℕ) → RawTerm → RawTerm → Type 0
 IsPartTaken sig None t w = w ≡ t
-IsPartTaken sig (Some ks) t w = IsProperPart sig ks t w
+IsPartTaken sig (Some ks) t w = IsSeveral sig ks t w
 
 -- The equation that is applied makes its left side w by these values.
 pub record IsApplied (M : Module) (e : Applied) (vs : List RawTerm) (w : RawTerm) : Type 0 where
@@ -45,7 +45,7 @@ pub record IsWhole (K : Run) (count : ℕ) (d : Data) (t : RawTerm) : Type 0 whe
 pub data Becomes (M : Module) (n : ℕ) (u : RawTerm) : RawTerm → Type 0 where
   by_equation : (C : Context) (w : RawTerm) (number : ℕ) (e : Statement) (s : Substitution) → IsPart M.signature u C w
       → IsStatement M number e → IsPlainEquation M.signature e → IsSolution M.signature e.left w [] s → Becomes M n u (plug C (instance s e.right))
-  by_row : (C : Context) (w v : RawTerm) → IsPart M.signature u C w → Row M.signature (IsNormalBy M (admitted_judgements M n).Fails) w v → Becomes M n u (plug C v)
+  by_schema : (C : Context) (w v : RawTerm) → IsPart M.signature u C w → Row M.signature (IsNormalBy M (admitted_judgements M n).Fails) w v → Becomes M n u (plug C v)
 
 -- that would be too deep
 pub record WouldBeTooDeep (M : Module) (n : ℕ) (u : RawTerm) : Type 0 where
@@ -59,6 +59,13 @@ pub record WouldBeTooLarge (M : Module) (n : ℕ) (u : RawTerm) : Type 0 where
   pub becomes : Becomes M n u next
   pub large : IsTooLarge M.signature next
   pub not_deep : ¬ IsTooDeep M.signature next
+
+-- a sum or product at one of its parts is too big
+pub record HasBigPair (M : Module) (u : RawTerm) : Type 0 where
+  pub context : Context
+  pub pair : RawTerm
+  pub is_part : IsPart M.signature u context pair
+  pub too_big : IsTooBigPair M.signature pair
 
 abbrev pub Refuses : Run → Bool → RawTerm → Type 0
 Refuses K true u = WouldBeTooDeep K.over K.rank u

@@ -9,6 +9,8 @@ pub mod Redex
 pub mod Larger
 -- Terms in which no operator has an axiom.
 pub mod Free
+-- Several arguments, and not all.
+pub mod Several
 -- Several arguments are taken.
 pub mod Taking
 pub mod Arrivals

@@ -4,14 +4,15 @@ use Rattle.std.specs.List.{zip}
 use Rattle.mw_logic.specs.Term.{RawTerm, RawTerms, apply, is_ground}
 use Rattle.mw_logic.specs.Signature.{Signature, IsRawTerm, HasKind}
 use Rattle.mw_logic.specs.Substitution.{IsSolution}
-use Rattle.mw_logic.specs.Parts.{nested}
+use Rattle.mw_logic.specs.Parts.{nested, IsClean}
 use Rattle.mw_logic.specs.NormalForm.{normal_form, height, has_largest}
-use Rattle.mw_logic.specs.Module.{Module, Statement, IsStatement}
+use Rattle.mw_logic.specs.Module.{Module, Statement, IsStatement, Row}
+use Rattle.mw_logic.specs.Judgements.{IsNormalBy, admitted_judgements}
 use Rattle.mw_canon.specs.Canonical.{meant}
 use Rattle.mw_least.specs.Workable.{AreSides}
 use Rattle.mw_position.specs.Variables.{placed}
 use Rattle.mw_least.specs.Workable.{IsPlainEquation}
-use Rattle.mw_solving.specs.Values.{AreValues}
+use Rattle.mw_solving.specs.Values.{IsValue, AreValues}
 use Rattle.mw_stack.specs.Hidden.{IsHidden}
 use Rattle.mw_deduction.proofs.Depths.{added}
 use Rattle.mw_matching.specs.Matches.{evaluated}
@@ -76,3 +77,17 @@ pub record Stands (K : Run) (count : ℕ) (m : Data) (t : RawTerm) : Type 0 wher
   pub leads : Leads K count m.moves stand
   pub opened : AreOpened K.over.signature m.values m.frames m.done m.jobs stand.opens
   pub hand : stand.hand ≡ t
+
+-- A row of the schemata leads from a clean form of w to the canonical t.
+pub record IsRowOf (M : Module) (n : ℕ) (w t : RawTerm) : Type 0 where
+  pub form : RawTerm
+  pub raw : IsRawTerm M.signature form
+  pub clean : IsClean M.signature form
+  pub is : normal_form M.signature form ≡ w
+  pub row : Row M.signature (IsNormalBy M (admitted_judgements M n).Fails) form (nested M.signature t)
+  pub value : IsValue M.signature t
+
+-- it is met at the term in hand, and what comes of it fits
+pub record MayMeetRow (K : Run) (count : ℕ) (m : Data) (w t : RawTerm) : Type 0 where
+  pub row : IsRowOf K.over K.rank w t
+  pub stands : MayStand K count m w t

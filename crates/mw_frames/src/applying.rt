@@ -5,7 +5,7 @@ ghost use Rattle.mw_logic.specs.Parts.{nested};
 ghost use Rattle.mw_logic.specs.Module.{Module};
 ghost use Rattle.mw_matching.specs.Matches.{evaluated};
 ghost use Rattle.mw_pattern.specs.Clean.{clean};
-ghost use Rattle.mw_solving.specs.Inside.{IsProperPart};
+ghost use Rattle.mw_frames.specs.Several.{IsSeveral};
 ghost use Rattle.mw_deduction.specs.Replay.{whole as in_whole};
 ghost use Rattle.mw_trail.specs.Tracks.{moves};
 ghost use Rattle.mw_frames.specs.State.{Run, IsRun, InHand, Settled, Holds};
@@ -59,7 +59,7 @@ pub enum Fired<'m> {
 
 /// The operator on top, or any where there is none.
 #[inline(always)]
-fn top_of(term: &Term) -> OpId
+pub(crate) fn top_of(term: &Term) -> OpId
     ensures top { HasOnTop result term.now }
     ensures leaf { ((f : ℕ) (ts : RawTerms) → term.now ≡ applied f ts → ⊥) → result ≡ 1 }
 {
@@ -109,7 +109,7 @@ fn go_whole<'m>(
 
 /// Nothing is applied, since the whole would be too deep, or a number in it too large: the whole as it stands.
 #[inline(never)]
-fn refuse<'m>(
+pub(crate) fn refuse<'m>(
     alloc: Global,
     facts: &Facts,
     machine: &mut Machine<'m>,
@@ -129,7 +129,7 @@ fn refuse<'m>(
 
 /// What stands round what is in hand.
 #[inline(always)]
-fn all_around<'a, 'm>(machine: &'a Machine<'m>) -> Around<'a, 'm>
+pub(crate) fn all_around<'a, 'm>(machine: &'a Machine<'m>) -> Around<'a, 'm>
     ensures { IsAround machine.now result }
 {
     Around {
@@ -210,7 +210,7 @@ fn go_several<'m>(
 }
 
 /// Nothing is applied to several arguments, which are in hand: the whole as it stands.
-fn refuse_part<'m>(
+pub(crate) fn refuse_part<'m>(
     alloc: Global,
     facts: &Facts,
     machine: &mut Machine<'m>,
@@ -218,7 +218,7 @@ fn refuse_part<'m>(
     numbers: &[u32],
     deep: bool,
 ) -> Result<Fired<'m>, AllocError>
-    ensures { (K : Run) (k : ℕ) (w : RawTerm) → IsRun K facts.now → IsProperPart facts.now numbers.now term.now w
+    ensures { (K : Run) (k : ℕ) (w : RawTerm) → IsRun K facts.now → IsSeveral facts.now numbers.now term.now w
         → (h : InHand K k (data_of K.over machine.old) (TryOf w))
         → ((t : RawTerm) → t ≡ in_whole K.over.signature h.stand.opens h.stand.hand → Refuses K deep (nested K.over.signature t))
         → IfOk result (IsFired K k (data_of K.over machine.new)) }
@@ -239,7 +239,7 @@ fn fire_several<'m>(
     values: &mut Vec<Term>,
 ) -> Result<Fired<'m>, AllocError>
     ensures { (K : Run) (k : ℕ) (w : RawTerm) → IsRun K facts.now → IsAsked K k (data_of K.over machine.old) term
-        → IsProperPart facts.now numbers.now term w → IsApplied K.over by.entry values.old.items w
+        → IsSeveral facts.now numbers.now term w → IsApplied K.over by.entry values.old.items w
         → IfOk result (IsFired K k (data_of K.over machine.new)) }
 {
     let frame = new_frame(facts, machine, top_of(&term))?;

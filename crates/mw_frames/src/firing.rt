@@ -9,7 +9,7 @@ ghost use Rattle.mw_logic.specs.Module.{Module};
 ghost use Rattle.mw_logic.specs.NormalForm.{is_comm as comm_of};
 ghost use Rattle.mw_arguments.specs.Places.{chosen, others};
 ghost use Rattle.mw_matching.specs.Matches.{evaluated};
-ghost use Rattle.mw_solving.specs.Inside.{IsProperPart};
+ghost use Rattle.mw_frames.specs.Several.{IsSeveral};
 ghost use Rattle.mw_frames.specs.State.{Run, IsRun, InHand};
 ghost use Rattle.mw_frames.specs.Machines.{data_of};
 ghost use Rattle.mw_frames.specs.Arrivals.{IsNewFrame};
@@ -159,7 +159,7 @@ pub(crate) fn take_out(
         → InHand K k (data_of K.over machine.old) (TryOf subject.now)
         → IsNewFrame facts.now (reverse machine.old.frames.items)
         machine.old.done.items machine.old.jobs.items frame.op frame
-        → HasOnTop frame.op subject.now → IsProperPart facts.now numbers.now subject.now w
+        → HasOnTop frame.op subject.now → IsSeveral facts.now numbers.now subject.now w
         → OnOk result (IsPartAsked K k (data_of K.over machine.new) frame w) }
 {
     machine.kept.among(numbers)?;

@@ -3,7 +3,7 @@ use Rattle.mw_logic.specs.Term.{RawTerm, apply}
 use Rattle.mw_logic.specs.Terms.{args_of}
 use Rattle.mw_logic.specs.Parts.{nested}
 use Rattle.mw_arguments.specs.Places.{chosen}
-use Rattle.mw_solving.specs.Inside.{IsProperPart}
+use Rattle.mw_frames.specs.Several.{IsSeveral}
 use Rattle.mw_deduction.specs.Replay.{whole}
 use Rattle.mw_frames.specs.declared.job.Job.TheVariants.{Try}
 use Rattle.mw_frames.specs.Machines.{data_of}
@@ -13,7 +13,7 @@ use Rattle.mw_frames.proofs.applying.refuse_part.Goals as goal
 
 pub returns : goal.returns
 returns c = λ K k w run part h refuses.
-    let part' : IsProperPart c.args.facts.now c.args.numbers.now c.args.term.now w = part in
+    let part' : IsSeveral c.args.facts.now c.args.numbers.now c.args.term.now w = part in
     let t = part'.takes in
     let top = c.top_of.ensures.top t.operator t.args t.term in
     let e : c.in_ok-part.part ≡ w =

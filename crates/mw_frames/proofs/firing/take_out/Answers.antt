@@ -3,7 +3,7 @@ use Rattle.std.proofs.lemmas.List.{reverse-append}
 use Rattle.mw_logic.specs.Term.{RawTerms}
 use Rattle.mw_logic.specs.Terms.{terms_of, args_of}
 use Rattle.mw_logic.specs.NormalForm.{is_comm}
-use Rattle.mw_solving.specs.Inside.{IsProperPart}
+use Rattle.mw_frames.specs.Several.{IsSeveral}
 use Rattle.mw_trail.specs.Tracks.{moves}
 use Rattle.mw_frames.specs.Machines.{data_of}
 use Rattle.mw_frames.specs.Taking.{IsLeft}
@@ -17,7 +17,7 @@ returns c = λ K k w run h new on part.
     let ns = c.args.numbers.now in
     let f = c.args.frame in
     let taken = c.leave_out.new.machine in
-    let part' : IsProperPart here ns c.args.subject.now w = rw run.signature part in
+    let part' : IsSeveral here ns c.args.subject.now w = rw run.signature part in
     let m = part'.takes in
     let e : f.op ≡ m.operator = sym (on m.operator m.args m.term) in
     let (i, is, q) = some_number here ns c.args.subject.now w m in
