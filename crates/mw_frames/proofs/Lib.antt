@@ -18,6 +18,8 @@ pub mod FiringPart
 pub mod Refusing
 pub mod RowsMet
 pub mod FitsThere
+pub mod Deciding
+pub mod Falling
 pub mod SmallValues
 
 pub mod ChosenOnes

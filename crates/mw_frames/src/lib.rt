@@ -28,6 +28,7 @@
 #![tactic(auto)]
 
 mod applying;
+mod choosing;
 mod coming;
 mod firing;
 mod instances;
@@ -44,6 +45,7 @@ mod waiting;
 mod whole;
 
 pub use applying::{Applied, Fired, fire};
+pub use choosing::decide;
 pub use instances::evaluate;
 pub use job::{Frame, Hand, Job};
 pub use looking::{Asked, Step};
