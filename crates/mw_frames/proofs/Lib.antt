@@ -21,7 +21,6 @@ pub mod FitsThere
 pub mod Deciding
 pub mod Falling
 pub mod SmallValues
-
 pub mod ChosenOnes
 pub mod HoleFits
 pub mod Asking

@@ -91,9 +91,9 @@ module _ (K : Run) (sig : Signature) (run : IsRun K sig) (count : ℕ) (m : Data
         let at = at_it K sig run count m w h in
         by_equation (round here os) (nested here w) number r.statement (meant here (zip r.statement.variables vs))
         (is_part_there (nested here w) t
-            (Rattle.mw_logic.proofs.Inside.raw_inside here run.accepted (round here os) (nested here w) at.raw)
-            (Rattle.mw_logic.proofs.CanonicalTerms.clean here run.accepted w at.canonical)
-            (Rattle.mw_logic.proofs.CanonicalTerms.fixed here run.accepted w at.canonical) q)
+        (Rattle.mw_logic.proofs.Inside.raw_inside here run.accepted (round here os) (nested here w) at.raw)
+        (Rattle.mw_logic.proofs.CanonicalTerms.clean here run.accepted w at.canonical)
+        (Rattle.mw_logic.proofs.CanonicalTerms.fixed here run.accepted w at.canonical) q)
         r.is_there r.plain r.solution
 
     pub equation_deep : 1000 < hole_level here m.frames (evaluated here vs right) + height (evaluated here vs right) → Refuses K true (nested here t)

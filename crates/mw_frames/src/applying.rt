@@ -299,8 +299,13 @@ fn fits_own(
     take: &Option<Seq<u32>>,
 ) -> Result<bool, AllocError>
     ensures { (K : Run) (k : ℕ) (t : RawTerm) → IsRun K facts.now
-        → (h : InHand K k (record { frames = reverse machine.now.frames.items; done = take_first top.from machine.now.done.items;
-        jobs = machine.now.jobs.items; values = machine.now.kept.values; moves = moves K.over machine.now.kept }) (WalkOf t))
+        → (h : InHand K k (record {
+          frames = reverse machine.now.frames.items;
+          done = take_first top.from machine.now.done.items;
+          jobs = machine.now.jobs.items;
+          values = machine.now.kept.values;
+          moves = moves K.over machine.now.kept;
+        }) (WalkOf t))
         → (take.now ≡ None → IsApplied K.over by.entry values.now t)
         → IfOk result (λ b. IsTrue b → (take.now ≡ None)
         × IsFit K.over.signature (reverse machine.now.frames.items) h.stand.opens (evaluated K.over.signature values.now (clean by.entry.right.now)) FitsOf) }

@@ -10,10 +10,10 @@ ghost use Rattle.mw_frames.specs.Steps.{IsDecided, Answers, FallsBelow};
 ghost use Rattle.mw_frames.specs.declared.job.Hand.TheVariants.{One as OneOf, Over as OverOf};
 
 use crate::job::{Frame, Hand, Job};
+use crate::limits::cut;
 use crate::looking::{Asked, Step, look, settle};
 use crate::machine::Machine;
 use crate::opening::{open_made, open_term};
-use crate::limits::cut;
 use crate::passing::{finish, pass, pass_one};
 use mw_builtin::Schemata;
 use mw_canon::{Axioms, Facts};
