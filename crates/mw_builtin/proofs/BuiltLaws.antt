@@ -1,6 +1,6 @@
 -- Of the operators that each kind has: what their arguments and values are.
 use Rattle.std.specs.Prelude.{◌≡◌, ◌⊎◌, ℕ, List, [], ◌∷◌, IsTrue, codes}
-use Rattle.std.proofs.Common.{inl, inr, sym, subst, ◌∙◌}
+use Rattle.std.proofs.Common.{inl, inr}
 use Rattle.mw_logic.specs.Signature.{Signature, Operator, IsOperator, SameKind, same}
 use Rattle.mw_logic.specs.Module.{AreKindsOf}
 use Rattle.mw_logic.specs.Built.{HasBuiltIns, IsOfEachKind, a_test, a_choice}

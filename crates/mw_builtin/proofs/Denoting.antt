@@ -1,5 +1,5 @@
 -- What two numbers give, in a signature with its truth values.
-use Rattle.std.specs.Prelude.{◌≡◌, ◌⊎◌, ℕ, zero, suc, ◌+◌, ◌≤◌, ◌<◌, List, [], ◌∷◌, length, get_or, Bool, true, false, ◌==◌, Option, Some, None, unwrap_or, MatchOption, refl}
+use Rattle.std.specs.Prelude.{◌≡◌, ◌⊎◌, ℕ, zero, suc, ◌+◌, ◌≤◌, ◌<◌, List, [], ◌∷◌, length, get_or, Bool, true, false, ◌==◌, Option, Some, None, unwrap_or, MatchOption}
 use Rattle.std.proofs.Common.{inl, inr, arith, ap, sym, subst, ◌∙◌}
 use Rattle.std.proofs.lemmas.Bool.{both_ways, cases_lt}
 use Rattle.std.proofs.lemmas.Option.{slice_get_past, unwrap_or-slice_get}
@@ -7,7 +7,7 @@ use Rattle.mw_logic.specs.Term.{RawTerm, numeral, apply, nil, constant}
 use Rattle.mw_logic.specs.Terms.{terms_of}
 use Rattle.mw_logic.specs.Signature.{Signature, at_number}
 use Rattle.mw_logic.specs.Module.{BuiltIn, Result, truth, plus, times, result_of, IsBuiltIn}
-use Rattle.mw_builtin.specs.Results.{IsBarren, AreBarren, DoGive, IsFound, IsFoundOrBarren, IsFoundInEither}
+use Rattle.mw_builtin.specs.Results.{IsBarren, AreBarren, DoGive, IsFoundOrBarren, IsFoundInEither}
 use Rattle.mw_builtin.specs.Schemata.{IsConstantFor, AreSchemas, IsSchemaOf, Computes, IsNamedTruth, on_numbers, of_sum}
 use Rattle.mw_builtin.specs.declared.pairs.Found.{Found}
 use Rattle.mw_builtin.specs.declared.schema.Schema.{Schema}

@@ -1,19 +1,19 @@
 -- Two neighbours among the arguments of a canonical term as a part of it, and clean forms of that.
-use Rattle.std.specs.Prelude.{◌≡◌, ◌⊎◌, ◌<◌, ◌≤◌, ◌+◌, ◌-◌, ◌++◌, ℕ, zero, suc, List, [], ◌∷◌, length, take, drop, Bool, true, false, cond, Option, Some, None, IsTrue, refl}
-use Rattle.std.proofs.Common.{inl, inr, arith, ap, sym, subst, ◌∙◌, length-append}
+use Rattle.std.specs.Prelude.{◌≡◌, ◌⊎◌, ◌<◌, ◌≤◌, ◌+◌, ◌-◌, ◌++◌, ℕ, suc, List, [], ◌∷◌, length, take, drop, Bool, true, false, Option, Some, None, refl}
+use Rattle.std.proofs.Common.{inl, inr, arith, ap, sym, subst, ◌∙◌}
 use Rattle.std.proofs.lemmas.Bool.{both_ways, cases_eq}
 use Rattle.std.proofs.lemmas.List.{length-drop, length-take-le, take-append-drop}
-use Rattle.mw_logic.specs.Term.{RawTerm, numeral, apply, RawTerms, nil, cons, join, binary}
+use Rattle.mw_logic.specs.Term.{RawTerm, apply, RawTerms, nil, cons, join, binary}
 use Rattle.mw_logic.specs.Terms.{terms_of}
-use Rattle.mw_logic.specs.Signature.{Signature, Operator, IsOperator, IsAssociative, IsIdentity, IsSuccessor, IsRawTerm, an_operator, AreRawTerms, end, next}
+use Rattle.mw_logic.specs.Signature.{Signature, Operator, IsOperator, IsRawTerm, an_operator, AreRawTerms, end, next}
 use Rattle.mw_logic.specs.Accepted.{IsAccepted}
 use Rattle.mw_logic.specs.Axioms.{EqualModulo, done, then, forward, comm}
-use Rattle.mw_logic.specs.Parts.{is_assoc, nested, all_nested, chain, nest, IsClean, Among, number_of_terms}
-use Rattle.mw_logic.specs.TermOrder.{stands_after, sorted_terms}
-use Rattle.mw_logic.specs.NormalForm.{is_comm, identity_of, elements, rebuilt, arranged, counted, flattened, applied_in, normal_form, height}
+use Rattle.mw_logic.specs.Parts.{is_assoc, nested, all_nested, nest, IsClean, Among, number_of_terms}
+use Rattle.mw_logic.specs.TermOrder.{stands_after}
+use Rattle.mw_logic.specs.NormalForm.{is_comm, identity_of, rebuilt, arranged, counted, normal_form, height}
 use Rattle.mw_logic.specs.Kinds.{is_successor}
 use Rattle.mw_logic.specs.CanonicalPart.{AreSeveral, IsCut, IsPartOf, several}
-use Rattle.mw_logic.proofs.Canonical.{Each, IsCanonical, AreCanonical, IsElement, canonical, same_operator, arranged-one, flattened-elements, each_canonical}
+use Rattle.mw_logic.proofs.Canonical.{Each, IsCanonical, IsElement, same_operator, arranged-one, flattened-elements, each_canonical}
 use Rattle.mw_logic.proofs.CanonicalTerms.{fixed, clean}
 use Rattle.mw_logic.proofs.Holes.{Each-parts}
 use Rattle.mw_logic.proofs.Inside.{associative, raw_inside}
@@ -22,7 +22,7 @@ use Rattle.mw_logic.proofs.PartsOfNormalForm.{part_found}
 use Rattle.mw_logic.proofs.RawKept.{raw_kept}
 use Rattle.mw_logic.proofs.Soundness.{is_commutative, several-arranged}
 use Rattle.mw_logic.proofs.SortedLists.{Climbs, climbs}
-use Rattle.mw_arguments.specs.Places.{Takes, chosen, Rise, Follow}
+use Rattle.mw_arguments.specs.Places.{Takes, chosen}
 use Rattle.mw_arguments.proofs.Arguments.{args_in_order, rebuilt_again}
 use Rattle.mw_arguments.proofs.ListPieces.{number_join}
 use Rattle.mw_arguments.proofs.Middles.{chosen-middle}
@@ -60,23 +60,20 @@ pub pair_in_order : (c : Bool) (x y : RawTerm) → (c ≡ true → stands_after 
 pair_in_order false x y h = refl
 pair_in_order true x y h = rw (h refl) refl
 
+-- no canonical term is an associative operator on one argument
+pub not_alone : (sig : Signature) (f : ℕ) (t : RawTerm) → is_assoc sig f ≡ true → IsCanonical sig (apply f (cons t nil)) → ⊥
+not_alone sig f t h k =
+    let alone : rebuilt (identity_of sig f) f (arranged (is_comm sig f) (cons t nil)) ≡ t = rw (arranged-one (is_comm sig f) t) refl in
+    let e : t ≡ apply f (cons t nil) = sym (rw (h, flattened-elements (identity_of sig f) f (cons t nil) (k.2 h)) alone) ∙ k.1 in
+    let high : height t ≡ height (apply f (cons t nil)) = ap height e in
+    omega (arith, high)
+
 module _ (sig : Signature) (ok : IsAccepted sig) (f : ℕ) (ts : RawTerms) (k : IsCanonical sig (apply f ts)) (raw : IsRawTerm sig (nested sig (apply f ts))) where
   -- without associativity there are as many arguments as the operator takes
   pub plain_number : (o : Operator) → IsOperator sig f o → is_assoc sig f ≡ false → number_of_terms ts ≡ length o.args
   plain_number o is h =
       let e : nested sig (apply f ts) ≡ apply f (all_nested sig ts) = rw h refl in
       sym (nested_number sig ts) ∙ as_many (raw_of o is (subst (IsRawTerm sig) e raw))
-
-  -- no canonical term is an associative operator on one argument
-  not_alone : (t : RawTerm) → is_assoc sig f ≡ true → ts ≡ cons t nil → ⊥
-  not_alone t h one =
-      let c : IsCanonical sig (apply f (cons t nil)) = subst (λ us. IsCanonical sig (apply f us)) one k in
-      let e : t ≡ apply f (cons t nil) = sym (rw (h, flattened-elements (identity_of sig f) f (cons t nil) (c.2 h)) (arranged_rebuilt t)) ∙ c.1 in
-      let high : height t ≡ height (apply f (cons t nil)) = ap height e in
-      omega (arith, high)
-    where
-      arranged_rebuilt : (t : RawTerm) → rebuilt (identity_of sig f) f (arranged (is_comm sig f) (cons t nil)) ≡ t
-      arranged_rebuilt t = rw (arranged-one (is_comm sig f) t) refl
 
   -- an operator on two kinds has two arguments or more
   pub are_several : (o : Operator) (K L : ℕ) → IsOperator sig f o → o.args ≡ K ∷ L ∷ [] → AreSeveral ts
@@ -95,7 +92,7 @@ module _ (sig : Signature) (ok : IsAccepted sig) (f : ℕ) (ts : RawTerms) (k : 
 
       by_shape : is_assoc sig f ≡ true → (us : RawTerms) → ts ≡ us → AreSeveral us
       by_shape h nil e = absurd (none h e)
-      by_shape h (cons t nil) e = absurd (not_alone t h e)
+      by_shape h (cons t nil) e = absurd (not_alone sig f t h (subst (λ us. IsCanonical sig (apply f us)) e k))
       by_shape h (cons t (cons u us)) e = tt
 
       by_assoc : (b : Bool) → is_assoc sig f ≡ b → AreSeveral ts

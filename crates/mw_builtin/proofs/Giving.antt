@@ -1,18 +1,16 @@
 -- What rows give at a form of what is taken.
-use Rattle.std.specs.Prelude.{◌≡◌, ◌⊎◌, ◌↔◌, ◌<◌, ◌^◌, ℕ, zero, suc, List, [], ◌∷◌, Bool, true, false, not, cond, Option, Some, None, IsTrue, codes, refl, ⊤}
-use Rattle.std.proofs.Common.{inl, inr, ap, sym, subst, ◌∙◌}
+use Rattle.std.specs.Prelude.{◌≡◌, ◌↔◌, ℕ, zero, suc, List, [], ◌∷◌, Bool, true, false, not, cond, Option, Some, IsTrue, codes, refl, ⊤}
+use Rattle.std.proofs.Common.{ap, sym, subst, ◌∙◌}
 use Rattle.std.proofs.lemmas.Bool.{both_ways}
-use Rattle.mw_logic.specs.Term.{RawTerm, numeral, apply, RawTerms, nil, cons, binary, constant, is_ground, are_ground}
-use Rattle.mw_logic.specs.Terms.{terms_of}
-use Rattle.mw_logic.specs.Signature.{Signature, Operator, IsOperator, IsRawTerm, an_operator, AreRawTerms, end, at_number}
+use Rattle.mw_logic.specs.Term.{RawTerm, numeral, nil, binary, constant}
+use Rattle.mw_logic.specs.Signature.{Signature, IsRawTerm, an_operator, AreRawTerms, end, at_number}
 use Rattle.mw_logic.specs.Accepted.{IsAccepted, IsWellSorted}
 use Rattle.mw_logic.specs.Axioms.{EqualModulo}
 use Rattle.mw_logic.specs.Built.{HasBuiltIns}
 use Rattle.mw_logic.specs.WellFormed.{IsWellFormed}
-use Rattle.mw_logic.specs.Substitution.{Substitution}
-use Rattle.mw_logic.specs.Parts.{is_assoc, nested, nest, IsClean}
+use Rattle.mw_logic.specs.Parts.{is_assoc, nested, nest}
 use Rattle.mw_logic.specs.NormalForm.{normal_form}
-use Rattle.mw_logic.specs.Module.{BuiltIn, result_of, number, truth, Denotes, IsTruth, IsBuiltIn, IsPolymorphic, AreKindsOf, Module, Fragment, Statement, Row, arithmetic, equal_terms, unequal_terms, not_different, different}
+use Rattle.mw_logic.specs.Module.{BuiltIn, result_of, Denotes, IsTruth, IsBuiltIn, IsPolymorphic, AreKindsOf, Module, Statement, Row, arithmetic, equal_terms, unequal_terms, not_different, different}
 use Rattle.mw_logic.specs.Proof as proof
 use Rattle.mw_logic.proofs.CleanForms.{keeps_top}
 use Rattle.mw_logic.proofs.Invariance.{normal_form-kept}
@@ -20,7 +18,7 @@ use Rattle.mw_logic.proofs.RawLed.{leads_raw}
 use Rattle.mw_logic.proofs.Soundness.{equal}
 use Rattle.mw_builtin.specs.Results.{IsFound}
 use Rattle.mw_builtin.specs.Schemata.{IsNamedTruth}
-use Rattle.mw_builtin.specs.Steps.{IsTaken, IsFormOf, IsGroundTerm, IsGiven, IsTooBigAt, IsStepOf, met_for}
+use Rattle.mw_builtin.specs.Steps.{IsFormOf, IsGroundTerm, IsStepOf, met_for}
 use Rattle.mw_builtin.specs.declared.pairs.Found.{Found}
 use Rattle.mw_builtin.specs.declared.pairs.Found.TheVariants.{Number, Constant, TooBig}
 use Rattle.mw_builtin.proofs.BuiltLaws.{built_tests, built_choices}

@@ -5,20 +5,19 @@ use Rattle.std.proofs.Math.ListN.{get_or-append}
 use Rattle.std.proofs.lemmas.Bool.{both_ways, cases_lt, eqb-true, eq-eqb}
 use Rattle.std.proofs.lemmas.List.{get_or_push}
 use Rattle.std.proofs.lemmas.Option.{slice_get_past, unwrap_or-slice_get}
-use Rattle.mw_logic.specs.Signature.{Signature, Operator, IsOperator, IsSortNamed, SameKind, Member, at_number}
+use Rattle.mw_logic.specs.Signature.{Signature, Operator, IsOperator, SameKind, Member, at_number}
 use Rattle.mw_logic.specs.Accepted.{IsAccepted}
-use Rattle.mw_logic.specs.Module.{AreKindsOf, IsNamed, IsBuiltIn, IsPolymorphic, spelling_of, sort_of_result}
+use Rattle.mw_logic.specs.Module.{AreKindsOf, IsNamed, IsPolymorphic}
 use Rattle.mw_logic.specs.Preregular.{HasItsSorts}
 use Rattle.mw_logic.proofs.Canonical.{same_operator}
 use Rattle.mw_logic.proofs.KindLaws.{SameKind-sym}
 use Rattle.mw_poset.specs.SortOrder.{SortOrder, order_of}
-use Rattle.mw_poset.specs.Order.{IsSort, IsKindOf}
+use Rattle.mw_poset.specs.Order.{IsKindOf}
 use Rattle.mw_poset.proofs.Reading.{kinds_agree, kinds_same}
 use Rattle.mw_canon.proofs.Reading.{sort_there}
-use Rattle.mw_builtin.specs.Kinds.{IsKindNamed, AreKindsFor, HasSorts}
-use Rattle.mw_builtin.specs.Schemata.{Computes, IsSchemaOf, AreSchemas, on_numbers, IsNamedTruth}
+use Rattle.mw_builtin.specs.Kinds.{IsKindNamed, HasSorts}
+use Rattle.mw_builtin.specs.Schemata.{Computes, IsSchemaOf, AreSchemas}
 use Rattle.mw_builtin.specs.Spellings.{IsSpelled}
-use Rattle.mw_builtin.specs.declared.schema.BuiltIn.{BuiltIn}
 use Rattle.mw_builtin.specs.declared.schema.Schema.{Schema}
 use Rattle.mw_builtin.specs.declared.schema.Schema.TheVariants.{Nothing, Number, Equality, Inequality, Choice, Truth}
 

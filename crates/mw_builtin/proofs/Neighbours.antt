@@ -1,5 +1,5 @@
 -- Neighbours among arguments that give nothing: then, in order, no two of them do.
-use Rattle.std.specs.Prelude.{◌≡◌, ◌⊎◌, ◌<◌, ◌≤◌, ◌+◌, ◌-◌, ◌*◌, ◌^◌, ◌/◌, ◌%◌, ℕ, zero, suc, List, [], ◌∷◌, length, get_or, drop, Bool, true, false, cond, min, max, nat_lt, nat_le, refl, ⊤}
+use Rattle.std.specs.Prelude.{◌≡◌, ◌⊎◌, ◌<◌, ◌≤◌, ◌+◌, ◌-◌, ◌*◌, ◌^◌, ℕ, zero, suc, List, [], ◌∷◌, length, get_or, drop, Bool, true, false, cond, nat_lt, nat_le, refl, ⊤}
 use Rattle.std.proofs.Common.{inl, inr, arith, ap, sym, subst, ◌∙◌}
 use Rattle.std.proofs.lemmas.List.{drop_more, length-drop}
 use Rattle.mw_logic.specs.Terms.{terms_of}
@@ -7,12 +7,12 @@ use Rattle.std.specs.Ordering.{nat_cmp, is_gt}
 use Rattle.std.proofs.lemmas.Bool.{both_ways, cases_eq, cases_lt, lt-ltb, le-ltb}
 use Rattle.mw_logic.specs.Term.{RawTerm, numeral, quoted, variable, apply, RawTerms, nil, cons, join}
 use Rattle.mw_logic.specs.Signature.{Signature}
-use Rattle.mw_logic.specs.TermOrder.{stands_after, insert_term, sorted_terms, compare_terms, order_terms}
+use Rattle.mw_logic.specs.TermOrder.{stands_after, insert_term, sorted_terms}
 use Rattle.mw_logic.specs.NormalForm.{arranged}
-use Rattle.mw_logic.specs.CanonicalPart.{IsCut}
-use Rattle.mw_logic.specs.Module.{BuiltIn, plus, times, difference, quotient, remainder, least, greatest, less_than, at_most, more_than, at_least, result_of, bounded, number, truth, nothing, too_big, Result, by_nonzero}
+use Rattle.mw_logic.specs.Module.{BuiltIn, plus, times, difference, quotient, remainder, least, greatest, less_than, at_most, more_than, at_least, result_of, bounded, number, truth, too_big}
 use Rattle.mw_logic.proofs.Canonical.{Each}
 use Rattle.mw_logic.proofs.CompareLaws.{compare_terms-order}
+use Rattle.mw_logic.proofs.Holes.{Each-uninsert, Each-unarranged}
 use Rattle.mw_logic.proofs.SortedLists.{Climbs}
 use Rattle.mw_builtin.specs.Results.{IsBarren, AreBarren, HasNoPair}
 use Rattle.mw_builtin.specs.Places.{is_number}
@@ -132,18 +132,6 @@ module _ (sig : Signature) (b : BuiltIn) where
   quiet_all (cons t nil) h q = (tt, tt)
   quiet_all (cons t (cons u us)) h q = let a = quiet_all (cons u us) h.1 q.1 in ((q.0, passed_on t u us h.0.0 q.0 h.1.0 a.0), a)
 
-  each_uninserted : (P : RawTerm → Type 0) (t : RawTerm) (us : RawTerms) → Each P (insert_term t us) → P t × Each P us
-  each_uninserted P t nil h = h
-  each_uninserted P t (cons u us) h = by_test (stands_after t u) (each_uninserted P t us) h
-    where
-      by_test : (c : Bool) → (Each P (insert_term t us) → P t × Each P us) → Each P (cond c (cons u (insert_term t us)) (cons t (cons u us))) → P t × Each P (cons u us)
-      by_test true more h = let r = more h.1 in (r.0, (h.0, r.1))
-      by_test false more h = (h.0, h.1)
-
-  each_unsorted : (P : RawTerm → Type 0) (ts : RawTerms) → Each P (sorted_terms ts) → Each P ts
-  each_unsorted P nil h = tt
-  each_unsorted P (cons t ts) h = let r = each_uninserted P t (sorted_terms ts) h in (r.0, each_unsorted P ts r.1)
-
   all_uninserted : (t : RawTerm) (us : RawTerms) → AllApart (insert_term t us) → Each (Apart t) us × AllApart us
   all_uninserted t nil h = h
   all_uninserted t (cons u us) h = by_test (stands_after t u) (all_uninserted t us) h
@@ -151,13 +139,13 @@ module _ (sig : Signature) (b : BuiltIn) where
       by_test : (c : Bool) → (AllApart (insert_term t us) → Each (Apart t) us × AllApart us) → AllApart (cond c (cons u (insert_term t us)) (cons t (cons u us))) → Each (Apart t) (cons u us) × AllApart (cons u us)
       by_test true more h =
           let r = more h.1 in
-          let s = each_uninserted (Apart u) t us h.0 in
+          let s = Each-uninsert (Apart u) t us h.0 in
           ((apart_turned u t s.0, r.0), (s.1, r.1))
       by_test false more h = (h.0, h.1)
 
   all_unsorted : (ts : RawTerms) → AllApart (sorted_terms ts) → AllApart ts
   all_unsorted nil h = tt
-  all_unsorted (cons t ts) h = let r = all_uninserted t (sorted_terms ts) h in (each_unsorted (Apart t) ts r.0, all_unsorted ts r.1)
+  all_unsorted (cons t ts) h = let r = all_uninserted t (sorted_terms ts) h in (Each-unarranged (Apart t) true ts r.0, all_unsorted ts r.1)
 
   all_behind : (ts us : RawTerms) → AllApart (join ts us) → AllApart us
   all_behind nil us h = h

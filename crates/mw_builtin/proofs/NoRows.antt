@@ -1,14 +1,14 @@
 -- Where no row is met at the top of a canonical term.
-use Rattle.std.specs.Prelude.{◌≡◌, ◌⊎◌, ℕ, List, [], ◌∷◌, length, Bool, true, false, cond, IsTrue, codes, refl}
-use Rattle.std.proofs.Common.{inl, inr, ap, sym, subst, ◌∙◌}
+use Rattle.std.specs.Prelude.{◌≡◌, ℕ, [], ◌∷◌, Bool, true, false, refl}
+use Rattle.std.proofs.Common.{ap, sym, subst, ◌∙◌}
 use Rattle.std.proofs.lemmas.Bool.{both_ways}
-use Rattle.mw_logic.specs.Term.{RawTerm, numeral, apply, RawTerms, nil, cons, join, binary, constant}
+use Rattle.mw_logic.specs.Term.{RawTerm, numeral, apply, RawTerms, nil, cons, binary}
 use Rattle.mw_logic.specs.Signature.{Signature, Operator, IsOperator, IsAssociative, IsRawTerm}
 use Rattle.mw_logic.specs.Accepted.{IsAccepted}
 use Rattle.mw_logic.specs.Parts.{is_assoc, IsClean}
 use Rattle.mw_logic.specs.NormalForm.{is_comm, arranged, normal_form, normal_forms}
 use Rattle.mw_logic.specs.CanonicalPart.{IsCut}
-use Rattle.mw_logic.specs.Module.{BuiltIn, plus, times, difference, quotient, remainder, least, greatest, less_than, at_most, more_than, at_least, result_of, IsTruth, IsBuiltIn, IsPolymorphic, Row, arithmetic, equal_terms, unequal_terms, not_different, different, if_true, if_false, MeetsRow, by_row, an_equality, an_inequality, IsTooBigPair}
+use Rattle.mw_logic.specs.Module.{BuiltIn, plus, times, difference, quotient, remainder, least, greatest, less_than, at_most, more_than, at_least, result_of, IsTruth, IsBuiltIn, Row, arithmetic, equal_terms, unequal_terms, not_different, different, if_true, if_false, MeetsRow, by_row, an_equality, an_inequality}
 use Rattle.mw_logic.proofs.Canonical.{arranged-twice, same_operator, comm_operator, not_assoc}
 use Rattle.mw_logic.proofs.CleanForms.{keeps_top, plain_form}
 use Rattle.mw_logic.proofs.Inside.{tops}
@@ -16,7 +16,7 @@ use Rattle.mw_logic.proofs.SortLaws.{join-nil}
 use Rattle.mw_deduction.specs.Tops.{IsTop, whole, several}
 use Rattle.mw_deduction.proofs.Rows.{pair_form}
 use Rattle.mw_builtin.specs.Results.{IsBarren, HasNoPair}
-use Rattle.mw_builtin.specs.Schemata.{Computes, IsSchemaOf, IsNamedTruth, on_numbers}
+use Rattle.mw_builtin.specs.Schemata.{Computes, IsSchemaOf, on_numbers}
 use Rattle.mw_builtin.specs.Steps.{HasNoRow}
 use Rattle.mw_builtin.specs.declared.schema.BuiltIn.{BuiltIn as OnNumbers}
 use Rattle.mw_builtin.specs.declared.schema.BuiltIn.TheVariants.{Plus, Times, Difference, Quotient, Remainder, Least, Greatest, LessThan, AtMost, MoreThan, AtLeast}
@@ -96,6 +96,10 @@ module _ (sig : Signature) (ok : IsAccepted sig) (f : ℕ) (ts : RawTerms) where
   only_schema : (s : Schema) → IsSchemaOf sig f s → (g : ℕ) → g ≡ f → (other : Schema) → Computes sig g other → other ≡ s
   only_schema s h g e other k = h.only other (subst (λ j. Computes sig j other) e k)
 
+  -- so what has another schema on top isn't one
+  other_schema : {X : Type 0} (s : Schema) → IsSchemaOf sig f s → (w : RawTerm) → IsRawTerm sig w → IsClean sig w → IsTop sig (apply f ts) (normal_form sig w) → (g : ℕ) (ws : RawTerms) → w ≡ apply g ws → (other : Schema) → Computes sig g other → (other ≡ s → ⊥) → X
+  other_schema s h w raw clean top g ws e other k differs = absurd (differs (only_schema s h g (on_top w raw clean top g ws e) other k))
+
   -- no row begins with an operator without a schema, or with a truth value
   pub idle : (s : Schema) → IsSchemaOf sig f s → works s ≡ false → HasNoRow sig (apply f ts)
   idle s h none = record {
@@ -135,22 +139,19 @@ module _ (sig : Signature) (ok : IsAccepted sig) (f : ℕ) (ts : RawTerms) where
           let form = pair_form sig ok f m n (subst (IsRawTerm sig) w_is raw) (subst (IsClean sig) w_is clean) in
           subst (λ c. IsBarren sig (result_of c m n)) schema (none m n (cut_of (cons (numeral m) (cons (numeral n) nil)) (subst (IsTop sig (apply f ts)) (ap (normal_form sig) w_is ∙ form) top)))
 
-      other_schema : {X : Type 0} (w : RawTerm) → IsRawTerm sig w → IsClean sig w → IsTop sig (apply f ts) (normal_form sig w) → (g : ℕ) (ws : RawTerms) → w ≡ apply g ws → (s : Schema) → Computes sig g s → (s ≡ Number b → ⊥) → X
-      other_schema w raw clean top g ws e s k differs = absurd (differs (only_schema (Number b) h g (on_top w raw clean top g ws e) s k))
-
       by_rows : (w r : RawTerm) → IsRawTerm sig w → IsClean sig w → IsTop sig (apply f ts) (normal_form sig w) → Row sig (λ v. ⊥) w r → ⊥
       by_rows w r raw clean top (arithmetic {f = g} {m} {n} c is d) = (barren w raw clean top g m n c refl is).no_term r d
-      by_rows w r raw clean top (equal_terms {f = g} p e d) = other_schema w raw clean top g _ refl Equality p (λ q. cc)
+      by_rows w r raw clean top (equal_terms {f = g} p e d) = other_schema (Number b) h w raw clean top g _ refl Equality p (λ q. cc)
       by_rows w r raw clean top (unequal_terms {f = g} p a b e d) = absurd a
-      by_rows w r raw clean top (not_different {f = g} p e d) = other_schema w raw clean top g _ refl Inequality p (λ q. cc)
+      by_rows w r raw clean top (not_different {f = g} p e d) = other_schema (Number b) h w raw clean top g _ refl Inequality p (λ q. cc)
       by_rows w r raw clean top (different {f = g} p a b e d) = absurd a
-      by_rows w r raw clean top (if_true {f = g} p d) = other_schema w raw clean top g _ refl Choice p (λ q. cc)
-      by_rows w r raw clean top (if_false {f = g} p d) = other_schema w raw clean top g _ refl Choice p (λ q. cc)
+      by_rows w r raw clean top (if_true {f = g} p d) = other_schema (Number b) h w raw clean top g _ refl Choice p (λ q. cc)
+      by_rows w r raw clean top (if_false {f = g} p d) = other_schema (Number b) h w raw clean top g _ refl Choice p (λ q. cc)
 
       rows : (w : RawTerm) → IsRawTerm sig w → IsClean sig w → IsTop sig (apply f ts) (normal_form sig w) → ¬ MeetsRow sig w
       rows w raw clean top (by_row {u = r} row) = by_rows w r raw clean top row
-      rows w raw clean top (an_equality {f = g} p) = other_schema w raw clean top g _ refl Equality p (λ q. cc)
-      rows w raw clean top (an_inequality {f = g} p) = other_schema w raw clean top g _ refl Inequality p (λ q. cc)
+      rows w raw clean top (an_equality {f = g} p) = other_schema (Number b) h w raw clean top g _ refl Equality p (λ q. cc)
+      rows w raw clean top (an_inequality {f = g} p) = other_schema (Number b) h w raw clean top g _ refl Inequality p (λ q. cc)
 
   first_same : {x y : RawTerm} {xs ys : RawTerms} → cons x xs ≡ cons y ys → x ≡ y
   first_same e = cc
@@ -159,12 +160,9 @@ module _ (sig : Signature) (ok : IsAccepted sig) (f : ℕ) (ts : RawTerms) where
   pub no_choice : (o : Operator) → IsOperator sig f o → (B K L : ℕ) → o.args ≡ B ∷ K ∷ L ∷ [] → IsSchemaOf sig f Choice → (t : RawTerm) (rest : RawTerms) → ts ≡ cons t rest → ((b : Bool) → IsTruth sig b t → ⊥) → HasNoRow sig (apply f ts)
   no_choice o is B K L three h t rest first none = record {
     no_row = rows;
-    no_pair = λ w raw clean top p. let (s, q) = number_schema p.schema in other_schema w raw clean top p.operator _ p.is (Number s) (subst (IsBuiltIn sig p.operator) (sym q) p.is_built_in) (λ e. cc);
+    no_pair = λ w raw clean top p. let (s, q) = number_schema p.schema in other_schema Choice h w raw clean top p.operator _ p.is (Number s) (subst (IsBuiltIn sig p.operator) (sym q) p.is_built_in) (λ e. cc);
   }
     where
-      other_schema : {X : Type 0} (w : RawTerm) → IsRawTerm sig w → IsClean sig w → IsTop sig (apply f ts) (normal_form sig w) → (g : ℕ) (ws : RawTerms) → w ≡ apply g ws → (s : Schema) → Computes sig g s → (s ≡ Choice → ⊥) → X
-      other_schema w raw clean top g ws e s k differs = absurd (differs (only_schema Choice h g (on_top w raw clean top g ws e) s k))
-
       not_two : {A C : ℕ} → B ∷ K ∷ L ∷ [] ≡ A ∷ C ∷ [] → ⊥
       not_two e = cc
 
@@ -195,18 +193,18 @@ module _ (sig : Signature) (ok : IsAccepted sig) (f : ℕ) (ts : RawTerms) where
           none b (d, sym one ∙ ap (normal_form sig) q ∙ kept_truth sig ok b d named, named)
 
       by_rows : (w r : RawTerm) → IsRawTerm sig w → IsClean sig w → IsTop sig (apply f ts) (normal_form sig w) → Row sig (λ v. ⊥) w r → ⊥
-      by_rows w r raw clean top (arithmetic {f = g} b is d) = let (s, q) = number_schema b in other_schema w raw clean top g _ refl (Number s) (subst (IsBuiltIn sig g) (sym q) is) (λ e. cc)
-      by_rows w r raw clean top (equal_terms {f = g} p e d) = other_schema w raw clean top g _ refl Equality p (λ q. cc)
+      by_rows w r raw clean top (arithmetic {f = g} b is d) = let (s, q) = number_schema b in other_schema Choice h w raw clean top g _ refl (Number s) (subst (IsBuiltIn sig g) (sym q) is) (λ e. cc)
+      by_rows w r raw clean top (equal_terms {f = g} p e d) = other_schema Choice h w raw clean top g _ refl Equality p (λ q. cc)
       by_rows w r raw clean top (unequal_terms {f = g} p a b e d) = absurd a
-      by_rows w r raw clean top (not_different {f = g} p e d) = other_schema w raw clean top g _ refl Inequality p (λ q. cc)
+      by_rows w r raw clean top (not_different {f = g} p e d) = other_schema Choice h w raw clean top g _ refl Inequality p (λ q. cc)
       by_rows w r raw clean top (different {f = g} p a b e d) = absurd a
       by_rows w r raw clean top (if_true {f = g} {c} {u = x} {v = y} p d) = choices w raw clean top g c (cons x (cons y nil)) refl true d
       by_rows w r raw clean top (if_false {f = g} {c} {u = x} {v = y} p d) = choices w raw clean top g c (cons x (cons y nil)) refl false d
 
       rows : (w : RawTerm) → IsRawTerm sig w → IsClean sig w → IsTop sig (apply f ts) (normal_form sig w) → ¬ MeetsRow sig w
       rows w raw clean top (by_row {u = r} row) = by_rows w r raw clean top row
-      rows w raw clean top (an_equality {f = g} p) = other_schema w raw clean top g _ refl Equality p (λ q. cc)
-      rows w raw clean top (an_inequality {f = g} p) = other_schema w raw clean top g _ refl Inequality p (λ q. cc)
+      rows w raw clean top (an_equality {f = g} p) = other_schema Choice h w raw clean top g _ refl Equality p (λ q. cc)
+      rows w raw clean top (an_inequality {f = g} p) = other_schema Choice h w raw clean top g _ refl Inequality p (λ q. cc)
 
 -- a term without an operator on top meets no row, and is no pair
 pub leaf_has_no_row : (sig : Signature) → IsAccepted sig → (t : RawTerm) → ((f : ℕ) (ts : RawTerms) → t ≡ apply f ts → ⊥) → HasNoRow sig t

@@ -1,15 +1,14 @@
 -- The steps of each schema, at a term that is asked about.
-use Rattle.std.specs.Prelude.{◌≡◌, ◌⊎◌, ◌↔◌, ◌<◌, ◌≤◌, ◌-◌, ◌&&◌, ℕ, zero, suc, List, [], ◌∷◌, length, get_or, drop, Bool, true, false, not, cond, Option, Some, None, unwrap_or, IsTrue, codes, refl}
+use Rattle.std.specs.Prelude.{◌≡◌, ◌⊎◌, ◌↔◌, ◌<◌, ◌≤◌, ℕ, zero, suc, List, [], ◌∷◌, length, get_or, drop, Bool, true, false, not, cond, Option, None, unwrap_or, IsTrue, codes, refl}
 use Rattle.std.proofs.Common.{inl, inr, arith, ap, sym, subst, ◌∙◌, ⊎_elim}
 use Rattle.std.proofs.lemmas.Bool.{and_parts}
-use Rattle.std.proofs.lemmas.List.{drop_more}
-use Rattle.mw_logic.specs.Term.{RawTerm, numeral, apply, RawTerms, nil, cons, binary, constant, is_ground, are_ground}
+use Rattle.mw_logic.specs.Term.{RawTerm, numeral, apply, nil, cons, binary, are_ground}
 use Rattle.mw_logic.specs.Terms.{terms_of}
-use Rattle.mw_logic.specs.Signature.{Signature, Operator, IsOperator, IsRawTerm, at_number}
+use Rattle.mw_logic.specs.Signature.{Signature, Operator, at_number}
 use Rattle.mw_logic.specs.Substitution.{Substitution}
 use Rattle.mw_logic.specs.Judgements.{IsNormalBy}
-use Rattle.mw_logic.specs.Parts.{is_assoc, nested, all_nested, number_of_terms}
-use Rattle.mw_logic.specs.NormalForm.{is_comm, arranged, normal_form}
+use Rattle.mw_logic.specs.Parts.{is_assoc, nested}
+use Rattle.mw_logic.specs.NormalForm.{is_comm, arranged}
 use Rattle.mw_logic.specs.TermOrder.{sorted_terms}
 use Rattle.mw_logic.specs.CanonicalPart.{AreSeveral}
 use Rattle.mw_logic.specs.Module.{BuiltIn, AreKindsOf, IsBuiltIn, IsPolymorphic, IsTruth, result_of, Module, Fragment, Row, if_true, if_false}
@@ -17,10 +16,9 @@ use Rattle.mw_logic.proofs.Canonical.{Each, IsCanonical, canonical, not_assoc}
 use Rattle.mw_logic.proofs.CanonicalTerms.{clean}
 use Rattle.mw_deduction.specs.Tops.{IsNormalTerm}
 use Rattle.mw_builtin.specs.Places.{IsPairAt}
-use Rattle.mw_builtin.specs.Results.{IsFound, DoGive}
-use Rattle.mw_builtin.specs.Schemata.{IsNamedTruth, IsConstantFor, IsSchemaOf, Computes, AreSchemataOf, on_numbers}
-use Rattle.mw_builtin.specs.Steps.{IsTaken, IsFormOf, IsGroundTerm, IsGiven, IsStepOf, IsAsked, HasNoRow, AreNeighbours, met_for}
-use Rattle.mw_builtin.specs.declared.pairs.Found.{Found}
+use Rattle.mw_builtin.specs.Results.{IsFound}
+use Rattle.mw_builtin.specs.Schemata.{IsNamedTruth, IsConstantFor, IsSchemaOf, Computes, AreSchemataOf}
+use Rattle.mw_builtin.specs.Steps.{IsFormOf, IsGroundTerm, IsGiven, IsStepOf, IsAsked, HasNoRow, AreNeighbours, met_for}
 use Rattle.mw_builtin.specs.declared.pairs.Found.TheVariants.{Constant}
 use Rattle.mw_builtin.specs.declared.pairs.Pair.{Pair}
 use Rattle.mw_builtin.specs.declared.schema.Schema.{Schema}

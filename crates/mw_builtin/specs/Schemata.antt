@@ -1,7 +1,7 @@
 -- Which schema an operator has, and a table of the schemata of all operators with the truth values.
-use Rattle.std.specs.Prelude.{◌≡◌, ◌⊎◌, ℕ, List, [], ◌∷◌, Bool, true, false, cond, Option, Some, None, unwrap_or, codes}
+use Rattle.std.specs.Prelude.{◌≡◌, ◌⊎◌, ℕ, List, [], Bool, true, false, cond, Option, Some, None, unwrap_or, codes}
 use Rattle.mw_logic.specs.Signature.{Signature, at_number}
-use Rattle.mw_logic.specs.Module.{BuiltIn as OnNumbers, plus, times, difference, quotient, remainder, least, greatest, less_than, at_most, more_than, at_least, spelling_of, IsBuiltIn, IsNamed, IsPolymorphic}
+use Rattle.mw_logic.specs.Module.{BuiltIn as OnNumbers, plus, times, difference, quotient, remainder, least, greatest, less_than, at_most, more_than, at_least, IsBuiltIn, IsNamed, IsPolymorphic}
 use Rattle.mw_builtin.specs.declared.schema.BuiltIn.{BuiltIn}
 use Rattle.mw_builtin.specs.declared.schema.BuiltIn.TheVariants.{Plus, Times, Difference, Quotient, Remainder, Least, Greatest, LessThan, AtMost, MoreThan, AtLeast}
 use Rattle.mw_builtin.specs.declared.schema.Schema.{Schema}

@@ -46,13 +46,7 @@ fn denoted(schemata: &Schemata, outcome: Outcome) -> Option<Found>
 }
 
 /// What two numbers give, under a commutative operator in this or the other order.
-fn of_either(
-    schemata: &Schemata,
-    operator: BuiltIn,
-    comm: bool,
-    m: u128,
-    n: u128,
-) -> Option<Found>
+fn of_either(schemata: &Schemata, operator: BuiltIn, comm: bool, m: u128, n: u128) -> Option<Found>
     ensures { (sig : SignatureOf) → AreSchemataOf sig schemata.now → IsFoundInEither sig (result_of (on_numbers operator) m n) (result_of (on_numbers operator) n m) comm result }
 {
     match denoted(schemata, compute(operator, m, n)) {

@@ -1,17 +1,18 @@
 -- Which sorts a term has, by its least one; and that sorts which aren't there stand in no pair.
-use Rattle.std.specs.Prelude.{ℕ, ◌≡◌, ◌⊎◌, ◌↔◌, ◌+◌, List, [], ◌∷◌, max, nat_eq, true, IsTrue, refl}
-use Rattle.std.proofs.Common.{inl, inr, sym, ap, subst, arith, ◌∙◌, ⊎_elim}
+use Rattle.std.specs.Prelude.{ℕ, ◌≡◌, ◌⊎◌, ◌↔◌, List, [], ◌∷◌, nat_eq, IsTrue, refl}
+use Rattle.std.proofs.Common.{inl, inr, sym, subst, ◌∙◌, ⊎_elim}
 use Rattle.std.proofs.lemmas.Bool.{eqb-true}
-use Rattle.mw_logic.specs.Term.{RawTerm, RawTerms, nil, cons, apply}
+use Rattle.mw_logic.specs.Term.{RawTerm, RawTerms, apply}
 use Rattle.mw_logic.specs.Signature.{Signature, Sorted, sort, Operator, IsOperator, IsRawTerm, Declaration, Member}
 use Rattle.mw_logic.specs.Sorts.{AtOrBelow, IsBelow, HasSort, IsLeastSort, swapped}
-use Rattle.mw_logic.specs.Parts.{is_assoc, nested}
-use Rattle.mw_logic.specs.NormalForm.{is_comm, identity_of, elements, rebuilt, arranged, normal_form, height}
+use Rattle.mw_logic.specs.Parts.{nested}
+use Rattle.mw_logic.specs.NormalForm.{normal_form}
 use Rattle.mw_logic.specs.Preregular.{IsSortOf, HasItsSorts}
-use Rattle.mw_logic.proofs.Canonical.{nat_eq-refl, same_operator, IsCanonical, canonical, arranged-one, flattened-elements}
+use Rattle.mw_logic.proofs.Canonical.{nat_eq-refl, same_operator, IsCanonical, canonical}
 use Rattle.mw_logic.proofs.BelowLaws.{IsBelow-trans}
 use Rattle.mw_logic.proofs.Invariance.{normal_form-kept}
 use Rattle.mw_logic.proofs.RawKept.{raw_kept}
+use Rattle.mw_builtin.proofs.Forms.{not_alone}
 use Rattle.mw_sorting.specs.ComputedSorts.{IsResultOn, ComputedSort, plain_sort, chain_sort, last, before}
 use Rattle.mw_sorting.specs.PreregularModulo.{IsPreregularModulo}
 use Rattle.mw_sorting.proofs.Leastness.{lowest}
@@ -48,20 +49,9 @@ module _ (sig : Signature) (ok : IsPreregularModulo sig) where
       l.takes.declares
   declared_by o Ss R S (inr n) b = absurd (subst (λ (Q : Sorted). IsBelow sig Q (sort S)) n.1 b)
 
-  -- no canonical term is an associative operator on one argument
-  pub not_alone : (f : ℕ) (t : RawTerm) → is_assoc sig f ≡ true → IsCanonical sig (apply f (cons t nil)) → ⊥
-  not_alone f t h k =
-      let same : elements (identity_of sig f) f t ≡ cons t nil = (k.2 h).0 in
-      let e : t ≡ apply f (cons t nil) = sym (rw (h, flattened-elements (identity_of sig f) f (cons t nil) (same, tt)) (arranged_rebuilt f t)) ∙ k.1 in
-      let high : height t ≡ 1 + max (height t) 0 = ap height e in
-      omega (arith, high)
-    where
-      arranged_rebuilt : (f : ℕ) (t : RawTerm) → rebuilt (identity_of sig f) f (arranged (is_comm sig f) (cons t nil)) ≡ t
-      arranged_rebuilt f t = rw (arranged-one (is_comm sig f) t) refl
-
   by_shape : (f : ℕ) (ts : RawTerms) (C : Sorted) (S : ℕ) (o : Operator) → IsOperator sig f o → IsCanonical sig (apply f ts) → ComputedSort sig (apply f ts) C → IsBelow sig C (sort S) → (d : Declaration) × Member d o.declarations × IsBelow sig d.result (sort S)
   by_shape f ts C S o is k (plain_sort {Ss = Ss} p there h ss r) b = declared_by o Ss C S (subst (λ (q : Operator). IsResultOn sig q Ss C) (same_operator sig f p o there is) r) b
-  by_shape f ts C S o is k (chain_sort p there h (last {t = t} s)) b = absurd (not_alone f t h k)
+  by_shape f ts C S o is k (chain_sort p there h (last {t = t} s)) b = absurd (not_alone sig f t h k)
   by_shape f ts C S o is k (chain_sort p there h (before {S = A} {Q = B} s q r)) b = declared_by o (A ∷ B ∷ []) C S (subst (λ (q : Operator). IsResultOn sig q (A ∷ B ∷ []) C) (same_operator sig f p o there is) r) b
 
   pub declared_result : (f : ℕ) (ts : RawTerms) (S : ℕ) (o : Operator) → IsOperator sig f o → normal_form sig (nested sig (apply f ts)) ≡ apply f ts → IsRawTerm sig (nested sig (apply f ts)) → HasSort sig (nested sig (apply f ts)) (sort S)

@@ -27,7 +27,7 @@ use Rattle.mw_term.proofs.OperatorSets.{lacks_top, arguments_apart, first_apart,
 use Rattle.mw_least.specs.declared.sure.Partial.{Partial}
 use Rattle.mw_least.specs.declared.sure.Sure.{Sure}
 use Rattle.mw_least.specs.Sure.{IsNone, IsApart, IsTop, AreTops, IsSupport, IsSupportedIn, IsSupported, AreSupported, AreTopped, AreConstantsTopped, AreResults, AreSure}
-use Rattle.mw_least.proofs.Below.{not_alone}
+use Rattle.mw_builtin.proofs.Forms.{not_alone}
 
 pub result_at : (pairs : List (ℕ × ℕ)) (tops : List ℕ) (os : List Operator) (Rs : List ℕ) (f : ℕ) (o : Operator) (R : ℕ) → AreResults pairs tops os Rs → at_number os f ≡ Some o → at_number Rs f ≡ Some R → 1 ≤ R → IsSupport pairs tops o R
 result_at pairs tops os Rs zero o R a e r p = absurd (cc)
@@ -261,7 +261,7 @@ module _ (sig : Signature) (ok : IsPreregularModulo sig) (numbers : HasItsSorts 
       → IsSupport sig.pairs tops o R → HasSort sig (nest b f (all_nested sig ts)) (sort R)
   has_support false f ts o R is h k raw g lacks p s = support_sort f (all_nested sig ts) o R is raw (all_tops ts g p) s
   has_support true f nil o R is h k raw g lacks p s = support_sort f nil o R is raw tt s
-  has_support true f (cons t nil) o R is h k raw g lacks p s = absurd (not_alone sig ok f t h k)
+  has_support true f (cons t nil) o R is h k raw g lacks p s = absurd (not_alone sig f t h k)
   has_support true f (cons t (cons u us)) o R is h k raw g lacks p s =
       let both = grounds (is_ground t) (are_ground (cons u us)) g in
       support_sort f (cons (nested sig t) (cons (chain f (nested sig u) (all_nested sig us)) nil)) o R is raw (

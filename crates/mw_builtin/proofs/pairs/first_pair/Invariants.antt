@@ -1,4 +1,4 @@
-use Rattle.std.proofs.Common.{ℕ, ◌-◌, drop}
+use Rattle.std.proofs.Common.{◌-◌, drop}
 use Rattle.mw_logic.specs.Signature.{Signature}
 use Rattle.mw_logic.specs.Terms.{terms_of}
 use Rattle.mw_builtin.specs.Schemata.{AreSchemataOf, on_numbers}

@@ -1,7 +1,5 @@
 use Rattle.std.proofs.Common.{inl, subst}
-use Rattle.mw_logic.specs.Module.{result_of}
 use Rattle.mw_builtin.specs.Results.{IsBarren, IsFound, IsFoundOrBarren, result_for}
-use Rattle.mw_builtin.specs.Schemata.{on_numbers}
 use Rattle.mw_builtin.proofs.Denoting.{by_second}
 use Rattle.mw_builtin.proofs.pairs.of_either.Goals as goal
 

@@ -1,4 +1,4 @@
-use Rattle.std.proofs.Common.{◌≡◌, arith, get_or}
+use Rattle.std.proofs.Common.{arith}
 use Rattle.std.proofs.lemmas.Bool.{both_ways}
 use Rattle.mw_builtin.proofs.Naming.{is_pair, first_member, second_member, both_kinds, not_two}
 use Rattle.mw_builtin.proofs.rows.are_two.Goals as goal

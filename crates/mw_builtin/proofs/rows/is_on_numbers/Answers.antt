@@ -3,7 +3,7 @@ use Rattle.std.specs.Prelude.{codes, IsTrue}
 use Rattle.mw_logic.specs.Signature.{Signature, Operator, Member}
 use Rattle.mw_logic.specs.Module.{AreKindsOf, BuiltIn, sort_of_result, spelling_of}
 use Rattle.mw_builtin.specs.Schemata.{on_numbers}
-use Rattle.mw_builtin.proofs.Naming.{is_named, named_args, named_result}
+use Rattle.mw_builtin.proofs.Naming.{is_named, named_result}
 use Rattle.mw_builtin.proofs.rows.is_on_numbers.Goals as goal
 
 pub are_two-requires : goal.are_two-requires

@@ -1,4 +1,4 @@
-use Rattle.std.proofs.Common.{◌≡◌, ◌∙◌, [], ◌∷◌, List, ℕ, ap, sym, subst}
+use Rattle.std.proofs.Common.{◌≡◌, ◌∙◌, [], ◌∷◌, ap, sym, subst}
 use Rattle.std.specs.Prelude.{codes}
 use Rattle.mw_logic.specs.Signature.{Operator}
 use Rattle.mw_logic.specs.Module.{AreKindsOf}

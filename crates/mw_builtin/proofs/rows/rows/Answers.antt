@@ -1,7 +1,7 @@
 use Rattle.std.proofs.Common.{◌≡◌, ◌∙◌, ◌≤◌, ◌+◌, ◌++◌, [], ◌∷◌, ℕ, arith, List, length, ap, subst, length-append}
 use Rattle.mw_logic.specs.Signature.{Signature}
 use Rattle.mw_builtin.specs.declared.schema.Schema.{Schema}
-use Rattle.mw_builtin.proofs.Naming.{rows_begin, row_pushed, rows_end}
+use Rattle.mw_builtin.proofs.Naming.{row_pushed, rows_end}
 use Rattle.mw_builtin.proofs.rows.rows.Goals as goal
 
 pub loop-index-preserved : goal.loop-index-preserved

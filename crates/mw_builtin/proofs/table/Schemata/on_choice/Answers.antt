@@ -1,5 +1,5 @@
-use Rattle.std.proofs.Common.{◌≡◌, ◌∙◌, sym, subst}
-use Rattle.std.specs.Prelude.{Bool, MatchOption, cond}
+use Rattle.std.proofs.Common.{◌∙◌, subst}
+use Rattle.std.specs.Prelude.{Bool, MatchOption}
 use Rattle.mw_logic.specs.Module.{IsTruth}
 use Rattle.mw_logic.specs.Judgements.{admitted_judgements}
 use Rattle.mw_builtin.proofs.Stepping.{three_args, nothing_chosen, chosen_branch}

@@ -1,8 +1,7 @@
-use Rattle.std.proofs.Common.{◌≡◌, ◌∙◌, Some, sym, subst}
+use Rattle.std.proofs.Common.{sym, subst}
 use Rattle.std.specs.Prelude.{MatchOption}
 use Rattle.mw_logic.specs.Term.{apply}
 use Rattle.mw_logic.specs.Terms.{terms_of}
-use Rattle.mw_logic.specs.NormalForm.{is_comm}
 use Rattle.mw_logic.specs.Judgements.{admitted_judgements, IsNormalBy}
 use Rattle.mw_builtin.specs.Results.{HasNoPair}
 use Rattle.mw_builtin.specs.Places.{IsPairAt}

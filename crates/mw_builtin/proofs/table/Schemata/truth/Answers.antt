@@ -1,6 +1,4 @@
-use Rattle.std.proofs.Common.{◌≡◌, ◌∙◌, ap, sym, subst}
-use Rattle.mw_logic.specs.Term.{apply}
-use Rattle.mw_logic.specs.Terms.{terms_of}
+use Rattle.std.proofs.Common.{◌∙◌, ap, sym, subst}
 use Rattle.mw_term.specs.Shapes.{viewed}
 use Rattle.mw_builtin.specs.Schemata.{IsNamedTruth}
 use Rattle.mw_builtin.specs.declared.schema.Schema.TheVariants.{Truth}
