@@ -145,6 +145,14 @@ fn one<'m>(
     }
 }
 
+/// Whether a frame has three arguments, of which the first one at most is done: else no condition is decided there.
+#[inline(always)]
+fn is_early(machine: &Machine<'_>, top: Frame) -> bool {
+    let own = machine.done.len().saturating_sub(top.from);
+    let waiting = machine.jobs.len().saturating_sub(top.waits);
+    own < 2 && own + waiting == 3
+}
+
 /// One step: it goes on, the whole is normal, statements are asked for, or a choice is decided.
 #[inline(always)]
 pub fn step<'m>(
@@ -159,7 +167,7 @@ pub fn step<'m>(
 {
     match hand {
         Hand::Over(top) => {
-            if schemata.is_choice(top.op) {
+            if is_early(machine, top) && schemata.is_choice(top.op) {
                 let step = over_choice(alloc, facts, schemata, machine, top)?;
                 return Ok(step);
             }
