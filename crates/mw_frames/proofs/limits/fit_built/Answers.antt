@@ -1,4 +1,4 @@
-use Rattle.std.proofs.Common.{rules, sym, ◌≡◌, ◌≤◌, ◌<◌, ◌+◌, ◌∙◌, IsTrue, IsFalse, reverse}
+use Rattle.std.proofs.Common.{rules, sym, ◌∙◌, reverse}
 use Rattle.mw_logic.specs.NormalForm.{height}
 use Rattle.mw_frames.proofs.HoleFits.{levels_tested, large_fit, grown_fit, small_fit}
 use Rattle.mw_frames.proofs.limits.fit_built.Goals as goal
