@@ -1,7 +1,6 @@
 -- What is known of a right side that comes where an equation is applied.
-use Rattle.std.specs.Prelude.{◌≡◌, ◌≤◌, ◌<◌, ◌+◌, ◌↔◌, ℕ, List, ◌++◌, length, drop, Bool, true, false, IsTrue, IsFalse, refl}
-use Rattle.std.proofs.Common.{sym, subst, ap, ◌∙◌, arith, ⊎_elim}
-use Rattle.std.proofs.lemmas.Bool.{both_ways, cases_lt}
+use Rattle.std.specs.Prelude.{◌≡◌, ◌<◌, ℕ, List, ◌++◌, length, drop, Bool, true, false, IsTrue, IsFalse, refl}
+use Rattle.std.proofs.Common.{sym, subst, ap, ◌∙◌, arith}
 use Rattle.std.proofs.Math.Seq.{drop-append_seam}
 use Rattle.mw_logic.specs.Term.{RawTerm, RawTerms, numeral, quoted, variable, apply}
 use Rattle.mw_logic.specs.Signature.{Signature}
@@ -12,8 +11,7 @@ use Rattle.mw_frames.specs.declared.job.Job.{Job}
 use Rattle.mw_frames.specs.declared.job.Job.TheVariants.{Try}
 use Rattle.mw_frames.specs.Jobs.{instance_of}
 use Rattle.mw_frames.specs.State.{Run, Data, IsRun, InHand, Settled, IsKnownIn}
-use Rattle.mw_logic.specs.NormalForm.{height}
-use Rattle.mw_frames.specs.Redex.{HasOnTop, hole_level}
+use Rattle.mw_frames.specs.Redex.{HasOnTop}
 use Rattle.mw_frames.specs.Fires.{IsApplied}
 use Rattle.mw_frames.specs.Arrivals.{Comes, IsNewFrame, level_over}
 use Rattle.mw_logic.specs.Module.{Module}

@@ -1,12 +1,12 @@
 -- A choice whose condition is done: the row that it meets, whatever its branches are.
-use Rattle.std.specs.Prelude.{◌≡◌, ◌&&◌, ◌+◌, ◌-◌, ◌≤◌, ℕ, zero, suc, List, [], ◌∷◌, ◌++◌, length, take, drop, reverse, Bool, true, false, cond, Option, Some, None, MatchOption, option_map, unwrap_or, option_to_list, slice_get, IfSome, IsTrue, refl, codes}
+use Rattle.std.specs.Prelude.{◌≡◌, ◌&&◌, ◌+◌, ◌-◌, ℕ, zero, suc, List, [], ◌∷◌, ◌++◌, length, take, drop, reverse, Bool, true, false, cond, Option, Some, None, MatchOption, option_map, unwrap_or, option_to_list, slice_get, IfSome, IsTrue, refl, codes}
 use Rattle.std.proofs.Common.{sym, subst, ap, ◌∙◌, arith}
-use Rattle.std.proofs.lemmas.Bool.{both_ways, and_parts}
+use Rattle.std.proofs.lemmas.Bool.{and_parts}
 use Rattle.std.proofs.lemmas.List.{reverse-append, reverse-reverse, take-append-drop, append-nil}
 use Rattle.mw_logic.specs.Term.{RawTerm, RawTerms, apply, nil, cons, constant, is_ground, are_ground, plug}
-use Rattle.mw_logic.specs.Signature.{Signature, Operator, IsOperator, IsRawTerm, an_operator, AreRawTerms, next}
-use Rattle.mw_logic.specs.Parts.{is_assoc, nested, all_nested, nest, IsClean}
-use Rattle.mw_logic.specs.NormalForm.{is_comm, counted, arranged, applied_in, normal_form}
+use Rattle.mw_logic.specs.Signature.{Signature, Operator, IsRawTerm, an_operator, next}
+use Rattle.mw_logic.specs.Parts.{is_assoc, nested, nest}
+use Rattle.mw_logic.specs.NormalForm.{is_comm, counted, applied_in}
 use Rattle.mw_logic.specs.Kinds.{is_successor}
 use Rattle.mw_logic.specs.Module.{Module, IsTruth, IsPolymorphic, Row}
 use Rattle.mw_logic.specs.Module as schema
@@ -20,7 +20,7 @@ use Rattle.mw_deduction.specs.Standing.{round}
 use Rattle.mw_frames.specs.declared.job.Job.{Job}
 use Rattle.mw_frames.specs.declared.job.Job.TheVariants.{Walk}
 use Rattle.mw_frames.specs.declared.job.Frame.{Frame}
-use Rattle.mw_frames.specs.Jobs.{term_of, rest, arguments}
+use Rattle.mw_frames.specs.Jobs.{term_of, rest}
 use Rattle.mw_frames.specs.State.{Run, Data, IsRun, InHand, IsJob, AreJobs}
 use Rattle.mw_frames.specs.Redex.{IsRowOf, IsSeenIn}
 use Rattle.mw_frames.specs.Steps.{IsDecided}

@@ -4,13 +4,13 @@ use Rattle.std.proofs.Common.{sym, subst, ap, ◌∙◌, arith, inl, inr, ⊎_el
 use Rattle.std.proofs.lemmas.Bool.{both_ways, cases_lt}
 use Rattle.std.proofs.lemmas.List.{reverse-append}
 use Rattle.std.proofs.lemmas.Option.{slice_get_within}
-use Rattle.mw_logic.specs.Term.{RawTerm, RawTerms, numeral, quoted, variable, apply, nil, cons, join}
+use Rattle.mw_logic.specs.Term.{RawTerm, RawTerms, apply, nil, cons, join}
 use Rattle.mw_logic.specs.Terms.{terms_of}
 use Rattle.mw_logic.specs.Signature.{Signature}
 use Rattle.mw_logic.specs.Accepted.{IsAccepted}
 use Rattle.mw_logic.specs.Kinds.{is_successor}
 use Rattle.mw_logic.specs.Parts.{is_assoc, number_of_terms}
-use Rattle.mw_logic.specs.NormalForm.{is_comm, arranged, applied_in, height, is_largest, has_largest, some_largest}
+use Rattle.mw_logic.specs.NormalForm.{arranged, applied_in, height, is_largest, has_largest}
 use Rattle.mw_logic.proofs.CanonicalTerms.{not_successor}
 use Rattle.mw_logic.proofs.Successor.{is_successor-sound}
 use Rattle.mw_logic.proofs.Pushed.{terms_of-append}
@@ -20,18 +20,16 @@ use Rattle.mw_pattern.specs.Clean.{clean, clean_all}
 use Rattle.mw_position.specs.Positions.{fill, fill_all}
 use Rattle.mw_matching.specs.Matches.{evaluated}
 use Rattle.mw_deduction.specs.Standing.{Open, filled, AreClear}
-use Rattle.mw_deduction.specs.Replay.{whole}
 use Rattle.mw_deduction.proofs.Clear.{IsBranch}
 use Rattle.mw_frames.specs.declared.job.Job.{Job}
 use Rattle.mw_frames.specs.declared.job.Frame.{Frame}
-use Rattle.mw_frames.specs.declared.limits.Fit.TheVariants.{Fits, TooDeep, TooLarge}
+use Rattle.mw_frames.specs.declared.limits.Fit.TheVariants.{Fits, TooLarge}
 use Rattle.mw_frames.specs.Free.{IsFree}
 use Rattle.mw_frames.specs.Jobs.{term_of, rest, AreOpened}
 use Rattle.mw_frames.specs.Redex.{hole_level}
 use Rattle.mw_frames.specs.Larger.{grows, AreSmall, StaysBranch, IsUnfolded, IsFit}
 use Rattle.mw_frames.proofs.Fitting.{evaluated_free, fits_told}
 use Rattle.mw_frames.proofs.Larger.{number_arranged, large_kept, grows_is, unfolded, branch_stays, constant_stays, same_filled, same_number, same_above}
-use Rattle.mw_frames.proofs.SmallValues.{free_small}
 
 pub assoc_not_successor : (sig : Signature) → IsAccepted sig → (f : ℕ) → is_assoc sig f ≡ true → is_successor sig f ≡ false
 assoc_not_successor sig ok f h = by_test (is_successor sig f) refl

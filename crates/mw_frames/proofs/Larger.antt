@@ -1,6 +1,6 @@
 -- Where `s_` comes to stand on the largest numeral when a term comes into a hole: in the term, right above it, or further out.
-use Rattle.std.specs.Prelude.{◌≡◌, ◌⊎◌, ◌≤◌, ◌+◌, ℕ, List, [], ◌∷◌, Bool, true, false, ◌&&◌, ◌||◌, nat_eq, cond, Option, Some, None, refl}
-use Rattle.std.proofs.Common.{sym, subst, ap, ◌∙◌, arith, inl, inr, true≢false}
+use Rattle.std.specs.Prelude.{◌≡◌, ◌⊎◌, ◌≤◌, ◌+◌, ℕ, List, [], ◌∷◌, Bool, true, false, ◌&&◌, ◌||◌, nat_eq, cond, Option, refl}
+use Rattle.std.proofs.Common.{sym, subst, ap, ◌∙◌, arith, inl, inr}
 use Rattle.std.proofs.Math.Bool.{or-false}
 use Rattle.std.proofs.lemmas.Bool.{both_ways, or_parts, or_left, or_right}
 use Rattle.mw_logic.specs.Term.{RawTerm, numeral, quoted, variable, apply, RawTerms, nil, cons, join, plug}
@@ -8,10 +8,10 @@ use Rattle.mw_logic.specs.Signature.{Signature, Identity}
 use Rattle.mw_logic.specs.Accepted.{IsAccepted}
 use Rattle.mw_logic.specs.Kinds.{is_successor}
 use Rattle.mw_logic.specs.TermOrder.{stands_after, insert_term, sorted_terms}
-use Rattle.mw_logic.specs.Parts.{is_assoc, nested, all_nested, nest, number_of_terms}
+use Rattle.mw_logic.specs.Parts.{is_assoc, all_nested, nest, number_of_terms}
 use Rattle.mw_logic.specs.NormalForm.{is_comm, identity_of, is_identity, own_arguments, elements, flattened, rebuilt, arranged, successor_of, counted, applied_in, normal_form, normal_forms, is_largest, has_largest, some_largest}
 use Rattle.mw_logic.proofs.ContextLaws.{plug-append}
-use Rattle.mw_logic.proofs.Canonical.{Each, IsElement, AreCanonical, flattened-elements, is_identity-arguments}
+use Rattle.mw_logic.proofs.Canonical.{AreCanonical, flattened-elements, is_identity-arguments}
 use Rattle.mw_logic.proofs.CanonicalTerms.{all_fixed, all_equal, normal_form-chain}
 use Rattle.mw_logic.proofs.Replacing.{flattened-join, normals-join}
 use Rattle.mw_logic.proofs.Soundness.{IsLong}

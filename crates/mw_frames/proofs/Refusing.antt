@@ -1,17 +1,16 @@
 -- Why the machine stops where something would come for the term in hand.
-use Rattle.std.specs.Prelude.{◌≡◌, ◌≤◌, ◌<◌, ◌^◌, ◌+◌, ℕ, suc, List, [], ◌∷◌, true, false}
+use Rattle.std.specs.Prelude.{◌≡◌, ◌≤◌, ◌<◌, ◌+◌, ℕ, List, [], ◌∷◌, true, false}
 use Rattle.std.specs.List.{zip}
 use Rattle.std.proofs.Common.{sym, subst, ap, ◌∙◌}
 use Rattle.std.proofs.lemmas.Bool.{both_ways}
-use Rattle.mw_logic.specs.Term.{RawTerm, numeral, plug}
-use Rattle.mw_logic.specs.Signature.{Signature, IsRawTerm, IsIdentity, IsSuccessor}
+use Rattle.mw_logic.specs.Term.{RawTerm, plug}
+use Rattle.mw_logic.specs.Signature.{Signature, IsRawTerm, IsIdentity}
 use Rattle.mw_logic.specs.Accepted.{IsAccepted}
 use Rattle.mw_logic.specs.Axioms.{EqualModulo}
 use Rattle.mw_logic.specs.Parts.{is_assoc, nested, IsClean, IsPart}
 use Rattle.mw_logic.specs.NormalForm.{identity_of, is_identity, normal_form, height, has_largest}
 use Rattle.mw_logic.specs.Judgements.{admitted_judgements}
 use Rattle.mw_logic.proofs.AxiomLaws.{trans, sym as back, in_context}
-use Rattle.mw_logic.proofs.Canonical.{IsCanonical}
 use Rattle.mw_logic.proofs.Invariance.{identity_found}
 use Rattle.mw_logic.proofs.ContextLaws.{plug-append}
 use Rattle.mw_logic.proofs.Soundness.{normal_form-sound}

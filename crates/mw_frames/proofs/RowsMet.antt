@@ -1,23 +1,20 @@
 -- A row of the schemata is met at the term that the machine has in hand.
-use Rattle.std.specs.Prelude.{◌≡◌, ◌⊎◌, ◌≤◌, ◌<◌, ◌+◌, ◌&&◌, ◌||◌, ℕ, suc, List, [], ◌∷◌, ◌++◌, Bool, true, false, nat_lt, cond, Option, Some, None, refl, ⊤, codes}
+use Rattle.std.specs.Prelude.{◌≡◌, ◌⊎◌, ◌≤◌, ◌<◌, ◌+◌, ◌&&◌, ◌||◌, ℕ, suc, List, [], ◌∷◌, ◌++◌, Bool, true, false, Option, Some, None, refl, ⊤}
 use Rattle.std.proofs.Common.{sym, subst, ap, ◌∙◌, arith, inl, inr}
-use Rattle.std.proofs.Math.Bool.{or-false}
-use Rattle.std.proofs.lemmas.Bool.{both_ways, or_parts}
-use Rattle.mw_logic.specs.Term.{RawTerm, RawTerms, numeral, quoted, variable, apply, nil, cons, constant, binary, plug}
-use Rattle.mw_logic.specs.Signature.{Signature, Identity, constant_of, numeral_of, identity_term, HasKind, IsRawTerm}
-use Rattle.mw_logic.specs.Accepted.{IsAccepted, IsWellSorted}
+use Rattle.std.proofs.lemmas.Bool.{or_parts}
+use Rattle.mw_logic.specs.Term.{RawTerm, RawTerms, numeral, apply, nil, cons, plug}
+use Rattle.mw_logic.specs.Signature.{Signature, Identity, constant_of, numeral_of, IsRawTerm}
+use Rattle.mw_logic.specs.Accepted.{IsAccepted}
 use Rattle.mw_logic.specs.Axioms.{EqualModulo}
 use Rattle.mw_logic.specs.Kinds.{is_successor}
 use Rattle.mw_logic.specs.Parts.{is_assoc, nested, number_of_terms, IsClean, IsAdmitted}
 use Rattle.mw_logic.specs.NormalForm.{is_comm, identity_of, rebuilt, identity_or_empty, arranged, counted, applied_in, normal_form, normal_forms, is_largest, has_largest, some_largest, height}
 use Rattle.mw_logic.specs.Module.{Module, BuiltIn, Result, number, truth, nothing, too_big, result_of, Denotes, IsTruth, Row, IsTooBigPair}
 use Rattle.mw_logic.specs.Module as schema
-use Rattle.mw_logic.specs.Proof.{row, steps}
-use Rattle.mw_logic.specs.Proof as proof
-use Rattle.mw_logic.specs.Judgements.{IsNormalBy, admitted_judgements}
+use Rattle.mw_logic.specs.Proof.{row}
+use Rattle.mw_logic.specs.Judgements.{admitted_judgements}
 use Rattle.mw_logic.specs.WellFormed.{IsWellFormed}
 use Rattle.mw_logic.proofs.AxiomLaws.{sym as back}
-use Rattle.mw_logic.proofs.Canonical.{Each}
 use Rattle.mw_logic.proofs.CanonicalTerms.{fixed}
 use Rattle.mw_logic.proofs.CleanForms.{raw_two}
 use Rattle.mw_logic.proofs.Holes.{Each-unarranged}

@@ -1,5 +1,5 @@
 -- An equation that applies to a term, and where the term stands.
-use Rattle.std.specs.Prelude.{◌≡◌, ◌≤◌, ◌<◌, ℕ, ◌+◌, List, [], ◌∷◌, length, false, IsTrue, ⊤}
+use Rattle.std.specs.Prelude.{◌≡◌, ◌≤◌, ℕ, ◌+◌, List, [], ◌∷◌, length, false, IsTrue, ⊤}
 use Rattle.std.specs.List.{zip}
 use Rattle.mw_logic.specs.Term.{RawTerm, RawTerms, apply, is_ground}
 use Rattle.mw_logic.specs.Signature.{Signature, IsRawTerm, HasKind}

@@ -262,6 +262,7 @@ fn grows(
 }
 
 /// Whether what comes for a term may stand there. `large`: `s_` stands on the largest numeral in it.
+#[inline]
 pub(crate) fn fit_built(
     alloc: Global,
     facts: &Facts,
@@ -281,6 +282,9 @@ pub(crate) fn fit_built(
     }
     if large {
         return Ok(Fit::TooLarge);
+    }
+    if is_branch(term) {
+        return Ok(Fit::Fits);
     }
     let grown = grows(alloc, facts, around, term)?;
     if grown {

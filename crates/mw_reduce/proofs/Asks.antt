@@ -1,7 +1,7 @@
 -- Where no row is met and no equation has a solution, nothing applies; and what is asked for, as rows see it.
-use Rattle.std.specs.Prelude.{◌≡◌, ℕ, List, [], IsTrue, refl}
+use Rattle.std.specs.Prelude.{◌≡◌, ℕ, List, [], refl}
 use Rattle.std.proofs.Common.{Bor, sym, subst, ◌∙◌}
-use Rattle.mw_logic.specs.Term.{RawTerm, RawTerms, numeral, quoted, variable, apply, is_ground}
+use Rattle.mw_logic.specs.Term.{RawTerm, RawTerms, numeral, quoted, variable, apply}
 use Rattle.mw_logic.specs.Terms.{terms_of}
 use Rattle.mw_logic.specs.Signature.{Signature, Member}
 use Rattle.mw_logic.specs.Accepted.{IsAccepted, IsWellSorted}

@@ -1,4 +1,4 @@
-use Rattle.std.proofs.Common.{◌≡◌, ◌∙◌, sym, reverse}
+use Rattle.std.proofs.Common.{◌∙◌, sym, reverse}
 use Rattle.mw_pattern.specs.Clean.{clean}
 use Rattle.mw_frames.specs.Machines.{data_of}
 use Rattle.mw_frames.specs.Arrivals.{IsNewFrame}

@@ -8,7 +8,7 @@ use Rattle.mw_frames.specs.Machines.{data_of}
 use Rattle.mw_frames.specs.Jobs.{instance_of}
 use Rattle.mw_frames.specs.State.{IsKnownIn}
 use Rattle.mw_frames.specs.Arrivals.{Comes}
-use Rattle.mw_frames.specs.Redex.{HasInHand, HasOnTop}
+use Rattle.mw_frames.specs.Redex.{HasInHand}
 use Rattle.mw_frames.specs.Taking.{Receives}
 use Rattle.mw_frames.proofs.Applications.{instance_behind, several_settled, part_known}
 use Rattle.mw_frames.proofs.applying.go_several.Goals as goal

@@ -1,4 +1,4 @@
-use Rattle.std.proofs.Common.{true, false, subst}
+use Rattle.std.proofs.Common.{subst}
 use Rattle.mw_logic.specs.Parts.{nested}
 use Rattle.mw_frames.specs.Fires.{Refuses}
 use Rattle.mw_frames.proofs.applying.refuse.Goals as goal

@@ -1,12 +1,9 @@
 use Rattle.std.proofs.Common.{◌≡◌, ◌∙◌, ap, sym, subst, cond}
 use Rattle.mw_logic.specs.Term.{RawTerm}
-use Rattle.mw_logic.specs.Module.{Module}
-use Rattle.mw_frames.specs.declared.job.Job.{Job}
 use Rattle.mw_frames.specs.Jobs.{term_of}
-use Rattle.mw_frames.specs.State.{Run, Data, IsRun}
+use Rattle.mw_frames.specs.State.{Data}
 use Rattle.mw_frames.specs.Machines.{data_of}
 use Rattle.mw_frames.specs.Choosing.{decided_term, round_choice}
-use Rattle.mw_frames.specs.Steps.{IsDecided}
 use Rattle.mw_frames.specs.Redex.{IsRowOf}
 use Rattle.mw_frames.proofs.Deciding.{choice_in_hand, choice_seen, choice_row, branches_wait}
 use Rattle.mw_frames.proofs.RowsMet.{row_deep, row_large}

@@ -1,4 +1,4 @@
-use Rattle.std.proofs.Common.{◌≡◌, sym, subst, reverse, take}
+use Rattle.std.proofs.Common.{sym, subst}
 use Rattle.mw_logic.specs.Term.{RawTerm}
 use Rattle.mw_frames.specs.State.{Data}
 use Rattle.mw_frames.specs.Machines.{data_of}

@@ -1,5 +1,5 @@
 use Rattle.std.specs.Prelude.{vec_len}
-use Rattle.std.proofs.Common.{◌≡◌, ◌∙◌, ◌++◌, ◌∷◌, [], Some, cond, ap, sym}
+use Rattle.std.proofs.Common.{◌∙◌, Some, cond, ap, sym}
 use Rattle.mw_frames.proofs.Deciding.{two_out}
 use Rattle.mw_frames.proofs.choosing.take_branch.Goals as goal
 

@@ -1,6 +1,5 @@
 use Rattle.std.proofs.Common.{rules, ◌≡◌, ◌∙◌, ◌++◌, ◌∷◌, [], Some, cond, suc, take, ap, sym, subst, refl}
 use Rattle.mw_logic.specs.Term.{RawTerm}
-use Rattle.mw_trail.specs.Tracks.{moves}
 use Rattle.mw_frames.specs.declared.job.Job.{Job}
 use Rattle.mw_frames.specs.Jobs.{term_of}
 use Rattle.mw_frames.specs.State.{Data, IsJob}

@@ -2,8 +2,7 @@ use Rattle.std.proofs.Common.{subst, sym, refl, reverse, ◌≡◌, ◌∷◌}
 use Rattle.std.specs.Prelude.{vec_len}
 use Rattle.mw_trail.specs.Tracks.{moves}
 use Rattle.mw_frames.specs.declared.job.Job.TheVariants.{Walk}
-use Rattle.mw_frames.specs.State.{Data, InHand}
-use Rattle.mw_frames.specs.Machines.{data_of}
+use Rattle.mw_frames.specs.State.{InHand}
 use Rattle.mw_frames.specs.Taking.{Receives}
 use Rattle.mw_frames.proofs.HoleFits.{popped}
 use Rattle.mw_frames.proofs.TakingPart.{comes_back}

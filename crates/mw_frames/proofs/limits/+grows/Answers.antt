@@ -1,11 +1,10 @@
-use Rattle.std.proofs.Common.{rules, ◌≡◌, ◌∙◌, ◌+◌, ◌-◌, List, ap, sym, subst, reverse, take, drop, length}
+use Rattle.std.proofs.Common.{rules, ◌≡◌, ◌∙◌, ◌-◌, List, ap, sym, subst, reverse, take, drop, length}
 use Rattle.std.specs.Prelude.{IfOk}
 use Rattle.mw_logic.specs.Term.{cons, join}
 use Rattle.mw_logic.specs.Terms.{terms_of}
 use Rattle.mw_logic.specs.NormalForm.{applied_in}
 use Rattle.mw_frames.specs.declared.job.Frame.{Frame}
 use Rattle.mw_frames.specs.Jobs.{rest, AreOpened}
-use Rattle.mw_frames.specs.Larger.{grows}
 use Rattle.mw_frames.proofs.Larger.{branch_stays}
 use Rattle.mw_frames.proofs.HoleFits.{last_first, grown_here, stays_here, grown_on}
 use Rattle.mw_frames.proofs.limits.+grows.Goals as goal

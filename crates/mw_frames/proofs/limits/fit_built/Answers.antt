@@ -1,5 +1,6 @@
-use Rattle.std.proofs.Common.{rules, sym, ◌≡◌, ◌≤◌, ◌<◌, ◌+◌, ◌∙◌, IsTrue, IsFalse, reverse}
+use Rattle.std.proofs.Common.{rules, sym, ◌∙◌, reverse}
 use Rattle.mw_logic.specs.NormalForm.{height}
+use Rattle.mw_frames.proofs.Larger.{branch_stays}
 use Rattle.mw_frames.proofs.HoleFits.{levels_tested, large_fit, grown_fit, small_fit}
 use Rattle.mw_frames.proofs.limits.fit_built.Goals as goal
 
@@ -14,6 +15,12 @@ returns-then-large c = λ os clear small opened e.
     let fs = reverse c.args.around.frames.now in
     let t = levels_tested c.args.facts.now c.innermost-hole.result fs c.args.term.now c.fits.result c.levels_above.result c.depth.result c.innermost-hole.ensures c.fits.ensures c.depth.ensures (c.levels_above.ensures (height c.args.term.now)) in
     large_fit c.args.facts.now c.shows.ensures fs os c.args.term.now small (t.0 (search rules)) (sym e ∙ c.if-large.true)
+
+pub returns-then-is_branch : goal.returns-then-is_branch
+returns-then-is_branch c = λ os clear small opened e.
+    let fs = reverse c.args.around.frames.now in
+    let t = levels_tested c.args.facts.now c.innermost-hole.result fs c.args.term.now c.fits.result c.levels_above.result c.depth.result c.innermost-hole.ensures c.fits.ensures c.depth.ensures (c.levels_above.ensures (height c.args.term.now)) in
+    small_fit c.args.facts.now c.shows.ensures fs os c.args.term.now small (t.0 (search rules)) (sym e ∙ c.if-large.false) (sym (branch_stays c.args.facts.now c.shows.ensures os c.args.term.now clear (c.is_branch.ensures.yes c.if-is_branch.true)))
 
 pub returns-then-grown : goal.returns-then-grown
 returns-then-grown c = λ os clear small opened e.

@@ -1,10 +1,8 @@
-use Rattle.std.proofs.Common.{rules, refl, ap, sym, subst, ◌≡◌, ◌∙◌, ◌↔◌, ◌≤◌, ◌+◌, ◌-◌, ◌^◌, min, ℕ, IsTrue, IsFalse, reverse, option_to_list}
-use Rattle.mw_logic.specs.Term.{RawTerms, apply}
+use Rattle.std.proofs.Common.{refl, ◌-◌, ◌^◌, min, reverse}
 use Rattle.mw_logic.specs.NormalForm.{height}
 use Rattle.mw_position.specs.Positions.{fill}
 use Rattle.mw_matching.specs.Matches.{evaluated}
 use Rattle.mw_pattern.specs.Clean.{clean}
-use Rattle.mw_frames.specs.Redex.{hole_level}
 use Rattle.mw_frames.proofs.Fitting.{plain_told}
 use Rattle.mw_frames.proofs.SmallValues.{free_small}
 use Rattle.mw_frames.proofs.HoleFits.{told_levels, small_fit, free_grows}

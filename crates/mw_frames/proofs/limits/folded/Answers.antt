@@ -1,5 +1,4 @@
-use Rattle.std.proofs.Common.{rules, ap, sym, ◌∙◌, ◌≡◌, ◌++◌, ◌∷◌, [], ◌≤◌, ◌+◌, length, not}
-use Rattle.std.proofs.lemmas.Bool.{both_ways}
+use Rattle.std.proofs.Common.{rules, ap, ◌∙◌, ◌≡◌, ◌++◌, ◌∷◌, [], ◌≤◌, ◌+◌, length}
 use Rattle.mw_logic.specs.NormalForm.{applied_in}
 use Rattle.mw_frames.specs.Jobs.{rest}
 use Rattle.mw_frames.proofs.HoleFits.{put_round, few_waiting}

@@ -1,4 +1,3 @@
-use Rattle.std.proofs.Common.{subst, sym, reverse, false}
 use Rattle.mw_frames.specs.Machines.{data_of}
 use Rattle.mw_frames.proofs.FitsThere.{RowFitsIn, row_fits_there}
 use Rattle.mw_frames.proofs.meeting.fit_row.Goals as goal

@@ -1,7 +1,6 @@
-use Rattle.std.proofs.Common.{◌≡◌, ◌∙◌, sym, reverse, ap, subst}
-use Rattle.mw_logic.specs.Term.{RawTerm, apply}
+use Rattle.std.proofs.Common.{◌≡◌, ◌∙◌, sym, reverse, ap}
+use Rattle.mw_logic.specs.Term.{apply}
 use Rattle.mw_logic.specs.Terms.{args_of}
-use Rattle.mw_logic.specs.Parts.{nested}
 use Rattle.mw_arguments.specs.Places.{chosen}
 use Rattle.mw_frames.specs.Machines.{data_of}
 use Rattle.mw_frames.specs.Arrivals.{IsNewFrame}

@@ -1,6 +1,5 @@
-use Rattle.std.proofs.Common.{◌≡◌, subst}
+use Rattle.std.proofs.Common.{◌≡◌}
 use Rattle.mw_frames.specs.Machines.{data_of}
-use Rattle.mw_frames.specs.Steps.{IsAsked}
 use Rattle.mw_frames.specs.Redex.{walked}
 use Rattle.mw_frames.proofs.RowsMet.{big_there}
 use Rattle.mw_frames.proofs.meeting.halt_term.Goals as goal

@@ -1,6 +1,6 @@
 use Rattle.std.specs.Prelude.{None}
-use Rattle.std.proofs.Common.{rules, ◌≡◌, ◌∙◌, ℕ, sym, subst, take, drop}
-use Rattle.mw_logic.specs.Term.{RawTerm, RawTerms, apply}
+use Rattle.std.proofs.Common.{rules, ◌≡◌, subst, take, drop}
+use Rattle.mw_logic.specs.Term.{RawTerm, apply}
 use Rattle.mw_logic.specs.Terms.{terms_of}
 use Rattle.mw_logic.specs.NormalForm.{applied_in}
 use Rattle.mw_stack.specs.Own.{own}

@@ -1,5 +1,4 @@
-use Rattle.std.proofs.Common.{◌≡◌, ◌∙◌, suc, reverse, ap, sym, subst}
-use Rattle.mw_logic.specs.Module.{Module}
+use Rattle.std.proofs.Common.{◌∙◌, suc, reverse, ap, sym, subst}
 use Rattle.mw_logic.specs.Term.{RawTerm}
 use Rattle.mw_logic.specs.WellFormed.{IsWellFormed}
 use Rattle.mw_stack.specs.Own.{spread}

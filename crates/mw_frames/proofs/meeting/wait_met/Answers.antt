@@ -1,6 +1,5 @@
 use Rattle.std.proofs.Common.{◌∙◌, sym, ap}
 use Rattle.std.proofs.lemmas.Result.{on_ok_weaker}
-use Rattle.mw_logic.specs.Module.{Module}
 use Rattle.mw_logic.specs.Term.{RawTerm, cons, nil}
 use Rattle.mw_logic.specs.Terms.{terms_of}
 use Rattle.mw_logic.specs.WellFormed.{IsWellFormed}

@@ -1,5 +1,4 @@
 use Rattle.std.proofs.Common.{◌∙◌, sym, subst}
-use Rattle.mw_logic.specs.Module.{Module}
 use Rattle.mw_builtin.specs.Schemata.{AreSchemataOf}
 use Rattle.mw_reduce.proofs.turning.take_turn.Goals as goal
 
