@@ -391,8 +391,7 @@ pub fn build(
     units.shows();
     let typing = all_typed(alloc, unit.statements.as_slice())?;
     let flat = units.flatten(alloc, name.as_slice(), unit.statements.as_slice())?;
-    let declarations =
-        flattened_declarations(alloc, units, unit, name.as_slice(), &typing, &flat)?;
+    let declarations = flattened_declarations(alloc, units, unit, name.as_slice(), &typing, &flat)?;
     let module = declared_module(alloc, name, unit, modules, flat.as_slice(), declarations)?;
     Ok(Built { flat, module })
 }

@@ -1,6 +1,5 @@
 // The modules that were accepted, and what a unit gives among them.
 ghost use Rattle.std.specs.Prelude.{◌≡◌, ◌↔◌, ◌++◌, ◌∷◌, ℕ, List, [], Some, None, Ok, IfOk, OnOk, option_map, true, IsTrue, MatchResult};
-ghost use Rattle.mw_logic.specs.Signature.{Member};
 ghost use Rattle.mw_module.specs.Known.{AreKnown};
 ghost use Rattle.mw_module.specs.Units.{SeenUnit, seen_unit};
 ghost use Rattle.mw_command.specs.Commands.{command_of, seen_command};
