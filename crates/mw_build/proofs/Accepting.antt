@@ -50,11 +50,6 @@ all_joined sig vs origins equations first others list count n is imported own =
       equations_are = subst (AreEquations sig vs equations) (sym (drop-append_seam first others)) own;
     }))
 
--- of signatures that are one
-pub all_held : (S T : Signature) (vs : List Variable) (origins : List Origin) (equations : List Sides) (count : ℕ) (sts : List Statement) → S ≡ T
-    → AreAll S vs origins equations count sts → AreAll T vs origins equations count sts
-all_held S T vs origins equations count sts e all = subst (λ X. AreAll X vs origins equations count sts) e all
-
 -- a fault of statements
 pub not_all : (line : ℕ) (d : Declarations) (origins : List Origin) (equations : List Sides) (r : Fault) → IsPreregularModulo d.signature
     → NotAll d.signature d.variables line origins equations r → StatementsFault line d origins equations r

@@ -1,6 +1,6 @@
 -- Statements of other modules, as they stand in a module that reaches them.
 use Rattle.std.proofs.Common.{◌≡◌, ℕ, List, [], IfOk, MatchResult, Result, Ok, Err, inl, inr, refl, sym, subst}
-use Rattle.std.proofs.lemmas.Bool.{or_left, or_right, or_cases}
+use Rattle.std.proofs.lemmas.Bool.{or_left, or_cases}
 use Rattle.mw_logic.specs.Term.{RawTerm}
 use Rattle.mw_logic.specs.Signature.{Signature, HasKind, of_numeral, of_quoted, of_variable, of_operator, same}
 use Rattle.mw_logic.specs.Accepted.{IsAccepted}
@@ -29,9 +29,6 @@ kind_there sig numbers t K sorts (of_operator {f = f} o is p) = there-with sig n
 
 pub left_sorts : (sig : Signature) (e : Statement) → AreSides sig e → HasSortsOf sig e.left
 left_sorts sig e sides x h = sides.sorts x (or_left (occurs x e.left) (occurs x e.right) h)
-
-pub right_sorts : (sig : Signature) (e : Statement) → AreSides sig e → HasSortsOf sig e.right
-right_sorts sig e sides x h = sides.sorts x (or_right (occurs x e.left) (occurs x e.right) h)
 
 module _ (from sig : Signature) (part : IsPart from sig) (numbers : HasItsSorts from) (ok : IsAccepted sig) where
   -- carried sides are sides

@@ -54,11 +54,6 @@ none_missing bound (y ∷ xs) h x i = of (is_met bound y) refl h (λ n. none_mis
 pub all_bound : (left right : RawTerm) → unbound left right ≡ None → (x : Variable) → IsTrue (occurs x right) → IsTrue (occurs x left)
 all_bound left right h x i = sym (is_in-met x [] left) ∙ sym (is_met-is (met [] left) x) ∙ none_missing (met [] left) (met [] right) h x (is_in-met x [] right ∙ i)
 
--- an option that holds nothing
-pub holds_none : {X : Type 0} (o : Option X) → ((x : X) → o ≡ Some x → ⊥) → o ≡ None
-holds_none None h = refl
-holds_none (Some x) h = absurd (h x refl)
-
 pub made : (left right : RawTerm) (executable : Bool) (fragments : List Fragment) (variables : List Variable) → fragments ≡ [] → variables ≡ met (met [] left) right
     → record { left = left; right = right; fragments = fragments; variables = variables; rule = false; executable = executable; owise = false } ≡ statement_of left right executable
 made left right executable fragments variables e h = rw (e, h) refl

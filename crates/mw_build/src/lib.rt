@@ -2,7 +2,7 @@
 //! import, held for reduction.
 //!
 //! `build` makes a [`Module`] of a unit, where others were accepted before: the units that its imports reach
-//! (mw_import), the declarations of all their statements and its own (mw_declare), the operators' tables (mw_sorts) and
+//! (mw_import), NAT and QID among them (`reached_of`), the declarations of all their statements and its own (mw_declare), the operators' tables (mw_sorts) and
 //! axioms (mw_canon), its grammar (mw_grammar), the equations as statements, and all this as a context (mw_least); an
 //! index of its equations (mw_index) is made when it is first wanted (`Module::prepare`). A module keeps the statements
 //! that stand in it itself as they were read in its own signature (`Module::own`): a module that imports it has them
@@ -18,7 +18,8 @@
 //! or with too large a number; and where it is executable, a left side that is a variable modulo the axioms, or the
 //! first variable of the right side, in order of mention, that the left one hasn't. The text of an imported one isn't
 //! looked at again. As axioms that an importer adds make terms no deeper, and variables stay apart, only a left side
-//! that has become a variable is new with it; that the others can't come isn't proved, and they are tested too.
+//! that has become a variable and a number that has become too large, where an identity is left out under a successor,
+//! are new with it; that the others can't come isn't proved, and they are tested too.
 //!
 //! Proved:
 //!
@@ -34,8 +35,8 @@
 //!   `Module::index` is an index of its equations where there is one (`IsIndexOf` of mw_index); `prepare` changes
 //!   nothing else.
 //! - The law `texts_read_back`: the text of each raw term of a module that a source's unit is, cut into tokens, spells
-//!   this term in the module, where the term's variables can be printed (specs/Printing). Ground terms have none, and
-//!   by `statements_are_printable` so it is for the variables of the module's statements.
+//!   this term in the module, where the term's variables can be printed and its quoted identifiers are tokens
+//!   (specs/Printing). By `statements_are_printable` so it is for the module's statements.
 //! - `Module::term`: the one term that the tokens spell, a term of the signature; no term only above 1,024 tokens,
 //!   where they spell none, or two. `Module::pair`: the one pair of terms of one kind, likewise.
 //! - `canonical`: the canonical form of a term that was read, or what keeps the term out.

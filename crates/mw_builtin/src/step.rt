@@ -137,7 +137,7 @@ impl Schemata {
         Ok(Met::Gives { take: None, to })
     }
 
-    /// What a row does at the top of the operator on these arguments, which are normal. Of a sum or a product the two
+    /// What a row does at the top of the operator on these arguments, which are normal. Under a commutative operator the
     /// least numerals come first.
     pub fn step(
         &self,

@@ -21,23 +21,9 @@ use Rattle.mw_logic.proofs.CanonicalTerms.{not_successor}
 use Rattle.mw_stack.specs.Own.{spread}
 use Rattle.mw_deduction.specs.Replay.{Move}
 use Rattle.mw_frames.specs.declared.job.Frame.{Frame}
-use Rattle.mw_frames.specs.Taking.{Receives}
+use Rattle.mw_frames.specs.Taking.{IsPartAsked, Receives}
 use Rattle.mw_frames.proofs.OpeningAmong.{come_settled}
 use Rattle.mw_frames.proofs.FiringHere.{top_positive, right_known_here, free_right_known_here}
-
--- a test of levels, which are those
-pub tested : (b : Bool) (n m : ℕ) → n ≡ m → IsTrue b ↔ (n ≤ 1000) → (IsTrue b → m ≤ 1000) × (IsFalse b → 1000 < m)
-tested b n m e h = (
-  λ t. subst (λ k. k ≤ 1000) e (h.0 t),
-  λ f. ⊎_elim (λ l. l) (λ g. absurd (both_ways _ f (h.1 (subst (λ k. k ≤ 1000) (sym e) g)))) (cases_lt 1000 m),
-)
-
--- the levels where a right side comes were tested
-pub tested_there : (sig : Signature) (hole fs : List Frame) (us vs : List RawTerm) (p : RawTerm) (b : Bool) → us ≡ vs → ((t : RawTerm) → hole_level sig hole t ≡ hole_level sig fs t)
-    → IsTrue b ↔ (hole_level sig hole (evaluated sig us p) + height (evaluated sig us p) ≤ 1000)
-    → (IsTrue b → hole_level sig fs (evaluated sig vs p) + height (evaluated sig vs p) ≤ 1000) × (IsFalse b → 1000 < hole_level sig fs (evaluated sig vs p) + height (evaluated sig vs p))
-tested_there sig hole fs us vs p b e inner h =
-    tested b _ _ (ap (λ zs. hole_level sig hole (evaluated sig zs p) + height (evaluated sig zs p)) e ∙ ap (λ n. n + height (evaluated sig vs p)) (inner (evaluated sig vs p))) h
 
 -- a new frame, of its own operator
 pub same_frame : (sig : Signature) (fs : List Frame) (ds : List RawTerm) (js : List Job) (g : ℕ) (f : Frame) → IsNewFrame sig fs ds js g f → IsNewFrame sig fs ds js f.op f
@@ -81,3 +67,15 @@ module _ (K : Run) (sig : Signature) (run : IsRun K sig) (count : ℕ) where
       → Settled K count (record { frames = fs; done = ds'; jobs = js'; values = vs; moves = ms }) f
   several_settled vs ms f fs ds ds' js js' t Known r known comes =
       come_settled K count run.accepted run.sorted vs ms f fs ds ds' js js' r.stand t Known r.leads r.opened r.level r.hand r.fair r.canonical (not_successor K.over.signature run.accepted f.op r.assoc) r.good known comes
+
+-- What is known of a right side that comes for several arguments: by the operator of the whole.
+module _ (K : Run) (sig : Signature) (run : IsRun K sig) (count : ℕ) where
+  pub part_known : (m : Data) (f : Frame) (w : RawTerm) → IsPartAsked K count m f w → (e : Applied) (vs : List RawTerm) → IsApplied K.over e vs w → IsKnownIn K.over K.rank (m.values ++ vs) (length m.values) f.op (clean e.right.now)
+  part_known m f w part e vs a =
+      let h = part.asked.holds in
+      let top : HasOnTop f.op w = λ g ts q. same_operator (sym q ∙ part.is) in
+      right_known_here K sig run count m.values m.moves m.frames m.done m.jobs e.number vs (clean e.right.now) w h a.redex f.op
+      (top_positive K sig run count m.values m.moves m.frames m.done m.jobs e.number vs (clean e.right.now) w h a.redex f.op part.args part.is) top
+    where
+      same_operator : {g j : ℕ} {ts us : RawTerms} → apply g ts ≡ apply j us → g ≡ j
+      same_operator q = cc

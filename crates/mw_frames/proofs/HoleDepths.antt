@@ -4,23 +4,23 @@ use Rattle.std.proofs.Common.{sym, subst, ap, ◌∙◌, arith}
 use Rattle.std.proofs.lemmas.Bool.{both_ways, and_parts, eqb-true}
 use Rattle.mw_logic.specs.Term.{RawTerm, RawTerms, numeral, quoted, variable, apply, nil, cons, Context, plug}
 use Rattle.mw_logic.specs.Signature.{Signature, Identity, constant_of, numeral_of, IsRawTerm}
-use Rattle.mw_logic.specs.Accepted.{IsAccepted, IsWellSorted}
+use Rattle.mw_logic.specs.Accepted.{IsAccepted}
 use Rattle.mw_logic.specs.Axioms.{done}
-use Rattle.mw_logic.specs.Parts.{is_assoc, nested, all_nested, nest, depth, continues, IsAdmitted}
-use Rattle.mw_logic.specs.NormalForm.{identity_of, is_identity, normal_form, height, highest}
-use Rattle.mw_logic.specs.Module.{Module}
-use Rattle.mw_logic.proofs.Admitted.{admitted-iff}
+use Rattle.mw_logic.specs.Parts.{is_assoc, nested, all_nested, nest, depth, continues, IsAdmitted, IsTooDeep, IsTooLarge}
+use Rattle.mw_logic.specs.NormalForm.{identity_of, is_identity, normal_form, height, highest, has_largest}
+use Rattle.mw_logic.proofs.Admitted.{admitted-iff, too_large-iff}
 use Rattle.mw_logic.proofs.Canonical.{IsCanonical, canonical, named, no_arguments}
+use Rattle.mw_logic.proofs.CanonicalTerms.{fixed}
 use Rattle.mw_logic.proofs.CleanForms.{clean_depth}
 use Rattle.mw_logic.proofs.EqualTerms.{ground_kept}
 use Rattle.mw_logic.proofs.Inside.{raw_inside}
 use Rattle.mw_logic.proofs.RawKept.{raw_kept}
 use Rattle.mw_logic.proofs.Soundness.{normal_form-sound}
 use Rattle.mw_position.proofs.Grounded.{part_ground, ground_again}
-use Rattle.mw_matching.specs.Matches.{evaluated}
 use Rattle.mw_solving.specs.Values.{IsValue}
 use Rattle.mw_solving.proofs.Parts.{arguments_several}
 use Rattle.mw_deduction.specs.Standing.{Open, round, AreClear, IsSeen}
+use Rattle.mw_deduction.specs.Replay.{whole}
 use Rattle.mw_deduction.proofs.Clear.{clear_clean}
 use Rattle.mw_deduction.proofs.Depths.{added, level_in, level_below}
 use Rattle.mw_deduction.proofs.Heights.{canonical_depth}
@@ -28,10 +28,11 @@ use Rattle.mw_deduction.proofs.Stopping.{not_deep_after, deep_after}
 use Rattle.mw_frames.specs.declared.job.Job.{Job}
 use Rattle.mw_frames.specs.declared.job.Frame.{Frame}
 use Rattle.mw_frames.specs.Jobs.{AreOpened}
-use Rattle.mw_frames.specs.Redex.{IsRedex, hole_level, IsDeepThere}
+use Rattle.mw_frames.specs.Larger.{AreSmall}
+use Rattle.mw_frames.specs.Redex.{MayCome, hole_level}
+use Rattle.mw_frames.proofs.Larger.{whole_form, small_inside}
 use Rattle.mw_frames.proofs.Levels.{level_at}
-use Rattle.mw_frames.proofs.RightSides.{right_is}
-use Rattle.mw_frames.proofs.Redexes.{made, made_raw, made_ground, raw_after}
+use Rattle.mw_frames.proofs.Redexes.{raw_in_place}
 
 height-positive : (t : RawTerm) → 1 ≤ height t
 height-positive (numeral n) = omega arith
@@ -117,64 +118,66 @@ module _ (sig : Signature) (ok : IsAccepted sig) where
       sums : (p q base H D L N : ℕ) {e g n : ℕ} → H ≤ 1000 → D ≡ H → L + e ≤ D → e ≡ g → L ≡ p + base → N ≡ q + base → 2 ≤ p + g → q ≤ 1 → n ≡ 1 → N + n ≤ 1000
       sums p q base H D L N b e l d x y t z h = omega (arith, b, e, l, d, x, y, t, z, h)
 
-module _ (M : Module) (ok : IsAccepted M.signature) (sorted : IsWellSorted M.signature) (bare : M.signature.nat ≡ false) (number : ℕ) (vs : List RawTerm) (right w : RawTerm) (r : IsRedex M number vs right w)
-    (values : List RawTerm) (fs : List Frame) (ds : List RawTerm) (xs : List Job) (os : List Open) (clear : AreClear M.signature os) (opened : AreOpened M.signature values fs ds xs os)
-    (k : IsCanonical M.signature w) (seen : IsSeen M.signature os w) (raw : IsRawTerm M.signature (plug (round M.signature os) (nested M.signature w))) (a : IsAdmitted M.signature (plug (round M.signature os) (nested M.signature w))) where
-  abbrev sig : Signature
-  sig = M.signature
+module _ (sig : Signature) (ok : IsAccepted sig) (w v : RawTerm) (m : MayCome sig w v)
+    (values : List RawTerm) (fs : List Frame) (ds : List RawTerm) (xs : List Job) (os : List Open) (clear : AreClear sig os) (opened : AreOpened sig values fs ds xs os)
+    (k : IsCanonical sig w) (seen : IsSeen sig os w) (raw : IsRawTerm sig (plug (round sig os) (nested sig w))) (a : IsAdmitted sig (plug (round sig os) (nested sig w))) where
+  abbrev v' : RawTerm
+  v' = normal_form sig v
 
-  abbrev v : RawTerm
-  v = made M ok sorted number vs right w r
-
-  value_made : IsValue sig (normal_form sig v)
+  value_made : IsValue sig v'
   value_made =
-      let g = made_raw M ok sorted number vs right w r in
-      let e = normal_form-sound sig ok g in
-      record { canonical = canonical sig ok v; raw = (raw_kept sig ok e).0 g; ground = sym (ground_kept sig e) ∙ made_ground M ok sorted number vs right w r }
+      let e = normal_form-sound sig ok m.raw in
+      record { canonical = canonical sig ok v; raw = (raw_kept sig ok e).0 m.raw; ground = sym (ground_kept sig e) ∙ m.is_ground }
 
   value_there : IsValue sig w
   value_there = record { canonical = k; raw = raw_inside sig ok (round sig os) (nested sig w) raw; ground = part_ground (round sig os) (nested sig w) a.ground }
 
-  levels_are : level_in sig (round sig os) (nested sig (normal_form sig v)) ≡ hole_level sig fs (evaluated sig vs right)
-  levels_are = level_whole sig ok values fs ds xs os (normal_form sig v) clear opened value_made ∙ ap (hole_level sig fs) (sym (right_is M ok sorted number vs right w r))
+  levels_are : level_in sig (round sig os) (nested sig v') ≡ hole_level sig fs v'
+  levels_are = level_whole sig ok values fs ds xs os v' clear opened value_made
 
-  heights_are : height (normal_form sig v) ≡ height (evaluated sig vs right)
-  heights_are = ap height (sym (right_is M ok sorted number vs right w r))
+  pub raw_after : IsRawTerm sig (plug (round sig os) v)
+  raw_after = raw_in_place sig ok (round sig os) (nested sig w) v raw m.raw m.kinds
 
-  -- what comes has no more than 1,000 levels where it stands: then the whole is admitted
-  pub admitted_after : hole_level sig fs (evaluated sig vs right) + height (evaluated sig vs right) ≤ 1000 → IsAdmitted sig (plug (round sig os) v)
-  admitted_after h = record {
-    ground = ground_again (round sig os) (nested sig w) v a.ground (made_ground M ok sorted number vs right w r);
-    not_deep = not_deep_after sig ok os clear w v k seen raw a (raw_after M ok sorted number vs right w r (round sig os) raw) (omega (arith, h, levels_are, heights_are));
-    not_large = λ l. both_ways _ bare l.successor.nat;
+  low_after : hole_level sig fs v' + height v' ≤ 1000 → ¬ IsTooDeep sig (plug (round sig os) v)
+  low_after h = not_deep_after sig ok os clear w v k seen raw a raw_after (omega (arith, h, levels_are))
+
+  -- what comes has no more than 1,000 levels where it stands, and makes no number too large: then the whole is admitted
+  pub admitted_after : hole_level sig fs v' + height v' ≤ 1000 → has_largest sig (whole sig os v') ≡ false → IsAdmitted sig (plug (round sig os) v)
+  admitted_after h l = record {
+    ground = ground_again (round sig os) (nested sig w) v a.ground m.is_ground;
+    not_deep = low_after h;
+    not_large = λ z. both_ways _ l (sym (ap (has_largest sig) (whole_form sig ok os v clear)) ∙ (too_large-iff sig ok raw_after).0 z);
   }
 
+  -- it makes one too large: then the whole is, and no more
+  pub large_there : hole_level sig fs v' + height v' ≤ 1000 → has_largest sig (whole sig os v') ≡ true → IsTooLarge sig (plug (round sig os) v) × ¬ IsTooDeep sig (plug (round sig os) v)
+  large_there h l = ((too_large-iff sig ok raw_after).1 (ap (has_largest sig) (whole_form sig ok os v clear) ∙ l), low_after h)
+
   -- it has more: then it is seen
-  seen_after : 1000 < hole_level sig fs (evaluated sig vs right) + height (evaluated sig vs right) → IsSeen sig os (normal_form sig v)
-  seen_after h = by_opens os clear seen raw a (omega (arith, h, levels_are, heights_are))
+  seen_after : 1000 < hole_level sig fs v' + height v' → IsSeen sig os v'
+  seen_after h = by_opens os clear seen raw a (omega (arith, h, levels_are))
     where
       by_opens : (os : List Open) → AreClear sig os → IsSeen sig os w → IsRawTerm sig (plug (round sig os) (nested sig w)) → IsAdmitted sig (plug (round sig os) (nested sig w))
-          → 1000 < level_in sig (round sig os) (nested sig (normal_form sig v)) + height (normal_form sig v) → IsSeen sig os (normal_form sig v)
+          → 1000 < level_in sig (round sig os) (nested sig v') + height v' → IsSeen sig os v'
       by_opens [] c s q b l = tt
       by_opens (o ∷ os) c s q b l = record {
-        not_identity = λ h. by_test (is_identity (identity_of sig o.operator) (normal_form sig v)) refl;
+        not_identity = λ h. by_test (is_identity (identity_of sig o.operator) v') refl;
         not_numeral = λ n z e y. never (ap height e);
       }
         where
-          never : height (normal_form sig v) ≡ 1 → ⊥
-          never e = let x = leaf_fits sig ok o os w (normal_form sig v) c s value_there q b e in omega (arith, x, l)
+          never : height v' ≡ 1 → ⊥
+          never e = let x = leaf_fits sig ok o os w v' c s value_there q b e in omega (arith, x, l)
 
-          by_test : (t : Bool) → is_identity (identity_of sig o.operator) (normal_form sig v) ≡ t → IsFalse t
+          by_test : (t : Bool) → is_identity (identity_of sig o.operator) v' ≡ t → IsFalse t
           by_test false e = refl
-          by_test true e = absurd (never (identity-height (identity_of sig o.operator) o.operator (normal_form sig v) e))
+          by_test true e = absurd (never (identity-height (identity_of sig o.operator) o.operator v' e))
 
   -- and the whole is too deep
-  pub deep_there : 1000 < hole_level sig fs (evaluated sig vs right) + height (evaluated sig vs right) → IsDeepThere sig os v
-  deep_there h =
-      let l : 1000 < level_in sig (round sig os) (nested sig (normal_form sig v)) + height (normal_form sig v) = omega (arith, h, levels_are, heights_are) in
-      record {
-        raw = raw_after M ok sorted number vs right w r (round sig os) raw;
-        seen = seen_after h;
-        levels = l;
-        too_deep = deep_after sig ok os clear v (seen_after h) (raw_after M ok sorted number vs right w r (round sig os) raw) l;
-      }
+  pub deep_there : 1000 < hole_level sig fs v' + height v' → IsTooDeep sig (plug (round sig os) v)
+  deep_there h = deep_after sig ok os clear v (seen_after h) raw_after (omega (arith, h, levels_are))
+
+-- Where a whole is admitted `s_` stands on the largest numeral neither in what is in hand nor beside it.
+pub small_there : (sig : Signature) (ok : IsAccepted sig) (os : List Open) (w : RawTerm) → AreClear sig os → IsCanonical sig w → IsRawTerm sig (plug (round sig os) (nested sig w)) → IsAdmitted sig (plug (round sig os) (nested sig w))
+    → AreSmall sig os × (has_largest sig w ≡ false)
+small_there sig ok os w clear k raw a =
+    small_inside sig ok os w (sym (ap (has_largest sig) (whole_form sig ok os (nested sig w) clear ∙ ap (whole sig os) (fixed sig ok w k))) ∙ ((admitted-iff sig ok raw).0 a).2)

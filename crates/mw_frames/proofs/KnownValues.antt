@@ -66,13 +66,13 @@ module _ (M : Module) (ok : IsAccepted M.signature) (sorted : IsWellSorted M.sig
   solution = meant sig (zip variables vs)
 
   -- each value is that of one of the left side's variables
-  record IsValueOf (u : RawTerm) : Type 0 where
-    of : Variable
-    occurs : IsTrue (occurs of r.statement.left)
-    place : evaluated sig vs (placed variables (variable of)) ≡ u
-    value : value solution of ≡ Some (nested sig u)
+  pub record IsValueOf (u : RawTerm) : Type 0 where
+    pub of : Variable
+    pub occurs : IsTrue (occurs of r.statement.left)
+    pub place : evaluated sig vs (placed variables (variable of)) ≡ u
+    pub value : value solution of ≡ Some (nested sig u)
 
-  value_here : (i : ℕ) (u : RawTerm) → slice_get vs i ≡ Some u → IsValueOf u
+  pub value_here : (i : ℕ) (u : RawTerm) → slice_get vs i ≡ Some u → IsValueOf u
   value_here i u g =
       let b = slice_get_within vs i u g in
       let (x, d) = variable_at variables i (let l = r.size in omega (arith, b, l)) in

@@ -5,6 +5,7 @@ pub mod Turning
 pub mod RightSides
 pub mod KnownValues
 pub mod Redexes
+pub mod Larger
 pub mod HoleDepths
 pub mod Growing
 pub mod FiringHere
@@ -14,6 +15,13 @@ pub mod JobOrder
 pub mod LeftOver
 pub mod Fitting
 pub mod FiringPart
+pub mod Refusing
+pub mod RowsMet
+pub mod FitsThere
+pub mod SmallValues
+
+pub mod ChosenOnes
+pub mod HoleFits
 pub mod Asking
 pub mod OpeningTerms
 pub mod Values

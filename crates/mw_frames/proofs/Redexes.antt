@@ -32,7 +32,7 @@ use Rattle.mw_deduction.proofs.Moves.{plays-append, moves-append}
 use Rattle.mw_deduction.proofs.MoveStands.{becomes_is}
 use Rattle.mw_deduction.proofs.ReadingLaws as reading
 use Rattle.mw_frames.specs.State.{Run, Leads}
-use Rattle.mw_frames.specs.Redex.{IsRedex}
+use Rattle.mw_frames.specs.Redex.{IsRedex, MayCome}
 use Rattle.mw_frames.proofs.RightSides.{kinds_here, right_is}
 use Rattle.mw_frames.proofs.Turning.{at_hand}
 
@@ -99,8 +99,8 @@ module _ (M : Module) (ok : IsAccepted M.signature) (sorted : IsWellSorted M.sig
   pub made_ground : IsTrue (is_ground made)
   made_ground = instance_ground sig solution_here r.solution.substitution r.statement.right bound_here
 
-  pub raw_after : (C : Context) → IsRawTerm sig (plug C (nested sig w)) → IsRawTerm sig (plug C made)
-  raw_after C k = raw_in_place sig ok C (nested sig w) made k made_raw made_kinds
+  pub made_comes : MayCome sig w made
+  made_comes = record { raw = made_raw; is_ground = made_ground; kinds = made_kinds }
 
   -- the equation may be applied where it stands, if what comes of the whole is admitted
   pub may_apply : (S : Stand) → S.hand ≡ w → S.read.ready ≡ proof.nil → IsSeen sig S.opens w → IsCanonical sig w → IsRawTerm sig (plug (round sig S.opens) (nested sig w)) → IsAdmitted sig (plug (round sig S.opens) made)
@@ -130,15 +130,15 @@ module _ (M : Module) (ok : IsAccepted M.signature) (sorted : IsWellSorted M.sig
           free = λ z. absurd (true≢false (sym z));
           raw_part = instance_raw sig ok sorted solution_here r.solution.substitution r.sides.left;
           is_part = normal_form-kept sig ok r.solution.matches ∙ fixed sig ok w k ∙ sym e;
-          raw = raw_after (round sig S.opens) raw;
+          raw = raw_in_place sig ok (round sig S.opens) (nested sig w) made raw made_raw made_kinds;
           admitted = a;
         };
       }
 
--- An equation was applied where a run stood: what came of the right side is in hand.
-pub record Fired (K : Run) (count : ℕ) (ms : List Move) (S : Stand) (number : ℕ) (s : Substitution) (v : RawTerm) : Type 0 where
+-- A replacement was made where a run stood: v is in hand.
+pub record IsReplaced (K : Run) (count : ℕ) (ms : List Move) (S : Stand) (v : RawTerm) : Type 0 where
   pub stand : Stand
-  pub leads : Leads K (suc count) (ms ++ applies number false s ∷ []) stand
+  pub leads : Leads K (suc count) ms stand
   pub opens : stand.opens ≡ S.opens
   pub hand : stand.hand ≡ v
 
@@ -147,7 +147,7 @@ module _ (K : Run) (ok : IsAccepted K.over.signature) (sorted : IsWellSorted K.o
   s = meant K.over.signature (zip r.statement.variables vs)
 
   pub fires : (ms : List Move) (S : Stand) → AreStanding K.over K.start → Leads K count ms S → S.hand ≡ w → IsSeen K.over.signature S.opens w
-      → IsAdmitted K.over.signature (plug (round K.over.signature S.opens) (instance s r.statement.right)) → Fired K count ms S number s (evaluated K.over.signature vs right)
+      → IsAdmitted K.over.signature (plug (round K.over.signature S.opens) (instance s r.statement.right)) → IsReplaced K count (ms ++ applies number false s ∷ []) S (evaluated K.over.signature vs right)
   fires ms S start h e seen a =
       let M : Module = K.over in
       let sig : Signature = K.over.signature in

@@ -1,19 +1,20 @@
 -- What comes where an equation is applied, and where a run stops.
-use Rattle.std.specs.Prelude.{◌≡◌, ◌-◌, ◌^◌, min, ℕ, suc, List, [], Option, Some, None, IsTrue}
+use Rattle.std.specs.Prelude.{◌≡◌, ◌-◌, ◌^◌, min, ℕ, suc, List, [], Bool, true, false, Option, Some, None, IsTrue}
 use Rattle.mw_logic.specs.Term.{RawTerm, RawTerms, apply, Context, plug}
 use Rattle.mw_logic.specs.Signature.{Signature}
 use Rattle.mw_logic.specs.Substitution.{Substitution, instance, IsSolution}
-use Rattle.mw_logic.specs.Parts.{nested, IsPart, IsTooDeep}
+use Rattle.mw_logic.specs.Parts.{nested, IsPart, IsTooDeep, IsTooLarge}
 use Rattle.mw_logic.specs.NormalForm.{normal_form, height}
-use Rattle.mw_logic.specs.Module.{Module, Statement, IsStatement}
-use Rattle.mw_solving.specs.Inside.{IsProperPart}
+use Rattle.mw_logic.specs.Module.{Module, Statement, IsStatement, Row, IsTooBigPair}
+use Rattle.mw_logic.specs.Judgements.{IsNormalBy, admitted_judgements}
+use Rattle.mw_frames.specs.Several.{IsSeveral}
 use Rattle.mw_least.specs.Workable.{IsPlainEquation}
 use Rattle.mw_position.specs.Positions.{fill}
 use Rattle.mw_position.specs.Variables.{placed}
 use Rattle.mw_pattern.specs.Clean.{clean}
 use Rattle.mw_deduction.specs.Replay.{Stand}
 use Rattle.mw_frames.specs.declared.applying.Fired.{Fired}
-use Rattle.mw_frames.specs.declared.applying.Fired.TheVariants.{Goes, TooDeep}
+use Rattle.mw_frames.specs.declared.applying.Fired.TheVariants.{Goes, TooDeep, TooLarge}
 use Rattle.mw_frames.specs.declared.applying.Applied.{Applied}
 use Rattle.mw_frames.specs.Free.{IsFree}
 use Rattle.mw_frames.specs.Redex.{IsRedex}
@@ -22,7 +23,7 @@ use Rattle.mw_frames.specs.State.{Run, Data, Leads, Holds}
 -- w is the whole of t, or what these numbers take of it
 abbrev pub IsPartTaken : Signature → Option (List ℕ) → RawTerm → RawTerm → Type 0
 IsPartTaken sig None t w = w ≡ t
-IsPartTaken sig (Some ks) t w = IsProperPart sig ks t w
+IsPartTaken sig (Some ks) t w = IsSeveral sig ks t w
 
 -- The equation that is applied makes its left side w by these values.
 pub record IsApplied (M : Module) (e : Applied) (vs : List RawTerm) (w : RawTerm) : Type 0 where
@@ -40,19 +41,37 @@ pub record IsWhole (K : Run) (count : ℕ) (d : Data) (t : RawTerm) : Type 0 whe
   pub closed : stand.opens ≡ []
   pub hand : stand.hand ≡ t
 
--- An equation that applies at a part of u would make it too deep.
-pub record WouldBeTooDeep (M : Module) (u : RawTerm) : Type 0 where
-  pub number : ℕ
-  pub statement : Statement
-  pub is_there : IsStatement M number statement
-  pub plain : IsPlainEquation M.signature statement
+-- The whole u becomes another by an equation, or by a row of the schemata, at one of its parts.
+pub data Becomes (M : Module) (n : ℕ) (u : RawTerm) : RawTerm → Type 0 where
+  by_equation : (C : Context) (w : RawTerm) (number : ℕ) (e : Statement) (s : Substitution) → IsPart M.signature u C w
+      → IsStatement M number e → IsPlainEquation M.signature e → IsSolution M.signature e.left w [] s → Becomes M n u (plug C (instance s e.right))
+  by_schema : (C : Context) (w v : RawTerm) → IsPart M.signature u C w → Row M.signature (IsNormalBy M (admitted_judgements M n).Fails) w v → Becomes M n u (plug C v)
+
+-- that would be too deep
+pub record WouldBeTooDeep (M : Module) (n : ℕ) (u : RawTerm) : Type 0 where
+  pub next : RawTerm
+  pub becomes : Becomes M n u next
+  pub deep : IsTooDeep M.signature next
+
+-- or too large, and not too deep
+pub record WouldBeTooLarge (M : Module) (n : ℕ) (u : RawTerm) : Type 0 where
+  pub next : RawTerm
+  pub becomes : Becomes M n u next
+  pub large : IsTooLarge M.signature next
+  pub not_deep : ¬ IsTooDeep M.signature next
+
+-- a sum or product at one of its parts is too big
+pub record HasBigPair (M : Module) (u : RawTerm) : Type 0 where
   pub context : Context
-  pub part : RawTerm
-  pub is_part : IsPart M.signature u context part
-  pub substitution : Substitution
-  pub solution : IsSolution M.signature statement.left part [] substitution
-  pub deep : IsTooDeep M.signature (plug context (instance substitution statement.right))
+  pub pair : RawTerm
+  pub is_part : IsPart M.signature u context pair
+  pub too_big : IsTooBigPair M.signature pair
+
+abbrev pub Refuses : Run → Bool → RawTerm → Type 0
+Refuses K true u = WouldBeTooDeep K.over K.rank u
+Refuses K false u = WouldBeTooLarge K.over K.rank u
 
 abbrev pub IsFired : Run → ℕ → Data → Fired → Type 0
 IsFired K count d (Goes h) = Holds K (suc count) d h
-IsFired K count d (TooDeep t) = IsWhole K count d t × WouldBeTooDeep K.over (nested K.over.signature t)
+IsFired K count d (TooDeep t) = IsWhole K count d t × WouldBeTooDeep K.over K.rank (nested K.over.signature t)
+IsFired K count d (TooLarge t) = IsWhole K count d t × WouldBeTooLarge K.over K.rank (nested K.over.signature t)

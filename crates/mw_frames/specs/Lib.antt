@@ -5,8 +5,12 @@ pub mod Machines
 pub mod Steps
 -- An equation that applies to a term.
 pub mod Redex
+-- Whether what comes may stand where it comes.
+pub mod Larger
 -- Terms in which no operator has an axiom.
 pub mod Free
+-- Several arguments, and not all.
+pub mod Several
 -- Several arguments are taken.
 pub mod Taking
 pub mod Arrivals

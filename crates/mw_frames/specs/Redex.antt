@@ -1,22 +1,22 @@
 -- An equation that applies to a term, and where the term stands.
-use Rattle.std.specs.Prelude.{◌≡◌, ◌≤◌, ◌<◌, ℕ, ◌+◌, List, [], ◌∷◌, length, ⊤}
+use Rattle.std.specs.Prelude.{◌≡◌, ◌≤◌, ◌<◌, ℕ, ◌+◌, List, [], ◌∷◌, length, false, IsTrue, ⊤}
 use Rattle.std.specs.List.{zip}
-use Rattle.mw_logic.specs.Term.{RawTerm, RawTerms, apply, plug}
-use Rattle.mw_logic.specs.Signature.{Signature, IsRawTerm}
+use Rattle.mw_logic.specs.Term.{RawTerm, RawTerms, apply, is_ground}
+use Rattle.mw_logic.specs.Signature.{Signature, IsRawTerm, HasKind}
 use Rattle.mw_logic.specs.Substitution.{IsSolution}
-use Rattle.mw_logic.specs.Parts.{nested, IsTooDeep}
-use Rattle.mw_logic.specs.NormalForm.{normal_form, height}
-use Rattle.mw_logic.specs.Module.{Module, Statement, IsStatement}
+use Rattle.mw_logic.specs.Parts.{nested, IsClean}
+use Rattle.mw_logic.specs.NormalForm.{normal_form, height, has_largest}
+use Rattle.mw_logic.specs.Module.{Module, Statement, IsStatement, Row}
+use Rattle.mw_logic.specs.Judgements.{IsNormalBy, admitted_judgements}
 use Rattle.mw_canon.specs.Canonical.{meant}
 use Rattle.mw_least.specs.Workable.{AreSides}
 use Rattle.mw_position.specs.Variables.{placed}
 use Rattle.mw_least.specs.Workable.{IsPlainEquation}
-use Rattle.mw_solving.specs.Values.{AreValues}
+use Rattle.mw_solving.specs.Values.{IsValue, AreValues}
 use Rattle.mw_stack.specs.Hidden.{IsHidden}
-use Rattle.mw_deduction.specs.Standing.{Open, round, IsSeen}
-use Rattle.mw_deduction.proofs.Depths.{added, level_in}
+use Rattle.mw_deduction.proofs.Depths.{added}
 use Rattle.mw_matching.specs.Matches.{evaluated}
-use Rattle.mw_deduction.specs.Replay.{Stand}
+use Rattle.mw_deduction.specs.Replay.{Stand, whole}
 use Rattle.mw_frames.specs.declared.job.Job.{Job}
 use Rattle.mw_frames.specs.declared.job.Job.TheVariants.{Try}
 use Rattle.mw_frames.specs.declared.job.Frame.{Frame}
@@ -35,6 +35,12 @@ pub record IsRedex (M : Module) (number : ℕ) (vs : List RawTerm) (pattern w : 
   pub solution : IsSolution M.signature statement.left (nested M.signature w) [] (meant M.signature (zip statement.variables vs))
   pub right : pattern ≡ placed statement.variables (normal_form M.signature statement.right)
 
+-- v may come for the flattened w: a raw and ground term of its kinds
+pub record MayCome (sig : Signature) (w v : RawTerm) : Type 0 where
+  pub raw : IsRawTerm sig v
+  pub is_ground : IsTrue (is_ground v)
+  pub kinds : (L : ℕ) → HasKind sig (nested sig w) L → HasKind sig v L
+
 -- the operator on top is this one, or there is none
 abbrev pub HasOnTop : ℕ → RawTerm → Type 0
 HasOnTop f t = (g : ℕ) (ts : RawTerms) → t ≡ apply g ts → g ≡ f
@@ -49,12 +55,17 @@ abbrev pub hole_level : Signature → List Frame → RawTerm → ℕ
 hole_level sig [] t = 0
 hole_level sig (f ∷ fs) t = added sig f.op t + f.level
 
--- A term w over normal arguments is in hand, and seen; the equation applies to it, and its right side has no more than 1,000 levels where it comes.
-pub record MayFire (K : Run) (count : ℕ) (m : Data) (number : ℕ) (vs : List RawTerm) (pattern w : RawTerm) : Type 0 where
+-- A term w over normal arguments is in hand, and seen; v has no more than 1,000 levels where it comes for it, and no number is too large there.
+pub record MayStand (K : Run) (count : ℕ) (m : Data) (w v : RawTerm) : Type 0 where
   pub in_hand : InHand K count m (Try w)
   pub seen : IsSeenIn K.over.signature m.frames w
+  pub low : hole_level K.over.signature m.frames v + height v ≤ 1000
+  pub small : has_largest K.over.signature (whole K.over.signature in_hand.stand.opens v) ≡ false
+
+-- the equation applies to it, and its right side fits
+pub record MayFire (K : Run) (count : ℕ) (m : Data) (number : ℕ) (vs : List RawTerm) (pattern w : RawTerm) : Type 0 where
   pub redex : IsRedex K.over number vs pattern w
-  pub low : hole_level K.over.signature m.frames (evaluated K.over.signature vs pattern) + height (evaluated K.over.signature vs pattern) ≤ 1000
+  pub stands : MayStand K count m w (evaluated K.over.signature vs pattern)
 
 -- The term v is in hand, as any job for it of which that is known.
 abbrev pub HasInHand : Run → ℕ → Data → RawTerm → Type 0
@@ -67,9 +78,16 @@ pub record Stands (K : Run) (count : ℕ) (m : Data) (t : RawTerm) : Type 0 wher
   pub opened : AreOpened K.over.signature m.values m.frames m.done m.jobs stand.opens
   pub hand : stand.hand ≡ t
 
--- v comes into the innermost hole, is seen there, and has more than 1,000 levels: then the whole is too deep.
-pub record IsDeepThere (sig : Signature) (os : List Open) (v : RawTerm) : Type 0 where
-  pub raw : IsRawTerm sig (plug (round sig os) v)
-  pub seen : IsSeen sig os (normal_form sig v)
-  pub levels : 1000 < level_in sig (round sig os) (nested sig (normal_form sig v)) + height (normal_form sig v)
-  pub too_deep : IsTooDeep sig (plug (round sig os) v)
+-- A row of the schemata leads from a clean form of w to the canonical t.
+pub record IsRowOf (M : Module) (n : ℕ) (w t : RawTerm) : Type 0 where
+  pub form : RawTerm
+  pub raw : IsRawTerm M.signature form
+  pub clean : IsClean M.signature form
+  pub is : normal_form M.signature form ≡ w
+  pub row : Row M.signature (IsNormalBy M (admitted_judgements M n).Fails) form (nested M.signature t)
+  pub value : IsValue M.signature t
+
+-- it is met at the term in hand, and what comes of it fits
+pub record MayMeetRow (K : Run) (count : ℕ) (m : Data) (w t : RawTerm) : Type 0 where
+  pub row : IsRowOf K.over K.rank w t
+  pub stands : MayStand K count m w t

@@ -8,7 +8,7 @@ use Rattle.mw_logic.specs.Accepted.{IsAccepted, IsWellSorted}
 use Rattle.mw_logic.specs.Parts.{number_of_terms}
 use Rattle.mw_logic.specs.NormalForm.{is_comm, arranged, applied_in}
 use Rattle.mw_logic.specs.Module.{Module}
-use Rattle.mw_logic.proofs.FreeSignature.{IsBareSignature}
+use Rattle.mw_logic.specs.WellFormed.{IsWellFormed}
 use Rattle.mw_logic.specs.Proof as proof
 use Rattle.mw_logic.specs.Judgements.{admitted_judgements}
 use Rattle.mw_logic.proofs.Canonical.{Each, IsCanonical}
@@ -133,8 +133,7 @@ pub record IsRun (K : Run) (sig : Signature) : Type 0 where
   pub signature : K.over.signature ≡ sig
   pub accepted : IsAccepted K.over.signature
   pub sorted : IsWellSorted K.over.signature
-  -- there are no numbers yet, and nothing is built in
-  pub bare : IsBareSignature K.over.signature
+  pub well : IsWellFormed K.over
   pub start : AreStanding K.over K.start
 
 -- a job is in hand

@@ -16,6 +16,7 @@ use Rattle.mw_frames.specs.declared.job.Job.TheVariants.{Normal}
 use Rattle.mw_frames.specs.declared.job.Frame.{Frame}
 use Rattle.mw_frames.specs.Jobs.{rest, arguments, AreOpened}
 use Rattle.mw_frames.specs.State.{Run, Data, Leads, AreGood}
+use Rattle.mw_frames.specs.Steps.{IsAsked}
 
 -- the arguments before the first one that has one of these numbers, and the others behind it
 abbrev pub before_taken : List ℕ → RawTerms → RawTerms
@@ -37,6 +38,15 @@ pub record IsLeft (sig : Signature) (f : ℕ) (ks : List ℕ) (args : RawTerms) 
   pub jobs : waits ≡ waiting_normal behind
   pub together : is_comm sig f ≡ true → (terms_of done ≡ join (before_taken ks args) (behind_taken ks args)) × (behind ≡ [])
   pub apart : is_comm sig f ≡ false → (terms_of done ≡ before_taken ks args) × (terms_of behind ≡ behind_taken ks args)
+
+-- What is taken is in hand, in a frame of the associative operator on top of it.
+pub record IsPartAsked (K : Run) (count : ℕ) (m : Data) (f : Frame) (w : RawTerm) : Type 0 where
+  pub asked : IsAsked K count m w
+  pub outer : List Frame
+  pub inner : m.frames ≡ f ∷ outer
+  pub assoc : is_assoc K.over.signature f.op ≡ true
+  pub args : RawTerms
+  pub is : w ≡ apply f.op args
 
 -- A term t comes to a frame f of an associative operator, in front of what waits in it; none is in hand.
 pub record Receives (K : Run) (count : ℕ) (m : Data) (f : Frame) (t : RawTerm) : Type 0 where

@@ -1,23 +1,28 @@
 // An equation is applied.
-ghost use Rattle.std.specs.Prelude.{◌≡◌, ◌<◌, ◌≤◌, ◌+◌, ℕ, suc, IsTrue, IsFalse, IfOk, OnOk, None, length, reverse, [], ◌∷◌};
+ghost use Rattle.std.specs.Prelude.{◌≡◌, ℕ, suc, IsTrue, IsFalse, IfOk, OnOk, None, reverse, take as take_first};
 ghost use Rattle.mw_logic.specs.Term.{RawTerm, RawTerms, apply as applied};
-ghost use Rattle.mw_logic.specs.NormalForm.{height};
+ghost use Rattle.mw_logic.specs.Parts.{nested};
 ghost use Rattle.mw_logic.specs.Module.{Module};
 ghost use Rattle.mw_matching.specs.Matches.{evaluated};
 ghost use Rattle.mw_pattern.specs.Clean.{clean};
-ghost use Rattle.mw_solving.specs.Inside.{IsProperPart};
+ghost use Rattle.mw_frames.specs.Several.{IsSeveral};
+ghost use Rattle.mw_deduction.specs.Replay.{whole as in_whole};
+ghost use Rattle.mw_trail.specs.Tracks.{moves};
 ghost use Rattle.mw_frames.specs.State.{Run, IsRun, InHand, Settled, Holds};
 ghost use Rattle.mw_frames.specs.Machines.{data_of};
-ghost use Rattle.mw_frames.specs.Arrivals.{IsNewFrame};
-ghost use Rattle.mw_frames.specs.Redex.{MayFire, HasOnTop, hole_level};
+ghost use Rattle.mw_frames.specs.Redex.{MayFire, HasOnTop};
+ghost use Rattle.mw_frames.specs.Larger.{IsFit, IsAround};
+ghost use Rattle.mw_frames.specs.Taking.{IsPartAsked};
 ghost use Rattle.mw_frames.specs.Steps.{IsAsked, IsComplete, IsAskedFor, asked_term};
-ghost use Rattle.mw_frames.specs.Fires.{IsPartTaken, IsApplied, IsFired};
+ghost use Rattle.mw_frames.specs.Fires.{IsPartTaken, IsApplied, Refuses, IsFired};
 ghost use Rattle.mw_frames.specs.declared.job.Job.TheVariants.{Try as TryOf};
 ghost use Rattle.mw_frames.specs.declared.looking.Asked.TheVariants.{Own as OwnOf};
+ghost use Rattle.mw_frames.specs.declared.limits.Fit.TheVariants.{Fits as FitsOf};
 
 use crate::coming::{part_job, wait_parts};
-use crate::firing::{apply_several, apply_whole, innermost, may_fire};
+use crate::firing::{apply_whole, leave_hole, part_of, take_out};
 use crate::job::{Frame, Hand};
+use crate::limits::{Around, Fit, cut, fit_right};
 use crate::looking::Asked;
 use crate::machine::Machine;
 use crate::opening::new_frame;
@@ -48,11 +53,13 @@ pub enum Fired<'m> {
     Goes(Hand<'m>),
     /// It isn't applied, since the whole would be too deep: this is the whole as it stands.
     TooDeep(Term),
+    /// The same, since a number would be too large.
+    TooLarge(Term),
 }
 
 /// The operator on top, or any where there is none.
 #[inline(always)]
-fn top_of(term: &Term) -> OpId
+pub(crate) fn top_of(term: &Term) -> OpId
     ensures top { HasOnTop result term.now }
     ensures leaf { ((f : ℕ) (ts : RawTerms) → term.now ≡ applied f ts → ⊥) → result ≡ 1 }
 {
@@ -100,6 +107,57 @@ fn go_whole<'m>(
     Ok(Hand::One(job))
 }
 
+/// Nothing is applied, since the whole would be too deep, or a number in it too large: the whole as it stands.
+#[inline(never)]
+pub(crate) fn refuse<'m>(
+    alloc: Global,
+    facts: &Facts,
+    machine: &mut Machine<'m>,
+    term: Term,
+    deep: bool,
+) -> Result<Fired<'m>, AllocError>
+    ensures { (K : Run) (k : ℕ) → IsRun K facts.now → (h : InHand K k (data_of K.over machine.old) (TryOf term))
+        → ((t : RawTerm) → t ≡ in_whole K.over.signature h.stand.opens h.stand.hand → Refuses K deep (nested K.over.signature t))
+        → IfOk result (IsFired K k (data_of K.over machine.new)) }
+{
+    let whole = whole(alloc, facts, machine, term)?;
+    if deep {
+        return Ok(Fired::TooDeep(whole));
+    }
+    Ok(Fired::TooLarge(whole))
+}
+
+/// What stands round what is in hand.
+#[inline(always)]
+pub(crate) fn all_around<'a, 'm>(machine: &'a Machine<'m>) -> Around<'a, 'm>
+    ensures { IsAround machine.now result }
+{
+    Around {
+        values: machine.kept.values(),
+        frames: machine.frames.as_slice(),
+        done: machine.done.as_slice(),
+        jobs: machine.jobs.as_slice(),
+    }
+}
+
+/// Whether the right side may stand where the term in hand does.
+#[inline(always)]
+fn fit_here(
+    alloc: Global,
+    facts: &Facts,
+    machine: &Machine<'_>,
+    by: Applied<'_>,
+    values: &[Term],
+) -> Result<Fit, AllocError>
+    ensures { (K : Run) (k : ℕ) (w : RawTerm) → IsRun K facts.now → (h : InHand K k (data_of K.over machine.now) (TryOf w))
+        → IsApplied K.over by.entry values.now w
+        → IfOk result (IsFit K.over.signature (reverse machine.now.frames.items) h.stand.opens (evaluated K.over.signature values.now (clean by.entry.right.now))) }
+{
+    let around = all_around(machine);
+    let fit = fit_right(alloc, facts, around, by.right, by.free, by.levels, values)?;
+    Ok(fit)
+}
+
 /// The equation is applied to the term in hand.
 fn fire_whole<'m>(
     alloc: Global,
@@ -112,49 +170,62 @@ fn fire_whole<'m>(
     ensures { (K : Run) (k : ℕ) → IsRun K facts.now → IsAsked K k (data_of K.over machine.old) term
         → IsApplied K.over by.entry values.old.items term → IfOk result (IsFired K k (data_of K.over machine.new)) }
 {
-    let hole = innermost(machine.frames.as_slice());
-    if !may_fire(
-        alloc,
-        facts,
-        hole,
-        by.right,
-        by.free,
-        by.levels,
-        values.as_slice(),
-    )? {
-        let whole = whole(alloc, facts, machine, term)?;
-        return Ok(Fired::TooDeep(whole));
+    match fit_here(alloc, facts, machine, by, values.as_slice())? {
+        Fit::Fits => {
+            let hand = go_whole(alloc, facts, machine, top_of(&term), by, values)?;
+            Ok(Fired::Goes(hand))
+        }
+        Fit::TooDeep => {
+            let fired = refuse(alloc, facts, machine, term, true)?;
+            Ok(fired)
+        }
+        Fit::TooLarge => {
+            let fired = refuse(alloc, facts, machine, term, false)?;
+            Ok(fired)
+        }
     }
-    let hand = go_whole(alloc, facts, machine, top_of(&term), by, values)?;
-    Ok(Fired::Goes(hand))
 }
 
-/// The equation is applied to the arguments of these numbers: its right side comes among the others, which are in a
-/// new frame.
+/// The equation is applied to what is in hand, which several arguments are: its right side comes among the others, in
+/// whose frame it stands.
 fn go_several<'m>(
     alloc: Global,
     facts: &Facts,
     machine: &mut Machine<'m>,
     frame: Frame,
-    term: &Term,
-    numbers: &[u32],
     by: Applied<'m>,
     values: &mut Vec<Term>,
 ) -> Result<(), AllocError>
     ensures { (K : Run) (k : ℕ) (w : RawTerm) → IsRun K facts.now
-        → InHand K k (data_of K.over machine.old) (TryOf term.now)
-        → IsNewFrame facts.now (reverse machine.old.frames.items) machine.old.done.items machine.old.jobs.items frame.op frame
-        → HasOnTop frame.op term.now → IsProperPart facts.now numbers.now term.now w → IsApplied K.over by.entry values.old.items w
-        → let v = evaluated facts.now values.old.items (clean by.entry.right.now) in
-        hole_level facts.now (frame ∷ []) v + height v ≤ 1000
+        → IsPartAsked K k (data_of K.over machine.old) frame w
+        → MayFire K k (data_of K.over machine.old) by.entry.number values.old.items (clean by.entry.right.now) w
+        → IsApplied K.over by.entry values.old.items w
         → OnOk result (Settled K (suc k) (data_of K.over machine.new) frame) }
 {
     let base = machine.kept.values().len();
-    apply_several(
-        alloc, facts, machine, frame, term, numbers, by.number, values,
-    )?;
+    apply_whole(machine, by.number, values)?;
+    leave_hole(machine)?;
     wait_parts(alloc, facts, machine, frame, by.right, base, frame.op)?;
     Ok(())
+}
+
+/// Nothing is applied to several arguments, which are in hand: the whole as it stands.
+pub(crate) fn refuse_part<'m>(
+    alloc: Global,
+    facts: &Facts,
+    machine: &mut Machine<'m>,
+    term: &Term,
+    numbers: &[u32],
+    deep: bool,
+) -> Result<Fired<'m>, AllocError>
+    ensures { (K : Run) (k : ℕ) (w : RawTerm) → IsRun K facts.now → IsSeveral facts.now numbers.now term.now w
+        → (h : InHand K k (data_of K.over machine.old) (TryOf w))
+        → ((t : RawTerm) → t ≡ in_whole K.over.signature h.stand.opens h.stand.hand → Refuses K deep (nested K.over.signature t))
+        → IfOk result (IsFired K k (data_of K.over machine.new)) }
+{
+    let part = part_of(alloc, top_of(term), term, numbers)?;
+    let fired = refuse(alloc, facts, machine, part, deep)?;
+    Ok(fired)
 }
 
 /// The equation is applied to the arguments of these numbers of the term in hand.
@@ -168,24 +239,25 @@ fn fire_several<'m>(
     values: &mut Vec<Term>,
 ) -> Result<Fired<'m>, AllocError>
     ensures { (K : Run) (k : ℕ) (w : RawTerm) → IsRun K facts.now → IsAsked K k (data_of K.over machine.old) term
-        → IsProperPart facts.now numbers.now term w → IsApplied K.over by.entry values.old.items w
+        → IsSeveral facts.now numbers.now term w → IsApplied K.over by.entry values.old.items w
         → IfOk result (IsFired K k (data_of K.over machine.new)) }
 {
     let frame = new_frame(facts, machine, top_of(&term))?;
-    if !may_fire(
-        alloc,
-        facts,
-        Some(frame),
-        by.right,
-        by.free,
-        by.levels,
-        values.as_slice(),
-    )? {
-        let whole = whole(alloc, facts, machine, term)?;
-        return Ok(Fired::TooDeep(whole));
+    take_out(alloc, facts, machine, frame, &term, numbers)?;
+    match fit_here(alloc, facts, machine, by, values.as_slice())? {
+        Fit::Fits => {
+            go_several(alloc, facts, machine, frame, by, values)?;
+            Ok(Fired::Goes(Hand::Over(frame)))
+        }
+        Fit::TooDeep => {
+            let fired = refuse_part(alloc, facts, machine, &term, numbers, true)?;
+            Ok(fired)
+        }
+        Fit::TooLarge => {
+            let fired = refuse_part(alloc, facts, machine, &term, numbers, false)?;
+            Ok(fired)
+        }
     }
-    go_several(alloc, facts, machine, frame, &term, numbers, by, values)?;
-    Ok(Fired::Goes(Hand::Over(frame)))
 }
 
 /// The equation is applied to the term in hand, or to several of its arguments.
@@ -217,24 +289,33 @@ fn fire_term<'m>(
 
 /// Whether the equation may be applied to the whole of a frame's operator over its own arguments.
 #[inline(always)]
-fn may_fire_own(
+fn fits_own(
     alloc: Global,
     facts: &Facts,
     machine: &Machine<'_>,
+    top: Frame,
     by: Applied<'_>,
     values: &[Term],
     take: &Option<Seq<u32>>,
 ) -> Result<bool, AllocError>
-    ensures { (K : Run) (w : RawTerm) → IsRun K facts.now → IsApplied K.over by.entry values.now w
-        → let v = evaluated facts.now values.now (clean by.entry.right.now) in
-        IfOk result (λ b. IsTrue b → (take.now ≡ None) × (hole_level facts.now (reverse machine.now.frames.items) v + height v ≤ 1000)) }
+    ensures { (K : Run) (k : ℕ) (t : RawTerm) → IsRun K facts.now
+        → (h : InHand K k (record { frames = reverse machine.now.frames.items; done = take_first top.from machine.now.done.items;
+        jobs = machine.now.jobs.items; values = machine.now.kept.values; moves = moves K.over machine.now.kept }) (TryOf t))
+        → (take.now ≡ None → IsApplied K.over by.entry values.now t)
+        → IfOk result (λ b. IsTrue b → (take.now ≡ None)
+        × IsFit K.over.signature (reverse machine.now.frames.items) h.stand.opens (evaluated K.over.signature values.now (clean by.entry.right.now)) FitsOf) }
 {
     if take.is_some() {
         return Ok(false);
     }
-    let hole = innermost(machine.frames.as_slice());
-    let may = may_fire(alloc, facts, hole, by.right, by.free, by.levels, values)?;
-    Ok(may)
+    let around = Around {
+        values: machine.kept.values(),
+        frames: machine.frames.as_slice(),
+        done: cut(machine.done.as_slice(), top.from).0,
+        jobs: machine.jobs.as_slice(),
+    };
+    let fit = fit_right(alloc, facts, around, by.right, by.free, by.levels, values)?;
+    Ok(matches!(fit, Fit::Fits))
 }
 
 /// The equation is applied to a frame's operator over its own arguments, all of which are done.
@@ -252,7 +333,7 @@ fn fire_own<'m>(
         → IsPartTaken facts.now take.now (asked_term (data_of K.over machine.old) (OwnOf top)) w → IsApplied K.over by.entry values.old.items w
         → IfOk result (IsFired K k (data_of K.over machine.new)) }
 {
-    if may_fire_own(alloc, facts, machine, by, values.as_slice(), take)? {
+    if fits_own(alloc, facts, machine, top, by, values.as_slice(), take)? {
         machine.done.truncate(top.from);
         let hand = go_whole(alloc, facts, machine, top.op, by, values)?;
         return Ok(Fired::Goes(hand));

@@ -213,7 +213,7 @@ pub(crate) fn wait_made<'m>(
 
 /// What a term is under an operator, where that isn't the term alone: none for the identity of an associative one, and
 /// its own arguments where it stands on top.
-fn pieces<'t>(facts: &Facts, operator: OpId, term: &'t Term) -> Option<&'t [Term]>
+pub(crate) fn pieces<'t>(facts: &Facts, operator: OpId, term: &'t Term) -> Option<&'t [Term]>
     ensures alone { IfNone result (spread facts.now operator term.now ≡ cons term.now nil) }
     ensures spread { IfSome result (λ ts. spread facts.now operator term.now ≡ terms_of ts.now) }
     ensures own { IfSome result (λ ts. (ts.now ≡ []) ⊎ (term.now ≡ applied operator (terms_of ts.now))) }
@@ -231,7 +231,7 @@ fn pieces<'t>(facts: &Facts, operator: OpId, term: &'t Term) -> Option<&'t [Term
 }
 
 /// Whether the operator is commutative.
-fn is_commutative(facts: &Facts, operator: OpId) -> bool
+pub(crate) fn is_commutative(facts: &Facts, operator: OpId) -> bool
     ensures { result ≡ is_comm facts.now operator }
 {
     match facts.axioms(operator) {

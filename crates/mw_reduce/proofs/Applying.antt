@@ -1,10 +1,16 @@
--- A choice is an equation that applies.
+-- A choice is an equation that applies, and a step by a row one that is met.
 use Rattle.std.specs.Prelude.{◌≡◌, ◌-◌, ◌^◌, min, ℕ, suc, List, [], ◌∷◌, length, Option, Some, None, refl}
 use Rattle.std.proofs.Common.{sym, subst, ap, ◌∙◌}
 use Rattle.mw_logic.specs.Term.{Variable, RawTerm, RawTerms, numeral, quoted, variable, apply, nil, cons}
 use Rattle.mw_logic.specs.Signature.{Signature}
 use Rattle.mw_logic.specs.NormalForm.{normal_form, height}
+use Rattle.mw_logic.specs.Accepted.{IsAccepted}
+use Rattle.mw_logic.specs.Parts.{nested}
 use Rattle.mw_logic.specs.Module.{Module, IsStatement}
+use Rattle.mw_logic.specs.Judgements.{IsNormalBy, admitted_judgements}
+use Rattle.mw_logic.proofs.Canonical.{IsCanonical, canonical}
+use Rattle.mw_solving.proofs.Grounds.{nested_ground}
+use Rattle.mw_builtin.specs.Steps as rows
 use Rattle.mw_position.specs.Positions.{fill}
 use Rattle.mw_position.specs.Variables.{placed, sorts_of}
 use Rattle.mw_pattern.specs.Clean.{clean}
@@ -17,6 +23,7 @@ use Rattle.mw_index.specs.declared.choices.Choice.{Choice}
 use Rattle.mw_index.specs.declared.equations.Left.{Left}
 use Rattle.mw_index.specs.declared.equations.Left.TheVariants.{Plain}
 use Rattle.mw_frames.specs.Free as frames
+use Rattle.mw_frames.specs.Redex.{IsRowOf}
 use Rattle.mw_frames.specs.Fires.{IsPartTaken, IsApplied}
 use Rattle.mw_frames.specs.declared.applying.Applied.{Applied}
 use Rattle.mw_reduce.specs.Driven.{IsAppliedAs}
@@ -34,7 +41,7 @@ mutual
 
 taken_same : (sig : Signature) (o : Option (List ℕ)) (t w : RawTerm) → IsTaken sig o t w → IsPartTaken sig o t w
 taken_same sig None t w h = h
-taken_same sig (Some ks) t w h = h
+taken_same sig (Some ks) t w h = record { takes = h.takes; proper = h.proper }
 
 length_sorts : (xs : List Variable) → length (sorts_of xs) ≡ length xs
 length_sorts [] = refl
@@ -65,3 +72,29 @@ choice_applies M w t c i sized a is = (
     sure = λ h. let (ps, e) = is.sure h in plain_left M.signature (operator_of t) i.statement c.equation.now.left ps i.is.left e;
   },
 )
+
+row_taken : (sig : Signature) (o : Option (List ℕ)) (t w : RawTerm) → rows.IsTaken sig o t w → IsPartTaken sig o t w
+row_taken sig None t w h = h
+row_taken sig (Some ks) t w h = record { takes = h.0; proper = h.1 h.0.operator h.0.args h.0.term }
+
+pub row_applies : (M : Module) → IsAccepted M.signature → (n : ℕ) (t : RawTerm) (take : Option (List ℕ)) (to : RawTerm) → rows.IsGiven M.signature (IsNormalBy M (admitted_judgements M n).Fails) t take to
+    → (w : RawTerm) × IsPartTaken M.signature take t w × IsRowOf M n w to
+row_applies M ok n t take to g = (
+  g.is_form.part,
+  row_taken M.signature take t g.is_form.part g.is_form.taken,
+  record {
+    form = g.form;
+    raw = g.is_form.raw;
+    clean = g.is_form.clean;
+    is = g.is_form.is;
+    row = g.meets;
+    value = record {
+      canonical = subst (IsCanonical M.signature) g.term.canonical (canonical M.signature ok (nested M.signature to));
+      raw = g.term.raw;
+      ground = nested_ground M.signature to ∙ g.term.ground;
+    };
+  },
+)
+
+pub big_taken : (sig : Signature) (t : RawTerm) (take : Option (List ℕ)) → (b : rows.IsTooBigAt sig t take) → IsPartTaken sig take t b.is_form.part
+big_taken sig t take b = row_taken sig take t b.is_form.part b.is_form.taken

@@ -1,18 +1,19 @@
 -- Where a reduction begins, and what its end shows.
-use Rattle.std.specs.Prelude.{◌≡◌, ◌≤◌, ◌<◌, ℕ, zero, suc, [], ◌∷◌, refl}
-use Rattle.std.proofs.Common.{sym, subst, ap, ◌∙◌, arith, inl}
-use Rattle.mw_logic.specs.Term.{RawTerm, plug}
+use Rattle.std.specs.Prelude.{◌≡◌, ◌⊎◌, ◌≤◌, ◌<◌, ℕ, zero, suc, [], ◌∷◌, refl}
+use Rattle.std.proofs.Common.{sym, subst, ap, ◌∙◌, arith, inl, inr}
+use Rattle.mw_logic.specs.Term.{RawTerm}
 use Rattle.mw_logic.specs.Parts.{nested}
-use Rattle.mw_logic.specs.Substitution.{Substitution, instance}
+use Rattle.mw_logic.specs.Substitution.{Substitution}
 use Rattle.mw_logic.specs.Module.{Module}
 use Rattle.mw_logic.specs.Proof.{Proof, rules, steps}
 use Rattle.mw_logic.specs.Proof as proof
 use Rattle.mw_logic.specs.Judgements.{judgements, admitted_judgements, judgements_with, Proves, Held, Fails, IsNormal, IsNormalBy}
-use Rattle.mw_logic.specs.Ends.{NextStep, Stops, StopsBy, by_depth, by_rewrites, by_statement}
+use Rattle.mw_logic.specs.Ends.{NextStep, Stops, StopsBy, by_depth, by_rewrites, by_nat, by_statement, by_row}
 use Rattle.mw_logic.proofs.Canonical.{IsCanonical, canonical}
-use Rattle.mw_logic.proofs.Ranks.{admitted_within, normal}
+use Rattle.mw_logic.proofs.Ranks.{admitted_within, normal, row_within}
 use Rattle.mw_canon.specs.Canonical.{IsAdmittedTerm}
 use Rattle.mw_least.specs.Workable.{IsWorkable}
+use Rattle.mw_least.proofs.WellFormed.{workable_well_formed}
 use Rattle.mw_deduction.specs.Replay.{Stand, begun, concluded}
 use Rattle.mw_deduction.proofs.MoveStands.{begun_stands}
 use Rattle.mw_deduction.proofs.Concluding.{concludes}
@@ -25,8 +26,8 @@ use Rattle.mw_frames.specs.declared.machine.Machine.{Machine}
 use Rattle.mw_frames.specs.Machines.{data_of}
 use Rattle.mw_frames.specs.State.{Run, Data, IsRun, InHand, Holds}
 use Rattle.mw_frames.specs.Steps.{IsEnd}
-use Rattle.mw_frames.specs.Fires.{IsWhole, WouldBeTooDeep}
-use Rattle.mw_reduce.specs.Driven.{EndsBy, IsDriven}
+use Rattle.mw_frames.specs.Fires.{IsWhole, Becomes, by_equation, by_schema, WouldBeTooDeep, WouldBeTooLarge, HasBigPair}
+use Rattle.mw_reduce.specs.Driven.{EndsAt, IsDriven}
 use Rattle.mw_reduce.specs.Reductions.{limits_within, IsOutcome, IsReductionOf}
 use Rattle.mw_reduce.specs.declared.drive.End.{End}
 use Rattle.mw_reduce.specs.declared.drive.Outcome.{Outcome}
@@ -53,25 +54,44 @@ module _ (M : Module) (n : ℕ) (t0 : RawTerm) (p : Proof) (u : RawTerm) (most s
       by_rank zero q = StopsBy.rewrites q e
       by_rank (suc n) q = StopsBy.rewrites q e
 
-  stops_by_depth : Proves M n p t0 u → steps p < most → WouldBeTooDeep M u → Stops M n (limits_within most side) t0 p u by_depth
-  unfolding Stops
-  stops_by_depth h l d = by_rank n h next
-    where
-      next : NextStep M (judgements M n) (limits_within most side) p u (plug d.context (instance d.substitution d.statement.right))
-      next = by_statement d.context d.statement d.substitution d.substitution proof.nil
-          (record {
-            part = d.part;
-            is_part = d.is_part;
-            number = d.number;
-            is_there = d.is_there;
-            solution = d.solution;
-            may = inl (d.plain.equation, λ o. absurd (Rattle.std.proofs.Common.true≢false (sym o ∙ d.plain.ordinary)));
-          })
-          (subst (λ C. Held M n C d.substitution proof.nil d.substitution) (sym d.plain.unconditional) (held_none M n d.substitution))
+  -- what an equation or a row leads to is a next step
+  next_step : (v : RawTerm) → Becomes M n u v → NextStep M (judgements M n) (limits_within most side) p u v
+  next_step v (by_equation C w number e s part there plain sol) =
+      by_statement C e s s proof.nil
+      (record {
+          part = w;
+          is_part = part;
+          number = number;
+          is_there = there;
+          solution = sol;
+          may = inl (plain.equation, λ o. absurd (Rattle.std.proofs.Common.true≢false (sym o ∙ plain.ordinary)));
+        })
+      (subst (λ C. Held M n C s proof.nil s) (sym plain.unconditional) (held_none M n s))
+  next_step v (by_schema C w x part row) = by_row C w x part (row_within (λ y h. normal_at M n y (normal M (admitted_judgements M n).Fails (Fails M n) (admitted_within M n).Fails y h)) row)
 
-      by_rank : (n : ℕ) → Proves M n p t0 u → NextStep M (judgements M n) (limits_within most side) p u (plug d.context (instance d.substitution d.statement.right)) → Stops M n (limits_within most side) t0 p u by_depth
+  stops_by_depth : Proves M n p t0 u → steps p < most → WouldBeTooDeep M n u → Stops M n (limits_within most side) t0 p u by_depth
+  unfolding Stops
+  stops_by_depth h l d = by_rank n h (next_step d.next d.becomes)
+    where
+      by_rank : (n : ℕ) → Proves M n p t0 u → NextStep M (judgements M n) (limits_within most side) p u d.next → Stops M n (limits_within most side) t0 p u by_depth
       by_rank zero q x = StopsBy.depth _ (q, l) x d.deep
       by_rank (suc n) q x = StopsBy.depth _ (q, l) x d.deep
+
+  stops_by_large : Proves M n p t0 u → steps p < most → WouldBeTooLarge M n u → Stops M n (limits_within most side) t0 p u by_nat
+  unfolding Stops
+  stops_by_large h l d = by_rank n h (next_step d.next d.becomes)
+    where
+      by_rank : (n : ℕ) → Proves M n p t0 u → NextStep M (judgements M n) (limits_within most side) p u d.next → Stops M n (limits_within most side) t0 p u by_nat
+      by_rank zero q x = StopsBy.large _ (q, l) x d.large d.not_deep
+      by_rank (suc n) q x = StopsBy.large _ (q, l) x d.large d.not_deep
+
+  stops_by_pair : Proves M n p t0 u → steps p < most → HasBigPair M u → Stops M n (limits_within most side) t0 p u by_nat
+  unfolding Stops
+  stops_by_pair h l d = by_rank n h
+    where
+      by_rank : (n : ℕ) → Proves M n p t0 u → Stops M n (limits_within most side) t0 p u by_nat
+      by_rank zero q = StopsBy.big_pair d.context d.pair (q, l) d.is_part d.too_big
+      by_rank (suc n) q = StopsBy.big_pair d.context d.pair (q, l) d.is_part d.too_big
 
 -- the run that begins at t
 abbrev pub run_of : Module → ℕ → RawTerm → Run
@@ -86,7 +106,7 @@ module _ (M : Module) (w : IsWorkable M) (n : ℕ) (low : n ≤ 63) (t : RawTerm
   starts = begun_stands M w.signature.accepted n t (subst (IsCanonical M.signature) a.canonical (canonical M.signature w.signature.accepted (nested M.signature t))) a.raw a.admitted
 
   pub is_run : IsRun (run_of M n t) M.signature
-  is_run = record { signature = refl; accepted = w.signature.accepted; sorted = w.signature.well_sorted; bare = w.bare; start = (starts, tt) }
+  is_run = record { signature = refl; accepted = w.signature.accepted; sorted = w.signature.well_sorted; well = workable_well_formed M w; start = (starts, tt) }
 
   pub begins_in_hand : InHand (run_of M n t) 0 nothing (Walk t)
   begins_in_hand = record {
@@ -135,36 +155,44 @@ module _ (M : Module) (w : IsWorkable M) (n : ℕ) (low : n ≤ 63) (t : RawTerm
       ends = subst (λ p. IsOutcome M n most side (nested M.signature t) p (nested M.signature u) o) (sym its_proof) (ends (concluded e.stand) proves_it counted);
     }
 
-  abbrev pub IsIts : Track → Data → End → ℕ → Type 0
-  IsIts k d e side = (most : ℕ) → IsDriven (run_of M n t) most d e → IsKept M n t e.term k × IsReductionOf M t (record { steps = most; side = side; nest = n }) (deduced M n t e.term k) e.outcome
-
   whole_of : (count : ℕ) (d : Data) (u : RawTerm) → IsEnd (run_of M n t) count d u → IsWhole (run_of M n t) count d u
   whole_of count d u e = record { stand = e.stand; leads = e.leads; closed = e.closed; hand = e.hand }
 
-  pub driven_reduced : (k : Track) (d : Data) (e : End) (side : ℕ) → d.moves ≡ moves M k → IsIts k d e side
-  driven_reduced k d e side is most (count, h) = by_outcome e.outcome refl
-    where
-      Its : Outcome → Type 0
-      Its o = IsKept M n t e.term k × IsReductionOf M t (record { steps = most; side = side; nest = n }) (deduced M n t e.term k) o
+  module _ (k : Track) (d : Data) (e : End) (side : ℕ) (is : d.moves ≡ moves M k) (most : ℕ) where
+    abbrev pub Its : Outcome → Type 0
+    Its o = IsKept M n t e.term k × IsReductionOf M t (record { steps = most; side = side; nest = n }) (deduced M n t e.term k) o
 
-      by_outcome : (o : Outcome) → e.outcome ≡ o → Its o
-      by_outcome Done q =
-          let (l, z) = subst (EndsBy (run_of M n t) most count d e.term) q h in
-          let f = whole_of count d e.term z in
-          let m = normal_at M n (nested M.signature e.term) (normal M (admitted_judgements M n).Fails (Fails M n) (admitted_within M n).Fails (nested M.signature e.term) z.normal.normal) in
-          (whole_kept k count d e.term is f, whole_reduced k count d e.term is f most side Done (λ p r s. (subst (λ c. c < most) (sym s) l, m)))
-      by_outcome (Stopped reason.Rewrites) q =
-          let (l, z) = subst (EndsBy (run_of M n t) most count d e.term) q h in
-          (whole_kept k count d e.term is z, whole_reduced k count d e.term is z most side (Stopped reason.Rewrites) (λ p r s. stops_by_rewrites M n (nested M.signature t) p (nested M.signature e.term) most side r (s ∙ l)))
-      by_outcome (Stopped reason.Depth) q =
-          let (l, z, x) = subst (EndsBy (run_of M n t) most count d e.term) q h in (
-            whole_kept k count d e.term is z,
-            whole_reduced k count d e.term is z most side (Stopped reason.Depth) (λ p r s. stops_by_depth M n (nested M.signature t) p (nested M.signature e.term) most side r (subst (λ c. c < most) (sym s) l) x),
-          )
-      by_outcome (Stopped reason.Rules) q = absurd (subst (EndsBy (run_of M n t) most count d e.term) q h)
-      by_outcome (Stopped reason.Nat) q = absurd (subst (EndsBy (run_of M n t) most count d e.term) q h)
-      by_outcome (Stopped reason.Nest) q = absurd (subst (EndsBy (run_of M n t) most count d e.term) q h)
-      by_outcome (Stopped reason.Condition) q = absurd (subst (EndsBy (run_of M n t) most count d e.term) q h)
+    -- below the limit
+    ended : (count : ℕ) → count < most → (o : Outcome) → EndsAt (run_of M n t) count d e.term o → Its o
+    ended count l Done z =
+        let f = whole_of count d e.term z in
+        let m = normal_at M n (nested M.signature e.term) (normal M (admitted_judgements M n).Fails (Fails M n) (admitted_within M n).Fails (nested M.signature e.term) z.normal.normal) in
+        (whole_kept k count d e.term is f, whole_reduced k count d e.term is f most side Done (λ p r s. (subst (λ c. c < most) (sym s) l, m)))
+    ended count l (Stopped reason.Depth) z = (
+      whole_kept k count d e.term is z.0,
+      whole_reduced k count d e.term is z.0 most side (Stopped reason.Depth) (λ p r s. stops_by_depth M n (nested M.signature t) p (nested M.signature e.term) most side r (subst (λ c. c < most) (sym s) l) z.1),
+    )
+    ended count l (Stopped reason.Nat) z = (
+      whole_kept k count d e.term is z.0,
+      whole_reduced k count d e.term is z.0 most side (Stopped reason.Nat) (λ p r s. large p r (subst (λ c. c < most) (sym s) l) z.1),
+    )
+      where
+        large : (p : Proof) → Proves M n p (nested M.signature t) (nested M.signature e.term) → steps p < most → WouldBeTooLarge M n (nested M.signature e.term) ⊎ HasBigPair M (nested M.signature e.term)
+            → Stops M n (limits_within most side) (nested M.signature t) p (nested M.signature e.term) by_nat
+        large p r l (inl x) = stops_by_large M n (nested M.signature t) p (nested M.signature e.term) most side r l x
+        large p r l (inr x) = stops_by_pair M n (nested M.signature t) p (nested M.signature e.term) most side r l x
+    ended count l (Stopped reason.Rewrites) z = absurd z
+    ended count l (Stopped reason.Rules) z = absurd z
+    ended count l (Stopped reason.Nest) z = absurd z
+    ended count l (Stopped reason.Condition) z = absurd z
+
+    pub driven_reduced : IsDriven (run_of M n t) most d e → Its e.outcome
+    driven_reduced (count, inl (l, z)) = ended count l e.outcome z
+    driven_reduced (count, inr (l, q, z)) =
+        subst Its (sym q) (
+          whole_kept k count d e.term is z,
+          whole_reduced k count d e.term is z most side (Stopped reason.Rewrites) (λ p r s. stops_by_rewrites M n (nested M.signature t) p (nested M.signature e.term) most side r (s ∙ l)),
+        )
 
 -- the deduction that a run leaves, from a machine where nothing is under way
 pub reduced_from : (M : Module) → IsWorkable M → (b : Budget) → b.nest ≤ 63 → (t : RawTerm) → IsAdmittedTerm M.signature t

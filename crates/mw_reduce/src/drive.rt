@@ -1,22 +1,22 @@
-// A run, from equation to equation.
+// A run, from step to step.
 ghost use Rattle.std.specs.Prelude.{◌≡◌, ◌<◌, ℕ, IfOk};
 ghost use Rattle.mw_logic.specs.Module.{Module};
 ghost use Rattle.mw_least.specs.Workable.{IsWorkable};
 ghost use Rattle.mw_index.specs.Index.{IsIndexOf};
 ghost use Rattle.mw_index.specs.declared.index.Index.{Index as IndexOf};
-ghost use Rattle.mw_frames.specs.State.{Run, IsRun, Holds};
+ghost use Rattle.mw_frames.specs.State.{Run, Data, IsRun, Holds};
 ghost use Rattle.mw_frames.specs.Machines.{data_of};
 ghost use Rattle.mw_frames.specs.Fires.{IsFired};
-ghost use Rattle.mw_reduce.specs.Turns.{IsFound};
-ghost use Rattle.mw_reduce.specs.Driven.{IsAppliedAs, IsPause, IsDriven};
+ghost use Rattle.mw_reduce.specs.Turns.{IsFound, IsMetAt, IsBigAt};
+ghost use Rattle.mw_reduce.specs.Driven.{IsAppliedAs, IsPause, EndsAt, IsNext, IsDriven};
 
 use crate::turning::{Turn, take_turn};
 use mw_canon::Facts;
-use mw_frames::{Applied, Asked, Fired, Hand, Machine, fire, stop};
+use mw_frames::{Applied, Asked, Fired, Hand, Machine, fire, halt, meet, stop};
 use mw_index::{Choice, Choices, Equation, Index, Left};
 use mw_least::Ctx;
 use mw_proof::Reason;
-use mw_term::Term;
+use mw_term::{Seq, Term};
 use std::alloc::{AllocError, Global};
 
 /// How a run ends.
@@ -34,14 +34,23 @@ pub struct End {
     pub outcome: Outcome,
 }
 
-/// What turns come to: the whole is normal, or an equation has a solution.
+/// What turns come to: the whole is normal, an equation has a solution, a row is met, or a sum or product is too big.
 #[derive(Drop)]
 pub enum Pause<'m> {
     Ended(Term),
     Found(Asked, Choice<'m>),
+    Met(Asked, Option<Seq<u32>>, Term),
+    Big(Asked, Option<Seq<u32>>),
 }
 
-/// Turns until the whole is normal, or an equation has a solution.
+/// What comes of a pause.
+#[derive(Drop)]
+pub enum Next<'m> {
+    Goes(Hand<'m>),
+    Ends(End),
+}
+
+/// Turns until the whole is normal, or an equation or a row applies.
 #[inline(always)]
 fn advance<'m>(
     alloc: Global,
@@ -66,6 +75,12 @@ fn advance<'m>(
             }
             Turn::Found(asked, choice) => {
                 return Ok(Pause::Found(asked, choice));
+            }
+            Turn::Met(asked, take, to) => {
+                return Ok(Pause::Met(asked, take, to));
+            }
+            Turn::Big(asked, take) => {
+                return Ok(Pause::Big(asked, take));
             }
         }
     }
@@ -109,7 +124,93 @@ fn apply<'m>(
     Ok(fired)
 }
 
-/// From equation to equation, at most so many times.
+/// The row is met.
+#[inline(never)]
+fn meet_row<'m>(
+    alloc: Global,
+    facts: &Facts,
+    machine: &mut Machine<'m>,
+    asked: Asked,
+    to: Term,
+    take: &Option<Seq<u32>>,
+) -> Result<Fired<'m>, AllocError>
+    ensures { (K : Run) (k : ℕ) → IsRun K facts.now → IsMetAt K k (data_of K.over machine.old) asked take.now to
+        → IfOk result (IsFired K k (data_of K.over machine.new)) }
+{
+    let fired = meet(alloc, facts, machine, asked, to, take)?;
+    Ok(fired)
+}
+
+/// A sum or product is too big.
+#[inline(never)]
+fn halt_there(
+    alloc: Global,
+    facts: &Facts,
+    machine: &mut Machine<'_>,
+    asked: Asked,
+    take: &Option<Seq<u32>>,
+) -> Result<End, AllocError>
+    ensures { (K : Run) (k : ℕ) → IsRun K facts.now → IsBigAt K k (data_of K.over machine.old) asked take.now
+        → IfOk result (λ e. EndsAt K k (data_of K.over machine.new) e.term e.outcome) }
+{
+    let term = halt(alloc, facts, machine, asked, take)?;
+    Ok(End {
+        term,
+        outcome: Outcome::Stopped(Reason::Nat),
+    })
+}
+
+/// What comes of what was applied.
+#[inline(always)]
+fn after<'m>(fired: Fired<'m>) -> Next<'m>
+    ensures { (K : Run) (k : ℕ) (d : Data) → IsFired K k d fired.entry → IsNext K k d result }
+{
+    match fired {
+        Fired::Goes(hand) => Next::Goes(hand),
+        Fired::TooDeep(term) => Next::Ends(End {
+            term,
+            outcome: Outcome::Stopped(Reason::Depth),
+        }),
+        Fired::TooLarge(term) => Next::Ends(End {
+            term,
+            outcome: Outcome::Stopped(Reason::Nat),
+        }),
+    }
+}
+
+/// What comes of a pause: an equation is applied, a row is met, or it ends.
+#[inline(always)]
+fn go_on<'m>(
+    alloc: Global,
+    facts: &Facts,
+    machine: &mut Machine<'m>,
+    choices: &mut Choices<'m>,
+    pause: Pause<'m>,
+) -> Result<Next<'m>, AllocError>
+    ensures { (K : Run) (k : ℕ) → IsRun K facts.now → IsWorkable K.over → (m : IndexOf) → IsPause K k m (data_of K.over machine.old) choices.old pause.entry
+        → IfOk result (IsNext K k (data_of K.over machine.new)) }
+{
+    match pause {
+        Pause::Ended(term) => Ok(Next::Ends(End {
+            term,
+            outcome: Outcome::Done,
+        })),
+        Pause::Found(asked, choice) => {
+            let fired = apply(alloc, facts, machine, choices, asked, choice)?;
+            Ok(after(fired))
+        }
+        Pause::Met(asked, take, to) => {
+            let fired = meet_row(alloc, facts, machine, asked, to, &take)?;
+            Ok(after(fired))
+        }
+        Pause::Big(asked, take) => {
+            let end = halt_there(alloc, facts, machine, asked, &take)?;
+            Ok(Next::Ends(end))
+        }
+    }
+}
+
+/// From step to step, at most so many times.
 pub fn drive<'m>(
     alloc: Global,
     context: &'m Ctx,
@@ -126,25 +227,13 @@ pub fn drive<'m>(
     context.shows();
     let mut hand = hand;
     for _ in 0..limit {
-        match advance(alloc, context, index, machine, choices, hand)? {
-            Pause::Ended(term) => {
-                return Ok(End {
-                    term,
-                    outcome: Outcome::Done,
-                });
+        let pause = advance(alloc, context, index, machine, choices, hand)?;
+        match go_on(alloc, context.facts(), machine, choices, pause)? {
+            Next::Goes(next) => {
+                hand = next;
             }
-            Pause::Found(asked, choice) => {
-                match apply(alloc, context.facts(), machine, choices, asked, choice)? {
-                    Fired::Goes(next) => {
-                        hand = next;
-                    }
-                    Fired::TooDeep(term) => {
-                        return Ok(End {
-                            term,
-                            outcome: Outcome::Stopped(Reason::Depth),
-                        });
-                    }
-                }
+            Next::Ends(end) => {
+                return Ok(end);
             }
         }
     }

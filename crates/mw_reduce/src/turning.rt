@@ -1,6 +1,8 @@
 // The machine's steps until an equation applies.
 ghost use Rattle.std.specs.Prelude.{◌≡◌, ◌<◌, ℕ, IfOk};
 ghost use Rattle.mw_logic.specs.Module.{Module};
+ghost use Rattle.mw_logic.specs.Judgements.{IsNormalBy, admitted_judgements};
+ghost use Rattle.mw_builtin.specs.Steps.{HasNoRow, IsStepOf};
 ghost use Rattle.mw_index.specs.Index.{IsIndexOf};
 ghost use Rattle.mw_index.specs.Choices.{subject_of};
 ghost use Rattle.mw_frames.specs.State.{Run, IsRun, Holds, work_of};
@@ -10,10 +12,11 @@ ghost use Rattle.mw_frames.specs.declared.job.Job.TheVariants.{Normal as NormalO
 ghost use Rattle.mw_frames.specs.declared.job.Hand.TheVariants.{One as OneOf};
 ghost use Rattle.mw_reduce.specs.Turns.{IsTurn, TurnFalls};
 
+use mw_builtin::Met;
 use mw_frames::{Asked, Hand, Machine, Step, rest, step};
 use mw_index::{Choice, Choices, Index, Subject};
 use mw_least::Ctx;
-use mw_term::{Term, behind};
+use mw_term::{Seq, Term, View, behind};
 use std::alloc::{AllocError, Global};
 
 /// What comes of one turn.
@@ -25,6 +28,10 @@ pub enum Turn<'m> {
     Ended(Term),
     /// An equation has a solution for what was asked for, or for several of its arguments. Its condition isn't looked at.
     Found(Asked, Choice<'m>),
+    /// A row of the schemata is met at what was asked for, or at several of its arguments, and this comes of it.
+    Met(Asked, Option<Seq<u32>>, Term),
+    /// What was asked for, or several of its arguments, are a sum or product that is too big.
+    Big(Asked, Option<Seq<u32>>),
 }
 
 #[inline(always)]
@@ -37,7 +44,65 @@ fn subject_at<'t>(machine: &'t Machine<'_>, asked: &'t Asked) -> Subject<'t>
     }
 }
 
-/// The first equation that has a solution for what is asked for; or it is normal.
+/// What a row of the schemata does at what is asked for.
+#[inline(always)]
+fn met_at(
+    alloc: Global,
+    context: &Ctx,
+    machine: &Machine<'_>,
+    asked: &Asked,
+) -> Result<Met, AllocError>
+    ensures { (K : Run) (k : ℕ) → IsRun K context.now.signature → K.over ≡ context.now → IsAskedFor K k (data_of K.over machine.now) asked.now
+        → IfOk result (IsStepOf K.over.signature (IsNormalBy K.over (admitted_judgements K.over K.rank).Fails) (asked_term (data_of K.over machine.now) asked.now)) }
+{
+    context.shows();
+    match asked {
+        Asked::Own(frame) => {
+            let args = behind(machine.done.as_slice(), frame.from);
+            let met = context
+                .schemata()
+                .step(alloc, context.facts(), frame.op, args)?;
+            Ok(met)
+        }
+        Asked::Term(term) => match term.view() {
+            View::Op(operator, args) => {
+                let met = context
+                    .schemata()
+                    .step(alloc, context.facts(), operator, args)?;
+                Ok(met)
+            }
+            _ => Ok(Met::Nothing),
+        },
+    }
+}
+
+/// The first equation that has a solution for what is asked for, at which no row is met; or it is normal.
+#[inline(always)]
+fn choose<'m>(
+    alloc: Global,
+    context: &'m Ctx,
+    index: &'m Index,
+    machine: &mut Machine<'m>,
+    choices: &mut Choices<'m>,
+    asked: Asked,
+) -> Result<Turn<'m>, AllocError>
+    requires { IsIndexOf context.now index.now }
+    ensures means { (K : Run) (k : ℕ) → IsRun K context.now.signature → K.over ≡ context.now → IsAskedFor K k (data_of K.over machine.old) asked
+        → HasNoRow K.over.signature (asked_term (data_of K.over machine.old) asked) → IfOk result (IsTurn K k index.now (data_of K.over machine.new) choices.new) }
+    ensures falls { (M : Module) (w : ℕ) → FallsTo M w machine.old (OneOf (NormalOf (asked_term (data_of M machine.old) asked))) → IfOk result (TurnFalls M w machine.new) }
+{
+    choices.again();
+    let subject = subject_at(machine, &asked);
+    match choices.next(alloc, context, index, subject)? {
+        Some(choice) => Ok(Turn::Found(asked, choice)),
+        None => {
+            let hand = rest(alloc, context.facts(), machine, asked)?;
+            Ok(Turn::Goes(hand))
+        }
+    }
+}
+
+/// A row that is met at what is asked for, or else the first equation that has a solution for it; or it is normal.
 #[inline(always)]
 fn ask<'m>(
     alloc: Global,
@@ -52,18 +117,17 @@ fn ask<'m>(
         → IfOk result (IsTurn K k index.now (data_of K.over machine.new) choices.new) }
     ensures falls { (M : Module) (w : ℕ) → FallsTo M w machine.old (OneOf (NormalOf (asked_term (data_of M machine.old) asked))) → IfOk result (TurnFalls M w machine.new) }
 {
-    choices.again();
-    let subject = subject_at(machine, &asked);
-    match choices.next(alloc, context, index, subject)? {
-        Some(choice) => Ok(Turn::Found(asked, choice)),
-        None => {
-            let hand = rest(alloc, context.facts(), machine, asked)?;
-            Ok(Turn::Goes(hand))
+    match met_at(alloc, context, machine, &asked)? {
+        Met::Gives { take, to } => Ok(Turn::Met(asked, take, to)),
+        Met::TooBig { take } => Ok(Turn::Big(asked, take)),
+        Met::Nothing => {
+            let turn = choose(alloc, context, index, machine, choices, asked)?;
+            Ok(turn)
         }
     }
 }
 
-/// One step, and equations where they are asked for.
+/// One step, and rows and equations where they are asked for.
 #[inline(always)]
 pub fn take_turn<'m>(
     alloc: Global,

@@ -5,7 +5,7 @@ use Rattle.mw_module.specs.declared.units.Lined.{Lined}
 use Rattle.mw_module.proofs.Causes.{passed_on}
 use Rattle.mw_import.specs.Flat.{IsFlat, ImportFault}
 use Rattle.mw_declare.specs.Faults.{typing_of}
-use Rattle.mw_declare.specs.Declarations.{DeclarationFault}
+use Rattle.mw_declare.specs.Declarations.{Declares, DeclarationFault}
 use Rattle.mw_build.specs.Sides.{equations_of}
 use Rattle.mw_build.specs.Imported.{ArePartsOf, origins_of}
 use Rattle.mw_build.specs.Modules.{IsFlattened, IsRefused, StatementsFault, by_imports, by_declarations, by_statements, flattened, reached_of}
@@ -31,7 +31,8 @@ returns-in_err-declarations-clause-fault c =
       flat = subst (λ (ts : List Lined). IsFlat us (map seen_lined ts) c.in_ok-flat.flat) c.as_slice-3.ensures.value c.in_ok-flat.ensures.flat;
     } in
     passed_on (DeclarationFault (reached_of us c.as_slice-4.result.now c.in_ok-flat.flat) u.line (flattened us u c.in_ok-flat.flat)) (IsRefused us c.args.modules.now u c.args.name)
-    (λ f h. by_declarations c.in_ok-typing.typing c.in_ok-flat.flat flat h)
+    (λ f h. by_declarations c.in_ok-typing.typing c.in_ok-flat.flat flat
+    (subst (λ (n : List ℕ). DeclarationFault (reached_of us n c.in_ok-flat.flat) u.line (flattened us u c.in_ok-flat.flat) f) c.as_slice-4.ensures h))
     c.from_residual-in_err-declarations.result c.in_err-declarations.field-0.0 c.from_residual-in_err-declarations.ensures.1 c.in_err-declarations.ensures.fault
 
 pub declared_module-requires-clause-declared : goal.declared_module-requires-clause-declared
@@ -56,8 +57,8 @@ declared_module-requires-clause-parts c =
     let u = seen_unit c.args.unit.now in
     let flat = subst (λ (ts : List Lined). IsFlat us (map seen_lined ts) c.in_ok-flat.flat) c.as_slice-3.ensures.value c.in_ok-flat.ensures.flat in
     let d = c.in_ok-declarations.declarations.value in
-    subst (λ (ks : List ℕ). ArePartsOf c.args.modules.now ks d.signature) (sym c.as_slice-4.ensures)
-    (loaded_parts us c.args.modules.now c.shows.ensures c.requires.loaded u.statements c.in_ok-flat.flat u.line c.in_ok-typing.typing d flat c.in_ok-declarations.ensures.declared)
+    subst (λ (ks : List ℕ). ArePartsOf c.args.modules.now ks d.signature) (sym c.as_slice-5.ensures)
+    (loaded_parts us c.args.modules.now c.shows.ensures c.requires.loaded u.statements c.in_ok-flat.flat c.as_slice-4.result.now u.line c.in_ok-typing.typing d flat c.in_ok-declarations.ensures.declared)
 
 pub returns-in_err-module-clause-fault : goal.returns-in_err-module-clause-fault
 returns-in_err-module-clause-fault c =
@@ -69,7 +70,8 @@ returns-in_err-module-clause-fault c =
       typed = subst (λ (ts : List Lined). typing_of (map seen_lined ts) ≡ Ok c.in_ok-typing.typing) c.as_slice.ensures.value c.in_ok-typing.ensures.typed;
       flat = subst (λ (ts : List Lined). IsFlat us (map seen_lined ts) c.in_ok-flat.flat) c.as_slice-3.ensures.value c.in_ok-flat.ensures.flat;
     } in
-    passed_on (StatementsFault u.line d (origins_of ms c.as_slice-4.result.now) (equations_of u.statements)) (IsRefused us ms u c.args.name)
-    (λ f h. by_statements c.in_ok-typing.typing c.in_ok-flat.flat d flat c.in_ok-declarations.ensures.declared
-    (subst (λ (ks : List ℕ). StatementsFault u.line d (origins_of ms ks) (equations_of u.statements) f) c.as_slice-4.ensures h))
+    passed_on (StatementsFault u.line d (origins_of ms c.as_slice-5.result.now) (equations_of u.statements)) (IsRefused us ms u c.args.name)
+    (λ f h. by_statements c.in_ok-typing.typing c.in_ok-flat.flat d flat
+    (subst (λ (n : List ℕ). Declares (reached_of us n c.in_ok-flat.flat) c.in_ok-typing.typing (flattened us u c.in_ok-flat.flat) d) c.as_slice-4.ensures c.in_ok-declarations.ensures.declared)
+    (subst (λ (ks : List ℕ). StatementsFault u.line d (origins_of ms ks) (equations_of u.statements) f) c.as_slice-5.ensures h))
     c.from_residual-in_err-module.result c.in_err-module.field-0.0 c.from_residual-in_err-module.ensures.1 c.in_err-module.ensures.fault

@@ -1,15 +1,14 @@
-use Rattle.std.proofs.Common.{rules, ◌≡◌, ◌≤◌, ◌+◌, ◌∙◌, ℕ, sym, take, drop}
-use Rattle.mw_logic.specs.Term.{RawTerms, apply}
+use Rattle.std.specs.Prelude.{None}
+use Rattle.std.proofs.Common.{rules, ◌≡◌, ◌∙◌, ℕ, sym, subst, take, drop}
+use Rattle.mw_logic.specs.Term.{RawTerm, RawTerms, apply}
 use Rattle.mw_logic.specs.Terms.{terms_of}
-use Rattle.mw_logic.specs.NormalForm.{applied_in, height}
-use Rattle.mw_matching.specs.Matches.{evaluated}
+use Rattle.mw_logic.specs.NormalForm.{applied_in}
 use Rattle.mw_pattern.specs.Clean.{clean}
 use Rattle.mw_stack.specs.Own.{own}
 use Rattle.mw_trail.specs.Tracks.{moves}
 use Rattle.mw_frames.specs.Machines.{data_of}
-use Rattle.mw_frames.specs.Redex.{MayFire, hole_level}
+use Rattle.mw_frames.specs.Redex.{MayFire}
 use Rattle.mw_frames.specs.State.{Data}
-use Rattle.mw_frames.specs.Steps.{IsAsked}
 use Rattle.mw_frames.specs.Fires.{IsApplied}
 use Rattle.mw_frames.proofs.Asking.{complete_asked, plain_applied}
 use Rattle.mw_frames.proofs.Turning.{own_fair}
@@ -25,16 +24,17 @@ returns-then-branch c = λ K k w run h part is.
     let vs = c.args.values.now.items in
     let p = clean c.args.by.right.now in
     let d : Data = data_of K.over m in
-    let there : IsApplied K.over c.args.by c.as_slice.result.now w = rw c.as_slice.ensures.value is in
-    let (none, low) = c.in_ok-may_fire_own.ensures K w run there (search rules) in
-    let e : w ≡ apply f.op (terms_of (drop f.from m.done.items)) = rw none at part in
+    let t : RawTerm = apply f.op (terms_of (drop f.from m.done.items)) in
     let a = complete_asked K c.args.facts.now run k d f h in
     let inside : Data = record { frames = d.frames; done = take f.from m.done.items; jobs = d.jobs; values = d.values; moves = d.moves } in
-    let a' : IsAsked K k inside w = rw e a in
-    let low' : hole_level K.over.signature inside.frames (evaluated K.over.signature vs p) + height (evaluated K.over.signature vs p) ≤ 1000 = rw run.signature (rw c.as_slice.ensures.value at low) in
-    let may : MayFire K k inside c.args.by.number vs p w = record { in_hand = a'.holds; seen = a'.seen; redex = is.redex; low = low' } in
-    let z : c.truncate.new.self.items ≡ take f.from m.done.items = search rules in
-    c.in_ok-hand.ensures K k w run (rw z may) is (λ g ts q. same_operator (sym e ∙ q)) (λ q. absurd (q f.op _ e))
+    let there : c.args.take.now ≡ None → IsApplied K.over c.args.by c.as_slice.result.now t = λ none. rw c.as_slice.ensures.value (let e : w ≡ t = rw none at part in subst (IsApplied K.over c.args.by vs) e is) in
+    let (none, fits) = c.in_ok-fits_own.ensures K k t run a.holds there (search rules) in
+    let z = rw c.as_slice.ensures.value at fits in
+    let e : w ≡ t = rw none at part in
+    let may : MayFire K k inside c.args.by.number vs p w =
+    rw e (let r : IsApplied K.over c.args.by vs t = subst (IsApplied K.over c.args.by vs) e is in record { redex = r.redex; stands = record { in_hand = a.holds; seen = a.seen; low = z.0; small = z.1 } }) in
+    let y : c.truncate.new.self.items ≡ take f.from m.done.items = search rules in
+    c.in_ok-hand.ensures K k w run (rw y may) is (λ g ts q. same_operator (sym e ∙ q)) (λ q. absurd (q f.op _ e))
 
 pub returns : goal.returns
 returns c = λ K k w run h part is.

@@ -1,37 +1,36 @@
-use Rattle.std.proofs.Common.{◌≡◌, ◌++◌, List, suc, length, reverse, ap, sym, subst}
+use Rattle.std.proofs.Common.{◌≡◌, ◌++◌, ◌∙◌, List, suc, length, reverse, ap, sym, subst}
 use Rattle.mw_logic.specs.Term.{RawTerm}
 use Rattle.mw_matching.specs.Matches.{evaluated}
 use Rattle.mw_pattern.specs.Clean.{clean}
 use Rattle.mw_stack.specs.Own.{spread}
-use Rattle.mw_solving.specs.Inside.{IsProperPart}
+use Rattle.mw_trail.specs.Tracks.{moves}
 use Rattle.mw_frames.specs.Machines.{data_of}
 use Rattle.mw_frames.specs.Jobs.{instance_of}
 use Rattle.mw_frames.specs.State.{IsKnownIn}
 use Rattle.mw_frames.specs.Arrivals.{Comes}
+use Rattle.mw_frames.specs.Redex.{HasInHand, HasOnTop}
 use Rattle.mw_frames.specs.Taking.{Receives}
-use Rattle.mw_frames.proofs.Applications.{instance_behind, several_settled}
-use Rattle.mw_frames.proofs.FiringPart.{right_known_part}
-use Rattle.mw_trail.specs.Tracks.{moves}
+use Rattle.mw_frames.proofs.Applications.{instance_behind, several_settled, part_known}
 use Rattle.mw_frames.proofs.applying.go_several.Goals as goal
 
 pub returns : goal.returns
-returns c = λ K k w run h new on part is low.
+returns c = λ K k w run part may is.
     let m = c.args.machine.now in
     let vs = c.args.values.now.items in
     let p = clean c.args.by.right.now in
     let us : List RawTerm = m.kept.values in
-    let old = c.apply_several.new.machine in
+    let applied = c.apply_whole.new.machine in
+    let old = c.leave_hole.new.machine in
     let after = c.wait_parts.new.machine in
     let f = c.args.frame in
     let sig = K.over.signature in
     let v : RawTerm = evaluated sig vs p in
-    let part' : IsProperPart sig c.args.numbers.now c.args.term.now w = rw run.signature part in
-    let takes = part'.takes in
-    let e : f.op ≡ takes.operator = sym (on takes.operator takes.args takes.term) in
-    let r : Receives K (suc k) (data_of K.over old) f v = c.in_ok-apply_several.ensures.means K k p w run h new takes e part'.proper is.redex (rw run.signature low) in
-    let kept : old.kept.values ≡ us ++ vs = c.in_ok-apply_several.ensures.values in
+    let h : HasInHand K (suc k) (data_of K.over applied) v = c.in_ok-apply_whole.ensures.means K k c.args.facts.now p w run may in
+    let inner = ap reverse c.in_ok-apply_whole.ensures.frames ∙ part.inner in
+    let r : Receives K (suc k) (data_of K.over old) f v = c.in_ok-leave_hole.ensures.means K (suc k) c.args.facts.now f part.outer v run inner part.assoc h in
+    let kept : old.kept.values ≡ us ++ vs = c.in_ok-leave_hole.ensures.values ∙ c.in_ok-apply_whole.ensures.values in
     let base : length c.values-base.result.now ≡ length us = ap (λ zs. length zs) c.values-base.ensures in
-    let known : IsKnownIn K.over K.rank (us ++ vs) (length us) f.op p = right_known_part K c.args.facts.now run k (data_of K.over m) f c.args.term.now w c.args.numbers.now c.args.by.number vs p h new takes e part'.proper is.redex in
+    let known : IsKnownIn K.over K.rank (us ++ vs) (length us) f.op p = part_known K c.args.facts.now run k (data_of K.over m) f w part c.args.by vs is in
     let i : instance_of sig old.kept.values p (length c.values-base.result.now) ≡ v = instance_behind sig us vs old.kept.values p (length c.values-base.result.now) kept base in
     let comes : Comes sig old.kept.values f (spread sig f.op v) (λ M n. IsKnownIn M n old.kept.values (length c.values-base.result.now) f.op p) old.done.items after.done.items old.jobs.items after.jobs.items =
     subst (λ t. Comes sig old.kept.values f (spread sig f.op t) (λ M n. IsKnownIn M n old.kept.values (length c.values-base.result.now) f.op p) old.done.items after.done.items old.jobs.items after.jobs.items) i

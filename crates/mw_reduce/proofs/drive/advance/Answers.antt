@@ -12,3 +12,9 @@ returns-in-Ended c = λ K k run here h. rw c.in-Ended.is at (c.in_ok-next.ensure
 
 pub returns-in-Found : goal.returns-in-Found
 returns-in-Found c = λ K k run here h. rw c.in-Found.is at (c.in_ok-next.ensures.means K k run here (c.loop-next.invariant K k run here h))
+
+pub returns-in-Met : goal.returns-in-Met
+returns-in-Met c = λ K k run here h. rw c.in-Met.is at (c.in_ok-next.ensures.means K k run here (c.loop-next.invariant K k run here h))
+
+pub returns-in-Big : goal.returns-in-Big
+returns-in-Big c = λ K k run here h. rw c.in-Big.is at (c.in_ok-next.ensures.means K k run here (c.loop-next.invariant K k run here h))

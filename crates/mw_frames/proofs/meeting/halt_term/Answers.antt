@@ -1,0 +1,17 @@
+use Rattle.std.proofs.Common.{◌≡◌, subst}
+use Rattle.mw_frames.specs.Machines.{data_of}
+use Rattle.mw_frames.specs.Steps.{IsAsked}
+use Rattle.mw_frames.proofs.RowsMet.{big_there}
+use Rattle.mw_frames.proofs.meeting.halt_term.Goals as goal
+
+pub returns-in_ok-whole-in-None : goal.returns-in_ok-whole-in-None
+returns-in_ok-whole-in-None c = λ K k w form run a part raw clean is big.
+    let e : w ≡ c.args.term = rw c.in-None.is at part in
+    let h = a.holds in
+    let (z, q) = c.in_ok-whole-in-None.ensures K k run (record { stand = h.stand; leads = h.leads; opened = h.opened; hand = h.hand }) in
+    (z, big_there K c.args.facts.now run k (data_of K.over c.args.machine.now) c.args.term form c.in_ok-whole-in-None.whole h a.seen raw clean (rw e at is) big q)
+
+pub returns-in_ok-whole-in-Some : goal.returns-in_ok-whole-in-Some
+returns-in_ok-whole-in-Some c = λ K k w form run a part raw clean is big.
+    let t = rw c.in-Some.is at part in
+    c.in_ok-whole-in-Some.ensures K k w form run a (rw c.as_slice.ensures t) raw clean is big

@@ -1,0 +1,41 @@
+use Rattle.std.specs.Prelude.{None}
+use Rattle.std.proofs.Common.{rules, ◌≡◌, ◌∙◌, ℕ, sym, subst, take, drop}
+use Rattle.mw_logic.specs.Term.{RawTerm, RawTerms, apply}
+use Rattle.mw_logic.specs.Terms.{terms_of}
+use Rattle.mw_logic.specs.NormalForm.{applied_in}
+use Rattle.mw_stack.specs.Own.{own}
+use Rattle.mw_trail.specs.Tracks.{moves}
+use Rattle.mw_frames.specs.Machines.{data_of}
+use Rattle.mw_frames.specs.Redex.{IsRowOf, MayMeetRow}
+use Rattle.mw_frames.specs.State.{Data}
+use Rattle.mw_frames.proofs.Asking.{complete_asked, plain_applied}
+use Rattle.mw_frames.proofs.Turning.{own_fair}
+use Rattle.mw_frames.proofs.meeting.meet_own.Goals as goal
+
+pub returns-then-branch : goal.returns-then-branch
+returns-then-branch c = λ K k w run h part row.
+    let m = c.args.machine.now in
+    let f = c.args.top in
+    let d : Data = data_of K.over m in
+    let t : RawTerm = apply f.op (terms_of (drop f.from m.done.items)) in
+    let a = complete_asked K c.args.facts.now run k d f h in
+    let inside : Data = record { frames = d.frames; done = take f.from m.done.items; jobs = d.jobs; values = d.values; moves = d.moves } in
+    let there : c.args.take.now ≡ None → IsRowOf K.over K.rank t c.args.to = λ none. let e : w ≡ t = rw none at part in subst (λ u. IsRowOf K.over K.rank u c.args.to) e row in
+    let (none, z) = c.in_ok-row_fits_own.ensures K k t run a.holds there (search rules) in
+    let may : MayMeetRow K k inside t c.args.to = record { row = there none; stands = record { in_hand = a.holds; seen = a.seen; low = z.0; small = z.1 } } in
+    let y : c.truncate.new.self.items ≡ take f.from m.done.items = search rules in
+    let i = c.in_ok-meet_here.ensures.means K k c.args.facts.now t run (rw y may) in
+    i c.met_job.result (c.met_job.ensures.term K.over.signature _) (c.met_job.ensures.known K.over K.rank _ t (there none) run.well a.holds.job)
+
+pub returns : goal.returns
+returns c = λ K k w run h part row.
+    let m = c.args.machine.now in
+    let f = c.args.top in
+    let d : Data = data_of K.over m in
+    let o = own_fair K run.accepted run.sorted k m.kept.values (moves K.over m.kept) f _ m.done.items m.jobs.items h.settled h.all in
+    let e : c.in_ok-term.term ≡ applied_in K.over.signature f.op (own f.from m.done.items) =
+    rw run.signature (c.in_ok-term.ensures.is (rw⁻¹ run.signature o.0) (rw⁻¹ run.signature o.1) (rw⁻¹ run.signature o.2)) in
+    let p : c.in_ok-term.term ≡ apply f.op (terms_of (drop f.from m.done.items)) = rw (plain_applied K.over.signature f.op (own f.from m.done.items) h.plain) at e in
+    let z : c.close.new.done.items ≡ take f.from m.done.items = search rules in
+    let a = complete_asked K c.args.facts.now run k d f h in
+    c.in_ok-fired.ensures K k w run (rw (p, z) a) (rw p part) row
