@@ -32,7 +32,7 @@ pub plain_applied : (sig : Signature) (f : ℕ) (ts : RawTerms) → HasAxioms si
 plain_applied sig f ts h = rw (h.0, h.1, h.2) (uncounted f ts)
 
 -- an operator on some argument is seen everywhere
-branch_seen : (sig : Signature) (fs : List Frame) (f : ℕ) (t : RawTerm) (ts : RawTerms) → IsSeenIn sig fs (apply f (cons t ts))
+pub branch_seen : (sig : Signature) (fs : List Frame) (f : ℕ) (t : RawTerm) (ts : RawTerms) → IsSeenIn sig fs (apply f (cons t ts))
 branch_seen sig [] f t ts = tt
 branch_seen sig (g ∷ fs) f t ts = λ h. ⊎_elim (λ i. true≢false (sym i.1 ∙ is_identity-arguments (identity_of sig g.op) f t ts)) (λ n. not_numeral n.number n.is) h
   where

@@ -17,9 +17,6 @@ one_chosen i k ks t ts e = rw (ap (nat_eq i) (sym e) ∙ nat_eq-refl i) refl
 none_chosen : (i k : ℕ) (ks : List ℕ) (t : RawTerm) (ts : RawTerms) → i ≢ k → chosen i (k ∷ ks) (cons t ts) ≡ chosen (suc i) (k ∷ ks) ts
 none_chosen i k ks t ts n = rw (differ i k n) refl
 
-
-
-
 module _ (i next : ℕ) (ns : List ℕ) (ts : List RawTerm) (t : RawTerm) (within : i < length ts) (is : t ≡ get_or ts i t) (found z : RawTerms)
     (so_far : join found (chosen (i + 1) (drop next ns) (terms_of (drop i ts))) ≡ z) where
   here : terms_of (drop i ts) ≡ cons t (terms_of (drop (i + 1) ts))

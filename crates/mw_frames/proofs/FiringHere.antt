@@ -17,7 +17,7 @@ use Rattle.mw_deduction.specs.Standing.{Open, round, AreClear, IsSeen, At}
 use Rattle.mw_deduction.specs.Replay.{Move, applies, Stand, whole}
 use Rattle.mw_trail.specs.Tracks.{variables_of, is_rule}
 use Rattle.mw_frames.specs.declared.job.Job.{Job}
-use Rattle.mw_frames.specs.declared.job.Job.TheVariants.{Try}
+use Rattle.mw_frames.specs.declared.job.Job.TheVariants.{Walk, Try}
 use Rattle.mw_frames.specs.declared.job.Frame.{Frame}
 use Rattle.mw_frames.specs.Jobs.{term_of, AreOpened}
 use Rattle.mw_frames.specs.State.{Run, Data, Leads, IsRun, InHand, IsJob, IsKnownIn}
@@ -48,7 +48,7 @@ module _ (K : Run) (sig : Signature) (run : IsRun K sig) (count : ℕ) where
   at_term ms S w h e = subst (At M (admitted_judgements M K.rank).Held (admitted_judgements M K.rank).Fails (nested here S.from) S.read S.opens) e (at_hand K run.accepted run.sorted count ms S run.start h)
 
   -- What comes for a term that is in hand, and seen.
-  module _ (m : Data) (w : RawTerm) (h : InHand K count m (Try w)) where
+  module _ (m : Data) (w : RawTerm) (h : InHand K count m (Walk w)) where
     abbrev os : List Open
     os = h.stand.opens
 

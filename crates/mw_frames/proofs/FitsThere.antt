@@ -10,7 +10,7 @@ use Rattle.mw_matching.specs.Matches.{evaluated}
 use Rattle.mw_pattern.specs.Clean.{clean}
 use Rattle.mw_deduction.specs.Standing.{Open, AreClear}
 use Rattle.mw_frames.specs.declared.applying.Applied.{Applied}
-use Rattle.mw_frames.specs.declared.job.Job.TheVariants.{Try}
+use Rattle.mw_frames.specs.declared.job.Job.TheVariants.{Walk}
 use Rattle.mw_frames.specs.declared.limits.Fit.{Fit}
 use Rattle.mw_frames.specs.Free.{IsFree}
 use Rattle.mw_frames.specs.Jobs.{AreOpened}
@@ -28,7 +28,7 @@ FitsIn sig m by vs fit =
     (os : List Open) → AreClear sig os → AreSmall sig os → AreOpened sig m.values m.frames m.done m.jobs os → some_largest sig (terms_of vs) ≡ false
     → (IsTrue by.free → IsFree sig (clean by.right.now)) → by.levels ≡ min (height (fill [] (clean by.right.now))) (2 ^ 16 - 1) → IsFit sig m.frames os (evaluated sig vs (clean by.right.now)) fit
 
-module _ (K : Run) (sig : Signature) (run : IsRun K sig) (count : ℕ) (m : Data) (w : RawTerm) (h : InHand K count m (Try w)) where
+module _ (K : Run) (sig : Signature) (run : IsRun K sig) (count : ℕ) (m : Data) (w : RawTerm) (h : InHand K count m (Walk w)) where
   pub fits_there : (by : Applied) (vs : List RawTerm) → IsApplied K.over by vs w → (fit : Fit) → FitsIn sig m by vs fit → IsFit K.over.signature m.frames h.stand.opens (evaluated K.over.signature vs (clean by.right.now)) fit
   fits_there by vs is fit told =
       let (clear, small, own) = small_here K sig run count m w h in
@@ -40,7 +40,7 @@ abbrev pub RowFitsIn : Signature → Data → RawTerm → Fit → Type 0
 RowFitsIn sig m t fit =
     (os : List Open) → AreClear sig os → AreSmall sig os → AreOpened sig m.values m.frames m.done m.jobs os → false ≡ has_largest sig t → IsFit sig m.frames os t fit
 
-module _ (K : Run) (sig : Signature) (run : IsRun K sig) (count : ℕ) (m : Data) (w : RawTerm) (h : InHand K count m (Try w)) where
+module _ (K : Run) (sig : Signature) (run : IsRun K sig) (count : ℕ) (m : Data) (w : RawTerm) (h : InHand K count m (Walk w)) where
   pub row_fits_there : (t : RawTerm) → IsRowOf K.over K.rank w t → (fit : Fit) → RowFitsIn sig m t fit → IsFit K.over.signature m.frames h.stand.opens t fit
   row_fits_there t row fit told =
       let (clear, small, own) = small_here K sig run count m w h in

@@ -18,8 +18,9 @@ pub mod FiringPart
 pub mod Refusing
 pub mod RowsMet
 pub mod FitsThere
+pub mod Deciding
+pub mod Falling
 pub mod SmallValues
-
 pub mod ChosenOnes
 pub mod HoleFits
 pub mod Asking

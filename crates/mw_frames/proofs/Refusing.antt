@@ -21,7 +21,7 @@ use Rattle.mw_deduction.specs.Replay.{whole}
 use Rattle.mw_deduction.specs.Standing.{Open, context_at, round, AreClear, IsSeenBy, IsSeen}
 use Rattle.mw_deduction.proofs.Clear.{IsBranch, Stands, branch_stands, one_clean}
 use Rattle.mw_deduction.proofs.MoveStands.{whole_is}
-use Rattle.mw_frames.specs.declared.job.Job.TheVariants.{Try}
+use Rattle.mw_frames.specs.declared.job.Job.TheVariants.{Walk}
 use Rattle.mw_frames.specs.State.{Run, Data, IsRun, InHand}
 use Rattle.mw_frames.specs.Redex.{IsRedex, MayCome, IsSeenIn, hole_level}
 use Rattle.mw_frames.specs.Fires.{Becomes, by_equation, Refuses}
@@ -54,7 +54,7 @@ module _ (sig : Signature) (ok : IsAccepted sig) where
   form_clean [] x t c k e s = k
   form_clean (o ∷ os) x t c k e s = let (l, z) = one_clean sig ok o x c.0 (form_stands o x t k e s) in subst (IsClean sig) (sym (plug-append (context_at sig o) (round sig os) x)) (branch_clean os _ c.1 z l)
 
-module _ (K : Run) (sig : Signature) (run : IsRun K sig) (count : ℕ) (m : Data) (w : RawTerm) (h : InHand K count m (Try w)) (seen : IsSeenIn K.over.signature m.frames w) where
+module _ (K : Run) (sig : Signature) (run : IsRun K sig) (count : ℕ) (m : Data) (w : RawTerm) (h : InHand K count m (Walk w)) (seen : IsSeenIn K.over.signature m.frames w) where
   abbrev here : Signature
   here = K.over.signature
 
@@ -91,9 +91,9 @@ module _ (K : Run) (sig : Signature) (run : IsRun K sig) (count : ℕ) (m : Data
         let at = at_it K sig run count m w h in
         by_equation (round here os) (nested here w) number r.statement (meant here (zip r.statement.variables vs))
         (is_part_there (nested here w) t
-            (Rattle.mw_logic.proofs.Inside.raw_inside here run.accepted (round here os) (nested here w) at.raw)
-            (Rattle.mw_logic.proofs.CanonicalTerms.clean here run.accepted w at.canonical)
-            (Rattle.mw_logic.proofs.CanonicalTerms.fixed here run.accepted w at.canonical) q)
+        (Rattle.mw_logic.proofs.Inside.raw_inside here run.accepted (round here os) (nested here w) at.raw)
+        (Rattle.mw_logic.proofs.CanonicalTerms.clean here run.accepted w at.canonical)
+        (Rattle.mw_logic.proofs.CanonicalTerms.fixed here run.accepted w at.canonical) q)
         r.is_there r.plain r.solution
 
     pub equation_deep : 1000 < hole_level here m.frames (evaluated here vs right) + height (evaluated here vs right) → Refuses K true (nested here t)

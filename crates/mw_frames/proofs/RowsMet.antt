@@ -31,7 +31,7 @@ use Rattle.mw_deduction.proofs.Clear.{IsBranch}
 use Rattle.mw_deduction.proofs.Largest.{largest_applied}
 use Rattle.mw_deduction.proofs.Moves.{plays-append, moves-append}
 use Rattle.mw_deduction.proofs.ReadingLaws as reading
-use Rattle.mw_frames.specs.declared.job.Job.TheVariants.{Try}
+use Rattle.mw_frames.specs.declared.job.Job.TheVariants.{Walk}
 use Rattle.mw_frames.specs.State.{Run, Data, Leads, IsRun, InHand, IsNormalHere, HasNormalArguments}
 use Rattle.mw_frames.specs.Redex.{MayCome, IsRowOf, MayMeetRow, HasInHand, IsSeenIn, hole_level}
 use Rattle.mw_frames.specs.Fires.{Becomes, by_schema, Refuses, HasBigPair}
@@ -209,7 +209,7 @@ module _ (K : Run) (sig : Signature) (run : IsRun K sig) (count : ℕ) where
       so_in_hand K sig run (suc count) m n (t ∷ []) _ t (replaced_here K sig run count m w z.in_hand t (t ∷ []) _ f) ef ed ej ev em
 
   -- why the machine stops where it would come
-  module _ (m : Data) (w t u : RawTerm) (h : InHand K count m (Try w)) (seen : IsSeenIn here m.frames w) (r : IsRowOf K.over K.rank w t) (q : u ≡ whole here h.stand.opens h.stand.hand) where
+  module _ (m : Data) (w t u : RawTerm) (h : InHand K count m (Walk w)) (seen : IsSeenIn here m.frames w) (r : IsRowOf K.over K.rank w t) (q : u ≡ whole here h.stand.opens h.stand.hand) where
     becomes_met : Becomes K.over K.rank (nested here u) (plug (round here h.stand.opens) (nested here t))
     becomes_met = by_schema (round here h.stand.opens) r.form (nested here t) (is_part_there K sig run count m w h seen r.form u r.raw r.clean r.is q) r.row
 
@@ -225,7 +225,7 @@ module _ (K : Run) (sig : Signature) (run : IsRun K sig) (count : ℕ) where
         (ap (λ v. has_largest here (whole here h.stand.opens v)) (sym is_itself_here) ∙ z)
 
   -- a sum or product that is too big
-  pub big_there : (m : Data) (w form u : RawTerm) (h : InHand K count m (Try w)) → IsSeenIn here m.frames w → IsRawTerm here form → IsClean here form → normal_form here form ≡ w → IsTooBigPair here form
+  pub big_there : (m : Data) (w form u : RawTerm) (h : InHand K count m (Walk w)) → IsSeenIn here m.frames w → IsRawTerm here form → IsClean here form → normal_form here form ≡ w → IsTooBigPair here form
       → u ≡ whole here h.stand.opens h.stand.hand → HasBigPair K.over (nested here u)
   big_there m w form u h seen raw clean is big q = record {
     context = round here h.stand.opens;

@@ -9,6 +9,8 @@ pub mod Redex
 pub mod Larger
 -- Terms in which no operator has an axiom.
 pub mod Free
+-- A choice as a term.
+pub mod Choosing
 -- Several arguments, and not all.
 pub mod Several
 -- Several arguments are taken.

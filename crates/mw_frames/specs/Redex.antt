@@ -18,10 +18,10 @@ use Rattle.mw_deduction.proofs.Depths.{added}
 use Rattle.mw_matching.specs.Matches.{evaluated}
 use Rattle.mw_deduction.specs.Replay.{Stand, whole}
 use Rattle.mw_frames.specs.declared.job.Job.{Job}
-use Rattle.mw_frames.specs.declared.job.Job.TheVariants.{Try}
+use Rattle.mw_frames.specs.declared.job.Job.TheVariants.{Walk, Try}
 use Rattle.mw_frames.specs.declared.job.Frame.{Frame}
 use Rattle.mw_frames.specs.Jobs.{term_of, AreOpened}
-use Rattle.mw_frames.specs.State.{Run, Data, Leads, InHand, IsJob}
+use Rattle.mw_frames.specs.State.{Run, Data, Leads, InHand, IsJob, HasNormalArguments}
 
 -- The equation of this number makes its left side the term w by these values of its variables; `pattern` is its right side in canonical form, with positions
 -- for the variables.
@@ -55,16 +55,21 @@ abbrev pub hole_level : Signature → List Frame → RawTerm → ℕ
 hole_level sig [] t = 0
 hole_level sig (f ∷ fs) t = added sig f.op t + f.level
 
--- A term w over normal arguments is in hand, and seen; v has no more than 1,000 levels where it comes for it, and no number is too large there.
+-- what is known of it is left aside
+abbrev pub walked : (K : Run) (count : ℕ) (m : Data) (w : RawTerm) → InHand K count m (Try w) → InHand K count m (Walk w)
+walked K count m w h = record { stand = h.stand; leads = h.leads; opened = h.opened; hand = h.hand; good = h.good; job = tt }
+
+-- A term w is in hand, and seen; v has no more than 1,000 levels where it comes for it, and no number is too large there.
 pub record MayStand (K : Run) (count : ℕ) (m : Data) (w v : RawTerm) : Type 0 where
-  pub in_hand : InHand K count m (Try w)
+  pub in_hand : InHand K count m (Walk w)
   pub seen : IsSeenIn K.over.signature m.frames w
   pub low : hole_level K.over.signature m.frames v + height v ≤ 1000
   pub small : has_largest K.over.signature (whole K.over.signature in_hand.stand.opens v) ≡ false
 
--- the equation applies to it, and its right side fits
+-- the equation applies to it, its arguments are normal, and its right side fits
 pub record MayFire (K : Run) (count : ℕ) (m : Data) (number : ℕ) (vs : List RawTerm) (pattern w : RawTerm) : Type 0 where
   pub redex : IsRedex K.over number vs pattern w
+  pub known : HasNormalArguments K.over K.rank w
   pub stands : MayStand K count m w (evaluated K.over.signature vs pattern)
 
 -- The term v is in hand, as any job for it of which that is known.

@@ -1,18 +1,19 @@
 -- What comes of a step of the machine.
-use Rattle.std.specs.Prelude.{◌≡◌, ◌≤◌, ◌<◌, ℕ, [], length, drop, ⊤}
+use Rattle.std.specs.Prelude.{◌≡◌, ◌≤◌, ◌<◌, ℕ, [], ◌∷◌, length, drop, Bool, codes, ⊤}
 use Rattle.mw_logic.specs.Term.{RawTerm, apply}
 use Rattle.mw_logic.specs.Terms.{terms_of}
-use Rattle.mw_logic.specs.Module.{Module}
+use Rattle.mw_logic.specs.Module.{Module, IsTruth, IsPolymorphic}
 use Rattle.mw_canon.specs.Axioms.{HasAxioms}
 use Rattle.mw_canon.specs.declared.axioms.Axioms.TheVariants.{Plain}
 use Rattle.mw_deduction.specs.Replay.{Stand}
 use Rattle.mw_frames.specs.declared.job.Job.TheVariants.{Try, Normal}
+use Rattle.mw_frames.specs.declared.job.Job.{Job}
 use Rattle.mw_frames.specs.declared.job.Frame.{Frame}
 use Rattle.mw_frames.specs.declared.job.Hand.{Hand}
 use Rattle.mw_frames.specs.declared.job.Hand.TheVariants.{One}
 use Rattle.mw_frames.specs.declared.machine.Machine.{Machine}
 use Rattle.mw_frames.specs.declared.looking.Step.{Step}
-use Rattle.mw_frames.specs.declared.looking.Step.TheVariants.{Goes, Ended, Asks}
+use Rattle.mw_frames.specs.declared.looking.Step.TheVariants.{Goes, Ended, Asks, Decides}
 use Rattle.mw_frames.specs.declared.looking.Asked.{Asked}
 use Rattle.mw_frames.specs.declared.looking.Asked.TheVariants.{Term, Own}
 use Rattle.mw_frames.specs.State.{Run, Data, Leads, InHand, Settled, Holds, IsNormalHere, work_of}
@@ -39,6 +40,17 @@ pub record IsComplete (K : Run) (count : ℕ) (d : Data) (f : Frame) : Type 0 wh
   pub some : f.from < length d.done
   pub plain : HasAxioms K.over.signature f.op Plain
 
+-- The condition of a choice is the truth value b; its branches wait, as they are.
+pub record IsDecided (K : Run) (count : ℕ) (d : Data) (f : Frame) (b : Bool) : Type 0 where
+  pub settled : Settled K count d f
+  pub choice : IsPolymorphic K.over.signature f.op (codes "if_then_else_fi")
+  pub condition : RawTerm
+  pub own : drop f.from d.done ≡ condition ∷ []
+  pub truth : IsTruth K.over.signature b condition
+  pub first : Job
+  pub second : Job
+  pub waiting : drop f.waits d.jobs ≡ second ∷ first ∷ []
+
 -- the term that statements are asked for
 abbrev pub asked_term : Data → Asked → RawTerm
 asked_term d (Term t) = t
@@ -52,6 +64,7 @@ abbrev pub Answers : Run → ℕ → Data → Step → Type 0
 Answers K count d (Goes h) = Holds K count d h
 Answers K count d (Ended t) = IsEnd K count d t
 Answers K count d (Asks a) = IsAskedFor K count d a
+Answers K count d (Decides f b) = IsDecided K count d f b
 
 -- less is left
 abbrev pub FallsTo : Module → ℕ → Machine → Hand → Type 0
@@ -62,3 +75,4 @@ abbrev pub FallsBelow : Module → ℕ → Machine → Step → Type 0
 FallsBelow M w m (Goes h) = FallsTo M w m h
 FallsBelow M w m (Ended t) = ⊤
 FallsBelow M w m (Asks a) = FallsTo M w m (One (Normal (asked_term (data_of M m) a)))
+FallsBelow M w m (Decides f b) = ⊤

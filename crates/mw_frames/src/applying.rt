@@ -15,7 +15,7 @@ ghost use Rattle.mw_frames.specs.Larger.{IsFit, IsAround};
 ghost use Rattle.mw_frames.specs.Taking.{IsPartAsked};
 ghost use Rattle.mw_frames.specs.Steps.{IsAsked, IsComplete, IsAskedFor, asked_term};
 ghost use Rattle.mw_frames.specs.Fires.{IsPartTaken, IsApplied, Refuses, IsFired};
-ghost use Rattle.mw_frames.specs.declared.job.Job.TheVariants.{Try as TryOf};
+ghost use Rattle.mw_frames.specs.declared.job.Job.TheVariants.{Walk as WalkOf};
 ghost use Rattle.mw_frames.specs.declared.looking.Asked.TheVariants.{Own as OwnOf};
 ghost use Rattle.mw_frames.specs.declared.limits.Fit.TheVariants.{Fits as FitsOf};
 
@@ -116,7 +116,7 @@ pub(crate) fn refuse<'m>(
     term: Term,
     deep: bool,
 ) -> Result<Fired<'m>, AllocError>
-    ensures { (K : Run) (k : ℕ) → IsRun K facts.now → (h : InHand K k (data_of K.over machine.old) (TryOf term))
+    ensures { (K : Run) (k : ℕ) → IsRun K facts.now → (h : InHand K k (data_of K.over machine.old) (WalkOf term))
         → ((t : RawTerm) → t ≡ in_whole K.over.signature h.stand.opens h.stand.hand → Refuses K deep (nested K.over.signature t))
         → IfOk result (IsFired K k (data_of K.over machine.new)) }
 {
@@ -149,7 +149,7 @@ fn fit_here(
     by: Applied<'_>,
     values: &[Term],
 ) -> Result<Fit, AllocError>
-    ensures { (K : Run) (k : ℕ) (w : RawTerm) → IsRun K facts.now → (h : InHand K k (data_of K.over machine.now) (TryOf w))
+    ensures { (K : Run) (k : ℕ) (w : RawTerm) → IsRun K facts.now → (h : InHand K k (data_of K.over machine.now) (WalkOf w))
         → IsApplied K.over by.entry values.now w
         → IfOk result (IsFit K.over.signature (reverse machine.now.frames.items) h.stand.opens (evaluated K.over.signature values.now (clean by.entry.right.now))) }
 {
@@ -219,7 +219,7 @@ pub(crate) fn refuse_part<'m>(
     deep: bool,
 ) -> Result<Fired<'m>, AllocError>
     ensures { (K : Run) (k : ℕ) (w : RawTerm) → IsRun K facts.now → IsSeveral facts.now numbers.now term.now w
-        → (h : InHand K k (data_of K.over machine.old) (TryOf w))
+        → (h : InHand K k (data_of K.over machine.old) (WalkOf w))
         → ((t : RawTerm) → t ≡ in_whole K.over.signature h.stand.opens h.stand.hand → Refuses K deep (nested K.over.signature t))
         → IfOk result (IsFired K k (data_of K.over machine.new)) }
 {
@@ -299,8 +299,13 @@ fn fits_own(
     take: &Option<Seq<u32>>,
 ) -> Result<bool, AllocError>
     ensures { (K : Run) (k : ℕ) (t : RawTerm) → IsRun K facts.now
-        → (h : InHand K k (record { frames = reverse machine.now.frames.items; done = take_first top.from machine.now.done.items;
-        jobs = machine.now.jobs.items; values = machine.now.kept.values; moves = moves K.over machine.now.kept }) (TryOf t))
+        → (h : InHand K k (record {
+          frames = reverse machine.now.frames.items;
+          done = take_first top.from machine.now.done.items;
+          jobs = machine.now.jobs.items;
+          values = machine.now.kept.values;
+          moves = moves K.over machine.now.kept;
+        }) (WalkOf t))
         → (take.now ≡ None → IsApplied K.over by.entry values.now t)
         → IfOk result (λ b. IsTrue b → (take.now ≡ None)
         × IsFit K.over.signature (reverse machine.now.frames.items) h.stand.opens (evaluated K.over.signature values.now (clean by.entry.right.now)) FitsOf) }

@@ -187,11 +187,7 @@ pub(crate) fn leave_hole(machine: &mut Machine<'_>) -> Result<(), AllocError>
 }
 
 /// Puts the terms, numbered from 1, that have one of these numbers behind those that were found.
-fn push_chosen(
-    numbers: &[u32],
-    terms: &[Term],
-    found: &mut Vec<Term>,
-) -> Result<(), AllocError>
+fn push_chosen(numbers: &[u32], terms: &[Term], found: &mut Vec<Term>) -> Result<(), AllocError>
     ensures { OnOk result (terms_of found.new.items
         ≡ join (terms_of found.old.items) (chosen 1 numbers.now (terms_of terms.now))) }
 {

@@ -7,27 +7,35 @@
 //! job, or a frame none of whose arguments is in hand.
 //!
 //! What contracts see is a run: a module, a rank, and where the trail leads by the moves of mw_deduction (`Holds`,
-//! specs/State): to a stand with these frames open and this term in hand, by so many replacements, all of them
-//! equations; what is done is normal, and what waits is known to be what its job says.
+//! specs/State): to a stand with these frames open and this term in hand, by so many replacements, none of them by a
+//! rule; what is done is normal, and what waits is known to be what its job says.
 //!
 //! - `step` opens a term, or puts one that is done to its operator's arguments, or takes the next that waits; or the
-//!   whole is normal (`IsEnd`); or a term over normal arguments asks for statements (`IsAskedFor`). Where it goes on,
-//!   less is left (`FallsBelow`), so steps end.
+//!   whole is normal (`IsEnd`); or a term over normal arguments asks for statements (`IsAskedFor`); or the condition of
+//!   an `if_then_else_fi` is a truth value, and its branches are as they were (`IsDecided`): the condition comes first,
+//!   and the branches where it is stuck. Where it goes on, less is left (`FallsBelow`), so steps end.
 //! - `fire` applies an equation, with values that make its left side what was asked for or several of its arguments
-//!   (`IsPartTaken`): one replacement more is made, and its right side is in hand (`IsFired`). Or `TooDeep`: the whole
-//!   would have more than 1,000 levels; then it is answered as it stands.
+//!   (`IsPartTaken`): one replacement more is made, and its right side is in hand (`IsFired`).
+//! - `meet` makes a replacement by a row of the schemata at what was asked for, or at several of its arguments, to a
+//!   term (`IsRowOf`, specs/Redex); `decide` one at a choice that is decided: the branch comes as it waits, the other
+//!   one is dropped.
+//! - These three answer `TooDeep` where the whole would have more than 1,000 levels, and else `TooLarge` where `s_`
+//!   would stand on the largest numeral, in what comes, right above it, or further out, where the operators between are
+//!   one numeral again (`grows`, specs/Larger). Then nothing is replaced, and the whole is answered as it stands.
 //! - `rest` goes on where nothing applies to what was asked for, which then is normal.
-//! - `stop` puts the whole together (`IsWhole`).
+//! - `stop` puts the whole together (`IsWhole`); `halt` does where what was asked for, or several of its arguments, are
+//!   a sum or product that is too big (`HasBigPair`).
 //! - `evaluate` is the canonical instance of a pattern (`evaluated` of mw_matching).
 //!
-//! Conditions (`IsRun`): the signature is accepted and well sorted, without numbers and built-in operators. Want of
-//! memory is the only error, and nothing is said of a machine after it.
+//! Conditions (`IsRun`): the module is well-formed, its signature accepted and well sorted. Want of memory is the only
+//! error, and nothing is said of a machine after it.
 //!
 //! Neither proved nor tested: time and memory, in which order arguments are reduced, and that calls answer with memory
 //! at hand.
 #![tactic(auto)]
 
 mod applying;
+mod choosing;
 mod coming;
 mod firing;
 mod instances;
@@ -44,6 +52,7 @@ mod waiting;
 mod whole;
 
 pub use applying::{Applied, Fired, fire};
+pub use choosing::decide;
 pub use instances::evaluate;
 pub use job::{Frame, Hand, Job};
 pub use looking::{Asked, Step};

@@ -154,7 +154,7 @@ fn may_fold(facts: &Facts, operator: OpId, others: usize, term: &Term) -> bool
 }
 
 /// The term of a job. A part of a right side is built.
-fn job_term(
+pub(crate) fn job_term(
     alloc: Global,
     facts: &Facts,
     values: &[Term],

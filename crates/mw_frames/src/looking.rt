@@ -29,6 +29,8 @@ pub enum Step<'m> {
     Ended(Term),
     /// Statements are asked for.
     Asks(Asked),
+    /// The condition of a choice is this truth value: a row is met, whatever its branches are.
+    Decides(Frame, bool),
 }
 
 /// What statements are asked for: a term over normal arguments.

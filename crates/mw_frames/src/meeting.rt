@@ -19,7 +19,7 @@ ghost use Rattle.mw_frames.specs.Taking.{IsPartAsked};
 ghost use Rattle.mw_frames.specs.Steps.{IsAsked, IsComplete, IsAskedFor, asked_term};
 ghost use Rattle.mw_frames.specs.Fires.{IsPartTaken, IsFired, IsWhole, HasBigPair};
 ghost use Rattle.mw_frames.specs.declared.job.Job.{Job as JobOf};
-ghost use Rattle.mw_frames.specs.declared.job.Job.TheVariants.{Try as TryOf};
+ghost use Rattle.mw_frames.specs.declared.job.Job.TheVariants.{Walk as WalkOf};
 ghost use Rattle.mw_frames.specs.declared.looking.Asked.TheVariants.{Own as OwnOf};
 ghost use Rattle.mw_frames.specs.declared.limits.Fit.TheVariants.{Fits as FitsOf};
 
@@ -73,7 +73,7 @@ fn fit_row(
     machine: &Machine<'_>,
     to: &Term,
 ) -> Result<Fit, AllocError>
-    ensures { (K : Run) (k : ℕ) (w : RawTerm) → IsRun K facts.now → (h : InHand K k (data_of K.over machine.now) (TryOf w))
+    ensures { (K : Run) (k : ℕ) (w : RawTerm) → IsRun K facts.now → (h : InHand K k (data_of K.over machine.now) (WalkOf w))
         → IsRowOf K.over K.rank w to.now
         → IfOk result (IsFit K.over.signature (reverse machine.now.frames.items) h.stand.opens to.now) }
 {
@@ -214,8 +214,13 @@ fn row_fits_own(
     take: &Option<Seq<u32>>,
 ) -> Result<bool, AllocError>
     ensures { (K : Run) (k : ℕ) (t : RawTerm) → IsRun K facts.now
-        → (h : InHand K k (record { frames = reverse machine.now.frames.items; done = take_first top.from machine.now.done.items;
-        jobs = machine.now.jobs.items; values = machine.now.kept.values; moves = moves K.over machine.now.kept }) (TryOf t))
+        → (h : InHand K k (record {
+          frames = reverse machine.now.frames.items;
+          done = take_first top.from machine.now.done.items;
+          jobs = machine.now.jobs.items;
+          values = machine.now.kept.values;
+          moves = moves K.over machine.now.kept;
+        }) (WalkOf t))
         → (take.now ≡ None → IsRowOf K.over K.rank t to.now)
         → IfOk result (λ b. IsTrue b → (take.now ≡ None)
         × IsFit K.over.signature (reverse machine.now.frames.items) h.stand.opens to.now FitsOf) }

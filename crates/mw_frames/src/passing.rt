@@ -72,6 +72,32 @@ fn go_in(machine: &mut Machine<'_>, top: Frame, before: usize) -> Result<(), All
     Ok(())
 }
 
+/// The next argument of a frame goes in hand, or is done where it is known to be normal; none where that is so or none
+/// waits.
+pub(crate) fn pass_one<'m>(
+    alloc: Global,
+    facts: &Facts,
+    machine: &mut Machine<'m>,
+    top: Frame,
+) -> Result<Option<Hand<'m>>, AllocError>
+    ensures means { (K : Run) (k : ℕ) → IsRun K facts.now → Settled K k (data_of K.over machine.old) top
+        → IfOk result (λ o. MatchOption o (Settled K k (data_of K.over machine.new) top) (Holds K k (data_of K.over machine.new))) }
+    ensures falls { (M : Module) → IfOk result (λ o. MatchOption o (StaysFrom M top (data_of M machine.old) machine.new)
+        (FallsFrom M top (data_of M machine.old) machine.new)) }
+{
+    match pop_behind(&mut machine.jobs, top.waits) {
+        None => Ok(None),
+        Some(Job::Normal(term)) => {
+            put(alloc, facts, top.op, &mut machine.done, top.from, term)?;
+            Ok(None)
+        }
+        Some(job) => {
+            let hand = enter(facts, machine, top, job)?;
+            Ok(Some(hand))
+        }
+    }
+}
+
 /// A job that waited goes in hand. An associative operator with that argument alone is gone.
 #[inline(always)]
 fn enter<'m>(

@@ -77,7 +77,7 @@ fn put_rest(
 }
 
 /// An operator over the terms that are done from a place on and what waits from another on, which are taken out.
-fn gather(
+pub(crate) fn gather(
     alloc: Global,
     facts: &Facts,
     machine: &mut Machine<'_>,

@@ -50,7 +50,7 @@ asked_normal K sig run count d (Own g) h f ts e = (complete_asked K sig run coun
 pub step_asked : (K : Run) (sig : Signature) → IsRun K sig → (M : Module) → K.over ≡ M → IsWorkable M → (count : ℕ) (d : Data) (a : Asked) → IsAskedFor K count d a → (s : Schemata) → AreSchemataOf M.signature s → (facts : Signature) → facts ≡ M.signature
     → (f : ℕ) (args : List RawTerm) (met : Met) → asked_term d a ≡ apply f (terms_of args)
     → ((M : Module) (n : ℕ) → AreSchemataOf M.signature s → facts ≡ M.signature → IsAccepted M.signature → IsWellSorted M.signature → HasBuiltIns M.signature → IsGroundTerm M.signature (apply f (terms_of args))
-        → Each (IsNormalTerm M (admitted_judgements M n).Fails) (terms_of args) → IsStepOf M.signature (IsNormalBy M (admitted_judgements M n).Fails) (apply f (terms_of args)) met)
+    → Each (IsNormalTerm M (admitted_judgements M n).Fails) (terms_of args) → IsStepOf M.signature (IsNormalBy M (admitted_judgements M n).Fails) (apply f (terms_of args)) met)
     → IsStepOf K.over.signature (IsNormalBy K.over (admitted_judgements K.over K.rank).Fails) (asked_term d a) met
 step_asked K sig run M here work count d a h s schemata facts e f args met is step =
     let w : IsWorkable K.over = subst IsWorkable (sym here) work in

@@ -59,13 +59,13 @@ module _ (M : Module) (n : ℕ) (t0 : RawTerm) (p : Proof) (u : RawTerm) (most s
   next_step v (by_equation C w number e s part there plain sol) =
       by_statement C e s s proof.nil
       (record {
-          part = w;
-          is_part = part;
-          number = number;
-          is_there = there;
-          solution = sol;
-          may = inl (plain.equation, λ o. absurd (Rattle.std.proofs.Common.true≢false (sym o ∙ plain.ordinary)));
-        })
+        part = w;
+        is_part = part;
+        number = number;
+        is_there = there;
+        solution = sol;
+        may = inl (plain.equation, λ o. absurd (Rattle.std.proofs.Common.true≢false (sym o ∙ plain.ordinary)));
+      })
       (subst (λ C. Held M n C s proof.nil s) (sym plain.unconditional) (held_none M n s))
   next_step v (by_schema C w x part row) = by_row C w x part (row_within (λ y h. normal_at M n y (normal M (admitted_judgements M n).Fails (Fails M n) (admitted_within M n).Fails y h)) row)
 

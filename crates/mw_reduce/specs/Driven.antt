@@ -9,14 +9,14 @@ use Rattle.mw_index.specs.declared.equations.Left.TheVariants.{Plain}
 use Rattle.mw_frames.specs.declared.applying.Applied.{Applied}
 use Rattle.mw_proof.specs.declared.reason.Reason.TheVariants as reason
 use Rattle.mw_frames.specs.State.{Run, Data, Holds}
-use Rattle.mw_frames.specs.Steps.{IsEnd}
+use Rattle.mw_frames.specs.Steps.{IsEnd, IsDecided}
 use Rattle.mw_frames.specs.Fires.{IsWhole, WouldBeTooDeep, WouldBeTooLarge, HasBigPair}
 use Rattle.mw_reduce.specs.Turns.{IsFound, IsMetAt, IsBigAt}
 use Rattle.mw_reduce.specs.declared.drive.Outcome.{Outcome}
 use Rattle.mw_reduce.specs.declared.drive.Outcome.TheVariants.{Done, Stopped}
 use Rattle.mw_reduce.specs.declared.drive.End.{End}
 use Rattle.mw_reduce.specs.declared.drive.Pause.{Pause}
-use Rattle.mw_reduce.specs.declared.drive.Pause.TheVariants.{Ended, Found, Met, Big}
+use Rattle.mw_reduce.specs.declared.drive.Pause.TheVariants.{Ended, Found, Met, Big, Decides}
 use Rattle.mw_reduce.specs.declared.drive.Next.{Next}
 use Rattle.mw_reduce.specs.declared.drive.Next.TheVariants.{Goes, Ends}
 
@@ -33,6 +33,7 @@ IsPause K count m d rest (Ended t) = IsEnd K count d t
 IsPause K count m d rest (Found a c) = IsFound K count m d rest a c
 IsPause K count m d rest (Met a take to) = IsMetAt K count d a take to
 IsPause K count m d rest (Big a take) = IsBigAt K count d a take
+IsPause K count m d rest (Decides f b) = IsDecided K count d f b
 
 -- Why it goes on no further: the term is normal, or the next step would make the whole too deep, or a number too large.
 abbrev pub EndsAt : Run → ℕ → Data → RawTerm → Outcome → Type 0

@@ -9,11 +9,11 @@ use Rattle.mw_index.specs.declared.index.Index.{Index}
 use Rattle.mw_index.specs.declared.choices.Choice.{Choice}
 use Rattle.mw_index.specs.declared.choices.Choices.{Choices}
 use Rattle.mw_frames.specs.State.{Run, Data, Holds}
-use Rattle.mw_frames.specs.Steps.{IsAskedFor, asked_term, IsEnd, FallsTo}
+use Rattle.mw_frames.specs.Steps.{IsAskedFor, IsDecided, asked_term, IsEnd, FallsTo}
 use Rattle.mw_frames.specs.declared.looking.Asked.{Asked}
 use Rattle.mw_frames.specs.declared.machine.Machine.{Machine}
 use Rattle.mw_reduce.specs.declared.turning.Turn.{Turn}
-use Rattle.mw_reduce.specs.declared.turning.Turn.TheVariants.{Goes, Ended, Found, Met, Big}
+use Rattle.mw_reduce.specs.declared.turning.Turn.TheVariants.{Goes, Ended, Found, Met, Big, Decides}
 
 -- The first equation that has a solution for what was asked for; the others are still to be asked.
 pub record IsFound (K : Run) (count : ℕ) (m : Index) (d : Data) (rest : Choices) (a : Asked) (c : Choice) : Type 0 where
@@ -38,6 +38,7 @@ IsTurn K count m d rest (Ended t) = IsEnd K count d t
 IsTurn K count m d rest (Found a c) = IsFound K count m d rest a c
 IsTurn K count m d rest (Met a take to) = IsMetAt K count d a take to
 IsTurn K count m d rest (Big a take) = IsBigAt K count d a take
+IsTurn K count m d rest (Decides f b) = IsDecided K count d f b
 
 -- less is left, where it goes on
 abbrev pub TurnFalls : Module → ℕ → Machine → Turn → Type 0
@@ -46,3 +47,4 @@ TurnFalls M w m (Ended t) = ⊤
 TurnFalls M w m (Found a c) = ⊤
 TurnFalls M w m (Met a take to) = ⊤
 TurnFalls M w m (Big a take) = ⊤
+TurnFalls M w m (Decides f b) = ⊤

@@ -12,7 +12,7 @@ ghost use Rattle.mw_reduce.specs.Driven.{IsAppliedAs, IsPause, EndsAt, IsNext, I
 
 use crate::turning::{Turn, take_turn};
 use mw_canon::Facts;
-use mw_frames::{Applied, Asked, Fired, Hand, Machine, fire, halt, meet, stop};
+use mw_frames::{Applied, Asked, Fired, Frame, Hand, Machine, decide, fire, halt, meet, stop};
 use mw_index::{Choice, Choices, Equation, Index, Left};
 use mw_least::Ctx;
 use mw_proof::Reason;
@@ -34,13 +34,15 @@ pub struct End {
     pub outcome: Outcome,
 }
 
-/// What turns come to: the whole is normal, an equation has a solution, a row is met, or a sum or product is too big.
+/// What turns come to: the whole is normal, an equation has a solution, a row is met, a sum or product is too big, or a
+/// choice is decided.
 #[derive(Drop)]
 pub enum Pause<'m> {
     Ended(Term),
     Found(Asked, Choice<'m>),
     Met(Asked, Option<Seq<u32>>, Term),
     Big(Asked, Option<Seq<u32>>),
+    Decides(Frame, bool),
 }
 
 /// What comes of a pause.
@@ -81,6 +83,9 @@ fn advance<'m>(
             }
             Turn::Big(asked, take) => {
                 return Ok(Pause::Big(asked, take));
+            }
+            Turn::Decides(frame, truth) => {
+                return Ok(Pause::Decides(frame, truth));
             }
         }
     }
@@ -201,6 +206,10 @@ fn go_on<'m>(
         }
         Pause::Met(asked, take, to) => {
             let fired = meet_row(alloc, facts, machine, asked, to, &take)?;
+            Ok(after(fired))
+        }
+        Pause::Decides(frame, truth) => {
+            let fired = decide(alloc, facts, machine, frame, truth)?;
             Ok(after(fired))
         }
         Pause::Big(asked, take) => {

@@ -13,7 +13,7 @@ ghost use Rattle.mw_frames.specs.declared.job.Hand.TheVariants.{One as OneOf};
 ghost use Rattle.mw_reduce.specs.Turns.{IsTurn, TurnFalls};
 
 use mw_builtin::Met;
-use mw_frames::{Asked, Hand, Machine, Step, rest, step};
+use mw_frames::{Asked, Frame, Hand, Machine, Step, rest, step};
 use mw_index::{Choice, Choices, Index, Subject};
 use mw_least::Ctx;
 use mw_term::{Seq, Term, View, behind};
@@ -32,6 +32,8 @@ pub enum Turn<'m> {
     Met(Asked, Option<Seq<u32>>, Term),
     /// What was asked for, or several of its arguments, are a sum or product that is too big.
     Big(Asked, Option<Seq<u32>>),
+    /// The condition of a choice is this truth value.
+    Decides(Frame, bool),
 }
 
 #[inline(always)]
@@ -142,9 +144,10 @@ pub fn take_turn<'m>(
         → IfOk result (IsTurn K k index.now (data_of K.over machine.new) choices.new) }
     ensures falls { (M : Module) → M.signature ≡ context.now.signature → IfOk result (TurnFalls M (work_of M.signature (data_of M machine.old) hand.entry) machine.new) }
 {
-    match step(alloc, context.facts(), machine, hand)? {
+    match step(alloc, context.facts(), context.schemata(), machine, hand)? {
         Step::Goes(next) => Ok(Turn::Goes(next)),
         Step::Ended(term) => Ok(Turn::Ended(term)),
+        Step::Decides(frame, truth) => Ok(Turn::Decides(frame, truth)),
         Step::Asks(asked) => {
             let turn = ask(alloc, context, index, machine, choices, asked)?;
             Ok(turn)

@@ -9,7 +9,8 @@ use Rattle.std.proofs.lemmas.Option.{none-some, same_Some, slice_get_within, sli
 use Rattle.std.proofs.lemmas.Slice.Eq.{bytes_eq-Decides}
 use Rattle.mw_logic.specs.Signature.{Member}
 use Rattle.mw_import.specs.Flat.{FlatUnit, number_named}
-use Rattle.mw_import.proofs.Tables.{none_named, number_within}
+use Rattle.mw_import.proofs.Lists.{none_named}
+use Rattle.mw_import.proofs.Tables.{number_within}
 use Rattle.mw_build.specs.Modules.{Accepted}
 use Rattle.mw_build.proofs.Pairwise.{there}
 use Rattle.mw_top.specs.Commands.{module_named, module_at, is_kept, last_module}

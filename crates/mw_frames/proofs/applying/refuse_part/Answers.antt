@@ -5,7 +5,7 @@ use Rattle.mw_logic.specs.Parts.{nested}
 use Rattle.mw_arguments.specs.Places.{chosen}
 use Rattle.mw_frames.specs.Several.{IsSeveral}
 use Rattle.mw_deduction.specs.Replay.{whole}
-use Rattle.mw_frames.specs.declared.job.Job.TheVariants.{Try}
+use Rattle.mw_frames.specs.declared.job.Job.TheVariants.{Walk}
 use Rattle.mw_frames.specs.Machines.{data_of}
 use Rattle.mw_frames.specs.State.{InHand}
 use Rattle.mw_frames.specs.Fires.{Refuses, IsFired}
@@ -20,6 +20,6 @@ returns c = λ K k w run part h refuses.
     c.in_ok-part.ensures ∙ ap (λ g. apply g (chosen 1 c.args.numbers.now (args_of c.args.term.now))) (sym top)
     ∙ ap (λ u. apply t.operator (chosen 1 c.args.numbers.now (args_of u))) t.term ∙ sym t.part in
     let P : RawTerm → Type 0 = λ u.
-    (h : InHand K k (data_of K.over c.args.machine.now) (Try u)) → ((t : RawTerm) → t ≡ whole K.over.signature h.stand.opens h.stand.hand → Refuses K c.args.deep (nested K.over.signature t))
+    (h : InHand K k (data_of K.over c.args.machine.now) (Walk u)) → ((t : RawTerm) → t ≡ whole K.over.signature h.stand.opens h.stand.hand → Refuses K c.args.deep (nested K.over.signature t))
     → IsFired K k (data_of K.over c.refuse.new.machine) c.in_ok-fired.fired in
     subst P e (c.in_ok-fired.ensures K k run) h refuses

@@ -5,7 +5,7 @@ use Rattle.mw_logic.specs.Parts.{nested}
 use Rattle.mw_arguments.specs.Places.{chosen}
 use Rattle.mw_frames.specs.Machines.{data_of}
 use Rattle.mw_frames.specs.Arrivals.{IsNewFrame}
-use Rattle.mw_frames.specs.Redex.{HasOnTop, Stands}
+use Rattle.mw_frames.specs.Redex.{HasOnTop, Stands, walked}
 use Rattle.mw_frames.specs.Several.{IsSeveral}
 use Rattle.mw_frames.specs.Taking.{IsPartAsked}
 use Rattle.mw_frames.proofs.Applications.{same_frame}
@@ -29,4 +29,4 @@ returns c = λ K k w form run a part raw clean is big.
     let s : Stands K k (data_of K.over n) w = record { stand = h.stand; leads = h.leads; opened = h.opened; hand = h.hand } in
     let s' : Stands K k (data_of K.over n) c.in_ok-part.part = record { stand = h.stand; leads = h.leads; opened = h.opened; hand = h.hand ∙ e } in
     let (z, q) = c.in_ok-whole.ensures K k run s' in
-    (z, big_there K c.args.facts.now run k (data_of K.over n) w form c.in_ok-whole.whole h inside.asked.seen raw clean is big q)
+    (z, big_there K c.args.facts.now run k (data_of K.over n) w form c.in_ok-whole.whole (walked K k (data_of K.over n) w inside.asked.holds) inside.asked.seen raw clean is big q)

@@ -1,6 +1,7 @@
 use Rattle.std.proofs.Common.{◌≡◌, subst}
 use Rattle.mw_frames.specs.Machines.{data_of}
 use Rattle.mw_frames.specs.Steps.{IsAsked}
+use Rattle.mw_frames.specs.Redex.{walked}
 use Rattle.mw_frames.proofs.RowsMet.{big_there}
 use Rattle.mw_frames.proofs.meeting.halt_term.Goals as goal
 
@@ -9,7 +10,7 @@ returns-in_ok-whole-in-None c = λ K k w form run a part raw clean is big.
     let e : w ≡ c.args.term = rw c.in-None.is at part in
     let h = a.holds in
     let (z, q) = c.in_ok-whole-in-None.ensures K k run (record { stand = h.stand; leads = h.leads; opened = h.opened; hand = h.hand }) in
-    (z, big_there K c.args.facts.now run k (data_of K.over c.args.machine.now) c.args.term form c.in_ok-whole-in-None.whole h a.seen raw clean (rw e at is) big q)
+    (z, big_there K c.args.facts.now run k (data_of K.over c.args.machine.now) c.args.term form c.in_ok-whole-in-None.whole (walked K k (data_of K.over c.args.machine.now) c.args.term a.holds) a.seen raw clean (rw e at is) big q)
 
 pub returns-in_ok-whole-in-Some : goal.returns-in_ok-whole-in-Some
 returns-in_ok-whole-in-Some c = λ K k w form run a part raw clean is big.

@@ -6,7 +6,7 @@ use Rattle.mw_logic.specs.NormalForm.{applied_in}
 use Rattle.mw_stack.specs.Own.{own}
 use Rattle.mw_trail.specs.Tracks.{moves}
 use Rattle.mw_frames.specs.Machines.{data_of}
-use Rattle.mw_frames.specs.Redex.{IsRowOf, MayMeetRow}
+use Rattle.mw_frames.specs.Redex.{IsRowOf, MayMeetRow, walked}
 use Rattle.mw_frames.specs.State.{Data}
 use Rattle.mw_frames.proofs.Asking.{complete_asked, plain_applied}
 use Rattle.mw_frames.proofs.Turning.{own_fair}
@@ -21,8 +21,8 @@ returns-then-branch c = λ K k w run h part row.
     let a = complete_asked K c.args.facts.now run k d f h in
     let inside : Data = record { frames = d.frames; done = take f.from m.done.items; jobs = d.jobs; values = d.values; moves = d.moves } in
     let there : c.args.take.now ≡ None → IsRowOf K.over K.rank t c.args.to = λ none. let e : w ≡ t = rw none at part in subst (λ u. IsRowOf K.over K.rank u c.args.to) e row in
-    let (none, z) = c.in_ok-row_fits_own.ensures K k t run a.holds there (search rules) in
-    let may : MayMeetRow K k inside t c.args.to = record { row = there none; stands = record { in_hand = a.holds; seen = a.seen; low = z.0; small = z.1 } } in
+    let (none, z) = c.in_ok-row_fits_own.ensures K k t run (walked K k inside t a.holds) there (search rules) in
+    let may : MayMeetRow K k inside t c.args.to = record { row = there none; stands = record { in_hand = walked K k inside t a.holds; seen = a.seen; low = z.0; small = z.1 } } in
     let y : c.truncate.new.self.items ≡ take f.from m.done.items = search rules in
     let i = c.in_ok-meet_here.ensures.means K k c.args.facts.now t run (rw y may) in
     i c.met_job.result (c.met_job.ensures.term K.over.signature _) (c.met_job.ensures.known K.over K.rank _ t (there none) run.well a.holds.job)

@@ -18,3 +18,6 @@ returns-in-Met c = λ K k run here h. rw c.in-Met.is at (c.in_ok-next.ensures.me
 
 pub returns-in-Big : goal.returns-in-Big
 returns-in-Big c = λ K k run here h. rw c.in-Big.is at (c.in_ok-next.ensures.means K k run here (c.loop-next.invariant K k run here h))
+
+pub returns-in-Decides : goal.returns-in-Decides
+returns-in-Decides c = λ K k run here h. rw c.in-Decides.is at (c.in_ok-next.ensures.means K k run here (c.loop-next.invariant K k run here h))

@@ -13,3 +13,8 @@ returns-in_ok-fired-in-Met c = λ K k run work m h.
 
 pub returns-in_ok-end-in-Big : goal.returns-in_ok-end-in-Big
 returns-in_ok-end-in-Big c = λ K k run work m h. c.in_ok-end-in-Big.ensures K k run (rw c.in-Big.is at h)
+
+pub returns-in_ok-fired-in-Decides : goal.returns-in_ok-fired-in-Decides
+returns-in_ok-fired-in-Decides c = λ K k run work m h.
+    let f = rw c.in-Decides.is at h in
+    c.after-in-Decides.ensures K k (data_of K.over c.decide.new.machine) (c.in_ok-fired-in-Decides.ensures K k run f)
