@@ -2,7 +2,6 @@
 pub mod Slices
 pub mod ItemByItem
 pub mod Bodies
-pub mod Fronts
 pub mod Parts
 pub mod Formed
 pub mod ProperForms

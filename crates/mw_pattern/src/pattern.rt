@@ -12,7 +12,7 @@ use std::marker::Model;
 pub enum Pattern {
     /// A numeral.
     Nat(u128),
-    /// A quoted identifier, by its bytes after the quote.
+    /// A quoted identifier, by its bytes, the quote among them.
     Qid(Name),
     /// The variable of this position.
     Var(usize),

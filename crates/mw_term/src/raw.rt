@@ -31,7 +31,7 @@ impl Model for VarId {
 pub enum Raw {
     /// A numeral.
     Nat(u128),
-    /// A quoted identifier, by its bytes after the quote.
+    /// A quoted identifier, by its bytes, the quote among them.
     Qid(Name),
     /// A variable.
     Var(VarId),

@@ -52,7 +52,7 @@ enum Shape {
 pub enum View<'t> {
     /// A numeral.
     Nat(u128),
-    /// A quoted identifier, by its bytes after the quote.
+    /// A quoted identifier, by its bytes, the quote among them.
     Qid(&'t Name),
     /// A variable.
     Var(&'t VarId),
@@ -153,7 +153,7 @@ impl Term {
         made(alloc, 0, Shape::Nat(Numeral::of(number)))
     }
 
-    /// A quoted identifier, by its bytes after the quote.
+    /// A quoted identifier, by its bytes, the quote among them.
     pub fn quoted(alloc: Global, name: Name) -> Result<Term, AllocError>
         ensures { IfOk result (λ t. t ≡ quoted name) }
     {
