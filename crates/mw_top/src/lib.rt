@@ -3,6 +3,8 @@
 //!
 //! `alone` is the call, on one thread; `top` is the same with what may wait. They read the source to its end, cut it
 //! into tokens and answer its units one after another; each unit's text is written whole before the next unit is read.
+//! The modules of the prelude that the source needs (mw_prelude) are read before it, as units like its own; accepted,
+//! they write nothing, and a command that names no module stands in the last one of the source.
 //!
 //! The clause `did`, over the record `Did` (specs/Call), says of each status what stands after it:
 //!
