@@ -15,26 +15,26 @@ use Rattle.mw_logic.specs.NormalForm.{normal_form}
 use Rattle.mw_logic.specs.Parts.{nested, is_assoc}
 use Rattle.mw_logic.specs.Substitution.{Substitution, IsSolution, SameSolution}
 use Rattle.mw_logic.proofs.AxiomLaws.{sym as back}
-use Rattle.mw_logic.proofs.Canonical.{IsCanonical, Each, each_canonical, assoc-true}
+use Rattle.mw_logic.proofs.Canonical.{IsCanonical, AreCanonical, assoc-true}
 use Rattle.mw_logic.proofs.SolutionLaws.{solution_kept}
 use Rattle.mw_canon.specs.Canonical.{meant}
 use Rattle.mw_deduction.specs.Tops.{IsTop, whole, several}
 use Rattle.mw_least.specs.Workable.{IsWorkable}
-use Rattle.mw_position.specs.Positions.{fill, fill_all, IsNumbered, counted, counted_all, Begins}
+use Rattle.mw_position.specs.Positions.{IsNumbered, counted, counted_all, Begins}
 use Rattle.mw_position.specs.Variables.{met, placed, sorts_of}
-use Rattle.mw_position.proofs.Values.{values_each}
 use Rattle.mw_match.proofs.Candidates.{known}
-use Rattle.mw_matching.specs.Matches.{evaluated, IsMatch}
+use Rattle.mw_matching.specs.Matches.{evaluated, evaluated_all, IsMatch}
 use Rattle.mw_solving.specs.Values.{IsValue, AreValues, AreOfSorts}
 use Rattle.mw_solving.proofs.Solving.{match_values, match_solves}
 use Rattle.mw_solving.proofs.Solved.{solved_same, solved_values, solved_sorts, solved_size}
 use Rattle.mw_position.proofs.Begins.{begins_same, begins_whole}
 use Rattle.mw_match.specs.Matching.{Decides}
+use Rattle.mw_match.specs.Straight.{AreStraight}
 use Rattle.mw_search.specs.Lacking.{HaveTheirSorts, OneLacksItsSort}
 use Rattle.mw_index.specs.Choices.{AreFitting, IsPlainOne, solution_of}
 use Rattle.mw_index.specs.Index.{operator_of}
 use Rattle.mw_index.specs.declared.equations.Equation.{Equation}
-use Rattle.mw_index.proofs.FreeTerms.{free_evaluated}
+use Rattle.mw_index.proofs.PlainTerms.{plain_applied, values_each}
 use Rattle.mw_index.proofs.InOrder.{all_are_met}
 use Rattle.mw_index.proofs.Sides.{variables_are, left_raw, left_among}
 use Rattle.mw_index.proofs.Staying.{free_theory, none_valued, form_equal, form_raw, form_solution, form_values, form_matches}
@@ -46,17 +46,17 @@ module _ (sig : Signature) (sorts : List ℕ) (ps ts : RawTerms) (old found : Li
   long : (us : List RawTerm) → length us ≡ length sorts → counted_all (length old) ps ≤ length us
   long us l = let e : counted_all (length old) ps ≡ counted_all 0 ps = ap (λ (vs : List RawTerm). counted_all (length vs) ps) none in omega (arith, e, count, l)
 
-  pub not_fitting : Decides false (counted_all (length old) ps) old found (λ us. fill_all us ps ≡ ts) → AreFitting sig sorts ps ts found false
+  pub not_fitting : Decides false (counted_all (length old) ps) old found (λ us. evaluated_all sig us ps ≡ ts) → AreFitting sig sorts ps ts found false
   not_fitting d us l e = absurd (d us (begins us) (long us l) e)
 
-  pub fitting : (b : Bool) → Decides true (counted_all (length old) ps) old found (λ us. fill_all us ps ≡ ts) → length found ≡ counted_all (length old) ps
+  pub fitting : (b : Bool) → Decides true (counted_all (length old) ps) old found (λ us. evaluated_all sig us ps ≡ ts) → length found ≡ counted_all (length old) ps
       → (IsTrue b → HaveTheirSorts sig sorts 0 found) → (IsFalse b → OneLacksItsSort sig sorts 0 found) → AreFitting sig sorts ps ts found b
   fitting b d n fits lacks = by_answer b fits lacks
     where
       size : length found ≡ length sorts
       size = n ∙ ap (λ (vs : List RawTerm). counted_all (length vs) ps) none ∙ count
 
-      only : (us : List RawTerm) → length us ≡ length sorts → fill_all us ps ≡ ts → found ≡ us
+      only : (us : List RawTerm) → length us ≡ length sorts → evaluated_all sig us ps ≡ ts → found ≡ us
       only us l e = begins_whole found us ((d.1 us (begins us) (long us l)).0 e) (l ∙ sym size)
 
       by_answer : (b : Bool) → (IsTrue b → HaveTheirSorts sig sorts 0 found) → (IsFalse b → OneLacksItsSort sig sorts 0 found) → AreFitting sig sorts ps ts found b
@@ -128,8 +128,11 @@ module _ (M : Module) (ok : IsWorkable M) (top : Option ℕ) (st : Equation) (ps
   pattern_is : placed (met [] form) form ≡ apply one.operator ps
   pattern_is = ap (λ xs. placed xs form) (sym in_order) ∙ sym one.left.pattern
 
-  evaluated_is_filled : (us : List RawTerm) → evaluated sig us (placed (met [] form) form) ≡ fill us (apply one.operator ps)
-  evaluated_is_filled us = ap (evaluated sig us) pattern_is ∙ free_evaluated sig us (apply one.operator ps) one.left.free
+  evaluated_is : (us : List RawTerm) → evaluated sig us (placed (met [] form) form) ≡ apply one.operator (evaluated_all sig us ps)
+  evaluated_is us = ap (evaluated sig us) pattern_is ∙ plain_applied sig one.operator (evaluated_all sig us ps) one.left.plain
+
+  pub are_straight : AreStraight sig ps
+  are_straight = one.left.straight
 
   pub count_sorts : counted_all 0 ps ≡ length st.sorts
   count_sorts = one.left.count ∙ ap (λ (xs : List Variable). length xs) (sym (variables_are M ok st.number e there)) ∙ sym sized
@@ -143,41 +146,39 @@ module _ (M : Module) (ok : IsWorkable M) (top : Option ℕ) (st : Equation) (ps
 
     -- each solution for a top part comes from values that give the term
     pub solved_by : (w : RawTerm) → IsTop sig t w → (s : Substitution) → IsSolution sig e.left (nested sig w) [] s
-        → (us : List RawTerm) × (length us ≡ length st.sorts) × (fill_all us ps ≡ ts) × AreValues sig us × AreOfSorts sig us st.sorts × SameSolution sig s (solution_of sig e us)
+        → (us : List RawTerm) × (length us ≡ length st.sorts) × (evaluated_all sig us ps ≡ ts) × AreValues sig us × AreOfSorts sig us st.sorts × SameSolution sig s (solution_of sig e us)
     solved_by w top_part s sol =
-        let w_is : w ≡ t = no_part sig one.operator ts t w t_is one.left.free.0.0 top_part in
+        let w_is : w ≡ t = no_part sig one.operator ts t w t_is one.left.plain.0 top_part in
         let sol' : IsSolution sig e.left (nested sig t) [] s = subst (λ w. IsSolution sig e.left (nested sig w) [] s) w_is sol in
         let us : List RawTerm = form_values sig accepted fit e.left raw t v s sol' in
         let k = form_solution sig accepted fit e.left raw t v s sol' in
         let r = form_raw sig accepted fit e.left raw in
-        let gives : fill us (apply one.operator ps) ≡ apply one.operator ts = sym (evaluated_is_filled us) ∙ (form_matches sig accepted fit e.left raw t v s sol').gives ∙ t_is in
+        let gives : apply one.operator (evaluated_all sig us ps) ≡ apply one.operator ts = sym (evaluated_is us) ∙ (form_matches sig accepted fit e.left raw t v s sol').gives ∙ t_is in
         let size : length us ≡ length (met [] form) = solved_size sig accepted form r [] tt (none_valued sig) t v s k in
         let sorts : AreOfSorts sig us (sorts_of (met [] form)) = solved_sorts sig accepted form r [] tt (none_valued sig) t v s k in
         let same : SameSolution sig s (meant sig (zip (met [] form) us)) = solved_same sig accepted form r [] tt (none_valued sig) t v s k in (
           us,
           size ∙ ap (λ (xs : List Variable). length xs) (sym in_order) ∙ sym sized,
-          (apply_same one.operator one.operator (fill_all us ps) ts gives).1,
+          (apply_same one.operator one.operator (evaluated_all sig us ps) ts gives).1,
           solved_values sig accepted form r [] tt (none_valued sig) t v s k,
           subst (AreOfSorts sig us) (ap sorts_of (sym in_order) ∙ sym one.of.is.sorts) sorts,
           subst (λ xs. SameSolution sig s (meant sig (zip xs us))) (sym in_order) same,
         )
 
     -- and values that give it are one where they have their sorts
-    module _ (us : List RawTerm) (size : length us ≡ length st.sorts) (gives : fill_all us ps ≡ ts) where
-      arguments_canonical : (f : ℕ) (ts : RawTerms) → IsCanonical sig (apply f ts) → Each (IsCanonical sig) ts
-      arguments_canonical f ts h = each_canonical sig ts h.0
-
+    module _ (us : List RawTerm) (size : length us ≡ length st.sorts) (gives : evaluated_all sig us ps ≡ ts) where
       canonical : (i : ℕ) (u : RawTerm) → slice_get us i ≡ Some u → IsCanonical sig u
       canonical i u k =
           let w = slice_get_within us i u k in
           let c = count_sorts in
-          values_each (IsCanonical sig) arguments_canonical us ps ts gives one.left.numbered (arguments_canonical one.operator ts (subst (IsCanonical sig) t_is v.canonical)) i (omega (arith, w, size, c)) u k
+          let arguments : AreCanonical sig ts = (subst (IsCanonical sig) t_is v.canonical).0 in
+          values_each sig us ps one.left.straight one.left.numbered (subst (AreCanonical sig) (sym gives) arguments) i (omega (arith, w, size, c)) u k
 
       match : IsMatch sig free_theory (placed (met [] form) form) t [] us
       match = record {
         begins = tt;
         size = size ∙ sym count_sorts ∙ sym (ap (counted 0) pattern_is);
-        gives = evaluated_is_filled us ∙ ap (apply one.operator) gives ∙ sym t_is;
+        gives = evaluated_is us ∙ ap (apply one.operator) gives ∙ sym t_is;
         fits = λ i u l k. (canonical i u k, refl);
       }
 

@@ -1,8 +1,8 @@
 pub mod Listed
 -- Lists of terms and of patterns, one by one.
 pub mod Walking
--- Terms without axioms.
-pub mod FreeTerms
+-- Operators without axioms, and the values of patterns that are compared.
+pub mod PlainTerms
 -- Operators that stay on top.
 pub mod Staying
 -- Variables in the order in which they are met.

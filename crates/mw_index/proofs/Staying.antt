@@ -31,7 +31,7 @@ use Rattle.mw_index.specs.Index.{operator_of}
 use Rattle.mw_index.specs.Sections.{IsLeaf, Asks, IsSectionOf}
 use Rattle.mw_index.specs.declared.index.Section.{Section}
 use Rattle.mw_index.specs.declared.index.Section.TheVariants.{Operator, Any, Leaves}
-use Rattle.mw_index.proofs.FreeTerms.{uncounted}
+use Rattle.mw_index.proofs.PlainTerms.{uncounted}
 
 flattened_long : (f : ℕ) (t : RawTerm) (ts : RawTerms) → IsLong (flattened None f (cons t ts))
 flattened_long f t ts = long-join _ (flattened None f ts) (own_arguments-long f t)

@@ -15,6 +15,7 @@ use Rattle.mw_pattern.specs.Clean.{clean, clean_all}
 use Rattle.mw_pattern.specs.declared.pattern.Pattern.{Pattern}
 use Rattle.mw_term.specs.Raws.{raw_term, raw_terms}
 use Rattle.mw_term.specs.declared.raw.Raw.{Raw}
+use Rattle.mw_match.specs.Straight.{IsStraight, AreStraight}
 use Rattle.mw_index.specs.Free.{IsFree, AreFree}
 
 -- a term more behind those that are made, of those that are to be
@@ -70,7 +71,14 @@ module _ (sig : Signature) (vs : List RawTerm) (ps : List Pattern) (i : ℕ) whe
 pub within_more : (n : ℕ) (ps : List Pattern) (i : ℕ) (p : Pattern) → i < length ps → p ≡ get_or ps i p → AreWithin n (clean_all (drop i ps)) → IsWithin n (clean p) × AreWithin n (clean_all (drop (i + 1) ps))
 within_more n ps i p h e w = subst (AreWithin n) (cleaned_at ps i p h e) w
 
--- those that are left make all of them free
+-- those that are left make all of them straight, and free
+pub straight_more : (sig : Signature) (ps : List Pattern) (i : ℕ) (p : Pattern) (whole : RawTerms) → i < length ps → p ≡ get_or ps i p → IsStraight sig (clean p)
+    → (AreStraight sig (clean_all (drop i ps)) → AreStraight sig whole) → AreStraight sig (clean_all (drop (i + 1) ps)) → AreStraight sig whole
+straight_more sig ps i p whole h e f old rest = old (subst (AreStraight sig) (sym (cleaned_at ps i p h e)) (f, rest))
+
+pub straight_end : (sig : Signature) (ps : List Pattern) (i : ℕ) (whole : RawTerms) → length ps ≤ i → (AreStraight sig (clean_all (drop i ps)) → AreStraight sig whole) → AreStraight sig whole
+straight_end sig ps i whole h old = old (subst (AreStraight sig) (sym (cleaned_end ps i h)) tt)
+
 pub free_more : (sig : Signature) (ps : List Pattern) (i : ℕ) (p : Pattern) (whole : RawTerms) → i < length ps → p ≡ get_or ps i p → IsFree sig (clean p)
     → (AreFree sig (clean_all (drop i ps)) → AreFree sig whole) → AreFree sig (clean_all (drop (i + 1) ps)) → AreFree sig whole
 free_more sig ps i p whole h e f old rest = old (subst (AreFree sig) (sym (cleaned_at ps i p h e)) (f, rest))

@@ -8,7 +8,7 @@ use Rattle.mw_logic.specs.Substitution.{Substitution, IsSolution, SameSolution}
 use Rattle.mw_logic.specs.Module.{Module, Statement, IsStatement}
 use Rattle.mw_logic.specs.Parts.{nested}
 use Rattle.mw_canon.specs.Canonical.{meant}
-use Rattle.mw_position.specs.Positions.{fill_all}
+use Rattle.mw_matching.specs.Matches.{evaluated_all}
 use Rattle.mw_search.specs.Lacking.{HaveTheirSorts, OneLacksItsSort}
 use Rattle.mw_deduction.specs.Tops.{IsTop}
 use Rattle.mw_solving.specs.Values.{AreValues}
@@ -143,8 +143,8 @@ IsSized st o = MatchOption o ⊤ (λ q. (q.equation.now ≡ st) × (length q.val
 -- Values make patterns the terms ts and have these sorts, and no others make them so; or each that do lack a sort.
 abbrev pub AreFitting : Signature → List ℕ → RawTerms → RawTerms → List RawTerm → Bool → Type 0
 AreFitting sig sorts ps ts found true =
-    (length found ≡ length sorts) × (fill_all found ps ≡ ts) × HaveTheirSorts sig sorts 0 found × ((us : List RawTerm) → length us ≡ length sorts → fill_all us ps ≡ ts → us ≡ found)
-AreFitting sig sorts ps ts found false = (us : List RawTerm) → length us ≡ length sorts → fill_all us ps ≡ ts → OneLacksItsSort sig sorts 0 us
+    (length found ≡ length sorts) × (evaluated_all sig found ps ≡ ts) × HaveTheirSorts sig sorts 0 found × ((us : List RawTerm) → length us ≡ length sorts → evaluated_all sig us ps ≡ ts → us ≡ found)
+AreFitting sig sorts ps ts found false = (us : List RawTerm) → length us ≡ length sorts → evaluated_all sig us ps ≡ ts → OneLacksItsSort sig sorts 0 us
 
 -- the values at these places, as far as there are such
 abbrev pub in_order : List RawTerm → List ℕ → List RawTerm

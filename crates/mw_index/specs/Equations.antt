@@ -8,17 +8,21 @@ use Rattle.mw_position.specs.Positions.{fill, AreNumbered, counted_all}
 use Rattle.mw_position.specs.Variables.{met, place, placed, sorts_of}
 use Rattle.mw_pattern.specs.Clean.{clean}
 use Rattle.mw_compile.specs.Compiled.{IsCompiled}
-use Rattle.mw_index.specs.Free.{IsFree}
+use Rattle.mw_canon.specs.Axioms.{HasAxioms}
+use Rattle.mw_canon.specs.declared.axioms.Axioms.TheVariants as axioms
+use Rattle.mw_match.specs.Straight.{AreStraight}
+use Rattle.mw_index.specs.Free.{IsFree, AreFree}
 use Rattle.mw_index.specs.declared.equations.Equation.{Equation}
 use Rattle.mw_index.specs.declared.equations.Searched.{Searched}
 use Rattle.mw_index.specs.declared.equations.Left.{Left}
 use Rattle.mw_index.specs.declared.equations.Left.TheVariants as left
 
--- The canonical left side is f on these patterns, in which no operator has an axiom. The variables, which stand by their positions among the
--- statement's, are met in that order.
+-- The canonical left side is f on these patterns. f has no axiom, nor has another operator but the successor of numbers. The variables, which
+-- stand by their positions among the statement's, are met in that order.
 pub record IsPlainLeft (sig : Signature) (f : ℕ) (e : Statement) (ps : RawTerms) : Type 0 where
   pub pattern : apply f ps ≡ placed e.variables (normal_form sig e.left)
-  pub free : IsFree sig (apply f ps)
+  pub plain : HasAxioms sig f axioms.Plain
+  pub straight : AreStraight sig ps
   pub numbered : AreNumbered 0 ps
   pub count : counted_all 0 ps ≡ length (met [] e.left)
 
@@ -33,11 +37,17 @@ IsLeft sig None e (left.Plain ps) = ⊥
 IsLeft sig (Some f) e (left.Plain ps) = IsPlainLeft sig f e ps
 IsLeft sig top e (left.Searched s) = IsSearchedLeft sig e s.value
 
+-- a plain left side in which no operator has an axiom
+abbrev pub HasFreeLeft : Signature → Left → Type 0
+HasFreeLeft sig (left.Plain ps) = AreFree sig ps
+HasFreeLeft sig (left.Searched s) = ⊥
+
 -- st is the equation e, for terms with the operator `top` on top, or with none
 pub record IsEquation (sig : Signature) (top : Option ℕ) (e : Statement) (st : Equation) : Type 0 where
   pub left : IsLeft sig top e st.left
   pub right : clean st.right ≡ placed e.variables (normal_form sig e.right)
   pub free : IsTrue st.free → IsFree sig (clean st.right)
+  pub sure : IsTrue st.sure → HasFreeLeft sig st.left
   -- its variables stay
   pub levels : st.levels ≡ min (height (fill [] (clean st.right))) (2 ^ 16 - 1)
   pub sorts : st.sorts ≡ sorts_of e.variables

@@ -7,6 +7,7 @@ ghost use Rattle.mw_logic.specs.Terms.{terms_of};
 ghost use Rattle.mw_position.specs.Positions.{IsWithin, AreNumbered, counted_all};
 ghost use Rattle.mw_position.specs.Variables.{bound_values, sorts_of};
 ghost use Rattle.mw_pattern.specs.Clean.{clean};
+ghost use Rattle.mw_match.specs.Straight.{AreStraight};
 ghost use Rattle.mw_solving.specs.Values.{IsValue};
 ghost use Rattle.mw_term.specs.declared.subst.Binding.{Binding as BindingOf};
 ghost use Rattle.mw_index.specs.Index.{operator_of, IsOf, IsIndexOf};
@@ -95,6 +96,7 @@ fn chosen<'m>(
 /// Whether an equation's left side has these arguments, by values of its variables' sorts, which are found.
 #[inline(always)]
 fn fits(
+    alloc: Global,
     context: &Ctx,
     equation: &Equation,
     patterns: &Patterns,
@@ -102,12 +104,13 @@ fn fits(
     found: &mut Vec<Term>,
 ) -> Result<bool, AllocError>
     requires numbered { AreNumbered 0 patterns.now }
+    requires straight { AreStraight context.now.signature patterns.now }
     requires count { counted_all 0 patterns.now ≡ length equation.now.sorts }
     ensures { let sorts = equation.now.sorts in
         IfOk result (AreFitting context.now.signature sorts patterns.now (terms_of args.now) found.new.items) }
 {
     found.clear();
-    if !all_match(patterns, args, found)? {
+    if !all_match(alloc, context.facts(), patterns, args, found)? {
         return Ok(false);
     }
     let sorts = equation.sorts.as_slice();
@@ -171,7 +174,8 @@ impl<'m> Choices<'m> {
             return Ok(None);
         }
         context.shows();
-        if !fits(context, equation, patterns, subject.args(), &mut self.spare)? {
+        let args = subject.args();
+        if !fits(alloc, context, equation, patterns, args, &mut self.spare)? {
             return Ok(None);
         }
         self.given = true;

@@ -14,7 +14,8 @@ pub struct Searched {
 /// The left side of an equation.
 #[derive(Drop)]
 pub enum Left {
-    /// The arguments of the operator on top, where no operator has an axiom: they are compared one by one.
+    /// The arguments of the operator on top, where no operator has an axiom but the successor of numbers, which isn't on
+    /// top: they are compared one by one.
     Plain(Patterns),
     /// Any other left side is searched for modulo the axioms.
     Searched(Box<Searched>),
@@ -26,6 +27,8 @@ pub struct Equation {
     /// The statement's number, from 1.
     pub number: usize,
     pub left: Left,
+    /// Whether the left side is plain and has no successor either.
+    pub sure: bool,
     pub right: Pattern,
     /// Whether no operator of the right side has an axiom.
     pub free: bool,

@@ -5,13 +5,14 @@ ghost use Rattle.mw_logic.specs.Module.{IsStatement};
 ghost use Rattle.mw_logic.specs.NormalForm.{normal_form};
 ghost use Rattle.mw_position.specs.Variables.{is_in, place, AreDistinct};
 ghost use Rattle.mw_compile.specs.Compiled.{AreAmong};
-ghost use Rattle.mw_index.specs.Equations.{IsLeft, IsSearchedLeft, IsEquation};
+ghost use Rattle.mw_index.specs.Equations.{IsLeft, IsSearchedLeft, HasFreeLeft, IsEquation};
 ghost use Rattle.mw_index.specs.Sections.{AreIn, Asks, IsSectionOf};
 
 use crate::equations::{Equation, Left, Searched};
 use crate::index::Section;
 use crate::normal::normal;
-use crate::patterns::{is_free, pattern_of, plain_arguments};
+use crate::patterns::{are_free, is_free, pattern_of, plain_arguments};
+use mw_canon::Facts;
 use mw_compile::compile;
 use mw_least::Ctx;
 use mw_pattern::{Places, depth_at};
@@ -96,6 +97,16 @@ fn left_of(
     Ok(Left::Searched(Box::new(alloc, searched)?))
 }
 
+/// Whether a left side is plain and has no successor.
+fn is_sure(facts: &Facts, left: &Left) -> bool
+    ensures { IsTrue result → HasFreeLeft facts.now left.now }
+{
+    match left {
+        Left::Plain(patterns) => are_free(facts, patterns, false),
+        Left::Searched(_) => false,
+    }
+}
+
 /// The equation of a statement with this canonical left side, for a section.
 pub fn equation_of(
     alloc: Global,
@@ -116,13 +127,15 @@ pub fn equation_of(
     let places = Places::new(alloc, statement.variables.as_slice())?;
     let right = normal(alloc, context.facts(), &statement.right)?;
     let right = pattern_of(alloc, &places, &right)?;
-    let free = is_free(context.facts(), &right);
+    let free = is_free(context.facts(), &right, false);
     let levels = depth_at(&right, &[]);
     let left = left_of(alloc, context, &places, section, number, statement, left)?;
+    let sure = is_sure(context.facts(), &left);
     let sorts = places.sorts(alloc)?;
     Ok(Equation {
         number,
         left,
+        sure,
         right,
         free,
         levels,

@@ -1,5 +1,7 @@
 // Canonical terms as patterns, and what is asked of these.
-ghost use Rattle.std.specs.Prelude.{◌≡◌, ⊤, IfOk, IsTrue, MatchOption};
+ghost use Rattle.std.specs.Prelude.{◌≡◌, ⊤, false, IfOk, IsTrue, MatchOption};
+ghost use Rattle.mw_logic.specs.NormalForm.{is_comm};
+ghost use Rattle.mw_logic.specs.Parts.{is_assoc};
 ghost use Rattle.mw_logic.specs.Terms.{terms_of};
 ghost use Rattle.mw_canon.specs.Axioms.{HasAxioms};
 ghost use Rattle.mw_canon.specs.declared.axioms.Axioms.TheVariants.{Plain};
@@ -7,6 +9,7 @@ ghost use Rattle.mw_compile.specs.Compiled.{AreAmong, AreAllAmong};
 ghost use Rattle.mw_position.specs.Positions.{IsNumbered, AreNumbered, counted, counted_all};
 ghost use Rattle.mw_position.specs.Variables.{placed, all_placed};
 ghost use Rattle.mw_pattern.specs.Clean.{clean};
+ghost use Rattle.mw_match.specs.Straight.{IsStraight, AreStraight};
 ghost use Rattle.mw_index.specs.Free.{IsFree, AreFree, ArePlainArguments};
 
 use mw_canon::{Axioms, Facts};
@@ -47,35 +50,42 @@ fn patterns_of(alloc: Global, places: &Places<'_>, terms: &[Term]) -> Result<Pat
     Ok(Patterns::new(made))
 }
 
-fn is_plain(facts: &Facts, operator: OpId) -> bool
-    ensures { IsTrue result → HasAxioms facts.now operator Plain }
+/// Whether an operator has no axiom, or may be the successor of numbers and is it.
+fn is_plain(facts: &Facts, operator: OpId, successor: bool) -> bool
+    ensures plain { successor ≡ false → IsTrue result → HasAxioms facts.now operator Plain }
+    ensures straight { IsTrue result → (is_assoc facts.now operator ≡ false) × (is_comm facts.now operator ≡ false) }
 {
     match facts.axioms(operator) {
         Axioms::Plain => true,
+        Axioms::Successor => successor,
         Axioms::Commutative => false,
-        Axioms::Successor => false,
         Axioms::Associative { .. } => false,
     }
 }
 
-/// Whether no operator of a pattern has an axiom or is the successor of numbers.
+/// Whether each operator of a pattern has no axiom, or may be the successor of numbers and is it.
 #[cycle(free)]
-pub fn is_free(facts: &Facts, pattern: &Pattern) -> bool
-    ensures { IsTrue result → IsFree facts.now (clean pattern.now) }
+pub fn is_free(facts: &Facts, pattern: &Pattern, successor: bool) -> bool
+    ensures free { successor ≡ false → IsTrue result → IsFree facts.now (clean pattern.now) }
+    ensures straight { IsTrue result → IsStraight facts.now (clean pattern.now) }
 {
     match pattern {
-        Pattern::Op(operator, args) => is_plain(facts, *operator) && are_free(facts, args),
+        Pattern::Op(operator, args) => {
+            is_plain(facts, *operator, successor) && are_free(facts, args, successor)
+        }
         _ => true,
     }
 }
 
+/// The same of several patterns.
 #[cycle(free)]
-fn are_free(facts: &Facts, patterns: &Patterns) -> bool
-    ensures { IsTrue result → AreFree facts.now patterns.now }
+pub fn are_free(facts: &Facts, patterns: &Patterns, successor: bool) -> bool
+    ensures free { successor ≡ false → IsTrue result → AreFree facts.now patterns.now }
+    ensures straight { IsTrue result → AreStraight facts.now patterns.now }
 {
     let list = patterns.slice();
     for pattern in list {
-        if !is_free(facts, pattern) {
+        if !is_free(facts, pattern, successor) {
             return false;
         }
     }
@@ -124,8 +134,8 @@ fn are_met(patterns: &Patterns, count: usize) -> bool
     }
 }
 
-/// The arguments of the operator on top, where no operator has an axiom and the variables are met in the order of their
-/// places.
+/// The arguments of the operator on top, which has no axiom, where no other operator has one but the successor of
+/// numbers and the variables are met in the order of their places.
 pub fn plain_arguments(
     alloc: Global,
     facts: &Facts,
@@ -138,11 +148,11 @@ pub fn plain_arguments(
     let View::Op(operator, args) = term.view() else {
         return Ok(None);
     };
-    if !is_plain(facts, operator) {
+    if !is_plain(facts, operator, false) {
         return Ok(None);
     }
     let made = patterns_of(alloc, places, args)?;
-    if are_free(facts, &made) && are_met(&made, places.len()) {
+    if are_free(facts, &made, true) && are_met(&made, places.len()) {
         Ok(Some(made))
     } else {
         Ok(None)

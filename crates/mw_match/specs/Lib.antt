@@ -1,3 +1,4 @@
+pub mod Straight
 pub mod Matching
 pub mod Solutions
 pub mod Parts

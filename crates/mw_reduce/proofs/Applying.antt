@@ -16,12 +16,12 @@ use Rattle.mw_position.specs.Variables.{placed, sorts_of}
 use Rattle.mw_pattern.specs.Clean.{clean}
 use Rattle.mw_least.specs.Workable.{IsWorkable}
 use Rattle.mw_index.specs.Choices.{IsTaken, IsChoice}
-use Rattle.mw_index.specs.Equations.{IsLeft, IsPlainLeft}
+use Rattle.mw_index.specs.Equations.{IsLeft, HasFreeLeft}
 use Rattle.mw_index.specs.Index.{operator_of}
 use Rattle.mw_index.specs.Free as index
 use Rattle.mw_index.specs.declared.choices.Choice.{Choice}
 use Rattle.mw_index.specs.declared.equations.Left.{Left}
-use Rattle.mw_index.specs.declared.equations.Left.TheVariants.{Plain}
+use Rattle.mw_index.specs.declared.equations.Left.TheVariants.{Plain, Searched}
 use Rattle.mw_frames.specs.Free as frames
 use Rattle.mw_frames.specs.Redex.{IsRowOf}
 use Rattle.mw_frames.specs.Fires.{IsPartTaken, IsApplied}
@@ -47,10 +47,11 @@ length_sorts : (xs : List Variable) → length (sorts_of xs) ≡ length xs
 length_sorts [] = refl
 length_sorts (x ∷ xs) = ap suc (length_sorts xs)
 
-plain_left : (sig : Signature) (top : Option ℕ) (e : Rattle.mw_logic.specs.Module.Statement) (l : Left) (ps : RawTerms) → IsLeft sig top e l → l ≡ Plain ps
-    → (f : ℕ) × (qs : RawTerms) × (apply f qs ≡ placed e.variables (normal_form sig e.left)) × frames.IsFree sig (apply f qs)
-plain_left sig None e l ps h q = absurd (subst (IsLeft sig None e) q h)
-plain_left sig (Some f) e l ps h q = let p : IsPlainLeft sig f e ps = subst (IsLeft sig (Some f) e) q h in (f, ps, p.pattern, free_same sig (apply f ps) p.free)
+free_left : (sig : Signature) (top : Option ℕ) (e : Rattle.mw_logic.specs.Module.Statement) (l : Left) → IsLeft sig top e l → HasFreeLeft sig l
+    → (f : ℕ) × (ps : RawTerms) × (apply f ps ≡ placed e.variables (normal_form sig e.left)) × frames.IsFree sig (apply f ps)
+free_left sig None e (Plain ps) h k = absurd h
+free_left sig (Some f) e (Plain ps) h k = (f, ps, h.pattern, free_same sig (apply f ps) (h.plain, k))
+free_left sig top e (Searched s) h k = absurd k
 
 pub choice_applies : (M : Module) → IsWorkable M → (t : RawTerm) (c : Choice) → (i : IsChoice M t c) → length c.values.items ≡ length c.equation.now.sorts → (a : Applied) → IsAppliedAs c.equation.now a
     → IsPartTaken M.signature c.take t i.part × IsApplied M a c.values.items i.part
@@ -69,7 +70,7 @@ choice_applies M w t c i sized a is = (
     };
     free = λ h. subst (λ p. frames.IsFree M.signature (clean p)) (sym is.right) (free_same M.signature (clean c.equation.now.right) (i.is.free (sym is.free ∙ h)));
     levels = is.levels ∙ i.is.levels ∙ ap (λ p. min (height (fill [] (clean p))) (2 ^ 16 - 1)) (sym is.right);
-    sure = λ h. let (ps, e) = is.sure h in plain_left M.signature (operator_of t) i.statement c.equation.now.left ps i.is.left e;
+    sure = λ h. free_left M.signature (operator_of t) i.statement c.equation.now.left i.is.left (i.is.sure (sym is.sure ∙ h));
   },
 )
 

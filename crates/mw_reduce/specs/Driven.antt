@@ -26,7 +26,7 @@ pub record IsAppliedAs (e : Equation) (a : Applied) : Type 0 where
   pub right : a.right.now ≡ e.right
   pub free : a.free ≡ e.free
   pub levels : a.levels ≡ e.levels
-  pub sure : IsTrue a.sure → (ps : RawTerms) × (e.left ≡ Plain ps)
+  pub sure : a.sure ≡ e.sure
 
 abbrev pub IsPause : Run → ℕ → Index → Data → Choices → Pause → Type 0
 IsPause K count m d rest (Ended t) = IsEnd K count d t

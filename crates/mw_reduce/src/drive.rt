@@ -13,7 +13,7 @@ ghost use Rattle.mw_reduce.specs.Driven.{IsAppliedAs, IsPause, EndsAt, IsNext, I
 use crate::turning::{Turn, take_turn};
 use mw_canon::Facts;
 use mw_frames::{Applied, Asked, Fired, Frame, Hand, Machine, decide, fire, halt, meet, stop};
-use mw_index::{Choice, Choices, Equation, Index, Left};
+use mw_index::{Choice, Choices, Equation, Index};
 use mw_least::Ctx;
 use mw_proof::Reason;
 use mw_term::{Seq, Term};
@@ -101,7 +101,7 @@ fn applied<'m>(equation: &'m Equation) -> Applied<'m>
         right: &equation.right,
         free: equation.free,
         levels: equation.levels,
-        sure: matches!(equation.left, Left::Plain(_)),
+        sure: equation.sure,
     }
 }
 

@@ -8,7 +8,7 @@ use Rattle.mw_index.proofs.choices.fits.Goals as goal
 pub returns : goal.returns
 returns c =
     let sig : Signature = c.args.context.now.signature in
-    let d = rw c.if-not-branch.false at c.in_ok-all_match.ensures.decides in
+    let d = rw c.facts.ensures at (rw c.if-not-branch.false at c.in_ok-all_match.ensures.decides) in
     let n = c.in_ok-all_match.ensures.count c.if-not-branch.false in
     let vs : c.as_slice.result.now ≡ c.all_match.new.values.items = c.as_slice.ensures.value in
     let ss : c.as_slice-sorts.result.now ≡ c.args.equation.now.sorts = c.as_slice-sorts.ensures in

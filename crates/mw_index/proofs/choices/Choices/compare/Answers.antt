@@ -6,12 +6,15 @@ use Rattle.mw_term.specs.declared.term.Term.{Term}
 use Rattle.mw_index.specs.Choices.{subject_of, tried_of, AreFitting}
 use Rattle.mw_index.specs.declared.equations.Equation.{Equation}
 use Rattle.mw_index.specs.declared.choices.Choice.{Choice}
-use Rattle.mw_index.proofs.Comparing.{count_sorts}
+use Rattle.mw_index.proofs.Comparing.{are_straight, count_sorts}
 use Rattle.mw_index.proofs.Trying.{all_lack, all_tried, plain_choice, search_more}
 use Rattle.mw_index.proofs.choices.Choices.compare.Goals as goal
 
 pub fits-requires-clause-count : goal.fits-requires-clause-count
 fits-requires-clause-count c = count_sorts c.args.context.now c.shows.ensures _ c.args.equation.now c.args.patterns.now c.requires
+
+pub fits-requires-clause-straight : goal.fits-requires-clause-straight
+fits-requires-clause-straight c = are_straight c.args.context.now c.shows.ensures _ c.args.equation.now c.args.patterns.now c.requires
 
 pub returns-then-not-branch-clause-is : goal.returns-then-not-branch-clause-is
 returns-then-not-branch-clause-is c tried v kept under =
@@ -20,8 +23,8 @@ returns-then-not-branch-clause-is c tried v kept under =
     let t : RawTerm = subject_of c.args.subject in
     let found : List RawTerm = c.fits.new.found.items in
     let h : AreFitting M.signature st.sorts c.args.patterns.now (args_of t) found false =
-    subst (λ ts. AreFitting M.signature st.sorts c.args.patterns.now ts found false) c.args-2.ensures
-    (subst (AreFitting M.signature st.sorts c.args.patterns.now (terms_of c.args-2.result.now) found) c.if-not-branch.true c.in_ok-fits.ensures) in
+    subst (λ ts. AreFitting M.signature st.sorts c.args.patterns.now ts found false) c.args-args.ensures
+    (subst (AreFitting M.signature st.sorts c.args.patterns.now (terms_of c.args-args.result.now) found) c.if-not-branch.true c.in_ok-fits.ensures) in
     record { subject = kept; answer = all_lack M c.shows.ensures _ st c.args.patterns.now c.requires t v refl tried found h }
 
 pub returns-clause-is : goal.returns-clause-is
@@ -33,8 +36,8 @@ returns-clause-is c tried v kept under =
     let values : c.replace-values.result.items ≡ c.fits.new.found.items = ap (λ (v : Vec Term Global). v.items) c.replace-values.ensures.value in
     let h : AreFitting M.signature st.sorts c.args.patterns.now (args_of t) q.values.items true =
     subst (λ us. AreFitting M.signature st.sorts c.args.patterns.now (args_of t) us true) (sym values)
-    (subst (λ ts. AreFitting M.signature st.sorts c.args.patterns.now ts c.fits.new.found.items true) c.args-2.ensures
-    (subst (AreFitting M.signature st.sorts c.args.patterns.now (terms_of c.args-2.result.now) c.fits.new.found.items) c.if-not-branch.false c.in_ok-fits.ensures)) in
+    (subst (λ ts. AreFitting M.signature st.sorts c.args.patterns.now ts c.fits.new.found.items true) c.args-args.ensures
+    (subst (AreFitting M.signature st.sorts c.args.patterns.now (terms_of c.args-args.result.now) c.fits.new.found.items) c.if-not-branch.false c.in_ok-fits.ensures)) in
     record {
       subject = kept;
       answer = (
