@@ -9,8 +9,8 @@
 //!   on top, or with none. All of it are equations of the module (`IsOf`), and for each term that an equation applies
 //!   to, or applies to several arguments of, it is among what is asked (`IsIndexOf`).
 //! - An [`Equation`] has its canonical sides as patterns, with positions for the statement's variables (`IsEquation`).
-//!   Its left side is compared argument by argument where no operator in it has an axiom or is the successor
-//!   (`Left::Plain`), and searched for else (`Left::Searched`).
+//!   Its left side is compared argument by argument where the operator on top has no axiom and no other one has but
+//!   the successor of numbers (`Left::Plain`), and searched for else (`Left::Searched`).
 //! - [`Choices`] gives the choices at a term, one after another. What contracts see is `Covers`, of the choices that
 //!   were tried: each solution of an equation that was passed, for the term or a top part of it, is the same as one of
 //!   these. It holds at the beginning of none tried. `next` answers a choice (`IsChoice`: a solution of the left side

@@ -3,7 +3,7 @@ use Rattle.std.specs.Prelude.{◌≡◌, ℕ, List, [], ◌∷◌, ◌++◌, map
 use Rattle.std.proofs.Common.{sym, ap, subst, ◌∙◌, append_assoc}
 use Rattle.std.proofs.lemmas.Bool.{both_ways}
 use Rattle.mw_logic.specs.Signature.{Signature}
-use Rattle.mw_matching.specs.Found.{Values, found as found_in}
+use Rattle.mw_matching.specs.Found.{Values}
 use Rattle.mw_search.specs.Lacking.{Each, Skips}
 use Rattle.mw_search.specs.Searches.{Matches, FitsSorts as FitsBySearch}
 use Rattle.mw_match.specs.Solutions.{Coming, FitsSorts, Lacks, PassesTo, LacksBySearch, candidate, matches_of}

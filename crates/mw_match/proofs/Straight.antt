@@ -1,14 +1,12 @@
 -- Operators without axioms, or the successor of numbers, on terms.
-use Rattle.std.specs.Prelude.{◌≡◌, ◌≢◌, ◌≤◌, ◌<◌, ◌^◌, ◌&&◌, ◌↔◌, ℕ, zero, suc, List, [], ◌∷◌, length, drop, get_or, Bool, true, false, cond, nat_lt, refl}
-use Rattle.std.proofs.lemmas.Bool.{lt-ltb}
-use Rattle.std.proofs.Common.{sym, ap, subst, ◌∙◌, arith, true≢false}
+use Rattle.std.specs.Prelude.{◌≡◌, ◌≢◌, ◌<◌, ◌^◌, ◌&&◌, ℕ, zero, suc, List, [], ◌∷◌, length, drop, get_or, Bool, true, false, cond, nat_lt, refl}
+use Rattle.std.proofs.Common.{sym, ap, subst, ◌∙◌}
 use Rattle.mw_logic.specs.Term.{RawTerm, numeral, quoted, variable, apply, RawTerms, nil, cons}
 use Rattle.mw_logic.specs.Terms.{terms_of}
 use Rattle.mw_logic.specs.Signature.{Signature}
 use Rattle.mw_logic.specs.Parts.{is_assoc}
 use Rattle.mw_logic.specs.Kinds.{is_successor}
 use Rattle.mw_logic.specs.NormalForm.{is_comm, counted as counted_up, applied_in}
-use Rattle.mw_position.specs.Positions.{Begins}
 use Rattle.mw_matching.specs.Matches.{evaluated, evaluated_all}
 use Rattle.mw_pattern.specs.Clean.{clean, clean_all}
 use Rattle.mw_pattern.specs.declared.pattern.Pattern.{Pattern}

@@ -1,11 +1,12 @@
 //! Matching: which values of its variables make a pattern a term.
 //!
-//! - `matches` and `all_match` compare patterns by position (mw_pattern) with terms, as if no operator had an axiom,
-//!   and put the values of new variables behind those that are there. `Decides` says what they found: of all lists of
-//!   values that begin with the old ones, those that give the term are those that begin with the new ones, or there
-//!   are none. Whatever is answered, the old values stand in front. `have_sorts` asks then whether each value has its
-//!   variable's sort, by `has_sort` of mw_least; without axioms nothing is lost by asking last, since one list of
-//!   values is all there is.
+//! - `matches` and `all_match` compare patterns by position (mw_pattern) with terms, place by place, where no operator
+//!   of a pattern is associative or commutative (`IsStraight`). The successor of numbers may stand in it: it meets a
+//!   numeral above 0 where the pattern below it meets the one before. Values of new variables come behind those that
+//!   are there. `Decides` says what they found: of all lists of values that begin with the old ones, those whose
+//!   canonical instance is the term are those that begin with the new ones, or there are none. Whatever is answered,
+//!   the old values stand in front. `have_sorts` asks then whether each value has its variable's sort, by `has_sort` of
+//!   mw_least; nothing is lost by asking last, since one list of values is all there is.
 //! - [`Solutions`] gives the solutions of a compiled pattern (mw_compile) that extend a given substitution, one by one,
 //!   modulo the axioms of any accepted signature: for a whole subject (`new`), or also for its proper parts on top
 //!   (`inside`, and `anywhere` for no given values). It searches by mw_search.
@@ -50,7 +51,7 @@
 //! theirs. `anywhere` asks for the latter alone. What `have_sorts` says holds where the signature is simple (`simple`),
 //! or of values that are canonical terms and mean ground raw terms (`fits`, `lacks`).
 //!
-//! Cost: `matches` costs what is compared, a value one count. `Solutions` costs what its searches do, and for each
+//! Cost: `matches` costs what is compared, a value one count, and a successor that meets a numeral a new numeral. `Solutions` costs what its searches do, and for each
 //! solution a copy of the variables' names, a count for each value and a number for each argument that it takes. For
 //! proper parts there are up to two searches for each argument, each with a count for each given value; one that
 //! doesn't begin takes no memory. The arguments aren't copied for a search but where a pattern without the operator on

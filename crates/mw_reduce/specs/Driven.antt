@@ -1,11 +1,10 @@
 -- How a run ends.
-use Rattle.std.specs.Prelude.{◌≡◌, ◌⊎◌, ◌<◌, ℕ, suc, IsTrue}
-use Rattle.mw_logic.specs.Term.{RawTerm, RawTerms}
+use Rattle.std.specs.Prelude.{◌≡◌, ◌⊎◌, ◌<◌, ℕ, suc}
+use Rattle.mw_logic.specs.Term.{RawTerm}
 use Rattle.mw_logic.specs.Parts.{nested}
 use Rattle.mw_index.specs.declared.index.Index.{Index}
 use Rattle.mw_index.specs.declared.choices.Choices.{Choices}
 use Rattle.mw_index.specs.declared.equations.Equation.{Equation}
-use Rattle.mw_index.specs.declared.equations.Left.TheVariants.{Plain}
 use Rattle.mw_frames.specs.declared.applying.Applied.{Applied}
 use Rattle.mw_proof.specs.declared.reason.Reason.TheVariants as reason
 use Rattle.mw_frames.specs.State.{Run, Data, Holds}

@@ -8,7 +8,7 @@ use Rattle.mw_pattern.specs.Clean.{clean, clean_all}
 use Rattle.mw_match.specs.Matching.{Decides}
 use Rattle.mw_pattern.proofs.Lists.{got}
 use Rattle.mw_position.proofs.Begins.{begins_same, begins_then, begins_append}
-use Rattle.mw_match.specs.Straight.{IsStraight, AreStraight}
+use Rattle.mw_match.specs.Straight.{AreStraight}
 use Rattle.mw_match.proofs.Straight.{straight_at, one_pattern, no_number}
 use Rattle.mw_match.proofs.Matching.{lengths_differ, matching_starts, numbered_here, pattern_height, matching_on, matching_fails, decides_same, decides_var_old, decides_var_new}
 use Rattle.mw_match.proofs.by_position.+matches.Goals as goal
