@@ -34,7 +34,7 @@ use Rattle.mw_frames.proofs.Larger.{whole_form, small_inside}
 use Rattle.mw_frames.proofs.Levels.{level_at}
 use Rattle.mw_frames.proofs.Redexes.{raw_in_place}
 
-height-positive : (t : RawTerm) → 1 ≤ height t
+pub height-positive : (t : RawTerm) → 1 ≤ height t
 height-positive (numeral n) = omega arith
 height-positive (quoted q) = omega arith
 height-positive (variable x) = omega arith

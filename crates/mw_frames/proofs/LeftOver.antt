@@ -134,7 +134,7 @@ taken_out at d0 d1 ws args r l e er eg = (
   ap (take at) e ∙ take-append-le at d0 ws l,
 )
 
-terms_of-list_of : (ts : RawTerms) → terms_of (list_of ts) ≡ ts
+pub terms_of-list_of : (ts : RawTerms) → terms_of (list_of ts) ≡ ts
 terms_of-list_of nil = refl
 terms_of-list_of (cons t ts) = ap (cons t) (terms_of-list_of ts)
 

@@ -30,3 +30,4 @@ pub mod PartsWaiting
 pub mod Arriving
 pub mod OpeningAmong
 pub mod Applications
+pub mod Pairs

@@ -139,7 +139,7 @@ module _ (K : Run) (sig : Signature) (run : IsRun K sig) (count : ℕ) where
   as_staying f h (cons t ts) e = (record { element = λ q. e.0; seen = λ z. not_successor here run.accepted f h z.successor }, as_staying f h ts e.1)
 
   -- several arguments are seen under any operator
-  several_seen : (f g : ℕ) (us : RawTerms) → AreSeveral us → ¬ IsHidden here f (apply g us)
+  pub several_seen : (f g : ℕ) (us : RawTerms) → AreSeveral us → ¬ IsHidden here f (apply g us)
   several_seen f g nil l h = elim l [ ]
   several_seen f g (cons t nil) l h = elim l [ ]
   several_seen f g (cons t (cons u us)) l (inl h) = both_ways _ (is_identity-arguments (identity_of here f) g t (cons u us)) h.1

@@ -18,3 +18,5 @@ pub mod Taking
 pub mod Arrivals
 -- What comes where an equation is applied.
 pub mod Fires
+-- A row is met at the first two of several arguments.
+pub mod Pairs

@@ -19,7 +19,9 @@
 //! - `meet` makes a replacement by a row of the schemata at what was asked for, or at several of its arguments, to a
 //!   term (`IsRowOf`, specs/Redex); `decide` one at a choice that is decided: the branch comes as it waits, the other
 //!   one is dropped.
-//! - These three answer `TooDeep` where the whole would have more than 1,000 levels, and else `TooLarge` where `s_`
+//! - `meet_pair` makes one at the first two of more arguments of a term in hand, where it makes a numeral of them at
+//!   which nothing applies (`IsPairMet`, specs/Pairs): this comes in order among the others, and the term isn't made.
+//! - `fire`, `meet` and `decide` answer `TooDeep` where the whole would have more than 1,000 levels, and else `TooLarge` where `s_`
 //!   would stand on the largest numeral, in what comes, right above it, or further out, where the operators between are
 //!   one numeral again (`grows`, specs/Larger). Then nothing is replaced, and the whole is answered as it stands.
 //! - `rest` goes on where nothing applies to what was asked for, which then is normal.
@@ -45,6 +47,7 @@ mod looking;
 mod machine;
 mod meeting;
 mod opening;
+mod pairing;
 mod passing;
 mod resting;
 mod stepping;
@@ -58,6 +61,7 @@ pub use job::{Frame, Hand, Job};
 pub use looking::{Asked, Step};
 pub use machine::Machine;
 pub use meeting::{halt, meet};
+pub use pairing::meet_pair;
 pub use resting::rest;
 pub use stepping::step;
 pub use whole::stop;

@@ -23,10 +23,10 @@
 //!
 //! Cost: `Index::of` makes two canonical forms for each equation, and walks its patterns a few times. A plain equation
 //! costs what is compared, one count for each value and its test for sorts; nothing is allocated but the list of
-//! values, for which `again` takes a list that is left from before. Of a term that is given by its arguments a whole
-//! one is made when the first equation is searched for, once, by one count for each argument. Searches cost what those
-//! of mw_match do, and the values of a solution one count each. The native stack grows with the depth of patterns and
-//! of terms.
+//! values, for which `again` takes a list that is left from before, and the number below where a successor meets one.
+//! Of a term that is given by its arguments a whole one is made when the first equation is searched for, once, by one
+//! count for each argument. Searches cost what those of mw_match do, and the values of a solution one count each. The
+//! native stack grows with the depth of patterns and of terms.
 //!
 //! Neither proved nor tested: time, memory, the order in which equations are asked (that of the module), and that an
 //! answer comes with memory at hand.

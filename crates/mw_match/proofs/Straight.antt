@@ -45,12 +45,6 @@ several_stay s f [] n = refl
 several_stay s f (t ∷ []) n = absurd (n refl)
 several_stay s f (t ∷ u ∷ ts) n = refl
 
--- one term, as a list
-pub only_one : (ts : List RawTerm) (t : RawTerm) → length ts ≡ 1 → t ≡ get_or ts 0 t → terms_of ts ≡ cons t nil
-only_one [] t l e = cc
-only_one (u ∷ []) t l e = ap (λ v. cons v nil) (sym e)
-only_one (u ∷ v ∷ ts) t l e = cc
-
 module _ (sig : Signature) where
   -- without associativity and commutativity only the successor of a numeral is anything else
   pub straight_applied : (f : ℕ) (ts : RawTerms) → is_assoc sig f ≡ false → is_comm sig f ≡ false → applied_in sig f ts ≡ counted_up (is_successor sig f) f ts

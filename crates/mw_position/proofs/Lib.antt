@@ -2,5 +2,4 @@ pub mod Begins
 pub mod Counting
 pub mod Meeting
 pub mod Placing
-pub mod Values
 pub mod Grounded

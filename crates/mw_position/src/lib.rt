@@ -6,6 +6,5 @@
 //!   they are met (`IsNumbered`); then the values of a match are found from the left, each behind the others, and so
 //!   lists of values only grow (`Begins`).
 //!
-//! The laws say that the values of a substitution's variables, in order, stand at their places (proofs/Placing), and
-//! that what holds of the arguments of each term it holds of, holds of the values of a match (proofs/Values).
+//! The laws say that the values of a substitution's variables, in order, stand at their places (proofs/Placing).
 #![tactic(auto)]

@@ -1,5 +1,5 @@
 -- A choice is an equation that applies, and a step by a row one that is met.
-use Rattle.std.specs.Prelude.{◌≡◌, ◌-◌, ◌^◌, min, ℕ, suc, List, [], ◌∷◌, length, Option, Some, None, refl}
+use Rattle.std.specs.Prelude.{IsNone, ◌≡◌, ◌-◌, ◌^◌, min, ℕ, suc, List, [], ◌∷◌, length, Option, Some, None, refl}
 use Rattle.std.proofs.Common.{sym, subst, ap, ◌∙◌}
 use Rattle.mw_logic.specs.Term.{Variable, RawTerm, RawTerms, numeral, quoted, variable, apply, nil, cons}
 use Rattle.mw_logic.specs.Signature.{Signature}
@@ -96,6 +96,12 @@ row_applies M ok n t take to g = (
     };
   },
 )
+
+-- the same of the whole term
+pub whole_row_applies : (M : Module) → IsAccepted M.signature → (n : ℕ) (t : RawTerm) (take : Option (List ℕ)) (to : RawTerm) → IsNone take → rows.IsGiven M.signature (IsNormalBy M (admitted_judgements M n).Fails) t take to
+    → IsRowOf M n t to
+whole_row_applies M ok n t None to none g = let (w, part, row) = row_applies M ok n t None to g in subst (λ u. IsRowOf M n u to) part row
+whole_row_applies M ok n t (Some ks) to none g = cc
 
 pub big_taken : (sig : Signature) (t : RawTerm) (take : Option (List ℕ)) → (b : rows.IsTooBigAt sig t take) → IsPartTaken sig take t b.is_form.part
 big_taken sig t take b = row_taken sig take t b.is_form.part b.is_form.taken

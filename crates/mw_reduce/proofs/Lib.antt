@@ -1,3 +1,4 @@
 pub mod Asks
 pub mod Applying
 pub mod Reduced
+pub mod Joining

@@ -1,5 +1,5 @@
 -- How a run ends.
-use Rattle.std.specs.Prelude.{◌≡◌, ◌⊎◌, ◌<◌, ℕ, suc}
+use Rattle.std.specs.Prelude.{◌≡◌, ◌⊎◌, ◌<◌, ◌≤◌, ◌+◌, ℕ}
 use Rattle.mw_logic.specs.Term.{RawTerm}
 use Rattle.mw_logic.specs.Parts.{nested}
 use Rattle.mw_index.specs.declared.index.Index.{Index}
@@ -44,10 +44,10 @@ EndsAt K count d t (Stopped reason.Nat) = IsWhole K count d t × (WouldBeTooLarg
 EndsAt K count d t (Stopped reason.Nest) = ⊥
 EndsAt K count d t (Stopped reason.Condition) = ⊥
 
--- what comes of a pause: one replacement more, or the end
-abbrev pub IsNext : Run → ℕ → Data → Next → Type 0
-IsNext K count d (Goes h) = Holds K (suc count) d h
-IsNext K count d (Ends e) = EndsAt K count d e.term e.outcome
+-- what comes of a pause: replacements, one at least and no more than are left, or the end
+abbrev pub IsNext : Run → ℕ → ℕ → Data → Next → Type 0
+IsNext K count left d (Goes h made) = (0 < made) × (made ≤ left) × Holds K (count + made) d h
+IsNext K count left d (Ends e) = EndsAt K count d e.term e.outcome
 
 -- After so many replacements, at most as many as the limit: it ends for such a reason below the limit, or the limit is reached.
 abbrev pub EndsBy : Run → ℕ → ℕ → Data → End → Type 0

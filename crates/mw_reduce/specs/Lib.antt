@@ -4,3 +4,5 @@ pub mod Turns
 pub mod Driven
 -- What a reduction gives.
 pub mod Reductions
+-- Two arguments at a time.
+pub mod Pairs

@@ -1,18 +1,20 @@
 // A run, from step to step.
-ghost use Rattle.std.specs.Prelude.{◌≡◌, ◌<◌, ℕ, IfOk};
+ghost use Rattle.std.specs.Prelude.{◌≡◌, ◌<◌, ◌≤◌, ◌+◌, ℕ, IfOk, MatchOption};
 ghost use Rattle.mw_logic.specs.Module.{Module};
 ghost use Rattle.mw_least.specs.Workable.{IsWorkable};
 ghost use Rattle.mw_index.specs.Index.{IsIndexOf};
 ghost use Rattle.mw_index.specs.declared.index.Index.{Index as IndexOf};
 ghost use Rattle.mw_frames.specs.State.{Run, Data, IsRun, Holds};
 ghost use Rattle.mw_frames.specs.Machines.{data_of};
+ghost use Rattle.mw_frames.specs.Steps.{IsAsked, IsAskedFor};
 ghost use Rattle.mw_frames.specs.Fires.{IsFired};
 ghost use Rattle.mw_reduce.specs.Turns.{IsFound, IsMetAt, IsBigAt};
 ghost use Rattle.mw_reduce.specs.Driven.{IsAppliedAs, IsPause, EndsAt, IsNext, IsDriven};
 
+use crate::pairs::join_pairs;
 use crate::turning::{Turn, take_turn};
 use mw_canon::Facts;
-use mw_frames::{Applied, Asked, Fired, Frame, Hand, Machine, decide, fire, halt, meet, stop};
+use mw_frames::{Applied, Asked, Fired, Frame, Hand, Job, Machine, decide, fire, halt, meet, stop};
 use mw_index::{Choice, Choices, Equation, Index};
 use mw_least::Ctx;
 use mw_proof::Reason;
@@ -48,7 +50,8 @@ pub enum Pause<'m> {
 /// What comes of a pause.
 #[derive(Drop)]
 pub enum Next<'m> {
-    Goes(Hand<'m>),
+    /// It goes on after so many steps.
+    Goes(Hand<'m>, u64),
     Ends(End),
 }
 
@@ -129,21 +132,59 @@ fn apply<'m>(
     Ok(fired)
 }
 
-/// The row is met.
-#[inline(never)]
-fn meet_row<'m>(
+/// Rows at two arguments of a term at a time, where they are met at some of them.
+#[inline(always)]
+fn join_some<'m>(
     alloc: Global,
-    facts: &Facts,
+    context: &'m Ctx,
+    index: &'m Index,
     machine: &mut Machine<'m>,
+    choices: &mut Choices<'m>,
+    asked: &Asked,
+    take: &Option<Seq<u32>>,
+    left: u64,
+) -> Result<Option<(Term, u64)>, AllocError>
+    requires { IsIndexOf context.now index.now }
+    ensures { (K : Run) (k : ℕ) → IsRun K context.now.signature → K.over ≡ context.now → IsAskedFor K k (data_of K.over machine.old) asked.now
+        → IfOk result (λ o. MatchOption o (machine.new ≡ machine.old) (λ r. (0 < r.1) × (r.1 ≤ left) × IsAsked K (k + r.1) (data_of K.over machine.new) r.0)) }
+{
+    match asked {
+        Asked::Term(term) => {
+            if take.is_none() {
+                return Ok(None);
+            }
+            let joined = join_pairs(alloc, context, index, machine, choices, term, left)?;
+            Ok(joined)
+        }
+        Asked::Own(_) => Ok(None),
+    }
+}
+
+/// A row is met at what was asked for, or at several of its arguments; of a long sum or product at all but the last.
+#[inline(never)]
+fn meet_rows<'m>(
+    alloc: Global,
+    context: &'m Ctx,
+    index: &'m Index,
+    machine: &mut Machine<'m>,
+    choices: &mut Choices<'m>,
     asked: Asked,
     to: Term,
     take: &Option<Seq<u32>>,
-) -> Result<Fired<'m>, AllocError>
-    ensures { (K : Run) (k : ℕ) → IsRun K facts.now → IsMetAt K k (data_of K.over machine.old) asked take.now to
-        → IfOk result (IsFired K k (data_of K.over machine.new)) }
+    left: u64,
+) -> Result<Next<'m>, AllocError>
+    requires { IsIndexOf context.now index.now }
+    ensures { (K : Run) (k : ℕ) → IsRun K context.now.signature → K.over ≡ context.now → 0 < left
+        → IsMetAt K k (data_of K.over machine.old) asked take.now to
+        → IfOk result (IsNext K k left (data_of K.over machine.new)) }
 {
-    let fired = meet(alloc, facts, machine, asked, to, take)?;
-    Ok(fired)
+    match join_some(alloc, context, index, machine, choices, &asked, take, left)? {
+        Some((term, count)) => Ok(Next::Goes(Hand::One(Job::Try(term)), count)),
+        None => {
+            let fired = meet(alloc, context.facts(), machine, asked, to, take)?;
+            Ok(after(fired))
+        }
+    }
 }
 
 /// A sum or product is too big.
@@ -168,10 +209,10 @@ fn halt_there(
 /// What comes of what was applied.
 #[inline(always)]
 fn after<'m>(fired: Fired<'m>) -> Next<'m>
-    ensures { (K : Run) (k : ℕ) (d : Data) → IsFired K k d fired.entry → IsNext K k d result }
+    ensures { (K : Run) (k left : ℕ) (d : Data) → 0 < left → IsFired K k d fired.entry → IsNext K k left d result }
 {
     match fired {
-        Fired::Goes(hand) => Next::Goes(hand),
+        Fired::Goes(hand) => Next::Goes(hand, 1),
         Fired::TooDeep(term) => Next::Ends(End {
             term,
             outcome: Outcome::Stopped(Reason::Depth),
@@ -183,18 +224,24 @@ fn after<'m>(fired: Fired<'m>) -> Next<'m>
     }
 }
 
-/// What comes of a pause: an equation is applied, a row is met, or it ends.
+/// What comes of a pause: an equation is applied, rows are met, as many as are left to the limit, or it ends.
 #[inline(always)]
 fn go_on<'m>(
     alloc: Global,
-    facts: &Facts,
+    context: &'m Ctx,
+    index: &'m Index,
     machine: &mut Machine<'m>,
     choices: &mut Choices<'m>,
     pause: Pause<'m>,
+    left: u64,
 ) -> Result<Next<'m>, AllocError>
-    ensures { (K : Run) (k : ℕ) → IsRun K facts.now → IsWorkable K.over → (m : IndexOf) → IsPause K k m (data_of K.over machine.old) choices.old pause.entry
-        → IfOk result (IsNext K k (data_of K.over machine.new)) }
+    requires { IsIndexOf context.now index.now }
+    ensures { (K : Run) (k : ℕ) → IsRun K context.now.signature → K.over ≡ context.now → 0 < left
+        → IsPause K k index.now (data_of K.over machine.old) choices.old pause.entry
+        → IfOk result (IsNext K k left (data_of K.over machine.new)) }
 {
+    context.shows();
+    let facts = context.facts();
     match pause {
         Pause::Ended(term) => Ok(Next::Ends(End {
             term,
@@ -205,8 +252,10 @@ fn go_on<'m>(
             Ok(after(fired))
         }
         Pause::Met(asked, take, to) => {
-            let fired = meet_row(alloc, facts, machine, asked, to, &take)?;
-            Ok(after(fired))
+            let next = meet_rows(
+                alloc, context, index, machine, choices, asked, to, &take, left,
+            )?;
+            Ok(next)
         }
         Pause::Decides(frame, truth) => {
             let fired = decide(alloc, facts, machine, frame, truth)?;
@@ -233,13 +282,14 @@ pub fn drive<'m>(
     ensures { (K : Run) → IsRun K context.now.signature → K.over ≡ context.now → Holds K 0 (data_of K.over machine.old) hand.entry
         → IfOk result (IsDriven K limit (data_of K.over machine.new)) }
 {
-    context.shows();
     let mut hand = hand;
-    for _ in 0..limit {
+    let mut left = limit;
+    while left > 0 {
         let pause = advance(alloc, context, index, machine, choices, hand)?;
-        match go_on(alloc, context.facts(), machine, choices, pause)? {
-            Next::Goes(next) => {
+        match go_on(alloc, context, index, machine, choices, pause, left)? {
+            Next::Goes(next, count) => {
                 hand = next;
+                left = left.saturating_sub(count.max(1));
             }
             Next::Ends(end) => {
                 return Ok(end);

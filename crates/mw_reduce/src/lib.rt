@@ -12,6 +12,9 @@
 //! A step is an equation that is applied, or a row of the schemata of numbers, `==`, `=/=` and `if_then_else_fi` that
 //! is met (mw_builtin); each counts one.
 //!
+//! Rows at two of many numerals of a sum or product are met one after the other, without the terms between, so a long
+//! sum takes the time of its length and not of its square (`join_pairs`); each counts one, the least two first.
+//!
 //! A turn is a step of mw_frames, and where that asks for statements, the row that is met there, else the first choice
 //! of mw_index; where there is neither the term rests, for it is normal. `drive` turns until something applies, and
 //! makes that step, as often as the limit says (`IsDriven`, specs/Driven).
@@ -25,6 +28,7 @@
 #![tactic(auto)]
 
 mod drive;
+mod pairs;
 mod reducing;
 mod turning;
 
