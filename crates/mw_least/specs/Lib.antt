@@ -1,3 +1,4 @@
+pub mod Conditions
 pub mod Contexts
 pub mod Giving
 pub mod Sure

@@ -1,5 +1,5 @@
 -- The modules that contexts hold: their signature is preregular modulo its axioms, its built-in operators are tests of equality and choices with the truth
--- values that they need, and their equations have no conditions.
+-- values that they need, and the variables of their equations are bound in turn.
 use Rattle.std.specs.Prelude.{ℕ, ◌≡◌, ◌||◌, [], false, IsTrue, Some}
 use Rattle.mw_logic.specs.Term.{Variable, variable}
 use Rattle.mw_logic.specs.Signature.{Signature, at_number, HasKind, IsRawTerm}
@@ -8,24 +8,27 @@ use Rattle.mw_logic.specs.Substitution.{occurs}
 use Rattle.mw_logic.specs.Preregular.{IsSortOf, HasItsSorts}
 use Rattle.mw_logic.specs.Built.{HasBuiltIns}
 use Rattle.mw_logic.specs.Module.{Module, Statement, IsStatement}
-use Rattle.mw_position.specs.Variables.{met}
+use Rattle.mw_logic.specs.Confluence.{HasOnly, AreBound}
 use Rattle.mw_sorting.specs.PreregularModulo.{IsPreregularModulo}
+use Rattle.mw_least.specs.Conditions.{mentioned, occurs_among, binds_among, AreRawFragments}
 
--- The sides are raw terms of one kind, and the sorts of their variables are there.
+-- The sides are raw terms of one kind, and the sorts of their variables are there. So are the sides of the condition.
 pub record AreSides (sig : Signature) (e : Statement) : Type 0 where
   pub left : IsRawTerm sig e.left
   pub right : IsRawTerm sig e.right
   pub kinds : (K : ℕ) × HasKind sig e.left K × HasKind sig e.right K
-  pub sorts : (x : Variable) → IsTrue (occurs x e.left || occurs x e.right) → IsSortOf sig x.sort
+  pub fragments : AreRawFragments sig e.fragments
+  pub sorts : (x : Variable) → IsTrue ((occurs x e.left || occurs x e.right) || occurs_among x e.fragments) → IsSortOf sig x.sort
 
--- An equation without conditions. Its left side isn't a variable, modulo the axioms, and has each variable of the right side.
-pub record IsPlainEquation (sig : Signature) (e : Statement) : Type 0 where
+-- An equation that isn't `owise`. Its left side isn't a variable, modulo the axioms. Each side of its condition has variables of the left side, or of the
+-- pattern of a match before it; the right side has variables of the left side, or of the pattern of a match.
+pub record IsOrdinaryEquation (sig : Signature) (e : Statement) : Type 0 where
   pub equation : e.rule ≡ false
-  pub unconditional : e.fragments ≡ []
   pub ordinary : e.owise ≡ false
   pub not_lone : (x : Variable) → EqualModulo sig e.left (variable x) → ⊥
-  pub variables : e.variables ≡ met [] e.left
-  pub bound : (x : Variable) → IsTrue (occurs x e.right) → IsTrue (occurs x e.left)
+  pub variables : e.variables ≡ mentioned e
+  pub bound : HasOnly (binds_among (λ y. occurs y e.left) e.fragments) e.right
+  pub bound_in_turn : AreBound (λ y. occurs y e.left) e.fragments
 
 -- Of statements that aren't executable no more is asked than of their sides.
 pub record IsWorkable (M : Module) : Type 0 where
@@ -33,4 +36,6 @@ pub record IsWorkable (M : Module) : Type 0 where
   pub numbers : HasItsSorts M.signature
   pub built : HasBuiltIns M.signature
   pub sides : (k : ℕ) (e : Statement) → at_number M.statements k ≡ Some e → AreSides M.signature e
-  pub equations : (k : ℕ) (e : Statement) → IsStatement M k e → IsPlainEquation M.signature e
+  pub equations : (k : ℕ) (e : Statement) → IsStatement M k e → IsOrdinaryEquation M.signature e
+  -- conditions aren't evaluated yet
+  pub unconditional : (k : ℕ) (e : Statement) → IsStatement M k e → e.fragments ≡ []
