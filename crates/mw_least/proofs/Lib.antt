@@ -1,3 +1,4 @@
+pub mod Mentioned
 pub mod WellFormed
 pub mod Below
 pub mod Giving

@@ -28,7 +28,7 @@ abbrev pub depth_after : ℕ → Item → ℕ
 depth_after d (Into i) = d
 depth_after d (Among n) = d
 depth_after d Out = d
-depth_after d Begin = suc d
+depth_after d (Begin n) = suc d
 depth_after d End = d - 1
 depth_after d (Apply n k) = d
 depth_after d Row = d

@@ -68,7 +68,7 @@ fn count_one(context: &Ctx, counts: Counts, depth: usize, item: Item) -> Counts
     match item {
         Item::Apply(_, number) => one_more(counts, depth, by_rule(context, number)),
         Item::Row => one_more(counts, depth, false),
-        Item::Into(_) | Item::Among(_) | Item::Out | Item::Begin | Item::End => counts,
+        Item::Into(_) | Item::Among(_) | Item::Out | Item::Begin(_) | Item::End => counts,
     }
 }
 
@@ -78,7 +78,7 @@ fn next_depth(depth: usize, item: Item) -> usize
     ensures { result ≡ depth_after depth item }
 {
     match item {
-        Item::Begin => depth + 1,
+        Item::Begin(_) => depth + 1,
         Item::End => depth.saturating_sub(1),
         _ => depth,
     }

@@ -110,17 +110,17 @@ fn sides(alloc: Global, evidence: Vec<Proved<'_>>) -> Result<Trail, AllocError>
     waiting.reverse();
     let mut trail = Trail::new(alloc);
     while let Some(inner) = waiting.pop() {
-        trail = with_side(trail, inner)?;
+        trail = with_side(alloc, trail, inner)?;
     }
     Ok(trail)
 }
 
 /// A trail, and then a side.
-fn with_side(trail: Trail, inner: Proved<'_>) -> Result<Trail, AllocError>
+fn with_side(alloc: Global, trail: Trail, inner: Proved<'_>) -> Result<Trail, AllocError>
     ensures { IfOk result (λ t. (M : Module) → AreMore M inner.entry (moves M trail) (moves M t)) }
 {
     let mut trail = trail;
-    trail.begin(copy(inner.from())?)?;
+    trail.begin(copy(inner.from())?, &mut Vec::new(alloc))?;
     let mut trail = trail.followed_by(inner.into_trail())?;
     trail.end()?;
     Ok(trail)

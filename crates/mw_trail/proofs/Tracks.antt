@@ -3,6 +3,7 @@ use Rattle.std.specs.Prelude.{◌≡◌, ◌≤◌, ◌+◌, ℕ, suc, List, [],
 use Rattle.std.specs.List.{zip}
 use Rattle.std.proofs.Common.{sym, ap, ◌∙◌, arith, length-drop, length-append, append-nil, append_assoc}
 use Rattle.std.proofs.lemmas.List.{take_all, take-append-le, drop-append-le}
+use Rattle.std.proofs.Math.Seq.{drop-append_seam}
 use Rattle.mw_logic.specs.Term.{RawTerm}
 use Rattle.mw_logic.specs.Module.{Module}
 use Rattle.mw_canon.specs.Canonical.{meant}
@@ -20,7 +21,8 @@ move-append : (M : Module) (x : Item) (vs ws : List RawTerm) (ns os : List ℕ) 
 move-append M (Into i) vs ws ns os a b = refl
 move-append M (Among n) vs ws ns os a b = ap among (take-append-le n ns os b)
 move-append M Out vs ws ns os a b = refl
-move-append M Begin vs ws ns os a b = ap begins (first-append vs ws a)
+move-append M (Begin n) vs ws ns os a b =
+    let l = length-drop n vs in ap begins (ap first_of (drop-append-le n vs ws (omega (arith, a))) ∙ first-append (drop n vs) ws (omega (arith, a, l)))
 move-append M End vs ws ns os a b = refl
 move-append M (Apply n k) vs ws ns os a b = ap (λ us. applies k (is_rule M k) (meant M.signature (zip (variables_of M k) us))) (take-append-le n vs ws a)
 move-append M Row vs ws ns os a b = ap meets (first-append vs ws a)
@@ -106,3 +108,7 @@ applied_moves M t u k n l vs h e f j =
 
 pub among_moves : (M : Module) (t u : Track) (n : ℕ) (ns : List ℕ) → IsTrack t → n ≡ length ns → IsJoined t (alone (Among n) [] ns) u → moves M u ≡ moves M t ++ among ns ∷ []
 among_moves M t u n ns h e j = moves-append M t (alone (Among n) [] ns) u h j ∙ ap (λ os. moves M t ++ among os ∷ []) (take_all n ns (omega (arith, e)))
+
+pub begun_moves : (M : Module) (t u : Track) (n : ℕ) (vs : List RawTerm) (v : RawTerm) → IsTrack t → n ≡ length vs → IsJoined t (alone (Begin n) (vs ++ v ∷ []) []) u → moves M u ≡ moves M t ++ begins v ∷ []
+begun_moves M t u n vs v h e j =
+    moves-append M t (alone (Begin n) (vs ++ v ∷ []) []) u h j ∙ ap (λ us. moves M t ++ begins (first_of us) ∷ []) (ap (λ k. drop k (vs ++ v ∷ [])) e ∙ drop-append_seam vs (v ∷ []))

@@ -1,5 +1,5 @@
 -- What a trail's items mean.
-use Rattle.std.specs.Prelude.{◌≡◌, ◌⊎◌, ◌<◌, ◌+◌, ℕ, List, [], ◌∷◌, ◌++◌, length, take, drop, Bool, false, option_map, unwrap_or}
+use Rattle.std.specs.Prelude.{◌≡◌, ◌⊎◌, ◌<◌, ◌+◌, ℕ, suc, List, [], ◌∷◌, ◌++◌, length, take, drop, Bool, false, option_map, unwrap_or}
 use Rattle.std.specs.List.{zip}
 use Rattle.mw_logic.specs.Term.{Variable, RawTerm, numeral}
 use Rattle.mw_logic.specs.Signature.{at_number}
@@ -27,7 +27,7 @@ abbrev pub needs : Item → ℕ
 needs (Into i) = 0
 needs (Among n) = 0
 needs Out = 0
-needs Begin = 1
+needs (Begin n) = suc n
 needs End = 0
 needs (Apply n k) = n
 needs Row = 1
@@ -36,7 +36,7 @@ abbrev pub counts : Item → ℕ
 counts (Into i) = 0
 counts (Among n) = n
 counts Out = 0
-counts Begin = 0
+counts (Begin n) = 0
 counts End = 0
 counts (Apply n k) = 0
 counts Row = 0
@@ -50,7 +50,7 @@ abbrev pub move_of : Module → Item → List RawTerm → List ℕ → Move
 move_of M (Into i) vs ns = into i
 move_of M (Among n) vs ns = among (take n ns)
 move_of M Out vs ns = out
-move_of M Begin vs ns = begins (first_of vs)
+move_of M (Begin n) vs ns = begins (first_of (drop n vs))
 move_of M End vs ns = ends
 move_of M (Apply n k) vs ns = applies k (is_rule M k) (meant M.signature (zip (variables_of M k) (take n vs)))
 move_of M Row vs ns = meets (first_of vs)

@@ -19,8 +19,8 @@ pub enum Item {
     Among(u32),
     /// Out again.
     Out,
-    /// Into a side of a condition, which begins at the next one of the terms.
-    Begin,
+    /// Into a side of a condition: so many of the terms are at hand there, and it begins at the next one.
+    Begin(u32),
     /// Out of it.
     End,
     /// So many of the terms are the values of the variables of the statement of this number, which is applied.
@@ -36,7 +36,8 @@ impl Item {
     {
         match self {
             Item::Apply(count, _) => count as usize,
-            Item::Begin | Item::Row => 1,
+            Item::Begin(count) => count as usize + 1,
+            Item::Row => 1,
             Item::Into(_) | Item::Among(_) | Item::Out | Item::End => 0,
         }
     }
@@ -190,16 +191,20 @@ impl Trail {
         Ok(())
     }
 
-    /// Into a side of a condition, which begins at this term.
-    pub fn begin(&mut self, term: Term) -> Result<(), AllocError>
+    /// Into a side of a condition, which begins at this term. These values, which are taken, are at hand there: the side
+    /// begins at what is made of them.
+    pub fn begin(&mut self, term: Term, given: &mut Vec<Term>) -> Result<(), AllocError>
         ensures moves { OnOk result ((M : Module) → moves M self.new ≡ moves M self.old ++ begins term ∷ []) }
-        ensures values { OnOk result (self.new.values ≡ self.old.values ++ term ∷ []) }
+        ensures values { OnOk result (self.new.values ≡ self.old.values ++ (given.old.items ++ term ∷ [])) }
         ensures keeps { OnOk result (Keeps self.old self.new) }
+        ensures taken { OnOk result (given.new.items ≡ []) }
         ensures same { OnErr result (self.new ≡ self.old) }
     {
+        let count = narrow(given.len())?;
+        given.push(term)?;
         self.items.reserve(1)?;
-        self.values.push(term)?;
-        self.items.push_reserved(Item::Begin);
+        self.values.append(given)?;
+        self.items.push_reserved(Item::Begin(count));
         Ok(())
     }
 
