@@ -32,12 +32,12 @@ pub instance_behind : (sig : Signature) (us vs ws : List RawTerm) (p : RawTerm) 
 instance_behind sig us vs ws p base e b = ap (λ zs. evaluated sig zs p) (ap (λ zs. drop base zs) e ∙ ap (λ n. drop n (us ++ vs)) b ∙ drop-append_seam us vs)
 
 module _ (K : Run) (sig : Signature) (run : IsRun K sig) (count : ℕ) (m : Data) (w : RawTerm) (h : InHand K count m (Try w)) where
-  pub known_applied : (e : Applied) (vs : List RawTerm) → IsApplied K.over e vs w → (top b : ℕ) → HasOnTop top w → (((f : ℕ) (ts : RawTerms) → w ≡ apply f ts → ⊥) → top ≡ 1) → (IsTrue e.sure → b ≡ 0) → (IsFalse e.sure → b ≡ top)
-      → IsKnownIn K.over K.rank (m.values ++ vs) (length m.values) b (clean e.right.now)
-  known_applied e vs a top b on leaf s u = by_sure e.sure refl
+  pub known_applied : (us : List RawTerm) (e : Applied) (ss : List Move) (vs : List RawTerm) → IsApplied K.over K.rank e ss vs w → (top b : ℕ) → HasOnTop top w → (((f : ℕ) (ts : RawTerms) → w ≡ apply f ts → ⊥) → top ≡ 1) → (IsTrue e.sure → b ≡ 0) → (IsFalse e.sure → b ≡ top)
+      → IsKnownIn K.over K.rank (us ++ vs) (length us) b (clean e.right.now)
+  known_applied us e ss vs a top b on leaf s u = by_sure e.sure refl
     where
       Known : ℕ → Type 0
-      Known n = IsKnownIn K.over K.rank (m.values ++ vs) (length m.values) n (clean e.right.now)
+      Known n = IsKnownIn K.over K.rank (us ++ vs) (length us) n (clean e.right.now)
 
       positive : 0 < top
       positive = by_shape w refl
@@ -50,13 +50,11 @@ module _ (K : Run) (sig : Signature) (run : IsRun K sig) (count : ℕ) (m : Data
           by_shape (quoted n) q = one (λ f ts r. let z : quoted n ≡ apply f ts = sym q ∙ r in cc)
           by_shape (variable x) q = one (λ f ts r. let z : variable x ≡ apply f ts = sym q ∙ r in cc)
           by_shape (apply f ts) q =
-              subst (λ g. 0 < g) (on f ts q) (top_positive K sig run count m.values m.moves m.frames m.done m.jobs e.number vs (clean e.right.now) w h a.redex f ts q)
+              subst (λ g. 0 < g) (on f ts q) (top_positive K sig run count us m.values m.moves m.frames m.done m.jobs e.number ss vs (clean e.right.now) w h a.redex f ts q)
 
       by_sure : (c : Bool) → e.sure ≡ c → Known b
-      by_sure true q =
-          let (f, ps, p, free) = a.sure q in
-          subst Known (sym (s q)) (free_right_known_here K sig run count m.values m.moves m.frames m.done m.jobs e.number vs (clean e.right.now) w h a.redex f ps p free)
-      by_sure false q = subst Known (sym (u q)) (right_known_here K sig run count m.values m.moves m.frames m.done m.jobs e.number vs (clean e.right.now) w h a.redex top positive on)
+      by_sure true q = subst Known (sym (s q)) (free_right_known_here K sig run count us m.values m.moves m.frames m.done m.jobs e.number ss vs (clean e.right.now) w h a.redex (a.sure q))
+      by_sure false q = subst Known (sym (u q)) (right_known_here K sig run count us m.values m.moves m.frames m.done m.jobs e.number ss vs (clean e.right.now) w h a.redex top positive on)
 
 -- What came for several arguments comes among the others.
 module _ (K : Run) (sig : Signature) (run : IsRun K sig) (count : ℕ) where
@@ -68,12 +66,13 @@ module _ (K : Run) (sig : Signature) (run : IsRun K sig) (count : ℕ) where
 
 -- What is known of a right side that comes for several arguments: by the operator of the whole.
 module _ (K : Run) (sig : Signature) (run : IsRun K sig) (count : ℕ) where
-  pub part_known : (m : Data) (f : Frame) (w : RawTerm) → IsPartAsked K count m f w → (e : Applied) (vs : List RawTerm) → IsApplied K.over e vs w → IsKnownIn K.over K.rank (m.values ++ vs) (length m.values) f.op (clean e.right.now)
-  part_known m f w part e vs a =
+  pub part_known : (m : Data) (f : Frame) (w : RawTerm) → IsPartAsked K count m f w → (us : List RawTerm) (e : Applied) (ss : List Move) (vs : List RawTerm) → IsApplied K.over K.rank e ss vs w
+      → IsKnownIn K.over K.rank (us ++ vs) (length us) f.op (clean e.right.now)
+  part_known m f w part us e ss vs a =
       let h = part.asked.holds in
       let top : HasOnTop f.op w = λ g ts q. same_operator (sym q ∙ part.is) in
-      right_known_here K sig run count m.values m.moves m.frames m.done m.jobs e.number vs (clean e.right.now) w h a.redex f.op
-      (top_positive K sig run count m.values m.moves m.frames m.done m.jobs e.number vs (clean e.right.now) w h a.redex f.op part.args part.is) top
+      right_known_here K sig run count us m.values m.moves m.frames m.done m.jobs e.number ss vs (clean e.right.now) w h a.redex f.op
+      (top_positive K sig run count us m.values m.moves m.frames m.done m.jobs e.number ss vs (clean e.right.now) w h a.redex f.op part.args part.is) top
     where
       same_operator : {g j : ℕ} {ts us : RawTerms} → apply g ts ≡ apply j us → g ≡ j
       same_operator q = cc

@@ -11,7 +11,6 @@ use Rattle.mw_logic.specs.Module.{Module, Statement}
 use Rattle.mw_logic.proofs.Inside.{raw_inside}
 use Rattle.mw_logic.specs.Judgements.{admitted_judgements}
 use Rattle.mw_canon.specs.Canonical.{meant}
-use Rattle.mw_position.specs.Variables.{placed}
 use Rattle.mw_matching.specs.Matches.{evaluated}
 use Rattle.mw_deduction.specs.Standing.{Open, round, AreClear, IsSeen, At}
 use Rattle.mw_deduction.specs.Replay.{Move, applies, Stand, whole}
@@ -25,7 +24,7 @@ use Rattle.mw_frames.specs.Redex.{IsRedex, MayCome, IsSeenIn, hole_level, MayFir
 use Rattle.mw_frames.specs.Larger.{AreSmall}
 use Rattle.mw_frames.proofs.Redexes.{made, made_comes, IsReplaced, fires}
 use Rattle.mw_frames.proofs.RightSides.{right_is}
-use Rattle.mw_frames.specs.Free.{IsFree}
+use Rattle.mw_frames.specs.Fires.{IsSure}
 use Rattle.mw_frames.proofs.KnownValues.{values_known, free_values_known, right_known}
 use Rattle.mw_frames.proofs.Growing.{opened_grown, all_good_grown}
 use Rattle.mw_frames.proofs.HoleDepths.{admitted_after, large_there, deep_there, raw_after, small_there}
@@ -101,8 +100,8 @@ module _ (K : Run) (sig : Signature) (run : IsRun K sig) (count : ℕ) where
       (subst (λ ns. InHand K count (record { frames = m.frames; done = m.done; jobs = m.jobs; values = m.values ++ ws; moves = ns }) x) (sym em) i))))
 
   -- What is known of the right side, whose values are kept behind those that were.
-  module _ (values : List RawTerm) (ms : List Move) (fs : List Frame) (ds : List RawTerm) (xs : List Job) (number : ℕ) (vs : List RawTerm) (right w : RawTerm)
-      (h : InHand K count (record { frames = fs; done = ds; jobs = xs; values = values; moves = ms }) (Try w)) (r : IsRedex M number vs right w) where
+  module _ (values us : List RawTerm) (ms : List Move) (fs : List Frame) (ds : List RawTerm) (xs : List Job) (number : ℕ) (ss : List Move) (vs : List RawTerm) (right w : RawTerm)
+      (h : InHand K count (record { frames = fs; done = ds; jobs = xs; values = us; moves = ms }) (Try w)) (r : IsRedex M K.rank number ss vs right w) where
     raw_here : IsRawTerm here (nested here w)
     raw_here = raw_inside here run.accepted (round here h.stand.opens) (nested here w) (at_term ms h.stand w h.leads h.hand).raw
 
@@ -117,36 +116,36 @@ module _ (K : Run) (sig : Signature) (run : IsRun K sig) (count : ℕ) where
     -- by the operator on top of the term,
     pub right_known_here : (f : ℕ) → 0 < f → HasOnTop f w → IsKnownIn M K.rank (values ++ vs) (length values) f right
     right_known_here f positive top =
-        right_known M run.accepted run.sorted K.rank number vs right w r f (length values) (values ++ vs) (drop-append_seam values vs)
-        (values_known M run.accepted run.sorted K.rank number vs right w r f positive top (at_term ms h.stand w h.leads h.hand).canonical raw_here h.job)
+        right_known M run.accepted run.sorted K.rank number ss vs right w r f (length values) (values ++ vs) (drop-append_seam values vs)
+        (values_known M run.accepted run.sorted K.rank number ss vs right w r f positive top (at_term ms h.stand w h.leads h.hand).canonical raw_here h.job)
 
     -- or, where the left side has no axioms, that each value is normal
-    pub free_right_known_here : (f : ℕ) (ps : RawTerms) → apply f ps ≡ placed r.statement.variables (normal_form here r.statement.left) → IsFree here (apply f ps) → IsKnownIn M K.rank (values ++ vs) (length values) 0 right
-    free_right_known_here f ps e q =
-        right_known M run.accepted run.sorted K.rank number vs right w r 0 (length values) (values ++ vs) (drop-append_seam values vs)
-        (free_values_known M run.accepted run.sorted K.rank number vs right w r f ps e q (at_term ms h.stand w h.leads h.hand).canonical h.job)
+    pub free_right_known_here : IsSure M K.rank r.statement vs → IsKnownIn M K.rank (values ++ vs) (length values) 0 right
+    free_right_known_here q =
+        right_known M run.accepted run.sorted K.rank number ss vs right w r 0 (length values) (values ++ vs) (drop-append_seam values vs)
+        (free_values_known M run.accepted run.sorted K.rank number ss vs right w r q.operator q.patterns q.left q.free q.found (at_term ms h.stand w h.leads h.hand).canonical h.job)
 
 module _ (K : Run) (sig : Signature) (run : IsRun K sig) (count : ℕ) where
-  -- The equation is applied: its right side is in hand.
-  pub fires_so : (m n : Data) (number : ℕ) (vs : List RawTerm) (right w : RawTerm) → MayFire K count m number vs right w → n.frames ≡ m.frames → n.done ≡ m.done → n.jobs ≡ m.jobs → n.values ≡ m.values ++ vs
-      → n.moves ≡ m.moves ++ applies number (is_rule K.over number) (meant K.over.signature (zip (variables_of K.over number) vs)) ∷ [] → HasInHand K (suc count) n (evaluated K.over.signature vs right)
-  fires_so m n number vs right w h ef ed ej ev em =
+  -- The equation is applied: its right side is in hand. What shows its condition is kept before.
+  pub fires_so : (m n : Data) (number : ℕ) (ss : List Move) (es vs : List RawTerm) (right w : RawTerm) → MayFire K count m number ss vs right w → n.frames ≡ m.frames → n.done ≡ m.done → n.jobs ≡ m.jobs → n.values ≡ m.values ++ (es ++ vs)
+      → n.moves ≡ m.moves ++ (ss ++ applies number (is_rule K.over number) (meant K.over.signature (zip (variables_of K.over number) vs)) ∷ []) → HasInHand K (suc count) n (evaluated K.over.signature vs right)
+  fires_so m n number ss es vs right w h ef ed ej ev em =
       let M : Module = K.over in
       let here : Signature = K.over.signature in
       let r = h.redex in
       let z = h.stands in
       let S : Stand = z.in_hand.stand in
-      let v : RawTerm = made M run.accepted run.sorted number vs right w r in
-      let e : evaluated here vs right ≡ normal_form here v = right_is M run.accepted run.sorted number vs right w r in
+      let v : RawTerm = made M run.accepted run.sorted K.rank number ss vs right w r in
+      let e : evaluated here vs right ≡ normal_form here v = right_is M run.accepted run.sorted K.rank number ss vs right w r in
       let a : IsAdmitted here (plug (round here S.opens) v) =
-      admitted_here K sig run count m w z.in_hand z.seen v (made_comes M run.accepted run.sorted number vs right w r)
+      admitted_here K sig run count m w z.in_hand z.seen v (made_comes M run.accepted run.sorted K.rank number ss vs right w r)
       (subst (λ u. hole_level here m.frames u + height u ≤ 1000) e z.low) (ap (λ u. has_largest here (whole here S.opens u)) (sym e) ∙ z.small) in
-      let f = fires K run.accepted run.sorted count number vs right w r m.moves S run.start z.in_hand.leads z.in_hand.hand (seen_there K sig run count m w z.in_hand z.seen) a in
+      let f = fires K run.accepted run.sorted count number ss vs right w r m.moves S run.start z.in_hand.leads z.in_hand.hand (seen_there K sig run count m w z.in_hand z.seen) a in
       let is_it : at_number M.statements number ≡ Some r.statement = r.is_there.is_there in
-      let k : is_rule M number ≡ false = ap (λ o. unwrap_or (option_map (λ (e : Statement). e.rule) o) false) is_it ∙ r.plain.equation in
+      let k : is_rule M number ≡ false = ap (λ o. unwrap_or (option_map (λ (e : Statement). e.rule) o) false) is_it ∙ r.ordinary.equation in
       let l : variables_of M number ≡ r.statement.variables = ap (λ o. unwrap_or (option_map (λ (e : Statement). e.variables) o) []) is_it in
       let q : applies number false (meant here (zip r.statement.variables vs)) ≡ applies number (is_rule M number) (meant here (zip (variables_of M number) vs)) =
       ap (λ b. applies number b (meant here (zip r.statement.variables vs))) (sym k) ∙ ap (λ ys. applies number (is_rule M number) (meant here (zip ys vs))) (sym l) in
-      so_in_hand K sig run (suc count) m n vs _ (evaluated here vs right)
-      (replaced_here K sig run count m w z.in_hand (evaluated here vs right) vs _ f)
-      ef ed ej ev (em ∙ ap (λ n. m.moves ++ n ∷ []) (sym q))
+      so_in_hand K sig run (suc count) m n (es ++ vs) _ (evaluated here vs right)
+      (replaced_here K sig run count m w z.in_hand (evaluated here vs right) (es ++ vs) _ f)
+      ef ed ej ev (em ∙ ap (λ n. m.moves ++ (ss ++ n ∷ [])) (sym q))

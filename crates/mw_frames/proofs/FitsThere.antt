@@ -9,6 +9,7 @@ use Rattle.mw_position.specs.Positions.{fill}
 use Rattle.mw_matching.specs.Matches.{evaluated}
 use Rattle.mw_pattern.specs.Clean.{clean}
 use Rattle.mw_deduction.specs.Standing.{Open, AreClear}
+use Rattle.mw_deduction.specs.Replay.{Move}
 use Rattle.mw_frames.specs.declared.applying.Applied.{Applied}
 use Rattle.mw_frames.specs.declared.job.Job.TheVariants.{Walk}
 use Rattle.mw_frames.specs.declared.limits.Fit.{Fit}
@@ -29,12 +30,12 @@ FitsIn sig m by vs fit =
     → (IsTrue by.free → IsFree sig (clean by.right.now)) → by.levels ≡ min (height (fill [] (clean by.right.now))) (2 ^ 16 - 1) → IsFit sig m.frames os (evaluated sig vs (clean by.right.now)) fit
 
 module _ (K : Run) (sig : Signature) (run : IsRun K sig) (count : ℕ) (m : Data) (w : RawTerm) (h : InHand K count m (Walk w)) where
-  pub fits_there : (by : Applied) (vs : List RawTerm) → IsApplied K.over by vs w → (fit : Fit) → FitsIn sig m by vs fit → IsFit K.over.signature m.frames h.stand.opens (evaluated K.over.signature vs (clean by.right.now)) fit
-  fits_there by vs is fit told =
+  pub fits_there : (by : Applied) (ss : List Move) (vs : List RawTerm) → IsApplied K.over K.rank by ss vs w → (fit : Fit) → FitsIn sig m by vs fit → IsFit K.over.signature m.frames h.stand.opens (evaluated K.over.signature vs (clean by.right.now)) fit
+  fits_there by ss vs is fit told =
       let (clear, small, own) = small_here K sig run count m w h in
       let k = (at_it K sig run count m w h).canonical in
       subst (λ s. FitsIn s m by vs fit) (sym run.signature) told h.stand.opens clear small h.opened
-      (values_small K.over run.accepted run.sorted by.number vs (clean by.right.now) w is.redex k own) is.free is.levels
+      (values_small K.over run.accepted run.sorted K.rank by.number ss vs (clean by.right.now) w is.redex k own) is.free is.levels
 
 abbrev pub RowFitsIn : Signature → Data → RawTerm → Fit → Type 0
 RowFitsIn sig m t fit =

@@ -1,5 +1,5 @@
 -- What is known of the values of an equation that applies to a term over normal arguments.
-use Rattle.std.specs.Prelude.{◌≡◌, ◌⊎◌, ◌<◌, ℕ, suc, List, [], ◌∷◌, length, drop, map, Bool, true, false, nat_eq, Option, Some, None, option_map, unwrap_or, slice_get, is_some, IsTrue, refl}
+use Rattle.std.specs.Prelude.{◌≡◌, ◌⊎◌, ◌<◌, ℕ, suc, List, [], ◌∷◌, length, drop, map, Bool, true, false, nat_eq, Option, Some, None, option_map, unwrap_or, slice_get, is_some, IsTrue, IsFalse, refl}
 use Rattle.std.proofs.Common.{sym, subst, ap, ◌∙◌, arith, inl, inr, ⊎_elim, true≢false}
 use Rattle.std.proofs.lemmas.Bool.{both_ways, or_cases, or_left, or_right}
 use Rattle.std.proofs.lemmas.List.{length-map}
@@ -44,10 +44,11 @@ use Rattle.mw_deduction.proofs.ValuesInside.{IsLeaf, of_identity, of_numeral, va
 use Rattle.mw_frames.specs.Free.{IsFree, AreFree}
 use Rattle.mw_frames.specs.Jobs.{is_sure, value_at}
 use Rattle.mw_frames.specs.State.{IsKnown, IsNormalHere, HasNormalArguments, IsKnownIn, AreKnownIn}
-use Rattle.mw_frames.specs.Redex.{IsRedex, HasOnTop}
+use Rattle.mw_deduction.specs.Replay.{Move}
+use Rattle.mw_frames.specs.Redex.{IsBare, value_in, IsRedex, HasOnTop}
 use Rattle.mw_frames.proofs.Normals.{IsLeafTerm, normal_has}
 use Rattle.mw_frames.proofs.Fitting.{plain_applied}
-use Rattle.mw_frames.proofs.RightSides.{distinct_here, met_here, left_is}
+use Rattle.mw_frames.proofs.RightSides.{distinct_here, right_here, value_here_too, left_is}
 
 -- a part of what has no operator on top is the whole
 leaf_part : (sig : Signature) (v t u : RawTerm) → v ≡ t → IsLeafTerm t → IsPartOf sig false v u → u ≡ t
@@ -55,22 +56,19 @@ leaf_part sig v t u e l part.whole = e
 leaf_part sig v t u e l (part.argument g b x a o p) = absurd (subst IsLeafTerm (sym e) l)
 leaf_part sig v t u e l (part.several A o m c) = absurd (subst IsLeafTerm (sym e) l)
 
-module _ (M : Module) (ok : IsAccepted M.signature) (sorted : IsWellSorted M.signature) (n number : ℕ) (vs : List RawTerm) (right w : RawTerm) (r : IsRedex M number vs right w) where
+module _ (M : Module) (ok : IsAccepted M.signature) (sorted : IsWellSorted M.signature) (n number : ℕ) (ms : List Move) (vs : List RawTerm) (right w : RawTerm) (r : IsRedex M n number ms vs right w) where
   abbrev sig : Signature
   sig = M.signature
 
   abbrev variables : List Variable
   variables = r.statement.variables
 
-  abbrev solution : Substitution
-  solution = meant sig (zip variables vs)
-
-  -- each value is that of one of the left side's variables
+  -- each value is that of one of the variables
   pub record IsValueOf (u : RawTerm) : Type 0 where
     pub of : Variable
-    pub occurs : IsTrue (occurs of r.statement.left)
-    pub place : evaluated sig vs (placed variables (variable of)) ≡ u
-    pub value : value solution of ≡ Some (nested sig u)
+    pub within : IsTrue (is_in of variables)
+    pub place : value_in sig variables vs of ≡ u
+    pub value : value (meant sig (zip variables vs)) of ≡ Some (nested sig u)
 
   pub value_here : (i : ℕ) (u : RawTerm) → slice_get vs i ≡ Some u → IsValueOf u
   value_here i u g =
@@ -79,14 +77,14 @@ module _ (M : Module) (ok : IsAccepted M.signature) (sorted : IsWellSorted M.sig
       let h : is_in x variables ≡ true = stands_in variables i x d in
       let us : List RawTerm = map (nested sig) vs in
       let l : length us ≡ length variables = length-map vs (nested sig) ∙ r.size in
-      let p : place x variables ≡ i = place_of variables i x (distinct_here M ok sorted number vs right w r) d in
+      let p : place x variables ≡ i = place_of variables i x (distinct_here M ok sorted n number ms vs right w r) d in
       let e : slice_get us i ≡ Some (value_of (zip variables us) x) =
-      ap (slice_get us) (sym p) ∙ ap (λ ws. slice_get ws (place x variables)) (sym (values_zip variables us (distinct_here M ok sorted number vs right w r) l)) ∙ at_place (zip variables us) variables x h in
+      ap (slice_get us) (sym p) ∙ ap (λ ws. slice_get ws (place x variables)) (sym (values_zip variables us (distinct_here M ok sorted n number ms vs right w r) l)) ∙ at_place (zip variables us) variables x h in
       let f : slice_get us i ≡ Some (nested sig u) = slice_get-map (nested sig) vs i ∙ ap (option_map (nested sig)) g in
       let k : value_of (zip variables us) x ≡ nested sig u = same_Some _ _ (sym e ∙ f) in
       record {
         of = x;
-        occurs = sym (met_here M ok sorted number vs right w r x) ∙ h;
+        within = h;
         place = ap (λ j. unwrap_or (slice_get vs j) (placed variables (variable x))) p ∙ ap (λ o. unwrap_or o (placed variables (variable x))) g;
         value = ap (λ s. value s x) (meant_zip sig variables vs) ∙ bound x (value (zip variables us) x) (bound_zip variables us x l ∙ h) ∙ ap Some k;
       }
@@ -132,6 +130,17 @@ module _ (M : Module) (ok : IsAccepted M.signature) (sorted : IsWellSorted M.sig
     leaf_known v (of_identity g (numeral_of m) e) = ((λ g' ts k. cc), differs f positive)
     leaf_known v of_numeral = ((λ g' ts k. cc), differs f positive)
 
+    bare_known : (u : RawTerm) → IsBare u → HasNormalArguments M n u × (is_sure f u ≡ false)
+    bare_known (numeral m) h = ((λ g ts k. cc), differs f positive)
+    bare_known (quoted q) h = ((λ g ts k. cc), differs f positive)
+    bare_known (variable x) h = ((λ g ts k. cc), differs f positive)
+    bare_known (apply g nil) h = ((λ g' ts k. let z : ts ≡ nil = cc in rw z tt), differs f positive)
+    bare_known (apply g (cons t ts)) h = absurd h
+
+    -- what a match found
+    found_known : {u : RawTerm} (x : IsValueOf u) → IsFalse (occurs x.of r.statement.left) → IsNormalHere M n u ⊎ (HasNormalArguments M n u × (is_sure f u ≡ false))
+    found_known {u} x o = ⊎_elim (λ a. inl (subst (IsNormalHere M n) x.place a)) (λ b. inr (bare_known u (subst IsBare x.place b))) (r.found x.of x.within o)
+
     -- each value is normal, or a part on top, or a leaf
     pub values_known : HasOnTop f w → IsCanonical sig w → IsRawTerm sig (nested sig w) → HasNormalArguments M n w → (i : ℕ) (u : RawTerm) → slice_get vs i ≡ Some u → IsKnown M n f u
     values_known h k raw a i u g =
@@ -141,14 +150,15 @@ module _ (M : Module) (ok : IsAccepted M.signature) (sorted : IsWellSorted M.sig
         record {
           canonical = v.canonical;
           ground = sym (nested_ground sig u) ∙ v.ground;
-          known = by_shape w refl x z;
+          known = by_side (occurs x.of r.statement.left) x refl z;
         }
       where
-        leaf : (t : RawTerm) → w ≡ t → IsLeafTerm t → IsValueOf u → normal_form sig (nested sig u) ≡ u → IsNormalHere M n u ⊎ (HasNormalArguments M n u × (is_sure f u ≡ false))
-        leaf t e l x z =
+        leaf : (t : RawTerm) → w ≡ t → IsLeafTerm t → (x : IsValueOf u) → IsTrue (occurs x.of r.statement.left) → normal_form sig (nested sig u) ≡ u → IsNormalHere M n u ⊎ (HasNormalArguments M n u × (is_sure f u ≡ false))
+        leaf t e l x o z =
             inr (⊎_elim (λ p. top_known u h a (whole (leaf_part sig _ t u (fixed sig ok w k ∙ e) l (subst (IsPartOf sig false (normal_form sig (nested sig w))) (normal z)
             (part_kept sig ok p.0 _ (λ y. absurd (true≢false (sym y))) raw p.1))))) (λ y. leaf_known u (subst (IsLeaf sig) z y))
-            (value_found sig ok solution r.statement.left (nested sig w) x.of (nested sig u) raw (instance_raw sig ok sorted solution r.solution.substitution r.sides.left) r.solution.matches x.occurs x.value))
+            (value_found sig ok r.solution r.statement.left (nested sig w) x.of (nested sig u) raw (instance_raw sig ok sorted r.solution r.solves.substitution r.sides.left) r.solves.matches o
+            (value_here_too M ok sorted n number ms vs right w r x.of (nested sig u) o x.value)))
           where
             whole : u ≡ t → IsTop sig w u
             whole q = subst (IsTop sig w) (e ∙ sym q) top.whole
@@ -156,14 +166,19 @@ module _ (M : Module) (ok : IsAccepted M.signature) (sorted : IsWellSorted M.sig
             normal : normal_form sig (nested sig u) ≡ u → normal_form sig (nested sig (normal_form sig (nested sig u))) ≡ u
             normal q = ap (λ y. normal_form sig (nested sig y)) q ∙ q
 
-        by_shape : (t : RawTerm) → w ≡ t → IsValueOf u → normal_form sig (nested sig u) ≡ u → IsNormalHere M n u ⊎ (HasNormalArguments M n u × (is_sure f u ≡ false))
-        by_shape (apply g' ts) e x z =
+        by_shape : (t : RawTerm) → w ≡ t → (x : IsValueOf u) → IsTrue (occurs x.of r.statement.left) → normal_form sig (nested sig u) ≡ u → IsNormalHere M n u ⊎ (HasNormalArguments M n u × (is_sure f u ≡ false))
+        by_shape (apply g' ts) e x o z =
             ⊎_elim (λ m. inl (subst (IsNormalHere M n) z m)) (λ m. inr (⊎_elim (λ t. top_known u h a (subst (λ y. IsTop sig y u) (sym e) (subst (IsTop sig (apply g' ts)) z t))) (λ l. leaf_known u (subst (IsLeaf sig) z l)) m))
             (value_normal M ok sorted (admitted_judgements M n).Fails g' ts (subst (λ y. IsRawTerm sig (nested sig y)) e raw) (fixed sig ok (apply g' ts) (subst (IsCanonical sig) e k)) (a g' ts e)
-            r.statement.left solution r.sides.left (subst (λ y. Rattle.mw_logic.specs.Substitution.IsSolution sig r.statement.left (nested sig y) [] solution) e r.solution) x.of (nested sig u) x.occurs x.value)
-        by_shape (numeral m) e x z = leaf (numeral m) e tt x z
-        by_shape (quoted q) e x z = leaf (quoted q) e tt x z
-        by_shape (variable y) e x z = leaf (variable y) e tt x z
+            r.statement.left r.solution r.sides.left (subst (λ y. Rattle.mw_logic.specs.Substitution.IsSolution sig r.statement.left (nested sig y) [] r.solution) e r.solves) x.of (nested sig u) o
+            (value_here_too M ok sorted n number ms vs right w r x.of (nested sig u) o x.value))
+        by_shape (numeral m) e x o z = leaf (numeral m) e tt x o z
+        by_shape (quoted q) e x o z = leaf (quoted q) e tt x o z
+        by_shape (variable y) e x o z = leaf (variable y) e tt x o z
+
+        by_side : (b : Bool) → (x : IsValueOf u) → occurs x.of r.statement.left ≡ b → normal_form sig (nested sig u) ≡ u → IsNormalHere M n u ⊎ (HasNormalArguments M n u × (is_sure f u ≡ false))
+        by_side true x o z = by_shape w refl x o z
+        by_side false x o z = found_known x o
 
   good : (i : ℕ) (u : RawTerm) → slice_get vs i ≡ Some u → IsCanonical sig u
   good i u g = (r.values i u g).canonical
@@ -183,18 +198,17 @@ module _ (M : Module) (ok : IsAccepted M.signature) (sorted : IsWellSorted M.sig
     free_values nil q a x o = absurd (both_ways _ refl o)
     free_values (cons p ps) q a x o = ⊎_elim (λ k. free_value p q.0 a.0 x k) (λ k. free_values ps q.1 a.1 x k) (or_cases (occurs x p) (occurs_in x ps) o)
 
-  -- where the left side is an operator on patterns, without axioms, each value is a part of an argument
-  pub free_values_known : (f : ℕ) (ps : RawTerms) → apply f ps ≡ placed variables (normal_form sig r.statement.left) → IsFree sig (apply f ps) → IsCanonical sig w → HasNormalArguments M n w
+  -- where the left side is an operator on patterns, without axioms, each value is a part of an argument, or was found and is normal
+  pub free_values_known : (f : ℕ) (ps : RawTerms) → apply f ps ≡ placed variables (normal_form sig r.statement.left) → IsFree sig (apply f ps)
+      → ((x : Variable) → IsTrue (is_in x variables) → IsFalse (occurs x r.statement.left) → IsNormalHere M n (value_in sig variables vs x)) → IsCanonical sig w → HasNormalArguments M n w
       → (i : ℕ) (u : RawTerm) → slice_get vs i ≡ Some u → IsKnown M n 0 u
-  free_values_known f ps e q k a i u g =
+  free_values_known f ps e q found k a i u g =
       let v = r.values i u g in
       let x = value_here i u g in
-      let p : RawTerm = normal_form sig r.statement.left in
-      let o : occurs x.of r.statement.left ≡ occurs x.of p = occurs_kept sig x.of (normal_form-sound sig ok r.sides.left) ∙ nested_occurs sig x.of p in
       record {
         canonical = v.canonical;
         ground = sym (nested_ground sig u) ∙ v.ground;
-        known = inl (subst (IsNormalHere M n) x.place (by_shape p e (left_is M ok sorted number vs right w r k) x.of (sym o ∙ x.occurs)));
+        known = inl (subst (IsNormalHere M n) x.place (by_side (occurs x.of r.statement.left) x refl));
       }
     where
       by_shape : (p : RawTerm) → apply f ps ≡ placed variables p → evaluated sig vs (placed variables p) ≡ w → (x : Variable) → IsTrue (occurs x p) → IsNormalHere M n (evaluated sig vs (placed variables (variable x)))
@@ -204,6 +218,12 @@ module _ (M : Module) (ok : IsAccepted M.signature) (sorted : IsWellSorted M.sig
       by_shape (apply h qs) e l x o =
           let z : IsFree sig (apply h (all_placed variables qs)) = subst (IsFree sig) e q in
           free_values qs z.1 (a h (evaluated_all sig vs (all_placed variables qs)) (sym l ∙ plain_applied sig h _ z.0)) x o
+
+      by_side : (b : Bool) (x : IsValueOf u) → occurs x.of r.statement.left ≡ b → IsNormalHere M n (value_in sig variables vs x.of)
+      by_side true x o =
+          let p : RawTerm = normal_form sig r.statement.left in
+          by_shape p e (left_is M ok sorted n number ms vs right w r k) x.of (sym (occurs_kept sig x.of (normal_form-sound sig ok r.sides.left) ∙ nested_occurs sig x.of p) ∙ o)
+      by_side false x o = found x.of x.within o
 
   -- So is each in the right side, whose operators have as many arguments as their axioms ask for.
   module _ (f base : ℕ) (values : List RawTerm) (kept : drop base values ≡ vs) (known : (i : ℕ) (u : RawTerm) → slice_get vs i ≡ Some u → IsKnown M n f u) where
@@ -256,5 +276,5 @@ module _ (M : Module) (ok : IsAccepted M.signature) (sorted : IsWellSorted M.sig
         let e : EqualModulo sig r.statement.right (nested sig p) = normal_form-sound sig ok r.sides.right in
         let raw : IsRaw sig p = (raw_kept sig ok e).0 r.sides.right in
         let only : (x : Variable) → IsTrue (occurs x p) → IsTrue (is_in x variables) =
-        λ x o. met_here M ok sorted number vs right w r x ∙ r.plain.bound x (occurs_kept sig x e ∙ nested_occurs sig x p ∙ o) in
+        λ x o. right_here M ok sorted n number ms vs right w r x (occurs_kept sig x e ∙ nested_occurs sig x p ∙ o) in
         subst (IsKnownIn M n values base f) (sym r.right) (known_in p raw (arities sig ok variables p raw) only)

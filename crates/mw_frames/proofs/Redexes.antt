@@ -1,17 +1,17 @@
 -- An equation is applied to the term in hand.
-use Rattle.std.specs.Prelude.{◌≡◌, ◌+◌, ℕ, zero, suc, List, [], ◌∷◌, ◌++◌, false, IsTrue, refl}
+use Rattle.std.specs.Prelude.{◌≡◌, ◌+◌, ℕ, zero, suc, List, [], ◌∷◌, ◌++◌, Bool, false, ◌&&◌, ◌||◌, IsTrue, refl}
 use Rattle.std.specs.List.{zip}
-use Rattle.std.proofs.Common.{sym, subst, ap, ◌∙◌, arith, true≢false}
-use Rattle.std.proofs.lemmas.Bool.{and_from, or_left, or_right}
+use Rattle.std.proofs.Common.{sym, subst, ap, ◌∙◌, arith, true≢false, ⊎_elim}
+use Rattle.std.proofs.lemmas.Bool.{and_from, or_cases, or_left, or_right}
 use Rattle.mw_logic.specs.Term.{Variable, RawTerm, RawTerms, numeral, quoted, variable, apply, nil, cons, join, Frame, Context, plug, is_ground}
 use Rattle.mw_logic.specs.Signature.{Signature, HasKind, of_operator, IsRawTerm, an_operator, AreRawTerms, next}
 use Rattle.mw_logic.specs.Accepted.{IsAccepted, IsWellSorted}
-use Rattle.mw_logic.specs.Substitution.{Substitution, instance, occurs, occurs_in, is_bound, binds, binds_all}
+use Rattle.mw_logic.specs.Substitution.{Substitution, instance, occurs, occurs_in, is_bound, binds, binds_all, IsSubstitution, Extends}
 use Rattle.mw_logic.specs.Parts.{nested, IsAdmitted}
-use Rattle.mw_logic.specs.Module.{Module}
-use Rattle.mw_logic.specs.Proof.{replacement, steps}
-use Rattle.mw_logic.specs.Proof as proof
-use Rattle.mw_logic.specs.Judgements.{admitted_judgements, judgements_with}
+use Rattle.mw_logic.specs.Module.{Fragment, equal, matches, has_sort, is_true, Module, binds_fragments}
+use Rattle.mw_logic.specs.Confluence.{AreBound}
+use Rattle.mw_logic.specs.Proof.{Proofs, replacement, rules, steps}
+use Rattle.mw_logic.specs.Judgements.{Judgements, HoldsAbove, admitted_judgements, judgements_with}
 use Rattle.mw_logic.proofs.Canonical.{IsCanonical}
 use Rattle.mw_logic.proofs.CanonicalTerms.{fixed}
 use Rattle.mw_logic.proofs.Inside.{raw_inside}
@@ -19,22 +19,26 @@ use Rattle.mw_logic.proofs.InstanceLaws.{instance_kind}
 use Rattle.mw_logic.proofs.Invariance.{normal_form-kept}
 use Rattle.mw_logic.proofs.Lifting.{fill}
 use Rattle.mw_logic.proofs.RawKept.{kind_unique, raw_kept}
-use Rattle.mw_logic.proofs.Restricted.{instance_ground}
+use Rattle.mw_logic.proofs.Restricted.{instance_ground, AreBound-same}
 use Rattle.mw_logic.proofs.SolutionLaws.{instance_raw}
 use Rattle.mw_logic.proofs.Soundness.{HasKind-same}
 use Rattle.mw_canon.specs.Canonical.{meant}
+use Rattle.mw_position.specs.Variables.{is_in}
+use Rattle.mw_least.specs.Conditions.{occurs_among, binds_among}
 use Rattle.mw_matching.specs.Matches.{evaluated}
+use Rattle.mw_deduction.specs.Chains.{proof_of}
 use Rattle.mw_deduction.specs.Standing.{round, IsSeen, At}
 use Rattle.mw_deduction.specs.Runs.{by_statement}
 use Rattle.mw_deduction.specs.Replay.{Move, applies, Stand, becomes, replacing, plays, AreMoves, MayApply}
 use Rattle.mw_deduction.specs.Stands.{AreStanding}
+use Rattle.mw_deduction.proofs.Extended.{instance_extended, held_extended}
 use Rattle.mw_deduction.proofs.Moves.{plays-append, moves-append}
 use Rattle.mw_deduction.proofs.MoveStands.{becomes_is}
 use Rattle.mw_deduction.proofs.ReadingLaws as reading
 use Rattle.mw_frames.specs.State.{Run, Leads}
-use Rattle.mw_frames.specs.Redex.{IsRedex, MayCome}
-use Rattle.mw_frames.proofs.RightSides.{kinds_here, right_is}
-use Rattle.mw_frames.proofs.Turning.{at_hand}
+use Rattle.mw_frames.specs.Redex.{IsWaiting, IsShown, IsRedex, MayCome}
+use Rattle.mw_frames.proofs.RightSides.{kinds_here, left_here, right_here, among_here, all_bound_here, solution_binds, left_matches, right_is}
+use Rattle.mw_frames.proofs.Turning.{all_standing, at_hand}
 
 -- a raw term comes for another, and has its kinds
 module _ (sig : Signature) (ok : IsAccepted sig) where
@@ -66,72 +70,118 @@ mutual
   binds_all_from s (cons t ts) h =
       and_from (binds s t) (binds_all s ts) (binds_from s t (λ x o. h x (or_left (occurs x t) (occurs_in x ts) o))) (binds_all_from s ts (λ x o. h x (or_right (occurs x t) (occurs_in x ts) o)))
 
--- no condition, no evidence
-pub nothing_held : (M : Module) (n : ℕ) (s : Substitution) → (admitted_judgements M n).Held [] s proof.nil s
-unfolding judgements_with
-nothing_held M zero s = (refl, refl)
-nothing_held M (suc n) s = (refl, refl)
+-- so it is in a condition
+binds_condition : (s : Substitution) (C : List Fragment) → ((x : Variable) → IsTrue (occurs_among x C) → IsTrue (is_bound s x)) → IsTrue (binds_fragments s C)
+binds_condition s [] h = refl
+binds_condition s (equal u v ∷ C) h =
+    and_from (binds s u && binds s v) (binds_fragments s C)
+    (and_from (binds s u) (binds s v) (binds_from s u (λ x o. h x (or_left (occurs x u || occurs x v) (occurs_among x C) (or_left (occurs x u) (occurs x v) o))))
+    (binds_from s v (λ x o. h x (or_left (occurs x u || occurs x v) (occurs_among x C) (or_right (occurs x u) (occurs x v) o)))))
+    (binds_condition s C (λ x o. h x (or_right (occurs x u || occurs x v) (occurs_among x C) o)))
+binds_condition s (matches u v ∷ C) h =
+    and_from (binds s u && binds s v) (binds_fragments s C)
+    (and_from (binds s u) (binds s v) (binds_from s u (λ x o. h x (or_left (occurs x u || occurs x v) (occurs_among x C) (or_left (occurs x u) (occurs x v) o))))
+    (binds_from s v (λ x o. h x (or_left (occurs x u || occurs x v) (occurs_among x C) (or_right (occurs x u) (occurs x v) o)))))
+    (binds_condition s C (λ x o. h x (or_right (occurs x u || occurs x v) (occurs_among x C) o)))
+binds_condition s (has_sort t S ∷ C) h =
+    and_from (binds s t) (binds_fragments s C) (binds_from s t (λ x o. h x (or_left (occurs x t) (occurs_among x C) o))) (binds_condition s C (λ x o. h x (or_right (occurs x t) (occurs_among x C) o)))
+binds_condition s (is_true t ∷ C) h =
+    and_from (binds s t) (binds_fragments s C) (binds_from s t (λ x o. h x (or_left (occurs x t) (occurs_among x C) o))) (binds_condition s C (λ x o. h x (or_right (occurs x t) (occurs_among x C) o)))
 
-module _ (M : Module) (ok : IsAccepted M.signature) (sorted : IsWellSorted M.signature) (number : ℕ) (vs : List RawTerm) (right w : RawTerm) (r : IsRedex M number vs right w) where
+-- what was reached has values of the variables that were bound, and of those in the patterns of matches
+module _ (M : Module) (below : Judgements) where
+  binds_reached : (C : List Fragment) (s : Substitution) (es : Proofs) (r : Substitution) (b : Variable → Bool) → ((y : Variable) → IsTrue (b y) → IsTrue (is_bound s y)) → HoldsAbove M below C s es r
+      → (x : Variable) → IsTrue (binds_among b C x) → IsTrue (is_bound r x)
+  binds_reached [] s es r b i (e, d) x h = subst (λ q. IsTrue (is_bound q x)) d (i x h)
+  binds_reached (equal u v ∷ C) s es r b i (p, q, rest, a, c, e, k, l, m, z) x h = binds_reached C s rest r b i z x h
+  binds_reached (is_true t ∷ C) s es r b i (p, rest, a, e, k, m, z) x h = binds_reached C s rest r b i z x h
+  binds_reached (has_sort t S ∷ C) s es r b i (p, rest, a, e, k, m, z) x h = binds_reached C s rest r b i z x h
+  binds_reached (matches l t ∷ C) s es r b i (p, rest, a, q, e, k, sol, z) x h =
+      binds_reached C q rest r (λ y. b y || occurs y l)
+      (λ y o. sol.variables y ∙ ⊎_elim (λ g. or_left (is_bound s y) (occurs y l) (i y g)) (λ g. or_right (is_bound s y) (occurs y l) g) (or_cases (b y) (occurs y l) o)) z x h
+
+held_binds : (M : Module) (n : ℕ) (C : List Fragment) (s : Substitution) (es : Proofs) (r : Substitution) (b : Variable → Bool) → ((y : Variable) → IsTrue (b y) → IsTrue (is_bound s y))
+    → (admitted_judgements M n).Held C s es r → (x : Variable) → IsTrue (binds_among b C x) → IsTrue (is_bound r x)
+unfolding judgements_with
+held_binds M zero [] s es r b i h x k = subst (λ q. IsTrue (is_bound q x)) h.1 (i x k)
+held_binds M zero (f ∷ C) s es r b i h x k = absurd h
+held_binds M (suc n) C s es r b i h x k = binds_reached M (admitted_judgements M n) C s es r b i h x k
+
+-- What holds from the solution of a left side holds from what it reaches, and from more, where its variables are bound in turn.
+held_on : (M : Module) (n : ℕ) (C : List Fragment) (s : Substitution) (es : Proofs) (r q : Substitution) → AreBound (is_bound s) C → IsSubstitution M.signature q → Extends r q
+    → (admitted_judgements M n).Held C s es r → (admitted_judgements M n).Held C q es q
+unfolding judgements_with
+held_on M zero [] s es r q b i e h = (h.0, refl)
+held_on M zero (f ∷ C) s es r q b i e h = absurd h
+held_on M (suc n) C s es r q b i e h = held_extended M (admitted_judgements M n) C s es r q b i e h
+
+module _ (M : Module) (ok : IsAccepted M.signature) (sorted : IsWellSorted M.signature) (n number : ℕ) (ms : List Move) (vs : List RawTerm) (right w : RawTerm) (r : IsRedex M n number ms vs right w) where
   abbrev sig : Signature
   sig = M.signature
 
-  abbrev pub solution_here : Substitution
-  solution_here = meant sig (zip r.statement.variables vs)
+  abbrev pub values_here : Substitution
+  values_here = meant sig (zip r.statement.variables vs)
 
   -- what comes for the term
   abbrev pub made : RawTerm
-  made = instance solution_here r.statement.right
+  made = instance values_here r.statement.right
 
   pub made_raw : IsRawTerm sig made
-  made_raw = instance_raw sig ok sorted solution_here r.solution.substitution r.sides.right
+  made_raw = instance_raw sig ok sorted values_here r.substitution r.sides.right
 
   made_kinds : (L : ℕ) → HasKind sig (nested sig w) L → HasKind sig made L
   made_kinds L l =
       let (K, a, b) = r.sides.kinds in
-      let k = kinds_here M ok sorted number vs right w r in
-      let there : HasKind sig (nested sig w) K = (raw_kept sig ok r.solution.matches).1 K (instance_kind sig solution_here k a) in
-      HasKind-same (instance_kind sig solution_here k b) (kind_unique sig ok there l)
+      let k = kinds_here M ok sorted n number ms vs right w r in
+      let there : HasKind sig (nested sig w) K = (raw_kept sig ok (left_matches M ok sorted n number ms vs right w r)).1 K (instance_kind sig values_here k a) in
+      HasKind-same (instance_kind sig values_here k b) (kind_unique sig ok there l)
 
-  bound_here : (x : Variable) → IsTrue (occurs x r.statement.right) → IsTrue (is_bound solution_here x)
-  bound_here x o = r.solution.variables x ∙ r.plain.bound x o
+  bound_here : (x : Variable) → IsTrue (is_in x r.statement.variables) → IsTrue (is_bound values_here x)
+  bound_here = all_bound_here M ok sorted n number ms vs right w r
 
   pub made_ground : IsTrue (is_ground made)
-  made_ground = instance_ground sig solution_here r.solution.substitution r.statement.right bound_here
+  made_ground = instance_ground sig values_here r.substitution r.statement.right (λ x o. bound_here x (right_here M ok sorted n number ms vs right w r x o))
 
   pub made_comes : MayCome sig w made
   made_comes = record { raw = made_raw; is_ground = made_ground; kinds = made_kinds }
 
-  -- the equation may be applied where it stands, if what comes of the whole is admitted
-  pub may_apply : (S : Stand) → S.hand ≡ w → S.read.ready ≡ proof.nil → IsSeen sig S.opens w → IsCanonical sig w → IsRawTerm sig (plug (round sig S.opens) (nested sig w)) → IsAdmitted sig (plug (round sig S.opens) made)
-      → MayApply M number false solution_here S
-  may_apply S e ready seen k raw a =
-      let left : RawTerm = instance solution_here r.statement.left in
-      let b : IsTrue (binds solution_here r.statement.left) = binds_from solution_here r.statement.left (λ x o. r.solution.variables x ∙ o) in
-      let d : IsTrue (binds solution_here r.statement.right) = binds_from solution_here r.statement.right bound_here in
+  -- what is reached gives the same, where the condition holds
+  pub made_reached : (es : Proofs) → (admitted_judgements M n).Held r.statement.fragments r.solution es r.reached → made ≡ instance r.reached r.statement.right
+  made_reached es h = sym (instance_extended r.reached values_here r.reaches r.statement.right (λ x o. held_binds M n r.statement.fragments r.solution es r.reached (λ y. occurs y r.statement.left) (λ y k. solution_binds M ok sorted n number ms vs right w r y k) h x (r.ordinary.bound x o)))
+
+  -- the equation may be applied where its condition is shown, if what comes of the whole is admitted
+  pub may_apply : (S T : Stand) (es : Proofs) → S.hand ≡ w → IsWaiting es S T → S.rank ≡ n → (admitted_judgements M n).Held r.statement.fragments r.solution es r.reached → IsSeen sig S.opens w → IsCanonical sig w
+      → IsRawTerm sig (plug (round sig S.opens) (nested sig w)) → IsAdmitted sig (plug (round sig S.opens) made) → MayApply M number false values_here T
+  may_apply S T es e waits rank held seen k raw a =
+      let left : RawTerm = instance values_here r.statement.left in
+      let b : IsTrue (binds values_here r.statement.left) = binds_from values_here r.statement.left (λ x o. bound_here x (left_here M ok sorted n number ms vs right w r x o)) in
+      let d : IsTrue (binds values_here r.statement.right) = binds_from values_here r.statement.right (λ x o. bound_here x (right_here M ok sorted n number ms vs right w r x o)) in
+      let f : IsTrue (binds_fragments values_here r.statement.fragments) = binds_condition values_here r.statement.fragments (λ x o. bound_here x (among_here M ok sorted n number ms vs right w r x o)) in
+      let in_turn : AreBound (is_bound r.solution) r.statement.fragments = AreBound-same r.statement.fragments (λ x. sym (r.solves.variables x)) r.ordinary.bound_in_turn in
+      let full : (admitted_judgements M n).Held r.statement.fragments values_here es values_here = held_on M n r.statement.fragments r.solution es r.reached values_here in_turn r.substitution r.reaches held in
       record {
         statement = r.statement;
         is_there = r.is_there.is_there;
-        rule = r.plain.equation;
+        rule = r.ordinary.equation;
         replaces = record {
           statement = r.statement;
           is_there = r.is_there;
-          rule = r.plain.equation;
-          substitution = r.solution.substitution;
-          all_bound = rw (b, d, r.plain.unconditional) refl;
-          condition = subst (λ C. (admitted_judgements M S.rank).Held C solution_here S.read.ready solution_here) (sym r.plain.unconditional)
-              (subst (λ es. (admitted_judgements M S.rank).Held [] solution_here es solution_here) (sym ready) (nothing_held M S.rank solution_here));
-          plain = λ o. absurd (true≢false (sym o ∙ r.plain.ordinary));
+          rule = r.ordinary.equation;
+          substitution = r.substitution;
+          all_bound = rw (b, d) f;
+          condition = subst (λ i. (admitted_judgements M i).Held r.statement.fragments values_here T.read.ready values_here) (sym (waits.rank ∙ rank))
+              (subst (λ ps. (admitted_judgements M n).Held r.statement.fragments values_here ps values_here) (sym waits.ready) full);
+          plain = λ o. absurd (true≢false (sym o ∙ r.ordinary.ordinary));
           from = refl;
           to = refl;
         };
         may = record {
-          seen = subst (IsSeen sig S.opens) (sym e) seen;
+          seen = subst (λ os. IsSeen sig os T.hand) (sym waits.opens) (subst (IsSeen sig S.opens) (sym (waits.hand ∙ e)) seen);
           free = λ z. absurd (true≢false (sym z));
-          raw_part = instance_raw sig ok sorted solution_here r.solution.substitution r.sides.left;
-          is_part = normal_form-kept sig ok r.solution.matches ∙ fixed sig ok w k ∙ sym e;
-          raw = raw_in_place sig ok (round sig S.opens) (nested sig w) made raw made_raw made_kinds;
-          admitted = a;
+          raw_part = instance_raw sig ok sorted values_here r.substitution r.sides.left;
+          is_part = normal_form-kept sig ok (left_matches M ok sorted n number ms vs right w r) ∙ fixed sig ok w k ∙ sym (waits.hand ∙ e);
+          raw = subst (λ os. IsRawTerm sig (plug (round sig os) made)) (sym waits.opens) (raw_in_place sig ok (round sig S.opens) (nested sig w) made raw made_raw made_kinds);
+          admitted = subst (λ os. IsAdmitted sig (plug (round sig os) made)) (sym waits.opens) a;
         };
       }
 
@@ -142,32 +192,44 @@ pub record IsReplaced (K : Run) (count : ℕ) (ms : List Move) (S : Stand) (v : 
   pub opens : stand.opens ≡ S.opens
   pub hand : stand.hand ≡ v
 
-module _ (K : Run) (ok : IsAccepted K.over.signature) (sorted : IsWellSorted K.over.signature) (count number : ℕ) (vs : List RawTerm) (right w : RawTerm) (r : IsRedex K.over number vs right w) where
+module _ (K : Run) (ok : IsAccepted K.over.signature) (sorted : IsWellSorted K.over.signature) (count number : ℕ) (ss : List Move) (vs : List RawTerm) (right w : RawTerm) (r : IsRedex K.over K.rank number ss vs right w) where
   abbrev s : Substitution
   s = meant K.over.signature (zip r.statement.variables vs)
 
-  pub fires : (ms : List Move) (S : Stand) → AreStanding K.over K.start → Leads K count ms S → S.hand ≡ w → IsSeen K.over.signature S.opens w
-      → IsAdmitted K.over.signature (plug (round K.over.signature S.opens) (instance s r.statement.right)) → IsReplaced K count (ms ++ applies number false s ∷ []) S (evaluated K.over.signature vs right)
+  abbrev here : Signature
+  here = K.over.signature
+
+  -- where a run stands the condition may be shown
+  pub shows_there : (ms : List Move) (S : Stand) → AreStanding K.over K.start → Leads K count ms S → IsShown K.over K.rank r.statement.fragments r.solution r.reached ss S K.below
+  shows_there ms S start h = r.shown S K.below (all_standing K ok sorted count ms S start h) h.rank h.ready
+
+  pub fires : (ms : List Move) (S : Stand) → AreStanding K.over K.start → Leads K count ms S → S.hand ≡ w → IsSeen here S.opens w
+      → IsAdmitted here (plug (round here S.opens) (instance s r.statement.right)) → IsReplaced K count (ms ++ (ss ++ applies number false s ∷ [])) S (evaluated here vs right)
   fires ms S start h e seen a =
-      let M : Module = K.over in
-      let sig : Signature = K.over.signature in
-      let at : At M (admitted_judgements M K.rank).Held (admitted_judgements M K.rank).Fails (nested sig S.from) S.read S.opens w =
-      subst (At M (admitted_judgements M K.rank).Held (admitted_judgements M K.rank).Fails (nested sig S.from) S.read S.opens) e (at_hand K ok sorted count ms S start h) in
-      let may : MayApply M number false s S = may_apply M ok sorted number vs right w r S e h.ready seen at.canonical at.raw a in
-      let T : Stand = replacing sig (replacement number false s S.read.ready) (by_statement number s S.sides) (becomes M number s S.hand) S in
-      let one = (reading.one (replacement number false s S.read.ready) S.read).1 in
-      let by_rules = (reading.one (replacement number false s S.read.ready) S.read).0 in
+      let at : At K.over (admitted_judgements K.over K.rank).Held (admitted_judgements K.over K.rank).Fails (nested here S.from) S.read S.opens w =
+      subst (At K.over (admitted_judgements K.over K.rank).Held (admitted_judgements K.over K.rank).Fails (nested here S.from) S.read S.opens) e (at_hand K ok sorted count ms S start h) in
+      let shown = shows_there ms S start h in
+      let T : Stand = shown.waiting in
+      let z = shown.waits in
+      let may : MayApply K.over number false s T = may_apply K.over ok sorted K.rank number ss vs right w r S T shown.evidence e z h.rank shown.holds seen at.canonical at.raw a in
+      let Q : Stand = replacing here (replacement number false s T.read.ready) (by_statement number s T.sides) (becomes K.over number s T.hand) T in
+      let one = (reading.one (replacement number false s T.read.ready) T.read).1 in
+      let by_rules = (reading.one (replacement number false s T.read.ready) T.read).0 in
       let old = h.steps in
+      let done_steps : steps (proof_of T.read.done) ≡ steps (proof_of S.read.done) = ap (λ rs. steps (proof_of rs)) z.done in
+      let done_rules : rules (proof_of T.read.done) ≡ rules (proof_of S.read.done) = ap (λ rs. rules (proof_of rs)) z.done in
+      let all : AreMoves K.over (ss ++ applies number false s ∷ []) (S ∷ K.below) = moves-append K.over ss (applies number false s ∷ []) (S ∷ K.below) shown.may (subst (AreMoves K.over (applies number false s ∷ [])) (sym shown.plays) (may, tt)) in
+      let goes : plays K.over (ss ++ applies number false s ∷ []) (S ∷ K.below) ≡ Q ∷ K.below = plays-append K.over ss (applies number false s ∷ []) (S ∷ K.below) ∙ ap (plays K.over (applies number false s ∷ [])) shown.plays in
       record {
-        stand = T;
+        stand = Q;
         leads = record {
-          plays = plays-append M ms (applies number false s ∷ []) K.start ∙ ap (plays M (applies number false s ∷ [])) h.plays;
-          moves = moves-append M ms (applies number false s ∷ []) K.start h.moves (subst (AreMoves M (applies number false s ∷ [])) (sym h.plays) (may, tt));
-          rank = h.rank;
+          plays = plays-append K.over ms (ss ++ applies number false s ∷ []) K.start ∙ ap (plays K.over (ss ++ applies number false s ∷ [])) h.plays ∙ goes;
+          moves = moves-append K.over ms (ss ++ applies number false s ∷ []) K.start h.moves (subst (AreMoves K.over (ss ++ applies number false s ∷ [])) (sym h.plays) all);
+          rank = z.rank ∙ h.rank;
           ready = refl;
-          steps = omega (arith, one, old);
-          rules = by_rules ∙ ap (λ n. n + 0) h.rules;
+          steps = omega (arith, one, old, done_steps);
+          rules = by_rules ∙ ap (λ n. n + 0) (done_rules ∙ h.rules);
         };
-        opens = refl;
-        hand = becomes_is M ok number s S.hand r.statement r.is_there.is_there ∙ sym (right_is M ok sorted number vs right w r);
+        opens = z.opens;
+        hand = becomes_is K.over ok number s T.hand r.statement r.is_there.is_there ∙ sym (right_is K.over ok sorted K.rank number ss vs right w r);
       }

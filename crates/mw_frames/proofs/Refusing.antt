@@ -1,6 +1,5 @@
 -- Why the machine stops where something would come for the term in hand.
 use Rattle.std.specs.Prelude.{◌≡◌, ◌≤◌, ◌<◌, ◌+◌, ℕ, List, [], ◌∷◌, true, false}
-use Rattle.std.specs.List.{zip}
 use Rattle.std.proofs.Common.{sym, subst, ap, ◌∙◌}
 use Rattle.std.proofs.lemmas.Bool.{both_ways}
 use Rattle.mw_logic.specs.Term.{RawTerm, plug}
@@ -14,9 +13,8 @@ use Rattle.mw_logic.proofs.AxiomLaws.{trans, sym as back, in_context}
 use Rattle.mw_logic.proofs.Invariance.{identity_found}
 use Rattle.mw_logic.proofs.ContextLaws.{plug-append}
 use Rattle.mw_logic.proofs.Soundness.{normal_form-sound}
-use Rattle.mw_canon.specs.Canonical.{meant}
 use Rattle.mw_matching.specs.Matches.{evaluated}
-use Rattle.mw_deduction.specs.Replay.{whole}
+use Rattle.mw_deduction.specs.Replay.{Move, whole}
 use Rattle.mw_deduction.specs.Standing.{Open, context_at, round, AreClear, IsSeenBy, IsSeen}
 use Rattle.mw_deduction.proofs.Clear.{IsBranch, Stands, branch_stands, one_clean}
 use Rattle.mw_deduction.proofs.MoveStands.{whole_is}
@@ -24,7 +22,7 @@ use Rattle.mw_frames.specs.declared.job.Job.TheVariants.{Walk}
 use Rattle.mw_frames.specs.State.{Run, Data, IsRun, InHand}
 use Rattle.mw_frames.specs.Redex.{IsRedex, MayCome, IsSeenIn, hole_level}
 use Rattle.mw_frames.specs.Fires.{Becomes, by_equation, Refuses}
-use Rattle.mw_frames.proofs.Redexes.{made, made_comes}
+use Rattle.mw_frames.proofs.Redexes.{made, made_comes, made_reached, shows_there}
 use Rattle.mw_frames.proofs.RightSides.{right_is}
 use Rattle.mw_frames.proofs.FiringHere.{at_it, seen_there, deep_here, large_here}
 
@@ -78,27 +76,29 @@ module _ (K : Run) (sig : Signature) (run : IsRun K sig) (count : ℕ) (m : Data
     refuses_large l z = let (a, b) = large_here K sig run count m w h seen v c l z in record { next = plug (round here os) v; becomes = becomes; large = a; not_deep = b }
 
   -- by an equation
-  module _ (number : ℕ) (vs : List RawTerm) (right : RawTerm) (r : IsRedex K.over number vs right w) (t : RawTerm) (q : t ≡ whole here os h.stand.hand) where
+  module _ (number : ℕ) (ss : List Move) (vs : List RawTerm) (right : RawTerm) (r : IsRedex K.over K.rank number ss vs right w) (t : RawTerm) (q : t ≡ whole here os h.stand.hand) where
     abbrev v : RawTerm
-    v = made K.over run.accepted run.sorted number vs right w r
+    v = made K.over run.accepted run.sorted K.rank number ss vs right w r
 
     is_evaluated : evaluated here vs right ≡ normal_form here v
-    is_evaluated = right_is K.over run.accepted run.sorted number vs right w r
+    is_evaluated = right_is K.over run.accepted run.sorted K.rank number ss vs right w r
 
     becomes_made : Becomes K.over K.rank (nested here t) (plug (round here os) v)
     becomes_made =
         let at = at_it K sig run count m w h in
-        by_equation (round here os) (nested here w) number r.statement (meant here (zip r.statement.variables vs))
+        let shown = shows_there K run.accepted run.sorted count number ss vs right w r m.moves h.stand run.start h.leads in
+        subst (λ u. Becomes K.over K.rank (nested here t) (plug (round here os) u)) (sym (made_reached K.over run.accepted run.sorted K.rank number ss vs right w r shown.evidence shown.holds))
+        (by_equation (round here os) (nested here w) number r.statement r.solution r.reached shown.evidence
         (is_part_there (nested here w) t
         (Rattle.mw_logic.proofs.Inside.raw_inside here run.accepted (round here os) (nested here w) at.raw)
         (Rattle.mw_logic.proofs.CanonicalTerms.clean here run.accepted w at.canonical)
         (Rattle.mw_logic.proofs.CanonicalTerms.fixed here run.accepted w at.canonical) q)
-        r.is_there r.plain r.solution
+        r.is_there r.ordinary r.solves shown.holds)
 
     pub equation_deep : 1000 < hole_level here m.frames (evaluated here vs right) + height (evaluated here vs right) → Refuses K true (nested here t)
-    equation_deep d = refuses_deep v t (made_comes K.over run.accepted run.sorted number vs right w r) becomes_made (subst (λ u. 1000 < hole_level here m.frames u + height u) is_evaluated d)
+    equation_deep d = refuses_deep v t (made_comes K.over run.accepted run.sorted K.rank number ss vs right w r) becomes_made (subst (λ u. 1000 < hole_level here m.frames u + height u) is_evaluated d)
 
     pub equation_large : hole_level here m.frames (evaluated here vs right) + height (evaluated here vs right) ≤ 1000 → has_largest here (whole here os (evaluated here vs right)) ≡ true → Refuses K false (nested here t)
     equation_large l z =
-        refuses_large v t (made_comes K.over run.accepted run.sorted number vs right w r) becomes_made (subst (λ u. hole_level here m.frames u + height u ≤ 1000) is_evaluated l)
+        refuses_large v t (made_comes K.over run.accepted run.sorted K.rank number ss vs right w r) becomes_made (subst (λ u. hole_level here m.frames u + height u ≤ 1000) is_evaluated l)
         (ap (λ u. has_largest here (whole here os u)) (sym is_evaluated) ∙ z)

@@ -1,13 +1,13 @@
 -- The canonical instances of an equation's sides by values that make its left side a term.
-use Rattle.std.specs.Prelude.{◌≡◌, ℕ, List, [], map, Some, slice_get, IsTrue}
+use Rattle.std.specs.Prelude.{◌≡◌, ℕ, List, [], map, Option, Some, None, is_some, slice_get, IsTrue, refl}
 use Rattle.std.specs.List.{zip}
-use Rattle.std.proofs.Common.{sym, subst, ap, ◌∙◌}
+use Rattle.std.proofs.Common.{sym, subst, ap, ◌∙◌, true≢false}
 use Rattle.std.proofs.lemmas.List.{length-map}
 use Rattle.mw_logic.specs.Term.{Variable, RawTerm}
 use Rattle.mw_logic.specs.Signature.{Signature, IsRawTerm}
 use Rattle.mw_logic.specs.Axioms.{EqualModulo}
 use Rattle.mw_logic.specs.Accepted.{IsAccepted, IsWellSorted}
-use Rattle.mw_logic.specs.Substitution.{Substitution, instance, occurs}
+use Rattle.mw_logic.specs.Substitution.{Substitution, value, instance, occurs, is_bound, Extends}
 use Rattle.mw_logic.specs.Parts.{nested}
 use Rattle.mw_logic.specs.NormalForm.{normal_form}
 use Rattle.mw_logic.specs.Module.{Module}
@@ -20,55 +20,87 @@ use Rattle.mw_logic.proofs.Soundness.{normal_form-sound}
 use Rattle.mw_canon.specs.Canonical.{meant}
 use Rattle.mw_position.specs.Positions.{fill}
 use Rattle.mw_position.specs.Variables.{is_in, AreDistinct, placed}
-use Rattle.mw_position.proofs.Meeting.{is_in-met, AreDistinct-met}
-use Rattle.mw_position.proofs.Placing.{values_of, values_zip}
+use Rattle.mw_position.proofs.Placing.{values_of, values_zip, bound_zip}
+use Rattle.mw_least.specs.Conditions.{occurs_among}
+use Rattle.mw_least.proofs.Mentioned.{mentioned_distinct, left_mentioned, right_mentioned, among_mentioned}
 use Rattle.mw_matching.specs.Matches.{evaluated}
 use Rattle.mw_matching.proofs.Evaluated.{evaluated_is}
 use Rattle.mw_solving.proofs.Nesting.{nested_placed, filled}
-use Rattle.mw_solving.proofs.Positions.{meant_zip}
+use Rattle.mw_solving.proofs.Positions.{meant_zip, meant_bound}
+use Rattle.mw_deduction.specs.Replay.{Move}
+use Rattle.mw_deduction.proofs.Extended.{instance_extended}
 use Rattle.mw_frames.specs.Redex.{IsRedex}
 
-module _ (M : Module) (ok : IsAccepted M.signature) (sorted : IsWellSorted M.signature) (number : ℕ) (vs : List RawTerm) (right w : RawTerm) (r : IsRedex M number vs right w) where
+module _ (M : Module) (ok : IsAccepted M.signature) (sorted : IsWellSorted M.signature) (n number : ℕ) (ms : List Move) (vs : List RawTerm) (right w : RawTerm) (r : IsRedex M n number ms vs right w) where
   abbrev sig : Signature
   sig = M.signature
 
   abbrev variables : List Variable
   variables = r.statement.variables
 
-  abbrev solution : Substitution
-  solution = meant sig (zip variables vs)
+  -- the substitution that the values are
+  abbrev pub full : Substitution
+  full = meant sig (zip variables vs)
 
   pub distinct_here : AreDistinct variables
-  distinct_here = subst AreDistinct (sym r.plain.variables) (AreDistinct-met [] r.statement.left tt)
+  distinct_here = subst AreDistinct (sym r.ordinary.variables) (mentioned_distinct r.statement)
 
-  -- the statement's variables are those of its left side
-  pub met_here : (x : Variable) → is_in x variables ≡ occurs x r.statement.left
-  met_here x = ap (is_in x) r.plain.variables ∙ is_in-met x [] r.statement.left
+  -- the statement's variables are those of its sides and its fragments
+  pub left_here : (x : Variable) → IsTrue (occurs x r.statement.left) → IsTrue (is_in x variables)
+  left_here x o = ap (is_in x) r.ordinary.variables ∙ left_mentioned r.statement x o
 
-  pub kinds_here : KeepsKinds sig solution
-  kinds_here = substitution_kinds sig ok sorted solution r.solution.substitution
+  pub right_here : (x : Variable) → IsTrue (occurs x r.statement.right) → IsTrue (is_in x variables)
+  right_here x o = ap (is_in x) r.ordinary.variables ∙ right_mentioned r.statement x o
+
+  pub among_here : (x : Variable) → IsTrue (occurs_among x r.statement.fragments) → IsTrue (is_in x variables)
+  among_here x o = ap (is_in x) r.ordinary.variables ∙ among_mentioned r.statement x o
+
+  -- each has a value
+  pub all_bound_here : (x : Variable) → IsTrue (is_in x variables) → IsTrue (is_bound full x)
+  all_bound_here x h = meant_bound sig (zip variables vs) x ∙ bound_zip variables vs x r.size ∙ h
+
+  -- the values go on from the solution
+  pub extends_here : Extends r.solution full
+  extends_here x t h = r.reaches x t (r.goes_on x t h)
+
+  pub solution_binds : (x : Variable) → IsTrue (occurs x r.statement.left) → IsTrue (is_bound r.solution x)
+  solution_binds x o = r.solves.variables x ∙ o
+
+  -- where a variable of the left side has a value, the solution has it
+  pub value_here_too : (x : Variable) (t : RawTerm) → IsTrue (occurs x r.statement.left) → value full x ≡ Some t → value r.solution x ≡ Some t
+  value_here_too x t o h = by_value (value r.solution x) refl (solution_binds x o)
+    where
+      by_value : (v : Option RawTerm) → value r.solution x ≡ v → IsTrue (is_some v) → value r.solution x ≡ Some t
+      by_value None e k = absurd (true≢false (sym k))
+      by_value (Some u) e k = e ∙ sym (extends_here x u e) ∙ h
+
+  pub left_matches : EqualModulo sig (instance full r.statement.left) (nested sig w)
+  left_matches = subst (λ u. EqualModulo sig u (nested sig w)) (instance_extended r.solution full extends_here r.statement.left (λ x o. solution_binds x o)) r.solves.matches
+
+  pub kinds_here : KeepsKinds sig full
+  kinds_here = substitution_kinds sig ok sorted full r.substitution
 
   good : (i : ℕ) (u : RawTerm) → slice_get vs i ≡ Some u → IsCanonical sig u
   good i u g = (r.values i u g).canonical
 
   -- of a term with these variables alone
-  instance_is : (t : RawTerm) → IsRawTerm sig t → ((x : Variable) → IsTrue (occurs x t) → IsTrue (is_in x variables)) → evaluated sig vs (placed variables (normal_form sig t)) ≡ normal_form sig (instance solution t)
+  instance_is : (t : RawTerm) → IsRawTerm sig t → ((x : Variable) → IsTrue (occurs x t) → IsTrue (is_in x variables)) → evaluated sig vs (placed variables (normal_form sig t)) ≡ normal_form sig (instance full t)
   instance_is t raw h =
       let p : RawTerm = normal_form sig t in
       let us : List RawTerm = map (nested sig) vs in
       let z : Substitution = zip variables us in
       let e : EqualModulo sig t (nested sig p) = normal_form-sound sig ok raw in
-      let q : normal_form sig (instance solution t) ≡ normal_form sig (instance solution (nested sig p)) = normal_form-kept sig ok (instance_equal sig solution kinds_here e) in
+      let q : normal_form sig (instance full t) ≡ normal_form sig (instance full (nested sig p)) = normal_form-kept sig ok (instance_equal sig full kinds_here e) in
       let a : fill (values_of z variables) (placed variables (nested sig p)) ≡ instance z (nested sig p) = filled z variables (nested sig p) (λ x o. h x (occurs_kept sig x e ∙ o)) in
       let b : values_of z variables ≡ us = values_zip variables us distinct_here (length-map vs (nested sig) ∙ r.size) in
-      let c : instance solution (nested sig p) ≡ fill us (nested sig (placed variables p)) =
+      let c : instance full (nested sig p) ≡ fill us (nested sig (placed variables p)) =
       ap (λ s. instance s (nested sig p)) (meant_zip sig variables vs) ∙ sym a ∙ ap (λ ws. fill ws (placed variables (nested sig p))) b ∙ ap (fill us) (sym (nested_placed sig variables p)) in
       sym (q ∙ ap (normal_form sig) c ∙ evaluated_is sig ok vs good (placed variables p))
 
   -- the right side's
-  pub right_is : evaluated sig vs right ≡ normal_form sig (instance solution r.statement.right)
-  right_is = ap (evaluated sig vs) r.right ∙ instance_is r.statement.right r.sides.right (λ x o. met_here x ∙ r.plain.bound x o)
+  pub right_is : evaluated sig vs right ≡ normal_form sig (instance full r.statement.right)
+  right_is = ap (evaluated sig vs) r.right ∙ instance_is r.statement.right r.sides.right right_here
 
   -- and the left side's is the term
   pub left_is : IsCanonical sig w → evaluated sig vs (placed variables (normal_form sig r.statement.left)) ≡ w
-  left_is k = instance_is r.statement.left r.sides.left (λ x o. met_here x ∙ o) ∙ normal_form-kept sig ok r.solution.matches ∙ fixed sig ok w k
+  left_is k = instance_is r.statement.left r.sides.left left_here ∙ normal_form-kept sig ok left_matches ∙ fixed sig ok w k

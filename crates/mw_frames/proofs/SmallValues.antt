@@ -11,6 +11,7 @@ use Rattle.mw_logic.specs.Kinds.{is_successor}
 use Rattle.mw_logic.specs.Substitution.{occurs, occurs_in}
 use Rattle.mw_logic.specs.NormalForm.{is_comm, arranged, applied_in, normal_form, is_largest, has_largest, some_largest}
 use Rattle.mw_logic.specs.Module.{Module}
+use Rattle.mw_logic.proofs.Admitted.{admitted-iff}
 use Rattle.mw_logic.proofs.Canonical.{IsCanonical}
 use Rattle.mw_logic.proofs.InstanceLaws.{occurs_kept}
 use Rattle.mw_logic.proofs.SameConditions.{same_variable-is}
@@ -21,8 +22,10 @@ use Rattle.mw_matching.specs.Matches.{evaluated, evaluated_all}
 use Rattle.mw_solving.proofs.Nesting.{nested_occurs}
 use Rattle.mw_deduction.proofs.Largest.{largest_applied}
 use Rattle.mw_frames.specs.Free.{IsFree, AreFree}
-use Rattle.mw_frames.specs.Redex.{IsRedex}
-use Rattle.mw_frames.proofs.KnownValues.{value_here}
+use Rattle.mw_deduction.specs.Replay.{Move}
+use Rattle.mw_frames.specs.State.{IsNormalHere}
+use Rattle.mw_frames.specs.Redex.{IsBare, IsRedex}
+use Rattle.mw_frames.proofs.KnownValues.{IsValueOf, value_here}
 use Rattle.mw_frames.proofs.RightSides.{left_is}
 
 -- of values in each of which it doesn't
@@ -50,7 +53,7 @@ module _ (sig : Signature) (ok : IsAccepted sig) (vs : List RawTerm) (small : so
     all_free_small nil h = refl
     all_free_small (cons t ts) h = or_from (has_largest sig (evaluated sig vs t)) (some_largest sig (evaluated_all sig vs ts)) (free_small t h.0) (all_free_small ts h.1)
 
-module _ (M : Module) (ok : IsAccepted M.signature) (sorted : IsWellSorted M.signature) (number : ℕ) (vs : List RawTerm) (right w : RawTerm) (r : IsRedex M number vs right w) where
+module _ (M : Module) (ok : IsAccepted M.signature) (sorted : IsWellSorted M.signature) (n number : ℕ) (ms : List Move) (vs : List RawTerm) (right w : RawTerm) (r : IsRedex M n number ms vs right w) where
   abbrev sig : Signature
   sig = M.signature
 
@@ -73,19 +76,37 @@ module _ (M : Module) (ok : IsAccepted M.signature) (sorted : IsWellSorted M.sig
         (λ k. or_right (has_largest sig (evaluated sig vs (placed variables p))) (some_largest sig (evaluated_all sig vs (all_placed variables ps))) (in_instances ps x k h))
         (or_cases (occurs x p) (occurs_in x ps) o)
 
+  normal_small : (u : RawTerm) → IsNormalHere M n u → has_largest sig u ≡ false
+  normal_small u a = subst (λ t. has_largest sig t ≡ false) a.canonical ((admitted-iff sig ok a.raw).0 a.normal.admitted).2
+
+  bare_small : (u : RawTerm) → IsBare u → has_largest sig u ≡ false
+  bare_small (numeral m) h = refl
+  bare_small (quoted q) h = refl
+  bare_small (variable x) h = refl
+  bare_small (apply f nil) h = or_from (is_successor sig f && is_largest nil) (some_largest sig nil) (none (is_successor sig f)) refl
+    where
+      none : (b : Bool) → (b && is_largest nil) ≡ false
+      none true = refl
+      none false = refl
+  bare_small (apply f (cons t ts)) h = absurd h
+
   pub values_small : IsCanonical sig w → has_largest sig w ≡ false → some_largest sig (terms_of vs) ≡ false
   values_small k h = all_small sig vs one
     where
       one : (i : ℕ) (u : RawTerm) → slice_get vs i ≡ Some u → has_largest sig u ≡ false
       one i u g = by_test (has_largest sig u) refl
         where
+          by_side : (b : Bool) (x : IsValueOf M ok sorted n number ms vs right w r u) → occurs x.of r.statement.left ≡ b → has_largest sig u ≡ true → true ≡ false
+          by_side true x o e =
+              let p : RawTerm = normal_form sig r.statement.left in
+              let q : occurs x.of r.statement.left ≡ occurs x.of p = occurs_kept sig x.of (normal_form-sound sig ok r.sides.left) ∙ nested_occurs sig x.of p in
+              absurd (both_ways _ h (ap (has_largest sig) (sym (left_is M ok sorted n number ms vs right w r k)) ∙ in_instance p x.of (sym q ∙ o) (ap (has_largest sig) x.place ∙ e)))
+          by_side false x o e =
+              absurd (both_ways _ (⊎_elim (λ a. subst (λ t. has_largest sig t ≡ false) x.place (normal_small _ a)) (λ b. bare_small u (subst IsBare x.place b)) (r.found x.of x.within o)) e)
+
           by_test : (b : Bool) → has_largest sig u ≡ b → b ≡ false
           by_test false e = refl
-          by_test true e =
-              let x = value_here M ok sorted 0 number vs right w r i u g in
-              let p : RawTerm = normal_form sig r.statement.left in
-              let o : occurs x.of r.statement.left ≡ occurs x.of p = occurs_kept sig x.of (normal_form-sound sig ok r.sides.left) ∙ nested_occurs sig x.of p in
-              absurd (both_ways _ h (ap (has_largest sig) (sym (left_is M ok sorted number vs right w r k)) ∙ in_instance p x.of (sym o ∙ x.occurs) (ap (has_largest sig) x.place ∙ e)))
+          by_test true e = let x = value_here M ok sorted n number ms vs right w r i u g in by_side (occurs x.of r.statement.left) x refl e
 
 -- What is told of instances, as they are built.
 pub value_told : (sig : Signature) (vs : List RawTerm) (i : ℕ) (l : Bool) (u : RawTerm) → u ≡ unwrap_or (slice_get vs i) (variable (position i)) → some_largest sig (terms_of vs) ≡ false → l ≡ (l || has_largest sig u)

@@ -368,9 +368,12 @@ module _ (K : Run) (ok : IsAccepted K.over.signature) (sorted : IsWellSorted K.o
       let m : IsNormalHere M K.rank x = ⊎_elim (λ y. y) (λ y. absurd (not_successor sig ok f.op h y.successor)) d.0 in
       record { stand = i.stand; leads = i.leads; opened = i.opened; hand = i.hand; good = i.good; job = subst (IsNormalHere M K.rank) (sym p) m }
 
-  -- where the moves lead to stands
+  -- where the moves lead to stands, and what is below
+  pub all_standing : (ms : List Move) (S : Stand) → AreStanding M K.start → Leads K count ms S → AreStanding M (S ∷ K.below)
+  all_standing ms S start h = subst (AreStanding M) h.plays (moves_stand M ok ms K.start start h.moves)
+
   pub standing : (ms : List Move) (S : Stand) → AreStanding M K.start → Leads K count ms S → IsStanding M S
-  standing ms S start h = (subst (AreStanding M) h.plays (moves_stand M ok ms K.start start h.moves)).0
+  standing ms S start h = (all_standing ms S start h).0
 
   -- what is in hand is a canonical term, raw with all that stands round it, and round it stand open operators that are clear
   pub at_hand : (ms : List Move) (S : Stand) → AreStanding M K.start → Leads K count ms S

@@ -23,14 +23,6 @@ pub record IsOver (M : Module) (sig : Signature) : Type 0 where
   pub accepted : IsAccepted M.signature
   pub sorted : IsWellSorted M.signature
 
--- it has no arguments
-abbrev pub IsBare : RawTerm → Type 0
-IsBare (numeral n) = ⊤
-IsBare (quoted q) = ⊤
-IsBare (variable x) = ⊤
-IsBare (apply f nil) = ⊤
-IsBare (apply f (cons t ts)) = ⊥
-
 -- x stands for the part p of a right side, whose values stand in vs from base on
 pub record StandsFor (sig : Signature) (vs : List RawTerm) (base top : ℕ) (p : RawTerm) (x : Job) : Type 0 where
   pub term : term_of sig vs x ≡ instance_of sig vs p base

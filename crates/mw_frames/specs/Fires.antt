@@ -1,38 +1,47 @@
 -- What comes where an equation is applied, and where a run stops.
-use Rattle.std.specs.Prelude.{◌≡◌, ◌-◌, ◌^◌, min, ℕ, suc, List, [], Bool, true, false, Option, Some, None, IsTrue}
-use Rattle.mw_logic.specs.Term.{RawTerm, RawTerms, apply, Context, plug}
+use Rattle.std.specs.Prelude.{◌≡◌, ◌-◌, ◌^◌, min, ℕ, suc, List, [], Bool, true, false, Option, Some, None, IsTrue, IsFalse}
+use Rattle.mw_logic.specs.Term.{Variable, RawTerm, RawTerms, apply, Context, plug}
 use Rattle.mw_logic.specs.Signature.{Signature}
-use Rattle.mw_logic.specs.Substitution.{Substitution, instance, IsSolution}
+use Rattle.mw_logic.specs.Substitution.{Substitution, instance, occurs, IsSolution}
 use Rattle.mw_logic.specs.Parts.{nested, IsPart, IsTooDeep, IsTooLarge}
 use Rattle.mw_logic.specs.NormalForm.{normal_form, height}
 use Rattle.mw_logic.specs.Module.{Module, Statement, IsStatement, Row, IsTooBigPair}
+use Rattle.mw_logic.specs.Proof.{Proofs}
 use Rattle.mw_logic.specs.Judgements.{IsNormalBy, admitted_judgements}
 use Rattle.mw_frames.specs.Several.{IsSeveral}
-use Rattle.mw_least.specs.Workable.{IsPlainEquation}
+use Rattle.mw_least.specs.Workable.{IsOrdinaryEquation}
 use Rattle.mw_position.specs.Positions.{fill}
-use Rattle.mw_position.specs.Variables.{placed}
+use Rattle.mw_position.specs.Variables.{is_in, placed}
 use Rattle.mw_pattern.specs.Clean.{clean}
-use Rattle.mw_deduction.specs.Replay.{Stand}
+use Rattle.mw_deduction.specs.Replay.{Move, Stand}
 use Rattle.mw_frames.specs.declared.applying.Fired.{Fired}
 use Rattle.mw_frames.specs.declared.applying.Fired.TheVariants.{Goes, TooDeep, TooLarge}
 use Rattle.mw_frames.specs.declared.applying.Applied.{Applied}
 use Rattle.mw_frames.specs.Free.{IsFree}
-use Rattle.mw_frames.specs.Redex.{IsRedex}
-use Rattle.mw_frames.specs.State.{Run, Data, Leads, Holds}
+use Rattle.mw_frames.specs.Redex.{value_in, IsRedex}
+use Rattle.mw_frames.specs.State.{Run, Data, Leads, IsNormalHere, Holds}
 
 -- w is the whole of t, or what these numbers take of it
 abbrev pub IsPartTaken : Signature → Option (List ℕ) → RawTerm → RawTerm → Type 0
 IsPartTaken sig None t w = w ≡ t
 IsPartTaken sig (Some ks) t w = IsSeveral sig ks t w
 
--- The equation that is applied makes its left side w by these values.
-pub record IsApplied (M : Module) (e : Applied) (vs : List RawTerm) (w : RawTerm) : Type 0 where
-  pub redex : IsRedex M e.number vs (clean e.right.now) w
+-- In the left side of the equation no operator has an axiom, and values of other variables are normal.
+pub record IsSure (M : Module) (n : ℕ) (e : Statement) (vs : List RawTerm) : Type 0 where
+  pub operator : ℕ
+  pub patterns : RawTerms
+  pub left : apply operator patterns ≡ placed e.variables (normal_form M.signature e.left)
+  pub free : IsFree M.signature (apply operator patterns)
+  pub found : (x : Variable) → IsTrue (is_in x e.variables) → IsFalse (occurs x e.left) → IsNormalHere M n (value_in M.signature e.variables vs x)
+
+-- The equation that is applied, by these values, applies to w, with a condition that these moves show.
+pub record IsApplied (M : Module) (n : ℕ) (e : Applied) (ms : List Move) (vs : List RawTerm) (w : RawTerm) : Type 0 where
+  pub redex : IsRedex M n e.number ms vs (clean e.right.now) w
   pub free : IsTrue e.free → IsFree M.signature (clean e.right.now)
   -- the variables of the right side stay
   pub levels : e.levels ≡ min (height (fill [] (clean e.right.now))) (2 ^ 16 - 1)
-  -- no operator of the left side has an axiom
-  pub sure : IsTrue e.sure → (f : ℕ) × (ps : RawTerms) × (apply f ps ≡ placed redex.statement.variables (normal_form M.signature redex.statement.left)) × IsFree M.signature (apply f ps)
+  -- no operator of the left side has an axiom, and what a match found is normal
+  pub sure : IsTrue e.sure → IsSure M n redex.statement vs
 
 -- the run's whole is t
 pub record IsWhole (K : Run) (count : ℕ) (d : Data) (t : RawTerm) : Type 0 where
@@ -43,8 +52,9 @@ pub record IsWhole (K : Run) (count : ℕ) (d : Data) (t : RawTerm) : Type 0 whe
 
 -- The whole u becomes another by an equation, or by a row of the schemata, at one of its parts.
 pub data Becomes (M : Module) (n : ℕ) (u : RawTerm) : RawTerm → Type 0 where
-  by_equation : (C : Context) (w : RawTerm) (number : ℕ) (e : Statement) (s : Substitution) → IsPart M.signature u C w
-      → IsStatement M number e → IsPlainEquation M.signature e → IsSolution M.signature e.left w [] s → Becomes M n u (plug C (instance s e.right))
+  by_equation : (C : Context) (w : RawTerm) (number : ℕ) (e : Statement) (s r : Substitution) (es : Proofs) → IsPart M.signature u C w
+      → IsStatement M number e → IsOrdinaryEquation M.signature e → IsSolution M.signature e.left w [] s → (admitted_judgements M n).Held e.fragments s es r
+      → Becomes M n u (plug C (instance r e.right))
   by_schema : (C : Context) (w v : RawTerm) → IsPart M.signature u C w → Row M.signature (IsNormalBy M (admitted_judgements M n).Fails) w v → Becomes M n u (plug C v)
 
 -- that would be too deep

@@ -1,12 +1,13 @@
 -- The machine's data as they are seen.
-use Rattle.std.specs.Prelude.{◌≡◌, ◌<◌, ◌≤◌, ℕ, suc, [], ◌∷◌, ◌++◌, false, reverse}
+use Rattle.std.specs.Prelude.{◌≡◌, ◌<◌, ◌≤◌, ℕ, suc, List, [], ◌∷◌, ◌++◌, false, Option, Some, None, reverse}
 use Rattle.mw_logic.specs.Term.{RawTerm, RawTerms, nil, cons, join}
 use Rattle.mw_logic.specs.Terms.{front, skip}
 use Rattle.mw_logic.specs.Signature.{Signature}
 use Rattle.mw_logic.specs.Module.{Module}
 use Rattle.mw_logic.specs.Parts.{number_of_terms}
 use Rattle.mw_logic.specs.NormalForm.{is_comm, arranged}
-use Rattle.mw_trail.specs.Tracks.{moves}
+use Rattle.mw_deduction.specs.Replay.{Move}
+use Rattle.mw_trail.specs.Tracks.{Track, moves}
 use Rattle.mw_frames.specs.declared.job.Job.{Job}
 use Rattle.mw_frames.specs.declared.job.Frame.{Frame}
 use Rattle.mw_frames.specs.declared.job.Hand.{Hand}
@@ -16,6 +17,11 @@ use Rattle.mw_frames.specs.declared.machine.Machine.{Machine}
 
 abbrev pub data_of : Module → Machine → Data
 data_of M m = record { frames = reverse m.frames.items; done = m.done.items; jobs = m.jobs.items; values = m.kept.values; moves = moves M m.kept }
+
+-- the moves of a proof that may be there
+abbrev pub moves_in : Module → Option Track → List Move
+moves_in M None = []
+moves_in M (Some t) = moves M t
 
 -- one job more waits
 abbrev pub with_job : Data → Job → Data

@@ -1,38 +1,83 @@
 -- An equation that applies to a term, and where the term stands.
-use Rattle.std.specs.Prelude.{◌≡◌, ◌≤◌, ℕ, ◌+◌, List, [], ◌∷◌, length, false, IsTrue, ⊤}
+use Rattle.std.specs.Prelude.{◌≡◌, ◌⊎◌, ◌≤◌, ℕ, ◌+◌, List, [], ◌∷◌, length, false, IsTrue, IsFalse, ⊤}
 use Rattle.std.specs.List.{zip}
-use Rattle.mw_logic.specs.Term.{RawTerm, RawTerms, apply, is_ground}
+use Rattle.mw_logic.specs.Term.{Variable, RawTerm, RawTerms, numeral, quoted, variable, apply, nil, cons, is_ground}
 use Rattle.mw_logic.specs.Signature.{Signature, IsRawTerm, HasKind}
-use Rattle.mw_logic.specs.Substitution.{IsSolution}
+use Rattle.mw_logic.specs.Substitution.{Substitution, occurs, IsSubstitution, Extends, IsSolution}
 use Rattle.mw_logic.specs.Parts.{nested, IsClean}
 use Rattle.mw_logic.specs.NormalForm.{normal_form, height, has_largest}
-use Rattle.mw_logic.specs.Module.{Module, Statement, IsStatement, Row}
+use Rattle.mw_logic.specs.Module.{Fragment, Module, Statement, IsStatement, Row}
+use Rattle.mw_logic.specs.Proof.{Proofs}
+use Rattle.mw_logic.specs.Proof as proof
 use Rattle.mw_logic.specs.Judgements.{IsNormalBy, admitted_judgements}
 use Rattle.mw_canon.specs.Canonical.{meant}
-use Rattle.mw_least.specs.Workable.{AreSides}
-use Rattle.mw_position.specs.Variables.{placed}
-use Rattle.mw_least.specs.Workable.{IsPlainEquation}
+use Rattle.mw_least.specs.Workable.{AreSides, IsOrdinaryEquation}
+use Rattle.mw_position.specs.Variables.{is_in, placed}
 use Rattle.mw_solving.specs.Values.{IsValue, AreValues}
 use Rattle.mw_stack.specs.Hidden.{IsHidden}
 use Rattle.mw_deduction.proofs.Depths.{added}
 use Rattle.mw_matching.specs.Matches.{evaluated}
-use Rattle.mw_deduction.specs.Replay.{Stand, whole}
+use Rattle.mw_deduction.specs.Replay.{Move, Stand, whole, plays, AreMoves}
+use Rattle.mw_deduction.specs.Stands.{AreStanding}
 use Rattle.mw_frames.specs.declared.job.Job.{Job}
 use Rattle.mw_frames.specs.declared.job.Job.TheVariants.{Walk, Try}
 use Rattle.mw_frames.specs.declared.job.Frame.{Frame}
 use Rattle.mw_frames.specs.Jobs.{term_of, AreOpened}
-use Rattle.mw_frames.specs.State.{Run, Data, Leads, InHand, IsJob, HasNormalArguments}
+use Rattle.mw_frames.specs.State.{Run, Data, Leads, InHand, IsJob, IsNormalHere, HasNormalArguments}
 
--- The equation of this number makes its left side the term w by these values of its variables; `pattern` is its right side in canonical form, with positions
--- for the variables.
-pub record IsRedex (M : Module) (number : ℕ) (vs : List RawTerm) (pattern w : RawTerm) : Type 0 where
+-- T is the proof under way S with this evidence, which waits for its statement
+pub record IsWaiting (es : Proofs) (S T : Stand) : Type 0 where
+  pub rank : T.rank ≡ S.rank
+  pub from : T.from ≡ S.from
+  pub opens : T.opens ≡ S.opens
+  pub hand : T.hand ≡ S.hand
+  pub entered : T.read.entered ≡ S.read.entered
+  pub done : T.read.done ≡ S.read.done
+  pub ready : T.read.ready ≡ es
+
+-- The moves may be made from the stand S on; then evidence waits by which the condition holds, from s on, and reaches r.
+pub record IsShown (M : Module) (n : ℕ) (C : List Fragment) (s r : Substitution) (ms : List Move) (S : Stand) (B : List Stand) : Type 0 where
+  pub evidence : Proofs
+  pub waiting : Stand
+  pub may : AreMoves M ms (S ∷ B)
+  pub plays : plays M ms (S ∷ B) ≡ waiting ∷ B
+  pub waits : IsWaiting evidence S waiting
+  pub holds : (admitted_judgements M n).Held C s evidence r
+
+-- so they may wherever a proof stands in this rank
+abbrev pub AreShowing : Module → ℕ → List Fragment → Substitution → Substitution → List Move → Type 0
+AreShowing M n C s r ms = (S : Stand) (B : List Stand) → AreStanding M (S ∷ B) → S.rank ≡ n → S.read.ready ≡ proof.nil → IsShown M n C s r ms S B
+
+-- it has no arguments
+abbrev pub IsBare : RawTerm → Type 0
+IsBare (numeral n) = ⊤
+IsBare (quoted q) = ⊤
+IsBare (variable x) = ⊤
+IsBare (apply f nil) = ⊤
+IsBare (apply f (cons t ts)) = ⊥
+
+-- the value of one of these variables, by their values in order
+abbrev pub value_in : Signature → List Variable → List RawTerm → Variable → RawTerm
+value_in sig xs vs x = evaluated sig vs (placed xs (variable x))
+
+-- The equation of this number applies to the term w in rank n: a solution makes its left side w, from there its condition holds, which the moves ms show, and
+-- the values of its variables are those that are reached. What a match found is normal, or has no arguments. `pattern` is the right side in canonical
+-- form, with positions for the variables.
+pub record IsRedex (M : Module) (n number : ℕ) (ms : List Move) (vs : List RawTerm) (pattern w : RawTerm) : Type 0 where
   pub statement : Statement
   pub is_there : IsStatement M number statement
-  pub plain : IsPlainEquation M.signature statement
+  pub ordinary : IsOrdinaryEquation M.signature statement
   pub sides : AreSides M.signature statement
   pub size : length vs ≡ length statement.variables
   pub values : AreValues M.signature vs
-  pub solution : IsSolution M.signature statement.left (nested M.signature w) [] (meant M.signature (zip statement.variables vs))
+  pub substitution : IsSubstitution M.signature (meant M.signature (zip statement.variables vs))
+  pub solution : Substitution
+  pub solves : IsSolution M.signature statement.left (nested M.signature w) [] solution
+  pub reached : Substitution
+  pub shown : AreShowing M n statement.fragments solution reached ms
+  pub goes_on : Extends solution reached
+  pub reaches : Extends reached (meant M.signature (zip statement.variables vs))
+  pub found : (x : Variable) → IsTrue (is_in x statement.variables) → IsFalse (occurs x statement.left) → IsNormalHere M n (value_in M.signature statement.variables vs x) ⊎ IsBare (value_in M.signature statement.variables vs x)
   pub right : pattern ≡ placed statement.variables (normal_form M.signature statement.right)
 
 -- v may come for the flattened w: a raw and ground term of its kinds
@@ -67,8 +112,8 @@ pub record MayStand (K : Run) (count : ℕ) (m : Data) (w v : RawTerm) : Type 0 
   pub small : has_largest K.over.signature (whole K.over.signature in_hand.stand.opens v) ≡ false
 
 -- the equation applies to it, its arguments are normal, and its right side fits
-pub record MayFire (K : Run) (count : ℕ) (m : Data) (number : ℕ) (vs : List RawTerm) (pattern w : RawTerm) : Type 0 where
-  pub redex : IsRedex K.over number vs pattern w
+pub record MayFire (K : Run) (count : ℕ) (m : Data) (number : ℕ) (ms : List Move) (vs : List RawTerm) (pattern w : RawTerm) : Type 0 where
+  pub redex : IsRedex K.over K.rank number ms vs pattern w
   pub known : HasNormalArguments K.over K.rank w
   pub stands : MayStand K count m w (evaluated K.over.signature vs pattern)
 

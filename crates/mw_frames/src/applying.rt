@@ -1,15 +1,15 @@
 // An equation is applied.
-ghost use Rattle.std.specs.Prelude.{◌≡◌, ℕ, suc, IsTrue, IsFalse, IfOk, OnOk, None, reverse, take as take_first};
+ghost use Rattle.std.specs.Prelude.{◌≡◌, ℕ, suc, List, IsTrue, IsFalse, IfOk, OnOk, None, reverse, take as take_first};
 ghost use Rattle.mw_logic.specs.Term.{RawTerm, RawTerms, apply as applied};
 ghost use Rattle.mw_logic.specs.Parts.{nested};
 ghost use Rattle.mw_logic.specs.Module.{Module};
 ghost use Rattle.mw_matching.specs.Matches.{evaluated};
 ghost use Rattle.mw_pattern.specs.Clean.{clean};
 ghost use Rattle.mw_frames.specs.Several.{IsSeveral};
-ghost use Rattle.mw_deduction.specs.Replay.{whole as in_whole};
+ghost use Rattle.mw_deduction.specs.Replay.{Move, whole as in_whole};
 ghost use Rattle.mw_trail.specs.Tracks.{moves};
 ghost use Rattle.mw_frames.specs.State.{Run, IsRun, InHand, Settled, Holds};
-ghost use Rattle.mw_frames.specs.Machines.{data_of};
+ghost use Rattle.mw_frames.specs.Machines.{data_of, moves_in};
 ghost use Rattle.mw_frames.specs.Redex.{MayFire, HasOnTop};
 ghost use Rattle.mw_frames.specs.Larger.{IsFit, IsAround};
 ghost use Rattle.mw_frames.specs.Taking.{IsPartAsked};
@@ -31,6 +31,7 @@ use mw_canon::Facts;
 use mw_pattern::Pattern;
 use mw_stack::close;
 use mw_term::{OpId, Seq, Term, View};
+use mw_trail::Trail;
 use std::alloc::{AllocError, Global};
 
 /// An equation that is applied.
@@ -86,16 +87,16 @@ fn go_whole<'m>(
     machine: &mut Machine<'m>,
     top: OpId,
     by: Applied<'m>,
+    evidence: &mut Option<Trail>,
     values: &mut Vec<Term>,
 ) -> Result<Hand<'m>, AllocError>
     ensures { (K : Run) (k : ℕ) (w : RawTerm) → IsRun K facts.now
-        → MayFire K k (data_of K.over machine.old) by.entry.number values.old.items (clean by.entry.right.now) w
-        → IsApplied K.over by.entry values.old.items w → HasOnTop top w
+        → MayFire K k (data_of K.over machine.old) by.entry.number (moves_in K.over evidence.old) values.old.items (clean by.entry.right.now) w
+        → IsApplied K.over K.rank by.entry (moves_in K.over evidence.old) values.old.items w → HasOnTop top w
         → (((f : ℕ) (ts : RawTerms) → w ≡ applied f ts → ⊥) → top ≡ 1)
         → IfOk result (Holds K (suc k) (data_of K.over machine.new)) }
 {
-    let base = machine.kept.values().len();
-    apply_whole(machine, by.number, values)?;
+    let base = apply_whole(alloc, machine, by.number, evidence, values)?;
     let job = part_job(
         alloc,
         facts,
@@ -149,8 +150,8 @@ fn fit_here(
     by: Applied<'_>,
     values: &[Term],
 ) -> Result<Fit, AllocError>
-    ensures { (K : Run) (k : ℕ) (w : RawTerm) → IsRun K facts.now → (h : InHand K k (data_of K.over machine.now) (WalkOf w))
-        → IsApplied K.over by.entry values.now w
+    ensures { (K : Run) (k : ℕ) (ms : List Move) (w : RawTerm) → IsRun K facts.now → (h : InHand K k (data_of K.over machine.now) (WalkOf w))
+        → IsApplied K.over K.rank by.entry ms values.now w
         → IfOk result (IsFit K.over.signature (reverse machine.now.frames.items) h.stand.opens (evaluated K.over.signature values.now (clean by.entry.right.now))) }
 {
     let around = all_around(machine);
@@ -165,14 +166,15 @@ fn fire_whole<'m>(
     machine: &mut Machine<'m>,
     term: Term,
     by: Applied<'m>,
+    evidence: &mut Option<Trail>,
     values: &mut Vec<Term>,
 ) -> Result<Fired<'m>, AllocError>
     ensures { (K : Run) (k : ℕ) → IsRun K facts.now → IsAsked K k (data_of K.over machine.old) term
-        → IsApplied K.over by.entry values.old.items term → IfOk result (IsFired K k (data_of K.over machine.new)) }
+        → IsApplied K.over K.rank by.entry (moves_in K.over evidence.old) values.old.items term → IfOk result (IsFired K k (data_of K.over machine.new)) }
 {
     match fit_here(alloc, facts, machine, by, values.as_slice())? {
         Fit::Fits => {
-            let hand = go_whole(alloc, facts, machine, top_of(&term), by, values)?;
+            let hand = go_whole(alloc, facts, machine, top_of(&term), by, evidence, values)?;
             Ok(Fired::Goes(hand))
         }
         Fit::TooDeep => {
@@ -194,16 +196,16 @@ fn go_several<'m>(
     machine: &mut Machine<'m>,
     frame: Frame,
     by: Applied<'m>,
+    evidence: &mut Option<Trail>,
     values: &mut Vec<Term>,
 ) -> Result<(), AllocError>
     ensures { (K : Run) (k : ℕ) (w : RawTerm) → IsRun K facts.now
         → IsPartAsked K k (data_of K.over machine.old) frame w
-        → MayFire K k (data_of K.over machine.old) by.entry.number values.old.items (clean by.entry.right.now) w
-        → IsApplied K.over by.entry values.old.items w
+        → MayFire K k (data_of K.over machine.old) by.entry.number (moves_in K.over evidence.old) values.old.items (clean by.entry.right.now) w
+        → IsApplied K.over K.rank by.entry (moves_in K.over evidence.old) values.old.items w
         → OnOk result (Settled K (suc k) (data_of K.over machine.new) frame) }
 {
-    let base = machine.kept.values().len();
-    apply_whole(machine, by.number, values)?;
+    let base = apply_whole(alloc, machine, by.number, evidence, values)?;
     leave_hole(machine)?;
     wait_parts(alloc, facts, machine, frame, by.right, base, frame.op)?;
     Ok(())
@@ -236,17 +238,18 @@ fn fire_several<'m>(
     term: Term,
     numbers: &[u32],
     by: Applied<'m>,
+    evidence: &mut Option<Trail>,
     values: &mut Vec<Term>,
 ) -> Result<Fired<'m>, AllocError>
     ensures { (K : Run) (k : ℕ) (w : RawTerm) → IsRun K facts.now → IsAsked K k (data_of K.over machine.old) term
-        → IsSeveral facts.now numbers.now term w → IsApplied K.over by.entry values.old.items w
+        → IsSeveral facts.now numbers.now term w → IsApplied K.over K.rank by.entry (moves_in K.over evidence.old) values.old.items w
         → IfOk result (IsFired K k (data_of K.over machine.new)) }
 {
     let frame = new_frame(facts, machine, top_of(&term))?;
     take_out(alloc, facts, machine, frame, &term, numbers)?;
     match fit_here(alloc, facts, machine, by, values.as_slice())? {
         Fit::Fits => {
-            go_several(alloc, facts, machine, frame, by, values)?;
+            go_several(alloc, facts, machine, frame, by, evidence, values)?;
             Ok(Fired::Goes(Hand::Over(frame)))
         }
         Fit::TooDeep => {
@@ -268,20 +271,21 @@ fn fire_term<'m>(
     machine: &mut Machine<'m>,
     term: Term,
     by: Applied<'m>,
+    evidence: &mut Option<Trail>,
     values: &mut Vec<Term>,
     take: &Option<Seq<u32>>,
 ) -> Result<Fired<'m>, AllocError>
     ensures { (K : Run) (k : ℕ) (w : RawTerm) → IsRun K facts.now → IsAsked K k (data_of K.over machine.old) term
-        → IsPartTaken facts.now take.now term w → IsApplied K.over by.entry values.old.items w
+        → IsPartTaken facts.now take.now term w → IsApplied K.over K.rank by.entry (moves_in K.over evidence.old) values.old.items w
         → IfOk result (IsFired K k (data_of K.over machine.new)) }
 {
     match take {
         None => {
-            let fired = fire_whole(alloc, facts, machine, term, by, values)?;
+            let fired = fire_whole(alloc, facts, machine, term, by, evidence, values)?;
             Ok(fired)
         }
         Some(numbers) => {
-            let fired = fire_several(alloc, facts, machine, term, numbers.as_slice(), by, values)?;
+            let fired = fire_several(alloc, facts, machine, term, numbers.as_slice(), by, evidence, values)?;
             Ok(fired)
         }
     }
@@ -298,7 +302,7 @@ fn fits_own(
     values: &[Term],
     take: &Option<Seq<u32>>,
 ) -> Result<bool, AllocError>
-    ensures { (K : Run) (k : ℕ) (t : RawTerm) → IsRun K facts.now
+    ensures { (K : Run) (k : ℕ) (ms : List Move) (t : RawTerm) → IsRun K facts.now
         → (h : InHand K k (record {
           frames = reverse machine.now.frames.items;
           done = take_first top.from machine.now.done.items;
@@ -306,7 +310,7 @@ fn fits_own(
           values = machine.now.kept.values;
           moves = moves K.over machine.now.kept;
         }) (WalkOf t))
-        → (take.now ≡ None → IsApplied K.over by.entry values.now t)
+        → (take.now ≡ None → IsApplied K.over K.rank by.entry ms values.now t)
         → IfOk result (λ b. IsTrue b → (take.now ≡ None)
         × IsFit K.over.signature (reverse machine.now.frames.items) h.stand.opens (evaluated K.over.signature values.now (clean by.entry.right.now)) FitsOf) }
 {
@@ -331,24 +335,26 @@ fn fire_own<'m>(
     machine: &mut Machine<'m>,
     top: Frame,
     by: Applied<'m>,
+    evidence: &mut Option<Trail>,
     values: &mut Vec<Term>,
     take: &Option<Seq<u32>>,
 ) -> Result<Fired<'m>, AllocError>
     ensures { (K : Run) (k : ℕ) (w : RawTerm) → IsRun K facts.now → IsComplete K k (data_of K.over machine.old) top
-        → IsPartTaken facts.now take.now (asked_term (data_of K.over machine.old) (OwnOf top)) w → IsApplied K.over by.entry values.old.items w
+        → IsPartTaken facts.now take.now (asked_term (data_of K.over machine.old) (OwnOf top)) w → IsApplied K.over K.rank by.entry (moves_in K.over evidence.old) values.old.items w
         → IfOk result (IsFired K k (data_of K.over machine.new)) }
 {
     if fits_own(alloc, facts, machine, top, by, values.as_slice(), take)? {
         machine.done.truncate(top.from);
-        let hand = go_whole(alloc, facts, machine, top.op, by, values)?;
+        let hand = go_whole(alloc, facts, machine, top.op, by, evidence, values)?;
         return Ok(Fired::Goes(hand));
     }
     let term = close(alloc, facts, top.op, &mut machine.done, top.from)?;
-    let fired = fire_term(alloc, facts, machine, term, by, values, take)?;
+    let fired = fire_term(alloc, facts, machine, term, by, evidence, values, take)?;
     Ok(fired)
 }
 
-/// An equation is applied to what was asked for, or to several of its arguments, by these values, which are taken.
+/// An equation is applied to what was asked for, or to several of its arguments, by these values, which are taken, as is
+/// what shows its condition.
 #[inline(always)]
 pub fn fire<'m>(
     alloc: Global,
@@ -356,20 +362,21 @@ pub fn fire<'m>(
     machine: &mut Machine<'m>,
     asked: Asked,
     by: Applied<'m>,
+    evidence: &mut Option<Trail>,
     values: &mut Vec<Term>,
     take: &Option<Seq<u32>>,
 ) -> Result<Fired<'m>, AllocError>
     ensures { (K : Run) (k : ℕ) (w : RawTerm) → IsRun K facts.now → IsAskedFor K k (data_of K.over machine.old) asked
-        → IsPartTaken facts.now take.now (asked_term (data_of K.over machine.old) asked) w → IsApplied K.over by.entry values.old.items w
+        → IsPartTaken facts.now take.now (asked_term (data_of K.over machine.old) asked) w → IsApplied K.over K.rank by.entry (moves_in K.over evidence.old) values.old.items w
         → IfOk result (IsFired K k (data_of K.over machine.new)) }
 {
     match asked {
         Asked::Term(term) => {
-            let fired = fire_term(alloc, facts, machine, term, by, values, take)?;
+            let fired = fire_term(alloc, facts, machine, term, by, evidence, values, take)?;
             Ok(fired)
         }
         Asked::Own(top) => {
-            let fired = fire_own(alloc, facts, machine, top, by, values, take)?;
+            let fired = fire_own(alloc, facts, machine, top, by, evidence, values, take)?;
             Ok(fired)
         }
     }

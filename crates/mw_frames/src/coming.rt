@@ -16,7 +16,8 @@ ghost use Rattle.mw_stack.specs.Own.{spread};
 ghost use Rattle.mw_frames.specs.Jobs.{is_sure as is_sure_of, instance_of, term_of};
 ghost use Rattle.mw_frames.specs.Jobs.{size, sizes, nodes, nodes_in, weight, weights};
 ghost use Rattle.mw_frames.specs.State.{IsNormalHere, IsKnown, IsKnownIn, AreKnownIn, IsJob, IsAtHand};
-ghost use Rattle.mw_frames.specs.Arrivals.{IsBare, StandsFor, StandForAll, spread_all, Joins, Comes, KeepsFrames};
+ghost use Rattle.mw_frames.specs.Redex.{IsBare};
+ghost use Rattle.mw_frames.specs.Arrivals.{StandsFor, StandForAll, spread_all, Joins, Comes, KeepsFrames};
 
 use crate::instances::{evaluate, value};
 use crate::job::{Frame, Job};

@@ -1,6 +1,6 @@
 // What is in hand is replaced, and several arguments are gone into.
 ghost use Rattle.std.specs.Prelude.{◌≡◌, ℕ, suc, true, IfOk, OnOk};
-ghost use Rattle.std.specs.Prelude.{List, [], ◌∷◌, ◌++◌, reverse};
+ghost use Rattle.std.specs.Prelude.{List, [], ◌∷◌, ◌++◌, length, reverse};
 ghost use Rattle.mw_logic.specs.Term.{RawTerm, apply as applied, join};
 ghost use Rattle.mw_logic.specs.Terms.{terms_of, args_of};
 ghost use Rattle.mw_logic.specs.Signature.{Signature};
@@ -11,7 +11,8 @@ ghost use Rattle.mw_arguments.specs.Places.{chosen, others};
 ghost use Rattle.mw_matching.specs.Matches.{evaluated};
 ghost use Rattle.mw_frames.specs.Several.{IsSeveral};
 ghost use Rattle.mw_frames.specs.State.{Run, IsRun, InHand};
-ghost use Rattle.mw_frames.specs.Machines.{data_of};
+ghost use Rattle.mw_trail.specs.Tracks.{moves};
+ghost use Rattle.mw_frames.specs.Machines.{data_of, moves_in};
 ghost use Rattle.mw_frames.specs.Arrivals.{IsNewFrame};
 ghost use Rattle.mw_frames.specs.Redex.{MayFire, HasInHand, HasOnTop};
 ghost use Rattle.mw_frames.specs.Taking.{waiting_normal, IsLeft, IsPartAsked, Receives};
@@ -23,27 +24,53 @@ use crate::job::{Frame, Job};
 use crate::machine::Machine;
 use mw_canon::{Axioms, Facts};
 use mw_term::{OpId, Term, View, copy};
+use mw_trail::Trail;
 use std::alloc::{AllocError, Global};
+use std::mem::replace;
 
-/// The equation of this number is applied to the term in hand, by these values, which are taken.
+/// What shows a condition comes behind what is kept, and is taken.
+#[inline(always)]
+fn show(
+    alloc: Global,
+    machine: &mut Machine<'_>,
+    evidence: &mut Option<Trail>,
+) -> Result<(), AllocError>
+    ensures moves { OnOk result ((M : Module) → moves M machine.new.kept ≡ moves M machine.old.kept ++ moves_in M evidence.old) }
+    ensures values { OnOk result ((es : List RawTerm) × (machine.new.kept.values ≡ machine.old.kept.values ++ es)) }
+    ensures frames { machine.new.frames.items ≡ machine.old.frames.items }
+    ensures done { machine.new.done.items ≡ machine.old.done.items }
+    ensures jobs { machine.new.jobs.items ≡ machine.old.jobs.items }
+{
+    if let Some(sides) = evidence.take() {
+        let kept = replace(&mut machine.kept, Trail::new(alloc));
+        machine.kept = kept.followed_by(sides)?;
+    }
+    Ok(())
+}
+
+/// The equation of this number is applied to the term in hand, by these values, which are taken, behind what shows its
+/// condition. It is told behind how many other values they are kept.
 #[inline(always)]
 pub(crate) fn apply_whole(
+    alloc: Global,
     machine: &mut Machine<'_>,
     number: usize,
+    evidence: &mut Option<Trail>,
     values: &mut Vec<Term>,
-) -> Result<(), AllocError>
+) -> Result<usize, AllocError>
     ensures means { (K : Run) (k : ℕ) (sig : Signature) (right w : RawTerm) → IsRun K sig
-        → MayFire K k (data_of K.over machine.old) number values.old.items right w
+        → MayFire K k (data_of K.over machine.old) number (moves_in K.over evidence.old) values.old.items right w
         → OnOk result (HasInHand K (suc k) (data_of K.over machine.new)
         (evaluated K.over.signature values.old.items right)) }
     ensures frames { machine.new.frames.items ≡ machine.old.frames.items }
     ensures done { machine.new.done.items ≡ machine.old.done.items }
     ensures jobs { machine.new.jobs.items ≡ machine.old.jobs.items }
-    ensures values { OnOk result (machine.new.kept.values ≡ machine.old.kept.values ++ values.old.items) }
-    ensures taken { OnOk result (values.new.items ≡ []) }
+    ensures values { IfOk result (λ base. (us : List RawTerm) × (base ≡ length us) × (machine.new.kept.values ≡ us ++ values.old.items)) }
 {
+    show(alloc, machine, evidence)?;
+    let base = machine.kept.values().len();
     machine.kept.apply(number, values)?;
-    Ok(())
+    Ok(base)
 }
 
 /// Whether the operator is commutative.

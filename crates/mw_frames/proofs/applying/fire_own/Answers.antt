@@ -6,7 +6,7 @@ use Rattle.mw_logic.specs.NormalForm.{applied_in}
 use Rattle.mw_pattern.specs.Clean.{clean}
 use Rattle.mw_stack.specs.Own.{own}
 use Rattle.mw_trail.specs.Tracks.{moves}
-use Rattle.mw_frames.specs.Machines.{data_of}
+use Rattle.mw_frames.specs.Machines.{data_of, moves_in}
 use Rattle.mw_frames.specs.Redex.{MayFire, walked}
 use Rattle.mw_frames.specs.State.{Data}
 use Rattle.mw_frames.specs.Fires.{IsApplied}
@@ -22,17 +22,18 @@ returns-then-branch c = λ K k w run h part is.
     let m = c.args.machine.now in
     let f = c.args.top in
     let vs = c.args.values.now.items in
+    let ss = moves_in K.over c.args.evidence.now in
     let p = clean c.args.by.right.now in
     let d : Data = data_of K.over m in
     let t : RawTerm = apply f.op (terms_of (drop f.from m.done.items)) in
     let a = complete_asked K c.args.facts.now run k d f h in
     let inside : Data = record { frames = d.frames; done = take f.from m.done.items; jobs = d.jobs; values = d.values; moves = d.moves } in
-    let there : c.args.take.now ≡ None → IsApplied K.over c.args.by c.as_slice.result.now t = λ none. rw c.as_slice.ensures.value (let e : w ≡ t = rw none at part in subst (IsApplied K.over c.args.by vs) e is) in
-    let (none, fits) = c.in_ok-fits_own.ensures K k t run (walked K k inside t a.holds) there (search rules) in
+    let there : c.args.take.now ≡ None → IsApplied K.over K.rank c.args.by ss c.as_slice.result.now t = λ none. rw c.as_slice.ensures.value (let e : w ≡ t = rw none at part in subst (IsApplied K.over K.rank c.args.by ss vs) e is) in
+    let (none, fits) = c.in_ok-fits_own.ensures K k ss t run (walked K k inside t a.holds) there (search rules) in
     let z = rw c.as_slice.ensures.value at fits in
     let e : w ≡ t = rw none at part in
-    let may : MayFire K k inside c.args.by.number vs p w =
-    rw e (let r : IsApplied K.over c.args.by vs t = subst (IsApplied K.over c.args.by vs) e is in record { redex = r.redex; known = a.holds.job; stands = record { in_hand = walked K k inside t a.holds; seen = a.seen; low = z.0; small = z.1 } }) in
+    let may : MayFire K k inside c.args.by.number ss vs p w =
+    rw e (let r : IsApplied K.over K.rank c.args.by ss vs t = subst (IsApplied K.over K.rank c.args.by ss vs) e is in record { redex = r.redex; known = a.holds.job; stands = record { in_hand = walked K k inside t a.holds; seen = a.seen; low = z.0; small = z.1 } }) in
     let y : c.truncate.new.self.items ≡ take f.from m.done.items = search rules in
     c.in_ok-hand.ensures K k w run (rw y may) is (λ g ts q. same_operator (sym e ∙ q)) (λ q. absurd (q f.op _ e))
 
