@@ -1,5 +1,5 @@
 -- The machine's data as they are seen.
-use Rattle.std.specs.Prelude.{◌≡◌, ◌<◌, ◌≤◌, ℕ, suc, List, [], ◌∷◌, ◌++◌, false, Option, Some, None, reverse}
+use Rattle.std.specs.Prelude.{◌≡◌, ◌<◌, ◌≤◌, ℕ, suc, List, [], ◌∷◌, ◌++◌, false, reverse}
 use Rattle.mw_logic.specs.Term.{RawTerm, RawTerms, nil, cons, join}
 use Rattle.mw_logic.specs.Terms.{front, skip}
 use Rattle.mw_logic.specs.Signature.{Signature}
@@ -18,10 +18,10 @@ use Rattle.mw_frames.specs.declared.machine.Machine.{Machine}
 abbrev pub data_of : Module → Machine → Data
 data_of M m = record { frames = reverse m.frames.items; done = m.done.items; jobs = m.jobs.items; values = m.kept.values; moves = moves M m.kept }
 
--- the moves of a proof that may be there
-abbrev pub moves_in : Module → Option Track → List Move
-moves_in M None = []
-moves_in M (Some t) = moves M t
+-- the moves of several trails, one after another
+abbrev pub all_moves : Module → List Track → List Move
+all_moves M [] = []
+all_moves M (t ∷ ts) = moves M t ++ all_moves M ts
 
 -- one job more waits
 abbrev pub with_job : Data → Job → Data

@@ -9,7 +9,7 @@ ghost use Rattle.mw_frames.specs.Several.{IsSeveral};
 ghost use Rattle.mw_deduction.specs.Replay.{Move, whole as in_whole};
 ghost use Rattle.mw_trail.specs.Tracks.{moves};
 ghost use Rattle.mw_frames.specs.State.{Run, IsRun, InHand, Settled, Holds};
-ghost use Rattle.mw_frames.specs.Machines.{data_of, moves_in};
+ghost use Rattle.mw_frames.specs.Machines.{data_of, all_moves};
 ghost use Rattle.mw_frames.specs.Redex.{MayFire, HasOnTop};
 ghost use Rattle.mw_frames.specs.Larger.{IsFit, IsAround};
 ghost use Rattle.mw_frames.specs.Taking.{IsPartAsked};
@@ -87,16 +87,16 @@ fn go_whole<'m>(
     machine: &mut Machine<'m>,
     top: OpId,
     by: Applied<'m>,
-    evidence: &mut Option<Trail>,
+    sides: &mut Vec<Trail>,
     values: &mut Vec<Term>,
 ) -> Result<Hand<'m>, AllocError>
     ensures { (K : Run) (k : ℕ) (w : RawTerm) → IsRun K facts.now
-        → MayFire K k (data_of K.over machine.old) by.entry.number (moves_in K.over evidence.old) values.old.items (clean by.entry.right.now) w
-        → IsApplied K.over K.rank by.entry (moves_in K.over evidence.old) values.old.items w → HasOnTop top w
+        → MayFire K k (data_of K.over machine.old) by.entry.number (all_moves K.over sides.old.items) values.old.items (clean by.entry.right.now) w
+        → IsApplied K.over K.rank by.entry (all_moves K.over sides.old.items) values.old.items w → HasOnTop top w
         → (((f : ℕ) (ts : RawTerms) → w ≡ applied f ts → ⊥) → top ≡ 1)
         → IfOk result (Holds K (suc k) (data_of K.over machine.new)) }
 {
-    let base = apply_whole(alloc, machine, by.number, evidence, values)?;
+    let base = apply_whole(alloc, machine, by.number, sides, values)?;
     let job = part_job(
         alloc,
         facts,
@@ -166,15 +166,15 @@ fn fire_whole<'m>(
     machine: &mut Machine<'m>,
     term: Term,
     by: Applied<'m>,
-    evidence: &mut Option<Trail>,
+    sides: &mut Vec<Trail>,
     values: &mut Vec<Term>,
 ) -> Result<Fired<'m>, AllocError>
     ensures { (K : Run) (k : ℕ) → IsRun K facts.now → IsAsked K k (data_of K.over machine.old) term
-        → IsApplied K.over K.rank by.entry (moves_in K.over evidence.old) values.old.items term → IfOk result (IsFired K k (data_of K.over machine.new)) }
+        → IsApplied K.over K.rank by.entry (all_moves K.over sides.old.items) values.old.items term → IfOk result (IsFired K k (data_of K.over machine.new)) }
 {
     match fit_here(alloc, facts, machine, by, values.as_slice())? {
         Fit::Fits => {
-            let hand = go_whole(alloc, facts, machine, top_of(&term), by, evidence, values)?;
+            let hand = go_whole(alloc, facts, machine, top_of(&term), by, sides, values)?;
             Ok(Fired::Goes(hand))
         }
         Fit::TooDeep => {
@@ -196,16 +196,16 @@ fn go_several<'m>(
     machine: &mut Machine<'m>,
     frame: Frame,
     by: Applied<'m>,
-    evidence: &mut Option<Trail>,
+    sides: &mut Vec<Trail>,
     values: &mut Vec<Term>,
 ) -> Result<(), AllocError>
     ensures { (K : Run) (k : ℕ) (w : RawTerm) → IsRun K facts.now
         → IsPartAsked K k (data_of K.over machine.old) frame w
-        → MayFire K k (data_of K.over machine.old) by.entry.number (moves_in K.over evidence.old) values.old.items (clean by.entry.right.now) w
-        → IsApplied K.over K.rank by.entry (moves_in K.over evidence.old) values.old.items w
+        → MayFire K k (data_of K.over machine.old) by.entry.number (all_moves K.over sides.old.items) values.old.items (clean by.entry.right.now) w
+        → IsApplied K.over K.rank by.entry (all_moves K.over sides.old.items) values.old.items w
         → OnOk result (Settled K (suc k) (data_of K.over machine.new) frame) }
 {
-    let base = apply_whole(alloc, machine, by.number, evidence, values)?;
+    let base = apply_whole(alloc, machine, by.number, sides, values)?;
     leave_hole(machine)?;
     wait_parts(alloc, facts, machine, frame, by.right, base, frame.op)?;
     Ok(())
@@ -238,18 +238,18 @@ fn fire_several<'m>(
     term: Term,
     numbers: &[u32],
     by: Applied<'m>,
-    evidence: &mut Option<Trail>,
+    sides: &mut Vec<Trail>,
     values: &mut Vec<Term>,
 ) -> Result<Fired<'m>, AllocError>
     ensures { (K : Run) (k : ℕ) (w : RawTerm) → IsRun K facts.now → IsAsked K k (data_of K.over machine.old) term
-        → IsSeveral facts.now numbers.now term w → IsApplied K.over K.rank by.entry (moves_in K.over evidence.old) values.old.items w
+        → IsSeveral facts.now numbers.now term w → IsApplied K.over K.rank by.entry (all_moves K.over sides.old.items) values.old.items w
         → IfOk result (IsFired K k (data_of K.over machine.new)) }
 {
     let frame = new_frame(facts, machine, top_of(&term))?;
     take_out(alloc, facts, machine, frame, &term, numbers)?;
     match fit_here(alloc, facts, machine, by, values.as_slice())? {
         Fit::Fits => {
-            go_several(alloc, facts, machine, frame, by, evidence, values)?;
+            go_several(alloc, facts, machine, frame, by, sides, values)?;
             Ok(Fired::Goes(Hand::Over(frame)))
         }
         Fit::TooDeep => {
@@ -271,21 +271,21 @@ fn fire_term<'m>(
     machine: &mut Machine<'m>,
     term: Term,
     by: Applied<'m>,
-    evidence: &mut Option<Trail>,
+    sides: &mut Vec<Trail>,
     values: &mut Vec<Term>,
     take: &Option<Seq<u32>>,
 ) -> Result<Fired<'m>, AllocError>
     ensures { (K : Run) (k : ℕ) (w : RawTerm) → IsRun K facts.now → IsAsked K k (data_of K.over machine.old) term
-        → IsPartTaken facts.now take.now term w → IsApplied K.over K.rank by.entry (moves_in K.over evidence.old) values.old.items w
+        → IsPartTaken facts.now take.now term w → IsApplied K.over K.rank by.entry (all_moves K.over sides.old.items) values.old.items w
         → IfOk result (IsFired K k (data_of K.over machine.new)) }
 {
     match take {
         None => {
-            let fired = fire_whole(alloc, facts, machine, term, by, evidence, values)?;
+            let fired = fire_whole(alloc, facts, machine, term, by, sides, values)?;
             Ok(fired)
         }
         Some(numbers) => {
-            let fired = fire_several(alloc, facts, machine, term, numbers.as_slice(), by, evidence, values)?;
+            let fired = fire_several(alloc, facts, machine, term, numbers.as_slice(), by, sides, values)?;
             Ok(fired)
         }
     }
@@ -335,21 +335,21 @@ fn fire_own<'m>(
     machine: &mut Machine<'m>,
     top: Frame,
     by: Applied<'m>,
-    evidence: &mut Option<Trail>,
+    sides: &mut Vec<Trail>,
     values: &mut Vec<Term>,
     take: &Option<Seq<u32>>,
 ) -> Result<Fired<'m>, AllocError>
     ensures { (K : Run) (k : ℕ) (w : RawTerm) → IsRun K facts.now → IsComplete K k (data_of K.over machine.old) top
-        → IsPartTaken facts.now take.now (asked_term (data_of K.over machine.old) (OwnOf top)) w → IsApplied K.over K.rank by.entry (moves_in K.over evidence.old) values.old.items w
+        → IsPartTaken facts.now take.now (asked_term (data_of K.over machine.old) (OwnOf top)) w → IsApplied K.over K.rank by.entry (all_moves K.over sides.old.items) values.old.items w
         → IfOk result (IsFired K k (data_of K.over machine.new)) }
 {
     if fits_own(alloc, facts, machine, top, by, values.as_slice(), take)? {
         machine.done.truncate(top.from);
-        let hand = go_whole(alloc, facts, machine, top.op, by, evidence, values)?;
+        let hand = go_whole(alloc, facts, machine, top.op, by, sides, values)?;
         return Ok(Fired::Goes(hand));
     }
     let term = close(alloc, facts, top.op, &mut machine.done, top.from)?;
-    let fired = fire_term(alloc, facts, machine, term, by, evidence, values, take)?;
+    let fired = fire_term(alloc, facts, machine, term, by, sides, values, take)?;
     Ok(fired)
 }
 
@@ -362,21 +362,21 @@ pub fn fire<'m>(
     machine: &mut Machine<'m>,
     asked: Asked,
     by: Applied<'m>,
-    evidence: &mut Option<Trail>,
+    sides: &mut Vec<Trail>,
     values: &mut Vec<Term>,
     take: &Option<Seq<u32>>,
 ) -> Result<Fired<'m>, AllocError>
     ensures { (K : Run) (k : ℕ) (w : RawTerm) → IsRun K facts.now → IsAskedFor K k (data_of K.over machine.old) asked
-        → IsPartTaken facts.now take.now (asked_term (data_of K.over machine.old) asked) w → IsApplied K.over K.rank by.entry (moves_in K.over evidence.old) values.old.items w
+        → IsPartTaken facts.now take.now (asked_term (data_of K.over machine.old) asked) w → IsApplied K.over K.rank by.entry (all_moves K.over sides.old.items) values.old.items w
         → IfOk result (IsFired K k (data_of K.over machine.new)) }
 {
     match asked {
         Asked::Term(term) => {
-            let fired = fire_term(alloc, facts, machine, term, by, evidence, values, take)?;
+            let fired = fire_term(alloc, facts, machine, term, by, sides, values, take)?;
             Ok(fired)
         }
         Asked::Own(top) => {
-            let fired = fire_own(alloc, facts, machine, top, by, evidence, values, take)?;
+            let fired = fire_own(alloc, facts, machine, top, by, sides, values, take)?;
             Ok(fired)
         }
     }

@@ -12,7 +12,7 @@ ghost use Rattle.mw_matching.specs.Matches.{evaluated};
 ghost use Rattle.mw_frames.specs.Several.{IsSeveral};
 ghost use Rattle.mw_frames.specs.State.{Run, IsRun, InHand};
 ghost use Rattle.mw_trail.specs.Tracks.{moves};
-ghost use Rattle.mw_frames.specs.Machines.{data_of, moves_in};
+ghost use Rattle.mw_frames.specs.Machines.{data_of, all_moves};
 ghost use Rattle.mw_frames.specs.Arrivals.{IsNewFrame};
 ghost use Rattle.mw_frames.specs.Redex.{MayFire, HasInHand, HasOnTop};
 ghost use Rattle.mw_frames.specs.Taking.{waiting_normal, IsLeft, IsPartAsked, Receives};
@@ -28,22 +28,16 @@ use mw_trail::Trail;
 use std::alloc::{AllocError, Global};
 use std::mem::replace;
 
-/// What shows a condition comes behind what is kept, and is taken.
-#[inline(always)]
-fn show(
-    alloc: Global,
-    machine: &mut Machine<'_>,
-    evidence: &mut Option<Trail>,
-) -> Result<(), AllocError>
-    ensures moves { OnOk result ((M : Module) → moves M machine.new.kept ≡ moves M machine.old.kept ++ moves_in M evidence.old) }
-    ensures values { OnOk result ((es : List RawTerm) × (machine.new.kept.values ≡ machine.old.kept.values ++ es)) }
-    ensures frames { machine.new.frames.items ≡ machine.old.frames.items }
-    ensures done { machine.new.done.items ≡ machine.old.done.items }
-    ensures jobs { machine.new.jobs.items ≡ machine.old.jobs.items }
+/// What shows a condition, side after side, comes behind what is kept, and is taken.
+fn show(alloc: Global, kept: &mut Trail, sides: &mut Vec<Trail>) -> Result<(), AllocError>
+    ensures moves { OnOk result ((M : Module) → moves M kept.new ≡ moves M kept.old ++ all_moves M sides.old.items) }
+    ensures values { OnOk result ((es : List RawTerm) × (kept.new.values ≡ kept.old.values ++ es)) }
+    ensures taken { OnOk result (sides.new.items ≡ []) }
 {
-    if let Some(sides) = evidence.take() {
-        let kept = replace(&mut machine.kept, Trail::new(alloc));
-        machine.kept = kept.followed_by(sides)?;
+    sides.reverse();
+    while let Some(side) = sides.pop() {
+        let before = replace(kept, Trail::new(alloc));
+        *kept = before.followed_by(side)?;
     }
     Ok(())
 }
@@ -55,19 +49,20 @@ pub(crate) fn apply_whole(
     alloc: Global,
     machine: &mut Machine<'_>,
     number: usize,
-    evidence: &mut Option<Trail>,
+    sides: &mut Vec<Trail>,
     values: &mut Vec<Term>,
 ) -> Result<usize, AllocError>
     ensures means { (K : Run) (k : ℕ) (sig : Signature) (right w : RawTerm) → IsRun K sig
-        → MayFire K k (data_of K.over machine.old) number (moves_in K.over evidence.old) values.old.items right w
+        → MayFire K k (data_of K.over machine.old) number (all_moves K.over sides.old.items) values.old.items right w
         → OnOk result (HasInHand K (suc k) (data_of K.over machine.new)
         (evaluated K.over.signature values.old.items right)) }
     ensures frames { machine.new.frames.items ≡ machine.old.frames.items }
     ensures done { machine.new.done.items ≡ machine.old.done.items }
     ensures jobs { machine.new.jobs.items ≡ machine.old.jobs.items }
     ensures values { IfOk result (λ base. (us : List RawTerm) × (base ≡ length us) × (machine.new.kept.values ≡ us ++ values.old.items)) }
+    ensures taken { OnOk result (sides.new.items ≡ []) }
 {
-    show(alloc, machine, evidence)?;
+    show(alloc, &mut machine.kept, sides)?;
     let base = machine.kept.values().len();
     machine.kept.apply(number, values)?;
     Ok(base)

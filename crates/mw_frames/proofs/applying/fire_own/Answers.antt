@@ -6,7 +6,7 @@ use Rattle.mw_logic.specs.NormalForm.{applied_in}
 use Rattle.mw_pattern.specs.Clean.{clean}
 use Rattle.mw_stack.specs.Own.{own}
 use Rattle.mw_trail.specs.Tracks.{moves}
-use Rattle.mw_frames.specs.Machines.{data_of, moves_in}
+use Rattle.mw_frames.specs.Machines.{data_of, all_moves}
 use Rattle.mw_frames.specs.Redex.{MayFire, walked}
 use Rattle.mw_frames.specs.State.{Data}
 use Rattle.mw_frames.specs.Fires.{IsApplied}
@@ -22,7 +22,7 @@ returns-then-branch c = λ K k w run h part is.
     let m = c.args.machine.now in
     let f = c.args.top in
     let vs = c.args.values.now.items in
-    let ss = moves_in K.over c.args.evidence.now in
+    let ss = all_moves K.over c.args.sides.now.items in
     let p = clean c.args.by.right.now in
     let d : Data = data_of K.over m in
     let t : RawTerm = apply f.op (terms_of (drop f.from m.done.items)) in

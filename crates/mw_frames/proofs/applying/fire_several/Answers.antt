@@ -1,6 +1,6 @@
 use Rattle.std.proofs.Common.{◌∙◌, sym, reverse}
 use Rattle.mw_pattern.specs.Clean.{clean}
-use Rattle.mw_frames.specs.Machines.{data_of, moves_in}
+use Rattle.mw_frames.specs.Machines.{data_of, all_moves}
 use Rattle.mw_frames.specs.Arrivals.{IsNewFrame}
 use Rattle.mw_frames.specs.Redex.{MayFire, HasOnTop, walked}
 use Rattle.mw_frames.specs.Fires.{IsApplied}
@@ -17,9 +17,9 @@ returns-in-Fits c = λ K k w run a part is.
     let new : IsNewFrame c.args.facts.now (reverse m.frames.items) m.done.items m.jobs.items f.op f = same_frame c.args.facts.now (reverse m.frames.items) m.done.items m.jobs.items c.top_of.result f c.in_ok-frame.ensures in
     let on : HasOnTop f.op c.args.term = λ g ts e. c.top_of.ensures.top g ts e ∙ sym c.in_ok-frame.ensures.operator in
     let inside : IsPartAsked K k (data_of K.over n) f w = c.in_ok-take_out.ensures K k w run a.holds new on part in
-    let there : IsApplied K.over K.rank c.args.by (moves_in K.over c.args.evidence.now) c.as_slice.result.now w = rw c.as_slice.ensures.value is in
-    let z = rw (c.in-Fits.is, c.as_slice.ensures.value) at (c.in_ok-fit_here.ensures K k (moves_in K.over c.args.evidence.now) w run (walked K k (data_of K.over n) w inside.asked.holds) there) in
-    let may : MayFire K k (data_of K.over n) c.args.by.number (moves_in K.over c.args.evidence.now) c.args.values.now.items (clean c.args.by.right.now) w =
+    let there : IsApplied K.over K.rank c.args.by (all_moves K.over c.args.sides.now.items) c.as_slice.result.now w = rw c.as_slice.ensures.value is in
+    let z = rw (c.in-Fits.is, c.as_slice.ensures.value) at (c.in_ok-fit_here.ensures K k (all_moves K.over c.args.sides.now.items) w run (walked K k (data_of K.over n) w inside.asked.holds) there) in
+    let may : MayFire K k (data_of K.over n) c.args.by.number (all_moves K.over c.args.sides.now.items) c.args.values.now.items (clean c.args.by.right.now) w =
     record { redex = is.redex; known = inside.asked.holds.job; stands = record { in_hand = walked K k (data_of K.over n) w inside.asked.holds; seen = inside.asked.seen; low = z.0; small = z.1 } } in
     c.in_ok-go_several-in-Fits.ensures K k w run inside may is
 
@@ -31,10 +31,10 @@ returns-in-TooDeep c = λ K k w run a part is.
     let new : IsNewFrame c.args.facts.now (reverse m.frames.items) m.done.items m.jobs.items f.op f = same_frame c.args.facts.now (reverse m.frames.items) m.done.items m.jobs.items c.top_of.result f c.in_ok-frame.ensures in
     let on : HasOnTop f.op c.args.term = λ g ts e. c.top_of.ensures.top g ts e ∙ sym c.in_ok-frame.ensures.operator in
     let inside : IsPartAsked K k (data_of K.over n) f w = c.in_ok-take_out.ensures K k w run a.holds new on part in
-    let there : IsApplied K.over K.rank c.args.by (moves_in K.over c.args.evidence.now) c.as_slice.result.now w = rw c.as_slice.ensures.value is in
-    let z = rw (c.in-TooDeep.is, c.as_slice.ensures.value) at (c.in_ok-fit_here.ensures K k (moves_in K.over c.args.evidence.now) w run (walked K k (data_of K.over n) w inside.asked.holds) there) in
+    let there : IsApplied K.over K.rank c.args.by (all_moves K.over c.args.sides.now.items) c.as_slice.result.now w = rw c.as_slice.ensures.value is in
+    let z = rw (c.in-TooDeep.is, c.as_slice.ensures.value) at (c.in_ok-fit_here.ensures K k (all_moves K.over c.args.sides.now.items) w run (walked K k (data_of K.over n) w inside.asked.holds) there) in
     c.in_ok-fired-in-TooDeep.ensures K k w run part (walked K k (data_of K.over n) w inside.asked.holds)
-    (λ t e. equation_deep K c.args.facts.now run k (data_of K.over n) w (walked K k (data_of K.over n) w inside.asked.holds) inside.asked.seen c.args.by.number (moves_in K.over c.args.evidence.now) c.args.values.now.items (clean c.args.by.right.now) is.redex t e z)
+    (λ t e. equation_deep K c.args.facts.now run k (data_of K.over n) w (walked K k (data_of K.over n) w inside.asked.holds) inside.asked.seen c.args.by.number (all_moves K.over c.args.sides.now.items) c.args.values.now.items (clean c.args.by.right.now) is.redex t e z)
 
 pub returns : goal.returns
 returns c = λ K k w run a part is.
@@ -44,7 +44,7 @@ returns c = λ K k w run a part is.
     let new : IsNewFrame c.args.facts.now (reverse m.frames.items) m.done.items m.jobs.items f.op f = same_frame c.args.facts.now (reverse m.frames.items) m.done.items m.jobs.items c.top_of.result f c.in_ok-frame.ensures in
     let on : HasOnTop f.op c.args.term = λ g ts e. c.top_of.ensures.top g ts e ∙ sym c.in_ok-frame.ensures.operator in
     let inside : IsPartAsked K k (data_of K.over n) f w = c.in_ok-take_out.ensures K k w run a.holds new on part in
-    let there : IsApplied K.over K.rank c.args.by (moves_in K.over c.args.evidence.now) c.as_slice.result.now w = rw c.as_slice.ensures.value is in
-    let z = rw (c.in-TooLarge.is, c.as_slice.ensures.value) at (c.in_ok-fit_here.ensures K k (moves_in K.over c.args.evidence.now) w run (walked K k (data_of K.over n) w inside.asked.holds) there) in
+    let there : IsApplied K.over K.rank c.args.by (all_moves K.over c.args.sides.now.items) c.as_slice.result.now w = rw c.as_slice.ensures.value is in
+    let z = rw (c.in-TooLarge.is, c.as_slice.ensures.value) at (c.in_ok-fit_here.ensures K k (all_moves K.over c.args.sides.now.items) w run (walked K k (data_of K.over n) w inside.asked.holds) there) in
     c.in_ok-fired-in-TooLarge.ensures K k w run part (walked K k (data_of K.over n) w inside.asked.holds)
-    (λ t e. equation_large K c.args.facts.now run k (data_of K.over n) w (walked K k (data_of K.over n) w inside.asked.holds) inside.asked.seen c.args.by.number (moves_in K.over c.args.evidence.now) c.args.values.now.items (clean c.args.by.right.now) is.redex t e z.0 z.1)
+    (λ t e. equation_large K c.args.facts.now run k (data_of K.over n) w (walked K k (data_of K.over n) w inside.asked.holds) inside.asked.seen c.args.by.number (all_moves K.over c.args.sides.now.items) c.args.values.now.items (clean c.args.by.right.now) is.redex t e z.0 z.1)

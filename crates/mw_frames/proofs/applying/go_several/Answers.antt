@@ -4,7 +4,7 @@ use Rattle.mw_matching.specs.Matches.{evaluated}
 use Rattle.mw_pattern.specs.Clean.{clean}
 use Rattle.mw_stack.specs.Own.{spread}
 use Rattle.mw_trail.specs.Tracks.{moves}
-use Rattle.mw_frames.specs.Machines.{data_of, moves_in}
+use Rattle.mw_frames.specs.Machines.{data_of, all_moves}
 use Rattle.mw_frames.specs.Jobs.{instance_of}
 use Rattle.mw_frames.specs.State.{IsKnownIn}
 use Rattle.mw_frames.specs.Arrivals.{Comes}
@@ -29,7 +29,7 @@ returns c = λ K k w run part may is.
     let inner = ap reverse c.in_ok-base.ensures.frames ∙ part.inner in
     let r : Receives K (suc k) (data_of K.over old) f v = c.in_ok-leave_hole.ensures.means K (suc k) c.args.facts.now f part.outer v run inner part.assoc h in
     let kept : old.kept.values ≡ us ++ vs = c.in_ok-leave_hole.ensures.values ∙ new in
-    let known : IsKnownIn K.over K.rank (us ++ vs) (length us) f.op p = part_known K c.args.facts.now run k (data_of K.over m) f w part us c.args.by (moves_in K.over c.args.evidence.now) vs is in
+    let known : IsKnownIn K.over K.rank (us ++ vs) (length us) f.op p = part_known K c.args.facts.now run k (data_of K.over m) f w part us c.args.by (all_moves K.over c.args.sides.now.items) vs is in
     let i : instance_of sig old.kept.values p c.in_ok-base.base ≡ v = instance_behind sig us vs old.kept.values p c.in_ok-base.base kept base in
     let comes : Comes sig old.kept.values f (spread sig f.op v) (λ M n. IsKnownIn M n old.kept.values c.in_ok-base.base f.op p) old.done.items after.done.items old.jobs.items after.jobs.items =
     subst (λ t. Comes sig old.kept.values f (spread sig f.op t) (λ M n. IsKnownIn M n old.kept.values c.in_ok-base.base f.op p) old.done.items after.done.items old.jobs.items after.jobs.items) i
