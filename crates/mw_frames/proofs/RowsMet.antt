@@ -9,7 +9,7 @@ use Rattle.mw_logic.specs.Axioms.{EqualModulo}
 use Rattle.mw_logic.specs.Kinds.{is_successor}
 use Rattle.mw_logic.specs.Parts.{is_assoc, nested, number_of_terms, IsClean, IsAdmitted}
 use Rattle.mw_logic.specs.NormalForm.{is_comm, identity_of, rebuilt, identity_or_empty, arranged, counted, applied_in, normal_form, normal_forms, is_largest, has_largest, some_largest, height}
-use Rattle.mw_logic.specs.Module.{Module, BuiltIn, Result, number, truth, nothing, too_big, result_of, Denotes, IsTruth, Row, IsTooBigPair}
+use Rattle.mw_logic.specs.Module.{Module, BuiltIn, Result, number, truth, nothing, too_big, result_of, Denotes, IsTruth, Row}
 use Rattle.mw_logic.specs.Module as schema
 use Rattle.mw_logic.specs.Proof.{row}
 use Rattle.mw_logic.specs.Judgements.{admitted_judgements}
@@ -31,7 +31,7 @@ use Rattle.mw_deduction.proofs.ReadingLaws as reading
 use Rattle.mw_frames.specs.declared.job.Job.TheVariants.{Walk}
 use Rattle.mw_frames.specs.State.{Run, Data, Leads, IsRun, InHand, IsNormalHere, HasNormalArguments}
 use Rattle.mw_frames.specs.Redex.{MayCome, IsRowOf, MayMeetRow, HasInHand, IsSeenIn, hole_level}
-use Rattle.mw_frames.specs.Fires.{Becomes, by_schema, Refuses, HasBigPair}
+use Rattle.mw_frames.specs.Fires.{Becomes, by_schema, Refuses}
 use Rattle.mw_frames.proofs.FiringHere.{admitted_here, raw_after_here, seen_there, replaced_here, so_in_hand}
 use Rattle.mw_frames.proofs.Larger.{number_arranged}
 use Rattle.mw_frames.proofs.Redexes.{IsReplaced}
@@ -220,13 +220,3 @@ module _ (K : Run) (sig : Signature) (run : IsRun K sig) (count : ℕ) where
     row_large l z =
         refuses_large K sig run count m w h seen (nested here t) u (row_comes K.over run.well K.rank w t r) becomes_met (subst (λ v. hole_level here m.frames v + height v ≤ 1000) is_itself_here l)
         (ap (λ v. has_largest here (whole here h.stand.opens v)) (sym is_itself_here) ∙ z)
-
-  -- a sum or product that is too big
-  pub big_there : (m : Data) (w form u : RawTerm) (h : InHand K count m (Walk w)) → IsSeenIn here m.frames w → IsRawTerm here form → IsClean here form → normal_form here form ≡ w → IsTooBigPair here form
-      → u ≡ whole here h.stand.opens h.stand.hand → HasBigPair K.over (nested here u)
-  big_there m w form u h seen raw clean is big q = record {
-    context = round here h.stand.opens;
-    pair = form;
-    is_part = is_part_there K sig run count m w h seen form u raw clean is q;
-    too_big = big;
-  }

@@ -70,6 +70,10 @@ pub record WouldBeTooLarge (M : Module) (n : ℕ) (u : RawTerm) : Type 0 where
   pub large : IsTooLarge M.signature next
   pub not_deep : ¬ IsTooDeep M.signature next
 
+-- w is a part of u
+abbrev pub HasPart : Signature → RawTerm → RawTerm → Type 0
+HasPart sig u w = (C : Context) × IsPart sig u C w
+
 -- a sum or product at one of its parts is too big
 pub record HasBigPair (M : Module) (u : RawTerm) : Type 0 where
   pub context : Context

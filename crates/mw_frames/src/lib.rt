@@ -15,18 +15,20 @@
 //!   an `if_then_else_fi` is a truth value, and its branches are as they were (`IsDecided`): the condition comes first,
 //!   and the branches where it is stuck. Where it goes on, less is left (`FallsBelow`), so steps end.
 //! - `fire` applies an equation, with values that make its left side what was asked for or several of its arguments
-//!   (`IsPartTaken`): one replacement more is made, and its right side is in hand (`IsFired`).
+//!   (`IsPartTaken`), and what shows its condition, one trail for each side (`AreShowing`, specs/Redex): one replacement
+//!   more is made, and its right side is in hand (`IsFired`).
 //! - `meet` makes a replacement by a row of the schemata at what was asked for, or at several of its arguments, to a
 //!   term (`IsRowOf`, specs/Redex); `decide` one at a choice that is decided: the branch comes as it waits, the other
 //!   one is dropped.
 //! - `meet_pair` makes one at the first two of more arguments of a term in hand, where it makes a numeral of them at
 //!   which nothing applies (`IsPairMet`, specs/Pairs): this comes in order among the others, and the term isn't made.
-//! - `fire`, `meet` and `decide` answer `TooDeep` where the whole would have more than 1,000 levels, and else `TooLarge` where `s_`
-//!   would stand on the largest numeral, in what comes, right above it, or further out, where the operators between are
-//!   one numeral again (`grows`, specs/Larger). Then nothing is replaced, and the whole is answered as it stands.
+//! - `fire`, `meet` and `decide` answer `TooDeep` where the whole would have more than 1,000 levels, and else
+//!   `TooLarge` where `s_` would stand on the largest numeral, in what comes, right above it, or further out, where the
+//!   operators between are one numeral again (`grows`, specs/Larger). Then nothing is replaced or shown, and the whole
+//!   is answered as it stands.
 //! - `rest` goes on where nothing applies to what was asked for, which then is normal.
-//! - `stop` puts the whole together (`IsWhole`); `halt` does where what was asked for, or several of its arguments, are
-//!   a sum or product that is too big (`HasBigPair`).
+//! - `stop` puts the whole together (`IsWhole`); `halt` does round what was asked for, or several of its arguments, and
+//!   tells that these are a part of it.
 //! - `evaluate` is the canonical instance of a pattern (`evaluated` of mw_matching).
 //!
 //! Conditions (`IsRun`): the module is well-formed, its signature accepted and well sorted. Want of memory is the only

@@ -4,7 +4,7 @@ ghost use Rattle.mw_logic.specs.Term.{RawTerm};
 ghost use Rattle.mw_logic.specs.Signature.{Signature, IsRawTerm};
 ghost use Rattle.mw_logic.specs.Parts.{nested, IsClean};
 ghost use Rattle.mw_logic.specs.NormalForm.{normal_form};
-ghost use Rattle.mw_logic.specs.Module.{Module, IsTooBigPair};
+ghost use Rattle.mw_logic.specs.Module.{Module};
 ghost use Rattle.mw_logic.specs.WellFormed.{IsWellFormed};
 ghost use Rattle.mw_stack.specs.Own.{spread};
 ghost use Rattle.mw_trail.specs.Tracks.{moves};
@@ -17,7 +17,7 @@ ghost use Rattle.mw_frames.specs.Redex.{IsRowOf, MayMeetRow, HasInHand};
 ghost use Rattle.mw_frames.specs.Larger.{IsFit};
 ghost use Rattle.mw_frames.specs.Taking.{IsPartAsked};
 ghost use Rattle.mw_frames.specs.Steps.{IsAsked, IsComplete, IsAskedFor, asked_term};
-ghost use Rattle.mw_frames.specs.Fires.{IsPartTaken, IsFired, IsWhole, HasBigPair};
+ghost use Rattle.mw_frames.specs.Fires.{IsPartTaken, IsFired, IsWhole, HasPart};
 ghost use Rattle.mw_frames.specs.declared.job.Job.{Job as JobOf};
 ghost use Rattle.mw_frames.specs.declared.job.Job.TheVariants.{Walk as WalkOf};
 ghost use Rattle.mw_frames.specs.declared.looking.Asked.TheVariants.{Own as OwnOf};
@@ -286,7 +286,7 @@ pub fn meet<'m>(
     }
 }
 
-/// The whole, where several arguments of a term are a sum or product that is too big.
+/// The whole as it stands round several arguments of a term.
 fn halt_part(
     alloc: Global,
     facts: &Facts,
@@ -296,8 +296,8 @@ fn halt_part(
 ) -> Result<Term, AllocError>
     ensures { (K : Run) (k : ℕ) (w form : RawTerm) → IsRun K facts.now → IsAsked K k (data_of K.over machine.old) term
         → IsSeveral facts.now numbers.now term w → IsRawTerm K.over.signature form → IsClean K.over.signature form
-        → normal_form K.over.signature form ≡ w → IsTooBigPair K.over.signature form
-        → IfOk result (λ t. IsWhole K k (data_of K.over machine.new) t × HasBigPair K.over (nested K.over.signature t)) }
+        → normal_form K.over.signature form ≡ w
+        → IfOk result (λ t. IsWhole K k (data_of K.over machine.new) t × HasPart K.over.signature (nested K.over.signature t) form) }
 {
     let top = top_of(&term);
     let frame = new_frame(facts, machine, top)?;
@@ -307,7 +307,7 @@ fn halt_part(
     Ok(whole)
 }
 
-/// The whole, where a term in hand, or several of its arguments, are a sum or product that is too big.
+/// The whole as it stands round a term in hand, or several of its arguments.
 fn halt_term(
     alloc: Global,
     facts: &Facts,
@@ -317,8 +317,8 @@ fn halt_term(
 ) -> Result<Term, AllocError>
     ensures { (K : Run) (k : ℕ) (w form : RawTerm) → IsRun K facts.now → IsAsked K k (data_of K.over machine.old) term
         → IsPartTaken facts.now take.now term w → IsRawTerm K.over.signature form → IsClean K.over.signature form
-        → normal_form K.over.signature form ≡ w → IsTooBigPair K.over.signature form
-        → IfOk result (λ t. IsWhole K k (data_of K.over machine.new) t × HasBigPair K.over (nested K.over.signature t)) }
+        → normal_form K.over.signature form ≡ w
+        → IfOk result (λ t. IsWhole K k (data_of K.over machine.new) t × HasPart K.over.signature (nested K.over.signature t) form) }
 {
     match take {
         None => {
@@ -332,7 +332,8 @@ fn halt_term(
     }
 }
 
-/// The whole as it stands, where what was asked for, or several of its arguments, are a sum or product that is too big.
+/// The whole as it stands round what was asked for, or several of its arguments: these are a part of it, in each clean
+/// form.
 #[inline(never)]
 pub fn halt(
     alloc: Global,
@@ -344,8 +345,8 @@ pub fn halt(
     ensures { (K : Run) (k : ℕ) (w form : RawTerm) → IsRun K facts.now → IsAskedFor K k (data_of K.over machine.old) asked
         → IsPartTaken facts.now take.now (asked_term (data_of K.over machine.old) asked) w
         → IsRawTerm K.over.signature form → IsClean K.over.signature form
-        → normal_form K.over.signature form ≡ w → IsTooBigPair K.over.signature form
-        → IfOk result (λ t. IsWhole K k (data_of K.over machine.new) t × HasBigPair K.over (nested K.over.signature t)) }
+        → normal_form K.over.signature form ≡ w
+        → IfOk result (λ t. IsWhole K k (data_of K.over machine.new) t × HasPart K.over.signature (nested K.over.signature t) form) }
 {
     match asked {
         Asked::Term(term) => {

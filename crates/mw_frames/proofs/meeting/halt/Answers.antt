@@ -13,13 +13,13 @@ use Rattle.mw_frames.proofs.Turning.{own_fair}
 use Rattle.mw_frames.proofs.meeting.halt.Goals as goal
 
 pub returns-in_ok-whole-in-Term : goal.returns-in_ok-whole-in-Term
-returns-in_ok-whole-in-Term c = λ K k w form run a part raw clean is big.
+returns-in_ok-whole-in-Term c = λ K k w form run a part raw clean is.
     let d = data_of K.over c.args.machine.now in
     c.in_ok-whole-in-Term.ensures K k w form run (subst (IsAskedFor K k d) c.in-Term.is a)
-    (subst (λ x. IsPartTaken c.args.facts.now c.args.take.now (asked_term d x) w) c.in-Term.is part) raw clean is big
+    (subst (λ x. IsPartTaken c.args.facts.now c.args.take.now (asked_term d x) w) c.in-Term.is part) raw clean is
 
 pub returns-in_ok-whole-in-Own : goal.returns-in_ok-whole-in-Own
-returns-in_ok-whole-in-Own c = λ K k w form run a0 part0 raw clean is big.
+returns-in_ok-whole-in-Own c = λ K k w form run a0 part0 raw clean is.
     let m = c.args.machine.now in
     let f = c.in-Own.top in
     let d : Data = data_of K.over m in
@@ -31,4 +31,4 @@ returns-in_ok-whole-in-Own c = λ K k w form run a0 part0 raw clean is big.
     let p : c.in_ok-term-in-Own.term ≡ apply f.op (terms_of (drop f.from m.done.items)) = rw (plain_applied K.over.signature f.op (own f.from m.done.items) h.plain) at e in
     let z : c.close.new.done.items ≡ take f.from m.done.items = search rules in
     let a = complete_asked K c.args.facts.now run k d f h in
-    c.in_ok-whole-in-Own.ensures K k w form run (rw (p, z) a) (rw p part) raw clean is big
+    c.in_ok-whole-in-Own.ensures K k w form run (rw (p, z) a) (rw p part) raw clean is

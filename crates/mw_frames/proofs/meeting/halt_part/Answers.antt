@@ -8,11 +8,12 @@ use Rattle.mw_frames.specs.Redex.{HasOnTop, Stands, walked}
 use Rattle.mw_frames.specs.Several.{IsSeveral}
 use Rattle.mw_frames.specs.Taking.{IsPartAsked}
 use Rattle.mw_frames.proofs.Applications.{same_frame}
-use Rattle.mw_frames.proofs.RowsMet.{big_there}
+use Rattle.mw_deduction.specs.Standing.{round}
+use Rattle.mw_frames.proofs.Refusing.{is_part_there}
 use Rattle.mw_frames.proofs.meeting.halt_part.Goals as goal
 
 pub returns : goal.returns
-returns c = λ K k w form run a part raw clean is big.
+returns c = λ K k w form run a part raw clean is.
     let m = c.args.machine.now in
     let n = c.take_out.new.machine in
     let f = c.in_ok-frame.frame in
@@ -28,4 +29,4 @@ returns c = λ K k w form run a part raw clean is big.
     let s : Stands K k (data_of K.over n) w = record { stand = h.stand; leads = h.leads; opened = h.opened; hand = h.hand } in
     let s' : Stands K k (data_of K.over n) c.in_ok-part.part = record { stand = h.stand; leads = h.leads; opened = h.opened; hand = h.hand ∙ e } in
     let (z, q) = c.in_ok-whole.ensures K k run s' in
-    (z, big_there K c.args.facts.now run k (data_of K.over n) w form c.in_ok-whole.whole (walked K k (data_of K.over n) w inside.asked.holds) inside.asked.seen raw clean is big q)
+    (z, (round K.over.signature h.stand.opens, is_part_there K c.args.facts.now run k (data_of K.over n) w (walked K k (data_of K.over n) w inside.asked.holds) inside.asked.seen form c.in_ok-whole.whole raw clean is q))
