@@ -226,6 +226,7 @@ module _ (K : Run) (ok : IsAccepted K.over.signature) (sorted : IsWellSorted K.o
           plays = plays-append K.over ms (ss ++ applies number false s ∷ []) K.start ∙ ap (plays K.over (ss ++ applies number false s ∷ [])) h.plays ∙ goes;
           moves = moves-append K.over ms (ss ++ applies number false s ∷ []) K.start h.moves (subst (AreMoves K.over (ss ++ applies number false s ∷ [])) (sym h.plays) all);
           rank = z.rank ∙ h.rank;
+          from = z.from ∙ h.from;
           ready = refl;
           steps = omega (arith, one, old, done_steps);
           rules = by_rules ∙ ap (λ n. n + 0) (done_rules ∙ h.rules);

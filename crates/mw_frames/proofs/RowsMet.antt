@@ -178,6 +178,7 @@ module _ (K : Run) (ok : IsAccepted K.over.signature) (count : ℕ) (w t : RawTe
           plays = plays-append M ms (meets t ∷ []) K.start ∙ ap (plays M (meets t ∷ [])) h.plays;
           moves = moves-append M ms (meets t ∷ []) K.start h.moves (subst (AreMoves M (meets t ∷ [])) (sym h.plays) (may, tt));
           rank = h.rank;
+          from = h.from;
           ready = refl;
           steps = omega (arith, one, old);
           rules = by_rules ∙ ap (λ n. n + 0) h.rules;

@@ -232,7 +232,7 @@ module _ (K : Run) (sig : Signature) (run : IsRun K sig) (count : ℕ) where
           same = λ u. ap (λ x. arranged x (join b (cons u a))) c ∙ same u ∙ ap (λ x. arranged x (join (terms_of os) (cons u (rest here values ys)))) (sym c);
           alone = λ z. absurd (not_successor here run.accepted g assoc (subst (Rattle.mw_logic.specs.Signature.IsSuccessor here) e z));
         } in
-        let leads : Leads K count (ms ++ among ks ∷ []) T = led K count ms (among ks) S T h.leads may p refl h.leads.ready refl in
+        let leads : Leads K count (ms ++ among ks ∷ []) T = led K count ms (among ks) S T h.leads may p refl refl h.leads.ready refl in
         let back = left_back M run.accepted (ms ++ among ks ∷ []) ms K.start T K.below (opened g b a) S.opens run.start leads.moves leads.plays refl (inr (inr (ks, refl))) in
         let same_stand : going_out here T.opens T ≡ S = same_head (sym back.1 ∙ h.leads.plays) in (
           record {
@@ -291,7 +291,7 @@ module _ (K : Run) (sig : Signature) (run : IsRun K sig) (count : ℕ) where
           let canonical = es (IsCanonical here) (each_canonical here _ clear.before) (each_canonical here _ clear.after) tt in
           record {
             stand = T;
-            leads = record { plays = q; moves = am; rank = h.leads.rank; ready = h.leads.ready; steps = h.leads.steps; rules = h.leads.rules };
+            leads = record { plays = q; moves = am; rank = h.leads.rank; from = h.leads.from; ready = h.leads.ready; steps = h.leads.steps; rules = h.leads.rules };
             opened = below;
             level = level;
             hand = ap (λ g'. applied_in here g' (join o.before (cons S.hand o.after))) is.operator
@@ -350,7 +350,7 @@ module _ (K : Run) (sig : Signature) (run : IsRun K sig) (count : ℕ) where
           let q : plays M ns K.start ≡ T ∷ K.below = p ∙ ap (λ zs. going_out here zs S ∷ K.below) e in (
             record {
               stand = T;
-              leads = record { plays = q; moves = am; rank = h.leads.rank; ready = h.leads.ready; steps = h.leads.steps; rules = h.leads.rules };
+              leads = record { plays = q; moves = am; rank = h.leads.rank; from = h.leads.from; ready = h.leads.ready; steps = h.leads.steps; rules = h.leads.rules };
               opened = below;
               hand = ap (λ g'. applied_in here g' (join o.before (cons S.hand o.after))) is.operator
                   ∙ ap (λ u. applied_in here f.op (join o.before (cons u o.after))) h.hand

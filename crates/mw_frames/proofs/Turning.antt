@@ -69,11 +69,12 @@ number-sorted (cons t ts) = number-insert t (sorted_terms ts) ∙ ap suc (number
 
 -- one move more
 pub led : (K : Run) (count : ℕ) (ms : List Move) (m : Move) (S T : Stand) → Leads K count ms S → IsMove K.over m (S ∷ K.below) → play K.over m (S ∷ K.below) ≡ T ∷ K.below
-    → T.rank ≡ S.rank → T.read.ready ≡ proof.nil → T.read.done ≡ S.read.done → Leads K count (ms ++ m ∷ []) T
-led K count ms m S T h is p rank ready done = record {
+    → T.rank ≡ S.rank → T.from ≡ S.from → T.read.ready ≡ proof.nil → T.read.done ≡ S.read.done → Leads K count (ms ++ m ∷ []) T
+led K count ms m S T h is p rank from ready done = record {
   plays = plays-append K.over ms (m ∷ []) K.start ∙ ap (plays K.over (m ∷ [])) h.plays ∙ p;
   moves = moves-append K.over ms (m ∷ []) K.start h.moves (subst (AreMoves K.over (m ∷ [])) (sym h.plays) (is, tt));
   rank = rank ∙ h.rank;
+  from = from ∙ h.from;
   ready = ready;
   steps = ap (λ rs. Rattle.mw_logic.specs.Proof.steps (proof_of rs)) done ∙ h.steps;
   rules = ap (λ rs. Rattle.mw_logic.specs.Proof.rules (proof_of rs)) done ∙ h.rules;
@@ -188,7 +189,7 @@ module _ (K : Run) (ok : IsAccepted K.over.signature) (sorted : IsWellSorted K.o
       ap (λ u. into_argument sig (suc (number_of_terms b)) u S ∷ K.below) k ∙ ap (λ T. T ∷ K.below) (into_is sig (suc (number_of_terms b)) f.op b t a S refl) in
       record {
         stand = going_in sig (opened f.op b a) t S;
-        leads = led K count ms (into (suc (number_of_terms b))) S (going_in sig (opened f.op b a) t S) s.leads may p refl s.leads.ready refl;
+        leads = led K count ms (into (suc (number_of_terms b))) S (going_in sig (opened f.op b a) t S) s.leads may p refl refl s.leads.ready refl;
         opened = (
           record {
             operator = refl;
@@ -431,7 +432,7 @@ module _ (K : Run) (ok : IsAccepted K.over.signature) (sorted : IsWellSorted K.o
           ∙ spliced sig ok f.op own t waiting kt ∙ sym (same_applied sig ok f.op (join own' waiting) (join own (join sp waiting)) r) in
           record {
             stand = T;
-            leads = record { plays = q; moves = am; rank = h.leads.rank; ready = h.leads.ready; steps = h.leads.steps; rules = h.leads.rules };
+            leads = record { plays = q; moves = am; rank = h.leads.rank; from = h.leads.from; ready = h.leads.ready; steps = h.leads.steps; rules = h.leads.rules };
             opened = subst (λ zs. AreOpened sig vs fs zs (take f.waits xs) os) (sym et) below;
             level = level;
             hand = hand;

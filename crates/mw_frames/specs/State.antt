@@ -28,10 +28,11 @@ use Rattle.mw_frames.specs.declared.job.Hand.{Hand}
 use Rattle.mw_frames.specs.declared.job.Hand.TheVariants.{One, Over}
 use Rattle.mw_frames.specs.Jobs.{value_at, is_sure, instance_of, term_of, rest, arguments, AreOpened, weight, work}
 
--- A run: the module, the rank, and the proofs under way when it began; below its own one stand those of outer conditions.
+-- A run: the module, the rank, the term that it begins at, and the proofs under way when it began; below its own one stand those of outer conditions.
 pub record Run : Type 0 where
   pub over : Module
   pub rank : ℕ
+  pub from : RawTerm
   pub start : List Stand
   pub below : List Stand
 
@@ -123,6 +124,7 @@ pub record Leads (K : Run) (count : ℕ) (ms : List Move) (stand : Stand) : Type
   pub plays : plays K.over ms K.start ≡ stand ∷ K.below
   pub moves : AreMoves K.over ms K.start
   pub rank : stand.rank ≡ K.rank
+  pub from : stand.from ≡ K.from
   pub ready : stand.read.ready ≡ proof.nil
   pub steps : proof.steps (proof_of stand.read.done) ≡ count
   -- by equations alone

@@ -34,12 +34,6 @@ use Rattle.mw_reduce.specs.declared.drive.Outcome.{Outcome}
 use Rattle.mw_reduce.specs.declared.drive.Outcome.TheVariants.{Done, Stopped}
 use Rattle.mw_reduce.specs.declared.reducing.Budget.{Budget}
 
--- without a condition there is no evidence
-held_none : (M : Module) (n : ℕ) (s : Substitution) → Held M n [] s proof.nil s
-unfolding judgements_with
-held_none M zero s = (refl, refl)
-held_none M (suc n) s = (refl, refl)
-
 normal_at : (M : Module) (n : ℕ) (u : RawTerm) → IsNormalBy M (Fails M n) u → IsNormal M n u
 unfolding judgements_with
 normal_at M zero u h = h
@@ -56,17 +50,17 @@ module _ (M : Module) (n : ℕ) (t0 : RawTerm) (p : Proof) (u : RawTerm) (most s
 
   -- what an equation or a row leads to is a next step
   next_step : (v : RawTerm) → Becomes M n u v → NextStep M (judgements M n) (limits_within most side) p u v
-  next_step v (by_equation C w number e s part there plain sol) =
-      by_statement C e s s proof.nil
+  next_step v (by_equation C w number e s r es part there ordinary sol held) =
+      by_statement C e s r es
       (record {
         part = w;
         is_part = part;
         number = number;
         is_there = there;
         solution = sol;
-        may = inl (plain.equation, λ o. absurd (Rattle.std.proofs.Common.true≢false (sym o ∙ plain.ordinary)));
+        may = inl (ordinary.equation, λ o. absurd (Rattle.std.proofs.Common.true≢false (sym o ∙ ordinary.ordinary)));
       })
-      (subst (λ C. Held M n C s proof.nil s) (sym plain.unconditional) (held_none M n s))
+      ((admitted_within M n).Held e.fragments s es r held)
   next_step v (by_schema C w x part row) = by_row C w x part (row_within (λ y h. normal_at M n y (normal M (admitted_judgements M n).Fails (Fails M n) (admitted_within M n).Fails y h)) row)
 
   stops_by_depth : Proves M n p t0 u → steps p < most → WouldBeTooDeep M n u → Stops M n (limits_within most side) t0 p u by_depth

@@ -127,7 +127,8 @@ fn apply<'m>(
         take,
     } = choice;
     let by = applied(equation);
-    let fired = fire(alloc, facts, machine, asked, by, &mut values, &take)?;
+    let mut sides = Vec::new(alloc);
+    let fired = fire(alloc, facts, machine, asked, by, &mut sides, &mut values, &take)?;
     choices.give_back(values);
     Ok(fired)
 }
