@@ -285,7 +285,16 @@ fn fire_term<'m>(
             Ok(fired)
         }
         Some(numbers) => {
-            let fired = fire_several(alloc, facts, machine, term, numbers.as_slice(), by, sides, values)?;
+            let fired = fire_several(
+                alloc,
+                facts,
+                machine,
+                term,
+                numbers.as_slice(),
+                by,
+                sides,
+                values,
+            )?;
             Ok(fired)
         }
     }
