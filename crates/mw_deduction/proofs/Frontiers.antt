@@ -7,7 +7,7 @@ use Rattle.mw_logic.specs.Axioms.{EqualModulo}
 use Rattle.mw_logic.specs.Substitution.{Substitution, instance, IsSubstitution, IsSolution, SameSolution}
 use Rattle.mw_logic.specs.Module.{Fragment, equal, matches, has_sort, is_true, Module, IsTruth}
 use Rattle.mw_logic.specs.Proof.{Proof, Proofs, nil, cons}
-use Rattle.mw_logic.specs.Judgements.{Judgements, Evaluates, MeetsSort, HoldsAbove, FailsAbove, Held, Fails, judgements, judgements_with}
+use Rattle.mw_logic.specs.Judgements.{StepTest, Judgements, Evaluates, MeetsSort, HoldsAbove, FailsAbove, judgements_with}
 use Rattle.mw_logic.proofs.SameConditions.{Fails-same}
 use Rattle.mw_deduction.specs.Frontier.{Alternative, together, IsFrontier, with_solutions}
 
@@ -139,14 +139,20 @@ module _ (M : Module) (below : Judgements) where
           lies (y ∷ ss) i b (inr m) = lies ss (λ q n. i q (inr n)) b m
 
 -- at a rank above 0
-pub Held_found : (M : Module) (n : ℕ) (C : List Fragment) (s r : Substitution) (es : Proofs) (As : List Alternative) → IsFrontier M (judgements M n) C s (record { rest = []; subst = r; evidence = es } ∷ As) → Held M (suc n) C s es r
+pub Held_found : (M : Module) (Step : StepTest) (n : ℕ) (C : List Fragment) (s r : Substitution) (es : Proofs) (As : List Alternative)
+    → IsFrontier M (judgements_with M Step n) C s (record { rest = []; subst = r; evidence = es } ∷ As) → (judgements_with M Step (suc n)).Held C s es r
 unfolding judgements_with
-Held_found M n C s r es As h = holds M (judgements M n) C s r es As h
+Held_found M Step n C s r es As h = holds M (judgements_with M Step n) C s r es As h
 
-pub Fails_found : (M : Module) (n : ℕ) (C : List Fragment) (s : Substitution) → IsFrontier M (judgements M n) C s [] → Fails M (suc n) C s
+pub Fails_found : (M : Module) (Step : StepTest) (n : ℕ) (C : List Fragment) (s : Substitution) → IsFrontier M (judgements_with M Step n) C s [] → (judgements_with M Step (suc n)).Fails C s
 unfolding judgements_with
-Fails_found M n C s h = fails M (judgements M n) C s h
+Fails_found M Step n C s h = fails M (judgements_with M Step n) C s h
 
-pub same_fails : (M : Module) (n : ℕ) (D : List Fragment) (q r : Substitution) → SameSolution M.signature q r → IsSubstitution M.signature q → FailsAbove M (judgements M n) D q → FailsAbove M (judgements M n) D r
+pub same_fails : (M : Module) (Step : StepTest) (n : ℕ) (D : List Fragment) (q r : Substitution) → SameSolution M.signature q r → IsSubstitution M.signature q → FailsAbove M (judgements_with M Step n) D q → FailsAbove M (judgements_with M Step n) D r
 unfolding judgements_with
-same_fails M n D q r e i f = Fails-same M (suc n) D q r e i f
+same_fails M Step n D q r e i f = Fails-same M Step (suc n) D q r e i f
+
+-- what stands before an alternative holds
+pub Held_before : (M : Module) (Step : StepTest) (n : ℕ) (held : List Fragment) (s : Substitution) (es : Proofs) (r : Substitution) → HoldsAbove M (judgements_with M Step n) held s es r → (judgements_with M Step (suc n)).Held held s es r
+unfolding judgements_with
+Held_before M Step n held s es r h = h

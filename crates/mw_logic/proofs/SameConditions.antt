@@ -10,12 +10,10 @@ use Rattle.mw_logic.specs.Substitution.{Substitution, value, instance, is_bound,
 use Rattle.mw_logic.specs.Module.{Module, Fragment, equal, matches, has_sort, is_true}
 use Rattle.mw_logic.specs.Proof.{Proof, Proofs, equality, transitivity}
 use Rattle.mw_logic.specs.Proof as proof
-use Rattle.mw_logic.specs.Judgements.{Evaluates, HoldsAbove, FailsAbove, Held, Fails, judgements, judgements_with}
+use Rattle.mw_logic.specs.Judgements.{StepTest, Evaluates, HoldsAbove, FailsAbove, judgements_with}
 use Rattle.mw_logic.proofs.Canonical.{nat_eq-refl}
 use Rattle.mw_logic.proofs.AxiomLaws.{trans, sym as back}
 use Rattle.mw_logic.proofs.InstanceLaws.{instance_same}
-use Rattle.mw_logic.proofs.SameSolutions.{same_solution-sym}
-use Rattle.mw_logic.proofs.Judging.{Proves-equality, Proves-transitivity}
 use Rattle.mw_logic.proofs.SameSolutions.{same_solution-sym}
 
 -- r, with those values of s whose variables it does not bind
@@ -125,16 +123,22 @@ module _ (sig : Signature) where
         by_bound x true k = refl
         by_bound x false k = sol.variables x ∙ ap (λ c. c || occurs x l) (sym (same_bound r s h x) ∙ k)
 
+-- an equality in front
+proves_behind : (M : Module) (Step : StepTest) (n : ℕ) (p : Proof) (t u v : RawTerm) → EqualModulo M.signature t u → (judgements_with M Step n).Proves p u v → (judgements_with M Step n).Proves (transitivity equality p) t v
+unfolding judgements_with
+proves_behind M Step zero p t u v e h = (u, e, h)
+proves_behind M Step (suc n) p t u v e h = (u, e, h)
+
 -- what fails by evaluations from r fails so from each same substitution
-module _ (M : Module) (n : ℕ) where
-  evaluates_same : (r s : Substitution) → SameSolution M.signature r s → (t : RawTerm) (p : Proof) (a : RawTerm) → Evaluates (judgements M n) (instance r t) p a → Evaluates (judgements M n) (instance s t) (transitivity equality p) a
+module _ (M : Module) (Step : StepTest) (n : ℕ) where
+  evaluates_same : (r s : Substitution) → SameSolution M.signature r s → (t : RawTerm) (p : Proof) (a : RawTerm) → Evaluates (judgements_with M Step n) (instance r t) p a → Evaluates (judgements_with M Step n) (instance s t) (transitivity equality p) a
   evaluates_same r s h t p a e = record {
-    proves = Proves-transitivity M n equality p (instance s t) (instance r t) a (Proves-equality M n (instance s t) (instance r t) (back (instance_same M.signature r s h t))) e.proves;
+    proves = proves_behind M Step n p (instance s t) (instance r t) a (back (instance_same M.signature r s h t)) e.proves;
     equational = omega (arith, e.equational);
     normal = e.normal;
   }
 
-  fails_same : (C : List Fragment) (r s : Substitution) → SameSolution M.signature r s → IsSubstitution M.signature r → FailsAbove M (judgements M n) C r → FailsAbove M (judgements M n) C s
+  fails_same : (C : List Fragment) (r s : Substitution) → SameSolution M.signature r s → IsSubstitution M.signature r → FailsAbove M (judgements_with M Step n) C r → FailsAbove M (judgements_with M Step n) C s
   fails_same [] r s h k f = f
   fails_same (equal u v ∷ C) r s h k (p, q, a, b, x, y, f) =
       (transitivity equality p, transitivity equality q, a, b, evaluates_same r s h u p a x, evaluates_same r s h v q b y, ⊎_elim inl (λ g. inr (fails_same C r s h k g)) f)
@@ -150,8 +154,8 @@ module _ (M : Module) (n : ℕ) where
   )
 
   -- what holds so from r holds from s, and reaches a same substitution
-  holds_same : (C : List Fragment) (r s : Substitution) (es : Proofs) (q : Substitution) → SameSolution M.signature r s → IsSubstitution M.signature s → HoldsAbove M (judgements M n) C r es q →
-      (es' : Proofs) × (q' : Substitution) × HoldsAbove M (judgements M n) C s es' q' × SameSolution M.signature q q'
+  holds_same : (C : List Fragment) (r s : Substitution) (es : Proofs) (q : Substitution) → SameSolution M.signature r s → IsSubstitution M.signature s → HoldsAbove M (judgements_with M Step n) C r es q →
+      (es' : Proofs) × (q' : Substitution) × HoldsAbove M (judgements_with M Step n) C s es' q' × SameSolution M.signature q q'
   holds_same [] r s es q h k (e, d) = (proof.nil, s, (refl, refl), subst (λ q. SameSolution M.signature q s) d h)
   holds_same (equal u v ∷ C) r s es q h k (p, p', rest, a, b, e, x, y, m, f) =
       let (es', q', g, j) = holds_same C r s rest q h k f in (
@@ -174,15 +178,15 @@ module _ (M : Module) (n : ℕ) where
       (proof.cons (transitivity equality p) es', q', (transitivity equality p, es', a, merged s r', refl, evaluates_same r s h t p a x, m, g), j)
 
 -- a condition that fails for a substitution fails for each same one, at each rank
-pub Fails-same : (M : Module) (n : ℕ) (C : List Fragment) (r s : Substitution) → SameSolution M.signature r s → IsSubstitution M.signature r → Fails M n C r → Fails M n C s
+pub Fails-same : (M : Module) (Step : StepTest) (n : ℕ) (C : List Fragment) (r s : Substitution) → SameSolution M.signature r s → IsSubstitution M.signature r → (judgements_with M Step n).Fails C r → (judgements_with M Step n).Fails C s
 unfolding judgements_with
-Fails-same M zero C r s h k f = f
-Fails-same M (suc n) C r s h k f = fails_same M n C r s h k f
+Fails-same M Step zero C r s h k f = f
+Fails-same M Step (suc n) C r s h k f = fails_same M Step n C r s h k f
 
 -- and one that holds for a substitution holds for each same one, and reaches a same one
-pub Held-same : (M : Module) (n : ℕ) (C : List Fragment) (r s : Substitution) (es : Proofs) (q : Substitution) → SameSolution M.signature r s → IsSubstitution M.signature s → Held M n C r es q →
-    (es' : Proofs) × (q' : Substitution) × Held M n C s es' q' × SameSolution M.signature q q'
+pub Held-same : (M : Module) (Step : StepTest) (n : ℕ) (C : List Fragment) (r s : Substitution) (es : Proofs) (q : Substitution) → SameSolution M.signature r s → IsSubstitution M.signature s → (judgements_with M Step n).Held C r es q →
+    (es' : Proofs) × (q' : Substitution) × (judgements_with M Step n).Held C s es' q' × SameSolution M.signature q q'
 unfolding judgements_with
-Held-same M zero [] r s es q h k (e, d) = (proof.nil, s, (refl, refl), subst (λ q. SameSolution M.signature q s) d h)
-Held-same M zero (f ∷ C) r s es q h k x = absurd x
-Held-same M (suc n) C r s es q h k f = holds_same M n C r s es q h k f
+Held-same M Step zero [] r s es q h k (e, d) = (proof.nil, s, (refl, refl), subst (λ q. SameSolution M.signature q s) d h)
+Held-same M Step zero (f ∷ C) r s es q h k x = absurd x
+Held-same M Step (suc n) C r s es q h k f = holds_same M Step n C r s es q h k f
