@@ -1,21 +1,12 @@
 -- Equations that are asked one after another.
-use Rattle.std.specs.Prelude.{◌≡◌, ◌<◌, ◌≤◌, ◌+◌, ◌-◌, ◌⊎◌, ℕ, zero, suc, List, [], ◌∷◌, ◌++◌, length, Bool, true, false, if◌then◌else◌, Option, Some, None, MatchOption, IfSome, is_some, slice_get, IsTrue, ⊤, refl}
+use Rattle.std.specs.Prelude.{◌≡◌, ◌<◌, ◌≤◌, ◌+◌, ◌-◌, ◌⊎◌, ℕ, zero, suc, List, [], ◌∷◌, ◌++◌, length, Bool, true, false, if◌then◌else◌, Option, Some, None, MatchOption, IfSome, is_some, slice_get, ⊤, refl}
 use Rattle.std.proofs.Common.{Box, Global, sym, ap, subst, ◌∙◌, arith, inl, inr, ⊎_elim}
-use Rattle.std.proofs.lemmas.Bool.{both_ways, or_left, or_right}
-use Rattle.std.proofs.lemmas.List.{length-map}
+use Rattle.std.proofs.lemmas.Bool.{both_ways}
 use Rattle.std.proofs.lemmas.Option.{same_Some, slice_get_within}
 use Rattle.mw_logic.specs.Signature.{Member}
-use Rattle.mw_logic.specs.Term.{Variable, RawTerm, numeral, quoted, variable, apply, RawTerms, nil, cons}
+use Rattle.mw_logic.specs.Term.{RawTerm, RawTerms}
 use Rattle.mw_logic.specs.Module.{Module, Statement, IsStatement}
-use Rattle.mw_logic.specs.NormalForm.{normal_form}
-use Rattle.mw_logic.specs.Substitution.{occurs, occurs_in}
-use Rattle.mw_logic.proofs.SameConditions.{same_variable-refl}
-use Rattle.mw_least.specs.Workable.{IsWorkable}
-use Rattle.mw_position.specs.Positions.{IsWithin, AreWithin}
-use Rattle.mw_position.specs.Variables.{is_in, placed, all_placed}
-use Rattle.mw_position.proofs.Meeting.{place-within}
 use Rattle.mw_match.proofs.Picking.{at_index, member_at}
-use Rattle.mw_pattern.specs.Clean.{clean}
 use Rattle.mw_solving.specs.Values.{IsValue}
 use Rattle.mw_index.specs.Equations.{IsLeft, IsSearchedLeft}
 use Rattle.mw_index.specs.Index.{operator_of, asked, own_asked, others_asked, IsNextOf, IsOf, IsIndexOf}
@@ -27,7 +18,6 @@ use Rattle.mw_index.specs.declared.equations.Left.TheVariants as left
 use Rattle.mw_index.specs.declared.index.Index.{Index}
 use Rattle.mw_index.specs.declared.choices.Choice.{Choice}
 use Rattle.mw_index.specs.declared.choices.Choices.{Choices}
-use Rattle.mw_index.proofs.Sides.{right_among}
 use Rattle.mw_index.proofs.Trying.{are_tried_more}
 
 module _ (M : Module) (top : Option ℕ) (st : Equation) (of : IsOf M top st) where
@@ -48,33 +38,9 @@ module _ (M : Module) (top : Option ℕ) (st : Equation) (of : IsOf M top st) wh
       by_top None h = record { of = of; here = here; left = subst (IsSearchedLeft M.signature of.statement) (sym i) h }
       by_top (Some f) h = record { of = of; here = here; left = subst (IsSearchedLeft M.signature of.statement) (sym i) h }
 
--- variables that are all there have positions
-mutual
-  within : (xs : List Variable) (t : RawTerm) → ((x : Variable) → IsTrue (occurs x t) → IsTrue (is_in x xs)) → IsWithin (length xs) (placed xs t)
-  within xs (numeral n) h = tt
-  within xs (quoted q) h = tt
-  within xs (variable x) h = place-within x xs (h x (same_variable-refl x))
-  within xs (apply f ts) h = all_within xs ts h
-
-  all_within : (xs : List Variable) (ts : RawTerms) → ((x : Variable) → IsTrue (occurs_in x ts) → IsTrue (is_in x xs)) → AreWithin (length xs) (all_placed xs ts)
-  all_within xs nil h = tt
-  all_within xs (cons t ts) h = (within xs t (λ x o. h x (or_left (occurs x t) (occurs_in x ts) o)), all_within xs ts (λ x o. h x (or_right (occurs x t) (occurs_in x ts) o)))
-
--- the right side has no others
-pub right_within : (M : Module) → IsWorkable M → (top : Option ℕ) (st : Equation) → IsOf M top st → IsWithin (length st.sorts) (clean st.right)
-right_within M ok top st of =
-    let e : Statement = of.statement in
-    let size : length st.sorts ≡ length e.variables = ap length of.is.sorts ∙ length-map e.variables (λ (x : Variable). x.sort) in
-    let h : IsWithin (length e.variables) (placed e.variables (normal_form M.signature e.right)) = within e.variables (normal_form M.signature e.right) (right_among M ok st.number e of.is_there) in
-    subst (IsWithin (length st.sorts)) (sym of.is.right) (subst (λ n. IsWithin n (placed e.variables (normal_form M.signature e.right))) (sym size) h)
-
-pub sized_within : (st : Equation) (o : Option Choice) → IsWithin (length st.sorts) (clean st.right) → IsSized st o
-    → IfSome o (λ q. (length q.values.items ≡ length q.equation.now.sorts) × IsWithin (length q.values.items) (clean q.equation.now.right))
-sized_within st None w h = tt
-sized_within st (Some q) w (e, n) = (
-  n ∙ ap (λ (st : Equation). length st.sorts) (sym e),
-  subst (λ n. IsWithin n (clean q.equation.now.right)) (sym n) (subst (λ (s : Equation). IsWithin (length st.sorts) (clean s.right)) (sym e) w),
-)
+pub sized_choice : (st : Equation) (o : Option Choice) → IsSized st o → IfSome o (λ q. length q.values.items ≡ length q.equation.now.sorts)
+sized_choice st None h = tt
+sized_choice st (Some q) (e, n) = n ∙ ap (λ (st : Equation). length st.sorts) (sym e)
 
 -- members of two lists, one behind the other
 member_front : (x : Equation) (xs ys : List Equation) → Member x xs → Member x (xs ++ ys)

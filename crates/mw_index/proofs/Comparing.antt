@@ -36,7 +36,7 @@ use Rattle.mw_index.specs.Index.{operator_of}
 use Rattle.mw_index.specs.declared.equations.Equation.{Equation}
 use Rattle.mw_index.proofs.PlainTerms.{plain_applied, values_each}
 use Rattle.mw_index.proofs.InOrder.{all_are_met}
-use Rattle.mw_index.proofs.Sides.{variables_are, left_raw, left_among}
+use Rattle.mw_index.proofs.Sides.{left_raw, left_among}
 use Rattle.mw_index.proofs.Staying.{free_theory, none_valued, form_equal, form_raw, form_solution, form_values, form_matches}
 
 module _ (sig : Signature) (sorts : List ℕ) (ps ts : RawTerms) (old found : List RawTerm) (none : old ≡ []) (count : counted_all 0 ps ≡ length sorts) where
@@ -114,16 +114,18 @@ module _ (M : Module) (ok : IsWorkable M) (top : Option ℕ) (st : Equation) (ps
   abbrev form : RawTerm
   form = normal_form sig e.left
 
-  -- the variables are met in their order
-  pub in_order : e.variables ≡ met [] form
-  in_order =
-      let numbered : IsNumbered 0 (placed e.variables form) = subst (IsNumbered 0) one.left.pattern one.left.numbered in
-      let count : counted 0 (placed e.variables form) ≡ length e.variables =
-      ap (counted 0) (sym one.left.pattern) ∙ one.left.count ∙ ap (λ (xs : List Variable). length xs) (sym (variables_are M ok st.number e there)) in
-      all_are_met e.variables form (left_among M ok st.number e there) numbered count
+  abbrev lefts : List Variable
+  lefts = met [] e.left
 
-  pub sized : length st.sorts ≡ length e.variables
-  sized = ap length one.of.is.sorts ∙ length-map e.variables (λ (x : Variable). x.sort)
+  -- the variables are met in their order
+  pub in_order : lefts ≡ met [] form
+  in_order =
+      let numbered : IsNumbered 0 (placed lefts form) = subst (IsNumbered 0) one.left.pattern one.left.numbered in
+      let count : counted 0 (placed lefts form) ≡ length lefts = ap (counted 0) (sym one.left.pattern) ∙ one.left.count in
+      all_are_met lefts form (left_among M ok st.number e there) numbered count
+
+  pub sized : length st.sorts ≡ length lefts
+  sized = ap length one.of.is.sorts ∙ length-map lefts (λ (x : Variable). x.sort)
 
   pattern_is : placed (met [] form) form ≡ apply one.operator ps
   pattern_is = ap (λ xs. placed xs form) (sym in_order) ∙ sym one.left.pattern
@@ -135,7 +137,7 @@ module _ (M : Module) (ok : IsWorkable M) (top : Option ℕ) (st : Equation) (ps
   are_straight = one.left.straight
 
   pub count_sorts : counted_all 0 ps ≡ length st.sorts
-  count_sorts = one.left.count ∙ ap (λ (xs : List Variable). length xs) (sym (variables_are M ok st.number e there)) ∙ sym sized
+  count_sorts = one.left.count ∙ sym sized
 
   module _ (t : RawTerm) (v : IsValue sig t) (is : operator_of t ≡ top) where
     abbrev ts : RawTerms

@@ -11,6 +11,12 @@ pub mod InOrder
 pub mod Putting
 -- The index of a module, statement by statement.
 pub mod Indexing
+-- The variables of fragments, and those that fragments bind.
+pub mod Fragments
+-- Lists of the same variables.
+pub mod SameMembers
+-- Variables one by one, and their places.
+pub mod OneByOne
 -- The sides of a statement and their variables.
 pub mod Sides
 -- Values in another order.
@@ -27,3 +33,9 @@ pub mod TopParts
 pub mod Seeking
 -- Equations that are asked one after another.
 pub mod Asking
+-- The variables that the tests of a condition bind.
+pub mod Bound
+-- Fragments that become tests.
+pub mod Turns
+-- What tests tell of fragments.
+pub mod ByTest

@@ -1,5 +1,5 @@
 -- What a search for a left side gives: choices, and all of them in the end.
-use Rattle.std.specs.Prelude.{◌≡◌, ◌≢◌, ◌⊎◌, ℕ, List, [], ◌∷◌, ◌++◌, length, map, true, Option, Some, None, MatchOption, refl}
+use Rattle.std.specs.Prelude.{◌≡◌, ◌≢◌, ◌⊎◌, ℕ, List, [], ◌∷◌, ◌++◌, length, true, Option, Some, None, MatchOption, refl}
 use Rattle.std.specs.List.{zip}
 use Rattle.std.proofs.Common.{sym, ap, subst, ◌∙◌, inl, inr, ⊎_elim}
 use Rattle.std.proofs.lemmas.List.{length-map}
@@ -12,7 +12,7 @@ use Rattle.mw_logic.specs.Substitution.{Substitution, is_bound, IsSubstitution, 
 use Rattle.mw_logic.proofs.SameSolutions.{same_solution-trans}
 use Rattle.mw_canon.specs.Canonical.{meant}
 use Rattle.mw_least.specs.Workable.{IsWorkable}
-use Rattle.mw_position.specs.Variables.{is_in, place, bound_variables, bound_values}
+use Rattle.mw_position.specs.Variables.{is_in, met, bound_variables, bound_values}
 use Rattle.mw_position.proofs.Placing.{values_of}
 use Rattle.mw_position.proofs.Placing.{is_bound_in, same_length}
 use Rattle.mw_match.specs.Solutions.{Coming, FitsSorts, Lacks, PassesTo}
@@ -30,7 +30,7 @@ use Rattle.mw_index.specs.declared.choices.Choice.{Choice}
 use Rattle.mw_index.specs.declared.choices.Choices.{Choices}
 use Rattle.mw_index.proofs.Orders.{order_values}
 use Rattle.mw_index.proofs.Rearranging.{zip_parts, rearranged_values, rearranged_same, rearranged_solution}
-use Rattle.mw_index.proofs.Sides.{variables_are, variables_distinct, in_variables, compiled_distinct, compiled_in, compiled_has}
+use Rattle.mw_index.proofs.Sides.{lefts_distinct, in_lefts, compiled_distinct, compiled_in, compiled_has}
 use Rattle.mw_index.proofs.TopParts.{top_solution}
 use Rattle.mw_index.proofs.Trying.{one_statement, tried_more}
 
@@ -63,29 +63,31 @@ module _ (M : Module) (ok : IsWorkable M) (top : Option ℕ) (st : Equation) (s 
   abbrev xs : List Variable
   xs = s.compiled.variables
 
-  pub sorts_size : length st.sorts ≡ length e.variables
-  sorts_size = ap length one.of.is.sorts ∙ length-map e.variables (λ (x : Variable). x.sort)
+  abbrev lefts : List Variable
+  lefts = met [] e.left
 
-  -- a solution has the statement's variables
+  pub sorts_size : length st.sorts ≡ length lefts
+  sorts_size = ap length one.of.is.sorts ∙ length-map lefts (λ (x : Variable). x.sort)
+
+  -- a solution has the left side's variables
   module _ (r : Substitution) (named : bound_variables r ≡ xs) (values : AreValues sig (bound_values r)) where
-    bound : (x : Variable) → is_bound r x ≡ is_in x e.variables
-    bound x = is_bound_in r x ∙ ap (is_in x) named ∙ compiled_in M ok st.number e there s.compiled one.left.compiled x ∙ sym (in_variables M ok st.number e there x)
+    bound : (x : Variable) → is_bound r x ≡ is_in x lefts
+    bound x = is_bound_in r x ∙ ap (is_in x) named ∙ compiled_in M ok st.number e there s.compiled one.left.compiled x ∙ sym (in_lefts e x)
 
     -- and its values in their order are these
-    pub ordered : in_order (bound_values r) s.order ≡ values_of r e.variables
+    pub ordered : in_order (bound_values r) s.order ≡ values_of r lefts
     ordered =
         let distinct = compiled_distinct M ok st.number e there s.compiled one.left.compiled in
         let size : length (bound_values r) ≡ length xs = same_length r ∙ ap (λ (xs : List Variable). length xs) named in
         let zipped : zip xs (bound_values r) ≡ r = ap (λ xs. zip xs (bound_values r)) (sym named) ∙ zip_parts r in
-        let order : s.order ≡ map (λ x. place x xs) e.variables = one.left.order ∙ ap (map (λ x. place x xs)) (sym (variables_are M ok st.number e there)) in
-        ap (in_order (bound_values r)) order ∙ order_values xs (bound_values r) distinct size e.variables (compiled_has M ok st.number e there s.compiled one.left.compiled) ∙ ap (λ r. values_of r e.variables) zipped
+        ap (in_order (bound_values r)) one.left.order ∙ order_values xs (bound_values r) distinct size lefts (compiled_has M ok st.number e there s.compiled one.left.compiled) ∙ ap (λ r. values_of r lefts) zipped
 
     pub ordered_size : length (in_order (bound_values r) s.order) ≡ length st.sorts
-    ordered_size = ap length ordered ∙ length-map e.variables _ ∙ sym sorts_size
+    ordered_size = ap length ordered ∙ length-map lefts _ ∙ sym sorts_size
 
     module _ (t : RawTerm) (v : IsValue sig t) (is : operator_of t ≡ top) (take : Option (List ℕ)) (sol : IsSolutionOf sig true e.left t [] take (meant sig r)) (q : Choice)
         (equation : q.equation.now ≡ st) (items : q.values.items ≡ in_order (bound_values r) s.order) (taken : q.take ≡ take) where
-      values_are : q.values.items ≡ values_of r e.variables
+      values_are : q.values.items ≡ values_of r lefts
       values_are = items ∙ ordered
 
       pub found_choice : IsChoice M t q
@@ -98,16 +100,16 @@ module _ (M : Module) (ok : IsWorkable M) (top : Option ℕ) (st : Equation) (s 
             is = subst (IsEquation sig (operator_of t) e) (sym equation) (subst (λ top. IsEquation sig top e st) (sym is) one.of.is);
             part = w;
             taken = subst (λ o. IsTaken sig o t w) (sym taken) part;
-            values = subst (AreValues sig) (sym values_are) (rearranged_values sig accepted r values e.variables bound);
+            values = subst (AreValues sig) (sym values_are) (rearranged_values sig accepted r values lefts bound);
             solution = subst (λ us. IsSolution sig e.left (nested sig w) [] (solution_of sig e us)) (sym values_are)
-                (rearranged_solution sig accepted r values e.variables bound here.substitution e.left (nested sig w) (variables_distinct M ok st.number e there) here);
+                (rearranged_solution sig accepted r values lefts bound here.substitution e.left (nested sig w) (lefts_distinct e) here);
           }
 
       -- it is tried with the choice
       pub found_tried : (tried : List Tried) (z : Substitution) → SameSolution sig z (meant sig r) → IsTried sig (tried ++ tried_of q ∷ []) st.number e z
       found_tried tried z same =
           let again : SameSolution sig (meant sig r) (solution_of sig e q.values.items) =
-          subst (λ us. SameSolution sig (meant sig r) (solution_of sig e us)) (sym values_are) (rearranged_same sig accepted r values e.variables bound (solved_substitution sig e.left t take (meant sig r) sol)) in
+          subst (λ us. SameSolution sig (meant sig r) (solution_of sig e us)) (sym values_are) (rearranged_same sig accepted r values lefts bound (solved_substitution sig e.left t take (meant sig r) sol)) in
           (tried_of q, member-last (tried_of q) tried, ap (λ (st : Equation). st.number) equation, same_solution-trans sig z (meant sig r) (solution_of sig e q.values.items) same again)
 
   module _ (t : RawTerm) (v : IsValue sig t) (is : operator_of t ≡ top) (tried : List Tried) (old : Coming) (h : AreComing sig t tried st.number e xs old) where

@@ -7,6 +7,7 @@ use Rattle.mw_logic.specs.Signature.{Signature, Member}
 use Rattle.mw_logic.specs.Substitution.{Substitution, IsSolution, SameSolution}
 use Rattle.mw_logic.specs.Module.{Module, Statement, IsStatement}
 use Rattle.mw_logic.specs.Parts.{nested}
+use Rattle.mw_position.specs.Variables.{met}
 use Rattle.mw_canon.specs.Canonical.{meant}
 use Rattle.mw_matching.specs.Matches.{evaluated_all}
 use Rattle.mw_search.specs.Lacking.{HaveTheirSorts, OneLacksItsSort}
@@ -32,7 +33,7 @@ abbrev pub subject_of : Subject → RawTerm
 subject_of (subject.Op f ts) = apply f (terms_of ts.now)
 subject_of (subject.Term t) = t.now
 
--- an equation's number, with values of its variables in their order
+-- an equation's number, with values of its left side's variables in their order
 pub record Tried : Type 0 where
   pub number : ℕ
   pub values : List RawTerm
@@ -40,9 +41,9 @@ pub record Tried : Type 0 where
 abbrev pub tried_of : Choice → Tried
 tried_of c = record { number = c.equation.now.number; values = c.values.items }
 
--- the solution that values of a statement's variables are
+-- the solution of a statement's left side that values of its variables are
 abbrev pub solution_of : Signature → Statement → List RawTerm → Substitution
-solution_of sig e vs = meant sig (zip e.variables vs)
+solution_of sig e vs = meant sig (zip (met [] e.left) vs)
 
 -- s is among those that were tried of the equation e, which has number k
 abbrev pub IsTried : Signature → List Tried → ℕ → Statement → Substitution → Type 0
@@ -136,7 +137,7 @@ pub record IsSearchedOne (M : Module) (top : Option ℕ) (st : Equation) (s : Se
   pub here : IsSearch st.left s
   pub left : IsSearchedLeft M.signature of.statement s
 
--- a choice is of this equation, with as many values as it has variables
+-- a choice is of this equation, with as many values as its left side has variables
 abbrev pub IsSized : Equation → Option Choice → Type 0
 IsSized st o = MatchOption o ⊤ (λ q. (q.equation.now ≡ st) × (length q.values.items ≡ length st.sorts))
 

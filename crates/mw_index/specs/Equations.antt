@@ -12,15 +12,16 @@ use Rattle.mw_canon.specs.Axioms.{HasAxioms}
 use Rattle.mw_canon.specs.declared.axioms.Axioms.TheVariants as axioms
 use Rattle.mw_match.specs.Straight.{AreStraight}
 use Rattle.mw_index.specs.Free.{IsFree, AreFree}
+use Rattle.mw_index.specs.Conditions.{IsConditionOf}
 use Rattle.mw_index.specs.declared.equations.Equation.{Equation}
 use Rattle.mw_index.specs.declared.equations.Searched.{Searched}
 use Rattle.mw_index.specs.declared.equations.Left.{Left}
 use Rattle.mw_index.specs.declared.equations.Left.TheVariants as left
 
 -- The canonical left side is f on these patterns. f has no axiom, nor has another operator but the successor of numbers. The variables, which
--- stand by their positions among the statement's, are met in that order.
+-- stand by their positions among the left side's, are met in that order.
 pub record IsPlainLeft (sig : Signature) (f : ℕ) (e : Statement) (ps : RawTerms) : Type 0 where
-  pub pattern : apply f ps ≡ placed e.variables (normal_form sig e.left)
+  pub pattern : apply f ps ≡ placed (met [] e.left) (normal_form sig e.left)
   pub plain : HasAxioms sig f axioms.Plain
   pub straight : AreStraight sig ps
   pub numbered : AreNumbered 0 ps
@@ -50,4 +51,5 @@ pub record IsEquation (sig : Signature) (top : Option ℕ) (e : Statement) (st :
   pub sure : IsTrue st.sure → HasFreeLeft sig st.left
   -- its variables stay
   pub levels : st.levels ≡ min (height (fill [] (clean st.right))) (2 ^ 16 - 1)
-  pub sorts : st.sorts ≡ sorts_of e.variables
+  pub sorts : st.sorts ≡ sorts_of (met [] e.left)
+  pub condition : IsConditionOf sig e st.condition

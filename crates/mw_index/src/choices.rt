@@ -4,9 +4,8 @@ ghost use Rattle.mw_logic.specs.Module.{Module, Statement as StatementOf};
 ghost use Rattle.mw_logic.specs.Signature.{IsRawTerm};
 ghost use Rattle.mw_logic.specs.Term.{RawTerm};
 ghost use Rattle.mw_logic.specs.Terms.{terms_of};
-ghost use Rattle.mw_position.specs.Positions.{IsWithin, AreNumbered, counted_all};
+ghost use Rattle.mw_position.specs.Positions.{AreNumbered, counted_all};
 ghost use Rattle.mw_position.specs.Variables.{bound_values, sorts_of};
-ghost use Rattle.mw_pattern.specs.Clean.{clean};
 ghost use Rattle.mw_match.specs.Straight.{AreStraight};
 ghost use Rattle.mw_solving.specs.Values.{IsValue};
 ghost use Rattle.mw_term.specs.declared.subst.Binding.{Binding as BindingOf};
@@ -25,8 +24,8 @@ use mw_term::{Seq, Subst, Term, copy};
 use std::alloc::{AllocError, Global};
 use std::mem::replace;
 
-/// An equation with values of its variables, in their order, that make its left side a term, or several of its
-/// arguments by their numbers.
+/// An equation with values of its left side's variables, in their order, that make the left side a term, or several of
+/// its arguments by their numbers.
 #[derive(Drop)]
 pub struct Choice<'m> {
     pub equation: &'m Equation,
@@ -302,8 +301,7 @@ impl<'m> Choices<'m> {
         subject: Subject<'_>,
     ) -> Result<Option<Choice<'m>>, AllocError>
         requires { IsIndexOf context.now index.now }
-        ensures values { IfOk result (λ o. IfSome o (λ c. (length c.values.items ≡ length c.equation.now.sorts)
-            × IsWithin (length c.values.items) (clean c.equation.now.right))) }
+        ensures values { IfOk result (λ o. IfSome o (λ c. length c.values.items ≡ length c.equation.now.sorts)) }
         ensures is { let M = context.now in let t = subject_of subject.entry in
             (tried : List Tried) → IsValue M.signature t
             → Covers M index.now t tried self.old

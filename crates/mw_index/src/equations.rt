@@ -1,4 +1,5 @@
 // Equations as they are indexed.
+use crate::conditions::Condition;
 use mw_compile::Compiled;
 use mw_pattern::{Pattern, Patterns};
 use mw_term::{Seq, SortId};
@@ -34,6 +35,7 @@ pub struct Equation {
     pub free: bool,
     /// How many levels the right side has with its variables in place, or 65,535 where it has more.
     pub levels: u16,
-    /// The sorts of the statement's variables, in their order.
+    /// The sorts of the left side's variables, in their order.
     pub sorts: Seq<SortId>,
+    pub condition: Condition,
 }

@@ -1,16 +1,16 @@
 // Equations from statements.
-ghost use Rattle.std.specs.Prelude.{◌≡◌, ℕ, Option, Some, length, map, IfOk, IsTrue};
-ghost use Rattle.mw_logic.specs.Term.{Variable};
+ghost use Rattle.std.specs.Prelude.{◌≡◌, ℕ, [], Option, Some, length, map, IfOk, IsTrue};
 ghost use Rattle.mw_logic.specs.Module.{IsStatement};
 ghost use Rattle.mw_logic.specs.NormalForm.{normal_form};
-ghost use Rattle.mw_position.specs.Variables.{is_in, place, AreDistinct};
-ghost use Rattle.mw_compile.specs.Compiled.{AreAmong};
+ghost use Rattle.mw_position.specs.Variables.{met, place, AreDistinct};
 ghost use Rattle.mw_index.specs.Equations.{IsLeft, IsSearchedLeft, HasFreeLeft, IsEquation};
 ghost use Rattle.mw_index.specs.Sections.{AreIn, Asks, IsSectionOf};
 
+use crate::conditions::condition_of;
 use crate::equations::{Equation, Left, Searched};
 use crate::index::Section;
 use crate::normal::normal;
+use crate::order::{left_places, order_of};
 use crate::patterns::{are_free, is_free, pattern_of, plain_arguments};
 use mw_canon::Facts;
 use mw_compile::compile;
@@ -19,32 +19,18 @@ use mw_pattern::{Places, depth_at};
 use mw_term::{Seq, Statement, Subst, Term, VarId};
 use std::alloc::{AllocError, Global};
 
-/// Of each variable of a list its place in another.
-fn order_of(
-    alloc: Global,
-    places: &Places<'_>,
-    variables: &[VarId],
-) -> Result<Seq<usize>, AllocError>
-    requires { AreIn variables.now places.now }
-    ensures { IfOk result (λ ns. ns ≡ map (λ x. place x places.now) variables.now) }
-{
-    let mut order = Vec::with_capacity(alloc, variables.len())?;
-    for x in variables {
-        order.push(places.at(x))?;
-    }
-    Ok(Seq::of(order))
-}
-
-/// A left side as a search takes it.
+/// A left side, with these variables, as a search takes it.
 fn searched(
     alloc: Global,
     context: &Ctx,
+    places: &Places<'_>,
     number: usize,
     statement: &Statement,
     left: &Term,
 ) -> Result<Searched, AllocError>
     requires statement { IsStatement context.now number statement.now }
     requires left { left.now ≡ normal_form context.now.signature statement.now.left }
+    requires places { places.now ≡ met [] statement.now.left }
     ensures { IfOk result (IsSearchedLeft context.now.signature statement.now) }
 {
     context.shows();
@@ -52,15 +38,15 @@ fn searched(
         pairs: Seq::of(Vec::new(alloc)),
     };
     let compiled = compile(alloc, context, left, &given)?;
-    let order = order_among(
-        alloc,
-        compiled.variables.as_slice(),
-        statement.variables.as_slice(),
-    )?;
+    let order = order_among(alloc, compiled.variables.as_slice(), places)?;
     Ok(Searched { compiled, order })
 }
 
-fn order_among(alloc: Global, all: &[VarId], variables: &[VarId]) -> Result<Seq<usize>, AllocError>
+fn order_among(
+    alloc: Global,
+    all: &[VarId],
+    variables: &Places<'_>,
+) -> Result<Seq<usize>, AllocError>
     requires distinct { AreDistinct all.now }
     requires within { AreIn variables.now all.now }
     ensures { IfOk result (λ ns. ns ≡ map (λ x. place x all.now) variables.now) }
@@ -70,7 +56,7 @@ fn order_among(alloc: Global, all: &[VarId], variables: &[VarId]) -> Result<Seq<
     Ok(order)
 }
 
-/// The left side of an equation that is listed in a section.
+/// The left side, with these variables, of an equation that is listed in a section.
 fn left_of(
     alloc: Global,
     context: &Ctx,
@@ -83,7 +69,7 @@ fn left_of(
     requires statement { IsStatement context.now number statement.now }
     requires left { left.now ≡ normal_form context.now.signature statement.now.left }
     requires section { IsSectionOf context.now.signature left.now section }
-    requires places { places.now ≡ statement.now.variables }
+    requires places { places.now ≡ met [] statement.now.left }
     ensures { let sig = context.now.signature in
         IfOk result (λ l. (top : Option ℕ) → Asks section top → IsLeft sig top statement.now l) }
 {
@@ -93,7 +79,7 @@ fn left_of(
             return Ok(Left::Plain(args));
         }
     }
-    let searched = searched(alloc, context, number, statement, left)?;
+    let searched = searched(alloc, context, places, number, statement, left)?;
     Ok(Left::Searched(Box::new(alloc, searched)?))
 }
 
@@ -129,9 +115,11 @@ pub fn equation_of(
     let right = pattern_of(alloc, &places, &right)?;
     let free = is_free(context.facts(), &right, false);
     let levels = depth_at(&right, &[]);
-    let left = left_of(alloc, context, &places, section, number, statement, left)?;
+    let lefts = left_places(alloc, statement)?;
+    let left = left_of(alloc, context, &lefts, section, number, statement, left)?;
     let sure = is_sure(context.facts(), &left);
-    let sorts = places.sorts(alloc)?;
+    let sorts = lefts.sorts(alloc)?;
+    let condition = condition_of(alloc, context, number, statement, &places)?;
     Ok(Equation {
         number,
         left,
@@ -140,5 +128,6 @@ pub fn equation_of(
         free,
         levels,
         sorts,
+        condition,
     })
 }

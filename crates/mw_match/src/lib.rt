@@ -18,7 +18,7 @@
 //! - `new`, of a pattern that was compiled from the canonical form of a raw term p: each candidate that fits is a
 //!   solution of p, one of which a value lacks its sort is none, each solution of p is a candidate that fits modulo
 //!   the axioms, and no two candidates are the same solution (`IsAllSolutions`: `sound`, `lacking`, `complete`,
-//!   `once`).
+//!   `once`). All candidates have the compiled pattern's variables, with canonical values (`AreNamed`).
 //! - `inside`, of such a pattern: the same for the subject and for its proper parts on top (`IsProperPart` of
 //!   mw_solving). These are two or more arguments of its associative operator and not all of them: neighbours, or where
 //!   the operator is commutative too each part of the multiset of arguments once, and of equal arguments those with

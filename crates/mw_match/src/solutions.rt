@@ -123,9 +123,12 @@ impl<'c> Solutions<'c> {
         requires subject { IsValue context.now.signature subject.now }
         requires given { IsSubstitution context.now.signature (meant context.now.signature given.now) }
         requires values { AreValues context.now.signature (bound_values given.now) }
-        ensures { let sig = context.now.signature in
+        ensures all { let sig = context.now.signature in
             (p : RawTerm) → IsRawTerm sig p → IsCompiled sig (normal_form sig p) (bound_variables given.now) compiled.now
             → IfOk result (IsAllSolutions sig false p subject.now (meant sig given.now)) }
+        ensures named { let sig = context.now.signature in
+            (p : RawTerm) → IsRawTerm sig p → IsCompiled sig (normal_form sig p) (bound_variables given.now) compiled.now
+            → IfOk result (AreNamed sig compiled.now.variables) }
     {
         context.shows();
         let values = values_of(alloc, given)?;

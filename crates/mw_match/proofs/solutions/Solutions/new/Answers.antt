@@ -2,14 +2,14 @@ use Rattle.std.proofs.Common.{◌≡◌, false, None, ◌∙◌, ap, subst, sym,
 use Rattle.mw_canon.specs.Canonical.{meant}
 use Rattle.mw_logic.specs.Signature.{Signature}
 use Rattle.mw_position.specs.Variables.{bound_values}
-use Rattle.mw_match.specs.Solutions.{IsAllSolutions}
+use Rattle.mw_match.specs.Solutions.{AreNamed, IsAllSolutions}
 use Rattle.mw_match.specs.Hands.{IsNoneByNumber, first_of}
 use Rattle.mw_match.specs.declared.parts.Parts.{Parts}
-use Rattle.mw_match.proofs.Candidates.{compiled_solutions, compiled_none}
+use Rattle.mw_match.proofs.Candidates.{compiled_solutions, compiled_none, compiled_named}
 use Rattle.mw_match.proofs.solutions.Solutions.new.Goals as goal
 
-pub returns : goal.returns
-returns c p raw h =
+pub returns-clause-all : goal.returns-clause-all
+returns-clause-all c p raw h =
     let k = c.shows.ensures.signature in
     let sig : Signature = c.args.context.now.signature in
     let parts : Parts = record { alloc = c.args.alloc; context = c.args.context; compiled = c.args.compiled; subject = c.in_ok-subject.subject; rest = None } in
@@ -18,3 +18,14 @@ returns c p raw h =
     compiled_none parts k.accepted k.well_sorted false p raw c.args.subject.now c.args.given.now h c.requires.given c.requires.values c.requires.subject c.in_ok-subject.ensures refl in
     subst (IsAllSolutions sig false p c.args.subject.now (meant sig c.args.given.now)) (sym (c.in_ok-solutions.ensures (subst (IsNoneByNumber parts) (sym given) none) ∙ ap (first_of parts) given))
     (compiled_solutions parts k.accepted k.well_sorted false p raw c.args.subject.now c.args.given.now h c.requires.given c.requires.values c.requires.subject c.in_ok-subject.ensures refl)
+
+pub returns-clause-named : goal.returns-clause-named
+returns-clause-named c p raw h =
+    let k = c.shows.ensures.signature in
+    let sig : Signature = c.args.context.now.signature in
+    let parts : Parts = record { alloc = c.args.alloc; context = c.args.context; compiled = c.args.compiled; subject = c.in_ok-subject.subject; rest = None } in
+    let given : c.as_slice.result.now ≡ bound_values c.args.given.now = c.as_slice.ensures.value ∙ c.in_ok-values.ensures in
+    let none : IsNoneByNumber parts (bound_values c.args.given.now) =
+    compiled_none parts k.accepted k.well_sorted false p raw c.args.subject.now c.args.given.now h c.requires.given c.requires.values c.requires.subject c.in_ok-subject.ensures refl in
+    subst (AreNamed sig c.args.compiled.now.variables) (sym (c.in_ok-solutions.ensures (subst (IsNoneByNumber parts) (sym given) none) ∙ ap (first_of parts) given))
+    (compiled_named parts k.accepted k.well_sorted false p raw c.args.subject.now c.args.given.now h c.requires.given c.requires.values c.requires.subject c.in_ok-subject.ensures refl)
