@@ -25,7 +25,7 @@ use Rattle.mw_declare.proofs.OneDeclaration.{one_declaration, none_at_fault}
 use Rattle.mw_build.specs.SignatureFaults.{SignatureFault, no_least, groupings, identity}
 use Rattle.mw_build.specs.Pairwise.{AreRelated, IsFirstWrong}
 use Rattle.mw_build.specs.Sides.{Sides, equations_of}
-use Rattle.mw_build.specs.Equations.{FitsIn, Oversized, deep, large, statement_of, IsApplicable, ApplicationFault, lone, open_right, IsStatementOf, SidesFault, big_left, big_right, inapplicable, IsEquation, EquationFault, long, unread, unclear, sides, HasFault}
+use Rattle.mw_build.specs.Equations.{FitsIn, Oversized, deep, large, statement_of, IsApplicable, ApplicationFault, lone, open_right, IsStatementOf, SidesFault, big_left, big_right, inapplicable, IsEquation, EquationFault, conditional, long, unread, unclear, sides, HasFault}
 use Rattle.mw_build.specs.Imported.{Accepted, Origin, origins_of, IsImported, ImportedFault, HasFaultAt}
 use Rattle.mw_build.specs.Modules.{IsFlattened, flattened, reached_of, IsDeclaredModule, StatementsFault, by_signature, by_imported, by_equations, IsAccepted, IsRefused, by_variables, by_imports, by_declarations, by_statements}
 use Rattle.mw_build.proofs.Pairwise.{there}
@@ -82,10 +82,11 @@ module _ (sig : Signature) where
         p.sides.statement ∙ ap (λ t. statement_of t p.right e.executable) left ∙ ap (λ t. statement_of q.left t e.executable) right ∙ sym q.sides.statement
 
     equation_holds : (e : Sides) (st : Statement) (cause : FaultKind) → IsEquation sig variables e st → EquationFault sig variables e cause → ⊥
-    equation_holds e st cause p (long h) = ⊎_elim (λ k. omega (arith, k, p.read.short_left)) (λ k. omega (arith, k, p.read.short_right)) h
-    equation_holds e st cause p (unread f g none) = none (p.left, p.right) p.read.only.0
-    equation_holds e st cause p (unclear f g (x, y, (of_x, of_y, differ))) = differ (p.read.only.1 x of_x ∙ sym (p.read.only.1 y of_y))
-    equation_holds e st cause p (sides left right why read fault) =
+    equation_holds e st cause p (conditional some) = some p.unconditional
+    equation_holds e st cause p (long plain h) = ⊎_elim (λ k. omega (arith, k, p.read.short_left)) (λ k. omega (arith, k, p.read.short_right)) h
+    equation_holds e st cause p (unread plain f g none) = none (p.left, p.right) p.read.only.0
+    equation_holds e st cause p (unclear plain f g (x, y, (of_x, of_y, differ))) = differ (p.read.only.1 x of_x ∙ sym (p.read.only.1 y of_y))
+    equation_holds e st cause p (sides left right why plain read fault) =
         let pair : ◌≡◌ {A = RawTerm × RawTerm} (left, right) (p.left, p.right) = p.read.only.1 (left, right) read.only.0 in
         sides_hold p.left p.right e.executable st why p.sides (subst (λ (s : RawTerm × RawTerm). SidesFault sig s.0 s.1 e.executable why) pair fault)
 

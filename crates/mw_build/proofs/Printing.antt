@@ -74,7 +74,7 @@ module _ (us : List FlatUnit) (ms : List Accepted) (proper : (k : ℕ) (v : Flat
         identifiers = spelled_identifiers d.signature d.variables s each;
       }
 
-  statement_printable : (e : Sides) (st : Statement) → AreTokens e.left × AreTokens e.right → IsEquation d.signature d.variables e st → IsPrintableStatement d.signature st
+  statement_printable : (e : Sides) (st : Statement) → AreSides e → IsEquation d.signature d.variables e st → IsPrintableStatement d.signature st
   statement_printable e st tokens equation =
       let left = side_printable e.left equation.left _ tokens.0 equation.read.only.0.first.spells in
       let right = side_printable e.right equation.right _ tokens.1 equation.read.only.0.second.spells in

@@ -1,14 +1,14 @@
--- The sides of equations of proper statements are made of tokens.
+-- The sides and fragments of equations of proper statements are made of tokens.
 use Rattle.std.proofs.Common.{ℕ, List, [], ◌∷◌, All}
 use Rattle.std.proofs.lemmas.List.Elements.{All-nil, All-cons, All-head, All-tail, All-append}
 use Rattle.mw_lex.specs.Texts.{AreTokens}
 use Rattle.mw_module.specs.Forms.{Shape, Sorts, Subsorts, Operators, Variables, Equation, Import}
-use Rattle.mw_module.specs.Tokens.{HasProperParts, AreProperStatements}
+use Rattle.mw_module.specs.Tokens.{HasProperTexts, HasProperParts, AreProperStatements}
 use Rattle.mw_module.specs.Units.{SeenLined}
 use Rattle.mw_build.specs.Sides.{Sides, sides_in, equations_of}
 
 abbrev pub AreSides : Sides → Type 0
-AreSides e = AreTokens e.left × AreTokens e.right
+AreSides e = AreTokens e.left × AreTokens e.right × All HasProperTexts e.fragments
 
 abbrev IsProperLined : SeenLined → Type 0
 IsProperLined s = HasProperParts s.shape
@@ -18,8 +18,8 @@ sides_proper line (Sorts names) p = All-nil AreSides
 sides_proper line (Subsorts groups) p = All-nil AreSides
 sides_proper line (Operators names args result said) p = All-nil AreSides
 sides_proper line (Variables names S) p = All-nil AreSides
-sides_proper line (Equation left right executable) p =
-    All-cons AreSides (record { line = line; left = left; right = right; executable = executable }) [] p (All-nil AreSides)
+sides_proper line (Equation left right fragments executable) p =
+    All-cons AreSides (record { line = line; left = left; right = right; fragments = fragments; executable = executable }) [] p (All-nil AreSides)
 sides_proper line (Import m) p = All-nil AreSides
 
 pub equations_proper : (ss : List SeenLined) → AreProperStatements ss → All AreSides (equations_of ss)

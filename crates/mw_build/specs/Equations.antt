@@ -1,5 +1,5 @@
 -- Which statement an equation is, and what is wrong with one. (Maude Manual, chapter 4, "Unconditional equations".)
-use Rattle.std.specs.Prelude.{◌≡◌, ◌<◌, ◌⊎◌, List, [], length, Bool, false, IsTrue, Option, Some, None}
+use Rattle.std.specs.Prelude.{◌≡◌, ◌≢◌, ◌<◌, ◌⊎◌, List, [], length, Bool, false, IsTrue, Option, Some, None}
 use Rattle.mw_logic.specs.Term.{Variable, RawTerm, variable}
 use Rattle.mw_logic.specs.Signature.{Signature}
 use Rattle.mw_logic.specs.Axioms.{EqualModulo}
@@ -9,7 +9,7 @@ use Rattle.mw_position.specs.Variables.{met}
 use Rattle.mw_text.specs.Mentions.{missing_in}
 use Rattle.mw_module.specs.declared.faults.Fault.{Fault}
 use Rattle.mw_module.specs.declared.faults.FaultKind.{FaultKind}
-use Rattle.mw_module.specs.declared.faults.FaultKind.TheVariants.{TermTooLong, NoParse, Ambiguous, TooDeep, NumberTooLarge, LoneVariable, UnboundVariable}
+use Rattle.mw_module.specs.declared.faults.FaultKind.TheVariants.{NotInProfile, TermTooLong, NoParse, Ambiguous, TooDeep, NumberTooLarge, LoneVariable, UnboundVariable}
 use Rattle.mw_text.specs.Readings.{NoneHas, TwoHave, IsShort, ArePair, ReadsPair}
 use Rattle.mw_module.specs.Words.{texts}
 use Rattle.mw_build.specs.Pairwise.{AreRelated, IsFirstWrong}
@@ -69,19 +69,21 @@ pub data SidesFault (sig : Signature) (left right : RawTerm) (executable : Bool)
   inapplicable : (cause : FaultKind) → FitsIn sig left → FitsIn sig right → IsTrue executable → ApplicationFault sig left right cause → SidesFault sig left right executable cause
 
 module _ (sig : Signature) (variables : List Variable) where
-  -- the equation is this statement: its texts spell these sides, and no others of one kind
+  -- the equation is this statement: it has no condition, and its texts spell these sides, and no others of one kind
   pub record IsEquation (e : Sides) (st : Statement) : Type 0 where
+    pub unconditional : e.fragments ≡ []
     pub left : RawTerm
     pub right : RawTerm
     pub read : ReadsPair sig variables (texts e.left) (texts e.right) (left, right)
     pub sides : IsStatementOf sig left right e.executable st
 
-  -- what is wrong with an equation, in this order
+  -- what is wrong with an equation, in this order; one with a condition isn't read yet
   pub data EquationFault (e : Sides) : FaultKind → Type 0 where
-    long : (1024 < length (texts e.left)) ⊎ (1024 < length (texts e.right)) → EquationFault e TermTooLong
-    unread : IsShort (texts e.left) → IsShort (texts e.right) → NoneHas (ArePair sig variables (texts e.left) (texts e.right)) → EquationFault e NoParse
-    unclear : IsShort (texts e.left) → IsShort (texts e.right) → TwoHave (ArePair sig variables (texts e.left) (texts e.right)) → EquationFault e Ambiguous
-    sides : (left right : RawTerm) (cause : FaultKind) → ReadsPair sig variables (texts e.left) (texts e.right) (left, right) → SidesFault sig left right e.executable cause
+    conditional : e.fragments ≢ [] → EquationFault e NotInProfile
+    long : e.fragments ≡ [] → (1024 < length (texts e.left)) ⊎ (1024 < length (texts e.right)) → EquationFault e TermTooLong
+    unread : e.fragments ≡ [] → IsShort (texts e.left) → IsShort (texts e.right) → NoneHas (ArePair sig variables (texts e.left) (texts e.right)) → EquationFault e NoParse
+    unclear : e.fragments ≡ [] → IsShort (texts e.left) → IsShort (texts e.right) → TwoHave (ArePair sig variables (texts e.left) (texts e.right)) → EquationFault e Ambiguous
+    sides : (left right : RawTerm) (cause : FaultKind) → e.fragments ≡ [] → ReadsPair sig variables (texts e.left) (texts e.right) (left, right) → SidesFault sig left right e.executable cause
         → EquationFault e cause
 
   -- the equations are these statements, one for one

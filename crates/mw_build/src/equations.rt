@@ -18,26 +18,27 @@ ghost use Rattle.mw_build.specs.Sides.{Sides, equations_of, seen_equation, seen_
 use mw_canon::{CanonError, Facts, canon};
 use mw_grammar::Grammar;
 use mw_lex::Token;
-use mw_module::{Fault, FaultKind, Form, Lined};
+use mw_module::{Fault, FaultKind, Form, Lined, WrittenFragment};
 use mw_parse::{PairError, parse_pair};
 use mw_term::{Fragment, Raw, Seq, Statement, Term, VarId, View};
 use mw_text::Variables;
 use std::alloc::{AllocError, Global};
 
-/// An equation's sides as tokens, with its line, and whether it is executable.
+/// An equation's sides as tokens, the fragments of its condition, its line, and whether it is executable.
 #[derive(Clone, Copy)]
-pub struct Equation<'s> {
+pub struct Equation<'u, 's> {
     pub line: u32,
     pub left: &'s [Token],
     pub right: &'s [Token],
+    pub fragments: &'u [WrittenFragment<'s>],
     pub executable: bool,
 }
 
 /// The equations among statements.
-pub fn equations<'s>(
+pub fn equations<'u, 's>(
     alloc: Global,
-    statements: &[Lined<'s>],
-) -> Result<Vec<Equation<'s>>, AllocError>
+    statements: &'u [Lined<'s>],
+) -> Result<Vec<Equation<'u, 's>>, AllocError>
     ensures { IfOk result (λ v. seen_equations v.items ≡ equations_of (seen_statements statements.now)) }
 {
     let mut found = Vec::new(alloc);
@@ -46,6 +47,7 @@ pub fn equations<'s>(
         if let Form::Equation {
             left,
             right,
+            fragments,
             executable,
         } = &statement.form
         {
@@ -53,6 +55,7 @@ pub fn equations<'s>(
                 line: statement.line,
                 left,
                 right,
+                fragments: fragments.as_slice(),
                 executable: *executable,
             })?;
         }
@@ -224,7 +227,7 @@ pub fn sides_statement(
 
 /// What is wrong with an equation whose texts aren't read.
 fn unread(error: &PairError) -> Result<Result<Statement, FaultKind>, AllocError>
-    ensures { (sig : SignatureOf) (variables : List Variable) (e : Sides) → HasPairCause sig variables (texts e.left) (texts e.right) error.now
+    ensures { (sig : SignatureOf) (variables : List Variable) (e : Sides) → e.fragments ≡ [] → HasPairCause sig variables (texts e.left) (texts e.right) error.now
         → IfOk result (λ r. MatchResult r (IsEquation sig variables e) (λ kind. EquationFault sig variables e kind)) }
 {
     match error {
@@ -240,7 +243,7 @@ fn statement(
     alloc: Global,
     facts: &Facts,
     grammar: &Grammar,
-    equation: &Equation<'_>,
+    equation: &Equation<'_, '_>,
 ) -> Result<Result<Statement, FaultKind>, AllocError>
     requires reading { IsReading grammar.now }
     requires grammar { (variables : List Variable) × IsGrammarOf facts.now variables grammar.now }
@@ -248,6 +251,9 @@ fn statement(
         (IsEquation facts.now variables (seen_equation equation.now))
         (λ kind. EquationFault facts.now variables (seen_equation equation.now) kind)) }
 {
+    if !equation.fragments.is_empty() {
+        return Ok(Err(FaultKind::NotInProfile));
+    }
     facts.shows();
     match parse_pair(alloc, grammar, equation.left, equation.right) {
         Ok((left, right)) => sides_statement(alloc, facts, left, right, equation.executable),
@@ -260,7 +266,7 @@ pub fn statements_of(
     alloc: Global,
     facts: &Facts,
     grammar: &Grammar,
-    equations: &[Equation<'_>],
+    equations: &[Equation<'_, '_>],
 ) -> Result<Result<Vec<Statement>, Fault>, AllocError>
     requires reading { IsReading grammar.now }
     requires grammar { (variables : List Variable) × IsGrammarOf facts.now variables grammar.now }

@@ -13,13 +13,14 @@
 //! sort; the first import at fault; those of the declarations of the flattened module; an operator without a least
 //! result on some sorts, one whose groupings of three sorts differ, or one whose identity, left out, raises a sort, at
 //! the line of the unit's first token; then statement after statement: imported ones, told at the line of the unit's
-//! first token, and then its own equations, each with its line. Of one equation: a side of more than 1,024 tokens;
-//! sides that spell no pair of terms of one kind, or two; the left side, then the right one, of more than 1,000 levels
-//! or with too large a number; and where it is executable, a left side that is a variable modulo the axioms, or the
-//! first variable of the right side, in order of mention, that the left one hasn't. The text of an imported one isn't
-//! looked at again. As axioms that an importer adds make terms no deeper, and variables stay apart, only a left side
-//! that has become a variable and a number that has become too large, where an identity is left out under a successor,
-//! are new with it; that the others can't come isn't proved, and they are tested too.
+//! first token, and then its own equations, each with its line. Of one equation: a condition, which isn't read yet; a
+//! side of more than 1,024 tokens; sides that spell no pair of terms of one kind, or two; the left side, then the right
+//! one, of more than 1,000 levels or with too large a number; and where it is executable, a left side that is a
+//! variable modulo the axioms, or the first variable of the right side, in order of mention, that the left one hasn't.
+//! The text of an imported one isn't looked at again. As axioms that an importer adds make terms no deeper, and
+//! variables stay apart, only a left side that has become a variable and a number that has become too large, where an
+//! identity is left out under a successor, are new with it; that the others can't come isn't proved, and they are
+//! tested too.
 //!
 //! Proved:
 //!

@@ -63,7 +63,7 @@ module _ (h : Hierarchy) where
   apart_shape os (Subsorts groups) a = a
   apart_shape os (Operators names args result said) a = apart_named os names (rank_of h args result) said a
   apart_shape os (Variables names S) a = a
-  apart_shape os (Equation left right executable) a = a
+  apart_shape os (Equation left right fragments executable) a = a
   apart_shape os (Import m) a = a
 
   apart_from : (os : List Declared) (ss : List SeenLined) → AreApart os → AreApart (operators_from h os ss)

@@ -89,7 +89,7 @@ module _ (name : Name) (arg : Option Name) (value : Name) where
       let (n, m, k) = some_member (is_name name) names p.1 in
       record { names = names; args = args; result = result; said = said; is = refl; taken = q.0; given = q.1; token = n; member = m; spelled = k }
   saying (Variables names S) e = cc
-  saying (Equation left right executable) e = cc
+  saying (Equation left right fragments executable) e = cc
   saying (Import m) e = cc
 
   -- the profile and the declaration that it gives

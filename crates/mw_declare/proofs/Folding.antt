@@ -46,7 +46,7 @@ module _ (P : Declared → Type 0) (again : (o : Declared) (p : Profile) (d : De
     HasEach (Subsorts groups) = ⊤
     HasEach (Operators names args result said) = All (HasNamed (rank_of h args result) said) names
     HasEach (Variables names S) = ⊤
-    HasEach (Equation left right executable) = ⊤
+    HasEach (Equation left right fragments executable) = ⊤
     HasEach (Import m) = ⊤
 
     abbrev pub HasEachLined : SeenLined → Type 0
@@ -57,7 +57,7 @@ module _ (P : Declared → Type 0) (again : (o : Declared) (p : Profile) (d : De
     all_shaped os (Subsorts groups) all each = all
     all_shaped os (Operators names args result said) all each = all_named os names (rank_of h args result) said all each
     all_shaped os (Variables names S) all each = all
-    all_shaped os (Equation left right executable) all each = all
+    all_shaped os (Equation left right fragments executable) all each = all
     all_shaped os (Import m) all each = all
 
     all_from : (os : List Declared) (ss : List SeenLined) → All P os → All HasEachLined ss → All P (operators_from h os ss)

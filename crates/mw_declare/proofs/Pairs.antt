@@ -54,7 +54,7 @@ in_there sorts (Sorts names) e = All-nil (IsPairOf (length sorts))
 in_there sorts (Subsorts groups) e = behind_there sorts [] groups (All-nil (IsSort (length sorts))) e
 in_there sorts (Operators names args result said) e = All-nil (IsPairOf (length sorts))
 in_there sorts (Variables names S) e = All-nil (IsPairOf (length sorts))
-in_there sorts (Equation left right executable) e = All-nil (IsPairOf (length sorts))
+in_there sorts (Equation left right fragments executable) e = All-nil (IsPairOf (length sorts))
 in_there sorts (Import m) e = All-nil (IsPairOf (length sorts))
 
 pub pairs_there : (sorts : List Name) (ss : List SeenLined) → unknown_from sorts ss ≡ None → ArePairsOf (length sorts) (pairs_from sorts ss)

@@ -180,7 +180,7 @@ module _ (r s : Reached) (A B : List SeenLined) (reaches : ReachesMore r s) (wit
   shape_there (Subsorts groups) e found = tt
   shape_there (Operators names args result said) e found = names_there args result e names said found
   shape_there (Variables names S) e found = tt
-  shape_there (Equation left right executable) e found = tt
+  shape_there (Equation left right fragments executable) e found = tt
   shape_there (Import m) e found = tt
 
   -- the truth values, and the operators that each kind has

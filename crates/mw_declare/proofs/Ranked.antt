@@ -147,7 +147,7 @@ module _ (sig : Signature) where
   ranked_shape (Subsorts groups) there = tt
   ranked_shape (Operators names args result said) there = ranked_names args result there names said
   ranked_shape (Variables names S) there = tt
-  ranked_shape (Equation left right executable) there = tt
+  ranked_shape (Equation left right fragments executable) there = tt
   ranked_shape (Import m) there = tt
 
   ranked_lined : (ss : List SeenLined) → unknown_from sig.sorts ss ≡ None → All (HasEachLined (IsRankedOperator sig) (ranked_again sig) (sorts_held sig)) ss

@@ -49,7 +49,7 @@ differ_sorts ns (Sorts names) d = differ_names ns (texts names) d
 differ_sorts ns (Subsorts groups) d = d
 differ_sorts ns (Operators names args result said) d = d
 differ_sorts ns (Variables names S) d = d
-differ_sorts ns (Equation left right executable) d = d
+differ_sorts ns (Equation left right fragments executable) d = d
 differ_sorts ns (Import m) d = d
 
 differ_from : (ns : List Name) (ss : List SeenLined) → names_differ ns ≡ true → names_differ (sorts_from ns ss) ≡ true

@@ -36,7 +36,7 @@ declares_in name arg value (Sorts names) = false
 declares_in name arg value (Subsorts groups) = false
 declares_in name arg value (Operators names args result said) = (takes arg args && is_sort value result) && list_any (is_name name) names
 declares_in name arg value (Variables names S) = false
-declares_in name arg value (Equation left right executable) = false
+declares_in name arg value (Equation left right fragments executable) = false
 declares_in name arg value (Import m) = false
 
 -- one of the statements does

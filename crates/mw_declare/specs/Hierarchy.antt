@@ -31,7 +31,7 @@ pairs_in sorts (Sorts names) = []
 pairs_in sorts (Subsorts groups) = pairs_behind sorts [] groups
 pairs_in sorts (Operators names args result said) = []
 pairs_in sorts (Variables names S) = []
-pairs_in sorts (Equation left right executable) = []
+pairs_in sorts (Equation left right fragments executable) = []
 pairs_in sorts (Import m) = []
 
 abbrev pub pairs_from : List Name → List SeenLined → List (ℕ × ℕ)

@@ -16,7 +16,7 @@ with_sorts sorts (Sorts names) = with_names sorts (texts names)
 with_sorts sorts (Subsorts groups) = sorts
 with_sorts sorts (Operators names args result said) = sorts
 with_sorts sorts (Variables names S) = sorts
-with_sorts sorts (Equation left right executable) = sorts
+with_sorts sorts (Equation left right fragments executable) = sorts
 with_sorts sorts (Import m) = sorts
 
 abbrev pub sorts_from : List Name → List SeenLined → List Name

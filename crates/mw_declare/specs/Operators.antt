@@ -71,7 +71,7 @@ with_operators h os (Sorts names) = os
 with_operators h os (Subsorts groups) = os
 with_operators h os (Operators names args result said) = with_named os names (rank_of h args result) said
 with_operators h os (Variables names S) = os
-with_operators h os (Equation left right executable) = os
+with_operators h os (Equation left right fragments executable) = os
 with_operators h os (Import m) = os
 
 abbrev pub operators_from : Hierarchy → List Declared → List SeenLined → List Declared

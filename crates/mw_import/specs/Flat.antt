@@ -24,7 +24,7 @@ imports_in line (Sorts names) = []
 imports_in line (Subsorts groups) = []
 imports_in line (Operators names args result said) = []
 imports_in line (Variables names sort) = []
-imports_in line (Equation left right executable) = []
+imports_in line (Equation left right fragments executable) = []
 imports_in line (Import m) = record { line = line; name = m.text } ∷ []
 
 -- the import statements, in order

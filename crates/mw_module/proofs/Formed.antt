@@ -23,10 +23,11 @@ use Rattle.mw_module.specs.OperatorNames.{items_in, is_name, fits, all_fit}
 use Rattle.mw_module.specs.Attributes.{Attributes, no_attributes, joined, in_range, precedence_of, precedence_in, is_mark, said_as}
 use Rattle.mw_module.specs.Sortings.{WrittenSort, sorting_of, sortings_of}
 use Rattle.mw_module.specs.Equations.{unlabelled, attributes_len, group_at_end}
+use Rattle.mw_module.specs.Conditions.{cut_at_if}
 use Rattle.mw_module.specs.Known.{IsNameFor, IsMark, IsPrecedence, IsGather, AreAttributes, IsKnown}
 use Rattle.mw_module.specs.Parts.{IsFine, AreParts}
-use Rattle.mw_module.specs.Reading.{then_of, tokens_of, has_marks, is_fine, read_at, lists_of, first_token}
-use Rattle.mw_module.specs.Forms.{Shape, Import, Sorts, Operators, Formed, Shaped, import_form, grouped, typed, typed_names, said_from, Value, valued_with, valued, value_form, Profile, profiled, profile_form, declared, names_form, operators_form, sided, sides_form, form_behind, formed, form_of}
+use Rattle.mw_module.specs.Reading.{then_of, tokens_of, has_marks, is_fine, read_at, lists_of, first_token, divided_at}
+use Rattle.mw_module.specs.Forms.{Shape, Import, Sorts, Operators, Formed, Shaped, import_form, grouped, typed, typed_names, said_from, Value, valued_with, valued, value_form, Profile, profiled, profile_form, declared, names_form, operators_form, fragments_form, sided, conditional, stated, equation_form, form_behind, formed, form_of}
 use Rattle.mw_module.proofs.Parts.{then_holds, parts_read}
 
 abbrev pub IsKnownWhereFormed : Formed → Type 0
@@ -234,8 +235,8 @@ operators_known single ts = of (colon == length ts)
         (λ names all. declared_known names (drop (colon + 1) ts) all)
 
 -- the other forms
-behind_any : (r : Result (List Part) Wrong) (next : List Part → Shaped) → ((parts : List Part) → IfOk (next parts) IsKnown) → IfOk (then_of r next) IsKnown
-behind_any (Ok parts) next h = h parts
+behind_any : {A : Type 0} (r : Result A Wrong) (next : A → Shaped) → ((a : A) → IfOk (next a) IsKnown) → IfOk (then_of r next) IsKnown
+behind_any (Ok a) next h = h a
 behind_any (Err wrong) next h = tt
 
 grouped_known : (ts : List Token) (parts : List Part) → IfOk (grouped ts parts) IsKnown
@@ -253,11 +254,6 @@ typed_names_known (t ∷ names) ts =
     behind_any (read_at place.Variables role.Silent want.Nothing (t ∷ names)) (λ none. then_of (read_at place.Sort role.Silent want.Nothing ts) (λ parts. typed (t ∷ names) (first_token ts parts)))
     (λ none. behind_any (read_at place.Sort role.Silent want.Nothing ts) (λ parts. typed (t ∷ names) (first_token ts parts)) (λ parts. typed_known (t ∷ names) (first_token ts parts)))
 
-sided_known : (ts : List Token) (parts : List Part) (executable : Bool) → IfOk (sided ts parts executable) IsKnown
-sided_known ts [] executable = tt
-sided_known ts (l ∷ []) executable = tt
-sided_known ts (l ∷ (r ∷ ps)) executable = tt
-
 sorts_known : (ts : List Token) → IfOk (form_behind opening.Sorts ts) IsKnown
 sorts_known [] = tt
 sorts_known (t ∷ ts) = behind_any (read_at place.Sorts role.Silent want.Nothing (t ∷ ts)) (λ parts. Ok (Sorts (t ∷ ts))) (λ parts. tt)
@@ -272,9 +268,20 @@ variables_known ts = of (colon == length ts)
     of true = tt
     of false = typed_names_known (take colon ts) (drop (colon + 1) ts)
 
-sides_known : (sides said : List Token) → IfOk (sides_form sides said) IsKnown
-sides_known sides said =
-    behind_any (read_at place.Left role.Words want.Nothing sides) _ (λ parts. behind_any (read_at place.Statement role.Silent want.Nothing said) _ (λ more. sided_known sides parts _))
+sided_known : (sides : Option (List Token × List Token)) (condition : Option (List Token)) (said : List Token) → IfOk (sided sides condition said) IsKnown
+sided_known None condition said = tt
+sided_known (Some sides) condition said = behind_any (fragments_form condition) _ (λ fragments. behind_any (read_at place.Statement role.Silent want.Nothing said) _ (λ more. tt))
+
+conditional_known : (cut : Option (List Token × List Token)) (said : List Token) → IfOk (conditional cut said) IsKnown
+conditional_known None said = tt
+conditional_known (Some cut) said = sided_known (divided_at place.Left cut.0) (Some cut.1) said
+
+stated_known : (with_condition : Bool) (ts said : List Token) → IfOk (stated with_condition ts said) IsKnown
+stated_known true ts said = conditional_known (cut_at_if ts) said
+stated_known false ts said = sided_known (divided_at place.Left ts) None said
+
+equation_known : (with_condition : Bool) (ts : List Token) → IfOk (equation_form with_condition ts) IsKnown
+equation_known with_condition ts = let us = unlabelled ts in let n = attributes_len us in stated_known with_condition (take (length us - n) us) (group_at_end n us)
 
 import_known : (ts : List Token) → IfOk (import_form ts) IsKnown
 import_known [] = tt
@@ -291,7 +298,8 @@ behind_known opening.Subsorts ts = behind_any (read_at place.Group role.Words wa
 behind_known opening.Operator ts = operators_known true ts
 behind_known opening.Operators ts = operators_known false ts
 behind_known opening.Variables ts = variables_known ts
-behind_known opening.Equation ts = let us = unlabelled ts in let n = attributes_len us in sides_known (take (length us - n) us) (group_at_end n us)
+behind_known opening.Equation ts = equation_known false ts
+behind_known opening.Conditional ts = equation_known true ts
 behind_known opening.Import ts = import_known ts
 behind_known opening.Elsewhere ts = tt
 behind_known opening.Unread ts = tt

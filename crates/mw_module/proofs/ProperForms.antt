@@ -1,5 +1,5 @@
 -- The parts of a statement that is made of tokens are proper.
-use Rattle.std.proofs.Common.{◌≡◌, ℕ, ◌+◌, ◌-◌, ◌==◌, ◌&&◌, ◌||◌, not, if◌then◌else◌, Bool, true, false, List, [], ◌∷◌, length, take, drop, Option, Some, None, Result, Ok, Err, IfOk, All, codes, inl, inr, refl}
+use Rattle.std.proofs.Common.{◌≡◌, ℕ, ◌+◌, ◌-◌, ◌==◌, ◌&&◌, ◌||◌, not, if◌then◌else◌, Bool, true, false, List, [], ◌∷◌, length, take, drop, Option, Some, None, option_map, Result, Ok, Err, IfSome, IfOk, All, codes, inl, inr, refl}
 use Rattle.std.specs.List.{list_all}
 use Rattle.std.specs.Str.{bytes_eq}
 use Rattle.std.proofs.lemmas.Bool.{both_ways, and_parts, or_parts, not-true, eqb-false}
@@ -12,6 +12,7 @@ use Rattle.mw_text.specs.Proper.{IsProperName, BeginsNothing, NamesAreProper}
 use Rattle.mw_module.specs.declared.machine.Part.{Part}
 use Rattle.mw_module.specs.declared.openings.Opening.{Opening}
 use Rattle.mw_module.specs.declared.openings.Opening.TheVariants as opening
+use Rattle.mw_module.specs.declared.table.Place.{Place}
 use Rattle.mw_module.specs.declared.table.Place.TheVariants as place
 use Rattle.mw_module.specs.declared.table.Role.{Role}
 use Rattle.mw_module.specs.declared.table.Role.TheVariants as role
@@ -25,9 +26,10 @@ use Rattle.mw_module.specs.Openings.{opening_of}
 use Rattle.mw_module.specs.OperatorNames.{items_in, is_fine, is_name}
 use Rattle.mw_module.specs.Equations.{has_label, unlabelled, attributes_len, group_at_end}
 use Rattle.mw_module.specs.Rows.{row}
-use Rattle.mw_module.specs.Reading.{then_of, tokens_of, followed, reading, read_at, lists_of, first_token}
-use Rattle.mw_module.specs.Forms.{Import, Sorts, Operators, import_form, grouped, typed, typed_names, Profile, profile_form, declared, names_form, sided, sides_form, form_behind, form_of}
-use Rattle.mw_module.specs.Tokens.{HasProperParts}
+use Rattle.mw_module.specs.Reading.{then_of, tokens_of, followed, reading, read_at, lists_of, first_token, divided, divided_at}
+use Rattle.mw_module.specs.Forms.{Import, Sorts, Operators, import_form, grouped, typed, typed_names, Profile, profile_form, declared, names_form, fragments_form, sided, conditional, stated, equation_form, form_behind, form_of}
+use Rattle.mw_module.specs.Conditions.{open_if, cut_at_if, unmatched, matched, fragment_of, fragments_of}
+use Rattle.mw_module.specs.Tokens.{HasProperTexts, HasProperParts}
 use Rattle.mw_module.proofs.Parts.{then_holds}
 use Rattle.mw_module.proofs.Formed.{AreNames, names_named, formed_holds}
 
@@ -172,14 +174,64 @@ unlabelled_tokens ts all = of (has_label ts)
     of true = All-drop IsToken 4 ts all
     of false = all
 
-sided_proper : (ts : List Token) (parts : List Part) (executable : Bool) → AreTokens ts → IfOk (sided ts parts executable) HasProperParts
-sided_proper ts [] executable all = tt
-sided_proper ts (l ∷ []) executable all = tt
-sided_proper ts (l ∷ (r ∷ ps)) executable all = (part_tokens ts l all, part_tokens ts r all)
+-- two texts
+abbrev AreHalves : List Token × List Token → Type 0
+AreHalves two = AreTokens two.0 × AreTokens two.1
 
-sides_proper : (sides said : List Token) → AreTokens sides → IfOk (sides_form sides said) HasProperParts
-sides_proper sides said all =
-    any_holds HasProperParts (read_at place.Left role.Words want.Nothing sides) _ (λ parts. any_holds HasProperParts (read_at place.Statement role.Silent want.Nothing said) _ (λ more. sided_proper sides parts _ all))
+halves_tokens : (place : Place) (ts : List Token) → AreTokens ts → IfSome (divided_at place ts) AreHalves
+halves_tokens place ts all = of (read_at place role.Words want.Nothing ts)
+  where
+    of : (r : Result (List Part) Wrong) → IfSome (divided ts r) AreHalves
+    of (Ok []) = tt
+    of (Ok (p ∷ [])) = tt
+    of (Ok (p ∷ (q ∷ ps))) = (part_tokens ts p all, part_tokens ts q all)
+    of (Err wrong) = tt
+
+cut_tokens : (ts : List Token) → AreTokens ts → IfSome (cut_at_if ts) AreHalves
+cut_tokens ts all = of (open_if ts)
+  where
+    of : (o : Option ℕ) → IfSome (option_map (λ n. (take n ts, drop (n + 1) ts)) o) AreHalves
+    of (Some n) = (All-take IsToken n ts all, All-drop IsToken (n + 1) ts all)
+    of None = tt
+
+unmatched_proper : (ts : List Token) (o : Option (List Token × List Token)) → AreTokens ts → IfSome o AreHalves → HasProperTexts (unmatched ts o)
+unmatched_proper ts (Some sides) all h = h
+unmatched_proper ts None all h = all
+
+matched_proper : (ts : List Token) (o : Option (List Token × List Token)) → AreTokens ts → IfSome o AreHalves → HasProperTexts (matched ts o)
+matched_proper ts (Some m) all h = h
+matched_proper ts None all h = unmatched_proper ts (divided_at place.Left ts) all (halves_tokens place.Left ts all)
+
+fragments_proper : (ts : List Token) (parts : List Part) → AreTokens ts → All HasProperTexts (fragments_of ts parts)
+fragments_proper ts [] all = All-nil HasProperTexts
+fragments_proper ts (p ∷ ps) all =
+    let us = tokens_of ts p in
+    let these = part_tokens ts p all in
+    All-cons HasProperTexts (fragment_of us) (fragments_of ts ps) (matched_proper us (divided_at place.Pattern us) these (halves_tokens place.Pattern us these)) (fragments_proper ts ps all)
+
+condition_proper : (condition : Option (List Token)) → IfSome condition AreTokens → IfOk (fragments_form condition) (All HasProperTexts)
+condition_proper None all = All-nil HasProperTexts
+condition_proper (Some ts) all = any_holds (All HasProperTexts) (read_at place.Condition role.Words want.Nothing ts) _ (λ parts. fragments_proper ts parts all)
+
+sided_proper : (sides : Option (List Token × List Token)) (condition : Option (List Token)) (said : List Token) → IfSome sides AreHalves → IfSome condition AreTokens → IfOk (sided sides condition said) HasProperParts
+sided_proper None condition said two all = tt
+sided_proper (Some sides) condition said two all =
+    then_holds (All HasProperTexts) HasProperParts (fragments_form condition) _ (condition_proper condition all)
+    (λ fragments each. any_holds HasProperParts (read_at place.Statement role.Silent want.Nothing said) _ (λ more. (two.0, two.1, each)))
+
+conditional_proper : (cut : Option (List Token × List Token)) (said : List Token) → IfSome cut AreHalves → IfOk (conditional cut said) HasProperParts
+conditional_proper None said two = tt
+conditional_proper (Some cut) said two = sided_proper (divided_at place.Left cut.0) (Some cut.1) said (halves_tokens place.Left cut.0 two.0) two.1
+
+stated_proper : (with_condition : Bool) (ts said : List Token) → AreTokens ts → IfOk (stated with_condition ts said) HasProperParts
+stated_proper true ts said all = conditional_proper (cut_at_if ts) said (cut_tokens ts all)
+stated_proper false ts said all = sided_proper (divided_at place.Left ts) None said (halves_tokens place.Left ts all) tt
+
+equation_proper : (with_condition : Bool) (ts : List Token) → AreTokens ts → IfOk (equation_form with_condition ts) HasProperParts
+equation_proper with_condition ts all =
+    let us = unlabelled ts in
+    let n = attributes_len us in
+    stated_proper with_condition (take (length us - n) us) (group_at_end n us) (All-take IsToken (length us - n) us (unlabelled_tokens ts all))
 
 -- the other forms
 grouped_proper : (ts : List Token) (parts : List Part) → IfOk (grouped ts parts) HasProperParts
@@ -207,10 +259,8 @@ behind_proper law opening.Subsorts ts all = any_holds HasProperParts (read_at pl
 behind_proper law opening.Operator ts all = operators_proper law true (count_before (codes ":") ts) ts (count_before (codes ":") ts == length ts) all
 behind_proper law opening.Operators ts all = operators_proper law false (count_before (codes ":") ts) ts (count_before (codes ":") ts == length ts) all
 behind_proper law opening.Variables ts all = variables_proper (count_before (codes ":") ts) ts (count_before (codes ":") ts == length ts) all
-behind_proper law opening.Equation ts all =
-    let us = unlabelled ts in
-    let n = attributes_len us in
-    sides_proper (take (length us - n) us) (group_at_end n us) (All-take IsToken (length us - n) us (unlabelled_tokens ts all))
+behind_proper law opening.Equation ts all = equation_proper false ts all
+behind_proper law opening.Conditional ts all = equation_proper true ts all
 behind_proper law opening.Import ts all = import_proper ts
 behind_proper law opening.Elsewhere ts all = tt
 behind_proper law opening.Unread ts all = tt

@@ -21,7 +21,8 @@ use Rattle.mw_module.specs.Openings.{opening_of}
 use Rattle.mw_module.specs.OperatorNames.{all_fit}
 use Rattle.mw_module.specs.Attributes.{Attributes, seen_attributes, no_attributes, joined, said_as}
 use Rattle.mw_module.specs.Equations.{unlabelled, attributes_len, group_at_end}
-use Rattle.mw_module.specs.Reading.{told, then_of, tokens_of, read_at, lists_of, first_token}
+use Rattle.mw_module.specs.Conditions.{WrittenFragment, seen_fragments, cut_at_if, Condition, condition_form}
+use Rattle.mw_module.specs.Reading.{told, then_of, tokens_of, read_at, lists_of, first_token, divided_at}
 use Rattle.mw_module.specs.Sortings.{WrittenSort, seen_sorting, seen_sortings, sorting_of, sortings_of}
 use Rattle.mw_module.specs.Words.{seen_lists, is, count_before}
 
@@ -33,8 +34,8 @@ pub data Shape : Type 0 where
   -- names, each as its tokens, sorts of arguments, the value's sort, and attributes
   Operators : List (List Token) → List WrittenSort → WrittenSort → Attributes → Shape
   Variables : List Token → Token → Shape
-  -- the sides, and whether it is executable
-  Equation : List Token → List Token → Bool → Shape
+  -- the sides, the fragments of the condition, if there is one, and whether it is executable
+  Equation : List Token → List Token → List WrittenFragment → Bool → Shape
   -- a module's name
   Import : Token → Shape
 
@@ -44,7 +45,7 @@ shape_of (form.Sorts names) = Sorts names.now
 shape_of (form.Subsorts groups) = Subsorts (seen_lists groups.items)
 shape_of (form.Operators names args result attributes) = Operators (seen_lists names.items) (seen_sortings args.items) (seen_sorting result) (seen_attributes attributes)
 shape_of (form.Variables names sort) = Variables names.now sort.now
-shape_of (form.Equation left right executable) = Equation left.now right.now executable
+shape_of (form.Equation left right fragments executable) = Equation left.now right.now (seen_fragments fragments.items) executable
 shape_of (form.Import m) = Import m.now
 
 -- the form, or what is wrong
@@ -174,21 +175,35 @@ operators_form single ts =
     let colon = count_before (codes ":") ts in
     if colon == length ts then Err Bad else then_of (names_form single (take colon ts)) (λ names. declared names (drop (colon + 1) ts))
 
--- two sides
-abbrev pub sided : List Token → List Part → Bool → Shaped
-sided ts [] executable = Err Bad
-sided ts (l ∷ []) executable = Err Bad
-sided ts (l ∷ r ∷ ps) executable = Ok (Equation (tokens_of ts l) (tokens_of ts r) executable)
+-- the fragments of a condition, where there is one
+abbrev pub fragments_form : Option (List Token) → Condition
+fragments_form None = Ok []
+fragments_form (Some ts) = condition_form ts
 
--- the sides, and the attributes behind them, of which `nonexec` alone is a part; what is wrong with the sides is told
--- first
-abbrev pub sides_form : List Token → List Token → Shaped
-sides_form sides said = then_of (read_at place.Left role.Words want.Nothing sides) (λ parts.
-    then_of (read_at place.Statement role.Silent want.Nothing said) (λ more. sided sides parts (length more == 0)))
+-- two sides, and what comes behind them: a condition, if there is one, and attributes, of which `nonexec` alone is a
+-- part
+abbrev pub sided : Option (List Token × List Token) → Option (List Token) → List Token → Shaped
+sided None condition said = Err Bad
+sided (Some sides) condition said = then_of (fragments_form condition) (λ fragments.
+    then_of (read_at place.Statement role.Silent want.Nothing said) (λ more. Ok (Equation sides.0 sides.1 fragments (length more == 0))))
 
--- `eq`: a label, two sides, and attributes
-abbrev pub equation_form : List Token → Shaped
-equation_form ts = let us = unlabelled ts in let n = attributes_len us in sides_form (take (length us - n) us) (group_at_end n us)
+-- the same by the tokens of the sides; what is wrong with them is told first, and then what is wrong with the condition
+abbrev pub sides_form : List Token → Option (List Token) → List Token → Shaped
+sides_form sides condition said = sided (divided_at place.Left sides) condition said
+
+-- sides and a condition, where there is one `if` between them
+abbrev pub conditional : Option (List Token × List Token) → List Token → Shaped
+conditional None said = Err Bad
+conditional (Some cut) said = sides_form cut.0 (Some cut.1) said
+
+-- what an equation with a condition, or without, states in front of these attributes
+abbrev pub stated : Bool → List Token → List Token → Shaped
+stated true ts said = conditional (cut_at_if ts) said
+stated false ts said = sides_form ts None said
+
+-- `ceq`, `cq` and `eq`: a label, two sides, a condition behind `if` where the word asks for one, and attributes
+abbrev pub equation_form : Bool → List Token → Shaped
+equation_form with_condition ts = let us = unlabelled ts in let n = attributes_len us in stated with_condition (take (length us - n) us) (group_at_end n us)
 
 -- an import: a module's name and nothing more; module expressions aren't read
 abbrev pub import_form : List Token → Shaped
@@ -203,7 +218,8 @@ form_behind opening.Subsorts ts = subsorts_form ts
 form_behind opening.Operator ts = operators_form true ts
 form_behind opening.Operators ts = operators_form false ts
 form_behind opening.Variables ts = variables_form ts
-form_behind opening.Equation ts = equation_form ts
+form_behind opening.Equation ts = equation_form false ts
+form_behind opening.Conditional ts = equation_form true ts
 form_behind opening.Import ts = import_form ts
 form_behind opening.Elsewhere ts = Err Bad
 form_behind opening.Unread ts = Err Unread

@@ -40,7 +40,7 @@ IsKnown (Sorts names) = Unit {0}
 IsKnown (Subsorts groups) = Unit {0}
 IsKnown (Operators names args value a) = AreOperators names args a
 IsKnown (Variables names sort) = Unit {0}
-IsKnown (Equation left right executable) = Unit {0}
+IsKnown (Equation left right fragments executable) = Unit {0}
 IsKnown (Import m) = Unit {0}
 
 abbrev pub AreKnown : List SeenLined → Type 0

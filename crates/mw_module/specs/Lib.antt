@@ -9,6 +9,7 @@ pub mod Reading
 pub mod Parts
 pub mod Sortings
 pub mod Equations
+pub mod Conditions
 pub mod Forms
 pub mod Kinds
 pub mod Units

@@ -171,3 +171,17 @@ front (t ∷ rest) = Some t
 abbrev pub first_token : List Token → List Part → Option Token
 first_token ts [] = None
 first_token ts (p ∷ ps) = front (tokens_of ts p)
+
+-- the tokens of the first two parts
+abbrev pub halves : List Token → List Part → Option (List Token × List Token)
+halves ts [] = None
+halves ts (p ∷ []) = None
+halves ts (p ∷ q ∷ ps) = Some (tokens_of ts p, tokens_of ts q)
+
+abbrev pub divided : List Token → Parts → Option (List Token × List Token)
+divided ts (Ok parts) = halves ts parts
+divided ts (Err wrong) = None
+
+-- the two parts of a piece that begins at this place, or none where it isn't of the form
+abbrev pub divided_at : Place → List Token → Option (List Token × List Token)
+divided_at place ts = divided ts (read_at place role.Words want.Nothing ts)

@@ -5,16 +5,23 @@ use Rattle.mw_lex.specs.Texts.{IsRun, AreTokens}
 use Rattle.mw_text.specs.Names.{name_of_tokens}
 use Rattle.mw_text.specs.Proper.{IsProperName}
 use Rattle.mw_module.specs.Words.{texts}
+use Rattle.mw_module.specs.Conditions.{WrittenFragment, Match, Equal, Other}
 use Rattle.mw_module.specs.Forms.{Shape, Sorts, Subsorts, Operators, Variables, Equation, Import}
 use Rattle.mw_module.specs.Units.{SeenLined, SeenUnit, Reads}
 
--- Names of sorts and variables are runs, names of operators are proper, and sides are made of tokens.
+-- the texts of a fragment are made of tokens
+abbrev pub HasProperTexts : WrittenFragment → Type 0
+HasProperTexts (Match pattern term) = AreTokens pattern × AreTokens term
+HasProperTexts (Equal left right) = AreTokens left × AreTokens right
+HasProperTexts (Other text) = AreTokens text
+
+-- Names of sorts and variables are runs, names of operators are proper, and sides and fragments are made of tokens.
 abbrev pub HasProperParts : Shape → Type 0
 HasProperParts (Sorts names) = All IsRun (texts names)
 HasProperParts (Subsorts groups) = ⊤
 HasProperParts (Operators names args result said) = All (λ (name : List Token). IsProperName (name_of_tokens (texts name))) names
 HasProperParts (Variables names sort) = All IsRun (texts names)
-HasProperParts (Equation left right executable) = AreTokens left × AreTokens right
+HasProperParts (Equation left right fragments executable) = AreTokens left × AreTokens right × All HasProperTexts fragments
 HasProperParts (Import m) = ⊤
 
 abbrev pub AreProperStatements : List SeenLined → Type 0

@@ -48,3 +48,7 @@ is_whole_string text = nat_le 2 (length text) && slice_index text 0 == 34 && sli
 -- slices of tokens as lists
 abbrev pub seen_lists : List (Bor (List Token)) → List (List Token)
 seen_lists = map (λ (ts : Bor (List Token)). ts.now)
+
+-- two slices of tokens as lists
+abbrev pub seen_halves : Bor (List Token) × Bor (List Token) → List Token × List Token
+seen_halves p = (p.0.now, p.1.now)

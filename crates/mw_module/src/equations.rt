@@ -1,10 +1,12 @@
 // Equations.
-ghost use Rattle.std.specs.Prelude.{◌≡◌, ◌<◌, ◌≤◌, ◌+◌, ◌-◌, length, reverse, IfSome, IfOk};
+ghost use Rattle.std.specs.Prelude.{◌≡◌, ◌<◌, ◌≤◌, ◌+◌, ◌-◌, length, reverse, option_map, IfSome, IfOk};
+ghost use Rattle.mw_module.specs.Conditions.{seen_condition};
 ghost use Rattle.mw_module.specs.Equations as equations;
 ghost use Rattle.mw_module.specs.Forms as forms;
 
+use crate::conditions::{WrittenFragment, condition_form, cut_at_if};
 use crate::forms::Form;
-use crate::machine::{Part, part_tokens, read};
+use crate::machine::{divided_at, read};
 use crate::table::{Place, Read, Role, Want, Wrong};
 use crate::words::{is_word, tokens_from};
 use mw_lex::Token;
@@ -96,34 +98,71 @@ fn group_at_end(len: usize, tokens: &[Token]) -> &[Token]
     &group[1..len - 1]
 }
 
-// Two sides, and the attributes behind them.
-fn sides_form<'s>(alloc: Global, sides: &'s [Token], said: &[Token]) -> Read<Form<'s>>
-    ensures { IfOk result (λ r. forms.seen_shaped r ≡ forms.sides_form sides.now said.now) }
+// The fragments of a condition, where there is one.
+fn fragments_form<'s>(
+    alloc: Global,
+    condition: Option<&'s [Token]>,
+) -> Read<Vec<WrittenFragment<'s>>>
+    ensures { IfOk result (λ r. seen_condition r ≡ forms.fragments_form (option_map (λ ts. ts.now) condition.entry)) }
 {
-    let parts = match read(alloc, Place::Left, Role::Words, Want::Nothing, sides)? {
-        Ok(parts) => parts,
-        Err(wrong) => return Ok(Err(wrong)),
-    };
-    let more = match read(alloc, Place::Statement, Role::Silent, Want::Nothing, said)? {
-        Ok(more) => more,
-        Err(wrong) => return Ok(Err(wrong)),
-    };
-    match parts.as_slice() {
-        [left, right, ..] => Ok(Ok(Form::Equation {
-            left: part_tokens(sides, *left),
-            right: part_tokens(sides, *right),
-            executable: more.is_empty(),
-        })),
-        _ => Ok(Err(Wrong::Bad)),
+    match condition {
+        Some(tokens) => condition_form(alloc, tokens),
+        None => Ok(Ok(Vec::new(alloc))),
     }
 }
 
-// A label, two sides, and attributes.
-pub fn equation_form<'s>(alloc: Global, tokens: &'s [Token]) -> Read<Form<'s>>
-    ensures { IfOk result (λ r. forms.seen_shaped r ≡ forms.equation_form tokens.now) }
+// Two sides, a condition, if there is one, and attributes.
+fn sides_form<'s>(
+    alloc: Global,
+    sides: &'s [Token],
+    condition: Option<&'s [Token]>,
+    said: &[Token],
+) -> Read<Form<'s>>
+    ensures { IfOk result (λ r.
+        forms.seen_shaped r ≡ forms.sides_form sides.now (option_map (λ ts. ts.now) condition.entry) said.now) }
+{
+    let Some((left, right)) = divided_at(alloc, Place::Left, sides)? else {
+        return Ok(Err(Wrong::Bad));
+    };
+    let fragments = match fragments_form(alloc, condition)? {
+        Ok(fragments) => fragments,
+        Err(wrong) => return Ok(Err(wrong)),
+    };
+    match read(alloc, Place::Statement, Role::Silent, Want::Nothing, said)? {
+        Ok(more) => Ok(Ok(Form::Equation {
+            left,
+            right,
+            fragments,
+            executable: more.is_empty(),
+        })),
+        Err(wrong) => Ok(Err(wrong)),
+    }
+}
+
+// What an equation with a condition, or without, states in front of these attributes.
+fn stated<'s>(
+    alloc: Global,
+    conditional: bool,
+    tokens: &'s [Token],
+    said: &[Token],
+) -> Read<Form<'s>>
+    ensures { IfOk result (λ r. forms.seen_shaped r ≡ forms.stated conditional tokens.now said.now) }
+{
+    if !conditional {
+        return sides_form(alloc, tokens, None, said);
+    }
+    match cut_at_if(tokens) {
+        Some((sides, condition)) => sides_form(alloc, sides, Some(condition), said),
+        None => Ok(Err(Wrong::Bad)),
+    }
+}
+
+// A label, two sides, a condition where one is asked for, and attributes.
+pub fn equation_form<'s>(alloc: Global, conditional: bool, tokens: &'s [Token]) -> Read<Form<'s>>
+    ensures { IfOk result (λ r. forms.seen_shaped r ≡ forms.equation_form conditional tokens.now) }
 {
     let behind = unlabelled(tokens);
     let len = attributes_len(behind);
     let said = group_at_end(len, behind);
-    sides_form(alloc, &behind[..behind.len() - len], said)
+    stated(alloc, conditional, &behind[..behind.len() - len], said)
 }

@@ -3,6 +3,7 @@ ghost use Rattle.std.specs.Prelude.{◌≡◌, IfOk};
 ghost use Rattle.mw_module.specs.Forms as forms;
 
 use crate::attribute::Attributes;
+use crate::conditions::WrittenFragment;
 use crate::equations::equation_form;
 use crate::faults::FaultKind;
 use crate::machine::{first_token, lists_of, read};
@@ -38,10 +39,12 @@ pub enum Form<'s> {
         names: &'s [Token],
         sort: &'s Token,
     },
-    /// The two sides of an equation, each of which may be empty.
+    /// The two sides of an equation, each of which may be empty, and the fragments of its condition: none where it has
+    /// no condition.
     Equation {
         left: &'s [Token],
         right: &'s [Token],
+        fragments: Vec<WrittenFragment<'s>>,
         executable: bool,
     },
     /// A module that is imported, by its name.
@@ -130,7 +133,8 @@ fn form_behind<'s>(alloc: Global, opening: Opening, tokens: &'s [Token]) -> Read
         Opening::Operator => operators_form(alloc, true, tokens),
         Opening::Operators => operators_form(alloc, false, tokens),
         Opening::Variables => variables_form(alloc, tokens),
-        Opening::Equation => equation_form(alloc, tokens),
+        Opening::Equation => equation_form(alloc, false, tokens),
+        Opening::Conditional => equation_form(alloc, true, tokens),
         Opening::Import => Ok(import_form(tokens)),
         Opening::Elsewhere => Ok(Err(Wrong::Bad)),
         Opening::Unread => Ok(Err(Wrong::Unread)),

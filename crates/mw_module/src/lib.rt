@@ -17,6 +17,13 @@
 //!   operators and variables end at the first colon, argument sorts at the first arrow; an equation's label and its
 //!   attributes (the group from the `[` that matches a last `]`, only these two counted, if its second token is an
 //!   attribute's) are taken off, and a counter of `( [ { if` and `) ] } fi`, never below 0, finds the `=`.
+//! - `ceq` and `cq` state an equation with a condition. What is left of its label and attributes is cut at the one `if`
+//!   that no `fi` closes, of all tokens only these two counted, a `fi` closing the last `if` that is open; where none
+//!   stays open, or several do, the statement is bad. Sides stand in front of it, divided as those of `eq` are, and the
+//!   condition behind it. Each `/\` that is outside by the counter above, from the condition's start on, divides it into
+//!   fragments; and a fragment is divided by the first such `:=`, also where a `=` stands in front of it, or else by the
+//!   first such `=`, or else is any other text: a sort test or a Boolean term. All these texts may be empty. A `=>`
+//!   outside isn't in the profile. What is wrong is told in this order: the `if`, the sides, the condition, attributes.
 //! - `op` has one name of one or more tokens, `ops` one or more, each a token or the tokens of a group in parentheses,
 //!   of which only parentheses are counted.
 //! - `Attributes` holds what a list says: the axioms, with the token that names an identity, a precedence, a gather,
@@ -42,6 +49,7 @@
 #![tactic(auto)]
 
 mod attribute;
+mod conditions;
 mod equations;
 mod faults;
 mod forms;
@@ -56,6 +64,7 @@ mod units;
 mod words;
 
 pub use attribute::Attributes;
+pub use conditions::WrittenFragment;
 pub use faults::{Fault, FaultKind, UnitError};
 pub use forms::Form;
 pub use machine::parts_ascend;

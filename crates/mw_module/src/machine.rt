@@ -2,7 +2,7 @@
 ghost use Rattle.std.specs.Prelude.{◌≡◌, ◌<◌, ◌≤◌, ◌+◌, map, length, option_map, IfOk, OnOk};
 ghost use Rattle.mw_module.specs.Rows.{seen_row};
 ghost use Rattle.mw_module.specs.Rows as spec;
-ghost use Rattle.mw_module.specs.Words.{seen_lists};
+ghost use Rattle.mw_module.specs.Words.{seen_lists, seen_halves};
 ghost use Rattle.mw_module.specs.Parts.{PartsAscend};
 ghost use Rattle.mw_module.specs.Reading as reading;
 
@@ -271,6 +271,30 @@ pub fn lists_of<'s>(
         rest = after;
     }
     Ok(lists)
+}
+
+// The tokens of the first two parts.
+fn halves<'s>(tokens: &'s [Token], parts: &[Part]) -> Option<(&'s [Token], &'s [Token])>
+    ensures { option_map seen_halves result ≡ reading.halves tokens.now parts.now }
+{
+    match parts {
+        [first, second, ..] => Some((part_tokens(tokens, *first), part_tokens(tokens, *second))),
+        _ => None,
+    }
+}
+
+/// The two parts of a piece that begins at this place, or none where it isn't of the form.
+pub fn divided_at<'s>(
+    alloc: Global,
+    place: Place,
+    tokens: &'s [Token],
+) -> Result<Option<(&'s [Token], &'s [Token])>, AllocError>
+    ensures { IfOk result (λ o. option_map seen_halves o ≡ reading.divided_at place tokens.now) }
+{
+    match read(alloc, place, Role::Words, Want::Nothing, tokens)? {
+        Ok(parts) => Ok(halves(tokens, parts.as_slice())),
+        Err(_) => Ok(None),
+    }
 }
 
 /// The first token of the first part.

@@ -13,6 +13,7 @@ pub enum Opening {
     Operators,
     Variables,
     Equation,
+    Conditional,
     Import,
     /// A statement of other kinds of modules.
     Elsewhere,
@@ -66,6 +67,8 @@ pub fn opening_of(rules: bool, word: &[u8]) -> Opening
         Opening::Variables
     } else if same(word, b"eq") {
         Opening::Equation
+    } else if same(word, b"ceq") || same(word, b"cq") {
+        Opening::Conditional
     } else if is_import(word) {
         Opening::Import
     } else if rules && is_rule(word) {

@@ -39,9 +39,13 @@ pub enum Place {
     Format,
     Formatted,
     Metadata,
-    /// In the sides of an equation.
+    /// In the sides of an equation, or of a fragment of a condition that is one.
     Left,
     Right,
+    /// In the pattern of a fragment that is a match.
+    Pattern,
+    /// Among the fragments of a condition.
+    Condition,
     /// Among the attributes of a statement, and behind the words of some.
     Statement,
     Label,
@@ -54,7 +58,7 @@ pub enum Place {
 /// What the tokens of a part are.
 #[derive(Clone, Copy)]
 pub enum Role {
-    /// A name, a group of sorts or a side.
+    /// A name, a group of sorts, a side or a fragment.
     Words,
     /// A sort, and whether its kind is meant.
     Sort(bool),
@@ -275,6 +279,31 @@ pub fn entry_of(place: Place) -> Entry
         ] },
         Place::Right => Entry { end: Closes, rows: &[
             Row { word: b"", test: Any, act: Skip, next: Ok(Place::Right) },
+        ] },
+        Place::Pattern => Entry { end: Never, rows: &[
+            Row { word: b":=", test: Outside, act: Next(Role::Words), next: Ok(Place::Right) },
+            Row { word: b"(", test: Any, act: Deeper, next: Ok(Place::Pattern) },
+            Row { word: b"[", test: Any, act: Deeper, next: Ok(Place::Pattern) },
+            Row { word: b"{", test: Any, act: Deeper, next: Ok(Place::Pattern) },
+            Row { word: b"if", test: Any, act: Deeper, next: Ok(Place::Pattern) },
+            Row { word: b")", test: Any, act: Shallower, next: Ok(Place::Pattern) },
+            Row { word: b"]", test: Any, act: Shallower, next: Ok(Place::Pattern) },
+            Row { word: b"}", test: Any, act: Shallower, next: Ok(Place::Pattern) },
+            Row { word: b"fi", test: Any, act: Shallower, next: Ok(Place::Pattern) },
+            Row { word: b"", test: Any, act: Skip, next: Ok(Place::Pattern) },
+        ] },
+        Place::Condition => Entry { end: Closes, rows: &[
+            Row { word: b"/\\", test: Outside, act: Next(Role::Words), next: Ok(Place::Condition) },
+            Row { word: b"=>", test: Outside, act: Skip, next: Err(Wrong::Unread) },
+            Row { word: b"(", test: Any, act: Deeper, next: Ok(Place::Condition) },
+            Row { word: b"[", test: Any, act: Deeper, next: Ok(Place::Condition) },
+            Row { word: b"{", test: Any, act: Deeper, next: Ok(Place::Condition) },
+            Row { word: b"if", test: Any, act: Deeper, next: Ok(Place::Condition) },
+            Row { word: b")", test: Any, act: Shallower, next: Ok(Place::Condition) },
+            Row { word: b"]", test: Any, act: Shallower, next: Ok(Place::Condition) },
+            Row { word: b"}", test: Any, act: Shallower, next: Ok(Place::Condition) },
+            Row { word: b"fi", test: Any, act: Shallower, next: Ok(Place::Condition) },
+            Row { word: b"", test: Any, act: Skip, next: Ok(Place::Condition) },
         ] },
         Place::Statement => Entry { end: Free, rows: &[
             Row { word: b"nonexec", test: Any, act: One(Role::Nonexec), next: Ok(Place::Statement) },
