@@ -13,8 +13,6 @@ use Rattle.mw_logic.specs.Module.{Module, Statement, IsStatement}
 use Rattle.mw_logic.specs.Proof.{Proof, equality, transitivity, rules}
 use Rattle.mw_logic.specs.Judgements.{judgements_with, admitted_judgements, Leads, AdmittedStep, Evaluates, IsNormalBy, IsNormal, Fails}
 use Rattle.mw_logic.specs.Ends.{IsFinal}
-use Rattle.mw_logic.proofs.AxiomLaws.{sym as back}
-use Rattle.mw_logic.proofs.EqualTerms.{normal_equal}
 use Rattle.mw_logic.proofs.Soundness.{normal_form-sound}
 use Rattle.mw_logic.proofs.RawKept.{raw_kept}
 use Rattle.mw_logic.proofs.Inside.{raw_inside}
@@ -25,30 +23,27 @@ use Rattle.mw_deduction.specs.Chains.{proof_of}
 use Rattle.mw_deduction.specs.Reading.{Reading}
 use Rattle.mw_deduction.specs.Standing.{At}
 
-by_rank : (M : Module) → IsAccepted M.signature → (n : ℕ) (side : RawTerm) (p : Proof) (u : RawTerm) → IsRawTerm M.signature side
-    → Leads M (AdmittedStep M) (admitted_judgements M n).Held (admitted_judgements M n).Fails [] p (nested M.signature (normal_form M.signature side)) u → (admitted_judgements M n).Proves (transitivity equality p) side u
+by_rank : (M : Module) → IsAccepted M.signature → (n : ℕ) (side : RawTerm) (p : Proof) (v u : RawTerm) → IsRawTerm M.signature side
+    → Leads M (AdmittedStep M) (admitted_judgements M n).Held (admitted_judgements M n).Fails [] p (nested M.signature (normal_form M.signature side)) v → EqualModulo M.signature v u
+    → (admitted_judgements M n).Proves (transitivity equality (transitivity p equality)) side u
 unfolding judgements_with
-by_rank M ok zero side p u r l = (_, normal_form-sound M.signature ok r, l)
-by_rank M ok (suc n) side p u r l = (_, normal_form-sound M.signature ok r, l)
+by_rank M ok zero side p v u r l e = (_, normal_form-sound M.signature ok r, (v, l, e))
+by_rank M ok (suc n) side p v u r l e = (_, normal_form-sound M.signature ok r, (v, l, e))
 
 normal_at : (M : Module) (n : ℕ) (u : RawTerm) → IsNormalBy M (admitted_judgements M n).Fails u → (admitted_judgements M n).Normal u
 unfolding judgements_with
 normal_at M zero u h = h
 normal_at M (suc n) u h = h
 
--- A side that was reduced to a normal term evaluates to a term equal to that, by equality and the replacements that were read.
+-- A side that was reduced to a normal term evaluates to that, by equality, the replacements that were read, and equality.
 pub side_evaluates : (M : Module) → IsAccepted M.signature → (n : ℕ) (side : RawTerm) (R : Reading) (t : RawTerm) → IsRawTerm M.signature side
     → At M (admitted_judgements M n).Held (admitted_judgements M n).Fails (nested M.signature (normal_form M.signature side)) R [] t → rules (proof_of R.done) ≡ 0 → IsNormalBy M (admitted_judgements M n).Fails (nested M.signature t)
-    → (a : RawTerm) × EqualModulo M.signature a (nested M.signature t) × Evaluates (admitted_judgements M n) side (transitivity equality (proof_of R.done)) a
-side_evaluates M ok n side R t r at z normal = (
-  at.whole,
-  at.is,
-  record {
-    proves = by_rank M ok n side (proof_of R.done) at.whole r at.leads;
-    equational = omega (arith, z);
-    normal = normal_at M n at.whole (normal_equal M (admitted_judgements M n).Fails (back at.is) normal);
-  },
-)
+    → Evaluates (admitted_judgements M n) side (transitivity equality (transitivity (proof_of R.done) equality)) (nested M.signature t)
+side_evaluates M ok n side R t r at z normal = record {
+  proves = by_rank M ok n side (proof_of R.done) at.whole (nested M.signature t) r at.leads at.is;
+  equational = omega (arith, z);
+  normal = normal_at M n (nested M.signature t) normal;
+}
 
 -- A normal term is final where, at each part for rules of its flattened form, each rule's every solution fails.
 pub final_found : (M : Module) → IsAccepted M.signature → IsWellSorted M.signature → (u : RawTerm) → IsRawTerm M.signature (nested M.signature u) → normal_form M.signature (nested M.signature u) ≡ u → IsNormal M 63 (nested M.signature u)

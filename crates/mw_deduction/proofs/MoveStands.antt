@@ -20,12 +20,12 @@ use Rattle.mw_deduction.specs.Chains.{proof_of}
 use Rattle.mw_deduction.specs.Reading.{Reading, flat, applying}
 use Rattle.mw_deduction.specs.Standing.{Open, filled, round, IsClear, At}
 use Rattle.mw_deduction.specs.Runs.{Done, by_statement, by_row, none, one, both, run, end, Carries, SameDone}
-use Rattle.mw_deduction.specs.Replay.{Move, into, among, out, begins, ends, applies, meets, Stand, begun, opened, whole, going_in, into_argument, into_several, going_out, replacing, becomes, put_behind, showing, play, plays, MayReplace, MayGoIn, MayGoAmong, MayApply, MayMeet, IsMove, AreMoves}
+use Rattle.mw_deduction.specs.Replay.{Move, into, among, out, begins, ends, applies, meets, Stand, begun, opened, whole, going_in, into_argument, into_several, going_out, replacing, becomes, put_behind, showing, play, plays, MayReplace, MayGoIn, MayGoAmong, MayApply, MayMeet, IsMove, AreMoves, concluded}
 use Rattle.mw_deduction.specs.Stands.{IsStanding, AreStanding}
 use Rattle.mw_deduction.proofs.Clear.{place_of-round}
 use Rattle.mw_deduction.proofs.Standing as standing
 use Rattle.mw_deduction.proofs.Standing.{goes_in, goes_in-whole, goes_in_several, goes_in_several-whole, goes_out, goes_out-whole, applies_on, applies_on-whole, row_on, row_on-whole}
-use Rattle.mw_deduction.proofs.Carrying.{same_itself}
+use Rattle.mw_deduction.proofs.Carrying.{both_none, same_itself}
 use Rattle.mw_deduction.proofs.RunLaws.{carries_step, same_both, carries_behind, same_behind}
 use Rattle.mw_deduction.proofs.Taking.{into_is, Taken, taken, cut_out}
 
@@ -179,17 +179,18 @@ module _ (M : Module) (ok : IsAccepted M.signature) where
   -- a side that was shown waits for its statement
   shows : (S Q : Stand) → IsStanding M (with_opens S []) → IsStanding M Q → IsStanding M (showing sig S Q)
   shows S Q s q =
-      let p : Proof = transitivity equality (proof_of S.read.done) in
-      let c : Carries sig [] p (nested sig S.from) s.at.whole s.done = (nested sig S.from, none, s.done, refl, (done, refl), s.carries) in
+      let p : Proof = transitivity equality (concluded S) in
+      let t : RawTerm = nested sig S.hand in
+      let c : Carries sig [] (concluded S) (nested sig S.from) t s.done = (s.at.whole, s.done, none, sym (both_none s.done), s.carries, (s.at.is, refl)) in
       let a = q.at in
       record {
         at = record { whole = a.whole; leads = a.leads; is = a.is; entered = a.entered; raw = a.raw; admitted = a.admitted; clear = a.clear; canonical = a.canonical };
         done = q.done;
         carries = q.carries;
         same = q.same;
-        sides = put_behind q.sides (run (nested sig S.from) s.at.whole s.done);
-        shown = carries_behind sig Q.read.ready q.sides p (nested sig S.from) s.at.whole s.done q.shown c;
-        same_sides = same_behind sig Q.sides q.sides (run (nested sig S.from) (nested sig S.hand) S.run) (run (nested sig S.from) s.at.whole s.done) q.same_sides (done, back s.at.is, s.same);
+        sides = put_behind q.sides (run (nested sig S.from) t s.done);
+        shown = carries_behind sig Q.read.ready q.sides p (nested sig S.from) t s.done q.shown (nested sig S.from, none, s.done, refl, (done, refl), c);
+        same_sides = same_behind sig Q.sides q.sides (run (nested sig S.from) t S.run) (run (nested sig S.from) t s.done) q.same_sides (done, done, s.same);
       }
 
   -- one move

@@ -44,4 +44,4 @@ counted_applying p R e = let (a, b, c) = one p R in omega (arith, c, e)
 
 -- a side that was shown counts in the statement that it waits for
 pub counted_given : (R Q : Reading) → R.ready ≡ proof.nil → counted (given (proof_of R.done) Q) ≡ counted R + counted Q
-counted_given R Q e = let h = behind-count Q.ready (transitivity equality (proof_of R.done)) in let k : count_of R.ready ≡ 0 = rw e refl in omega (arith, h, k)
+counted_given R Q e = let h = behind-count Q.ready (transitivity equality (transitivity (proof_of R.done) equality)) in let k : count_of R.ready ≡ 0 = rw e refl in omega (arith, h, k)

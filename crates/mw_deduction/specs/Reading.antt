@@ -35,9 +35,9 @@ leaving R = record { entered = left R.entered; done = R.done; ready = R.ready }
 abbrev pub applying : Proof → Reading → Reading
 applying p R = record { entered = R.entered; done = R.done ++ record { place = flat R.entered; step = p } ∷ []; ready = proof.nil }
 
--- evidence is a proof from the side's instance as it is written
+-- Evidence is a proof from the side's instance as it is written to the term that it is reduced to.
 abbrev pub given : Proof → Reading → Reading
-given p R = record { entered = R.entered; done = R.done; ready = behind R.ready (transitivity equality p) }
+given p R = record { entered = R.entered; done = R.done; ready = behind R.ready (transitivity equality (transitivity p equality)) }
 
 -- how many replacements were read, those in evidence too
 abbrev pub counted : Reading → ℕ

@@ -100,10 +100,13 @@ module _ (sig : Signature) where
       pub rearranged_size : length (values_of s zs) ≡ length zs
       rearranged_size = length-map zs (value_of s)
 
+      pub rearranged_substitution : AreDistinct zs → IsSubstitution sig (meant sig (zip zs (values_of s zs)))
+      rearranged_substitution distinct = zip_substitution sig zs (values_of s zs) distinct rearranged_size rearranged_values rearranged_sorts
+
       -- so it is a solution still
       pub rearranged_solution : (p t : RawTerm) → AreDistinct zs → IsSolution sig p t [] (meant sig s) → IsSolution sig p t [] (meant sig (zip zs (values_of s zs)))
       rearranged_solution p t distinct sol = record {
-        substitution = zip_substitution sig zs (values_of s zs) distinct rearranged_size rearranged_values rearranged_sorts;
+        substitution = rearranged_substitution distinct;
         extends = λ x t e. absurd (none-some t e);
         variables = λ x. meant_bound sig (zip zs (values_of s zs)) x ∙ bound_zip zs (values_of s zs) x rearranged_size ∙ sym (meant_is_bound x) ∙ sol.variables x;
         matches = trans (back (instance_same sig (meant sig s) (meant sig (zip zs (values_of s zs))) rearranged_same p)) sol.matches;

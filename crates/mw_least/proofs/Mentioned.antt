@@ -1,12 +1,13 @@
 -- The variables of a statement: each stands once, and they are those of its sides and fragments.
-use Rattle.std.specs.Prelude.{◌≡◌, List, [], ◌∷◌, Bool, ◌||◌, IsTrue}
+use Rattle.std.specs.Prelude.{◌≡◌, List, [], ◌∷◌, ◌++◌, Bool, true, ◌||◌, cond, IsTrue, refl}
 use Rattle.std.proofs.Common.{sym, ap, ◌∙◌}
 use Rattle.std.proofs.Math.Bool.{or-false, or_assoc}
 use Rattle.std.proofs.lemmas.Bool.{or_left, or_right}
-use Rattle.mw_logic.specs.Term.{Variable, RawTerm}
-use Rattle.mw_logic.specs.Substitution.{occurs}
+use Rattle.mw_logic.specs.Term.{Variable, RawTerm, RawTerms, numeral, quoted, variable, apply, nil, cons}
+use Rattle.mw_logic.specs.Substitution.{occurs, occurs_in}
+use Rattle.mw_logic.proofs.SameConditions.{same_variable-refl}
 use Rattle.mw_logic.specs.Module.{Fragment, equal, matches, has_sort, is_true, Statement}
-use Rattle.mw_position.specs.Variables.{is_in, met, AreDistinct}
+use Rattle.mw_position.specs.Variables.{is_in, met, all_met, AreDistinct}
 use Rattle.mw_position.proofs.Meeting.{is_in-met, AreDistinct-met}
 use Rattle.mw_least.specs.Conditions.{met_fragments, mentioned, occurs_among}
 
@@ -44,3 +45,16 @@ module _ (e : Statement) where
 
   pub among_mentioned : (x : Variable) → IsTrue (occurs_among x e.fragments) → IsTrue (is_in x (mentioned e))
   among_mentioned x o = is_mentioned x ∙ or_right (occurs x e.left || occurs x e.right) (occurs_among x e.fragments) o
+
+mutual
+  -- a term in which no variable is new
+  pub met_again : (xs : List Variable) (t : RawTerm) → ((x : Variable) → IsTrue (occurs x t) → is_in x xs ≡ true) → met xs t ≡ xs
+  met_again xs (numeral n) h = refl
+  met_again xs (quoted q) h = refl
+  met_again xs (variable x) h = ap (λ b. cond b xs (xs ++ x ∷ [])) (h x (same_variable-refl x))
+  met_again xs (apply f ts) h = all_met_again xs ts h
+
+  all_met_again : (xs : List Variable) (ts : RawTerms) → ((x : Variable) → IsTrue (occurs_in x ts) → is_in x xs ≡ true) → all_met xs ts ≡ xs
+  all_met_again xs nil h = refl
+  all_met_again xs (cons t ts) h =
+      ap (λ ys. all_met ys ts) (met_again xs t (λ x o. h x (or_left (occurs x t) (occurs_in x ts) o))) ∙ all_met_again xs ts (λ x o. h x (or_right (occurs x t) (occurs_in x ts) o))

@@ -20,14 +20,14 @@ use Rattle.mw_deduction.specs.Chains.{proof_of}
 use Rattle.mw_deduction.specs.Reading.{behind}
 use Rattle.mw_deduction.specs.Frontier.{together}
 use Rattle.mw_deduction.specs.Runs.{by_statement, by_row, none, one, Runs, end, another, Run, run}
-use Rattle.mw_deduction.specs.Replay.{Move, begins, ends, applies, meets, Stand, begun, becomes, put_behind, replacing, showing, plays, MayReplace, MayBegin, AreMoves}
+use Rattle.mw_deduction.specs.Replay.{Move, begins, ends, applies, meets, Stand, begun, becomes, put_behind, replacing, showing, plays, MayReplace, MayBegin, AreMoves, concluded}
 use Rattle.mw_deduction.specs.Above.{ranked}
 use Rattle.mw_deduction.proofs.Concluding.{IsOutermostOf, played_of}
 use Rattle.mw_deduction.proofs.Moves.{plays-append, moves-append, plays_over}
 use Rattle.mw_deduction.proofs.MoveStands.{becomes_is}
 use Rattle.mw_trail.specs.Tracks.{Track, moves, variables_of, is_rule}
 use Rattle.mw_proof.specs.Deductions.{Deduction, first_of, end_of, deduced, IsKept}
-use Rattle.mw_proof.specs.Replacing.{shortened, evidence, carried_out, AreBelow, AreSides, bindings, values_of, instance_in, MayApply, Applies, MeetsRow}
+use Rattle.mw_proof.specs.Replacing.{evidence, carried_out, AreBelow, AreSides, bindings, values_of, instance_in, MayApply, Applies, MeetsRow}
 use Rattle.mw_proof.proofs.Keeping.{kept_above}
 
 together-nil : (es : Proofs) → together es nil ≡ es
@@ -84,10 +84,10 @@ module _ (M : Module) (ok : IsAccepted M.signature) (n : ℕ) (t : RawTerm) wher
 
     -- what comes of it
     abbrev shown : Stand
-    shown = waiting n t (behind es (transitivity equality (shortened d.proof))) (put_behind rs (run (nested sig d.from) (nested sig d.to) d.run))
+    shown = waiting n t (behind es (transitivity equality d.proof)) (put_behind rs (run (nested sig d.from) (nested sig d.to) d.run))
 
-    done_is : proof_of last.read.done ≡ shortened d.proof
-    done_is = ap (λ (S : Stand). proof_of S.read.done) last_is ∙ sym (ap (λ (x : Deduction). shortened x.proof) is)
+    done_is : concluded last ≡ d.proof
+    done_is = ap concluded last_is ∙ sym (ap (λ (x : Deduction). x.proof) is)
 
     run_is : run (nested sig last.from) (nested sig last.hand) last.run ≡ run (nested sig d.from) (nested sig d.to) d.run
     run_is =
@@ -97,7 +97,7 @@ module _ (M : Module) (ok : IsAccepted M.signature) (n : ℕ) (t : RawTerm) wher
 
     shows_it : showing sig last (waiting n t es rs) ≡ shown
     shows_it = ap (λ p. waiting n t (behind es (transitivity equality p)) (put_behind rs (run (nested sig last.from) (nested sig last.hand) last.run))) done_is
-        ∙ ap (λ r. waiting n t (behind es (transitivity equality (shortened d.proof))) (put_behind rs r)) run_is
+        ∙ ap (λ r. waiting n t (behind es (transitivity equality d.proof)) (put_behind rs r)) run_is
 
     inside : AreMoves M (moves M k) (begun (n - 1) d.from ∷ waiting n t es rs ∷ []) × (plays M (moves M k) (begun (n - 1) d.from ∷ waiting n t es rs ∷ []) ≡ last ∷ waiting n t es rs ∷ [])
     inside =
@@ -121,7 +121,7 @@ module _ (M : Module) (ok : IsAccepted M.signature) (n : ℕ) (t : RawTerm) wher
     ap (λ ns. plays M ns (waiting n t es rs ∷ [])) e ∙ ap (λ qs. waiting n t qs rs ∷ []) (sym (together-nil es)) ∙ ap (λ qs. waiting n t (together es nil) qs ∷ []) (sym (all_runs-end rs)),
   )
   all_sides low (d ∷ ds) ms (over, below, b) (k, rest, kept, is, e, more) es rs =
-      let p : Proof = transitivity equality (shortened d.proof) in
+      let p : Proof = transitivity equality d.proof in
       let r : Run = run (nested sig d.from) (nested sig d.to) d.run in
       let (x, y) = one_side low d over below k kept is es rs in
       let (v, w) = all_sides low ds rest b more (behind es p) (put_behind rs r) in

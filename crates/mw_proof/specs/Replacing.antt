@@ -17,19 +17,10 @@ use Rattle.mw_proof.specs.Deductions.{Deduction, deduced, IsKept}
 use Rattle.mw_proof.specs.declared.replacing.By.{By}
 use Rattle.mw_proof.specs.declared.replacing.By.TheVariants as by
 
--- a deduction's proof without the equality that it ends with
-abbrev pub shortened : Proof → Proof
-shortened reflexivity = reflexivity
-shortened equality = equality
-shortened (congruence ps) = congruence ps
-shortened (transitivity p q) = p
-shortened (replacement k r s es) = replacement k r s es
-shortened row = row
-
 -- The evidence that deductions are: each leads on from what is equal, modulo the axioms, to the term that it begins with. And what they carry out.
 abbrev pub evidence : List Deduction → Proofs
 evidence [] = nil
-evidence (d ∷ ds) = cons (transitivity equality (shortened d.proof)) (evidence ds)
+evidence (d ∷ ds) = cons (transitivity equality d.proof) (evidence ds)
 
 abbrev pub carried_out : Signature → List Deduction → Runs
 carried_out sig [] = end

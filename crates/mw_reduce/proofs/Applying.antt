@@ -1,5 +1,6 @@
 -- A choice is an equation that applies, and a step by a row one that is met.
 use Rattle.std.specs.Prelude.{IsNone, ◌≡◌, ◌-◌, ◌^◌, ◌||◌, min, ℕ, zero, suc, List, [], ◌∷◌, length, Option, Some, None, IsTrue, IsFalse, refl}
+use Rattle.std.specs.List.{zip}
 use Rattle.std.proofs.Common.{sym, subst, ap, ◌∙◌, ⊎_elim}
 use Rattle.std.proofs.Math.Bool.{or-false}
 use Rattle.std.proofs.lemmas.Bool.{both_ways, or_cases}
@@ -9,7 +10,8 @@ use Rattle.mw_logic.specs.Signature.{Signature}
 use Rattle.mw_logic.specs.NormalForm.{normal_form, height}
 use Rattle.mw_logic.specs.Accepted.{IsAccepted}
 use Rattle.mw_logic.specs.Parts.{nested}
-use Rattle.mw_logic.specs.Substitution.{Substitution, occurs}
+use Rattle.mw_logic.specs.Substitution.{Substitution, value, occurs, IsSubstitution}
+use Rattle.mw_canon.specs.Canonical.{meant}
 use Rattle.mw_logic.specs.Module.{Fragment, Module, Statement, IsStatement}
 use Rattle.mw_logic.specs.Proof.{nil}
 use Rattle.mw_logic.specs.Judgements.{IsNormalBy, admitted_judgements, judgements_with}
@@ -17,11 +19,12 @@ use Rattle.mw_logic.proofs.Canonical.{IsCanonical, canonical}
 use Rattle.mw_solving.proofs.Grounds.{nested_ground}
 use Rattle.mw_builtin.specs.Steps as rows
 use Rattle.mw_position.specs.Positions.{fill}
-use Rattle.mw_position.specs.Variables.{is_in, placed, sorts_of}
+use Rattle.mw_position.specs.Variables.{is_in, met, placed, sorts_of}
+use Rattle.mw_position.proofs.Meeting.{is_in-met}
 use Rattle.mw_pattern.specs.Clean.{clean}
-use Rattle.mw_least.specs.Conditions.{occurs_among, binds_among}
+use Rattle.mw_least.specs.Conditions.{met_fragments, occurs_among, binds_among}
 use Rattle.mw_least.specs.Workable.{IsOrdinaryEquation, IsWorkable}
-use Rattle.mw_least.proofs.Mentioned.{is_mentioned}
+use Rattle.mw_least.proofs.Mentioned.{is_mentioned, met_again}
 use Rattle.mw_index.specs.Choices.{IsTaken, IsChoice, solution_of}
 use Rattle.mw_index.specs.Equations.{IsLeft, HasFreeLeft}
 use Rattle.mw_index.specs.Index.{operator_of}
@@ -55,7 +58,7 @@ length_sorts [] = refl
 length_sorts (x ∷ xs) = ap suc (length_sorts xs)
 
 free_left : (sig : Signature) (top : Option ℕ) (e : Statement) (l : Left) → IsLeft sig top e l → HasFreeLeft sig l
-    → (f : ℕ) × (ps : RawTerms) × (apply f ps ≡ placed e.variables (normal_form sig e.left)) × frames.IsFree sig (apply f ps)
+    → (f : ℕ) × (ps : RawTerms) × (apply f ps ≡ placed (met [] e.left) (normal_form sig e.left)) × frames.IsFree sig (apply f ps)
 free_left sig None e (Plain ps) h k = absurd h
 free_left sig (Some f) e (Plain ps) h k = (f, ps, h.pattern, free_same sig (apply f ps) (h.plain, k))
 free_left sig top e (Searched s) h k = absurd k
@@ -88,13 +91,21 @@ left_alone sig e is none x h k =
     within : IsTrue (occurs x e.left || occurs x e.right)
     within = sym (or-false (occurs x e.left || occurs x e.right)) ∙ ap (λ C. (occurs x e.left || occurs x e.right) || occurs_among x C) (sym none) ∙ sym (is_mentioned e x) ∙ ap (is_in x) (sym is.variables) ∙ h
 
+-- so they are all
+only_lefts : (sig : Signature) (e : Statement) → IsOrdinaryEquation sig e → e.fragments ≡ [] → e.variables ≡ met [] e.left
+only_lefts sig e is none =
+    is.variables ∙ ap (met_fragments (met (met [] e.left) e.right)) none
+    ∙ met_again (met [] e.left) e.right (λ x o. is_in-met x [] e.left ∙ subst (λ C. IsTrue (binds_among (λ y. occurs y e.left) C x)) none (is.bound x o))
+
 pub choice_applies : (M : Module) → IsWorkable M → (n : ℕ) (t : RawTerm) (c : Choice) → (i : IsChoice M t c) → length c.values.items ≡ length c.equation.now.sorts → (a : Applied) → IsAppliedAs c.equation.now a
     → IsPartTaken M.signature c.take t i.part × IsApplied M n a [] c.values.items i.part
 choice_applies M w n t c i sized a is =
     let e : Statement = i.statement in
     let ordinary = w.equations c.equation.now.number e i.is_there in
     let none : e.fragments ≡ [] = w.unconditional c.equation.now.number e i.is_there in
-    let s : Substitution = solution_of M.signature e c.values.items in (
+    let s : Substitution = solution_of M.signature e c.values.items in
+    let lefts : e.variables ≡ met [] e.left = only_lefts M.signature e ordinary none in
+    let same : s ≡ meant M.signature (zip e.variables c.values.items) = ap (λ xs. meant M.signature (zip xs c.values.items)) (sym lefts) in (
       taken_same M.signature c.take t i.part i.taken,
       record {
         redex = record {
@@ -102,15 +113,15 @@ choice_applies M w n t c i sized a is =
           is_there = subst (λ k. IsStatement M k e) (sym is.number) i.is_there;
           ordinary = ordinary;
           sides = w.sides c.equation.now.number e i.is_there.is_there;
-          size = sized ∙ ap length i.is.sorts ∙ length_sorts e.variables;
+          size = sized ∙ ap length i.is.sorts ∙ length_sorts (met [] e.left) ∙ ap length (sym lefts);
           values = i.values;
-          substitution = i.solution.substitution;
+          substitution = subst (IsSubstitution M.signature) same i.solution.substitution;
           solution = s;
           solves = i.solution;
           reached = s;
           shown = nothing_shown M n e.fragments s none;
           goes_on = λ x u h. h;
-          reaches = λ x u h. h;
+          reaches = λ x u h. subst (λ q. value q x ≡ Some u) same h;
           found = λ x h k. absurd (left_alone M.signature e ordinary none x h k);
           right = ap clean is.right ∙ i.is.right;
         };
@@ -118,7 +129,7 @@ choice_applies M w n t c i sized a is =
         levels = is.levels ∙ i.is.levels ∙ ap (λ p. min (height (fill [] (clean p))) (2 ^ 16 - 1)) (sym is.right);
         sure = λ h.
             let (f, ps, left, free) = free_left M.signature (operator_of t) e c.equation.now.left i.is.left (i.is.sure (sym is.sure ∙ h)) in
-            record { operator = f; patterns = ps; left = left; free = free; found = λ x z k. absurd (left_alone M.signature e ordinary none x z k) };
+            record { operator = f; patterns = ps; left = left ∙ ap (λ xs. placed xs (normal_form M.signature e.left)) (sym lefts); free = free; found = λ x z k. absurd (left_alone M.signature e ordinary none x z k) };
       },
     )
 

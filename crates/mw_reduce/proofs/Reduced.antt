@@ -89,7 +89,7 @@ module _ (M : Module) (n : ℕ) (t0 : RawTerm) (p : Proof) (u : RawTerm) (most s
 
 -- the run that begins at t
 abbrev pub run_of : Module → ℕ → RawTerm → Run
-run_of M n t = record { over = M; rank = n; start = begun n t ∷ []; below = [] }
+run_of M n t = record { over = M; rank = n; from = t; start = begun n t ∷ []; below = [] }
 
 -- nothing is kept or waits
 abbrev pub nothing : Data
@@ -105,7 +105,7 @@ module _ (M : Module) (w : IsWorkable M) (n : ℕ) (low : n ≤ 63) (t : RawTerm
   pub begins_in_hand : InHand (run_of M n t) 0 nothing (Walk t)
   begins_in_hand = record {
     stand = begun n t;
-    leads = record { plays = refl; moves = tt; rank = refl; ready = refl; steps = refl; rules = refl };
+    leads = record { plays = refl; moves = tt; rank = refl; from = refl; ready = refl; steps = refl; rules = refl };
     opened = refl;
     hand = refl;
     good = tt;

@@ -24,7 +24,7 @@ returns-in-Some-clause-means c = λ K k run here a rows.
     record {
       asked = a;
       choice = subst (λ m. IsChoice m t c.in-Some.choice) (sym here) p.0;
-      sized = z.0;
+      sized = z;
       others = subst (λ m. Covers m c.args.index.now t (tried_of c.in-Some.choice ∷ []) c.next.new.self) (sym here) p.1;
     }
 
