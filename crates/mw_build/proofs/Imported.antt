@@ -1,6 +1,7 @@
 -- Statements of other modules, as they stand in a module that reaches them.
 use Rattle.std.proofs.Common.{◌≡◌, ℕ, List, [], IfOk, MatchResult, Result, Ok, Err, inl, inr, refl, sym, subst}
 use Rattle.std.proofs.lemmas.Bool.{or_left, or_cases}
+use Rattle.std.proofs.Math.Bool.{or-false}
 use Rattle.mw_logic.specs.Term.{RawTerm}
 use Rattle.mw_logic.specs.Signature.{Signature, HasKind, of_numeral, of_quoted, of_variable, of_operator, same}
 use Rattle.mw_logic.specs.Accepted.{IsAccepted}
@@ -10,6 +11,7 @@ use Rattle.mw_logic.specs.Module.{Statement, Fragment}
 use Rattle.mw_logic.proofs.KindLaws.{SameKind-sym}
 use Rattle.mw_logic.proofs.SameConditions.{same_variable-refl}
 use Rattle.mw_sorts.proofs.Connected.{there-with}
+use Rattle.mw_least.specs.Conditions.{occurs_among, AreRawFragments}
 use Rattle.mw_least.specs.Workable.{AreSides}
 use Rattle.mw_carry.specs.Carried.{IsPart, IsSameKind, IsCarried, AreCarriedFragments, none}
 use Rattle.mw_carry.specs.Laws.{HasSortsOf}
@@ -28,12 +30,13 @@ kind_there sig numbers t K sorts (of_variable {x = x} p) = there-with sig number
 kind_there sig numbers t K sorts (of_operator {f = f} o is p) = there-with sig numbers K o.result (SameKind-sym p) (numbers.results f o is)
 
 pub left_sorts : (sig : Signature) (e : Statement) → AreSides sig e → HasSortsOf sig e.left
-left_sorts sig e sides x h = sides.sorts x (or_left (occurs x e.left) (occurs x e.right) h)
+left_sorts sig e sides x h = sides.sorts x (or_left (occurs x e.left || occurs x e.right) (occurs_among x e.fragments) (or_left (occurs x e.left) (occurs x e.right) h))
 
 module _ (from sig : Signature) (part : IsPart from sig) (numbers : HasItsSorts from) (ok : IsAccepted sig) where
   -- carried sides are sides
-  pub sides_carried : (e st : Statement) → AreSides from e → IsCarried from sig e.left st.left → IsCarried from sig e.right st.right → AreSides sig st
-  sides_carried e st sides left right = record {
+  pub sides_carried : (e st : Statement) → st.fragments ≡ [] → AreSides from e → IsCarried from sig e.left st.left → IsCarried from sig e.right st.right → AreSides sig st
+  sides_carried e st none sides left right = record {
+    fragments = subst (AreRawFragments sig) (sym none) tt;
     left = IsRawTerm-carried from sig part numbers ok left sides.left;
     right = IsRawTerm-carried from sig part numbers ok right sides.right;
     kinds =
@@ -41,11 +44,11 @@ module _ (from sig : Signature) (part : IsPart from sig) (numbers : HasItsSorts 
         let (T, named) = sort_carried from sig part numbers K (kind_there from numbers e.left K (left_sorts from e sides) first) in
         let kind : IsSameKind from sig K T = record { sort = T; same = named; kind = same } in
         (T, HasKind-carried from sig part numbers ok left first kind, HasKind-carried from sig part numbers ok right second kind);
-    sorts = λ x o. elim (or_cases (occurs x st.left) (occurs x st.right) o) [ inl h ↦ sorts-carried from sig left x h | inr h ↦ sorts-carried from sig right x h ];
+    sorts = λ x o. elim (or_cases (occurs x st.left) (occurs x st.right) (sym (or-false (occurs x st.left || occurs x st.right)) ∙ sym (ap (λ C. (occurs x st.left || occurs x st.right) || occurs_among x C) none) ∙ o)) [ inl h ↦ sorts-carried from sig left x h | inr h ↦ sorts-carried from sig right x h ];
   }
 
 pub imported_stands : (sig : Signature) (e : Origin) (st : Statement) → IsImported sig e st → CanStand sig st
-imported_stands sig e st is = record { sides = is.sides; plain = plain_statement sig st.left st.right e.statement.executable st is.holds }
+imported_stands sig e st is = record { sides = is.sides; plain = plain_statement sig st.left st.right e.statement.executable st is.holds; none = ap (λ (s : Statement). s.fragments) is.holds.statement }
 
 -- no fragments stand for none
 none_carried : (from sig : Signature) (C D : List Fragment) → C ≡ [] → D ≡ [] → AreCarriedFragments from sig C D
@@ -70,7 +73,7 @@ module _ (from sig : Signature) (part : IsPart from sig) (numbers : HasItsSorts 
           owise = sym plain.ordinary;
         };
         holds = subst (IsStatementOf sig left right e.executable) is.statement is;
-        sides = sides_carried from sig part numbers ok e made sides first second;
+        sides = sides_carried from sig part numbers ok e made refl sides first second;
       } in
       subst (IsImported sig origin) (sym is.statement) of
 

@@ -3,6 +3,7 @@ use Rattle.std.proofs.Common.{◌≡◌, ◌∙◌, ◌||◌, ◌++◌, ℕ, zer
 use Rattle.std.specs.Prelude.{⊤}
 use Rattle.std.proofs.lemmas.Bool.{both_ways, or_left, or_right, or_cases}
 use Rattle.std.proofs.lemmas.List.Elements.{All-nil, All-cons}
+use Rattle.std.proofs.Math.Bool.{or-false}
 use Rattle.mw_logic.specs.Term.{Variable, RawTerm, numeral, quoted, variable, apply, RawTerms, nil, cons}
 use Rattle.mw_logic.specs.Signature.{Signature, Operator, Member, at_number, IsRawTerm, a_variable, an_operator, AreRawTerms, end, next}
 use Rattle.mw_logic.specs.Accepted.{IsAccepted}
@@ -24,7 +25,7 @@ use Rattle.mw_position.specs.Variables.{is_in, met, all_met}
 use Rattle.mw_position.proofs.Meeting.{is_in-met}
 use Rattle.mw_sorting.specs.PreregularModulo.{IsPreregularModulo}
 use Rattle.mw_logic.specs.Built.{HasBuiltIns}
-use Rattle.mw_least.specs.Workable.{AreSides, IsPlainEquation, IsWorkable}
+use Rattle.mw_least.specs.Workable.{AreSides, IsOrdinaryEquation, IsWorkable}
 use Rattle.mw_text.specs.Mixfix.{Reads, Spells}
 use Rattle.mw_text.specs.Readings.{ReadsPair}
 use Rattle.mw_text.proofs.RawTerms.{spelled_raw}
@@ -57,19 +58,6 @@ all_bound left right h x i = sym (is_in-met x [] left) ∙ sym (is_met-is (met [
 pub made : (left right : RawTerm) (executable : Bool) (fragments : List Fragment) (variables : List Variable) → fragments ≡ [] → variables ≡ met (met [] left) right
     → record { left = left; right = right; fragments = fragments; variables = variables; rule = false; executable = executable; owise = false } ≡ statement_of left right executable
 made left right executable fragments variables e h = rw (e, h) refl
-
-mutual
-  -- a term in which no variable is new
-  met_again : (xs : List Variable) (t : RawTerm) → ((x : Variable) → IsTrue (occurs x t) → is_in x xs ≡ true) → met xs t ≡ xs
-  met_again xs (numeral n) h = refl
-  met_again xs (quoted q) h = refl
-  met_again xs (variable x) h = ap (λ b. cond b xs (xs ++ x ∷ [])) (h x (same_variable-refl x))
-  met_again xs (apply f ts) h = all_met_again xs ts h
-
-  all_met_again : (xs : List Variable) (ts : RawTerms) → ((x : Variable) → IsTrue (occurs_in x ts) → is_in x xs ≡ true) → all_met xs ts ≡ xs
-  all_met_again xs nil h = refl
-  all_met_again xs (cons t ts) h =
-      ap (λ ys. all_met ys ts) (met_again xs t (λ x o. h x (or_left (occurs x t) (occurs_in x ts) o))) ∙ all_met_again xs ts (λ x o. h x (or_right (occurs x t) (occurs_in x ts) o))
 
 -- an associative operator of a raw term has two arguments, so the term is its own nesting
 module _ (sig : Signature) (ok : IsAccepted sig) where
@@ -129,14 +117,14 @@ module _ (sig : Signature) (left right : RawTerm) (executable : Bool) where
   of_sides_so (Some x) h n st e = absurd (n x refl)
 
 -- a statement that can be applied is an equation that contexts hold
-pub plain_statement : (sig : Signature) (left right : RawTerm) (executable : Bool) (st : Statement) → IsStatementOf sig left right executable st → IsTrue st.executable → IsPlainEquation sig st
-plain_statement sig left right executable st is h = subst (IsPlainEquation sig) (sym is.statement) (record {
+pub plain_statement : (sig : Signature) (left right : RawTerm) (executable : Bool) (st : Statement) → IsStatementOf sig left right executable st → IsTrue st.executable → IsOrdinaryEquation sig st
+plain_statement sig left right executable st is h = subst (IsOrdinaryEquation sig) (sym is.statement) (record {
   equation = refl;
-  unconditional = refl;
   ordinary = refl;
   not_lone = λ x k. applicable.not_lone (x, k);
-  variables = met_again (met [] left) right (λ x o. is_in-met x [] left ∙ all_bound left right applicable.bound x o);
+  variables = refl;
   bound = all_bound left right applicable.bound;
+  bound_in_turn = tt;
 })
   where
     applicable : IsApplicable sig left right
@@ -149,7 +137,8 @@ unconditional_statement sig left right executable st is = subst IsUnconditional 
 -- what can stand in a context
 pub record CanStand (sig : Signature) (st : Statement) : Type 0 where
   pub sides : AreSides sig st
-  pub plain : IsTrue st.executable → IsPlainEquation sig st
+  pub plain : IsTrue st.executable → IsOrdinaryEquation sig st
+  pub none : st.fragments ≡ []
 
 module _ (sig : Signature) (ok : IsPreregularModulo sig) (variables : List Variable) (sorted : (x : Variable) → Member x variables → IsSortOf sig x.sort) where
   -- the sorts of what tokens spell are there
@@ -166,23 +155,29 @@ module _ (sig : Signature) (ok : IsPreregularModulo sig) (variables : List Varia
           left = spelled_raw sig ok.accepted variables first;
           right = spelled_raw sig ok.accepted variables second;
           kinds = (is.read.only.0.kind, is.read.only.0.of_first, is.read.only.0.of_second);
-          sorts = λ x o. elim (or_cases (occurs x is.left) (occurs x is.right) o) [ inl h ↦ sorts_there first x h | inr h ↦ sorts_there second x h ];
+          fragments = tt;
+          sorts = λ x o. elim (or_cases (occurs x is.left) (occurs x is.right) (sym (or-false (occurs x is.left || occurs x is.right)) ∙ o)) [ inl h ↦ sorts_there first x h | inr h ↦ sorts_there second x h ];
         });
         plain = plain_statement sig is.left is.right e.executable st is.sides;
+        none = ap (λ (s : Statement). s.fragments) is.sides.statement;
       }
 
 -- a module of statements that can stand in a context
 pub workable_module : (sig : Signature) → IsPreregularModulo sig → HasItsSorts sig → HasBuiltIns sig → (sts : List Statement)
     → ((i : ℕ) (st : Statement) → slice_get sts i ≡ Some st → CanStand sig st) → IsWorkable (record { signature = sig; statements = sts })
-workable_module sig ok numbers built sts all = record { signature = ok; numbers = numbers; built = built; sides = all_sides; equations = at_each }
+workable_module sig ok numbers built sts all = record { signature = ok; numbers = numbers; built = built; sides = all_sides; equations = at_each; unconditional = none_at }
   where
     all_sides : (k : ℕ) (st : Statement) → at_number sts k ≡ Some st → AreSides sig st
     all_sides zero st is = cc
     all_sides (suc i) st is = (all i st is).sides
 
-    at_each : (k : ℕ) (st : Statement) → IsStatement (record { signature = sig; statements = sts }) k st → IsPlainEquation sig st
+    at_each : (k : ℕ) (st : Statement) → IsStatement (record { signature = sig; statements = sts }) k st → IsOrdinaryEquation sig st
     at_each zero st is = let h = is.is_there in cc
     at_each (suc i) st is = (all i st is.is_there).plain is.executable
+
+    none_at : (k : ℕ) (st : Statement) → IsStatement (record { signature = sig; statements = sts }) k st → st.fragments ≡ []
+    none_at zero st is = let h = is.is_there in cc
+    none_at (suc i) st is = (all i st is.is_there).none
 
 -- the sides of all statements of a module that contexts hold
 pub sides_at_all : (M : Module) → IsWorkable M → All (AreSides M.signature) M.statements
