@@ -1,5 +1,5 @@
 -- Statements of other modules, as they stand in a module that reaches them.
-use Rattle.std.proofs.Common.{◌≡◌, ℕ, List, [], IfOk, MatchResult, Result, Ok, Err, inl, inr, refl, sym, subst}
+use Rattle.std.proofs.Common.{◌≡◌, ◌∙◌, ◌||◌, ℕ, List, [], IfOk, MatchResult, Result, Ok, Err, inl, inr, refl, sym, subst, ap}
 use Rattle.std.proofs.lemmas.Bool.{or_left, or_cases}
 use Rattle.std.proofs.Math.Bool.{or-false}
 use Rattle.mw_logic.specs.Term.{RawTerm}
