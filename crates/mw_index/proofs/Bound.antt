@@ -1,6 +1,6 @@
 -- The variables that the tests of a condition bind.
-use Rattle.std.specs.Prelude.{◌≡◌, ℕ, List, [], ◌∷◌, length, Bool, true, false, ◌||◌, IsTrue, refl}
-use Rattle.std.proofs.Common.{sym, subst, ◌∙◌, ⊎_elim}
+use Rattle.std.specs.Prelude.{◌≡◌, ◌+◌, ℕ, List, [], ◌∷◌, ◌++◌, length, Bool, true, false, ◌||◌, IsTrue, refl}
+use Rattle.std.proofs.Common.{sym, ap, subst, ◌∙◌, arith, ⊎_elim, append-nil, length-append}
 use Rattle.std.proofs.lemmas.Bool.{or_cases, or_left, or_right}
 use Rattle.mw_logic.specs.Term.{Variable, RawTerm}
 use Rattle.mw_logic.specs.Signature.{Signature, IsRawTerm}
@@ -21,7 +21,7 @@ use Rattle.mw_index.specs.declared.conditions.Test.{Test}
 use Rattle.mw_index.specs.declared.conditions.Test.TheVariants as test
 use Rattle.mw_index.proofs.Fragments.{HasFront, front_same, front_behind, among_bound, bound_stays, bound_from, binds_same}
 use Rattle.mw_index.proofs.SameMembers.{member_in, as_many}
-use Rattle.mw_index.proofs.Sides.{form_occurs, compiled_occurs, in_lefts, in_variables, lefts_distinct, variables_distinct}
+use Rattle.mw_index.proofs.Sides.{form_occurs, compiled_occurs, in_lefts, in_variables, lefts_distinct, variables_distinct, variables_front}
 
 -- the variables that are bound behind a fragment
 abbrev behind : (Variable → Bool) → Fragment → Variable → Bool
@@ -224,3 +224,16 @@ module _ (M : Module) (ok : IsWorkable M) (k : ℕ) (e : Statement) (is : IsStat
 
     pub variables_bound : AreIn e.variables (all_bound lefts ts)
     variables_bound x m = bound_variables_are x ∙ member_in x e.variables m
+
+  -- where nothing is bound but the left side's variables these are all
+  pub unconditional_variables : e.fragments ≡ [] → e.variables ≡ lefts
+  unconditional_variables none =
+      let tests : AreTests sig lefts e.fragments [] = subst (λ C. AreTests sig lefts C []) (sym none) tt in
+      let (zs, f) = variables_front M ok k e is in
+      let size : length lefts ≡ length e.variables = bound_size [] tests in
+      let more : length e.variables ≡ length lefts + length zs = ap (λ (xs : List Variable). length xs) f ∙ length-append lefts zs in
+      f ∙ nothing_behind zs (omega (arith, size, more))
+    where
+      nothing_behind : (zs : List Variable) → length zs ≡ 0 → lefts ++ zs ≡ lefts
+      nothing_behind [] l = append-nil lefts
+      nothing_behind (z ∷ zs) l = absurd (omega (arith, l))
