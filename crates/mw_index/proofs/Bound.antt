@@ -24,25 +24,25 @@ use Rattle.mw_index.proofs.SameMembers.{member_in, as_many}
 use Rattle.mw_index.proofs.Sides.{form_occurs, compiled_occurs, in_lefts, in_variables, lefts_distinct, variables_distinct, variables_front}
 
 -- the variables that are bound behind a fragment
-abbrev behind : (Variable → Bool) → Fragment → Variable → Bool
+abbrev pub behind : (Variable → Bool) → Fragment → Variable → Bool
 behind b (equal u v) y = b y
 behind b (matches p t) y = b y || occurs y p
 behind b (has_sort t S) y = b y
 behind b (is_true t) y = b y
 
-binds_behind : (b : Variable → Bool) (f : Fragment) (C : List Fragment) (x : Variable) → binds_among b (f ∷ C) x ≡ binds_among (behind b f) C x
+pub binds_behind : (b : Variable → Bool) (f : Fragment) (C : List Fragment) (x : Variable) → binds_among b (f ∷ C) x ≡ binds_among (behind b f) C x
 binds_behind b (equal u v) C x = refl
 binds_behind b (matches p t) C x = refl
 binds_behind b (has_sort t S) C x = refl
 binds_behind b (is_true t) C x = refl
 
-bound_behind : (b : Variable → Bool) (f : Fragment) (C : List Fragment) → AreBound b (f ∷ C) → AreBound (behind b f) C
+pub bound_behind : (b : Variable → Bool) (f : Fragment) (C : List Fragment) → AreBound b (f ∷ C) → AreBound (behind b f) C
 bound_behind b (equal u v) C h = h.2
 bound_behind b (matches p t) C h = h.1
 bound_behind b (has_sort t S) C h = h.1
 bound_behind b (is_true t) C h = h.1
 
-raw_behind : (sig : Signature) (f : Fragment) (C : List Fragment) → AreRawFragments sig (f ∷ C) → AreRawFragments sig C
+pub raw_behind : (sig : Signature) (f : Fragment) (C : List Fragment) → AreRawFragments sig (f ∷ C) → AreRawFragments sig C
 raw_behind sig (equal u v) C h = h.2
 raw_behind sig (matches p t) C h = h.2
 raw_behind sig (has_sort t S) C h = h.1
@@ -79,7 +79,7 @@ module _ (sig : Signature) (ok : IsAccepted sig) (xs : List Variable) (C : List 
 
 -- a match's variables are those that were bound before and others behind them, each once
 module _ (sig : Signature) (xs : List Variable) where
-  abbrev IsGrown : Fragment → Test → Type 0
+  abbrev pub IsGrown : Fragment → Test → Type 0
   IsGrown f t = HasFront xs (bound_by xs t) × (AreDistinct xs → AreDistinct (bound_by xs t))
 
   same_grown : (f : Fragment) (t : Test) → bound_by xs t ≡ xs → IsGrown f t
