@@ -1,6 +1,6 @@
 -- The variables that the tests of a condition bind.
-use Rattle.std.specs.Prelude.{◌≡◌, ℕ, List, [], ◌∷◌, length, Bool, true, false, ◌||◌, IsTrue, refl}
-use Rattle.std.proofs.Common.{sym, subst, ◌∙◌, ⊎_elim}
+use Rattle.std.specs.Prelude.{◌≡◌, ◌+◌, ℕ, List, [], ◌∷◌, ◌++◌, length, Bool, true, false, ◌||◌, IsTrue, refl}
+use Rattle.std.proofs.Common.{sym, ap, subst, ◌∙◌, arith, ⊎_elim, append-nil, length-append}
 use Rattle.std.proofs.lemmas.Bool.{or_cases, or_left, or_right}
 use Rattle.mw_logic.specs.Term.{Variable, RawTerm}
 use Rattle.mw_logic.specs.Signature.{Signature, IsRawTerm}
@@ -21,28 +21,28 @@ use Rattle.mw_index.specs.declared.conditions.Test.{Test}
 use Rattle.mw_index.specs.declared.conditions.Test.TheVariants as test
 use Rattle.mw_index.proofs.Fragments.{HasFront, front_same, front_behind, among_bound, bound_stays, bound_from, binds_same}
 use Rattle.mw_index.proofs.SameMembers.{member_in, as_many}
-use Rattle.mw_index.proofs.Sides.{form_occurs, compiled_occurs, in_lefts, in_variables, lefts_distinct, variables_distinct}
+use Rattle.mw_index.proofs.Sides.{form_occurs, compiled_occurs, in_lefts, in_variables, lefts_distinct, variables_distinct, variables_front}
 
 -- the variables that are bound behind a fragment
-abbrev behind : (Variable → Bool) → Fragment → Variable → Bool
+abbrev pub behind : (Variable → Bool) → Fragment → Variable → Bool
 behind b (equal u v) y = b y
 behind b (matches p t) y = b y || occurs y p
 behind b (has_sort t S) y = b y
 behind b (is_true t) y = b y
 
-binds_behind : (b : Variable → Bool) (f : Fragment) (C : List Fragment) (x : Variable) → binds_among b (f ∷ C) x ≡ binds_among (behind b f) C x
+pub binds_behind : (b : Variable → Bool) (f : Fragment) (C : List Fragment) (x : Variable) → binds_among b (f ∷ C) x ≡ binds_among (behind b f) C x
 binds_behind b (equal u v) C x = refl
 binds_behind b (matches p t) C x = refl
 binds_behind b (has_sort t S) C x = refl
 binds_behind b (is_true t) C x = refl
 
-bound_behind : (b : Variable → Bool) (f : Fragment) (C : List Fragment) → AreBound b (f ∷ C) → AreBound (behind b f) C
+pub bound_behind : (b : Variable → Bool) (f : Fragment) (C : List Fragment) → AreBound b (f ∷ C) → AreBound (behind b f) C
 bound_behind b (equal u v) C h = h.2
 bound_behind b (matches p t) C h = h.1
 bound_behind b (has_sort t S) C h = h.1
 bound_behind b (is_true t) C h = h.1
 
-raw_behind : (sig : Signature) (f : Fragment) (C : List Fragment) → AreRawFragments sig (f ∷ C) → AreRawFragments sig C
+pub raw_behind : (sig : Signature) (f : Fragment) (C : List Fragment) → AreRawFragments sig (f ∷ C) → AreRawFragments sig C
 raw_behind sig (equal u v) C h = h.2
 raw_behind sig (matches p t) C h = h.2
 raw_behind sig (has_sort t S) C h = h.1
@@ -79,7 +79,7 @@ module _ (sig : Signature) (ok : IsAccepted sig) (xs : List Variable) (C : List 
 
 -- a match's variables are those that were bound before and others behind them, each once
 module _ (sig : Signature) (xs : List Variable) where
-  abbrev IsGrown : Fragment → Test → Type 0
+  abbrev pub IsGrown : Fragment → Test → Type 0
   IsGrown f t = HasFront xs (bound_by xs t) × (AreDistinct xs → AreDistinct (bound_by xs t))
 
   same_grown : (f : Fragment) (t : Test) → bound_by xs t ≡ xs → IsGrown f t
@@ -224,3 +224,16 @@ module _ (M : Module) (ok : IsWorkable M) (k : ℕ) (e : Statement) (is : IsStat
 
     pub variables_bound : AreIn e.variables (all_bound lefts ts)
     variables_bound x m = bound_variables_are x ∙ member_in x e.variables m
+
+  -- where nothing is bound but the left side's variables these are all
+  pub unconditional_variables : e.fragments ≡ [] → e.variables ≡ lefts
+  unconditional_variables none =
+      let tests : AreTests sig lefts e.fragments [] = subst (λ C. AreTests sig lefts C []) (sym none) tt in
+      let (zs, f) = variables_front M ok k e is in
+      let size : length lefts ≡ length e.variables = bound_size [] tests in
+      let more : length e.variables ≡ length lefts + length zs = ap (λ (xs : List Variable). length xs) f ∙ length-append lefts zs in
+      f ∙ nothing_behind zs (omega (arith, size, more))
+    where
+      nothing_behind : (zs : List Variable) → length zs ≡ 0 → lefts ++ zs ≡ lefts
+      nothing_behind [] l = append-nil lefts
+      nothing_behind (z ∷ zs) l = absurd (omega (arith, l))

@@ -1,8 +1,9 @@
 -- The variables of fragments, and those that fragments bind.
-use Rattle.std.specs.Prelude.{◌≡◌, List, [], ◌∷◌, ◌++◌, Bool, true, false, ◌||◌, refl}
-use Rattle.std.proofs.Common.{sym, ap, ◌∙◌, append_assoc, append-nil, ⊎_elim}
+use Rattle.std.specs.Prelude.{◌≡◌, List, [], ◌∷◌, ◌++◌, length, Bool, true, false, ◌||◌, refl}
+use Rattle.std.specs.List.{zip}
+use Rattle.std.proofs.Common.{arith, sym, ap, ◌∙◌, append_assoc, append-nil, ⊎_elim}
 use Rattle.std.proofs.lemmas.Bool.{or_cases, or_left, or_right}
-use Rattle.mw_logic.specs.Term.{Variable}
+use Rattle.mw_logic.specs.Term.{Variable, RawTerm}
 use Rattle.mw_logic.specs.Module.{Fragment, equal, matches, has_sort, is_true}
 use Rattle.mw_logic.specs.Substitution.{occurs}
 use Rattle.mw_logic.specs.Confluence.{AreBound}
@@ -19,6 +20,21 @@ front_same xs = ([], sym (append-nil xs))
 
 pub front_behind : (xs ys ws : List Variable) → HasFront xs ys → HasFront ys ws → HasFront xs ws
 front_behind xs ys ws (a, e) (b, f) = (a ++ b, f ∙ ap (λ zs. zs ++ b) e ∙ append_assoc xs a b)
+
+zip_nothing : (xs : List Variable) (us : List RawTerm) → us ≡ [] → zip xs us ≡ []
+zip_nothing [] us e = refl
+zip_nothing (x ∷ xs) [] e = refl
+zip_nothing (x ∷ xs) (u ∷ us) e = cc
+
+zip_appended : (xs zs : List Variable) (us : List RawTerm) → length us ≡ length xs → zip (xs ++ zs) us ≡ zip xs us
+zip_appended [] zs [] l = zip_nothing zs [] refl
+zip_appended [] zs (u ∷ us) l = absurd (omega (arith, l))
+zip_appended (x ∷ xs) zs [] l = absurd (omega (arith, l))
+zip_appended (x ∷ xs) zs (u ∷ us) l = ap (λ s. (x, u) ∷ s) (zip_appended xs zs us (omega (arith, l)))
+
+-- values for the front alone are bound to it
+pub zip_front : (xs ys : List Variable) (us : List RawTerm) → HasFront xs ys → length us ≡ length xs → zip ys us ≡ zip xs us
+zip_front xs ys us (zs, e) l = ap (λ ys. zip ys us) e ∙ zip_appended xs zs us l
 
 pub front_met_fragments : (xs : List Variable) (C : List Fragment) → HasFront xs (met_fragments xs C)
 front_met_fragments xs [] = front_same xs

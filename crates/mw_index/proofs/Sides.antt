@@ -1,5 +1,6 @@
 -- The sides of a module's equations and their variables.
-use Rattle.std.specs.Prelude.{◌≡◌, ℕ, List, [], ◌++◌, map, true, ◌||◌, IsTrue, refl}
+use Rattle.std.specs.Prelude.{◌≡◌, ℕ, List, [], ◌++◌, length, map, true, ◌||◌, IsTrue, refl}
+use Rattle.std.specs.List.{zip}
 use Rattle.std.proofs.Common.{sym, ap, subst, ◌∙◌}
 use Rattle.std.proofs.lemmas.Bool.{or_left, or_right}
 use Rattle.mw_logic.specs.Term.{Variable, RawTerm, numeral, quoted, variable, apply, RawTerms, nil, cons}
@@ -22,7 +23,7 @@ use Rattle.mw_solving.proofs.Nesting.{nested_occurs}
 use Rattle.mw_solving.proofs.Compiled.{compiled_equal}
 use Rattle.mw_term.specs.declared.subst.Binding.{Binding}
 use Rattle.mw_index.specs.Sections.{AreIn}
-use Rattle.mw_index.proofs.Fragments.{HasFront, front_behind, front_met_fragments, distinct_met_fragments, in_met_fragments}
+use Rattle.mw_index.proofs.Fragments.{HasFront, front_behind, front_met_fragments, zip_front, distinct_met_fragments, in_met_fragments}
 use Rattle.mw_index.proofs.SameMembers.{member_in}
 
 -- the canonical form has the same variables
@@ -64,6 +65,10 @@ module _ (M : Module) (ok : IsWorkable M) (k : ℕ) (e : Statement) (is : IsStat
   pub variables_front : HasFront (met [] e.left) e.variables
   variables_front = subst (HasFront (met [] e.left)) (sym eq.variables)
       (front_behind (met [] e.left) (met (met [] e.left) e.right) (mentioned e) (met_grows (met [] e.left) e.right) (front_met_fragments (met (met [] e.left) e.right) e.fragments))
+
+  -- so values for them are bound to the same
+  pub left_zipped : (us : List RawTerm) → length us ≡ length (met [] e.left) → zip e.variables us ≡ zip (met [] e.left) us
+  left_zipped us l = zip_front (met [] e.left) e.variables us variables_front l
 
   pub variables_distinct : AreDistinct e.variables
   variables_distinct = subst AreDistinct (sym eq.variables) (distinct_met_fragments (met (met [] e.left) e.right) e.fragments (AreDistinct-met (met [] e.left) e.right (lefts_distinct e)))

@@ -109,6 +109,7 @@ fn compiled_of(
     Ok(compiled)
 }
 
+/// A match where these variables are bound before.
 fn match_of(
     alloc: Global,
     context: &Ctx,
@@ -118,7 +119,8 @@ fn match_of(
 ) -> Result<Box<Matched>, AllocError>
     requires distinct { AreDistinct bound.now }
     requires side { AreAmong bound.now (normal_form context.now.signature (raw_term side.now)) }
-    ensures { IfOk result (λ m. IsMatchOf context.now.signature bound.now (raw_term pattern.now) (raw_term side.now) m.value) }
+    ensures { let sig = context.now.signature in
+        IfOk result (λ m. IsMatchOf sig bound.now (raw_term pattern.now) (raw_term side.now) m.value) }
 {
     let side = side_of(alloc, context.facts(), bound, side)?;
     let compiled = compiled_of(alloc, context, bound, pattern)?;
@@ -197,7 +199,8 @@ fn tests_of<'a>(
     fragments: &[Fragment],
 ) -> Result<Vec<Test>, AllocError>
     requires { AreReady context.now.signature all.now bound.old (map fragment_of fragments.now) }
-    ensures tests { IfOk result (λ ts. AreTests context.now.signature bound.old (map fragment_of fragments.now) ts.items) }
+    ensures tests { let sig = context.now.signature in
+        IfOk result (λ ts. AreTests sig bound.old (map fragment_of fragments.now) ts.items) }
     ensures bound { IfOk result (λ ts. bound.new ≡ all_bound bound.old ts.items) }
 {
     context.shows();

@@ -12,8 +12,8 @@
 //!   statement, of which those of the left side are the first (`IsEquation`). Its left side is compared argument by
 //!   argument where the operator on top has no axiom and no other one has but the successor of numbers (`Left::Plain`),
 //!   and searched for else (`Left::Searched`).
-//! - Its [`Condition`] has a [`Test`] for each fragment, in their order (`IsConditionOf`, specs/Conditions). Of a test's
-//!   sides the canonical forms are there, with positions for the variables that are bound by then: those of the left
+//! - Its [`Condition`] has a [`Test`] for each fragment, in their order (`IsConditionOf`, specs/Conditions), with the
+//!   canonical forms of its sides. These have positions for the variables that are bound by then: those of the left
 //!   side, and behind them those that the patterns of matches before the test add. A match's pattern is compiled behind
 //!   these (mw_compile). In the end all variables of the statement are bound (`all_bound`), each once (proofs/Bound);
 //!   `order` has their places where the statement has them in another order.

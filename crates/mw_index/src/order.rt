@@ -52,7 +52,8 @@ pub fn other_order(
 ) -> Result<Option<Seq<usize>>, AllocError>
     requires among { AreIn variables.now places.now }
     requires count { length places.now ≡ length variables.now }
-    ensures { IfOk result (λ o. MatchOption o (places.now ≡ variables.now) (λ ns. ns ≡ map (λ x. place x places.now) variables.now)) }
+    ensures { IfOk result (λ o. MatchOption o (places.now ≡ variables.now)
+        (λ ns. ns ≡ map (λ x. place x places.now) variables.now)) }
 {
     let order = order_of(alloc, places, variables)?;
     if are_counted(order.as_slice()) {
