@@ -35,8 +35,8 @@ left_sorts sig e sides x h = sides.sorts x (or_left (occurs x e.left || occurs x
 module _ (from sig : Signature) (part : IsPart from sig) (numbers : HasItsSorts from) (ok : IsAccepted sig) where
   -- carried sides are sides
   pub sides_carried : (e st : Statement) → st.fragments ≡ [] → AreSides from e → IsCarried from sig e.left st.left → IsCarried from sig e.right st.right → AreSides sig st
-  sides_carried e st none sides left right = record {
-    fragments = subst (AreRawFragments sig) (sym none) tt;
+  sides_carried e st bare sides left right = record {
+    fragments = subst (AreRawFragments sig) (sym bare) tt;
     left = IsRawTerm-carried from sig part numbers ok left sides.left;
     right = IsRawTerm-carried from sig part numbers ok right sides.right;
     kinds =
@@ -44,7 +44,7 @@ module _ (from sig : Signature) (part : IsPart from sig) (numbers : HasItsSorts 
         let (T, named) = sort_carried from sig part numbers K (kind_there from numbers e.left K (left_sorts from e sides) first) in
         let kind : IsSameKind from sig K T = record { sort = T; same = named; kind = same } in
         (T, HasKind-carried from sig part numbers ok left first kind, HasKind-carried from sig part numbers ok right second kind);
-    sorts = λ x o. elim (or_cases (occurs x st.left) (occurs x st.right) (sym (or-false (occurs x st.left || occurs x st.right)) ∙ sym (ap (λ C. (occurs x st.left || occurs x st.right) || occurs_among x C) none) ∙ o)) [ inl h ↦ sorts-carried from sig left x h | inr h ↦ sorts-carried from sig right x h ];
+    sorts = λ x o. elim (or_cases (occurs x st.left) (occurs x st.right) (sym (or-false (occurs x st.left || occurs x st.right)) ∙ sym (ap (λ C. (occurs x st.left || occurs x st.right) || occurs_among x C) bare) ∙ o)) [ inl h ↦ sorts-carried from sig left x h | inr h ↦ sorts-carried from sig right x h ];
   }
 
 pub imported_stands : (sig : Signature) (e : Origin) (st : Statement) → IsImported sig e st → CanStand sig st
