@@ -128,7 +128,16 @@ fn apply<'m>(
     } = choice;
     let by = applied(equation);
     let mut sides = Vec::new(alloc);
-    let fired = fire(alloc, facts, machine, asked, by, &mut sides, &mut values, &take)?;
+    let fired = fire(
+        alloc,
+        facts,
+        machine,
+        asked,
+        by,
+        &mut sides,
+        &mut values,
+        &take,
+    )?;
     choices.give_back(values);
     Ok(fired)
 }

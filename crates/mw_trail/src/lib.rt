@@ -2,7 +2,7 @@
 //!
 //! A [`Trail`] is seen as its items, and the terms and numbers that these take in turn. They mean moves (`moves`,
 //! specs/Tracks), as mw_deduction replays them on flattened terms: into an argument and out of it, into a side of a
-//! condition and out of it, a statement with the values of its variables, a row of the built-in schemata. Its type
+//! condition, with values that are at hand there, and out of it, a statement with the values of its variables, a row of the built-in schemata. Its type
 //! keeps that it has as many terms and numbers as the items take.
 //!
 //! - `enter`, `among`, `begin`, `end`, `apply` and `row` put one move behind the others, `followed_by` all moves of
