@@ -45,7 +45,7 @@ bound_behind b (is_true t) C h = h.1
 pub raw_behind : (sig : Signature) (f : Fragment) (C : List Fragment) → AreRawFragments sig (f ∷ C) → AreRawFragments sig C
 raw_behind sig (equal u v) C h = h.2
 raw_behind sig (matches p t) C h = h.2
-raw_behind sig (has_sort t S) C h = h.1
+raw_behind sig (has_sort t S) C h = h.2
 raw_behind sig (is_true t) C h = h.1
 
 occurs_behind : (f : Fragment) (C : List Fragment) (x : Variable) → occurs_among x C ≡ true → occurs_among x (f ∷ C) ≡ true

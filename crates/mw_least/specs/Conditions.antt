@@ -2,6 +2,8 @@
 use Rattle.std.specs.Prelude.{List, [], ◌∷◌, Bool, ◌||◌, false, IsTrue, ⊤}
 use Rattle.mw_logic.specs.Term.{Variable, RawTerm}
 use Rattle.mw_logic.specs.Signature.{Signature, IsRawTerm}
+use Rattle.mw_logic.specs.Accepted.{number_of_sort}
+use Rattle.mw_logic.specs.Preregular.{IsSortOf}
 use Rattle.mw_logic.specs.Substitution.{occurs}
 use Rattle.mw_logic.specs.Module.{Fragment, equal, matches, has_sort, is_true, Statement}
 use Rattle.mw_position.specs.Variables.{met}
@@ -34,10 +36,10 @@ binds_among b (matches p t ∷ C) x = binds_among (λ y. b y || occurs y p) C x
 binds_among b (has_sort t S ∷ C) x = binds_among b C x
 binds_among b (is_true t ∷ C) x = binds_among b C x
 
--- the sides are raw terms
+-- the sides are raw terms, and the sorts that are asked for are there
 abbrev pub AreRawFragments : Signature → List Fragment → Type 0
 AreRawFragments sig [] = ⊤
 AreRawFragments sig (equal u v ∷ C) = IsRawTerm sig u × IsRawTerm sig v × AreRawFragments sig C
 AreRawFragments sig (matches p t ∷ C) = IsRawTerm sig p × IsRawTerm sig t × AreRawFragments sig C
-AreRawFragments sig (has_sort t S ∷ C) = IsRawTerm sig t × AreRawFragments sig C
+AreRawFragments sig (has_sort t S ∷ C) = IsRawTerm sig t × IsSortOf sig (number_of_sort S) × AreRawFragments sig C
 AreRawFragments sig (is_true b ∷ C) = IsRawTerm sig b × AreRawFragments sig C

@@ -37,5 +37,3 @@ pub record IsWorkable (M : Module) : Type 0 where
   pub built : HasBuiltIns M.signature
   pub sides : (k : ℕ) (e : Statement) → at_number M.statements k ≡ Some e → AreSides M.signature e
   pub equations : (k : ℕ) (e : Statement) → IsStatement M k e → IsOrdinaryEquation M.signature e
-  -- conditions aren't evaluated yet
-  pub unconditional : (k : ℕ) (e : Statement) → IsStatement M k e → e.fragments ≡ []
