@@ -37,7 +37,7 @@ value_found (b ∷ s) x u e = by_test (value_found s x u) (same_variable b.0 x) 
     by_test r false e = let (i, k) = r e in (suc i, k)
 
 module _ (sig : Signature) where
-  pub value_meant : (s : Substitution) (x : Variable) (u : RawTerm) → value s x ≡ Some u → value (meant sig s) x ≡ Some (nested sig u)
+  value_meant : (s : Substitution) (x : Variable) (u : RawTerm) → value s x ≡ Some u → value (meant sig s) x ≡ Some (nested sig u)
   value_meant [] x u e = absurd (none-some u e)
   value_meant (b ∷ s) x u e = by_test (value_meant s x u) (same_variable b.0 x) e
     where

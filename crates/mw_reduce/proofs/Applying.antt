@@ -1,5 +1,5 @@
 -- A choice is an equation that applies, and a step by a row one that is met.
-use Rattle.std.specs.Prelude.{IsNone, ◌≡◌, ◌-◌, ◌^◌, ◌||◌, min, ℕ, zero, suc, List, [], ◌∷◌, length, Option, Some, None, IsTrue, IsFalse, refl}
+use Rattle.std.specs.Prelude.{IsNone, MatchOption, slice_get, ◌≡◌, ◌-◌, ◌^◌, ◌||◌, min, ℕ, zero, suc, List, [], ◌∷◌, length, Option, Some, None, IsTrue, IsFalse, refl}
 use Rattle.std.specs.List.{zip}
 use Rattle.std.proofs.Common.{sym, subst, ap, ◌∙◌, ⊎_elim}
 use Rattle.std.proofs.Math.Bool.{or-false}
@@ -7,25 +7,36 @@ use Rattle.std.proofs.lemmas.Bool.{both_ways, or_cases}
 use Rattle.mw_logic.specs.Term.{Variable, RawTerm, RawTerms, numeral, quoted, variable, apply, cons}
 use Rattle.mw_logic.specs.Term as term
 use Rattle.mw_logic.specs.Signature.{Signature}
-use Rattle.mw_logic.specs.NormalForm.{normal_form, height}
+use Rattle.mw_logic.specs.NormalForm.{normal_form, height, has_largest}
 use Rattle.mw_logic.specs.Accepted.{IsAccepted}
 use Rattle.mw_logic.specs.Parts.{nested}
-use Rattle.mw_logic.specs.Substitution.{Substitution, value, occurs, IsSubstitution}
+use Rattle.mw_logic.specs.Substitution.{Substitution, value, occurs, IsSubstitution, Extends}
 use Rattle.mw_canon.specs.Canonical.{meant}
 use Rattle.mw_logic.specs.Module.{Fragment, Module, Statement, IsStatement}
 use Rattle.mw_logic.specs.Proof.{nil}
-use Rattle.mw_logic.specs.Judgements.{IsNormalBy, admitted_judgements, judgements_with}
+use Rattle.mw_logic.specs.Judgements.{AdmittedStep, FailsAbove, IsNormalBy, admitted_judgements, judgements_with}
+use Rattle.mw_logic.proofs.Admitted.{admitted-iff}
 use Rattle.mw_logic.proofs.Canonical.{IsCanonical, canonical}
+use Rattle.mw_logic.proofs.CanonicalTerms.{clean as form_clean}
+use Rattle.mw_logic.proofs.Invariance.{normal_form-kept}
+use Rattle.mw_deduction.proofs.Extended.{reached_extends}
+use Rattle.mw_deduction.proofs.Frontiers.{Held_before}
 use Rattle.mw_solving.proofs.Grounds.{nested_ground}
 use Rattle.mw_builtin.specs.Steps as rows
 use Rattle.mw_position.specs.Positions.{fill}
-use Rattle.mw_position.specs.Variables.{is_in, met, placed, sorts_of}
-use Rattle.mw_position.proofs.Meeting.{is_in-met}
+use Rattle.mw_position.specs.Variables.{is_in, met, placed, sorts_of, AreDistinct}
+use Rattle.mw_position.proofs.Placing.{values_of}
 use Rattle.mw_pattern.specs.Clean.{clean}
-use Rattle.mw_least.specs.Conditions.{met_fragments, occurs_among, binds_among}
+use Rattle.mw_least.specs.Conditions.{occurs_among, binds_among}
 use Rattle.mw_least.specs.Workable.{IsOrdinaryEquation, IsWorkable}
-use Rattle.mw_least.proofs.Mentioned.{is_mentioned, met_again}
-use Rattle.mw_index.specs.Choices.{IsTaken, IsChoice, solution_of}
+use Rattle.mw_least.proofs.Mentioned.{is_mentioned}
+use Rattle.mw_index.specs.Choices.{IsTaken, in_order, tried_of}
+use Rattle.mw_index.specs.Conditions.{AreTests, all_bound}
+use Rattle.mw_index.specs.declared.conditions.Test.{Test}
+use Rattle.mw_index.proofs.Bound.{bound_distinct, bound_variables_are, unconditional_variables}
+use Rattle.mw_index.proofs.ByTest.{of_none, put_in_order}
+use Rattle.mw_index.proofs.Sides.{lefts_distinct, in_lefts, left_raw, variables_distinct}
+use Rattle.mw_index.proofs.Trying.{one_statement}
 use Rattle.mw_index.specs.Equations.{IsLeft, HasFreeLeft}
 use Rattle.mw_index.specs.Index.{operator_of}
 use Rattle.mw_index.specs.Free as index
@@ -36,7 +47,17 @@ use Rattle.mw_frames.specs.Free as frames
 use Rattle.mw_frames.specs.Redex.{AreShowing, IsRowOf}
 use Rattle.mw_frames.specs.Fires.{IsPartTaken, IsApplied}
 use Rattle.mw_frames.specs.declared.applying.Applied.{Applied}
-use Rattle.mw_reduce.specs.Driven.{IsAppliedAs}
+use Rattle.mw_frames.specs.Machines.{all_moves as trail_moves}
+use Rattle.mw_frames.proofs.PlacedTerms.{instance_placed, left_small}
+use Rattle.mw_trail.specs.Tracks.{Track}
+use Rattle.mw_proof.specs.declared.reason.Reason.{Reason}
+use Rattle.mw_proof.specs.declared.reason.Reason.TheVariants as reason
+use Rattle.mw_reduce.specs.Turns.{IsFailed}
+use Rattle.mw_reduce.specs.Attempts.{IsAppliedAs, IsTriable, IsMade, IsCause, IsHaltingAt}
+use Rattle.mw_reduce.specs.Evaluations.{AreBoundTo, bound_to, AreFound, proofs_of, all_moves, IsHeldBy, IsStoppedInside}
+use Rattle.mw_reduce.specs.declared.sides.Reduced.{Reduced}
+use Rattle.mw_reduce.proofs.Evidence.{evidence_shows}
+use Rattle.mw_reduce.proofs.Values.{normal_above, reordered_extends, reordered_found, reordered_bound}
 
 mutual
   free_same : (sig : Signature) (t : RawTerm) → index.IsFree sig t → frames.IsFree sig t
@@ -62,6 +83,11 @@ free_left : (sig : Signature) (top : Option ℕ) (e : Statement) (l : Left) → 
 free_left sig None e (Plain ps) h k = absurd h
 free_left sig (Some f) e (Plain ps) h k = (f, ps, h.pattern, free_same sig (apply f ps) (h.plain, k))
 free_left sig top e (Searched s) h k = absurd k
+
+-- a condition that fails in the rank above that of its sides
+fails_above : (M : Module) (m : ℕ) (C : List Fragment) (s : Substitution) → FailsAbove M (admitted_judgements M m) C s → (admitted_judgements M (suc m)).Fails C s
+unfolding judgements_with
+fails_above M m C s h = h
 
 -- no condition, no evidence
 nothing_held : (M : Module) (n : ℕ) (C : List Fragment) (s : Substitution) → C ≡ [] → (admitted_judgements M n).Held C s nil s
@@ -91,47 +117,171 @@ left_alone sig e is none x h k =
     within : IsTrue (occurs x e.left || occurs x e.right)
     within = sym (or-false (occurs x e.left || occurs x e.right)) ∙ ap (λ C. (occurs x e.left || occurs x e.right) || occurs_among x C) (sym none) ∙ sym (is_mentioned e x) ∙ ap (is_in x) (sym is.variables) ∙ h
 
--- so they are all
-only_lefts : (sig : Signature) (e : Statement) → IsOrdinaryEquation sig e → e.fragments ≡ [] → e.variables ≡ met [] e.left
-only_lefts sig e is none =
-    is.variables ∙ ap (met_fragments (met (met [] e.left) e.right)) none
-    ∙ met_again (met [] e.left) e.right (λ x o. is_in-met x [] e.left ∙ subst (λ C. IsTrue (binds_among (λ y. occurs y e.left) C x)) none (is.bound x o))
+module _ (M : Module) (work : IsWorkable M) (t : RawTerm) (c : Choice) (h : IsTriable M t c) where
+  abbrev sig : Signature
+  sig = M.signature
 
-pub choice_applies : (M : Module) → IsWorkable M → (n : ℕ) (t : RawTerm) (c : Choice) → (i : IsChoice M t c) → length c.values.items ≡ length c.equation.now.sorts → (a : Applied) → IsAppliedAs c.equation.now a
-    → IsPartTaken M.signature c.take t i.part × IsApplied M n a [] c.values.items i.part
-choice_applies M w n t c i sized a is =
-    let e : Statement = i.statement in
-    let ordinary = w.equations c.equation.now.number e i.is_there in
-    let none : e.fragments ≡ [] = w.unconditional c.equation.now.number e i.is_there in
-    let s : Substitution = solution_of M.signature e c.values.items in
-    let lefts : e.variables ≡ met [] e.left = only_lefts M.signature e ordinary none in
-    let same : s ≡ meant M.signature (zip e.variables c.values.items) = ap (λ xs. meant M.signature (zip xs c.values.items)) (sym lefts) in (
-      taken_same M.signature c.take t i.part i.taken,
+  abbrev ok : IsAccepted sig
+  ok = work.signature.accepted
+
+  abbrev e : Statement
+  e = h.choice.statement
+
+  abbrev number : ℕ
+  number = c.equation.now.number
+
+  abbrev there : IsStatement M number e
+  there = h.choice.is_there
+
+  abbrev lefts : List Variable
+  lefts = met [] e.left
+
+  abbrev tests : List Test
+  tests = c.equation.now.condition.tests
+
+  abbrev us : List RawTerm
+  us = c.values.items
+
+  abbrev s : Substitution
+  s = bound_to sig lefts us
+
+  abbrev w : RawTerm
+  w = h.choice.part
+
+  canonical_part : IsCanonical sig w
+  canonical_part = subst (IsCanonical sig) h.admitted.canonical (canonical sig ok (nested sig w))
+
+  size : length us ≡ length lefts
+  size = h.sized ∙ ap length h.choice.is.sorts ∙ length_sorts lefts
+
+  -- the values of the left side's variables
+  pub left_bound : AreBoundTo M lefts us
+  left_bound = record {
+    size = size;
+    values = h.choice.values;
+    substitution = h.choice.solution.substitution;
+    small = left_small sig ok lefts us (lefts_distinct e) size e.left w (left_raw M work number e there) (λ x i. sym (in_lefts e x) ∙ i)
+        (instance_placed sig lefts (lefts_distinct e) us size ok work.signature.well_sorted h.choice.values h.choice.solution.substitution e.left (left_raw M work number e there) (λ x o. in_lefts e x ∙ o)
+        ∙ normal_form-kept sig ok h.choice.solution.matches ∙ h.admitted.canonical)
+        (subst (λ v. has_largest sig v ≡ false) h.admitted.canonical ((admitted-iff sig ok h.admitted.raw).0 h.admitted.admitted).1.1);
+  }
+
+  no_fragments : tests ≡ [] → e.fragments ≡ []
+  no_fragments none = of_none sig lefts e.fragments (subst (AreTests sig lefts e.fragments) none h.choice.is.condition.tests)
+
+  -- without a condition it applies
+  pub made_at_once : (n : ℕ) → tests ≡ [] → IsMade M n t c []
+  made_at_once n bare =
+      let ordinary = work.equations number e there in
+      let none : e.fragments ≡ [] = no_fragments bare in
+      let all : e.variables ≡ lefts = unconditional_variables M work number e there none in
+      let same : s ≡ meant sig (zip e.variables us) = ap (λ xs. meant sig (zip xs us)) (sym all) in
       record {
-        redex = record {
-          statement = e;
-          is_there = subst (λ k. IsStatement M k e) (sym is.number) i.is_there;
-          ordinary = ordinary;
-          sides = w.sides c.equation.now.number e i.is_there.is_there;
-          size = sized ∙ ap length i.is.sorts ∙ length_sorts (met [] e.left) ∙ ap length (sym lefts);
-          values = i.values;
-          substitution = subst (IsSubstitution M.signature) same i.solution.substitution;
-          solution = s;
-          solves = i.solution;
-          reached = s;
-          shown = nothing_shown M n e.fragments s none;
-          goes_on = λ x u h. h;
-          reaches = λ x u h. subst (λ q. value q x ≡ Some u) same h;
-          found = λ x h k. absurd (left_alone M.signature e ordinary none x h k);
-          right = ap clean is.right ∙ i.is.right;
+        part = w;
+        taken = taken_same sig c.take t w h.choice.taken;
+        applies = λ a is. record {
+          redex = record {
+            statement = e;
+            is_there = subst (λ k. IsStatement M k e) (sym is.number) there;
+            ordinary = ordinary;
+            sides = work.sides number e there.is_there;
+            size = size ∙ ap length (sym all);
+            values = h.choice.values;
+            substitution = subst (IsSubstitution sig) same h.choice.solution.substitution;
+            solution = s;
+            solves = h.choice.solution;
+            reached = s;
+            shown = nothing_shown M n e.fragments s none;
+            goes_on = λ x u k. k;
+            reaches = λ x u k. subst (λ q. value q x ≡ Some u) same k;
+            found = λ x i k. absurd (left_alone sig e ordinary none x i k);
+            right = ap clean is.right ∙ h.choice.is.right;
+          };
+          free = λ k. subst (λ p. frames.IsFree sig (clean p)) (sym is.right) (free_same sig (clean c.equation.now.right) (h.choice.is.free (sym is.free ∙ k)));
+          levels = is.levels ∙ h.choice.is.levels ∙ ap (λ p. min (height (fill [] (clean p))) (2 ^ 16 - 1)) (sym is.right);
+          sure = λ k.
+              let (f, ps, left, free) = free_left sig (operator_of t) e c.equation.now.left h.choice.is.left (h.choice.is.sure (is.sure k).0) in
+              record { operator = f; patterns = ps; left = left ∙ ap (λ xs. placed xs (normal_form sig e.left)) (sym all); free = free; found = λ x z k. absurd (left_alone sig e ordinary none x z k) };
         };
-        free = λ h. subst (λ p. frames.IsFree M.signature (clean p)) (sym is.right) (free_same M.signature (clean c.equation.now.right) (i.is.free (sym is.free ∙ h)));
-        levels = is.levels ∙ i.is.levels ∙ ap (λ p. min (height (fill [] (clean p))) (2 ^ 16 - 1)) (sym is.right);
-        sure = λ h.
-            let (f, ps, left, free) = free_left M.signature (operator_of t) e c.equation.now.left i.is.left (i.is.sure (sym is.sure ∙ h)) in
-            record { operator = f; patterns = ps; left = left ∙ ap (λ xs. placed xs (normal_form M.signature e.left)) (sym lefts); free = free; found = λ x z k. absurd (left_alone M.signature e ordinary none x z k) };
-      },
-    )
+      }
+
+  -- where its condition holds, by values of all variables that are put in order
+  pub made_so : (m : ℕ) (x : Test) → slice_get tests 0 ≡ Some x → (new : Choice) → new ≡ record c { values = new.values } → (ws : List RawTerm) (sides : List Reduced) (trails : List Track) → IsHeldBy M m e tests s ws sides → trail_moves M trails ≡ all_moves M sides
+      → MatchOption c.equation.now.condition.order (new.values.items ≡ ws) (λ ns. new.values.items ≡ in_order ws ns) → IsMade M (suc m) t new trails
+  made_so m x some new is_new ws sides trails held shows put =
+      let bs : List Variable = all_bound lefts tests in
+      let xs : List Variable = e.variables in
+      let condition = h.choice.is.condition in
+      let r : Substitution = bound_to sig bs ws in
+      let distinct : AreDistinct bs = bound_distinct M work number e there tests condition.tests in
+      let vs : List RawTerm = new.values.items in
+      let ordered : vs ≡ values_of (zip bs ws) xs = in_their_order c.equation.now.condition.order put (put_in_order M work number e there c.equation.now.condition condition ws held.bound.size) in
+      let alike : (y : Variable) → is_in y xs ≡ is_in y bs = λ y. sym (bound_variables_are M work number e there tests condition.tests y) in
+      let bound : AreBoundTo M xs vs = subst (AreBoundTo M xs) (sym ordered) (reordered_bound M ok bs ws held.bound xs alike (variables_distinct M work number e there)) in
+      let equation : new.equation ≡ c.equation = ap (λ (q : Choice). q.equation) is_new in
+      let taking : new.take ≡ c.take = ap (λ (q : Choice). q.take) is_new in
+      record {
+        part = w;
+        taken = subst (λ o. IsPartTaken sig o t w) (sym taking) (taken_same sig c.take t w h.choice.taken);
+        applies = λ a is'.
+            let is : IsAppliedAs c.equation.now a = subst (λ q. IsAppliedAs q.now a) equation is' in
+            record {
+              redex = record {
+                statement = e;
+                is_there = subst (λ k. IsStatement M k e) (sym is.number) there;
+                ordinary = work.equations number e there;
+                sides = work.sides number e there.is_there;
+                size = bound.size;
+                values = bound.values;
+                substitution = bound.substitution;
+                solution = s;
+                solves = h.choice.solution;
+                reached = r;
+                shown = subst (AreShowing M (suc m) e.fragments s r) (sym shows) (evidence_shows M (suc m) e.fragments s r (proofs_of M m sides) (all_moves M sides) held.shown.evidence (Held_before M (AdmittedStep M) m e.fragments s (proofs_of M m sides) r held.holds));
+                goes_on = reached_extends M (admitted_judgements M m) e.fragments s (proofs_of M m sides) r held.holds;
+                reaches = subst (λ us. Extends r (bound_to sig xs us)) (sym ordered) (reordered_extends M ok bs ws held.bound xs alike);
+                found = λ y i k. ⊎_elim (λ z. inl (normal_above M m _ z)) (λ z. inr z) (subst (AreFound M m e.left xs) (sym ordered) (reordered_found M ok bs ws held.bound xs alike m e.left held.found) y i k);
+                right = ap clean is.right ∙ h.choice.is.right;
+              };
+              free = λ k. subst (λ p. frames.IsFree sig (clean p)) (sym is.right) (free_same sig (clean c.equation.now.right) (h.choice.is.free (sym is.free ∙ k)));
+              levels = is.levels ∙ h.choice.is.levels ∙ ap (λ p. min (height (fill [] (clean p))) (2 ^ 16 - 1)) (sym is.right);
+              sure = λ k. absurd (none_first tests x some (is.sure k).1);
+            };
+      }
+    where
+      none_first : (ts : List Test) (x : Test) → slice_get ts 0 ≡ Some x → ts ≡ [] → ⊥
+      none_first [] x e n = cc
+      none_first (t ∷ ts) x e n = cc
+
+      in_their_order : {vs ws us : List RawTerm} (o : Option (List ℕ)) → MatchOption o (vs ≡ ws) (λ ns. vs ≡ in_order ws ns) → MatchOption o (ws ≡ us) (λ ns. in_order ws ns ≡ us) → vs ≡ us
+      in_their_order None a b = a ∙ b
+      in_their_order (Some ns) a b = a ∙ b
+
+  -- where it fails, it fails for each statement of this number
+  pub failed_so : (m : ℕ) → FailsAbove M (admitted_judgements M m) e.fragments s → (d : Statement) → IsStatement M number d → IsFailed M (suc m) (tried_of c) d
+  failed_so m f d is = subst (IsFailed M (suc m) (tried_of c)) (one_statement M number e d there is) (record { substitution = h.choice.solution.substitution; fails = fails_above M m e.fragments s f })
+
+  -- it isn't told
+  halting_at : (n side : ℕ) (why : Reason) → IsCause M n side e.fragments s why → IsHaltingAt M n side t c.take why
+  halting_at n side why cause = record {
+    part = w;
+    taken = taken_same sig c.take t w h.choice.taken;
+    form = nested sig w;
+    raw = h.admitted.raw;
+    clean = form_clean sig ok w canonical_part;
+    is = h.admitted.canonical;
+    halting = record { number = number; statement = e; is_there = there; ordinary = work.equations number e there; solution = s; solves = h.choice.solution; cause = cause };
+  }
+
+  pub too_many : (side : ℕ) (x : Test) → slice_get tests 0 ≡ Some x → IsHaltingAt M 0 side t c.take reason.Nest
+  too_many side x some = halting_at 0 side reason.Nest (refl, λ none. some_test tests x some (subst (λ C. AreTests sig lefts C tests) none h.choice.is.condition.tests))
+    where
+      some_test : (ts : List Test) (x : Test) → slice_get ts 0 ≡ Some x → AreTests sig lefts [] ts → ⊥
+      some_test [] x e a = cc
+      some_test (t ∷ ts) x e a = a
+
+  pub stopped_so : (m side : ℕ) (why : Reason) → IsStoppedInside M m side e.fragments s why → IsHaltingAt M (suc m) side t c.take reason.Condition
+  stopped_so m side why stopped = halting_at (suc m) side reason.Condition (m, refl, why, stopped)
 
 row_taken : (sig : Signature) (o : Option (List ℕ)) (t w : RawTerm) → rows.IsTaken sig o t w → IsPartTaken sig o t w
 row_taken sig None t w h = h

@@ -1,16 +1,19 @@
 -- Where no row is met and no equation has a solution, nothing applies; and what is asked for, as rows see it.
-use Rattle.std.specs.Prelude.{◌≡◌, ℕ, List, [], refl}
-use Rattle.std.proofs.Common.{Bor, sym, subst, ◌∙◌}
+use Rattle.std.specs.Prelude.{◌≡◌, ℕ, List, [], ◌∷◌, ◌++◌, refl}
+use Rattle.std.proofs.Common.{Bor, sym, subst, ◌∙◌, ⊎_elim}
 use Rattle.mw_logic.specs.Term.{RawTerm, RawTerms, numeral, quoted, variable, apply}
 use Rattle.mw_logic.specs.Terms.{terms_of}
 use Rattle.mw_logic.specs.Signature.{Signature, Member}
 use Rattle.mw_logic.specs.Accepted.{IsAccepted, IsWellSorted}
 use Rattle.mw_logic.specs.Built.{HasBuiltIns}
-use Rattle.mw_logic.specs.Substitution.{Substitution}
-use Rattle.mw_logic.specs.Module.{Module, Fragment}
-use Rattle.mw_logic.specs.Judgements.{IsNormalBy, admitted_judgements}
+use Rattle.mw_logic.specs.Substitution.{Substitution, IsSubstitution, SameSolution}
+use Rattle.mw_logic.specs.Module.{Module, Fragment, Statement, IsStatement}
+use Rattle.mw_logic.specs.Judgements.{AdmittedStep, IsNormalBy, admitted_judgements}
 use Rattle.mw_logic.proofs.Canonical.{Each}
 use Rattle.mw_logic.proofs.CanonicalTerms.{fixed}
+use Rattle.mw_logic.proofs.SameConditions.{Fails-same}
+use Rattle.mw_logic.proofs.SameSolutions.{same_solution-sym}
+use Rattle.mw_poset.proofs.Members.{member-push}
 use Rattle.mw_term.specs.Shapes.{viewed}
 use Rattle.mw_term.specs.declared.term.View.{View}
 use Rattle.mw_solving.specs.Values.{IsValue}
@@ -21,22 +24,31 @@ use Rattle.mw_builtin.specs.Schemata.{AreSchemataOf}
 use Rattle.mw_builtin.specs.Steps.{IsGroundTerm, HasNoRow, IsStepOf}
 use Rattle.mw_builtin.specs.declared.table.Schemata.{Schemata}
 use Rattle.mw_builtin.specs.declared.step.Met.{Met}
-use Rattle.mw_index.specs.Choices.{Tried, AreAllTried}
+use Rattle.mw_index.specs.Choices.{Tried, AreAllTried, solution_of}
+use Rattle.mw_reduce.specs.Turns.{IsFailed, AreFailed}
 use Rattle.mw_frames.specs.State.{Run, Data, IsRun}
 use Rattle.mw_frames.specs.Steps.{IsAskedFor, asked_term}
 use Rattle.mw_frames.specs.declared.looking.Asked.{Asked}
 use Rattle.mw_frames.specs.declared.looking.Asked.TheVariants.{Term, Own}
 use Rattle.mw_frames.proofs.Asking.{complete_asked, asked_for_value}
 
-none_tried : (c : Tried) → Member c [] → ⊥
-none_tried c h = h
+-- What fails for a substitution fails for a same one.
+fails_same : (M : Module) (n : ℕ) (C : List Fragment) (q r : Substitution) → SameSolution M.signature q r → IsSubstitution M.signature q → (admitted_judgements M n).Fails C q → (admitted_judgements M n).Fails C r
+fails_same M n C q r e i f = Fails-same M (AdmittedStep M) n C q r e i f
 
-pub nothing_applies : (M : Module) (F : List Fragment → Substitution → Type 0) (t : RawTerm) → HasNoRow M.signature t → AreAllTried M t [] → NothingAtTops M F t
-nothing_applies M F t rows h = record {
-  no_equation = λ w top k e there equation s solution. let z = h k e there equation w top s solution in absurd (none_tried z.0 z.1);
+pub nothing_applies : (M : Module) (n : ℕ) (t : RawTerm) (tried : List Tried) → HasNoRow M.signature t → AreFailed M n tried → AreAllTried M t tried → NothingAtTops M (admitted_judgements M n).Fails t
+nothing_applies M n t tried rows failed h = record {
+  no_equation = λ w top k e there equation s solution.
+      let (c, m, number, same) = h k e there equation w top s solution in
+      let f = failed c m e (subst (λ i. IsStatement M i e) (sym number) there) in
+      fails_same M n e.fragments (solution_of M.signature e c.values) s (same_solution-sym M.signature s (solution_of M.signature e c.values) same) f.substitution f.fails;
   no_row = rows.no_row;
   no_pair = rows.no_pair;
 }
+
+-- one more that fails
+pub failed_more : (M : Module) (n : ℕ) (tried : List Tried) (c : Tried) → AreFailed M n tried → ((e : Statement) → IsStatement M c.number e → IsFailed M n c e) → AreFailed M n (tried ++ c ∷ [])
+failed_more M n tried c h f d m e is = ⊎_elim (λ k. h d k e is) (λ k. subst (λ (d : Tried). IsFailed M n d e) k (f e (subst (λ (d : Tried). IsStatement M d.number e) (sym k) is))) (member-push d c tried m)
 
 pub ground_value : (sig : Signature) → IsAccepted sig → (t : RawTerm) → IsValue sig t → IsGroundTerm sig t
 ground_value sig ok t v = record { raw = v.raw; canonical = fixed sig ok t v.canonical; ground = sym (nested_ground sig t) ∙ v.ground }

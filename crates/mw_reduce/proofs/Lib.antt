@@ -1,4 +1,10 @@
 pub mod Asks
+pub mod Values
+pub mod Evidence
+pub mod Going
+pub mod Deciding
+pub mod Ends
+pub mod SideRuns
 pub mod Applying
 pub mod Reduced
 pub mod Joining

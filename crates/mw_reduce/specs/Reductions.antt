@@ -1,20 +1,17 @@
 -- What a reduction gives.
-use Rattle.std.specs.Prelude.{◌≡◌, ◌<◌, ℕ, false, None}
+use Rattle.std.specs.Prelude.{◌≡◌, ◌<◌, ℕ}
 use Rattle.mw_logic.specs.Term.{RawTerm}
 use Rattle.mw_logic.specs.Parts.{nested}
 use Rattle.mw_logic.specs.Module.{Module}
 use Rattle.mw_logic.specs.Proof.{Proof, rules, steps}
 use Rattle.mw_logic.specs.Judgements.{Proves, IsNormal}
-use Rattle.mw_logic.specs.Ends.{Limits, Stops}
+use Rattle.mw_logic.specs.Ends.{Stops}
 use Rattle.mw_proof.specs.Deductions.{Deduction}
 use Rattle.mw_proof.specs.Reasons.{reason_of}
+use Rattle.mw_reduce.specs.Limits.{limits_within}
 use Rattle.mw_reduce.specs.declared.drive.Outcome.{Outcome}
 use Rattle.mw_reduce.specs.declared.drive.Outcome.TheVariants.{Done, Stopped}
 use Rattle.mw_reduce.specs.declared.reducing.Budget.{Budget}
-
--- the limits of a run by equations alone: at most so many steps, and so many for each side of a condition
-abbrev pub limits_within : ℕ → ℕ → Limits
-limits_within most side = record { rules_too = false; bound = None; most = most; most_of_sides = side }
 
 -- `Done`: below the limit, and at a normal term. `Stopped`: a stop by its reason, with so many steps for the sides of conditions.
 abbrev pub IsOutcome : Module → ℕ → ℕ → ℕ → RawTerm → Proof → RawTerm → Outcome → Type 0

@@ -1,10 +1,14 @@
 -- What comes of a turn: of a step of the machine, and of equations where they are asked for.
-use Rattle.std.specs.Prelude.{◌≡◌, ℕ, List, [], ◌∷◌, length, Option, ⊤}
+use Rattle.std.specs.Prelude.{◌≡◌, ℕ, List, [], ◌∷◌, ◌++◌, length, Option, ⊤}
 use Rattle.mw_logic.specs.Term.{RawTerm}
-use Rattle.mw_logic.specs.Module.{Module}
+use Rattle.mw_logic.specs.Signature.{Member}
+use Rattle.mw_logic.specs.Substitution.{IsSubstitution}
+use Rattle.mw_logic.specs.Module.{Module, Statement, IsStatement}
 use Rattle.mw_logic.specs.Judgements.{IsNormalBy, admitted_judgements}
-use Rattle.mw_builtin.specs.Steps.{IsGiven, IsTooBigAt}
-use Rattle.mw_index.specs.Choices.{IsChoice, Covers, tried_of}
+use Rattle.mw_builtin.specs.Steps.{IsGiven, IsTooBigAt, HasNoRow}
+use Rattle.mw_index.specs.Index.{IsOf}
+use Rattle.mw_index.specs.Choices.{IsChoice, Covers, Tried, tried_of, solution_of}
+use Rattle.mw_index.specs.declared.equations.Equation.{Equation}
 use Rattle.mw_index.specs.declared.index.Index.{Index}
 use Rattle.mw_index.specs.declared.choices.Choice.{Choice}
 use Rattle.mw_index.specs.declared.choices.Choices.{Choices}
@@ -15,12 +19,25 @@ use Rattle.mw_frames.specs.declared.machine.Machine.{Machine}
 use Rattle.mw_reduce.specs.declared.turning.Turn.{Turn}
 use Rattle.mw_reduce.specs.declared.turning.Turn.TheVariants.{Goes, Ended, Found, Met, Big, Decides}
 
--- The first equation that has a solution for what was asked for; the others are still to be asked.
+-- the equation with these values has a condition that fails
+pub record IsFailed (M : Module) (n : ℕ) (c : Tried) (e : Statement) : Type 0 where
+  pub substitution : IsSubstitution M.signature (solution_of M.signature e c.values)
+  pub fails : (admitted_judgements M n).Fails e.fragments (solution_of M.signature e c.values)
+
+-- so have all that were tried
+abbrev pub AreFailed : Module → ℕ → List Tried → Type 0
+AreFailed M n tried = (c : Tried) → Member c tried → (e : Statement) → IsStatement M c.number e → IsFailed M n c e
+
+-- The next equation that has a solution for what was asked for, where no row is met: those before it have conditions that fail, and the others are still to
+-- be asked.
 pub record IsFound (K : Run) (count : ℕ) (m : Index) (d : Data) (rest : Choices) (a : Asked) (c : Choice) : Type 0 where
   pub asked : IsAskedFor K count d a
+  pub rows : HasNoRow K.over.signature (asked_term d a)
   pub choice : IsChoice K.over (asked_term d a) c
   pub sized : length c.values.items ≡ length c.equation.now.sorts
-  pub others : Covers K.over m (asked_term d a) (tried_of c ∷ []) rest
+  pub tried : List Tried
+  pub failed : AreFailed K.over K.rank tried
+  pub others : Covers K.over m (asked_term d a) (tried ++ tried_of c ∷ []) rest
 
 -- A row is met at what was asked for, or at several of its arguments.
 pub record IsMetAt (K : Run) (count : ℕ) (d : Data) (a : Asked) (take : Option (List ℕ)) (to : RawTerm) : Type 0 where
@@ -48,3 +65,16 @@ TurnFalls M w m (Found a c) = ⊤
 TurnFalls M w m (Met a take to) = ⊤
 TurnFalls M w m (Big a take) = ⊤
 TurnFalls M w m (Decides f b) = ⊤
+
+-- an equation of the module, as the index has it
+abbrev pub HasEquation : Module → Equation → Type 0
+HasEquation M st = (top : Option ℕ) × IsOf M top st
+
+-- what is found is one
+abbrev pub TurnOf : Module → Turn → Type 0
+TurnOf M (Goes h) = ⊤
+TurnOf M (Ended t) = ⊤
+TurnOf M (Found a c) = HasEquation M c.equation.now
+TurnOf M (Met a take to) = ⊤
+TurnOf M (Big a take) = ⊤
+TurnOf M (Decides f b) = ⊤

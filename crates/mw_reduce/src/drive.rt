@@ -1,24 +1,25 @@
-// A run, from step to step.
+// What comes of a pause, from one replacement to the next.
 ghost use Rattle.std.specs.Prelude.{◌≡◌, ◌<◌, ◌≤◌, ◌+◌, ℕ, IfOk, MatchOption};
 ghost use Rattle.mw_logic.specs.Module.{Module};
 ghost use Rattle.mw_least.specs.Workable.{IsWorkable};
 ghost use Rattle.mw_index.specs.Index.{IsIndexOf};
-ghost use Rattle.mw_index.specs.declared.index.Index.{Index as IndexOf};
-ghost use Rattle.mw_frames.specs.State.{Run, Data, IsRun, Holds};
+ghost use Rattle.mw_frames.specs.State.{Run, Data, IsRun};
 ghost use Rattle.mw_frames.specs.Machines.{data_of};
 ghost use Rattle.mw_frames.specs.Steps.{IsAsked, IsAskedFor};
 ghost use Rattle.mw_frames.specs.Fires.{IsFired};
-ghost use Rattle.mw_reduce.specs.Turns.{IsFound, IsMetAt, IsBigAt};
-ghost use Rattle.mw_reduce.specs.Driven.{IsAppliedAs, IsPause, EndsAt, IsNext, IsDriven};
+ghost use Rattle.mw_reduce.specs.Turns.{IsMetAt, IsBigAt, IsTurn, TurnOf};
+ghost use Rattle.mw_reduce.specs.Attempts.{IsAppliedAs, IsReady, IsHaltedAt, IsPause};
+ghost use Rattle.mw_reduce.specs.Driven.{EndsAt, IsNext};
 
 use crate::pairs::join_pairs;
 use crate::turning::{Turn, take_turn};
 use mw_canon::Facts;
-use mw_frames::{Applied, Asked, Fired, Frame, Hand, Job, Machine, decide, fire, halt, meet, stop};
+use mw_frames::{Applied, Asked, Fired, Frame, Hand, Job, Machine, decide, fire, halt, meet};
 use mw_index::{Choice, Choices, Equation, Index};
 use mw_least::Ctx;
 use mw_proof::Reason;
 use mw_term::{Seq, Term};
+use mw_trail::Trail;
 use std::alloc::{AllocError, Global};
 
 /// How a run ends.
@@ -36,15 +37,16 @@ pub struct End {
     pub outcome: Outcome,
 }
 
-/// What turns come to: the whole is normal, an equation has a solution, a row is met, a sum or product is too big, or a
-/// choice is decided.
+/// What turns come to: the whole is normal, an equation applies, with what shows its condition, a row is met, a sum or
+/// product is too big, a choice is decided, or it isn't told whether a condition holds.
 #[derive(Drop)]
 pub enum Pause<'m> {
     Ended(Term),
-    Found(Asked, Choice<'m>),
+    Found(Asked, Choice<'m>, Vec<Trail>),
     Met(Asked, Option<Seq<u32>>, Term),
     Big(Asked, Option<Seq<u32>>),
     Decides(Frame, bool),
+    Halts(Asked, Option<Seq<u32>>, Reason),
 }
 
 /// What comes of a pause.
@@ -55,41 +57,30 @@ pub enum Next<'m> {
     Ends(End),
 }
 
-/// Turns until the whole is normal, or an equation or a row applies.
+/// Turns until it doesn't go on by itself.
 #[inline(always)]
-fn advance<'m>(
+pub fn advance<'m>(
     alloc: Global,
     context: &'m Ctx,
     index: &'m Index,
     machine: &mut Machine<'m>,
     choices: &mut Choices<'m>,
-    hand: Hand<'m>,
-) -> Result<Pause<'m>, AllocError>
-    requires { IsIndexOf context.now index.now }
-    ensures { (K : Run) (k : ℕ) → IsRun K context.now.signature → K.over ≡ context.now → Holds K k (data_of K.over machine.old) hand.entry
-        → IfOk result (IsPause K k index.now (data_of K.over machine.new) choices.new) }
+    turn: Turn<'m>,
+) -> Result<Turn<'m>, AllocError>
+    requires index { IsIndexOf context.now index.now }
+    requires of { TurnOf context.now turn }
+    ensures of { IfOk result (TurnOf context.now) }
+    ensures means { (K : Run) (k : ℕ) → IsRun K context.now.signature → K.over ≡ context.now
+        → IsTurn K k index.now (data_of K.over machine.old) choices.old turn.entry
+        → IfOk result (IsTurn K k index.now (data_of K.over machine.new) choices.new) }
 {
-    let mut hand = hand;
+    let mut turn = turn;
     loop {
-        match take_turn(alloc, context, index, machine, choices, hand)? {
-            Turn::Goes(next) => {
-                hand = next;
+        match turn {
+            Turn::Goes(hand) => {
+                turn = take_turn(alloc, context, index, machine, choices, hand)?;
             }
-            Turn::Ended(term) => {
-                return Ok(Pause::Ended(term));
-            }
-            Turn::Found(asked, choice) => {
-                return Ok(Pause::Found(asked, choice));
-            }
-            Turn::Met(asked, take, to) => {
-                return Ok(Pause::Met(asked, take, to));
-            }
-            Turn::Big(asked, take) => {
-                return Ok(Pause::Big(asked, take));
-            }
-            Turn::Decides(frame, truth) => {
-                return Ok(Pause::Decides(frame, truth));
-            }
+            other => return Ok(other),
         }
     }
 }
@@ -104,7 +95,7 @@ fn applied<'m>(equation: &'m Equation) -> Applied<'m>
         right: &equation.right,
         free: equation.free,
         levels: equation.levels,
-        sure: equation.sure,
+        sure: equation.sure && equation.condition.tests.as_slice().is_empty(),
     }
 }
 
@@ -117,8 +108,9 @@ fn apply<'m>(
     choices: &mut Choices<'m>,
     asked: Asked,
     choice: Choice<'m>,
+    sides: Vec<Trail>,
 ) -> Result<Fired<'m>, AllocError>
-    ensures { (K : Run) (k : ℕ) → IsRun K facts.now → IsWorkable K.over → (m : IndexOf) → IsFound K k m (data_of K.over machine.old) choices.old asked choice.entry
+    ensures { (K : Run) (k : ℕ) → IsRun K facts.now → IsReady K k (data_of K.over machine.old) asked choice.entry sides.entry.items
         → IfOk result (IsFired K k (data_of K.over machine.new)) }
 {
     let Choice {
@@ -127,7 +119,7 @@ fn apply<'m>(
         take,
     } = choice;
     let by = applied(equation);
-    let mut sides = Vec::new(alloc);
+    let mut sides = sides;
     let fired = fire(
         alloc,
         facts,
@@ -186,7 +178,7 @@ fn meet_rows<'m>(
     requires { IsIndexOf context.now index.now }
     ensures { (K : Run) (k : ℕ) → IsRun K context.now.signature → K.over ≡ context.now → 0 < left
         → IsMetAt K k (data_of K.over machine.old) asked take.now to
-        → IfOk result (IsNext K k left (data_of K.over machine.new)) }
+        → (side : ℕ) → IfOk result (IsNext K k side left (data_of K.over machine.new)) }
 {
     match join_some(alloc, context, index, machine, choices, &asked, take, left)? {
         Some((term, count)) => Ok(Next::Goes(Hand::One(Job::Try(term)), count)),
@@ -199,7 +191,7 @@ fn meet_rows<'m>(
 
 /// A sum or product is too big.
 #[inline(never)]
-fn halt_there(
+fn end_at_big(
     alloc: Global,
     facts: &Facts,
     machine: &mut Machine<'_>,
@@ -207,7 +199,7 @@ fn halt_there(
     take: &Option<Seq<u32>>,
 ) -> Result<End, AllocError>
     ensures { (K : Run) (k : ℕ) → IsRun K facts.now → IsBigAt K k (data_of K.over machine.old) asked take.now
-        → IfOk result (λ e. EndsAt K k (data_of K.over machine.new) e.term e.outcome) }
+        → (side : ℕ) → IfOk result (λ e. EndsAt K k side (data_of K.over machine.new) e.term e.outcome) }
 {
     let term = halt(alloc, facts, machine, asked, take)?;
     Ok(End {
@@ -216,10 +208,30 @@ fn halt_there(
     })
 }
 
+/// It isn't told whether a condition holds.
+#[inline(never)]
+fn halt_there(
+    alloc: Global,
+    facts: &Facts,
+    machine: &mut Machine<'_>,
+    asked: Asked,
+    take: &Option<Seq<u32>>,
+    reason: Reason,
+) -> Result<End, AllocError>
+    ensures { (K : Run) (k side : ℕ) → IsRun K facts.now → IsHaltedAt K k side (data_of K.over machine.old) asked take.now reason
+        → IfOk result (λ e. EndsAt K k side (data_of K.over machine.new) e.term e.outcome) }
+{
+    let term = halt(alloc, facts, machine, asked, take)?;
+    Ok(End {
+        term,
+        outcome: Outcome::Stopped(reason),
+    })
+}
+
 /// What comes of what was applied.
 #[inline(always)]
 fn after<'m>(fired: Fired<'m>) -> Next<'m>
-    ensures { (K : Run) (k left : ℕ) (d : Data) → 0 < left → IsFired K k d fired.entry → IsNext K k left d result }
+    ensures { (K : Run) (k side left : ℕ) (d : Data) → 0 < left → IsFired K k d fired.entry → IsNext K k side left d result }
 {
     match fired {
         Fired::Goes(hand) => Next::Goes(hand, 1),
@@ -236,7 +248,7 @@ fn after<'m>(fired: Fired<'m>) -> Next<'m>
 
 /// What comes of a pause: an equation is applied, rows are met, as many as are left to the limit, or it ends.
 #[inline(always)]
-fn go_on<'m>(
+pub fn go_on<'m>(
     alloc: Global,
     context: &'m Ctx,
     index: &'m Index,
@@ -246,9 +258,9 @@ fn go_on<'m>(
     left: u64,
 ) -> Result<Next<'m>, AllocError>
     requires { IsIndexOf context.now index.now }
-    ensures { (K : Run) (k : ℕ) → IsRun K context.now.signature → K.over ≡ context.now → 0 < left
-        → IsPause K k index.now (data_of K.over machine.old) choices.old pause.entry
-        → IfOk result (IsNext K k left (data_of K.over machine.new)) }
+    ensures { (K : Run) (k side : ℕ) → IsRun K context.now.signature → K.over ≡ context.now → 0 < left
+        → IsPause K k side (data_of K.over machine.old) pause.entry
+        → IfOk result (IsNext K k side left (data_of K.over machine.new)) }
 {
     context.shows();
     let facts = context.facts();
@@ -257,8 +269,8 @@ fn go_on<'m>(
             term,
             outcome: Outcome::Done,
         })),
-        Pause::Found(asked, choice) => {
-            let fired = apply(alloc, facts, machine, choices, asked, choice)?;
+        Pause::Found(asked, choice, sides) => {
+            let fired = apply(alloc, facts, machine, choices, asked, choice, sides)?;
             Ok(after(fired))
         }
         Pause::Met(asked, take, to) => {
@@ -272,43 +284,12 @@ fn go_on<'m>(
             Ok(after(fired))
         }
         Pause::Big(asked, take) => {
-            let end = halt_there(alloc, facts, machine, asked, &take)?;
+            let end = end_at_big(alloc, facts, machine, asked, &take)?;
+            Ok(Next::Ends(end))
+        }
+        Pause::Halts(asked, take, reason) => {
+            let end = halt_there(alloc, facts, machine, asked, &take, reason)?;
             Ok(Next::Ends(end))
         }
     }
-}
-
-/// From step to step, at most so many times.
-pub fn drive<'m>(
-    alloc: Global,
-    context: &'m Ctx,
-    index: &'m Index,
-    machine: &mut Machine<'m>,
-    choices: &mut Choices<'m>,
-    hand: Hand<'m>,
-    limit: u64,
-) -> Result<End, AllocError>
-    requires { IsIndexOf context.now index.now }
-    ensures { (K : Run) → IsRun K context.now.signature → K.over ≡ context.now → Holds K 0 (data_of K.over machine.old) hand.entry
-        → IfOk result (IsDriven K limit (data_of K.over machine.new)) }
-{
-    let mut hand = hand;
-    let mut left = limit;
-    while left > 0 {
-        let pause = advance(alloc, context, index, machine, choices, hand)?;
-        match go_on(alloc, context, index, machine, choices, pause, left)? {
-            Next::Goes(next, count) => {
-                hand = next;
-                left = left.saturating_sub(count.max(1));
-            }
-            Next::Ends(end) => {
-                return Ok(end);
-            }
-        }
-    }
-    let term = stop(alloc, context.facts(), machine, hand)?;
-    Ok(End {
-        term,
-        outcome: Outcome::Stopped(Reason::Rewrites),
-    })
 }

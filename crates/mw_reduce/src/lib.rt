@@ -27,9 +27,13 @@
 //! Neither proved nor tested: time and memory, and that an answer comes with memory at hand.
 #![tactic(auto)]
 
+mod attempts;
 mod drive;
+mod evaluation;
 mod pairs;
 mod reducing;
+mod running;
+mod sides;
 mod turning;
 
 pub use drive::Outcome;

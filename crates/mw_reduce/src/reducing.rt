@@ -4,7 +4,8 @@ ghost use Rattle.mw_canon.specs.Canonical.{IsAdmittedTerm};
 ghost use Rattle.mw_index.specs.Index.{IsIndexOf};
 ghost use Rattle.mw_reduce.specs.Reductions.{IsReductionOf};
 
-use crate::drive::{Outcome, drive};
+use crate::drive::Outcome;
+use crate::running::drive;
 use mw_frames::{Hand, Job, Machine};
 use mw_index::{Choices, Index};
 use mw_least::Ctx;
@@ -49,6 +50,8 @@ pub fn reduce<'m>(
         &mut choices,
         hand,
         budget.steps,
+        budget.side,
+        budget.nest,
     )?;
     let Machine { kept, .. } = machine;
     context.shows();

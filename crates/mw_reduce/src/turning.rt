@@ -1,16 +1,16 @@
 // The machine's steps until an equation applies.
-ghost use Rattle.std.specs.Prelude.{◌≡◌, ◌<◌, ℕ, IfOk};
+ghost use Rattle.std.specs.Prelude.{◌≡◌, ◌<◌, ℕ, List, IfOk};
 ghost use Rattle.mw_logic.specs.Module.{Module};
 ghost use Rattle.mw_logic.specs.Judgements.{IsNormalBy, admitted_judgements};
 ghost use Rattle.mw_builtin.specs.Steps.{HasNoRow, IsStepOf};
 ghost use Rattle.mw_index.specs.Index.{IsIndexOf};
-ghost use Rattle.mw_index.specs.Choices.{subject_of};
+ghost use Rattle.mw_index.specs.Choices.{subject_of, Tried, Covers};
 ghost use Rattle.mw_frames.specs.State.{Run, IsRun, Holds, work_of};
 ghost use Rattle.mw_frames.specs.Machines.{data_of};
 ghost use Rattle.mw_frames.specs.Steps.{IsAskedFor, asked_term, FallsTo};
 ghost use Rattle.mw_frames.specs.declared.job.Job.TheVariants.{Normal as NormalOf};
 ghost use Rattle.mw_frames.specs.declared.job.Hand.TheVariants.{One as OneOf};
-ghost use Rattle.mw_reduce.specs.Turns.{IsTurn, TurnFalls};
+ghost use Rattle.mw_reduce.specs.Turns.{AreFailed, IsTurn, TurnOf, TurnFalls};
 
 use mw_builtin::Met;
 use mw_frames::{Asked, Frame, Hand, Machine, Step, rest, step};
@@ -78,9 +78,9 @@ fn met_at(
     }
 }
 
-/// The first equation that has a solution for what is asked for, at which no row is met; or it is normal.
+/// The next equation that has a solution for what is asked for, where no row is met; or it is normal.
 #[inline(always)]
-fn choose<'m>(
+pub fn next_choice<'m>(
     alloc: Global,
     context: &'m Ctx,
     index: &'m Index,
@@ -89,11 +89,13 @@ fn choose<'m>(
     asked: Asked,
 ) -> Result<Turn<'m>, AllocError>
     requires { IsIndexOf context.now index.now }
-    ensures means { (K : Run) (k : ℕ) → IsRun K context.now.signature → K.over ≡ context.now → IsAskedFor K k (data_of K.over machine.old) asked
-        → HasNoRow K.over.signature (asked_term (data_of K.over machine.old) asked) → IfOk result (IsTurn K k index.now (data_of K.over machine.new) choices.new) }
+    ensures of { IfOk result (TurnOf context.now) }
+    ensures means { (K : Run) (k : ℕ) (tried : List Tried) → IsRun K context.now.signature → K.over ≡ context.now → IsAskedFor K k (data_of K.over machine.old) asked
+        → HasNoRow K.over.signature (asked_term (data_of K.over machine.old) asked) → AreFailed K.over K.rank tried
+        → Covers K.over index.now (asked_term (data_of K.over machine.old) asked) tried choices.old
+        → IfOk result (IsTurn K k index.now (data_of K.over machine.new) choices.new) }
     ensures falls { (M : Module) (w : ℕ) → FallsTo M w machine.old (OneOf (NormalOf (asked_term (data_of M machine.old) asked))) → IfOk result (TurnFalls M w machine.new) }
 {
-    choices.again();
     let subject = subject_at(machine, &asked);
     match choices.next(alloc, context, index, subject)? {
         Some(choice) => Ok(Turn::Found(asked, choice)),
@@ -115,6 +117,7 @@ fn ask<'m>(
     asked: Asked,
 ) -> Result<Turn<'m>, AllocError>
     requires { IsIndexOf context.now index.now }
+    ensures of { IfOk result (TurnOf context.now) }
     ensures means { (K : Run) (k : ℕ) → IsRun K context.now.signature → K.over ≡ context.now → IsAskedFor K k (data_of K.over machine.old) asked
         → IfOk result (IsTurn K k index.now (data_of K.over machine.new) choices.new) }
     ensures falls { (M : Module) (w : ℕ) → FallsTo M w machine.old (OneOf (NormalOf (asked_term (data_of M machine.old) asked))) → IfOk result (TurnFalls M w machine.new) }
@@ -123,7 +126,8 @@ fn ask<'m>(
         Met::Gives { take, to } => Ok(Turn::Met(asked, take, to)),
         Met::TooBig { take } => Ok(Turn::Big(asked, take)),
         Met::Nothing => {
-            let turn = choose(alloc, context, index, machine, choices, asked)?;
+            choices.again();
+            let turn = next_choice(alloc, context, index, machine, choices, asked)?;
             Ok(turn)
         }
     }
@@ -140,6 +144,7 @@ pub fn take_turn<'m>(
     hand: Hand<'m>,
 ) -> Result<Turn<'m>, AllocError>
     requires { IsIndexOf context.now index.now }
+    ensures of { IfOk result (TurnOf context.now) }
     ensures means { (K : Run) (k : ℕ) → IsRun K context.now.signature → K.over ≡ context.now → Holds K k (data_of K.over machine.old) hand.entry
         → IfOk result (IsTurn K k index.now (data_of K.over machine.new) choices.new) }
     ensures falls { (M : Module) → M.signature ≡ context.now.signature → IfOk result (TurnFalls M (work_of M.signature (data_of M machine.old) hand.entry) machine.new) }

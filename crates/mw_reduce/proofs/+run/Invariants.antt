@@ -1,0 +1,36 @@
+use Rattle.std.proofs.Common.{◌≡◌, ◌≤◌, ◌-◌, ◌+◌, ◌*◌, ◌<◌, ℕ, suc, List, reverse, slice_get, Some}
+use Rattle.mw_logic.specs.Term.{RawTerm}
+use Rattle.mw_logic.specs.Module.{Statement, IsStatement}
+use Rattle.mw_position.specs.Variables.{met}
+use Rattle.mw_index.specs.Conditions.{IsConditionOf}
+use Rattle.mw_index.specs.declared.conditions.Test.{Test}
+use Rattle.mw_frames.specs.State.{Run, IsRun, Holds}
+use Rattle.mw_frames.specs.Machines.{data_of}
+use Rattle.mw_reduce.specs.Turns.{IsTurn, TurnOf}
+use Rattle.mw_reduce.specs.Evaluations.{AreBoundTo, bound_to, IsTrial}
+use Rattle.mw_reduce.proofs.+run.Given as goal
+
+abbrev pub decreases-drive : goal.decreases-drive
+decreases-drive l = 6 * l.nest + 5
+
+abbrev pub decreases-find : goal.decreases-find
+decreases-find l = 6 * l.nest + 4
+
+abbrev pub decreases-try_choice : goal.decreases-try_choice
+decreases-try_choice l = 6 * l.nest + 3
+
+abbrev pub decreases-evaluate : goal.decreases-evaluate
+decreases-evaluate l = 6 * l.nest + 2
+
+abbrev pub decreases-try_test : goal.decreases-try_test
+decreases-try_test l = 6 * l.nest + 1
+
+abbrev pub decreases-run_side : goal.decreases-run_side
+decreases-run_side l = 6 * l.nest
+
+abbrev pub invariant-drive-loop-left : goal.invariant-drive-loop-left
+invariant-drive-loop-left l =
+    (l.left ≤ l.limit) × ((K : Run) → IsRun K l.context.signature → K.over ≡ l.context → K.rank ≡ l.nest → Holds K 0 (data_of K.over l.fn.machine) l.fn.hand → Holds K (l.limit - l.left) (data_of K.over l.machine) l.hand)
+
+abbrev pub decreases-drive-loop-left : goal.decreases-drive-loop-left
+decreases-drive-loop-left l = l.left

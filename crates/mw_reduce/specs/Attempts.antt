@@ -1,0 +1,113 @@
+-- What comes of a choice: its condition holds, fails, or a side of it stops.
+use Rattle.std.specs.Prelude.{◌≡◌, ◌≢◌, ℕ, suc, List, [], length, Option, Some, None, IsTrue, ⊤}
+use Rattle.mw_logic.specs.Term.{RawTerm}
+use Rattle.mw_logic.specs.Signature.{IsRawTerm}
+use Rattle.mw_logic.specs.Substitution.{Substitution, IsSolution}
+use Rattle.mw_logic.specs.Parts.{IsClean}
+use Rattle.mw_logic.specs.NormalForm.{normal_form}
+use Rattle.mw_logic.specs.Module.{Fragment, Module, Statement, IsStatement}
+use Rattle.mw_canon.specs.Canonical.{IsAdmittedTerm}
+use Rattle.mw_least.specs.Workable.{IsOrdinaryEquation}
+use Rattle.mw_trail.specs.Tracks.{Track}
+use Rattle.mw_proof.specs.declared.reason.Reason.{Reason}
+use Rattle.mw_proof.specs.declared.reason.Reason.TheVariants.{Rules, Rewrites, Depth, Nat, Nest, Condition}
+use Rattle.mw_index.specs.Choices.{IsChoice, tried_of}
+use Rattle.mw_index.specs.declared.index.Index.{Index}
+use Rattle.mw_index.specs.declared.equations.Equation.{Equation}
+use Rattle.mw_index.specs.declared.choices.Choice.{Choice}
+use Rattle.mw_index.specs.declared.choices.Choices.{Choices}
+use Rattle.mw_frames.specs.State.{Run, Data}
+use Rattle.mw_frames.specs.Steps.{IsAskedFor, asked_term, IsEnd, IsDecided}
+use Rattle.mw_frames.specs.Machines.{all_moves}
+use Rattle.mw_frames.specs.Fires.{IsPartTaken, IsApplied}
+use Rattle.mw_frames.specs.declared.applying.Applied.{Applied}
+use Rattle.mw_frames.specs.declared.looking.Asked.{Asked}
+use Rattle.mw_reduce.specs.Turns.{IsFailed, IsTurn, IsMetAt, IsBigAt, TurnOf}
+use Rattle.mw_reduce.specs.Evaluations.{IsStoppedInside}
+use Rattle.mw_reduce.specs.declared.attempts.Attempt.{Attempt}
+use Rattle.mw_reduce.specs.declared.attempts.Attempt.TheVariants.{Made, Fails, Halts}
+use Rattle.mw_reduce.specs.declared.attempts.Settled.{Settled}
+use Rattle.mw_reduce.specs.declared.attempts.Settled.TheVariants.{Turns, Pauses}
+use Rattle.mw_reduce.specs.declared.drive.Pause.{Pause}
+use Rattle.mw_reduce.specs.declared.drive.Pause.TheVariants as pause
+
+-- the equation, as it is applied: what is sure isn't where there is a condition
+pub record IsAppliedAs (e : Equation) (a : Applied) : Type 0 where
+  pub number : a.number ≡ e.number
+  pub right : a.right.now ≡ e.right
+  pub free : a.free ≡ e.free
+  pub levels : a.levels ≡ e.levels
+  pub sure : IsTrue a.sure → IsTrue e.sure × (e.condition.tests ≡ [])
+
+-- a choice at a term, for a part that is admitted
+pub record IsTriable (M : Module) (t : RawTerm) (c : Choice) : Type 0 where
+  pub choice : IsChoice M t c
+  pub sized : length c.values.items ≡ length c.equation.now.sorts
+  pub admitted : IsAdmittedTerm M.signature choice.part
+
+-- Its equation applies, by its values, to the term or what it takes of it: these trails show the condition.
+pub record IsMade (M : Module) (n : ℕ) (t : RawTerm) (c : Choice) (sides : List Track) : Type 0 where
+  pub part : RawTerm
+  pub taken : IsPartTaken M.signature c.take t part
+  pub applies : (a : Applied) → IsAppliedAs c.equation.now a → IsApplied M n a (all_moves M sides) c.values.items part
+
+-- Why it isn't told whether a condition holds from s on: it would be one too many, or a side of it stops.
+abbrev pub IsCause : Module → ℕ → ℕ → List Fragment → Substitution → Reason → Type 0
+IsCause M n side C s Rules = ⊥
+IsCause M n side C s Rewrites = ⊥
+IsCause M n side C s Depth = ⊥
+IsCause M n side C s Nat = ⊥
+IsCause M n side C s Nest = (n ≡ 0) × (C ≢ [])
+IsCause M n side C s Condition = (m : ℕ) × (n ≡ suc m) × (why : Reason) × IsStoppedInside M m side C s why
+
+-- So it isn't for an equation that has a solution for the term w.
+pub record IsHalting (M : Module) (n side : ℕ) (w : RawTerm) (why : Reason) : Type 0 where
+  pub number : ℕ
+  pub statement : Statement
+  pub is_there : IsStatement M number statement
+  pub ordinary : IsOrdinaryEquation M.signature statement
+  pub solution : Substitution
+  pub solves : IsSolution M.signature statement.left w [] solution
+  pub cause : IsCause M n side statement.fragments solution why
+
+-- the same for a clean form of a flattened term, or of what is taken of it
+pub record IsHaltingAt (M : Module) (n side : ℕ) (t : RawTerm) (take : Option (List ℕ)) (why : Reason) : Type 0 where
+  pub part : RawTerm
+  pub taken : IsPartTaken M.signature take t part
+  pub form : RawTerm
+  pub raw : IsRawTerm M.signature form
+  pub clean : IsClean M.signature form
+  pub is : normal_form M.signature form ≡ part
+  pub halting : IsHalting M n side form why
+
+abbrev pub IsAttempt : Module → ℕ → ℕ → RawTerm → Choice → Choice → Attempt → Type 0
+IsAttempt M n side t old new (Made sides) = IsMade M n t new sides.items
+IsAttempt M n side t old new Fails = (e : Statement) → IsStatement M old.equation.now.number e → IsFailed M n (tried_of old) e
+IsAttempt M n side t old new (Halts why) = IsHaltingAt M n side t old.take why
+
+-- what was asked for is a choice that applies
+pub record IsReady (K : Run) (count : ℕ) (d : Data) (a : Asked) (c : Choice) (sides : List Track) : Type 0 where
+  pub asked : IsAskedFor K count d a
+  pub made : IsMade K.over K.rank (asked_term d a) c sides
+
+-- or isn't told of
+pub record IsHaltedAt (K : Run) (count side : ℕ) (d : Data) (a : Asked) (take : Option (List ℕ)) (why : Reason) : Type 0 where
+  pub asked : IsAskedFor K count d a
+  pub halting : IsHaltingAt K.over K.rank side (asked_term d a) take why
+
+-- What turns come to.
+abbrev pub IsPause : Run → ℕ → ℕ → Data → Pause → Type 0
+IsPause K count side d (pause.Ended t) = IsEnd K count d t
+IsPause K count side d (pause.Found a c sides) = IsReady K count d a c sides.items
+IsPause K count side d (pause.Met a take to) = IsMetAt K count d a take to
+IsPause K count side d (pause.Big a take) = IsBigAt K count d a take
+IsPause K count side d (pause.Decides f b) = IsDecided K count d f b
+IsPause K count side d (pause.Halts a take why) = IsHaltedAt K count side d a take why
+
+abbrev pub IsSettled : Run → ℕ → ℕ → Index → Data → Choices → Settled → Type 0
+IsSettled K count side m d rest (Turns t) = IsTurn K count m d rest t
+IsSettled K count side m d rest (Pauses p) = IsPause K count side d p
+
+abbrev pub SettledOf : Module → Settled → Type 0
+SettledOf M (Turns t) = TurnOf M t
+SettledOf M (Pauses p) = ⊤

@@ -1,0 +1,316 @@
+// Runs, and those of the sides of conditions inside them.
+ghost use Rattle.std.specs.Prelude.{◌≡◌, ◌<◌, ℕ, suc, List, [], ◌∷◌, IfOk};
+ghost use Rattle.mw_logic.specs.Term.{Variable, RawTerm};
+ghost use Rattle.mw_logic.specs.Module.{Module, Fragment, Statement as StatementOf, IsStatement};
+ghost use Rattle.mw_logic.specs.Signature.{IsRawTerm};
+ghost use Rattle.mw_logic.specs.Substitution.{instance as instance_of};
+ghost use Rattle.mw_position.specs.Variables.{met};
+ghost use Rattle.mw_index.specs.Index.{IsIndexOf};
+ghost use Rattle.mw_index.specs.Choices.{IsChoice};
+ghost use Rattle.mw_index.specs.Conditions.{IsSideOf, IsTestOf, IsConditionOf, AreReady, bound_by};
+ghost use Rattle.mw_frames.specs.State.{Run, IsRun, Holds};
+ghost use Rattle.mw_frames.specs.Machines.{data_of};
+ghost use Rattle.mw_reduce.specs.Turns.{HasEquation};
+ghost use Rattle.mw_reduce.specs.Driven.{IsDriven};
+ghost use Rattle.mw_reduce.specs.Attempts.{IsTriable, IsAttempt, IsPause};
+ghost use Rattle.mw_reduce.specs.Evaluations.{AreBoundTo, bound_to, AreAsked, IsSomeTest, AreSomeTests, IsSideShown, IsTested, IsVerdict};
+
+use crate::attempts::{Attempt, Settled, put_in_order, settle};
+use crate::drive::{End, Next, Outcome, Pause, advance, go_on};
+use crate::evaluation::{Progress, Tested, Verdict, after_test, compared, held, opened, sorted};
+use crate::sides::{Begun, Shown, all_enclosed, begin_side, end_side};
+use crate::turning::Turn;
+use mw_frames::{Hand, Job, Machine, stop};
+use mw_index::{Choice, Choices, Condition, Index, Side, Test};
+use mw_least::Ctx;
+use mw_proof::Reason;
+use mw_term::{Term, copy};
+use std::alloc::{AllocError, Global};
+
+/// From step to step, at most `limit` times. Sides of conditions make at most `side` steps each.
+#[cycle(run)]
+pub fn drive<'m>(
+    alloc: Global,
+    context: &'m Ctx,
+    index: &'m Index,
+    machine: &mut Machine<'m>,
+    choices: &mut Choices<'m>,
+    hand: Hand<'m>,
+    limit: u64,
+    side: u64,
+    nest: u8,
+) -> Result<End, AllocError>
+    requires { IsIndexOf context.now index.now }
+    ensures { (K : Run) → IsRun K context.now.signature → K.over ≡ context.now → K.rank ≡ nest → Holds K 0 (data_of K.over machine.old) hand.entry
+        → IfOk result (IsDriven K limit side (data_of K.over machine.new)) }
+{
+    let mut hand = hand;
+    let mut left = limit;
+    while left > 0 {
+        let pause = find(alloc, context, index, machine, choices, hand, side, nest)?;
+        match go_on(alloc, context, index, machine, choices, pause, left)? {
+            Next::Goes(next, count) => {
+                hand = next;
+                left = left.saturating_sub(count.max(1));
+            }
+            Next::Ends(end) => {
+                return Ok(end);
+            }
+        }
+    }
+    let term = stop(alloc, context.facts(), machine, hand)?;
+    Ok(End {
+        term,
+        outcome: Outcome::Stopped(Reason::Rewrites),
+    })
+}
+
+/// Turns until something applies: an equation whose condition holds, or a row; or until the whole is normal, or a
+/// condition stops.
+#[cycle(run)]
+fn find<'m>(
+    alloc: Global,
+    context: &'m Ctx,
+    index: &'m Index,
+    machine: &mut Machine<'m>,
+    choices: &mut Choices<'m>,
+    hand: Hand<'m>,
+    side: u64,
+    nest: u8,
+) -> Result<Pause<'m>, AllocError>
+    requires { IsIndexOf context.now index.now }
+    ensures { (K : Run) (k : ℕ) → IsRun K context.now.signature → K.over ≡ context.now → K.rank ≡ nest → Holds K k (data_of K.over machine.old) hand.entry
+        → IfOk result (IsPause K k side (data_of K.over machine.new)) }
+{
+    let mut turn = Turn::Goes(hand);
+    let mut rounds = u64::MAX;
+    while rounds > 0 {
+        rounds -= 1;
+        match advance(alloc, context, index, machine, choices, turn)? {
+            Turn::Goes(next) => {
+                turn = Turn::Goes(next);
+            }
+            Turn::Found(asked, mut choice) => {
+                let attempt = try_choice(alloc, context, index, &mut choice, side, nest)?;
+                match settle(
+                    alloc, context, index, machine, choices, asked, choice, attempt,
+                )? {
+                    Settled::Turns(next) => {
+                        turn = next;
+                    }
+                    Settled::Pauses(pause) => {
+                        return Ok(pause);
+                    }
+                }
+            }
+            Turn::Ended(term) => {
+                return Ok(Pause::Ended(term));
+            }
+            Turn::Met(asked, take, to) => {
+                return Ok(Pause::Met(asked, take, to));
+            }
+            Turn::Big(asked, take) => {
+                return Ok(Pause::Big(asked, take));
+            }
+            Turn::Decides(frame, truth) => {
+                return Ok(Pause::Decides(frame, truth));
+            }
+        }
+    }
+    Err(AllocError)
+}
+
+/// Whether the condition of a choice holds: then the choice has the values of all variables.
+#[cycle(run)]
+fn try_choice<'m>(
+    alloc: Global,
+    context: &'m Ctx,
+    index: &'m Index,
+    choice: &mut Choice<'m>,
+    side: u64,
+    nest: u8,
+) -> Result<Attempt, AllocError>
+    requires index { IsIndexOf context.now index.now }
+    requires equation { HasEquation context.now choice.old.equation.now }
+    ensures same { choice.new ≡ record choice.old { values = choice.new.values } }
+    ensures means { (t : RawTerm) → IsTriable context.now t choice.old → IfOk result (IsAttempt context.now nest side t choice.old choice.new) }
+{
+    if choice.equation.condition.tests.as_slice().is_empty() {
+        return Ok(Attempt::Made(Vec::new(alloc)));
+    }
+    if nest == 0 {
+        return Ok(Attempt::Halts(Reason::Nest));
+    }
+    match evaluate(
+        alloc,
+        context,
+        index,
+        &choice.equation.condition,
+        &mut choice.values,
+        side,
+        nest,
+    )? {
+        Verdict::Held(sides) => {
+            put_in_order(alloc, &choice.equation.condition, &mut choice.values)?;
+            let trails = all_enclosed(alloc, sides)?;
+            Ok(Attempt::Made(trails))
+        }
+        Verdict::Failed => Ok(Attempt::Fails),
+        Verdict::Stopped(_) => Ok(Attempt::Halts(Reason::Condition)),
+    }
+}
+
+/// Whether a condition holds, by values of the variables of the statement's left side. Where it does there are values
+/// of all variables, in the order in which these are bound.
+#[cycle(run)]
+pub fn evaluate<'m>(
+    alloc: Global,
+    context: &'m Ctx,
+    index: &'m Index,
+    condition: &'m Condition,
+    values: &mut Vec<Term>,
+    limit: u64,
+    nest: u8,
+) -> Result<Verdict, AllocError>
+    requires index { IsIndexOf context.now index.now }
+    requires tests { AreSomeTests context.now.signature condition.now }
+    requires above { 0 < nest }
+    ensures { let M = context.now in let lefts = λ (e : StatementOf). met [] e.left in
+        (n number : ℕ) (e : StatementOf) → nest ≡ suc n → IsStatement M number e → IsConditionOf M.signature e condition.now
+        → AreBoundTo M (lefts e) values.old.items
+        → IfOk result (IsVerdict M n limit e condition.now.tests (bound_to M.signature (lefts e) values.old.items) values.new.items) }
+{
+    let tests = condition.tests.as_slice();
+    let mut sides = Vec::new(alloc);
+    let mut others = Vec::new(alloc);
+    let mut at = 0;
+    let mut rounds = u64::MAX;
+    while rounds > 0 {
+        rounds -= 1;
+        if at >= tests.len() {
+            return Ok(Verdict::Held(sides));
+        }
+        let tested = try_test(
+            alloc,
+            context,
+            index,
+            &tests[at],
+            values.as_slice(),
+            limit,
+            nest,
+        )?;
+        match after_test(alloc, at, tested, &mut others, values, &mut sides)? {
+            Progress::At(next) => {
+                at = next;
+            }
+            Progress::Failed => {
+                return Ok(Verdict::Failed);
+            }
+            Progress::Stopped(reason) => {
+                return Ok(Verdict::Stopped(reason));
+            }
+        }
+    }
+    Err(AllocError)
+}
+
+/// A test, by values of the variables that are bound before it.
+#[cycle(run)]
+fn try_test<'m>(
+    alloc: Global,
+    context: &'m Ctx,
+    index: &'m Index,
+    test: &'m Test,
+    values: &[Term],
+    limit: u64,
+    nest: u8,
+) -> Result<Tested<'m>, AllocError>
+    requires index { IsIndexOf context.now index.now }
+    requires test { IsSomeTest context.now.signature test.now }
+    requires above { 0 < nest }
+    ensures { let M = context.now in (n : ℕ) (all xs : List Variable) (f : Fragment) (C : List Fragment) → nest ≡ suc n → IsTestOf M.signature xs f test.now
+        → AreReady M.signature all xs (f ∷ C) → AreBoundTo M xs values.now
+        → IfOk result (IsTested M n limit f xs values.now (bound_by xs test.now)) }
+{
+    match test {
+        Test::Equal(left, right) => {
+            match run_side(alloc, context, index, left, values, limit, nest)? {
+                Shown::Stops(reason) => Ok(Tested::Stops(reason)),
+                Shown::To(first) => {
+                    match run_side(alloc, context, index, right, values, limit, nest)? {
+                        Shown::Stops(reason) => Ok(Tested::Stops(reason)),
+                        Shown::To(second) => {
+                            let tested = compared(alloc, first, second)?;
+                            Ok(tested)
+                        }
+                    }
+                }
+            }
+        }
+        Test::Match(matched) => {
+            match run_side(alloc, context, index, &matched.side, values, limit, nest)? {
+                Shown::Stops(reason) => Ok(Tested::Stops(reason)),
+                Shown::To(side) => {
+                    let tested = opened(alloc, context, matched, values, side)?;
+                    Ok(tested)
+                }
+            }
+        }
+        Test::HasSort(side, sort) => {
+            match run_side(alloc, context, index, side, values, limit, nest)? {
+                Shown::Stops(reason) => Ok(Tested::Stops(reason)),
+                Shown::To(side) => {
+                    let tested = sorted(alloc, context, side, *sort)?;
+                    Ok(tested)
+                }
+            }
+        }
+        Test::Holds(side) => {
+            match run_side(alloc, context, index, side, values, limit, nest)? {
+                Shown::Stops(reason) => Ok(Tested::Stops(reason)),
+                Shown::To(side) => {
+                    let tested = held(alloc, context, side)?;
+                    Ok(tested)
+                }
+            }
+        }
+    }
+}
+
+/// A side is reduced, in a run of its own.
+#[cycle(run)]
+fn run_side<'m>(
+    alloc: Global,
+    context: &'m Ctx,
+    index: &'m Index,
+    side: &Side,
+    values: &[Term],
+    limit: u64,
+    nest: u8,
+) -> Result<Shown, AllocError>
+    requires index { IsIndexOf context.now index.now }
+    requires above { 0 < nest }
+    ensures { let M = context.now in (n : ℕ) (xs : List Variable) (t : RawTerm) → nest ≡ suc n → AreAsked M.signature xs t → IsSideOf M.signature xs t side.now
+        → AreBoundTo M xs values.now
+        → IfOk result (IsSideShown M n limit (instance_of (bound_to M.signature xs values.now) t)) }
+{
+    context.shows();
+    match begin_side(alloc, context.facts(), side, values)? {
+        Begun::Stops(reason) => Ok(Shown::Stops(reason)),
+        Begun::Runs(mut running) => {
+            let hand = Hand::One(Job::Walk(copy(&running.from)?));
+            let end = drive(
+                alloc,
+                context,
+                index,
+                &mut running.machine,
+                &mut running.choices,
+                hand,
+                limit,
+                limit,
+                nest - 1,
+            )?;
+            Ok(end_side(running, end))
+        }
+    }
+}
