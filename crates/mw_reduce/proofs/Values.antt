@@ -5,6 +5,7 @@ use Rattle.std.proofs.Common.{sym, ap, subst, ◌∙◌, arith, inl, inr, ⊎_el
 use Rattle.std.proofs.lemmas.Bool.{both_ways, or_left, or_right, or_from}
 use Rattle.std.proofs.lemmas.Option.{none-some, same_Some}
 use Rattle.mw_logic.specs.Term.{Variable, RawTerm, numeral, quoted, variable, apply, nil, cons, Context}
+use Rattle.mw_logic.specs.Terms.{terms_of}
 use Rattle.mw_logic.specs.Signature.{Signature, constant_of, numeral_of, IsRawTerm}
 use Rattle.mw_logic.specs.Accepted.{IsAccepted, IsWellSorted}
 use Rattle.mw_logic.specs.Kinds.{is_successor}
@@ -33,7 +34,7 @@ use Rattle.mw_deduction.proofs.ValuesInside.{IsLeaf, of_identity, of_numeral, va
 use Rattle.mw_index.proofs.Rearranging.{zip_parts, value_meant, rearranged_values, rearranged_size, rearranged_substitution}
 use Rattle.mw_frames.specs.State.{IsNormalHere}
 use Rattle.mw_frames.specs.Redex.{IsBare, value_in}
-use Rattle.mw_frames.proofs.SmallValues.{value_small, all_small}
+use Rattle.mw_frames.proofs.SmallValues.{value_small}
 use Rattle.mw_reduce.specs.Evaluations.{AreBoundTo, bound_to, AreFound}
 
 -- what is normal at a rank is normal at the next one
@@ -49,7 +50,7 @@ pub solution_whole : (sig : Signature) (p t : RawTerm) (s0 s : Substitution) (ks
 solution_whole sig p t s0 s None h = h
 solution_whole sig p t s0 s (Some ks) h = absurd h
 
--- `s_` stands on the largest numeral in no normal term, and in none without arguments
+-- `s_` stands on the largest numeral in no normal term, in none without arguments, and in none of several where it does in none of them
 normal_small : (M : Module) → IsAccepted M.signature → (n : ℕ) (u : RawTerm) → IsNormalHere M n u → has_largest M.signature u ≡ false
 normal_small M ok n u a = subst (λ t. has_largest M.signature t ≡ false) a.canonical ((admitted-iff M.signature ok a.raw).0 a.normal.admitted).2
 
@@ -63,6 +64,10 @@ bare_small sig (apply f nil) h = or_from (is_successor sig f && is_largest nil) 
     none true = refl
     none false = refl
 bare_small sig (apply f (cons t ts)) h = absurd h
+
+all_small : (sig : Signature) (vs : List RawTerm) → ((i : ℕ) (u : RawTerm) → slice_get vs i ≡ Some u → has_largest sig u ≡ false) → some_largest sig (terms_of vs) ≡ false
+all_small sig [] h = refl
+all_small sig (v ∷ vs) h = or_from (has_largest sig v) (some_largest sig (terms_of vs)) (h zero v refl) (all_small sig vs (λ i u e. h (suc i) u e))
 
 leaf_bare : (sig : Signature) (v : RawTerm) → IsLeaf sig v → IsBare v
 leaf_bare sig v (of_identity f (constant_of c) e) = tt
@@ -176,6 +181,7 @@ module _ (M : Module) (ok : IsAccepted M.signature) where
       pub match_kept : (x : Variable) → IsTrue (is_in x xs) → value_in sig ys (bound_values q) x ≡ value_in sig xs vs x
       match_kept = subst (λ zs. (x : Variable) → IsTrue (is_in x xs) → value_in sig zs (bound_values q) x ≡ value_in sig xs vs x) named kept_here
 
+      -- so what any match found is
       pub match_finds : (k : RawTerm) → AreFound M n k xs vs → AreFound M n k ys (bound_values q)
       match_finds k f x h o = by_test (is_in x xs) refl
         where
