@@ -1,7 +1,7 @@
 -- A choice is an equation that applies, and a step by a row one that is met.
 use Rattle.std.specs.Prelude.{IsNone, MatchOption, slice_get, ◌≡◌, ◌-◌, ◌^◌, ◌||◌, min, ℕ, zero, suc, List, [], ◌∷◌, length, Option, Some, None, IsTrue, IsFalse, refl}
 use Rattle.std.specs.List.{zip}
-use Rattle.std.proofs.Common.{sym, subst, ap, ◌∙◌, ⊎_elim}
+use Rattle.std.proofs.Common.{sym, subst, ap, ◌∙◌, inl, inr, ⊎_elim}
 use Rattle.std.proofs.Math.Bool.{or-false}
 use Rattle.std.proofs.lemmas.Bool.{both_ways, or_cases}
 use Rattle.mw_logic.specs.Term.{Variable, RawTerm, RawTerms, numeral, quoted, variable, apply, cons}
@@ -17,7 +17,7 @@ use Rattle.mw_logic.specs.Proof.{nil}
 use Rattle.mw_logic.specs.Judgements.{AdmittedStep, FailsAbove, IsNormalBy, admitted_judgements, judgements_with}
 use Rattle.mw_logic.proofs.Admitted.{admitted-iff}
 use Rattle.mw_logic.proofs.Canonical.{IsCanonical, canonical}
-use Rattle.mw_logic.proofs.CanonicalTerms.{clean as form_clean}
+use Rattle.mw_logic.proofs.CanonicalTerms.{fixed, clean as form_clean}
 use Rattle.mw_logic.proofs.Invariance.{normal_form-kept}
 use Rattle.mw_deduction.proofs.Extended.{reached_extends}
 use Rattle.mw_deduction.proofs.Frontiers.{Held_before}
@@ -44,15 +44,22 @@ use Rattle.mw_index.specs.declared.choices.Choice.{Choice}
 use Rattle.mw_index.specs.declared.equations.Left.{Left}
 use Rattle.mw_index.specs.declared.equations.Left.TheVariants.{Plain, Searched}
 use Rattle.mw_frames.specs.Free as frames
-use Rattle.mw_frames.specs.Redex.{AreShowing, IsRowOf}
-use Rattle.mw_frames.specs.Fires.{IsPartTaken, IsApplied}
+use Rattle.mw_frames.specs.Redex.{AreShowing, IsRedex, IsRowOf}
+use Rattle.mw_deduction.specs.Replay.{Move}
+use Rattle.mw_frames.specs.Fires.{IsPartTaken, IsApplied, IsSure}
 use Rattle.mw_frames.specs.declared.applying.Applied.{Applied}
 use Rattle.mw_frames.specs.Machines.{all_moves as trail_moves}
+use Rattle.mw_frames.specs.State.{Run, Data, IsRun}
+use Rattle.mw_frames.specs.Steps.{asked_term}
+use Rattle.mw_frames.specs.declared.looking.Asked.{Asked}
+use Rattle.mw_frames.proofs.PartsAsked.{asked_admitted, asked_part_value}
 use Rattle.mw_frames.proofs.PlacedTerms.{instance_placed, left_small}
+use Rattle.mw_index.specs.declared.index.Index.{Index}
+use Rattle.mw_index.specs.declared.choices.Choices.{Choices}
 use Rattle.mw_trail.specs.Tracks.{Track}
 use Rattle.mw_proof.specs.declared.reason.Reason.{Reason}
 use Rattle.mw_proof.specs.declared.reason.Reason.TheVariants as reason
-use Rattle.mw_reduce.specs.Turns.{IsFailed}
+use Rattle.mw_reduce.specs.Turns.{IsFailed, IsFound}
 use Rattle.mw_reduce.specs.Attempts.{IsAppliedAs, IsTriable, IsMade, IsCause, IsHaltingAt}
 use Rattle.mw_reduce.specs.Evaluations.{AreBoundTo, bound_to, AreFound, proofs_of, all_moves, IsHeldBy, IsStoppedInside}
 use Rattle.mw_reduce.specs.declared.sides.Reduced.{Reduced}
@@ -179,30 +186,28 @@ module _ (M : Module) (work : IsWorkable M) (t : RawTerm) (c : Choice) (h : IsTr
       record {
         part = w;
         taken = taken_same sig c.take t w h.choice.taken;
-        applies = λ a is. record {
-          redex = record {
-            statement = e;
-            is_there = subst (λ k. IsStatement M k e) (sym is.number) there;
-            ordinary = ordinary;
-            sides = work.sides number e there.is_there;
-            size = size ∙ ap length (sym all);
-            values = h.choice.values;
-            substitution = subst (IsSubstitution sig) same h.choice.solution.substitution;
-            solution = s;
-            solves = h.choice.solution;
-            reached = s;
-            shown = nothing_shown M n e.fragments s none;
-            goes_on = λ x u k. k;
-            reaches = λ x u k. subst (λ q. value q x ≡ Some u) same k;
-            found = λ x i k. absurd (left_alone sig e ordinary none x i k);
-            right = ap clean is.right ∙ h.choice.is.right;
-          };
-          free = λ k. subst (λ p. frames.IsFree sig (clean p)) (sym is.right) (free_same sig (clean c.equation.now.right) (h.choice.is.free (sym is.free ∙ k)));
-          levels = is.levels ∙ h.choice.is.levels ∙ ap (λ p. min (height (fill [] (clean p))) (2 ^ 16 - 1)) (sym is.right);
-          sure = λ k.
-              let (f, ps, left, free) = free_left sig (operator_of t) e c.equation.now.left h.choice.is.left (h.choice.is.sure (is.sure k).0) in
-              record { operator = f; patterns = ps; left = left ∙ ap (λ xs. placed xs (normal_form sig e.left)) (sym all); free = free; found = λ x z k. absurd (left_alone sig e ordinary none x z k) };
+        redex = record {
+          statement = e;
+          is_there = there;
+          ordinary = ordinary;
+          sides = work.sides number e there.is_there;
+          size = size ∙ ap length (sym all);
+          values = h.choice.values;
+          substitution = subst (IsSubstitution sig) same h.choice.solution.substitution;
+          solution = s;
+          solves = h.choice.solution;
+          reached = s;
+          shown = nothing_shown M n e.fragments s none;
+          goes_on = λ x u k. k;
+          reaches = λ x u k. subst (λ q. value q x ≡ Some u) same k;
+          found = λ x i k. absurd (left_alone sig e ordinary none x i k);
+          right = h.choice.is.right;
         };
+        free = λ k. free_same sig (clean c.equation.now.right) (h.choice.is.free k);
+        levels = h.choice.is.levels;
+        sure = λ k no.
+            let (f, ps, left, free) = free_left sig (operator_of t) e c.equation.now.left h.choice.is.left (h.choice.is.sure k) in
+            record { operator = f; patterns = ps; left = left ∙ ap (λ xs. placed xs (normal_form sig e.left)) (sym all); free = free; found = λ x z k. absurd (left_alone sig e ordinary none x z k) };
       }
 
   -- where its condition holds, by values of all variables that are put in order
@@ -220,33 +225,30 @@ module _ (M : Module) (work : IsWorkable M) (t : RawTerm) (c : Choice) (h : IsTr
       let bound : AreBoundTo M xs vs = subst (AreBoundTo M xs) (sym ordered) (reordered_bound M ok bs ws held.bound xs alike (variables_distinct M work number e there)) in
       let equation : new.equation ≡ c.equation = ap (λ (q : Choice). q.equation) is_new in
       let taking : new.take ≡ c.take = ap (λ (q : Choice). q.take) is_new in
+      let redex : IsRedex M (suc m) number (trail_moves M trails) vs (clean c.equation.now.right) w = record {
+        statement = e;
+        is_there = there;
+        ordinary = work.equations number e there;
+        sides = work.sides number e there.is_there;
+        size = bound.size;
+        values = bound.values;
+        substitution = bound.substitution;
+        solution = s;
+        solves = h.choice.solution;
+        reached = r;
+        shown = subst (AreShowing M (suc m) e.fragments s r) (sym shows) (evidence_shows M (suc m) e.fragments s r (proofs_of M m sides) (all_moves M sides) held.shown.evidence (Held_before M (AdmittedStep M) m e.fragments s (proofs_of M m sides) r held.holds));
+        goes_on = reached_extends M (admitted_judgements M m) e.fragments s (proofs_of M m sides) r held.holds;
+        reaches = subst (λ us. Extends r (bound_to sig xs us)) (sym ordered) (reordered_extends M ok bs ws held.bound xs alike);
+        found = λ y i k. ⊎_elim (λ z. inl (normal_above M m _ z)) (λ z. inr z) (subst (AreFound M m e.left xs) (sym ordered) (reordered_found M ok bs ws held.bound xs alike m e.left held.found) y i k);
+        right = h.choice.is.right;
+      } in
       record {
         part = w;
         taken = subst (λ o. IsPartTaken sig o t w) (sym taking) (taken_same sig c.take t w h.choice.taken);
-        applies = λ a is'.
-            let is : IsAppliedAs c.equation.now a = subst (λ q. IsAppliedAs q.now a) equation is' in
-            record {
-              redex = record {
-                statement = e;
-                is_there = subst (λ k. IsStatement M k e) (sym is.number) there;
-                ordinary = work.equations number e there;
-                sides = work.sides number e there.is_there;
-                size = bound.size;
-                values = bound.values;
-                substitution = bound.substitution;
-                solution = s;
-                solves = h.choice.solution;
-                reached = r;
-                shown = subst (AreShowing M (suc m) e.fragments s r) (sym shows) (evidence_shows M (suc m) e.fragments s r (proofs_of M m sides) (all_moves M sides) held.shown.evidence (Held_before M (AdmittedStep M) m e.fragments s (proofs_of M m sides) r held.holds));
-                goes_on = reached_extends M (admitted_judgements M m) e.fragments s (proofs_of M m sides) r held.holds;
-                reaches = subst (λ us. Extends r (bound_to sig xs us)) (sym ordered) (reordered_extends M ok bs ws held.bound xs alike);
-                found = λ y i k. ⊎_elim (λ z. inl (normal_above M m _ z)) (λ z. inr z) (subst (AreFound M m e.left xs) (sym ordered) (reordered_found M ok bs ws held.bound xs alike m e.left held.found) y i k);
-                right = ap clean is.right ∙ h.choice.is.right;
-              };
-              free = λ k. subst (λ p. frames.IsFree sig (clean p)) (sym is.right) (free_same sig (clean c.equation.now.right) (h.choice.is.free (sym is.free ∙ k)));
-              levels = is.levels ∙ h.choice.is.levels ∙ ap (λ p. min (height (fill [] (clean p))) (2 ^ 16 - 1)) (sym is.right);
-              sure = λ k. absurd (none_first tests x some (is.sure k).1);
-            };
+        redex = subst (λ q. IsRedex M (suc m) q.now.number (trail_moves M trails) vs (clean q.now.right) w) (sym equation) redex;
+        free = λ k. subst (λ q. IsTrue q.now.free → frames.IsFree sig (clean q.now.right)) (sym equation) (λ k. free_same sig (clean c.equation.now.right) (h.choice.is.free k)) k;
+        levels = subst (λ q. q.now.levels ≡ min (height (fill [] (clean q.now.right))) (2 ^ 16 - 1)) (sym equation) h.choice.is.levels;
+        sure = λ k none. absurd (none_first tests x some (sym (ap (λ q. q.now.condition.tests) equation) ∙ none));
       }
     where
       none_first : (ts : List Test) (x : Test) → slice_get ts 0 ≡ Some x → ts ≡ [] → ⊥
@@ -314,3 +316,26 @@ whole_row_applies M ok n t (Some ks) to none g = cc
 
 pub big_taken : (sig : Signature) (t : RawTerm) (take : Option (List ℕ)) → (b : rows.IsTooBigAt sig t take) → IsPartTaken sig take t b.is_form.part
 big_taken sig t take b = row_taken sig take t b.is_form.part b.is_form.taken
+
+-- what applies, as the machine takes it
+pub applied_so : (M : Module) (n : ℕ) (t : RawTerm) (c : Choice) (sides : List Track) → (made : IsMade M n t c sides) → (a : Applied) → IsAppliedAs c.equation.now a → IsApplied M n a (trail_moves M sides) c.values.items made.part
+applied_so M n t c sides made a is =
+    let ms : List Move = trail_moves M sides in
+    let vs : List RawTerm = c.values.items in
+    let (redex, same) =
+    subst (λ k. (r : IsRedex M n k ms vs (clean a.right.now) made.part) × (r.statement ≡ made.redex.statement)) (sym is.number)
+    (subst (λ p. (r : IsRedex M n c.equation.now.number ms vs (clean p) made.part) × (r.statement ≡ made.redex.statement)) (sym is.right) (made.redex, refl)) in
+    record {
+      redex = redex;
+      free = λ k. subst (λ p. frames.IsFree M.signature (clean p)) (sym is.right) (made.free (sym is.free ∙ k));
+      levels = is.levels ∙ made.levels ∙ ap (λ p. min (height (fill [] (clean p))) (2 ^ 16 - 1)) (sym is.right);
+      sure = λ k. let (z, none) = is.sure k in subst (λ st. IsSure M n st vs) (sym same) (made.sure z none);
+    }
+
+-- what turns find may be tried
+pub found_triable : (K : Run) (sig : Signature) → IsRun K sig → (count : ℕ) (m : Index) (d : Data) (rest : Choices) (a : Asked) (c : Choice) → IsFound K count m d rest a c → IsTriable K.over (asked_term d a) c
+found_triable K sig run count m d rest a c f =
+    let w : RawTerm = f.choice.part in
+    let part : IsPartTaken K.over.signature c.take (asked_term d a) w = taken_same K.over.signature c.take (asked_term d a) w f.choice.taken in
+    let v = asked_part_value K sig run count d a f.asked c.take w part in
+    record { choice = f.choice; sized = f.sized; admitted = record { raw = v.raw; canonical = fixed K.over.signature run.accepted w v.canonical; admitted = asked_admitted K sig run count d a f.asked c.take w part } }

@@ -34,7 +34,8 @@ use Rattle.mw_deduction.proofs.ValuesInside.{IsLeaf, of_identity, of_numeral, va
 use Rattle.mw_index.proofs.Rearranging.{zip_parts, value_meant, rearranged_values, rearranged_size, rearranged_substitution}
 use Rattle.mw_frames.specs.State.{IsNormalHere}
 use Rattle.mw_frames.specs.Redex.{IsBare, value_in}
-use Rattle.mw_frames.proofs.SmallValues.{value_small}
+use Rattle.mw_frames.proofs.SmallValues.{value_small, normal_small, bare_small}
+use Rattle.mw_frames.proofs.PlacedTerms.{all_small}
 use Rattle.mw_reduce.specs.Evaluations.{AreBoundTo, bound_to, AreFound}
 
 -- what is normal at a rank is normal at the next one
@@ -49,25 +50,6 @@ normal_above M n t h = record {
 pub solution_whole : (sig : Signature) (p t : RawTerm) (s0 s : Substitution) (ks : Option (List ℕ)) → IsSolutionOf sig false p t s0 ks s → IsSolution sig p (nested sig t) s0 s
 solution_whole sig p t s0 s None h = h
 solution_whole sig p t s0 s (Some ks) h = absurd h
-
--- `s_` stands on the largest numeral in no normal term, in none without arguments, and in none of several where it does in none of them
-normal_small : (M : Module) → IsAccepted M.signature → (n : ℕ) (u : RawTerm) → IsNormalHere M n u → has_largest M.signature u ≡ false
-normal_small M ok n u a = subst (λ t. has_largest M.signature t ≡ false) a.canonical ((admitted-iff M.signature ok a.raw).0 a.normal.admitted).2
-
-bare_small : (sig : Signature) (u : RawTerm) → IsBare u → has_largest sig u ≡ false
-bare_small sig (numeral m) h = refl
-bare_small sig (quoted q) h = refl
-bare_small sig (variable x) h = refl
-bare_small sig (apply f nil) h = or_from (is_successor sig f && is_largest nil) (some_largest sig nil) (none (is_successor sig f)) refl
-  where
-    none : (b : Bool) → (b && is_largest nil) ≡ false
-    none true = refl
-    none false = refl
-bare_small sig (apply f (cons t ts)) h = absurd h
-
-all_small : (sig : Signature) (vs : List RawTerm) → ((i : ℕ) (u : RawTerm) → slice_get vs i ≡ Some u → has_largest sig u ≡ false) → some_largest sig (terms_of vs) ≡ false
-all_small sig [] h = refl
-all_small sig (v ∷ vs) h = or_from (has_largest sig v) (some_largest sig (terms_of vs)) (h zero v refl) (all_small sig vs (λ i u e. h (suc i) u e))
 
 leaf_bare : (sig : Signature) (v : RawTerm) → IsLeaf sig v → IsBare v
 leaf_bare sig v (of_identity f (constant_of c) e) = tt

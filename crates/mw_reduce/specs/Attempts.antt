@@ -1,10 +1,12 @@
 -- What comes of a choice: its condition holds, fails, or a side of it stops.
-use Rattle.std.specs.Prelude.{◌≡◌, ◌≢◌, ℕ, suc, List, [], length, Option, Some, None, IsTrue, ⊤}
+use Rattle.std.specs.Prelude.{◌≡◌, ◌≢◌, ◌-◌, ◌^◌, min, ℕ, suc, List, [], length, Option, IsTrue, ⊤}
 use Rattle.mw_logic.specs.Term.{RawTerm}
 use Rattle.mw_logic.specs.Signature.{IsRawTerm}
 use Rattle.mw_logic.specs.Substitution.{Substitution, IsSolution}
 use Rattle.mw_logic.specs.Parts.{IsClean}
-use Rattle.mw_logic.specs.NormalForm.{normal_form}
+use Rattle.mw_logic.specs.NormalForm.{normal_form, height}
+use Rattle.mw_position.specs.Positions.{fill}
+use Rattle.mw_pattern.specs.Clean.{clean}
 use Rattle.mw_logic.specs.Module.{Fragment, Module, Statement, IsStatement}
 use Rattle.mw_canon.specs.Canonical.{IsAdmittedTerm}
 use Rattle.mw_least.specs.Workable.{IsOrdinaryEquation}
@@ -19,7 +21,9 @@ use Rattle.mw_index.specs.declared.choices.Choices.{Choices}
 use Rattle.mw_frames.specs.State.{Run, Data}
 use Rattle.mw_frames.specs.Steps.{IsAskedFor, asked_term, IsEnd, IsDecided}
 use Rattle.mw_frames.specs.Machines.{all_moves}
-use Rattle.mw_frames.specs.Fires.{IsPartTaken, IsApplied}
+use Rattle.mw_frames.specs.Free.{IsFree}
+use Rattle.mw_frames.specs.Redex.{IsRedex}
+use Rattle.mw_frames.specs.Fires.{IsPartTaken, IsSure}
 use Rattle.mw_frames.specs.declared.applying.Applied.{Applied}
 use Rattle.mw_frames.specs.declared.looking.Asked.{Asked}
 use Rattle.mw_reduce.specs.Turns.{IsFailed, IsTurn, IsMetAt, IsBigAt, TurnOf}
@@ -49,7 +53,10 @@ pub record IsTriable (M : Module) (t : RawTerm) (c : Choice) : Type 0 where
 pub record IsMade (M : Module) (n : ℕ) (t : RawTerm) (c : Choice) (sides : List Track) : Type 0 where
   pub part : RawTerm
   pub taken : IsPartTaken M.signature c.take t part
-  pub applies : (a : Applied) → IsAppliedAs c.equation.now a → IsApplied M n a (all_moves M sides) c.values.items part
+  pub redex : IsRedex M n c.equation.now.number (all_moves M sides) c.values.items (clean c.equation.now.right) part
+  pub free : IsTrue c.equation.now.free → IsFree M.signature (clean c.equation.now.right)
+  pub levels : c.equation.now.levels ≡ min (height (fill [] (clean c.equation.now.right))) (2 ^ 16 - 1)
+  pub sure : IsTrue c.equation.now.sure → c.equation.now.condition.tests ≡ [] → IsSure M n redex.statement c.values.items
 
 -- Why it isn't told whether a condition holds from s on: it would be one too many, or a side of it stops.
 abbrev pub IsCause : Module → ℕ → ℕ → List Fragment → Substitution → Reason → Type 0

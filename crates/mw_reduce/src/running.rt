@@ -18,7 +18,7 @@ ghost use Rattle.mw_reduce.specs.Evaluations.{AreBoundTo, bound_to, AreAsked, Is
 use crate::attempts::{Attempt, Settled, put_in_order, settle};
 use crate::drive::{End, Next, Outcome, Pause, advance, go_on};
 use crate::evaluation::{Progress, Tested, Verdict, after_test, compared, held, opened, sorted};
-use crate::sides::{Begun, Shown, all_enclosed, begin_side, end_side};
+use crate::sides::{Begun, Running, Shown, all_enclosed, begin_side, end_side};
 use crate::turning::Turn;
 use mw_frames::{Hand, Job, Machine, stop};
 use mw_index::{Choice, Choices, Condition, Index, Side, Test};
@@ -299,12 +299,15 @@ fn run_side<'m>(
         Begun::Stops(reason) => Ok(Shown::Stops(reason)),
         Begun::Runs(mut running) => {
             let hand = Hand::One(Job::Walk(copy(&running.from)?));
+            let Running {
+                machine, choices, ..
+            } = &mut *running;
             let end = drive(
                 alloc,
                 context,
                 index,
-                &mut running.machine,
-                &mut running.choices,
+                machine,
+                choices,
                 hand,
                 limit,
                 limit,

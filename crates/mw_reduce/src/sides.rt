@@ -53,7 +53,7 @@ pub enum Begun<'m> {
 }
 
 /// A run that begins at this term.
-fn running<'m>(alloc: Global, from: Term) -> Result<Box<Running<'m>>, AllocError>
+fn new_run<'m>(alloc: Global, from: Term) -> Result<Box<Running<'m>>, AllocError>
     ensures from { IfOk result (λ r. r.value.from ≡ from) }
     ensures machine { IfOk result (λ r. (M : Module) → data_of M r.value.machine ≡ nothing) }
 {
@@ -78,7 +78,7 @@ pub fn begin_side<'m>(
 {
     match instance(alloc, facts, &side.pattern, values) {
         Ok(term) => {
-            let running = running(alloc, term)?;
+            let running = new_run(alloc, term)?;
             Ok(Begun::Runs(running))
         }
         Err(CanonError::Deep) => Ok(Begun::Stops(Reason::Depth)),
@@ -97,7 +97,7 @@ pub fn end_side(running: Box<Running<'_>>, end: End) -> Shown
     let End { term, outcome } = end;
     match outcome {
         Outcome::Done => {
-            let Running { from, machine, .. } = *running;
+            let Running { from, machine, .. } = Box::into_inner(running);
             let Machine { kept, .. } = machine;
             Shown::To(Reduced {
                 from,
