@@ -75,7 +75,7 @@ module _ (M : Module) (ok : IsAccepted M.signature) where
   sig = M.signature
 
   -- of a stand outside its operators: its proof, and the run that this carries out
-  stand_concludes : (T : Stand) → IsStanding M (with_opens T [])
+  pub stand_concludes : (T : Stand) → IsStanding M (with_opens T [])
       → (admitted_judgements M T.rank).Proves (concluded T) (nested sig T.from) (nested sig T.hand)
       × Proves M T.rank (concluded T) (nested sig T.from) (nested sig T.hand)
       × Denotes sig (run (nested sig T.from) (nested sig T.hand) T.run) (concluded T)

@@ -1,7 +1,6 @@
 -- How a ghost value stores what a proof carries out: as a tree of numbers that gives it back. It says nothing of proofs.
 use Rattle.std.specs.Prelude.{◌≡◌, ℕ, zero, suc, refl}
 use Rattle.std.specs.Coded.{Coded, code_by}
-use mathlib.Core.Path.{ap}
 use base.Stored.{Gv, gnil, gnum, gcons}
 use denote.Struct.Codes.{itself}
 use Rattle.mw_logic.specs.Term.{numeral}
