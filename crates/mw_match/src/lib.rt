@@ -23,8 +23,8 @@
 //!   mw_solving). These are two or more arguments of its associative operator and not all of them: neighbours, or where
 //!   the operator is commutative too each part of the multiset of arguments once, and of equal arguments those with
 //!   the least numbers. `take` of a solution says which arguments it is of.
-//! - `anywhere`: the same with no given values. What it says of solutions is said of canonical subjects that mean
-//!   ground raw terms, with the variables' names (`AreNamed`); it may be asked of other terms too.
+//! - `anywhere`: the same with no given values, and with the variables' names (`AreNamed`).
+//! - `values_of` has the values of a substitution, and `bound` makes one of variables and values in order.
 //! - `next` passes over candidates that lack a sort and answers the first other one, which fits, or None where all that
 //!   were left lack a sort, and for ever after. For want of memory it has passed over such candidates alone, and the
 //!   same solutions are still to come.
@@ -46,10 +46,11 @@
 //! elements one by one: there is no match where one of them clashes with its element (`clashes` of mw_search), where
 //! there are fewer elements, and where these are all of the pattern and there are more (`row_clashes`).
 //!
-//! Conditions of `new` and `inside`: the subject and the given values are canonical terms that mean ground raw terms,
-//! the latter of their variables' sorts, each variable once; the compiled pattern has as many sorts as variables, and
-//! theirs. `anywhere` asks for the latter alone. What `have_sorts` says holds where the signature is simple (`simple`),
-//! or of values that are canonical terms and mean ground raw terms (`fits`, `lacks`).
+//! Conditions of `new`, `inside` and `anywhere`: the compiled pattern has as many sorts as variables, and theirs. They
+//! may be asked of any terms; what they say of solutions is said where the subject and the given values are canonical
+//! terms that mean ground raw terms, the latter of their variables' sorts, each variable once. What `have_sorts` says
+//! holds where the signature is simple (`simple`), or of values that are canonical terms and mean ground raw terms
+//! (`fits`, `lacks`).
 //!
 //! Cost: `matches` costs what is compared, a value one count, and a successor that meets a numeral a new numeral. `Solutions` costs what its searches do, and for each
 //! solution a copy of the variables' names, a count for each value and a number for each argument that it takes. For
@@ -73,7 +74,7 @@ mod solutions;
 mod sorts;
 mod takes;
 
-pub use bindings::copied;
+pub use bindings::{bound, copied, values_of};
 pub use by_position::{all_match, matches};
 pub use listing::listed;
 pub use solutions::{Solution, Solutions};

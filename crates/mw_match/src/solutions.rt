@@ -119,15 +119,16 @@ impl<'c> Solutions<'c> {
         subject: &Term,
         given: &Subst,
     ) -> Result<Solutions<'c>, AllocError>
-        requires compiled { compiled.now.positions.sorts ≡ sorts_of compiled.now.variables }
-        requires subject { IsValue context.now.signature subject.now }
-        requires given { IsSubstitution context.now.signature (meant context.now.signature given.now) }
-        requires values { AreValues context.now.signature (bound_values given.now) }
+        requires { compiled.now.positions.sorts ≡ sorts_of compiled.now.variables }
         ensures all { let sig = context.now.signature in
             (p : RawTerm) → IsRawTerm sig p → IsCompiled sig (normal_form sig p) (bound_variables given.now) compiled.now
+            → IsValue sig subject.now
+            → IsSubstitution sig (meant sig given.now) → AreValues sig (bound_values given.now)
             → IfOk result (IsAllSolutions sig false p subject.now (meant sig given.now)) }
         ensures named { let sig = context.now.signature in
             (p : RawTerm) → IsRawTerm sig p → IsCompiled sig (normal_form sig p) (bound_variables given.now) compiled.now
+            → IsValue sig subject.now
+            → IsSubstitution sig (meant sig given.now) → AreValues sig (bound_values given.now)
             → IfOk result (AreNamed sig compiled.now.variables) }
     {
         context.shows();
@@ -154,12 +155,11 @@ impl<'c> Solutions<'c> {
         subject: &Term,
         given: &Subst,
     ) -> Result<Solutions<'c>, AllocError>
-        requires compiled { compiled.now.positions.sorts ≡ sorts_of compiled.now.variables }
-        requires subject { IsValue context.now.signature subject.now }
-        requires given { IsSubstitution context.now.signature (meant context.now.signature given.now) }
-        requires values { AreValues context.now.signature (bound_values given.now) }
+        requires { compiled.now.positions.sorts ≡ sorts_of compiled.now.variables }
         ensures { let sig = context.now.signature in
             (p : RawTerm) → IsRawTerm sig p → IsCompiled sig (normal_form sig p) (bound_variables given.now) compiled.now
+            → IsValue sig subject.now
+            → IsSubstitution sig (meant sig given.now) → AreValues sig (bound_values given.now)
             → IfOk result (IsAllSolutions sig true p subject.now (meant sig given.now)) }
     {
         context.shows();

@@ -11,7 +11,7 @@ use Rattle.mw_match.proofs.Candidates.{compiled_solutions, compiled_none}
 use Rattle.mw_match.proofs.solutions.Solutions.inside.Goals as goal
 
 pub returns : goal.returns
-returns c p raw h =
+returns c p raw h subject substitution values =
     let k = c.shows.ensures.signature in
     let sig : Signature = c.args.context.now.signature in
     let compiled : Compiled = c.args.compiled.now in
@@ -22,6 +22,6 @@ returns c p raw h =
     ∙ ap (λ s. rest_of (bound_values c.args.given.now) (rest_pattern s compiled.positions.single.items compiled.pattern (length compiled.variables) c.args.subject.now)) c.facts.ensures in
     let given : c.as_slice-2.result.now ≡ bound_values c.args.given.now = c.as_slice-2.ensures.value ∙ c.in_ok-values.ensures in
     let none : IsNoneByNumber parts (bound_values c.args.given.now) =
-    compiled_none parts k.accepted k.well_sorted true p raw c.args.subject.now c.args.given.now h c.requires.given c.requires.values c.requires.subject c.in_ok-subject.ensures rest in
+    compiled_none parts k.accepted k.well_sorted true p raw c.args.subject.now c.args.given.now h substitution values subject c.in_ok-subject.ensures rest in
     subst (IsAllSolutions sig true p c.args.subject.now (meant sig c.args.given.now)) (sym (c.in_ok-solutions.ensures (subst (IsNoneByNumber parts) (sym given) none) ∙ ap (first_of parts) given))
-    (compiled_solutions parts k.accepted k.well_sorted true p raw c.args.subject.now c.args.given.now h c.requires.given c.requires.values c.requires.subject c.in_ok-subject.ensures rest)
+    (compiled_solutions parts k.accepted k.well_sorted true p raw c.args.subject.now c.args.given.now h substitution values subject c.in_ok-subject.ensures rest)

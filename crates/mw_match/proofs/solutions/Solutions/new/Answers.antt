@@ -9,23 +9,23 @@ use Rattle.mw_match.proofs.Candidates.{compiled_solutions, compiled_none, compil
 use Rattle.mw_match.proofs.solutions.Solutions.new.Goals as goal
 
 pub returns-clause-all : goal.returns-clause-all
-returns-clause-all c p raw h =
+returns-clause-all c p raw h subject substitution values =
     let k = c.shows.ensures.signature in
     let sig : Signature = c.args.context.now.signature in
     let parts : Parts = record { alloc = c.args.alloc; context = c.args.context; compiled = c.args.compiled; subject = c.in_ok-subject.subject; rest = None } in
     let given : c.as_slice.result.now ≡ bound_values c.args.given.now = c.as_slice.ensures.value ∙ c.in_ok-values.ensures in
     let none : IsNoneByNumber parts (bound_values c.args.given.now) =
-    compiled_none parts k.accepted k.well_sorted false p raw c.args.subject.now c.args.given.now h c.requires.given c.requires.values c.requires.subject c.in_ok-subject.ensures refl in
+    compiled_none parts k.accepted k.well_sorted false p raw c.args.subject.now c.args.given.now h substitution values subject c.in_ok-subject.ensures refl in
     subst (IsAllSolutions sig false p c.args.subject.now (meant sig c.args.given.now)) (sym (c.in_ok-solutions.ensures (subst (IsNoneByNumber parts) (sym given) none) ∙ ap (first_of parts) given))
-    (compiled_solutions parts k.accepted k.well_sorted false p raw c.args.subject.now c.args.given.now h c.requires.given c.requires.values c.requires.subject c.in_ok-subject.ensures refl)
+    (compiled_solutions parts k.accepted k.well_sorted false p raw c.args.subject.now c.args.given.now h substitution values subject c.in_ok-subject.ensures refl)
 
 pub returns-clause-named : goal.returns-clause-named
-returns-clause-named c p raw h =
+returns-clause-named c p raw h subject substitution values =
     let k = c.shows.ensures.signature in
     let sig : Signature = c.args.context.now.signature in
     let parts : Parts = record { alloc = c.args.alloc; context = c.args.context; compiled = c.args.compiled; subject = c.in_ok-subject.subject; rest = None } in
     let given : c.as_slice.result.now ≡ bound_values c.args.given.now = c.as_slice.ensures.value ∙ c.in_ok-values.ensures in
     let none : IsNoneByNumber parts (bound_values c.args.given.now) =
-    compiled_none parts k.accepted k.well_sorted false p raw c.args.subject.now c.args.given.now h c.requires.given c.requires.values c.requires.subject c.in_ok-subject.ensures refl in
+    compiled_none parts k.accepted k.well_sorted false p raw c.args.subject.now c.args.given.now h substitution values subject c.in_ok-subject.ensures refl in
     subst (AreNamed sig c.args.compiled.now.variables) (sym (c.in_ok-solutions.ensures (subst (IsNoneByNumber parts) (sym given) none) ∙ ap (first_of parts) given))
-    (compiled_named parts k.accepted k.well_sorted false p raw c.args.subject.now c.args.given.now h c.requires.given c.requires.values c.requires.subject c.in_ok-subject.ensures refl)
+    (compiled_named parts k.accepted k.well_sorted false p raw c.args.subject.now c.args.given.now h substitution values subject c.in_ok-subject.ensures refl)
