@@ -89,7 +89,7 @@ module _ (K : Run) (sig : Signature) (run : IsRun K sig) (count : ℕ) where
       part_admitted here run.accepted (round here os) (nested here t) at.raw at.admitted p
 
   module _ (d : Data) (a : Asked) (h : IsAskedFor K count d a) (take : Option (List ℕ)) (w : RawTerm) (part : IsPartTaken here take (asked_term d a) w) where
-    there : IsAskedThere w
+    pub there : IsAskedThere w
     there = let (e, i) = asked_there d a h in part_asked e (asked_term d a) w i take part
 
     -- the same of what is asked for, and of several of its arguments; and each is a ground term in canonical form

@@ -27,7 +27,7 @@ use Rattle.mw_reduce.specs.declared.drive.Outcome.{Outcome}
 use Rattle.mw_reduce.specs.declared.drive.Outcome.TheVariants.{Done, Stopped}
 use Rattle.mw_reduce.specs.declared.drive.End.{End}
 
-normal_at : (M : Module) (n : ℕ) (u : RawTerm) → IsNormalBy M (Fails M n) u → IsNormal M n u
+pub normal_at : (M : Module) (n : ℕ) (u : RawTerm) → IsNormalBy M (Fails M n) u → IsNormal M n u
 unfolding judgements_with
 normal_at M zero u h = h
 normal_at M (suc n) u h = h
@@ -72,7 +72,7 @@ module _ (M : Module) (n : ℕ) (t0 : RawTerm) (p : Proof) (u : RawTerm) (most s
       by_rank zero q x = StopsBy.large _ (q, l) x d.large d.not_deep
       by_rank (suc n) q x = StopsBy.large _ (q, l) x d.large d.not_deep
 
-  stops_by_pair : Proves M n p t0 u → steps p < most → HasBigPair M u → Stops M n (limits_within most side) t0 p u by_nat
+  pub stops_by_pair : Proves M n p t0 u → steps p < most → HasBigPair M u → Stops M n (limits_within most side) t0 p u by_nat
   unfolding Stops
   stops_by_pair h l d = by_rank n h
     where
@@ -91,7 +91,7 @@ module _ (M : Module) (n : ℕ) (t0 : RawTerm) (p : Proof) (u : RawTerm) (most s
     may = inl (h.ordinary.equation, λ o. absurd (true≢false (sym o ∙ h.ordinary.ordinary)));
   }
 
-stops_by_nest : (M : Module) (n most side : ℕ) (t0 : RawTerm) (p : Proof) (u : RawTerm) → Proves M n p t0 u → steps p < most → (w : RawTerm) → HasPart M.signature u w → IsHalting M n side w reason.Nest → Stops M n (limits_within most side) t0 p u by_nest
+pub stops_by_nest : (M : Module) (n most side : ℕ) (t0 : RawTerm) (p : Proof) (u : RawTerm) → Proves M n p t0 u → steps p < most → (w : RawTerm) → HasPart M.signature u w → IsHalting M n side w reason.Nest → Stops M n (limits_within most side) t0 p u by_nest
 unfolding Stops
 stops_by_nest M zero most side t0 p u q l w part h = StopsBy.nest part.0 h.statement h.solution (q, l) tt (tries M 0 t0 p u most side (judgements M 0) w reason.Nest part h) h.cause.1
 stops_by_nest M (suc n) most side t0 p u q l w part h = let z = h.cause.0 in absurd (cc)
@@ -102,7 +102,7 @@ inner : (M : Module) (m side : ℕ) (t : RawTerm) (why : Reason) → IsStoppedFo
 inner M m side t why (inl x) = (equality, t, reason_of why, inl x)
 inner M m side t why (inr (a, (q, v, r, s))) = (q, v, reason_of why, inr (a, r, s))
 
-stops_by_side : (M : Module) (n most side : ℕ) (t0 : RawTerm) (p : Proof) (u : RawTerm) → Proves M n p t0 u → steps p < most → (w : RawTerm) → HasPart M.signature u w → IsHalting M n side w reason.Condition
+pub stops_by_side : (M : Module) (n most side : ℕ) (t0 : RawTerm) (p : Proof) (u : RawTerm) → Proves M n p t0 u → steps p < most → (w : RawTerm) → HasPart M.signature u w → IsHalting M n side w reason.Condition
     → Stops M n (limits_within most side) t0 p u by_condition
 stops_by_side M zero most side t0 p u q l w part h = let z = h.cause.1.0 in absurd (cc)
 stops_by_side M (suc n) most side t0 p u q l w part h =

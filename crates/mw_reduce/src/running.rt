@@ -300,7 +300,9 @@ fn run_side<'m>(
         Begun::Runs(mut running) => {
             let hand = Hand::One(Job::Walk(copy(&running.from)?));
             let Running {
-                machine, choices, ..
+                machine,
+                choices,
+                ..
             } = &mut *running;
             let end = drive(
                 alloc,
