@@ -21,7 +21,7 @@ use Rattle.mw_frames.specs.Fires.{IsApplied}
 use Rattle.mw_frames.specs.Redex.{IsRowOf}
 use Rattle.mw_frames.proofs.FiringHere.{at_it, small_here}
 use Rattle.mw_frames.proofs.RowsMet.{row_small}
-use Rattle.mw_frames.proofs.SmallValues.{values_small}
+use Rattle.mw_frames.proofs.SmallValues.{redex_small}
 
 -- what is told of a right side in any holes
 abbrev pub FitsIn : Signature → Data → Applied → List RawTerm → Fit → Type 0
@@ -35,7 +35,7 @@ module _ (K : Run) (sig : Signature) (run : IsRun K sig) (count : ℕ) (m : Data
       let (clear, small, own) = small_here K sig run count m w h in
       let k = (at_it K sig run count m w h).canonical in
       subst (λ s. FitsIn s m by vs fit) (sym run.signature) told h.stand.opens clear small h.opened
-      (values_small K.over run.accepted run.sorted K.rank by.number ss vs (clean by.right.now) w is.redex k own) is.free is.levels
+      (redex_small K.over run.accepted run.sorted K.rank by.number ss vs (clean by.right.now) w is.redex k own) is.free is.levels
 
 abbrev pub RowFitsIn : Signature → Data → RawTerm → Fit → Type 0
 RowFitsIn sig m t fit =

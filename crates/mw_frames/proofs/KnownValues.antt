@@ -48,6 +48,7 @@ use Rattle.mw_deduction.specs.Replay.{Move}
 use Rattle.mw_frames.specs.Redex.{IsBare, value_in, IsRedex, HasOnTop}
 use Rattle.mw_frames.proofs.Normals.{IsLeafTerm, normal_has}
 use Rattle.mw_frames.proofs.Fitting.{plain_applied}
+use Rattle.mw_frames.proofs.PlacedTerms.{IsValueOf, value_here}
 use Rattle.mw_frames.proofs.RightSides.{distinct_here, right_here, value_here_too, left_is}
 
 -- a part of what has no operator on top is the whole
@@ -64,34 +65,8 @@ module _ (M : Module) (ok : IsAccepted M.signature) (sorted : IsWellSorted M.sig
   variables = r.statement.variables
 
   -- each value is that of one of the variables
-  pub record IsValueOf (u : RawTerm) : Type 0 where
-    pub of : Variable
-    pub within : IsTrue (is_in of variables)
-    pub place : value_in sig variables vs of ≡ u
-    pub value : value (meant sig (zip variables vs)) of ≡ Some (nested sig u)
-
-  pub value_here : (i : ℕ) (u : RawTerm) → slice_get vs i ≡ Some u → IsValueOf u
-  value_here i u g =
-      let b = slice_get_within vs i u g in
-      let (x, d) = variable_at variables i (let l = r.size in omega (arith, b, l)) in
-      let h : is_in x variables ≡ true = stands_in variables i x d in
-      let us : List RawTerm = map (nested sig) vs in
-      let l : length us ≡ length variables = length-map vs (nested sig) ∙ r.size in
-      let p : place x variables ≡ i = place_of variables i x (distinct_here M ok sorted n number ms vs right w r) d in
-      let e : slice_get us i ≡ Some (value_of (zip variables us) x) =
-      ap (slice_get us) (sym p) ∙ ap (λ ws. slice_get ws (place x variables)) (sym (values_zip variables us (distinct_here M ok sorted n number ms vs right w r) l)) ∙ at_place (zip variables us) variables x h in
-      let f : slice_get us i ≡ Some (nested sig u) = slice_get-map (nested sig) vs i ∙ ap (option_map (nested sig)) g in
-      let k : value_of (zip variables us) x ≡ nested sig u = same_Some _ _ (sym e ∙ f) in
-      record {
-        of = x;
-        within = h;
-        place = ap (λ j. unwrap_or (slice_get vs j) (placed variables (variable x))) p ∙ ap (λ o. unwrap_or o (placed variables (variable x))) g;
-        value = ap (λ s. value s x) (meant_zip sig variables vs) ∙ bound x (value (zip variables us) x) (bound_zip variables us x l ∙ h) ∙ ap Some k;
-      }
-    where
-      bound : (x : Variable) (o : Option RawTerm) → is_some o ≡ true → o ≡ Some (unwrap_or o (variable x))
-      bound x None h = absurd (both_ways _ refl h)
-      bound x (Some v) h = refl
+  its_variable : (i : ℕ) (u : RawTerm) → slice_get vs i ≡ Some u → IsValueOf sig variables vs u
+  its_variable = value_here sig variables (distinct_here M ok sorted n number ms vs right w r) vs r.size
 
   differs : (f : ℕ) → 0 < f → nat_eq f 0 ≡ false
   differs f l = by_test (nat_eq f 0) refl
@@ -138,14 +113,14 @@ module _ (M : Module) (ok : IsAccepted M.signature) (sorted : IsWellSorted M.sig
     bare_known (apply g (cons t ts)) h = absurd h
 
     -- what a match found
-    found_known : {u : RawTerm} (x : IsValueOf u) → IsFalse (occurs x.of r.statement.left) → IsNormalHere M n u ⊎ (HasNormalArguments M n u × (is_sure f u ≡ false))
+    found_known : {u : RawTerm} (x : IsValueOf sig variables vs u) → IsFalse (occurs x.of r.statement.left) → IsNormalHere M n u ⊎ (HasNormalArguments M n u × (is_sure f u ≡ false))
     found_known {u} x o = ⊎_elim (λ a. inl (subst (IsNormalHere M n) x.place a)) (λ b. inr (bare_known u (subst IsBare x.place b))) (r.found x.of x.within o)
 
     -- each value is normal, or a part on top, or a leaf
     pub values_known : HasOnTop f w → IsCanonical sig w → IsRawTerm sig (nested sig w) → HasNormalArguments M n w → (i : ℕ) (u : RawTerm) → slice_get vs i ≡ Some u → IsKnown M n f u
     values_known h k raw a i u g =
         let v = r.values i u g in
-        let x = value_here i u g in
+        let x = its_variable i u g in
         let z : normal_form sig (nested sig u) ≡ u = fixed sig ok u v.canonical in
         record {
           canonical = v.canonical;
@@ -153,7 +128,7 @@ module _ (M : Module) (ok : IsAccepted M.signature) (sorted : IsWellSorted M.sig
           known = by_side (occurs x.of r.statement.left) x refl z;
         }
       where
-        leaf : (t : RawTerm) → w ≡ t → IsLeafTerm t → (x : IsValueOf u) → IsTrue (occurs x.of r.statement.left) → normal_form sig (nested sig u) ≡ u → IsNormalHere M n u ⊎ (HasNormalArguments M n u × (is_sure f u ≡ false))
+        leaf : (t : RawTerm) → w ≡ t → IsLeafTerm t → (x : IsValueOf sig variables vs u) → IsTrue (occurs x.of r.statement.left) → normal_form sig (nested sig u) ≡ u → IsNormalHere M n u ⊎ (HasNormalArguments M n u × (is_sure f u ≡ false))
         leaf t e l x o z =
             inr (⊎_elim (λ p. top_known u h a (whole (leaf_part sig _ t u (fixed sig ok w k ∙ e) l (subst (IsPartOf sig false (normal_form sig (nested sig w))) (normal z)
             (part_kept sig ok p.0 _ (λ y. absurd (true≢false (sym y))) raw p.1))))) (λ y. leaf_known u (subst (IsLeaf sig) z y))
@@ -166,7 +141,7 @@ module _ (M : Module) (ok : IsAccepted M.signature) (sorted : IsWellSorted M.sig
             normal : normal_form sig (nested sig u) ≡ u → normal_form sig (nested sig (normal_form sig (nested sig u))) ≡ u
             normal q = ap (λ y. normal_form sig (nested sig y)) q ∙ q
 
-        by_shape : (t : RawTerm) → w ≡ t → (x : IsValueOf u) → IsTrue (occurs x.of r.statement.left) → normal_form sig (nested sig u) ≡ u → IsNormalHere M n u ⊎ (HasNormalArguments M n u × (is_sure f u ≡ false))
+        by_shape : (t : RawTerm) → w ≡ t → (x : IsValueOf sig variables vs u) → IsTrue (occurs x.of r.statement.left) → normal_form sig (nested sig u) ≡ u → IsNormalHere M n u ⊎ (HasNormalArguments M n u × (is_sure f u ≡ false))
         by_shape (apply g' ts) e x o z =
             ⊎_elim (λ m. inl (subst (IsNormalHere M n) z m)) (λ m. inr (⊎_elim (λ t. top_known u h a (subst (λ y. IsTop sig y u) (sym e) (subst (IsTop sig (apply g' ts)) z t))) (λ l. leaf_known u (subst (IsLeaf sig) z l)) m))
             (value_normal M ok sorted (admitted_judgements M n).Fails g' ts (subst (λ y. IsRawTerm sig (nested sig y)) e raw) (fixed sig ok (apply g' ts) (subst (IsCanonical sig) e k)) (a g' ts e)
@@ -176,7 +151,7 @@ module _ (M : Module) (ok : IsAccepted M.signature) (sorted : IsWellSorted M.sig
         by_shape (quoted q) e x o z = leaf (quoted q) e tt x o z
         by_shape (variable y) e x o z = leaf (variable y) e tt x o z
 
-        by_side : (b : Bool) → (x : IsValueOf u) → occurs x.of r.statement.left ≡ b → normal_form sig (nested sig u) ≡ u → IsNormalHere M n u ⊎ (HasNormalArguments M n u × (is_sure f u ≡ false))
+        by_side : (b : Bool) → (x : IsValueOf sig variables vs u) → occurs x.of r.statement.left ≡ b → normal_form sig (nested sig u) ≡ u → IsNormalHere M n u ⊎ (HasNormalArguments M n u × (is_sure f u ≡ false))
         by_side true x o z = by_shape w refl x o z
         by_side false x o z = found_known x o
 
@@ -204,7 +179,7 @@ module _ (M : Module) (ok : IsAccepted M.signature) (sorted : IsWellSorted M.sig
       → (i : ℕ) (u : RawTerm) → slice_get vs i ≡ Some u → IsKnown M n 0 u
   free_values_known f ps e q found k a i u g =
       let v = r.values i u g in
-      let x = value_here i u g in
+      let x = its_variable i u g in
       record {
         canonical = v.canonical;
         ground = sym (nested_ground sig u) ∙ v.ground;
@@ -219,7 +194,7 @@ module _ (M : Module) (ok : IsAccepted M.signature) (sorted : IsWellSorted M.sig
           let z : IsFree sig (apply h (all_placed variables qs)) = subst (IsFree sig) e q in
           free_values qs z.1 (a h (evaluated_all sig vs (all_placed variables qs)) (sym l ∙ plain_applied sig h _ z.0)) x o
 
-      by_side : (b : Bool) (x : IsValueOf u) → occurs x.of r.statement.left ≡ b → IsNormalHere M n (value_in sig variables vs x.of)
+      by_side : (b : Bool) (x : IsValueOf sig variables vs u) → occurs x.of r.statement.left ≡ b → IsNormalHere M n (value_in sig variables vs x.of)
       by_side true x o =
           let p : RawTerm = normal_form sig r.statement.left in
           by_shape p e (left_is M ok sorted n number ms vs right w r k) x.of (sym (occurs_kept sig x.of (normal_form-sound sig ok r.sides.left) ∙ nested_occurs sig x.of p) ∙ o)

@@ -2,6 +2,7 @@ pub mod Arguments
 pub mod Normals
 pub mod Levels
 pub mod Turning
+pub mod PlacedTerms
 pub mod RightSides
 pub mod KnownValues
 pub mod Redexes
@@ -31,3 +32,4 @@ pub mod Arriving
 pub mod OpeningAmong
 pub mod Applications
 pub mod Pairs
+pub mod PartsAsked

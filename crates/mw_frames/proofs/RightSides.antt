@@ -30,6 +30,7 @@ use Rattle.mw_solving.proofs.Positions.{meant_zip, meant_bound}
 use Rattle.mw_deduction.specs.Replay.{Move}
 use Rattle.mw_deduction.proofs.Extended.{instance_extended}
 use Rattle.mw_frames.specs.Redex.{IsRedex}
+use Rattle.mw_frames.proofs.PlacedTerms.{instance_placed}
 
 module _ (M : Module) (ok : IsAccepted M.signature) (sorted : IsWellSorted M.signature) (n number : ℕ) (ms : List Move) (vs : List RawTerm) (right w : RawTerm) (r : IsRedex M n number ms vs right w) where
   abbrev sig : Signature
@@ -80,22 +81,9 @@ module _ (M : Module) (ok : IsAccepted M.signature) (sorted : IsWellSorted M.sig
   pub kinds_here : KeepsKinds sig full
   kinds_here = substitution_kinds sig ok sorted full r.substitution
 
-  good : (i : ℕ) (u : RawTerm) → slice_get vs i ≡ Some u → IsCanonical sig u
-  good i u g = (r.values i u g).canonical
-
   -- of a term with these variables alone
   instance_is : (t : RawTerm) → IsRawTerm sig t → ((x : Variable) → IsTrue (occurs x t) → IsTrue (is_in x variables)) → evaluated sig vs (placed variables (normal_form sig t)) ≡ normal_form sig (instance full t)
-  instance_is t raw h =
-      let p : RawTerm = normal_form sig t in
-      let us : List RawTerm = map (nested sig) vs in
-      let z : Substitution = zip variables us in
-      let e : EqualModulo sig t (nested sig p) = normal_form-sound sig ok raw in
-      let q : normal_form sig (instance full t) ≡ normal_form sig (instance full (nested sig p)) = normal_form-kept sig ok (instance_equal sig full kinds_here e) in
-      let a : fill (values_of z variables) (placed variables (nested sig p)) ≡ instance z (nested sig p) = filled z variables (nested sig p) (λ x o. h x (occurs_kept sig x e ∙ o)) in
-      let b : values_of z variables ≡ us = values_zip variables us distinct_here (length-map vs (nested sig) ∙ r.size) in
-      let c : instance full (nested sig p) ≡ fill us (nested sig (placed variables p)) =
-      ap (λ s. instance s (nested sig p)) (meant_zip sig variables vs) ∙ sym a ∙ ap (λ ws. fill ws (placed variables (nested sig p))) b ∙ ap (fill us) (sym (nested_placed sig variables p)) in
-      sym (q ∙ ap (normal_form sig) c ∙ evaluated_is sig ok vs good (placed variables p))
+  instance_is = instance_placed sig variables distinct_here vs r.size ok sorted r.values r.substitution
 
   -- the right side's
   pub right_is : evaluated sig vs right ≡ normal_form sig (instance full r.statement.right)

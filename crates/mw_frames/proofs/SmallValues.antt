@@ -1,6 +1,6 @@
 -- `s_` stands on the largest numeral in no value of an equation that applies to a term in which it doesn't.
-use Rattle.std.specs.Prelude.{◌≡◌, ◌&&◌, ◌||◌, ℕ, zero, suc, List, [], ◌∷◌, ◌++◌, Bool, true, false, Some, unwrap_or, slice_get, IsTrue, refl}
-use Rattle.std.proofs.Common.{sym, subst, ap, ◌∙◌, ⊎_elim}
+use Rattle.std.specs.Prelude.{◌≡◌, ◌⊎◌, ◌&&◌, ◌||◌, ℕ, zero, suc, List, [], ◌∷◌, ◌++◌, Bool, true, false, Some, unwrap_or, slice_get, IsTrue, refl}
+use Rattle.std.proofs.Common.{sym, subst, ap, ◌∙◌, inl, inr, ⊎_elim}
 use Rattle.std.proofs.Math.Bool.{or-false}
 use Rattle.std.proofs.lemmas.Bool.{both_ways, or_cases, or_left, or_right, or_parts, or_from}
 use Rattle.mw_logic.specs.Term.{Variable, RawTerm, numeral, quoted, variable, apply, RawTerms, nil, cons}
@@ -16,7 +16,7 @@ use Rattle.mw_logic.proofs.Canonical.{IsCanonical}
 use Rattle.mw_logic.proofs.InstanceLaws.{occurs_kept}
 use Rattle.mw_logic.proofs.SameConditions.{same_variable-is}
 use Rattle.mw_logic.proofs.Soundness.{normal_form-sound}
-use Rattle.mw_position.specs.Variables.{placed, all_placed}
+use Rattle.mw_position.specs.Variables.{is_in}
 use Rattle.mw_position.specs.Positions.{position}
 use Rattle.mw_matching.specs.Matches.{evaluated, evaluated_all}
 use Rattle.mw_solving.proofs.Nesting.{nested_occurs}
@@ -24,19 +24,15 @@ use Rattle.mw_deduction.proofs.Largest.{largest_applied}
 use Rattle.mw_frames.specs.Free.{IsFree, AreFree}
 use Rattle.mw_deduction.specs.Replay.{Move}
 use Rattle.mw_frames.specs.State.{IsNormalHere}
-use Rattle.mw_frames.specs.Redex.{IsBare, IsRedex}
-use Rattle.mw_frames.proofs.KnownValues.{IsValueOf, value_here}
-use Rattle.mw_frames.proofs.RightSides.{left_is}
+use Rattle.mw_frames.specs.Redex.{IsBare, value_in, IsRedex}
+use Rattle.mw_frames.proofs.PlacedTerms.{values_small}
+use Rattle.mw_frames.proofs.RightSides.{distinct_here, left_is}
 
 -- of values in each of which it doesn't
 pub value_small : (sig : Signature) (vs : List RawTerm) (i : ℕ) (x : Variable) → some_largest sig (terms_of vs) ≡ false → has_largest sig (unwrap_or (slice_get vs i) (variable x)) ≡ false
 value_small sig [] i x h = refl
 value_small sig (v ∷ vs) zero x h = (or_parts (has_largest sig v) (some_largest sig (terms_of vs)) h).0
 value_small sig (v ∷ vs) (suc i) x h = value_small sig vs i x (or_parts (has_largest sig v) (some_largest sig (terms_of vs)) h).1
-
-all_small : (sig : Signature) (vs : List RawTerm) → ((i : ℕ) (u : RawTerm) → slice_get vs i ≡ Some u → has_largest sig u ≡ false) → some_largest sig (terms_of vs) ≡ false
-all_small sig [] h = refl
-all_small sig (v ∷ vs) h = or_from (has_largest sig v) (some_largest sig (terms_of vs)) (h zero v refl) (all_small sig vs (λ i u e. h (suc i) u e))
 
 -- nor in an instance of a pattern without `s_` by these
 module _ (sig : Signature) (ok : IsAccepted sig) (vs : List RawTerm) (small : some_largest sig (terms_of vs) ≡ false) where
@@ -53,6 +49,21 @@ module _ (sig : Signature) (ok : IsAccepted sig) (vs : List RawTerm) (small : so
     all_free_small nil h = refl
     all_free_small (cons t ts) h = or_from (has_largest sig (evaluated sig vs t)) (some_largest sig (evaluated_all sig vs ts)) (free_small t h.0) (all_free_small ts h.1)
 
+-- nor in a normal term, nor in one without arguments
+pub normal_small : (M : Module) → IsAccepted M.signature → (n : ℕ) (u : RawTerm) → IsNormalHere M n u → has_largest M.signature u ≡ false
+normal_small M ok n u a = subst (λ t. has_largest M.signature t ≡ false) a.canonical ((admitted-iff M.signature ok a.raw).0 a.normal.admitted).2
+
+pub bare_small : (sig : Signature) (u : RawTerm) → IsBare u → has_largest sig u ≡ false
+bare_small sig (numeral m) h = refl
+bare_small sig (quoted q) h = refl
+bare_small sig (variable x) h = refl
+bare_small sig (apply f nil) h = or_from (is_successor sig f && is_largest nil) (some_largest sig nil) (none (is_successor sig f)) refl
+  where
+    none : (b : Bool) → (b && is_largest nil) ≡ false
+    none true = refl
+    none false = refl
+bare_small sig (apply f (cons t ts)) h = absurd h
+
 module _ (M : Module) (ok : IsAccepted M.signature) (sorted : IsWellSorted M.signature) (n number : ℕ) (ms : List Move) (vs : List RawTerm) (right w : RawTerm) (r : IsRedex M n number ms vs right w) where
   abbrev sig : Signature
   sig = M.signature
@@ -60,53 +71,15 @@ module _ (M : Module) (ok : IsAccepted M.signature) (sorted : IsWellSorted M.sig
   abbrev variables : List Variable
   variables = r.statement.variables
 
-  -- where it does in a value it does in the instance
-  mutual
-    in_instance : (p : RawTerm) (x : Variable) → IsTrue (occurs x p) → has_largest sig (evaluated sig vs (placed variables (variable x))) ≡ true → has_largest sig (evaluated sig vs (placed variables p)) ≡ true
-    in_instance (numeral n) x o h = absurd (both_ways _ refl o)
-    in_instance (quoted q) x o h = absurd (both_ways _ refl o)
-    in_instance (variable y) x o h = subst (λ z. has_largest sig (evaluated sig vs (placed variables (variable z))) ≡ true) (sym (same_variable-is y x o)) h
-    in_instance (apply f ps) x o h =
-        largest_applied sig ok f (evaluated_all sig vs (all_placed variables ps)) ∙ or_right (is_successor sig f && is_largest (arranged (is_comm sig f) (evaluated_all sig vs (all_placed variables ps)))) _ (in_instances ps x o h)
-
-    in_instances : (ps : RawTerms) (x : Variable) → IsTrue (occurs_in x ps) → has_largest sig (evaluated sig vs (placed variables (variable x))) ≡ true → some_largest sig (evaluated_all sig vs (all_placed variables ps)) ≡ true
-    in_instances nil x o h = absurd (both_ways _ refl o)
-    in_instances (cons p ps) x o h = ⊎_elim
-        (λ k. or_left (has_largest sig (evaluated sig vs (placed variables p))) (some_largest sig (evaluated_all sig vs (all_placed variables ps))) (in_instance p x k h))
-        (λ k. or_right (has_largest sig (evaluated sig vs (placed variables p))) (some_largest sig (evaluated_all sig vs (all_placed variables ps))) (in_instances ps x k h))
-        (or_cases (occurs x p) (occurs_in x ps) o)
-
-  normal_small : (u : RawTerm) → IsNormalHere M n u → has_largest sig u ≡ false
-  normal_small u a = subst (λ t. has_largest sig t ≡ false) a.canonical ((admitted-iff sig ok a.raw).0 a.normal.admitted).2
-
-  bare_small : (u : RawTerm) → IsBare u → has_largest sig u ≡ false
-  bare_small (numeral m) h = refl
-  bare_small (quoted q) h = refl
-  bare_small (variable x) h = refl
-  bare_small (apply f nil) h = or_from (is_successor sig f && is_largest nil) (some_largest sig nil) (none (is_successor sig f)) refl
+  pub redex_small : IsCanonical sig w → has_largest sig w ≡ false → some_largest sig (terms_of vs) ≡ false
+  redex_small k = values_small sig ok variables vs (distinct_here M ok sorted n number ms vs right w r) r.size r.statement.left w r.sides.left known (left_is M ok sorted n number ms vs right w r k)
     where
-      none : (b : Bool) → (b && is_largest nil) ≡ false
-      none true = refl
-      none false = refl
-  bare_small (apply f (cons t ts)) h = absurd h
-
-  pub values_small : IsCanonical sig w → has_largest sig w ≡ false → some_largest sig (terms_of vs) ≡ false
-  values_small k h = all_small sig vs one
-    where
-      one : (i : ℕ) (u : RawTerm) → slice_get vs i ≡ Some u → has_largest sig u ≡ false
-      one i u g = by_test (has_largest sig u) refl
+      known : (x : Variable) → IsTrue (is_in x variables) → IsTrue (occurs x r.statement.left) ⊎ (has_largest sig (value_in sig variables vs x) ≡ false)
+      known x i = by_side (occurs x r.statement.left) refl
         where
-          by_side : (b : Bool) (x : IsValueOf M ok sorted n number ms vs right w r u) → occurs x.of r.statement.left ≡ b → has_largest sig u ≡ true → true ≡ false
-          by_side true x o e =
-              let p : RawTerm = normal_form sig r.statement.left in
-              let q : occurs x.of r.statement.left ≡ occurs x.of p = occurs_kept sig x.of (normal_form-sound sig ok r.sides.left) ∙ nested_occurs sig x.of p in
-              absurd (both_ways _ h (ap (has_largest sig) (sym (left_is M ok sorted n number ms vs right w r k)) ∙ in_instance p x.of (sym q ∙ o) (ap (has_largest sig) x.place ∙ e)))
-          by_side false x o e =
-              absurd (both_ways _ (⊎_elim (λ a. subst (λ t. has_largest sig t ≡ false) x.place (normal_small _ a)) (λ b. bare_small u (subst IsBare x.place b)) (r.found x.of x.within o)) e)
-
-          by_test : (b : Bool) → has_largest sig u ≡ b → b ≡ false
-          by_test false e = refl
-          by_test true e = let x = value_here M ok sorted n number ms vs right w r i u g in by_side (occurs x.of r.statement.left) x refl e
+          by_side : (b : Bool) → occurs x r.statement.left ≡ b → IsTrue (occurs x r.statement.left) ⊎ (has_largest sig (value_in sig variables vs x) ≡ false)
+          by_side true o = inl o
+          by_side false o = inr (⊎_elim (normal_small M ok n _) (bare_small sig _) (r.found x i o))
 
 -- What is told of instances, as they are built.
 pub value_told : (sig : Signature) (vs : List RawTerm) (i : ℕ) (l : Bool) (u : RawTerm) → u ≡ unwrap_or (slice_get vs i) (variable (position i)) → some_largest sig (terms_of vs) ≡ false → l ≡ (l || has_largest sig u)

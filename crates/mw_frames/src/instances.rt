@@ -1,14 +1,16 @@
 // Canonical instances of right sides.
-ghost use Rattle.std.specs.Prelude.{◌≡◌, ◌&&◌, ◌||◌, false, IfOk, unwrap_or, slice_get};
+ghost use Rattle.std.specs.Prelude.{◌≡◌, ◌≤◌, ◌<◌, ◌&&◌, ◌||◌, false, IfOk, IfErr, unwrap_or, slice_get};
 ghost use Rattle.mw_logic.specs.Term.{variable as a_variable, nil, cons};
 ghost use Rattle.mw_logic.specs.Kinds.{is_successor as successor_of};
-ghost use Rattle.mw_logic.specs.NormalForm.{is_comm, arranged, is_largest as is_largest_of, has_largest, some_largest};
+ghost use Rattle.mw_logic.specs.NormalForm.{is_comm, arranged, height, is_largest as is_largest_of, has_largest, some_largest};
 ghost use Rattle.mw_logic.specs.Terms.{terms_of};
+ghost use Rattle.mw_canon.specs.Causes.{IsLimit};
+ghost use Rattle.mw_canon.specs.declared.CanonError.TheVariants.{Deep};
 ghost use Rattle.mw_position.specs.Positions.{position};
 ghost use Rattle.mw_matching.specs.Matches.{evaluated, evaluated_all};
 ghost use Rattle.mw_pattern.specs.Clean.{clean};
 
-use mw_canon::{Axioms, Facts, rebuild};
+use mw_canon::{Axioms, CanonError, Facts, limited, rebuild};
 use mw_pattern::{Pattern, Patterns};
 use mw_term::{Name, OpId, Term, VarId, View, copy, copy_name};
 use std::alloc::{AllocError, Global};
@@ -66,7 +68,7 @@ fn note_largest(facts: &Facts, operator: OpId, args: &[Term], large: &mut bool)
 
 /// The canonical instance: operators with their axioms on the instances of their arguments. Positions that have no
 /// value stay.
-pub fn evaluate(
+pub(crate) fn evaluate(
     alloc: Global,
     facts: &Facts,
     pattern: &Pattern,
@@ -77,6 +79,29 @@ pub fn evaluate(
     let mut large = false;
     let term = build(alloc, facts, pattern, values, &mut large)?;
     Ok(term)
+}
+
+/// The canonical instance, where it has no more levels than a term may and `s_` stands on the largest numeral nowhere
+/// in it, if it does so in none of the values.
+pub fn instance(
+    alloc: Global,
+    facts: &Facts,
+    pattern: &Pattern,
+    values: &[Term],
+) -> Result<Term, CanonError>
+    ensures term { IfOk result (λ t. t ≡ evaluated facts.now values.now (clean pattern.now)) }
+    ensures low { IfOk result (λ t. height t ≤ 1000) }
+    ensures small { some_largest facts.now (terms_of values.now) ≡ false
+        → IfOk result (λ t. has_largest facts.now t ≡ false) }
+    ensures deep { let t = evaluated facts.now values.now (clean pattern.now) in
+        IfErr result (λ e. e ≡ Deep → 1000 < height t) }
+    ensures cause { let t = evaluated facts.now values.now (clean pattern.now) in
+        some_largest facts.now (terms_of values.now) ≡ false
+        → IfErr result (IsLimit (height t) (has_largest facts.now t)) }
+{
+    let mut large = false;
+    let term = build(alloc, facts, pattern, values, &mut large)?;
+    limited(term, large)
 }
 
 /// The same, and whether `s_` stands on the largest numeral in it, where it does so in none of the values.

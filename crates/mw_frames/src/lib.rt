@@ -29,7 +29,8 @@
 //! - `rest` goes on where nothing applies to what was asked for, which then is normal.
 //! - `stop` puts the whole together (`IsWhole`); `halt` does round what was asked for, or several of its arguments, and
 //!   tells that these are a part of it.
-//! - `evaluate` is the canonical instance of a pattern (`evaluated` of mw_matching).
+//! - `instance` is the canonical instance of a pattern by values (`evaluated` of mw_matching), where that is neither
+//!   too deep nor, of values in which no number is, too large; `Deep` and `Nat` come only where it is.
 //!
 //! Conditions (`IsRun`): the module is well-formed, its signature accepted and well sorted. Want of memory is the only
 //! error, and nothing is said of a machine after it.
@@ -58,7 +59,7 @@ mod whole;
 
 pub use applying::{Applied, Fired, fire};
 pub use choosing::decide;
-pub use instances::evaluate;
+pub use instances::instance;
 pub use job::{Frame, Hand, Job};
 pub use looking::{Asked, Step};
 pub use machine::Machine;
