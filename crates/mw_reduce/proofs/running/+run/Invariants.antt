@@ -8,7 +8,7 @@ use Rattle.mw_frames.specs.State.{Run, IsRun, Holds}
 use Rattle.mw_frames.specs.Machines.{data_of}
 use Rattle.mw_reduce.specs.Turns.{IsTurn, TurnOf}
 use Rattle.mw_reduce.specs.Evaluations.{AreBoundTo, bound_to, IsTrial}
-use Rattle.mw_reduce.proofs.+run.Given as goal
+use Rattle.mw_reduce.proofs.running.+run.Given as goal
 
 abbrev pub decreases-drive : goal.decreases-drive
 decreases-drive l = 6 * l.nest + 5
