@@ -104,7 +104,7 @@ module _ (M : Module) (n : ℕ) (e : Statement) (tests : List Test) where
       → IsPlace M n e tests at sides xs (f ∷ C) → IsTestOf sig xs f t → AreTests sig (bound_by xs t) C (drop (suc at) tests) → AreShown M n ts
       → IsPlace M n e tests (suc at) (sides ++ ts) (bound_by xs t) C
   next_place work at t g sides ts xs f C p test behind shown = record {
-    tests = behind;
+    fitting = behind;
     ready = ready_more sig work.signature.accepted e.variables xs f C p.ready t test;
     ends = sym (ap (all_bound xs) (drop_next tests at t g)) ∙ p.ends;
     shown = more_shown M n sides ts p.shown shown;
@@ -114,7 +114,7 @@ module _ (M : Module) (n : ℕ) (e : Statement) (tests : List Test) where
   pub at_test : (s : Substitution) (at : ℕ) (t : Test) → slice_get tests at ≡ Some t → (vs : List RawTerm) (sides : List Reduced) (os : List Other) → (h : IsTrial M n e tests s at vs sides os)
       → (f : Fragment) × (C : List Fragment) × (h.rest ≡ f ∷ C) × IsTestOf sig h.variables f t × ((a : IsAt M n e tests s at f C h.variables vs sides os) × (a.test ≡ t))
   at_test s at t g vs sides os h =
-      let (f, C, is, test, behind) = first_fragment sig h.variables h.rest t (drop (suc at) tests) (subst (AreTests sig h.variables h.rest) (drop_next tests at t g) h.place.tests) in (
+      let (f, C, is, test, behind) = first_fragment sig h.variables h.rest t (drop (suc at) tests) (subst (AreTests sig h.variables h.rest) (drop_next tests at t g) h.place.fitting) in (
         f,
         C,
         is,
@@ -218,7 +218,7 @@ module _ (M : Module) (n : ℕ) (e : Statement) (tests : List Test) where
     pub hold : (at : ℕ) (vs : List RawTerm) (sides : List Reduced) (os : List Other) → IsTrial M n e tests s at vs sides os → drop at tests ≡ [] → IsHeldBy M n e tests s vs sides
     hold at vs sides os h none =
         let xs : List Variable = h.variables in
-        let none_left : h.rest ≡ [] = of_none sig xs h.rest (subst (AreTests sig xs h.rest) none h.place.tests) in
+        let none_left : h.rest ≡ [] = of_none sig xs h.rest (subst (AreTests sig xs h.rest) none h.place.fitting) in
         let all : xs ≡ all_bound (met [] e.left) tests = sym (ap (all_bound xs) none) ∙ h.place.ends in
         let front : Frontier (IsOneOr (alternative [] (bound_to sig xs vs) (proofs_of M n sides)) (AreLeft M n sides h.rests os)) =
         subst (λ D. Frontier (IsOneOr (alternative D (bound_to sig xs vs) (proofs_of M n sides)) (AreLeft M n sides h.rests os))) none_left h.frontier in
@@ -334,7 +334,7 @@ pub begin : (M : Module) → IsWorkable M → (n number : ℕ) (e : Statement) �
 begin M work n number e there tests is us bound = record {
   rest = e.fragments;
   variables = met [] e.left;
-  place = record { tests = is; ready = first_ready M work number e there; ends = refl; shown = none_shown M n };
+  place = record { fitting = is; ready = first_ready M work number e there; ends = refl; shown = none_shown M n };
   bound = bound;
   found = λ x h k. absurd (both_ways _ (sym (in_lefts e x) ∙ h) k);
   rests = [];

@@ -165,7 +165,7 @@ AreSomeTests sig c = (xs : List Variable) × (C : List Fragment) × AreTests sig
 
 -- A place among the tests of the condition of e: the variables that are bound there, what is left of the condition, and the sides before it.
 pub record IsPlace (M : Module) (n : ℕ) (e : Statement) (tests : List Test) (at : ℕ) (sides : List Reduced) (xs : List Variable) (rest : List Fragment) : Type 0 where
-  pub tests : AreTests M.signature xs rest (drop at tests)
+  pub fitting : AreTests M.signature xs rest (drop at tests)
   pub ready : AreReady M.signature e.variables xs rest
   pub ends : all_bound xs (drop at tests) ≡ all_bound (met [] e.left) tests
   pub shown : AreShown M n sides

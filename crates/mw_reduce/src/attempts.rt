@@ -84,9 +84,9 @@ pub fn settle<'m>(
     requires { IsIndexOf context.now index.now }
     ensures of { IfOk result (SettledOf context.now) }
     ensures means { (K : Run) (k side : ℕ) (old : ChoiceOf) → IsRun K context.now.signature → K.over ≡ context.now
-        → IsFound K k index.now (data_of K.over machine.old) choices.old asked.entry old
+        → IsFound K k index.now (data_of K.over machine.old) choices.old asked old
         → choice.entry ≡ record old { values = choice.entry.values }
-        → IsAttempt K.over K.rank side (asked_term (data_of K.over machine.old) asked.entry) old choice.entry attempt.entry
+        → IsAttempt K.over K.rank side (asked_term (data_of K.over machine.old) asked) old choice.entry attempt
         → IfOk result (IsSettled K k side index.now (data_of K.over machine.new) choices.new) }
 {
     match attempt {

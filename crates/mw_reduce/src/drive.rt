@@ -110,7 +110,7 @@ fn apply<'m>(
     choice: Choice<'m>,
     sides: Vec<Trail>,
 ) -> Result<Fired<'m>, AllocError>
-    ensures { (K : Run) (k : ℕ) → IsRun K facts.now → IsReady K k (data_of K.over machine.old) asked choice.entry sides.entry.items
+    ensures { (K : Run) (k : ℕ) → IsRun K facts.now → IsReady K k (data_of K.over machine.old) asked choice.entry sides.items
         → IfOk result (IsFired K k (data_of K.over machine.new)) }
 {
     let Choice {

@@ -1,5 +1,5 @@
 // The evaluation of a condition, between the runs of its sides.
-ghost use Rattle.std.specs.Prelude.{◌≡◌, ◌<◌, ◌+◌, ◌^◌, ◌++◌, ◌∷◌, ◌↔◌, [], ℕ, List, length, true, IfOk, OnOk, IsTrue, MatchOption, option_to_list, reverse};
+ghost use Rattle.std.specs.Prelude.{◌≡◌, ◌<◌, ◌+◌, ◌^◌, ◌++◌, ◌∷◌, ◌↔◌, [], ℕ, List, length, true, false, IfOk, OnOk, IsTrue, MatchOption, option_to_list, reverse};
 ghost use Rattle.mw_logic.specs.Term.{Variable, RawTerm};
 ghost use Rattle.mw_logic.specs.Module.{Module, Fragment, Statement, IsTruth, is_true, has_sort, equal, matches as matched_by};
 ghost use Rattle.mw_logic.specs.NormalForm.{normal_form};
@@ -71,7 +71,7 @@ fn listed(
     first: Reduced,
     second: Option<Reduced>,
 ) -> Result<Vec<Reduced>, AllocError>
-    ensures { IfOk result (λ rs. rs.items ≡ first.entry ∷ option_to_list second.entry) }
+    ensures { IfOk result (λ rs. rs.items ≡ first ∷ option_to_list second) }
 {
     let mut sides = Vec::new(alloc);
     sides.push(first)?;
@@ -88,8 +88,8 @@ pub fn compared<'m>(
     second: Reduced,
 ) -> Result<Tested<'m>, AllocError>
     ensures { (M : Module) (n limit : ℕ) (xs : List Variable) (vs : List RawTerm) (u v : RawTerm) → IsWorkable M
-        → IsShown M n (instance_of (bound_to M.signature xs vs) u) first.entry
-        → IsShown M n (instance_of (bound_to M.signature xs vs) v) second.entry
+        → IsShown M n (instance_of (bound_to M.signature xs vs) u) first
+        → IsShown M n (instance_of (bound_to M.signature xs vs) v) second
         → IfOk result (IsTested M n limit (equal u v) xs vs xs) }
 {
     if !same(&first.to, &second.to) {
@@ -113,7 +113,7 @@ fn is_true_term(context: &Ctx, term: &Term) -> bool
 /// Whether a side is true.
 pub fn held<'m>(alloc: Global, context: &Ctx, side: Reduced) -> Result<Tested<'m>, AllocError>
     ensures { let M = context.now in (n limit : ℕ) (xs : List Variable) (vs : List RawTerm) (u : RawTerm)
-        → IsShown M n (instance_of (bound_to M.signature xs vs) u) side.entry
+        → IsShown M n (instance_of (bound_to M.signature xs vs) u) side
         → IfOk result (IsTested M n limit (is_true u) xs vs xs) }
 {
     context.shows();
@@ -143,7 +143,7 @@ pub fn sorted<'m>(
     sort: Sorted,
 ) -> Result<Tested<'m>, AllocError>
     ensures { let M = context.now in (n limit : ℕ) (xs : List Variable) (vs : List RawTerm) (u : RawTerm)
-        → IsShown M n (instance_of (bound_to M.signature xs vs) u) side.entry
+        → IsShown M n (instance_of (bound_to M.signature xs vs) u) side
         → IfOk result (IsTested M n limit (has_sort u (sorted_of sort)) xs vs xs) }
 {
     context.shows();
@@ -185,7 +185,7 @@ pub fn opened<'m>(
     requires { matched.now.compiled.positions.sorts ≡ sorts_of matched.now.compiled.variables }
     ensures { let M = context.now in (n limit : ℕ) (all xs : List Variable) (l u : RawTerm) (C : List Fragment)
         → AreReady M.signature all xs (matched_by l u ∷ C) → IsMatchOf M.signature xs l u matched.now → AreBoundTo M xs values.now
-        → IsShown M n (instance_of (bound_to M.signature xs values.now) u) side.entry
+        → IsShown M n (instance_of (bound_to M.signature xs values.now) u) side
         → IfOk result (IsTested M n limit (matched_by l u) xs values.now matched.now.compiled.variables) }
 {
     let solutions = solutions_of(alloc, context, &matched.compiled, values, &side.to)?;
@@ -273,7 +273,7 @@ fn open<'m>(
     sides: &mut Vec<Reduced>,
 ) -> Result<(), AllocError>
     requires { at + 1 < 2 ^ 64 }
-    ensures { OnOk result ((sides.new.items ≡ sides.old.items ++ side.entry ∷ []) × ((o : OtherOf) × (others.new.items ≡ others.old.items ++ o ∷ []) × (o.at ≡ at + 1) × (o.sides ≡ length sides.new.items) × (o.solutions ≡ solutions.entry))) }
+    ensures { OnOk result ((sides.new.items ≡ sides.old.items ++ side ∷ []) × ((o : OtherOf) × (others.new.items ≡ others.old.items ++ o ∷ []) × (o.at ≡ at + 1) × (o.sides ≡ length sides.new.items) × (o.solutions ≡ solutions.entry))) }
 {
     sides.push(side)?;
     others.push(Other {

@@ -90,8 +90,8 @@ pub fn begin_side<'m>(
 /// What comes of a side's run.
 pub fn end_side(running: Box<Running<'_>>, end: End) -> Shown
     ensures { (M : Module) (n limit : ℕ) (t : RawTerm) → IsWorkable M → IsRawTerm M.signature t
-        → IsAdmittedTerm M.signature running.value.from → running.value.from ≡ normal_form M.signature t
-        → IsDriven (run_of M n running.value.from) limit limit (data_of M running.value.machine) end
+        → IsAdmittedTerm M.signature running.entry.value.from → running.entry.value.from ≡ normal_form M.signature t
+        → IsDriven (run_of M n running.entry.value.from) limit limit (data_of M running.entry.value.machine) end
         → IsSideShown M n limit t result }
 {
     let End { term, outcome } = end;
@@ -111,7 +111,7 @@ pub fn end_side(running: Box<Running<'_>>, end: End) -> Shown
 
 /// What a side did, between the moves that begin it and end it.
 fn enclosed(alloc: Global, side: Reduced) -> Result<Trail, AllocError>
-    ensures { IfOk result (λ t. (M : Module) → moves M t ≡ side_moves M side.entry) }
+    ensures { IfOk result (λ t. (M : Module) → moves M t ≡ side_moves M side) }
 {
     let Reduced { from, kept, .. } = side;
     let mut trail = Trail::new(alloc);
