@@ -104,7 +104,7 @@ inner M m side t why (inr (a, (q, v, r, s))) = (q, v, reason_of why, inr (a, r, 
 
 pub stops_by_side : (M : Module) (n most side : ℕ) (t0 : RawTerm) (p : Proof) (u : RawTerm) → Proves M n p t0 u → steps p < most → (w : RawTerm) → HasPart M.signature u w → IsHalting M n side w reason.Condition
     → Stops M n (limits_within most side) t0 p u by_condition
-stops_by_side M zero most side t0 p u q l w part h = let z = h.cause.1.0 in absurd (cc)
+stops_by_side M zero most side t0 p u q l w part h = let z = h.cause.1 in absurd (cc)
 stops_by_side M (suc n) most side t0 p u q l w part h =
     let (m, e, why, inside) = h.cause in
     let same : m ≡ n = cc in
@@ -157,5 +157,5 @@ outcome_by K most side count d e (inl (l, z)) t0 p proves s = outcome_at e.outco
     outcome_at (Stopped reason.Depth) z = stops_by_depth M n t0 p u most side proves below z.1
     outcome_at (Stopped reason.Rules) z = absurd z
     outcome_at (Stopped reason.Nat) z = large z.1
-    outcome_at (Stopped reason.Nest) z = stops_by_nest M n most side t0 p u proves below z.1.0 z.1.1 z.1.2
-    outcome_at (Stopped reason.Condition) z = stops_by_side M n most side t0 p u proves below z.1.0 z.1.1 z.1.2
+    outcome_at (Stopped reason.Nest) z = let (w, part, h) = z.1 in stops_by_nest M n most side t0 p u proves below w part h
+    outcome_at (Stopped reason.Condition) z = let (w, part, h) = z.1 in stops_by_side M n most side t0 p u proves below w part h

@@ -112,14 +112,14 @@ equal_first M zero t m u q e h = (m, e, h)
 equal_first M (suc n) t m u q e h = (m, e, h)
 
 module _ (M : Module) (work : IsWorkable M) (n : ℕ) (t : RawTerm) (raw : IsRawTerm M.signature t) (u : RawTerm) (begins_at : IsAdmittedTerm M.signature u) (is : u ≡ normal_form M.signature t) where
-  abbrev sig : Signature
-  sig = M.signature
+  abbrev here : Signature
+  here = M.signature
 
-  abbrev ok : IsAccepted sig
-  ok = work.signature.accepted
+  abbrev accepted : IsAccepted here
+  accepted = work.signature.accepted
 
   starts : IsStanding M (begun n u)
-  starts = begun_stands M ok n u (subst (IsCanonical sig) begins_at.canonical (canonical sig ok (nested sig u))) begins_at.raw begins_at.admitted
+  starts = begun_stands M accepted n u (subst (IsCanonical here) begins_at.canonical (canonical here accepted (nested here u))) begins_at.raw begins_at.admitted
 
   module _ (count : ℕ) (a : RawTerm) (k : Track) (d : Data) (kept_as : d.moves ≡ moves M k) (e : IsWhole (run_of M n u) count d a) where
     abbrev T : Stand
@@ -142,15 +142,15 @@ module _ (M : Module) (work : IsWorkable M) (n : ℕ) (t : RawTerm) (raw : IsRaw
     proof_is = ap (λ B. concluded (first_of B)) stands
 
     standing : IsStanding M T
-    standing = (subst (AreStanding M) stands (moves_stand M ok ms (begun n u ∷ []) (starts, tt) made)).0
+    standing = (subst (AreStanding M) stands (moves_stand M accepted ms (begun n u ∷ []) (starts, tt) made)).0
 
     side_kept : n ≤ 63 → IsKept M n u a k
     side_kept low = record { low = low; begins = begins_at; made = made; last = T; stands = stands; closed = e.closed; used = e.leads.ready; reaches = e.hand }
 
-    pub side_proves : Proves M n (transitivity equality kept_proof) t (nested sig a)
-    side_proves = equal_first M n t (nested sig u) (nested sig a) kept_proof
-        (subst (λ v. EqualModulo sig t (nested sig v)) (sym is) (normal_form-sound sig ok raw))
-        (subst (λ p. Proves M n p (nested sig u) (nested sig a)) (sym proof_is) (subst (λ v. Proves M n (concluded T) (nested sig u) (nested sig v)) e.hand (concludes M ok ms n u T made starts stands e.closed).1))
+    pub side_proves : Proves M n (transitivity equality kept_proof) t (nested here a)
+    side_proves = equal_first M n t (nested here u) (nested here a) kept_proof
+        (subst (λ v. EqualModulo here t (nested here v)) (sym is) (normal_form-sound here accepted raw))
+        (subst (λ p. Proves M n p (nested here u) (nested here a)) (sym proof_is) (subst (λ v. Proves M n (concluded T) (nested here u) (nested here v)) e.hand (concludes M accepted ms n u T made starts stands e.closed).1))
 
     pub side_steps : steps (transitivity equality kept_proof) ≡ count
     side_steps = ap (λ p. steps (transitivity equality p)) proof_is ∙ (let s = e.leads.steps in let z : steps (transitivity equality (concluded T)) ≡ count = omega (arith, s) in z)
@@ -167,8 +167,8 @@ module _ (M : Module) (work : IsWorkable M) (n : ℕ) (t : RawTerm) (raw : IsRaw
         let low : begun (S.rank - 1) u ∷ S ∷ B ≡ inner = ap (λ k. begun k u ∷ S ∷ B) (omega (arith, rank)) in
         let all : AreMoves M (ms ++ ends ∷ []) inner = moves-append M ms (ends ∷ []) inner may (subst (AreMoves M (ends ∷ [])) (sym there) (record { outside = e.closed; nothing_waits = e.leads.ready }, tt)) in
         record {
-          waiting = showing sig T S;
-          may = (record { rank = n; above = rank; canonical = subst (IsCanonical sig) begins_at.canonical (canonical sig ok (nested sig u)); raw = begins_at.raw; admitted = begins_at.admitted }, subst (AreMoves M (ms ++ ends ∷ [])) (sym low) all);
+          waiting = showing here T S;
+          may = (record { rank = n; above = rank; canonical = subst (IsCanonical here) begins_at.canonical (canonical here accepted (nested here u)); raw = begins_at.raw; admitted = begins_at.admitted }, subst (AreMoves M (ms ++ ends ∷ [])) (sym low) all);
           plays = ap (plays M (ms ++ ends ∷ [])) low ∙ plays-append M ms (ends ∷ []) inner ∙ ap (plays M (ends ∷ [])) there;
           waits = record { rank = refl; from = refl; opens = refl; hand = refl; entered = refl; done = refl; ready = behind_together S.read.ready (transitivity equality (concluded T)) ∙ ap (λ p. together S.read.ready (cons (transitivity equality p) nil)) (sym proof_is) };
         }
@@ -178,14 +178,14 @@ module _ (M : Module) (work : IsWorkable M) (n : ℕ) (t : RawTerm) (raw : IsRaw
   side_shown count a k d kept_as e =
       let w : IsWhole (run_of M n u) count d a = record { stand = e.stand; leads = e.leads; closed = e.closed; hand = e.hand } in
       let h : IsStanding M e.stand = standing count a k d kept_as w in
-      let at : At M (admitted_judgements M n).Held (admitted_judgements M n).Fails (nested sig (normal_form sig t)) e.stand.read [] a =
-      subst (λ v. At M (admitted_judgements M n).Held (admitted_judgements M n).Fails (nested sig v) e.stand.read [] a) is
-      (subst (λ v. At M (admitted_judgements M n).Held (admitted_judgements M n).Fails (nested sig u) e.stand.read [] v) e.hand
-      (subst (λ os. At M (admitted_judgements M n).Held (admitted_judgements M n).Fails (nested sig u) e.stand.read os e.stand.hand) e.closed
-      (subst (λ v. At M (admitted_judgements M n).Held (admitted_judgements M n).Fails (nested sig v) e.stand.read e.stand.opens e.stand.hand) e.leads.from
-      (subst (λ k. At M (admitted_judgements M k).Held (admitted_judgements M k).Fails (nested sig e.stand.from) e.stand.read e.stand.opens e.stand.hand) e.leads.rank h.at)))) in
+      let at : At M (admitted_judgements M n).Held (admitted_judgements M n).Fails (nested here (normal_form here t)) e.stand.read [] a =
+      subst (λ v. At M (admitted_judgements M n).Held (admitted_judgements M n).Fails (nested here v) e.stand.read [] a) is
+      (subst (λ v. At M (admitted_judgements M n).Held (admitted_judgements M n).Fails (nested here u) e.stand.read [] v) e.hand
+      (subst (λ os. At M (admitted_judgements M n).Held (admitted_judgements M n).Fails (nested here u) e.stand.read os e.stand.hand) e.closed
+      (subst (λ v. At M (admitted_judgements M n).Held (admitted_judgements M n).Fails (nested here v) e.stand.read e.stand.opens e.stand.hand) e.leads.from
+      (subst (λ k. At M (admitted_judgements M k).Held (admitted_judgements M k).Fails (nested here e.stand.from) e.stand.read e.stand.opens e.stand.hand) e.leads.rank h.at)))) in
       record {
-        evaluates = subst (λ p. Evaluates (admitted_judgements M n) t (transitivity equality p) (nested sig a)) (sym (proof_is count a k d kept_as w)) (side_evaluates M ok n t e.stand.read a raw at e.leads.rules e.normal.normal);
+        evaluates = subst (λ p. Evaluates (admitted_judgements M n) t (transitivity equality p) (nested here a)) (sym (proof_is count a k d kept_as w)) (side_evaluates M accepted n t e.stand.read a raw at e.leads.rules e.normal.normal);
         normal = e.normal;
         evidence = side_evidence count a k d kept_as w;
         kept = side_kept count a k d kept_as w;
@@ -197,8 +197,8 @@ module _ (M : Module) (work : IsWorkable M) (n : ℕ) (t : RawTerm) (raw : IsRaw
       let w : IsWhole (run_of M n u) count d e.term = whole_by (run_of M n u) limit limit count d e by in
       let p : Proof = transitivity equality (deduced M n u e.term k).proof in
       let ends = outcome_by (run_of M n u) limit limit count d e by t p (side_proves count e.term k d kept_as w) (side_steps count e.term k d kept_as w) in
-      let same : EqualModulo sig t (nested sig u) = subst (λ v. EqualModulo sig t (nested sig v)) (sym is) (normal_form-sound sig ok raw) in
-      inr (IsAdmitted-equal sig (back same) begins_at.admitted, (p, nested sig e.term, side_rules count e.term k d kept_as w, rw o at ends))
+      let same : EqualModulo here t (nested here u) = subst (λ v. EqualModulo here t (nested here v)) (sym is) (normal_form-sound here accepted raw) in
+      inr (IsAdmitted-equal here (back same) begins_at.admitted, (p, nested here e.term, side_rules count e.term k d kept_as w, rw o at ends))
 
   pub side_done : (limit : ℕ) (k : Track) (d : Data) → d.moves ≡ moves M k → (e : End) → e.outcome ≡ Done → IsDriven (run_of M n u) limit limit d e → IsShown M n t (record { from = u; to = e.term; kept = k })
   side_done limit k d kept_as e o (count, inl (l, z)) = side_shown count e.term k d kept_as (rw o at z)

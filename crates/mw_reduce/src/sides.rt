@@ -125,8 +125,10 @@ fn enclosed(alloc: Global, side: Reduced) -> Result<Trail, AllocError>
 pub fn all_enclosed(alloc: Global, sides: Vec<Reduced>) -> Result<Vec<Trail>, AllocError>
     ensures { IfOk result (λ ts. (M : Module) → trail_moves M ts.items ≡ all_moves M sides.items) }
 {
-    let mut trails = Vec::new(alloc);
-    for side in sides {
+    let mut trails = Vec::with_capacity(alloc, sides.len())?;
+    let mut left = sides;
+    left.reverse();
+    while let Some(side) = left.pop() {
         let trail = enclosed(alloc, side)?;
         trails.push(trail)?;
     }
