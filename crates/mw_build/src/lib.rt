@@ -50,10 +50,13 @@
 
 mod carrying;
 mod equations;
+mod fragments;
 mod laws;
 mod modules;
 mod signature;
+mod sizes;
+mod variables;
 
-pub use equations::canonical;
 pub use laws::{statements_are_printable, texts_read_back};
 pub use modules::{Built, Module, build};
+pub use sizes::canonical;
