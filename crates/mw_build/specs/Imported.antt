@@ -1,10 +1,12 @@
 -- The statements of modules that are reached by imports, as they stand in the module that reaches them.
-use Rattle.std.specs.Prelude.{◌≡◌, ℕ, List, [], map, flat_map, Option, Some, None, slice_get, false}
+use Rattle.std.specs.Prelude.{◌≡◌, ℕ, List, [], map, flat_map, Option, Some, None, slice_get, false, IsTrue}
 use Rattle.mw_logic.specs.Term.{RawTerm, Variable}
 use Rattle.mw_logic.specs.Signature.{Signature, Member}
 use Rattle.mw_logic.specs.Module.{Module, Fragment, Statement}
 use Rattle.mw_module.specs.declared.faults.FaultKind.{FaultKind}
 use Rattle.mw_module.specs.declared.faults.Fault.{Fault}
+use Rattle.mw_logic.specs.Preregular.{IsSortOf}
+use Rattle.mw_least.specs.Conditions.{occurs_among}
 use Rattle.mw_least.specs.Workable.{AreSides}
 use Rattle.mw_carry.specs.Carried.{IsCarried, AreCarriedFragments, IsCarriedStatement, IsPart}
 use Rattle.mw_build.specs.Pairwise.{AreRelated, IsFirstWrong}
@@ -30,6 +32,10 @@ origins_in (Some m) = map (λ (st : Statement). record { signature = m.module.si
 -- the own statements of the modules of these numbers, in order
 abbrev pub origins_of : List Accepted → List ℕ → List Origin
 origins_of ms ks = flat_map (λ (k : ℕ). origins_in (slice_get ms k)) ks
+
+-- the sorts of the variables of fragments are there
+abbrev pub HaveSortsAmong : Signature → List Fragment → Type 0
+HaveSortsAmong sig C = (x : Variable) → IsTrue (occurs_among x C) → IsSortOf sig x.sort
 
 -- an equation, and none that is `owise`
 pub record IsOrdinary (st : Statement) : Type 0 where

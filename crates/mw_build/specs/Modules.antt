@@ -93,7 +93,7 @@ pub record IsHeld (M : Module) (imported : ℕ) (variables : List Variable) (g :
   pub grammar : IsGrammarOf M.signature variables g
   pub index : IfSome kept (λ (index : Box Index). IsIndexOf M index.value)
   pub within : imported ≤ length M.statements
-  pub plain : All IsOrdinary (drop imported M.statements)
+  pub ordinary : All IsOrdinary (drop imported M.statements)
 
 -- declarations of statements that are known, among which those with the module's own variables are
 pub record IsOfKnown (d : Declarations) : Type 0 where

@@ -137,8 +137,13 @@ fn terms_fault(
 {
     facts.shows();
     match left_form(alloc, facts, left, right, fragments)? {
-        Ok(form) if executable => application_fault(alloc, &form, left, right, fragments),
-        Ok(_) => Ok(None),
+        Ok(form) => {
+            if executable {
+                application_fault(alloc, &form, left, right, fragments)
+            } else {
+                Ok(None)
+            }
+        }
         Err(kind) => Ok(Some(kind)),
     }
 }

@@ -60,6 +60,7 @@ fn cut(tokens: &[Token], count: usize) -> (&[Token], &[Token])
 }
 
 /// The text of a term, and the name behind a colon at the end, alone or in brackets.
+#[derive(Clone, Copy)]
 struct Asked<'s> {
     term: &'s [Token],
     bracketed: bool,
@@ -67,7 +68,7 @@ struct Asked<'s> {
 }
 
 /// What stands at the end of a text in the form of a sort test.
-fn asked(tokens: &[Token]) -> Option<Asked<'_>>
+fn asked_in(tokens: &[Token]) -> Option<Asked<'_>>
     ensures { MatchOption result (AsksNothing (texts tokens.now)) (λ a. Asks (texts tokens.now) (texts a.term.now) a.bracketed a.name.now) }
 {
     let (term, end) = cut(tokens, 4);
@@ -103,17 +104,18 @@ fn sorted(bracketed: bool, sort: SortId) -> Sorted
 }
 
 /// The text of a term, and the sort or kind that it is tested for.
+#[derive(Clone, Copy)]
 struct Test<'s> {
     term: &'s [Token],
     sorted: Sorted,
 }
 
 /// The sort test that a text is, if it is one.
-fn test<'s>(grammar: &Grammar, tokens: &'s [Token]) -> Result<Option<Test<'s>>, AllocError>
+fn test_in<'s>(grammar: &Grammar, tokens: &'s [Token]) -> Result<Option<Test<'s>>, AllocError>
     ensures { (sig : SignatureOf) (variables : List Variable) → IsGrammarOf sig variables grammar.now → IfOk result (λ o. MatchOption o
         (IsNoTest sig (texts tokens.now)) (λ t. IsTest sig (texts tokens.now) (texts t.term.now) (sorted_of t.sorted))) }
 {
-    let Some(asked) = asked(tokens) else {
+    let Some(asked) = asked_in(tokens) else {
         return Ok(None);
     };
     match grammar.sort_named(asked.name)? {
@@ -238,7 +240,7 @@ fn other(
         (λ f. IsFragment sig variables (Other tokens.now) (held.fragment_of f))
         (FragmentFault sig variables (Other tokens.now))) }
 {
-    match test(grammar, tokens)? {
+    match test_in(grammar, tokens)? {
         Some(test) => tested(alloc, grammar, &test),
         None => truth(alloc, grammar, tokens),
     }

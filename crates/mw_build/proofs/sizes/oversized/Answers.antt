@@ -1,7 +1,7 @@
 use Rattle.std.proofs.Common.{subst}
 use Rattle.mw_canon.specs.Causes.{HasCause}
 use Rattle.mw_build.specs.Equations.{deep, large}
-use Rattle.mw_build.proofs.equations.oversized.Goals as goal
+use Rattle.mw_build.proofs.sizes.oversized.Goals as goal
 
 pub returns-in-Deep : goal.returns-in-Deep
 returns-in-Deep c = λ sig t h. deep (subst (HasCause sig t) c.in-Deep.is h)

@@ -3,7 +3,7 @@ use Rattle.mw_term.specs.Raws.{raw_term}
 use Rattle.mw_position.specs.Variables.{met}
 use Rattle.mw_text.specs.Mentions.{with_variable}
 use Rattle.mw_build.proofs.Mentioned.{with_met}
-use Rattle.mw_build.proofs.equations.+meet_all.Goals as goal
+use Rattle.mw_build.proofs.variables.+meet_all.Goals as goal
 
 pub returns-in_ok-meet-in-Var : goal.returns-in_ok-meet-in-Var
 returns-in_ok-meet-in-Var t c =

@@ -5,7 +5,7 @@ use Rattle.mw_logic.specs.NormalForm.{normal_form}
 use Rattle.mw_canon.specs.Causes.{HasCause}
 use Rattle.mw_term.specs.Raws.{raw_term}
 use Rattle.mw_build.proofs.Sides.{nested_is}
-use Rattle.mw_build.proofs.equations.canonical.Goals as goal
+use Rattle.mw_build.proofs.sizes.canonical.Goals as goal
 
 pub canon-requires : goal.canon-requires
 canon-requires c = record { raw = subst (IsRawTerm c.args.facts.now) (sym (nested_is c.args.facts.now c.shows.ensures (raw_term c.args.raw.now) c.requires)) c.requires }
