@@ -93,9 +93,9 @@ kind_end (a ∷ []) name at h = absurd (both_ways _ refl h)
 kind_end (a ∷ b ∷ []) name at h = absurd (both_ways _ refl h)
 kind_end (a ∷ b ∷ c ∷ []) name at h = absurd (both_ways _ refl h)
 kind_end (a ∷ b ∷ c ∷ d ∷ []) name at h =
-    let (colon, open, close) = three (is (codes ":") a) (is (codes "[") b) (is (codes "]") d) h in
-    ap (λ x. x ∷ b.text ∷ c.text ∷ d.text ∷ []) (word_is (codes ":") a colon) ∙ ap (λ x. codes ":" ∷ x ∷ c.text ∷ d.text ∷ []) (word_is (codes "[") b open)
-    ∙ ap (λ x. codes ":" ∷ codes "[" ∷ c.text ∷ x ∷ []) (word_is (codes "]") d close) ∙ ap (λ (t : Token). ending true t.text) (sym at)
+    let (colon, opening, closing) = three (is (codes ":") a) (is (codes "[") b) (is (codes "]") d) h in
+    ap (λ x. x ∷ b.text ∷ c.text ∷ d.text ∷ []) (word_is (codes ":") a colon) ∙ ap (λ x. codes ":" ∷ x ∷ c.text ∷ d.text ∷ []) (word_is (codes "[") b opening)
+    ∙ ap (λ x. codes ":" ∷ codes "[" ∷ c.text ∷ x ∷ []) (word_is (codes "]") d closing) ∙ ap (λ (t : Token). ending true t.text) (sym at)
   where
     three : (x y z : Bool) → (x && y && z) ≡ true → (x ≡ true) × (y ≡ true) × (z ≡ true)
     three true true true e = (refl, refl, refl)
@@ -126,8 +126,8 @@ kind_end_is (a ∷ []) name e = let n : length (texts (a ∷ [])) ≡ 4 = ap len
 kind_end_is (a ∷ b ∷ []) name e = let n : length (texts (a ∷ b ∷ [])) ≡ 4 = ap length e in absurd (omega (arith, n))
 kind_end_is (a ∷ b ∷ c ∷ []) name e = let n : length (texts (a ∷ b ∷ c ∷ [])) ≡ 4 = ap length e in absurd (omega (arith, n))
 kind_end_is (a ∷ b ∷ c ∷ d ∷ []) name e =
-    let (colon, open, close) = of_four a.text b.text c.text d.text e in
-    three (is (codes ":") a) (is (codes "[") b) (is (codes "]") d) (is_word (codes ":") a colon) (is_word (codes "[") b open) (is_word (codes "]") d close)
+    let (colon, opening, closing) = of_four a.text b.text c.text d.text e in
+    three (is (codes ":") a) (is (codes "[") b) (is (codes "]") d) (is_word (codes ":") a colon) (is_word (codes "[") b opening) (is_word (codes "]") d closing)
   where
     of_four : (x y z w : List ℕ) → x ∷ y ∷ z ∷ w ∷ [] ≡ ending true name → (x ≡ codes ":") × (y ≡ codes "[") × (w ≡ codes "]")
     of_four x y z w h = (cc, cc, cc)

@@ -1,5 +1,5 @@
 -- Equations, from the terms that their texts spell.
-use Rattle.std.proofs.Common.{List, Result, Ok, Err, IfOk, MatchResult}
+use Rattle.std.proofs.Common.{◌≡◌, List, Option, Some, None, MatchOption, Result, Ok, Err, IfOk, MatchResult, refl}
 use Rattle.mw_logic.specs.Term.{Variable, RawTerm}
 use Rattle.mw_logic.specs.Signature.{Signature}
 use Rattle.mw_logic.specs.Module.{Fragment, Statement}
@@ -18,3 +18,8 @@ pub of_terms : {E : Type 0} (sig : Signature) (variables : List Variable) (e : S
 of_terms sig variables e left right C read are (Err x) h = h
 of_terms sig variables e left right C read are (Ok (Ok st)) h = record { left = left; right = right; read = read; condition = C; fragments = are; holds = h }
 of_terms sig variables e left right C read are (Ok (Err kind)) h = bad_terms left right C read are h
+
+-- what is told where nothing is found
+pub none_so : {X : Type 0} (N : Type 0) (P : X → Type 0) (o : Option X) → MatchOption o N P → ((x : X) → o ≡ Some x → ⊥) → N
+none_so N P None h n = h
+none_so N P (Some x) h n = absurd (n x refl)

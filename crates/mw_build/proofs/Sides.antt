@@ -35,7 +35,7 @@ use Rattle.mw_build.specs.Imported.{HaveSortsAmong, IsOrdinary}
 use Rattle.mw_build.proofs.Bound.{right_bound, fragments_bound}
 use Rattle.mw_build.proofs.Pairwise.{all_read}
 use Rattle.mw_build.proofs.FragmentTerms.{fragments_raw, sorts_all, one_sorted, two_sorted}
-use Rattle.mw_build.proofs.PrintedVariables.{named_there}
+use Rattle.mw_carry.proofs.Numbers.{within_at}
 use Rattle.mw_module.specs.Conditions.{WrittenFragment}
 use Rattle.mw_module.specs.declared.faults.FaultKind.{FaultKind}
 use Rattle.mw_build.specs.Equations.{all_terms, FitsIn, IsLone, statement_of, IsApplicable, ApplicationFault, AreFine, TermsFault, inapplicable, IsStatementOf, IsEquation}
@@ -125,7 +125,7 @@ pub record CanStand (sig : Signature) (st : Statement) : Type 0 where
 module _ (sig : Signature) (ok : IsPreregularModulo sig) (variables : List Variable) (sorted : (x : Variable) → Member x variables → IsSortOf sig x.sort) where
   -- the sorts of what tokens spell are there
   sorts_there : {t : RawTerm} {p : ℕ} {text : List (List ℕ)} → Spells sig variables t p text → HasSortsOf sig t
-  sorts_there s = spelled_variables sig variables (λ (x : Variable). IsSortOf sig x.sort) (λ w. ⊤) sorted (λ x S n v h. named_there sig x.sort S n) s (λ w m. tt)
+  sorts_there s = spelled_variables sig variables (λ (x : Variable). IsSortOf sig x.sort) (λ w. ⊤) sorted (λ x S n v h. within_at sig.sorts x.sort S n) s (λ w m. tt)
 
   fragment_sorts : (w : WrittenFragment) (f : Fragment) → IsFragment sig variables w f → HaveSortsAmong sig (f ∷ [])
   fragment_sorts w f (an_equation left right u v r) = two_sorted sig u v (sorts_there r.only.0.first.spells) (sorts_there r.only.0.second.spells)

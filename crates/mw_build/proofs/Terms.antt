@@ -63,6 +63,14 @@ module _ (sig : Signature) where
   pub first_later : (cause : FaultKind) (f : Fragment) (C : List Fragment) → All (FitsIn sig) (terms_of (f ∷ [])) → FirstOversized sig cause (terms_of C) → FirstOversized sig cause (terms_of (f ∷ C))
   first_later cause f C a h = subst (FirstOversized sig cause) (sym (terms_cut f C)) (first_behind cause (terms_of (f ∷ [])) (terms_of C) a h)
 
+  pub fits_so : (t : RawTerm) (o : Option FaultKind) → MatchOption o (FitsIn sig t) (λ kind. Oversized sig t kind) → ((x : FaultKind) → o ≡ Some x → ⊥) → FitsIn sig t
+  fits_so t None h n = h
+  fits_so t (Some x) h n = absurd (n x refl)
+
+  pub all_fit_so : (ts : List RawTerm) (o : Option FaultKind) → MatchOption o (All (FitsIn sig) ts) (λ kind. FirstOversized sig kind ts) → ((x : FaultKind) → o ≡ Some x → ⊥) → All (FitsIn sig) ts
+  all_fit_so ts None h n = h
+  all_fit_so ts (Some x) h n = absurd (n x refl)
+
   -- what is told of one term, as of a list
   pub one_told : {E : Type 0} (t : RawTerm) (r : Result (Option FaultKind) E) → IfOk r (λ o. MatchOption o (FitsIn sig t) (λ kind. Oversized sig t kind))
       → IfOk r (λ o. MatchOption o (All (FitsIn sig) (t ∷ [])) (λ kind. FirstOversized sig kind (t ∷ [])))

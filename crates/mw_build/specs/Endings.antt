@@ -9,15 +9,15 @@ abbrev pub is_sort_end : List Token → Bool
 is_sort_end [] = false
 is_sort_end (colon ∷ []) = false
 is_sort_end (colon ∷ name ∷ []) = is (codes ":") colon && not (is (codes "]") name)
-is_sort_end (colon ∷ open ∷ name ∷ rest) = false
+is_sort_end (colon ∷ opening ∷ name ∷ rest) = false
 
 abbrev pub is_kind_end : List Token → Bool
 is_kind_end [] = false
 is_kind_end (colon ∷ []) = false
-is_kind_end (colon ∷ open ∷ []) = false
-is_kind_end (colon ∷ open ∷ name ∷ []) = false
-is_kind_end (colon ∷ open ∷ name ∷ close ∷ []) = is (codes ":") colon && is (codes "[") open && is (codes "]") close
-is_kind_end (colon ∷ open ∷ name ∷ close ∷ more ∷ rest) = false
+is_kind_end (colon ∷ opening ∷ []) = false
+is_kind_end (colon ∷ opening ∷ name ∷ []) = false
+is_kind_end (colon ∷ opening ∷ name ∷ closing ∷ []) = is (codes ":") colon && is (codes "[") opening && is (codes "]") closing
+is_kind_end (colon ∷ opening ∷ name ∷ closing ∷ more ∷ rest) = false
 
 -- no such end stands in the text
 abbrev pub AsksNothing : List (List ℕ) → Type 0

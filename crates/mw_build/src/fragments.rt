@@ -2,7 +2,7 @@
 ghost use Rattle.std.specs.Prelude.{◌≡◌, ◌-◌, ℕ, List, length, take, drop, map, Option, Some, IfOk, MatchOption, MatchResult};
 ghost use Rattle.mw_logic.specs.Term.{Variable};
 ghost use Rattle.mw_logic.specs.Signature.{Signature as SignatureOf};
-ghost use Rattle.mw_logic.specs.Accepted.{IsAccepted};
+ghost use Rattle.mw_logic.specs.Accepted.{number_of_sort};
 ghost use Rattle.mw_term.specs.Raws.{raw_term};
 ghost use Rattle.mw_term.specs.Signatures.{sorted_of};
 ghost use Rattle.mw_term.specs.Statements as held;
@@ -100,6 +100,16 @@ fn sorted(bracketed: bool, sort: SortId) -> Sorted
         Sorted::Kind(sort)
     } else {
         Sorted::Sort(sort)
+    }
+}
+
+/// The number of a sort, or of the sort that tells a kind.
+fn number_of(sorted: Sorted) -> SortId
+    ensures { result ≡ number_of_sort (sorted_of sorted) }
+{
+    match sorted {
+        Sorted::Sort(sort) => sort,
+        Sorted::Kind(sort) => sort,
     }
 }
 
@@ -222,7 +232,7 @@ fn tested(
             (λ f. IsFragment sig variables (Other ts) (held.fragment_of f))
             (FragmentFault sig variables (Other ts))) }
 {
-    let (Sorted::Sort(sort) | Sorted::Kind(sort)) = test.sorted;
+    let sort = number_of(test.sorted);
     match term(alloc, grammar, test.term, sort)? {
         Ok(term) => Ok(Ok(Fragment::HasSort(term, test.sorted))),
         Err(kind) => Ok(Err(kind)),

@@ -17,7 +17,7 @@ with_condition-requires-clause-left c =
     let e = c.args.equation.now in
     let read : ReadsPair c.args.facts.now variables (texts e.left.now) (texts e.right.now) (raw_term c.in-Ok.left, raw_term c.in-Ok.right) =
     subst (λ (r : Result (Raw × Raw) FaultKind). MatchResult r (λ p. ReadsPair c.args.facts.now variables (texts e.left.now) (texts e.right.now) (raw_term p.0, raw_term p.1))
-    (PairFault c.args.facts.now variables (texts e.left.now) (texts e.right.now))) c.in-Ok.is (c.in_ok-pair.ensures c.args.facts.now variables grammar) in
+    (PairFault c.args.facts.now variables (texts e.left.now) (texts e.right.now))) c.in-Ok.is (c.in_ok-left.ensures c.args.facts.now variables grammar) in
     spelled_raw c.args.facts.now c.shows.ensures variables read.only.0.first.spells
 
 pub with_condition-requires-clause-right : goal.with_condition-requires-clause-right
@@ -26,7 +26,7 @@ with_condition-requires-clause-right c =
     let e = c.args.equation.now in
     let read : ReadsPair c.args.facts.now variables (texts e.left.now) (texts e.right.now) (raw_term c.in-Ok.left, raw_term c.in-Ok.right) =
     subst (λ (r : Result (Raw × Raw) FaultKind). MatchResult r (λ p. ReadsPair c.args.facts.now variables (texts e.left.now) (texts e.right.now) (raw_term p.0, raw_term p.1))
-    (PairFault c.args.facts.now variables (texts e.left.now) (texts e.right.now))) c.in-Ok.is (c.in_ok-pair.ensures c.args.facts.now variables grammar) in
+    (PairFault c.args.facts.now variables (texts e.left.now) (texts e.right.now))) c.in-Ok.is (c.in_ok-left.ensures c.args.facts.now variables grammar) in
     spelled_raw c.args.facts.now c.shows.ensures variables read.only.0.second.spells
 
 pub returns-in-Ok : goal.returns-in-Ok
@@ -34,11 +34,11 @@ returns-in-Ok c = λ variables grammar.
     let e = c.args.equation.now in
     c.with_condition.ensures variables grammar
     (subst (λ (r : Result (Raw × Raw) FaultKind). MatchResult r (λ p. ReadsPair c.args.facts.now variables (texts e.left.now) (texts e.right.now) (raw_term p.0, raw_term p.1))
-    (PairFault c.args.facts.now variables (texts e.left.now) (texts e.right.now))) c.in-Ok.is (c.in_ok-pair.ensures c.args.facts.now variables grammar))
+    (PairFault c.args.facts.now variables (texts e.left.now) (texts e.right.now))) c.in-Ok.is (c.in_ok-left.ensures c.args.facts.now variables grammar))
 
 pub returns-in-Err : goal.returns-in-Err
 returns-in-Err c = λ variables grammar.
     let e = c.args.equation.now in
     bad_sides
     (subst (λ (r : Result (Raw × Raw) FaultKind). MatchResult r (λ p. ReadsPair c.args.facts.now variables (texts e.left.now) (texts e.right.now) (raw_term p.0, raw_term p.1))
-    (PairFault c.args.facts.now variables (texts e.left.now) (texts e.right.now))) c.in-Err.is (c.in_ok-pair.ensures c.args.facts.now variables grammar))
+    (PairFault c.args.facts.now variables (texts e.left.now) (texts e.right.now))) c.in-Err.is (c.in_ok-left.ensures c.args.facts.now variables grammar))

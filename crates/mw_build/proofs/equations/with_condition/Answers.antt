@@ -20,7 +20,7 @@ statement_of-requires-clause-fragments c =
     let ws = seen_fragments c.args.equation.now.fragments.now in
     let are : AreFragments sig variables ws (map fragment_of c.in-Ok.fragments.items) =
     subst (λ (r : Result (Vec Fragment) FaultKind). MatchResult r (λ fs. AreFragments sig variables ws (map fragment_of fs.items)) (FirstFragmentFault sig variables ws)) c.in-Ok.is
-    (c.in_ok-fragments_of.ensures sig variables grammar) in
+    (c.in_ok-fragments.ensures sig variables grammar) in
     fragments_raw sig c.shows.ensures variables ws (map fragment_of c.in-Ok.fragments.items) are
 
 pub returns-in-Ok : goal.returns-in-Ok
@@ -29,7 +29,7 @@ returns-in-Ok c = λ variables grammar read.
     let ws = seen_fragments c.args.equation.now.fragments.now in
     let are : AreFragments sig variables ws (map fragment_of c.in-Ok.fragments.items) =
     subst (λ (r : Result (Vec Fragment) FaultKind). MatchResult r (λ fs. AreFragments sig variables ws (map fragment_of fs.items)) (FirstFragmentFault sig variables ws)) c.in-Ok.is
-    (c.in_ok-fragments_of.ensures sig variables grammar) in
+    (c.in_ok-fragments.ensures sig variables grammar) in
     of_terms sig variables (seen_equation c.args.equation.now) (raw_term c.args.left) (raw_term c.args.right) (map fragment_of c.in-Ok.fragments.items) read are c.statement_of.result c.statement_of.ensures
 
 pub returns-in-Err : goal.returns-in-Err
@@ -38,4 +38,4 @@ returns-in-Err c = λ variables grammar read.
     let ws = seen_fragments c.args.equation.now.fragments.now in
     bad_fragment (raw_term c.args.left) (raw_term c.args.right) read
     (subst (λ (r : Result (Vec Fragment) FaultKind). MatchResult r (λ fs. AreFragments sig variables ws (map fragment_of fs.items)) (FirstFragmentFault sig variables ws)) c.in-Err.is
-    (c.in_ok-fragments_of.ensures sig variables grammar))
+    (c.in_ok-fragments.ensures sig variables grammar))
