@@ -16,7 +16,11 @@ use Rattle.mw_print.specs.Laws.{IsPrintable}
 use Rattle.mw_print.proofs.Bytes.{run_byte}
 use Rattle.mw_build.proofs.Pairwise.{there}
 
--- a sort that is there has a name
+-- a sort that has a name is there, and one that is there has a name
+pub named_there : (sig : Signature) (S : ℕ) (name : List ℕ) → IsSortNamed sig S name → IsSortOf sig S
+named_there sig zero name e = cc
+named_there sig (suc i) name e = let h = slice_get_within sig.sorts i name e in (omega arith, omega (arith, h))
+
 there_named : (sig : Signature) (S : ℕ) → IsSortOf sig S → (name : List ℕ) × IsSortNamed sig S name
 there_named sig zero h = absurd (let low = h.0 in omega arith)
 there_named sig (suc i) h = let high = h.1 in there sig.sorts i (omega (arith, high))

@@ -171,7 +171,7 @@ carried_fragments sig to C D (more f g cs ds (carried.a_truth u w a) rest) p x (
 -- texts that are cut are tokens
 cut_tokens : (texts : List (List ℕ)) (tokens : List Token) → AreCut texts tokens → AreTokens tokens
 cut_tokens texts tokens no_text = All-nil (λ (t : Token). IsTokenText t.text)
-cut_tokens texts tokens (one_text text more first rest is cut) = All-append (λ (t : Token). IsTokenText t.text) first rest (lexed_are_tokens text first is) (cut_tokens more rest cut)
+cut_tokens texts tokens (one_text text others first rest is cut) = All-append (λ (t : Token). IsTokenText t.text) first rest (lexed_are_tokens text first is) (cut_tokens others rest cut)
 
 -- The modules of units of tokens: units have proper statements, and the modules' own statements can be printed.
 record AreFine (us : List FlatUnit) (ms : List Accepted) : Type 0 where

@@ -10,38 +10,39 @@ use Rattle.mw_build.proofs.FragmentTerms.{raws_carried}
 use Rattle.mw_build.proofs.Imported.{of_carried}
 use Rattle.mw_build.proofs.carrying.statement.Goals as goal
 
-module _ (c : goal.In_ok-left) where
-  left_carried : IsCarried c.args.carrier.now.from c.args.facts.now c.args.statement.now.left (raw_term c.in_ok-left.left)
-  left_carried = subst (λ (S : Signature). IsCarried c.args.carrier.now.from S c.args.statement.now.left (raw_term c.in_ok-left.left)) c.requires.to c.in_ok-left.ensures.left
-
-  right_carried : IsCarried c.args.carrier.now.from c.args.facts.now c.args.statement.now.right (raw_term c.in_ok-left.right)
-  right_carried = subst (λ (S : Signature). IsCarried c.args.carrier.now.from S c.args.statement.now.right (raw_term c.in_ok-left.right)) c.requires.to c.in_ok-left.ensures.right
-
-  fragments_carried : AreCarriedFragments c.args.carrier.now.from c.args.facts.now c.args.statement.now.fragments (map fragment_of c.in_ok-left.fragments.items)
-  fragments_carried =
-      subst (λ (S : Signature). AreCarriedFragments c.args.carrier.now.from S c.args.statement.now.fragments (map fragment_of c.in_ok-left.fragments.items)) c.requires.to c.in_ok-left.ensures.fragments
-
 pub statement_of-requires-clause-left : goal.statement_of-requires-clause-left
 statement_of-requires-clause-left c =
-    IsRawTerm-carried c.args.carrier.now.from c.args.facts.now c.requires.part c.requires.numbers c.shows.ensures (left_carried c) c.requires.sides.left
+    let from = c.args.carrier.now.from in
+    let carried : IsCarried from c.args.facts.now c.args.statement.now.left (raw_term c.in_ok-left.left) =
+    subst (λ (S : Signature). IsCarried from S c.args.statement.now.left (raw_term c.in_ok-left.left)) c.requires.to c.in_ok-left.ensures.left in
+    IsRawTerm-carried from c.args.facts.now c.requires.part c.requires.numbers c.shows.ensures carried c.requires.sides.left
 
 pub statement_of-requires-clause-right : goal.statement_of-requires-clause-right
 statement_of-requires-clause-right c =
-    IsRawTerm-carried c.args.carrier.now.from c.args.facts.now c.requires.part c.requires.numbers c.shows.ensures (right_carried c) c.requires.sides.right
+    let from = c.args.carrier.now.from in
+    let carried : IsCarried from c.args.facts.now c.args.statement.now.right (raw_term c.in_ok-left.right) =
+    subst (λ (S : Signature). IsCarried from S c.args.statement.now.right (raw_term c.in_ok-left.right)) c.requires.to c.in_ok-left.ensures.right in
+    IsRawTerm-carried from c.args.facts.now c.requires.part c.requires.numbers c.shows.ensures carried c.requires.sides.right
 
 pub statement_of-requires-clause-fragments : goal.statement_of-requires-clause-fragments
 statement_of-requires-clause-fragments c =
-    raws_carried c.args.carrier.now.from c.args.facts.now c.requires.part c.requires.numbers c.shows.ensures c.args.statement.now.fragments (map fragment_of c.in_ok-left.fragments.items)
-    (fragments_carried c) c.requires.sides.fragments
+    let from = c.args.carrier.now.from in
+    let C = map fragment_of c.in_ok-left.fragments.items in
+    let carried : AreCarriedFragments from c.args.facts.now c.args.statement.now.fragments C =
+    subst (λ (S : Signature). AreCarriedFragments from S c.args.statement.now.fragments C) c.requires.to c.in_ok-left.ensures.fragments in
+    raws_carried from c.args.facts.now c.requires.part c.requires.numbers c.shows.ensures c.args.statement.now.fragments C carried c.requires.sides.fragments
 
 pub returns-clause-imported : goal.returns-clause-imported
 returns-clause-imported c =
     let from = c.args.carrier.now.from in
     let sig = c.args.facts.now in
+    let st = c.args.statement.now in
     let left = raw_term c.in_ok-left.left in
     let right = raw_term c.in_ok-left.right in
     let C = map fragment_of c.in_ok-left.fragments.items in
-    let same : c.statement.inside.executable ≡ c.args.statement.now.executable = ap (λ (s : Statement). s.executable) c.statement.view_is in
-    of_carried from sig c.requires.part c.requires.numbers c.shows.ensures c.args.statement.now c.requires.sides c.requires.ordinary left right C (left_carried c.before) (right_carried c.before)
-    (fragments_carried c.before) c.statement_of.result
+    let same : c.statement.inside.executable ≡ st.executable = ap (λ (s : Statement). s.executable) c.statement.view_is in
+    of_carried from sig c.requires.part c.requires.numbers c.shows.ensures st c.requires.sides c.requires.ordinary left right C
+    (subst (λ (S : Signature). IsCarried from S st.left left) c.requires.to c.in_ok-left.ensures.left)
+    (subst (λ (S : Signature). IsCarried from S st.right right) c.requires.to c.in_ok-left.ensures.right)
+    (subst (λ (S : Signature). AreCarriedFragments from S st.fragments C) c.requires.to c.in_ok-left.ensures.fragments) c.statement_of.result
     (subst (λ (b : Bool). IfOk c.statement_of.result (λ r. MatchResult r (IsStatementOf sig left right C b) (λ kind. TermsFault sig left right C b kind))) same c.statement_of.ensures)
