@@ -13,21 +13,21 @@ use Rattle.mw_build.proofs.carrying.statement.Goals as goal
 pub statement_of-requires-clause-left : goal.statement_of-requires-clause-left
 statement_of-requires-clause-left c =
     let from = c.args.carrier.now.from in
-    let carried : IsCarried from c.args.facts.now c.args.statement.now.left (raw_term c.in_ok-left.left) =
-    subst (λ (S : Signature). IsCarried from S c.args.statement.now.left (raw_term c.in_ok-left.left)) c.requires.to c.in_ok-left.ensures.left in
+    let carried : IsCarried from c.args.facts.now c.args.statement.now.left (raw_term c.in_ok-left.field-0.left) =
+    subst (λ (S : Signature). IsCarried from S c.args.statement.now.left (raw_term c.in_ok-left.field-0.left)) c.requires.to c.in_ok-left.ensures.left in
     IsRawTerm-carried from c.args.facts.now c.requires.part c.requires.numbers c.shows.ensures carried c.requires.sides.left
 
 pub statement_of-requires-clause-right : goal.statement_of-requires-clause-right
 statement_of-requires-clause-right c =
     let from = c.args.carrier.now.from in
-    let carried : IsCarried from c.args.facts.now c.args.statement.now.right (raw_term c.in_ok-left.right) =
-    subst (λ (S : Signature). IsCarried from S c.args.statement.now.right (raw_term c.in_ok-left.right)) c.requires.to c.in_ok-left.ensures.right in
+    let carried : IsCarried from c.args.facts.now c.args.statement.now.right (raw_term c.in_ok-left.field-0.right) =
+    subst (λ (S : Signature). IsCarried from S c.args.statement.now.right (raw_term c.in_ok-left.field-0.right)) c.requires.to c.in_ok-left.ensures.right in
     IsRawTerm-carried from c.args.facts.now c.requires.part c.requires.numbers c.shows.ensures carried c.requires.sides.right
 
 pub statement_of-requires-clause-fragments : goal.statement_of-requires-clause-fragments
 statement_of-requires-clause-fragments c =
     let from = c.args.carrier.now.from in
-    let C = map fragment_of c.in_ok-left.fragments.items in
+    let C = map fragment_of c.in_ok-left.field-0.fragments.items in
     let carried : AreCarriedFragments from c.args.facts.now c.args.statement.now.fragments C =
     subst (λ (S : Signature). AreCarriedFragments from S c.args.statement.now.fragments C) c.requires.to c.in_ok-left.ensures.fragments in
     raws_carried from c.args.facts.now c.requires.part c.requires.numbers c.shows.ensures c.args.statement.now.fragments C carried c.requires.sides.fragments
@@ -37,9 +37,9 @@ returns-clause-imported c =
     let from = c.args.carrier.now.from in
     let sig = c.args.facts.now in
     let st = c.args.statement.now in
-    let left = raw_term c.in_ok-left.left in
-    let right = raw_term c.in_ok-left.right in
-    let C = map fragment_of c.in_ok-left.fragments.items in
+    let left = raw_term c.in_ok-left.field-0.left in
+    let right = raw_term c.in_ok-left.field-0.right in
+    let C = map fragment_of c.in_ok-left.field-0.fragments.items in
     let same : c.statement.inside.executable ≡ st.executable = ap (λ (s : Statement). s.executable) c.statement.view_is in
     of_carried from sig c.requires.part c.requires.numbers c.shows.ensures st c.requires.sides c.requires.ordinary left right C
     (subst (λ (S : Signature). IsCarried from S st.left left) c.requires.to c.in_ok-left.ensures.left)
