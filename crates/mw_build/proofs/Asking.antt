@@ -1,10 +1,9 @@
 -- Ends of texts in the form of sort tests: a text has one at most, and what stands there tells it.
-use Rattle.std.proofs.Common.{◌≡◌, ◌≢◌, ◌∙◌, ◌++◌, ◌+◌, ◌-◌, ℕ, List, [], ◌∷◌, Bool, true, false, length, map, get_or, take, drop, codes, append_assoc, length-append, arith, refl, sym, ap, subst}
+use Rattle.std.proofs.Common.{◌≡◌, ◌≢◌, ◌∙◌, ◌++◌, ◌-◌, ℕ, List, [], ◌∷◌, Bool, true, false, length, get_or, take, drop, codes, append_assoc, length-append, arith, refl, sym, ap, subst}
 use Rattle.std.proofs.lemmas.Bool.{and_parts, and_from, false_from_ne_true, both_ways}
 use Rattle.std.proofs.lemmas.List.{map-append, length-map, length-drop, take-append-drop}
 use Rattle.std.proofs.lemmas.Slice.Eq.{bytes_eq-Decides}
-use Rattle.std.proofs.Math.Seq.{drop-append_seam}
-use Rattle.std.specs.Prelude.{◌&&◌, not, bytes_eq}
+use Rattle.std.specs.Prelude.{◌&&◌, not}
 use Rattle.mw_lex.specs.declared.token.Token.{Token}
 use Rattle.mw_logic.specs.Signature.{Signature, Sorted, IsSortNamed}
 use Rattle.mw_logic.specs.Accepted.{IsAccepted}

@@ -1,12 +1,11 @@
 -- Fragments that are read, or that stand for others: their terms are raw terms, whose variables have sorts that are there.
 use Rattle.std.proofs.Common.{◌≡◌, ◌∙◌, ◌||◌, ◌≤◌, ◌<◌, ◌-◌, ◌++◌, ℕ, List, [], ◌∷◌, Bool, true, false, All, IsTrue, length, map, get_or, take, drop, append_assoc, arith, refl, sym, ap, subst, ⊎_elim}
-use Rattle.std.specs.Prelude.{⊤}
 use Rattle.std.proofs.lemmas.Bool.{both_ways, or_left, or_right, or_cases}
 use Rattle.std.proofs.lemmas.List.{take_all, map-append, append-nil}
 use Rattle.std.proofs.lemmas.List.Elements.{All-head, All-tail}
 use Rattle.std.proofs.Math.Bool.{or-false}
 use Rattle.mw_logic.specs.Term.{Variable, RawTerm}
-use Rattle.mw_logic.specs.Signature.{Signature, Sorted, sort, kind, Member, IsRawTerm, IsSortNamed}
+use Rattle.mw_logic.specs.Signature.{Signature, Sorted}
 use Rattle.mw_logic.specs.Accepted.{IsAccepted, number_of_sort}
 use Rattle.mw_logic.specs.Preregular.{HasItsSorts, IsSortOf}
 use Rattle.mw_logic.specs.Substitution.{occurs}

@@ -225,8 +225,7 @@ module _ (texts : List (List ℕ)) (a : Accepted) (of : IsOfTexts texts a) where
       let (e, there_is) = there origins i (omega (arith, w, all.count)) in
       let p = origin_printable of.modules of.reached before.own e (get-member origins i e there_is) in
       let c = (all.each i e st there_is at).carried in
-      let sig = of.accepted.declarations.signature in
-      (
+      let sig = of.accepted.declarations.signature in (
         carried_term e.signature sig e.statement.left st.left c.left p.0,
         carried_term e.signature sig e.statement.right st.right c.right p.1,
         carried_fragments e.signature sig e.statement.fragments st.fragments c.fragments p.2,

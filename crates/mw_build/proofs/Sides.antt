@@ -1,5 +1,5 @@
 -- Sides of equations: canonical forms tell which are lone, and a module of them is one that contexts hold.
-use Rattle.std.proofs.Common.{◌≡◌, ◌∙◌, ◌||◌, ◌++◌, ℕ, zero, suc, List, [], ◌∷◌, Bool, true, false, cond, if◌then◌else◌, slice_get, All, Option, Some, None, IsTrue, Result, Ok, Err, IfOk, MatchOption, MatchResult, refl, sym, ap, subst, ⊎_elim}
+use Rattle.std.proofs.Common.{◌≡◌, ◌∙◌, ◌||◌, ℕ, zero, suc, List, [], ◌∷◌, Bool, true, false, slice_get, All, Option, Some, None, IsTrue, Result, Ok, Err, IfOk, MatchOption, refl, sym, ap, subst, ⊎_elim}
 use Rattle.std.specs.Prelude.{⊤}
 use Rattle.std.proofs.lemmas.Bool.{or_cases}
 use Rattle.std.proofs.lemmas.List.Elements.{All-nil, All-cons}

@@ -195,14 +195,12 @@ fn with_condition(
     ensures { (variables : List Variable) → IsGrammarOf facts.now variables grammar.now
         → ReadsPair facts.now variables (texts (seen_equation equation.now).left) (texts (seen_equation equation.now).right) (raw_term left, raw_term right)
         → IfOk result (λ r. MatchResult r
-            (IsEquation facts.now variables (seen_equation equation.now))
-            (λ kind. EquationFault facts.now variables (seen_equation equation.now) kind)) }
+        (IsEquation facts.now variables (seen_equation equation.now))
+        (λ kind. EquationFault facts.now variables (seen_equation equation.now) kind)) }
 {
     facts.shows();
     match fragments_of(alloc, grammar, equation.fragments)? {
-        Ok(fragments) => {
-            statement_of(alloc, facts, left, right, fragments, equation.executable)
-        }
+        Ok(fragments) => { statement_of(alloc, facts, left, right, fragments, equation.executable) }
         Err(kind) => Ok(Err(kind)),
     }
 }

@@ -208,8 +208,8 @@ fn truth(
     requires { IsReading grammar.now }
     ensures { (sig : SignatureOf) (variables : List Variable) → IsGrammarOf sig variables grammar.now → IsNoTest sig (texts tokens.now)
         → IfOk result (λ r. MatchResult r
-            (λ f. IsFragment sig variables (Other tokens.now) (held.fragment_of f))
-            (FragmentFault sig variables (Other tokens.now))) }
+        (λ f. IsFragment sig variables (Other tokens.now) (held.fragment_of f))
+        (FragmentFault sig variables (Other tokens.now))) }
 {
     let Some(sort) = grammar.sort_named(b"Bool")? else {
         return Ok(Err(FaultKind::NoParse));
@@ -229,8 +229,8 @@ fn tested(
     requires { IsReading grammar.now }
     ensures { (sig : SignatureOf) (variables : List Variable) (ts : List Token) → IsGrammarOf sig variables grammar.now
         → IsTest sig (texts ts) (texts test.now.term.now) (sorted_of test.now.sorted) → IfOk result (λ r. MatchResult r
-            (λ f. IsFragment sig variables (Other ts) (held.fragment_of f))
-            (FragmentFault sig variables (Other ts))) }
+        (λ f. IsFragment sig variables (Other ts) (held.fragment_of f))
+        (FragmentFault sig variables (Other ts))) }
 {
     let sort = number_of(test.sorted);
     match term(alloc, grammar, test.term, sort)? {

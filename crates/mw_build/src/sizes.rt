@@ -44,11 +44,7 @@ pub fn canonical(
 }
 
 /// What keeps a term out, if anything does.
-pub fn term_fault(
-    alloc: Global,
-    facts: &Facts,
-    raw: &Raw,
-) -> Result<Option<FaultKind>, AllocError>
+pub fn term_fault(alloc: Global, facts: &Facts, raw: &Raw) -> Result<Option<FaultKind>, AllocError>
     requires { IsRawTerm facts.now (raw_term raw.now) }
     ensures { IfOk result (λ o. MatchOption o
         (FitsIn facts.now (raw_term raw.now))

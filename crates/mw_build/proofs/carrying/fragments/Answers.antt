@@ -1,5 +1,4 @@
 use Rattle.std.proofs.Common.{◌∙◌, [], ◌∷◌, map, sym, subst}
-use Rattle.mw_logic.specs.Signature.{Signature}
 use Rattle.mw_term.specs.Statements.{fragment_of}
 use Rattle.mw_carry.specs.Carriage.{Carriage}
 use Rattle.mw_carry.specs.Carried.{IsCarriedFragment}

@@ -1,12 +1,10 @@
 use Rattle.std.proofs.Common.{Result, MatchResult, subst}
 use Rattle.mw_term.specs.declared.raw.Raw.{Raw}
 use Rattle.mw_term.specs.Raws.{raw_term}
-use Rattle.mw_logic.specs.Term.{Variable}
 use Rattle.mw_module.specs.declared.faults.FaultKind.{FaultKind}
 use Rattle.mw_module.specs.Words.{texts}
 use Rattle.mw_text.proofs.RawTerms.{spelled_raw}
 use Rattle.mw_text.specs.Readings.{ReadsPair}
-use Rattle.mw_grammar.specs.Grammars.{IsGrammarOf}
 use Rattle.mw_build.specs.Fragments.{PairFault}
 use Rattle.mw_build.specs.Equations.{bad_sides}
 use Rattle.mw_build.proofs.equations.statement.Goals as goal

@@ -1,6 +1,5 @@
-use Rattle.std.proofs.Common.{List, map, Result, MatchResult, subst}
+use Rattle.std.proofs.Common.{map, Result, MatchResult, subst}
 use Rattle.std.specs.Global.{Vec}
-use Rattle.mw_logic.specs.Term.{Variable}
 use Rattle.mw_term.specs.Raws.{raw_term}
 use Rattle.mw_term.specs.Statements.{fragment_of}
 use Rattle.mw_term.specs.declared.statement.Fragment.{Fragment}

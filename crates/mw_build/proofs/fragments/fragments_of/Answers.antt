@@ -1,4 +1,4 @@
-use Rattle.std.proofs.Common.{◌∙◌, ◌+◌, List, [], ◌∷◌, map, take, Result, MatchResult, ap, sym, subst}
+use Rattle.std.proofs.Common.{◌∙◌, ◌+◌, [], ◌∷◌, map, take, Result, MatchResult, ap, sym, subst}
 use Rattle.std.proofs.lemmas.List.{take_all, append-nil, map-append}
 use Rattle.mw_term.specs.declared.statement.Fragment.{Fragment}
 use Rattle.mw_term.specs.Statements.{fragment_of}

@@ -1,4 +1,4 @@
-use Rattle.std.proofs.Common.{[], ◌∷◌, All, map, Option, MatchOption, sym, subst}
+use Rattle.std.proofs.Common.{[], ◌∷◌, All, Option, MatchOption, subst}
 use Rattle.mw_term.specs.Statements.{fragment_of}
 use Rattle.mw_module.specs.declared.faults.FaultKind.{FaultKind}
 use Rattle.mw_build.specs.Equations.{FitsIn, FirstOversized, terms_of}
