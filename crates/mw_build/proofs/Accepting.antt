@@ -15,10 +15,10 @@ use Rattle.mw_module.specs.declared.faults.Fault.{Fault}
 use Rattle.mw_declare.specs.declared.declarations.Declarations.{Declarations}
 use Rattle.mw_build.specs.Sides.{Sides}
 use Rattle.mw_build.specs.Equations.{AreEquations}
-use Rattle.mw_build.specs.Imported.{Accepted, Origin, IsUnconditional, AreImported}
+use Rattle.mw_build.specs.Imported.{Accepted, Origin, IsOrdinary, AreImported}
 use Rattle.mw_build.specs.Modules.{IsDeclaredModule, StatementsFault, by_imported, by_equations, AreAll, NotAll, imported_fault, equation_fault}
 use Rattle.mw_build.proofs.Pairwise.{there, either}
-use Rattle.mw_build.proofs.Sides.{CanStand, read_stands, unconditional_statement}
+use Rattle.mw_build.proofs.Sides.{CanStand, read_stands, ordinary_statement}
 use Rattle.mw_build.proofs.Imported.{imported_stands}
 
 -- the grammar of one signature is that of the other
@@ -58,13 +58,13 @@ not_all line d origins equations r preregular (equation_fault imported all f) = 
 
 module _ (sig : Signature) (ok : IsPreregularModulo sig) (variables : List Variable) (sorted : (x : Variable) → Member x variables → IsSortOf sig x.sort)
     (origins : List Origin) (equations : List Sides) (count : ℕ) (sts : List Statement) (all : AreAll sig variables origins equations count sts) where
-  -- own statements have no conditions
-  pub own_plain : All IsUnconditional (drop count sts)
-  own_plain = at_places IsUnconditional (drop count sts) (λ i st is.
+  -- own statements are no rules, and none is `owise`
+  pub own_ordinary : All IsOrdinary (drop count sts)
+  own_ordinary = at_places IsOrdinary (drop count sts) (λ i st is.
       let low = slice_get_within (drop count sts) i st is in
       let (e, at) = there equations i (omega (arith, low, all.equations_are.count)) in
       let of = all.equations_are.each i e st at is in
-      unconditional_statement sig of.left of.right e.executable st of.sides)
+      ordinary_statement sig of.left of.right of.condition e.executable st of.holds)
     where
       at_places : (P : Statement → Type 0) (xs : List Statement) → ((i : ℕ) (x : Statement) → slice_get xs i ≡ Some x → P x) → All P xs
       at_places P [] h = All-nil P

@@ -1,7 +1,6 @@
 -- Statements of other modules, as they stand in a module that reaches them.
-use Rattle.std.proofs.Common.{◌≡◌, ◌∙◌, ◌||◌, ℕ, List, [], IfOk, MatchResult, Result, Ok, Err, inl, inr, refl, sym, subst, ap}
-use Rattle.std.proofs.lemmas.Bool.{or_left, or_cases}
-use Rattle.std.proofs.Math.Bool.{or-false}
+use Rattle.std.proofs.Common.{◌||◌, ℕ, List, IfOk, MatchResult, Result, Ok, Err, refl, sym, subst, ⊎_elim}
+use Rattle.std.proofs.lemmas.Bool.{or_left, or_right, or_cases}
 use Rattle.mw_logic.specs.Term.{RawTerm}
 use Rattle.mw_logic.specs.Signature.{Signature, HasKind, of_numeral, of_quoted, of_variable, of_operator, same}
 use Rattle.mw_logic.specs.Accepted.{IsAccepted}
@@ -11,16 +10,17 @@ use Rattle.mw_logic.specs.Module.{Statement, Fragment}
 use Rattle.mw_logic.proofs.KindLaws.{SameKind-sym}
 use Rattle.mw_logic.proofs.SameConditions.{same_variable-refl}
 use Rattle.mw_sorts.proofs.Connected.{there-with}
-use Rattle.mw_least.specs.Conditions.{occurs_among, AreRawFragments}
+use Rattle.mw_least.specs.Conditions.{occurs_among}
 use Rattle.mw_least.specs.Workable.{AreSides}
-use Rattle.mw_carry.specs.Carried.{IsPart, IsSameKind, IsCarried, AreCarriedFragments, none}
+use Rattle.mw_carry.specs.Carried.{IsPart, IsSameKind, IsCarried, AreCarriedFragments}
 use Rattle.mw_carry.specs.Laws.{HasSortsOf}
 use Rattle.mw_carry.proofs.Numbers.{within_at}
 use Rattle.mw_carry.proofs.Kept.{sort_carried, HasKind-carried, IsRawTerm-carried, sorts-carried}
 use Rattle.mw_module.specs.declared.faults.FaultKind.{FaultKind}
-use Rattle.mw_build.specs.Equations.{IsStatementOf, SidesFault, statement_of}
-use Rattle.mw_build.specs.Imported.{Origin, IsUnconditional, IsImported, ImportedFault}
-use Rattle.mw_build.proofs.Sides.{CanStand, plain_statement}
+use Rattle.mw_build.specs.Equations.{IsStatementOf, TermsFault, statement_of}
+use Rattle.mw_build.specs.Imported.{Origin, HaveSortsAmong, IsOrdinary, IsImported, ImportedFault}
+use Rattle.mw_build.proofs.FragmentTerms.{raws_carried, sorts_carried}
+use Rattle.mw_build.proofs.Sides.{CanStand, ordinary_equation}
 
 -- the kind of a term whose variables have sorts that are there is there
 kind_there : (sig : Signature) → HasItsSorts sig → (t : RawTerm) (K : ℕ) → HasSortsOf sig t → HasKind sig t K → IsSortOf sig K
@@ -32,11 +32,17 @@ kind_there sig numbers t K sorts (of_operator {f = f} o is p) = there-with sig n
 pub left_sorts : (sig : Signature) (e : Statement) → AreSides sig e → HasSortsOf sig e.left
 left_sorts sig e sides x h = sides.sorts x (or_left (occurs x e.left || occurs x e.right) (occurs_among x e.fragments) (or_left (occurs x e.left) (occurs x e.right) h))
 
+pub right_sorts : (sig : Signature) (e : Statement) → AreSides sig e → HasSortsOf sig e.right
+right_sorts sig e sides x h = sides.sorts x (or_left (occurs x e.left || occurs x e.right) (occurs_among x e.fragments) (or_right (occurs x e.left) (occurs x e.right) h))
+
+pub fragments_sorts : (sig : Signature) (e : Statement) → AreSides sig e → HaveSortsAmong sig e.fragments
+fragments_sorts sig e sides x h = sides.sorts x (or_right (occurs x e.left || occurs x e.right) (occurs_among x e.fragments) h)
+
 module _ (from sig : Signature) (part : IsPart from sig) (numbers : HasItsSorts from) (ok : IsAccepted sig) where
   -- carried sides are sides
-  pub sides_carried : (e st : Statement) → st.fragments ≡ [] → AreSides from e → IsCarried from sig e.left st.left → IsCarried from sig e.right st.right → AreSides sig st
-  sides_carried e st bare sides left right = record {
-    fragments = subst (AreRawFragments sig) (sym bare) tt;
+  pub sides_carried : (e st : Statement) → AreSides from e → IsCarried from sig e.left st.left → IsCarried from sig e.right st.right
+      → AreCarriedFragments from sig e.fragments st.fragments → AreSides sig st
+  sides_carried e st sides left right fragments = record {
     left = IsRawTerm-carried from sig part numbers ok left sides.left;
     right = IsRawTerm-carried from sig part numbers ok right sides.right;
     kinds =
@@ -44,42 +50,43 @@ module _ (from sig : Signature) (part : IsPart from sig) (numbers : HasItsSorts 
         let (T, named) = sort_carried from sig part numbers K (kind_there from numbers e.left K (left_sorts from e sides) first) in
         let kind : IsSameKind from sig K T = record { sort = T; same = named; kind = same } in
         (T, HasKind-carried from sig part numbers ok left first kind, HasKind-carried from sig part numbers ok right second kind);
-    sorts = λ x o. elim (or_cases (occurs x st.left) (occurs x st.right) (sym (or-false (occurs x st.left || occurs x st.right)) ∙ sym (ap (λ C. (occurs x st.left || occurs x st.right) || occurs_among x C) bare) ∙ o)) [ inl h ↦ sorts-carried from sig left x h | inr h ↦ sorts-carried from sig right x h ];
+    fragments = raws_carried from sig part numbers ok e.fragments st.fragments fragments sides.fragments;
+    sorts = λ x o. ⊎_elim
+        (λ h. ⊎_elim (λ i. sorts-carried from sig left x i) (λ i. sorts-carried from sig right x i) (or_cases (occurs x st.left) (occurs x st.right) h))
+        (λ h. sorts_carried from sig e.fragments st.fragments fragments x h)
+        (or_cases (occurs x st.left || occurs x st.right) (occurs_among x st.fragments) o);
   }
 
 pub imported_stands : (sig : Signature) (e : Origin) (st : Statement) → IsImported sig e st → CanStand sig st
-imported_stands sig e st is = record { sides = is.sides; plain = plain_statement sig st.left st.right e.statement.executable st is.holds; none = ap (λ (s : Statement). s.fragments) is.holds.statement }
+imported_stands sig e st is = record { sides = is.sides; ordinary = ordinary_equation sig st.left st.right st.fragments e.statement.executable st is.holds }
 
--- no fragments stand for none
-none_carried : (from sig : Signature) (C D : List Fragment) → C ≡ [] → D ≡ [] → AreCarriedFragments from sig C D
-none_carried from sig C D a b = subst (λ X. AreCarriedFragments from sig X D) (sym a) (subst (λ X. AreCarriedFragments from sig [] X) (sym b) none)
-
-module _ (from sig : Signature) (part : IsPart from sig) (numbers : HasItsSorts from) (ok : IsAccepted sig) (e : Statement) (sides : AreSides from e) (plain : IsUnconditional e)
-    (left right : RawTerm) (first : IsCarried from sig e.left left) (second : IsCarried from sig e.right right) where
+module _ (from sig : Signature) (part : IsPart from sig) (numbers : HasItsSorts from) (ok : IsAccepted sig) (e : Statement) (sides : AreSides from e) (ordinary : IsOrdinary e)
+    (left right : RawTerm) (C : List Fragment) (first : IsCarried from sig e.left left) (second : IsCarried from sig e.right right)
+    (third : AreCarriedFragments from sig e.fragments C) where
   abbrev origin : Origin
   origin = record { signature = from; statement = e }
 
-  -- the statement of these sides stands for the one that they were carried from
-  stands_for : (st : Statement) → IsStatementOf sig left right e.executable st → IsImported sig origin st
+  -- the statement of these terms stands for the one that they were carried from
+  stands_for : (st : Statement) → IsStatementOf sig left right C e.executable st → IsImported sig origin st
   stands_for st is =
-      let made = statement_of left right e.executable in
+      let made = statement_of left right C e.executable in
       let of : IsImported sig origin made = record {
         carried = record {
           left = first;
           right = second;
-          fragments = none_carried from sig e.fragments [] plain.unconditional refl;
-          rule = sym plain.equation;
+          fragments = third;
+          rule = sym ordinary.equation;
           executable = refl;
-          owise = sym plain.ordinary;
+          owise = sym ordinary.ordinary;
         };
-        holds = subst (IsStatementOf sig left right e.executable) is.statement is;
-        sides = sides_carried from sig part numbers ok e made refl sides first second;
+        holds = subst (IsStatementOf sig left right C e.executable) is.statement is;
+        sides = sides_carried from sig part numbers ok e made sides first second third;
       } in
       subst (IsImported sig origin) (sym is.statement) of
 
   pub of_carried : {E : Type 0} (r : Result (Result Statement FaultKind) E)
-      → IfOk r (λ s. MatchResult s (IsStatementOf sig left right e.executable) (λ kind. SidesFault sig left right e.executable kind))
+      → IfOk r (λ s. MatchResult s (IsStatementOf sig left right C e.executable) (λ kind. TermsFault sig left right C e.executable kind))
       → IfOk r (λ s. MatchResult s (IsImported sig origin) (λ kind. ImportedFault sig origin kind))
   of_carried (Err x) h = h
   of_carried (Ok (Ok st)) h = stands_for st h
-  of_carried (Ok (Err kind)) h = record { left = left; right = right; carried_left = first; carried_right = second; fault = h }
+  of_carried (Ok (Err kind)) h = record { left = left; right = right; fragments = C; carried_left = first; carried_right = second; carried_fragments = third; fault = h }

@@ -2,6 +2,10 @@
 pub mod Readable
 pub mod Mentioned
 pub mod Pairwise
+pub mod Asking
+pub mod Bound
+pub mod FragmentTerms
+pub mod Terms
 pub mod Sides
 pub mod Imported
 pub mod Origins

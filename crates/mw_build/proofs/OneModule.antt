@@ -1,21 +1,26 @@
 -- A unit is one module at most, which reaches the same units, and none where it is refused.
-use Rattle.std.proofs.Common.{◌≡◌, ◌∙◌, ℕ, zero, suc, Bool, List, [], ◌∷◌, ◌++◌, map, flat_map, length, slice_get, Some, None, Ok, Err, Result, refl, sym, ap, subst, arith, ⊎_elim}
+use Rattle.std.proofs.Common.{◌≡◌, ◌∙◌, ℕ, zero, suc, Bool, List, [], ◌∷◌, ◌++◌, map, flat_map, length, slice_get, All, codes, Option, Some, None, Ok, Err, Result, refl, sym, ap, subst, arith, ⊎_elim}
+use Rattle.std.proofs.lemmas.List.Elements.{All-head, All-tail}
 use Rattle.std.proofs.lemmas.Option.{none-some, slice_get_within}
 use Rattle.mw_logic.specs.Term.{Variable, RawTerm}
-use Rattle.mw_logic.specs.Signature.{Signature, Sorted, sort, kind, SameKind, same}
-use Rattle.mw_logic.specs.Accepted.{IsAccepted as IsAcceptedSignature}
+use Rattle.mw_logic.specs.Signature.{Signature, Sorted, sort, kind, IsSortNamed, SameKind, same}
+use Rattle.mw_logic.specs.Accepted.{IsAccepted as IsAcceptedSignature, number_of_sort}
 use Rattle.mw_logic.specs.Preregular.{AreOfKinds}
-use Rattle.mw_logic.specs.Module.{Statement}
+use Rattle.mw_logic.specs.Module.{Fragment, equal, matches, has_sort, is_true, Statement}
 use Rattle.mw_sorting.specs.PreregularModulo.{IsOfKind, IsPreregularModulo}
 use Rattle.mw_sorts.specs.Entries.{IsEntry, AreEntries}
 use Rattle.mw_sorts.specs.Faults.{IsFirstFault}
 use Rattle.mw_sorts.specs.Groupings.{IsFirstGroupingFault, three_of}
 use Rattle.mw_sorts.specs.Leaving.{IsFirstIdentityFault}
 use Rattle.mw_carry.specs.Laws.{OperatorsApart}
-use Rattle.mw_carry.proofs.Once.{carried_one}
+use Rattle.mw_carry.proofs.Once.{carried_one, fragments_one}
 use Rattle.mw_module.specs.declared.faults.Fault.{Fault}
 use Rattle.mw_module.specs.declared.faults.FaultKind.{FaultKind}
+use Rattle.mw_module.specs.Conditions.{WrittenFragment}
 use Rattle.mw_module.specs.Units.{SeenLined, SeenUnit}
+use Rattle.mw_module.specs.Words.{texts}
+use Rattle.mw_text.specs.Mixfix.{Reads}
+use Rattle.mw_text.specs.Readings.{ReadsPair}
 use Rattle.mw_import.specs.Flat.{FlatUnit, ImportOf, imports_of, number_named, brought_by, first_unit, firsts, IsFlat, IsWrong, circular, unknown, ImportFault}
 use Rattle.mw_declare.specs.declared.declarations.Declarations.{Declarations}
 use Rattle.mw_declare.specs.Faults.{Typing, typing_of}
@@ -25,9 +30,11 @@ use Rattle.mw_declare.proofs.OneDeclaration.{one_declaration, none_at_fault}
 use Rattle.mw_build.specs.SignatureFaults.{SignatureFault, no_least, groupings, identity}
 use Rattle.mw_build.specs.Pairwise.{AreRelated, IsFirstWrong}
 use Rattle.mw_build.specs.Sides.{Sides, equations_of}
-use Rattle.mw_build.specs.Equations.{FitsIn, Oversized, deep, large, statement_of, IsApplicable, ApplicationFault, lone, open_right, IsStatementOf, SidesFault, big_left, big_right, inapplicable, IsEquation, EquationFault, conditional, long, unread, unclear, sides, HasFault}
+use Rattle.mw_build.specs.Fragments.{IsTest, TextFault, long_text, unread_text, unclear_text, PairFault, long_pair, unread_pair, unclear_pair, IsFragment, an_equation, a_match, a_test, a_truth, FragmentFault, bad_equation, bad_match, bad_test, bad_truth, no_truths, AreFragments}
+use Rattle.mw_build.specs.Equations.{FitsIn, Oversized, deep, large, FirstOversized, here, behind, statement_of, all_terms, IsApplicable, ApplicationFault, lone, open_term, IsStatementOf, TermsFault, big_term, inapplicable, IsEquation, EquationFault, bad_sides, bad_fragment, bad_terms, HasFault}
 use Rattle.mw_build.specs.Imported.{Accepted, Origin, origins_of, IsImported, ImportedFault, HasFaultAt}
 use Rattle.mw_build.specs.Modules.{IsFlattened, flattened, reached_of, IsDeclaredModule, StatementsFault, by_signature, by_imported, by_equations, IsAccepted, IsRefused, by_variables, by_imports, by_declarations, by_statements}
+use Rattle.mw_build.proofs.Asking.{test_one}
 use Rattle.mw_build.proofs.Pairwise.{there}
 
 -- lists as long as each other that agree at each place are one
@@ -60,35 +67,90 @@ pub not_big : (sig : Signature) (t : RawTerm) (cause : FaultKind) → FitsIn sig
 not_big sig t cause f (deep k) = f.not_deep k
 not_big sig t cause f (large s k) = f.not_large k
 
+none_big : (sig : Signature) (cause : FaultKind) (ts : List RawTerm) → All (FitsIn sig) ts → FirstOversized sig cause ts → ⊥
+none_big sig cause ts f (here t rest big) = not_big sig t cause (All-head (FitsIn sig) t rest f) big
+none_big sig cause ts f (behind t rest fits first) = none_big sig cause rest (All-tail (FitsIn sig) t rest f) first
+
 module _ (sig : Signature) where
-  application_holds : (left right : RawTerm) (cause : FaultKind) → IsApplicable sig left right → ApplicationFault sig left right cause → ⊥
-  application_holds left right cause a (lone is) = a.not_lone is
-  application_holds left right cause a (open_right x not is) = absurd (none-some x (sym a.bound ∙ is))
+  application_holds : (left right : RawTerm) (C : List Fragment) (cause : FaultKind) → IsApplicable sig left right C → ApplicationFault sig left right C cause → ⊥
+  application_holds left right C cause a (lone is) = a.not_lone is
+  application_holds left right C cause a (open_term x not is) = absurd (none-some x (sym a.bound ∙ is))
 
-  sides_hold : (left right : RawTerm) (executable : Bool) (st : Statement) (cause : FaultKind) → IsStatementOf sig left right executable st → SidesFault sig left right executable cause → ⊥
-  sides_hold left right executable st cause s (big_left why big) = not_big sig left why s.left_fits big
-  sides_hold left right executable st cause s (big_right why fits big) = not_big sig right why s.right_fits big
-  sides_hold left right executable st cause s (inapplicable why f g is fault) = application_holds left right why (s.applicable is) fault
+  terms_hold : (left right : RawTerm) (C : List Fragment) (executable : Bool) (st : Statement) (cause : FaultKind) → IsStatementOf sig left right C executable st
+      → TermsFault sig left right C executable cause → ⊥
+  terms_hold left right C executable st cause s (big_term big) = none_big sig cause (all_terms left right C) s.holds.fit big
+  terms_hold left right C executable st cause s (inapplicable fit is fault) = application_holds left right C cause (s.holds.applicable is) fault
 
-  module _ (variables : List Variable) where
-    same_sides : (e : Sides) (st other : Statement) (p : IsEquation sig variables e st) (q : IsEquation sig variables e other) → ◌≡◌ {A = RawTerm × RawTerm} (p.left, p.right) (q.left, q.right)
-    same_sides e st other p q = q.read.only.1 (p.left, p.right) p.read.only.0
+  module _ (ok : IsAcceptedSignature sig) (variables : List Variable) where
+    -- texts that are read have no fault
+    text_holds : (wanted : Option ℕ) (text : List (List ℕ)) (t : RawTerm) (cause : FaultKind) → Reads sig variables wanted text t → TextFault sig variables wanted text cause → ⊥
+    text_holds wanted text t cause r (long_text h) = let s = r.short in omega (arith, h, s)
+    text_holds wanted text t cause r (unread_text s none) = none t r.spelled
+    text_holds wanted text t cause r (unclear_text s (x, y, (of_x, of_y, differ))) = differ (r.only x of_x ∙ sym (r.only y of_y))
+
+    pair_holds : (left right : List (List ℕ)) (p : RawTerm × RawTerm) (cause : FaultKind) → ReadsPair sig variables left right p → PairFault sig variables left right cause → ⊥
+    pair_holds left right p cause r (long_pair h) = ⊎_elim (λ k. let s = r.short_left in omega (arith, k, s)) (λ k. let s = r.short_right in omega (arith, k, s)) h
+    pair_holds left right p cause r (unread_pair f g none) = none p r.only.0
+    pair_holds left right p cause r (unclear_pair f g (x, y, (of_x, of_y, differ))) = differ (r.only.1 x of_x ∙ sym (r.only.1 y of_y))
+
+    one_pair : (left right : List (List ℕ)) (p q : RawTerm × RawTerm) → ReadsPair sig variables left right p → ReadsPair sig variables left right q → p ≡ q
+    one_pair left right p q r s = s.only.1 p r.only.0
+
+    -- a sort test has one term, and a Boolean term's kind is one
+    one_tested : (text t u : List (List ℕ)) (S T : Sorted) (v w : RawTerm) → IsTest sig text t S → IsTest sig text u T → Reads sig variables (Some (number_of_sort S)) t v
+        → Reads sig variables (Some (number_of_sort T)) u w → (v ≡ w) × (S ≡ T)
+    one_tested text t u S T v w p q r s =
+        let (fronts, sorts) = test_one sig ok text t u S T p q in
+        let moved : Reads sig variables (Some (number_of_sort T)) u v = subst (λ x. Reads sig variables (Some (number_of_sort T)) x v) fronts
+        (subst (λ X. Reads sig variables (Some (number_of_sort X)) t v) sorts r) in
+        (s.only v moved.spelled, sorts)
+
+    moved_truth : (A B : ℕ) (text : List (List ℕ)) (b : RawTerm) → IsSortNamed sig A (codes "Bool") → IsSortNamed sig B (codes "Bool") → Reads sig variables (Some A) text b
+        → Reads sig variables (Some B) text b
+    moved_truth A B text b this that r = subst (λ (S : ℕ). Reads sig variables (Some S) text b) (ok.sorts_differ A B (codes "Bool") this that) r
+
+    -- a fragment is one
+    one_fragment : (w : WrittenFragment) (f g : Fragment) → IsFragment sig variables w f → IsFragment sig variables w g → f ≡ g
+    one_fragment w f g (an_equation left right u v r) (an_equation _ _ x y s) = ap (λ (p : RawTerm × RawTerm). equal p.0 p.1) (one_pair (texts left) (texts right) (u, v) (x, y) r s)
+    one_fragment w f g (a_match pattern term p t r) (a_match _ _ q u s) = ap (λ (x : RawTerm × RawTerm). matches x.0 x.1) (one_pair (texts pattern) (texts term) (p, t) (q, u) r s)
+    one_fragment w f g (a_test ts t S v is r) (a_test _ u T x are s) =
+        let (terms, sorts) = one_tested (texts ts) t u S T v x is are r s in
+        ap (λ z. has_sort z S) terms ∙ ap (has_sort x) sorts
+    one_fragment w f g (a_test ts t S v is r) (a_truth _ B b not named s) = absurd (not t S is)
+    one_fragment w f g (a_truth ts B b not named r) (a_test _ u T x are s) = absurd (not u T are)
+    one_fragment w f g (a_truth ts A b not this r) (a_truth _ B c none that s) = ap is_true (s.only b (moved_truth A B (texts ts) b this that r).spelled)
+
+    fragment_holds : (w : WrittenFragment) (f : Fragment) (cause : FaultKind) → IsFragment sig variables w f → FragmentFault sig variables w cause → ⊥
+    fragment_holds w f cause (an_equation left right u v r) (bad_equation _ _ why h) = pair_holds (texts left) (texts right) (u, v) why r h
+    fragment_holds w f cause (a_match pattern term p t r) (bad_match _ _ why h) = pair_holds (texts pattern) (texts term) (p, t) why r h
+    fragment_holds w f cause (a_test ts t S v is r) (bad_test _ u T why are h) =
+        let (fronts, sorts) = test_one sig ok (texts ts) t u S T is are in
+        text_holds (Some (number_of_sort T)) u v why (subst (λ x. Reads sig variables (Some (number_of_sort T)) x v) fronts (subst (λ X. Reads sig variables (Some (number_of_sort X)) t v) sorts r)) h
+    fragment_holds w f cause (a_test ts t S v is r) (bad_truth _ B why not named h) = not t S is
+    fragment_holds w f cause (a_test ts t S v is r) (no_truths _ not none) = not t S is
+    fragment_holds w f cause (a_truth ts A b not this r) (bad_test _ u T why are h) = not u T are
+    fragment_holds w f cause (a_truth ts A b not this r) (bad_truth _ B why also that h) = text_holds (Some B) (texts ts) b why (moved_truth A B (texts ts) b this that r) h
+    fragment_holds w f cause (a_truth ts A b not this r) (no_truths _ also none) = none A this
+
+    one_condition : (ws : List WrittenFragment) (C D : List Fragment) → AreFragments sig variables ws C → AreFragments sig variables ws D → C ≡ D
+    one_condition = one_related (IsFragment sig variables) one_fragment
 
     -- an equation is one statement
     one_statement : (e : Sides) (st other : Statement) → IsEquation sig variables e st → IsEquation sig variables e other → st ≡ other
     one_statement e st other p q =
-        let left : p.left ≡ q.left = ap (λ (s : RawTerm × RawTerm). s.0) (same_sides e st other p q) in
-        let right : p.right ≡ q.right = ap (λ (s : RawTerm × RawTerm). s.1) (same_sides e st other p q) in
-        p.sides.statement ∙ ap (λ t. statement_of t p.right e.executable) left ∙ ap (λ t. statement_of q.left t e.executable) right ∙ sym q.sides.statement
+        let pair : ◌≡◌ {A = RawTerm × RawTerm} (p.left, p.right) (q.left, q.right) = one_pair (texts e.left) (texts e.right) (p.left, p.right) (q.left, q.right) p.read q.read in
+        p.holds.statement ∙ ap (λ (s : RawTerm × RawTerm). statement_of s.0 s.1 p.condition e.executable) pair
+        ∙ ap (λ C. statement_of q.left q.right C e.executable) (one_condition e.fragments p.condition q.condition p.fragments q.fragments) ∙ sym q.holds.statement
 
     equation_holds : (e : Sides) (st : Statement) (cause : FaultKind) → IsEquation sig variables e st → EquationFault sig variables e cause → ⊥
-    equation_holds e st cause p (conditional some) = some p.unconditional
-    equation_holds e st cause p (long plain h) = ⊎_elim (λ k. omega (arith, k, p.read.short_left)) (λ k. omega (arith, k, p.read.short_right)) h
-    equation_holds e st cause p (unread plain f g none) = none (p.left, p.right) p.read.only.0
-    equation_holds e st cause p (unclear plain f g (x, y, (of_x, of_y, differ))) = differ (p.read.only.1 x of_x ∙ sym (p.read.only.1 y of_y))
-    equation_holds e st cause p (sides left right why plain read fault) =
-        let pair : ◌≡◌ {A = RawTerm × RawTerm} (left, right) (p.left, p.right) = p.read.only.1 (left, right) read.only.0 in
-        sides_hold p.left p.right e.executable st why p.sides (subst (λ (s : RawTerm × RawTerm). SidesFault sig s.0 s.1 e.executable why) pair fault)
+    equation_holds e st cause p (bad_sides h) = pair_holds (texts e.left) (texts e.right) (p.left, p.right) cause p.read h
+    equation_holds e st cause p (bad_fragment left right read h) =
+        none_wrong (IsFragment sig variables) (λ w. FragmentFault sig variables w cause) (λ w f is k. fragment_holds w f cause is k) e.fragments p.condition p.fragments h
+    equation_holds e st cause p (bad_terms left right C read are fault) =
+        let pair : ◌≡◌ {A = RawTerm × RawTerm} (left, right) (p.left, p.right) = one_pair (texts e.left) (texts e.right) (left, right) (p.left, p.right) read p.read in
+        terms_hold p.left p.right p.condition e.executable st cause p.holds
+        (subst (λ D. TermsFault sig p.left p.right D e.executable cause) (one_condition e.fragments C p.condition are p.fragments)
+        (subst (λ (s : RawTerm × RawTerm). TermsFault sig s.0 s.1 C e.executable cause) pair fault))
 
 module _ (sig : Signature) (ok : IsAcceptedSignature sig) (apart : OperatorsApart sig) where
   -- a statement of another signature is one statement here
@@ -96,16 +158,20 @@ module _ (sig : Signature) (ok : IsAcceptedSignature sig) (apart : OperatorsApar
   one_imported e st other p q =
       let left : st.left ≡ other.left = carried_one e.signature sig ok apart p.carried.left q.carried.left in
       let right : st.right ≡ other.right = carried_one e.signature sig ok apart p.carried.right q.carried.right in
-      p.holds.statement ∙ ap (λ t. statement_of t st.right e.statement.executable) left ∙ ap (λ t. statement_of other.left t e.statement.executable) right
-      ∙ sym q.holds.statement
+      let fragments : st.fragments ≡ other.fragments = fragments_one e.signature sig ok apart p.carried.fragments q.carried.fragments in
+      p.holds.statement ∙ ap (λ t. statement_of t st.right st.fragments e.statement.executable) left
+      ∙ ap (λ t. statement_of other.left t st.fragments e.statement.executable) right
+      ∙ ap (λ C. statement_of other.left other.right C e.statement.executable) fragments ∙ sym q.holds.statement
 
   imported_holds : (e : Origin) (st : Statement) (cause : FaultKind) → IsImported sig e st → ImportedFault sig e cause → ⊥
   imported_holds e st cause p f =
       let left : f.left ≡ st.left = carried_one e.signature sig ok apart f.carried_left p.carried.left in
       let right : f.right ≡ st.right = carried_one e.signature sig ok apart f.carried_right p.carried.right in
-      sides_hold sig st.left st.right e.statement.executable st cause p.holds
-      (subst (λ t. SidesFault sig t st.right e.statement.executable cause) left
-      (subst (λ t. SidesFault sig f.left t e.statement.executable cause) right f.fault))
+      let fragments : f.fragments ≡ st.fragments = fragments_one e.signature sig ok apart f.carried_fragments p.carried.fragments in
+      terms_hold sig st.left st.right st.fragments e.statement.executable st cause p.holds
+      (subst (λ C. TermsFault sig st.left st.right C e.statement.executable cause) fragments
+      (subst (λ t. TermsFault sig st.left t f.fragments e.statement.executable cause) right
+      (subst (λ t. TermsFault sig t f.right f.fragments e.statement.executable cause) left f.fault)))
 
 entries_of_kinds : (sig : Signature) (Ss : List Sorted) (Ks : List ℕ) → AreEntries sig Ss Ks → AreOfKinds sig Ss Ks
 entries_of_kinds sig [] [] a = tt
@@ -157,7 +223,7 @@ module _ (name : List ℕ) (d : Declarations) (apart : OperatorsApart d.signatur
       let imported : p.imported ≡ q.imported =
       one_related (IsImported d.signature) (one_imported d.signature p.preregular.accepted apart) origins p.imported q.imported p.imported_are q.imported_are in
       let own : a.own ≡ b.own =
-      one_related (IsEquation d.signature d.variables) (one_statement d.signature d.variables) equations a.own b.own p.equations_are q.equations_are in
+      one_related (IsEquation d.signature d.variables) (one_statement d.signature p.preregular.accepted d.variables) equations a.own b.own p.equations_are q.equations_are in
       let statements : a.module.statements ≡ b.module.statements =
       p.statements ∙ ap (λ xs. xs ++ a.own) imported ∙ ap (λ xs. q.imported ++ xs) own ∙ sym q.statements in
       same_module a b (p.named ∙ sym q.named) (p.signature ∙ sym q.signature) statements (p.variables ∙ sym q.variables) own
@@ -167,7 +233,7 @@ module _ (name : List ℕ) (d : Declarations) (apart : OperatorsApart d.signatur
   statements_hold line r (by_imported preregular f) = none_wrong (IsImported d.signature) (HasFaultAt d.signature line r)
       (λ e st is w. imported_holds d.signature p.preregular.accepted apart e st r.kind is w.0) origins p.imported p.imported_are f
   statements_hold line r (by_equations imported preregular are f) = none_wrong (IsEquation d.signature d.variables) (HasFault d.signature d.variables r)
-      (λ e st is w. equation_holds d.signature d.variables e st r.kind is w.0) equations a.own p.equations_are f
+      (λ e st is w. equation_holds d.signature p.preregular.accepted d.variables e st r.kind is w.0) equations a.own p.equations_are f
 
 -- numbers that are all there are told by the list
 same_numbers : (js ks : List ℕ) → map Some js ≡ map Some ks → js ≡ ks

@@ -1,7 +1,9 @@
 -- Lists that correspond one by one: with one item more, and with one that is wrong.
-use Rattle.std.proofs.Common.{◌≡◌, ◌∙◌, ◌<◌, ◌+◌, ◌⊎◌, ◌++◌, ℕ, zero, suc, List, [], ◌∷◌, length, get_or, take, drop, map, slice_get, Some, refl, sym, ap, subst, inl, inr, ⊎_elim, arith, length-append, append_assoc}
+use Rattle.std.proofs.Common.{◌≡◌, ◌∙◌, ◌<◌, ◌+◌, ◌⊎◌, ◌++◌, ℕ, zero, suc, List, [], ◌∷◌, length, get_or, take, drop, map, slice_get, Some, All, refl, sym, ap, subst, inl, inr, ⊎_elim, arith, length-append, append_assoc}
+use Rattle.std.specs.Prelude.{⊤}
 use Rattle.std.proofs.lemmas.List.{map-append, map_more}
 use Rattle.std.proofs.lemmas.Option.{none-some, slice_get_within}
+use Rattle.std.proofs.lemmas.List.Elements.{All-nil, All-cons, All-head, All-tail}
 use Rattle.std.proofs.Math.Seq.{split_at}
 use Rattle.mw_import.proofs.Lists.{pushed_at}
 use Rattle.mw_build.specs.Pairwise.{AreRelated, IsFirstWrong}
@@ -47,6 +49,21 @@ module _ {A B : Type 0} (R : A → B → Type 0) where
         (pushed_at bs b y i q))
         (pushed_at ps a x i p);
   }
+
+  -- what a relation tells of each item of the second list, where each of the first has a property
+  pub all_related : (Q : A → Type 0) (P : B → Type 0) → ((a : A) (b : B) → Q a → R a b → P b) → (ps : List A) (bs : List B) → All Q ps → AreRelated R ps bs → All P bs
+  all_related Q P f ps [] q r = All-nil P
+  all_related Q P f [] (b ∷ bs) q r = let n = r.count in absurd (omega (arith, n))
+  all_related Q P f (a ∷ ps) (b ∷ bs) q r =
+      All-cons P b bs (f a b (All-head Q a ps q) (r.each zero a b refl refl))
+      (all_related Q P f ps bs (All-tail Q a ps q) (record { count = let n = r.count in omega (arith, n); each = λ i x y at_x at_y. r.each (suc i) x y at_x at_y }))
+
+  pub all_read : (P : B → Type 0) → ((a : A) (b : B) → R a b → P b) → (ps : List A) (bs : List B) → AreRelated R ps bs → All P bs
+  all_read P f ps bs r = all_related (λ a. ⊤) P (λ a b q h. f a b h) ps bs (nothing ps) r
+    where
+      nothing : (ps : List A) → All (λ a. ⊤) ps
+      nothing [] = All-nil (λ a. ⊤)
+      nothing (a ∷ ps) = All-cons (λ a. ⊤) a ps tt (nothing ps)
 
   module _ (W : A → Type 0) where
     -- the one behind those to which something corresponds

@@ -1,5 +1,5 @@
 -- What is printed of an accepted module's terms reads back.
-use Rattle.std.proofs.Common.{length, ◌≡◌, ◌∙◌, ◌++◌, ℕ, zero, suc, List, false, Option, Some, None, IsTrue, slice_get, codes, sym, ap, subst, refl, arith, inl, inr, ⊎_elim}
+use Rattle.std.proofs.Common.{length, ◌≡◌, ◌∙◌, ◌++◌, ℕ, zero, suc, List, [], ◌∷◌, false, Option, Some, None, IsTrue, slice_get, codes, sym, ap, subst, refl, arith, inl, inr, ⊎_elim}
 use Rattle.std.proofs.lemmas.Bool.{or_left, or_right, or_cases}
 use Rattle.std.proofs.lemmas.Option.{slice_get_within, none-some}
 use Rattle.std.proofs.lemmas.List.Elements.{All-nil, All-append, All-map}
@@ -10,18 +10,20 @@ use Rattle.mw_logic.specs.Term.{Variable, RawTerm, RawTerms}
 use Rattle.mw_logic.specs.Substitution.{occurs, occurs_in}
 use Rattle.mw_logic.proofs.SameConditions.{same_variable-is, same_variable-refl}
 use Rattle.mw_logic.specs.Signature.{Signature, IsSortNamed, Member, at_number}
-use Rattle.mw_logic.specs.Module.{Statement}
+use Rattle.mw_logic.specs.Module.{Fragment, Statement}
 use Rattle.mw_poset.proofs.Members.{member-all}
 use Rattle.mw_text.specs.Proper.{AreProperNames}
 use Rattle.mw_text.specs.Mixfix.{Spells, IsVariableName}
 use Rattle.mw_text.specs.Proper.{HasIdentifiers, HaveIdentifiers}
 use Rattle.mw_text.proofs.Identifiers.{spelled_identifiers}
-use Rattle.mw_text.proofs.SpelledVariables.{Each, spelled_variables}
+use Rattle.mw_text.proofs.SpelledVariables.{Each, left_of, spelled_variables}
 use Rattle.mw_module.specs.Words.{texts}
-use Rattle.mw_module.specs.Tokens.{HasProperParts, AreProperStatements, IsOfTokens}
+use Rattle.mw_module.specs.Conditions.{WrittenFragment}
+use Rattle.mw_module.specs.Tokens.{HasProperTexts, HasProperParts, AreProperStatements, IsOfTokens}
 use Rattle.mw_module.specs.Units.{SeenUnit}
 use Rattle.mw_sorts.proofs.Getting.{get-member, member-get}
-use Rattle.mw_carry.specs.Carried.{IsSameSort, IsCarried, AreCarried, a_numeral, a_quoted, a_variable, an_operator, end, next}
+use Rattle.mw_carry.specs.Carried.{IsSameSort, IsCarried, AreCarried, a_numeral, a_quoted, a_variable, an_operator, end, next, AreCarriedFragments, none, more}
+use Rattle.mw_carry.specs.Carried as carried
 use Rattle.mw_import.proofs.Lists.{flat_map-member, map-member, pushed_at}
 use Rattle.mw_module.proofs.Sources.{units_are_of_tokens}
 use Rattle.mw_build.specs.Sides.{Sides, equations_of}
@@ -32,11 +34,13 @@ use Rattle.mw_declare.specs.Proper.{IsProperVariable, AreProper}
 use Rattle.mw_declare.proofs.Proper.{all_at, declarations_are_proper}
 use Rattle.mw_print.specs.Laws.{AreBinary, ArePrintable, IsPrintable}
 use Rattle.mw_print.proofs.ReadBack.{printed_reads_back}
-use Rattle.mw_build.specs.Equations.{IsEquation}
+use Rattle.mw_build.specs.Fragments.{ending, IsFragment, an_equation, a_match, a_test, a_truth}
+use Rattle.mw_build.specs.Equations.{IsEquation, terms_of}
 use Rattle.mw_build.specs.Imported.{Accepted, Origin, origins_in, origins_of}
 use Rattle.mw_build.specs.Modules.{IsAccepted, flattened, reached_of}
 use Rattle.mw_build.specs.Printing.{AreCut, no_text, one_text, AreOfTokens, none_yet, one_more, IsOfTexts, IsPrintableTerm, IsPrintableStatement, TextsReadBack, StatementsArePrintable}
-use Rattle.mw_build.proofs.Pairwise.{there, either}
+use Rattle.mw_build.proofs.Pairwise.{there, either, all_related}
+use Rattle.mw_build.proofs.Terms.{each_term, one_term, two_terms}
 use Rattle.mw_build.proofs.Loading.{flattened_all, own_within}
 use Rattle.mw_declare.proofs.Accepting.{accepted_declared}
 use Rattle.mw_build.proofs.PrintedVariables.{with_sort_printable, declared_printable}
@@ -63,22 +67,40 @@ module _ (us : List FlatUnit) (ms : List Accepted) (proper : (k : ℕ) (v : Flat
   names : AreProperNames a.module.signature
   names = subst AreProperNames (sym signature_is) declared_proper.operators
 
+  each_token : (ts : List Token) → AreTokens ts → Each IsTokenText (texts ts)
+  each_token ts tokens = member-all IsTokenText (texts ts) (All-map IsTokenText (λ (t : Token). t.text) ts tokens)
+
   -- the variables and the quoted identifiers of what tokens spell
+  text_printable : (text : List (List ℕ)) (t : RawTerm) (p : ℕ) → Each IsTokenText text → Spells d.signature d.variables t p text → IsPrintableTerm d.signature t
+  text_printable text t p each s = record {
+    variables = λ x o. spelled_variables d.signature d.variables (IsPrintable d.signature) IsTokenText
+        (λ y m. declared_printable d.signature declared_proper.sorts y (member-all (IsProperVariable d.signature) d.variables declared_proper.variables y m))
+        (with_sort_printable d.signature) s each x o;
+    identifiers = spelled_identifiers d.signature d.variables s each;
+  }
+
   side_printable : (ts : List Token) (t : RawTerm) (p : ℕ) → AreTokens ts → Spells d.signature d.variables t p (texts ts) → IsPrintableTerm d.signature t
-  side_printable ts t p tokens s =
-      let each : Each IsTokenText (texts ts) = member-all IsTokenText (texts ts) (All-map IsTokenText (λ (t : Token). t.text) ts tokens) in
-      record {
-        variables = λ x o. spelled_variables d.signature d.variables (IsPrintable d.signature) IsTokenText
-            (λ y m. declared_printable d.signature declared_proper.sorts y (member-all (IsProperVariable d.signature) d.variables declared_proper.variables y m))
-            (with_sort_printable d.signature) s each x o;
-        identifiers = spelled_identifiers d.signature d.variables s each;
-      }
+  side_printable ts t p tokens s = text_printable (texts ts) t p (each_token ts tokens) s
+
+  -- so of the terms of a fragment
+  fragment_printable : (w : WrittenFragment) (f : Fragment) → HasProperTexts w → IsFragment d.signature d.variables w f → (t : RawTerm) → Member t (terms_of (f ∷ []))
+      → IsPrintableTerm d.signature t
+  fragment_printable w f tokens (an_equation left right u v r) =
+      two_terms (IsPrintableTerm d.signature) u v (side_printable left u _ tokens.0 r.only.0.first.spells) (side_printable right v _ tokens.1 r.only.0.second.spells)
+  fragment_printable w f tokens (a_match pattern term p t r) =
+      two_terms (IsPrintableTerm d.signature) p t (side_printable pattern p _ tokens.0 r.only.0.first.spells) (side_printable term t _ tokens.1 r.only.0.second.spells)
+  fragment_printable w f tokens (a_test ts term S t is r) =
+      let each : Each IsTokenText term = left_of IsTokenText term (ending is.bracketed is.name) (subst (Each IsTokenText) is.asks.whole (each_token ts tokens)) in
+      one_term (IsPrintableTerm d.signature) t (text_printable term t _ each r.spelled.spells)
+  fragment_printable w f tokens (a_truth ts B b not is r) = one_term (IsPrintableTerm d.signature) b (side_printable ts b _ tokens r.spelled.spells)
 
   statement_printable : (e : Sides) (st : Statement) → AreSides e → IsEquation d.signature d.variables e st → IsPrintableStatement d.signature st
   statement_printable e st tokens equation =
       let left = side_printable e.left equation.left _ tokens.0 equation.read.only.0.first.spells in
       let right = side_printable e.right equation.right _ tokens.1 equation.read.only.0.second.spells in
-      subst (IsPrintableStatement d.signature) (sym equation.sides.statement) (left, right)
+      let each = all_related (IsFragment d.signature d.variables) HasProperTexts (λ f. (t : RawTerm) → Member t (terms_of (f ∷ [])) → IsPrintableTerm d.signature t) fragment_printable
+      e.fragments equation.condition tokens.2 equation.fragments in
+      subst (IsPrintableStatement d.signature) (sym equation.holds.statement) (left, right, each_term (IsPrintableTerm d.signature) equation.condition each)
 
   own_printable : (i : ℕ) (st : Statement) → slice_get a.own i ≡ Some st → IsPrintableStatement d.signature st
   own_printable i st at =
@@ -132,10 +154,24 @@ mutual
 carried_term : (sig to : Signature) (t u : RawTerm) → IsCarried sig to t u → IsPrintableTerm sig t → IsPrintableTerm to u
 carried_term sig to t u c p = record { variables = carried_printable sig to t u c p.variables; identifiers = carried_identifiers sig to t u c p.identifiers }
 
+carried_fragments : (sig to : Signature) (C D : List Fragment) → AreCarriedFragments sig to C D → ((t : RawTerm) → Member t (terms_of C) → IsPrintableTerm sig t)
+    → (u : RawTerm) → Member u (terms_of D) → IsPrintableTerm to u
+carried_fragments sig to C D none p x m = absurd m
+carried_fragments sig to C D (more f g cs ds (carried.an_equation u v w z a b) rest) p x (inl e) = subst (IsPrintableTerm to) e (carried_term sig to u w a (p u (inl refl)))
+carried_fragments sig to C D (more f g cs ds (carried.an_equation u v w z a b) rest) p x (inr (inl e)) = subst (IsPrintableTerm to) e (carried_term sig to v z b (p v (inr (inl refl))))
+carried_fragments sig to C D (more f g cs ds (carried.an_equation u v w z a b) rest) p x (inr (inr m)) = carried_fragments sig to cs ds rest (λ t k. p t (inr (inr k))) x m
+carried_fragments sig to C D (more f g cs ds (carried.a_match u v w z a b) rest) p x (inl e) = subst (IsPrintableTerm to) e (carried_term sig to u w a (p u (inl refl)))
+carried_fragments sig to C D (more f g cs ds (carried.a_match u v w z a b) rest) p x (inr (inl e)) = subst (IsPrintableTerm to) e (carried_term sig to v z b (p v (inr (inl refl))))
+carried_fragments sig to C D (more f g cs ds (carried.a_match u v w z a b) rest) p x (inr (inr m)) = carried_fragments sig to cs ds rest (λ t k. p t (inr (inr k))) x m
+carried_fragments sig to C D (more f g cs ds (carried.a_test u w S T a s) rest) p x (inl e) = subst (IsPrintableTerm to) e (carried_term sig to u w a (p u (inl refl)))
+carried_fragments sig to C D (more f g cs ds (carried.a_test u w S T a s) rest) p x (inr m) = carried_fragments sig to cs ds rest (λ t k. p t (inr k)) x m
+carried_fragments sig to C D (more f g cs ds (carried.a_truth u w a) rest) p x (inl e) = subst (IsPrintableTerm to) e (carried_term sig to u w a (p u (inl refl)))
+carried_fragments sig to C D (more f g cs ds (carried.a_truth u w a) rest) p x (inr m) = carried_fragments sig to cs ds rest (λ t k. p t (inr k)) x m
+
 -- texts that are cut are tokens
 cut_tokens : (texts : List (List ℕ)) (tokens : List Token) → AreCut texts tokens → AreTokens tokens
 cut_tokens texts tokens no_text = All-nil (λ (t : Token). IsTokenText t.text)
-cut_tokens texts tokens (one_text text more first rest is cut) = All-append (λ (t : Token). IsTokenText t.text) first rest (lexed_are_tokens text first is) (cut_tokens more rest cut)
+cut_tokens texts tokens (one_text text others first rest is cut) = All-append (λ (t : Token). IsTokenText t.text) first rest (lexed_are_tokens text first is) (cut_tokens others rest cut)
 
 -- The modules of units of tokens: units have proper statements, and the modules' own statements can be printed.
 record AreFine (us : List FlatUnit) (ms : List Accepted) : Type 0 where
@@ -189,8 +225,11 @@ module _ (texts : List (List ℕ)) (a : Accepted) (of : IsOfTexts texts a) where
       let (e, there_is) = there origins i (omega (arith, w, all.count)) in
       let p = origin_printable of.modules of.reached before.own e (get-member origins i e there_is) in
       let c = (all.each i e st there_is at).carried in
-      let sig = of.accepted.declarations.signature in
-      (carried_term e.signature sig e.statement.left st.left c.left p.0, carried_term e.signature sig e.statement.right st.right c.right p.1)
+      let sig = of.accepted.declarations.signature in (
+        carried_term e.signature sig e.statement.left st.left c.left p.0,
+        carried_term e.signature sig e.statement.right st.right c.right p.1,
+        carried_fragments e.signature sig e.statement.fragments st.fragments c.fragments p.2,
+      )
 
   statements_printable : (k : ℕ) (st : Statement) → at_number a.module.statements k ≡ Some st → IsPrintableStatement of.accepted.declarations.signature st
   statements_printable zero st is = cc

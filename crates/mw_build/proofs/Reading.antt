@@ -1,31 +1,25 @@
--- Equations, from the terms that their sides spell.
-use Rattle.std.proofs.Common.{◌≡◌, ◌≢◌, ◌∙◌, ◌==◌, Bool, true, false, List, [], ◌∷◌, length, sym, refl, arith, Result, Ok, Err, IfOk, MatchResult}
+-- Equations, from the terms that their texts spell.
+use Rattle.std.proofs.Common.{◌≡◌, List, Option, Some, None, MatchOption, Result, Ok, Err, IfOk, MatchResult, refl}
 use Rattle.mw_logic.specs.Term.{Variable, RawTerm}
 use Rattle.mw_logic.specs.Signature.{Signature}
-use Rattle.mw_logic.specs.Module.{Statement}
-use Rattle.std.proofs.lemmas.Bool.{eqb-true}
-use Rattle.mw_module.specs.declared.conditions.WrittenFragment.{WrittenFragment}
-use Rattle.mw_module.specs.Conditions.{seen_fragments}
+use Rattle.mw_logic.specs.Module.{Fragment, Statement}
 use Rattle.mw_module.specs.declared.faults.FaultKind.{FaultKind}
-use Rattle.mw_text.specs.Readings.{ReadsPair}
 use Rattle.mw_module.specs.Words.{texts}
+use Rattle.mw_text.specs.Readings.{ReadsPair}
 use Rattle.mw_build.specs.Sides.{Sides}
-use Rattle.mw_build.specs.Equations.{IsStatementOf, SidesFault, IsEquation, EquationFault, sides}
+use Rattle.mw_build.specs.Fragments.{AreFragments}
+use Rattle.mw_build.specs.Equations.{IsStatementOf, TermsFault, IsEquation, EquationFault, bad_terms}
 
--- whether there are fragments, by their number
-pub has_none : (fragments : List WrittenFragment) (b : Bool) → b ≡ (length fragments == 0) → b ≡ true → seen_fragments fragments ≡ []
-has_none [] b is e = refl
-has_none (f ∷ fs) b is e = absurd (omega (arith, eqb-true (length (f ∷ fs)) 0 (sym is ∙ e)))
+-- an equation whose sides and fragments spell these
+pub of_terms : {E : Type 0} (sig : Signature) (variables : List Variable) (e : Sides) (left right : RawTerm) (C : List Fragment)
+    → ReadsPair sig variables (texts e.left) (texts e.right) (left, right) → AreFragments sig variables e.fragments C → (r : Result (Result Statement FaultKind) E)
+    → IfOk r (λ s. MatchResult s (IsStatementOf sig left right C e.executable) (λ kind. TermsFault sig left right C e.executable kind))
+    → IfOk r (λ s. MatchResult s (IsEquation sig variables e) (λ kind. EquationFault sig variables e kind))
+of_terms sig variables e left right C read are (Err x) h = h
+of_terms sig variables e left right C read are (Ok (Ok st)) h = record { left = left; right = right; read = read; condition = C; fragments = are; holds = h }
+of_terms sig variables e left right C read are (Ok (Err kind)) h = bad_terms left right C read are h
 
-pub has_some : (fragments : List WrittenFragment) (b : Bool) → b ≡ (length fragments == 0) → b ≡ false → seen_fragments fragments ≢ []
-has_some [] b is e = cc
-has_some (f ∷ fs) b is e = λ (h : seen_fragments (f ∷ fs) ≡ []). cc
-
-module _ (sig : Signature) (variables : List Variable) (e : Sides) where
-  -- an equation whose sides spell these terms
-  pub of_sides : {E : Type 0} (left right : RawTerm) → e.fragments ≡ [] → ReadsPair sig variables (texts e.left) (texts e.right) (left, right) → (r : Result (Result Statement FaultKind) E)
-      → IfOk r (λ s. MatchResult s (IsStatementOf sig left right e.executable) (λ kind. SidesFault sig left right e.executable kind))
-      → IfOk r (λ s. MatchResult s (IsEquation sig variables e) (λ kind. EquationFault sig variables e kind))
-  of_sides left right none read (Err x) h = h
-  of_sides left right none read (Ok (Ok st)) h = record { unconditional = none; left = left; right = right; read = read; sides = h }
-  of_sides left right none read (Ok (Err kind)) h = sides left right kind none read h
+-- what is told where nothing is found
+pub none_so : {X : Type 0} (N : Type 0) (P : X → Type 0) (o : Option X) → MatchOption o N P → ((x : X) → o ≡ Some x → ⊥) → N
+none_so N P None h n = h
+none_so N P (Some x) h n = absurd (n x refl)

@@ -1,63 +1,48 @@
 -- Sides of equations: canonical forms tell which are lone, and a module of them is one that contexts hold.
-use Rattle.std.proofs.Common.{◌≡◌, ◌∙◌, ◌||◌, ◌++◌, ℕ, zero, suc, List, [], ◌∷◌, Bool, true, false, cond, if◌then◌else◌, slice_get, All, Option, Some, None, IsTrue, Result, Ok, Err, IfOk, MatchOption, MatchResult, refl, sym, ap, subst, inl, inr}
+use Rattle.std.proofs.Common.{◌≡◌, ◌∙◌, ◌||◌, ℕ, zero, suc, List, [], ◌∷◌, Bool, true, false, slice_get, All, Option, Some, None, IsTrue, Result, Ok, Err, IfOk, MatchOption, refl, sym, ap, subst, ⊎_elim}
 use Rattle.std.specs.Prelude.{⊤}
-use Rattle.std.proofs.lemmas.Bool.{both_ways, or_left, or_right, or_cases}
+use Rattle.std.proofs.lemmas.Bool.{or_cases}
 use Rattle.std.proofs.lemmas.List.Elements.{All-nil, All-cons}
-use Rattle.std.proofs.Math.Bool.{or-false}
 use Rattle.mw_logic.specs.Term.{Variable, RawTerm, numeral, quoted, variable, apply, RawTerms, nil, cons}
 use Rattle.mw_logic.specs.Signature.{Signature, Operator, Member, at_number, IsRawTerm, a_variable, an_operator, AreRawTerms, end, next}
 use Rattle.mw_logic.specs.Accepted.{IsAccepted}
-use Rattle.mw_logic.specs.Substitution.{same_variable, occurs, occurs_in}
+use Rattle.mw_logic.specs.Substitution.{occurs}
 use Rattle.mw_logic.specs.Preregular.{IsSortOf, HasItsSorts}
 use Rattle.mw_logic.specs.Parts.{is_assoc, nested, all_nested, nest}
 use Rattle.mw_logic.specs.NormalForm.{normal_form}
 use Rattle.mw_logic.specs.Module.{Module, Statement, Fragment, IsStatement}
 use Rattle.mw_logic.proofs.Canonical.{assoc_operator, same_operator}
 use Rattle.mw_logic.proofs.EqualByNormalForm.{equal_by_normal_form}
-use Rattle.mw_logic.proofs.SameConditions.{same_variable-is, same_variable-refl}
 use Rattle.mw_term.specs.declared.raw.Raw.{Raw}
 use denote.Ref.{Bor}
 use Rattle.mw_term.specs.declared.term.View.{View}
 use Rattle.mw_term.specs.declared.term.View.TheVariants as seen
 use Rattle.mw_term.specs.Shapes.{viewed}
 use Rattle.mw_term.specs.Raws.{raw_term}
-use Rattle.mw_position.specs.Variables.{is_in, met, all_met}
-use Rattle.mw_position.proofs.Meeting.{is_in-met}
+use Rattle.mw_position.specs.Variables.{met}
 use Rattle.mw_sorting.specs.PreregularModulo.{IsPreregularModulo}
 use Rattle.mw_logic.specs.Built.{HasBuiltIns}
+use Rattle.mw_least.specs.Conditions.{met_fragments, occurs_among}
 use Rattle.mw_least.specs.Workable.{AreSides, IsOrdinaryEquation, IsWorkable}
 use Rattle.mw_text.specs.Mixfix.{Reads, Spells}
 use Rattle.mw_text.specs.Readings.{ReadsPair}
 use Rattle.mw_text.proofs.RawTerms.{spelled_raw}
 use Rattle.mw_text.proofs.SpelledVariables.{spelled_variables}
-use Rattle.mw_text.specs.Mentions.{is_met, missing_in}
+use Rattle.mw_carry.specs.Laws.{HasSortsOf}
 use Rattle.mw_build.specs.Sides.{Sides}
-use Rattle.mw_build.specs.Imported.{IsUnconditional}
-use Rattle.mw_build.proofs.Mentioned.{is_met-is}
-use Rattle.mw_build.proofs.Pairwise.{there}
-use Rattle.mw_build.proofs.PrintedVariables.{named_there}
+use Rattle.mw_build.specs.Fragments.{IsFragment, an_equation, a_match, a_test, a_truth}
+use Rattle.mw_build.specs.Imported.{HaveSortsAmong, IsOrdinary}
+use Rattle.mw_build.proofs.Bound.{right_bound, fragments_bound}
+use Rattle.mw_build.proofs.Pairwise.{all_read}
+use Rattle.mw_build.proofs.FragmentTerms.{fragments_raw, sorts_all, one_sorted, two_sorted}
+use Rattle.mw_carry.proofs.Numbers.{within_at}
+use Rattle.mw_module.specs.Conditions.{WrittenFragment}
 use Rattle.mw_module.specs.declared.faults.FaultKind.{FaultKind}
-use Rattle.mw_build.specs.Equations.{unbound, FitsIn, Oversized, IsLone, statement_of, IsApplicable, ApplicationFault, SidesFault, inapplicable, IsStatementOf, IsEquation}
+use Rattle.mw_build.specs.Equations.{all_terms, FitsIn, IsLone, statement_of, IsApplicable, ApplicationFault, AreFine, TermsFault, inapplicable, IsStatementOf, IsEquation}
 
--- where none is missing, each is bound
-none_missing : (bound xs : List Variable) → missing_in bound xs ≡ None → (x : Variable) → is_in x xs ≡ true → is_met bound x ≡ true
-none_missing bound [] h x i = absurd (both_ways _ refl i)
-none_missing bound (y ∷ xs) h x i = of (is_met bound y) refl h (λ n. none_missing bound xs n x)
-  where
-    here : (b : Bool) → same_variable y x ≡ b → is_met bound y ≡ true → (is_in x xs ≡ true → is_met bound x ≡ true) → (b || is_in x xs) ≡ true → is_met bound x ≡ true
-    here true e k rest j = subst (λ z. is_met bound z ≡ true) (same_variable-is y x e) k
-    here false e k rest j = rest j
-
-    of : (b : Bool) → is_met bound y ≡ b → (if b then missing_in bound xs else Some y) ≡ None → (missing_in bound xs ≡ None → is_in x xs ≡ true → is_met bound x ≡ true) → is_met bound x ≡ true
-    of true k n rest = here (same_variable y x) refl k (rest n) i
-    of false k n rest = cc
-
-pub all_bound : (left right : RawTerm) → unbound left right ≡ None → (x : Variable) → IsTrue (occurs x right) → IsTrue (occurs x left)
-all_bound left right h x i = sym (is_in-met x [] left) ∙ sym (is_met-is (met [] left) x) ∙ none_missing (met [] left) (met [] right) h x (is_in-met x [] right ∙ i)
-
-pub made : (left right : RawTerm) (executable : Bool) (fragments : List Fragment) (variables : List Variable) → fragments ≡ [] → variables ≡ met (met [] left) right
-    → record { left = left; right = right; fragments = fragments; variables = variables; rule = false; executable = executable; owise = false } ≡ statement_of left right executable
-made left right executable fragments variables e h = rw (e, h) refl
+pub made : (left right : RawTerm) (executable : Bool) (C fragments : List Fragment) (variables : List Variable) → fragments ≡ C → variables ≡ met_fragments (met (met [] left) right) C
+    → record { left = left; right = right; fragments = fragments; variables = variables; rule = false; executable = executable; owise = false } ≡ statement_of left right C executable
+made left right executable C fragments variables e h = rw (e, h) refl
 
 -- an associative operator of a raw term has two arguments, so the term is its own nesting
 module _ (sig : Signature) (ok : IsAccepted sig) where
@@ -99,73 +84,82 @@ not_variable (seen.Qid q) h y e = cc
 not_variable (seen.Var x) h y e = h x refl
 not_variable (seen.Op f ts) h y e = cc
 
--- what is known of the sides of an equation
-module _ (sig : Signature) (left right : RawTerm) (executable : Bool) where
-  pub side_fits : (t : RawTerm) (r : Result RawTerm FaultKind) → MatchResult r (λ v. FitsIn sig t × (v ≡ normal_form sig t)) (λ kind. Oversized sig t kind) → ((x : FaultKind) → r ≡ Err x → ⊥) → FitsIn sig t
-  side_fits t (Ok v) h n = h.0
-  side_fits t (Err x) h n = absurd (n x refl)
+-- what is known of the terms of an equation
+module _ (sig : Signature) (left right : RawTerm) (C : List Fragment) (executable : Bool) where
+  pub applied_so : {E : Type 0} → All (FitsIn sig) (all_terms left right C) → IsTrue executable → (r : Result (Option FaultKind) E)
+      → IfOk r (λ o. MatchOption o (IsApplicable sig left right C) (λ kind. ApplicationFault sig left right C kind))
+      → IfOk r (λ o. MatchOption o (AreFine sig left right C executable) (λ kind. TermsFault sig left right C executable kind))
+  applied_so fit x (Ok None) h = record { fit = fit; applicable = λ y. h }
+  applied_so fit x (Ok (Some kind)) h = inapplicable fit x h
+  applied_so fit x (Err e) h = tt
 
-  pub applied_so : {E : Type 0} → FitsIn sig left → FitsIn sig right → IsTrue executable → (r : Result (Option FaultKind) E) → IfOk r (λ o. MatchOption o (IsApplicable sig left right) (λ kind. ApplicationFault sig left right kind))
-      → IfOk r (λ o. MatchOption o (FitsIn sig left × FitsIn sig right × (IsTrue executable → IsApplicable sig left right)) (λ kind. SidesFault sig left right executable kind))
-  applied_so a b x (Ok None) h = (a, b, λ y. h)
-  applied_so a b x (Ok (Some kind)) h = inapplicable kind a b x h
-  applied_so a b x (Err e) h = tt
-
-  pub of_sides_so : (o : Option FaultKind) → MatchOption o (FitsIn sig left × FitsIn sig right × (IsTrue executable → IsApplicable sig left right)) (λ kind. SidesFault sig left right executable kind) → ((x : FaultKind) → o ≡ Some x → ⊥)
-      → (st : Statement) → st ≡ statement_of left right executable → IsStatementOf sig left right executable st
-  of_sides_so None h n st e = record { left_fits = h.0; right_fits = h.1; applicable = h.2; statement = e }
-  of_sides_so (Some x) h n st e = absurd (n x refl)
+  pub fine_so : (o : Option FaultKind) → MatchOption o (AreFine sig left right C executable) (λ kind. TermsFault sig left right C executable kind) → ((x : FaultKind) → o ≡ Some x → ⊥)
+      → AreFine sig left right C executable
+  fine_so None h n = h
+  fine_so (Some x) h n = absurd (n x refl)
 
 -- a statement that can be applied is an equation that contexts hold
-pub plain_statement : (sig : Signature) (left right : RawTerm) (executable : Bool) (st : Statement) → IsStatementOf sig left right executable st → IsTrue st.executable → IsOrdinaryEquation sig st
-plain_statement sig left right executable st is h = subst (IsOrdinaryEquation sig) (sym is.statement) (record {
+pub ordinary_equation : (sig : Signature) (left right : RawTerm) (C : List Fragment) (executable : Bool) (st : Statement) → IsStatementOf sig left right C executable st → IsTrue st.executable
+    → IsOrdinaryEquation sig st
+ordinary_equation sig left right C executable st is h = subst (IsOrdinaryEquation sig) (sym is.statement) (record {
   equation = refl;
   ordinary = refl;
   not_lone = λ x k. applicable.not_lone (x, k);
   variables = refl;
-  bound = all_bound left right applicable.bound;
-  bound_in_turn = tt;
+  bound = right_bound left right C applicable.bound;
+  bound_in_turn = fragments_bound left right C applicable.bound;
 })
   where
-    applicable : IsApplicable sig left right
-    applicable = is.applicable (sym (ap (λ (s : Statement). s.executable) is.statement) ∙ h)
+    applicable : IsApplicable sig left right C
+    applicable = is.holds.applicable (sym (ap (λ (s : Statement). s.executable) is.statement) ∙ h)
 
--- and has no condition
-pub unconditional_statement : (sig : Signature) (left right : RawTerm) (executable : Bool) (st : Statement) → IsStatementOf sig left right executable st → IsUnconditional st
-unconditional_statement sig left right executable st is = subst IsUnconditional (sym is.statement) (record { equation = refl; unconditional = refl; ordinary = refl })
+-- and in any case none that is `owise`
+pub ordinary_statement : (sig : Signature) (left right : RawTerm) (C : List Fragment) (executable : Bool) (st : Statement) → IsStatementOf sig left right C executable st → IsOrdinary st
+ordinary_statement sig left right C executable st is = subst IsOrdinary (sym is.statement) (record { equation = refl; ordinary = refl })
 
 -- what can stand in a context
 pub record CanStand (sig : Signature) (st : Statement) : Type 0 where
   pub sides : AreSides sig st
-  pub plain : IsTrue st.executable → IsOrdinaryEquation sig st
-  pub none : st.fragments ≡ []
+  pub ordinary : IsTrue st.executable → IsOrdinaryEquation sig st
 
 module _ (sig : Signature) (ok : IsPreregularModulo sig) (variables : List Variable) (sorted : (x : Variable) → Member x variables → IsSortOf sig x.sort) where
   -- the sorts of what tokens spell are there
-  sorts_there : {t : RawTerm} {p : ℕ} {text : List (List ℕ)} → Spells sig variables t p text → (x : Variable) → IsTrue (occurs x t) → IsSortOf sig x.sort
-  sorts_there s = spelled_variables sig variables (λ (x : Variable). IsSortOf sig x.sort) (λ w. ⊤) sorted (λ x S n v h. named_there sig x.sort S n) s (λ w m. tt)
+  sorts_there : {t : RawTerm} {p : ℕ} {text : List (List ℕ)} → Spells sig variables t p text → HasSortsOf sig t
+  sorts_there s = spelled_variables sig variables (λ (x : Variable). IsSortOf sig x.sort) (λ w. ⊤) sorted (λ x S n v h. within_at sig.sorts x.sort S n) s (λ w m. tt)
 
-  -- the sides of a statement are those that its texts spell
+  fragment_sorts : (w : WrittenFragment) (f : Fragment) → IsFragment sig variables w f → HaveSortsAmong sig (f ∷ [])
+  fragment_sorts w f (an_equation left right u v r) = two_sorted sig u v (sorts_there r.only.0.first.spells) (sorts_there r.only.0.second.spells)
+  fragment_sorts w f (a_match pattern term p t r) = two_sorted sig p t (sorts_there r.only.0.first.spells) (sorts_there r.only.0.second.spells)
+  fragment_sorts w f (a_test ts term S t is r) = one_sorted sig t (sorts_there r.spelled.spells)
+  fragment_sorts w f (a_truth ts B b not is r) = one_sorted sig b (sorts_there r.spelled.spells)
+
+  -- the sides and fragments of a statement are those that its texts spell
   pub read_stands : (e : Sides) (st : Statement) → IsEquation sig variables e st → CanStand sig st
   read_stands e st is =
       let first = is.read.only.0.first.spells in
       let second = is.read.only.0.second.spells in
+      let C = is.condition in
       record {
-        sides = subst (AreSides sig) (sym is.sides.statement) (record {
+        sides = subst (AreSides sig) (sym is.holds.statement) (record {
           left = spelled_raw sig ok.accepted variables first;
           right = spelled_raw sig ok.accepted variables second;
           kinds = (is.read.only.0.kind, is.read.only.0.of_first, is.read.only.0.of_second);
-          fragments = tt;
-          sorts = λ x o. elim (or_cases (occurs x is.left) (occurs x is.right) (sym (or-false (occurs x is.left || occurs x is.right)) ∙ o)) [ inl h ↦ sorts_there first x h | inr h ↦ sorts_there second x h ];
+          fragments = fragments_raw sig ok.accepted variables e.fragments C is.fragments;
+          sorts = all_sorts is.left is.right C (sorts_there first) (sorts_there second)
+              (sorts_all sig C (all_read (IsFragment sig variables) (λ f. HaveSortsAmong sig (f ∷ [])) fragment_sorts e.fragments C is.fragments));
         });
-        plain = plain_statement sig is.left is.right e.executable st is.sides;
-        none = ap (λ (s : Statement). s.fragments) is.sides.statement;
+        ordinary = ordinary_equation sig is.left is.right C e.executable st is.holds;
       }
+    where
+      all_sorts : (left right : RawTerm) (C : List Fragment) → HasSortsOf sig left → HasSortsOf sig right → HaveSortsAmong sig C
+          → (x : Variable) → IsTrue ((occurs x left || occurs x right) || occurs_among x C) → IsSortOf sig x.sort
+      all_sorts left right C l r c x o =
+          ⊎_elim (λ h. ⊎_elim (λ i. l x i) (λ i. r x i) (or_cases (occurs x left) (occurs x right) h)) (λ h. c x h) (or_cases (occurs x left || occurs x right) (occurs_among x C) o)
 
 -- a module of statements that can stand in a context
 pub workable_module : (sig : Signature) → IsPreregularModulo sig → HasItsSorts sig → HasBuiltIns sig → (sts : List Statement)
     → ((i : ℕ) (st : Statement) → slice_get sts i ≡ Some st → CanStand sig st) → IsWorkable (record { signature = sig; statements = sts })
-workable_module sig ok numbers built sts all = record { signature = ok; numbers = numbers; built = built; sides = all_sides; equations = at_each; unconditional = none_at }
+workable_module sig ok numbers built sts all = record { signature = ok; numbers = numbers; built = built; sides = all_sides; equations = at_each }
   where
     all_sides : (k : ℕ) (st : Statement) → at_number sts k ≡ Some st → AreSides sig st
     all_sides zero st is = cc
@@ -173,11 +167,7 @@ workable_module sig ok numbers built sts all = record { signature = ok; numbers 
 
     at_each : (k : ℕ) (st : Statement) → IsStatement (record { signature = sig; statements = sts }) k st → IsOrdinaryEquation sig st
     at_each zero st is = let h = is.is_there in cc
-    at_each (suc i) st is = (all i st is.is_there).plain is.executable
-
-    none_at : (k : ℕ) (st : Statement) → IsStatement (record { signature = sig; statements = sts }) k st → st.fragments ≡ []
-    none_at zero st is = let h = is.is_there in cc
-    none_at (suc i) st is = (all i st is.is_there).none
+    at_each (suc i) st is = (all i st is.is_there).ordinary is.executable
 
 -- the sides of all statements of a module that contexts hold
 pub sides_at_all : (M : Module) → IsWorkable M → All (AreSides M.signature) M.statements

@@ -1,14 +1,16 @@
 -- The statements of modules that are reached by imports, as they stand in the module that reaches them.
-use Rattle.std.specs.Prelude.{◌≡◌, ℕ, List, [], map, flat_map, Option, Some, None, slice_get, false}
+use Rattle.std.specs.Prelude.{◌≡◌, ℕ, List, [], map, flat_map, Option, Some, None, slice_get, false, IsTrue}
 use Rattle.mw_logic.specs.Term.{RawTerm, Variable}
 use Rattle.mw_logic.specs.Signature.{Signature, Member}
-use Rattle.mw_logic.specs.Module.{Module, Statement}
+use Rattle.mw_logic.specs.Module.{Module, Fragment, Statement}
 use Rattle.mw_module.specs.declared.faults.FaultKind.{FaultKind}
 use Rattle.mw_module.specs.declared.faults.Fault.{Fault}
+use Rattle.mw_logic.specs.Preregular.{IsSortOf}
+use Rattle.mw_least.specs.Conditions.{occurs_among}
 use Rattle.mw_least.specs.Workable.{AreSides}
-use Rattle.mw_carry.specs.Carried.{IsCarried, IsCarriedStatement, IsPart}
+use Rattle.mw_carry.specs.Carried.{IsCarried, AreCarriedFragments, IsCarriedStatement, IsPart}
 use Rattle.mw_build.specs.Pairwise.{AreRelated, IsFirstWrong}
-use Rattle.mw_build.specs.Equations.{IsStatementOf, SidesFault}
+use Rattle.mw_build.specs.Equations.{IsStatementOf, TermsFault}
 
 -- A module with its name, the variables that are declared in it, and the statements that stand in it itself, read in its own signature. The module's
 -- statements are all that it reaches.
@@ -31,26 +33,31 @@ origins_in (Some m) = map (λ (st : Statement). record { signature = m.module.si
 abbrev pub origins_of : List Accepted → List ℕ → List Origin
 origins_of ms ks = flat_map (λ (k : ℕ). origins_in (slice_get ms k)) ks
 
--- an ordinary equation without a condition
-pub record IsUnconditional (st : Statement) : Type 0 where
+-- the sorts of the variables of fragments are there
+abbrev pub HaveSortsAmong : Signature → List Fragment → Type 0
+HaveSortsAmong sig C = (x : Variable) → IsTrue (occurs_among x C) → IsSortOf sig x.sort
+
+-- an equation, and none that is `owise`
+pub record IsOrdinary (st : Statement) : Type 0 where
   pub equation : st.rule ≡ false
-  pub unconditional : st.fragments ≡ []
   pub ordinary : st.owise ≡ false
 
 module _ (sig : Signature) where
   -- the statement stands for one that was read elsewhere, and can stand in this signature
   pub record IsImported (e : Origin) (st : Statement) : Type 0 where
     pub carried : IsCarriedStatement e.signature sig e.statement st
-    pub holds : IsStatementOf sig st.left st.right e.statement.executable st
+    pub holds : IsStatementOf sig st.left st.right st.fragments e.statement.executable st
     pub sides : AreSides sig st
 
   -- what is wrong here with a statement that was read elsewhere
   pub record ImportedFault (e : Origin) (kind : FaultKind) : Type 0 where
     pub left : RawTerm
     pub right : RawTerm
+    pub fragments : List Fragment
     pub carried_left : IsCarried e.signature sig e.statement.left left
     pub carried_right : IsCarried e.signature sig e.statement.right right
-    pub fault : SidesFault sig left right e.statement.executable kind
+    pub carried_fragments : AreCarriedFragments e.signature sig e.statement.fragments fragments
+    pub fault : TermsFault sig left right fragments e.statement.executable kind
 
   abbrev pub AreImported : List Origin → List Statement → Type 0
   AreImported es sts = AreRelated IsImported es sts

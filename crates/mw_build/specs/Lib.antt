@@ -1,6 +1,8 @@
 -- Modules that were accepted, and why others are refused.
 pub mod Pairwise
 pub mod Sides
+pub mod Fragments
+pub mod Endings
 pub mod Equations
 pub mod Imported
 pub mod Modules

@@ -20,7 +20,7 @@ use Rattle.mw_declare.specs.Faults.{Typing, typing_of}
 use Rattle.mw_declare.specs.Declarations.{Declares, DeclarationFault}
 use Rattle.mw_build.specs.Sides.{Sides, equations_of}
 use Rattle.mw_build.specs.Equations.{AreEquations, FirstFault}
-use Rattle.mw_build.specs.Imported.{Origin, IsUnconditional, origins_of, AreImported, FirstImportedFault}
+use Rattle.mw_build.specs.Imported.{Origin, IsOrdinary, origins_of, AreImported, FirstImportedFault}
 use Rattle.mw_build.specs.SignatureFaults.{SignatureFault}
 
 -- the module's own variables have these sorts, and its imports reach these units
@@ -88,12 +88,12 @@ pub record AreLoaded (us : List FlatUnit) (ms : List Accepted) : Type 0 where
   pub known : (k : ℕ) (u : FlatUnit) → slice_get us k ≡ Some u → AreKnown u.statements
   pub declared : (k : ℕ) (u : FlatUnit) (m : Accepted) → slice_get us k ≡ Some u → slice_get ms k ≡ Some m → IsOfUnit us u m
 
--- What is kept for a module, of whose statements so many are imported: its grammar, and its index where it was made; and its own statements are equations without conditions.
+-- What is kept for a module, of whose statements so many are imported: its grammar, and its index where it was made; and none of its own statements is a rule or `owise`.
 pub record IsHeld (M : Module) (imported : ℕ) (variables : List Variable) (g : Grammar) (kept : Option (Box Index)) : Type 0 where
   pub grammar : IsGrammarOf M.signature variables g
   pub index : IfSome kept (λ (index : Box Index). IsIndexOf M index.value)
   pub within : imported ≤ length M.statements
-  pub plain : All IsUnconditional (drop imported M.statements)
+  pub ordinary : All IsOrdinary (drop imported M.statements)
 
 -- declarations of statements that are known, among which those with the module's own variables are
 pub record IsOfKnown (d : Declarations) : Type 0 where

@@ -3,13 +3,14 @@ use Rattle.std.specs.Prelude.{◌≡◌, ℕ, false, List, [], ◌∷◌, ◌++�
 use Rattle.mw_lex.specs.declared.token.Token.{Token}
 use Rattle.mw_lex.specs.Lexing.{tokens_of}
 use Rattle.mw_logic.specs.Term.{RawTerm}
-use Rattle.mw_logic.specs.Signature.{Signature, at_number, IsRawTerm}
+use Rattle.mw_logic.specs.Signature.{Signature, at_number, IsRawTerm, Member}
 use Rattle.mw_logic.specs.Module.{Statement}
 use Rattle.mw_module.specs.Units.{SeenUnit, Reads}
 use Rattle.mw_import.specs.Flat.{FlatUnit}
 use Rattle.mw_print.specs.Printing.{mixfix_text}
 use Rattle.mw_print.specs.Laws.{ArePrintable, ReadsBack}
 use Rattle.mw_text.specs.Proper.{HasIdentifiers}
+use Rattle.mw_build.specs.Equations.{terms_of}
 use Rattle.mw_build.specs.Modules.{Accepted, IsAccepted}
 
 -- These modules are of units of these tokens, each accepted where those before it were.
@@ -49,9 +50,9 @@ pub record IsPrintableTerm (sig : Signature) (t : RawTerm) : Type 0 where
   pub variables : ArePrintable sig t
   pub identifiers : HasIdentifiers t
 
--- so can those of its sides
+-- so can those of its sides, and those of the terms of its condition
 abbrev pub IsPrintableStatement : Signature → Statement → Type 0
-IsPrintableStatement sig st = IsPrintableTerm sig st.left × IsPrintableTerm sig st.right
+IsPrintableStatement sig st = IsPrintableTerm sig st.left × IsPrintableTerm sig st.right × ((t : RawTerm) → Member t (terms_of st.fragments) → IsPrintableTerm sig t)
 
 -- The variables and quoted identifiers of an accepted module's statements can be printed.
 abbrev pub StatementsArePrintable : Type 0

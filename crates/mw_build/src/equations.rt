@@ -1,27 +1,27 @@
 // Equations, from tokens to statements.
-ghost use Rattle.std.specs.Prelude.{◌≡◌, ◌↔◌, List, [], IfOk, OnOk, IsTrue, MatchOption, MatchResult};
-ghost use Rattle.mw_logic.specs.Term.{Variable, RawTerm, variable as a_variable};
+ghost use Rattle.std.specs.Prelude.{◌≡◌, ◌↔◌, List, All, map, IfOk, IsTrue, MatchOption, MatchResult};
+ghost use Rattle.mw_logic.specs.Term.{Variable, variable as a_variable};
 ghost use Rattle.mw_logic.specs.Signature.{Signature as SignatureOf, IsRawTerm};
 ghost use Rattle.mw_logic.specs.Accepted.{IsAccepted};
 ghost use Rattle.mw_logic.specs.NormalForm.{normal_form};
-ghost use Rattle.mw_canon.specs.Causes.{HasCause as HasCanonCause};
 ghost use Rattle.mw_term.specs.Raws.{raw_term};
+ghost use Rattle.mw_term.specs.Statements.{fragment_of};
 ghost use Rattle.mw_module.specs.Units.{seen_statements};
 ghost use Rattle.mw_module.specs.Words.{texts};
-ghost use Rattle.mw_text.specs.Mentions.{missing_in};
-ghost use Rattle.mw_position.specs.Variables.{met};
-ghost use Rattle.mw_parse.specs.Answers.{HasPairCause};
+ghost use Rattle.mw_text.specs.Readings.{ReadsPair};
+ghost use Rattle.mw_least.specs.Conditions.{AreRawFragments};
 ghost use Rattle.mw_grammar.specs.Grammars.{IsGrammarOf, IsReading};
-ghost use Rattle.mw_build.specs.Equations.{FitsIn, Oversized, IsEquation, EquationFault, IsApplicable, ApplicationFault, IsStatementOf, SidesFault, AreEquations, FirstFault, unbound as unbound_in};
-ghost use Rattle.mw_build.specs.Sides.{Sides, equations_of, seen_equation, seen_equations};
+ghost use Rattle.mw_build.specs.Equations.{FitsIn, FirstOversized, all_terms, IsEquation, EquationFault, IsApplicable, ApplicationFault, AreFine, IsStatementOf, TermsFault, AreEquations, FirstFault};
+ghost use Rattle.mw_build.specs.Sides.{equations_of, seen_equation, seen_equations};
 
-use mw_canon::{CanonError, Facts, canon};
+use crate::fragments::{fragments_of, pair};
+use crate::sizes::{canonical, fragments_fault, term_fault};
+use crate::variables::{unbound, variables_of};
+use mw_canon::Facts;
 use mw_grammar::Grammar;
 use mw_lex::Token;
 use mw_module::{Fault, FaultKind, Form, Lined, WrittenFragment};
-use mw_parse::{PairError, parse_pair};
-use mw_term::{Fragment, Raw, Seq, Statement, Term, VarId, View};
-use mw_text::Variables;
+use mw_term::{Fragment, Raw, Seq, Statement, Term, View};
 use std::alloc::{AllocError, Global};
 
 /// An equation's sides as tokens, the fragments of its condition, its line, and whether it is executable.
@@ -64,160 +64,114 @@ pub fn equations<'u, 's>(
     Ok(found)
 }
 
-/// Meets the variables of a term, from the left.
-fn meet_all(alloc: Global, variables: &mut Variables, term: &Raw) -> Result<(), AllocError>
-    ensures { OnOk result (variables.new ≡ met variables.old (raw_term term.now)) }
-{
-    match term {
-        Raw::Var(variable) => {
-            variables.meet(alloc, variable.name.as_slice(), variable.sort)?;
-            Ok(())
-        }
-        Raw::Op(_, args) => {
-            let mut rest = args.as_slice();
-            while let [arg, after @ ..] = rest {
-                meet_all(alloc, variables, arg)?;
-                rest = after;
-            }
-            Ok(())
-        }
-        _ => Ok(()),
-    }
-}
-
-/// The variables of a term in order of first mention.
-fn mentioned(alloc: Global, term: &Raw) -> Result<Variables, AllocError>
-    ensures { IfOk result (λ m. m ≡ met [] (raw_term term.now)) }
-{
-    let mut variables = Variables::new(alloc)?;
-    meet_all(alloc, &mut variables, term)?;
-    Ok(variables)
-}
-
-/// The first variable of the right side that the left side hasn't.
-fn unbound(alloc: Global, left: &Raw, right: &Raw) -> Result<Option<VarId>, AllocError>
-    ensures { IfOk result (λ o. o ≡ unbound_in (raw_term left.now) (raw_term right.now)) }
-{
-    let bound = mentioned(alloc, left)?;
-    let used = mentioned(alloc, right)?;
-    used.missing_in(alloc, &bound)
-}
-
-/// What keeps a term out.
-fn oversized(error: CanonError) -> Result<FaultKind, AllocError>
-    ensures { (sig : SignatureOf) (t : RawTerm) → HasCanonCause sig t error → IfOk result (Oversized sig t) }
-{
-    match error {
-        CanonError::Deep => Ok(FaultKind::TooDeep),
-        CanonError::Nat => Ok(FaultKind::NumberTooLarge),
-        CanonError::Memory => Err(AllocError),
-    }
-}
-
-/// The canonical form of a term that was read, or what keeps the term out.
-pub fn canonical(
-    alloc: Global,
-    facts: &Facts,
-    raw: &Raw,
-) -> Result<Result<Term, FaultKind>, AllocError>
-    requires { IsRawTerm facts.now (raw_term raw.now) }
-    ensures { IfOk result (λ r. MatchResult r
-        (λ t. FitsIn facts.now (raw_term raw.now) × (t ≡ normal_form facts.now (raw_term raw.now)))
-        (λ kind. Oversized facts.now (raw_term raw.now) kind)) }
-{
-    facts.shows();
-    match canon(alloc, facts, raw) {
-        Ok(term) => Ok(Ok(term)),
-        Err(error) => Ok(Err(oversized(error)?)),
-    }
-}
-
 fn is_variable(term: &Term) -> bool
     ensures { IsTrue result ↔ (x : Variable) × (term.now ≡ a_variable x) }
 {
     matches!(term.view(), View::Var(_))
 }
 
-/// Why an equation of these sides can't be applied, if it can't, by its left side's canonical form too.
+/// Why an equation of these sides and fragments can't be applied, if it can't, by its left side's canonical form too.
 fn application_fault(
     alloc: Global,
     canonical: &Term,
     left: &Raw,
     right: &Raw,
+    fragments: &[Fragment],
 ) -> Result<Option<FaultKind>, AllocError>
     ensures { (sig : SignatureOf) → IsAccepted sig → IsRawTerm sig (raw_term left.now) → canonical.now ≡ normal_form sig (raw_term left.now) → IfOk result (λ o. MatchOption o
-        (IsApplicable sig (raw_term left.now) (raw_term right.now))
-        (λ kind. ApplicationFault sig (raw_term left.now) (raw_term right.now) kind)) }
+        (IsApplicable sig (raw_term left.now) (raw_term right.now) (map fragment_of fragments.now))
+        (λ kind. ApplicationFault sig (raw_term left.now) (raw_term right.now) (map fragment_of fragments.now) kind)) }
 {
     if is_variable(canonical) {
         return Ok(Some(FaultKind::LoneVariable));
     }
-    match unbound(alloc, left, right)? {
+    match unbound(alloc, left, right, fragments)? {
         Some(variable) => Ok(Some(FaultKind::UnboundVariable(variable.name))),
         None => Ok(None),
     }
 }
 
-/// What is wrong with the sides of an equation, if anything is.
-fn sides_fault(
+/// What keeps a term of an equation out, the first one at fault; or the canonical form of the left side.
+fn left_form(
     alloc: Global,
     facts: &Facts,
     left: &Raw,
     right: &Raw,
+    fragments: &[Fragment],
+) -> Result<Result<Term, FaultKind>, AllocError>
+    requires left { IsRawTerm facts.now (raw_term left.now) }
+    requires right { IsRawTerm facts.now (raw_term right.now) }
+    requires fragments { AreRawFragments facts.now (map fragment_of fragments.now) }
+    ensures { IfOk result (λ r. MatchResult r
+        (λ t. All (FitsIn facts.now) (all_terms (raw_term left.now) (raw_term right.now) (map fragment_of fragments.now)) × (t ≡ normal_form facts.now (raw_term left.now)))
+        (λ kind. FirstOversized facts.now kind (all_terms (raw_term left.now) (raw_term right.now) (map fragment_of fragments.now)))) }
+{
+    let form = match canonical(alloc, facts, left)? {
+        Ok(form) => form,
+        Err(kind) => return Ok(Err(kind)),
+    };
+    if let Some(kind) = term_fault(alloc, facts, right)? {
+        return Ok(Err(kind));
+    }
+    match fragments_fault(alloc, facts, fragments)? {
+        Some(kind) => Ok(Err(kind)),
+        None => Ok(Ok(form)),
+    }
+}
+
+/// What is wrong with the terms of an equation, if anything is.
+fn terms_fault(
+    alloc: Global,
+    facts: &Facts,
+    left: &Raw,
+    right: &Raw,
+    fragments: &[Fragment],
     executable: bool,
 ) -> Result<Option<FaultKind>, AllocError>
     requires left { IsRawTerm facts.now (raw_term left.now) }
     requires right { IsRawTerm facts.now (raw_term right.now) }
+    requires fragments { AreRawFragments facts.now (map fragment_of fragments.now) }
     ensures { IfOk result (λ o. MatchOption o
-        (FitsIn facts.now (raw_term left.now) × FitsIn facts.now (raw_term right.now) × (IsTrue executable → IsApplicable facts.now (raw_term left.now) (raw_term right.now)))
-        (λ kind. SidesFault facts.now (raw_term left.now) (raw_term right.now) executable kind)) }
+        (AreFine facts.now (raw_term left.now) (raw_term right.now) (map fragment_of fragments.now) executable)
+        (λ kind. TermsFault facts.now (raw_term left.now) (raw_term right.now) (map fragment_of fragments.now) executable kind)) }
 {
     facts.shows();
-    let form = match canonical(alloc, facts, left)? {
-        Ok(form) => form,
-        Err(kind) => return Ok(Some(kind)),
-    };
-    if let Err(kind) = canonical(alloc, facts, right)? {
-        return Ok(Some(kind));
-    }
-    if executable {
-        application_fault(alloc, &form, left, right)
-    } else {
-        Ok(None)
+    match left_form(alloc, facts, left, right, fragments)? {
+        Ok(form) => {
+            if executable {
+                application_fault(alloc, &form, left, right, fragments)
+            } else {
+                Ok(None)
+            }
+        }
+        Err(kind) => Ok(Some(kind)),
     }
 }
 
-/// The variables of two terms in order of first mention.
-fn variables_of(alloc: Global, left: &Raw, right: &Raw) -> Result<Seq<VarId>, AllocError>
-    ensures { IfOk result (λ xs. xs ≡ met (met [] (raw_term left.now)) (raw_term right.now)) }
-{
-    let mut variables = mentioned(alloc, left)?;
-    meet_all(alloc, &mut variables, right)?;
-    variables.list(alloc)
-}
-
-/// The statement of an equation's sides, or what is wrong with them.
-pub fn sides_statement(
+/// The statement of an equation's sides and fragments, or what is wrong with their terms.
+pub fn statement_of(
     alloc: Global,
     facts: &Facts,
     left: Raw,
     right: Raw,
+    fragments: Vec<Fragment>,
     executable: bool,
 ) -> Result<Result<Statement, FaultKind>, AllocError>
     requires left { IsRawTerm facts.now (raw_term left) }
     requires right { IsRawTerm facts.now (raw_term right) }
+    requires fragments { AreRawFragments facts.now (map fragment_of fragments.items) }
     ensures { IfOk result (λ r. MatchResult r
-        (λ st. IsStatementOf facts.now (raw_term left) (raw_term right) executable st)
-        (λ kind. SidesFault facts.now (raw_term left) (raw_term right) executable kind)) }
+        (λ st. IsStatementOf facts.now (raw_term left) (raw_term right) (map fragment_of fragments.items) executable st)
+        (λ kind. TermsFault facts.now (raw_term left) (raw_term right) (map fragment_of fragments.items) executable kind)) }
 {
-    if let Some(kind) = sides_fault(alloc, facts, &left, &right, executable)? {
+    if let Some(kind) = terms_fault(alloc, facts, &left, &right, &fragments, executable)? {
         return Ok(Err(kind));
     }
-    let variables = variables_of(alloc, &left, &right)?;
+    let variables = variables_of(alloc, &left, &right, &fragments)?;
     Ok(Ok(Statement {
         left,
         right,
-        fragments: Seq::of(Vec::<Fragment>::new(alloc)),
+        fragments: Seq::of(fragments),
         variables,
         rule: false,
         executable,
@@ -225,16 +179,29 @@ pub fn sides_statement(
     }))
 }
 
-/// What is wrong with an equation whose texts aren't read.
-fn unread(error: &PairError) -> Result<Result<Statement, FaultKind>, AllocError>
-    ensures { (sig : SignatureOf) (variables : List Variable) (e : Sides) → e.fragments ≡ [] → HasPairCause sig variables (texts e.left) (texts e.right) error.now
-        → IfOk result (λ r. MatchResult r (IsEquation sig variables e) (λ kind. EquationFault sig variables e kind)) }
+/// The statement that an equation is whose texts spell these sides, or what is wrong with it.
+fn with_condition(
+    alloc: Global,
+    facts: &Facts,
+    grammar: &Grammar,
+    equation: &Equation<'_, '_>,
+    left: Raw,
+    right: Raw,
+) -> Result<Result<Statement, FaultKind>, AllocError>
+    requires reading { IsReading grammar.now }
+    requires grammar { (variables : List Variable) × IsGrammarOf facts.now variables grammar.now }
+    requires left { IsRawTerm facts.now (raw_term left) }
+    requires right { IsRawTerm facts.now (raw_term right) }
+    ensures { (variables : List Variable) → IsGrammarOf facts.now variables grammar.now
+        → ReadsPair facts.now variables (texts (seen_equation equation.now).left) (texts (seen_equation equation.now).right) (raw_term left, raw_term right)
+        → IfOk result (λ r. MatchResult r
+        (IsEquation facts.now variables (seen_equation equation.now))
+        (λ kind. EquationFault facts.now variables (seen_equation equation.now) kind)) }
 {
-    match error {
-        PairError::TooLong => Ok(Err(FaultKind::TermTooLong)),
-        PairError::NoParse => Ok(Err(FaultKind::NoParse)),
-        PairError::Ambiguous { .. } => Ok(Err(FaultKind::Ambiguous)),
-        PairError::Memory => Err(AllocError),
+    facts.shows();
+    match fragments_of(alloc, grammar, equation.fragments)? {
+        Ok(fragments) => { statement_of(alloc, facts, left, right, fragments, equation.executable) }
+        Err(kind) => Ok(Err(kind)),
     }
 }
 
@@ -251,13 +218,10 @@ fn statement(
         (IsEquation facts.now variables (seen_equation equation.now))
         (λ kind. EquationFault facts.now variables (seen_equation equation.now) kind)) }
 {
-    if !equation.fragments.is_empty() {
-        return Ok(Err(FaultKind::NotInProfile));
-    }
     facts.shows();
-    match parse_pair(alloc, grammar, equation.left, equation.right) {
-        Ok((left, right)) => sides_statement(alloc, facts, left, right, equation.executable),
-        Err(error) => unread(&error),
+    match pair(alloc, grammar, equation.left, equation.right)? {
+        Ok((left, right)) => with_condition(alloc, facts, grammar, equation, left, right),
+        Err(kind) => Ok(Err(kind)),
     }
 }
 

@@ -13,10 +13,19 @@
 //! sort; the first import at fault; those of the declarations of the flattened module; an operator without a least
 //! result on some sorts, one whose groupings of three sorts differ, or one whose identity, left out, raises a sort, at
 //! the line of the unit's first token; then statement after statement: imported ones, told at the line of the unit's
-//! first token, and then its own equations, each with its line. Of one equation: a condition, which isn't read yet; a
-//! side of more than 1,024 tokens; sides that spell no pair of terms of one kind, or two; the left side, then the right
-//! one, of more than 1,000 levels or with too large a number; and where it is executable, a left side that is a
-//! variable modulo the axioms, or the first variable of the right side, in order of mention, that the left one hasn't.
+//! first token, and then its own equations, each with its line. Of one equation: its texts, first those of its sides,
+//! then those of the fragments of its condition in turn (one of more than 1,024 tokens; else none that is spelled, or
+//! two); then its terms in the same order, each for more than 1,000 levels in its canonical form, or for too large a
+//! number in it; and where it is executable, a left side that is a variable modulo the axioms, or the first variable
+//! that isn't bound, in order of mention: of the right side one that neither the left side nor the pattern of a match
+//! has, and then of what is evaluated in a fragment one that neither the left side nor the pattern of a match before it
+//! has.
+//!
+//! A fragment is a match or an equation as mw_module divides it, and its two texts are read as terms of one kind. Any
+//! other text is a sort test where it ends in a colon and a sort that is there, or such a sort in brackets; what stands
+//! before the colon is read as a term of the sort's kind. Else all of it is read as a term of the kind of Bool
+//! (specs/Fragments).
+//!
 //! The text of an imported one isn't looked at again. As axioms that an importer adds make terms no deeper, and
 //! variables stay apart, only a left side that has become a variable and a number that has become too large, where an
 //! identity is left out under a successor, are new with it; that the others can't come isn't proved, and they are
@@ -26,8 +35,8 @@
 //!
 //! - `accepted`: the module has the signature that the flattened module declares, the variables of its own statements,
 //!   and for its statements, in flattened order, those that stand for the own statements of the modules that it reaches
-//!   (`IsImported`, specs/Imported), and then for each of its equations the statement whose sides its texts spell in
-//!   its own signature, and no others of one kind (`IsAccepted`, specs/Modules).
+//!   (`IsImported`, specs/Imported), and then for each of its equations the statement whose sides and fragments its
+//!   texts spell in its own signature, and no others (`IsEquation`, specs/Equations; `IsAccepted`, specs/Modules).
 //! - `fault`: a fault is answered only where the unit has it, and it is the first (`IsRefused`; `IsFirstWrong` of
 //!   specs/Pairwise). A unit is one module at most, and none where it is refused (proofs/OneModule).
 //! - `build` wants that the units before were accepted as the modules before (`AreLoaded`); with one more it is so
@@ -37,7 +46,8 @@
 //!   nothing else.
 //! - The law `texts_read_back`: the text of each raw term of a module that a source's unit is, cut into tokens, spells
 //!   this term in the module, where the term's variables can be printed and its quoted identifiers are tokens
-//!   (specs/Printing). By `statements_are_printable` so it is for the module's statements.
+//!   (specs/Printing). By `statements_are_printable` so it is for the sides and the fragments' terms of the
+//!   module's statements.
 //! - `Module::term`: the one term that the tokens spell, a term of the signature; no term only above 1,024 tokens,
 //!   where they spell none, or two. `Module::pair`: the one pair of terms of one kind, likewise.
 //! - `canonical`: the canonical form of a term that was read, or what keeps the term out.
@@ -50,10 +60,13 @@
 
 mod carrying;
 mod equations;
+mod fragments;
 mod laws;
 mod modules;
 mod signature;
+mod sizes;
+mod variables;
 
-pub use equations::canonical;
 pub use laws::{statements_are_printable, texts_read_back};
 pub use modules::{Built, Module, build};
+pub use sizes::canonical;

@@ -23,7 +23,7 @@ ghost use Rattle.mw_import.specs.Flat.{IsFlat};
 ghost use Rattle.mw_declare.specs.Declarations.{Declares, DeclarationFault};
 ghost use Rattle.mw_build.specs.Sides.{equations_of};
 ghost use Rattle.mw_build.specs.Equations.{AreEquations, FirstFault};
-ghost use Rattle.mw_build.specs.Imported.{IsUnconditional, ArePartsOf, origins_of};
+ghost use Rattle.mw_build.specs.Imported.{IsOrdinary, ArePartsOf, origins_of};
 ghost use Rattle.mw_build.specs.Modules.{IsDeclaredModule, StatementsFault, IsAccepted, IsRefused, AreLoaded, AreAll, NotAll, IsOfKnown};
 ghost use Rattle.mw_build.specs.Modules.{reached_of, flattened};
 
@@ -94,7 +94,7 @@ impl Module {
     /// The statements that stand in it itself, in order.
     pub fn own(&self) -> &[Statement]
         ensures own { result.now ≡ self.now.own }
-        ensures plain { All IsUnconditional result.now }
+        ensures ordinary { All IsOrdinary result.now }
         ensures sides { All (AreSides self.now.module.signature) result.now }
     {
         self.context.shows();
@@ -274,7 +274,7 @@ fn module_of(
     requires tables { AreTablesOf signed.value.facts signed.value.tables.value }
     requires grammar { IsGrammarOf signed.value.facts signed.value.variables grammar.value }
     requires within { statements.imported ≤ length statements.list.items }
-    requires plain { All IsUnconditional (drop statements.imported statements.list.items) }
+    requires ordinary { All IsOrdinary (drop statements.imported statements.list.items) }
     ensures { IfOk result (λ m. m ≡ record {
       name = name;
       «module» = record { signature = signed.value.facts; statements = statements.list.items };

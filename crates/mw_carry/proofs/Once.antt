@@ -1,10 +1,11 @@
 -- No two terms stand for one, where operators are told by their names and kinds.
 use Rattle.std.proofs.Common.{◌≡◌, ℕ, List, [], ◌∷◌, sym, subst, ap, ◌∙◌, refl}
 use Rattle.mw_logic.specs.Term.{Variable, RawTerm, variable, apply, RawTerms, cons}
-use Rattle.mw_logic.specs.Signature.{Signature, Operator, SameKind}
+use Rattle.mw_logic.specs.Signature.{Signature, Sorted, sort, kind, Operator, SameKind}
 use Rattle.mw_logic.specs.Accepted.{IsAccepted}
+use Rattle.mw_logic.specs.Module.{Fragment, equal, matches, has_sort, is_true}
 use Rattle.mw_logic.proofs.KindLaws.{SameKind-trans, SameKind-sym, SameKind-equal}
-use Rattle.mw_carry.specs.Carried.{IsSameKind, AreSameKinds, IsSameOperator, IsCarried, AreCarried, a_numeral, a_quoted, a_variable, an_operator, end, next}
+use Rattle.mw_carry.specs.Carried.{IsSameKind, AreSameKinds, IsSameOperator, IsCarried, AreCarried, a_numeral, a_quoted, a_variable, an_operator, end, next, IsSameSorted, a_sort, a_kind, IsCarriedFragment, an_equation, a_match, a_test, a_truth, AreCarriedFragments, none, more}
 use Rattle.mw_carry.specs.Laws.{AreAlike, OperatorsApart}
 use Rattle.mw_carry.proofs.Kept.{one_operator, one_sort}
 
@@ -21,6 +22,11 @@ module _ (sig to : Signature) (ok : IsAccepted to) where
   all_one_kind (K ∷ Ks) [] Ms a b = absurd a
   all_one_kind (K ∷ Ks) (L ∷ Ls) [] a b = absurd b
   all_one_kind (K ∷ Ks) (L ∷ Ls) (M ∷ Ms) a b = (one_kind K L M a.0 b.0, all_one_kind Ks Ls Ms a.1 b.1)
+
+  -- a sort or a kind that is tested stands for one
+  sorted_one : {S T U : Sorted} → IsSameSorted sig to S T → IsSameSorted sig to S U → T ≡ U
+  sorted_one (a_sort S T a) (a_sort _ U b) = ap sort (one_sort sig to ok S T U a b)
+  sorted_one (a_kind S T a) (a_kind _ U b) = ap kind (one_sort sig to ok S T U a b)
 
   module _ (apart : OperatorsApart to) where
     operators_one : (f g h : ℕ) → IsSameOperator sig to f g → IsSameOperator sig to f h → g ≡ h
@@ -50,3 +56,13 @@ module _ (sig to : Signature) (ok : IsAccepted to) where
         where
           one_more : u ≡ v → us ≡ vs → cons u us ≡ cons v vs
           one_more e d = cc
+
+    fragment_one : {f g h : Fragment} → IsCarriedFragment sig to f g → IsCarriedFragment sig to f h → g ≡ h
+    fragment_one (an_equation u v w z a b) (an_equation _ _ x y c d) = ap (λ t. equal t z) (carried_one a c) ∙ ap (equal x) (carried_one b d)
+    fragment_one (a_match p t q u a b) (a_match _ _ r v c d) = ap (λ s. matches s u) (carried_one a c) ∙ ap (matches r) (carried_one b d)
+    fragment_one (a_test t u S T a s) (a_test _ v _ U c r) = ap (λ x. has_sort x T) (carried_one a c) ∙ ap (has_sort v) (sorted_one s r)
+    fragment_one (a_truth b c a) (a_truth _ d e) = ap is_true (carried_one a e)
+
+    pub fragments_one : {C D E : List Fragment} → AreCarriedFragments sig to C D → AreCarriedFragments sig to C E → D ≡ E
+    fragments_one none none = refl
+    fragments_one (more a b cs ds f fs) (more _ c _ es g gs) = ap (λ x. x ∷ ds) (fragment_one f g) ∙ ap (λ xs. c ∷ xs) (fragments_one fs gs)

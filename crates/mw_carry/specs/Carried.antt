@@ -47,10 +47,10 @@ module _ (sig to : Signature) where
       end : AreCarried nil nil
       next : (t u : RawTerm) (ts us : RawTerms) → IsCarried t u → AreCarried ts us → AreCarried (cons t ts) (cons u us)
 
-  -- the same of a sort or a kind that a condition tests
+  -- The same of a sort or a kind that a condition tests. A kind is told there by a sort, and stays told by the sort of that name.
   pub data IsSameSorted : Sorted → Sorted → Type 0 where
     a_sort : (S T : ℕ) → IsSameSort S T → IsSameSorted (sort S) (sort T)
-    a_kind : (K L : ℕ) → IsSameKind K L → IsSameSorted (kind K) (kind L)
+    a_kind : (K L : ℕ) → IsSameSort K L → IsSameSorted (kind K) (kind L)
 
   -- the same of fragments of conditions
   pub data IsCarriedFragment : Fragment → Fragment → Type 0 where

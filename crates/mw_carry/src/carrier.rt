@@ -1,10 +1,11 @@
 // Terms carried from one signature to another.
 ghost use Rattle.std.specs.Prelude.{◌≡◌, ℕ, List, IfOk, MatchOption};
 ghost use Rattle.mw_logic.specs.Signature.{Operator as OperatorOf, IsOperator, IsRawTerm, AreRawTerms, Member};
-ghost use Rattle.mw_logic.specs.Accepted.{IsAccepted};
+ghost use Rattle.mw_logic.specs.Accepted.{IsAccepted, number_of_sort};
 ghost use Rattle.mw_logic.specs.Preregular.{HasItsSorts, IsSortOf};
 ghost use Rattle.mw_term.specs.Raws.{raw_term, raw_terms};
-ghost use Rattle.mw_carry.specs.Carried.{IsPart, IsSameSort, IsSameOperator, IsCarried, AreCarried};
+ghost use Rattle.mw_term.specs.Signatures.{sorted_of};
+ghost use Rattle.mw_carry.specs.Carried.{IsPart, IsSameSort, IsSameOperator, IsSameSorted, IsCarried, AreCarried};
 ghost use Rattle.mw_carry.specs.Laws.{HasSortsOf};
 ghost use Rattle.mw_carry.specs.Carriage.{HaveSortsOf};
 ghost use Rattle.mw_carry.specs.Profiles.{Pairwise, IsLeastFor, IsProfileFor};
@@ -12,7 +13,9 @@ ghost use Rattle.mw_carry.specs.Tables.{seen_profile};
 
 use crate::target::{Profile, Target};
 use indexmap::IndexMap;
-use mw_term::{KindId, OpId, Operator, Raw, Raws, Signature, SortId, VarId, copy_name, numbered};
+use mw_term::{
+    KindId, OpId, Operator, Raw, Raws, Signature, SortId, Sorted, VarId, copy_name, numbered,
+};
 use std::alloc::{AllocError, Global};
 use std::marker::Model;
 
@@ -61,6 +64,17 @@ impl<'c> Carrier<'c> {
         match self.to.sort(name.as_slice()) {
             Some(same) => same,
             None => unreachable!(),
+        }
+    }
+
+    /// The sort or kind that stands for one that a condition tests.
+    pub fn sorted(&self, sorted: Sorted) -> Sorted
+        requires { IsSortOf self.now.from (number_of_sort (sorted_of sorted)) }
+        ensures { IsSameSorted self.now.from self.now.to (sorted_of sorted) (sorted_of result) }
+    {
+        match sorted {
+            Sorted::Sort(sort) => Sorted::Sort(self.sort(sort)),
+            Sorted::Kind(sort) => Sorted::Kind(self.sort(sort)),
         }
     }
 

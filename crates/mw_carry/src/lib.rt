@@ -10,6 +10,8 @@
 //! - [`Carrier::carry`] gives a term that stands for the given one (`IsCarried`), and the carrier stays one between the
 //!   same signatures. It wants a raw term, the sorts of whose variables are there (`HasSortsOf`), of a signature that
 //!   has its sorts and is part of the other. In an accepted signature each operator is found (`Carrier::look_for`).
+//! - [`Carrier::sorted`] gives the sort of the same name for a sort that a condition tests, and for a kind, which is told
+//!   there by a sort, the kind told by the sort of that name (`IsSameSorted`).
 //! - [`carried_terms_stay`]: where the other signature is accepted, what stands for a raw term is a raw term, of the
 //!   kind that stands for its kind. The sorts of its variables are there in any case.
 //! - [`carried_once`]: where it is accepted, and no two of its operators have one name and the same kinds, no two terms

@@ -1,8 +1,8 @@
 // The grammar of a signature, and the words of tokens.
-ghost use Rattle.std.specs.Prelude.{◌≡◌, List, IfOk};
+ghost use Rattle.std.specs.Prelude.{◌≡◌, ℕ, List, IfOk, MatchOption};
 ghost use Rattle.mw_chart.specs.Spelling.{IsTable};
 ghost use Rattle.mw_logic.specs.Term.{Variable};
-ghost use Rattle.mw_logic.specs.Signature.{Signature as SignatureOf};
+ghost use Rattle.mw_logic.specs.Signature.{Signature as SignatureOf, IsSortNamed};
 ghost use Rattle.mw_poset.specs.SortOrder.{order_of};
 ghost use Rattle.mw_grammar.specs.Readable.{kind_in, IsReadable, AreVariables};
 ghost use Rattle.mw_grammar.specs.Grammars.{IsGrammarOf, IsReading, IsWordsOf, texts};
@@ -11,7 +11,7 @@ ghost use Rattle.mw_grammar.specs.Exact.{AreExact};
 use crate::alone::Leaves;
 use crate::compile::compile;
 use crate::kinds::{kind_named, kind_of, kinds_of};
-use crate::listing::{sorts_by_name, variables_by_name};
+use crate::listing::{list_of, sorts_by_name, variables_by_name};
 use mw_chart::{Table, Terminal};
 use mw_lex::Token;
 use mw_poset::Poset;
@@ -88,6 +88,18 @@ impl Grammar {
         ensures { result ≡ kind_in self.now.kinds sort }
     {
         kind_of(self.kinds.as_slice(), sort)
+    }
+
+    /// A sort of this name, where there is one.
+    pub fn sort_named(&self, name: &[u8]) -> Result<Option<SortId>, AllocError>
+        ensures { (sig : SignatureOf) (variables : List Variable) → IsGrammarOf sig variables self.now → IfOk result
+            (λ o. MatchOption o ((S : ℕ) → ¬ IsSortNamed sig S name.now) (λ S. IsSortNamed sig S name.now)) }
+    {
+        let number = self.names.number(name)?;
+        match list_of(&self.named, number) {
+            [sort, ..] => Ok(Some(*sort)),
+            [] => Ok(None),
+        }
     }
 
     /// The words of tokens.

@@ -19,7 +19,8 @@
 //! Proved: `Grammar::of`: the grammar is that of the signature, by the kinds that the order of its sorts gives, in
 //! which the variables are declared (`IsGrammarOf`): the table has exactly the signature's notations, each leading to a
 //! whole state of its kind and precedence; none is empty, none is a hole alone, and each is found by what comes first
-//! in it (`IsReading`). `Grammar::words`: a word for each token, with exactly the terms that it is by itself. The law
+//! in it (`IsReading`). `Grammar::words`: a word for each token, with exactly the terms that it is by itself.
+//! `Grammar::sort_named`: a sort of the signature that has the name, or none exactly where none has it. The law
 //! `trees_are_terms`: a term is spelled by tokens (`Spells` of mw_text) exactly where a tree that stands for it is
 //! spelled by their words, as a text of the term's kind; different trees stand for different terms; what is spelled is
 //! a raw term.

@@ -1,29 +1,42 @@
+use Rattle.std.proofs.Common.{Result, MatchResult, subst}
+use Rattle.mw_term.specs.declared.raw.Raw.{Raw}
 use Rattle.mw_term.specs.Raws.{raw_term}
+use Rattle.mw_module.specs.declared.faults.FaultKind.{FaultKind}
+use Rattle.mw_module.specs.Words.{texts}
 use Rattle.mw_text.proofs.RawTerms.{spelled_raw}
-use Rattle.mw_build.specs.Sides.{seen_equation}
-use Rattle.mw_build.specs.Equations.{conditional}
-use Rattle.mw_build.proofs.Reading.{has_none, has_some, of_sides}
+use Rattle.mw_text.specs.Readings.{ReadsPair}
+use Rattle.mw_build.specs.Fragments.{PairFault}
+use Rattle.mw_build.specs.Equations.{bad_sides}
 use Rattle.mw_build.proofs.equations.statement.Goals as goal
 
-pub sides_statement-requires-clause-left : goal.sides_statement-requires-clause-left
-sides_statement-requires-clause-left c =
+pub with_condition-requires-clause-left : goal.with_condition-requires-clause-left
+with_condition-requires-clause-left c =
     let (variables, grammar) = c.requires.grammar in
-    spelled_raw c.args.facts.now c.shows.ensures variables (c.in-Ok.ensures.read c.args.facts.now variables grammar).only.0.first.spells
+    let e = c.args.equation.now in
+    let read : ReadsPair c.args.facts.now variables (texts e.left.now) (texts e.right.now) (raw_term c.in-Ok.left, raw_term c.in-Ok.right) =
+    subst (λ (r : Result (Raw × Raw) FaultKind). MatchResult r (λ p. ReadsPair c.args.facts.now variables (texts e.left.now) (texts e.right.now) (raw_term p.0, raw_term p.1))
+    (PairFault c.args.facts.now variables (texts e.left.now) (texts e.right.now))) c.in-Ok.is (c.in_ok-left.ensures c.args.facts.now variables grammar) in
+    spelled_raw c.args.facts.now c.shows.ensures variables read.only.0.first.spells
 
-pub sides_statement-requires-clause-right : goal.sides_statement-requires-clause-right
-sides_statement-requires-clause-right c =
+pub with_condition-requires-clause-right : goal.with_condition-requires-clause-right
+with_condition-requires-clause-right c =
     let (variables, grammar) = c.requires.grammar in
-    spelled_raw c.args.facts.now c.shows.ensures variables (c.in-Ok.ensures.read c.args.facts.now variables grammar).only.0.second.spells
+    let e = c.args.equation.now in
+    let read : ReadsPair c.args.facts.now variables (texts e.left.now) (texts e.right.now) (raw_term c.in-Ok.left, raw_term c.in-Ok.right) =
+    subst (λ (r : Result (Raw × Raw) FaultKind). MatchResult r (λ p. ReadsPair c.args.facts.now variables (texts e.left.now) (texts e.right.now) (raw_term p.0, raw_term p.1))
+    (PairFault c.args.facts.now variables (texts e.left.now) (texts e.right.now))) c.in-Ok.is (c.in_ok-left.ensures c.args.facts.now variables grammar) in
+    spelled_raw c.args.facts.now c.shows.ensures variables read.only.0.second.spells
 
 pub returns-in-Ok : goal.returns-in-Ok
 returns-in-Ok c = λ variables grammar.
-    of_sides c.args.facts.now variables (seen_equation c.args.equation.now) (raw_term c.in-Ok.left) (raw_term c.in-Ok.right)
-    (has_none c.args.equation.now.fragments.now c.is_empty.result c.is_empty.ensures c.if-not-is_empty.false) (c.in-Ok.ensures.read c.args.facts.now variables grammar) c.sides_statement.result
-    c.sides_statement.ensures
+    let e = c.args.equation.now in
+    c.with_condition.ensures variables grammar
+    (subst (λ (r : Result (Raw × Raw) FaultKind). MatchResult r (λ p. ReadsPair c.args.facts.now variables (texts e.left.now) (texts e.right.now) (raw_term p.0, raw_term p.1))
+    (PairFault c.args.facts.now variables (texts e.left.now) (texts e.right.now))) c.in-Ok.is (c.in_ok-left.ensures c.args.facts.now variables grammar))
 
 pub returns-in-Err : goal.returns-in-Err
-returns-in-Err c = λ variables grammar. c.unread.ensures c.args.facts.now variables (seen_equation c.args.equation.now)
-    (has_none c.args.equation.now.fragments.now c.is_empty.result c.is_empty.ensures c.if-not-is_empty.false) (c.in-Err.ensures.cause c.args.facts.now variables grammar)
-
-pub returns-then-not-is_empty : goal.returns-then-not-is_empty
-returns-then-not-is_empty c = λ variables grammar. conditional (has_some c.args.equation.now.fragments.now c.is_empty.result c.is_empty.ensures c.if-not-is_empty.true)
+returns-in-Err c = λ variables grammar.
+    let e = c.args.equation.now in
+    bad_sides
+    (subst (λ (r : Result (Raw × Raw) FaultKind). MatchResult r (λ p. ReadsPair c.args.facts.now variables (texts e.left.now) (texts e.right.now) (raw_term p.0, raw_term p.1))
+    (PairFault c.args.facts.now variables (texts e.left.now) (texts e.right.now))) c.in-Err.is (c.in_ok-left.ensures c.args.facts.now variables grammar))

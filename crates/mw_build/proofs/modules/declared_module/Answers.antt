@@ -13,7 +13,7 @@ use Rattle.mw_build.specs.Sides.{Sides, equations_of}
 use Rattle.mw_build.specs.Imported.{Origin, ArePartsOf, origins_of}
 use Rattle.mw_build.specs.SignatureFaults.{SignatureFault}
 use Rattle.mw_build.specs.Modules.{StatementsFault, by_signature, AreAll, NotAll}
-use Rattle.mw_build.proofs.Accepting.{grammar_held, declared_by, not_all, own_plain, all_stand}
+use Rattle.mw_build.proofs.Accepting.{grammar_held, declared_by, not_all, own_ordinary, all_stand}
 use Rattle.mw_build.proofs.Readable.{readable_declared, sorted_variables, variables_declared}
 use Rattle.mw_build.proofs.Sides.{workable_module}
 use Rattle.mw_build.proofs.modules.declared_module.Goals as goal
@@ -104,10 +104,10 @@ module_of-requires-clause-grammar c = grammar_held _ _ _ _ _ _
 pub module_of-requires-clause-within : goal.module_of-requires-clause-within
 module_of-requires-clause-within c = (all c).within
 
-pub module_of-requires-clause-plain : goal.module_of-requires-clause-plain
-module_of-requires-clause-plain c =
+pub module_of-requires-clause-ordinary : goal.module_of-requires-clause-ordinary
+module_of-requires-clause-ordinary c =
     let d = c.args.declarations.value in
-    own_plain d.signature (preregular c) d.variables (sorted_variables d c.requires.declared) (origins c) (equations c) c.in_ok-statements.statements.imported (sts c) (all c)
+    own_ordinary d.signature (preregular c) d.variables (sorted_variables d c.requires.declared) (origins c) (equations c) c.in_ok-statements.statements.imported (sts c) (all c)
 
 pub returns-clause-holds : goal.returns-clause-holds
 returns-clause-holds c =
