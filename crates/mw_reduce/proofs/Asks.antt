@@ -46,6 +46,10 @@ nothing_applies M n t tried rows failed h = record {
   no_pair = rows.no_pair;
 }
 
+-- none was tried yet
+pub none_failed : (M : Module) (n : ℕ) → AreFailed M n []
+none_failed M n c m = absurd m
+
 -- one more that fails
 pub failed_more : (M : Module) (n : ℕ) (tried : List Tried) (c : Tried) → AreFailed M n tried → ((e : Statement) → IsStatement M c.number e → IsFailed M n c e) → AreFailed M n (tried ++ c ∷ [])
 failed_more M n tried c h f d m e is = ⊎_elim (λ k. h d k e is) (λ k. subst (λ (d : Tried). IsFailed M n d e) k (f e (subst (λ (d : Tried). IsStatement M d.number e) (sym k) is))) (member-push d c tried m)

@@ -9,3 +9,4 @@ pub mod SideRuns
 pub mod Applying
 pub mod Reduced
 pub mod Joining
+mod Halting

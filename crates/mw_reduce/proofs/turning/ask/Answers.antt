@@ -1,3 +1,7 @@
+use Rattle.std.specs.Prelude.{[]}
+use Rattle.mw_frames.specs.Machines.{data_of}
+use Rattle.mw_frames.specs.Steps.{asked_term}
+use Rattle.mw_reduce.proofs.Asks.{none_failed}
 use Rattle.mw_reduce.proofs.turning.ask.Goals as goal
 
 pub returns-in-Gives-clause-means : goal.returns-in-Gives-clause-means
@@ -7,7 +11,9 @@ pub returns-in-TooBig-clause-means : goal.returns-in-TooBig-clause-means
 returns-in-TooBig-clause-means c = λ K k run here a. record { asked = a; big = rw c.in-TooBig.is at (c.in_ok-take.ensures K k run here a) }
 
 pub returns-in_ok-turn-in-Nothing-clause-means : goal.returns-in_ok-turn-in-Nothing-clause-means
-returns-in_ok-turn-in-Nothing-clause-means c = λ K k run here a. c.in_ok-turn-in-Nothing.ensures.means K k run here a (rw c.in-Nothing.is at (c.in_ok-take.ensures K k run here a))
+returns-in_ok-turn-in-Nothing-clause-means c = λ K k run here a.
+    c.in_ok-turn-in-Nothing.ensures.means K k [] run here a (rw c.in-Nothing.is at (c.in_ok-take.ensures K k run here a)) (none_failed K.over K.rank)
+    (c.again.ensures K.over c.args.index.now (asked_term (data_of K.over c.args.machine.now) c.args.asked))
 
 pub returns-in_ok-turn-in-Nothing-clause-falls : goal.returns-in_ok-turn-in-Nothing-clause-falls
 returns-in_ok-turn-in-Nothing-clause-falls c = λ M w h. c.in_ok-turn-in-Nothing.ensures.falls M w h
