@@ -36,7 +36,7 @@ module _ (M : Module) (n limit : ℕ) (xs : List Variable) (vs : List RawTerm) w
         record { sides = one_shown M n (instance r u) k h; holds = (proof_of k, nil, nested sig k.to, refl, h.evaluates, t, (refl, refl)); fails_behind = λ D f. (proof_of k, nested sig k.to, h.evaluates, inr f) }
 
     pub true_fails : IsAccepted sig → (IsTruth sig true k.to → ⊥) → IsFailing M n (is_true u) r
-    true_fails ok no = λ D. (proof_of k, nested sig k.to, h.evaluates, inl (λ t truth e. no (as_told t truth e)))
+    true_fails ok wrong = λ D. (proof_of k, nested sig k.to, h.evaluates, inl (λ t truth e. wrong (as_told t truth e)))
       where
         as_told : (t : RawTerm) → IsTruth sig true t → EqualModulo sig (nested sig k.to) t → IsTruth sig true k.to
         as_told t (c, is, named) e = (c, sym h.normal.canonical ∙ normal_form-kept sig ok e ∙ ap (normal_form sig) is ∙ kept_truth sig ok true c named, named)
@@ -47,7 +47,7 @@ module _ (M : Module) (n limit : ℕ) (xs : List Variable) (vs : List RawTerm) w
         record { sides = one_shown M n (instance r u) k h; holds = (proof_of k, nil, nested sig k.to, refl, h.evaluates, m, (refl, refl)); fails_behind = λ D f. (proof_of k, nested sig k.to, h.evaluates, inr f) }
 
     pub sort_fails : (S : Sorted) → (MeetsSort sig (nested sig k.to) S → ⊥) → IsFailing M n (has_sort u S) r
-    sort_fails S no = λ D. (proof_of k, nested sig k.to, h.evaluates, inl no)
+    sort_fails S wrong = λ D. (proof_of k, nested sig k.to, h.evaluates, inl wrong)
 
     -- two sides
     module _ (v : RawTerm) (l : Reduced) (g : IsShown M n (instance r v) l) where
@@ -59,7 +59,7 @@ module _ (M : Module) (n limit : ℕ) (xs : List Variable) (vs : List RawTerm) w
       }
 
       pub equal_fails : IsAccepted sig → (k.to ≡ l.to → ⊥) → IsFailing M n (equal u v) r
-      equal_fails ok no = λ D. (proof_of k, proof_of l, nested sig k.to, nested sig l.to, h.evaluates, g.evaluates, inl (λ e. no (sym h.normal.canonical ∙ normal_form-kept sig ok e ∙ g.normal.canonical)))
+      equal_fails ok wrong = λ D. (proof_of k, proof_of l, nested sig k.to, nested sig l.to, h.evaluates, g.evaluates, inl (λ e. wrong (sym h.normal.canonical ∙ normal_form-kept sig ok e ∙ g.normal.canonical)))
 
 -- a term isn't both truth values
 pub not_both : (sig : Signature) (a : RawTerm) → IsTruth sig false a → IsTruth sig true a → ⊥
