@@ -29,6 +29,7 @@ use Rattle.mw_index.specs.Conditions.{IsTestOf, AreTests, AreReady, bound_by, al
 use Rattle.mw_index.specs.declared.conditions.Test.{Test}
 use Rattle.mw_index.proofs.Bound.{ready_more, first_ready}
 use Rattle.mw_index.proofs.ByTest.{of_none}
+use Rattle.mw_index.proofs.Rearranging.{zip_parts}
 use Rattle.mw_index.proofs.Sides.{in_lefts}
 use Rattle.mw_frames.specs.State.{IsNormalHere}
 use Rattle.mw_frames.specs.Redex.{IsBare, value_in}
@@ -59,10 +60,6 @@ pub first_fragment : (sig : Signature) (xs : List Variable) (D : List Fragment) 
     → (f : Fragment) × (C : List Fragment) × (D ≡ f ∷ C) × IsTestOf sig xs f t × AreTests sig (bound_by xs t) C ts
 first_fragment sig xs [] t ts h = absurd h
 first_fragment sig xs (f ∷ C) t ts h = (f, C, refl, h.0, h.1)
-
-bound_parts : (q : Substitution) → zip (bound_variables q) (bound_values q) ≡ q
-bound_parts [] = refl
-bound_parts (b ∷ q) = ap (λ r. b ∷ r) (bound_parts q)
 
 in_skipped : {X : Type 0} (P : X → Type 0) (left new : List X) (x : X) → Each P left → Member x (left ++ new) → P x ⊎ Member x new
 in_skipped P [] new x e m = inr m
@@ -239,16 +236,16 @@ module _ (M : Module) (n : ℕ) (e : Statement) (tests : List Test) where
 
     -- the next solution of the innermost match
     pub try_next : (vs : List RawTerm) (before after : List Reduced) (o o' : Other) (os : List Other) → IsBack M n e tests s before (o ∷ os) → Tries o o' before after vs true → IsTrial M n e tests s o.at vs after (o' ∷ os)
-    try_next vs before after o o' os h (at, count, made, r, passes, fits, is, rest) = by_rests h.rests h.waiting h.frontier
+    try_next vs before after o o' os h (at, count, made, (first, passes, fits, is, rest)) = by_rests h.rests h.waiting h.frontier
       where
         cs : List Solution
         cs = o'.solutions.value.candidates
 
-        here : Member r o.solutions.value.candidates
-        here = subst (Member r) (sym passes.rest) (behind_skipped passes.left (r ∷ cs) r (inl refl))
+        here : Member first o.solutions.value.candidates
+        here = subst (Member first) (sym passes.rest) (behind_skipped passes.left (first ∷ cs) first (inl refl))
 
         older : (q : Solution) → Member q cs → Member q o.solutions.value.candidates
-        older q m = subst (Member q) (sym passes.rest) (behind_skipped passes.left (r ∷ cs) q (inr m))
+        older q m = subst (Member q) (sym passes.rest) (behind_skipped passes.left (first ∷ cs) q (inr m))
 
         fits_too : (q : Solution) → FitsSorts o'.solutions.value q → FitsSorts o.solutions.value q
         fits_too q f = subst (λ (c : Coming). HaveTheirSorts c.signature c.sorts c.given (values q)) rest f
@@ -264,9 +261,9 @@ module _ (M : Module) (n : ℕ) (e : Statement) (tests : List Test) where
         by_rests (D ∷ Ds) (a, more) f =
             let ys : List Variable = a.variables in
             let shown : List Reduced = take o.sides before in
-            let (named, bound, found) = a.each r here fits in
+            let (named, bound, found) = a.each first here fits in
             let p : IsPlace M n e tests o.at after ys D = subst (λ us. IsPlace M n e tests o.at us ys D) (sym made) a.place in
-            let same : bound_to sig ys vs ≡ meant sig r.subst = ap (λ us. bound_to sig ys us) is ∙ ap (λ xs. bound_to sig xs (values r)) (sym named) ∙ ap (meant sig) (bound_parts r.subst) in
+            let same : bound_to sig ys vs ≡ meant sig first.subst = ap (λ us. bound_to sig ys us) is ∙ ap (λ xs. bound_to sig xs (values first)) (sym named) ∙ ap (meant sig) (zip_parts first.subst) in
             let kept : take o'.sides after ≡ after = ap (λ m. take m after) count ∙ ap (take o.sides) made ∙ take_take o.sides before ∙ sym made in
             let short : o'.sides ≤ length after = let l = a.within in let z = ap (λ (xs : List Reduced). length xs) made ∙ length-take-le o.sides before l in omega (arith, count, z) in
             let others : Alternative → Type 0 = AreLeft M n shown Ds os in
@@ -294,18 +291,18 @@ module _ (M : Module) (n : ℕ) (e : Statement) (tests : List Test) where
                   (subst (λ us. Frontier (IsOneOr (alternative D (bound_to sig ys vs) (proofs_of M n us)) (λ b. IsSolvedOr D (proofs_of M n us) (IsComing sig o') (AreLeft M n us Ds os) b))) (sym made) front);
             }
           where
-            there : (D : List Fragment) (ps : Proofs) (As : Alternative → Type 0) → ((q : Solution) → Member q o.solutions.value.candidates → FitsSorts o.solutions.value q → Lacks o.solutions.value q → ⊥) → {w : Substitution} → w ≡ meant sig r.subst
+            there : (D : List Fragment) (ps : Proofs) (As : Alternative → Type 0) → ((q : Solution) → Member q o.solutions.value.candidates → FitsSorts o.solutions.value q → Lacks o.solutions.value q → ⊥) → {w : Substitution} → w ≡ meant sig first.subst
                 → (b : Alternative) → IsSolvedOr D ps (IsComing sig o) As b → IsOneOr (alternative D w ps) (λ b. IsSolvedOr D ps (IsComing sig o') As b) b
             there D ps As telling same b (inr m) = inr (inr m)
             there D ps As telling same b (inl (q, (x, m, g, i), z)) =
                 ⊎_elim (λ l. absurd (telling x m g l)) (λ l. ⊎_elim
                 (λ is. inl (z ∙ ap (λ w. alternative D w ps) (i ∙ ap (λ (y : Solution). meant sig y.subst) (sym is) ∙ sym same)))
                 (λ w. inr (inl (q, (x, w, fits_back x g, i), z))) l)
-                (in_skipped (Lacks o.solutions.value) passes.left (r ∷ cs) x passes.each (subst (Member x) passes.rest m))
+                (in_skipped (Lacks o.solutions.value) passes.left (first ∷ cs) x passes.each (subst (Member x) passes.rest m))
 
-            back : (D : List Fragment) (ps : Proofs) (As : Alternative → Type 0) {w : Substitution} → w ≡ meant sig r.subst → (b : Alternative) → IsOneOr (alternative D w ps) (λ b. IsSolvedOr D ps (IsComing sig o') As b) b
+            back : (D : List Fragment) (ps : Proofs) (As : Alternative → Type 0) {w : Substitution} → w ≡ meant sig first.subst → (b : Alternative) → IsOneOr (alternative D w ps) (λ b. IsSolvedOr D ps (IsComing sig o') As b) b
                 → IsSolvedOr D ps (IsComing sig o) As b
-            back D ps As same b (inl z) = inl (meant sig r.subst, (r, here, fits, refl), z ∙ ap (λ w. alternative D w ps) same)
+            back D ps As same b (inl z) = inl (meant sig first.subst, (first, here, fits, refl), z ∙ ap (λ w. alternative D w ps) same)
             back D ps As same b (inr (inl (q, (x, m, g, i), z))) = inl (q, (x, older x m, fits_too x g, i), z)
             back D ps As same b (inr (inr m)) = inr m
 
@@ -336,7 +333,7 @@ begin M work n number e there tests is us bound = record {
   variables = met [] e.left;
   place = record { fitting = is; ready = first_ready M work number e there; ends = refl; shown = none_shown M n };
   bound = bound;
-  found = λ x h k. absurd (both_ways _ (sym (in_lefts e x) ∙ h) k);
+  found = λ x h k. absurd (both_ways _ k (sym (in_lefts e x) ∙ h));
   rests = [];
   waiting = tt;
   frontier = starts M (admitted_judgements M n) e.fragments (bound_to M.signature (met [] e.left) us);

@@ -35,7 +35,7 @@ equation_tests M st (top, of) = (met [] of.statement.left, of.statement.fragment
 -- the sides of a fragment whose turn it is
 module _ (sig : Signature) (ok : IsAccepted sig) (all xs : List Variable) (C : List Fragment) where
   pub equal_asked : (u v : RawTerm) → AreReady sig all xs (equal u v ∷ C) → AreAsked sig xs u × AreAsked sig xs v
-  equal_asked u v h = (record { raw = h.raw.0; among = h.in_turn.0; distinct = h.distinct }, record { raw = h.raw.1.0; among = h.in_turn.1.0; distinct = h.distinct })
+  equal_asked u v h = (record { raw = h.raw.0; among = h.in_turn.0; distinct = h.distinct }, record { raw = h.raw.1; among = h.in_turn.1; distinct = h.distinct })
 
   pub match_asked : (l t : RawTerm) → AreReady sig all xs (matches l t ∷ C) → AreAsked sig xs t
-  match_asked l t h = record { raw = h.raw.1.0; among = h.in_turn.0; distinct = h.distinct }
+  match_asked l t h = record { raw = h.raw.1; among = h.in_turn.0; distinct = h.distinct }

@@ -31,7 +31,7 @@ use Rattle.mw_solving.proofs.Candidates.{values_zipped}
 use Rattle.mw_solving.proofs.Positions.{meant_bound, meant_variables}
 use Rattle.mw_deduction.proofs.NormalBuilt.{part_normal}
 use Rattle.mw_deduction.proofs.ValuesInside.{IsLeaf, of_identity, of_numeral, value_found}
-use Rattle.mw_index.proofs.Rearranging.{zip_parts, value_meant, rearranged_values, rearranged_size, rearranged_substitution}
+use Rattle.mw_index.proofs.Rearranging.{zip_parts, rearranged_values, rearranged_size, rearranged_substitution}
 use Rattle.mw_frames.specs.State.{IsNormalHere}
 use Rattle.mw_frames.specs.Redex.{IsBare, value_in}
 use Rattle.mw_frames.proofs.SmallValues.{value_small, normal_small, bare_small}
@@ -81,6 +81,15 @@ value_at (b ∷ s) (suc i) u d e =
     behind : (x : Variable) → is_in x (bound_variables s) ≡ true → value s x ≡ Some u → (c : Bool) → same_variable b.0 x ≡ c → cond c (Some b.1) (value s x) ≡ Some u
     behind x h v false k = v
     behind x h v true k = absurd (both_ways _ (subst (λ y. is_in y (bound_variables s) ≡ false) (same_variable-is b.0 x k) d.0) h)
+
+-- what a variable has means what it has in the meaning
+value_meant : (sig : Signature) (s : Substitution) (x : Variable) (u : RawTerm) → value s x ≡ Some u → value (meant sig s) x ≡ Some (nested sig u)
+value_meant sig [] x u e = absurd (none-some u e)
+value_meant sig (b ∷ s) x u e = by_test (value_meant sig s x u) (same_variable b.0 x) e
+  where
+    by_test : (value s x ≡ Some u → value (meant sig s) x ≡ Some (nested sig u)) → (c : Bool) → cond c (Some b.1) (value s x) ≡ Some u → cond c (Some (nested sig b.1)) (value (meant sig s) x) ≡ Some (nested sig u)
+    by_test r true e = ap (λ u. Some (nested sig u)) (same_Some b.1 u e)
+    by_test r false e = r e
 
 module _ (M : Module) (ok : IsAccepted M.signature) where
   abbrev sig : Signature
