@@ -1,6 +1,6 @@
 -- What a test of canonical terms says of its fragment.
-use Rattle.std.specs.Prelude.{◌≡◌, ◌++◌, ◌∷◌, ◌↔◌, ℕ, suc, List, [], Bool, true, false, Option, Some, None, MatchOption, codes, IsTrue, IsFalse, refl}
-use Rattle.std.proofs.Common.{sym, subst, ap, ◌∙◌, inl, inr, append_assoc, append-nil}
+use Rattle.std.specs.Prelude.{◌≡◌, ◌∷◌, ℕ, List, [], true, false, codes, refl}
+use Rattle.std.proofs.Common.{sym, subst, ap, ◌∙◌, inl, inr}
 use Rattle.std.proofs.lemmas.Option.{same_Some}
 use Rattle.mw_logic.specs.Term.{Variable, RawTerm, constant}
 use Rattle.mw_logic.specs.Signature.{Signature, Sorted, Operator, at_number}
@@ -9,7 +9,7 @@ use Rattle.mw_logic.specs.Axioms.{EqualModulo, done}
 use Rattle.mw_logic.specs.Substitution.{Substitution, instance}
 use Rattle.mw_logic.specs.Parts.{nested}
 use Rattle.mw_logic.specs.NormalForm.{normal_form}
-use Rattle.mw_logic.specs.Module.{Module, Fragment, equal, has_sort, is_true, IsNamed, IsTruth}
+use Rattle.mw_logic.specs.Module.{Module, equal, has_sort, is_true, IsNamed, IsTruth}
 use Rattle.mw_logic.specs.Proof.{Proof, nil, equality, transitivity}
 use Rattle.mw_logic.specs.Judgements.{MeetsSort}
 use Rattle.mw_logic.proofs.Invariance.{normal_form-kept}

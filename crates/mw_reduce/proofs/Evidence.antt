@@ -7,7 +7,7 @@ use Rattle.mw_logic.specs.Module.{Module, Fragment}
 use Rattle.mw_logic.specs.Proof.{Proofs, nil, cons, equality, transitivity}
 use Rattle.mw_logic.specs.Judgements.{admitted_judgements}
 use Rattle.mw_deduction.specs.Frontier.{together}
-use Rattle.mw_deduction.specs.Replay.{Move, Stand, plays, AreMoves}
+use Rattle.mw_deduction.specs.Replay.{Move, plays, AreMoves}
 use Rattle.mw_deduction.proofs.Moves.{plays-append, moves-append}
 use Rattle.mw_frames.specs.Redex.{IsWaiting, AreShowing}
 use Rattle.mw_reduce.specs.declared.sides.Reduced.{Reduced}

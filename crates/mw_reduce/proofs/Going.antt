@@ -1,14 +1,13 @@
 -- How an evaluation goes on behind a test.
-use Rattle.std.specs.Prelude.{◌≡◌, ◌⊎◌, ◌≤◌, ◌<◌, ◌+◌, ℕ, zero, suc, List, [], ◌∷◌, ◌++◌, length, take, drop, Bool, true, false, ◌||◌, Option, Some, None, slice_get, IsTrue, IsFalse, refl}
-use Rattle.std.specs.List.{zip}
-use Rattle.std.proofs.Common.{Box, Global, sym, subst, ap, ◌∙◌, arith, inl, inr, ⊎_elim}
+use Rattle.std.specs.Prelude.{◌≡◌, ◌⊎◌, ◌≤◌, ℕ, zero, suc, List, [], ◌∷◌, ◌++◌, length, take, drop, true, false, Some, None, slice_get, refl}
+use Rattle.std.proofs.Common.{sym, subst, ap, ◌∙◌, arith, inl, inr, ⊎_elim}
 use Rattle.std.proofs.lemmas.Bool.{both_ways}
 use Rattle.std.proofs.lemmas.List.{length-append, length-take-le, take-append-le}
 use Rattle.std.proofs.lemmas.Option.{same_Some}
 use Rattle.mw_logic.specs.Term.{Variable, RawTerm}
 use Rattle.mw_logic.specs.Signature.{Signature, Member, IsRawTerm}
 use Rattle.mw_logic.specs.Accepted.{IsAccepted}
-use Rattle.mw_logic.specs.Substitution.{Substitution, instance, occurs, IsSubstitution, IsSolution, SameSolution}
+use Rattle.mw_logic.specs.Substitution.{Substitution, instance, IsSolution}
 use Rattle.mw_logic.specs.Parts.{nested}
 use Rattle.mw_logic.specs.Module.{Fragment, matches, Module, Statement, IsStatement}
 use Rattle.mw_logic.specs.Proof.{Proof, Proofs, nil, cons, equality, transitivity}
@@ -18,25 +17,21 @@ use Rattle.mw_logic.proofs.SameSolutions.{same_solution-sym}
 use Rattle.mw_canon.specs.Canonical.{meant}
 use Rattle.mw_least.specs.Workable.{IsWorkable}
 use Rattle.mw_least.specs.Conditions.{AreRawFragments}
-use Rattle.mw_position.specs.Variables.{is_in, met, bound_variables, bound_values}
+use Rattle.mw_position.specs.Variables.{met}
 use Rattle.mw_deduction.specs.Frontier.{Alternative, alternative, together, IsOneOr, IsSolvedOr, IsFrontier}
 use Rattle.mw_deduction.proofs.Frontiers.{starts, same_ones, dropped, goes_on, holds, fails, match_opens, same_fails}
-use Rattle.mw_deduction.specs.Replay.{Move}
 use Rattle.mw_search.specs.Lacking.{Each, HaveTheirSorts, OneLacksItsSort}
-use Rattle.mw_match.specs.Solutions.{Coming, values, FitsSorts, Lacks, PassesTo}
+use Rattle.mw_match.specs.Solutions.{Coming, values, FitsSorts, Lacks}
 use Rattle.mw_match.specs.declared.solutions.Solution.{Solution}
-use Rattle.mw_index.specs.Conditions.{IsTestOf, AreTests, AreReady, bound_by, all_bound}
+use Rattle.mw_index.specs.Conditions.{IsTestOf, AreTests, bound_by, all_bound}
 use Rattle.mw_index.specs.declared.conditions.Test.{Test}
 use Rattle.mw_index.proofs.Bound.{ready_more, first_ready}
 use Rattle.mw_index.proofs.ByTest.{of_none}
 use Rattle.mw_index.proofs.Rearranging.{zip_parts}
 use Rattle.mw_index.proofs.Sides.{in_lefts}
-use Rattle.mw_frames.specs.State.{IsNormalHere}
-use Rattle.mw_frames.specs.Redex.{IsBare, value_in}
-use Rattle.mw_reduce.specs.Evaluations.{AreBoundTo, bound_to, AreFound, deduction_of, proofs_of, AreShown, IsHolding, IsFailing, IsOpening, IsTested, IsStoppedFor, IsPlace, IsOpen, AreOpen, IsComing, AreLeft, IsTrial, IsAt, IsBack, Tries, IsStoppedInside, IsHeldBy, IsProgress}
+use Rattle.mw_reduce.specs.Evaluations.{AreBoundTo, bound_to, AreFound, deduction_of, proofs_of, AreShown, IsHolding, IsFailing, IsOpening, IsStoppedFor, IsPlace, AreOpen, IsComing, AreLeft, IsTrial, IsAt, IsBack, Tries, IsStoppedInside, IsHeldBy}
 use Rattle.mw_reduce.specs.declared.sides.Reduced.{Reduced}
 use Rattle.mw_reduce.specs.declared.evaluation.Other.{Other}
-use Rattle.mw_reduce.specs.declared.evaluation.Tested.{Tested}
 use Rattle.mw_reduce.proofs.Evidence.{proofs_together, none_shown, one_shown, more_shown}
 use Rattle.mw_reduce.proofs.Values.{solution_whole, match_bound, match_finds}
 use Rattle.mw_proof.specs.declared.reason.Reason.{Reason}

@@ -1,21 +1,18 @@
 -- The values that the pattern of a match finds in a normal term, and values in another order.
-use Rattle.std.specs.Prelude.{◌≡◌, ◌⊎◌, ℕ, zero, suc, List, [], ◌∷◌, Bool, true, false, ◌&&◌, ◌||◌, cond, Option, Some, None, is_some, unwrap_or, slice_get, IsTrue, IsFalse, refl}
+use Rattle.std.specs.Prelude.{◌≡◌, ◌⊎◌, ℕ, zero, suc, List, [], ◌∷◌, Bool, true, false, ◌||◌, cond, Option, Some, None, is_some, unwrap_or, slice_get, IsTrue, IsFalse, refl}
 use Rattle.std.specs.List.{zip}
 use Rattle.std.proofs.Common.{sym, ap, subst, ◌∙◌, arith, inl, inr, ⊎_elim, true≢false}
-use Rattle.std.proofs.lemmas.Bool.{both_ways, or_left, or_right, or_from}
+use Rattle.std.proofs.lemmas.Bool.{both_ways, or_left, or_right}
 use Rattle.std.proofs.lemmas.Option.{none-some, same_Some}
-use Rattle.mw_logic.specs.Term.{Variable, RawTerm, numeral, quoted, variable, apply, nil, cons, Context}
-use Rattle.mw_logic.specs.Terms.{terms_of}
+use Rattle.mw_logic.specs.Term.{Variable, RawTerm, variable, Context}
 use Rattle.mw_logic.specs.Signature.{Signature, constant_of, numeral_of, IsRawTerm}
 use Rattle.mw_logic.specs.Accepted.{IsAccepted, IsWellSorted}
-use Rattle.mw_logic.specs.Kinds.{is_successor}
 use Rattle.mw_logic.specs.CanonicalPart.{IsPartOf}
 use Rattle.mw_logic.specs.Substitution.{Substitution, same_variable, value, is_bound, occurs, IsSubstitution, IsSolution, Extends}
 use Rattle.mw_logic.specs.Parts.{nested, IsPart}
-use Rattle.mw_logic.specs.NormalForm.{normal_form, is_largest, has_largest, some_largest}
+use Rattle.mw_logic.specs.NormalForm.{normal_form, has_largest}
 use Rattle.mw_logic.specs.Module.{Module}
 use Rattle.mw_logic.specs.Judgements.{admitted_judgements}
-use Rattle.mw_logic.proofs.Admitted.{admitted-iff}
 use Rattle.mw_logic.proofs.CanonicalTerms.{fixed}
 use Rattle.mw_logic.proofs.PartsOfNormalForm.{part_kept}
 use Rattle.mw_logic.proofs.Ranks.{within_above, normal}

@@ -10,7 +10,7 @@ use Rattle.mw_logic.specs.NormalForm.{normal_form, some_largest}
 use Rattle.mw_logic.specs.Module.{Fragment, matches, Module, Statement}
 use Rattle.mw_logic.specs.Proof.{Proof, Proofs, nil, cons, equality, transitivity, rules}
 use Rattle.mw_logic.specs.Judgements.{Evaluates, HoldsAbove, FailsAbove, admitted_judgements}
-use Rattle.mw_logic.specs.Ends.{IsSide, Limits, Stops, StopsAtOnce}
+use Rattle.mw_logic.specs.Ends.{IsSide, Stops, StopsAtOnce}
 use Rattle.mw_canon.specs.Canonical.{meant, IsAdmittedTerm}
 use Rattle.mw_position.specs.Variables.{is_in, met, bound_variables, AreDistinct}
 use Rattle.mw_solving.specs.Values.{AreValues}

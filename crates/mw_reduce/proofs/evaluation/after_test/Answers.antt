@@ -1,4 +1,4 @@
-use Rattle.std.proofs.Common.{◌≡◌, ◌+◌, ◌++◌, ◌∷◌, [], ℕ, suc, List, length, reverse, sym, subst, ap, ◌∙◌, refl, arith, Global, Box, Vec}
+use Rattle.std.proofs.Common.{◌≡◌, ◌+◌, ◌++◌, ◌∷◌, [], ℕ, suc, List, length, reverse, sym, subst, ap, ◌∙◌, arith, Global, Box, Vec}
 use Rattle.std.proofs.lemmas.List.{reverse-append}
 use Rattle.mw_logic.specs.Term.{Variable, RawTerm}
 use Rattle.mw_logic.specs.Module.{Module, Statement, Fragment}
@@ -11,7 +11,7 @@ use Rattle.mw_reduce.specs.Evaluations.{IsAt, IsBack, IsTrial, IsTested, IsOpeni
 use Rattle.mw_reduce.specs.declared.sides.Reduced.{Reduced}
 use Rattle.mw_reduce.specs.declared.evaluation.Other.{Other}
 use Rattle.mw_reduce.specs.declared.evaluation.Tested.{Tested}
-use Rattle.mw_reduce.specs.declared.evaluation.Tested.TheVariants.{Holds, Fails, Opens, Stops}
+use Rattle.mw_reduce.specs.declared.evaluation.Tested.TheVariants.{Fails, Opens}
 use Rattle.mw_reduce.proofs.Going.{go_on, turn_away, stop_inside, open_match}
 use Rattle.mw_reduce.proofs.evaluation.after_test.Goals.{in-Fails, in-Opens+in_ok-open-in-Opens}
 use Rattle.mw_reduce.proofs.evaluation.after_test.Goals as goal
@@ -64,9 +64,9 @@ returns-in-Some c = λ M n limit e tests s f C xs work h tested.
     let others = c.args.others.now.items in
     let back : IsBack M n e tests s c.match-tested.sides.items (reverse c.match-tested.others.items) =
     elim c.match-tested.branch [
-      in-Fails w ↦
+      | in-Fails w ↦
           failed M n limit e tests s work c.args.at f C xs vs sides others h tested w.in-Fails.is (ap (λ (v : Vec Reduced Global). v.items) w.sides-is) (ap (λ (v : Vec Other Global). v.items) w.others-is)
-    | in-Opens+in_ok-open-in-Opens w ↦
+      | in-Opens+in_ok-open-in-Opens w ↦
           opened M n limit e tests s work c.args.at f C xs vs sides others h tested w.in-Opens.side w.in-Opens.solutions w.in-Opens.is (ap (λ (v : Vec Reduced Global). v.items) w.sides-is ∙ w.in_ok-open-in-Opens.ensures.0)
           (put c.args.at c.args.others.now.items w.in_ok-open-in-Opens.ensures.1 (ap (λ (v : Vec Reduced Global). v.items) w.sides-is) (ap (λ (v : Vec Other Global). v.items) w.others-is))
     ] in
@@ -79,9 +79,9 @@ returns-in-None c = λ M n limit e tests s f C xs work h tested.
     let others = c.args.others.now.items in
     let back : IsBack M n e tests s c.match-tested.sides.items (reverse c.match-tested.others.items) =
     elim c.match-tested.branch [
-      in-Fails w ↦
+      | in-Fails w ↦
           failed M n limit e tests s work c.args.at f C xs vs sides others h tested w.in-Fails.is (ap (λ (v : Vec Reduced Global). v.items) w.sides-is) (ap (λ (v : Vec Other Global). v.items) w.others-is)
-    | in-Opens+in_ok-open-in-Opens w ↦
+      | in-Opens+in_ok-open-in-Opens w ↦
           opened M n limit e tests s work c.args.at f C xs vs sides others h tested w.in-Opens.side w.in-Opens.solutions w.in-Opens.is (ap (λ (v : Vec Reduced Global). v.items) w.sides-is ∙ w.in_ok-open-in-Opens.ensures.0)
           (put c.args.at c.args.others.now.items w.in_ok-open-in-Opens.ensures.1 (ap (λ (v : Vec Reduced Global). v.items) w.sides-is) (ap (λ (v : Vec Other Global). v.items) w.others-is))
     ] in

@@ -1,7 +1,6 @@
-use Rattle.std.proofs.Common.{rules, arith, ◌≡◌, ◌<◌, ◌+◌, ◌++◌, ◌∷◌, [], ℕ, List, Bool, length, true, false, IsTrue, IsFalse, sym, subst, ap, ◌∙◌, refl}
+use Rattle.std.proofs.Common.{sym, subst, refl}
 use Rattle.std.proofs.lemmas.Bool.{both_ways}
-use Rattle.mw_logic.specs.Term.{Variable, RawTerm}
-use Rattle.mw_logic.specs.Module.{Module, equal}
+use Rattle.mw_logic.specs.Module.{equal}
 use Rattle.mw_reduce.specs.Evaluations.{bound_to, IsHolding}
 use Rattle.mw_reduce.proofs.Deciding.{equal_holds, equal_fails}
 use Rattle.mw_reduce.proofs.evaluation.compared.Goals as goal

@@ -1,6 +1,6 @@
-use Rattle.std.proofs.Common.{rules, arith, ◌≡◌, ◌<◌, ◌+◌, ◌++◌, ◌∷◌, [], ℕ, List, Bool, length, true, false, IsTrue, IsFalse, sym, subst, ap, ◌∙◌, refl}
+use Rattle.std.proofs.Common.{Bool, true, false, IsTrue, refl}
 use Rattle.std.proofs.lemmas.Bool.{both_ways}
-use Rattle.mw_logic.specs.Term.{Variable, RawTerm}
+use Rattle.mw_logic.specs.Term.{RawTerm}
 use Rattle.mw_logic.specs.Signature.{Signature}
 use Rattle.mw_logic.specs.Module.{IsTruth}
 use Rattle.mw_reduce.proofs.Deciding.{not_both}

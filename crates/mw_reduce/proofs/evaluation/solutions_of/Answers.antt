@@ -9,7 +9,6 @@ use Rattle.mw_position.specs.Variables.{bound_variables, bound_values}
 use Rattle.mw_position.proofs.Meeting.{met_grows}
 use Rattle.mw_solving.specs.Values.{IsValue, AreValues}
 use Rattle.mw_solving.proofs.Candidates.{variables_zipped, values_zipped}
-use Rattle.mw_solving.proofs.Grounds.{nested_ground}
 use Rattle.mw_compile.specs.Compiled.{IsCompiled}
 use Rattle.mw_match.specs.Solutions.{Coming, IsAllSolutions, AreNamed}
 use Rattle.mw_index.proofs.Fragments.{HasFront, zip_front}
@@ -34,6 +33,6 @@ returns c = λ n all xs l u C ready is values normal.
     let raw = ready.raw.0 in
     let same = sym c.in_ok-new.ensures.ok in (
       subst (λ (s : Coming). IsAllSolutions sig false l t (meant sig (zip xs vs)) s) same
-      (subst (λ s. IsAllSolutions sig false l t (meant sig s) c.in_ok-solutions.solutions) g (c.in_ok-solutions.ensures.all l raw numbered value substitution old)),
+          (subst (λ s. IsAllSolutions sig false l t (meant sig s) c.in_ok-solutions.solutions) g (c.in_ok-solutions.ensures.all l raw numbered value substitution old)),
       subst (λ (s : Coming). AreNamed sig ys s) same (c.in_ok-solutions.ensures.named l raw numbered value substitution old),
     )

@@ -1,6 +1,5 @@
-use Rattle.std.proofs.Common.{rules, arith, ◌≡◌, ◌<◌, ◌+◌, ◌++◌, ◌∷◌, [], ℕ, List, Bool, length, true, false, IsTrue, IsFalse, sym, subst, ap, ◌∙◌, refl}
+use Rattle.std.proofs.Common.{sym, subst, refl}
 use Rattle.std.proofs.lemmas.Bool.{both_ways}
-use Rattle.mw_logic.specs.Term.{Variable, RawTerm}
 use Rattle.mw_logic.specs.Module.{has_sort}
 use Rattle.mw_term.specs.Signatures.{sorted_of}
 use Rattle.mw_reduce.specs.Evaluations.{bound_to, IsHolding}

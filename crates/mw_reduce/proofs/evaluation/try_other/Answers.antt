@@ -1,4 +1,4 @@
-use Rattle.std.proofs.Common.{◌≡◌, ◌∷◌, [], sym, subst, ap, ◌∙◌, refl}
+use Rattle.std.proofs.Common.{◌≡◌, ◌∷◌, [], subst, refl}
 use Rattle.mw_match.specs.Solutions.{Coming, PassesTo, FitsSorts}
 use Rattle.mw_reduce.proofs.evaluation.try_other.Goals as goal
 

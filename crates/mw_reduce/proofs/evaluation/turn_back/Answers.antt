@@ -1,4 +1,4 @@
-use Rattle.std.proofs.Common.{◌≡◌, ◌++◌, ◌∷◌, [], ℕ, List, Bool, true, false, length, reverse, sym, subst, ap, ◌∙◌, refl, arith}
+use Rattle.std.proofs.Common.{◌≡◌, ◌++◌, ◌∷◌, [], List, true, reverse, sym, subst, ap, ◌∙◌}
 use Rattle.std.proofs.lemmas.List.{nil_from_length, reverse-append}
 use Rattle.mw_reduce.specs.Evaluations.{IsBack, IsTrial, Tries}
 use Rattle.mw_reduce.specs.declared.evaluation.Other.{Other}
