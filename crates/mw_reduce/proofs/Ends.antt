@@ -104,7 +104,7 @@ inner M m side t why (inr (a, (q, v, r, s))) = (q, v, reason_of why, inr (a, r, 
 
 pub stops_by_side : (M : Module) (n most side : ℕ) (t0 : RawTerm) (p : Proof) (u : RawTerm) → Proves M n p t0 u → steps p < most → (w : RawTerm) → HasPart M.signature u w → IsHalting M n side w reason.Condition
     → Stops M n (limits_within most side) t0 p u by_condition
-stops_by_side M zero most side t0 p u q l w part h = let z = h.cause.1.0 in absurd (cc)
+stops_by_side M zero most side t0 p u q l w part h = let z = h.cause.1 in absurd (cc)
 stops_by_side M (suc n) most side t0 p u q l w part h =
     let (m, e, why, inside) = h.cause in
     let same : m ≡ n = cc in
