@@ -1,5 +1,5 @@
 -- A choice is an equation that applies, and a step by a row one that is met.
-use Rattle.std.specs.Prelude.{IsNone, MatchOption, slice_get, ◌≡◌, ◌-◌, ◌^◌, ◌||◌, min, ℕ, zero, suc, List, [], ◌∷◌, length, Option, Some, None, IsTrue, IsFalse, refl}
+use Rattle.std.specs.Prelude.{IsNone, MatchOption, slice_get, false, ◌≡◌, ◌-◌, ◌^◌, ◌||◌, min, ℕ, zero, suc, List, [], ◌∷◌, length, Option, Some, None, IsTrue, IsFalse, refl}
 use Rattle.std.specs.List.{zip}
 use Rattle.std.proofs.Common.{sym, subst, ap, ◌∙◌, inl, inr, ⊎_elim}
 use Rattle.std.proofs.Math.Bool.{or-false}
@@ -220,7 +220,7 @@ module _ (M : Module) (work : IsWorkable M) (t : RawTerm) (c : Choice) (h : IsTr
       let r : Substitution = bound_to sig bs ws in
       let distinct : AreDistinct bs = bound_distinct M work number e there tests condition.tests in
       let vs : List RawTerm = new.values.items in
-      let ordered : vs ≡ values_of (zip bs ws) xs = in_their_order c.equation.now.condition.order put (put_in_order M work number e there c.equation.now.condition condition ws held.bound.size) in
+      let ordered : vs ≡ values_of (zip bs ws) xs = in_their_order ws c.equation.now.condition.order put (put_in_order M work number e there c.equation.now.condition condition ws held.bound.size) in
       let alike : (y : Variable) → is_in y xs ≡ is_in y bs = λ y. sym (bound_variables_are M work number e there tests condition.tests y) in
       let bound : AreBoundTo M xs vs = subst (AreBoundTo M xs) (sym ordered) (reordered_bound M ok bs ws held.bound xs alike (variables_distinct M work number e there)) in
       let equation : new.equation ≡ c.equation = ap (λ (q : Choice). q.equation) is_new in
@@ -252,12 +252,12 @@ module _ (M : Module) (work : IsWorkable M) (t : RawTerm) (c : Choice) (h : IsTr
       }
     where
       none_first : (ts : List Test) (x : Test) → slice_get ts 0 ≡ Some x → ts ≡ [] → ⊥
-      none_first [] x e n = cc
-      none_first (t ∷ ts) x e n = cc
+      none_first [] x some n = cc
+      none_first (t ∷ ts) x some n = cc
 
-      in_their_order : {vs ws us : List RawTerm} (o : Option (List ℕ)) → MatchOption o (vs ≡ ws) (λ ns. vs ≡ in_order ws ns) → MatchOption o (ws ≡ us) (λ ns. in_order ws ns ≡ us) → vs ≡ us
-      in_their_order None a b = a ∙ b
-      in_their_order (Some ns) a b = a ∙ b
+      in_their_order : {vs us : List RawTerm} (ws : List RawTerm) (o : Option (List ℕ)) → MatchOption o (vs ≡ ws) (λ ns. vs ≡ in_order ws ns) → MatchOption o (ws ≡ us) (λ ns. in_order ws ns ≡ us) → vs ≡ us
+      in_their_order ws None a b = a ∙ b
+      in_their_order ws (Some ns) a b = a ∙ b
 
   -- where it fails, it fails for each statement of this number
   pub failed_so : (m : ℕ) → FailsAbove M (admitted_judgements M m) e.fragments s → (d : Statement) → IsStatement M number d → IsFailed M (suc m) (tried_of c) d
@@ -279,8 +279,8 @@ module _ (M : Module) (work : IsWorkable M) (t : RawTerm) (c : Choice) (h : IsTr
   too_many side x some = halting_at 0 side reason.Nest (refl, λ none. some_test tests x some (subst (λ C. AreTests sig lefts C tests) none h.choice.is.condition.tests))
     where
       some_test : (ts : List Test) (x : Test) → slice_get ts 0 ≡ Some x → AreTests sig lefts [] ts → ⊥
-      some_test [] x e a = cc
-      some_test (t ∷ ts) x e a = a
+      some_test [] x some a = cc
+      some_test (t ∷ ts) x some a = a
 
   pub stopped_so : (m side : ℕ) (why : Reason) → IsStoppedInside M m side e.fragments s why → IsHaltingAt M (suc m) side t c.take reason.Condition
   stopped_so m side why stopped = halting_at (suc m) side reason.Condition (m, refl, why, stopped)

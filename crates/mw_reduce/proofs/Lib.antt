@@ -10,3 +10,5 @@ pub mod Applying
 pub mod Reduced
 pub mod Joining
 mod Halting
+mod LessLeft
+mod Ordering

@@ -35,6 +35,15 @@ use Rattle.mw_frames.proofs.SmallValues.{value_small, normal_small, bare_small}
 use Rattle.mw_frames.proofs.PlacedTerms.{all_small}
 use Rattle.mw_reduce.specs.Evaluations.{AreBoundTo, bound_to, AreFound}
 
+-- what a substitution has for a variable means what its meaning has
+value_meant : (sig : Signature) (s : Substitution) (x : Variable) (u : RawTerm) → value s x ≡ Some u → value (meant sig s) x ≡ Some (nested sig u)
+value_meant sig [] x u e = absurd (none-some u e)
+value_meant sig (b ∷ s) x u e = by_test (value_meant sig s x u) (same_variable b.0 x) e
+  where
+    by_test : (value s x ≡ Some u → value (meant sig s) x ≡ Some (nested sig u)) → (c : Bool) → cond c (Some b.1) (value s x) ≡ Some u → cond c (Some (nested sig b.1)) (value (meant sig s) x) ≡ Some (nested sig u)
+    by_test r true e = ap (λ u. Some (nested sig u)) (same_Some b.1 u e)
+    by_test r false e = r e
+
 -- what is normal at a rank is normal at the next one
 pub normal_above : (M : Module) (n : ℕ) (t : RawTerm) → IsNormalHere M n t → IsNormalHere M (suc n) t
 normal_above M n t h = record {
