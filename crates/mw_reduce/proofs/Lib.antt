@@ -4,6 +4,7 @@ pub mod Evidence
 pub mod Tests
 pub mod Going
 pub mod Deciding
+pub mod Evaluating
 pub mod Ends
 pub mod SideRuns
 pub mod Applying

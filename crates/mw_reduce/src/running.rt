@@ -135,6 +135,7 @@ fn try_choice<'m>(
     ensures same { choice.new ≡ record choice.old { values = choice.new.values } }
     ensures means { (t : RawTerm) → IsTriable context.now t choice.old → IfOk result (IsAttempt context.now nest side t choice.old choice.new) }
 {
+    context.shows();
     if choice.equation.condition.tests.as_slice().is_empty() {
         return Ok(Attempt::Made(Vec::new(alloc)));
     }
@@ -180,6 +181,7 @@ pub fn evaluate<'m>(
         → AreBoundTo M (lefts e) values.old.items
         → IfOk result (IsVerdict M n limit e condition.now.tests (bound_to M.signature (lefts e) values.old.items) values.new.items) }
 {
+    context.shows();
     let tests = condition.tests.as_slice();
     let mut sides = Vec::new(alloc);
     let mut others = Vec::new(alloc);
@@ -232,6 +234,7 @@ fn try_test<'m>(
         → AreReady M.signature all xs (f ∷ C) → AreBoundTo M xs values.now
         → IfOk result (IsTested M n limit f xs values.now (bound_by xs test.now)) }
 {
+    context.shows();
     match test {
         Test::Equal(left, right) => {
             match run_side(alloc, context, index, left, values, limit, nest)? {

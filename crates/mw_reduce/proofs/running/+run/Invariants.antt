@@ -1,9 +1,8 @@
-use Rattle.std.proofs.Common.{◌≡◌, ◌≤◌, ◌-◌, ◌+◌, ◌*◌, ◌<◌, ℕ, suc, List, reverse, slice_get, Some}
+use Rattle.std.proofs.Common.{◌≡◌, ◌≤◌, ◌-◌, ◌+◌, ◌*◌, ◌<◌, ◌×◌, ℕ, suc, List, [], reverse, slice_get, Some}
 use Rattle.mw_logic.specs.Term.{RawTerm}
 use Rattle.mw_logic.specs.Module.{Statement, IsStatement}
 use Rattle.mw_position.specs.Variables.{met}
 use Rattle.mw_index.specs.Conditions.{IsConditionOf}
-use Rattle.mw_index.specs.declared.conditions.Test.{Test}
 use Rattle.mw_frames.specs.State.{Run, IsRun, Holds}
 use Rattle.mw_frames.specs.Machines.{data_of}
 use Rattle.mw_reduce.specs.Turns.{IsTurn, TurnOf}
@@ -34,3 +33,19 @@ invariant-drive-loop-left l =
 
 abbrev pub decreases-drive-loop-left : goal.decreases-drive-loop-left
 decreases-drive-loop-left l = l.left
+
+abbrev pub invariant-find-loop-rounds : goal.invariant-find-loop-rounds
+invariant-find-loop-rounds l =
+    TurnOf l.context l.turn
+    × ((K : Run) (k : ℕ) → IsRun K l.context.signature → K.over ≡ l.context → K.rank ≡ l.nest → Holds K k (data_of K.over l.fn.machine) l.fn.hand → IsTurn K k l.index (data_of K.over l.machine) l.choices l.turn)
+
+abbrev pub decreases-find-loop-rounds : goal.decreases-find-loop-rounds
+decreases-find-loop-rounds l = l.rounds
+
+abbrev pub invariant-evaluate-loop-rounds : goal.invariant-evaluate-loop-rounds
+invariant-evaluate-loop-rounds l =
+    (n number : ℕ) (e : Statement) → l.nest ≡ suc n → IsStatement l.context number e → IsConditionOf l.context.signature e l.condition → AreBoundTo l.context (met [] e.left) l.fn.values.items
+    → IsTrial l.context n e l.condition.tests (bound_to l.context.signature (met [] e.left) l.fn.values.items) l.at l.values.items l.sides.items (reverse l.others.items)
+
+abbrev pub decreases-evaluate-loop-rounds : goal.decreases-evaluate-loop-rounds
+decreases-evaluate-loop-rounds l = l.rounds

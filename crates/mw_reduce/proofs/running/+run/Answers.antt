@@ -1,0 +1,182 @@
+use Rattle.std.proofs.Common.{rules, arith, ◌≡◌, ◌+◌, ◌-◌, ◌<◌, ◌≤◌, ◌∙◌, ℕ, List, [], max, suc, subst, sym, ap, inl, inr, refl, reverse, drop, drop_of_length-le}
+use Rattle.mw_logic.specs.Term.{RawTerm}
+use Rattle.mw_logic.specs.Module.{Module}
+use Rattle.mw_logic.specs.Substitution.{Substitution}
+use Rattle.mw_position.specs.Variables.{met}
+use Rattle.mw_index.specs.declared.choices.Choice.{Choice}
+use Rattle.mw_index.specs.declared.conditions.Test.{Test}
+use Rattle.mw_frames.specs.Machines.{data_of}
+use Rattle.mw_frames.specs.State.{Holds}
+use Rattle.mw_frames.specs.Steps.{asked_term}
+use Rattle.mw_reduce.specs.Turns.{IsFound}
+use Rattle.mw_reduce.specs.Attempts.{IsTriable, IsAttempt}
+use Rattle.mw_reduce.specs.Evaluations.{bound_to}
+use Rattle.mw_reduce.proofs.Applying.{left_bound, found_triable, made_at_once, made_so, failed_so, too_many, stopped_so}
+use Rattle.mw_reduce.proofs.Evaluating.{here_at, tested_at}
+use Rattle.mw_reduce.proofs.Going.{begin, hold}
+use Rattle.mw_reduce.proofs.Reduced.{is_run, begins_run}
+use Rattle.mw_reduce.proofs.SideRuns.{side_raw}
+use Rattle.mw_reduce.proofs.Tests.{some_test_at, match_sorts, equation_tests, equal_asked, match_asked}
+use Rattle.mw_reduce.proofs.running.+run.Goals as goal
+
+made_less : (limit left made n m : ℕ) → left ≤ limit → made ≤ left → 0 < made → m ≡ max made 1 → n ≡ left - m → limit - left + made ≡ limit - n
+made_less limit left made n m a b c d e = omega (arith, a, b, c, d, e)
+
+pub drive-loop-left-preserved : goal.drive-loop-left-preserved
+drive-loop-left-preserved m c = (
+  let a = c.loop-left.invariant.0 in let e = c.saturating_sub-left.ensures in omega (arith, a, e),
+  λ K run here rank h.
+      let p = c.in_ok-pause.ensures K (c.args.limit - c.loop-left.left) run here rank (c.loop-left.invariant.1 K run here rank h) in
+      let (some, few, z) = rw c.in-Goes.is at (c.in_ok-next.ensures K (c.args.limit - c.loop-left.left) c.args.side run here (search rules) p) in
+      let more = made_less c.args.limit c.loop-left.left c.in-Goes.count c.saturating_sub-left.result c.max.result c.loop-left.invariant.0 few some c.max.ensures c.saturating_sub-left.ensures in
+      subst (λ n. Holds K n (data_of K.over c.go_on.new.machine) c.in-Goes.next) more z,
+)
+
+pub drive-returns-in-Ends : goal.drive-returns-in-Ends
+drive-returns-in-Ends m c = λ K run here rank h.
+    let p = c.in_ok-pause.ensures K (c.args.limit - c.loop-left.left) run here rank (c.loop-left.invariant.1 K run here rank h) in
+    let z = rw c.in-Ends.is at (c.in_ok-next.ensures K (c.args.limit - c.loop-left.left) c.args.side run here (search rules) p) in
+    (c.args.limit - c.loop-left.left, inl ((search rules), z))
+
+pub drive-returns : goal.drive-returns
+drive-returns m c = λ K run here rank h.
+    (c.args.limit - c.loop-left.left, inr ((search rules), refl, c.in_ok-term.ensures K (c.args.limit - c.loop-left.left) (rw c.facts.ensures run) (c.loop-left.invariant.1 K run here rank h)))
+
+pub find-loop-rounds-preserved-in-Goes : goal.find-loop-rounds-preserved-in-Goes
+find-loop-rounds-preserved-in-Goes m c = (tt, λ K k run here rank h. rw c.in-Goes.is at (c.in_ok-next.ensures.means K k run here (c.loop-rounds.invariant.1 K k run here rank h)))
+
+pub find-loop-rounds-preserved : goal.find-loop-rounds-preserved
+find-loop-rounds-preserved m c = (
+  rw c.in-Turns.is at c.in_ok-next-in-Found.ensures.of,
+  λ K k run here rank h.
+      let d = data_of K.over c.advance.new.machine in
+      let q : Choice = c.in-Found.choice in
+      let f : IsFound K k c.args.index.now d c.advance.new.choices c.in-Found.asked q = rw c.in-Found.is at (c.in_ok-next.ensures.means K k run here (c.loop-rounds.invariant.1 K k run here rank h)) in
+      let t : RawTerm = asked_term d c.in-Found.asked in
+      let may : IsTriable K.over t q = found_triable K c.args.context.now.signature run k c.args.index.now d c.advance.new.choices c.in-Found.asked q f in
+      let told : IsAttempt K.over K.rank c.args.side t q c.try_choice.new.choice c.in_ok-attempt-in-Found.attempt =
+      subst (λ r. IsAttempt K.over r c.args.side t q c.try_choice.new.choice c.in_ok-attempt-in-Found.attempt) (sym rank)
+      (subst (λ (M : Module). IsAttempt M c.args.nest c.args.side t q c.try_choice.new.choice c.in_ok-attempt-in-Found.attempt) (sym here) (c.in_ok-attempt-in-Found.ensures.means t (subst (λ (M : Module). IsTriable M t q) here may))) in
+      rw c.in-Turns.is at (c.in_ok-next-in-Found.ensures.means K k c.args.side q run here f c.in_ok-attempt-in-Found.ensures.same told),
+)
+
+pub find-returns-in-Pauses : goal.find-returns-in-Pauses
+find-returns-in-Pauses m c = λ K k run here rank h.
+    let d = data_of K.over c.advance.new.machine in
+    let q : Choice = c.in-Found.choice in
+    let f : IsFound K k c.args.index.now d c.advance.new.choices c.in-Found.asked q = rw c.in-Found.is at (c.in_ok-next.ensures.means K k run here (c.loop-rounds.invariant.1 K k run here rank h)) in
+    let t : RawTerm = asked_term d c.in-Found.asked in
+    let may : IsTriable K.over t q = found_triable K c.args.context.now.signature run k c.args.index.now d c.advance.new.choices c.in-Found.asked q f in
+    let told : IsAttempt K.over K.rank c.args.side t q c.try_choice.new.choice c.in_ok-attempt-in-Found.attempt =
+    subst (λ r. IsAttempt K.over r c.args.side t q c.try_choice.new.choice c.in_ok-attempt-in-Found.attempt) (sym rank)
+    (subst (λ (M : Module). IsAttempt M c.args.nest c.args.side t q c.try_choice.new.choice c.in_ok-attempt-in-Found.attempt) (sym here) (c.in_ok-attempt-in-Found.ensures.means t (subst (λ (M : Module). IsTriable M t q) here may))) in
+    rw c.in-Pauses.is at (c.in_ok-next-in-Found.ensures.means K k c.args.side q run here f c.in_ok-attempt-in-Found.ensures.same told)
+
+pub find-returns-in-Ended : goal.find-returns-in-Ended
+find-returns-in-Ended m c = λ K k run here rank h. rw c.in-Ended.is at (c.in_ok-next.ensures.means K k run here (c.loop-rounds.invariant.1 K k run here rank h))
+
+pub find-returns-in-Met : goal.find-returns-in-Met
+find-returns-in-Met m c = λ K k run here rank h. rw c.in-Met.is at (c.in_ok-next.ensures.means K k run here (c.loop-rounds.invariant.1 K k run here rank h))
+
+pub find-returns-in-Big : goal.find-returns-in-Big
+find-returns-in-Big m c = λ K k run here rank h. rw c.in-Big.is at (c.in_ok-next.ensures.means K k run here (c.loop-rounds.invariant.1 K k run here rank h))
+
+pub find-returns-in-Decides : goal.find-returns-in-Decides
+find-returns-in-Decides m c = λ K k run here rank h. rw c.in-Decides.is at (c.in_ok-next.ensures.means K k run here (c.loop-rounds.invariant.1 K k run here rank h))
+
+pub evaluate-loop-rounds-init : goal.evaluate-loop-rounds-init
+evaluate-loop-rounds-init m c = λ n number e nest there condition bound.
+    rw (c.new-sides.ensures.items, c.new-others.ensures.items) (begin c.args.context.now c.shows.ensures n number e there c.args.condition.now.tests condition.tests c.args.values.now.items bound)
+
+pub evaluate-try_test-requires : goal.evaluate-try_test-requires
+evaluate-try_test-requires m c =
+    let (xs, C, h) = c.requires.tests in
+    let here = here_at c.args.condition.now.tests c.as_slice-tests.result.now c.loop-rounds.at c.index-tests-at.result c.as_slice-tests.ensures c.if-at-tests.false c.index-tests-at.is in
+    some_test_at c.args.context.now.signature xs C c.args.condition.now.tests h c.loop-rounds.at c.index-tests-at.result here
+
+pub evaluate-loop-rounds-preserved : goal.evaluate-loop-rounds-preserved
+evaluate-loop-rounds-preserved m c = λ n number e nest there condition bound.
+    let M : Module = c.args.context.now in
+    let tests : List Test = c.args.condition.now.tests in
+    let s : Substitution = bound_to M.signature (met [] e.left) c.args.values.now.items in
+    let h = c.loop-rounds.invariant n number e nest there condition bound in
+    let here = here_at tests c.as_slice-tests.result.now c.loop-rounds.at c.index-tests-at.result c.as_slice-tests.ensures c.if-at-tests.false c.index-tests-at.is in
+    let (f, C, xs, at) = tested_at M n c.args.limit e tests s c.loop-rounds.at c.index-tests-at.result c.loop-rounds.values.items c.as_slice.result.now c.loop-rounds.sides.items (reverse c.loop-rounds.others.items) c.in_ok-tested.tested here h c.as_slice.ensures.value
+    (λ f C xs test ready b. c.in_ok-tested.ensures n e.variables xs f C nest test ready b) in
+    rw c.in-At.is at (c.in_ok-next.ensures M n c.args.limit e tests s f C xs c.shows.ensures at.0 at.1)
+
+pub evaluate-returns-in-Failed : goal.evaluate-returns-in-Failed
+evaluate-returns-in-Failed m c = λ n number e nest there condition bound.
+    let M : Module = c.args.context.now in
+    let tests : List Test = c.args.condition.now.tests in
+    let s : Substitution = bound_to M.signature (met [] e.left) c.args.values.now.items in
+    let h = c.loop-rounds.invariant n number e nest there condition bound in
+    let here = here_at tests c.as_slice-tests.result.now c.loop-rounds.at c.index-tests-at.result c.as_slice-tests.ensures c.if-at-tests.false c.index-tests-at.is in
+    let (f, C, xs, at) = tested_at M n c.args.limit e tests s c.loop-rounds.at c.index-tests-at.result c.loop-rounds.values.items c.as_slice.result.now c.loop-rounds.sides.items (reverse c.loop-rounds.others.items) c.in_ok-tested.tested here h c.as_slice.ensures.value
+    (λ f C xs test ready b. c.in_ok-tested.ensures n e.variables xs f C nest test ready b) in
+    rw c.in-Failed.is at (c.in_ok-next.ensures M n c.args.limit e tests s f C xs c.shows.ensures at.0 at.1)
+
+pub evaluate-returns-in-Stopped : goal.evaluate-returns-in-Stopped
+evaluate-returns-in-Stopped m c = λ n number e nest there condition bound.
+    let M : Module = c.args.context.now in
+    let tests : List Test = c.args.condition.now.tests in
+    let s : Substitution = bound_to M.signature (met [] e.left) c.args.values.now.items in
+    let h = c.loop-rounds.invariant n number e nest there condition bound in
+    let here = here_at tests c.as_slice-tests.result.now c.loop-rounds.at c.index-tests-at.result c.as_slice-tests.ensures c.if-at-tests.false c.index-tests-at.is in
+    let (f, C, xs, at) = tested_at M n c.args.limit e tests s c.loop-rounds.at c.index-tests-at.result c.loop-rounds.values.items c.as_slice.result.now c.loop-rounds.sides.items (reverse c.loop-rounds.others.items) c.in_ok-tested.tested here h c.as_slice.ensures.value
+    (λ f C xs test ready b. c.in_ok-tested.ensures n e.variables xs f C nest test ready b) in
+    rw c.in-Stopped.is at (c.in_ok-next.ensures M n c.args.limit e tests s f C xs c.shows.ensures at.0 at.1)
+
+pub evaluate-returns-then-at-tests : goal.evaluate-returns-then-at-tests
+evaluate-returns-then-at-tests m c = λ n number e nest there condition bound.
+    let M : Module = c.args.context.now in
+    let tests : List Test = c.args.condition.now.tests in
+    let s : Substitution = bound_to M.signature (met [] e.left) c.args.values.now.items in
+    let h = c.loop-rounds.invariant n number e nest there condition bound in
+    let long = subst (λ (ts : List Test). Rattle.std.proofs.Common.length ts ≤ c.loop-rounds.at) c.as_slice-tests.ensures c.if-at-tests.true in
+    hold M n e tests s c.loop-rounds.at c.loop-rounds.values.items c.loop-rounds.sides.items (reverse c.loop-rounds.others.items) h (drop_of_length-le tests long)
+
+pub run_side-returns-in_ok-end-in-Runs : goal.run_side-returns-in_ok-end-in-Runs
+run_side-returns-in_ok-end-in-Runs m c = λ n xs t nest asked is bound. ?
+
+pub try_choice-returns-then-is_empty-clause-means : goal.try_choice-returns-then-is_empty-clause-means
+try_choice-returns-then-is_empty-clause-means m c = λ t may. ?
+
+pub try_choice-returns-then-nest-eq0-clause-means : goal.try_choice-returns-then-nest-eq0-clause-means
+try_choice-returns-then-nest-eq0-clause-means m c = λ t may. ?
+
+pub try_choice-returns-in_ok-trails-in-Held-clause-means : goal.try_choice-returns-in_ok-trails-in-Held-clause-means
+try_choice-returns-in_ok-trails-in-Held-clause-means m c = λ t may. ?
+
+pub try_choice-returns-in-Failed-clause-means : goal.try_choice-returns-in-Failed-clause-means
+try_choice-returns-in-Failed-clause-means m c = λ t may. ?
+
+pub try_choice-returns-in-Stopped-clause-means : goal.try_choice-returns-in-Stopped-clause-means
+try_choice-returns-in-Stopped-clause-means m c = λ t may. ?
+
+pub try_test-returns-in-Stops : goal.try_test-returns-in-Stops
+try_test-returns-in-Stops m c = λ n all xs f C nest is ready bound. ?
+
+pub try_test-returns-in-Stops-2 : goal.try_test-returns-in-Stops-2
+try_test-returns-in-Stops-2 m c = λ n all xs f C nest is ready bound. ?
+
+pub try_test-returns-in_ok-tested-in-To-2 : goal.try_test-returns-in_ok-tested-in-To-2
+try_test-returns-in_ok-tested-in-To-2 m c = λ n all xs f C nest is ready bound. ?
+
+pub try_test-returns-in-Stops-3 : goal.try_test-returns-in-Stops-3
+try_test-returns-in-Stops-3 m c = λ n all xs f C nest is ready bound. ?
+
+pub try_test-returns-in_ok-tested-in-To-3 : goal.try_test-returns-in_ok-tested-in-To-3
+try_test-returns-in_ok-tested-in-To-3 m c = λ n all xs f C nest is ready bound. ?
+
+pub try_test-returns-in-Stops-4 : goal.try_test-returns-in-Stops-4
+try_test-returns-in-Stops-4 m c = λ n all xs f C nest is ready bound. ?
+
+pub try_test-returns-in_ok-tested-in-To-4 : goal.try_test-returns-in_ok-tested-in-To-4
+try_test-returns-in_ok-tested-in-To-4 m c = λ n all xs f C nest is ready bound. ?
+
+pub try_test-returns-in-Stops-5 : goal.try_test-returns-in-Stops-5
+try_test-returns-in-Stops-5 m c = λ n all xs f C nest is ready bound. ?
+
+pub try_test-returns-in_ok-tested-in-To-5 : goal.try_test-returns-in_ok-tested-in-To-5
+try_test-returns-in_ok-tested-in-To-5 m c = λ n all xs f C nest is ready bound. ?
