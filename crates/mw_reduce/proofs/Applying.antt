@@ -170,7 +170,7 @@ module _ (M : Module) (work : IsWorkable M) (t : RawTerm) (c : Choice) (h : IsTr
     small = left_small sig ok lefts us (lefts_distinct e) size e.left w (left_raw M work number e there) (λ x i. sym (in_lefts e x) ∙ i)
         (instance_placed sig lefts (lefts_distinct e) us size ok work.signature.well_sorted h.choice.values h.choice.solution.substitution e.left (left_raw M work number e there) (λ x o. in_lefts e x ∙ o)
         ∙ normal_form-kept sig ok h.choice.solution.matches ∙ h.admitted.canonical)
-        (subst (λ v. has_largest sig v ≡ false) h.admitted.canonical ((admitted-iff sig ok h.admitted.raw).0 h.admitted.admitted).1.1);
+        (subst (λ v. has_largest sig v ≡ false) h.admitted.canonical ((admitted-iff sig ok h.admitted.raw).0 h.admitted.admitted).2);
   }
 
   no_fragments : tests ≡ [] → e.fragments ≡ []
