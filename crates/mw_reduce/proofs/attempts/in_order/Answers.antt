@@ -1,15 +1,22 @@
-use Rattle.std.proofs.Common.{◌≡◌, ◌++◌, ◌∙◌, [], ◌∷◌, sym, ap, length, slice_index_or}
-use Rattle.mw_index.specs.Choices.{in_order as in_order_of}
-use Rattle.mw_reduce.proofs.Ordering.{in_order_more}
+use Rattle.std.proofs.Common.{◌≡◌, ◌++◌, ◌∙◌, [], ◌∷◌, sym, ap}
+use Rattle.std.proofs.Common.{Vec, Global}
+use Rattle.mw_reduce.proofs.Ordering.{with_one, without_one}
 use Rattle.mw_reduce.proofs.attempts.in_order.Goals as goal
 use Rattle.mw_reduce.proofs.attempts.in_order.Goals.{in-Some+in_ok-copy-in-Some+in_ok-push-in-Some, in-None}
 
 pub loop-place-preserved : goal.loop-place-preserved
 loop-place-preserved c =
-    let more = in_order_more c.args.terms.now c.args.places.now c.loop-place.place-index 0 c.loop-place-test.true in
-    let found = c.get.ensures.lookup in
-    let before = c.loop-place.invariant in
+    let us = c.args.terms.now in
+    let ns = c.args.places.now in
+    let i = c.loop-place.place-index in
+    let vs = c.loop-place.values.items in
     elim c.match-get.branch [
-        in-Some+in_ok-copy-in-Some+in_ok-push-in-Some w ↦ let is = w.in-Some.is in let value = w.values-is in let copied = w.in_ok-copy-in-Some.ensures in let pushed = w.in_ok-push-in-Some.ensures in ?
-        | in-None w ↦ let is = w.in-None.is in let value = w.values-is in ?
+        in-Some+in_ok-copy-in-Some+in_ok-push-in-Some w ↦
+            let (a, b, d, e, f) = c.get.ensures.lookup in
+            let (k, there) = rw w.in-Some.is at e in
+            let u = w.in-Some.term.now in
+            ap (λ v. v.items) w.values-is ∙ w.in_ok-push-in-Some.ensures.items ∙ ap (λ t. vs ++ t ∷ []) w.in_ok-copy-in-Some.ensures ∙ with_one us ns i vs u c.loop-place-test.true c.loop-place.invariant k (there u)
+        | in-None w ↦
+            let (a, b, d, e, f) = c.get.ensures.lookup in
+            ap (λ v. v.items) w.values-is ∙ without_one us ns i vs c.loop-place-test.true c.loop-place.invariant (rw w.in-None.is at e)
     ]
