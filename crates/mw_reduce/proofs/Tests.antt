@@ -8,7 +8,10 @@ use Rattle.mw_logic.specs.Accepted.{IsAccepted}
 use Rattle.mw_logic.specs.Substitution.{occurs}
 use Rattle.mw_logic.specs.Module.{Fragment, equal, matches, has_sort, is_true, Module}
 use Rattle.mw_position.specs.Variables.{is_in, met, sorts_of}
-use Rattle.mw_index.specs.Conditions.{IsTestOf, AreTests, AreReady, bound_by}
+use Rattle.mw_index.specs.Conditions.{IsSideOf, IsMatchOf, IsTestOf, AreTests, AreReady, bound_by}
+use Rattle.mw_term.specs.Signatures.{sorted_of}
+use Rattle.mw_term.specs.declared.signature.Sorted.{Sorted as Written}
+use Rattle.mw_index.specs.declared.conditions.Side.{Side}
 use Rattle.mw_index.specs.declared.conditions.Matched.{Matched}
 use Rattle.mw_index.specs.declared.conditions.Test.{Test}
 use Rattle.mw_index.specs.declared.conditions.Test.TheVariants as test
@@ -39,3 +42,41 @@ module _ (sig : Signature) (ok : IsAccepted sig) (all xs : List Variable) (C : L
 
   pub match_asked : (l t : RawTerm) → AreReady sig all xs (matches l t ∷ C) → AreAsked sig xs t
   match_asked l t h = record { raw = h.raw.1; among = h.in_turn.0; distinct = h.distinct }
+
+-- What holds for the fragment of a test of each kind, and what is bound behind it, holds for the test that it is.
+module _ (sig : Signature) (ok : IsAccepted sig) (all xs : List Variable) (f : Fragment) (C : List Fragment) (z : Test) (is : IsTestOf sig xs f z) (ready : AreReady sig all xs (f ∷ C)) (P : Fragment → List Variable → Type 0) where
+  pub at_equal : (p q : Side) → z ≡ test.Equal p q → ((u v : RawTerm) → AreAsked sig xs u → AreAsked sig xs v → IsSideOf sig xs u p → IsSideOf sig xs v q → P (equal u v) xs) → P f (bound_by xs z)
+  at_equal p q e h = subst (λ z. P f (bound_by xs z)) (sym e) (of f (subst (IsTestOf sig xs f) e is) ready)
+    where
+      of : (f : Fragment) → IsTestOf sig xs f (test.Equal p q) → AreReady sig all xs (f ∷ C) → P f xs
+      of (equal u v) i r = let a = equal_asked sig ok all xs C u v r in h u v a.0 a.1 i.0 i.1
+      of (matches l t) i r = absurd i
+      of (has_sort t S) i r = absurd i
+      of (is_true t) i r = absurd i
+
+  pub at_match : (m : Box Matched Global) → z ≡ test.Match m → ((l t : RawTerm) → AreReady sig all xs (matches l t ∷ C) → AreAsked sig xs t → IsMatchOf sig xs l t m.value → P (matches l t) m.value.compiled.variables) → P f (bound_by xs z)
+  at_match m e h = subst (λ z. P f (bound_by xs z)) (sym e) (of f (subst (IsTestOf sig xs f) e is) ready)
+    where
+      of : (f : Fragment) → IsTestOf sig xs f (test.Match m) → AreReady sig all xs (f ∷ C) → P f m.value.compiled.variables
+      of (equal u v) i r = absurd i
+      of (matches l t) i r = h l t r (match_asked sig ok all xs C l t r) i
+      of (has_sort t S) i r = absurd i
+      of (is_true t) i r = absurd i
+
+  pub at_sort : (p : Side) (T : Written) → z ≡ test.HasSort p T → ((t : RawTerm) → AreAsked sig xs t → IsSideOf sig xs t p → P (has_sort t (sorted_of T)) xs) → P f (bound_by xs z)
+  at_sort p T e h = subst (λ z. P f (bound_by xs z)) (sym e) (of f (subst (IsTestOf sig xs f) e is) ready)
+    where
+      of : (f : Fragment) → IsTestOf sig xs f (test.HasSort p T) → AreReady sig all xs (f ∷ C) → P f xs
+      of (equal u v) i r = absurd i
+      of (matches l t) i r = absurd i
+      of (has_sort t S) i r = subst (λ S. P (has_sort t S) xs) i.1 (h t (record { raw = r.raw.0; among = r.in_turn.0; distinct = r.distinct }) i.0)
+      of (is_true t) i r = absurd i
+
+  pub at_truth : (p : Side) → z ≡ test.Holds p → ((t : RawTerm) → AreAsked sig xs t → IsSideOf sig xs t p → P (is_true t) xs) → P f (bound_by xs z)
+  at_truth p e h = subst (λ z. P f (bound_by xs z)) (sym e) (of f (subst (IsTestOf sig xs f) e is) ready)
+    where
+      of : (f : Fragment) → IsTestOf sig xs f (test.Holds p) → AreReady sig all xs (f ∷ C) → P f xs
+      of (equal u v) i r = absurd i
+      of (matches l t) i r = absurd i
+      of (has_sort t S) i r = absurd i
+      of (is_true t) i r = h t (record { raw = r.raw.0; among = r.in_turn.0; distinct = r.distinct }) i

@@ -88,15 +88,6 @@ value_at (b ∷ s) (suc i) u d e =
     behind x h v false k = v
     behind x h v true k = absurd (both_ways _ (subst (λ y. is_in y (bound_variables s) ≡ false) (same_variable-is b.0 x k) d.0) h)
 
--- what a variable has means what it has in the meaning
-value_meant : (sig : Signature) (s : Substitution) (x : Variable) (u : RawTerm) → value s x ≡ Some u → value (meant sig s) x ≡ Some (nested sig u)
-value_meant sig [] x u e = absurd (none-some u e)
-value_meant sig (b ∷ s) x u e = by_test (value_meant sig s x u) (same_variable b.0 x) e
-  where
-    by_test : (value s x ≡ Some u → value (meant sig s) x ≡ Some (nested sig u)) → (c : Bool) → cond c (Some b.1) (value s x) ≡ Some u → cond c (Some (nested sig b.1)) (value (meant sig s) x) ≡ Some (nested sig u)
-    by_test r true e = ap (λ u. Some (nested sig u)) (same_Some b.1 u e)
-    by_test r false e = r e
-
 module _ (M : Module) (ok : IsAccepted M.signature) where
   abbrev sig : Signature
   sig = M.signature

@@ -300,25 +300,25 @@ fn run_side<'m>(
     context.shows();
     match begin_side(alloc, context.facts(), side, values)? {
         Begun::Stops(reason) => Ok(Shown::Stops(reason)),
-        Begun::Runs(mut running) => {
-            let hand = Hand::One(Job::Walk(copy(&running.from)?));
+        Begun::Runs(running) => {
             let Running {
-                machine,
-                choices,
-                ..
-            } = &mut *running;
+                from,
+                mut machine,
+                mut choices,
+            } = Box::into_inner(running);
+            let hand = Hand::One(Job::Walk(copy(&from)?));
             let end = drive(
                 alloc,
                 context,
                 index,
-                machine,
-                choices,
+                &mut machine,
+                &mut choices,
                 hand,
                 limit,
                 limit,
                 nest - 1,
             )?;
-            Ok(end_side(running, end))
+            Ok(end_side(from, machine, end))
         }
     }
 }

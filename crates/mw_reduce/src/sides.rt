@@ -87,17 +87,16 @@ pub fn begin_side<'m>(
     }
 }
 
-/// What comes of a side's run.
-pub fn end_side(running: Box<Running<'_>>, end: End) -> Shown
+/// What comes of a side's run from this term.
+pub fn end_side(from: Term, machine: Machine<'_>, end: End) -> Shown
     ensures { (M : Module) (n limit : ℕ) (t : RawTerm) → IsWorkable M → IsRawTerm M.signature t
-        → IsAdmittedTerm M.signature running.entry.value.from → running.entry.value.from ≡ normal_form M.signature t
-        → IsDriven (run_of M n running.entry.value.from) limit limit (data_of M running.entry.value.machine) end
+        → IsAdmittedTerm M.signature from → from ≡ normal_form M.signature t
+        → IsDriven (run_of M n from) limit limit (data_of M machine.entry) end
         → IsSideShown M n limit t result }
 {
     let End { term, outcome } = end;
     match outcome {
         Outcome::Done => {
-            let Running { from, machine, .. } = Box::into_inner(running);
             let Machine { kept, .. } = machine;
             Shown::To(Reduced {
                 from,

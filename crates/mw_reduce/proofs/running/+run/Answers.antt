@@ -1,22 +1,36 @@
-use Rattle.std.proofs.Common.{rules, arith, ◌≡◌, ◌+◌, ◌-◌, ◌<◌, ◌≤◌, ◌∙◌, ℕ, List, [], max, suc, subst, sym, ap, inl, inr, refl, reverse, drop, drop_of_length-le}
-use Rattle.mw_logic.specs.Term.{RawTerm}
-use Rattle.mw_logic.specs.Module.{Module}
-use Rattle.mw_logic.specs.Substitution.{Substitution}
+use Rattle.std.specs.Prelude.{◌==◌, Bool, true, false, Some, slice_get}
+use Rattle.std.proofs.Common.{rules, arith, ◌≡◌, ◌+◌, ◌-◌, ◌<◌, ◌≤◌, ◌∙◌, ℕ, List, [], ◌∷◌, length, max, suc, subst, sym, ap, inl, inr, refl, reverse, drop, drop_of_length-le}
+use Rattle.mw_logic.specs.Term.{Variable, RawTerm}
+use Rattle.mw_logic.specs.Module.{Module, Fragment, matches}
+use Rattle.mw_logic.specs.NormalForm.{normal_form}
+use Rattle.mw_logic.specs.Substitution.{Substitution, instance}
+use Rattle.mw_logic.specs.Ends.{IsSide}
+use Rattle.mw_canon.specs.Canonical.{IsAdmittedTerm}
+use Rattle.mw_least.specs.Workable.{IsWorkable}
 use Rattle.mw_position.specs.Variables.{met}
+use Rattle.mw_proof.specs.declared.reason.Reason.{Reason}
+use Rattle.mw_proof.specs.declared.reason.Reason.TheVariants as reason
+use Rattle.mw_index.specs.Choices.{tried_of}
+use Rattle.mw_index.specs.Conditions.{IsSideOf, IsMatchOf}
 use Rattle.mw_index.specs.declared.choices.Choice.{Choice}
+use Rattle.mw_index.specs.declared.conditions.Matched.{Matched}
 use Rattle.mw_index.specs.declared.conditions.Test.{Test}
 use Rattle.mw_frames.specs.Machines.{data_of}
 use Rattle.mw_frames.specs.State.{Holds}
 use Rattle.mw_frames.specs.Steps.{asked_term}
-use Rattle.mw_reduce.specs.Turns.{IsFound}
-use Rattle.mw_reduce.specs.Attempts.{IsTriable, IsAttempt}
-use Rattle.mw_reduce.specs.Evaluations.{bound_to}
+use Rattle.mw_frames.specs.declared.job.Job.TheVariants.{Walk}
+use Rattle.mw_frames.specs.declared.job.Hand.TheVariants.{One}
+use Rattle.mw_reduce.specs.Turns.{IsFailed, IsFound}
+use Rattle.mw_reduce.specs.Attempts.{IsTriable, IsMade, IsHaltingAt, IsAttempt}
+use Rattle.mw_reduce.specs.Evaluations.{bound_to, run_of, nothing, IsStoppedFor, IsTested}
+use Rattle.mw_reduce.specs.declared.sides.Running.{Running}
+use Rattle.mw_reduce.specs.declared.evaluation.Tested.{Tested}
 use Rattle.mw_reduce.proofs.Applying.{left_bound, found_triable, made_at_once, made_so, failed_so, too_many, stopped_so}
 use Rattle.mw_reduce.proofs.Evaluating.{here_at, tested_at}
 use Rattle.mw_reduce.proofs.Going.{begin, hold}
 use Rattle.mw_reduce.proofs.Reduced.{is_run, begins_run}
 use Rattle.mw_reduce.proofs.SideRuns.{side_raw}
-use Rattle.mw_reduce.proofs.Tests.{some_test_at, match_sorts, equation_tests, equal_asked, match_asked}
+use Rattle.mw_reduce.proofs.Tests.{some_test_at, at_equal, at_match, at_sort, at_truth}
 use Rattle.mw_reduce.proofs.running.+run.Goals as goal
 
 made_less : (limit left made n m : ℕ) → left ≤ limit → made ≤ left → 0 < made → m ≡ max made 1 → n ≡ left - m → limit - left + made ≡ limit - n
@@ -92,7 +106,7 @@ pub evaluate-try_test-requires : goal.evaluate-try_test-requires
 evaluate-try_test-requires m c =
     let (xs, C, h) = c.requires.tests in
     let here = here_at c.args.condition.now.tests c.as_slice-tests.result.now c.loop-rounds.at c.index-tests-at.result c.as_slice-tests.ensures c.if-at-tests.false c.index-tests-at.is in
-    some_test_at c.args.context.now.signature xs C c.args.condition.now.tests h c.loop-rounds.at c.index-tests-at.result here
+    (omega arith, (c.requires.index, (some_test_at c.args.context.now.signature xs C c.args.condition.now.tests h c.loop-rounds.at c.index-tests-at.result here, c.requires.above)))
 
 pub evaluate-loop-rounds-preserved : goal.evaluate-loop-rounds-preserved
 evaluate-loop-rounds-preserved m c = λ n number e nest there condition bound.
@@ -137,46 +151,130 @@ evaluate-returns-then-at-tests m c = λ n number e nest there condition bound.
     hold M n e tests s c.loop-rounds.at c.loop-rounds.values.items c.loop-rounds.sides.items (reverse c.loop-rounds.others.items) h (drop_of_length-le tests long)
 
 pub run_side-returns-in_ok-end-in-Runs : goal.run_side-returns-in_ok-end-in-Runs
-run_side-returns-in_ok-end-in-Runs m c = λ n xs t nest asked is bound. ?
+run_side-returns-in_ok-end-in-Runs m c = λ n xs t nest asked is bound.
+    let M : Module = c.args.context.now in
+    let work : IsWorkable M = c.shows.ensures in
+    let v : RawTerm = instance (bound_to M.signature xs c.args.values.now) t in
+    let r : Running = c.into_inner-from.result in
+    let begun = rw c.in-Runs.is at (c.in_ok-reason.ensures M xs t work c.facts.ensures asked is bound) in
+    let (low, from, empty) = subst (λ (r : Running). IsAdmittedTerm M.signature r.from × (r.from ≡ normal_form M.signature v) × ((N : Module) → data_of N r.machine ≡ nothing)) (sym c.into_inner-from.ensures) begun in
+    let hand : Holds (run_of M n r.from) 0 (data_of M r.machine) (One (Walk c.in_ok-copy-in-Runs.field-0)) =
+    subst (λ u. Holds (run_of M n r.from) 0 (data_of M r.machine) (One (Walk u))) (sym c.in_ok-copy-in-Runs.ensures) (begins_run M work n r.from low r.machine empty) in
+    c.end_side.ensures M n c.args.limit v work (side_raw M work xs c.args.values.now bound t asked) low from
+    (c.in_ok-end-in-Runs.ensures (run_of M n r.from) (is_run M work n r.from low) refl (let e = nest in omega (arith, e)) hand)
+
+-- the tests of a condition: none, or a first one
+none_there : (ts us : List Test) (b : Bool) → us ≡ ts → b ≡ (length us == 0) → b ≡ true → ts ≡ []
+none_there ts [] b e f t = sym e
+none_there ts (u ∷ us) b e f t = cc
+
+one_there : (ts us : List Test) (b : Bool) → us ≡ ts → b ≡ (length us == 0) → b ≡ false → (x : Test) × (slice_get ts 0 ≡ Some x)
+one_there ts [] b e f t = cc
+one_there ts (u ∷ us) b e f t = (u, ap (λ xs. slice_get xs 0) (sym e))
 
 pub try_choice-returns-then-is_empty-clause-means : goal.try_choice-returns-then-is_empty-clause-means
-try_choice-returns-then-is_empty-clause-means m c = λ t may. ?
+try_choice-returns-then-is_empty-clause-means m c = λ t may.
+    let q : Choice = c.args.choice.now in
+    let none = none_there q.equation.now.condition.tests c.as_slice.result.now c.is_empty.result c.as_slice.ensures c.is_empty.ensures c.if-is_empty.true in
+    subst (IsMade c.args.context.now c.args.nest t q) (sym c.new.ensures.items) (made_at_once c.args.context.now c.shows.ensures t q may c.args.nest none)
 
 pub try_choice-returns-then-nest-eq0-clause-means : goal.try_choice-returns-then-nest-eq0-clause-means
-try_choice-returns-then-nest-eq0-clause-means m c = λ t may. ?
+try_choice-returns-then-nest-eq0-clause-means m c = λ t may.
+    let q : Choice = c.args.choice.now in
+    let (x, some) = one_there q.equation.now.condition.tests c.as_slice.result.now c.is_empty.result c.as_slice.ensures c.is_empty.ensures c.if-is_empty.false in
+    subst (λ n. IsHaltingAt c.args.context.now n c.args.side t q.take reason.Nest) (sym c.if-nest-eq0.true) (too_many c.args.context.now c.shows.ensures t q may c.args.side x some)
 
 pub try_choice-returns-in_ok-trails-in-Held-clause-means : goal.try_choice-returns-in_ok-trails-in-Held-clause-means
-try_choice-returns-in_ok-trails-in-Held-clause-means m c = λ t may. ?
+try_choice-returns-in_ok-trails-in-Held-clause-means m c = λ t may.
+    let M : Module = c.args.context.now in
+    let q : Choice = c.args.choice.now in
+    let new : Choice = record { equation = q.equation; values = c.put_in_order.new.values; take = q.take } in
+    let n : ℕ = c.args.nest - 1 in
+    let nest : c.args.nest ≡ suc n = let z = c.if-nest-eq0.false in omega (arith, z) in
+    let (x, some) = one_there q.equation.now.condition.tests c.as_slice.result.now c.is_empty.result c.as_slice.ensures c.is_empty.ensures c.if-is_empty.false in
+    let held = rw c.in-Held.is at (c.in_ok-sides.ensures n q.equation.now.number may.choice.statement nest may.choice.is_there may.choice.is.condition (left_bound M c.shows.ensures t q may)) in
+    subst (λ k. IsMade M k t new c.in_ok-trails-in-Held.trails.items) (sym nest)
+    (made_so M c.shows.ensures t q may n x some new refl c.evaluate.new.values.items c.in-Held.sides.items c.in_ok-trails-in-Held.trails.items held (c.in_ok-trails-in-Held.ensures M) c.in_ok-put_in_order-in-Held.ensures)
 
 pub try_choice-returns-in-Failed-clause-means : goal.try_choice-returns-in-Failed-clause-means
-try_choice-returns-in-Failed-clause-means m c = λ t may. ?
+try_choice-returns-in-Failed-clause-means m c = λ t may e is.
+    let M : Module = c.args.context.now in
+    let q : Choice = c.args.choice.now in
+    let n : ℕ = c.args.nest - 1 in
+    let nest : c.args.nest ≡ suc n = let z = c.if-nest-eq0.false in omega (arith, z) in
+    let failed = rw c.in-Failed.is at (c.in_ok-sides.ensures n q.equation.now.number may.choice.statement nest may.choice.is_there may.choice.is.condition (left_bound M c.shows.ensures t q may)) in
+    subst (λ k. IsFailed M k (tried_of q) e) (sym nest) (failed_so M c.shows.ensures t q may n failed e is)
 
 pub try_choice-returns-in-Stopped-clause-means : goal.try_choice-returns-in-Stopped-clause-means
-try_choice-returns-in-Stopped-clause-means m c = λ t may. ?
+try_choice-returns-in-Stopped-clause-means m c = λ t may.
+    let M : Module = c.args.context.now in
+    let q : Choice = c.args.choice.now in
+    let n : ℕ = c.args.nest - 1 in
+    let nest : c.args.nest ≡ suc n = let z = c.if-nest-eq0.false in omega (arith, z) in
+    let stopped = rw c.in-Stopped.is at (c.in_ok-sides.ensures n q.equation.now.number may.choice.statement nest may.choice.is_there may.choice.is.condition (left_bound M c.shows.ensures t q may)) in
+    subst (λ k. IsHaltingAt M k c.args.side t q.take reason.Condition) (sym nest) (stopped_so M c.shows.ensures t q may n c.args.side c.in-Stopped.field-0 stopped)
+
+-- a side of the fragment stops
+abbrev StopsIn : (M : Module) → ℕ → ℕ → List Variable → List RawTerm → Reason → Fragment → List Variable → Type 0
+StopsIn M n limit xs vs why f ys = (u : RawTerm) × IsSide f u × IsStoppedFor M n limit (instance (bound_to M.signature xs vs) u) why
+
+-- the test of it is told
+abbrev Told : (M : Module) → ℕ → ℕ → List Variable → List RawTerm → Tested → Fragment → List Variable → Type 0
+Told M n limit xs vs x f ys = IsTested M n limit f xs vs ys x
 
 pub try_test-returns-in-Stops : goal.try_test-returns-in-Stops
-try_test-returns-in-Stops m c = λ n all xs f C nest is ready bound. ?
+try_test-returns-in-Stops m c = λ n all xs f C nest is ready bound.
+    let M : Module = c.args.context.now in
+    at_equal M.signature c.shows.ensures.signature.accepted all xs f C c.args.test.now is ready (StopsIn M n c.args.limit xs c.args.values.now c.in-Stops.reason) c.in-Equal.left c.in-Equal.right c.in-Equal.is
+    (λ u v a b i j. (u, inl refl, rw c.in-Stops.is at (c.in_ok-reason-in-Equal.ensures n xs u nest a i bound)))
 
 pub try_test-returns-in-Stops-2 : goal.try_test-returns-in-Stops-2
-try_test-returns-in-Stops-2 m c = λ n all xs f C nest is ready bound. ?
+try_test-returns-in-Stops-2 m c = λ n all xs f C nest is ready bound.
+    let M : Module = c.args.context.now in
+    at_equal M.signature c.shows.ensures.signature.accepted all xs f C c.args.test.now is ready (StopsIn M n c.args.limit xs c.args.values.now c.in-Stops-2.reason) c.in-Equal.left c.in-Equal.right c.in-Equal.is
+    (λ u v a b i j. (v, inr refl, rw c.in-Stops-2.is at (c.in_ok-reason-in-To.ensures n xs v nest b j bound)))
 
 pub try_test-returns-in_ok-tested-in-To-2 : goal.try_test-returns-in_ok-tested-in-To-2
-try_test-returns-in_ok-tested-in-To-2 m c = λ n all xs f C nest is ready bound. ?
+try_test-returns-in_ok-tested-in-To-2 m c = λ n all xs f C nest is ready bound.
+    let M : Module = c.args.context.now in
+    at_equal M.signature c.shows.ensures.signature.accepted all xs f C c.args.test.now is ready (Told M n c.args.limit xs c.args.values.now c.in_ok-tested-in-To-2.tested) c.in-Equal.left c.in-Equal.right c.in-Equal.is
+    (λ u v a b i j. c.in_ok-tested-in-To-2.ensures M n c.args.limit xs c.args.values.now u v c.shows.ensures (rw c.in-To.is at (c.in_ok-reason-in-Equal.ensures n xs u nest a i bound)) (rw c.in-To-2.is at (c.in_ok-reason-in-To.ensures n xs v nest b j bound)))
 
 pub try_test-returns-in-Stops-3 : goal.try_test-returns-in-Stops-3
-try_test-returns-in-Stops-3 m c = λ n all xs f C nest is ready bound. ?
+try_test-returns-in-Stops-3 m c = λ n all xs f C nest is ready bound.
+    let M : Module = c.args.context.now in
+    at_match M.signature c.shows.ensures.signature.accepted all xs f C c.args.test.now is ready (StopsIn M n c.args.limit xs c.args.values.now c.in-Stops-3.reason) c.in-Match.matched c.in-Match.is
+    (λ l t r a i. (t, refl, rw c.in-Stops-3.is at (c.in_ok-reason-in-Match.ensures n xs t nest a (subst (λ (q : Matched). IsSideOf M.signature xs t q.side) (sym c.deref.ensures) i.side) bound)))
 
 pub try_test-returns-in_ok-tested-in-To-3 : goal.try_test-returns-in_ok-tested-in-To-3
-try_test-returns-in_ok-tested-in-To-3 m c = λ n all xs f C nest is ready bound. ?
+try_test-returns-in_ok-tested-in-To-3 m c = λ n all xs f C nest is ready bound.
+    let M : Module = c.args.context.now in
+    at_match M.signature c.shows.ensures.signature.accepted all xs f C c.args.test.now is ready (Told M n c.args.limit xs c.args.values.now c.in_ok-tested-in-To-3.tested) c.in-Match.matched c.in-Match.is
+    (λ l t r a i.
+    let shown = rw c.in-To-3.is at (c.in_ok-reason-in-Match.ensures n xs t nest a (subst (λ (q : Matched). IsSideOf M.signature xs t q.side) (sym c.deref.ensures) i.side) bound) in
+    subst (λ (q : Matched). IsTested M n c.args.limit (matches l t) xs c.args.values.now q.compiled.variables c.in_ok-tested-in-To-3.tested) c.deref-in-To-3.ensures
+    (c.in_ok-tested-in-To-3.ensures n c.args.limit all xs l t C r (subst (IsMatchOf M.signature xs l t) (sym c.deref-in-To-3.ensures) i) bound shown))
 
 pub try_test-returns-in-Stops-4 : goal.try_test-returns-in-Stops-4
-try_test-returns-in-Stops-4 m c = λ n all xs f C nest is ready bound. ?
+try_test-returns-in-Stops-4 m c = λ n all xs f C nest is ready bound.
+    let M : Module = c.args.context.now in
+    at_sort M.signature c.shows.ensures.signature.accepted all xs f C c.args.test.now is ready (StopsIn M n c.args.limit xs c.args.values.now c.in-Stops-4.reason) c.in-HasSort.side c.in-HasSort.sort c.in-HasSort.is
+    (λ t a i. (t, refl, rw c.in-Stops-4.is at (c.in_ok-reason-in-HasSort.ensures n xs t nest a i bound)))
 
 pub try_test-returns-in_ok-tested-in-To-4 : goal.try_test-returns-in_ok-tested-in-To-4
-try_test-returns-in_ok-tested-in-To-4 m c = λ n all xs f C nest is ready bound. ?
+try_test-returns-in_ok-tested-in-To-4 m c = λ n all xs f C nest is ready bound.
+    let M : Module = c.args.context.now in
+    at_sort M.signature c.shows.ensures.signature.accepted all xs f C c.args.test.now is ready (Told M n c.args.limit xs c.args.values.now c.in_ok-tested-in-To-4.tested) c.in-HasSort.side c.in-HasSort.sort c.in-HasSort.is
+    (λ t a i. c.in_ok-tested-in-To-4.ensures n c.args.limit xs c.args.values.now t (rw c.in-To-4.is at (c.in_ok-reason-in-HasSort.ensures n xs t nest a i bound)))
 
 pub try_test-returns-in-Stops-5 : goal.try_test-returns-in-Stops-5
-try_test-returns-in-Stops-5 m c = λ n all xs f C nest is ready bound. ?
+try_test-returns-in-Stops-5 m c = λ n all xs f C nest is ready bound.
+    let M : Module = c.args.context.now in
+    at_truth M.signature c.shows.ensures.signature.accepted all xs f C c.args.test.now is ready (StopsIn M n c.args.limit xs c.args.values.now c.in-Stops-5.reason) c.in-Holds.side c.in-Holds.is
+    (λ t a i. (t, refl, rw c.in-Stops-5.is at (c.in_ok-reason-in-Holds.ensures n xs t nest a i bound)))
 
 pub try_test-returns-in_ok-tested-in-To-5 : goal.try_test-returns-in_ok-tested-in-To-5
-try_test-returns-in_ok-tested-in-To-5 m c = λ n all xs f C nest is ready bound. ?
+try_test-returns-in_ok-tested-in-To-5 m c = λ n all xs f C nest is ready bound.
+    let M : Module = c.args.context.now in
+    at_truth M.signature c.shows.ensures.signature.accepted all xs f C c.args.test.now is ready (Told M n c.args.limit xs c.args.values.now c.in_ok-tested-in-To-5.tested) c.in-Holds.side c.in-Holds.is
+    (λ t a i. c.in_ok-tested-in-To-5.ensures n c.args.limit xs c.args.values.now t (rw c.in-To-5.is at (c.in_ok-reason-in-Holds.ensures n xs t nest a i bound)))
