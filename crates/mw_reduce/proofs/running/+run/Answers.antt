@@ -166,7 +166,10 @@ run_side-returns-in_ok-end-in-Runs m c = λ n xs t nest asked is bound.
 -- the tests of a condition: none, or a first one
 none_there : (ts us : List Test) (b : Bool) → us ≡ ts → b ≡ (length us == 0) → b ≡ true → ts ≡ []
 none_there ts [] b e f t = sym e
-none_there ts (u ∷ us) b e f t = cc
+none_there ts (u ∷ us) b e f t = absurd (apart (length us) (sym f ∙ t))
+  where
+    apart : (n : ℕ) → (suc n == 0) ≡ true → ⊥
+    apart n h = grind arith
 
 one_there : (ts us : List Test) (b : Bool) → us ≡ ts → b ≡ (length us == 0) → b ≡ false → (x : Test) × (slice_get ts 0 ≡ Some x)
 one_there ts [] b e f t = cc
