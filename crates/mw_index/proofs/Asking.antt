@@ -38,6 +38,10 @@ module _ (M : Module) (top : Option ℕ) (st : Equation) (of : IsOf M top st) wh
       by_top None h = record { of = of; here = here; left = subst (IsSearchedLeft M.signature of.statement) (sym i) h }
       by_top (Some f) h = record { of = of; here = here; left = subst (IsSearchedLeft M.signature of.statement) (sym i) h }
 
+pub choice_of : (M : Module) (top : Option ℕ) (st : Equation) (o : Option Choice) → IsOf M top st → IsSized st o → IfSome o (λ q. IsOf M top q.equation.now)
+choice_of M top st None i h = tt
+choice_of M top st (Some q) i (e, n) = subst (IsOf M top) (sym e) i
+
 pub sized_choice : (st : Equation) (o : Option Choice) → IsSized st o → IfSome o (λ q. length q.values.items ≡ length q.equation.now.sorts)
 sized_choice st None h = tt
 sized_choice st (Some q) (e, n) = n ∙ ap (λ (st : Equation). length st.sorts) (sym e)

@@ -301,6 +301,8 @@ impl<'m> Choices<'m> {
         subject: Subject<'_>,
     ) -> Result<Option<Choice<'m>>, AllocError>
         requires { IsIndexOf context.now index.now }
+        ensures of { let top = operator_of (subject_of subject.entry) in
+            IfOk result (λ o. IfSome o (λ c. IsOf context.now top c.equation.now)) }
         ensures values { IfOk result (λ o. IfSome o (λ c. length c.values.items ≡ length c.equation.now.sorts)) }
         ensures is { let M = context.now in let t = subject_of subject.entry in
             (tried : List Tried) → IsValue M.signature t

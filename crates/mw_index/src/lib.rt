@@ -23,9 +23,10 @@
 //!   of an executable equation for a part of the term, by canonical values) and stands where that one is tried too; or
 //!   None, and then each solution of each executable equation at each top part of the term was tried (`AreAllTried`).
 //!
-//! Conditions: what `next` says of choices is of canonical terms that mean ground raw terms (`IsValue`); how many
-//! values a choice has is said of all terms. The index is one of the context's module. After an error of `next` nothing
-//! is said of where the choices stand.
+//! Conditions: what `next` says of choices is of canonical terms that mean ground raw terms (`IsValue`). That the
+//! equation of a choice is one of the module's, for what is on top of the term (`IsOf`), and how many values it has, is
+//! said of all terms. The index is one of the context's module. After an error of `next` nothing is said of where the
+//! choices stand.
 //!
 //! Cost: `Index::of` makes two canonical forms for each equation and one for each side of its condition, and walks its
 //! patterns a few times, with a look-up in a hash table for each variable. For a match it copies the names of all

@@ -6,7 +6,7 @@ use Rattle.mw_index.specs.Index.{operator_of, own_asked, others_asked, IsNextOf}
 use Rattle.mw_index.specs.Choices.{subject_of}
 use Rattle.mw_index.specs.declared.equations.Equation.{Equation}
 use Rattle.mw_index.specs.declared.index.Index.{Index}
-use Rattle.mw_index.proofs.Asking.{asked_of, sized_choice, chosen_covers, passed_covers, fewer_left, all_passed, nothing_left}
+use Rattle.mw_index.proofs.Asking.{asked_of, choice_of, sized_choice, chosen_covers, passed_covers, fewer_left, all_passed, nothing_left}
 use Rattle.mw_index.proofs.choices.Choices.next.Goals as goal
 
 turn_is : (m : Index) (r top : Option ℕ) → r ≡ top → (i j : ℕ) (st : Equation) (own : Bool) → IsNextOf (slice_get (own_asked m r) i) (slice_get (others_asked m r) j) st own
@@ -18,6 +18,14 @@ ask-requires c =
     let m : Index = c.args.index.now in
     let is = turn_is m _ (operator_of (subject_of c.args.subject)) c.operator-top.ensures c.loop-turn.self.own c.loop-turn.self.others c.in-Some.turn.0.now c.in-Some.turn.1 c.in-Some.ensures.is in
     asked_of c.args.context.now m (operator_of (subject_of c.args.subject)) c.loop-turn.self.own c.loop-turn.self.others c.in-Some.turn.0.now c.in-Some.turn.1 c.requires is
+
+pub returns-then-is_some-clause-of : goal.returns-then-is_some-clause-of
+returns-then-is_some-clause-of c =
+    let m : Index = c.args.index.now in
+    let top : Option ℕ = operator_of (subject_of c.args.subject) in
+    let st : Equation = c.in-Some.turn.0.now in
+    let is = turn_is m _ top c.operator-top.ensures c.loop-turn.self.own c.loop-turn.self.others st c.in-Some.turn.1 c.in-Some.ensures.is in
+    choice_of c.args.context.now top st c.in_ok-found.found (asked_of c.args.context.now m top c.loop-turn.self.own c.loop-turn.self.others st c.in-Some.turn.1 c.requires is) c.in_ok-found.ensures.sized
 
 pub returns-then-is_some-clause-values : goal.returns-then-is_some-clause-values
 returns-then-is_some-clause-values c = sized_choice c.in-Some.turn.0.now c.in_ok-found.found c.in_ok-found.ensures.sized
