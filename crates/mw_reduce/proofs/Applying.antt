@@ -92,12 +92,12 @@ free_left sig (Some f) e (Plain ps) h k = (f, ps, h.pattern, free_same sig (appl
 free_left sig top e (Searched s) h k = absurd k
 
 -- a condition that fails in the rank above that of its sides
-fails_above : (M : Module) (m : ℕ) (C : List Fragment) (s : Substitution) → FailsAbove M (admitted_judgements M m) C s → (admitted_judgements M (suc m)).Fails C s
+pub fails_above : (M : Module) (m : ℕ) (C : List Fragment) (s : Substitution) → FailsAbove M (admitted_judgements M m) C s → (admitted_judgements M (suc m)).Fails C s
 unfolding judgements_with
 fails_above M m C s h = h
 
 -- no condition, no evidence
-nothing_held : (M : Module) (n : ℕ) (C : List Fragment) (s : Substitution) → C ≡ [] → (admitted_judgements M n).Held C s nil s
+pub nothing_held : (M : Module) (n : ℕ) (C : List Fragment) (s : Substitution) → C ≡ [] → (admitted_judgements M n).Held C s nil s
 unfolding judgements_with
 nothing_held M n C s e = subst (λ D. (admitted_judgements M n).Held D s nil s) (sym e) (by_rank n)
   where

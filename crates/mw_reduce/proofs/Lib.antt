@@ -13,3 +13,4 @@ pub mod Joining
 mod Halting
 mod LessLeft
 mod Ordering
+mod Judgements

@@ -1,0 +1,101 @@
+-- What an evaluation says of a condition that is asked of by itself.
+use Rattle.std.specs.Prelude.{MatchOption, ◌≡◌, ◌≤◌, ◌<◌, ℕ, suc, List, [], ◌∷◌, map, Option, Some, None, refl}
+use Rattle.std.specs.List.{zip}
+use Rattle.std.proofs.Common.{sym, subst, ap, ◌∙◌, arith, inl, inr}
+use Rattle.mw_logic.specs.Term.{Variable, RawTerm}
+use Rattle.mw_logic.specs.Signature.{Signature}
+use Rattle.mw_logic.specs.Accepted.{IsAccepted}
+use Rattle.mw_logic.specs.Substitution.{Substitution, Extends}
+use Rattle.mw_logic.specs.Module.{Fragment, Module, Statement}
+use Rattle.mw_logic.specs.Proof.{nil}
+use Rattle.mw_logic.specs.Judgements.{AdmittedStep, FailsAbove, Fails, admitted_judgements, judgements_with}
+use Rattle.mw_logic.proofs.Ranks.{admitted_within, within_above}
+use Rattle.mw_canon.specs.Canonical.{meant}
+use Rattle.mw_position.specs.Variables.{is_in, met, AreDistinct, bound_variables, bound_values}
+use Rattle.mw_position.proofs.Placing.{values_of}
+use Rattle.mw_solving.proofs.Candidates.{variables_zipped, values_zipped}
+use Rattle.mw_deduction.proofs.Frontiers.{Held_before}
+use Rattle.mw_least.specs.Workable.{IsWorkable}
+use Rattle.mw_proof.specs.Deductions.{Deduction}
+use Rattle.mw_proof.specs.Replacing.{AreBelow}
+use Rattle.mw_proof.specs.Failures.{Failure, IsFailure}
+use Rattle.mw_proof.specs.declared.reason.Reason.{Reason}
+use Rattle.mw_proof.specs.declared.reason.Reason.TheVariants as reason
+use Rattle.mw_index.specs.Choices.{in_order}
+use Rattle.mw_index.specs.Conditions.{AreTests, all_bound}
+use Rattle.mw_index.specs.declared.conditions.Condition.{Condition}
+use Rattle.mw_index.proofs.Bound.{bound_distinct, bound_variables_are, unconditional_variables}
+use Rattle.mw_index.proofs.ByTest.{of_none, put_in_order}
+use Rattle.mw_index.proofs.Rearranging.{zip_parts}
+use Rattle.mw_index.proofs.Sides.{variables_distinct}
+use Rattle.mw_reduce.specs.Evaluations.{AreBoundTo, bound_to, deduction_of, IsHeldBy, IsStoppedInside}
+use Rattle.mw_reduce.specs.Judgements.{IsAskedOf, IsHeldWith, IsUntold}
+use Rattle.mw_reduce.specs.declared.sides.Reduced.{Reduced}
+use Rattle.mw_reduce.proofs.Applying.{nothing_held, fails_above}
+use Rattle.mw_reduce.proofs.Values.{reordered_extends, reordered_bound}
+
+-- sides in a rank are below the next one
+all_below : (M : Module) (m : ℕ) (rs : List Reduced) → AreBelow M (suc m) (map (deduction_of M m) rs)
+all_below M m [] = tt
+all_below M m (r ∷ rs) = (refl, omega arith, all_below M m rs)
+
+pub in_their_order : {vs us : List RawTerm} (ws : List RawTerm) (o : Option (List ℕ)) → MatchOption o (vs ≡ ws) (λ ns. vs ≡ in_order ws ns) → MatchOption o (ws ≡ us) (λ ns. in_order ws ns ≡ us) → vs ≡ us
+in_their_order ws None a b = a ∙ b
+in_their_order ws (Some ns) a b = a ∙ b
+
+module _ (M : Module) (work : IsWorkable M) (number : ℕ) (c : Condition) (s : Substitution) (e : Statement) (a : IsAskedOf M number c s e) where
+  abbrev sig : Signature
+  sig = M.signature
+
+  abbrev ok : IsAccepted sig
+  ok = work.signature.accepted
+
+  abbrev lefts : List Variable
+  lefts = met [] e.left
+
+  -- the values mean what the substitution does
+  pub given_meant : bound_to sig lefts (bound_values s) ≡ meant sig s
+  given_meant = ap (λ xs. meant sig (zip xs (bound_values s))) (sym a.variables) ∙ ap (meant sig) (zip_parts s)
+
+  -- without a condition it holds by these
+  pub holds_at_once : (n : ℕ) → c.tests ≡ [] → IsHeldWith M n e s s []
+  holds_at_once n bare =
+      let none : e.fragments ≡ [] = of_none sig lefts e.fragments (subst (AreTests sig lefts e.fragments) bare a.condition.tests) in
+      let all : e.variables ≡ lefts = unconditional_variables M work number e a.is_there none in
+      record {
+        reached = meant sig s;
+        holds = nothing_held M n e.fragments (meant sig s) none;
+        reaches = λ x u k. k;
+        variables = a.variables ∙ sym all;
+        bound = subst (λ xs. AreBoundTo M xs (bound_values s)) (sym all) a.bound;
+        below = tt;
+      }
+
+  -- where it holds, by values that are put in order
+  pub holds_so : (m : ℕ) (ws vs : List RawTerm) (sides : List Reduced) → IsHeldBy M m e c.tests (bound_to sig lefts (bound_values s)) ws sides
+      → MatchOption c.order (vs ≡ ws) (λ ns. vs ≡ in_order ws ns) → IsHeldWith M (suc m) e s (zip e.variables vs) (map (deduction_of M m) sides)
+  holds_so m ws vs sides held put =
+      let bs : List Variable = all_bound lefts c.tests in
+      let xs : List Variable = e.variables in
+      let ordered : vs ≡ values_of (zip bs ws) xs = in_their_order ws c.order put (put_in_order M work number e a.is_there c a.condition ws held.bound.size) in
+      let alike : (y : Variable) → is_in y xs ≡ is_in y bs = λ y. sym (bound_variables_are M work number e a.is_there c.tests a.condition.tests y) in
+      let bound : AreBoundTo M xs vs = subst (AreBoundTo M xs) (sym ordered) (reordered_bound M ok bs ws held.bound xs alike (variables_distinct M work number e a.is_there)) in
+      record {
+        reached = bound_to sig bs ws;
+        holds = subst (λ r. (admitted_judgements M (suc m)).Held e.fragments r _ (bound_to sig bs ws)) given_meant (Held_before M (AdmittedStep M) m e.fragments _ _ (bound_to sig bs ws) held.holds);
+        reaches = subst (λ us. Extends (bound_to sig bs ws) (bound_to sig xs us)) (sym ordered) (reordered_extends M ok bs ws held.bound xs alike);
+        variables = variables_zipped xs vs bound.size;
+        bound = subst (AreBoundTo M xs) (sym (values_zipped xs vs bound.size)) bound;
+        below = all_below M m sides;
+      }
+
+  -- where it fails it fails in each rank above
+  pub fails_so : (m : ℕ) → FailsAbove M (admitted_judgements M m) e.fragments (bound_to sig lefts (bound_values s)) → (n : ℕ) → suc m ≤ n → Fails M n e.fragments (meant sig s)
+  fails_so m f n l = (admitted_within M n).Fails e.fragments (meant sig s) ((within_above M (suc m) n l).Fails e.fragments (meant sig s)
+      (subst ((admitted_judgements M (suc m)).Fails e.fragments) given_meant (fails_above M m e.fragments (bound_to sig lefts (bound_values s)) f)))
+
+  pub failure : (m : ℕ) → suc m ≤ 63 → FailsAbove M (admitted_judgements M m) e.fragments (bound_to sig lefts (bound_values s)) → IsFailure (record { over = M; statement = number; subst = s })
+  failure m low f = record { statement = e; is_there = a.is_there.is_there; fails = fails_so m f 63 low }
+
+  pub stops_so : (m side : ℕ) (why : Reason) → IsStoppedInside M m side e.fragments (bound_to sig lefts (bound_values s)) why → IsUntold M (suc m) side e s why
+  stops_so m side why h = inr (m, refl, subst (λ r. IsStoppedInside M m side e.fragments r why) given_meant h)
