@@ -1,11 +1,9 @@
 -- What is known of the values of an equation that applies to a term over normal arguments.
-use Rattle.std.specs.Prelude.{◌≡◌, ◌⊎◌, ◌<◌, ℕ, suc, List, [], ◌∷◌, length, drop, map, Bool, true, false, nat_eq, Option, Some, None, option_map, unwrap_or, slice_get, is_some, IsTrue, IsFalse, refl}
+use Rattle.std.specs.Prelude.{◌≡◌, ◌⊎◌, ◌<◌, ℕ, suc, List, [], ◌∷◌, length, drop, Bool, true, false, nat_eq, Some, unwrap_or, slice_get, IsTrue, IsFalse, refl}
 use Rattle.std.proofs.Common.{sym, subst, ap, ◌∙◌, arith, inl, inr, ⊎_elim, true≢false}
 use Rattle.std.proofs.lemmas.Bool.{both_ways, or_cases, or_left, or_right}
-use Rattle.std.proofs.lemmas.List.{length-map}
 use Rattle.std.proofs.Common.{get_or}
-use Rattle.std.proofs.lemmas.Option.{slice_get_within, slice_get-map, slice_get-get_or, same_Some}
-use Rattle.std.specs.List.{zip}
+use Rattle.std.proofs.lemmas.Option.{slice_get-get_or}
 use Rattle.mw_logic.specs.Term.{Variable, RawTerm, numeral, quoted, variable, apply, RawTerms, nil, cons, join}
 use Rattle.mw_logic.specs.Signature.{Signature, constant_of, numeral_of, IsRawTerm, IsSuccessor, Operator, an_operator, AreRawTerms, end, next}
 use Rattle.mw_logic.specs.Axioms.{EqualModulo}
@@ -27,16 +25,13 @@ use Rattle.mw_logic.proofs.RawKept.{raw_kept}
 use Rattle.mw_logic.proofs.SameConditions.{same_variable-is, same_variable-refl}
 use Rattle.mw_logic.proofs.SolutionLaws.{instance_raw}
 use Rattle.mw_logic.proofs.Soundness.{normal_form-sound}
-use Rattle.mw_canon.specs.Canonical.{meant}
 use Rattle.mw_position.specs.Variables.{is_in, place, placed, all_placed}
 use Rattle.mw_position.proofs.Meeting.{place-within}
-use Rattle.mw_position.proofs.Placing.{value_of, values_zip, at_place, bound_zip}
 use Rattle.mw_matching.specs.Matches.{evaluated, evaluated_all, HasArities, AllHaveArities}
 use Rattle.mw_solving.proofs.Grounds.{nested_ground}
 use Rattle.mw_solving.proofs.Nesting.{nested_occurs}
 use Rattle.mw_solving.proofs.RawArguments.{IsRaw, each_argument, each_nested}
 use Rattle.mw_solving.proofs.RawValues.{arities, all_evaluated_canonical}
-use Rattle.mw_solving.proofs.Positions.{place_of, stands_in, variable_at, meant_zip}
 use Rattle.mw_deduction.specs.Tops.{IsTop, IsNormalTerm}
 use Rattle.mw_deduction.specs.Tops as top
 use Rattle.mw_deduction.proofs.NormalBuilt.{value_normal}

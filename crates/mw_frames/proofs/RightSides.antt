@@ -1,8 +1,7 @@
 -- The canonical instances of an equation's sides by values that make its left side a term.
-use Rattle.std.specs.Prelude.{◌≡◌, ℕ, List, [], map, Option, Some, None, is_some, slice_get, IsTrue, refl}
+use Rattle.std.specs.Prelude.{◌≡◌, ℕ, List, Option, Some, None, is_some, IsTrue, refl}
 use Rattle.std.specs.List.{zip}
 use Rattle.std.proofs.Common.{sym, subst, ap, ◌∙◌, true≢false}
-use Rattle.std.proofs.lemmas.List.{length-map}
 use Rattle.mw_logic.specs.Term.{Variable, RawTerm}
 use Rattle.mw_logic.specs.Signature.{Signature, IsRawTerm}
 use Rattle.mw_logic.specs.Axioms.{EqualModulo}
@@ -13,20 +12,16 @@ use Rattle.mw_logic.specs.NormalForm.{normal_form}
 use Rattle.mw_logic.specs.Module.{Module}
 use Rattle.mw_logic.proofs.Canonical.{IsCanonical}
 use Rattle.mw_logic.proofs.CanonicalTerms.{fixed}
-use Rattle.mw_logic.proofs.InstanceLaws.{occurs_kept, KeepsKinds, instance_equal}
+use Rattle.mw_logic.proofs.InstanceLaws.{KeepsKinds}
 use Rattle.mw_logic.proofs.Invariance.{normal_form-kept}
 use Rattle.mw_logic.proofs.SolutionLaws.{substitution_kinds}
-use Rattle.mw_logic.proofs.Soundness.{normal_form-sound}
 use Rattle.mw_canon.specs.Canonical.{meant}
-use Rattle.mw_position.specs.Positions.{fill}
 use Rattle.mw_position.specs.Variables.{is_in, AreDistinct, placed}
-use Rattle.mw_position.proofs.Placing.{values_of, values_zip, bound_zip}
+use Rattle.mw_position.proofs.Placing.{bound_zip}
 use Rattle.mw_least.specs.Conditions.{occurs_among}
 use Rattle.mw_least.proofs.Mentioned.{mentioned_distinct, left_mentioned, right_mentioned, among_mentioned}
 use Rattle.mw_matching.specs.Matches.{evaluated}
-use Rattle.mw_matching.proofs.Evaluated.{evaluated_is}
-use Rattle.mw_solving.proofs.Nesting.{nested_placed, filled}
-use Rattle.mw_solving.proofs.Positions.{meant_zip, meant_bound}
+use Rattle.mw_solving.proofs.Positions.{meant_bound}
 use Rattle.mw_deduction.specs.Replay.{Move}
 use Rattle.mw_deduction.proofs.Extended.{instance_extended}
 use Rattle.mw_frames.specs.Redex.{IsRedex}

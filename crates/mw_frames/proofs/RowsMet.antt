@@ -7,7 +7,7 @@ use Rattle.mw_logic.specs.Signature.{Signature, Identity, constant_of, numeral_o
 use Rattle.mw_logic.specs.Accepted.{IsAccepted}
 use Rattle.mw_logic.specs.Axioms.{EqualModulo}
 use Rattle.mw_logic.specs.Kinds.{is_successor}
-use Rattle.mw_logic.specs.Parts.{is_assoc, nested, number_of_terms, IsClean, IsAdmitted}
+use Rattle.mw_logic.specs.Parts.{is_assoc, nested, number_of_terms, IsAdmitted}
 use Rattle.mw_logic.specs.NormalForm.{is_comm, identity_of, rebuilt, identity_or_empty, arranged, counted, applied_in, normal_form, normal_forms, is_largest, has_largest, some_largest, height}
 use Rattle.mw_logic.specs.Module.{Module, BuiltIn, Result, number, truth, nothing, too_big, result_of, Denotes, IsTruth, Row}
 use Rattle.mw_logic.specs.Module as schema

@@ -1,25 +1,21 @@
 -- `s_` stands on the largest numeral in no value of an equation that applies to a term in which it doesn't.
-use Rattle.std.specs.Prelude.{◌≡◌, ◌⊎◌, ◌&&◌, ◌||◌, ℕ, zero, suc, List, [], ◌∷◌, ◌++◌, Bool, true, false, Some, unwrap_or, slice_get, IsTrue, refl}
+use Rattle.std.specs.Prelude.{◌≡◌, ◌⊎◌, ◌&&◌, ◌||◌, ℕ, zero, suc, List, [], ◌∷◌, ◌++◌, Bool, true, false, unwrap_or, slice_get, IsTrue, refl}
 use Rattle.std.proofs.Common.{sym, subst, ap, ◌∙◌, inl, inr, ⊎_elim}
 use Rattle.std.proofs.Math.Bool.{or-false}
-use Rattle.std.proofs.lemmas.Bool.{both_ways, or_cases, or_left, or_right, or_parts, or_from}
+use Rattle.std.proofs.lemmas.Bool.{or_parts, or_from}
 use Rattle.mw_logic.specs.Term.{Variable, RawTerm, numeral, quoted, variable, apply, RawTerms, nil, cons}
 use Rattle.mw_logic.specs.Terms.{terms_of}
 use Rattle.mw_logic.specs.Signature.{Signature}
 use Rattle.mw_logic.specs.Accepted.{IsAccepted, IsWellSorted}
 use Rattle.mw_logic.specs.Kinds.{is_successor}
-use Rattle.mw_logic.specs.Substitution.{occurs, occurs_in}
-use Rattle.mw_logic.specs.NormalForm.{is_comm, arranged, applied_in, normal_form, is_largest, has_largest, some_largest}
+use Rattle.mw_logic.specs.Substitution.{occurs}
+use Rattle.mw_logic.specs.NormalForm.{is_comm, arranged, applied_in, is_largest, has_largest, some_largest}
 use Rattle.mw_logic.specs.Module.{Module}
 use Rattle.mw_logic.proofs.Admitted.{admitted-iff}
 use Rattle.mw_logic.proofs.Canonical.{IsCanonical}
-use Rattle.mw_logic.proofs.InstanceLaws.{occurs_kept}
-use Rattle.mw_logic.proofs.SameConditions.{same_variable-is}
-use Rattle.mw_logic.proofs.Soundness.{normal_form-sound}
 use Rattle.mw_position.specs.Variables.{is_in}
 use Rattle.mw_position.specs.Positions.{position}
 use Rattle.mw_matching.specs.Matches.{evaluated, evaluated_all}
-use Rattle.mw_solving.proofs.Nesting.{nested_occurs}
 use Rattle.mw_deduction.proofs.Largest.{largest_applied}
 use Rattle.mw_frames.specs.Free.{IsFree, AreFree}
 use Rattle.mw_deduction.specs.Replay.{Move}

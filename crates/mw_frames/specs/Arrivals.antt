@@ -1,6 +1,6 @@
 -- What comes to a frame: parts of right sides, and jobs that stand for them.
-use Rattle.std.specs.Prelude.{◌≡◌, ◌≤◌, ℕ, ◌+◌, List, [], ◌∷◌, length, take, drop, Bool, true, ⊤}
-use Rattle.mw_logic.specs.Term.{RawTerm, numeral, quoted, variable, apply, RawTerms, nil, cons, join}
+use Rattle.std.specs.Prelude.{◌≡◌, ◌≤◌, ℕ, ◌+◌, List, [], ◌∷◌, length, take, drop, Bool, true}
+use Rattle.mw_logic.specs.Term.{RawTerm, apply, RawTerms, nil, cons, join}
 use Rattle.mw_logic.specs.Terms.{terms_of}
 use Rattle.mw_logic.specs.Signature.{Signature, IsSuccessor}
 use Rattle.mw_logic.specs.Accepted.{IsAccepted, IsWellSorted}

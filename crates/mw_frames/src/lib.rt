@@ -33,7 +33,7 @@
 //!   too deep nor, of values in which no number is, too large; `Deep` and `Nat` come only where it is.
 //!
 //! Conditions (`IsRun`): the module is well-formed, its signature accepted and well sorted. Want of memory is the only
-//! error, and nothing is said of a machine after it.
+//! error of a machine, and nothing is said of it after that.
 //!
 //! Neither proved nor tested: time and memory, in which order arguments are reduced, and that calls answer with memory
 //! at hand.

@@ -1,5 +1,4 @@
-use Rattle.std.proofs.Common.{◌≡◌, ◌++◌, ◌∙◌, List, ℕ, length, ap, subst, refl}
-use Rattle.mw_logic.specs.Term.{RawTerm}
+use Rattle.std.proofs.Common.{◌≡◌, ◌++◌, ◌∙◌, ℕ, length, subst, refl}
 use Rattle.mw_matching.specs.Matches.{evaluated}
 use Rattle.mw_pattern.specs.Clean.{clean}
 use Rattle.mw_frames.specs.Machines.{data_of, all_moves}

@@ -1,4 +1,4 @@
-use Rattle.std.proofs.Common.{◌≡◌, ◌++◌, ◌∷◌, ◌∙◌, [], List, ap, append_assoc, refl}
+use Rattle.std.proofs.Common.{◌++◌, ◌∷◌, ◌∙◌, [], List, ap, append_assoc, refl}
 use Rattle.std.specs.List.{zip}
 use Rattle.mw_logic.specs.Term.{RawTerm}
 use Rattle.mw_canon.specs.Canonical.{meant}

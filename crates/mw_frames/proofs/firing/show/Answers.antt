@@ -1,7 +1,5 @@
 use Rattle.std.proofs.Common.{◌≡◌, ◌++◌, ◌∷◌, ◌∙◌, [], List, sym, ap, append_assoc, reverse}
 use Rattle.std.proofs.lemmas.List.{reverse-append}
-use Rattle.mw_logic.specs.Term.{RawTerm}
-use Rattle.mw_deduction.specs.Replay.{Move}
 use Rattle.mw_trail.specs.Tracks.{Track, moves}
 use Rattle.mw_frames.specs.Machines.{all_moves}
 use Rattle.mw_frames.proofs.firing.show.Goals as goal

@@ -1,10 +1,9 @@
-use Rattle.std.proofs.Common.{◌≡◌, ◌≤◌, ◌<◌, ◌∙◌, Result, Ok, Err, IfOk, IfErr, Bool, false, ap, sym, subst}
+use Rattle.std.proofs.Common.{◌≡◌, ◌≤◌, ◌<◌, ◌∙◌, Result, Ok, Err, IfOk, IfErr, false, sym, subst}
 use Rattle.std.proofs.lemmas.Result.{IfOk-weaker, IfErr-weaker}
 use Rattle.mw_logic.specs.Term.{RawTerm}
 use Rattle.mw_logic.specs.Signature.{Signature}
 use Rattle.mw_logic.specs.NormalForm.{height, has_largest}
 use Rattle.mw_canon.specs.Causes.{IsLimit}
-use Rattle.mw_canon.specs.declared.CanonError.TheVariants.{Deep}
 use Rattle.mw_frames.proofs.instances.instance.Goals as goal
 
 passed : {E : Type 0} (P : RawTerm → Type 0) (r : Result RawTerm E) (t : RawTerm) → IfOk r (λ u. u ≡ t) → IfOk r (λ _. P t) → IfOk r P
