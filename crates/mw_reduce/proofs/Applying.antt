@@ -66,6 +66,11 @@ use Rattle.mw_reduce.specs.declared.sides.Reduced.{Reduced}
 use Rattle.mw_reduce.proofs.Evidence.{evidence_shows}
 use Rattle.mw_reduce.proofs.Values.{normal_above, reordered_extends, reordered_found, reordered_bound}
 
+-- values that were put in order
+pub in_their_order : {vs us : List RawTerm} (ws : List RawTerm) (o : Option (List ℕ)) → MatchOption o (vs ≡ ws) (λ ns. vs ≡ in_order ws ns) → MatchOption o (ws ≡ us) (λ ns. in_order ws ns ≡ us) → vs ≡ us
+in_their_order ws None a b = a ∙ b
+in_their_order ws (Some ns) a b = a ∙ b
+
 mutual
   free_same : (sig : Signature) (t : RawTerm) → index.IsFree sig t → frames.IsFree sig t
   free_same sig (numeral n) h = tt
@@ -254,10 +259,6 @@ module _ (M : Module) (work : IsWorkable M) (t : RawTerm) (c : Choice) (h : IsTr
       none_first : (ts : List Test) (x : Test) → slice_get ts 0 ≡ Some x → ts ≡ [] → ⊥
       none_first [] x some n = cc
       none_first (t ∷ ts) x some n = cc
-
-      in_their_order : {vs us : List RawTerm} (ws : List RawTerm) (o : Option (List ℕ)) → MatchOption o (vs ≡ ws) (λ ns. vs ≡ in_order ws ns) → MatchOption o (ws ≡ us) (λ ns. in_order ws ns ≡ us) → vs ≡ us
-      in_their_order ws None a b = a ∙ b
-      in_their_order ws (Some ns) a b = a ∙ b
 
   -- where it fails, it fails for each statement of this number
   pub failed_so : (m : ℕ) → FailsAbove M (admitted_judgements M m) e.fragments s → (d : Statement) → IsStatement M number d → IsFailed M (suc m) (tried_of c) d

@@ -28,10 +28,10 @@ use Rattle.mw_index.proofs.Bound.{bound_distinct, bound_variables_are, unconditi
 use Rattle.mw_index.proofs.ByTest.{of_none, put_in_order}
 use Rattle.mw_index.proofs.Rearranging.{zip_parts}
 use Rattle.mw_index.proofs.Sides.{variables_distinct}
-use Rattle.mw_reduce.specs.Evaluations.{AreBoundTo, bound_to, deduction_of, IsHeldBy, IsStoppedInside}
+use Rattle.mw_reduce.specs.Evaluations.{AreBoundTo, bound_to, deduction_of, proofs_of, IsHeldBy, IsStoppedInside}
 use Rattle.mw_reduce.specs.Judgements.{IsAskedOf, IsHeldWith, IsUntold}
 use Rattle.mw_reduce.specs.declared.sides.Reduced.{Reduced}
-use Rattle.mw_reduce.proofs.Applying.{nothing_held, fails_above}
+use Rattle.mw_reduce.proofs.Applying.{nothing_held, fails_above, in_their_order}
 use Rattle.mw_reduce.proofs.Values.{reordered_extends, reordered_bound}
 
 -- sides in a rank are below the next one
@@ -39,11 +39,7 @@ all_below : (M : Module) (m : ℕ) (rs : List Reduced) → AreBelow M (suc m) (m
 all_below M m [] = tt
 all_below M m (r ∷ rs) = (refl, omega arith, all_below M m rs)
 
-pub in_their_order : {vs us : List RawTerm} (ws : List RawTerm) (o : Option (List ℕ)) → MatchOption o (vs ≡ ws) (λ ns. vs ≡ in_order ws ns) → MatchOption o (ws ≡ us) (λ ns. in_order ws ns ≡ us) → vs ≡ us
-in_their_order ws None a b = a ∙ b
-in_their_order ws (Some ns) a b = a ∙ b
-
-module _ (M : Module) (work : IsWorkable M) (number : ℕ) (c : Condition) (s : Substitution) (e : Statement) (a : IsAskedOf M number c s e) where
+module _ (M : Module) (work : IsWorkable M) (number : ℕ) (c : Condition) (s : Substitution) (e : Statement) (a : IsAskedOf M number c s e) (us : List RawTerm) (given : us ≡ bound_values s) where
   abbrev sig : Signature
   sig = M.signature
 
@@ -53,9 +49,12 @@ module _ (M : Module) (work : IsWorkable M) (number : ℕ) (c : Condition) (s : 
   abbrev lefts : List Variable
   lefts = met [] e.left
 
+  pub asked_bound : AreBoundTo M lefts us
+  asked_bound = subst (AreBoundTo M lefts) (sym given) a.bound
+
   -- the values mean what the substitution does
-  pub given_meant : bound_to sig lefts (bound_values s) ≡ meant sig s
-  given_meant = ap (λ xs. meant sig (zip xs (bound_values s))) (sym a.variables) ∙ ap (meant sig) (zip_parts s)
+  given_meant : bound_to sig lefts us ≡ meant sig s
+  given_meant = ap (λ vs. meant sig (zip lefts vs)) given ∙ ap (λ xs. meant sig (zip xs (bound_values s))) (sym a.variables) ∙ ap (meant sig) (zip_parts s)
 
   -- without a condition it holds by these
   pub holds_at_once : (n : ℕ) → c.tests ≡ [] → IsHeldWith M n e s s []
@@ -72,7 +71,7 @@ module _ (M : Module) (work : IsWorkable M) (number : ℕ) (c : Condition) (s : 
       }
 
   -- where it holds, by values that are put in order
-  pub holds_so : (m : ℕ) (ws vs : List RawTerm) (sides : List Reduced) → IsHeldBy M m e c.tests (bound_to sig lefts (bound_values s)) ws sides
+  pub holds_so : (m : ℕ) (ws vs : List RawTerm) (sides : List Reduced) → IsHeldBy M m e c.tests (bound_to sig lefts us) ws sides
       → MatchOption c.order (vs ≡ ws) (λ ns. vs ≡ in_order ws ns) → IsHeldWith M (suc m) e s (zip e.variables vs) (map (deduction_of M m) sides)
   holds_so m ws vs sides held put =
       let bs : List Variable = all_bound lefts c.tests in
@@ -82,7 +81,7 @@ module _ (M : Module) (work : IsWorkable M) (number : ℕ) (c : Condition) (s : 
       let bound : AreBoundTo M xs vs = subst (AreBoundTo M xs) (sym ordered) (reordered_bound M ok bs ws held.bound xs alike (variables_distinct M work number e a.is_there)) in
       record {
         reached = bound_to sig bs ws;
-        holds = subst (λ r. (admitted_judgements M (suc m)).Held e.fragments r _ (bound_to sig bs ws)) given_meant (Held_before M (AdmittedStep M) m e.fragments _ _ (bound_to sig bs ws) held.holds);
+        holds = subst (λ r. (admitted_judgements M (suc m)).Held e.fragments r (proofs_of M m sides) (bound_to sig bs ws)) given_meant (Held_before M (AdmittedStep M) m e.fragments (bound_to sig lefts us) (proofs_of M m sides) (bound_to sig bs ws) held.holds);
         reaches = subst (λ us. Extends (bound_to sig bs ws) (bound_to sig xs us)) (sym ordered) (reordered_extends M ok bs ws held.bound xs alike);
         variables = variables_zipped xs vs bound.size;
         bound = subst (AreBoundTo M xs) (sym (values_zipped xs vs bound.size)) bound;
@@ -90,12 +89,12 @@ module _ (M : Module) (work : IsWorkable M) (number : ℕ) (c : Condition) (s : 
       }
 
   -- where it fails it fails in each rank above
-  pub fails_so : (m : ℕ) → FailsAbove M (admitted_judgements M m) e.fragments (bound_to sig lefts (bound_values s)) → (n : ℕ) → suc m ≤ n → Fails M n e.fragments (meant sig s)
+  pub fails_so : (m : ℕ) → FailsAbove M (admitted_judgements M m) e.fragments (bound_to sig lefts us) → (n : ℕ) → suc m ≤ n → Fails M n e.fragments (meant sig s)
   fails_so m f n l = (admitted_within M n).Fails e.fragments (meant sig s) ((within_above M (suc m) n l).Fails e.fragments (meant sig s)
-      (subst ((admitted_judgements M (suc m)).Fails e.fragments) given_meant (fails_above M m e.fragments (bound_to sig lefts (bound_values s)) f)))
+      (subst ((admitted_judgements M (suc m)).Fails e.fragments) given_meant (fails_above M m e.fragments (bound_to sig lefts us) f)))
 
-  pub failure : (m : ℕ) → suc m ≤ 63 → FailsAbove M (admitted_judgements M m) e.fragments (bound_to sig lefts (bound_values s)) → IsFailure (record { over = M; statement = number; subst = s })
+  pub failure : (m : ℕ) → suc m ≤ 63 → FailsAbove M (admitted_judgements M m) e.fragments (bound_to sig lefts us) → IsFailure (record { over = M; statement = number; subst = s })
   failure m low f = record { statement = e; is_there = a.is_there.is_there; fails = fails_so m f 63 low }
 
-  pub stops_so : (m side : ℕ) (why : Reason) → IsStoppedInside M m side e.fragments (bound_to sig lefts (bound_values s)) why → IsUntold M (suc m) side e s why
+  pub stops_so : (m side : ℕ) (why : Reason) → IsStoppedInside M m side e.fragments (bound_to sig lefts us) why → IsUntold M (suc m) side e s why
   stops_so m side why h = inr (m, refl, subst (λ r. IsStoppedInside M m side e.fragments r why) given_meant h)

@@ -14,3 +14,4 @@ mod Halting
 mod LessLeft
 mod Ordering
 mod Judgements
+mod Beginnings

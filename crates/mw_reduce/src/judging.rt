@@ -46,12 +46,7 @@ pub enum Normality {
 }
 
 /// Values of a statement's variables, by name.
-fn named(
-    alloc: Global,
-    context: &Ctx,
-    number: usize,
-    values: &[Term],
-) -> Result<Subst, AllocError>
+fn named(alloc: Global, context: &Ctx, number: usize, values: &[Term]) -> Result<Subst, AllocError>
     requires { (e : StatementOf) × IsStatement context.now number e }
     ensures { (e : StatementOf) → IsStatement context.now number e → IfOk result (λ s. s ≡ zip e.variables values.now) }
 {
@@ -133,7 +128,9 @@ fn judged(pause: &Pause<'_>) -> Normality
 {
     match pause {
         Pause::Ended(_) => Normality::Yes,
-        Pause::Found(..) | Pause::Met(..) | Pause::Decides(..) => Normality::No,
+        Pause::Found(..) => Normality::No,
+        Pause::Met(..) => Normality::No,
+        Pause::Decides(..) => Normality::No,
         Pause::Big(..) => Normality::Stopped(Reason::Nat),
         Pause::Halts(_, _, reason) => Normality::Stopped(*reason),
     }
