@@ -1,7 +1,7 @@
 -- What turns come to before a first replacement says of the term that the run begins at.
-use Rattle.std.specs.Prelude.{◌≡◌, ◌⊎◌, ◌<◌, ℕ, zero, suc, List, [], ◌∷◌, Bool, true, false, Option, Some, None, refl}
-use Rattle.std.proofs.Common.{sym, subst, ap, ◌∙◌, arith, inl, inr}
-use Rattle.mw_logic.specs.Term.{RawTerm, Context, plug}
+use Rattle.std.specs.Prelude.{◌≡◌, ℕ, zero, suc, List, [], Bool, Option, refl}
+use Rattle.std.proofs.Common.{sym, subst, ap, ◌∙◌, arith}
+use Rattle.mw_logic.specs.Term.{RawTerm, Context}
 use Rattle.mw_logic.specs.Signature.{Signature, IsRawTerm}
 use Rattle.mw_logic.specs.Axioms.{EqualModulo}
 use Rattle.mw_logic.specs.Accepted.{IsAccepted}
@@ -9,12 +9,12 @@ use Rattle.mw_logic.specs.Parts.{nested, IsClean, IsPart}
 use Rattle.mw_logic.specs.NormalForm.{normal_form}
 use Rattle.mw_logic.specs.Module.{Module, Row, MeetsRow, by_row, an_equality, an_inequality}
 use Rattle.mw_logic.specs.Module as rows
-use Rattle.mw_logic.specs.Proof.{Proof, reflexivity, steps}
-use Rattle.mw_logic.specs.Judgements.{judgements, judgements_with, admitted_judgements, Proves, Fails, IsNormal, IsNormalBy}
+use Rattle.mw_logic.specs.Proof.{reflexivity, steps}
+use Rattle.mw_logic.specs.Judgements.{judgements_with, admitted_judgements, Proves, Fails, IsNormal, IsNormalBy}
 use Rattle.mw_logic.specs.Ends.{Stops, by_nat}
 use Rattle.mw_logic.specs.Confluence.{IsReducible, by_equation}
 use Rattle.mw_logic.specs.Confluence as confluence
-use Rattle.mw_logic.proofs.AxiomLaws.{trans, sym as back}
+use Rattle.mw_logic.proofs.AxiomLaws.{trans}
 use Rattle.mw_logic.proofs.CanonicalTerms.{fixed, clean as form_clean}
 use Rattle.mw_logic.proofs.EqualTerms.{IsPart-equal}
 use Rattle.mw_logic.proofs.Invariance.{normal_form-kept}
@@ -23,7 +23,7 @@ use Rattle.mw_canon.specs.Canonical.{IsAdmittedTerm}
 use Rattle.mw_least.specs.Workable.{IsWorkable}
 use Rattle.mw_deduction.specs.Chains.{proof_of}
 use Rattle.mw_deduction.specs.Runs.{Dones, none, more}
-use Rattle.mw_deduction.specs.Standing.{Open, round}
+use Rattle.mw_deduction.specs.Standing.{round}
 use Rattle.mw_deduction.specs.Stands.{IsStanding}
 use Rattle.mw_deduction.specs.Replay.{Move, Stand, whole, begun}
 use Rattle.mw_deduction.proofs.MoveStands.{whole_is}
@@ -33,7 +33,7 @@ use Rattle.mw_proof.specs.declared.reason.Reason.{Reason}
 use Rattle.mw_proof.specs.declared.reason.Reason.TheVariants as reason
 use Rattle.mw_frames.specs.State.{Run, Data, Leads, InHand, IsRun}
 use Rattle.mw_frames.specs.Choosing.{decided_term, round_choice}
-use Rattle.mw_frames.specs.Redex.{IsRowOf, IsSeenIn, walked}
+use Rattle.mw_frames.specs.Redex.{IsSeenIn, walked}
 use Rattle.mw_frames.specs.Steps.{IsAsked, IsEnd, IsDecided, asked_term}
 use Rattle.mw_frames.specs.Fires.{IsPartTaken}
 use Rattle.mw_frames.specs.declared.job.Job.TheVariants.{Walk}

@@ -1,30 +1,27 @@
 -- What an evaluation says of a condition that is asked of by itself.
-use Rattle.std.specs.Prelude.{MatchOption, ◌≡◌, ◌≤◌, ◌<◌, ℕ, suc, List, [], ◌∷◌, map, Option, Some, None, refl}
+use Rattle.std.specs.Prelude.{MatchOption, ◌≡◌, ◌≤◌, ℕ, suc, List, [], ◌∷◌, map, refl}
 use Rattle.std.specs.List.{zip}
-use Rattle.std.proofs.Common.{sym, subst, ap, ◌∙◌, arith, inl, inr}
+use Rattle.std.proofs.Common.{sym, subst, ap, ◌∙◌, arith, inr}
 use Rattle.mw_logic.specs.Term.{Variable, RawTerm}
 use Rattle.mw_logic.specs.Signature.{Signature}
 use Rattle.mw_logic.specs.Accepted.{IsAccepted}
 use Rattle.mw_logic.specs.Substitution.{Substitution, Extends}
-use Rattle.mw_logic.specs.Module.{Fragment, Module, Statement}
-use Rattle.mw_logic.specs.Proof.{nil}
-use Rattle.mw_logic.specs.Judgements.{AdmittedStep, FailsAbove, Fails, admitted_judgements, judgements_with}
+use Rattle.mw_logic.specs.Module.{Module, Statement}
+use Rattle.mw_logic.specs.Judgements.{AdmittedStep, FailsAbove, Fails, admitted_judgements}
 use Rattle.mw_logic.proofs.Ranks.{admitted_within, within_above}
 use Rattle.mw_canon.specs.Canonical.{meant}
-use Rattle.mw_position.specs.Variables.{is_in, met, AreDistinct, bound_variables, bound_values}
+use Rattle.mw_position.specs.Variables.{is_in, met, bound_values}
 use Rattle.mw_position.proofs.Placing.{values_of}
 use Rattle.mw_solving.proofs.Candidates.{variables_zipped, values_zipped}
 use Rattle.mw_deduction.proofs.Frontiers.{Held_before}
 use Rattle.mw_least.specs.Workable.{IsWorkable}
-use Rattle.mw_proof.specs.Deductions.{Deduction}
 use Rattle.mw_proof.specs.Replacing.{AreBelow}
-use Rattle.mw_proof.specs.Failures.{Failure, IsFailure}
+use Rattle.mw_proof.specs.Failures.{IsFailure}
 use Rattle.mw_proof.specs.declared.reason.Reason.{Reason}
-use Rattle.mw_proof.specs.declared.reason.Reason.TheVariants as reason
 use Rattle.mw_index.specs.Choices.{in_order}
 use Rattle.mw_index.specs.Conditions.{AreTests, all_bound}
 use Rattle.mw_index.specs.declared.conditions.Condition.{Condition}
-use Rattle.mw_index.proofs.Bound.{bound_distinct, bound_variables_are, unconditional_variables}
+use Rattle.mw_index.proofs.Bound.{bound_variables_are, unconditional_variables}
 use Rattle.mw_index.proofs.ByTest.{of_none, put_in_order}
 use Rattle.mw_index.proofs.Rearranging.{zip_parts}
 use Rattle.mw_index.proofs.Sides.{variables_distinct}

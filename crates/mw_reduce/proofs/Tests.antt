@@ -1,13 +1,12 @@
 -- What is asked of tests before they are made.
-use Rattle.std.specs.Prelude.{◌≡◌, ◌<◌, ◌==◌, Bool, true, false, ℕ, zero, suc, List, [], ◌∷◌, length, drop, IsTrue, Some, slice_get, refl}
+use Rattle.std.specs.Prelude.{◌≡◌, ◌==◌, Bool, true, false, ℕ, zero, suc, List, [], ◌∷◌, length, Some, slice_get}
 use Rattle.std.proofs.Common.{Box, Global, sym, subst, ap, ◌∙◌, arith}
 use Rattle.std.proofs.lemmas.Option.{same_Some}
 use Rattle.mw_logic.specs.Term.{Variable, RawTerm}
 use Rattle.mw_logic.specs.Signature.{Signature}
 use Rattle.mw_logic.specs.Accepted.{IsAccepted}
-use Rattle.mw_logic.specs.Substitution.{occurs}
 use Rattle.mw_logic.specs.Module.{Fragment, equal, matches, has_sort, is_true, Module}
-use Rattle.mw_position.specs.Variables.{is_in, met, sorts_of}
+use Rattle.mw_position.specs.Variables.{met, sorts_of}
 use Rattle.mw_index.specs.Conditions.{IsSideOf, IsMatchOf, IsTestOf, AreTests, AreReady, bound_by}
 use Rattle.mw_term.specs.Signatures.{sorted_of}
 use Rattle.mw_term.specs.declared.signature.Sorted.{Sorted as Written}

@@ -1,5 +1,4 @@
-use Rattle.std.proofs.Common.{◌≡◌, ◌++◌, ◌∙◌, [], ◌∷◌, sym, ap}
-use Rattle.std.proofs.Common.{Vec, Global}
+use Rattle.std.proofs.Common.{◌++◌, ◌∙◌, [], ◌∷◌, ap}
 use Rattle.mw_reduce.proofs.Ordering.{with_one, without_one}
 use Rattle.mw_reduce.proofs.attempts.in_order.Goals as goal
 use Rattle.mw_reduce.proofs.attempts.in_order.Goals.{in-Some+in_ok-copy-in-Some+in_ok-push-in-Some, in-None}

@@ -1,16 +1,12 @@
-use Rattle.std.proofs.Common.{arith, ◌≡◌, ◌≤◌, ◌-◌, ◌∙◌, ℕ, suc, List, [], map, ap, subst, sym, refl}
+use Rattle.std.proofs.Common.{arith, ◌≡◌, ◌≤◌, ◌-◌, ◌∙◌, ℕ, suc, List, map, ap, subst, sym, refl}
 use Rattle.std.specs.List.{zip}
 use Rattle.mw_logic.specs.Term.{RawTerm}
-use Rattle.mw_logic.specs.Module.{Module, Statement}
+use Rattle.mw_logic.specs.Module.{Module}
 use Rattle.mw_logic.specs.Substitution.{Substitution}
-use Rattle.mw_logic.specs.Judgements.{Fails}
-use Rattle.mw_canon.specs.Canonical.{meant}
-use Rattle.mw_least.specs.Workable.{IsWorkable}
 use Rattle.mw_position.specs.Variables.{bound_values}
 use Rattle.mw_index.specs.declared.conditions.Condition.{Condition}
-use Rattle.mw_proof.specs.Failures.{IsFailure}
-use Rattle.mw_reduce.specs.Evaluations.{bound_to, deduction_of, IsHeldBy}
-use Rattle.mw_reduce.specs.Judgements.{IsAskedOf, IsHeldWith, IsUntold}
+use Rattle.mw_reduce.specs.Evaluations.{deduction_of}
+use Rattle.mw_reduce.specs.Judgements.{IsHeldWith, IsUntold}
 use Rattle.mw_reduce.specs.declared.sides.Reduced.{Reduced}
 use Rattle.mw_reduce.proofs.Judgements.{asked_bound, holds_at_once, holds_so, fails_so, failure, stops_so}
 use Rattle.mw_reduce.proofs.Tests.{none_there}

@@ -1,4 +1,4 @@
-use Rattle.std.proofs.Common.{◌≡◌, ℕ, refl, sym, subst}
+use Rattle.std.proofs.Common.{ℕ, refl, sym, subst}
 use Rattle.mw_least.specs.Workable.{IsWorkable}
 use Rattle.mw_frames.specs.Machines.{data_of}
 use Rattle.mw_frames.specs.State.{Holds}

@@ -1,4 +1,3 @@
-use Rattle.std.proofs.Common.{◌≡◌, ℕ}
 use Rattle.mw_reduce.proofs.Beginnings.{ended_normal, found_reducible, met_reducible, decided_reducible, big_stops, halted_stops}
 use Rattle.mw_reduce.proofs.judging.judged.Goals as goal
 

@@ -1,4 +1,3 @@
-use Rattle.std.specs.Prelude.{◌==◌, Bool, true, false, Some, slice_get}
 use Rattle.std.proofs.Common.{rules, arith, ◌≡◌, ◌+◌, ◌-◌, ◌<◌, ◌≤◌, ◌∙◌, ℕ, List, [], ◌∷◌, length, max, suc, subst, sym, ap, inl, inr, refl, reverse, drop, drop_of_length-le}
 use Rattle.mw_logic.specs.Term.{Variable, RawTerm}
 use Rattle.mw_logic.specs.Module.{Module, Fragment, matches}
