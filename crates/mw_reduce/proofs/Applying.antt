@@ -66,6 +66,11 @@ use Rattle.mw_reduce.specs.declared.sides.Reduced.{Reduced}
 use Rattle.mw_reduce.proofs.Evidence.{evidence_shows}
 use Rattle.mw_reduce.proofs.Values.{normal_above, reordered_extends, reordered_found, reordered_bound}
 
+-- values that were put in order
+pub in_their_order : {vs us : List RawTerm} (ws : List RawTerm) (o : Option (List ℕ)) → MatchOption o (vs ≡ ws) (λ ns. vs ≡ in_order ws ns) → MatchOption o (ws ≡ us) (λ ns. in_order ws ns ≡ us) → vs ≡ us
+in_their_order ws None a b = a ∙ b
+in_their_order ws (Some ns) a b = a ∙ b
+
 mutual
   free_same : (sig : Signature) (t : RawTerm) → index.IsFree sig t → frames.IsFree sig t
   free_same sig (numeral n) h = tt
@@ -92,12 +97,12 @@ free_left sig (Some f) e (Plain ps) h k = (f, ps, h.pattern, free_same sig (appl
 free_left sig top e (Searched s) h k = absurd k
 
 -- a condition that fails in the rank above that of its sides
-fails_above : (M : Module) (m : ℕ) (C : List Fragment) (s : Substitution) → FailsAbove M (admitted_judgements M m) C s → (admitted_judgements M (suc m)).Fails C s
+pub fails_above : (M : Module) (m : ℕ) (C : List Fragment) (s : Substitution) → FailsAbove M (admitted_judgements M m) C s → (admitted_judgements M (suc m)).Fails C s
 unfolding judgements_with
 fails_above M m C s h = h
 
 -- no condition, no evidence
-nothing_held : (M : Module) (n : ℕ) (C : List Fragment) (s : Substitution) → C ≡ [] → (admitted_judgements M n).Held C s nil s
+pub nothing_held : (M : Module) (n : ℕ) (C : List Fragment) (s : Substitution) → C ≡ [] → (admitted_judgements M n).Held C s nil s
 unfolding judgements_with
 nothing_held M n C s e = subst (λ D. (admitted_judgements M n).Held D s nil s) (sym e) (by_rank n)
   where
@@ -254,10 +259,6 @@ module _ (M : Module) (work : IsWorkable M) (t : RawTerm) (c : Choice) (h : IsTr
       none_first : (ts : List Test) (x : Test) → slice_get ts 0 ≡ Some x → ts ≡ [] → ⊥
       none_first [] x some n = cc
       none_first (t ∷ ts) x some n = cc
-
-      in_their_order : {vs us : List RawTerm} (ws : List RawTerm) (o : Option (List ℕ)) → MatchOption o (vs ≡ ws) (λ ns. vs ≡ in_order ws ns) → MatchOption o (ws ≡ us) (λ ns. in_order ws ns ≡ us) → vs ≡ us
-      in_their_order ws None a b = a ∙ b
-      in_their_order ws (Some ns) a b = a ∙ b
 
   -- where it fails, it fails for each statement of this number
   pub failed_so : (m : ℕ) → FailsAbove M (admitted_judgements M m) e.fragments s → (d : Statement) → IsStatement M number d → IsFailed M (suc m) (tried_of c) d

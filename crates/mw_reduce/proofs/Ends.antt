@@ -1,10 +1,10 @@
 -- Why a run ends, as its proof shows it.
-use Rattle.std.specs.Prelude.{◌≡◌, ◌≢◌, ◌⊎◌, ◌<◌, ℕ, zero, suc, List, [], refl}
+use Rattle.std.specs.Prelude.{◌≡◌, ◌⊎◌, ◌<◌, ℕ, zero, suc}
 use Rattle.std.proofs.Common.{sym, subst, ◌∙◌, inl, inr, true≢false}
-use Rattle.mw_logic.specs.Term.{RawTerm, Context}
-use Rattle.mw_logic.specs.Parts.{nested, IsAdmitted, IsPart}
-use Rattle.mw_logic.specs.Substitution.{Substitution, instance}
-use Rattle.mw_logic.specs.Module.{Module, Fragment, Statement}
+use Rattle.mw_logic.specs.Term.{RawTerm}
+use Rattle.mw_logic.specs.Parts.{nested, IsAdmitted}
+use Rattle.mw_logic.specs.Substitution.{instance}
+use Rattle.mw_logic.specs.Module.{Module}
 use Rattle.mw_logic.specs.Proof.{Proof, equality, rules, steps}
 use Rattle.mw_logic.specs.Judgements.{AdmittedStep, judgements, admitted_judgements, judgements_with, Proves, Fails, IsNormal, IsNormalBy}
 use Rattle.mw_logic.specs.Ends as ends
@@ -16,13 +16,12 @@ use Rattle.mw_proof.specs.Reasons.{reason_of}
 use Rattle.mw_proof.specs.declared.reason.Reason.{Reason}
 use Rattle.mw_proof.specs.declared.reason.Reason.TheVariants as reason
 use Rattle.mw_frames.specs.State.{Run, Data}
-use Rattle.mw_frames.specs.Steps.{IsEnd}
 use Rattle.mw_frames.specs.Fires.{IsWhole, Becomes, by_equation, by_schema, WouldBeTooDeep, WouldBeTooLarge, HasBigPair, HasPart}
 use Rattle.mw_reduce.specs.Limits.{limits_within}
 use Rattle.mw_reduce.specs.Reductions.{IsOutcome}
 use Rattle.mw_reduce.specs.Evaluations.{IsStoppedFor, IsStoppedInside}
 use Rattle.mw_reduce.specs.Attempts.{IsHalting}
-use Rattle.mw_reduce.specs.Driven.{IsHaltedIn, EndsAt, EndsBy}
+use Rattle.mw_reduce.specs.Driven.{EndsAt, EndsBy}
 use Rattle.mw_reduce.specs.declared.drive.Outcome.{Outcome}
 use Rattle.mw_reduce.specs.declared.drive.Outcome.TheVariants.{Done, Stopped}
 use Rattle.mw_reduce.specs.declared.drive.End.{End}

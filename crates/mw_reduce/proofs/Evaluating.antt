@@ -1,6 +1,6 @@
 -- One step of an evaluation.
-use Rattle.std.specs.Prelude.{◌≡◌, ◌<◌, ◌≤◌, ℕ, zero, suc, List, [], ◌∷◌, length, drop, Some, slice_get, refl}
-use Rattle.std.proofs.Common.{sym, subst, ap, ◌∙◌, arith, get_or}
+use Rattle.std.specs.Prelude.{◌≡◌, ◌<◌, ℕ, List, ◌∷◌, length, Some, slice_get}
+use Rattle.std.proofs.Common.{sym, subst, ap, ◌∙◌, get_or}
 use Rattle.std.proofs.lemmas.Option.{slice_get-get_or}
 use Rattle.mw_logic.specs.Term.{Variable, RawTerm}
 use Rattle.mw_logic.specs.Substitution.{Substitution}

@@ -1,5 +1,5 @@
 -- Turns come to an end.
-use Rattle.std.specs.Prelude.{◌<◌, ◌≤◌, ℕ, suc}
+use Rattle.std.specs.Prelude.{◌<◌, ℕ, suc}
 use Rattle.std.proofs.Common.{arith}
 use Rattle.mw_logic.specs.Module.{Module}
 use Rattle.mw_frames.specs.State.{work_of}

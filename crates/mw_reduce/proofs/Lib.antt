@@ -13,3 +13,5 @@ pub mod Joining
 mod Halting
 mod LessLeft
 mod Ordering
+mod Judgements
+mod Beginnings

@@ -1,16 +1,12 @@
 -- Where a run begins, and the deduction that it leaves.
-use Rattle.std.specs.Prelude.{◌≡◌, ◌⊎◌, ◌≤◌, ◌<◌, ℕ, zero, suc, [], ◌∷◌, refl}
-use Rattle.std.proofs.Common.{sym, subst, ap, ◌∙◌, arith, inl, inr}
+use Rattle.std.specs.Prelude.{◌≡◌, ◌≤◌, ℕ, [], ◌∷◌, refl}
+use Rattle.std.proofs.Common.{sym, subst, ap, ◌∙◌, arith}
 use Rattle.mw_logic.specs.Term.{RawTerm}
 use Rattle.mw_logic.specs.Parts.{nested}
-use Rattle.mw_logic.specs.Substitution.{Substitution}
 use Rattle.mw_logic.specs.Module.{Module}
 use Rattle.mw_logic.specs.Proof.{Proof, rules, steps}
-use Rattle.mw_logic.specs.Proof as proof
-use Rattle.mw_logic.specs.Judgements.{judgements, admitted_judgements, judgements_with, Proves, Held, Fails, IsNormal, IsNormalBy}
-use Rattle.mw_logic.specs.Ends.{NextStep, Stops, StopsBy, by_depth, by_rewrites, by_nat, by_statement, by_row}
+use Rattle.mw_logic.specs.Judgements.{Proves}
 use Rattle.mw_logic.proofs.Canonical.{IsCanonical, canonical}
-use Rattle.mw_logic.proofs.Ranks.{admitted_within, normal, row_within}
 use Rattle.mw_canon.specs.Canonical.{IsAdmittedTerm}
 use Rattle.mw_least.specs.Workable.{IsWorkable}
 use Rattle.mw_least.proofs.WellFormed.{workable_well_formed}
@@ -19,21 +15,18 @@ use Rattle.mw_deduction.proofs.MoveStands.{begun_stands}
 use Rattle.mw_deduction.proofs.Concluding.{concludes}
 use Rattle.mw_trail.specs.Tracks.{Track, moves}
 use Rattle.mw_proof.specs.Deductions.{IsKept, deduced, first_of}
-use Rattle.mw_proof.specs.declared.reason.Reason.TheVariants as reason
 use Rattle.mw_frames.specs.declared.job.Job.TheVariants.{Walk}
 use Rattle.mw_frames.specs.declared.job.Hand.TheVariants.{One}
 use Rattle.mw_frames.specs.declared.machine.Machine.{Machine}
 use Rattle.mw_frames.specs.Machines.{data_of}
 use Rattle.mw_frames.specs.State.{Run, Data, IsRun, InHand, Holds}
-use Rattle.mw_frames.specs.Steps.{IsEnd}
-use Rattle.mw_frames.specs.Fires.{IsWhole, Becomes, by_equation, by_schema, WouldBeTooDeep, WouldBeTooLarge, HasBigPair}
+use Rattle.mw_frames.specs.Fires.{IsWhole}
 use Rattle.mw_reduce.specs.Driven.{IsDriven}
 use Rattle.mw_reduce.specs.Reductions.{IsOutcome, IsReductionOf}
 use Rattle.mw_reduce.specs.Evaluations.{run_of, nothing}
 use Rattle.mw_reduce.proofs.Ends.{whole_by, outcome_by}
 use Rattle.mw_reduce.specs.declared.drive.End.{End}
 use Rattle.mw_reduce.specs.declared.drive.Outcome.{Outcome}
-use Rattle.mw_reduce.specs.declared.drive.Outcome.TheVariants.{Done, Stopped}
 use Rattle.mw_reduce.specs.declared.reducing.Budget.{Budget}
 
 module _ (M : Module) (w : IsWorkable M) (n : ℕ) (t : RawTerm) (a : IsAdmittedTerm M.signature t) where

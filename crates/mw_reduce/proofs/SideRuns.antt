@@ -1,18 +1,17 @@
 -- A side of a condition: where its run begins, and what its end shows.
-use Rattle.std.specs.Prelude.{◌≡◌, ◌⊎◌, ◌≤◌, ◌<◌, ◌+◌, ◌-◌, ℕ, zero, suc, List, [], ◌∷◌, ◌++◌, true, false, IsTrue, refl}
+use Rattle.std.specs.Prelude.{◌≡◌, ◌≤◌, ◌<◌, ◌-◌, ℕ, zero, suc, List, [], ◌∷◌, ◌++◌, true, false, IsTrue, refl}
 use Rattle.std.specs.List.{zip}
 use Rattle.std.proofs.Common.{sym, subst, ap, ◌∙◌, arith, inl, inr}
-use Rattle.std.proofs.lemmas.Bool.{both_ways}
 use Rattle.mw_logic.specs.Term.{Variable, RawTerm, is_ground}
 use Rattle.mw_logic.specs.Signature.{Signature, IsRawTerm}
 use Rattle.mw_logic.specs.Axioms.{EqualModulo}
 use Rattle.mw_logic.specs.Accepted.{IsAccepted}
-use Rattle.mw_logic.specs.Substitution.{Substitution, instance, occurs, is_bound}
-use Rattle.mw_logic.specs.Parts.{nested, IsAdmitted, IsTooDeep, IsTooLarge}
+use Rattle.mw_logic.specs.Substitution.{instance}
+use Rattle.mw_logic.specs.Parts.{nested, IsTooDeep, IsTooLarge}
 use Rattle.mw_logic.specs.NormalForm.{normal_form, height, has_largest}
 use Rattle.mw_logic.specs.Module.{Module}
 use Rattle.mw_logic.specs.Proof.{Proof, Proofs, nil, cons, equality, transitivity, rules, steps}
-use Rattle.mw_logic.specs.Judgements.{judgements, judgements_with, admitted_judgements, Proves, Evaluates}
+use Rattle.mw_logic.specs.Judgements.{judgements_with, admitted_judgements, Proves, Evaluates}
 use Rattle.mw_logic.proofs.Admitted.{admitted-iff, too_large-iff}
 use Rattle.mw_logic.proofs.AxiomLaws.{sym as back}
 use Rattle.mw_logic.proofs.Canonical.{IsCanonical, canonical}
@@ -24,7 +23,6 @@ use Rattle.mw_logic.proofs.Restricted.{instance_ground}
 use Rattle.mw_logic.proofs.SolutionLaws.{instance_raw}
 use Rattle.mw_logic.proofs.Soundness.{normal_form-sound}
 use Rattle.mw_canon.specs.Canonical.{IsAdmittedTerm}
-use Rattle.mw_position.specs.Variables.{is_in, placed}
 use Rattle.mw_position.proofs.Placing.{bound_zip}
 use Rattle.mw_solving.proofs.Positions.{meant_bound}
 use Rattle.mw_matching.specs.Matches.{evaluated}
@@ -32,7 +30,6 @@ use Rattle.mw_pattern.specs.Clean.{clean}
 use Rattle.mw_least.specs.Workable.{IsWorkable}
 use Rattle.mw_index.specs.Conditions.{IsSideOf}
 use Rattle.mw_index.specs.declared.conditions.Side.{Side}
-use Rattle.mw_deduction.specs.Chains.{proof_of}
 use Rattle.mw_deduction.specs.Frontier.{together}
 use Rattle.mw_deduction.specs.Reading.{behind}
 use Rattle.mw_deduction.specs.Standing.{At}
@@ -45,11 +42,11 @@ use Rattle.mw_deduction.proofs.Concluding.{concludes}
 use Rattle.mw_deduction.proofs.Ending.{side_evaluates}
 use Rattle.mw_deduction.proofs.Moves.{plays-append, moves-append, plays_over}
 use Rattle.mw_deduction.proofs.MoveStands.{begun_stands, moves_stand}
-use Rattle.mw_frames.specs.State.{Run, Data, IsRun}
+use Rattle.mw_frames.specs.State.{Data}
 use Rattle.mw_frames.specs.Steps.{IsEnd}
 use Rattle.mw_frames.specs.Fires.{IsWhole}
 use Rattle.mw_frames.proofs.PlacedTerms.{instance_placed}
-use Rattle.mw_reduce.specs.Driven.{EndsBy, IsDriven}
+use Rattle.mw_reduce.specs.Driven.{IsDriven}
 use Rattle.mw_reduce.specs.Evaluations.{AreBoundTo, bound_to, AreAsked, IsEvidence, IsShown, IsStoppedFor, run_of}
 use Rattle.mw_reduce.specs.declared.drive.End.{End}
 use Rattle.mw_reduce.specs.declared.drive.Outcome.TheVariants.{Done, Stopped}

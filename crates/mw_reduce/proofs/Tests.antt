@@ -1,13 +1,12 @@
 -- What is asked of tests before they are made.
-use Rattle.std.specs.Prelude.{◌≡◌, ◌<◌, ℕ, zero, suc, List, [], ◌∷◌, length, drop, IsTrue, Some, slice_get, refl}
+use Rattle.std.specs.Prelude.{◌≡◌, ◌==◌, Bool, true, false, ℕ, zero, suc, List, [], ◌∷◌, length, Some, slice_get}
 use Rattle.std.proofs.Common.{Box, Global, sym, subst, ap, ◌∙◌, arith}
 use Rattle.std.proofs.lemmas.Option.{same_Some}
 use Rattle.mw_logic.specs.Term.{Variable, RawTerm}
 use Rattle.mw_logic.specs.Signature.{Signature}
 use Rattle.mw_logic.specs.Accepted.{IsAccepted}
-use Rattle.mw_logic.specs.Substitution.{occurs}
 use Rattle.mw_logic.specs.Module.{Fragment, equal, matches, has_sort, is_true, Module}
-use Rattle.mw_position.specs.Variables.{is_in, met, sorts_of}
+use Rattle.mw_position.specs.Variables.{met, sorts_of}
 use Rattle.mw_index.specs.Conditions.{IsSideOf, IsMatchOf, IsTestOf, AreTests, AreReady, bound_by}
 use Rattle.mw_term.specs.Signatures.{sorted_of}
 use Rattle.mw_term.specs.declared.signature.Sorted.{Sorted as Written}
@@ -80,3 +79,15 @@ module _ (sig : Signature) (ok : IsAccepted sig) (all xs : List Variable) (f : F
       of (matches l t) i r = absurd i
       of (has_sort t S) i r = absurd i
       of (is_true t) i r = h t (record { raw = r.raw.0; among = r.in_turn.0; distinct = r.distinct }) i
+
+-- the tests of a condition: none, or a first one
+pub none_there : (ts us : List Test) (b : Bool) → us ≡ ts → b ≡ (length us == 0) → b ≡ true → ts ≡ []
+none_there ts [] b e f t = sym e
+none_there ts (u ∷ us) b e f t = absurd (apart (length us) (sym f ∙ t))
+  where
+    apart : (n : ℕ) → (suc n == 0) ≡ true → ⊥
+    apart n h = grind arith
+
+pub one_there : (ts us : List Test) (b : Bool) → us ≡ ts → b ≡ (length us == 0) → b ≡ false → (x : Test) × (slice_get ts 0 ≡ Some x)
+one_there ts [] b e f t = cc
+one_there ts (u ∷ us) b e f t = (u, ap (λ xs. slice_get xs 0) (sym e))

@@ -12,3 +12,5 @@ pub mod Driven
 pub mod Reductions
 -- Two arguments at a time.
 pub mod Pairs
+-- What is told of conditions and of terms.
+pub mod Judgements

@@ -47,6 +47,7 @@
 mod attempts;
 mod drive;
 mod evaluation;
+mod judging;
 mod pairs;
 mod reducing;
 mod running;
@@ -54,4 +55,5 @@ mod sides;
 mod turning;
 
 pub use drive::Outcome;
+pub use judging::{Normality, Tried, conditions, is_normal};
 pub use reducing::{Budget, reduce};

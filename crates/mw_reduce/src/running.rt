@@ -68,7 +68,7 @@ pub fn drive<'m>(
 /// Turns until something applies: an equation whose condition holds, or a row; or until the whole is normal, or a
 /// condition stops.
 #[cycle(run)]
-fn find<'m>(
+pub fn find<'m>(
     alloc: Global,
     context: &'m Ctx,
     index: &'m Index,

@@ -15,7 +15,7 @@ loop-turn-smaller c =
 
 pub loop-turn-preserved : goal.loop-turn-preserved
 loop-turn-preserved c = (
-    c.in_ok-turn-in-Goes.ensures.of,
-    λ K k run here h. c.in_ok-turn-in-Goes.ensures.means K k run here
-        (subst (IsTurn K k c.args.index.now (data_of K.over c.loop-turn.machine) c.loop-turn.choices) c.in-Goes.is (c.loop-turn.invariant.1 K k run here h)),
+  c.in_ok-turn-in-Goes.ensures.of,
+  λ K k run here h. c.in_ok-turn-in-Goes.ensures.means K k run here
+      (subst (IsTurn K k c.args.index.now (data_of K.over c.loop-turn.machine) c.loop-turn.choices) c.in-Goes.is (c.loop-turn.invariant.1 K k run here h)),
 )

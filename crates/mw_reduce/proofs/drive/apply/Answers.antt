@@ -1,4 +1,3 @@
-use Rattle.std.proofs.Common.{subst, sym}
 use Rattle.mw_frames.specs.Machines.{data_of}
 use Rattle.mw_frames.specs.Steps.{asked_term}
 use Rattle.mw_reduce.proofs.Applying.{applied_so}

@@ -1,7 +1,6 @@
 use Rattle.std.proofs.Common.{◌≡◌, ◌∙◌, [], sym, subst}
 use Rattle.mw_logic.specs.Term.{RawTerm, numeral, apply}
 use Rattle.mw_logic.specs.Module.{Module}
-use Rattle.mw_logic.specs.Judgements.{admitted_judgements}
 use Rattle.mw_solving.specs.Values.{IsValue}
 use Rattle.mw_builtin.proofs.NoRows.{leaf_has_no_row}
 use Rattle.mw_index.specs.Choices.{AreAllTried}

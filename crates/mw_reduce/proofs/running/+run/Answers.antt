@@ -1,4 +1,3 @@
-use Rattle.std.specs.Prelude.{◌==◌, Bool, true, false, Some, slice_get}
 use Rattle.std.proofs.Common.{rules, arith, ◌≡◌, ◌+◌, ◌-◌, ◌<◌, ◌≤◌, ◌∙◌, ℕ, List, [], ◌∷◌, length, max, suc, subst, sym, ap, inl, inr, refl, reverse, drop, drop_of_length-le}
 use Rattle.mw_logic.specs.Term.{Variable, RawTerm}
 use Rattle.mw_logic.specs.Module.{Module, Fragment, matches}
@@ -30,7 +29,7 @@ use Rattle.mw_reduce.proofs.Evaluating.{here_at, tested_at}
 use Rattle.mw_reduce.proofs.Going.{begin, hold}
 use Rattle.mw_reduce.proofs.Reduced.{is_run, begins_run}
 use Rattle.mw_reduce.proofs.SideRuns.{side_raw}
-use Rattle.mw_reduce.proofs.Tests.{some_test_at, at_equal, at_match, at_sort, at_truth}
+use Rattle.mw_reduce.proofs.Tests.{none_there, one_there, some_test_at, at_equal, at_match, at_sort, at_truth}
 use Rattle.mw_reduce.proofs.running.+run.Goals as goal
 
 made_less : (limit left made n m : ℕ) → left ≤ limit → made ≤ left → 0 < made → m ≡ max made 1 → n ≡ left - m → limit - left + made ≡ limit - n
@@ -162,18 +161,6 @@ run_side-returns-in_ok-end-in-Runs m c = λ n xs t nest asked is bound.
     subst (λ u. Holds (run_of M n r.from) 0 (data_of M r.machine) (One (Walk u))) (sym c.in_ok-copy-in-Runs.ensures) (begins_run M work n r.from low r.machine empty) in
     c.end_side.ensures M n c.args.limit v work (side_raw M work xs c.args.values.now bound t asked) low from
     (c.in_ok-end-in-Runs.ensures (run_of M n r.from) (is_run M work n r.from low) refl (let e = nest in omega (arith, e)) hand)
-
--- the tests of a condition: none, or a first one
-none_there : (ts us : List Test) (b : Bool) → us ≡ ts → b ≡ (length us == 0) → b ≡ true → ts ≡ []
-none_there ts [] b e f t = sym e
-none_there ts (u ∷ us) b e f t = absurd (apart (length us) (sym f ∙ t))
-  where
-    apart : (n : ℕ) → (suc n == 0) ≡ true → ⊥
-    apart n h = grind arith
-
-one_there : (ts us : List Test) (b : Bool) → us ≡ ts → b ≡ (length us == 0) → b ≡ false → (x : Test) × (slice_get ts 0 ≡ Some x)
-one_there ts [] b e f t = cc
-one_there ts (u ∷ us) b e f t = (u, ap (λ xs. slice_get xs 0) (sym e))
 
 pub try_choice-returns-then-is_empty-clause-means : goal.try_choice-returns-then-is_empty-clause-means
 try_choice-returns-then-is_empty-clause-means m c = λ t may.

@@ -1,5 +1,4 @@
-use Rattle.std.proofs.Common.{◌≡◌, ◌≤◌, ◌-◌, ◌+◌, ◌*◌, ◌<◌, ℕ, suc, List, [], reverse, slice_get, Some}
-use Rattle.mw_logic.specs.Term.{RawTerm}
+use Rattle.std.proofs.Common.{◌≡◌, ◌≤◌, ◌-◌, ◌+◌, ◌*◌, ℕ, suc, [], reverse}
 use Rattle.mw_logic.specs.Module.{Statement, IsStatement}
 use Rattle.mw_position.specs.Variables.{met}
 use Rattle.mw_index.specs.Conditions.{IsConditionOf}

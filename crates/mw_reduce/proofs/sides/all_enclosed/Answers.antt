@@ -1,4 +1,4 @@
-use Rattle.std.proofs.Common.{◌≡◌, ◌++◌, ◌∷◌, ◌∙◌, [], List, sym, ap, append_assoc, append-nil, reverse, refl}
+use Rattle.std.proofs.Common.{◌≡◌, ◌++◌, ◌∷◌, ◌∙◌, [], List, sym, ap, append_assoc, append-nil, reverse}
 use Rattle.std.proofs.lemmas.List.{reverse-append}
 use Rattle.mw_logic.specs.Module.{Module}
 use Rattle.mw_trail.specs.Tracks.{Track, moves}

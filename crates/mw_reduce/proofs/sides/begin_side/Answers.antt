@@ -1,7 +1,4 @@
-use Rattle.std.proofs.Common.{sym, subst, ◌∙◌, ◌≡◌}
-use Rattle.mw_logic.specs.NormalForm.{height, has_largest}
-use Rattle.mw_matching.specs.Matches.{evaluated}
-use Rattle.mw_pattern.specs.Clean.{clean}
+use Rattle.std.proofs.Common.{sym, subst, ◌∙◌}
 use Rattle.mw_reduce.proofs.SideRuns.{side_begins, side_deep, side_large}
 use Rattle.mw_reduce.proofs.sides.begin_side.Goals as goal
 
