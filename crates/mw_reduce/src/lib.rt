@@ -39,7 +39,7 @@
 //! choice before its branches, and of these only the one that is taken.
 //!
 //! Cost: a side is walked whole, the values in it too, as these are known to be normal one rank above alone. An equation
-//! without a condition costs nothing more than before there were any.
+//! without a condition is applied without any of this.
 //!
 //! Neither proved nor tested: time and memory, and that an answer comes with memory at hand.
 #![tactic(auto)]
