@@ -37,12 +37,12 @@ use Rattle.mw_index.proofs.Bound.{bound_distinct, bound_variables_are, unconditi
 use Rattle.mw_index.proofs.ByTest.{of_none, put_in_order}
 use Rattle.mw_index.proofs.Sides.{lefts_distinct, in_lefts, left_raw, variables_distinct}
 use Rattle.mw_index.proofs.Trying.{one_statement}
-use Rattle.mw_index.specs.Equations.{IsLeft, HasFreeLeft}
+use Rattle.mw_index.specs.Oriented.{IsLeft, HasFreeLeft}
 use Rattle.mw_index.specs.Index.{operator_of}
 use Rattle.mw_index.specs.Free as index
 use Rattle.mw_index.specs.declared.choices.Choice.{Choice}
-use Rattle.mw_index.specs.declared.equations.Left.{Left}
-use Rattle.mw_index.specs.declared.equations.Left.TheVariants.{Plain, Searched}
+use Rattle.mw_index.specs.declared.oriented.Left.{Left}
+use Rattle.mw_index.specs.declared.oriented.Left.TheVariants.{Plain, Searched}
 use Rattle.mw_frames.specs.Free as frames
 use Rattle.mw_frames.specs.Redex.{AreShowing, IsRedex, IsRowOf}
 use Rattle.mw_deduction.specs.Replay.{Move}
@@ -140,7 +140,7 @@ module _ (M : Module) (work : IsWorkable M) (t : RawTerm) (c : Choice) (h : IsTr
   e = h.choice.statement
 
   abbrev number : ℕ
-  number = c.equation.now.number
+  number = c.by.now.number
 
   abbrev there : IsStatement M number e
   there = h.choice.is_there
@@ -149,7 +149,7 @@ module _ (M : Module) (work : IsWorkable M) (t : RawTerm) (c : Choice) (h : IsTr
   lefts = met [] e.left
 
   abbrev tests : List Test
-  tests = c.equation.now.condition.tests
+  tests = c.by.now.condition.tests
 
   abbrev us : List RawTerm
   us = c.values.items
@@ -208,16 +208,16 @@ module _ (M : Module) (work : IsWorkable M) (t : RawTerm) (c : Choice) (h : IsTr
           found = λ x i k. absurd (left_alone sig e ordinary none x i k);
           right = h.choice.is.right;
         };
-        free = λ k. free_same sig (clean c.equation.now.right) (h.choice.is.free k);
+        free = λ k. free_same sig (clean c.by.now.right) (h.choice.is.free k);
         levels = h.choice.is.levels;
         sure = λ k no.
-            let (f, ps, left, free) = free_left sig (operator_of t) e c.equation.now.left h.choice.is.left (h.choice.is.sure k) in
+            let (f, ps, left, free) = free_left sig (operator_of t) e c.by.now.left h.choice.is.left (h.choice.is.sure k) in
             record { operator = f; patterns = ps; left = left ∙ ap (λ xs. placed xs (normal_form sig e.left)) (sym all); free = free; found = λ x z k. absurd (left_alone sig e ordinary none x z k) };
       }
 
   -- where its condition holds, by values of all variables that are put in order
   pub made_so : (m : ℕ) (x : Test) → slice_get tests 0 ≡ Some x → (new : Choice) → new ≡ record c { values = new.values } → (ws : List RawTerm) (sides : List Reduced) (trails : List Track) → IsHeldBy M m e tests s ws sides → trail_moves M trails ≡ all_moves M sides
-      → MatchOption c.equation.now.condition.order (new.values.items ≡ ws) (λ ns. new.values.items ≡ in_order ws ns) → IsMade M (suc m) t new trails
+      → MatchOption c.by.now.condition.order (new.values.items ≡ ws) (λ ns. new.values.items ≡ in_order ws ns) → IsMade M (suc m) t new trails
   made_so m x some new is_new ws sides trails held shows put =
       let bs : List Variable = all_bound lefts tests in
       let xs : List Variable = e.variables in
@@ -225,12 +225,12 @@ module _ (M : Module) (work : IsWorkable M) (t : RawTerm) (c : Choice) (h : IsTr
       let r : Substitution = bound_to sig bs ws in
       let distinct : AreDistinct bs = bound_distinct M work number e there tests condition.tests in
       let vs : List RawTerm = new.values.items in
-      let ordered : vs ≡ values_of (zip bs ws) xs = in_their_order ws c.equation.now.condition.order put (put_in_order M work number e there c.equation.now.condition condition ws held.bound.size) in
+      let ordered : vs ≡ values_of (zip bs ws) xs = in_their_order ws c.by.now.condition.order put (put_in_order M work number e there c.by.now.condition condition ws held.bound.size) in
       let alike : (y : Variable) → is_in y xs ≡ is_in y bs = λ y. sym (bound_variables_are M work number e there tests condition.tests y) in
       let bound : AreBoundTo M xs vs = subst (AreBoundTo M xs) (sym ordered) (reordered_bound M ok bs ws held.bound xs alike (variables_distinct M work number e there)) in
-      let equation : new.equation ≡ c.equation = ap (λ (q : Choice). q.equation) is_new in
+      let by : new.by ≡ c.by = ap (λ (q : Choice). q.by) is_new in
       let taking : new.take ≡ c.take = ap (λ (q : Choice). q.take) is_new in
-      let redex : IsRedex M (suc m) number (trail_moves M trails) vs (clean c.equation.now.right) w = record {
+      let redex : IsRedex M (suc m) number (trail_moves M trails) vs (clean c.by.now.right) w = record {
         statement = e;
         is_there = there;
         ordinary = work.equations number e there;
@@ -250,10 +250,10 @@ module _ (M : Module) (work : IsWorkable M) (t : RawTerm) (c : Choice) (h : IsTr
       record {
         part = w;
         taken = subst (λ o. IsPartTaken sig o t w) (sym taking) (taken_same sig c.take t w h.choice.taken);
-        redex = subst (λ q. IsRedex M (suc m) q.now.number (trail_moves M trails) vs (clean q.now.right) w) (sym equation) redex;
-        free = λ k. subst (λ q. IsTrue q.now.free → frames.IsFree sig (clean q.now.right)) (sym equation) (λ k. free_same sig (clean c.equation.now.right) (h.choice.is.free k)) k;
-        levels = subst (λ q. q.now.levels ≡ min (height (fill [] (clean q.now.right))) (2 ^ 16 - 1)) (sym equation) h.choice.is.levels;
-        sure = λ k none. absurd (none_first tests x some (sym (ap (λ q. q.now.condition.tests) equation) ∙ none));
+        redex = subst (λ q. IsRedex M (suc m) q.now.number (trail_moves M trails) vs (clean q.now.right) w) (sym by) redex;
+        free = λ k. subst (λ q. IsTrue q.now.free → frames.IsFree sig (clean q.now.right)) (sym by) (λ k. free_same sig (clean c.by.now.right) (h.choice.is.free k)) k;
+        levels = subst (λ q. q.now.levels ≡ min (height (fill [] (clean q.now.right))) (2 ^ 16 - 1)) (sym by) h.choice.is.levels;
+        sure = λ k none. absurd (none_first tests x some (sym (ap (λ q. q.now.condition.tests) by) ∙ none));
       }
     where
       none_first : (ts : List Test) (x : Test) → slice_get ts 0 ≡ Some x → ts ≡ [] → ⊥
@@ -319,13 +319,13 @@ pub big_taken : (sig : Signature) (t : RawTerm) (take : Option (List ℕ)) → (
 big_taken sig t take b = row_taken sig take t b.is_form.part b.is_form.taken
 
 -- what applies, as the machine takes it
-pub applied_so : (M : Module) (n : ℕ) (t : RawTerm) (c : Choice) (sides : List Track) → (made : IsMade M n t c sides) → (a : Applied) → IsAppliedAs c.equation.now a → IsApplied M n a (trail_moves M sides) c.values.items made.part
+pub applied_so : (M : Module) (n : ℕ) (t : RawTerm) (c : Choice) (sides : List Track) → (made : IsMade M n t c sides) → (a : Applied) → IsAppliedAs c.by.now a → IsApplied M n a (trail_moves M sides) c.values.items made.part
 applied_so M n t c sides made a is =
     let ms : List Move = trail_moves M sides in
     let vs : List RawTerm = c.values.items in
     let (redex, same) =
     subst (λ k. (r : IsRedex M n k ms vs (clean a.right.now) made.part) × (r.statement ≡ made.redex.statement)) (sym is.number)
-    (subst (λ p. (r : IsRedex M n c.equation.now.number ms vs (clean p) made.part) × (r.statement ≡ made.redex.statement)) (sym is.right) (made.redex, refl)) in
+    (subst (λ p. (r : IsRedex M n c.by.now.number ms vs (clean p) made.part) × (r.statement ≡ made.redex.statement)) (sym is.right) (made.redex, refl)) in
     record {
       redex = redex;
       free = λ k. subst (λ p. frames.IsFree M.signature (clean p)) (sym is.right) (made.free (sym is.free ∙ k));

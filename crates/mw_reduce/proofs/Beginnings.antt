@@ -117,7 +117,7 @@ module _ (M : Module) (work : IsWorkable M) (n : ℕ) (t : RawTerm) (a : IsAdmit
       let v = asked_part_value K sig run 0 d q h.asked c.take w h.made.taken in
       let (C, part) = part_here d q h.asked c.take w h.made.taken (nested sig w) v.raw (form_clean sig ok w v.canonical) (fixed sig ok w v.canonical) in
       let shown = r.shown (begun n t) [] (starts M work n t a, tt) refl refl in
-      by_equation C (nested sig w) part c.equation.now.number r.statement r.is_there r.ordinary.equation r.solution r.reached shown.evidence r.solves ((admitted_within M n).Held r.statement.fragments r.solution shown.evidence r.reached shown.holds)
+      by_equation C (nested sig w) part c.by.now.number r.statement r.is_there r.ordinary.by r.solution r.reached shown.evidence r.solves ((admitted_within M n).Held r.statement.fragments r.solution shown.evidence r.reached shown.holds)
 
   by_a_row : (C : Context) (x v : RawTerm) → IsPart sig (nested sig t) C x → Row sig (IsNormalBy M (admitted_judgements M n).Fails) x v → IsReducible M n (nested sig t)
   by_a_row C x v part row = confluence.by_row C x part (row_meets sig (IsNormalBy M (admitted_judgements M n).Fails) x v row)

@@ -50,7 +50,7 @@ module _ (M : Module) (n : ℕ) (t0 : RawTerm) (p : Proof) (u : RawTerm) (most s
         number = number;
         is_there = there;
         solution = sol;
-        may = inl (ordinary.equation, λ o. absurd (Rattle.std.proofs.Common.true≢false (sym o ∙ ordinary.ordinary)));
+        may = inl (ordinary.by, λ o. absurd (Rattle.std.proofs.Common.true≢false (sym o ∙ ordinary.ordinary)));
       })
       ((admitted_within M n).Held e.fragments s es r held)
   next_step v (by_schema C w x part row) = by_row C w x part (row_within (λ y h. normal_at M n y (normal M (admitted_judgements M n).Fails (Fails M n) (admitted_within M n).Fails y h)) row)
@@ -87,7 +87,7 @@ module _ (M : Module) (n : ℕ) (t0 : RawTerm) (p : Proof) (u : RawTerm) (most s
     number = h.number;
     is_there = h.is_there;
     solution = h.solves;
-    may = inl (h.ordinary.equation, λ o. absurd (true≢false (sym o ∙ h.ordinary.ordinary)));
+    may = inl (h.ordinary.by, λ o. absurd (true≢false (sym o ∙ h.ordinary.ordinary)));
   }
 
 pub stops_by_nest : (M : Module) (n most side : ℕ) (t0 : RawTerm) (p : Proof) (u : RawTerm) → Proves M n p t0 u → steps p < most → (w : RawTerm) → HasPart M.signature u w → IsHalting M n side w reason.Nest → Stops M n (limits_within most side) t0 p u by_nest

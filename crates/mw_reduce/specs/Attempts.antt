@@ -15,7 +15,7 @@ use Rattle.mw_proof.specs.declared.reason.Reason.{Reason}
 use Rattle.mw_proof.specs.declared.reason.Reason.TheVariants.{Rules, Rewrites, Depth, Nat, Nest, Condition}
 use Rattle.mw_index.specs.Choices.{IsChoice, tried_of}
 use Rattle.mw_index.specs.declared.index.Index.{Index}
-use Rattle.mw_index.specs.declared.equations.Equation.{Equation}
+use Rattle.mw_index.specs.declared.oriented.Oriented.{Oriented}
 use Rattle.mw_index.specs.declared.choices.Choice.{Choice}
 use Rattle.mw_index.specs.declared.choices.Choices.{Choices}
 use Rattle.mw_frames.specs.State.{Run, Data}
@@ -36,7 +36,7 @@ use Rattle.mw_reduce.specs.declared.drive.Pause.{Pause}
 use Rattle.mw_reduce.specs.declared.drive.Pause.TheVariants as pause
 
 -- the equation, as it is applied: what is sure isn't where there is a condition
-pub record IsAppliedAs (e : Equation) (a : Applied) : Type 0 where
+pub record IsAppliedAs (e : Oriented) (a : Applied) : Type 0 where
   pub number : a.number ≡ e.number
   pub right : a.right.now ≡ e.right
   pub free : a.free ≡ e.free
@@ -46,17 +46,17 @@ pub record IsAppliedAs (e : Equation) (a : Applied) : Type 0 where
 -- a choice at a term, for a part that is admitted
 pub record IsTriable (M : Module) (t : RawTerm) (c : Choice) : Type 0 where
   pub choice : IsChoice M t c
-  pub sized : length c.values.items ≡ length c.equation.now.sorts
+  pub sized : length c.values.items ≡ length c.by.now.sorts
   pub admitted : IsAdmittedTerm M.signature choice.part
 
 -- Its equation applies, by its values, to the term or what it takes of it: these trails show the condition.
 pub record IsMade (M : Module) (n : ℕ) (t : RawTerm) (c : Choice) (sides : List Track) : Type 0 where
   pub part : RawTerm
   pub taken : IsPartTaken M.signature c.take t part
-  pub redex : IsRedex M n c.equation.now.number (all_moves M sides) c.values.items (clean c.equation.now.right) part
-  pub free : IsTrue c.equation.now.free → IsFree M.signature (clean c.equation.now.right)
-  pub levels : c.equation.now.levels ≡ min (height (fill [] (clean c.equation.now.right))) (2 ^ 16 - 1)
-  pub sure : IsTrue c.equation.now.sure → c.equation.now.condition.tests ≡ [] → IsSure M n redex.statement c.values.items
+  pub redex : IsRedex M n c.by.now.number (all_moves M sides) c.values.items (clean c.by.now.right) part
+  pub free : IsTrue c.by.now.free → IsFree M.signature (clean c.by.now.right)
+  pub levels : c.by.now.levels ≡ min (height (fill [] (clean c.by.now.right))) (2 ^ 16 - 1)
+  pub sure : IsTrue c.by.now.sure → c.by.now.condition.tests ≡ [] → IsSure M n redex.statement c.values.items
 
 -- Why it isn't told whether a condition holds from s on: it would be one too many, or a side of it stops.
 abbrev pub IsCause : Module → ℕ → ℕ → List Fragment → Substitution → Reason → Type 0
@@ -89,7 +89,7 @@ pub record IsHaltingAt (M : Module) (n side : ℕ) (t : RawTerm) (take : Option 
 
 abbrev pub IsAttempt : Module → ℕ → ℕ → RawTerm → Choice → Choice → Attempt → Type 0
 IsAttempt M n side t old new (Made sides) = IsMade M n t new sides.items
-IsAttempt M n side t old new Fails = (e : Statement) → IsStatement M old.equation.now.number e → IsFailed M n (tried_of old) e
+IsAttempt M n side t old new Fails = (e : Statement) → IsStatement M old.by.now.number e → IsFailed M n (tried_of old) e
 IsAttempt M n side t old new (Halts why) = IsHaltingAt M n side t old.take why
 
 -- what was asked for is a choice that applies

@@ -15,7 +15,7 @@ use crate::pairs::join_pairs;
 use crate::turning::{Turn, take_turn};
 use mw_canon::Facts;
 use mw_frames::{Applied, Asked, Fired, Frame, Hand, Job, Machine, decide, fire, halt, meet};
-use mw_index::{Choice, Choices, Equation, Index};
+use mw_index::{Choice, Choices, Oriented, Index};
 use mw_least::Ctx;
 use mw_proof::Reason;
 use mw_term::{Seq, Term};
@@ -87,15 +87,15 @@ pub fn advance<'m>(
 
 /// The equation as the machine applies it.
 #[inline(always)]
-fn applied<'m>(equation: &'m Equation) -> Applied<'m>
-    ensures { IsAppliedAs equation.now result }
+fn applied<'m>(by: &'m Oriented) -> Applied<'m>
+    ensures { IsAppliedAs by.now result }
 {
     Applied {
-        number: equation.number,
-        right: &equation.right,
-        free: equation.free,
-        levels: equation.levels,
-        sure: equation.sure && equation.condition.tests.as_slice().is_empty(),
+        number: by.number,
+        right: &by.right,
+        free: by.free,
+        levels: by.levels,
+        sure: by.sure && by.condition.tests.as_slice().is_empty(),
     }
 }
 
@@ -114,11 +114,11 @@ fn apply<'m>(
         → IfOk result (IsFired K k (data_of K.over machine.new)) }
 {
     let Choice {
-        equation,
+        by,
         mut values,
         take,
     } = choice;
-    let by = applied(equation);
+    let by = applied(by);
     let mut sides = sides;
     let fired = fire(
         alloc,

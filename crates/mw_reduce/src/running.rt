@@ -10,7 +10,7 @@ ghost use Rattle.mw_index.specs.Choices.{IsChoice};
 ghost use Rattle.mw_index.specs.Conditions.{IsSideOf, IsTestOf, IsConditionOf, AreReady, bound_by};
 ghost use Rattle.mw_frames.specs.State.{Run, IsRun, Holds};
 ghost use Rattle.mw_frames.specs.Machines.{data_of};
-ghost use Rattle.mw_reduce.specs.Turns.{HasEquation};
+ghost use Rattle.mw_reduce.specs.Turns.{HasOriented};
 ghost use Rattle.mw_reduce.specs.Driven.{IsDriven};
 ghost use Rattle.mw_reduce.specs.Attempts.{IsTriable, IsAttempt, IsPause};
 ghost use Rattle.mw_reduce.specs.Evaluations.{AreBoundTo, bound_to, AreAsked, IsSomeTest, AreSomeTests, IsSideShown, IsTested, IsVerdict};
@@ -131,12 +131,12 @@ fn try_choice<'m>(
     nest: u8,
 ) -> Result<Attempt, AllocError>
     requires index { IsIndexOf context.now index.now }
-    requires equation { HasEquation context.now choice.old.equation.now }
+    requires by { HasOriented context.now choice.old.by.now }
     ensures same { choice.new ≡ record choice.old { values = choice.new.values } }
     ensures means { (t : RawTerm) → IsTriable context.now t choice.old → IfOk result (IsAttempt context.now nest side t choice.old choice.new) }
 {
     context.shows();
-    if choice.equation.condition.tests.as_slice().is_empty() {
+    if choice.by.condition.tests.as_slice().is_empty() {
         return Ok(Attempt::Made(Vec::new(alloc)));
     }
     if nest == 0 {
@@ -146,13 +146,13 @@ fn try_choice<'m>(
         alloc,
         context,
         index,
-        &choice.equation.condition,
+        &choice.by.condition,
         &mut choice.values,
         side,
         nest,
     )? {
         Verdict::Held(sides) => {
-            put_in_order(alloc, &choice.equation.condition, &mut choice.values)?;
+            put_in_order(alloc, &choice.by.condition, &mut choice.values)?;
             let trails = all_enclosed(alloc, sides)?;
             Ok(Attempt::Made(trails))
         }

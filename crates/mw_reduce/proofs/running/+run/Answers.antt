@@ -165,24 +165,24 @@ run_side-returns-in_ok-end-in-Runs m c = λ n xs t nest asked is bound.
 pub try_choice-returns-then-is_empty-clause-means : goal.try_choice-returns-then-is_empty-clause-means
 try_choice-returns-then-is_empty-clause-means m c = λ t may.
     let q : Choice = c.args.choice.now in
-    let none = none_there q.equation.now.condition.tests c.as_slice.result.now c.is_empty.result c.as_slice.ensures c.is_empty.ensures c.if-is_empty.true in
+    let none = none_there q.by.now.condition.tests c.as_slice.result.now c.is_empty.result c.as_slice.ensures c.is_empty.ensures c.if-is_empty.true in
     subst (IsMade c.args.context.now c.args.nest t q) (sym c.new.ensures.items) (made_at_once c.args.context.now c.shows.ensures t q may c.args.nest none)
 
 pub try_choice-returns-then-nest-eq0-clause-means : goal.try_choice-returns-then-nest-eq0-clause-means
 try_choice-returns-then-nest-eq0-clause-means m c = λ t may.
     let q : Choice = c.args.choice.now in
-    let (x, some) = one_there q.equation.now.condition.tests c.as_slice.result.now c.is_empty.result c.as_slice.ensures c.is_empty.ensures c.if-is_empty.false in
+    let (x, some) = one_there q.by.now.condition.tests c.as_slice.result.now c.is_empty.result c.as_slice.ensures c.is_empty.ensures c.if-is_empty.false in
     subst (λ n. IsHaltingAt c.args.context.now n c.args.side t q.take reason.Nest) (sym c.if-nest-eq0.true) (too_many c.args.context.now c.shows.ensures t q may c.args.side x some)
 
 pub try_choice-returns-in_ok-trails-in-Held-clause-means : goal.try_choice-returns-in_ok-trails-in-Held-clause-means
 try_choice-returns-in_ok-trails-in-Held-clause-means m c = λ t may.
     let M : Module = c.args.context.now in
     let q : Choice = c.args.choice.now in
-    let new : Choice = record { equation = q.equation; values = c.put_in_order.new.values; take = q.take } in
+    let new : Choice = record { by = q.by; values = c.put_in_order.new.values; take = q.take } in
     let n : ℕ = c.args.nest - 1 in
     let nest : c.args.nest ≡ suc n = let z = c.if-nest-eq0.false in omega (arith, z) in
-    let (x, some) = one_there q.equation.now.condition.tests c.as_slice.result.now c.is_empty.result c.as_slice.ensures c.is_empty.ensures c.if-is_empty.false in
-    let held = rw c.in-Held.is at (c.in_ok-sides.ensures n q.equation.now.number may.choice.statement nest may.choice.is_there may.choice.is.condition (left_bound M c.shows.ensures t q may)) in
+    let (x, some) = one_there q.by.now.condition.tests c.as_slice.result.now c.is_empty.result c.as_slice.ensures c.is_empty.ensures c.if-is_empty.false in
+    let held = rw c.in-Held.is at (c.in_ok-sides.ensures n q.by.now.number may.choice.statement nest may.choice.is_there may.choice.is.condition (left_bound M c.shows.ensures t q may)) in
     subst (λ k. IsMade M k t new c.in_ok-trails-in-Held.trails.items) (sym nest)
     (made_so M c.shows.ensures t q may n x some new refl c.evaluate.new.values.items c.in-Held.sides.items c.in_ok-trails-in-Held.trails.items held (c.in_ok-trails-in-Held.ensures M) c.in_ok-put_in_order-in-Held.ensures)
 
@@ -192,7 +192,7 @@ try_choice-returns-in-Failed-clause-means m c = λ t may e is.
     let q : Choice = c.args.choice.now in
     let n : ℕ = c.args.nest - 1 in
     let nest : c.args.nest ≡ suc n = let z = c.if-nest-eq0.false in omega (arith, z) in
-    let failed = rw c.in-Failed.is at (c.in_ok-sides.ensures n q.equation.now.number may.choice.statement nest may.choice.is_there may.choice.is.condition (left_bound M c.shows.ensures t q may)) in
+    let failed = rw c.in-Failed.is at (c.in_ok-sides.ensures n q.by.now.number may.choice.statement nest may.choice.is_there may.choice.is.condition (left_bound M c.shows.ensures t q may)) in
     subst (λ k. IsFailed M k (tried_of q) e) (sym nest) (failed_so M c.shows.ensures t q may n failed e is)
 
 pub try_choice-returns-in-Stopped-clause-means : goal.try_choice-returns-in-Stopped-clause-means
@@ -201,7 +201,7 @@ try_choice-returns-in-Stopped-clause-means m c = λ t may.
     let q : Choice = c.args.choice.now in
     let n : ℕ = c.args.nest - 1 in
     let nest : c.args.nest ≡ suc n = let z = c.if-nest-eq0.false in omega (arith, z) in
-    let stopped = rw c.in-Stopped.is at (c.in_ok-sides.ensures n q.equation.now.number may.choice.statement nest may.choice.is_there may.choice.is.condition (left_bound M c.shows.ensures t q may)) in
+    let stopped = rw c.in-Stopped.is at (c.in_ok-sides.ensures n q.by.now.number may.choice.statement nest may.choice.is_there may.choice.is.condition (left_bound M c.shows.ensures t q may)) in
     subst (λ k. IsHaltingAt M k c.args.side t q.take reason.Condition) (sym nest) (stopped_so M c.shows.ensures t q may n c.args.side c.in-Stopped.field-0 stopped)
 
 -- a side of the fragment stops
