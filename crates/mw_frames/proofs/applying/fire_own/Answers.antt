@@ -18,7 +18,7 @@ same_operator : {f g : ℕ} {ts us : RawTerms} → apply f ts ≡ apply g us →
 same_operator e = cc
 
 pub returns-then-branch : goal.returns-then-branch
-returns-then-branch c = λ K k w run h part is.
+returns-then-branch c = λ K k w run h part is free.
     let m = c.args.machine.now in
     let f = c.args.top in
     let vs = c.args.values.now.items in
@@ -32,13 +32,13 @@ returns-then-branch c = λ K k w run h part is.
     let (none, fits) = c.in_ok-fits_own.ensures K k ss t run (walked K k inside t a.holds) there (search rules) in
     let z = rw c.as_slice.ensures.value at fits in
     let e : w ≡ t = rw none at part in
-    let may : MayFire K k inside c.args.by.number ss vs p w =
-    rw e (let r : IsApplied K.over K.rank c.args.by ss vs t = subst (IsApplied K.over K.rank c.args.by ss vs) e is in record { redex = r.redex; known = a.holds.job; stands = record { in_hand = walked K k inside t a.holds; seen = a.seen; low = z.0; small = z.1 } }) in
+    let may : MayFire K c.args.by.rule k inside c.args.by.number ss vs p w =
+    rw e (let r : IsApplied K.over K.rank c.args.by ss vs t = subst (IsApplied K.over K.rank c.args.by ss vs) e is in record { redex = r.redex; rule = r.rule; known = a.holds.job; stands = record { in_hand = walked K k inside t a.holds; seen = a.seen; low = z.0; small = z.1 }; free = λ q. (free q).around a.holds.stand a.holds.leads }) in
     let y : c.truncate.new.self.items ≡ take f.from m.done.items = search rules in
     c.in_ok-hand.ensures K k w run (rw y may) is (λ g ts q. same_operator (sym e ∙ q)) (λ q. absurd (q f.op _ e))
 
 pub returns : goal.returns
-returns c = λ K k w run h part is.
+returns c = λ K k w run h part is free.
     let m = c.args.machine.now in
     let f = c.args.top in
     let d : Data = data_of K.over m in
@@ -49,3 +49,4 @@ returns c = λ K k w run h part is.
     let z : c.close.new.done.items ≡ take f.from m.done.items = search rules in
     let a = complete_asked K c.args.facts.now run k d f h in
     c.in_ok-fired.ensures K k w run (rw (p, z) a) (rw p part) is
+    (λ q. let o = free q in record { around = o.around; inside = λ ks g ts s u. o.inside ks g ts s (sym p ∙ u) })

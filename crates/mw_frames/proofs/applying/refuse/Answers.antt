@@ -4,11 +4,11 @@ use Rattle.mw_frames.specs.Fires.{Refuses}
 use Rattle.mw_frames.proofs.applying.refuse.Goals as goal
 
 pub returns-then-deep : goal.returns-then-deep
-returns-then-deep c = λ K k run h refuses.
+returns-then-deep c = λ K b k run h refuses.
     let (z, e) = c.in_ok-whole.ensures K k run (record { stand = h.stand; leads = h.leads; opened = h.opened; hand = h.hand }) in
-    (z, subst (λ b. Refuses K b (nested K.over.signature c.in_ok-whole.whole)) c.if-deep.true (refuses c.in_ok-whole.whole e))
+    (z, subst (λ d. Refuses K b d (nested K.over.signature c.in_ok-whole.whole)) c.if-deep.true (refuses c.in_ok-whole.whole e))
 
 pub returns : goal.returns
-returns c = λ K k run h refuses.
+returns c = λ K b k run h refuses.
     let (z, e) = c.in_ok-whole.ensures K k run (record { stand = h.stand; leads = h.leads; opened = h.opened; hand = h.hand }) in
-    (z, subst (λ b. Refuses K b (nested K.over.signature c.in_ok-whole.whole)) c.if-deep.false (refuses c.in_ok-whole.whole e))
+    (z, subst (λ d. Refuses K b d (nested K.over.signature c.in_ok-whole.whole)) c.if-deep.false (refuses c.in_ok-whole.whole e))
