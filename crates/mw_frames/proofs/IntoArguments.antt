@@ -19,6 +19,7 @@ use Rattle.mw_logic.proofs.Inside.{raw_inside}
 use Rattle.mw_logic.proofs.Frozen.{open_anywhere, open-iff}
 use Rattle.mw_logic.proofs.Holes.{Each-parts}
 use Rattle.mw_logic.proofs.SortedLists.{climbs, sorted_terms-climbing}
+use Rattle.mw_logic.proofs.Soundness.{all_nested-join}
 use Rattle.mw_arguments.specs.Places.{others}
 use Rattle.mw_deduction.specs.Standing.{Open, round}
 use Rattle.mw_deduction.specs.Replay.{Move, into, Stand, opened, going_in, into_argument, play, plays}
@@ -90,10 +91,7 @@ at_place i nil l = absurd (omega (arith, l))
 at_place zero (cons t ts) l = (t, refl)
 at_place (suc i) (cons t ts) l = let (w, e) = at_place i ts (omega (arith, l)) in (w, ap (cons t) e)
 
-all_nested-join : (sig : Signature) (xs ys : RawTerms) → all_nested sig (join xs ys) ≡ join (all_nested sig xs) (all_nested sig ys)
-all_nested-join sig nil ys = refl
-all_nested-join sig (cons x xs) ys = ap (cons (nested sig x)) (all_nested-join sig xs ys)
-
+-- what each of some arguments has
 behind_each : (P : RawTerm → Type 0) (b : RawTerms) (u : RawTerm) (a : RawTerms) → Each P (join b (cons u a)) → Each P b × P u × Each P a
 behind_each P b u a h = let z = Each-parts P b (cons u a) h in (z.0, z.1.0, z.1.1)
 

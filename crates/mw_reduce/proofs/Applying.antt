@@ -28,7 +28,7 @@ use Rattle.mw_position.specs.Variables.{is_in, met, placed, sorts_of, AreDistinc
 use Rattle.mw_position.proofs.Placing.{values_of}
 use Rattle.mw_pattern.specs.Clean.{clean}
 use Rattle.mw_least.specs.Conditions.{occurs_among, binds_among}
-use Rattle.mw_least.specs.Workable.{IsOrdinaryEquation, IsWorkable}
+use Rattle.mw_least.specs.Workable.{IsOrdinary, IsWorkable}
 use Rattle.mw_least.proofs.Mentioned.{is_mentioned}
 use Rattle.mw_index.specs.Choices.{IsTaken, in_order, tried_of}
 use Rattle.mw_index.specs.Conditions.{AreTests, all_bound}
@@ -122,7 +122,7 @@ nothing_shown M n C s e S B stands rank ready = record {
 }
 
 -- each variable stands in the left side then
-left_alone : (sig : Signature) (e : Statement) → IsOrdinaryEquation sig e → e.fragments ≡ [] → (x : Variable) → IsTrue (is_in x e.variables) → IsFalse (occurs x e.left) → ⊥
+left_alone : (sig : Signature) (e : Statement) → IsOrdinary sig e → e.fragments ≡ [] → (x : Variable) → IsTrue (is_in x e.variables) → IsFalse (occurs x e.left) → ⊥
 left_alone sig e is none x h k =
     both_ways _ k (⊎_elim (λ o. o) (λ o. subst (λ C. IsTrue (binds_among (λ y. occurs y e.left) C x)) none (is.bound x o)) (or_cases (occurs x e.left) (occurs x e.right) within))
   where
@@ -184,13 +184,14 @@ module _ (M : Module) (work : IsWorkable M) (t : RawTerm) (c : Choice) (h : IsTr
   -- without a condition it applies
   pub made_at_once : (n : ℕ) → tests ≡ [] → IsMade M n t c []
   made_at_once n bare =
-      let ordinary = work.equations number e there in
+      let ordinary = work.statements number e there in
       let none : e.fragments ≡ [] = no_fragments bare in
       let all : e.variables ≡ lefts = unconditional_variables M work number e there none in
       let same : s ≡ meant sig (zip e.variables us) = ap (λ xs. meant sig (zip xs us)) (sym all) in
       record {
         part = w;
         taken = taken_same sig c.take t w h.choice.taken;
+        rule = sym h.choice.is.rule;
         redex = record {
           statement = e;
           is_there = there;
@@ -233,7 +234,7 @@ module _ (M : Module) (work : IsWorkable M) (t : RawTerm) (c : Choice) (h : IsTr
       let redex : IsRedex M (suc m) number (trail_moves M trails) vs (clean c.by.now.right) w = record {
         statement = e;
         is_there = there;
-        ordinary = work.equations number e there;
+        ordinary = work.statements number e there;
         sides = work.sides number e there.is_there;
         size = bound.size;
         values = bound.values;
@@ -250,7 +251,8 @@ module _ (M : Module) (work : IsWorkable M) (t : RawTerm) (c : Choice) (h : IsTr
       record {
         part = w;
         taken = subst (λ o. IsPartTaken sig o t w) (sym taking) (taken_same sig c.take t w h.choice.taken);
-        redex = subst (λ q. IsRedex M (suc m) q.now.number (trail_moves M trails) vs (clean q.now.right) w) (sym by) redex;
+        redex = redex';
+        rule = ap (λ (st : Statement). st.rule) same ∙ sym h.choice.is.rule ∙ ap (λ q. q.now.rule) (sym by);
         free = λ k. subst (λ q. IsTrue q.now.free → frames.IsFree sig (clean q.now.right)) (sym by) (λ k. free_same sig (clean c.by.now.right) (h.choice.is.free k)) k;
         levels = subst (λ q. q.now.levels ≡ min (height (fill [] (clean q.now.right))) (2 ^ 16 - 1)) (sym by) h.choice.is.levels;
         sure = λ k none. absurd (none_first tests x some (sym (ap (λ q. q.now.condition.tests) by) ∙ none));
@@ -265,7 +267,7 @@ module _ (M : Module) (work : IsWorkable M) (t : RawTerm) (c : Choice) (h : IsTr
   failed_so m f d is = subst (IsFailed M (suc m) (tried_of c)) (one_statement M number e d there is) (record { substitution = h.choice.solution.substitution; fails = fails_above M m e.fragments s f })
 
   -- it isn't told
-  halting_at : (n side : ℕ) (why : Reason) → IsCause M n side e.fragments s why → IsHaltingAt M n side t c.take why
+  halting_at : (n side : ℕ) (why : Reason) → IsCause M n side e.fragments s why → IsHaltingAt M c.by.now.rule n side t c.take why
   halting_at n side why cause = record {
     part = w;
     taken = taken_same sig c.take t w h.choice.taken;
@@ -273,17 +275,17 @@ module _ (M : Module) (work : IsWorkable M) (t : RawTerm) (c : Choice) (h : IsTr
     raw = h.admitted.raw;
     clean = form_clean sig ok w canonical_part;
     is = h.admitted.canonical;
-    halting = record { number = number; statement = e; is_there = there; ordinary = work.equations number e there; solution = s; solves = h.choice.solution; cause = cause };
+    halting = record { number = number; statement = e; is_there = there; rule = sym h.choice.is.rule; ordinary = work.statements number e there; solution = s; solves = h.choice.solution; cause = cause };
   }
 
-  pub too_many : (side : ℕ) (x : Test) → slice_get tests 0 ≡ Some x → IsHaltingAt M 0 side t c.take reason.Nest
+  pub too_many : (side : ℕ) (x : Test) → slice_get tests 0 ≡ Some x → IsHaltingAt M c.by.now.rule 0 side t c.take reason.Nest
   too_many side x some = halting_at 0 side reason.Nest (refl, λ none. some_test tests x some (subst (λ C. AreTests sig lefts C tests) none h.choice.is.condition.tests))
     where
       some_test : (ts : List Test) (x : Test) → slice_get ts 0 ≡ Some x → AreTests sig lefts [] ts → ⊥
       some_test [] x some a = cc
       some_test (t ∷ ts) x some a = a
 
-  pub stopped_so : (m side : ℕ) (why : Reason) → IsStoppedInside M m side e.fragments s why → IsHaltingAt M (suc m) side t c.take reason.Condition
+  pub stopped_so : (m side : ℕ) (why : Reason) → IsStoppedInside M m side e.fragments s why → IsHaltingAt M c.by.now.rule (suc m) side t c.take reason.Condition
   stopped_so m side why stopped = halting_at (suc m) side reason.Condition (m, refl, why, stopped)
 
 row_taken : (sig : Signature) (o : Option (List ℕ)) (t w : RawTerm) → rows.IsTaken sig o t w → IsPartTaken sig o t w
@@ -328,6 +330,7 @@ applied_so M n t c sides made a is =
     (subst (λ p. (r : IsRedex M n c.by.now.number ms vs (clean p) made.part) × (r.statement ≡ made.redex.statement)) (sym is.right) (made.redex, refl)) in
     record {
       redex = redex;
+      rule = ap (λ (st : Statement). st.rule) same ∙ made.rule ∙ sym is.rule;
       free = λ k. subst (λ p. frames.IsFree M.signature (clean p)) (sym is.right) (made.free (sym is.free ∙ k));
       levels = is.levels ∙ made.levels ∙ ap (λ p. min (height (fill [] (clean p))) (2 ^ 16 - 1)) (sym is.right);
       sure = λ k. let (z, none) = is.sure k in subst (λ st. IsSure M n st vs) (sym same) (made.sure z none);

@@ -1,5 +1,5 @@
 -- What comes of a turn: of a step of the machine, and of equations where they are asked for.
-use Rattle.std.specs.Prelude.{◌≡◌, ℕ, List, [], ◌∷◌, ◌++◌, length, Option, ⊤}
+use Rattle.std.specs.Prelude.{◌≡◌, ℕ, List, [], ◌∷◌, ◌++◌, length, false, Option, ⊤}
 use Rattle.mw_logic.specs.Term.{RawTerm}
 use Rattle.mw_logic.specs.Signature.{Member}
 use Rattle.mw_logic.specs.Substitution.{IsSubstitution}
@@ -35,6 +35,7 @@ pub record IsFound (K : Run) (count : ℕ) (m : Index) (d : Data) (rest : Choice
   pub rows : HasNoRow K.over.signature (asked_term d a)
   pub choice : IsChoice K.over (asked_term d a) c
   pub sized : length c.values.items ≡ length c.by.now.sorts
+  pub equation : c.by.now.rule ≡ false
   pub tried : List Tried
   pub failed : AreFailed K.over K.rank tried
   pub others : Covers K.over m (asked_term d a) (tried ++ tried_of c ∷ []) rest
@@ -66,7 +67,7 @@ TurnFalls M w m (Met a take to) = ⊤
 TurnFalls M w m (Big a take) = ⊤
 TurnFalls M w m (Decides f b) = ⊤
 
--- an equation of the module, as the index has it
+-- a statement of the module, as the index has it
 abbrev pub HasOriented : Module → Oriented → Type 0
 HasOriented M st = (top : Option ℕ) × IsOf M top st
 
