@@ -248,6 +248,7 @@ module _ (M : Module) (work : IsWorkable M) (t : RawTerm) (c : Choice) (h : IsTr
         found = λ y i k. ⊎_elim (λ z. inl (normal_above M m _ z)) (λ z. inr z) (subst (AreFound M m e.left xs) (sym ordered) (reordered_found M ok bs ws held.bound xs alike m e.left held.found) y i k);
         right = h.choice.is.right;
       } in
+      let (redex', same) = subst (λ q. (r : IsRedex M (suc m) q.now.number (trail_moves M trails) vs (clean q.now.right) w) × (r.statement ≡ e)) (sym by) (redex, refl) in
       record {
         part = w;
         taken = subst (λ o. IsPartTaken sig o t w) (sym taking) (taken_same sig c.take t w h.choice.taken);

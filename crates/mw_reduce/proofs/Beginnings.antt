@@ -1,6 +1,6 @@
 -- What turns come to before a first replacement says of the term that the run begins at.
-use Rattle.std.specs.Prelude.{◌≡◌, ℕ, zero, suc, List, [], Bool, Option, refl}
-use Rattle.std.proofs.Common.{sym, subst, ap, ◌∙◌, arith}
+use Rattle.std.specs.Prelude.{◌≡◌, ℕ, zero, suc, List, [], Bool, false, Option, refl}
+use Rattle.std.proofs.Common.{sym, subst, ap, ◌∙◌, arith, true≢false}
 use Rattle.mw_logic.specs.Term.{RawTerm, Context}
 use Rattle.mw_logic.specs.Signature.{Signature, IsRawTerm}
 use Rattle.mw_logic.specs.Axioms.{EqualModulo}
@@ -48,7 +48,7 @@ use Rattle.mw_reduce.specs.Turns.{IsMetAt, IsBigAt}
 use Rattle.mw_reduce.specs.Attempts.{IsReady, IsHaltedAt, IsHalting}
 use Rattle.mw_reduce.specs.Evaluations.{run_of}
 use Rattle.mw_reduce.proofs.Applying.{row_applies, big_taken}
-use Rattle.mw_reduce.proofs.Ends.{normal_at, stops_by_pair, stops_by_nest, stops_by_side}
+use Rattle.mw_reduce.proofs.Ends.{normal_at, by_equations, stops_by_pair, stops_by_nest, stops_by_side}
 use Rattle.mw_reduce.proofs.Reduced.{is_run, starts}
 
 -- a row that leads somewhere is met
