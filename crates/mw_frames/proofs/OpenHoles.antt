@@ -35,7 +35,7 @@ module _ (sig : Signature) (ok : IsAccepted sig) (f : ℕ) (assoc : is_assoc sig
   open_inside b a os around = rw assoc (open_append sig true (context_of true f (all_nested sig b) (all_nested sig a)) (round sig os) (holes_open (all_nested sig b) (all_nested sig a)) (λ t x. around x) refl)
 
 -- So several arguments of a term may be changed by a rule where the term is open to one that takes them.
-pub open_part : (K : Run) (sig : Signature) → IsRun K sig → (count : ℕ) (m n : Data) (t w : RawTerm) (ks : List ℕ) (f : Frame) (h : InHand K count m (Try t)) → (part : IsPartAsked K count n f w h.stand.opens)
+pub open_part : (K : Run) (sig : Signature) → IsRun K sig → (count : ℕ) (m n : Data) (t w : RawTerm) (ks : List ℕ) (f : Frame) (h : InHand K count m (Try t)) → (part : IsPartAsked K count n f w h.stand)
     → IsOpenTo K count m t (Some ks) → IsSeveral K.over.signature ks t w → HasOnTop f.op t → ¬ IsFrozen K.over.signature (round K.over.signature part.asked.holds.stand.opens)
 open_part K sig run count m n t w ks f h part open several on =
     let here : Signature = K.over.signature in

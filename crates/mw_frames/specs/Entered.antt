@@ -7,12 +7,13 @@ use Rattle.mw_logic.specs.CanonicalPart.{IsOpen}
 use Rattle.mw_frames.specs.declared.job.Job.TheVariants.{Normal}
 use Rattle.mw_frames.specs.State.{Run, Data, InHand}
 use Rattle.mw_frames.specs.Redex.{IsSeenIn}
-use Rattle.mw_frames.specs.Fires.{IsOpenRound}
+use Rattle.mw_frames.specs.Fires.{HasWhole, IsOpenRound}
 
--- Argument i of the normal term t is in hand, and seen, where t was. Where rules may change that argument, and what is in t's place, they may change what is in
--- its place.
+-- Argument i of the normal term t is in hand, and seen, where t was: the whole is the same. Where rules may change that argument, and what is in t's place, they
+-- may change what is in its place.
 pub record IsEntered (K : Run) (count : ℕ) (old new : Data) (t : RawTerm) (i : ℕ) (u : RawTerm) : Type 0 where
   pub is : at_number (list_of (args_of t)) i ≡ Some u
   pub holds : InHand K count new (Normal u)
   pub seen : IsSeenIn K.over.signature new.frames u
+  pub same : (v : RawTerm) → HasWhole K count old v → HasWhole K count new v
   pub open : (f : ℕ) (ts : RawTerms) → t ≡ apply f ts → IsOpen K.over.signature true f i → IsOpenRound K count old → IsOpenRound K count new

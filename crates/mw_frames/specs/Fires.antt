@@ -1,5 +1,5 @@
 -- What comes where a statement is applied, and where a run stops.
-use Rattle.std.specs.Prelude.{◌≡◌, ◌-◌, ◌^◌, min, ℕ, suc, List, [], Bool, true, false, Option, Some, None, IsTrue, IsFalse}
+use Rattle.std.specs.Prelude.{◌≡◌, ◌-◌, ◌^◌, min, ℕ, suc, List, [], Bool, true, false, Option, Some, None, IsTrue, IsFalse, ⊤}
 use Rattle.mw_logic.specs.Term.{Variable, RawTerm, RawTerms, apply, Context, plug}
 use Rattle.mw_logic.specs.Signature.{Signature}
 use Rattle.mw_logic.specs.Substitution.{Substitution, instance, occurs, IsSolution}
@@ -14,7 +14,7 @@ use Rattle.mw_position.specs.Positions.{fill}
 use Rattle.mw_position.specs.Variables.{is_in, placed}
 use Rattle.mw_pattern.specs.Clean.{clean}
 use Rattle.mw_deduction.specs.Standing.{round}
-use Rattle.mw_deduction.specs.Replay.{Move, Stand}
+use Rattle.mw_deduction.specs.Replay.{Move, Stand, whole}
 use Rattle.mw_frames.specs.declared.applying.Fired.{Fired}
 use Rattle.mw_frames.specs.declared.applying.Fired.TheVariants.{Goes, TooDeep, TooLarge}
 use Rattle.mw_frames.specs.declared.applying.Applied.{Applied}
@@ -55,6 +55,10 @@ pub record IsWhole (K : Run) (count : ℕ) (d : Data) (t : RawTerm) : Type 0 whe
 -- no argument on the way to what is in hand is frozen
 abbrev pub IsOpenRound : Run → ℕ → Data → Type 0
 IsOpenRound K count d = (S : Stand) → Leads K count d.moves S → ¬ IsFrozen K.over.signature (round K.over.signature S.opens)
+
+-- what is in hand is the whole t with what stands round it
+abbrev pub HasWhole : Run → ℕ → Data → RawTerm → Type 0
+HasWhole K count d t = (S : Stand) → Leads K count d.moves S → whole K.over.signature S.opens S.hand ≡ t
 
 -- A rule may be applied to the term t in hand, or to several of its arguments.
 pub record IsOpenTo (K : Run) (count : ℕ) (d : Data) (t : RawTerm) (take : Option (List ℕ)) : Type 0 where
@@ -103,3 +107,9 @@ abbrev pub IsFired : Run → Bool → ℕ → Data → Fired → Type 0
 IsFired K b count d (Goes h) = Holds (after_one b K) (suc count) d h
 IsFired K b count d (TooDeep t) = IsWhole K count d t × WouldBeTooDeep K.over K.rank b (nested K.over.signature t)
 IsFired K b count d (TooLarge t) = IsWhole K count d t × WouldBeTooLarge K.over K.rank b (nested K.over.signature t)
+
+-- where nothing is applied, the whole that is answered is t
+abbrev pub IsRefusedAs : RawTerm → Fired → Type 0
+IsRefusedAs t (Goes h) = ⊤
+IsRefusedAs t (TooDeep u) = u ≡ t
+IsRefusedAs t (TooLarge u) = u ≡ t

@@ -6,8 +6,7 @@ ghost use Rattle.mw_logic.specs.Module.{Module};
 ghost use Rattle.mw_matching.specs.Matches.{evaluated};
 ghost use Rattle.mw_pattern.specs.Clean.{clean};
 ghost use Rattle.mw_frames.specs.Several.{IsSeveral};
-ghost use Rattle.mw_deduction.specs.Standing.{Open};
-ghost use Rattle.mw_deduction.specs.Replay.{Move, whole as in_whole};
+ghost use Rattle.mw_deduction.specs.Replay.{Move, Stand, whole as in_whole};
 ghost use Rattle.mw_trail.specs.Tracks.{moves};
 ghost use Rattle.mw_frames.specs.State.{Run, after_one, IsRun, InHand, Settled, Holds};
 ghost use Rattle.mw_frames.specs.Machines.{data_of, all_moves};
@@ -15,7 +14,7 @@ ghost use Rattle.mw_frames.specs.Redex.{MayFire, HasOnTop};
 ghost use Rattle.mw_frames.specs.Larger.{IsFit, IsAround};
 ghost use Rattle.mw_frames.specs.Taking.{IsPartAsked};
 ghost use Rattle.mw_frames.specs.Steps.{IsAsked, IsComplete, IsAskedFor, asked_term};
-ghost use Rattle.mw_frames.specs.Fires.{IsPartTaken, IsApplied, IsOpenTo, Refuses, IsFired};
+ghost use Rattle.mw_frames.specs.Fires.{IsPartTaken, IsApplied, HasWhole, IsOpenTo, Refuses, IsFired, IsRefusedAs};
 ghost use Rattle.mw_frames.specs.declared.job.Job.TheVariants.{Walk as WalkOf};
 ghost use Rattle.mw_frames.specs.declared.looking.Asked.TheVariants.{Own as OwnOf};
 ghost use Rattle.mw_frames.specs.declared.limits.Fit.TheVariants.{Fits as FitsOf};
@@ -119,9 +118,11 @@ pub(crate) fn refuse<'m>(
     term: Term,
     deep: bool,
 ) -> Result<Fired<'m>, AllocError>
-    ensures { (K : Run) (b : Bool) (k : ℕ) → IsRun K facts.now → (h : InHand K k (data_of K.over machine.old) (WalkOf term))
+    ensures means { (K : Run) (b : Bool) (k : ℕ) → IsRun K facts.now → (h : InHand K k (data_of K.over machine.old) (WalkOf term))
         → ((t : RawTerm) → t ≡ in_whole K.over.signature h.stand.opens h.stand.hand → Refuses K b deep (nested K.over.signature t))
         → IfOk result (IsFired K b k (data_of K.over machine.new)) }
+    ensures same { (K : Run) (k : ℕ) → IsRun K facts.now → (h : InHand K k (data_of K.over machine.old) (WalkOf term))
+        → IfOk result (IsRefusedAs (in_whole K.over.signature h.stand.opens h.stand.hand)) }
 {
     let whole = whole(alloc, facts, machine, term)?;
     if deep {
@@ -171,10 +172,12 @@ fn fire_whole<'m>(
     sides: &mut Vec<Trail>,
     values: &mut Vec<Term>,
 ) -> Result<Fired<'m>, AllocError>
-    ensures { (K : Run) (k : ℕ) → IsRun K facts.now → IsAsked K k (data_of K.over machine.old) term
+    ensures means { (K : Run) (k : ℕ) → IsRun K facts.now → IsAsked K k (data_of K.over machine.old) term
         → IsApplied K.over K.rank by.entry (all_moves K.over sides.old.items) values.old.items term
         → (IsTrue by.entry.rule → IsOpenTo K k (data_of K.over machine.old) term None)
         → IfOk result (IsFired K by.entry.rule k (data_of K.over machine.new)) }
+    ensures same { (K : Run) (k : ℕ) (t : RawTerm) → IsRun K facts.now → IsAsked K k (data_of K.over machine.old) term
+        → HasWhole K k (data_of K.over machine.old) t → IfOk result (IsRefusedAs t) }
 {
     match fit_here(alloc, facts, machine, by, values.as_slice())? {
         Fit::Fits => {
@@ -203,8 +206,8 @@ fn go_several<'m>(
     sides: &mut Vec<Trail>,
     values: &mut Vec<Term>,
 ) -> Result<(), AllocError>
-    ensures { (K : Run) (k : ℕ) (w : RawTerm) (os : List Open) → IsRun K facts.now
-        → IsPartAsked K k (data_of K.over machine.old) frame w os
+    ensures { (K : Run) (k : ℕ) (w : RawTerm) (S : Stand) → IsRun K facts.now
+        → IsPartAsked K k (data_of K.over machine.old) frame w S
         → MayFire K by.entry.rule k (data_of K.over machine.old) by.entry.number (all_moves K.over sides.old.items) values.old.items (clean by.entry.right.now) w
         → IsApplied K.over K.rank by.entry (all_moves K.over sides.old.items) values.old.items w
         → OnOk result (Settled (after_one by.entry.rule K) (suc k) (data_of K.over machine.new) frame) }
@@ -224,10 +227,13 @@ pub(crate) fn refuse_part<'m>(
     numbers: &[u32],
     deep: bool,
 ) -> Result<Fired<'m>, AllocError>
-    ensures { (K : Run) (b : Bool) (k : ℕ) (w : RawTerm) → IsRun K facts.now → IsSeveral facts.now numbers.now term.now w
+    ensures means { (K : Run) (b : Bool) (k : ℕ) (w : RawTerm) → IsRun K facts.now → IsSeveral facts.now numbers.now term.now w
         → (h : InHand K k (data_of K.over machine.old) (WalkOf w))
         → ((t : RawTerm) → t ≡ in_whole K.over.signature h.stand.opens h.stand.hand → Refuses K b deep (nested K.over.signature t))
         → IfOk result (IsFired K b k (data_of K.over machine.new)) }
+    ensures same { (K : Run) (k : ℕ) (w : RawTerm) → IsRun K facts.now → IsSeveral facts.now numbers.now term.now w
+        → (h : InHand K k (data_of K.over machine.old) (WalkOf w))
+        → IfOk result (IsRefusedAs (in_whole K.over.signature h.stand.opens h.stand.hand)) }
 {
     let part = part_of(alloc, top_of(term), term, numbers)?;
     let fired = refuse(alloc, facts, machine, part, deep)?;
@@ -245,10 +251,12 @@ fn fire_several<'m>(
     sides: &mut Vec<Trail>,
     values: &mut Vec<Term>,
 ) -> Result<Fired<'m>, AllocError>
-    ensures { (K : Run) (k : ℕ) (w : RawTerm) → IsRun K facts.now → IsAsked K k (data_of K.over machine.old) term
+    ensures means { (K : Run) (k : ℕ) (w : RawTerm) → IsRun K facts.now → IsAsked K k (data_of K.over machine.old) term
         → IsSeveral facts.now numbers.now term w → IsApplied K.over K.rank by.entry (all_moves K.over sides.old.items) values.old.items w
         → (IsTrue by.entry.rule → IsOpenTo K k (data_of K.over machine.old) term (Some numbers.now))
         → IfOk result (IsFired K by.entry.rule k (data_of K.over machine.new)) }
+    ensures same { (K : Run) (k : ℕ) (w t : RawTerm) → IsRun K facts.now → IsAsked K k (data_of K.over machine.old) term
+        → IsSeveral facts.now numbers.now term w → HasWhole K k (data_of K.over machine.old) t → IfOk result (IsRefusedAs t) }
 {
     let frame = new_frame(facts, machine, top_of(&term))?;
     take_out(alloc, facts, machine, frame, &term, numbers)?;
@@ -280,10 +288,12 @@ fn fire_term<'m>(
     values: &mut Vec<Term>,
     take: &Option<Seq<u32>>,
 ) -> Result<Fired<'m>, AllocError>
-    ensures { (K : Run) (k : ℕ) (w : RawTerm) → IsRun K facts.now → IsAsked K k (data_of K.over machine.old) term
+    ensures means { (K : Run) (k : ℕ) (w : RawTerm) → IsRun K facts.now → IsAsked K k (data_of K.over machine.old) term
         → IsPartTaken facts.now take.now term w → IsApplied K.over K.rank by.entry (all_moves K.over sides.old.items) values.old.items w
         → (IsTrue by.entry.rule → IsOpenTo K k (data_of K.over machine.old) term take.now)
         → IfOk result (IsFired K by.entry.rule k (data_of K.over machine.new)) }
+    ensures same { (K : Run) (k : ℕ) (w t : RawTerm) → IsRun K facts.now → IsAsked K k (data_of K.over machine.old) term
+        → IsPartTaken facts.now take.now term w → HasWhole K k (data_of K.over machine.old) t → IfOk result (IsRefusedAs t) }
 {
     match take {
         None => {
@@ -354,10 +364,13 @@ fn fire_own<'m>(
     values: &mut Vec<Term>,
     take: &Option<Seq<u32>>,
 ) -> Result<Fired<'m>, AllocError>
-    ensures { (K : Run) (k : ℕ) (w : RawTerm) → IsRun K facts.now → IsComplete K k (data_of K.over machine.old) top
+    ensures means { (K : Run) (k : ℕ) (w : RawTerm) → IsRun K facts.now → IsComplete K k (data_of K.over machine.old) top
         → IsPartTaken facts.now take.now (asked_term (data_of K.over machine.old) (OwnOf top)) w → IsApplied K.over K.rank by.entry (all_moves K.over sides.old.items) values.old.items w
         → (IsTrue by.entry.rule → IsOpenTo K k (data_of K.over machine.old) (asked_term (data_of K.over machine.old) (OwnOf top)) take.now)
         → IfOk result (IsFired K by.entry.rule k (data_of K.over machine.new)) }
+    ensures same { (K : Run) (k : ℕ) (w t : RawTerm) → IsRun K facts.now → IsComplete K k (data_of K.over machine.old) top
+        → IsPartTaken facts.now take.now (asked_term (data_of K.over machine.old) (OwnOf top)) w
+        → HasWhole K k (data_of K.over machine.old) t → IfOk result (IsRefusedAs t) }
 {
     if fits_own(alloc, facts, machine, top, by, values.as_slice(), take)? {
         machine.done.truncate(top.from);
@@ -382,10 +395,13 @@ pub fn fire<'m>(
     values: &mut Vec<Term>,
     take: &Option<Seq<u32>>,
 ) -> Result<Fired<'m>, AllocError>
-    ensures { (K : Run) (k : ℕ) (w : RawTerm) → IsRun K facts.now → IsAskedFor K k (data_of K.over machine.old) asked
+    ensures means { (K : Run) (k : ℕ) (w : RawTerm) → IsRun K facts.now → IsAskedFor K k (data_of K.over machine.old) asked
         → IsPartTaken facts.now take.now (asked_term (data_of K.over machine.old) asked) w → IsApplied K.over K.rank by.entry (all_moves K.over sides.old.items) values.old.items w
         → (IsTrue by.entry.rule → IsOpenTo K k (data_of K.over machine.old) (asked_term (data_of K.over machine.old) asked) take.now)
         → IfOk result (IsFired K by.entry.rule k (data_of K.over machine.new)) }
+    ensures same { (K : Run) (k : ℕ) (w t : RawTerm) → IsRun K facts.now → IsAskedFor K k (data_of K.over machine.old) asked
+        → IsPartTaken facts.now take.now (asked_term (data_of K.over machine.old) asked) w
+        → HasWhole K k (data_of K.over machine.old) t → IfOk result (IsRefusedAs t) }
 {
     match asked {
         Asked::Term(term) => {

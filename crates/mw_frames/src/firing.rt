@@ -182,7 +182,7 @@ pub(crate) fn take_out(
         → IsNewFrame facts.now (reverse machine.old.frames.items)
         machine.old.done.items machine.old.jobs.items frame.op frame
         → HasOnTop frame.op subject.now → IsSeveral facts.now numbers.now subject.now w
-        → OnOk result (IsPartAsked K k (data_of K.over machine.new) frame w h.stand.opens) }
+        → OnOk result (IsPartAsked K k (data_of K.over machine.new) frame w h.stand) }
 {
     machine.kept.among(numbers)?;
     leave_out(

@@ -10,7 +10,7 @@ ghost use Rattle.mw_stack.specs.Own.{spread};
 ghost use Rattle.mw_trail.specs.Tracks.{moves};
 ghost use Rattle.mw_frames.specs.Several.{IsSeveral};
 ghost use Rattle.mw_frames.specs.Jobs.{term_of};
-ghost use Rattle.mw_deduction.specs.Standing.{Open};
+ghost use Rattle.mw_deduction.specs.Replay.{Stand};
 ghost use Rattle.mw_frames.specs.State.{Run, IsRun, InHand, Settled, HasNormalArguments, IsJob, IsAtHand};
 ghost use Rattle.mw_frames.specs.Machines.{data_of};
 ghost use Rattle.mw_frames.specs.Arrivals.{Comes, KeepsFrames};
@@ -136,8 +136,8 @@ fn meet_part<'m>(
     frame: Frame,
     to: Term,
 ) -> Result<(), AllocError>
-    ensures { (K : Run) (k : ℕ) (w : RawTerm) (os : List Open) → IsRun K facts.now
-        → IsPartAsked K k (data_of K.over machine.old) frame w os
+    ensures { (K : Run) (k : ℕ) (w : RawTerm) (S : Stand) → IsRun K facts.now
+        → IsPartAsked K k (data_of K.over machine.old) frame w S
         → MayMeetRow K k (data_of K.over machine.old) w to
         → OnOk result (Settled K (suc k) (data_of K.over machine.new) frame) }
 {

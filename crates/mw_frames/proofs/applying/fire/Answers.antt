@@ -4,16 +4,16 @@ use Rattle.mw_frames.specs.Steps.{IsAskedFor, asked_term}
 use Rattle.mw_frames.specs.Fires.{IsPartTaken, IsOpenTo}
 use Rattle.mw_frames.proofs.applying.fire.Goals as goal
 
-pub returns-in_ok-fired-in-Term : goal.returns-in_ok-fired-in-Term
-returns-in_ok-fired-in-Term c = λ K k w run a part is free.
+pub returns-in_ok-fired-in-Term-clause-means : goal.returns-in_ok-fired-in-Term-clause-means
+returns-in_ok-fired-in-Term-clause-means c = λ K k w run a part is free.
     let d = data_of K.over c.args.machine.now in
-    c.in_ok-fired-in-Term.ensures K k w run (subst (IsAskedFor K k d) c.in-Term.is a)
+    c.in_ok-fired-in-Term.ensures.means K k w run (subst (IsAskedFor K k d) c.in-Term.is a)
     (subst (λ x. IsPartTaken c.args.facts.now c.args.take.now (asked_term d x) w) c.in-Term.is part) is
     (λ z. subst (λ x. IsOpenTo K k d (asked_term d x) c.args.take.now) c.in-Term.is (free z))
 
-pub returns-in_ok-fired-in-Own : goal.returns-in_ok-fired-in-Own
-returns-in_ok-fired-in-Own c = λ K k w run a part is free.
+pub returns-in_ok-fired-in-Own-clause-means : goal.returns-in_ok-fired-in-Own-clause-means
+returns-in_ok-fired-in-Own-clause-means c = λ K k w run a part is free.
     let d = data_of K.over c.args.machine.now in
-    c.in_ok-fired-in-Own.ensures K k w run (subst (IsAskedFor K k d) c.in-Own.is a)
+    c.in_ok-fired-in-Own.ensures.means K k w run (subst (IsAskedFor K k d) c.in-Own.is a)
     (subst (λ x. IsPartTaken c.args.facts.now c.args.take.now (asked_term d x) w) c.in-Own.is part) is
     (λ z. subst (λ x. IsOpenTo K k d (asked_term d x) c.args.take.now) c.in-Own.is (free z))

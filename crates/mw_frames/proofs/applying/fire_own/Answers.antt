@@ -17,8 +17,8 @@ use Rattle.mw_frames.proofs.applying.fire_own.Goals as goal
 same_operator : {f g : ℕ} {ts us : RawTerms} → apply f ts ≡ apply g us → g ≡ f
 same_operator e = cc
 
-pub returns-then-branch : goal.returns-then-branch
-returns-then-branch c = λ K k w run h part is free.
+pub returns-then-branch-clause-means : goal.returns-then-branch-clause-means
+returns-then-branch-clause-means c = λ K k w run h part is free.
     let m = c.args.machine.now in
     let f = c.args.top in
     let vs = c.args.values.now.items in
@@ -37,8 +37,8 @@ returns-then-branch c = λ K k w run h part is free.
     let y : c.truncate.new.self.items ≡ take f.from m.done.items = search rules in
     c.in_ok-hand.ensures K k w run (rw y may) is (λ g ts q. same_operator (sym e ∙ q)) (λ q. absurd (q f.op _ e))
 
-pub returns : goal.returns
-returns c = λ K k w run h part is free.
+pub returns-clause-means : goal.returns-clause-means
+returns-clause-means c = λ K k w run h part is free.
     let m = c.args.machine.now in
     let f = c.args.top in
     let d : Data = data_of K.over m in
@@ -48,5 +48,5 @@ returns c = λ K k w run h part is free.
     let p : c.in_ok-term.term ≡ apply f.op (terms_of (drop f.from m.done.items)) = rw (plain_applied K.over.signature f.op (own f.from m.done.items) h.plain) at e in
     let z : c.close.new.done.items ≡ take f.from m.done.items = search rules in
     let a = complete_asked K c.args.facts.now run k d f h in
-    c.in_ok-fired.ensures K k w run (rw (p, z) a) (rw p part) is
+    c.in_ok-fired.ensures.means K k w run (rw (p, z) a) (rw p part) is
     (λ q. let o = free q in record { around = o.around; inside = λ ks g ts s u. o.inside ks g ts s (sym p ∙ u) })

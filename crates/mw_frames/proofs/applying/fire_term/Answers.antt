@@ -3,7 +3,7 @@ use Rattle.mw_frames.specs.Machines.{data_of}
 use Rattle.mw_frames.specs.Fires.{IsOpenTo}
 use Rattle.mw_frames.proofs.applying.fire_term.Goals as goal
 
-pub returns-in_ok-fired-in-Some : goal.returns-in_ok-fired-in-Some
-returns-in_ok-fired-in-Some c = λ K k w run a part is free.
+pub returns-in_ok-fired-in-Some-clause-means : goal.returns-in_ok-fired-in-Some-clause-means
+returns-in_ok-fired-in-Some-clause-means c = λ K k w run a part is free.
     let t = rw c.in-Some.is at part in
-    c.in_ok-fired-in-Some.ensures K k w run a (rw c.as_slice.ensures t) is (λ z. subst (λ n. IsOpenTo K k (data_of K.over c.args.machine.now) c.args.term n) (c.in-Some.is ∙ ap Some (sym c.as_slice.ensures)) (free z))
+    c.in_ok-fired-in-Some.ensures.means K k w run a (rw c.as_slice.ensures t) is (λ z. subst (λ n. IsOpenTo K k (data_of K.over c.args.machine.now) c.args.term n) (c.in-Some.is ∙ ap Some (sym c.as_slice.ensures)) (free z))

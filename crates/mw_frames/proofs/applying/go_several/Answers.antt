@@ -15,7 +15,7 @@ use Rattle.mw_frames.proofs.Applications.{instance_behind, several_settled, part
 use Rattle.mw_frames.proofs.applying.go_several.Goals as goal
 
 pub returns : goal.returns
-returns c = λ K k w os run part may is.
+returns c = λ K k w S run part may is.
     let L : Run = after_one c.args.by.rule K in
     let after_it : IsRun L c.args.facts.now = run_after c.args.by.rule K c.args.facts.now run in
     let m = c.args.machine.now in
@@ -32,7 +32,7 @@ returns c = λ K k w os run part may is.
     let inner = ap reverse c.in_ok-base.ensures.frames ∙ part.inner in
     let r : Receives L (suc k) (data_of K.over old) f v = c.in_ok-leave_hole.ensures.means L (suc k) c.args.facts.now f part.outer v after_it inner part.assoc h in
     let kept : old.kept.values ≡ us ++ vs = c.in_ok-leave_hole.ensures.values ∙ new in
-    let known : IsKnownIn K.over K.rank (us ++ vs) (length us) f.op p = part_known K c.args.facts.now run k (data_of K.over m) f w os part us c.args.by (all_moves K.over c.args.sides.now.items) vs is in
+    let known : IsKnownIn K.over K.rank (us ++ vs) (length us) f.op p = part_known K c.args.facts.now run k (data_of K.over m) f w S part us c.args.by (all_moves K.over c.args.sides.now.items) vs is in
     let i : instance_of sig old.kept.values p c.in_ok-base.base ≡ v = instance_behind sig us vs old.kept.values p c.in_ok-base.base kept base in
     let comes : Comes sig old.kept.values f (spread sig f.op v) (λ M n. IsKnownIn M n old.kept.values c.in_ok-base.base f.op p) old.done.items after.done.items old.jobs.items after.jobs.items =
     subst (λ t. Comes sig old.kept.values f (spread sig f.op t) (λ M n. IsKnownIn M n old.kept.values c.in_ok-base.base f.op p) old.done.items after.done.items old.jobs.items after.jobs.items) i

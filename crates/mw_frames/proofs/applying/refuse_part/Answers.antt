@@ -11,8 +11,8 @@ use Rattle.mw_frames.specs.State.{InHand}
 use Rattle.mw_frames.specs.Fires.{Refuses, IsFired}
 use Rattle.mw_frames.proofs.applying.refuse_part.Goals as goal
 
-pub returns : goal.returns
-returns c = λ K b k w run part h refuses.
+pub returns-clause-means : goal.returns-clause-means
+returns-clause-means c = λ K b k w run part h refuses.
     let part' : IsSeveral c.args.facts.now c.args.numbers.now c.args.term.now w = part in
     let t = part'.takes in
     let top = c.top_of.ensures.top t.operator t.args t.term in
@@ -22,4 +22,4 @@ returns c = λ K b k w run part h refuses.
     let P : RawTerm → Type 0 = λ u.
     (h : InHand K k (data_of K.over c.args.machine.now) (Walk u)) → ((t : RawTerm) → t ≡ whole K.over.signature h.stand.opens h.stand.hand → Refuses K b c.args.deep (nested K.over.signature t))
     → IsFired K b k (data_of K.over c.refuse.new.machine) c.in_ok-fired.fired in
-    subst P e (c.in_ok-fired.ensures K b k run) h refuses
+    subst P e (c.in_ok-fired.ensures.means K b k run) h refuses
