@@ -50,3 +50,16 @@ returns-clause-means c = λ K k w run h part is free.
     let a = complete_asked K c.args.facts.now run k d f h in
     c.in_ok-fired.ensures.means K k w run (rw (p, z) a) (rw p part) is
     (λ q. let o = free q in record { around = o.around; inside = λ ks g ts s u. o.inside ks g ts s (sym p ∙ u) })
+
+pub returns-clause-same : goal.returns-clause-same
+returns-clause-same c = λ K k w t run h part all.
+    let m = c.args.machine.now in
+    let f = c.args.top in
+    let d : Data = data_of K.over m in
+    let o = own_fair K run.accepted run.sorted k m.kept.values (moves K.over m.kept) f _ m.done.items m.jobs.items h.settled h.all in
+    let e : c.in_ok-term.term ≡ applied_in K.over.signature f.op (own f.from m.done.items) =
+    rw run.signature (c.in_ok-term.ensures.is (rw⁻¹ run.signature o.0) (rw⁻¹ run.signature o.1) (rw⁻¹ run.signature o.2)) in
+    let p : c.in_ok-term.term ≡ apply f.op (terms_of (drop f.from m.done.items)) = rw (plain_applied K.over.signature f.op (own f.from m.done.items) h.plain) at e in
+    let z : c.close.new.done.items ≡ take f.from m.done.items = search rules in
+    let a = complete_asked K c.args.facts.now run k d f h in
+    c.in_ok-fired.ensures.same K k w t run (rw (p, z) a) (rw p part) all

@@ -1,12 +1,12 @@
 use Rattle.std.specs.Prelude.{IsTrue}
-use Rattle.std.proofs.Common.{◌∙◌, sym, reverse}
+use Rattle.std.proofs.Common.{◌∙◌, sym, subst, reverse}
 use Rattle.mw_logic.specs.Parts.{IsFrozen}
 use Rattle.mw_deduction.specs.Standing.{round}
 use Rattle.mw_pattern.specs.Clean.{clean}
 use Rattle.mw_frames.specs.Machines.{data_of, all_moves}
 use Rattle.mw_frames.specs.Arrivals.{IsNewFrame}
 use Rattle.mw_frames.specs.Redex.{MayFire, HasOnTop, walked}
-use Rattle.mw_frames.specs.Fires.{IsApplied}
+use Rattle.mw_frames.specs.Fires.{IsApplied, IsRefusedAs}
 use Rattle.mw_frames.specs.Taking.{IsPartAsked}
 use Rattle.mw_frames.proofs.Applications.{same_frame}
 use Rattle.mw_frames.proofs.Refusing.{statement_deep, statement_large}
@@ -58,3 +58,23 @@ returns-clause-means c = λ K k w run a part is free.
     let z = rw (c.in-TooLarge.is, c.as_slice.ensures.value) at (c.in_ok-fit_here.ensures K k (all_moves K.over c.args.sides.now.items) w run (walked K k (data_of K.over n) w inside.asked.holds) there) in
     c.in_ok-fired-in-TooLarge.ensures.means K c.args.by.rule k w run part (walked K k (data_of K.over n) w inside.asked.holds)
     (λ t e. statement_large K c.args.facts.now run k (data_of K.over n) w (walked K k (data_of K.over n) w inside.asked.holds) inside.asked.seen c.args.by.number (all_moves K.over c.args.sides.now.items) c.args.values.now.items (clean c.args.by.right.now) is.redex c.args.by.rule is.rule open t e z.0 z.1)
+
+pub returns-in-TooDeep-clause-same : goal.returns-in-TooDeep-clause-same
+returns-in-TooDeep-clause-same c = λ K k w t run a part all.
+    let m = c.args.machine.now in
+    let n = c.take_out.new.machine in
+    let f = c.in_ok-frame.frame in
+    let new : IsNewFrame c.args.facts.now (reverse m.frames.items) m.done.items m.jobs.items f.op f = same_frame c.args.facts.now (reverse m.frames.items) m.done.items m.jobs.items c.top_of.result f c.in_ok-frame.ensures in
+    let on : HasOnTop f.op c.args.term = λ g ts e. c.top_of.ensures.top g ts e ∙ sym c.in_ok-frame.ensures.operator in
+    let inside : IsPartAsked K k (data_of K.over n) f w a.holds.stand = c.in_ok-take_out.ensures K k w run a.holds new on part in
+    subst (λ u. IsRefusedAs u c.in_ok-fired-in-TooDeep.fired) (inside.same ∙ all a.holds.stand a.holds.leads) (c.in_ok-fired-in-TooDeep.ensures.same K k w run part (walked K k (data_of K.over n) w inside.asked.holds))
+
+pub returns-clause-same : goal.returns-clause-same
+returns-clause-same c = λ K k w t run a part all.
+    let m = c.args.machine.now in
+    let n = c.take_out.new.machine in
+    let f = c.in_ok-frame.frame in
+    let new : IsNewFrame c.args.facts.now (reverse m.frames.items) m.done.items m.jobs.items f.op f = same_frame c.args.facts.now (reverse m.frames.items) m.done.items m.jobs.items c.top_of.result f c.in_ok-frame.ensures in
+    let on : HasOnTop f.op c.args.term = λ g ts e. c.top_of.ensures.top g ts e ∙ sym c.in_ok-frame.ensures.operator in
+    let inside : IsPartAsked K k (data_of K.over n) f w a.holds.stand = c.in_ok-take_out.ensures K k w run a.holds new on part in
+    subst (λ u. IsRefusedAs u c.in_ok-fired-in-TooLarge.fired) (inside.same ∙ all a.holds.stand a.holds.leads) (c.in_ok-fired-in-TooLarge.ensures.same K k w run part (walked K k (data_of K.over n) w inside.asked.holds))
