@@ -3,7 +3,7 @@ ghost use Rattle.std.specs.Prelude.{ℕ, OnOk};
 ghost use Rattle.mw_logic.specs.Term.{RawTerm};
 ghost use Rattle.mw_frames.specs.State.{Run, IsRun};
 ghost use Rattle.mw_frames.specs.Machines.{data_of};
-ghost use Rattle.mw_rule.specs.Stepped.{IsAtPart, IsAtRoot, AreWays};
+ghost use Rattle.mw_rule.specs.Stepped.{IsAt, IsAtPart, AreWays};
 
 use crate::spots::Spot;
 use mw_canon::Facts;
@@ -19,7 +19,7 @@ pub fn go_to(
     spots: &[Spot<'_>],
     at: usize,
 ) -> Result<(), AllocError>
-    ensures { (K : Run) (k : ℕ) (root whole : RawTerm) → IsRun K facts.now → AreWays facts.now root spots.now → IsAtRoot K k (data_of K.over machine.old) root whole
+    ensures { (K : Run) (k : ℕ) (root whole : RawTerm) → IsRun K facts.now → AreWays facts.now root spots.now → IsAt K k (data_of K.over machine.old) root whole
         → OnOk result (IsAtPart K k (data_of K.over machine.new) spots.now at whole) }
 {
     let spot = match spots.get(at) {

@@ -1,12 +1,13 @@
 // Where rules apply, one choice after another.
 ghost use Rattle.std.specs.Prelude.{◌≡◌, ◌∷◌, ◌++◌, List, [], IfOk, IfSome, MatchOption};
-ghost use Rattle.mw_logic.specs.Term.{RawTerm};
+ghost use Rattle.mw_logic.specs.Module.{Module};
 ghost use Rattle.mw_index.specs.Index.{IsIndexOf, IsRuleOf};
 ghost use Rattle.mw_index.specs.Choices.{Tried, tried_of};
 ghost use Rattle.mw_solving.specs.Values.{IsValue};
 ghost use Rattle.mw_reduce.specs.Turns.{HasOriented};
-ghost use Rattle.mw_rule.specs.Redexes.{AreValuesAt, IsFoundAt, IsFoundIn, IsAskedThere, AreAsked, AreAllAsked};
+ghost use Rattle.mw_rule.specs.Redexes.{AreValuesAt, IsFoundAt, IsFoundIn, IsAskedThere, AreTriedOpen, AreAsked, AreAllAsked};
 ghost use Rattle.mw_rule.specs.declared.spots.Spot.{Spot as SpotOf};
+ghost use Rattle.mw_index.specs.declared.index.Rule.{Rule as RuleOf};
 
 use crate::spots::Spot;
 use mw_index::{Choice, Choices, Index, Rule, Subject};
@@ -54,7 +55,7 @@ impl<'m> Redexes<'m> {
         ensures of { IfOk result (λ o. IfSome o (λ c. HasOriented context.now c.by.now)) }
         ensures places { (self.new.rule ≡ self.old.rule) × (self.new.at ≡ self.old.at) }
         ensures is { let M = context.now in (tried : List Tried) → IsValue M.signature term.now → IsAskedThere M term.now rule.now tried self.old.choices
-            → IfOk result (λ o. MatchOption o (AreTriedOpen M.signature term.now tried rule.now.by.number)
+            → IfOk result (λ o. MatchOption o (AreTriedOpen M term.now tried rule.now.by.number)
             (λ c. IsFoundAt M term.now c × IsAskedThere M term.now rule.now (tried ++ tried_of c ∷ []) self.new.choices)) }
     {
         let subject = Subject::Term(term);

@@ -1,13 +1,15 @@
 // Rewriting: the whole is reduced, and the first rule that applies is applied, as long as one does.
-ghost use Rattle.std.specs.Prelude.{◌≡◌, ◌+◌, ◌≤◌, ℕ, true, IfOk};
+ghost use Rattle.std.specs.Prelude.{◌≡◌, ◌-◌, ℕ, true, option_map, IfOk};
 ghost use Rattle.mw_logic.specs.Term.{RawTerm};
 ghost use Rattle.mw_canon.specs.Canonical.{IsAdmittedTerm};
 ghost use Rattle.mw_index.specs.Index.{IsIndexOf};
 ghost use Rattle.mw_frames.specs.State.{Run, IsRun, Holds};
 ghost use Rattle.mw_frames.specs.Steps.{IsEnd};
 ghost use Rattle.mw_frames.specs.Machines.{data_of};
-ghost use Rattle.mw_rule.specs.Stepped.{IsLooked, IsStepped, IsRewrittenBy};
+ghost use Rattle.mw_rule.specs.Stepped.{IsMadeAt, IsLooked, IsStepped, IsRewrittenBy};
 ghost use Rattle.mw_rule.specs.Rewritings.{IsRewritingOf};
+ghost use Rattle.mw_rule.specs.declared.rewriting.Stepped.TheVariants.{Ends as EndsOf};
+ghost use Rattle.mw_frames.specs.Fires.{IsFired, IsRefusedAs};
 
 use crate::going::go_to;
 use crate::redexes::{Found, Redexes};
@@ -59,9 +61,9 @@ fn fire_at<'m>(
     found: Found<'m>,
     sides: Vec<Trail>,
 ) -> Result<Fired<'m>, AllocError>
-    ensures { (K : Run) (k side : ℕ) (t : RawTerm) → IsRun K context.now.signature → K.over ≡ context.now → IsEnd K k (data_of K.over machine.old) t
+    ensures { (K : Run) (k : ℕ) (t : RawTerm) → IsRun K context.now.signature → K.over ≡ context.now → IsEnd K k (data_of K.over machine.old) t
         → IsMadeAt K spots.now t found.entry sides.items
-        → IfOk result (λ f. IsLooked K k side (data_of K.over machine.new) t (FiresOf f)) }
+        → IfOk result (λ f. IsFired K true k (data_of K.over machine.new) f × IsRefusedAs t f) }
 {
     let Found { at, choice } = found;
     let Choice {
@@ -146,7 +148,9 @@ fn step<'m>(
     }
 }
 
-fn ended<'m>(term: Term, outcome: Outcome) -> Stepped<'m> {
+fn ended<'m>(term: Term, outcome: Outcome) -> Stepped<'m>
+    ensures { result ≡ EndsOf (record { term = term; outcome = outcome }) }
+{
     Stepped::Ends(End { term, outcome })
 }
 

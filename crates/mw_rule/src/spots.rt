@@ -1,7 +1,8 @@
 // The parts of a term at which rules are asked.
-ghost use Rattle.std.specs.Prelude.{◌≡◌, IsFalse, IfOk, OnOk};
+ghost use Rattle.std.specs.Prelude.{◌≡◌, ◌<◌, ◌+◌, IsFalse, IfOk, OnOk, length, ⊥};
 ghost use Rattle.mw_logic.specs.Term.{RawTerm};
-ghost use Rattle.mw_logic.specs.Signature.{Signature, Member};
+ghost use Rattle.mw_logic.specs.Terms.{args_of, list_of};
+ghost use Rattle.mw_logic.specs.Signature.{Member};
 ghost use Rattle.mw_index.specs.Index.{Asks, operator_of};
 ghost use Rattle.mw_index.specs.declared.index.Rule.{Rule as RuleOf};
 ghost use Rattle.mw_rule.specs.Spots.{IsInside, IsWanted, AreSpots, AreAllSpots};
