@@ -272,7 +272,6 @@ module _ (M : Module) (work : IsWorkable M) (t : RawTerm) (c : Choice) (h : IsTr
   halting_at n side why cause = record {
     part = w;
     taken = taken_same sig c.take t w h.choice.taken;
-    form = nested sig w;
     raw = h.admitted.raw;
     clean = form_clean sig ok w canonical_part;
     is = h.admitted.canonical;

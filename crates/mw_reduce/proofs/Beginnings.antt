@@ -143,8 +143,8 @@ module _ (M : Module) (work : IsWorkable M) (n : ℕ) (t : RawTerm) (a : IsAdmit
   pub halted_stops : (side : ℕ) (d : Data) (q : Asked) (take : Option (List ℕ)) (why : Reason) → IsHaltedAt K 0 side d q take why → Stops M n (limits_within 1 side) (nested sig t) reflexivity (nested sig t) (reason_of why)
   halted_stops side d q take why h =
       let g = h.halting in
-      let part = part_here d q h.asked take g.part g.taken g.form g.raw g.clean g.is in
-      by_reason why g.form part g.halting
+      let part = part_here d q h.asked take g.part g.taken (nested sig g.part) g.raw g.clean g.is in
+      by_reason why (nested sig g.part) part g.halting
     where
       by_reason : (why : Reason) (w : RawTerm) → (C : Context) × IsPart sig (nested sig t) C w → IsHalting M false n side w why → Stops M n (limits_within 1 side) (nested sig t) reflexivity (nested sig t) (reason_of why)
       by_reason reason.Nest w part h = stops_by_nest M n (limits_within 1 side) (nested sig t) reflexivity (nested sig t) false (by_equations M n (limits_within 1 side) reflexivity (nested sig t)) (by_nothing M n (nested sig t)) (omega arith) w part.0 part.1 (λ x. absurd (true≢false (sym x))) h

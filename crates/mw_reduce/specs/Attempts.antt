@@ -3,7 +3,7 @@ use Rattle.std.specs.Prelude.{◌≡◌, ◌≢◌, ◌-◌, ◌^◌, min, ℕ, 
 use Rattle.mw_logic.specs.Term.{RawTerm}
 use Rattle.mw_logic.specs.Signature.{IsRawTerm}
 use Rattle.mw_logic.specs.Substitution.{Substitution, IsSolution}
-use Rattle.mw_logic.specs.Parts.{IsClean}
+use Rattle.mw_logic.specs.Parts.{nested, IsClean}
 use Rattle.mw_logic.specs.NormalForm.{normal_form, height}
 use Rattle.mw_position.specs.Positions.{fill}
 use Rattle.mw_pattern.specs.Clean.{clean}
@@ -80,15 +80,14 @@ pub record IsHalting (M : Module) (b : Bool) (n side : ℕ) (w : RawTerm) (why :
   pub solves : IsSolution M.signature statement.left w [] solution
   pub cause : IsCause M n side statement.fragments solution why
 
--- the same for a clean form of a flattened term, or of what is taken of it
+-- the same for a flattened term, or for what is taken of it
 pub record IsHaltingAt (M : Module) (b : Bool) (n side : ℕ) (t : RawTerm) (take : Option (List ℕ)) (why : Reason) : Type 0 where
   pub part : RawTerm
   pub taken : IsPartTaken M.signature take t part
-  pub form : RawTerm
-  pub raw : IsRawTerm M.signature form
-  pub clean : IsClean M.signature form
-  pub is : normal_form M.signature form ≡ part
-  pub halting : IsHalting M b n side form why
+  pub raw : IsRawTerm M.signature (nested M.signature part)
+  pub clean : IsClean M.signature (nested M.signature part)
+  pub is : normal_form M.signature (nested M.signature part) ≡ part
+  pub halting : IsHalting M b n side (nested M.signature part) why
 
 abbrev pub IsAttempt : Module → ℕ → ℕ → RawTerm → Choice → Choice → Attempt → Type 0
 IsAttempt M n side t old new (Made sides) = IsMade M n t new sides.items
