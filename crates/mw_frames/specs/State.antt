@@ -38,9 +38,13 @@ pub record Run : Type 0 where
   pub below : List Stand
   pub rules : ℕ
 
--- the same run behind one statement more, which may be a rule
+-- the same run with so many rules applied
+abbrev pub with_rules : ℕ → Run → Run
+with_rules r K = record { over = K.over; rank = K.rank; from = K.from; start = K.start; below = K.below; rules = r }
+
+-- the same behind one statement more, which may be a rule
 abbrev pub after_one : Bool → Run → Run
-after_one b K = record { over = K.over; rank = K.rank; from = K.from; start = K.start; below = K.below; rules = cond b (suc K.rules) K.rules }
+after_one b K = with_rules (cond b (suc K.rules) K.rules) K
 
 -- The machine's data: frames, the innermost first, terms that are done, what waits, the values that are kept, and the moves.
 pub record Data : Type 0 where

@@ -19,7 +19,7 @@ use Rattle.mw_frames.specs.declared.job.Job.TheVariants.{Walk}
 use Rattle.mw_frames.specs.declared.job.Hand.TheVariants.{One}
 use Rattle.mw_frames.specs.declared.machine.Machine.{Machine}
 use Rattle.mw_frames.specs.Machines.{data_of}
-use Rattle.mw_frames.specs.State.{Run, Data, IsRun, InHand, Holds}
+use Rattle.mw_frames.specs.State.{Run, with_rules, Data, IsRun, InHand, Holds}
 use Rattle.mw_frames.specs.Fires.{IsWhole}
 use Rattle.mw_reduce.specs.Driven.{IsDriven}
 use Rattle.mw_reduce.specs.Reductions.{IsOutcome, IsReductionOf}
@@ -53,7 +53,8 @@ module _ (M : Module) (w : IsWorkable M) (n : ℕ) (t : RawTerm) (a : IsAdmitted
   begins_run first empty = subst (λ d. Holds (run_of M n t) 0 d (One (Walk t))) (sym (empty M)) begins_in_hand
 
 module _ (M : Module) (w : IsWorkable M) (n : ℕ) (low : n ≤ 63) (t : RawTerm) (a : IsAdmittedTerm M.signature t) where
-  module _ (k : Track) (count : ℕ) (d : Data) (u : RawTerm) (is : d.moves ≡ moves M k) (e : IsWhole (run_of M n t) count d u) where
+  -- what is kept of a whole, to which so many replacements lead, and as many by rules
+  module _ (ruled : ℕ) (k : Track) (count : ℕ) (d : Data) (u : RawTerm) (is : d.moves ≡ moves M k) (e : IsWhole (with_rules ruled (run_of M n t)) count d u) where
     pub whole_kept : IsKept M n t u k
     whole_kept = record {
       low = low;
@@ -67,25 +68,28 @@ module _ (M : Module) (w : IsWorkable M) (n : ℕ) (low : n ≤ 63) (t : RawTerm
     }
 
     -- the tree
-    its_proof : (deduced M n t u k).proof ≡ concluded e.stand
+    pub its_proof : (deduced M n t u k).proof ≡ concluded e.stand
     unfolding whole_kept
     its_proof = ap (λ B. concluded (first_of B)) whole_kept.stands
 
-    proves_it : Proves M n (concluded e.stand) (nested M.signature t) (nested M.signature u)
+    pub proves_it : Proves M n (concluded e.stand) (nested M.signature t) (nested M.signature u)
     unfolding whole_kept
     proves_it = subst (λ v. Proves M n (concluded e.stand) (nested M.signature t) (nested M.signature v)) e.hand
         (concludes M w.signature.accepted (moves M k) n t e.stand whole_kept.made (starts M w n t a) whole_kept.stands e.closed).1
 
-    counted : steps (concluded e.stand) ≡ count
+    pub counted : steps (concluded e.stand) ≡ count
     counted = let s = e.leads.steps in omega (arith, s)
 
-    pub whole_reduced : (most side : ℕ) (o : Outcome) → ((p : Proof) → Proves M n p (nested M.signature t) (nested M.signature u) → steps p ≡ count → IsOutcome M n (limits_within most side) (nested M.signature t) p (nested M.signature u) o)
+    pub rules_counted : rules (concluded e.stand) ≡ ruled
+    rules_counted = let r = e.leads.rules in omega (arith, r)
+
+    whole_reduced : ruled ≡ 0 → (most side : ℕ) (o : Outcome) → ((p : Proof) → Proves M n p (nested M.signature t) (nested M.signature u) → steps p ≡ count → IsOutcome M n (limits_within most side) (nested M.signature t) p (nested M.signature u) o)
         → IsReductionOf M t (record { steps = most; side = side; nest = n }) (deduced M n t u k) o
-    whole_reduced most side o ends = record {
+    whole_reduced none most side o ends = record {
       over = refl;
       rank = refl;
       from = refl;
-      equational = ap rules its_proof ∙ (let r = e.leads.rules in let z : rules (concluded e.stand) ≡ 0 = omega (arith, r) in z);
+      equational = ap rules its_proof ∙ rules_counted ∙ none;
       proves = subst (λ p. Proves M n p (nested M.signature t) (nested M.signature u)) (sym its_proof) proves_it;
       ends = subst (λ p. IsOutcome M n (limits_within most side) (nested M.signature t) p (nested M.signature u) o) (sym its_proof) (ends (concluded e.stand) proves_it counted);
     }
@@ -95,7 +99,7 @@ module _ (M : Module) (w : IsWorkable M) (n : ℕ) (low : n ≤ 63) (t : RawTerm
     driven_reduced (count, left, by) =
         let e : End = r.end in
         let f = whole_by (run_of M n t) most side count d e by in
-        (whole_kept k count d e.term is f, whole_reduced k count d e.term is f most side e.outcome (outcome_by (run_of M n t) (limits_within most side) count d e by (nested M.signature t)))
+        (whole_kept 0 k count d e.term is f, whole_reduced 0 k count d e.term is f refl most side e.outcome (outcome_by (run_of M n t) (limits_within most side) count d e by (nested M.signature t)))
 
 -- from a beginning without replacements
 pub from_none : (K : Run) (limit side : ℕ) (d : Data) (r : Driven) → IsDriven K (0 + limit) side d r → IsDriven K limit side d r

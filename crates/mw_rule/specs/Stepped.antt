@@ -9,7 +9,7 @@ use Rattle.mw_trail.specs.Tracks.{Track}
 use Rattle.mw_proof.specs.declared.reason.Reason.{Reason}
 use Rattle.mw_proof.specs.declared.reason.Reason.TheVariants as reason
 use Rattle.mw_frames.specs.declared.job.Job.TheVariants.{Normal}
-use Rattle.mw_frames.specs.State.{Run, after_one, Data, InHand, Holds}
+use Rattle.mw_frames.specs.State.{Run, with_rules, after_one, Data, InHand, Holds}
 use Rattle.mw_frames.specs.Steps.{IsEnd}
 use Rattle.mw_frames.specs.Redex.{IsSeenIn}
 use Rattle.mw_frames.specs.Fires.{IsWhole, WouldBeTooDeep, WouldBeTooLarge, HasWhole, IsOpenRound, IsFired, IsRefusedAs}
@@ -89,9 +89,6 @@ pub data EndsRewriting (K : Run) (b : Bounds) (count : ℕ) (d : Data) (e : End)
   by_bound : IsEnd K count d e.term → count < b.steps → Some K.rules ≡ b.rules → e.outcome ≡ Stopped reason.Rules → EndsRewriting K b count d e
   by_rules : count < b.steps → Some K.rules ≢ b.rules → EndsByRules K count b.side d e → EndsRewriting K b count d e
 
--- the same run with so many rules
-abbrev pub with_rules : ℕ → Run → Run
-with_rules r K = record { over = K.over; rank = K.rank; from = K.from; start = K.start; below = K.below; rules = r }
-
+-- so it ends, with as many rules as were applied by then
 abbrev pub IsRewrittenBy : Run → Bounds → Data → End → Type 0
 IsRewrittenBy K b d e = (r : ℕ) × (count : ℕ) × EndsRewriting (with_rules r K) b count d e
