@@ -21,10 +21,13 @@ use Rattle.mw_logic.proofs.Holes.{Each-parts}
 use Rattle.mw_logic.proofs.SortedLists.{climbs, sorted_terms-climbing}
 use Rattle.mw_logic.proofs.Soundness.{all_nested-join}
 use Rattle.mw_arguments.specs.Places.{others}
+use Rattle.mw_builtin.proofs.Forms.{listed_number}
 use Rattle.mw_deduction.specs.Standing.{Open, round}
-use Rattle.mw_deduction.specs.Replay.{Move, into, Stand, opened, going_in, into_argument, play, plays}
+use Rattle.mw_deduction.specs.Replay.{Move, into, Stand, opened, whole, going_out, into_argument, play, plays}
+use Rattle.mw_deduction.proofs.LeftBack.{left_back}
 use Rattle.mw_deduction.proofs.Moves.{plays-append}
 use Rattle.mw_stack.specs.Hidden.{IsHidden}
+use Rattle.mw_stack.specs.Places.{IsPlace}
 use Rattle.mw_frames.specs.Fair.{Stays, IsFair}
 use Rattle.mw_frames.specs.declared.job.Job.{Job}
 use Rattle.mw_frames.specs.declared.job.Job.TheVariants.{Normal}
@@ -33,9 +36,11 @@ use Rattle.mw_frames.specs.Jobs.{rest}
 use Rattle.mw_frames.specs.State.{Run, Data, Leads, IsRun, InHand, Settled, IsGood, AreJobs, AreAtHand, IsDone, IsOpening, IsNormalHere}
 use Rattle.mw_frames.specs.Machines.{IsCutAt}
 use Rattle.mw_frames.specs.Arrivals.{IsNewFrame}
+use Rattle.mw_frames.specs.Entered.{IsEntered}
 use Rattle.mw_frames.specs.Redex.{IsSeenIn}
 use Rattle.mw_frames.specs.Taking.{before_taken, behind_taken, waiting_normal, IsLeft}
 use Rattle.mw_frames.proofs.Arguments.{same_applied}
+use Rattle.mw_frames.proofs.CutPlaces.{is_cut}
 use Rattle.mw_frames.proofs.FiringHere.{at_term}
 use Rattle.mw_frames.proofs.LeftOver.{terms_of-list_of}
 use Rattle.mw_frames.proofs.Normals.{normal_has, stays_seen}
@@ -259,25 +264,34 @@ module _ (K : Run) (sig : Signature) (run : IsRun K sig) (count : ℕ) where
       goes_into i long cut =
           enters_cut K run.accepted run.sorted count values ms f fs (ds ++ os) (xs ++ ys) (Normal u) i (let n = length-append xs ys in omega (arith, n, new.waits)) settled long (λ m. cut)
 
+      -- the stand that the move leads to has one hole more
+      holes : (i : ℕ) (S : Stand) → Leads K count (ms ++ into (suc i) ∷ []) S → S.opens ≡ opened f.op (front i args) (skip (suc i) args) ∷ h.stand.opens
+      holes i S leads =
+          let p : play M (into (suc i)) (h.stand ∷ K.below) ≡ S ∷ K.below = sym (ap (plays M (into (suc i) ∷ [])) h.leads.plays) ∙ sym (plays-append M ms (into (suc i) ∷ []) K.start) ∙ leads.plays in
+          let q : into_argument here (suc i) h.stand.hand h.stand ≡ S = same_head p in
+          let z : suc i - 1 ≡ i = omega arith in
+          sym (ap (λ (T : Stand). T.opens) (ap (λ t. into_argument here (suc i) t h.stand) (sym h.hand) ∙ q)) ∙ ap (λ j. opened f.op (front j args) (skip (suc i) args) ∷ h.stand.opens) z
+
+      -- and the same whole
+      whole_stays : (i : ℕ) (S : Stand) → Leads K count (ms ++ into (suc i) ∷ []) S → whole here S.opens S.hand ≡ whole here h.stand.opens h.stand.hand
+      whole_stays i S leads =
+          let o : Open = opened f.op (front i args) (skip (suc i) args) in
+          let e = holes i S leads in
+          let (am, p) = left_back M run.accepted (ms ++ into (suc i) ∷ []) ms K.start S K.below o h.stand.opens run.start leads.moves leads.plays e (inr (inl (suc i, refl))) in
+          let back : going_out here (o ∷ h.stand.opens) S ≡ h.stand = ap (λ os. going_out here os S) (sym e) ∙ same_head (sym p ∙ h.leads.plays) in
+          ap (λ os. whole here os S.hand) e ∙ ap (λ (T : Stand). whole here T.opens T.hand) back
+
       -- the place is open where the argument is, and what is round the whole
       pub still_open : (i : ℕ) → IsCutAt here f.op (terms_of (drop f.from (ds ++ os))) u i → IsOpen here true f.op k → ¬ IsFrozen here (round here h.stand.opens)
           → (S : Stand) → Leads K count (ms ++ into (suc i) ∷ []) S → ¬ IsFrozen here (round here S.opens)
       still_open i cut open around S leads =
-          subst (λ zs. ¬ IsFrozen here (round here zs)) (sym holes) (by_assoc (is_assoc here f.op) refl)
+          subst (λ zs. ¬ IsFrozen here (round here zs)) (sym (holes i S leads)) (by_assoc (is_assoc here f.op) refl)
         where
           bs : RawTerms
           bs = front i args
 
           as : RawTerms
           as = skip (suc i) args
-
-          -- the stand that the move leads to
-          holes : S.opens ≡ opened f.op bs as ∷ h.stand.opens
-          holes =
-              let p : play M (into (suc i)) (h.stand ∷ K.below) ≡ S ∷ K.below = sym (ap (plays M (into (suc i) ∷ [])) h.leads.plays) ∙ sym (plays-append M ms (into (suc i) ∷ []) K.start) ∙ leads.plays in
-              let q : into_argument here (suc i) h.stand.hand h.stand ≡ S = same_head p in
-              let z : suc i - 1 ≡ i = omega arith in
-              sym (ap (λ (T : Stand). T.opens) (ap (λ t. into_argument here (suc i) t h.stand) (sym h.hand) ∙ q)) ∙ ap (λ j. opened f.op (front j args) as ∷ h.stand.opens) z
 
           own_size : number_of_terms (terms_of (drop f.from (ds ++ os))) ≡ number_of_terms (terms_of os)
           own_size = ap (λ zs. number_of_terms (terms_of zs)) from_is
@@ -321,3 +335,23 @@ module _ (K : Run) (sig : Signature) (run : IsRun K sig) (count : ℕ) where
                   let place = number_before k args u is in
                   let n : suc (number_of_terms (all_nested here bs)) ≡ k = omega (arith, all_size, most, cut.bound, own_size, d, place) in
                   subst (λ j. ¬ IsFrozenArgument here f.op j) (sym n) free
+
+      -- so the argument is in hand
+      pub entered : (i : ℕ) → (is_assoc here f.op ≡ true → (f.from < length (ds ++ os)) ⊎ (f.waits < length (xs ++ ys)))
+          → (arranged (is_comm here f.op) (terms_of (drop f.from (ds ++ os))) ≡ terms_of (drop f.from (ds ++ os)) → IsPlace (is_comm here f.op) (terms_of (drop f.from (ds ++ os))) u i) → i ≤ length (drop f.from (ds ++ os))
+          → IsEntered K count (record { frames = fs; done = ds; jobs = xs; values = values; moves = ms }) (record { frames = f ∷ fs; done = ds ++ os; jobs = xs ++ ys; values = values; moves = ms ++ into (suc i) ∷ [] }) (apply f.op args) k u
+      entered i long place within =
+          let own : RawTerms = terms_of (drop f.from (ds ++ os)) in
+          let n = listed_number (drop f.from (ds ++ os)) in
+          let cut : arranged (is_comm here f.op) own ≡ own → IsCutAt here f.op own u i = λ o. is_cut here f.op own u i (omega (arith, n, within)) (place o) o in
+          let ordered : arranged (is_comm here f.op) own ≡ own = subst (λ us. arranged (is_comm here f.op) us ≡ us) (sym (ap terms_of from_is)) (opening os ys l).good.order in
+          record {
+            is = is;
+            holds = goes_into i long cut;
+            seen = argument_seen;
+            same = λ v w S leads. whole_stays i S leads ∙ w h.stand h.leads;
+            open = λ g ts e o around S leads. still_open i (cut ordered) (subst (λ g'. IsOpen here true g' k) (sym (same_operator e)) o) (around h.stand h.leads) S leads;
+          }
+        where
+          same_operator : {g g' : ℕ} {us ts : RawTerms} → apply g us ≡ apply g' ts → g ≡ g'
+          same_operator e = cc
