@@ -1,5 +1,5 @@
 -- A normal term in hand is gone into: one of its arguments is in hand, and the others stand round it.
-use Rattle.std.specs.Prelude.{◌≡◌, ◌≤◌, ◌<◌, ◌-◌, ◌⊎◌, ◌||◌, ℕ, zero, suc, List, [], ◌∷◌, ◌++◌, length, take, drop, Bool, true, false, Some, slice_get, IsTrue, refl}
+use Rattle.std.specs.Prelude.{◌≡◌, ◌≤◌, ◌<◌, ◌-◌, ◌+◌, ◌⊎◌, ◌||◌, ℕ, zero, suc, List, [], ◌∷◌, ◌++◌, length, take, drop, Bool, true, false, Some, slice_get, IsTrue, refl}
 use Rattle.std.proofs.Common.{sym, subst, ap, ◌∙◌, arith, inl, inr, ⊎_elim, append_assoc}
 use Rattle.std.proofs.lemmas.Bool.{both_ways}
 use Rattle.std.proofs.lemmas.List.{length-append}
@@ -22,7 +22,8 @@ use Rattle.mw_logic.proofs.SortedLists.{climbs, sorted_terms-climbing}
 use Rattle.mw_logic.proofs.Soundness.{all_nested-join}
 use Rattle.mw_arguments.specs.Places.{others}
 use Rattle.mw_builtin.proofs.Forms.{listed_number}
-use Rattle.mw_deduction.specs.Standing.{Open, round}
+use Rattle.mw_term.proofs.Terms.{list_of-terms_of}
+use Rattle.mw_deduction.specs.Standing.{Open, round, At}
 use Rattle.mw_deduction.specs.Replay.{Move, into, Stand, opened, whole, going_out, into_argument, play, plays}
 use Rattle.mw_deduction.proofs.LeftBack.{left_back}
 use Rattle.mw_deduction.proofs.Moves.{plays-append}
@@ -42,6 +43,7 @@ use Rattle.mw_frames.specs.Taking.{before_taken, behind_taken, waiting_normal, I
 use Rattle.mw_frames.proofs.Arguments.{same_applied}
 use Rattle.mw_frames.proofs.CutPlaces.{is_cut}
 use Rattle.mw_frames.proofs.FiringHere.{at_term}
+use Rattle.mw_frames.proofs.FiringPart.{same_data}
 use Rattle.mw_frames.proofs.LeftOver.{terms_of-list_of}
 use Rattle.mw_frames.proofs.Normals.{normal_has, stays_seen}
 use Rattle.mw_frames.proofs.OpenHoles.{open_inside}
@@ -126,6 +128,7 @@ module _ (K : Run) (sig : Signature) (run : IsRun K sig) (count : ℕ) where
     cut_at : join b (cons u a) ≡ args
     cut_at = one_taken k args u is
 
+    at : At M (admitted_judgements M K.rank).Held (admitted_judgements M K.rank).Fails (nested here h.stand.from) h.stand.read h.stand.opens (apply f.op args)
     at = at_term K sig run count ms h.stand (apply f.op args) h.leads h.hand
 
     raw : IsRawTerm here (nested here (apply f.op args))
@@ -163,7 +166,7 @@ module _ (K : Run) (sig : Signature) (run : IsRun K sig) (count : ℕ) where
     argument_seen = shown (each (Stays here f.op) stays).1
       where
         shown : Stays here f.op u → ¬ IsHidden here f.op u
-        shown s (inl (m, i)) = both_ways _ i ((stays_seen here (opened f.op nil nil) u s).not_identity m)
+        shown s (inl (m, i)) = both_ways _ ((stays_seen here (opened f.op nil nil) u s).not_identity m) i
         shown s (inr z) = s.seen z
 
     -- the other arguments come to a frame, and that one is next
@@ -284,14 +287,14 @@ module _ (K : Run) (sig : Signature) (run : IsRun K sig) (count : ℕ) where
       -- the place is open where the argument is, and what is round the whole
       pub still_open : (i : ℕ) → IsCutAt here f.op (terms_of (drop f.from (ds ++ os))) u i → IsOpen here true f.op k → ¬ IsFrozen here (round here h.stand.opens)
           → (S : Stand) → Leads K count (ms ++ into (suc i) ∷ []) S → ¬ IsFrozen here (round here S.opens)
-      still_open i cut open around S leads =
+      still_open i cut clear around S leads =
           subst (λ zs. ¬ IsFrozen here (round here zs)) (sym (holes i S leads)) (by_assoc (is_assoc here f.op) refl)
         where
           bs : RawTerms
           bs = front i args
 
-          as : RawTerms
-          as = skip (suc i) args
+          cs : RawTerms
+          cs = skip (suc i) args
 
           own_size : number_of_terms (terms_of (drop f.from (ds ++ os))) ≡ number_of_terms (terms_of os)
           own_size = ap (λ zs. number_of_terms (terms_of zs)) from_is
@@ -313,11 +316,11 @@ module _ (K : Run) (sig : Signature) (run : IsRun K sig) (count : ℕ) where
           all_size : number_of_terms (all_nested here bs) ≡ i
           all_size = number_all here bs ∙ bs_size
 
-          by_assoc : (m : Bool) → is_assoc here f.op ≡ m → ¬ IsFrozen here (round here (opened f.op bs as ∷ h.stand.opens))
-          by_assoc true m = open_inside here run.accepted f.op m (at_first (rw m refl)) bs as h.stand.opens around
+          by_assoc : (m : Bool) → is_assoc here f.op ≡ m → ¬ IsFrozen here (round here (opened f.op bs cs ∷ h.stand.opens))
+          by_assoc true m = open_inside here run.accepted f.op m (at_first (rw m refl)) bs cs h.stand.opens around
             where
               at_first : (is_assoc here f.op || is_comm here f.op) ≡ true → ¬ IsFrozenArgument here f.op 1
-              at_first z = let p = open_anywhere here true f.op k 1 z open in let q : IsTrue true → ¬ IsFrozenArgument here f.op 1 = rw z at p in q refl
+              at_first z = let p = open_anywhere here true f.op k 1 z clear in let q : IsTrue true → ¬ IsFrozenArgument here f.op 1 = rw z at p in q refl
           by_assoc false m = rw m (λ x. ⊎_elim (not_there (is_comm here f.op) refl) around x)
             where
               not_there : (c : Bool) → is_comm here f.op ≡ c → ¬ IsFrozenArgument here f.op (suc (number_of_terms (all_nested here bs)))
@@ -325,11 +328,11 @@ module _ (K : Run) (sig : Signature) (run : IsRun K sig) (count : ℕ) where
                   let z : (is_assoc here f.op || is_comm here f.op) ≡ true = rw (m, q) refl in
                   let (w, e) = at_place i args before in
                   let whole : IsRawTerm here (apply f.op (all_nested here args)) = rw m at raw in
-                  let parts : all_nested here args ≡ join (all_nested here bs) (cons (nested here w) (all_nested here as)) = ap (all_nested here) (sym e) ∙ all_nested-join here bs (cons w as) in
-                  let p = open_anywhere here true f.op k (suc (number_of_terms (all_nested here bs))) z open in
-                  (open-iff here run.accepted true f.op (all_nested here bs) (nested here w) (all_nested here as) (subst (λ us. IsRawTerm here (apply f.op us)) parts whole)).1 p refl
+                  let parts : all_nested here args ≡ join (all_nested here bs) (cons (nested here w) (all_nested here cs)) = ap (all_nested here) (sym e) ∙ all_nested-join here bs (cons w cs) in
+                  let p = open_anywhere here true f.op k (suc (number_of_terms (all_nested here bs))) z clear in
+                  (open-iff here run.accepted true f.op (all_nested here bs) (nested here w) (all_nested here cs) (subst (λ us. IsRawTerm here (apply f.op us)) parts whole)).1 p refl
               not_there false q =
-                  let free : ¬ IsFrozenArgument here f.op k = let z : (is_assoc here f.op || is_comm here f.op) ≡ false = rw (m, q) refl in let p : IsTrue true → ¬ IsFrozenArgument here f.op k = rw z at open in p refl in
+                  let free : ¬ IsFrozenArgument here f.op k = let z : (is_assoc here f.op || is_comm here f.op) ≡ false = rw (m, q) refl in let p : IsTrue true → ¬ IsFrozenArgument here f.op k = rw z at clear in p refl in
                   let d = ap number_of_terms (l.apart q).0 in
                   let most = skip_none i _ (cut.behind q) in
                   let place = number_before k args u is in
@@ -350,8 +353,38 @@ module _ (K : Run) (sig : Signature) (run : IsRun K sig) (count : ℕ) where
             holds = goes_into i long cut;
             seen = argument_seen;
             same = λ v w S leads. whole_stays i S leads ∙ w h.stand h.leads;
-            open = λ g ts e o around S leads. still_open i (cut ordered) (subst (λ g'. IsOpen here true g' k) (sym (same_operator e)) o) (around h.stand h.leads) S leads;
+            free = λ g ts e o around S leads. still_open i (cut ordered) (subst (λ g'. IsOpen here true g' k) (sym (same_operator e)) o) (around h.stand h.leads) S leads;
           }
         where
           same_operator : {g g' : ℕ} {us ts : RawTerms} → apply g us ≡ apply g' ts → g ≡ g'
           same_operator e = cc
+
+none_left : {X : Type 0} (xs : List X) → length xs ≡ 0 → xs ≡ []
+none_left [] e = refl
+none_left (x ∷ xs) e = absurd (omega (arith, e))
+
+-- into the argument of a term in hand that is made of these
+module _ (K : Run) (sig : Signature) (run : IsRun K sig) (count : ℕ) (m : Data) (t : RawTerm) (xs : List RawTerm) (f : Frame) (k : ℕ) (u : RawTerm) (os : List RawTerm) (ys : List Job)
+    (h : InHand K count m (Normal t)) (is : t ≡ apply f.op (terms_of xs)) (new : IsNewFrame sig m.frames m.done m.jobs f.op f) (at : at_number xs k ≡ Some u) (l : IsLeft K.over.signature f.op (k ∷ []) (terms_of xs) os ys) where
+  hand : InHand K count m (Normal (apply f.op (terms_of xs)))
+  hand = subst (λ x. InHand K count m (Normal x)) is h
+
+  there : at_number (list_of (terms_of xs)) k ≡ Some u
+  there = ap (λ ts. at_number ts k) (list_of-terms_of xs) ∙ at
+
+  pub some_beside : is_assoc K.over.signature f.op ≡ true → length (m.done ++ os) ≤ f.from → length (m.jobs ++ ys) ≤ f.waits → ⊥
+  some_beside a ld lj =
+      let d = length-append m.done os in
+      let j = length-append m.jobs ys in
+      let from = new.from in
+      let waits = new.waits in
+      others_there K sig run count m.values m.moves m.frames m.done m.jobs f (terms_of xs) hand k u there os ys l a (none_left os (omega (arith, ld, d, from))) (none_left ys (omega (arith, lj, j, waits)))
+
+  pub arrives : (n : Data) (i : ℕ) → (is_assoc K.over.signature f.op ≡ true → (f.from < length (m.done ++ os)) ⊎ (f.waits < length (m.jobs ++ ys)))
+      → (arranged (is_comm K.over.signature f.op) (terms_of (drop f.from (m.done ++ os))) ≡ terms_of (drop f.from (m.done ++ os)) → IsPlace (is_comm K.over.signature f.op) (terms_of (drop f.from (m.done ++ os))) u i)
+      → i ≤ length (drop f.from (m.done ++ os)) → n.frames ≡ f ∷ m.frames → n.done ≡ m.done ++ os → n.jobs ≡ m.jobs ++ ys → n.values ≡ m.values → n.moves ≡ m.moves ++ into (suc i) ∷ [] → IsEntered K count m n t k u
+  arrives n i long place within ef ed ej ev em =
+      let inside : Data = record { frames = f ∷ m.frames; done = m.done ++ os; jobs = m.jobs ++ ys; values = m.values; moves = m.moves ++ into (suc i) ∷ [] } in
+      let z : IsEntered K count m inside (apply f.op (terms_of xs)) k u =
+      entered K sig run count m.values m.moves m.frames m.done m.jobs f (terms_of xs) hand k u there os ys l new i long place within in
+      subst (λ d. IsEntered K count m d t k u) (sym (same_data inside n ef ed ej ev em)) (subst (λ x. IsEntered K count m inside x k u) (sym is) z)

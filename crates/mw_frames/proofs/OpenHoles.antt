@@ -37,8 +37,8 @@ module _ (sig : Signature) (ok : IsAccepted sig) (f : ℕ) (assoc : is_assoc sig
 -- So several arguments of a term may be changed by a rule where the term is open to one that takes them.
 pub open_part : (K : Run) (sig : Signature) → IsRun K sig → (count : ℕ) (m n : Data) (t w : RawTerm) (ks : List ℕ) (f : Frame) (h : InHand K count m (Try t)) → (part : IsPartAsked K count n f w h.stand)
     → IsOpenTo K count m t (Some ks) → IsSeveral K.over.signature ks t w → HasOnTop f.op t → ¬ IsFrozen K.over.signature (round K.over.signature part.asked.holds.stand.opens)
-open_part K sig run count m n t w ks f h part open several on =
+open_part K sig run count m n t w ks f h part clear several on =
     let here : Signature = K.over.signature in
     let taken = several.takes in
-    let free : ¬ IsFrozenArgument here f.op 1 = subst (λ g. ¬ IsFrozenArgument here g 1) (on taken.operator taken.args taken.term) (open.inside ks taken.operator taken.args refl taken.term) in
-    subst (λ os. ¬ IsFrozen here (round here os)) (sym part.opens) (open_inside here run.accepted f.op part.assoc free part.before part.after h.stand.opens (open.around h.stand h.leads))
+    let free : ¬ IsFrozenArgument here f.op 1 = subst (λ g. ¬ IsFrozenArgument here g 1) (on taken.operator taken.args taken.term) (clear.inside ks taken.operator taken.args refl taken.term) in
+    subst (λ os. ¬ IsFrozen here (round here os)) (sym part.opens) (open_inside here run.accepted f.op part.assoc free part.before part.after h.stand.opens (clear.around h.stand h.leads))

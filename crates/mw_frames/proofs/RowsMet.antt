@@ -34,7 +34,7 @@ use Rattle.mw_frames.specs.Redex.{MayCome, IsRowOf, MayMeetRow, HasInHand, IsSee
 use Rattle.mw_frames.specs.Fires.{Becomes, by_schema, Refuses}
 use Rattle.mw_frames.proofs.FiringHere.{admitted_here, raw_after_here, seen_there, replaced_here, so_in_hand}
 use Rattle.mw_frames.proofs.Larger.{number_arranged}
-use Rattle.mw_frames.proofs.Redexes.{IsReplaced}
+use Rattle.mw_frames.proofs.Redexes.{counted_on, IsReplaced}
 use Rattle.mw_frames.proofs.Refusing.{is_part_there, refuses_deep, refuses_large}
 
 -- What a row gives: a numeral, a constant, or one of two branches.

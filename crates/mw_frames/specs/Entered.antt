@@ -16,4 +16,4 @@ pub record IsEntered (K : Run) (count : ℕ) (old new : Data) (t : RawTerm) (i :
   pub holds : InHand K count new (Normal u)
   pub seen : IsSeenIn K.over.signature new.frames u
   pub same : (v : RawTerm) → HasWhole K count old v → HasWhole K count new v
-  pub open : (f : ℕ) (ts : RawTerms) → t ≡ apply f ts → IsOpen K.over.signature true f i → IsOpenRound K count old → IsOpenRound K count new
+  pub free : (f : ℕ) (ts : RawTerms) → t ≡ apply f ts → IsOpen K.over.signature true f i → IsOpenRound K count old → IsOpenRound K count new

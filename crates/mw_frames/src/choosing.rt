@@ -1,5 +1,5 @@
 // A choice is decided by its condition: a branch comes for it, as it waits.
-ghost use Rattle.std.specs.Prelude.{◌≡◌, ◌++◌, ◌∷◌, [], ℕ, List, Bool, Some, suc, cond, IfOk, IfSome, reverse};
+ghost use Rattle.std.specs.Prelude.{◌≡◌, ◌++◌, ◌∷◌, [], ℕ, List, Bool, Some, suc, false, cond, IfOk, IfSome, reverse};
 ghost use Rattle.mw_logic.specs.Term.{RawTerm};
 ghost use Rattle.mw_logic.specs.Signature.{Signature};
 ghost use Rattle.mw_logic.specs.Parts.{nested};

@@ -1,5 +1,5 @@
 // A row of the schemata is met.
-ghost use Rattle.std.specs.Prelude.{◌≡◌, ◌++◌, ◌∷◌, [], ℕ, List, suc, IsTrue, IfOk, OnOk, None, reverse, take as take_first};
+ghost use Rattle.std.specs.Prelude.{◌≡◌, ◌++◌, ◌∷◌, [], ℕ, List, suc, false, IsTrue, IfOk, OnOk, None, reverse, take as take_first};
 ghost use Rattle.mw_logic.specs.Term.{RawTerm};
 ghost use Rattle.mw_logic.specs.Signature.{Signature, IsRawTerm};
 ghost use Rattle.mw_logic.specs.Parts.{nested, IsClean};

@@ -116,7 +116,7 @@ module _ (M : Module) (n : ℕ) (e : Statement) (l : n < length M.statements) (i
           (is_new k d is_there);
       rules = subst (AreRulesOf (upto M (n + 1))) (sym p.rules) (record {
         sound = λ s k. still_rule s (h.rules.sound s k);
-        complete = λ k d s f. ⊎_elim (λ a. h.rules.complete k d a f) (λ a. absurd (both_ways _ f (ap (λ (d : Statement). d.rule) (sym a.1) ∙ r))) (is_new k d s);
+        complete = λ k d s f. ⊎_elim (λ a. h.rules.complete k d a f) (λ a. absurd (both_ways _ (ap (λ (d : Statement). d.rule) (sym a.1) ∙ r) f)) (is_new k d s);
       });
     }
 
@@ -126,7 +126,7 @@ module _ (M : Module) (n : ℕ) (e : Statement) (l : n < length M.statements) (i
       sound = λ top s k. let z = h.sound top s (subst (Member s) (p.equations top) k) in (still_of top s z.0, z.1);
       complete = λ k d s f t w v d_top z sol. ⊎_elim
           (λ a. let (i, j, c) = h.complete k d a f t w v d_top z sol in (i, subst (Member i) (sym (p.equations (operator_of t))) j, c))
-          (λ a. absurd (both_ways _ (ap (λ (d : Statement). d.rule) (sym a.1) ∙ r) f))
+          (λ a. absurd (both_ways _ f (ap (λ (d : Statement). d.rule) (sym a.1) ∙ r)))
           (is_new k d s);
       rules = subst (AreRulesOf (upto M (n + 1))) (sym p.rules) (record { sound = sound; complete = complete });
     }

@@ -55,7 +55,7 @@ impl Section {
     /// Whether it is asked for terms with this operator on top, or with none.
     #[inline(always)]
     pub fn asks(self, top: Option<OpId>) -> bool
-        ensures { IsTrue result ↔ Asks self.entry top }
+        ensures { IsTrue result ↔ Asks self top }
     {
         match self {
             Section::Operator(operator) => match top {

@@ -33,7 +33,7 @@ at_end K count d t e n is =
     subst (λ x. IsAt K count x t t) (sym is) (record {
       holds = record { stand = e.stand; leads = e.leads; opened = e.closed; hand = e.hand; good = tt; job = e.normal };
       seen = tt;
-      open = λ S l x.
+      free = λ S l x.
           let y : IsFrozen here (round here e.stand.opens) = subst (λ (T : Stand). IsFrozen here (round here T.opens)) (one_stand K count d.moves S e.stand l e.leads) x in
           subst (λ os. IsFrozen here (round here os)) e.closed y;
       same = λ S l. ap (λ (T : Stand). whole here T.opens T.hand) (one_stand K count d.moves S e.stand l e.leads) ∙ ap (λ os. whole here os e.stand.hand) e.closed ∙ e.hand;
@@ -53,7 +53,7 @@ pub next_part : (K : Run) (count : ℕ) (d n : Data) (root v : RawTerm) (spots :
     → IsAtPart K count d spots s.parent v → (u : RawTerm) → IsEntered K count d n p.term.now s.number u → IsAtPart K count n spots j v
 next_part K count d n root v spots j s p ways is some parent (q, there, at) u e = (s, (is, ⊎_elim
 (λ a. let z = a.0 in absurd (omega (arith, z, some)))
-(λ (r, here, low, f, ts, term, number, open).
+(λ (r, here, low, f, ts, term, number, clear).
 let same : q ≡ p = same_Some q p (sym there ∙ parent) in
 let alike : r ≡ p = same_Some r p (sym here ∙ parent) in
 let is_term : p.term.now ≡ apply f ts = ap (λ (x : Spot). x.term.now) (sym alike) ∙ term in
@@ -62,7 +62,7 @@ let arrived : u ≡ s.term.now = same_Some u s.term.now (sym argument ∙ number
 subst (λ t. IsAt K count n t v) arrived (record {
   holds = e.holds;
   seen = e.seen;
-  open = e.open f ts is_term open at.open;
+  free = e.free f ts is_term clear at.free;
   same = e.same v at.same;
 }))
 (ways j s is).placed))

@@ -39,8 +39,8 @@ one_taken_part sig (Some ks) u w v a b =
 module _ (sig : Signature) (ok : IsAccepted sig) where
   pub open_taken : (take : Option (List ℕ)) (u w : RawTerm) → IsValue sig u → IsTaken sig take u w
       → ((ks : List ℕ) (f : ℕ) (ts : RawTerms) → take ≡ Some ks → u ≡ apply f ts → IsOpen sig true f 1) → IsOpenTop sig u w
-  open_taken None u w v taken open = subst (IsOpenTop sig u) (sym taken) whole
-  open_taken (Some ks) u w v taken open = by_top u w (taken_top sig ok (Some ks) u w v taken) (λ f ts. open ks f ts refl)
+  open_taken None u w v taken clear = subst (IsOpenTop sig u) (sym taken) whole
+  open_taken (Some ks) u w v taken clear = by_top u w (taken_top sig ok (Some ks) u w v taken) (λ f ts. clear ks f ts refl)
     where
       by_top : (u w : RawTerm) → IsTop sig u w → ((f : ℕ) (ts : RawTerms) → u ≡ apply f ts → IsOpen sig true f 1) → IsOpenTop sig u w
       by_top u w top.whole o = whole
@@ -52,7 +52,7 @@ untold K sig run side t u n reached v c found why h =
     let here : Signature = K.over.signature in
     let w : RawTerm = found.choice.part in
     let same : h.part ≡ w = one_taken_part here c.take u w h.part found.choice.taken h.taken in
-    let place : IsOpenTop here u w = open_taken here run.accepted c.take u w v found.choice.taken found.open in
+    let place : IsOpenTop here u w = open_taken here run.accepted c.take u w v found.choice.taken found.free in
     let p : IsPartOf here true t h.part = subst (IsPartOf here true t) (sym same) (reached_part here t u w reached (open_part_of here u w place)) in
-    let (C, open, part) = part_found here run.accepted {by_rule = true} {t = nested here t} h.part n.raw (subst (λ x. IsPartOf here true x h.part) (sym n.canonical) p) in
-    record { context = C; part = nested here h.part; is_part = part; free = open refl; halting = h.halting }
+    let (C, clear, part) = part_found here run.accepted {by_rule = true} {t = nested here t} h.part n.raw (subst (λ x. IsPartOf here true x h.part) (sym n.canonical) p) in
+    record { context = C; part = nested here h.part; is_part = part; free = clear refl; halting = h.halting }

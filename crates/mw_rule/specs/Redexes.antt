@@ -29,7 +29,7 @@ pub record IsFoundAt (M : Module) (v : RawTerm) (c : Choice) : Type 0 where
   pub choice : IsChoice M v c
   pub sized : length c.values.items ≡ length c.by.now.sorts
   pub rule : c.by.now.rule ≡ true
-  pub open : (ks : List ℕ) (f : ℕ) (ts : RawTerms) → c.take ≡ Some ks → v ≡ apply f ts → IsOpen M.signature true f 1
+  pub free : (ks : List ℕ) (f : ℕ) (ts : RawTerms) → c.take ≡ Some ks → v ≡ apply f ts → IsOpen M.signature true f 1
 
 -- c takes several arguments of v that rules may not change
 pub record IsShut (M : Module) (v : RawTerm) (c : Tried) : Type 0 where

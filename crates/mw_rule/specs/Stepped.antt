@@ -32,7 +32,7 @@ use Rattle.mw_rule.specs.declared.rewriting.Stepped.TheVariants.{Goes, Ends}
 pub record IsAt (K : Run) (count : ℕ) (d : Data) (t v : RawTerm) : Type 0 where
   pub holds : InHand K count d (Normal t)
   pub seen : IsSeenIn K.over.signature d.frames t
-  pub open : IsOpenRound K count d
+  pub free : IsOpenRound K count d
   pub same : HasWhole K count d v
 
 -- the same of the part of this number

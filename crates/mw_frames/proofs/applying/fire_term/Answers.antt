@@ -12,3 +12,6 @@ pub returns-in_ok-fired-in-Some-clause-same : goal.returns-in_ok-fired-in-Some-c
 returns-in_ok-fired-in-Some-clause-same c = λ K k w t run a part all.
     let z = rw c.in-Some.is at part in
     c.in_ok-fired-in-Some.ensures.same K k w t run a (rw c.as_slice.ensures z) all
+
+pub returns-in_ok-fired-in-None-clause-same : goal.returns-in_ok-fired-in-None-clause-same
+returns-in_ok-fired-in-None-clause-same c = λ K k w t run a part all. c.in_ok-fired-in-None.ensures.same K k t run a all

@@ -13,7 +13,7 @@ returns-then-not-statement c =
     let e : Statement = c.index-statements-at.result in
     let is : e ≡ get_or c.args.context.now.statements c.args.at e = c.index-statements-at.is ∙ ap (λ ss. get_or ss c.args.at e) c.statements.ensures in
     let executable : c.statement.inside.executable ≡ e.executable = ap (λ (s : Statement). s.executable) c.statement.view_is in
-    index_past c.args.context.now c.args.at e c.requires is c.args.self.now (ap not (sym executable) ∙ c.if-not-statement.true)
+    index_past c.args.context.now c.args.at e c.requires is c.args.self.now (ap not (sym executable ∙ c.if-not-statement.true))
 
 pub oriented-requires-clause-statement : goal.oriented-requires-clause-statement
 oriented-requires-clause-statement c =
