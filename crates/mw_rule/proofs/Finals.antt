@@ -59,7 +59,8 @@ module _ (M : Module) (work : IsWorkable M) (t : RawTerm) (n : IsNormalTerm M (a
           let (x, member, number, asked) = are.complete k r is rule in
           let (spot, here, same) = listed.complete u reached (asks x member u (asked u w (reached_value u reached) (open_top M.signature u w place) s sol)) in
           let there : IsStatement M x.by.number r = subst (λ i. IsStatement M i r) (sym number) is in
-          let (c, tried_it, of, alike) = all x member spot here r there w (subst (λ v. IsOpenTop M.signature v w) (sym same) place) s sol in
+          let asks_it : Asks x.section (operator_of spot.term.now) = subst (λ v. Asks x.section (operator_of v)) (sym same) (asked u w (reached_value u reached) (open_top M.signature u w place) s sol) in
+          let (c, tried_it, of, alike) = all x member spot here asks_it r there w (subst (λ v. IsOpenTop M.signature v w) (sym same) place) s sol in
           let f = failed c tried_it r (subst (λ i. IsStatement M i r) (sym of) there) in
           (admitted_within M 63).Fails r.fragments s
           (Fails-same M (AdmittedStep M) 63 r.fragments (solution_of M.signature r c.values) s (same_solution-sym M.signature s (solution_of M.signature r c.values) alike) f.substitution f.fails)

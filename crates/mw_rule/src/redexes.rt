@@ -1,5 +1,6 @@
 // Where rules apply, one choice after another.
-ghost use Rattle.std.specs.Prelude.{◌≡◌, ◌∷◌, ◌++◌, List, [], IfOk, IfSome, MatchOption};
+ghost use Rattle.std.specs.Prelude.{◌≡◌, ◌∷◌, ◌++◌, List, [], Some, slice_get, IfOk, IfSome, MatchOption};
+ghost use Rattle.mw_logic.specs.Signature.{Member};
 ghost use Rattle.mw_logic.specs.Module.{Module};
 ghost use Rattle.mw_index.specs.Index.{IsIndexOf, IsRuleOf};
 ghost use Rattle.mw_index.specs.Choices.{Tried, tried_of};
@@ -55,7 +56,7 @@ impl<'m> Redexes<'m> {
         ensures of { IfOk result (λ o. IfSome o (λ c. HasOriented context.now c.by.now)) }
         ensures places { (self.new.rule ≡ self.old.rule) × (self.new.at ≡ self.old.at) }
         ensures is { let M = context.now in (tried : List Tried) → IsValue M.signature term.now → IsAskedThere M term.now rule.now tried self.old.choices
-            → IfOk result (λ o. MatchOption o (AreTriedOpen M term.now tried rule.now.by.number)
+            → IfOk result (λ o. MatchOption o (AreTriedOpen M term.now tried rule.now)
             (λ c. IsFoundAt M term.now c × IsAskedThere M term.now rule.now (tried ++ tried_of c ∷ []) self.new.choices)) }
     {
         let subject = Subject::Term(term);
@@ -113,13 +114,21 @@ impl<'m> Redexes<'m> {
     }
 
     /// The next part comes.
-    fn pass_part(&mut self) {
+    fn pass_part(&mut self)
+        ensures { (M : Module) (rules : List RuleOf) (spots : List SpotOf) (tried : List Tried) → AreAsked M rules spots tried self.old
+            → ((r : RuleOf) (s : SpotOf) → slice_get rules self.old.rule ≡ Some r → slice_get spots self.old.at ≡ Some s → AreTriedOpen M s.term.now tried r)
+            → AreAsked M rules spots tried self.new }
+    {
         self.at = self.at.saturating_add(1);
         self.choices.again();
     }
 
     /// The next rule comes, at the first part.
-    fn pass_rule(&mut self) {
+    fn pass_rule(&mut self)
+        ensures { (M : Module) (rules : List RuleOf) (spots : List SpotOf) (tried : List Tried) → AreAsked M rules spots tried self.old
+            → ((r : RuleOf) (s : SpotOf) → slice_get rules self.old.rule ≡ Some r → Member s spots → AreTriedOpen M s.term.now tried r)
+            → AreAsked M rules spots tried self.new }
+    {
         self.rule = self.rule.saturating_add(1);
         self.at = 0;
         self.choices.again();
