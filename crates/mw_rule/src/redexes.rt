@@ -37,10 +37,12 @@ impl<'m> Redexes<'m> {
     pub fn new(alloc: Global) -> Redexes<'m>
         ensures { (M : Module) (rules : List RuleOf) (spots : List SpotOf) → AreAsked M rules spots [] result }
     {
+        let mut choices = Choices::new(alloc);
+        choices.again();
         Redexes {
             rule: 0,
             at: 0,
-            choices: Choices::new(alloc),
+            choices,
         }
     }
 

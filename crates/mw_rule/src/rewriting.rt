@@ -18,7 +18,7 @@ use mw_frames::{Asked, Fired, Hand, Job, Machine, fire};
 use mw_index::{Choice, Choices, Index};
 use mw_least::Ctx;
 use mw_proof::{Proved, Reason};
-use mw_reduce::{Attempt, Driven, End, Outcome, applied, drive, try_choice};
+use mw_reduce::{Attempt, Driven, End, Outcome, applied, run_on, try_choice};
 use mw_term::{Term, copy};
 use mw_trail::Trail;
 use std::alloc::{AllocError, Global};
@@ -173,7 +173,7 @@ fn run<'m>(
     let mut left = bounds.steps;
     let mut rules = bounds.rules;
     loop {
-        let driven = drive(
+        let driven = run_on(
             alloc,
             context,
             index,
