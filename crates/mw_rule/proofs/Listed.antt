@@ -11,6 +11,8 @@ use Rattle.mw_poset.proofs.Members.{member-left, member-last}
 use Rattle.mw_term.specs.OperatorSets.{AreApart, Lacks, operators_in, operators_in_all}
 use Rattle.mw_term.proofs.OperatorSets.{lacks_top, arguments_apart, first_apart, others_apart}
 use Rattle.mw_term.specs.declared.operators.Sought.{Sought}
+use Rattle.mw_redex.specs.Replaced.{IsOpenArgument}
+use Rattle.mw_index.specs.Index.{operator_of}
 use Rattle.mw_rule.specs.Spots.{IsInside, itself, argument, IsReached, IsWanted, IsSpot, AreSpots, AreAllSpots}
 use Rattle.mw_rule.specs.declared.spots.Spot.{Spot}
 use Rattle.mw_rule.specs.declared.spots.Wanted.{Wanted}
@@ -37,10 +39,13 @@ reached_inside sig t _ IsReached.itself = IsInside.itself
 reached_inside sig t u (IsReached.argument f ts i _ h at o) = IsInside.argument f ts i u (reached_inside sig t (apply f ts) h) at
 
 -- the part of this number, from 0, and what is reached in those behind it
+got_or_next : {X : Type 0} (n : ℕ) (xs : List X) (x y : X) → slice_get xs n ≡ Some x → Member y (drop n xs) → (x ≡ y) ⊎ Member y (drop (suc n) xs)
+got_or_next n [] x y e m = cc
+got_or_next zero (z ∷ zs) x y e m = ⊎_elim (λ k. inl (sym (same_Some z x e) ∙ k)) (λ k. inr k) m
+got_or_next (suc n) (z ∷ zs) x y e m = got_or_next n zs x y e m
+
 got_or_later : {X : Type 0} (n : ℕ) (xs : List X) (x y : X) → slice_get xs n ≡ Some x → Member y (drop n xs) → (x ≡ y) ⊎ Member y (drop (n + 1) xs)
-got_or_later n [] x y e m = cc
-got_or_later zero (z ∷ zs) x y e m = ⊎_elim (λ k. inl (sym (same_Some z x e) ∙ k)) (λ k. inr k) m
-got_or_later (suc n) (z ∷ zs) x y e m = got_or_later n zs x y e m
+got_or_later n xs x y e m = let z : suc n ≡ n + 1 = omega arith in subst (λ k. (x ≡ y) ⊎ Member y (drop k xs)) z (got_or_next n xs x y e m)
 
 member_got : {X : Type 0} (xs : List X) (n : ℕ) (x : X) → slice_get xs n ≡ Some x → Member x xs
 member_got [] n x e = cc
@@ -63,7 +68,7 @@ drop_pushed zero xs y l = refl
 drop_pushed (suc n) [] y l = absurd (omega (arith, l))
 drop_pushed (suc n) (z ∷ zs) y l = drop_pushed n zs y (omega (arith, l))
 
-got_below : {X : Type 0} (xs : List X) (n : ℕ) (x : X) → slice_get xs n ≡ Some x → n < length xs
+pub got_below : {X : Type 0} (xs : List X) (n : ℕ) (x : X) → slice_get xs n ≡ Some x → n < length xs
 got_below [] n x e = cc
 got_below (z ∷ zs) zero x e = omega arith
 got_below (z ∷ zs) (suc n) x e = let h = got_below zs n x e in omega (arith, h)
@@ -87,17 +92,20 @@ same_arguments e = (let z : _ ≡ _ = cc in z, cc)
 -- what is reached in v is v, or is reached in an argument
 first_way : (sig : Signature) (v u : RawTerm) → IsReached sig v u → (u ≡ v) ⊎ IsComing sig v 0 u
 first_way sig v _ IsReached.itself = inl refl
-first_way sig v u (IsReached.argument g us j _ h at o) = ⊎_elim
-(λ e. inr (record {
-  number = j;
-  later = (number_below (list_of us) j u at).0;
-  argument = u;
-  at = subst (λ x. at_number (list_of (args_of x)) j ≡ Some u) e at;
-  free = λ f ts q. subst (λ k. IsOpen sig true k j) (same_arguments (e ∙ q)).0 o;
-  reached = IsReached.itself;
-}))
-(λ c. inr (record { number = c.number; later = c.later; argument = c.argument; at = c.at; free = c.free; reached = IsReached.argument g us j u c.reached at o }))
-(first_way sig v (apply g us) h)
+first_way sig v u (IsReached.argument g us j _ h at o) = ⊎_elim at_once further (first_way sig v (apply g us) h)
+  where
+    at_once : apply g us ≡ v → (u ≡ v) ⊎ IsComing sig v 0 u
+    at_once e = inr (record {
+      number = j;
+      later = (number_below (list_of us) j u at).0;
+      argument = u;
+      at = subst (λ x. at_number (list_of (args_of x)) j ≡ Some u) e at;
+      free = λ f ts q. subst (λ k. IsOpen sig true k j) (same_arguments (e ∙ q)).0 o;
+      reached = IsReached.itself;
+    })
+
+    further : IsComing sig v 0 (apply g us) → (u ≡ v) ⊎ IsComing sig v 0 u
+    further c = inr (record { number = c.number; later = c.later; argument = c.argument; at = c.at; free = c.free; reached = IsReached.argument g us j u c.reached at o })
 
 -- The parts, where the first i arguments of the part of number n were looked at.
 pub record AreUpTo (sig : Signature) (w : Wanted) (root : RawTerm) (n : ℕ) (spot : Spot) (i : ℕ) (spots : List Spot) : Type 0 where
@@ -110,15 +118,12 @@ pub none_looked_at : (sig : Signature) (w : Wanted) (root : RawTerm) (n : ℕ) (
 none_looked_at sig w root n spot spots at h = record {
   sound = h.sound;
   there = at;
-  complete = λ u r k. ⊎_elim
-      (λ x. inl x)
-      (λ (s, m, way). ⊎_elim
-      (λ e. let here : IsReached sig spot.term.now u = subst (λ (x : Spot). IsReached sig x.term.now u) (sym e) way in
-      ⊎_elim (λ z. inl (spot, member_got spots n spot at, sym z)) (λ c. inr (inr c)) (first_way sig spot.term.now u here))
-      (λ later. inr (inl (s, later, way)))
-      (got_or_later n spots spot s at m))
-      (h.complete u r k);
+  complete = λ u r k. ⊎_elim (λ x. inl x) (λ (s, m, way). ⊎_elim (λ e. first u (subst (λ (x : Spot). IsReached sig x.term.now u) (sym e) way)) (λ later. inr (inl (s, later, way))) (got_or_later n spots spot s at m)) (h.complete u r k);
 }
+  where
+    first : (u : RawTerm) → IsReached sig spot.term.now u
+        → ((s : Spot) × Member s spots × (s.term.now ≡ u)) ⊎ (((s : Spot) × Member s (drop (n + 1) spots) × IsReached sig s.term.now u) ⊎ IsComing sig spot.term.now 0 u)
+    first u here = ⊎_elim (λ z. inl (spot, member_got spots n spot at, sym z)) (λ c. inr (inr c)) (first_way sig spot.term.now u here)
 
 pub all_looked_at : (sig : Signature) (w : Wanted) (root : RawTerm) (n : ℕ) (spot : Spot) (i : ℕ) (spots : List Spot) → length (list_of (args_of spot.term.now)) ≤ i → AreUpTo sig w root n spot i spots → AreSpots sig w root (n + 1) spots
 all_looked_at sig w root n spot i spots l h = record {
@@ -128,13 +133,16 @@ all_looked_at sig w root n spot i spots l h = record {
 
 module _ (sig : Signature) (w : Wanted) (root : RawTerm) (n : ℕ) (spot : Spot) (i : ℕ) (spots : List Spot) (t : RawTerm) (at : at_number (list_of (args_of spot.term.now)) (i + 1) ≡ Some t) (h : AreUpTo sig w root n spot i spots) where
   here_or_later : (u : RawTerm) → IsComing sig spot.term.now i u → (IsReached sig t u × ((f : ℕ) (ts : RawTerms) → spot.term.now ≡ apply f ts → IsOpen sig true f (i + 1))) ⊎ IsComing sig spot.term.now (i + 1) u
-  here_or_later u c = ⊎_elim
-  (λ l. inr (record { number = c.number; later = l; argument = c.argument; at = c.at; free = c.free; reached = c.reached }))
-  (λ l.
-  let e : c.number ≡ i + 1 = let a = c.later in omega (arith, a, l) in
-  let same : c.argument ≡ t = same_Some c.argument t (sym c.at ∙ ap (at_number (list_of (args_of spot.term.now))) e ∙ at) in
-  inl (subst (λ x. IsReached sig x u) same c.reached, λ f ts q. subst (IsOpen sig true f) e (c.free f ts q)))
-  (cases_lt (i + 1) c.number)
+  here_or_later u c = ⊎_elim later now (cases_lt (i + 1) c.number)
+    where
+      later : i + 1 < c.number → (IsReached sig t u × ((f : ℕ) (ts : RawTerms) → spot.term.now ≡ apply f ts → IsOpen sig true f (i + 1))) ⊎ IsComing sig spot.term.now (i + 1) u
+      later l = inr (record { number = c.number; later = l; argument = c.argument; at = c.at; free = c.free; reached = c.reached })
+
+      now : c.number ≤ i + 1 → (IsReached sig t u × ((f : ℕ) (ts : RawTerms) → spot.term.now ≡ apply f ts → IsOpen sig true f (i + 1))) ⊎ IsComing sig spot.term.now (i + 1) u
+      now l =
+          let e : c.number ≡ i + 1 = let a = c.later in omega (arith, a, l) in
+          let same : c.argument ≡ t = same_Some c.argument t (sym c.at ∙ ap (at_number (list_of (args_of spot.term.now))) e ∙ at) in
+          inl (subst (λ x. IsReached sig x u) same c.reached, λ f ts q. subst (IsOpen sig true f) e (c.free f ts q))
 
   -- an argument that isn't listed
   pub passed : ((u : RawTerm) → IsReached sig t u → IsWanted w u → ((f : ℕ) (ts : RawTerms) → spot.term.now ≡ apply f ts → IsOpen sig true f (i + 1)) → ⊥) → AreUpTo sig w root n spot (i + 1) spots
@@ -167,7 +175,10 @@ module _ (sig : Signature) (w : Wanted) (root : RawTerm) (n : ℕ) (spot : Spot)
       behind = drop_pushed (n + 1) spots new (omega (arith, below))
 
       stays : (j : ℕ) (s : Spot) → IsSpot sig root spots j s → IsSpot sig root all j s
-      stays j s x = record { reached = x.reached; placed = ⊎_elim (λ a. inl a) (λ (p, e, others). inr (p, get_left spots (new ∷ []) s.parent p e, others)) x.placed }
+      stays j s x = record { reached = x.reached; placed = ⊎_elim (λ a. inl a) (λ (p, e, low, f, ts, is, at, o). inr (p, get_left spots (new ∷ []) s.parent p e, low, f, ts, is, at, o)) x.placed }
+
+      nothing : list_of (args_of spot.term.now) ≡ [] → ⊥
+      nothing e = let b = (number_below (list_of (args_of spot.term.now)) (i + 1) t at).1 in let z = ap length e in omega (arith, b, z)
 
       -- it has arguments
       shape : (v : RawTerm) → spot.term.now ≡ v → (f : ℕ) × (ts : RawTerms) × (spot.term.now ≡ apply f ts)
@@ -175,9 +186,6 @@ module _ (sig : Signature) (w : Wanted) (root : RawTerm) (n : ℕ) (spot : Spot)
       shape (quoted q) e = absurd (nothing (ap (λ x. list_of (args_of x)) e))
       shape (variable x) e = absurd (nothing (ap (λ x. list_of (args_of x)) e))
       shape (apply f ts) e = (f, ts, e)
-
-      nothing : list_of (args_of spot.term.now) ≡ [] → ⊥
-      nothing e = let b = (number_below (list_of (args_of spot.term.now)) (i + 1) t at).1 in let z = ap length e in omega (arith, b, z)
 
       is_new : (f : ℕ) × (ts : RawTerms) × (spot.term.now ≡ apply f ts) → IsSpot sig root all (length spots) new
       is_new (f, ts, e) =
@@ -215,3 +223,17 @@ all_listed sig w root n spots l h = record {
     none zero (x ∷ xs) s l m = omega (arith, l)
     none (suc n) [] s l m = m
     none (suc n) (x ∷ xs) s l m = none n xs s (omega (arith, l)) m
+
+-- an argument of that number isn't frozen, where the term has an operator
+pub open_argument : (sig : Signature) (v : RawTerm) (k : ℕ) → ((f : ℕ) (ts : RawTerms) → v ≡ apply f ts → IsOpen sig true f k) → IsOpenArgument sig true v k
+open_argument sig (numeral n) k h = tt
+open_argument sig (quoted q) k h = tt
+open_argument sig (variable x) k h = tt
+open_argument sig (apply f ts) k h = h f ts refl
+
+-- what has this operator on top
+pub operator_is : (t : RawTerm) (f : ℕ) → operator_of t ≡ Some f → (ts : RawTerms) × (t ≡ apply f ts)
+operator_is (numeral n) f e = cc
+operator_is (quoted q) f e = cc
+operator_is (variable x) f e = cc
+operator_is (apply g ts) f e = (ts, ap (λ h. apply h ts) (same_Some g f e))

@@ -1,6 +1,6 @@
 -- What of a rule is tried at a part: each solution at it; what is left aside takes several arguments that rules may not change.
-use Rattle.std.specs.Prelude.{◌≡◌, ◌⊎◌, ◌<◌, ◌≤◌, ◌+◌, ℕ, suc, List, [], ◌∷◌, ◌++◌, length, true, Option, Some, slice_get, refl}
-use Rattle.std.proofs.Common.{sym, subst, ap, ◌∙◌, arith, inl, inr, ⊎_elim}
+use Rattle.std.specs.Prelude.{◌≡◌, ◌⊎◌, ◌<◌, ◌≤◌, ◌+◌, ℕ, zero, suc, List, [], ◌∷◌, ◌++◌, length, true, false, Option, Some, None, is_some, slice_get, refl}
+use Rattle.std.proofs.Common.{get_or, sym, subst, ap, ◌∙◌, arith, inl, inr, ⊎_elim}
 use Rattle.std.proofs.lemmas.Bool.{cases_lt}
 use Rattle.std.proofs.lemmas.Option.{same_Some}
 use Rattle.mw_logic.specs.Term.{RawTerm, RawTerms, apply}
@@ -14,7 +14,7 @@ use Rattle.mw_logic.specs.Module.{Module, Statement, IsStatement}
 use Rattle.mw_logic.proofs.AxiomLaws.{trans}
 use Rattle.mw_logic.proofs.CanonicalTerms.{canonical_unique}
 use Rattle.mw_logic.proofs.InstanceLaws.{instance_same}
-use Rattle.mw_poset.proofs.Members.{member-left, member-last, member-push}
+use Rattle.mw_poset.proofs.Members.{member-left, member-last, member-push, member-at}
 use Rattle.mw_arguments.specs.Places.{chosen, Rise}
 use Rattle.mw_solving.specs.Values.{IsValue}
 use Rattle.mw_solving.specs.Inside.{IsProperPart}
@@ -27,7 +27,7 @@ use Rattle.mw_index.specs.declared.index.Rule.{Rule}
 use Rattle.mw_index.specs.declared.choices.Choice.{Choice}
 use Rattle.mw_index.specs.declared.choices.Choices.{Choices}
 use Rattle.mw_rule.specs.Spots.{IsOpenTop, whole, several}
-use Rattle.mw_rule.specs.Redexes.{AreTriedOpen, IsShut, IsAskedThere, AreAsked}
+use Rattle.mw_rule.specs.Redexes.{AreTriedOpen, IsShut, IsAskedThere, AreBehind, AreAsked, AreAllAsked}
 use Rattle.mw_rule.specs.declared.spots.Spot.{Spot}
 use Rattle.mw_rule.specs.declared.redexes.Redexes.{Redexes}
 use Rattle.mw_rule.proofs.Reaching.{open_top}
@@ -109,34 +109,85 @@ one_shut M v r tried old new h c kept way shut = record {
 pub none_answered : (M : Module) (v : RawTerm) (r : Rule) (tried : List Tried) (c : Choices) → IsKept v c.subject → IsUnderWay M v [] r.by c → IsAskedThere M v r tried c
 none_answered M v r tried c kept way = record { answered = []; kept = kept; under_way = way; all = λ x m. absurd m }
 
-module _ (M : Module) (rules : List Rule) (spots : List Spot) (tried : List Tried) (old new : Redexes) (h : AreAsked M rules spots tried old)
-    (fresh : (v : RawTerm) (r : Rule) → IsAskedThere M v r tried new.choices) where
-  -- the next part comes
-  pub part_passed : new.rule ≡ old.rule → new.at ≤ old.at + 1 → ((r : Rule) (s : Spot) → slice_get rules old.rule ≡ Some r → slice_get spots old.at ≡ Some s → AreTriedOpen M s.term.now tried r) → AreAsked M rules spots tried new
-  part_passed same next told = record {
-    passed = λ i r l is. h.passed i r (subst (λ n. i < n) same l) is;
-    before = λ r is j s l at. by_place r (subst (λ n. slice_get rules n ≡ Some r) same is) j s at (near j (omega (arith, l, next)));
-    here = λ r s is at. fresh s.term.now r;
+-- where a member of a list stands, and what stands at a place
+pub member_place : {X : Type 0} (xs : List X) (x : X) → Member x xs → (i : ℕ) × (i < length xs) × (slice_get xs i ≡ Some x)
+member_place [] x m = absurd m
+member_place (y ∷ ys) x m = ⊎_elim (λ e. (0, omega arith, ap Some e)) (λ k. let (i, l, e) = member_place ys x k in (suc i, omega (arith, l), e)) m
+
+pub got_at : {X : Type 0} (xs : List X) (i : ℕ) (x : X) → i < length xs → x ≡ get_or xs i x → slice_get xs i ≡ Some x
+got_at [] i x l e = absurd (omega (arith, l))
+got_at (y ∷ ys) zero x l e = ap Some (sym e)
+got_at (y ∷ ys) (suc i) x l e = got_at ys i x (omega (arith, l)) e
+
+pub member_at : {X : Type 0} (xs : List X) (i : ℕ) (x : X) → i < length xs → x ≡ get_or xs i x → Member x xs
+member_at xs i x l e = subst (λ y. Member y xs) (sym e) (member-at xs i x l)
+
+-- several arguments are taken where not the whole is
+pub some_take : (o : Option (List ℕ)) → is_some o ≡ true → (ks : List ℕ) × (o ≡ Some ks)
+some_take None e = cc
+some_take (Some ks) e = (ks, refl)
+
+pub no_take : (o : Option (List ℕ)) (ks : List ℕ) → is_some o ≡ false → o ≡ Some ks → ⊥
+no_take o ks e z = let bad : is_some (Some ks) ≡ false = ap is_some (sym z) ∙ e in cc
+
+module _ (M : Module) (rules : List Rule) (spots : List Spot) (tried : List Tried) where
+  -- more is tried
+  tried_more : (c : Tried) (v : RawTerm) (r : Rule) → AreTriedOpen M v tried r → AreTriedOpen M v (tried ++ c ∷ []) r
+  tried_more c v r h asks e is w place s sol = let (d, m, number, same) = h asks e is w place s sol in (d, member-left d tried (c ∷ []) m, number, same)
+
+  -- one more is found
+  pub one_found : (old new : Redexes) → new.rule ≡ old.rule → new.at ≡ old.at → AreAsked M rules spots tried old → (r : Rule) (s : Spot) → slice_get rules old.rule ≡ Some r → slice_get spots old.at ≡ Some s
+      → (c : Tried) → IsAskedThere M s.term.now r (tried ++ c ∷ []) new.choices → AreAsked M rules spots (tried ++ c ∷ []) new
+  one_found old new er ea h r s is at c now = record {
+    behind = subst (λ n. AreBehind M rules spots (tried ++ c ∷ []) n new.at) (sym er) (subst (AreBehind M rules spots (tried ++ c ∷ []) old.rule) (sym ea) (record {
+      passed = λ i r l is s m. tried_more c s.term.now r (h.behind.passed i r l is s m);
+      before = λ r is j s l at. tried_more c s.term.now r (h.behind.before r is j s l at);
+    }));
+    here = λ q x is' at'.
+        let a : r ≡ q = same_Some r q (sym is ∙ ap (slice_get rules) (sym er) ∙ is') in
+        let b : s ≡ x = same_Some s x (sym at ∙ ap (slice_get spots) (sym ea) ∙ at') in
+        subst (λ y. IsAskedThere M x.term.now y (tried ++ c ∷ []) new.choices) a (subst (λ (y : Spot). IsAskedThere M y.term.now r (tried ++ c ∷ []) new.choices) b now);
   }
-    where
-      near : (j : ℕ) → j ≤ old.at → (j < old.at) ⊎ (j ≡ old.at)
-      near j l = ⊎_elim inl (λ g. inr (omega (arith, l, g))) (cases_lt j old.at)
 
-      by_place : (r : Rule) → slice_get rules old.rule ≡ Some r → (j : ℕ) (s : Spot) → slice_get spots j ≡ Some s → (j < old.at) ⊎ (j ≡ old.at) → AreTriedOpen M s.term.now tried r
-      by_place r is j s at (inl l) = h.before r is j s l at
-      by_place r is j s at (inr e) = told r s is (subst (λ n. slice_get spots n ≡ Some s) e at)
+  -- no rule is left
+  pub none_left : (x : Redexes) → length rules ≤ x.rule → AreAsked M rules spots tried x → AreAllAsked M rules spots tried
+  none_left x l h r m s k = let (i, below, at) = member_place rules r m in h.behind.passed i r (omega (arith, l, below)) at s k
 
-  -- the next rule comes
-  pub rule_passed : new.rule ≤ old.rule + 1 → new.at ≡ 0 → ((r : Rule) (s : Spot) → slice_get rules old.rule ≡ Some r → Member s spots → AreTriedOpen M s.term.now tried r) → AreAsked M rules spots tried new
-  rule_passed next first told = record {
-    passed = λ i r l is s m. by_place i r is s m (near i (omega (arith, l, next)));
-    before = λ r is j s l at. absurd (omega (arith, l, first));
-    here = λ r s is at. fresh s.term.now r;
-  }
-    where
-      near : (i : ℕ) → i ≤ old.rule → (i < old.rule) ⊎ (i ≡ old.rule)
-      near i l = ⊎_elim inl (λ g. inr (omega (arith, l, g))) (cases_lt i old.rule)
+  -- no part is left
+  pub no_part_left : (x : Redexes) → length spots ≤ x.at → AreAsked M rules spots tried x → (r : Rule) (s : Spot) → slice_get rules x.rule ≡ Some r → Member s spots → AreTriedOpen M s.term.now tried r
+  no_part_left x l h r s is m = let (j, below, at) = member_place spots s m in h.behind.before r is j s (omega (arith, l, below)) at
 
-      by_place : (i : ℕ) (r : Rule) → slice_get rules i ≡ Some r → (s : Spot) → Member s spots → (i < old.rule) ⊎ (i ≡ old.rule) → AreTriedOpen M s.term.now tried r
-      by_place i r is s m (inl l) = h.passed i r l is s m
-      by_place i r is s m (inr e) = told r s (subst (λ n. slice_get rules n ≡ Some r) e is) m
+  module _ (rule at : ℕ) (new : Redexes) (h : AreBehind M rules spots tried rule at) (fresh : (v : RawTerm) (r : Rule) → IsAskedThere M v r tried new.choices) where
+    -- the next part comes
+    pub part_passed : new.rule ≡ rule → new.at ≤ at + 1 → ((r : Rule) (s : Spot) → slice_get rules rule ≡ Some r → slice_get spots at ≡ Some s → AreTriedOpen M s.term.now tried r) → AreAsked M rules spots tried new
+    part_passed same next told = record {
+      behind = record {
+        passed = λ i r l is. h.passed i r (subst (λ n. i < n) same l) is;
+        before = λ r is j s l there. by_place r (subst (λ n. slice_get rules n ≡ Some r) same is) j s there (near j (omega (arith, l, next)));
+      };
+      here = λ r s is there. fresh s.term.now r;
+    }
+      where
+        near : (j : ℕ) → j ≤ at → (j < at) ⊎ (j ≡ at)
+        near j l = ⊎_elim inl (λ g. inr (omega (arith, l, g))) (cases_lt j at)
+
+        by_place : (r : Rule) → slice_get rules rule ≡ Some r → (j : ℕ) (s : Spot) → slice_get spots j ≡ Some s → (j < at) ⊎ (j ≡ at) → AreTriedOpen M s.term.now tried r
+        by_place r is j s there (inl l) = h.before r is j s l there
+        by_place r is j s there (inr e) = told r s is (subst (λ n. slice_get spots n ≡ Some s) e there)
+
+    -- the next rule comes
+    pub rule_passed : new.rule ≤ rule + 1 → new.at ≡ 0 → ((r : Rule) (s : Spot) → slice_get rules rule ≡ Some r → Member s spots → AreTriedOpen M s.term.now tried r) → AreAsked M rules spots tried new
+    rule_passed next first told = record {
+      behind = record {
+        passed = λ i r l is s m. by_place i r is s m (near i (omega (arith, l, next)));
+        before = λ r is j s l there. absurd (omega (arith, l, first));
+      };
+      here = λ r s is there. fresh s.term.now r;
+    }
+      where
+        near : (i : ℕ) → i ≤ rule → (i < rule) ⊎ (i ≡ rule)
+        near i l = ⊎_elim inl (λ g. inr (omega (arith, l, g))) (cases_lt i rule)
+
+        by_place : (i : ℕ) (r : Rule) → slice_get rules i ≡ Some r → (s : Spot) → Member s spots → (i < rule) ⊎ (i ≡ rule) → AreTriedOpen M s.term.now tried r
+        by_place i r is s m (inl l) = h.passed i r l is s m
+        by_place i r is s m (inr e) = told r s (subst (λ n. slice_get rules n ≡ Some r) e is) m

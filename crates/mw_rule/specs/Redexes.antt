@@ -1,5 +1,5 @@
 -- How far rules are asked at the parts of a term.
-use Rattle.std.specs.Prelude.{◌≡◌, ◌⊎◌, ◌<◌, ℕ, List, [], true, Some, slice_get, length, ⊥}
+use Rattle.std.specs.Prelude.{◌≡◌, ◌⊎◌, ◌<◌, ℕ, List, [], true, Some, slice_get, length}
 use Rattle.mw_logic.specs.Term.{RawTerm, RawTerms, apply}
 use Rattle.mw_logic.specs.Signature.{Signature, Member}
 use Rattle.mw_logic.specs.CanonicalPart.{IsOpen}
@@ -59,10 +59,14 @@ pub record IsFoundIn (M : Module) (spots : List Spot) (f : Found) : Type 0 where
   pub there : slice_get spots f.at ≡ Some spot
   pub found : IsFoundAt M spot.term.now f.choice
 
--- Rules that were passed are tried at all parts, the present one at those before; at the part where it stands it is asked.
+-- Rules before this one are tried at all parts, and this one at the parts before.
+pub record AreBehind (M : Module) (rules : List Rule) (spots : List Spot) (tried : List Tried) (rule at : ℕ) : Type 0 where
+  pub passed : (i : ℕ) (r : Rule) → i < rule → slice_get rules i ≡ Some r → (s : Spot) → Member s spots → AreTriedOpen M s.term.now tried r
+  pub before : (r : Rule) → slice_get rules rule ≡ Some r → (j : ℕ) (s : Spot) → j < at → slice_get spots j ≡ Some s → AreTriedOpen M s.term.now tried r
+
+-- so far rules are asked; at the part where it stands the present one is asked
 pub record AreAsked (M : Module) (rules : List Rule) (spots : List Spot) (tried : List Tried) (x : Redexes) : Type 0 where
-  pub passed : (i : ℕ) (r : Rule) → i < x.rule → slice_get rules i ≡ Some r → (s : Spot) → Member s spots → AreTriedOpen M s.term.now tried r
-  pub before : (r : Rule) → slice_get rules x.rule ≡ Some r → (j : ℕ) (s : Spot) → j < x.at → slice_get spots j ≡ Some s → AreTriedOpen M s.term.now tried r
+  pub behind : AreBehind M rules spots tried x.rule x.at
   pub here : (r : Rule) (s : Spot) → slice_get rules x.rule ≡ Some r → slice_get spots x.at ≡ Some s → IsAskedThere M s.term.now r tried x.choices
 
 -- all rules are tried at all parts
