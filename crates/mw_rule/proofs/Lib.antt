@@ -5,3 +5,4 @@ pub mod Places
 pub mod Outcomes
 mod Listed
 mod Passed
+mod Ended
