@@ -13,7 +13,7 @@ use Rattle.mw_module.specs.Units.{SeenUnit, Outcome, Reading, Reads}
 use Rattle.mw_module.specs.Words.{texts}
 use Rattle.mw_command.specs.Commands.{SeenCommand, command_of}
 use Rattle.mw_import.specs.Flat.{FlatUnit, number_named}
-use Rattle.mw_build.specs.Equations.{Oversized}
+use Rattle.mw_build.specs.Statements.{Oversized}
 use Rattle.mw_build.specs.Modules.{Accepted, IsAccepted, IsRefused}
 use Rattle.mw_build.proofs.OneModule.{not_big, one_module, not_refused}
 use Rattle.mw_build.proofs.Pairwise.{there}

@@ -21,7 +21,7 @@ use Rattle.mw_module.specs.Words.{texts}
 use Rattle.mw_command.specs.Commands.{SeenCommand}
 use Rattle.mw_command.specs.declared.commands.Word.{Word as CommandWord}
 use Rattle.mw_command.specs.declared.commands.Word.TheVariants.{Reduce, Parse, Match, Xmatch}
-use Rattle.mw_build.specs.Equations.{FitsIn, Oversized}
+use Rattle.mw_build.specs.Statements.{FitsIn, Oversized}
 use Rattle.mw_build.specs.Modules.{Accepted}
 use Rattle.mw_prelude.specs.Modules.{name_of}
 use Rattle.mw_prelude.specs.declared.modules.Predefined.TheVariants as predefined
