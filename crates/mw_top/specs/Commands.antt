@@ -16,7 +16,7 @@ use Rattle.mw_text.specs.Mixfix.{IsSpelled, Reads}
 use Rattle.mw_text.specs.Readings.{NoneHas, TwoHave, IsShort}
 use Rattle.mw_lex.specs.declared.token.Token.{Token}
 use Rattle.mw_module.specs.declared.faults.FaultKind.{FaultKind}
-use Rattle.mw_module.specs.declared.faults.FaultKind.TheVariants.{TermTooLong, NoParse, Ambiguous, OpenTerm, NoModule, UnknownModule}
+use Rattle.mw_module.specs.declared.faults.FaultKind.TheVariants.{NotInProfile, TermTooLong, NoParse, Ambiguous, OpenTerm, NoModule, UnknownModule}
 use Rattle.mw_module.specs.Words.{texts}
 use Rattle.mw_command.specs.Commands.{SeenCommand}
 use Rattle.mw_command.specs.declared.commands.Word.{Word as CommandWord}
@@ -130,6 +130,8 @@ pub data TermFault (a : Accepted) (words : List (List ℕ)) : FaultKind → Type
 
 -- why a command that stands in this module isn't answered
 pub data AnswerFault (a : Accepted) (c : SeenCommand) : FaultKind → Type 0 where
+  -- `rewrite` isn't answered yet
+  not_yet : c.word ≡ Rewrite → AnswerFault a c NotInProfile
   in_term : (cause : FaultKind) → inside_of c.word ≡ None → TermFault a (texts c.term) cause → AnswerFault a c cause
   undivided : (inside : Bool) → inside_of c.word ≡ Some inside → c.subject ≡ None → AnswerFault a c NoParse
   in_sides : (cause : FaultKind) (inside : Bool) (behind : List Token) → inside_of c.word ≡ Some inside → c.subject ≡ Some behind
