@@ -179,5 +179,11 @@ pub fn statement_form<'s>(
     let behind = unlabelled(tokens);
     let len = attributes_len(behind);
     let said = group_at_end(len, behind);
-    stated(alloc, rule, conditional, &behind[..behind.len() - len], said)
+    stated(
+        alloc,
+        rule,
+        conditional,
+        &behind[..behind.len() - len],
+        said,
+    )
 }
