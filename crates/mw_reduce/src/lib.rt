@@ -54,6 +54,8 @@ mod running;
 mod sides;
 mod turning;
 
-pub use drive::Outcome;
+pub use attempts::Attempt;
+pub use drive::{Driven, End, Outcome, applied};
 pub use judging::{Normality, Tried, conditions, is_normal};
 pub use reducing::{Budget, reduce};
+pub use running::{drive, try_choice};

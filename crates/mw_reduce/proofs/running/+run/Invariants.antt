@@ -28,7 +28,7 @@ decreases-run_side l = 6 * l.nest
 
 abbrev pub invariant-drive-loop-left : goal.invariant-drive-loop-left
 invariant-drive-loop-left l =
-    (l.left ≤ l.limit) × ((K : Run) → IsRun K l.context.signature → K.over ≡ l.context → K.rank ≡ l.nest → Holds K 0 (data_of K.over l.fn.machine) l.fn.hand → Holds K (l.limit - l.left) (data_of K.over l.machine) l.hand)
+    (l.left ≤ l.limit) × ((K : Run) (k : ℕ) → IsRun K l.context.signature → K.over ≡ l.context → K.rank ≡ l.nest → Holds K k (data_of K.over l.fn.machine) l.fn.hand → Holds K (k + (l.limit - l.left)) (data_of K.over l.machine) l.hand)
 
 abbrev pub decreases-drive-loop-left : goal.decreases-drive-loop-left
 decreases-drive-loop-left l = l.left

@@ -1,4 +1,4 @@
-// Equations as they are indexed.
+// Statements as they are indexed.
 use crate::conditions::Condition;
 use mw_compile::Compiled;
 use mw_pattern::{Pattern, Patterns};
@@ -12,7 +12,7 @@ pub struct Searched {
     pub order: Seq<usize>,
 }
 
-/// The left side of an equation.
+/// The left side of a statement.
 #[derive(Drop)]
 pub enum Left {
     /// The arguments of the operator on top, where no operator has an axiom but the successor of numbers, which isn't on
@@ -22,11 +22,14 @@ pub enum Left {
     Searched(Box<Searched>),
 }
 
-/// An executable equation, with positions for the variables of its canonical right side.
+/// An executable equation or rule as it is applied, from left to right, with positions for the variables of its
+/// canonical right side.
 #[derive(Drop)]
-pub struct Equation {
+pub struct Oriented {
     /// The statement's number, from 1.
     pub number: usize,
+    /// Whether it is a rule.
+    pub rule: bool,
     pub left: Left,
     /// Whether the left side is plain and has no successor either.
     pub sure: bool,

@@ -5,7 +5,7 @@ use Rattle.mw_term.specs.Raws.{raw_term}
 use Rattle.mw_position.specs.Variables.{AreDistinct}
 use Rattle.mw_compile.specs.Compiled.{AreAmong}
 use Rattle.mw_index.proofs.Sides.{variables_distinct, right_among}
-use Rattle.mw_index.proofs.making.equation_of.Goals as goal
+use Rattle.mw_index.proofs.making.oriented.Goals as goal
 
 pub new-requires : goal.new-requires
 new-requires c =

@@ -1,4 +1,4 @@
--- Equations as they are indexed: by their canonical sides, with positions for variables.
+-- Statements as they are indexed: by their canonical sides, with positions for variables.
 use Rattle.std.specs.Prelude.{ℕ, ◌≡◌, ◌-◌, ◌^◌, min, [], map, length, Option, Some, None, IsTrue}
 use Rattle.mw_logic.specs.Term.{RawTerms, apply}
 use Rattle.mw_logic.specs.Signature.{Signature}
@@ -13,10 +13,10 @@ use Rattle.mw_canon.specs.declared.axioms.Axioms.TheVariants as axioms
 use Rattle.mw_match.specs.Straight.{AreStraight}
 use Rattle.mw_index.specs.Free.{IsFree, AreFree}
 use Rattle.mw_index.specs.Conditions.{IsConditionOf}
-use Rattle.mw_index.specs.declared.equations.Equation.{Equation}
-use Rattle.mw_index.specs.declared.equations.Searched.{Searched}
-use Rattle.mw_index.specs.declared.equations.Left.{Left}
-use Rattle.mw_index.specs.declared.equations.Left.TheVariants as left
+use Rattle.mw_index.specs.declared.oriented.Oriented.{Oriented}
+use Rattle.mw_index.specs.declared.oriented.Searched.{Searched}
+use Rattle.mw_index.specs.declared.oriented.Left.{Left}
+use Rattle.mw_index.specs.declared.oriented.Left.TheVariants as left
 
 -- The canonical left side is f on these patterns. f has no axiom, nor has another operator but the successor of numbers. The variables, which
 -- stand by their positions among the left side's, are met in that order.
@@ -43,8 +43,9 @@ abbrev pub HasFreeLeft : Signature → Left → Type 0
 HasFreeLeft sig (left.Plain ps) = AreFree sig ps
 HasFreeLeft sig (left.Searched s) = ⊥
 
--- st is the equation e, for terms with the operator `top` on top, or with none
-pub record IsEquation (sig : Signature) (top : Option ℕ) (e : Statement) (st : Equation) : Type 0 where
+-- st is the statement e, for terms with the operator `top` on top, or with none
+pub record IsOriented (sig : Signature) (top : Option ℕ) (e : Statement) (st : Oriented) : Type 0 where
+  pub rule : st.rule ≡ e.rule
   pub left : IsLeft sig top e st.left
   pub right : clean st.right ≡ placed e.variables (normal_form sig e.right)
   pub free : IsTrue st.free → IsFree sig (clean st.right)

@@ -1,0 +1,5 @@
+pub mod Reaching
+pub mod Finals
+pub mod Untold
+pub mod Places
+pub mod Outcomes
