@@ -7,9 +7,9 @@ use Rattle.std.proofs.lemmas.Option.{same_Some}
 use Rattle.std.proofs.Math.Seq.{drop-append_seam, take-append_seam}
 use Rattle.mw_logic.specs.Term.{RawTerm, RawTerms, apply, nil, cons, join}
 use Rattle.mw_logic.specs.Terms.{terms_of, list_of, front, skip}
-use Rattle.mw_logic.specs.Signature.{Signature, at_number, IsRawTerm, IsSuccessor}
+use Rattle.mw_logic.specs.Signature.{Signature, at_number, IsRawTerm}
 use Rattle.mw_logic.specs.Parts.{is_assoc, nested, all_nested, number_of_terms, IsFrozenArgument, IsFrozen}
-use Rattle.mw_logic.specs.NormalForm.{is_comm, identity_of, is_identity, arranged, applied_in, height}
+use Rattle.mw_logic.specs.NormalForm.{is_comm, identity_of, arranged, applied_in, height}
 use Rattle.mw_logic.specs.CanonicalPart.{IsOpen}
 use Rattle.mw_logic.specs.TermOrder.{sorted_terms}
 use Rattle.mw_logic.specs.Module.{Module}
@@ -34,7 +34,7 @@ use Rattle.mw_frames.specs.declared.job.Job.{Job}
 use Rattle.mw_frames.specs.declared.job.Job.TheVariants.{Normal}
 use Rattle.mw_frames.specs.declared.job.Frame.{Frame}
 use Rattle.mw_frames.specs.Jobs.{rest}
-use Rattle.mw_frames.specs.State.{Run, Data, Leads, IsRun, InHand, Settled, IsGood, AreJobs, AreAtHand, IsDone, IsOpening, IsNormalHere}
+use Rattle.mw_frames.specs.State.{Run, Data, Leads, IsRun, InHand, Settled, AreJobs, AreAtHand, IsDone, IsOpening, IsNormalHere}
 use Rattle.mw_frames.specs.Machines.{IsCutAt}
 use Rattle.mw_frames.specs.Arrivals.{IsNewFrame}
 use Rattle.mw_frames.specs.Entered.{IsEntered}
@@ -48,7 +48,7 @@ use Rattle.mw_frames.proofs.LeftOver.{terms_of-list_of}
 use Rattle.mw_frames.proofs.Normals.{normal_has, stays_seen}
 use Rattle.mw_frames.proofs.OpenHoles.{open_inside}
 use Rattle.mw_frames.proofs.OpeningTerms.{term_opening, opened_into}
-use Rattle.mw_frames.proofs.TakingPart.{each_left, left_climb, among_others, rest_normal, normal_jobs, normal_at_hand, as_done}
+use Rattle.mw_frames.proofs.TakingPart.{left_climb, among_others, rest_normal, normal_jobs, normal_at_hand, as_done}
 use Rattle.mw_frames.proofs.Turning.{alone, enters_cut, rest-append, same_head}
 
 -- an argument between those before it and those behind it

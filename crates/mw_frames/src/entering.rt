@@ -42,7 +42,13 @@ pub fn enter(
     if !stands_beside(facts, machine, frame) {
         return Ok(None);
     }
-    let before = place_of(facts, operator, machine.done.as_slice(), frame.from, argument);
+    let before = place_of(
+        facts,
+        operator,
+        machine.done.as_slice(),
+        frame.from,
+        argument,
+    );
     go_in(machine, frame, before)?;
     let argument = copy(argument)?;
     Ok(Some(argument))

@@ -1,5 +1,5 @@
 -- The index of a module, statement by statement.
-use Rattle.std.specs.Prelude.{◌≡◌, ◌<◌, ◌≤◌, ◌+◌, ◌⊎◌, ℕ, zero, suc, List, [], ◌∷◌, ◌++◌, length, take, get_or, true, false, not, Option, Some, None, IsTrue, IsFalse, slice_get, refl}
+use Rattle.std.specs.Prelude.{◌≡◌, ◌<◌, ◌≤◌, ◌+◌, ◌⊎◌, ℕ, zero, suc, [], ◌∷◌, ◌++◌, length, take, get_or, true, not, Option, Some, None, IsTrue, IsFalse, slice_get, refl}
 use Rattle.std.proofs.Common.{sym, ap, subst, ◌∙◌, arith, inl, inr, ⊎_elim, length-take-le}
 use Rattle.std.proofs.lemmas.Bool.{both_ways}
 use Rattle.std.proofs.lemmas.List.{take_all}
@@ -150,6 +150,10 @@ module _ (M : Module) (n : ℕ) (e : Statement) (l : n < length M.statements) (i
             → (z : Substitution) → IsSolution M.signature d.left (nested M.signature w) [] z → Asks s.section (operator_of t))
         complete k d i f = ⊎_elim
             (λ a. let (s, j, c, asks) = h.rules.complete k d a f in (s, member-left s old.rules.items (new_rule ∷ []) j, c, asks))
-            (λ a. (new_rule, member-last new_rule old.rules.items, number ∙ omega (arith, a.0),
-            λ t w v top z sol. asked_where t w v top z (subst (λ (d : Statement). IsSolution M.signature d.left (nested M.signature w) [] z) (sym a.1) sol)))
+            (λ a. (
+              new_rule,
+              member-last new_rule old.rules.items,
+              number ∙ omega (arith, a.0),
+              λ t w v top z sol. asked_where t w v top z (subst (λ (d : Statement). IsSolution M.signature d.left (nested M.signature w) [] z) (sym a.1) sol),
+            ))
             (is_new k d i)

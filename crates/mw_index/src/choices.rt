@@ -15,8 +15,8 @@ ghost use Rattle.mw_index.specs.Choices.{Tried, subject_of, tried_of, in_order a
 ghost use Rattle.mw_index.specs.declared.index.Index.{Index as IndexOf};
 ghost use Rattle.mw_index.specs.declared.oriented.Oriented.{Oriented as OrientedOf};
 
-use crate::oriented::{Oriented, Left, Searched};
 use crate::index::Index;
+use crate::oriented::{Left, Oriented, Searched};
 use crate::subject::Subject;
 use mw_least::Ctx;
 use mw_match::{Solution, Solutions, all_match, have_sorts};
@@ -86,11 +86,7 @@ fn chosen<'m>(
     if values.len() != by.sorts.as_slice().len() {
         return Ok(None);
     }
-    Ok(Some(Choice {
-        by,
-        values,
-        take,
-    }))
+    Ok(Some(Choice { by, values, take }))
 }
 
 /// Whether a statement's left side has these arguments, by values of its variables' sorts, which are found.

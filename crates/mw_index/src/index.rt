@@ -7,9 +7,9 @@ ghost use Rattle.mw_index.specs.Index.{Asks, asked, listed, own_asked, others_as
 ghost use Rattle.mw_index.specs.Sections.{IsSectionOf, Puts, PutsRule, IsIndexUpTo};
 ghost use Rattle.mw_index.specs.declared.index.Section.TheVariants as Section;
 
-use crate::oriented::Oriented;
 use crate::making::oriented;
 use crate::normal::normal;
+use crate::oriented::Oriented;
 use mw_canon::{Axioms, Facts};
 use mw_least::Ctx;
 use mw_term::{OpId, Statement, Term, View};
@@ -113,12 +113,7 @@ impl Index {
     }
 
     /// Puts an equation behind those with this operator on top.
-    fn put_under(
-        &mut self,
-        alloc: Global,
-        operator: OpId,
-        by: Oriented,
-    ) -> Result<(), AllocError>
+    fn put_under(&mut self, alloc: Global, operator: OpId, by: Oriented) -> Result<(), AllocError>
         ensures here { OnOk result (listed self.new operator ≡ listed self.old operator ++ by ∷ []) }
         ensures others { OnOk result ((f : ℕ) → f ≢ operator → listed self.new f ≡ listed self.old f) }
         ensures any { self.new.any.items ≡ self.old.any.items }

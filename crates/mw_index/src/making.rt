@@ -8,10 +8,10 @@ ghost use Rattle.mw_index.specs.Oriented.{IsLeft, IsSearchedLeft, HasFreeLeft, I
 ghost use Rattle.mw_index.specs.Sections.{AreIn, IsSectionOf};
 
 use crate::conditions::condition_of;
-use crate::oriented::{Oriented, Left, Searched};
 use crate::index::Section;
 use crate::normal::normal;
 use crate::order::{left_places, order_of};
+use crate::oriented::{Left, Oriented, Searched};
 use crate::patterns::{are_free, is_free, pattern_of, plain_arguments};
 use mw_canon::Facts;
 use mw_compile::compile;

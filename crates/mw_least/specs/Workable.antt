@@ -1,6 +1,6 @@
 -- The modules that contexts hold: their signature is preregular modulo its axioms, its built-in operators are tests of equality and choices with the truth
 -- values that they need, and the variables of their statements are bound in turn.
-use Rattle.std.specs.Prelude.{ℕ, ◌≡◌, ◌||◌, [], false, IsTrue, Some}
+use Rattle.std.specs.Prelude.{ℕ, ◌≡◌, ◌||◌, false, IsTrue, Some}
 use Rattle.mw_logic.specs.Term.{Variable, variable}
 use Rattle.mw_logic.specs.Signature.{Signature, at_number, HasKind, IsRawTerm}
 use Rattle.mw_logic.specs.Axioms.{EqualModulo}

@@ -201,5 +201,5 @@ module _ (M : Module) (work : IsWorkable M) (n : ℕ) (t : RawTerm) (raw : IsRaw
       inr (IsAdmitted-equal here (back same) begins_at.admitted, (p, nested here e.term, side_rules count e.term k d kept_as w, rw o at ends))
 
   pub side_done : (limit : ℕ) (k : Track) (d : Data) → d.moves ≡ moves M k → (r : Driven) → r.end.outcome ≡ Done → IsDriven (run_of M n u) limit limit d r → IsShown M n t (record { from = u; to = r.end.term; kept = k })
-  side_done limit k d kept_as r o (count, (left, inl (l, z))) = side_shown count r.end.term k d kept_as (rw o at z)
-  side_done limit k d kept_as r o (count, (left, inr (l, q, z))) = let bad : Done ≡ Stopped reason.Rewrites = sym o ∙ q in cc
+  side_done limit k d kept_as r o (count, left, inl (l, z)) = side_shown count r.end.term k d kept_as (rw o at z)
+  side_done limit k d kept_as r o (count, left, inr (l, q, z)) = let bad : Done ≡ Stopped reason.Rewrites = sym o ∙ q in cc

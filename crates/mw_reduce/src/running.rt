@@ -1,5 +1,5 @@
 // Runs, and those of the sides of conditions inside them.
-ghost use Rattle.std.specs.Prelude.{◌≡◌, ◌<◌, ◌+◌, ℕ, suc, List, [], ◌∷◌, IfOk};
+ghost use Rattle.std.specs.Prelude.{◌≡◌, ◌<◌, ◌≤◌, ◌+◌, ℕ, suc, List, [], ◌∷◌, IfOk};
 ghost use Rattle.mw_logic.specs.Term.{Variable, RawTerm};
 ghost use Rattle.mw_logic.specs.Module.{Module, Fragment, Statement as StatementOf, IsStatement};
 ghost use Rattle.mw_logic.specs.Signature.{IsRawTerm};
@@ -12,6 +12,7 @@ ghost use Rattle.mw_frames.specs.State.{Run, IsRun, Holds};
 ghost use Rattle.mw_frames.specs.Machines.{data_of};
 ghost use Rattle.mw_reduce.specs.Turns.{HasOriented};
 ghost use Rattle.mw_reduce.specs.Driven.{IsDriven};
+ghost use Rattle.mw_reduce.specs.declared.drive.Outcome.TheVariants.{Done as DoneOf};
 ghost use Rattle.mw_reduce.specs.Attempts.{IsTriable, IsAttempt, IsPause};
 ghost use Rattle.mw_reduce.specs.Evaluations.{AreBoundTo, bound_to, AreAsked, IsSomeTest, AreSomeTests, IsSideShown, IsTested, IsVerdict};
 
@@ -30,7 +31,7 @@ use std::alloc::{AllocError, Global};
 /// From step to step, at most `limit` times. Sides of conditions make at most `side` steps each. It goes on from where
 /// the machine stands, whatever was done before.
 #[cycle(run)]
-pub fn drive<'m>(
+pub fn run_on<'m>(
     alloc: Global,
     context: &'m Ctx,
     index: &'m Index,
@@ -42,7 +43,8 @@ pub fn drive<'m>(
     nest: u8,
 ) -> Result<Driven, AllocError>
     requires { IsIndexOf context.now index.now }
-    ensures { (K : Run) (k : ℕ) → IsRun K context.now.signature → K.over ≡ context.now → K.rank ≡ nest → Holds K k (data_of K.over machine.old) hand.entry
+    ensures left { IfOk result (λ r. (r.left ≤ limit) × (r.end.outcome ≡ DoneOf → 0 < r.left)) }
+    ensures is { (K : Run) (k : ℕ) → IsRun K context.now.signature → K.over ≡ context.now → K.rank ≡ nest → Holds K k (data_of K.over machine.old) hand.entry
         → IfOk result (IsDriven K (k + limit) side (data_of K.over machine.new)) }
 {
     let mut hand = hand;
@@ -309,7 +311,7 @@ fn run_side<'m>(
                 mut choices,
             } = Box::into_inner(running);
             let hand = Hand::One(Job::Walk(copy(&from)?));
-            let driven = drive(
+            let driven = run_on(
                 alloc,
                 context,
                 index,

@@ -10,8 +10,7 @@ use Rattle.mw_logic.specs.Substitution.{Substitution, IsSolution}
 use Rattle.mw_logic.specs.Module.{Module, Statement, IsStatement}
 use Rattle.mw_logic.specs.Judgements.{AdmittedStep, admitted_judgements, IsNormal, Fails}
 use Rattle.mw_logic.specs.Ends.{IsFinal}
-use Rattle.mw_logic.proofs.Canonical.{IsCanonical}
-use Rattle.mw_logic.proofs.CanonicalTerms.{canonical}
+use Rattle.mw_logic.proofs.Canonical.{IsCanonical, canonical}
 use Rattle.mw_logic.proofs.Ranks.{admitted_within, normal}
 use Rattle.mw_logic.proofs.SameConditions.{Fails-same}
 use Rattle.mw_logic.proofs.SameSolutions.{same_solution-sym}
@@ -24,7 +23,7 @@ use Rattle.mw_index.specs.Choices.{Tried, solution_of}
 use Rattle.mw_index.specs.declared.index.Rule.{Rule}
 use Rattle.mw_reduce.specs.Turns.{AreFailed}
 use Rattle.mw_reduce.proofs.Ends.{normal_at}
-use Rattle.mw_rule.specs.Spots.{IsReached, itself, IsOpenTop, IsWanted, AreAllSpots}
+use Rattle.mw_rule.specs.Spots.{IsReached, itself, IsOpenTop, AreWanted, AreAllSpots}
 use Rattle.mw_rule.specs.Redexes.{AreAllAsked}
 use Rattle.mw_rule.specs.declared.spots.Wanted.{Wanted}
 use Rattle.mw_rule.specs.declared.spots.Spot.{Spot}
@@ -49,7 +48,7 @@ module _ (M : Module) (work : IsWorkable M) (t : RawTerm) (n : IsNormalTerm M (a
       let (m, c) = reached_normal M ok sorted (admitted_judgements M 63).Fails t u n is_canonical h in
       record { canonical = c; raw = m.raw; ground = m.normal.admitted.ground }
 
-  pub all_fail : (wanted : Wanted) (rules : List Rule) → AreRulesOf M rules → ((r : Rule) → Member r rules → (u : RawTerm) → Asks r.section (operator_of u) → IsWanted wanted u)
+  pub all_fail : (wanted : Wanted) (rules : List Rule) → AreRulesOf M rules → AreWanted rules wanted
       → (spots : List Spot) → AreAllSpots M.signature wanted t spots → (tried : List Tried) → AreFailed M 63 tried → AreAllAsked M rules spots tried → IsFinal M (nested M.signature t)
   all_fail wanted rules are asks spots listed tried failed all = final_found M ok sorted t n.raw n.canonical is_normal each
     where
@@ -59,7 +58,8 @@ module _ (M : Module) (work : IsWorkable M) (t : RawTerm) (n : IsNormalTerm M (a
           let (x, member, number, asked) = are.complete k r is rule in
           let (spot, here, same) = listed.complete u reached (asks x member u (asked u w (reached_value u reached) (open_top M.signature u w place) s sol)) in
           let there : IsStatement M x.by.number r = subst (λ i. IsStatement M i r) (sym number) is in
-          let (c, tried_it, of, alike) = all x member spot here r there w (subst (λ v. IsOpenTop M.signature v w) (sym same) place) s sol in
+          let asks_it : Asks x.section (operator_of spot.term.now) = subst (λ v. Asks x.section (operator_of v)) (sym same) (asked u w (reached_value u reached) (open_top M.signature u w place) s sol) in
+          let (c, tried_it, of, alike) = all x member spot here asks_it r there w (subst (λ v. IsOpenTop M.signature v w) (sym same) place) s sol in
           let f = failed c tried_it r (subst (λ i. IsStatement M i r) (sym of) there) in
           (admitted_within M 63).Fails r.fragments s
           (Fails-same M (AdmittedStep M) 63 r.fragments (solution_of M.signature r c.values) s (same_solution-sym M.signature s (solution_of M.signature r c.values) alike) f.substitution f.fails)

@@ -3,3 +3,5 @@ pub mod Finals
 pub mod Untold
 pub mod Places
 pub mod Outcomes
+mod Listed
+mod Passed

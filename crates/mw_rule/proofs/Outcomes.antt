@@ -1,5 +1,5 @@
 -- What the end of a rewriting says of its proof.
-use Rattle.std.specs.Prelude.{◌≡◌, ◌≢◌, ◌<◌, ℕ, zero, suc, true, Option, Some, IsTrue, refl}
+use Rattle.std.specs.Prelude.{◌≡◌, ◌≢◌, ◌<◌, ◌≤◌, ℕ, zero, suc, true, Option, Some, IsTrue, refl}
 use Rattle.std.proofs.Common.{sym, subst, ap, ◌∙◌}
 use Rattle.mw_logic.specs.Term.{RawTerm}
 use Rattle.mw_logic.specs.Parts.{nested}
@@ -60,19 +60,19 @@ module _ (K : Run) (rank : K.rank ≡ 63) (b : Bounds) (count : ℕ) (d : Data) 
   stopped (Stopped why) n h = h
 
   by_rule : (l : count < b.steps) → Some K.rules ≢ b.rules → IsNormal M 63 u → (o : Outcome) → EndsThere K count b.side d e.term o → IsRewritten M limits t0 p u o
-  by_rule l n k o h = at_rank K.rank rank o h
+  by_rule l n k o h = at_end o h
     where
       may : MayTry M 63 limits p u true
       may x = (refl, k, not_bound n)
 
-      at_rank : (r : ℕ) → K.rank ≡ r → (o : Outcome) → EndsThere K count b.side d e.term o → IsRewritten M limits t0 p u o
-      at_rank r q Done h = (below l, not_bound n, h)
-      at_rank r q (Stopped reason.Rules) h = absurd h
-      at_rank r q (Stopped reason.Rewrites) h = absurd h
-      at_rank r q (Stopped reason.Depth) h = stops_by_depth M 63 t0 p u limits true may proves (below l) (subst (λ n. Rattle.mw_frames.specs.Fires.WouldBeTooDeep M n true u) rank h)
-      at_rank r q (Stopped reason.Nat) h = stops_by_large M 63 t0 p u limits true may proves (below l) (subst (λ n. Rattle.mw_frames.specs.Fires.WouldBeTooLarge M n true u) rank h)
-      at_rank r q (Stopped reason.Nest) h = stops_by_nest M 63 limits t0 p u true may proves (below l) h.part h.context h.is_part (λ x. h.free) (subst (λ n. Rattle.mw_reduce.specs.Attempts.IsHalting M true n b.side h.part reason.Nest) rank h.halting)
-      at_rank r q (Stopped reason.Condition) h = stops_by_side M 63 limits t0 p u true may proves (below l) h.part h.context h.is_part (λ x. h.free) (subst (λ n. Rattle.mw_reduce.specs.Attempts.IsHalting M true n b.side h.part reason.Condition) rank h.halting)
+      at_end : (o : Outcome) → EndsThere K count b.side d e.term o → IsRewritten M limits t0 p u o
+      at_end Done h = (below l, not_bound n, h)
+      at_end (Stopped reason.Rules) h = absurd h
+      at_end (Stopped reason.Rewrites) h = absurd h
+      at_end (Stopped reason.Depth) h = stops_by_depth M 63 t0 p u limits true may proves (below l) (subst (λ n. Rattle.mw_frames.specs.Fires.WouldBeTooDeep M n true u) rank h)
+      at_end (Stopped reason.Nat) h = stops_by_large M 63 t0 p u limits true may proves (below l) (subst (λ n. Rattle.mw_frames.specs.Fires.WouldBeTooLarge M n true u) rank h)
+      at_end (Stopped reason.Nest) h = stops_by_nest M 63 limits t0 p u true may proves (below l) h.part h.context h.is_part (λ x. h.free) (subst (λ n. Rattle.mw_reduce.specs.Attempts.IsHalting M true n b.side h.part reason.Nest) rank h.halting)
+      at_end (Stopped reason.Condition) h = stops_by_side M 63 limits t0 p u true may proves (below l) h.part h.context h.is_part (λ x. h.free) (subst (λ n. Rattle.mw_reduce.specs.Attempts.IsHalting M true n b.side h.part reason.Condition) rank h.halting)
 
   pub rewritten_by : EndsRewriting K b count d e → IsRewritten M limits t0 p u e.outcome
   rewritten_by (by_equations h n) =
@@ -87,7 +87,7 @@ pub rewriting_from : (M : Module) → IsWorkable M → (b : Bounds) → (t : Raw
     → IsKept M 63 t e.term k × IsRewritingOf M t b (deduced M 63 t e.term k) e.outcome
 rewriting_from M w b t a k d e is (r, count, h) =
     let K : Run = with_rules r (run_of M 63 t) in
-    let low = omega Rattle.std.proofs.Common.arith in
+    let low : 63 ≤ 63 = omega Rattle.std.proofs.Common.arith in
     let f : IsWhole K count d e.term = whole_at_end K b count d e h in
     let tree = its_proof M w 63 low t a r k count d e.term is f in
     let proves = proves_it M w 63 low t a r k count d e.term is f in

@@ -1,8 +1,8 @@
 -- The parts that rules may change, by where they stand.
-use Rattle.std.specs.Prelude.{◌≡◌, ◌<◌, ℕ, zero, suc, Bool, true, false, ◌||◌, cond, List, [], ◌∷◌, Some, slice_get, IsTrue, refl}
+use Rattle.std.specs.Prelude.{◌≡◌, ◌<◌, ◌-◌, ℕ, zero, suc, Bool, true, false, ◌||◌, cond, List, [], ◌∷◌, Some, slice_get, IsTrue, refl}
 use Rattle.std.proofs.Common.{sym, subst, ap, ◌∙◌, arith}
 use Rattle.mw_logic.specs.Term.{RawTerm, RawTerms, apply, nil, cons, join}
-use Rattle.mw_logic.specs.Terms.{list_of}
+use Rattle.mw_logic.specs.Terms.{list_of, front}
 use Rattle.mw_logic.specs.Signature.{Signature, at_number}
 use Rattle.mw_logic.specs.Accepted.{IsAccepted, IsWellSorted}
 use Rattle.mw_logic.specs.Parts.{is_assoc, number_of_terms, IsFrozenArgument}
@@ -15,7 +15,7 @@ use Rattle.mw_logic.proofs.Canonical.{Each, IsCanonical}
 use Rattle.mw_deduction.specs.Tops as top
 use Rattle.mw_deduction.specs.Tops.{IsTop, IsNormalTerm}
 use Rattle.mw_frames.specs.Taking.{before_taken, behind_taken}
-use Rattle.mw_frames.proofs.IntoArguments.{one_taken, number_before}
+use Rattle.mw_frames.proofs.IntoArguments.{one_taken}
 use Rattle.mw_frames.proofs.Normals.{normal_has}
 use Rattle.mw_rule.specs.Spots.{IsReached, itself, argument, IsOpenTop, whole, several}
 
@@ -29,6 +29,16 @@ pub part_reached : (sig : Signature) (root v w : RawTerm) → IsReached sig root
 part_reached sig root v w h part.whole = (v, h, whole)
 part_reached sig root v w h (part.argument f b t a o p) = part_reached sig root t w (argument f (join b (cons t a)) (suc (number_of_terms b)) t h (there b t a) o) p
 part_reached sig root v w h (part.several A o m c) = (v, h, several A o m c)
+
+-- how many arguments stand before the one with a number
+number_before : (k : ℕ) (ts : RawTerms) (u : RawTerm) → at_number (list_of ts) k ≡ Some u → suc (number_of_terms (before_taken (k ∷ []) ts)) ≡ k
+number_before zero ts u e = cc
+number_before (suc k) ts u e = let z : suc k - 1 ≡ k = omega arith in ap (λ i. suc (number_of_terms (front i ts))) z ∙ ap suc (by_place k ts e)
+  where
+    by_place : (j : ℕ) (ts : RawTerms) → slice_get (list_of ts) j ≡ Some u → number_of_terms (front j ts) ≡ j
+    by_place zero ts e = refl
+    by_place (suc j) nil e = cc
+    by_place (suc j) (cons t ts) e = ap suc (by_place j ts e)
 
 -- and the other way
 pub reached_part : (sig : Signature) (root u w : RawTerm) → IsReached sig root u → IsPartOf sig true u w → IsPartOf sig true root w

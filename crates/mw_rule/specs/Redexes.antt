@@ -1,5 +1,5 @@
 -- How far rules are asked at the parts of a term.
-use Rattle.std.specs.Prelude.{◌≡◌, ◌⊎◌, ◌<◌, ℕ, List, true, Some, slice_get, length}
+use Rattle.std.specs.Prelude.{◌≡◌, ◌⊎◌, ◌<◌, ℕ, List, [], true, Some, slice_get, length}
 use Rattle.mw_logic.specs.Term.{RawTerm, RawTerms, apply}
 use Rattle.mw_logic.specs.Signature.{Signature, Member}
 use Rattle.mw_logic.specs.CanonicalPart.{IsOpen}
@@ -7,6 +7,7 @@ use Rattle.mw_logic.specs.Substitution.{Substitution, IsSolution}
 use Rattle.mw_logic.specs.Parts.{nested}
 use Rattle.mw_logic.specs.Module.{Module, Statement, IsStatement}
 use Rattle.mw_solving.specs.Values.{IsValue}
+use Rattle.mw_index.specs.Index.{Asks, operator_of}
 use Rattle.mw_index.specs.Choices.{Tried, tried_of, IsTried, IsChoice, IsKept, IsUnderWay}
 use Rattle.mw_index.specs.declared.index.Rule.{Rule}
 use Rattle.mw_index.specs.declared.choices.Choice.{Choice}
@@ -20,9 +21,11 @@ use Rattle.mw_rule.specs.declared.redexes.Redexes.{Redexes}
 abbrev pub AreValuesAt : Module → List Spot → Type 0
 AreValuesAt M spots = (s : Spot) → Member s spots → IsValue M.signature s.term.now
 
--- Each solution of the statement of this number for the term v, or for several of its arguments that rules may change, is tried.
-abbrev pub AreTriedOpen : Module → RawTerm → List Tried → ℕ → Type 0
-AreTriedOpen M v tried k = (e : Statement) → IsStatement M k e → (w : RawTerm) → IsOpenTop M.signature v w → (s : Substitution) → IsSolution M.signature e.left (nested M.signature w) [] s → IsTried M.signature tried k e s
+-- Where the rule is asked for the term v, each of its solutions for v, or for several of its arguments that rules may change, is tried.
+abbrev pub AreTriedOpen : Module → RawTerm → List Tried → Rule → Type 0
+AreTriedOpen M v tried r =
+    Asks r.section (operator_of v) → (e : Statement) → IsStatement M r.by.number e → (w : RawTerm) → IsOpenTop M.signature v w → (s : Substitution) → IsSolution M.signature e.left (nested M.signature w) [] s
+    → IsTried M.signature tried r.by.number e s
 
 -- a choice of a rule at the term v, which takes several arguments only where rules may change them
 pub record IsFoundAt (M : Module) (v : RawTerm) (c : Choice) : Type 0 where
@@ -56,12 +59,16 @@ pub record IsFoundIn (M : Module) (spots : List Spot) (f : Found) : Type 0 where
   pub there : slice_get spots f.at ≡ Some spot
   pub found : IsFoundAt M spot.term.now f.choice
 
--- Rules that were passed are tried at all parts, the present one at those before; at the part where it stands it is asked.
+-- Rules before this one are tried at all parts, and this one at the parts before.
+pub record AreBehind (M : Module) (rules : List Rule) (spots : List Spot) (tried : List Tried) (rule at : ℕ) : Type 0 where
+  pub passed : (i : ℕ) (r : Rule) → i < rule → slice_get rules i ≡ Some r → (s : Spot) → Member s spots → AreTriedOpen M s.term.now tried r
+  pub before : (r : Rule) → slice_get rules rule ≡ Some r → (j : ℕ) (s : Spot) → j < at → slice_get spots j ≡ Some s → AreTriedOpen M s.term.now tried r
+
+-- so far rules are asked; at the part where it stands the present one is asked
 pub record AreAsked (M : Module) (rules : List Rule) (spots : List Spot) (tried : List Tried) (x : Redexes) : Type 0 where
-  pub passed : (i : ℕ) (r : Rule) → i < x.rule → slice_get rules i ≡ Some r → (s : Spot) → Member s spots → AreTriedOpen M s.term.now tried r.by.number
-  pub before : (r : Rule) → slice_get rules x.rule ≡ Some r → (j : ℕ) (s : Spot) → j < x.at → slice_get spots j ≡ Some s → AreTriedOpen M s.term.now tried r.by.number
+  pub behind : AreBehind M rules spots tried x.rule x.at
   pub here : (r : Rule) (s : Spot) → slice_get rules x.rule ≡ Some r → slice_get spots x.at ≡ Some s → IsAskedThere M s.term.now r tried x.choices
 
 -- all rules are tried at all parts
 abbrev pub AreAllAsked : Module → List Rule → List Spot → List Tried → Type 0
-AreAllAsked M rules spots tried = (r : Rule) → Member r rules → (s : Spot) → Member s spots → AreTriedOpen M s.term.now tried r.by.number
+AreAllAsked M rules spots tried = (r : Rule) → Member r rules → (s : Spot) → Member s spots → AreTriedOpen M s.term.now tried r

@@ -6,6 +6,8 @@ use Rattle.mw_logic.specs.Signature.{Signature, Member, IsAssociative, at_number
 use Rattle.mw_logic.specs.NormalForm.{is_comm}
 use Rattle.mw_logic.specs.CanonicalPart.{IsOpen, AreSeveral, IsCut}
 use Rattle.mw_term.specs.OperatorSets.{Lacks}
+use Rattle.mw_index.specs.Index.{Asks, operator_of}
+use Rattle.mw_index.specs.declared.index.Rule.{Rule}
 use Rattle.mw_rule.specs.declared.spots.Spot.{Spot}
 use Rattle.mw_rule.specs.declared.spots.Wanted.{Wanted}
 use Rattle.mw_rule.specs.declared.spots.Wanted.TheVariants as wanted
@@ -29,6 +31,10 @@ pub data IsOpenTop (sig : Signature) : RawTerm → RawTerm → Type 0 where
 abbrev pub IsWanted : Wanted → RawTerm → Type 0
 IsWanted (wanted.Operators s) t = (f : ℕ) × (ts : RawTerms) × (t ≡ apply f ts) × (Lacks s f → ⊥)
 IsWanted wanted.All t = ⊤
+
+-- what these rules are asked for is wanted
+abbrev pub AreWanted : List Rule → Wanted → Type 0
+AreWanted rules w = (r : Rule) → Member r rules → (t : RawTerm) → Asks r.section (operator_of t) → IsWanted w t
 
 -- A part is the root, which is the first, or an argument, which rules may change, of a part before it.
 pub record IsSpot (sig : Signature) (root : RawTerm) (spots : List Spot) (j : ℕ) (s : Spot) : Type 0 where

@@ -1,5 +1,5 @@
 -- What rules leave of a normal whole.
-use Rattle.std.specs.Prelude.{◌≡◌, ◌≢◌, ◌<◌, ℕ, suc, true, List, Some, slice_get, ⊥}
+use Rattle.std.specs.Prelude.{◌≡◌, ◌≢◌, ◌<◌, ℕ, suc, true, List, Some, slice_get}
 use Rattle.mw_logic.specs.Term.{RawTerm, Context}
 use Rattle.mw_logic.specs.Signature.{Signature}
 use Rattle.mw_logic.specs.Parts.{nested, IsPart, IsFrozen}

@@ -2,10 +2,11 @@
 ghost use Rattle.std.specs.Prelude.{◌≡◌, ◌-◌, ℕ, true, option_map, IfOk};
 ghost use Rattle.mw_logic.specs.Term.{RawTerm};
 ghost use Rattle.mw_canon.specs.Canonical.{IsAdmittedTerm};
-ghost use Rattle.mw_index.specs.Index.{IsIndexOf};
+ghost use Rattle.mw_index.specs.Index.{IsIndexOf, AreRulesOf};
 ghost use Rattle.mw_frames.specs.State.{Run, IsRun, Holds};
 ghost use Rattle.mw_frames.specs.Steps.{IsEnd};
 ghost use Rattle.mw_frames.specs.Machines.{data_of};
+ghost use Rattle.mw_rule.specs.Spots.{AreWanted};
 ghost use Rattle.mw_rule.specs.Stepped.{IsMadeAt, IsLooked, IsStepped, IsRewrittenBy};
 ghost use Rattle.mw_rule.specs.Rewritings.{IsRewritingOf};
 ghost use Rattle.mw_rule.specs.declared.rewriting.Stepped.TheVariants.{Ends as EndsOf};
@@ -15,10 +16,10 @@ use crate::going::go_to;
 use crate::redexes::{Found, Redexes};
 use crate::spots::{Spot, Wanted, spots_of, wanted_by};
 use mw_frames::{Asked, Fired, Hand, Job, Machine, fire};
-use mw_index::{Choice, Choices, Index};
+use mw_index::{Choice, Choices, Index, Rule};
 use mw_least::Ctx;
 use mw_proof::{Proved, Reason};
-use mw_reduce::{Attempt, Driven, End, Outcome, applied, drive, try_choice};
+use mw_reduce::{Attempt, Driven, End, Outcome, applied, run_on, try_choice};
 use mw_term::{Term, copy};
 use mw_trail::Trail;
 use std::alloc::{AllocError, Global};
@@ -76,7 +77,10 @@ fn fire_at<'m>(
     let facts = context.facts();
     machine.restart();
     go_to(alloc, facts, machine, spots, at)?;
-    let part = copy(spots[at].term)?;
+    let part = match spots.get(at) {
+        Some(spot) => copy(spot.term)?,
+        None => return Err(AllocError),
+    };
     let fired = fire(
         alloc,
         facts,
@@ -96,11 +100,14 @@ fn look<'m>(
     context: &'m Ctx,
     index: &'m Index,
     machine: &mut Machine<'m>,
+    rules: &'m [Rule],
     wanted: Wanted,
     term: &Term,
     side: u64,
 ) -> Result<Looked<'m>, AllocError>
-    requires { IsIndexOf context.now index.now }
+    requires index { IsIndexOf context.now index.now }
+    requires rules { AreRulesOf context.now rules.now }
+    requires wanted { AreWanted rules.now wanted }
     ensures { (K : Run) (k : ℕ) → IsRun K context.now.signature → K.over ≡ context.now → K.rank ≡ 63 → IsEnd K k (data_of K.over machine.old) term.now
         → IfOk result (IsLooked K k side (data_of K.over machine.new) term.now) }
 {
@@ -110,7 +117,7 @@ fn look<'m>(
     let mut rounds = u64::MAX;
     while rounds > 0 {
         rounds -= 1;
-        let Some(mut found) = redexes.next(alloc, context, index, spots.as_slice())? else {
+        let Some(mut found) = redexes.next(alloc, context, rules, spots.as_slice())? else {
             return Ok(Looked::Nothing);
         };
         match try_choice(alloc, context, index, &mut found.choice, side, 63)? {
@@ -131,15 +138,18 @@ fn step<'m>(
     context: &'m Ctx,
     index: &'m Index,
     machine: &mut Machine<'m>,
+    rules: &'m [Rule],
     wanted: Wanted,
     term: Term,
     side: u64,
 ) -> Result<Stepped<'m>, AllocError>
-    requires { IsIndexOf context.now index.now }
+    requires index { IsIndexOf context.now index.now }
+    requires rules { AreRulesOf context.now rules.now }
+    requires wanted { AreWanted rules.now wanted }
     ensures { (K : Run) (k : ℕ) → IsRun K context.now.signature → K.over ≡ context.now → K.rank ≡ 63 → IsEnd K k (data_of K.over machine.old) term
         → IfOk result (IsStepped K k side (data_of K.over machine.new)) }
 {
-    match look(alloc, context, index, machine, wanted, &term, side)? {
+    match look(alloc, context, index, machine, rules, wanted, &term, side)? {
         Looked::Nothing => Ok(ended(term, Outcome::Done)),
         Looked::Halts(reason) => Ok(ended(term, Outcome::Stopped(reason))),
         Looked::Fires(Fired::Goes(hand)) => Ok(Stepped::Goes(hand)),
@@ -168,12 +178,13 @@ fn run<'m>(
         → IfOk result (IsRewrittenBy K bounds (data_of K.over machine.new)) }
 {
     let mut choices = Choices::new(alloc);
-    let wanted = wanted_by(index.rules());
+    let rules = index.rules();
+    let wanted = wanted_by(rules);
     let mut hand = hand;
     let mut left = bounds.steps;
-    let mut rules = bounds.rules;
+    let mut bound = bounds.rules;
     loop {
-        let driven = drive(
+        let driven = run_on(
             alloc,
             context,
             index,
@@ -189,15 +200,24 @@ fn run<'m>(
         if !matches!(outcome, Outcome::Done) {
             return Ok(End { term, outcome });
         }
-        if matches!(rules, Some(0)) {
+        if matches!(bound, Some(0)) {
             let outcome = Outcome::Stopped(Reason::Rules);
             return Ok(End { term, outcome });
         }
-        match step(alloc, context, index, machine, wanted, term, bounds.side)? {
+        match step(
+            alloc,
+            context,
+            index,
+            machine,
+            rules,
+            wanted,
+            term,
+            bounds.side,
+        )? {
             Stepped::Goes(next) => {
                 hand = next;
                 left = more.saturating_sub(1);
-                rules = one_less(rules);
+                bound = one_less(bound);
             }
             Stepped::Ends(end) => {
                 return Ok(end);
@@ -207,10 +227,10 @@ fn run<'m>(
 }
 
 /// One rule less is left.
-fn one_less(rules: Option<u64>) -> Option<u64>
-    ensures { result ≡ option_map (λ n. n - 1) rules }
+fn one_less(bound: Option<u64>) -> Option<u64>
+    ensures { result ≡ option_map (λ n. n - 1) bound }
 {
-    match rules {
+    match bound {
         Some(left) => Some(left.saturating_sub(1)),
         None => None,
     }

@@ -1,11 +1,8 @@
 // The parts of a term at which rules are asked.
-ghost use Rattle.std.specs.Prelude.{◌≡◌, ◌<◌, ◌+◌, IsFalse, IfOk, OnOk, length, ⊥};
+ghost use Rattle.std.specs.Prelude.{◌≡◌, ◌<◌, ◌+◌, IsFalse, IfOk, OnOk, length};
 ghost use Rattle.mw_logic.specs.Term.{RawTerm};
 ghost use Rattle.mw_logic.specs.Terms.{args_of, list_of};
-ghost use Rattle.mw_logic.specs.Signature.{Member};
-ghost use Rattle.mw_index.specs.Index.{Asks, operator_of};
-ghost use Rattle.mw_index.specs.declared.index.Rule.{Rule as RuleOf};
-ghost use Rattle.mw_rule.specs.Spots.{IsInside, IsWanted, AreSpots, AreAllSpots};
+ghost use Rattle.mw_rule.specs.Spots.{IsInside, IsWanted, AreWanted, AreSpots, AreAllSpots};
 
 use mw_canon::Facts;
 use mw_index::{Rule, Section};
@@ -31,7 +28,7 @@ pub enum Wanted {
 
 /// On top of which terms these rules are asked.
 pub fn wanted_by(rules: &[Rule]) -> Wanted
-    ensures { (r : RuleOf) → Member r rules.now → (t : RawTerm) → Asks r.section (operator_of t) → IsWanted result t }
+    ensures { AreWanted rules.now result }
 {
     let mut sought = Sought::none();
     for rule in rules {

@@ -1,5 +1,5 @@
 use Rattle.std.specs.Prelude.{option_map}
-use Rattle.std.proofs.Common.{rules, refl, ap, sym, subst, ◌∙◌, ◌≡◌, ◌≤◌, ◌<◌, ◌⊎◌, ◌∷◌, [], ◌++◌, ℕ, suc, true, length, drop, Some, reverse}
+use Rattle.std.proofs.Common.{rules, refl, ap, sym, subst, ◌∙◌, ◌≡◌, ◌≤◌, ◌<◌, ◌⊎◌, ◌∷◌, [], ◌++◌, suc, true, length, drop, Some, reverse}
 use Rattle.std.proofs.lemmas.List.{reverse-append}
 use Rattle.mw_logic.specs.Term.{apply}
 use Rattle.mw_logic.specs.Terms.{terms_of, list_of, args_of}

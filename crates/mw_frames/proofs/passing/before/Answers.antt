@@ -1,10 +1,8 @@
-use Rattle.std.proofs.Common.{subst, ◌≡◌, ◌≤◌, ℕ, zero, suc, drop, Bool, true, false, refl, arith}
+use Rattle.std.proofs.Common.{subst, ◌≡◌, ℕ, drop, Bool, true, false, refl, arith}
 use Rattle.std.proofs.lemmas.List.{length-drop}
-use Rattle.mw_logic.specs.Term.{RawTerm, RawTerms, nil, cons}
-use Rattle.mw_logic.specs.Terms.{skip}
-use Rattle.mw_logic.specs.Signature.{Signature}
+use Rattle.mw_logic.specs.Term.{RawTerm, RawTerms}
 use Rattle.mw_logic.specs.Parts.{number_of_terms}
-use Rattle.mw_logic.specs.NormalForm.{is_comm, arranged}
+use Rattle.mw_logic.specs.NormalForm.{is_comm}
 use Rattle.mw_stack.specs.Own.{own}
 use Rattle.mw_stack.specs.Places.{IsPlace}
 use Rattle.mw_stack.proofs.Piles.{number-terms_of}

@@ -35,8 +35,8 @@ use Rattle.mw_reduce.proofs.running.+run.Goals as goal
 made_less : (limit left made n m : ℕ) → left ≤ limit → made ≤ left → 0 < made → m ≡ max made 1 → n ≡ left - m → limit - left + made ≡ limit - n
 made_less limit left made n m a b c d e = omega (arith, a, b, c, d, e)
 
-pub drive-loop-left-preserved : goal.drive-loop-left-preserved
-drive-loop-left-preserved m c = (
+pub run_on-loop-left-preserved : goal.run_on-loop-left-preserved
+run_on-loop-left-preserved m c = (
   let a = c.loop-left.invariant.0 in let e = c.saturating_sub-left.ensures in omega (arith, a, e),
   λ K k run here rank h.
       let n : ℕ = k + (c.args.limit - c.loop-left.left) in
@@ -46,19 +46,25 @@ drive-loop-left-preserved m c = (
       subst (λ i. Holds K i (data_of K.over c.go_on.new.machine) c.in-Goes.next) (omega (arith, more)) z,
 )
 
-pub drive-returns-in-Ends : goal.drive-returns-in-Ends
-drive-returns-in-Ends m c = λ K k run here rank h.
+pub run_on-returns-in-Ends-clause-left : goal.run_on-returns-in-Ends-clause-left
+run_on-returns-in-Ends-clause-left m c = (c.loop-left.invariant.0, λ e. (search rules))
+
+pub run_on-returns-in-Ends-clause-is : goal.run_on-returns-in-Ends-clause-is
+run_on-returns-in-Ends-clause-is m c = λ K k run here rank h.
     let n : ℕ = k + (c.args.limit - c.loop-left.left) in
     let p = c.in_ok-pause.ensures K n run here rank (c.loop-left.invariant.1 K k run here rank h) in
     let z = rw c.in-Ends.is at (c.in_ok-next.ensures K n c.args.side run here (search rules) p) in
     let low : c.args.limit - c.loop-left.left < c.args.limit = (search rules) in
-    let a = c.loop-left.invariant.0 in (n, (omega (arith, a), inl (omega (arith, low), z)))
+    let a = c.loop-left.invariant.0 in (n, omega (arith, a), inl (omega (arith, low), z))
 
-pub drive-returns : goal.drive-returns
-drive-returns m c = λ K k run here rank h.
+pub run_on-returns-clause-left : goal.run_on-returns-clause-left
+run_on-returns-clause-left m c = (omega arith, λ e. cc)
+
+pub run_on-returns-clause-is : goal.run_on-returns-clause-is
+run_on-returns-clause-is m c = λ K k run here rank h.
     let n : ℕ = k + (c.args.limit - c.loop-left.left) in
     let all : c.args.limit - c.loop-left.left ≡ c.args.limit = (search rules) in
-    (n, (omega (arith, all), inr (omega (arith, all), refl, c.in_ok-term.ensures K n (rw c.facts.ensures run) (c.loop-left.invariant.1 K k run here rank h))))
+    (n, omega (arith, all), inr (omega (arith, all), refl, c.in_ok-term.ensures K n (rw c.facts.ensures run) (c.loop-left.invariant.1 K k run here rank h)))
 
 pub find-loop-rounds-preserved-in-Goes : goal.find-loop-rounds-preserved-in-Goes
 find-loop-rounds-preserved-in-Goes m c = (tt, λ K k run here rank h. rw c.in-Goes.is at (c.in_ok-next.ensures.means K k run here (c.loop-rounds.invariant.1 K k run here rank h)))
@@ -165,7 +171,7 @@ run_side-returns-in_ok-driven-in-Runs m c = λ n xs t nest asked is bound.
     let hand : Holds (run_of M n r.from) 0 (data_of M r.machine) (One (Walk c.in_ok-copy-in-Runs.field-0)) =
     subst (λ u. Holds (run_of M n r.from) 0 (data_of M r.machine) (One (Walk u))) (sym c.in_ok-copy-in-Runs.ensures) (begins_run M work n r.from low r.machine empty) in
     c.end_side.ensures M n c.args.limit v work (side_raw M work xs c.args.values.now bound t asked) low from
-    (from_none (run_of M n r.from) c.args.limit c.args.limit _ c.in_ok-driven-in-Runs.driven (c.in_ok-driven-in-Runs.ensures (run_of M n r.from) 0 (is_run M work n r.from low) refl (let e = nest in omega (arith, e)) hand))
+    (from_none (run_of M n r.from) c.args.limit c.args.limit _ c.in_ok-driven-in-Runs.driven (c.in_ok-driven-in-Runs.ensures.is (run_of M n r.from) 0 (is_run M work n r.from low) refl (let e = nest in omega (arith, e)) hand))
 
 pub try_choice-returns-then-is_empty-clause-means : goal.try_choice-returns-then-is_empty-clause-means
 try_choice-returns-then-is_empty-clause-means m c = λ t may.
