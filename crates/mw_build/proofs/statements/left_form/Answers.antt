@@ -4,9 +4,9 @@ use Rattle.mw_logic.specs.NormalForm.{normal_form}
 use Rattle.mw_term.specs.Raws.{raw_term}
 use Rattle.mw_term.specs.Statements.{fragment_of}
 use Rattle.mw_module.specs.declared.faults.FaultKind.{FaultKind}
-use Rattle.mw_build.specs.Equations.{FitsIn, Oversized, FirstOversized, here, behind, terms_of}
+use Rattle.mw_build.specs.Statements.{FitsIn, Oversized, FirstOversized, here, behind, terms_of}
 use Rattle.mw_build.proofs.Terms.{fits_so}
-use Rattle.mw_build.proofs.equations.left_form.Goals as goal
+use Rattle.mw_build.proofs.statements.left_form.Goals as goal
 
 pub returns-in-Err : goal.returns-in-Err
 returns-in-Err c =

@@ -5,9 +5,9 @@ use Rattle.mw_logic.specs.NormalForm.{normal_form}
 use Rattle.mw_term.specs.Raws.{raw_term}
 use Rattle.mw_term.specs.Statements.{fragment_of}
 use Rattle.mw_module.specs.declared.faults.FaultKind.TheVariants.{UnboundVariable}
-use Rattle.mw_build.specs.Equations.{ApplicationFault, lone, open_term}
+use Rattle.mw_build.specs.Statements.{ApplicationFault, lone, open_term}
 use Rattle.mw_build.proofs.Sides.{is_lone, not_lone}
-use Rattle.mw_build.proofs.equations.application_fault.Goals as goal
+use Rattle.mw_build.proofs.statements.application_fault.Goals as goal
 
 pub returns-then-is_variable : goal.returns-then-is_variable
 returns-then-is_variable c = λ sig ok raw is.

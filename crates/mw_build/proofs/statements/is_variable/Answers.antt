@@ -2,7 +2,7 @@ use Rattle.std.proofs.Common.{◌∙◌, ap, refl, sym}
 use Rattle.std.proofs.lemmas.Bool.{both_ways}
 use Rattle.mw_term.specs.Shapes.{viewed}
 use Rattle.mw_build.proofs.Sides.{not_variable}
-use Rattle.mw_build.proofs.equations.is_variable.Goals as goal
+use Rattle.mw_build.proofs.statements.is_variable.Goals as goal
 
 pub returns-in-Var : goal.returns-in-Var
 returns-in-Var c = (λ h. (_, c.view.ensures ∙ ap viewed c.in-Var.is), λ h. refl)

@@ -1,4 +1,4 @@
-// Equations, from tokens to statements.
+// Equations and rules, from tokens to statements.
 ghost use Rattle.std.specs.Prelude.{◌≡◌, ◌↔◌, List, All, map, IfOk, IsTrue, MatchOption, MatchResult};
 ghost use Rattle.mw_logic.specs.Term.{Variable, variable as a_variable};
 ghost use Rattle.mw_logic.specs.Signature.{Signature as SignatureOf, IsRawTerm};
@@ -11,8 +11,8 @@ ghost use Rattle.mw_module.specs.Words.{texts};
 ghost use Rattle.mw_text.specs.Readings.{ReadsPair};
 ghost use Rattle.mw_least.specs.Conditions.{AreRawFragments};
 ghost use Rattle.mw_grammar.specs.Grammars.{IsGrammarOf, IsReading};
-ghost use Rattle.mw_build.specs.Equations.{FitsIn, FirstOversized, all_terms, IsEquation, EquationFault, IsApplicable, ApplicationFault, AreFine, IsStatementOf, TermsFault, AreEquations, FirstFault};
-ghost use Rattle.mw_build.specs.Sides.{equations_of, seen_equation, seen_equations};
+ghost use Rattle.mw_build.specs.Statements.{FitsIn, FirstOversized, all_terms, IsReadAs, StatementFault, IsApplicable, ApplicationFault, AreFine, IsStatementOf, TermsFault, AreReadAs, FirstFault};
+ghost use Rattle.mw_build.specs.Sides.{sides_of, seen_sides, all_seen_sides};
 
 use crate::fragments::{fragments_of, pair};
 use crate::sizes::{canonical, fragments_fault, term_fault};
@@ -24,35 +24,38 @@ use mw_module::{Fault, FaultKind, Form, Lined, WrittenFragment};
 use mw_term::{Fragment, Raw, Seq, Statement, Term, View};
 use std::alloc::{AllocError, Global};
 
-/// An equation's sides as tokens, the fragments of its condition, its line, and whether it is executable.
+/// An equation or a rule: its line, its sides as tokens, the fragments of its condition, and whether it is executable.
 #[derive(Clone, Copy)]
-pub struct Equation<'u, 's> {
+pub struct WrittenStatement<'u, 's> {
     pub line: u32,
+    pub rule: bool,
     pub left: &'s [Token],
     pub right: &'s [Token],
     pub fragments: &'u [WrittenFragment<'s>],
     pub executable: bool,
 }
 
-/// The equations among statements.
-pub fn equations<'u, 's>(
+/// The equations and rules among the statements of a module.
+pub fn written_statements<'u, 's>(
     alloc: Global,
     statements: &'u [Lined<'s>],
-) -> Result<Vec<Equation<'u, 's>>, AllocError>
-    ensures { IfOk result (λ v. seen_equations v.items ≡ equations_of (seen_statements statements.now)) }
+) -> Result<Vec<WrittenStatement<'u, 's>>, AllocError>
+    ensures { IfOk result (λ v. all_seen_sides v.items ≡ sides_of (seen_statements statements.now)) }
 {
     let mut found = Vec::new(alloc);
     let mut rest = statements;
     while let [statement, after @ ..] = rest {
-        if let Form::Equation {
+        if let Form::Statement {
+            rule,
             left,
             right,
             fragments,
             executable,
         } = &statement.form
         {
-            found.push(Equation {
+            found.push(WrittenStatement {
                 line: statement.line,
+                rule: *rule,
                 left,
                 right,
                 fragments: fragments.as_slice(),
@@ -70,7 +73,7 @@ fn is_variable(term: &Term) -> bool
     matches!(term.view(), View::Var(_))
 }
 
-/// Why an equation of these sides and fragments can't be applied, if it can't, by its left side's canonical form too.
+/// Why a statement of these sides and fragments can't be applied, if it can't, by its left side's canonical form too.
 fn application_fault(
     alloc: Global,
     canonical: &Term,
@@ -91,7 +94,7 @@ fn application_fault(
     }
 }
 
-/// What keeps a term of an equation out, the first one at fault; or the canonical form of the left side.
+/// What keeps a term of a statement out, the first one at fault; or the canonical form of the left side.
 fn left_form(
     alloc: Global,
     facts: &Facts,
@@ -119,7 +122,7 @@ fn left_form(
     }
 }
 
-/// What is wrong with the terms of an equation, if anything is.
+/// What is wrong with the terms of a statement, if anything is.
 fn terms_fault(
     alloc: Global,
     facts: &Facts,
@@ -148,20 +151,21 @@ fn terms_fault(
     }
 }
 
-/// The statement of an equation's sides and fragments, or what is wrong with their terms.
+/// The statement of these sides and fragments, or what is wrong with their terms.
 pub fn statement_of(
     alloc: Global,
     facts: &Facts,
     left: Raw,
     right: Raw,
     fragments: Vec<Fragment>,
+    rule: bool,
     executable: bool,
 ) -> Result<Result<Statement, FaultKind>, AllocError>
     requires left { IsRawTerm facts.now (raw_term left) }
     requires right { IsRawTerm facts.now (raw_term right) }
     requires fragments { AreRawFragments facts.now (map fragment_of fragments.items) }
     ensures { IfOk result (λ r. MatchResult r
-        (λ st. IsStatementOf facts.now (raw_term left) (raw_term right) (map fragment_of fragments.items) executable st)
+        (λ st. IsStatementOf facts.now (raw_term left) (raw_term right) (map fragment_of fragments.items) rule executable st)
         (λ kind. TermsFault facts.now (raw_term left) (raw_term right) (map fragment_of fragments.items) executable kind)) }
 {
     if let Some(kind) = terms_fault(alloc, facts, &left, &right, &fragments, executable)? {
@@ -173,18 +177,18 @@ pub fn statement_of(
         right,
         fragments: Seq::of(fragments),
         variables,
-        rule: false,
+        rule,
         executable,
         owise: false,
     }))
 }
 
-/// The statement that an equation is whose texts spell these sides, or what is wrong with it.
+/// The statement that a written one is whose texts spell these sides, or what is wrong with it.
 fn with_condition(
     alloc: Global,
     facts: &Facts,
     grammar: &Grammar,
-    equation: &Equation<'_, '_>,
+    written: &WrittenStatement<'_, '_>,
     left: Raw,
     right: Raw,
 ) -> Result<Result<Statement, FaultKind>, AllocError>
@@ -193,57 +197,65 @@ fn with_condition(
     requires left { IsRawTerm facts.now (raw_term left) }
     requires right { IsRawTerm facts.now (raw_term right) }
     ensures { (variables : List Variable) → IsGrammarOf facts.now variables grammar.now
-        → ReadsPair facts.now variables (texts (seen_equation equation.now).left) (texts (seen_equation equation.now).right) (raw_term left, raw_term right)
+        → ReadsPair facts.now variables (texts (seen_sides written.now).left) (texts (seen_sides written.now).right) (raw_term left, raw_term right)
         → IfOk result (λ r. MatchResult r
-        (IsEquation facts.now variables (seen_equation equation.now))
-        (λ kind. EquationFault facts.now variables (seen_equation equation.now) kind)) }
+        (IsReadAs facts.now variables (seen_sides written.now))
+        (λ kind. StatementFault facts.now variables (seen_sides written.now) kind)) }
 {
     facts.shows();
-    match fragments_of(alloc, grammar, equation.fragments)? {
-        Ok(fragments) => { statement_of(alloc, facts, left, right, fragments, equation.executable) }
+    match fragments_of(alloc, grammar, written.fragments)? {
+        Ok(fragments) => statement_of(
+            alloc,
+            facts,
+            left,
+            right,
+            fragments,
+            written.rule,
+            written.executable,
+        ),
         Err(kind) => Ok(Err(kind)),
     }
 }
 
-/// The statement that an equation is, or what is wrong with it.
+/// The statement that a written one is, or what is wrong with it.
 fn statement(
     alloc: Global,
     facts: &Facts,
     grammar: &Grammar,
-    equation: &Equation<'_, '_>,
+    written: &WrittenStatement<'_, '_>,
 ) -> Result<Result<Statement, FaultKind>, AllocError>
     requires reading { IsReading grammar.now }
     requires grammar { (variables : List Variable) × IsGrammarOf facts.now variables grammar.now }
     ensures { (variables : List Variable) → IsGrammarOf facts.now variables grammar.now → IfOk result (λ r. MatchResult r
-        (IsEquation facts.now variables (seen_equation equation.now))
-        (λ kind. EquationFault facts.now variables (seen_equation equation.now) kind)) }
+        (IsReadAs facts.now variables (seen_sides written.now))
+        (λ kind. StatementFault facts.now variables (seen_sides written.now) kind)) }
 {
     facts.shows();
-    match pair(alloc, grammar, equation.left, equation.right)? {
-        Ok((left, right)) => with_condition(alloc, facts, grammar, equation, left, right),
+    match pair(alloc, grammar, written.left, written.right)? {
+        Ok((left, right)) => with_condition(alloc, facts, grammar, written, left, right),
         Err(kind) => Ok(Err(kind)),
     }
 }
 
-/// The statements that equations are, or the first fault.
+/// The statements that written ones are, or the first fault.
 pub fn statements_of(
     alloc: Global,
     facts: &Facts,
     grammar: &Grammar,
-    equations: &[Equation<'_, '_>],
+    statements: &[WrittenStatement<'_, '_>],
 ) -> Result<Result<Vec<Statement>, Fault>, AllocError>
     requires reading { IsReading grammar.now }
     requires grammar { (variables : List Variable) × IsGrammarOf facts.now variables grammar.now }
     ensures { (variables : List Variable) → IsGrammarOf facts.now variables grammar.now → IfOk result (λ r. MatchResult r
-        (λ sts. AreEquations facts.now variables (seen_equations equations.now) sts.items)
-        (λ fault. FirstFault facts.now variables (seen_equations equations.now) fault)) }
+        (λ sts. AreReadAs facts.now variables (all_seen_sides statements.now) sts.items)
+        (λ fault. FirstFault facts.now variables (all_seen_sides statements.now) fault)) }
 {
     let mut found = Vec::new(alloc);
-    for equation in equations {
-        match statement(alloc, facts, grammar, equation)? {
+    for written in statements {
+        match statement(alloc, facts, grammar, written)? {
             Ok(statement) => found.push(statement)?,
             Err(kind) => {
-                let line = equation.line;
+                let line = written.line;
                 return Ok(Err(Fault { line, kind }));
             }
         }

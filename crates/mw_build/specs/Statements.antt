@@ -1,5 +1,5 @@
--- Which statement an equation is, and what is wrong with one. (Maude Manual, chapter 4, "Unconditional equations" and "Conditional equations and
--- memberships".)
+-- Which statement an equation or a rule is, and what is wrong with one. (Maude Manual, chapter 4, "Unconditional equations" and "Conditional equations and
+-- memberships"; chapter 5, "Unconditional rules" and "Conditional rules".)
 use Rattle.std.specs.Prelude.{◌≡◌, List, [], ◌∷◌, All, Bool, false, IsTrue, Option, Some, None}
 use Rattle.mw_logic.specs.Term.{Variable, RawTerm, variable}
 use Rattle.mw_logic.specs.Signature.{Signature}
@@ -77,14 +77,14 @@ pub data FirstOversized (sig : Signature) (cause : FaultKind) : List RawTerm →
 abbrev pub IsLone : Signature → RawTerm → Type 0
 IsLone sig t = (x : Variable) × EqualModulo sig t (variable x)
 
--- the equation of these sides and fragments
-abbrev pub statement_of : RawTerm → RawTerm → List Fragment → Bool → Statement
-statement_of left right C executable = record {
+-- the equation or rule of these sides and fragments
+abbrev pub statement_of : RawTerm → RawTerm → List Fragment → Bool → Bool → Statement
+statement_of left right C rule executable = record {
   left = left;
   right = right;
   fragments = C;
   variables = met_fragments (met (met [] left) right) C;
-  rule = false;
+  rule = rule;
   executable = executable;
   owise = false;
 }
@@ -94,7 +94,7 @@ abbrev pub all_terms : RawTerm → RawTerm → List Fragment → List RawTerm
 all_terms left right C = left ∷ right ∷ terms_of C
 
 module _ (sig : Signature) (left right : RawTerm) (C : List Fragment) where
-  -- An equation of these sides and fragments can be applied: the left one isn't a variable, and all variables are bound in turn.
+  -- A statement of these sides and fragments can be applied: the left one isn't a variable, and all variables are bound in turn.
   pub record IsApplicable : Type 0 where
     pub not_lone : IsLone sig left → ⊥
     pub bound : unbound left right C ≡ None
@@ -104,47 +104,47 @@ module _ (sig : Signature) (left right : RawTerm) (C : List Fragment) where
     lone : IsLone sig left → ApplicationFault LoneVariable
     open_term : (x : Variable) → (IsLone sig left → ⊥) → unbound left right C ≡ Some x → ApplicationFault (UnboundVariable x.name)
 
-  -- Nothing is wrong with the terms of an equation: they fit in, and it can be applied where it is executable.
+  -- Nothing is wrong with the terms of a statement: they fit in, and it can be applied where it is executable.
   pub record AreFine (executable : Bool) : Type 0 where
     pub fit : All (FitsIn sig) (all_terms left right C)
     pub applicable : IsTrue executable → IsApplicable
 
   -- these are the sides and the fragments of this statement
-  pub record IsStatementOf (executable : Bool) (st : Statement) : Type 0 where
+  pub record IsStatementOf (rule executable : Bool) (st : Statement) : Type 0 where
     pub holds : AreFine executable
-    pub statement : st ≡ statement_of left right C executable
+    pub statement : st ≡ statement_of left right C rule executable
 
-  -- what is wrong with the terms of an equation, in this order; nothing else is with those of one that isn't executable
+  -- what is wrong with the terms of a statement, in this order; nothing else is with those of one that isn't executable
   pub data TermsFault (executable : Bool) (cause : FaultKind) : Type 0 where
     big_term : FirstOversized sig cause (all_terms left right C) → TermsFault executable cause
     inapplicable : All (FitsIn sig) (all_terms left right C) → IsTrue executable → ApplicationFault cause → TermsFault executable cause
 
 module _ (sig : Signature) (variables : List Variable) where
-  -- The equation is this statement: its texts spell these sides, and no others of one kind, and each fragment of its condition is one of these.
-  pub record IsEquation (e : Sides) (st : Statement) : Type 0 where
+  -- The written statement is read as this one: its texts spell these sides, and no others of one kind, and each fragment of its condition is one of these.
+  pub record IsReadAs (e : Sides) (st : Statement) : Type 0 where
     pub left : RawTerm
     pub right : RawTerm
     pub read : ReadsPair sig variables (texts e.left) (texts e.right) (left, right)
     pub condition : List Fragment
     pub fragments : AreFragments sig variables e.fragments condition
-    pub holds : IsStatementOf sig left right condition e.executable st
+    pub holds : IsStatementOf sig left right condition e.rule e.executable st
 
-  -- what is wrong with an equation, in this order: with the texts of its sides, with those of a fragment, or with its terms
-  pub data EquationFault (e : Sides) (cause : FaultKind) : Type 0 where
-    bad_sides : PairFault sig variables (texts e.left) (texts e.right) cause → EquationFault e cause
+  -- what is wrong with a written statement, in this order: with the texts of its sides, with those of a fragment, or with its terms
+  pub data StatementFault (e : Sides) (cause : FaultKind) : Type 0 where
+    bad_sides : PairFault sig variables (texts e.left) (texts e.right) cause → StatementFault e cause
     bad_fragment : (left right : RawTerm) → ReadsPair sig variables (texts e.left) (texts e.right) (left, right)
-        → FirstFragmentFault sig variables e.fragments cause → EquationFault e cause
+        → FirstFragmentFault sig variables e.fragments cause → StatementFault e cause
     bad_terms : (left right : RawTerm) (C : List Fragment) → ReadsPair sig variables (texts e.left) (texts e.right) (left, right)
-        → AreFragments sig variables e.fragments C → TermsFault sig left right C e.executable cause → EquationFault e cause
+        → AreFragments sig variables e.fragments C → TermsFault sig left right C e.executable cause → StatementFault e cause
 
-  -- the equations are these statements, one for one
-  abbrev pub AreEquations : List Sides → List Statement → Type 0
-  AreEquations es sts = AreRelated IsEquation es sts
+  -- they are read as these statements, one for one
+  abbrev pub AreReadAs : List Sides → List Statement → Type 0
+  AreReadAs es sts = AreRelated IsReadAs es sts
 
-  -- an equation that has this fault, at its line
+  -- one that has this fault, at its line
   abbrev pub HasFault : Fault → Sides → Type 0
-  HasFault r e = EquationFault e r.kind × (r.line ≡ e.line)
+  HasFault r e = StatementFault e r.kind × (r.line ≡ e.line)
 
-  -- the first equation that isn't a statement is at fault
+  -- the first one that isn't read as a statement is at fault
   abbrev pub FirstFault : List Sides → Fault → Type 0
-  FirstFault es r = IsFirstWrong IsEquation (HasFault r) es
+  FirstFault es r = IsFirstWrong IsReadAs (HasFault r) es

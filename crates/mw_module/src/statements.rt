@@ -1,7 +1,7 @@
-// Equations.
+// Equations and rules.
 ghost use Rattle.std.specs.Prelude.{◌≡◌, ◌<◌, ◌≤◌, ◌+◌, ◌-◌, length, reverse, option_map, IfSome, IfOk};
 ghost use Rattle.mw_module.specs.Conditions.{seen_condition};
-ghost use Rattle.mw_module.specs.Equations as equations;
+ghost use Rattle.mw_module.specs.Statements as statements;
 ghost use Rattle.mw_module.specs.Forms as forms;
 
 use crate::conditions::{WrittenFragment, condition_form, cut_at_if};
@@ -14,7 +14,7 @@ use std::alloc::Global;
 
 // Whether a label stands in front.
 fn has_label(tokens: &[Token]) -> bool
-    ensures { result ≡ equations.has_label tokens.now }
+    ensures { result ≡ statements.has_label tokens.now }
 {
     match tokens {
         [open, _, close, colon, ..] => {
@@ -26,7 +26,7 @@ fn has_label(tokens: &[Token]) -> bool
 
 // What stands behind the label, or all where there is none.
 fn unlabelled(tokens: &[Token]) -> &[Token]
-    ensures { result.now ≡ equations.unlabelled tokens.now }
+    ensures { result.now ≡ statements.unlabelled tokens.now }
 {
     if has_label(tokens) {
         tokens_from(tokens, 4)
@@ -37,7 +37,7 @@ fn unlabelled(tokens: &[Token]) -> &[Token]
 
 // How many tokens the group has that a bracket at the end closes.
 fn bracket_len(tokens: &[Token]) -> Option<usize>
-    ensures len { result ≡ equations.bracket_len 0 (reverse tokens.now) }
+    ensures len { result ≡ statements.bracket_len 0 (reverse tokens.now) }
     ensures within { IfSome result (λ n. n ≤ length tokens.now) }
 {
     let mut rest = tokens;
@@ -62,7 +62,7 @@ fn bracket_len(tokens: &[Token]) -> Option<usize>
 
 // Whether a group begins with a word of attributes.
 fn begins_attributes(group: &[Token]) -> bool
-    ensures { result ≡ equations.begins_attributes group.now }
+    ensures { result ≡ statements.begins_attributes group.now }
 {
     match group {
         [_, word, ..] => {
@@ -77,7 +77,7 @@ fn begins_attributes(group: &[Token]) -> bool
 
 // How many tokens the attributes at the end have.
 fn attributes_len(tokens: &[Token]) -> usize
-    ensures len { result ≡ equations.attributes_len tokens.now }
+    ensures len { result ≡ statements.attributes_len tokens.now }
     ensures within { result ≤ length tokens.now }
 {
     match bracket_len(tokens) {
@@ -89,7 +89,7 @@ fn attributes_len(tokens: &[Token]) -> usize
 // The tokens of a group of this length at the end, without its brackets.
 fn group_at_end(len: usize, tokens: &[Token]) -> &[Token]
     requires { len ≤ length tokens.now }
-    ensures { result.now ≡ equations.group_at_end len tokens.now }
+    ensures { result.now ≡ statements.group_at_end len tokens.now }
 {
     if len < 2 {
         return &tokens[..0];
@@ -111,17 +111,25 @@ fn fragments_form<'s>(
     }
 }
 
+// The place where the left side begins.
+fn left_place(rule: bool) -> Place
+    ensures { result ≡ forms.left_place rule }
+{
+    if rule { Place::RuleLeft } else { Place::Left }
+}
+
 // Two sides, a condition, if there is one, and attributes.
 fn sides_form<'s>(
     alloc: Global,
+    rule: bool,
     sides: &'s [Token],
     condition: Option<&'s [Token]>,
     said: &[Token],
 ) -> Read<Form<'s>>
     ensures { IfOk result (λ r.
-        forms.seen_shaped r ≡ forms.sides_form sides.now (option_map (λ ts. ts.now) condition.entry) said.now) }
+        forms.seen_shaped r ≡ forms.sides_form rule sides.now (option_map (λ ts. ts.now) condition.entry) said.now) }
 {
-    let Some((left, right)) = divided_at(alloc, Place::Left, sides)? else {
+    let Some((left, right)) = divided_at(alloc, left_place(rule), sides)? else {
         return Ok(Err(Wrong::Bad));
     };
     let fragments = match fragments_form(alloc, condition)? {
@@ -129,7 +137,8 @@ fn sides_form<'s>(
         Err(wrong) => return Ok(Err(wrong)),
     };
     match read(alloc, Place::Statement, Role::Silent, Want::Nothing, said)? {
-        Ok(more) => Ok(Ok(Form::Equation {
+        Ok(more) => Ok(Ok(Form::Statement {
+            rule,
             left,
             right,
             fragments,
@@ -139,30 +148,42 @@ fn sides_form<'s>(
     }
 }
 
-// What an equation with a condition, or without, states in front of these attributes.
+// What an equation or a rule, with a condition or without, states in front of these attributes.
 fn stated<'s>(
     alloc: Global,
+    rule: bool,
     conditional: bool,
     tokens: &'s [Token],
     said: &[Token],
 ) -> Read<Form<'s>>
-    ensures { IfOk result (λ r. forms.seen_shaped r ≡ forms.stated conditional tokens.now said.now) }
+    ensures { IfOk result (λ r. forms.seen_shaped r ≡ forms.stated rule conditional tokens.now said.now) }
 {
     if !conditional {
-        return sides_form(alloc, tokens, None, said);
+        return sides_form(alloc, rule, tokens, None, said);
     }
     match cut_at_if(tokens) {
-        Some((sides, condition)) => sides_form(alloc, sides, Some(condition), said),
+        Some((sides, condition)) => sides_form(alloc, rule, sides, Some(condition), said),
         None => Ok(Err(Wrong::Bad)),
     }
 }
 
 // A label, two sides, a condition where one is asked for, and attributes.
-pub fn equation_form<'s>(alloc: Global, conditional: bool, tokens: &'s [Token]) -> Read<Form<'s>>
-    ensures { IfOk result (λ r. forms.seen_shaped r ≡ forms.equation_form conditional tokens.now) }
+pub fn statement_form<'s>(
+    alloc: Global,
+    rule: bool,
+    conditional: bool,
+    tokens: &'s [Token],
+) -> Read<Form<'s>>
+    ensures { IfOk result (λ r. forms.seen_shaped r ≡ forms.statement_form rule conditional tokens.now) }
 {
     let behind = unlabelled(tokens);
     let len = attributes_len(behind);
     let said = group_at_end(len, behind);
-    stated(alloc, conditional, &behind[..behind.len() - len], said)
+    stated(
+        alloc,
+        rule,
+        conditional,
+        &behind[..behind.len() - len],
+        said,
+    )
 }

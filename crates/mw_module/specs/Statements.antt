@@ -1,4 +1,4 @@
--- The parts of equations: a label in front, two sides, and attributes at the end.
+-- The parts of equations and rules: a label in front, two sides, and attributes at the end.
 use Rattle.std.specs.Prelude.{ℕ, Bool, false, List, [], ◌∷◌, ◌+◌, ◌-◌, ◌==◌, ◌&&◌, ◌||◌, length, take, drop, reverse, Option, None, Some, if◌then◌else◌, codes}
 use Rattle.mw_lex.specs.declared.token.Token.{Token}
 use Rattle.mw_lex.specs.Pieces.{one_more}

@@ -1,6 +1,6 @@
 use Rattle.std.proofs.Common.{◌≡◌, ◌+◌, ◌≤◌, length, reverse, option_map}
-use Rattle.mw_module.specs.Equations.{bracket_len}
-use Rattle.mw_module.proofs.equations.bracket_len.Given as goal
+use Rattle.mw_module.specs.Statements.{bracket_len}
+use Rattle.mw_module.proofs.statements.bracket_len.Given as goal
 
 abbrev pub invariant-loop-rest : goal.invariant-loop-rest
 invariant-loop-rest l = record {

@@ -6,13 +6,13 @@ use Rattle.mw_module.specs.Words.{texts}
 use Rattle.mw_text.proofs.RawTerms.{spelled_raw}
 use Rattle.mw_text.specs.Readings.{ReadsPair}
 use Rattle.mw_build.specs.Fragments.{PairFault}
-use Rattle.mw_build.specs.Equations.{bad_sides}
-use Rattle.mw_build.proofs.equations.statement.Goals as goal
+use Rattle.mw_build.specs.Statements.{bad_sides}
+use Rattle.mw_build.proofs.statements.statement.Goals as goal
 
 pub with_condition-requires-clause-left : goal.with_condition-requires-clause-left
 with_condition-requires-clause-left c =
     let (variables, grammar) = c.requires.grammar in
-    let e = c.args.equation.now in
+    let e = c.args.written.now in
     let read : ReadsPair c.args.facts.now variables (texts e.left.now) (texts e.right.now) (raw_term c.in-Ok.left, raw_term c.in-Ok.right) =
     subst (λ (r : Result (Raw × Raw) FaultKind). MatchResult r (λ p. ReadsPair c.args.facts.now variables (texts e.left.now) (texts e.right.now) (raw_term p.0, raw_term p.1))
     (PairFault c.args.facts.now variables (texts e.left.now) (texts e.right.now))) c.in-Ok.is (c.in_ok-left.ensures c.args.facts.now variables grammar) in
@@ -21,7 +21,7 @@ with_condition-requires-clause-left c =
 pub with_condition-requires-clause-right : goal.with_condition-requires-clause-right
 with_condition-requires-clause-right c =
     let (variables, grammar) = c.requires.grammar in
-    let e = c.args.equation.now in
+    let e = c.args.written.now in
     let read : ReadsPair c.args.facts.now variables (texts e.left.now) (texts e.right.now) (raw_term c.in-Ok.left, raw_term c.in-Ok.right) =
     subst (λ (r : Result (Raw × Raw) FaultKind). MatchResult r (λ p. ReadsPair c.args.facts.now variables (texts e.left.now) (texts e.right.now) (raw_term p.0, raw_term p.1))
     (PairFault c.args.facts.now variables (texts e.left.now) (texts e.right.now))) c.in-Ok.is (c.in_ok-left.ensures c.args.facts.now variables grammar) in
@@ -29,14 +29,14 @@ with_condition-requires-clause-right c =
 
 pub returns-in-Ok : goal.returns-in-Ok
 returns-in-Ok c = λ variables grammar.
-    let e = c.args.equation.now in
+    let e = c.args.written.now in
     c.with_condition.ensures variables grammar
     (subst (λ (r : Result (Raw × Raw) FaultKind). MatchResult r (λ p. ReadsPair c.args.facts.now variables (texts e.left.now) (texts e.right.now) (raw_term p.0, raw_term p.1))
     (PairFault c.args.facts.now variables (texts e.left.now) (texts e.right.now))) c.in-Ok.is (c.in_ok-left.ensures c.args.facts.now variables grammar))
 
 pub returns-in-Err : goal.returns-in-Err
 returns-in-Err c = λ variables grammar.
-    let e = c.args.equation.now in
+    let e = c.args.written.now in
     bad_sides
     (subst (λ (r : Result (Raw × Raw) FaultKind). MatchResult r (λ p. ReadsPair c.args.facts.now variables (texts e.left.now) (texts e.right.now) (raw_term p.0, raw_term p.1))
     (PairFault c.args.facts.now variables (texts e.left.now) (texts e.right.now))) c.in-Err.is (c.in_ok-left.ensures c.args.facts.now variables grammar))
