@@ -6,3 +6,4 @@ pub mod Outcomes
 mod Listed
 mod Passed
 mod Ended
+mod Looking

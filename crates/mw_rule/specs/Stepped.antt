@@ -1,6 +1,7 @@
 -- What rules leave of a normal whole.
 use Rattle.std.specs.Prelude.{◌≡◌, ◌≢◌, ◌<◌, ℕ, suc, true, List, Some, slice_get}
-use Rattle.mw_logic.specs.Term.{RawTerm, Context}
+use Rattle.mw_logic.specs.Term.{RawTerm, RawTerms, apply, Context}
+use Rattle.mw_logic.specs.CanonicalPart.{IsOpen}
 use Rattle.mw_logic.specs.Signature.{Signature}
 use Rattle.mw_logic.specs.Parts.{nested, IsPart, IsFrozen}
 use Rattle.mw_logic.specs.Judgements.{IsNormal}
@@ -19,7 +20,6 @@ use Rattle.mw_reduce.specs.declared.drive.End.{End}
 use Rattle.mw_reduce.specs.declared.drive.Outcome.{Outcome}
 use Rattle.mw_reduce.specs.declared.drive.Outcome.TheVariants.{Done, Stopped}
 use Rattle.mw_rule.specs.Spots.{IsSpot}
-use Rattle.mw_rule.specs.Redexes.{IsFoundIn}
 use Rattle.mw_rule.specs.declared.spots.Spot.{Spot}
 use Rattle.mw_rule.specs.declared.redexes.Found.{Found}
 use Rattle.mw_rule.specs.declared.rewriting.Bounds.{Bounds}
@@ -42,11 +42,14 @@ IsAtPart K count d spots at v = (s : Spot) × (slice_get spots at ≡ Some s) ×
 abbrev pub AreWays : Signature → RawTerm → List Spot → Type 0
 AreWays sig root spots = (j : ℕ) (s : Spot) → slice_get spots j ≡ Some s → IsSpot sig root spots j s
 
--- a choice of a rule at a part of t, whose condition these trails show
-pub record IsMadeAt (K : Run) (spots : List Spot) (t : RawTerm) (f : Found) (sides : List Track) : Type 0 where
+-- A rule applies, by its values, at a part of t, or to several of its arguments that rules may change: these trails show the condition.
+pub record IsMadeAt (K : Run) (spots : List Spot) (t : RawTerm) (x : Found) (sides : List Track) : Type 0 where
   pub ways : AreWays K.over.signature t spots
-  pub found : IsFoundIn K.over spots f
-  pub made : IsMade K.over K.rank found.spot.term.now f.choice sides
+  pub spot : Spot
+  pub there : slice_get spots x.at ≡ Some spot
+  pub rule : x.choice.by.now.rule ≡ true
+  pub free : (ks : List ℕ) (f : ℕ) (ts : RawTerms) → x.choice.take ≡ Some ks → spot.term.now ≡ apply f ts → IsOpen K.over.signature true f 1
+  pub made : IsMade K.over K.rank spot.term.now x.choice sides
 
 -- at a part of the whole t that rules may change it isn't told whether the condition of a rule holds
 pub record IsUntoldIn (K : Run) (side : ℕ) (t : RawTerm) (why : Reason) : Type 0 where
