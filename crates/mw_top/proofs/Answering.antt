@@ -19,6 +19,7 @@ use Rattle.mw_logic.proofs.RawKept.{raw_kept}
 use Rattle.mw_logic.proofs.Soundness.{normal_form-sound}
 use Rattle.mw_print.specs.Sorts.{IsKindThere}
 use Rattle.mw_proof.specs.Deductions.{Deduction, IsDeduction}
+use Rattle.mw_reduce.specs.Limits.{limits_within}
 use Rattle.mw_reduce.specs.Reductions.{IsOutcome, IsReductionOf}
 use Rattle.mw_reduce.specs.declared.reducing.Budget.{Budget}
 use Rattle.mw_reduce.specs.declared.drive.Outcome.{Outcome}
@@ -35,7 +36,7 @@ use Rattle.mw_top.specs.Commands.{IsCanonicalTerm, IsDeduced, IsReduced, IsParse
 use Rattle.mw_top.specs.Seen.{word_of}
 
 -- the word for an outcome is true where the outcome is
-true_word : (M : Module) (most : ℕ) (t : RawTerm) (p : Proof) (u : RawTerm) (o : Outcome) → rules p ≡ 0 → IsOutcome M 63 most most t p u o → IsTrueWord M most t p u (word_of o)
+true_word : (M : Module) (most : ℕ) (t : RawTerm) (p : Proof) (u : RawTerm) (o : Outcome) → rules p ≡ 0 → IsOutcome M 63 (limits_within most most) t p u o → IsTrueWord M most t p u (word_of o)
 true_word M most t p u Done r x = (r, x.0, x.1)
 true_word M most t p u (Stopped reason) r x = (r, x)
 
