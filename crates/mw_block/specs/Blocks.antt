@@ -1,5 +1,5 @@
 -- The block of a command.
-use Rattle.std.specs.Prelude.{◌++◌, ℕ, List, [], ◌∷◌, codes}
+use Rattle.std.specs.Prelude.{◌++◌, ℕ, List, [], ◌∷◌, Option, Some, None, codes}
 use Rattle.std.specs.Fmt.{decimal}
 use Rattle.mw_logic.specs.Ends.{Reason, by_rules, by_rewrites, by_depth, by_nat, by_condition, by_nest}
 use Rattle.mw_logic.specs.Term.{RawTerm}
@@ -7,13 +7,15 @@ use Rattle.mw_logic.specs.Signature.{Signature, Sorted}
 use Rattle.mw_print.specs.Printing.{term_text}
 use Rattle.mw_print.specs.Sorts.{sorted_name}
 
--- how a reduction ended, in a word
+-- how a reduction or a rewriting ended, in a word
 pub data Word : Type 0 where
   reduced : Word
+  final : Word
   limit : Reason → Word
 
 abbrev pub word_text : Word → List ℕ
 word_text reduced = codes "reduced"
+word_text final = codes "final"
 word_text (limit by_rules) = codes "limit rules"
 word_text (limit by_rewrites) = codes "limit rewrites"
 word_text (limit by_depth) = codes "limit depth"
@@ -24,7 +26,12 @@ word_text (limit by_nest) = codes "limit nest"
 abbrev pub line : List ℕ → List ℕ
 line text = text ++ 10 ∷ []
 
--- the command by its word, with its module and its term
+-- the command by its word, with its bound, where it has one
+abbrev pub command_text : List ℕ → Option ℕ → List ℕ
+command_text word None = word
+command_text word (Some n) = word ++ codes " [" ++ decimal n ++ codes "]"
+
+-- the command, with its module and its term
 abbrev pub echo_line : List ℕ → Signature → List ℕ → RawTerm → List ℕ
 echo_line command sig name from = line (command ++ codes " in " ++ name ++ codes " : " ++ term_text sig from ++ codes " .")
 
@@ -36,13 +43,13 @@ count_line count = line (codes "rewrites: " ++ decimal count)
 abbrev pub result_line : Signature → Sorted → RawTerm → List ℕ
 result_line sig S to = line (codes "result " ++ sorted_name sig S ++ codes ": " ++ term_text sig to)
 
--- how the reduction ended
+-- how it ended
 abbrev pub status_line : Word → List ℕ
 status_line word = line (codes "status: " ++ word_text word)
 
--- the four lines for a reduction
-abbrev pub block : Signature → List ℕ → RawTerm → ℕ → Sorted → RawTerm → Word → List ℕ
-block sig name from count S to word = echo_line (codes "reduce") sig name from ++ count_line count ++ result_line sig S to ++ status_line word
+-- the four lines for a reduction or a rewriting
+abbrev pub block : List ℕ → Signature → List ℕ → RawTerm → ℕ → Sorted → RawTerm → Word → List ℕ
+block command sig name from count S to word = echo_line command sig name from ++ count_line count ++ result_line sig S to ++ status_line word
 
 -- the sort or kind of a term that was read
 abbrev pub sort_line : Signature → Sorted → List ℕ

@@ -3,7 +3,7 @@ ghost use Rattle.std.specs.Prelude.{◌≡◌, ◌++◌, IfOk, OnOk};
 ghost use Rattle.mw_term.specs.Signatures.{sorted_of};
 ghost use Rattle.mw_poset.specs.SortOrder.{order_of};
 ghost use Rattle.mw_print.specs.Sorts.{IsKindThere};
-ghost use Rattle.mw_block.specs.Blocks.{block, count_line, echo_line, parsed_block, result_line, sort_line, status_line, word_text};
+ghost use Rattle.mw_block.specs.Blocks.{block, command_text, count_line, echo_line, parsed_block, result_line, sort_line, status_line, word_text};
 ghost use Rattle.mw_block.specs.Seen.{word_of};
 
 use crate::printing::{print, print_number};
@@ -13,31 +13,55 @@ use mw_proof::Reason;
 use mw_term::{Name, Signature, Sorted, Term};
 use std::alloc::{AllocError, Global};
 
-/// How a reduction ended.
+/// How a reduction or a rewriting ended.
 #[derive(Clone, Copy, Debug, PartialEq, Eq)]
 pub enum Status {
-    /// At a normal term.
+    /// A reduction, at a normal term.
     Reduced,
+    /// A rewriting, at a normal term to which no rule applies.
+    Final,
     /// At a limit.
     Limit(Reason),
 }
 
-/// The command by its word, with its module and its term.
+/// What a block repeats of its command: its word, its bound, where it has one, its module's name and its term.
+#[derive(Clone, Copy)]
+pub struct Echo<'t> {
+    pub command: &'static str,
+    pub bound: Option<u64>,
+    pub name: &'t Name,
+    pub term: &'t Term,
+}
+
+/// The command by its word, with its bound.
+fn write_command(alloc: Global, echo: &Echo<'_>, text: &mut Vec<u8>) -> Result<(), AllocError>
+    ensures { OnOk result (text.new.items ≡ text.old.items ++ command_text echo.now.command.now echo.now.bound) }
+{
+    text.extend_from_slice(echo.command.as_bytes())?;
+    match echo.bound {
+        Some(bound) => {
+            text.extend_from_slice(" [".as_bytes())?;
+            print_number(alloc, bound as u128, text)?;
+            text.extend_from_slice("]".as_bytes())
+        }
+        None => Ok(()),
+    }
+}
+
+/// The command, with its module and its term.
 fn write_echo(
     alloc: Global,
-    command: &str,
     signature: &Signature,
-    name: &Name,
-    term: &Term,
+    echo: &Echo<'_>,
     text: &mut Vec<u8>,
 ) -> Result<(), AllocError>
-    ensures { OnOk result (text.new.items ≡ text.old.items ++ echo_line command.now signature.now name.now term.now) }
+    ensures { OnOk result (text.new.items ≡ text.old.items ++ echo_line (command_text echo.now.command.now echo.now.bound) signature.now echo.now.name.now echo.now.term.now) }
 {
-    text.extend_from_slice(command.as_bytes())?;
+    write_command(alloc, echo, text)?;
     text.extend_from_slice(" in ".as_bytes())?;
-    text.extend_from_slice(name.as_slice())?;
+    text.extend_from_slice(echo.name.as_slice())?;
     text.extend_from_slice(" : ".as_bytes())?;
-    print(alloc, signature, term, text)?;
+    print(alloc, signature, echo.term, text)?;
     text.extend_from_slice(" .\n".as_bytes())
 }
 
@@ -75,6 +99,7 @@ fn word(status: Status) -> &'static str
 {
     match status {
         Status::Reduced => "reduced",
+        Status::Final => "final",
         Status::Limit(Reason::Rules) => "limit rules",
         Status::Limit(Reason::Rewrites) => "limit rewrites",
         Status::Limit(Reason::Depth) => "limit depth",
@@ -84,7 +109,7 @@ fn word(status: Status) -> &'static str
     }
 }
 
-/// How the reduction ended.
+/// How it ended.
 fn write_status(status: Status, text: &mut Vec<u8>) -> Result<(), AllocError>
     ensures { OnOk result (text.new.items ≡ text.old.items ++ status_line (word_of status)) }
 {
@@ -110,7 +135,7 @@ fn write_sort(
     text.extend_from_slice("\n".as_bytes())
 }
 
-/// What a reduction came to: how many replacements, a term, its sort or kind, and how it ended.
+/// What a reduction or a rewriting came to: how many replacements, a term, its sort or kind, and how it ended.
 #[derive(Clone, Copy)]
 pub struct Reached<'t> {
     pub count: u64,
@@ -119,22 +144,20 @@ pub struct Reached<'t> {
     pub status: Status,
 }
 
-/// The block of a reduction in the module of this name, from a term to what it came to. The signature's sorts have this
-/// order.
-pub fn reduction(
+/// The block of a reduction or a rewriting: its command, and what it came to. The signature's sorts have this order.
+pub fn deduction(
     alloc: Global,
     signature: &Signature,
     order: &Poset,
-    name: &Name,
-    from: &Term,
+    echo: &Echo<'_>,
     reached: &Reached<'_>,
 ) -> Result<Vec<u8>, AllocError>
     requires order { order.now ≡ order_of signature.now }
     requires kind { IsKindThere signature.now (sorted_of reached.now.sort) }
-    ensures { IfOk result (λ text. text.items ≡ block signature.now name.now from.now reached.now.count (sorted_of reached.now.sort) reached.now.term.now (word_of reached.now.status)) }
+    ensures { IfOk result (λ text. text.items ≡ block (command_text echo.now.command.now echo.now.bound) signature.now echo.now.name.now echo.now.term.now reached.now.count (sorted_of reached.now.sort) reached.now.term.now (word_of reached.now.status)) }
 {
     let mut text = Vec::new(alloc);
-    write_echo(alloc, "reduce", signature, name, from, &mut text)?;
+    write_echo(alloc, signature, echo, &mut text)?;
     write_count(alloc, reached.count, &mut text)?;
     write_result(
         alloc,
@@ -163,7 +186,13 @@ pub fn parsed(
     ensures { IfOk result (λ text. text.items ≡ parsed_block signature.now name.now term.now (sorted_of sort)) }
 {
     let mut text = Vec::new(alloc);
-    write_echo(alloc, "parse", signature, name, term, &mut text)?;
+    let echo = Echo {
+        command: "parse",
+        bound: None,
+        name,
+        term,
+    };
+    write_echo(alloc, signature, &echo, &mut text)?;
     write_sort(alloc, signature, order, sort, &mut text)?;
     Ok(text)
 }

@@ -1,10 +1,10 @@
 //! The texts that are written: the block of a command, and the line of a refusal. docs/FORMATS.md has them in words.
 //!
-//! Proved, byte for byte, over specs/Blocks and specs/Refused: `reduction` is the block of a reduction, in which terms,
-//! sorts and kinds stand as mw_print writes them; `parsed` that of a term that was read; `matches` that of a match, with
-//! its solutions as they are given; `refusal` the line of a fault, for each of its 28 kinds. Conditions of `reduction`
-//! and `parsed`: the order is that of the signature's sorts, and a kind is named by the number of a sort. Want of memory
-//! is the only error.
+//! Proved, byte for byte, over specs/Blocks and specs/Refused: `deduction` is the block of a reduction or a rewriting,
+//! in which terms, sorts and kinds stand as mw_print writes them; `parsed` that of a term that was read; `matches` that
+//! of a match, with its solutions as they are given; `refusal` the line of a fault, for each of its 28 kinds.
+//! Conditions of `deduction` and `parsed`: the order is that of the signature's sorts, and a kind is named by the
+//! number of a sort. Want of memory is the only error.
 #![tactic(auto)]
 
 mod blocks;
@@ -12,6 +12,6 @@ mod matching;
 mod printing;
 mod refused;
 
-pub use blocks::{Reached, Status, parsed, reduction};
+pub use blocks::{Echo, Reached, Status, deduction, parsed};
 pub use matching::{Matched, matches};
 pub use refused::refusal;

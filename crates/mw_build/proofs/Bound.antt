@@ -10,7 +10,7 @@ use Rattle.mw_position.specs.Variables.{is_in, met}
 use Rattle.mw_position.proofs.Meeting.{is_in-met}
 use Rattle.mw_least.specs.Conditions.{binds_among}
 use Rattle.mw_text.specs.Mentions.{is_met, missing_in}
-use Rattle.mw_build.specs.Equations.{bound_by, or_else, loose, unbound}
+use Rattle.mw_build.specs.Statements.{bound_by, or_else, loose, unbound}
 use Rattle.mw_build.proofs.Mentioned.{is_met-is}
 
 -- where none is missing, each is bound

@@ -22,7 +22,7 @@ use Rattle.mw_term.specs.Statements.{fragment_of}
 use Rattle.mw_text.proofs.RawTerms.{spelled_raw}
 use Rattle.mw_build.specs.Fragments as read
 use Rattle.mw_build.specs.Fragments.{asked_for, IsTest, IsFragment, AreFragments}
-use Rattle.mw_build.specs.Equations.{FitsIn, FirstOversized, terms_of}
+use Rattle.mw_build.specs.Statements.{FitsIn, FirstOversized, terms_of}
 use Rattle.mw_build.specs.Imported.{HaveSortsAmong}
 use Rattle.mw_build.proofs.Pairwise.{all_read}
 use Rattle.mw_build.proofs.Terms.{fit_more, first_here, first_later}

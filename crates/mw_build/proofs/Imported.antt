@@ -17,10 +17,10 @@ use Rattle.mw_carry.specs.Laws.{HasSortsOf}
 use Rattle.mw_carry.proofs.Numbers.{within_at}
 use Rattle.mw_carry.proofs.Kept.{sort_carried, HasKind-carried, IsRawTerm-carried, sorts-carried}
 use Rattle.mw_module.specs.declared.faults.FaultKind.{FaultKind}
-use Rattle.mw_build.specs.Equations.{IsStatementOf, TermsFault, statement_of}
-use Rattle.mw_build.specs.Imported.{Origin, HaveSortsAmong, IsOrdinary, IsImported, ImportedFault}
+use Rattle.mw_build.specs.Statements.{IsStatementOf, TermsFault, statement_of}
+use Rattle.mw_build.specs.Imported.{Origin, HaveSortsAmong, IsNotOwise, IsImported, ImportedFault}
 use Rattle.mw_build.proofs.FragmentTerms.{raws_carried, sorts_carried}
-use Rattle.mw_build.proofs.Sides.{CanStand, ordinary_equation}
+use Rattle.mw_build.proofs.Sides.{CanStand, ordinary_statement}
 
 -- the kind of a term whose variables have sorts that are there is there
 kind_there : (sig : Signature) → HasItsSorts sig → (t : RawTerm) (K : ℕ) → HasSortsOf sig t → HasKind sig t K → IsSortOf sig K
@@ -58,34 +58,34 @@ module _ (from sig : Signature) (part : IsPart from sig) (numbers : HasItsSorts 
   }
 
 pub imported_stands : (sig : Signature) (e : Origin) (st : Statement) → IsImported sig e st → CanStand sig st
-imported_stands sig e st is = record { sides = is.sides; ordinary = ordinary_equation sig st.left st.right st.fragments e.statement.executable st is.holds }
+imported_stands sig e st is = record { sides = is.sides; ordinary = ordinary_statement sig st.left st.right st.fragments e.statement.rule e.statement.executable st is.holds }
 
-module _ (from sig : Signature) (part : IsPart from sig) (numbers : HasItsSorts from) (ok : IsAccepted sig) (e : Statement) (sides : AreSides from e) (ordinary : IsOrdinary e)
+module _ (from sig : Signature) (part : IsPart from sig) (numbers : HasItsSorts from) (ok : IsAccepted sig) (e : Statement) (sides : AreSides from e) (ordinary : IsNotOwise e)
     (left right : RawTerm) (C : List Fragment) (first : IsCarried from sig e.left left) (second : IsCarried from sig e.right right)
     (third : AreCarriedFragments from sig e.fragments C) where
   abbrev origin : Origin
   origin = record { signature = from; statement = e }
 
   -- the statement of these terms stands for the one that they were carried from
-  stands_for : (st : Statement) → IsStatementOf sig left right C e.executable st → IsImported sig origin st
+  stands_for : (st : Statement) → IsStatementOf sig left right C e.rule e.executable st → IsImported sig origin st
   stands_for st is =
-      let made = statement_of left right C e.executable in
+      let made = statement_of left right C e.rule e.executable in
       let of : IsImported sig origin made = record {
         carried = record {
           left = first;
           right = second;
           fragments = third;
-          rule = sym ordinary.equation;
+          rule = refl;
           executable = refl;
-          owise = sym ordinary.ordinary;
+          owise = sym ordinary;
         };
-        holds = subst (IsStatementOf sig left right C e.executable) is.statement is;
+        holds = subst (IsStatementOf sig left right C e.rule e.executable) is.statement is;
         sides = sides_carried from sig part numbers ok e made sides first second third;
       } in
       subst (IsImported sig origin) (sym is.statement) of
 
   pub of_carried : {E : Type 0} (r : Result (Result Statement FaultKind) E)
-      → IfOk r (λ s. MatchResult s (IsStatementOf sig left right C e.executable) (λ kind. TermsFault sig left right C e.executable kind))
+      → IfOk r (λ s. MatchResult s (IsStatementOf sig left right C e.rule e.executable) (λ kind. TermsFault sig left right C e.executable kind))
       → IfOk r (λ s. MatchResult s (IsImported sig origin) (λ kind. ImportedFault sig origin kind))
   of_carried (Err x) h = h
   of_carried (Ok (Ok st)) h = stands_for st h

@@ -29,11 +29,11 @@ use Rattle.mw_declare.proofs.Accepting.{apart_declared}
 use Rattle.mw_declare.proofs.OneDeclaration.{one_declaration, none_at_fault}
 use Rattle.mw_build.specs.SignatureFaults.{SignatureFault, no_least, groupings, identity}
 use Rattle.mw_build.specs.Pairwise.{AreRelated, IsFirstWrong}
-use Rattle.mw_build.specs.Sides.{Sides, equations_of}
+use Rattle.mw_build.specs.Sides.{Sides, sides_of}
 use Rattle.mw_build.specs.Fragments.{IsTest, TextFault, long_text, unread_text, unclear_text, PairFault, long_pair, unread_pair, unclear_pair, IsFragment, an_equation, a_match, a_test, a_truth, FragmentFault, bad_equation, bad_match, bad_test, bad_truth, no_truths, AreFragments}
-use Rattle.mw_build.specs.Equations.{FitsIn, Oversized, deep, large, FirstOversized, here, behind, statement_of, all_terms, IsApplicable, ApplicationFault, lone, open_term, IsStatementOf, TermsFault, big_term, inapplicable, IsEquation, EquationFault, bad_sides, bad_fragment, bad_terms, HasFault}
+use Rattle.mw_build.specs.Statements.{FitsIn, Oversized, deep, large, FirstOversized, here, behind, statement_of, all_terms, IsApplicable, ApplicationFault, lone, open_term, IsStatementOf, TermsFault, big_term, inapplicable, IsReadAs, StatementFault, bad_sides, bad_fragment, bad_terms, HasFault}
 use Rattle.mw_build.specs.Imported.{Accepted, Origin, origins_of, IsImported, ImportedFault, HasFaultAt}
-use Rattle.mw_build.specs.Modules.{IsFlattened, flattened, reached_of, IsDeclaredModule, StatementsFault, by_signature, by_imported, by_equations, IsAccepted, IsRefused, by_variables, by_imports, by_declarations, by_statements}
+use Rattle.mw_build.specs.Modules.{IsFlattened, flattened, reached_of, IsDeclaredModule, StatementsFault, by_signature, by_imported, by_own, IsAccepted, IsRefused, by_variables, by_imports, by_declarations, by_statements}
 use Rattle.mw_build.proofs.Asking.{test_one}
 use Rattle.mw_build.proofs.Pairwise.{there}
 
@@ -76,10 +76,10 @@ module _ (sig : Signature) where
   application_holds left right C cause a (lone is) = a.not_lone is
   application_holds left right C cause a (open_term x not is) = absurd (none-some x (sym a.bound ∙ is))
 
-  terms_hold : (left right : RawTerm) (C : List Fragment) (executable : Bool) (st : Statement) (cause : FaultKind) → IsStatementOf sig left right C executable st
+  terms_hold : (left right : RawTerm) (C : List Fragment) (rule executable : Bool) (st : Statement) (cause : FaultKind) → IsStatementOf sig left right C rule executable st
       → TermsFault sig left right C executable cause → ⊥
-  terms_hold left right C executable st cause s (big_term big) = none_big sig cause (all_terms left right C) s.holds.fit big
-  terms_hold left right C executable st cause s (inapplicable fit is fault) = application_holds left right C cause (s.holds.applicable is) fault
+  terms_hold left right C rule executable st cause s (big_term big) = none_big sig cause (all_terms left right C) s.holds.fit big
+  terms_hold left right C rule executable st cause s (inapplicable fit is fault) = application_holds left right C cause (s.holds.applicable is) fault
 
   module _ (ok : IsAcceptedSignature sig) (variables : List Variable) where
     -- texts that are read have no fault
@@ -135,20 +135,20 @@ module _ (sig : Signature) where
     one_condition : (ws : List WrittenFragment) (C D : List Fragment) → AreFragments sig variables ws C → AreFragments sig variables ws D → C ≡ D
     one_condition = one_related (IsFragment sig variables) one_fragment
 
-    -- an equation is one statement
-    one_statement : (e : Sides) (st other : Statement) → IsEquation sig variables e st → IsEquation sig variables e other → st ≡ other
+    -- what is written is one statement
+    one_statement : (e : Sides) (st other : Statement) → IsReadAs sig variables e st → IsReadAs sig variables e other → st ≡ other
     one_statement e st other p q =
         let pair : ◌≡◌ {A = RawTerm × RawTerm} (p.left, p.right) (q.left, q.right) = one_pair (texts e.left) (texts e.right) (p.left, p.right) (q.left, q.right) p.read q.read in
-        p.holds.statement ∙ ap (λ (s : RawTerm × RawTerm). statement_of s.0 s.1 p.condition e.executable) pair
-        ∙ ap (λ C. statement_of q.left q.right C e.executable) (one_condition e.fragments p.condition q.condition p.fragments q.fragments) ∙ sym q.holds.statement
+        p.holds.statement ∙ ap (λ (s : RawTerm × RawTerm). statement_of s.0 s.1 p.condition e.rule e.executable) pair
+        ∙ ap (λ C. statement_of q.left q.right C e.rule e.executable) (one_condition e.fragments p.condition q.condition p.fragments q.fragments) ∙ sym q.holds.statement
 
-    equation_holds : (e : Sides) (st : Statement) (cause : FaultKind) → IsEquation sig variables e st → EquationFault sig variables e cause → ⊥
-    equation_holds e st cause p (bad_sides h) = pair_holds (texts e.left) (texts e.right) (p.left, p.right) cause p.read h
-    equation_holds e st cause p (bad_fragment left right read h) =
+    statement_holds : (e : Sides) (st : Statement) (cause : FaultKind) → IsReadAs sig variables e st → StatementFault sig variables e cause → ⊥
+    statement_holds e st cause p (bad_sides h) = pair_holds (texts e.left) (texts e.right) (p.left, p.right) cause p.read h
+    statement_holds e st cause p (bad_fragment left right read h) =
         none_wrong (IsFragment sig variables) (λ w. FragmentFault sig variables w cause) (λ w f is k. fragment_holds w f cause is k) e.fragments p.condition p.fragments h
-    equation_holds e st cause p (bad_terms left right C read are fault) =
+    statement_holds e st cause p (bad_terms left right C read are fault) =
         let pair : ◌≡◌ {A = RawTerm × RawTerm} (left, right) (p.left, p.right) = one_pair (texts e.left) (texts e.right) (left, right) (p.left, p.right) read p.read in
-        terms_hold p.left p.right p.condition e.executable st cause p.holds
+        terms_hold p.left p.right p.condition e.rule e.executable st cause p.holds
         (subst (λ D. TermsFault sig p.left p.right D e.executable cause) (one_condition e.fragments C p.condition are p.fragments)
         (subst (λ (s : RawTerm × RawTerm). TermsFault sig s.0 s.1 C e.executable cause) pair fault))
 
@@ -159,16 +159,16 @@ module _ (sig : Signature) (ok : IsAcceptedSignature sig) (apart : OperatorsApar
       let left : st.left ≡ other.left = carried_one e.signature sig ok apart p.carried.left q.carried.left in
       let right : st.right ≡ other.right = carried_one e.signature sig ok apart p.carried.right q.carried.right in
       let fragments : st.fragments ≡ other.fragments = fragments_one e.signature sig ok apart p.carried.fragments q.carried.fragments in
-      p.holds.statement ∙ ap (λ t. statement_of t st.right st.fragments e.statement.executable) left
-      ∙ ap (λ t. statement_of other.left t st.fragments e.statement.executable) right
-      ∙ ap (λ C. statement_of other.left other.right C e.statement.executable) fragments ∙ sym q.holds.statement
+      p.holds.statement ∙ ap (λ t. statement_of t st.right st.fragments e.statement.rule e.statement.executable) left
+      ∙ ap (λ t. statement_of other.left t st.fragments e.statement.rule e.statement.executable) right
+      ∙ ap (λ C. statement_of other.left other.right C e.statement.rule e.statement.executable) fragments ∙ sym q.holds.statement
 
   imported_holds : (e : Origin) (st : Statement) (cause : FaultKind) → IsImported sig e st → ImportedFault sig e cause → ⊥
   imported_holds e st cause p f =
       let left : f.left ≡ st.left = carried_one e.signature sig ok apart f.carried_left p.carried.left in
       let right : f.right ≡ st.right = carried_one e.signature sig ok apart f.carried_right p.carried.right in
       let fragments : f.fragments ≡ st.fragments = fragments_one e.signature sig ok apart f.carried_fragments p.carried.fragments in
-      terms_hold sig st.left st.right st.fragments e.statement.executable st cause p.holds
+      terms_hold sig st.left st.right st.fragments e.statement.rule e.statement.executable st cause p.holds
       (subst (λ C. TermsFault sig st.left st.right C e.statement.executable cause) fragments
       (subst (λ t. TermsFault sig st.left t f.fragments e.statement.executable cause) right
       (subst (λ t. TermsFault sig t f.right f.fragments e.statement.executable cause) left f.fault)))
@@ -216,24 +216,24 @@ same_module : (a b : Accepted) → a.name ≡ b.name → a.module.signature ≡ 
 same_module a b n s e v o = λ i. record { name = n i; «module» = record { signature = s i; statements = e i }; variables = v i; own = o i }
 
 -- what declarations and statements are
-module _ (name : List ℕ) (d : Declarations) (apart : OperatorsApart d.signature) (origins : List Origin) (equations : List Sides) (a : Accepted)
-    (p : IsDeclaredModule name d origins equations a) where
-  one_declared : (b : Accepted) → IsDeclaredModule name d origins equations b → a ≡ b
+module _ (name : List ℕ) (d : Declarations) (apart : OperatorsApart d.signature) (origins : List Origin) (written : List Sides) (a : Accepted)
+    (p : IsDeclaredModule name d origins written a) where
+  one_declared : (b : Accepted) → IsDeclaredModule name d origins written b → a ≡ b
   one_declared b q =
       let imported : p.imported ≡ q.imported =
       one_related (IsImported d.signature) (one_imported d.signature p.preregular.accepted apart) origins p.imported q.imported p.imported_are q.imported_are in
       let own : a.own ≡ b.own =
-      one_related (IsEquation d.signature d.variables) (one_statement d.signature p.preregular.accepted d.variables) equations a.own b.own p.equations_are q.equations_are in
+      one_related (IsReadAs d.signature d.variables) (one_statement d.signature p.preregular.accepted d.variables) written a.own b.own p.own_are q.own_are in
       let statements : a.module.statements ≡ b.module.statements =
       p.statements ∙ ap (λ xs. xs ++ a.own) imported ∙ ap (λ xs. q.imported ++ xs) own ∙ sym q.statements in
       same_module a b (p.named ∙ sym q.named) (p.signature ∙ sym q.signature) statements (p.variables ∙ sym q.variables) own
 
-  statements_hold : (line : ℕ) (r : Fault) → StatementsFault line d origins equations r → ⊥
+  statements_hold : (line : ℕ) (r : Fault) → StatementsFault line d origins written r → ⊥
   statements_hold line r (by_signature f) = signature_holds line d.signature r p.preregular f
   statements_hold line r (by_imported preregular f) = none_wrong (IsImported d.signature) (HasFaultAt d.signature line r)
       (λ e st is w. imported_holds d.signature p.preregular.accepted apart e st r.kind is w.0) origins p.imported p.imported_are f
-  statements_hold line r (by_equations imported preregular are f) = none_wrong (IsEquation d.signature d.variables) (HasFault d.signature d.variables r)
-      (λ e st is w. equation_holds d.signature p.preregular.accepted d.variables e st r.kind is w.0) equations a.own p.equations_are f
+  statements_hold line r (by_own imported preregular are f) = none_wrong (IsReadAs d.signature d.variables) (HasFault d.signature d.variables r)
+      (λ e st is w. statement_holds d.signature p.preregular.accepted d.variables e st r.kind is w.0) written a.own p.own_are f
 
 -- numbers that are all there are told by the list
 same_numbers : (js ks : List ℕ) → map Some js ≡ map Some ks → js ≡ ks
@@ -292,10 +292,10 @@ module _ (us : List FlatUnit) (ms : List Accepted) (u : SeenUnit) (n r : List �
   one_more s b q =
       let reached : s ≡ r = same_reached q.typing s q.flat in
       let d : q.declarations ≡ p.declarations = same_declarations q.typing s q.declarations q.flat q.declared in
-      let holds : IsDeclaredModule n p.declarations (origins_of ms r) (equations_of u.statements) b =
-      subst (λ k. IsDeclaredModule n k (origins_of ms r) (equations_of u.statements) b) d
-      (subst (λ ks. IsDeclaredModule n q.declarations (origins_of ms ks) (equations_of u.statements) b) reached q.holds) in
-      (sym reached, one_declared n p.declarations apart (origins_of ms r) (equations_of u.statements) a p.holds b holds)
+      let holds : IsDeclaredModule n p.declarations (origins_of ms r) (sides_of u.statements) b =
+      subst (λ k. IsDeclaredModule n k (origins_of ms r) (sides_of u.statements) b) d
+      (subst (λ ks. IsDeclaredModule n q.declarations (origins_of ms ks) (sides_of u.statements) b) reached q.holds) in
+      (sym reached, one_declared n p.declarations apart (origins_of ms r) (sides_of u.statements) a p.holds b holds)
 
   -- and then it isn't refused
   none_refused : number_named us n ≡ None → (f : Fault) → IsRefused us ms u n f → ⊥
@@ -304,9 +304,9 @@ module _ (us : List FlatUnit) (ms : List Accepted) (u : SeenUnit) (n r : List �
   none_refused new f (by_declarations t s flat fault) = none_at_fault (reached_of us n r) u.line (flattened us u r) p.typing p.declarations f p.declared
       (subst (λ ks. DeclarationFault (reached_of us n ks) u.line (flattened us u ks) f) (same_reached t s flat) fault)
   none_refused new f (by_statements t s d flat e fault) =
-      statements_hold n p.declarations apart (origins_of ms r) (equations_of u.statements) a p.holds u.line f
-      (subst (λ k. StatementsFault u.line k (origins_of ms r) (equations_of u.statements) f) (same_declarations t s d flat e)
-      (subst (λ ks. StatementsFault u.line d (origins_of ms ks) (equations_of u.statements) f) (same_reached t s flat) fault))
+      statements_hold n p.declarations apart (origins_of ms r) (sides_of u.statements) a p.holds u.line f
+      (subst (λ k. StatementsFault u.line k (origins_of ms r) (sides_of u.statements) f) (same_declarations t s d flat e)
+      (subst (λ ks. StatementsFault u.line d (origins_of ms ks) (sides_of u.statements) f) (same_reached t s flat) fault))
 
 pub one_module : (us : List FlatUnit) (ms : List Accepted) (u : SeenUnit) (n r s : List ℕ) (a b : Accepted) → IsAccepted us ms u n r a → IsAccepted us ms u n s b → (r ≡ s) × (a ≡ b)
 one_module us ms u n r s a b p q = one_more us ms u n r a p s b q

@@ -26,8 +26,8 @@ use Rattle.mw_carry.specs.Carried.{IsSameSort, IsCarried, AreCarried, a_numeral,
 use Rattle.mw_carry.specs.Carried as carried
 use Rattle.mw_import.proofs.Lists.{flat_map-member, map-member, pushed_at}
 use Rattle.mw_module.proofs.Sources.{units_are_of_tokens}
-use Rattle.mw_build.specs.Sides.{Sides, equations_of}
-use Rattle.mw_build.proofs.SidesOfTokens.{AreSides, equations_proper}
+use Rattle.mw_build.specs.Sides.{Sides, sides_of}
+use Rattle.mw_build.proofs.SidesOfTokens.{AreSides, all_sides_proper}
 use Rattle.mw_declare.specs.declared.declarations.Declarations.{Declarations}
 use Rattle.mw_import.specs.Flat.{FlatUnit}
 use Rattle.mw_declare.specs.Proper.{IsProperVariable, AreProper}
@@ -35,7 +35,7 @@ use Rattle.mw_declare.proofs.Proper.{all_at, declarations_are_proper}
 use Rattle.mw_print.specs.Laws.{AreBinary, ArePrintable, IsPrintable}
 use Rattle.mw_print.proofs.ReadBack.{printed_reads_back}
 use Rattle.mw_build.specs.Fragments.{ending, IsFragment, an_equation, a_match, a_test, a_truth}
-use Rattle.mw_build.specs.Equations.{IsEquation, terms_of}
+use Rattle.mw_build.specs.Statements.{IsReadAs, terms_of}
 use Rattle.mw_build.specs.Imported.{Accepted, Origin, origins_in, origins_of}
 use Rattle.mw_build.specs.Modules.{IsAccepted, flattened, reached_of}
 use Rattle.mw_build.specs.Printing.{AreCut, no_text, one_text, AreOfTokens, none_yet, one_more, IsOfTexts, IsPrintableTerm, IsPrintableStatement, TextsReadBack, StatementsArePrintable}
@@ -94,21 +94,21 @@ module _ (us : List FlatUnit) (ms : List Accepted) (proper : (k : ℕ) (v : Flat
       one_term (IsPrintableTerm d.signature) t (text_printable term t _ each r.spelled.spells)
   fragment_printable w f tokens (a_truth ts B b not is r) = one_term (IsPrintableTerm d.signature) b (side_printable ts b _ tokens r.spelled.spells)
 
-  statement_printable : (e : Sides) (st : Statement) → AreSides e → IsEquation d.signature d.variables e st → IsPrintableStatement d.signature st
-  statement_printable e st tokens equation =
-      let left = side_printable e.left equation.left _ tokens.0 equation.read.only.0.first.spells in
-      let right = side_printable e.right equation.right _ tokens.1 equation.read.only.0.second.spells in
+  statement_printable : (e : Sides) (st : Statement) → AreSides e → IsReadAs d.signature d.variables e st → IsPrintableStatement d.signature st
+  statement_printable e st tokens is_read =
+      let left = side_printable e.left is_read.left _ tokens.0 is_read.read.only.0.first.spells in
+      let right = side_printable e.right is_read.right _ tokens.1 is_read.read.only.0.second.spells in
       let each = all_related (IsFragment d.signature d.variables) HasProperTexts (λ f. (t : RawTerm) → Member t (terms_of (f ∷ [])) → IsPrintableTerm d.signature t) fragment_printable
-      e.fragments equation.condition tokens.2 equation.fragments in
-      subst (IsPrintableStatement d.signature) (sym equation.holds.statement) (left, right, each_term (IsPrintableTerm d.signature) equation.condition each)
+      e.fragments is_read.condition tokens.2 is_read.fragments in
+      subst (IsPrintableStatement d.signature) (sym is_read.holds.statement) (left, right, each_term (IsPrintableTerm d.signature) is_read.condition each)
 
   own_printable : (i : ℕ) (st : Statement) → slice_get a.own i ≡ Some st → IsPrintableStatement d.signature st
   own_printable i st at =
-      let es = equations_of u.statements in
-      let all = is.holds.equations_are in
+      let es = sides_of u.statements in
+      let all = is.holds.own_are in
       let w = slice_get_within a.own i st at in
       let e = there es i (omega (arith, w, all.count)) in
-      statement_printable e.0 st (all_at AreSides es (equations_proper u.statements own) (suc i) e.0 e.1) (all.each i e.0 st e.1 at)
+      statement_printable e.0 st (all_at AreSides es (all_sides_proper u.statements own) (suc i) e.0 e.1) (all.each i e.0 st e.1 at)
 
 -- variables that stand for others have their names
 variable_carried : (sig to : Signature) (x y : Variable) → x.name ≡ y.name → IsSameSort sig to x.sort y.sort → IsPrintable sig x → IsPrintable to y

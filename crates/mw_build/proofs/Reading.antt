@@ -1,4 +1,4 @@
--- Equations, from the terms that their texts spell.
+-- Statements, from the terms that their texts spell.
 use Rattle.std.proofs.Common.{◌≡◌, List, Option, Some, None, MatchOption, Result, Ok, Err, IfOk, MatchResult, refl}
 use Rattle.mw_logic.specs.Term.{Variable, RawTerm}
 use Rattle.mw_logic.specs.Signature.{Signature}
@@ -8,13 +8,13 @@ use Rattle.mw_module.specs.Words.{texts}
 use Rattle.mw_text.specs.Readings.{ReadsPair}
 use Rattle.mw_build.specs.Sides.{Sides}
 use Rattle.mw_build.specs.Fragments.{AreFragments}
-use Rattle.mw_build.specs.Equations.{IsStatementOf, TermsFault, IsEquation, EquationFault, bad_terms}
+use Rattle.mw_build.specs.Statements.{IsStatementOf, TermsFault, IsReadAs, StatementFault, bad_terms}
 
--- an equation whose sides and fragments spell these
+-- a statement whose sides and fragments spell these
 pub of_terms : {E : Type 0} (sig : Signature) (variables : List Variable) (e : Sides) (left right : RawTerm) (C : List Fragment)
     → ReadsPair sig variables (texts e.left) (texts e.right) (left, right) → AreFragments sig variables e.fragments C → (r : Result (Result Statement FaultKind) E)
-    → IfOk r (λ s. MatchResult s (IsStatementOf sig left right C e.executable) (λ kind. TermsFault sig left right C e.executable kind))
-    → IfOk r (λ s. MatchResult s (IsEquation sig variables e) (λ kind. EquationFault sig variables e kind))
+    → IfOk r (λ s. MatchResult s (IsStatementOf sig left right C e.rule e.executable) (λ kind. TermsFault sig left right C e.executable kind))
+    → IfOk r (λ s. MatchResult s (IsReadAs sig variables e) (λ kind. StatementFault sig variables e kind))
 of_terms sig variables e left right C read are (Err x) h = h
 of_terms sig variables e left right C read are (Ok (Ok st)) h = record { left = left; right = right; read = read; condition = C; fragments = are; holds = h }
 of_terms sig variables e left right C read are (Ok (Err kind)) h = bad_terms left right C read are h

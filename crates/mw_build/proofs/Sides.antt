@@ -1,4 +1,4 @@
--- Sides of equations: canonical forms tell which are lone, and a module of them is one that contexts hold.
+-- Sides of statements: canonical forms tell which are lone, and a module of them is one that contexts hold.
 use Rattle.std.proofs.Common.{◌≡◌, ◌∙◌, ◌||◌, ℕ, zero, suc, List, [], ◌∷◌, Bool, true, false, slice_get, All, Option, Some, None, IsTrue, Result, Ok, Err, IfOk, MatchOption, refl, sym, ap, subst, ⊎_elim}
 use Rattle.std.specs.Prelude.{⊤}
 use Rattle.std.proofs.lemmas.Bool.{or_cases}
@@ -23,7 +23,7 @@ use Rattle.mw_position.specs.Variables.{met}
 use Rattle.mw_sorting.specs.PreregularModulo.{IsPreregularModulo}
 use Rattle.mw_logic.specs.Built.{HasBuiltIns}
 use Rattle.mw_least.specs.Conditions.{met_fragments, occurs_among}
-use Rattle.mw_least.specs.Workable.{AreSides, IsOrdinaryEquation, IsWorkable}
+use Rattle.mw_least.specs.Workable.{AreSides, IsOrdinary, IsWorkable}
 use Rattle.mw_text.specs.Mixfix.{Reads, Spells}
 use Rattle.mw_text.specs.Readings.{ReadsPair}
 use Rattle.mw_text.proofs.RawTerms.{spelled_raw}
@@ -31,18 +31,18 @@ use Rattle.mw_text.proofs.SpelledVariables.{spelled_variables}
 use Rattle.mw_carry.specs.Laws.{HasSortsOf}
 use Rattle.mw_build.specs.Sides.{Sides}
 use Rattle.mw_build.specs.Fragments.{IsFragment, an_equation, a_match, a_test, a_truth}
-use Rattle.mw_build.specs.Imported.{HaveSortsAmong, IsOrdinary}
+use Rattle.mw_build.specs.Imported.{HaveSortsAmong, IsNotOwise}
 use Rattle.mw_build.proofs.Bound.{right_bound, fragments_bound}
 use Rattle.mw_build.proofs.Pairwise.{all_read}
 use Rattle.mw_build.proofs.FragmentTerms.{fragments_raw, sorts_all, one_sorted, two_sorted}
 use Rattle.mw_carry.proofs.Numbers.{within_at}
 use Rattle.mw_module.specs.Conditions.{WrittenFragment}
 use Rattle.mw_module.specs.declared.faults.FaultKind.{FaultKind}
-use Rattle.mw_build.specs.Equations.{all_terms, FitsIn, IsLone, statement_of, IsApplicable, ApplicationFault, AreFine, TermsFault, inapplicable, IsStatementOf, IsEquation}
+use Rattle.mw_build.specs.Statements.{all_terms, FitsIn, IsLone, statement_of, IsApplicable, ApplicationFault, AreFine, TermsFault, inapplicable, IsStatementOf, IsReadAs}
 
-pub made : (left right : RawTerm) (executable : Bool) (C fragments : List Fragment) (variables : List Variable) → fragments ≡ C → variables ≡ met_fragments (met (met [] left) right) C
-    → record { left = left; right = right; fragments = fragments; variables = variables; rule = false; executable = executable; owise = false } ≡ statement_of left right C executable
-made left right executable C fragments variables e h = rw (e, h) refl
+pub made : (left right : RawTerm) (rule executable : Bool) (C fragments : List Fragment) (variables : List Variable) → fragments ≡ C → variables ≡ met_fragments (met (met [] left) right) C
+    → record { left = left; right = right; fragments = fragments; variables = variables; rule = rule; executable = executable; owise = false } ≡ statement_of left right C rule executable
+made left right rule executable C fragments variables e h = rw (e, h) refl
 
 -- an associative operator of a raw term has two arguments, so the term is its own nesting
 module _ (sig : Signature) (ok : IsAccepted sig) where
@@ -84,7 +84,7 @@ not_variable (seen.Qid q) h y e = cc
 not_variable (seen.Var x) h y e = h x refl
 not_variable (seen.Op f ts) h y e = cc
 
--- what is known of the terms of an equation
+-- what is known of the terms of a statement
 module _ (sig : Signature) (left right : RawTerm) (C : List Fragment) (executable : Bool) where
   pub applied_so : {E : Type 0} → All (FitsIn sig) (all_terms left right C) → IsTrue executable → (r : Result (Option FaultKind) E)
       → IfOk r (λ o. MatchOption o (IsApplicable sig left right C) (λ kind. ApplicationFault sig left right C kind))
@@ -98,11 +98,10 @@ module _ (sig : Signature) (left right : RawTerm) (C : List Fragment) (executabl
   fine_so None h n = h
   fine_so (Some x) h n = absurd (n x refl)
 
--- a statement that can be applied is an equation that contexts hold
-pub ordinary_equation : (sig : Signature) (left right : RawTerm) (C : List Fragment) (executable : Bool) (st : Statement) → IsStatementOf sig left right C executable st → IsTrue st.executable
-    → IsOrdinaryEquation sig st
-ordinary_equation sig left right C executable st is h = subst (IsOrdinaryEquation sig) (sym is.statement) (record {
-  equation = refl;
+-- a statement that can be applied is one that contexts hold
+pub ordinary_statement : (sig : Signature) (left right : RawTerm) (C : List Fragment) (rule executable : Bool) (st : Statement) → IsStatementOf sig left right C rule executable st → IsTrue st.executable
+    → IsOrdinary sig st
+ordinary_statement sig left right C rule executable st is h = subst (IsOrdinary sig) (sym is.statement) (record {
   ordinary = refl;
   not_lone = λ x k. applicable.not_lone (x, k);
   variables = refl;
@@ -114,13 +113,13 @@ ordinary_equation sig left right C executable st is h = subst (IsOrdinaryEquatio
     applicable = is.holds.applicable (sym (ap (λ (s : Statement). s.executable) is.statement) ∙ h)
 
 -- and in any case none that is `owise`
-pub ordinary_statement : (sig : Signature) (left right : RawTerm) (C : List Fragment) (executable : Bool) (st : Statement) → IsStatementOf sig left right C executable st → IsOrdinary st
-ordinary_statement sig left right C executable st is = subst IsOrdinary (sym is.statement) (record { equation = refl; ordinary = refl })
+pub not_owise : (sig : Signature) (left right : RawTerm) (C : List Fragment) (rule executable : Bool) (st : Statement) → IsStatementOf sig left right C rule executable st → IsNotOwise st
+not_owise sig left right C rule executable st is = ap (λ (s : Statement). s.owise) is.statement
 
 -- what can stand in a context
 pub record CanStand (sig : Signature) (st : Statement) : Type 0 where
   pub sides : AreSides sig st
-  pub ordinary : IsTrue st.executable → IsOrdinaryEquation sig st
+  pub ordinary : IsTrue st.executable → IsOrdinary sig st
 
 module _ (sig : Signature) (ok : IsPreregularModulo sig) (variables : List Variable) (sorted : (x : Variable) → Member x variables → IsSortOf sig x.sort) where
   -- the sorts of what tokens spell are there
@@ -134,7 +133,7 @@ module _ (sig : Signature) (ok : IsPreregularModulo sig) (variables : List Varia
   fragment_sorts w f (a_truth ts B b not is r) = one_sorted sig b (sorts_there r.spelled.spells)
 
   -- the sides and fragments of a statement are those that its texts spell
-  pub read_stands : (e : Sides) (st : Statement) → IsEquation sig variables e st → CanStand sig st
+  pub read_stands : (e : Sides) (st : Statement) → IsReadAs sig variables e st → CanStand sig st
   read_stands e st is =
       let first = is.read.only.0.first.spells in
       let second = is.read.only.0.second.spells in
@@ -148,7 +147,7 @@ module _ (sig : Signature) (ok : IsPreregularModulo sig) (variables : List Varia
           sorts = all_sorts is.left is.right C (sorts_there first) (sorts_there second)
               (sorts_all sig C (all_read (IsFragment sig variables) (λ f. HaveSortsAmong sig (f ∷ [])) fragment_sorts e.fragments C is.fragments));
         });
-        ordinary = ordinary_equation sig is.left is.right C e.executable st is.holds;
+        ordinary = ordinary_statement sig is.left is.right C e.rule e.executable st is.holds;
       }
     where
       all_sorts : (left right : RawTerm) (C : List Fragment) → HasSortsOf sig left → HasSortsOf sig right → HaveSortsAmong sig C
@@ -159,13 +158,13 @@ module _ (sig : Signature) (ok : IsPreregularModulo sig) (variables : List Varia
 -- a module of statements that can stand in a context
 pub workable_module : (sig : Signature) → IsPreregularModulo sig → HasItsSorts sig → HasBuiltIns sig → (sts : List Statement)
     → ((i : ℕ) (st : Statement) → slice_get sts i ≡ Some st → CanStand sig st) → IsWorkable (record { signature = sig; statements = sts })
-workable_module sig ok numbers built sts all = record { signature = ok; numbers = numbers; built = built; sides = all_sides; equations = at_each }
+workable_module sig ok numbers built sts all = record { signature = ok; numbers = numbers; built = built; sides = all_sides; statements = at_each }
   where
     all_sides : (k : ℕ) (st : Statement) → at_number sts k ≡ Some st → AreSides sig st
     all_sides zero st is = cc
     all_sides (suc i) st is = (all i st is).sides
 
-    at_each : (k : ℕ) (st : Statement) → IsStatement (record { signature = sig; statements = sts }) k st → IsOrdinaryEquation sig st
+    at_each : (k : ℕ) (st : Statement) → IsStatement (record { signature = sig; statements = sts }) k st → IsOrdinary sig st
     at_each zero st is = let h = is.is_there in cc
     at_each (suc i) st is = (all i st is.is_there).ordinary is.executable
 

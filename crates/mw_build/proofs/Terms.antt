@@ -5,7 +5,7 @@ use Rattle.mw_logic.specs.Term.{RawTerm}
 use Rattle.mw_logic.specs.Signature.{Signature, Member}
 use Rattle.mw_logic.specs.Module.{Fragment, equal, matches, has_sort, is_true}
 use Rattle.mw_module.specs.declared.faults.FaultKind.{FaultKind}
-use Rattle.mw_build.specs.Equations.{FitsIn, Oversized, FirstOversized, here, behind, terms_of}
+use Rattle.mw_build.specs.Statements.{FitsIn, Oversized, FirstOversized, here, behind, terms_of}
 
 pub terms_cut : (f : Fragment) (C : List Fragment) → terms_of (f ∷ C) ≡ terms_of (f ∷ []) ++ terms_of C
 terms_cut (equal u v) C = refl

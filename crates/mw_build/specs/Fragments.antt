@@ -1,4 +1,4 @@
--- What the texts of equations are read as: two sides, and the fragments of a condition; and what is wrong with them. (Maude Manual, chapter 4, "Conditional
+-- What the texts of statements are read as: two sides, and the fragments of a condition; and what is wrong with them. (Maude Manual, chapter 4, "Conditional
 -- equations and memberships".)
 use Rattle.std.specs.Prelude.{◌≡◌, ◌≢◌, ◌<◌, ◌⊎◌, ◌++◌, ℕ, List, [], ◌∷◌, length, codes, Bool, true, false, IsFalse, Option, Some}
 use Rattle.mw_lex.specs.declared.token.Token.{Token}

@@ -10,7 +10,7 @@ use Rattle.mw_least.specs.Conditions.{occurs_among}
 use Rattle.mw_least.specs.Workable.{AreSides}
 use Rattle.mw_carry.specs.Carried.{IsCarried, AreCarriedFragments, IsCarriedStatement, IsPart}
 use Rattle.mw_build.specs.Pairwise.{AreRelated, IsFirstWrong}
-use Rattle.mw_build.specs.Equations.{IsStatementOf, TermsFault}
+use Rattle.mw_build.specs.Statements.{IsStatementOf, TermsFault}
 
 -- A module with its name, the variables that are declared in it, and the statements that stand in it itself, read in its own signature. The module's
 -- statements are all that it reaches.
@@ -37,16 +37,15 @@ origins_of ms ks = flat_map (λ (k : ℕ). origins_in (slice_get ms k)) ks
 abbrev pub HaveSortsAmong : Signature → List Fragment → Type 0
 HaveSortsAmong sig C = (x : Variable) → IsTrue (occurs_among x C) → IsSortOf sig x.sort
 
--- an equation, and none that is `owise`
-pub record IsOrdinary (st : Statement) : Type 0 where
-  pub equation : st.rule ≡ false
-  pub ordinary : st.owise ≡ false
+-- not `owise`, executable or not
+abbrev pub IsNotOwise : Statement → Type 0
+IsNotOwise st = st.owise ≡ false
 
 module _ (sig : Signature) where
   -- the statement stands for one that was read elsewhere, and can stand in this signature
   pub record IsImported (e : Origin) (st : Statement) : Type 0 where
     pub carried : IsCarriedStatement e.signature sig e.statement st
-    pub holds : IsStatementOf sig st.left st.right st.fragments e.statement.executable st
+    pub holds : IsStatementOf sig st.left st.right st.fragments e.statement.rule e.statement.executable st
     pub sides : AreSides sig st
 
   -- what is wrong here with a statement that was read elsewhere

@@ -3,7 +3,7 @@ pub mod Pairwise
 pub mod Sides
 pub mod Fragments
 pub mod Endings
-pub mod Equations
+pub mod Statements
 pub mod Imported
 pub mod Modules
 pub mod Printing

@@ -18,9 +18,9 @@ use Rattle.mw_declare.specs.declared.declarations.Declarations.{Declarations}
 use Rattle.mw_declare.specs.declared.built.Reached.{Reached}
 use Rattle.mw_declare.specs.Faults.{Typing, typing_of}
 use Rattle.mw_declare.specs.Declarations.{Declares, DeclarationFault}
-use Rattle.mw_build.specs.Sides.{Sides, equations_of}
-use Rattle.mw_build.specs.Equations.{AreEquations, FirstFault}
-use Rattle.mw_build.specs.Imported.{Origin, IsOrdinary, origins_of, AreImported, FirstImportedFault}
+use Rattle.mw_build.specs.Sides.{Sides, sides_of}
+use Rattle.mw_build.specs.Statements.{AreReadAs, FirstFault}
+use Rattle.mw_build.specs.Imported.{Origin, IsNotOwise, origins_of, AreImported, FirstImportedFault}
 use Rattle.mw_build.specs.SignatureFaults.{SignatureFault}
 
 -- the module's own variables have these sorts, and its imports reach these units
@@ -37,24 +37,24 @@ abbrev pub reached_of : List FlatUnit → List ℕ → List ℕ → Reached
 reached_of us name reached = record { nat = is_reached us reached name (codes "NAT"); qid = is_reached us reached name (codes "QID") }
 
 -- The module has this name, the signature and the variables that are declared, and for its statements these, that stand for those of the modules that it
--- reaches, and then its own equations.
-pub record IsDeclaredModule (name : List ℕ) (d : Declarations) (origins : List Origin) (equations : List Sides) (a : Accepted) : Type 0 where
+-- reaches, and then its own equations and rules.
+pub record IsDeclaredModule (name : List ℕ) (d : Declarations) (origins : List Origin) (written : List Sides) (a : Accepted) : Type 0 where
   pub preregular : IsPreregularModulo d.signature
   pub named : a.name ≡ name
   pub signature : a.module.signature ≡ d.signature
   pub variables : a.variables ≡ d.variables
   pub imported : List Statement
   pub imported_are : AreImported d.signature origins imported
-  pub equations_are : AreEquations d.signature d.variables equations a.own
+  pub own_are : AreReadAs d.signature d.variables written a.own
   pub statements : a.module.statements ≡ imported ++ a.own
 
--- Why there is none, told at this line or that of an equation: the signature isn't preregular modulo its axioms, or else a statement that is imported has a
--- fault, or else an equation has.
-pub data StatementsFault (line : ℕ) (d : Declarations) (origins : List Origin) (equations : List Sides) (r : Fault) : Type 0 where
-  by_signature : SignatureFault line d.signature r → StatementsFault line d origins equations r
-  by_imported : IsPreregularModulo d.signature → FirstImportedFault d.signature line origins r → StatementsFault line d origins equations r
-  by_equations : (imported : List Statement) → IsPreregularModulo d.signature → AreImported d.signature origins imported
-      → FirstFault d.signature d.variables equations r → StatementsFault line d origins equations r
+-- Why there is none, told at this line or that of a statement: the signature isn't preregular modulo its axioms, or else a statement that is imported has a
+-- fault, or else an own one has.
+pub data StatementsFault (line : ℕ) (d : Declarations) (origins : List Origin) (written : List Sides) (r : Fault) : Type 0 where
+  by_signature : SignatureFault line d.signature r → StatementsFault line d origins written r
+  by_imported : IsPreregularModulo d.signature → FirstImportedFault d.signature line origins r → StatementsFault line d origins written r
+  by_own : (imported : List Statement) → IsPreregularModulo d.signature → AreImported d.signature origins imported
+      → FirstFault d.signature d.variables written r → StatementsFault line d origins written r
 
 -- The unit is this module, where these units were accepted as these modules: flattened it declares it.
 pub record IsAccepted (us : List FlatUnit) (ms : List Accepted) (u : SeenUnit) (name : List ℕ) (reached : List ℕ) (a : Accepted) : Type 0 where
@@ -62,7 +62,7 @@ pub record IsAccepted (us : List FlatUnit) (ms : List Accepted) (u : SeenUnit) (
   pub flat : IsFlattened us u typing reached
   pub declarations : Declarations
   pub declared : Declares (reached_of us name reached) typing (flattened us u reached) declarations
-  pub holds : IsDeclaredModule name declarations (origins_of ms reached) (equations_of u.statements) a
+  pub holds : IsDeclaredModule name declarations (origins_of ms reached) (sides_of u.statements) a
 
 -- Why it is none: the first of its own variables that has two sorts, or else its first import at fault, or else what its flattened module declares, or else its
 -- signature or statements.
@@ -72,7 +72,7 @@ pub data IsRefused (us : List FlatUnit) (ms : List Accepted) (u : SeenUnit) (nam
   by_declarations : (typing : Typing) (reached : List ℕ) → IsFlattened us u typing reached → DeclarationFault (reached_of us name reached) u.line (flattened us u reached) r
       → IsRefused us ms u name r
   by_statements : (typing : Typing) (reached : List ℕ) (d : Declarations) → IsFlattened us u typing reached → Declares (reached_of us name reached) typing (flattened us u reached) d
-      → StatementsFault u.line d (origins_of ms reached) (equations_of u.statements) r → IsRefused us ms u name r
+      → StatementsFault u.line d (origins_of ms reached) (sides_of u.statements) r → IsRefused us ms u name r
 
 -- what an accepted unit's module has of what the unit declares: its signature, whatever line faults are told at
 pub record IsOfUnit (us : List FlatUnit) (u : FlatUnit) (m : Accepted) : Type 0 where
@@ -88,12 +88,12 @@ pub record AreLoaded (us : List FlatUnit) (ms : List Accepted) : Type 0 where
   pub known : (k : ℕ) (u : FlatUnit) → slice_get us k ≡ Some u → AreKnown u.statements
   pub declared : (k : ℕ) (u : FlatUnit) (m : Accepted) → slice_get us k ≡ Some u → slice_get ms k ≡ Some m → IsOfUnit us u m
 
--- What is kept for a module, of whose statements so many are imported: its grammar, and its index where it was made; and none of its own statements is a rule or `owise`.
+-- What is kept for a module, of whose statements so many are imported: its grammar, and its index where it was made; and none of its own statements is `owise`.
 pub record IsHeld (M : Module) (imported : ℕ) (variables : List Variable) (g : Grammar) (kept : Option (Box Index)) : Type 0 where
   pub grammar : IsGrammarOf M.signature variables g
   pub index : IfSome kept (λ (index : Box Index). IsIndexOf M index.value)
   pub within : imported ≤ length M.statements
-  pub ordinary : All IsOrdinary (drop imported M.statements)
+  pub ordinary : All IsNotOwise (drop imported M.statements)
 
 -- declarations of statements that are known, among which those with the module's own variables are
 pub record IsOfKnown (d : Declarations) : Type 0 where
@@ -106,13 +106,13 @@ pub record IsOfKnown (d : Declarations) : Type 0 where
   pub known : AreKnown statements
   pub declared : Declares reached typing statements d
 
--- The first so many statements stand for those of others, and the rest for the equations.
-pub record AreAll (sig : Signature) (variables : List Variable) (origins : List Origin) (equations : List Sides) (imported : ℕ) (sts : List Statement) : Type 0 where
+-- The first so many statements stand for those of others, and the rest are the own ones.
+pub record AreAll (sig : Signature) (variables : List Variable) (origins : List Origin) (written : List Sides) (imported : ℕ) (sts : List Statement) : Type 0 where
   pub within : imported ≤ length sts
   pub imported_are : AreImported sig origins (take imported sts)
-  pub equations_are : AreEquations sig variables equations (drop imported sts)
+  pub own_are : AreReadAs sig variables written (drop imported sts)
 
 -- the first of either that is at fault
-pub data NotAll (sig : Signature) (variables : List Variable) (line : ℕ) (origins : List Origin) (equations : List Sides) (r : Fault) : Type 0 where
-  imported_fault : FirstImportedFault sig line origins r → NotAll sig variables line origins equations r
-  equation_fault : (imported : List Statement) → AreImported sig origins imported → FirstFault sig variables equations r → NotAll sig variables line origins equations r
+pub data NotAll (sig : Signature) (variables : List Variable) (line : ℕ) (origins : List Origin) (written : List Sides) (r : Fault) : Type 0 where
+  imported_fault : FirstImportedFault sig line origins r → NotAll sig variables line origins written r
+  own_fault : (imported : List Statement) → AreImported sig origins imported → FirstFault sig variables written r → NotAll sig variables line origins written r

@@ -10,7 +10,7 @@ use Rattle.mw_import.specs.Flat.{FlatUnit}
 use Rattle.mw_print.specs.Printing.{mixfix_text}
 use Rattle.mw_print.specs.Laws.{ArePrintable, ReadsBack}
 use Rattle.mw_text.specs.Proper.{HasIdentifiers}
-use Rattle.mw_build.specs.Equations.{terms_of}
+use Rattle.mw_build.specs.Statements.{terms_of}
 use Rattle.mw_build.specs.Modules.{Accepted, IsAccepted}
 
 -- These modules are of units of these tokens, each accepted where those before it were.

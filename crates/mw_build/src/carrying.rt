@@ -10,10 +10,10 @@ ghost use Rattle.mw_least.specs.Conditions.{AreRawFragments};
 ghost use Rattle.mw_least.specs.Workable.{AreSides};
 ghost use Rattle.mw_carry.specs.Carried.{IsPart, IsCarried, IsCarriedFragment, AreCarriedFragments};
 ghost use Rattle.mw_carry.specs.Laws.{HasSortsOf};
-ghost use Rattle.mw_build.specs.Imported.{Accepted, Origin, HaveSortsAmong, IsOrdinary, IsImported, ImportedFault, AreImported, FirstImportedFault, origins_in, origins_of, ArePartsOf};
+ghost use Rattle.mw_build.specs.Imported.{Accepted, Origin, HaveSortsAmong, IsNotOwise, IsImported, ImportedFault, AreImported, FirstImportedFault, origins_in, origins_of, ArePartsOf};
 
-use crate::equations::statement_of;
 use crate::modules::Module;
+use crate::statements::statement_of;
 use mw_canon::Facts;
 use mw_carry::{Carrier, Target};
 use mw_module::{Fault, FaultKind, UnitError};
@@ -134,7 +134,7 @@ fn statement(
     requires part { IsPart carrier.old.from facts.now }
     requires numbers { HasItsSorts carrier.old.from }
     requires sides { AreSides carrier.old.from statement.now }
-    requires ordinary { IsOrdinary statement.now }
+    requires ordinary { IsNotOwise statement.now }
     ensures same { carrier.new ≡ carrier.old }
     ensures imported { IfOk result (λ r. MatchResult r
         (IsImported facts.now (record { signature = carrier.old.from; statement = statement.now }))
@@ -146,7 +146,15 @@ fn statement(
         right,
         fragments,
     } = carried_terms(alloc, carrier, statement)?;
-    statement_of(alloc, facts, left, right, fragments, statement.executable)
+    statement_of(
+        alloc,
+        facts,
+        left,
+        right,
+        fragments,
+        statement.rule,
+        statement.executable,
+    )
 }
 
 /// Adds the statements that stand for a module's own ones, or answers the first fault, at this line.

@@ -1,4 +1,4 @@
-// Texts of equations, from tokens to terms.
+// Texts of statements, from tokens to terms.
 ghost use Rattle.std.specs.Prelude.{◌≡◌, ◌-◌, ℕ, List, length, take, drop, map, Option, Some, IfOk, MatchOption, MatchResult};
 ghost use Rattle.mw_logic.specs.Term.{Variable};
 ghost use Rattle.mw_logic.specs.Signature.{Signature as SignatureOf};

@@ -1,19 +1,20 @@
-//! Modules that were accepted: what their units declare, with their equations read, and those of the modules that they
-//! import, held for reduction.
+//! Modules that were accepted: what their units declare, with their equations and rules read, and those of the modules
+//! that they import, held for reduction.
 //!
 //! `build` makes a [`Module`] of a unit, where others were accepted before: the units that its imports reach
-//! (mw_import), NAT and QID among them (`reached_of`), the declarations of all their statements and its own (mw_declare), the operators' tables (mw_sorts) and
-//! axioms (mw_canon), its grammar (mw_grammar), the equations as statements, and all this as a context (mw_least); an
-//! index of its equations (mw_index) is made when it is first wanted (`Module::prepare`). A module keeps the statements
-//! that stand in it itself as they were read in its own signature (`Module::own`): a module that imports it has them
-//! carried to its own signature (mw_carry), so no text is read twice. `Module::term` reads a term in which the module's
-//! own variables may stand, `Module::pair` two of one kind, `canonical` makes such a term canonical.
+//! (mw_import), NAT and QID among them (`reached_of`), the declarations of all their statements and its own
+//! (mw_declare), the operators' tables (mw_sorts) and axioms (mw_canon), its grammar (mw_grammar), the equations and
+//! rules as statements, and all this as a context (mw_least); an index of them (mw_index) is made when it is first
+//! wanted (`Module::prepare`). A module keeps the statements that stand in it itself as they were read in its own
+//! signature (`Module::own`): a module that imports it has them carried to its own signature (mw_carry), so no text is
+//! read twice. `Module::term` reads a term in which the module's own variables may stand, `Module::pair` two of one
+//! kind, `canonical` makes such a term canonical.
 //!
 //! Faults come in this order, and the first one decides: a variable of its own that is declared again with another
 //! sort; the first import at fault; those of the declarations of the flattened module; an operator without a least
 //! result on some sorts, one whose groupings of three sorts differ, or one whose identity, left out, raises a sort, at
 //! the line of the unit's first token; then statement after statement: imported ones, told at the line of the unit's
-//! first token, and then its own equations, each with its line. Of one equation: its texts, first those of its sides,
+//! first token, and then its own ones, each with its line. Of one statement: its texts, first those of its sides,
 //! then those of the fragments of its condition in turn (one of more than 1,024 tokens; else none that is spelled, or
 //! two); then its terms in the same order, each for more than 1,000 levels in its canonical form, or for too large a
 //! number in it; and where it is executable, a left side that is a variable modulo the axioms, or the first variable
@@ -35,14 +36,15 @@
 //!
 //! - `accepted`: the module has the signature that the flattened module declares, the variables of its own statements,
 //!   and for its statements, in flattened order, those that stand for the own statements of the modules that it reaches
-//!   (`IsImported`, specs/Imported), and then for each of its equations the statement whose sides and fragments its
-//!   texts spell in its own signature, and no others (`IsEquation`, specs/Equations; `IsAccepted`, specs/Modules).
+//!   (`IsImported`, specs/Imported), and then for each of its equations and rules the statement whose sides and
+//!   fragments its texts spell in its own signature, and no others (`IsReadAs`, specs/Statements; `IsAccepted`,
+//!   specs/Modules).
 //! - `fault`: a fault is answered only where the unit has it, and it is the first (`IsRefused`; `IsFirstWrong` of
 //!   specs/Pairwise). A unit is one module at most, and none where it is refused (proofs/OneModule).
 //! - `build` wants that the units before were accepted as the modules before (`AreLoaded`); with one more it is so
 //!   again (proofs/Loading).
 //! - The module is workable, as mw_least asks, its signature has a grammar, as mw_parse asks (their `requires`), and
-//!   `Module::index` is an index of its equations where there is one (`IsIndexOf` of mw_index); `prepare` changes
+//!   `Module::index` is an index of its statements where there is one (`IsIndexOf` of mw_index); `prepare` changes
 //!   nothing else.
 //! - The law `texts_read_back`: the text of each raw term of a module that a source's unit is, cut into tokens, spells
 //!   this term in the module, where the term's variables can be printed and its quoted identifiers are tokens
@@ -55,16 +57,16 @@
 //! The definitions speak of levels and of a lone variable modulo the axioms; the tests ask the canonical forms
 //! (proofs/Sides). `Memory` may come at any call. Only tested, by the sources in cases/: that the definitions are what
 //! is meant. Neither: time. A module costs what its flattened statements cost: each is declared anew, and each imported
-//! equation is carried and made canonical once.
+//! statement is carried and made canonical once.
 #![tactic(auto)]
 
 mod carrying;
-mod equations;
 mod fragments;
 mod laws;
 mod modules;
 mod signature;
 mod sizes;
+mod statements;
 mod variables;
 
 pub use laws::{statements_are_printable, texts_read_back};

@@ -21,15 +21,15 @@ ghost use Rattle.mw_least.specs.Workable.{AreSides, IsWorkable};
 ghost use Rattle.mw_index.specs.Index.{IsIndexOf};
 ghost use Rattle.mw_import.specs.Flat.{IsFlat};
 ghost use Rattle.mw_declare.specs.Declarations.{Declares, DeclarationFault};
-ghost use Rattle.mw_build.specs.Sides.{equations_of};
-ghost use Rattle.mw_build.specs.Equations.{AreEquations, FirstFault};
-ghost use Rattle.mw_build.specs.Imported.{IsOrdinary, ArePartsOf, origins_of};
+ghost use Rattle.mw_build.specs.Sides.{sides_of};
+ghost use Rattle.mw_build.specs.Statements.{AreReadAs, FirstFault};
+ghost use Rattle.mw_build.specs.Imported.{IsNotOwise, ArePartsOf, origins_of};
 ghost use Rattle.mw_build.specs.Modules.{IsDeclaredModule, StatementsFault, IsAccepted, IsRefused, AreLoaded, AreAll, NotAll, IsOfKnown};
 ghost use Rattle.mw_build.specs.Modules.{reached_of, flattened};
 
 use crate::carrying::imported;
-use crate::equations::{equations, statements_of};
 use crate::signature::tables;
+use crate::statements::{statements_of, written_statements};
 use mw_canon::Facts;
 use mw_declare::{Declarations, Reached, Typing, all_typed, declare};
 use mw_grammar::Grammar;
@@ -94,7 +94,7 @@ impl Module {
     /// The statements that stand in it itself, in order.
     pub fn own(&self) -> &[Statement]
         ensures own { result.now ≡ self.now.own }
-        ensures ordinary { All IsOrdinary result.now }
+        ensures ordinary { All IsNotOwise result.now }
         ensures sides { All (AreSides self.now.module.signature) result.now }
     {
         self.context.shows();
@@ -102,7 +102,7 @@ impl Module {
         own
     }
 
-    /// Its equations, by what their left sides are instances of, where `prepare` has made that.
+    /// Its equations and rules, by what their left sides are instances of, where `prepare` has made that.
     pub fn index(&self) -> Option<&Index>
         ensures { IfSome result (λ index. IsIndexOf self.now.module index.now) }
     {
@@ -150,7 +150,7 @@ impl Module {
     }
 }
 
-/// The statements that a module's equations are, or their first fault.
+/// The statements that a module's equations and rules are, or their first fault.
 fn read(
     alloc: Global,
     facts: &Facts,
@@ -160,12 +160,12 @@ fn read(
     requires reading { IsReading grammar.now }
     requires grammar { (variables : List Variable) × IsGrammarOf facts.now variables grammar.now }
     ensures statements { (variables : List Variable) → IsGrammarOf facts.now variables grammar.now
-        → IfOk result (λ v. AreEquations facts.now variables (equations_of (seen_statements statements.now)) v.items) }
+        → IfOk result (λ v. AreReadAs facts.now variables (sides_of (seen_statements statements.now)) v.items) }
     ensures fault { (variables : List Variable) → IsGrammarOf facts.now variables grammar.now
-        → IfErr result (HasCause (FirstFault facts.now variables (equations_of (seen_statements statements.now)))) }
+        → IfErr result (HasCause (FirstFault facts.now variables (sides_of (seen_statements statements.now)))) }
 {
-    let equations = equations(alloc, statements)?;
-    match statements_of(alloc, facts, grammar, equations.as_slice())? {
+    let written = written_statements(alloc, statements)?;
+    match statements_of(alloc, facts, grammar, written.as_slice())? {
         Ok(found) => Ok(found),
         Err(fault) => Err(UnitError::Fault(fault)),
     }
@@ -245,9 +245,9 @@ fn all_statements(
     requires reading { IsReading grammar.now }
     requires grammar { (variables : List Variable) × IsGrammarOf signed.now.facts variables grammar.now }
     ensures all { (variables : List Variable) → IsGrammarOf signed.now.facts variables grammar.now → IfOk result (λ s.
-        AreAll signed.now.facts variables (origins_of modules.now reached.now) (equations_of (seen_unit unit.now).statements) s.imported s.list.items) }
+        AreAll signed.now.facts variables (origins_of modules.now reached.now) (sides_of (seen_unit unit.now).statements) s.imported s.list.items) }
     ensures fault { (variables : List Variable) → IsGrammarOf signed.now.facts variables grammar.now → IfErr result (HasCause
-        (NotAll signed.now.facts variables (seen_unit unit.now).line (origins_of modules.now reached.now) (equations_of (seen_unit unit.now).statements))) }
+        (NotAll signed.now.facts variables (seen_unit unit.now).line (origins_of modules.now reached.now) (sides_of (seen_unit unit.now).statements))) }
 {
     let imported = imported(
         alloc,
@@ -274,7 +274,7 @@ fn module_of(
     requires tables { AreTablesOf signed.value.facts signed.value.tables.value }
     requires grammar { IsGrammarOf signed.value.facts signed.value.variables grammar.value }
     requires within { statements.imported ≤ length statements.list.items }
-    requires ordinary { All IsOrdinary (drop statements.imported statements.list.items) }
+    requires ordinary { All IsNotOwise (drop statements.imported statements.list.items) }
     ensures { IfOk result (λ m. m ≡ record {
       name = name;
       «module» = record { signature = signed.value.facts; statements = statements.list.items };
@@ -319,8 +319,8 @@ fn declared_module(
     requires naturals { IsTrue declarations.value.signature.nat → HasNaturals declarations.value.signature }
     requires quoted { IsTrue declarations.value.signature.qid → (S : ℕ) × IsSortNamed declarations.value.signature S (codes "Qid") }
     requires built { HasBuiltIns declarations.value.signature }
-    ensures holds { IfOk result (IsDeclaredModule name declarations.value (origins_of modules.now reached.now) (equations_of (seen_unit unit.now).statements)) }
-    ensures fault { IfErr result (HasCause (StatementsFault (seen_unit unit.now).line declarations.value (origins_of modules.now reached.now) (equations_of (seen_unit unit.now).statements))) }
+    ensures holds { IfOk result (IsDeclaredModule name declarations.value (origins_of modules.now reached.now) (sides_of (seen_unit unit.now).statements)) }
+    ensures fault { IfErr result (HasCause (StatementsFault (seen_unit unit.now).line declarations.value (origins_of modules.now reached.now) (sides_of (seen_unit unit.now).statements))) }
 {
     let tables = tables(
         alloc,

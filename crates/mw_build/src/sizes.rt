@@ -7,7 +7,7 @@ ghost use Rattle.mw_canon.specs.Causes.{HasCause as HasCanonCause};
 ghost use Rattle.mw_term.specs.Raws.{raw_term};
 ghost use Rattle.mw_term.specs.Statements.{fragment_of};
 ghost use Rattle.mw_least.specs.Conditions.{AreRawFragments};
-ghost use Rattle.mw_build.specs.Equations.{FitsIn, Oversized, FirstOversized, terms_of};
+ghost use Rattle.mw_build.specs.Statements.{FitsIn, Oversized, FirstOversized, terms_of};
 
 use mw_canon::{CanonError, Facts, canon};
 use mw_module::FaultKind;

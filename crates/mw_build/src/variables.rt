@@ -1,11 +1,11 @@
-// The variables of equations, and which of them are bound.
+// The variables of statements, and which of them are bound.
 ghost use Rattle.std.specs.Prelude.{◌≡◌, [], ◌∷◌, map, IfOk, OnOk};
 ghost use Rattle.mw_position.specs.Variables.{met};
 ghost use Rattle.mw_term.specs.Raws.{raw_term};
 ghost use Rattle.mw_term.specs.Statements.{fragment_of};
 ghost use Rattle.mw_least.specs.Conditions.{met_fragments};
 ghost use Rattle.mw_text.specs.Mentions.{missing_in};
-ghost use Rattle.mw_build.specs.Equations as equations;
+ghost use Rattle.mw_build.specs.Statements as statements;
 
 use mw_term::{Fragment, Raw, Seq, VarId};
 use mw_text::Variables;
@@ -103,7 +103,7 @@ pub fn variables_of(
 
 /// The variables of what is evaluated in a fragment.
 fn used_in(alloc: Global, fragment: &Fragment) -> Result<Variables, AllocError>
-    ensures { IfOk result (λ m. m ≡ equations.used_in (fragment_of fragment.now)) }
+    ensures { IfOk result (λ m. m ≡ statements.used_in (fragment_of fragment.now)) }
 {
     match fragment {
         Fragment::Equal(left, right) => {
@@ -119,7 +119,7 @@ fn used_in(alloc: Global, fragment: &Fragment) -> Result<Variables, AllocError>
 
 /// Adds the variables that a fragment binds.
 fn bind(alloc: Global, bound: &mut Variables, fragment: &Fragment) -> Result<(), AllocError>
-    ensures { OnOk result (bound.new ≡ equations.bound_behind bound.old (fragment_of fragment.now)) }
+    ensures { OnOk result (bound.new ≡ statements.bound_behind bound.old (fragment_of fragment.now)) }
 {
     match fragment {
         Fragment::Match(pattern, _) => meet_all(alloc, bound, pattern),
@@ -129,7 +129,7 @@ fn bind(alloc: Global, bound: &mut Variables, fragment: &Fragment) -> Result<(),
 
 /// Adds the variables that fragments bind.
 fn bind_all(alloc: Global, bound: &mut Variables, fragments: &[Fragment]) -> Result<(), AllocError>
-    ensures { OnOk result (bound.new ≡ equations.bound_by bound.old (map fragment_of fragments.now)) }
+    ensures { OnOk result (bound.new ≡ statements.bound_by bound.old (map fragment_of fragments.now)) }
 {
     let mut rest = fragments;
     while let [fragment, after @ ..] = rest {
@@ -146,7 +146,7 @@ fn unbound_on_the_right(
     right: &Raw,
     fragments: &[Fragment],
 ) -> Result<Option<VarId>, AllocError>
-    ensures { IfOk result (λ o. o ≡ missing_in (equations.bound_by (met [] (raw_term left.now)) (map fragment_of fragments.now)) (met [] (raw_term right.now))) }
+    ensures { IfOk result (λ o. o ≡ missing_in (statements.bound_by (met [] (raw_term left.now)) (map fragment_of fragments.now)) (met [] (raw_term right.now))) }
 {
     let mut bound = mentioned(alloc, left)?;
     bind_all(alloc, &mut bound, fragments)?;
@@ -160,7 +160,7 @@ fn missing(
     bound: &Variables,
     fragment: &Fragment,
 ) -> Result<Option<VarId>, AllocError>
-    ensures { IfOk result (λ o. o ≡ missing_in bound.now (equations.used_in (fragment_of fragment.now))) }
+    ensures { IfOk result (λ o. o ≡ missing_in bound.now (statements.used_in (fragment_of fragment.now))) }
 {
     let used = used_in(alloc, fragment)?;
     used.missing_in(alloc, bound)
@@ -172,7 +172,7 @@ fn loose(
     bound: &mut Variables,
     fragments: &[Fragment],
 ) -> Result<Option<VarId>, AllocError>
-    ensures { IfOk result (λ o. o ≡ equations.loose bound.old (map fragment_of fragments.now)) }
+    ensures { IfOk result (λ o. o ≡ statements.loose bound.old (map fragment_of fragments.now)) }
 {
     let mut rest = fragments;
     while let [fragment, after @ ..] = rest {
@@ -192,7 +192,7 @@ pub fn unbound(
     right: &Raw,
     fragments: &[Fragment],
 ) -> Result<Option<VarId>, AllocError>
-    ensures { IfOk result (λ o. o ≡ equations.unbound (raw_term left.now) (raw_term right.now) (map fragment_of fragments.now)) }
+    ensures { IfOk result (λ o. o ≡ statements.unbound (raw_term left.now) (raw_term right.now) (map fragment_of fragments.now)) }
 {
     if let Some(variable) = unbound_on_the_right(alloc, left, right, fragments)? {
         return Ok(Some(variable));

@@ -1,10 +1,12 @@
 // What stands between a command's word and its term.
-ghost use Rattle.std.specs.Prelude.{◌≡◌, ◌≤◌, length};
+ghost use Rattle.std.specs.Prelude.{◌≡◌, ◌≤◌, length, option_map};
 ghost use Rattle.mw_module.specs.Words.{begins};
+ghost use Rattle.mw_command.specs.Bounds as bounds;
 ghost use Rattle.mw_command.specs.Commands as commands;
 
 use mw_lex::Token;
 use mw_module::{count_before, is_word, tokens_from};
+use mw_text::number;
 
 /// Whether the first token has this text.
 pub fn begins_with(tokens: &[Token], word: &[u8]) -> bool
@@ -13,6 +15,40 @@ pub fn begins_with(tokens: &[Token], word: &[u8]) -> bool
     match tokens {
         [token, ..] => is_word(token, word),
         [] => false,
+    }
+}
+
+// A number that may be a bound.
+fn in_range(number: u128) -> Option<u64>
+    ensures { result ≡ bounds.in_range number }
+{
+    if number <= u64::MAX as u128 {
+        Some(number as u64)
+    } else {
+        None
+    }
+}
+
+// The bound that a text is: a number in digits, the first of which isn't 0.
+fn bound_of(text: &[u8]) -> Option<u64>
+    ensures { result ≡ bounds.bound_of text.now }
+{
+    match text {
+        [b'0', ..] => None,
+        _ => in_range(number(text)?),
+    }
+}
+
+/// The bound that stands in front in brackets, and what stands behind it.
+pub fn bound_in_front(tokens: &[Token]) -> Option<(u64, &[Token])>
+    ensures { option_map bounds.seen_bounded result ≡ bounds.bound_in_front tokens.now }
+{
+    match tokens {
+        [open, text, close, behind @ ..] if is_word(open, b"[") && is_word(close, b"]") => {
+            let bound = bound_of(text.text.as_slice())?;
+            Some((bound, behind))
+        }
+        _ => None,
     }
 }
 

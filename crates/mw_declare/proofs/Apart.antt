@@ -8,7 +8,7 @@ use Rattle.std.proofs.lemmas.Slice.Eq.{bytes_eq-Decides}
 use Rattle.mw_lex.specs.declared.token.Token.{Token}
 use Rattle.mw_logic.specs.Signature.{Operator, Declaration, IsOperator}
 use Rattle.mw_module.specs.Attributes.{Attributes}
-use Rattle.mw_module.specs.Forms.{Shape, Sorts, Subsorts, Operators, Variables, Equation, Import}
+use Rattle.mw_module.specs.Forms.{Shape, Sorts, Subsorts, Operators, Variables, Statement, Import}
 use Rattle.mw_module.specs.Units.{SeenLined}
 use Rattle.mw_declare.specs.declared.built.Reached.{Reached}
 use Rattle.mw_declare.specs.declared.built.Truth.{Truth}
@@ -63,7 +63,7 @@ module _ (h : Hierarchy) where
   apart_shape os (Subsorts groups) a = a
   apart_shape os (Operators names args result said) a = apart_named os names (rank_of h args result) said a
   apart_shape os (Variables names S) a = a
-  apart_shape os (Equation left right fragments executable) a = a
+  apart_shape os (Statement rule left right fragments executable) a = a
   apart_shape os (Import m) a = a
 
   apart_from : (os : List Declared) (ss : List SeenLined) → AreApart os → AreApart (operators_from h os ss)

@@ -8,7 +8,7 @@ use Rattle.mw_logic.specs.Signature.{Sorted, sort, kind, Declaration, Member}
 use Rattle.mw_poset.proofs.Members.{member-all}
 use Rattle.mw_text.specs.Names.{name_of_tokens}
 use Rattle.mw_module.specs.Attributes.{Attributes}
-use Rattle.mw_module.specs.Forms.{Shape, Sorts, Subsorts, Operators, Variables, Equation, Import}
+use Rattle.mw_module.specs.Forms.{Shape, Sorts, Subsorts, Operators, Variables, Statement, Import}
 use Rattle.mw_module.specs.Sortings.{WrittenSort}
 use Rattle.mw_module.specs.Units.{SeenLined, IsWithin}
 use Rattle.mw_declare.specs.Meaning.{Name, texts, is_among, number_of}
@@ -89,7 +89,7 @@ module _ (name : Name) (arg : Option Name) (value : Name) where
       let (n, m, k) = some_member (is_name name) names p.1 in
       record { names = names; args = args; result = result; said = said; is = refl; taken = q.0; given = q.1; token = n; member = m; spelled = k }
   saying (Variables names S) e = cc
-  saying (Equation left right fragments executable) e = cc
+  saying (Statement rule left right fragments executable) e = cc
   saying (Import m) e = cc
 
   -- the profile and the declaration that it gives

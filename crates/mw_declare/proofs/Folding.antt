@@ -5,7 +5,7 @@ use Rattle.std.proofs.lemmas.List.Elements.{All-nil, All-cons, All-head, All-tai
 use Rattle.mw_lex.specs.declared.token.Token.{Token}
 use Rattle.mw_logic.specs.Signature.{Declaration}
 use Rattle.mw_module.specs.Attributes.{Attributes}
-use Rattle.mw_module.specs.Forms.{Shape, Sorts, Subsorts, Operators, Variables, Equation, Import}
+use Rattle.mw_module.specs.Forms.{Shape, Sorts, Subsorts, Operators, Variables, Statement, Import}
 use Rattle.mw_module.specs.Units.{SeenLined}
 use Rattle.mw_declare.specs.declared.built.Truth.{Truth}
 use Rattle.mw_declare.specs.Built.{truth_of, kinds_from}
@@ -46,7 +46,7 @@ module _ (P : Declared → Type 0) (again : (o : Declared) (p : Profile) (d : De
     HasEach (Subsorts groups) = ⊤
     HasEach (Operators names args result said) = All (HasNamed (rank_of h args result) said) names
     HasEach (Variables names S) = ⊤
-    HasEach (Equation left right fragments executable) = ⊤
+    HasEach (Statement rule left right fragments executable) = ⊤
     HasEach (Import m) = ⊤
 
     abbrev pub HasEachLined : SeenLined → Type 0
@@ -57,7 +57,7 @@ module _ (P : Declared → Type 0) (again : (o : Declared) (p : Profile) (d : De
     all_shaped os (Subsorts groups) all each = all
     all_shaped os (Operators names args result said) all each = all_named os names (rank_of h args result) said all each
     all_shaped os (Variables names S) all each = all
-    all_shaped os (Equation left right fragments executable) all each = all
+    all_shaped os (Statement rule left right fragments executable) all each = all
     all_shaped os (Import m) all each = all
 
     all_from : (os : List Declared) (ss : List SeenLined) → All P os → All HasEachLined ss → All P (operators_from h os ss)

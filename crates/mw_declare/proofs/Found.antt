@@ -5,7 +5,7 @@ use Rattle.std.proofs.lemmas.List.Elements.{All-nil, All-cons, All-weaker}
 use Rattle.mw_lex.specs.declared.token.Token.{Token}
 use Rattle.mw_logic.specs.Signature.{Declaration, Member}
 use Rattle.mw_module.specs.Attributes.{Attributes}
-use Rattle.mw_module.specs.Forms.{Shape, Sorts, Subsorts, Operators, Variables, Equation, Import}
+use Rattle.mw_module.specs.Forms.{Shape, Sorts, Subsorts, Operators, Variables, Statement, Import}
 use Rattle.mw_module.specs.Units.{SeenLined}
 use Rattle.mw_poset.proofs.Members.{member-left, member-last, member-all}
 use Rattle.mw_declare.specs.declared.built.Truth.{Truth}
@@ -83,7 +83,7 @@ module _ (h : Hierarchy) where
   HasFound os (Subsorts groups) = ⊤
   HasFound os (Operators names args result said) = All (IsNamed os (rank_of h args result)) names
   HasFound os (Variables names S) = ⊤
-  HasFound os (Equation left right fragments executable) = ⊤
+  HasFound os (Statement rule left right fragments executable) = ⊤
   HasFound os (Import m) = ⊤
 
   kept_shape : (os : List Declared) (s : Shape) (q : Profile) (c : Declaration) → IsFound os q c → IsFound (with_operators h os s) q c
@@ -91,7 +91,7 @@ module _ (h : Hierarchy) where
   kept_shape os (Subsorts groups) q c f = f
   kept_shape os (Operators names args result said) q c f = kept_named os names (rank_of h args result) said q c f
   kept_shape os (Variables names S) q c f = f
-  kept_shape os (Equation left right fragments executable) q c f = f
+  kept_shape os (Statement rule left right fragments executable) q c f = f
   kept_shape os (Import m) q c f = f
 
   kept_from : (os : List Declared) (ss : List SeenLined) (q : Profile) (c : Declaration) → IsFound os q c → IsFound (operators_from h os ss) q c
@@ -105,7 +105,7 @@ module _ (h : Hierarchy) where
       let rank = rank_of h args result in
       All-weaker (IsNamed (with_named os names rank said) rank) (IsNamed all rank) (λ name. kept (profile_of name rank) rank.declaration) names (new_named os names rank said)
   new_shape os all (Variables names S) kept = tt
-  new_shape os all (Equation left right fragments executable) kept = tt
+  new_shape os all (Statement rule left right fragments executable) kept = tt
   new_shape os all (Import m) kept = tt
 
   pub found_from : (os : List Declared) (ss : List SeenLined) → AllShaped (HasFound (operators_from h os ss)) ss
@@ -178,7 +178,7 @@ module _ (ss : List SeenLined) where
       let os = operators_from (hierarchy_of ss) [] ss in
       All-weaker (IsNamed os rank) (IsNamed (operators_of ss) rank) (λ name. kept_built (truth_of (hierarchy_of ss) ss) os (profile_of name rank) rank.declaration) names e
   found_shape (Variables names S) e = tt
-  found_shape (Equation left right fragments executable) e = tt
+  found_shape (Statement rule left right fragments executable) e = tt
   found_shape (Import m) e = tt
 
   pub found_all : AllShaped (HasFound (hierarchy_of ss) (operators_of ss)) ss

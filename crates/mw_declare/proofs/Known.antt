@@ -12,7 +12,7 @@ use Rattle.mw_text.proofs.Spellings.{spellings_read}
 use Rattle.mw_module.specs.Words.{texts}
 use Rattle.mw_module.specs.Sortings.{WrittenSort}
 use Rattle.mw_module.specs.Attributes.{Attributes}
-use Rattle.mw_module.specs.Forms.{Shape, Sorts, Subsorts, Operators, Variables, Equation, Import}
+use Rattle.mw_module.specs.Forms.{Shape, Sorts, Subsorts, Operators, Variables, Statement, Import}
 use Rattle.mw_module.specs.Known.{IsNameFor, IsPrecedence, IsGather, AreAttributes, IsKnown, AreKnown}
 use Rattle.mw_module.proofs.Formed.{joined_known}
 use Rattle.mw_module.specs.Units.{SeenLined}
@@ -69,7 +69,7 @@ module _ (h : Hierarchy) where
       let n : length args ≡ length (map (kind_in h) args) = sym (length-map args (kind_in h)) in
       said_names names args result said (subst (λ (k : ℕ). All (IsNameFor k) names) n known.names) (subst (λ (k : ℕ). AreAttributes k said) n known.attributes)
   said_shape (Variables names S) known = tt
-  said_shape (Equation left right fragments executable) known = tt
+  said_shape (Statement rule left right fragments executable) known = tt
   said_shape (Import m) known = tt
 
   said_lined : (ss : List SeenLined) → AreKnown ss → All (HasEachLined IsSaid said_again h) ss

@@ -4,7 +4,7 @@ use Rattle.std.proofs.lemmas.List.{map-append}
 use Rattle.mw_lex.specs.declared.token.Token.{Token}
 use Rattle.mw_logic.specs.Signature.{Member}
 use Rattle.mw_poset.proofs.Members.{member-left, member-right, member-append}
-use Rattle.mw_module.specs.Forms.{Shape, Sorts, Subsorts, Operators, Variables, Equation, Import}
+use Rattle.mw_module.specs.Forms.{Shape, Sorts, Subsorts, Operators, Variables, Statement, Import}
 use Rattle.mw_module.specs.Units.{SeenLined, IsWithin}
 use Rattle.mw_declare.specs.Meaning.{Name, texts, number_of, numbers_of}
 use Rattle.mw_declare.specs.Hierarchy.{pairs_between, pairs_behind, pairs_in, pairs_from}
@@ -25,7 +25,7 @@ named_in (Sorts names) = []
 named_in (Subsorts groups) = named_behind [] groups
 named_in (Operators names args result said) = []
 named_in (Variables names S) = []
-named_in (Equation left right fragments executable) = []
+named_in (Statement rule left right fragments executable) = []
 named_in (Import m) = []
 
 abbrev pub named_from : List SeenLined → List (Name × Name)
@@ -67,7 +67,7 @@ module _ (sorts : List Name) where
   in_are (Subsorts groups) = behind_are [] groups
   in_are (Operators names args result said) = refl
   in_are (Variables names S) = refl
-  in_are (Equation left right fragments executable) = refl
+  in_are (Statement rule left right fragments executable) = refl
   in_are (Import m) = refl
 
   pub pairs_are : (ss : List SeenLined) → pairs_from sorts ss ≡ map (numbered sorts) (named_from ss)

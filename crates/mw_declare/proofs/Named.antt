@@ -8,7 +8,7 @@ use Rattle.mw_logic.specs.Signature.{at_number}
 use Rattle.mw_logic.specs.Accepted.{names_differ}
 use Rattle.mw_logic.proofs.AcceptedTest.{is_accepted-sound}
 use Rattle.mw_poset.specs.Order.{IsSort}
-use Rattle.mw_module.specs.Forms.{Shape, Sorts, Subsorts, Operators, Variables, Equation, Import}
+use Rattle.mw_module.specs.Forms.{Shape, Sorts, Subsorts, Operators, Variables, Statement, Import}
 use Rattle.mw_module.specs.Units.{SeenLined}
 use Rattle.mw_declare.specs.Meaning.{Name, texts, is_among, with_name, with_names, with_sorts, sorts_from}
 use Rattle.mw_declare.proofs.Proper.{all_names}
@@ -77,7 +77,7 @@ HasNames P (Sorts names) = All P (texts names)
 HasNames P (Subsorts groups) = ⊤
 HasNames P (Operators names args result said) = ⊤
 HasNames P (Variables names S) = ⊤
-HasNames P (Equation left right fragments executable) = ⊤
+HasNames P (Statement rule left right fragments executable) = ⊤
 HasNames P (Import m) = ⊤
 
 -- so each sort of the statements has it
@@ -87,7 +87,7 @@ module _ (P : Name → Type 0) where
   all_sorts ns (Subsorts groups) all each = all
   all_sorts ns (Operators names args result said) all each = all
   all_sorts ns (Variables names S) all each = all
-  all_sorts ns (Equation left right fragments executable) all each = all
+  all_sorts ns (Statement rule left right fragments executable) all each = all
   all_sorts ns (Import m) all each = all
 
   pub all_sorts_from : (ns : List Name) (ss : List SeenLined) → All P ns → AllShaped (HasNames P) ss → All P (sorts_from ns ss)
@@ -101,7 +101,7 @@ among_sorts ns (Sorts names) n e = among_names ns (texts names) n e
 among_sorts ns (Subsorts groups) n e = e
 among_sorts ns (Operators names args result said) n e = e
 among_sorts ns (Variables names S) n e = e
-among_sorts ns (Equation left right fragments executable) n e = e
+among_sorts ns (Statement rule left right fragments executable) n e = e
 among_sorts ns (Import m) n e = e
 
 among_from : (ns : List Name) (ss : List SeenLined) (n : Name) → is_among ns n ≡ true → is_among (sorts_from ns ss) n ≡ true
@@ -113,7 +113,7 @@ new_sorts ns more (Sorts names) kept = All-weaker (IsIn (with_names ns (texts na
 new_sorts ns more (Subsorts groups) kept = tt
 new_sorts ns more (Operators names args result said) kept = tt
 new_sorts ns more (Variables names S) kept = tt
-new_sorts ns more (Equation left right fragments executable) kept = tt
+new_sorts ns more (Statement rule left right fragments executable) kept = tt
 new_sorts ns more (Import m) kept = tt
 
 pub sorts_are_there : (ns : List Name) (ss : List SeenLined) → AllShaped (HasNames (λ n. is_among (sorts_from ns ss) n ≡ true)) ss

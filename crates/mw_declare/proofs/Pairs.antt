@@ -4,7 +4,7 @@ use Rattle.std.proofs.lemmas.List.Elements.{All-nil, All-cons, All-head, All-tai
 use Rattle.mw_lex.specs.declared.token.Token.{Token}
 use Rattle.mw_poset.specs.Order.{IsSort, ArePairsOf, IsOnCycle}
 use Rattle.mw_poset.proofs.Members.{member-all}
-use Rattle.mw_module.specs.Forms.{Shape, Sorts, Subsorts, Operators, Variables, Equation, Import}
+use Rattle.mw_module.specs.Forms.{Shape, Sorts, Subsorts, Operators, Variables, Statement, Import}
 use Rattle.mw_module.specs.declared.faults.Fault.{Fault}
 use Rattle.mw_module.specs.Units.{SeenLined}
 use Rattle.mw_declare.specs.Meaning.{Name, texts, number_of, numbers_of}
@@ -54,7 +54,7 @@ in_there sorts (Sorts names) e = All-nil (IsPairOf (length sorts))
 in_there sorts (Subsorts groups) e = behind_there sorts [] groups (All-nil (IsSort (length sorts))) e
 in_there sorts (Operators names args result said) e = All-nil (IsPairOf (length sorts))
 in_there sorts (Variables names S) e = All-nil (IsPairOf (length sorts))
-in_there sorts (Equation left right fragments executable) e = All-nil (IsPairOf (length sorts))
+in_there sorts (Statement rule left right fragments executable) e = All-nil (IsPairOf (length sorts))
 in_there sorts (Import m) e = All-nil (IsPairOf (length sorts))
 
 pub pairs_there : (sorts : List Name) (ss : List SeenLined) → unknown_from sorts ss ≡ None → ArePairsOf (length sorts) (pairs_from sorts ss)

@@ -13,7 +13,7 @@ use Rattle.mw_poset.specs.Order.{IsSort}
 use Rattle.mw_poset.proofs.Members.{member-all}
 use Rattle.mw_carry.specs.Carried.{IsSameSort, IsSameKind, AreSameKinds, IsSameOperator}
 use Rattle.mw_module.specs.Attributes.{Attributes}
-use Rattle.mw_module.specs.Forms.{Shape, Sorts, Subsorts, Operators, Variables, Equation, Import}
+use Rattle.mw_module.specs.Forms.{Shape, Sorts, Subsorts, Operators, Variables, Statement, Import}
 use Rattle.mw_module.specs.Sortings.{WrittenSort}
 use Rattle.mw_module.specs.Units.{SeenLined, IsWithin}
 use Rattle.mw_declare.specs.declared.built.Reached.{Reached}
@@ -180,7 +180,7 @@ module _ (r s : Reached) (A B : List SeenLined) (reaches : ReachesMore r s) (wit
   shape_there (Subsorts groups) e found = tt
   shape_there (Operators names args result said) e found = names_there args result e names said found
   shape_there (Variables names S) e found = tt
-  shape_there (Equation left right fragments executable) e found = tt
+  shape_there (Statement rule left right fragments executable) e found = tt
   shape_there (Import m) e found = tt
 
   -- the truth values, and the operators that each kind has

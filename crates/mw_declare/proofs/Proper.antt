@@ -12,7 +12,7 @@ use Rattle.mw_text.specs.Names.{name_of_tokens}
 use Rattle.mw_text.specs.Proper.{IsProperName}
 use Rattle.mw_module.specs.Attributes.{Attributes}
 use Rattle.mw_module.specs.Sortings.{WrittenSort}
-use Rattle.mw_module.specs.Forms.{Shape, Sorts, Subsorts, Operators, Variables, Equation, Import}
+use Rattle.mw_module.specs.Forms.{Shape, Sorts, Subsorts, Operators, Variables, Statement, Import}
 use Rattle.mw_module.specs.declared.faults.Fault.{Fault}
 use Rattle.mw_module.specs.declared.faults.FaultKind.TheVariants.{AlreadyDefined}
 use Rattle.mw_module.specs.Tokens.{HasProperParts}
@@ -58,7 +58,7 @@ sorts_with ns (Sorts names) all p = all_names IsRun ns (texts names) all p
 sorts_with ns (Subsorts groups) all p = all
 sorts_with ns (Operators names args result said) all p = all
 sorts_with ns (Variables names S) all p = all
-sorts_with ns (Equation left right fragments executable) all p = all
+sorts_with ns (Statement rule left right fragments executable) all p = all
 sorts_with ns (Import m) all p = all
 
 sorts_proper : (ns : List Name) (ss : List SeenLined) → All IsRun ns → All IsProperLined ss → All IsRun (sorts_from ns ss)
@@ -90,7 +90,7 @@ module _ (h : Hierarchy) where
   shape_proper (Subsorts groups) p = tt
   shape_proper (Operators names args result said) p = names_proper names args result said p
   shape_proper (Variables names S) p = tt
-  shape_proper (Equation left right fragments executable) p = tt
+  shape_proper (Statement rule left right fragments executable) p = tt
   shape_proper (Import m) p = tt
 
   lined_proper : (ss : List SeenLined) → All IsProperLined ss → All (HasEachLined IsProperDeclared proper_again h) ss
@@ -123,7 +123,7 @@ module _ (Q : Name × Name → Type 0) where
   HasVariables (Subsorts groups) = ⊤
   HasVariables (Operators names args result said) = ⊤
   HasVariables (Variables names S) = All (λ (t : Token). Q (t.text, S.text)) names
-  HasVariables (Equation left right fragments executable) = ⊤
+  HasVariables (Statement rule left right fragments executable) = ⊤
   HasVariables (Import m) = ⊤
 
   abbrev HaveVariables : List SeenLined → Type 0
@@ -154,7 +154,7 @@ module _ (Q : Name × Name → Type 0) where
   shape_typed es line (Subsorts groups) all q = all
   shape_typed es line (Operators names args result said) all q = all
   shape_typed es line (Variables names S) all q = all_typed line (Ok es) names S.text all q
-  shape_typed es line (Equation left right fragments executable) all q = all
+  shape_typed es line (Statement rule left right fragments executable) all q = all
   shape_typed es line (Import m) all q = all
 
   from_typed : (r : Result Typing Fault) (ss : List SeenLined) → AllTyped r → HaveVariables ss → AllTyped (typing_from r ss)
@@ -179,7 +179,7 @@ variables_in (Sorts names) p = tt
 variables_in (Subsorts groups) p = tt
 variables_in (Operators names args result said) p = tt
 variables_in (Variables names S) p = run_names names S.text p
-variables_in (Equation left right fragments executable) p = tt
+variables_in (Statement rule left right fragments executable) p = tt
 variables_in (Import m) p = tt
 
 variables_run : (ss : List SeenLined) → All IsProperLined ss → HaveVariables RunNamed ss
@@ -201,7 +201,7 @@ module _ (sorts : List Name) where
   there_in (Subsorts groups) k = tt
   there_in (Operators names args result said) k = tt
   there_in (Variables names S) k = all_there names S.text (known_front sorts S.text [] k).0
-  there_in (Equation left right fragments executable) k = tt
+  there_in (Statement rule left right fragments executable) k = tt
   there_in (Import m) k = tt
 
   -- the variables of statements that are among others, of which all sorts are known

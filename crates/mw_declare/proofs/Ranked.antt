@@ -10,7 +10,7 @@ use Rattle.mw_logic.specs.Accepted.{number_of_sort}
 use Rattle.mw_logic.specs.Preregular.{IsSortOf, AreOfKinds}
 use Rattle.mw_logic.proofs.KindLaws.{SameKind-sym}
 use Rattle.mw_module.specs.Attributes.{Attributes}
-use Rattle.mw_module.specs.Forms.{Shape, Sorts, Subsorts, Operators, Variables, Equation, Import}
+use Rattle.mw_module.specs.Forms.{Shape, Sorts, Subsorts, Operators, Variables, Statement, Import}
 use Rattle.mw_module.specs.Sortings.{WrittenSort}
 use Rattle.mw_module.specs.Units.{SeenLined}
 use Rattle.mw_declare.specs.declared.built.Reached.{Reached}
@@ -147,7 +147,7 @@ module _ (sig : Signature) where
   ranked_shape (Subsorts groups) there = tt
   ranked_shape (Operators names args result said) there = ranked_names args result there names said
   ranked_shape (Variables names S) there = tt
-  ranked_shape (Equation left right fragments executable) there = tt
+  ranked_shape (Statement rule left right fragments executable) there = tt
   ranked_shape (Import m) there = tt
 
   ranked_lined : (ss : List SeenLined) → unknown_from sig.sorts ss ≡ None → All (HasEachLined (IsRankedOperator sig) (ranked_again sig) (sorts_held sig)) ss

@@ -5,7 +5,7 @@ use Rattle.std.proofs.lemmas.Slice.Eq.{bytes_eq-Decides}
 use Rattle.mw_logic.specs.Kinds.{same_name}
 use Rattle.mw_logic.specs.Accepted.{is_named_among, names_differ}
 use Rattle.mw_logic.proofs.Successor.{same_name-true}
-use Rattle.mw_module.specs.Forms.{Shape, Sorts, Subsorts, Operators, Variables, Equation, Import}
+use Rattle.mw_module.specs.Forms.{Shape, Sorts, Subsorts, Operators, Variables, Statement, Import}
 use Rattle.mw_module.specs.Units.{SeenLined}
 use Rattle.mw_declare.specs.Meaning.{Name, texts, is_among, with_name, with_names, with_sorts, sorts_from, sorts_of}
 
@@ -49,7 +49,7 @@ differ_sorts ns (Sorts names) d = differ_names ns (texts names) d
 differ_sorts ns (Subsorts groups) d = d
 differ_sorts ns (Operators names args result said) d = d
 differ_sorts ns (Variables names S) d = d
-differ_sorts ns (Equation left right fragments executable) d = d
+differ_sorts ns (Statement rule left right fragments executable) d = d
 differ_sorts ns (Import m) d = d
 
 differ_from : (ns : List Name) (ss : List SeenLined) → names_differ ns ≡ true → names_differ (sorts_from ns ss) ≡ true

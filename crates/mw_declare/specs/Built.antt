@@ -3,7 +3,7 @@
 use Rattle.std.specs.Prelude.{ℕ, zero, suc, List, [], ◌∷◌, Bool, false, true, ◌&&◌, not, nat_eq, bytes_eq, Option, None, Some, if◌then◌else◌, codes}
 use Rattle.std.specs.List.{list_any}
 use Rattle.mw_lex.specs.declared.token.Token.{Token}
-use Rattle.mw_module.specs.Forms.{Shape, Sorts, Subsorts, Operators, Variables, Equation, Import}
+use Rattle.mw_module.specs.Forms.{Shape, Sorts, Subsorts, Operators, Variables, Statement, Import}
 use Rattle.mw_module.specs.Sortings.{WrittenSort}
 use Rattle.mw_module.specs.Units.{SeenLined}
 use Rattle.mw_declare.specs.declared.built.Reached.{Reached}
@@ -36,7 +36,7 @@ declares_in name arg value (Sorts names) = false
 declares_in name arg value (Subsorts groups) = false
 declares_in name arg value (Operators names args result said) = (takes arg args && is_sort value result) && list_any (is_name name) names
 declares_in name arg value (Variables names S) = false
-declares_in name arg value (Equation left right fragments executable) = false
+declares_in name arg value (Statement rule left right fragments executable) = false
 declares_in name arg value (Import m) = false
 
 -- one of the statements does

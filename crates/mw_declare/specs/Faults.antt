@@ -6,7 +6,7 @@ use Rattle.std.specs.Option.{option_or}
 use Rattle.mw_logic.specs.Term.{Variable}
 use Rattle.mw_logic.specs.Signature.{Signature}
 use Rattle.mw_logic.specs.Accepted.{is_accepted_operator}
-use Rattle.mw_module.specs.Forms.{Shape, Sorts, Subsorts, Operators, Variables, Equation, Import}
+use Rattle.mw_module.specs.Forms.{Shape, Sorts, Subsorts, Operators, Variables, Statement, Import}
 use Rattle.mw_module.specs.Sortings.{WrittenSort}
 use Rattle.mw_module.specs.declared.faults.Fault.{Fault}
 use Rattle.mw_module.specs.declared.faults.FaultKind.{FaultKind}
@@ -41,7 +41,7 @@ typed_by es line (Sorts names) = Ok es
 typed_by es line (Subsorts groups) = Ok es
 typed_by es line (Operators names args result said) = Ok es
 typed_by es line (Variables names sort) = typed line (Ok es) names sort.text
-typed_by es line (Equation left right fragments executable) = Ok es
+typed_by es line (Statement rule left right fragments executable) = Ok es
 typed_by es line (Import m) = Ok es
 
 abbrev pub typing_from : Result Typing Fault → List SeenLined → Result Typing Fault
@@ -77,7 +77,7 @@ mentioned (Sorts names) = []
 mentioned (Subsorts groups) = mentioned_in groups
 mentioned (Operators names args result said) = mentioned_by args result
 mentioned (Variables names sort) = sort.text ∷ []
-mentioned (Equation left right fragments executable) = []
+mentioned (Statement rule left right fragments executable) = []
 mentioned (Import m) = []
 
 abbrev pub unknown_in : Option Name → ℕ → Option Fault → Option Fault

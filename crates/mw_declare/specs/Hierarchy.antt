@@ -5,7 +5,7 @@ use Rattle.mw_logic.specs.Signature.{Sorted, sort, kind}
 use Rattle.mw_logic.specs.Kinds.{renamed_sort, joining_kinds}
 use Rattle.mw_poset.specs.SortOrder.{SortOrder}
 use Rattle.mw_poset.specs.Order.{IsSort, ArePairsOf}
-use Rattle.mw_module.specs.Forms.{Shape, Sorts, Subsorts, Operators, Variables, Equation, Import}
+use Rattle.mw_module.specs.Forms.{Shape, Sorts, Subsorts, Operators, Variables, Statement, Import}
 use Rattle.mw_module.specs.Sortings.{WrittenSort}
 use Rattle.mw_module.specs.Units.{SeenLined}
 use Rattle.mw_declare.specs.Meaning.{Name, sorts_of, number_of, numbers_of}
@@ -31,7 +31,7 @@ pairs_in sorts (Sorts names) = []
 pairs_in sorts (Subsorts groups) = pairs_behind sorts [] groups
 pairs_in sorts (Operators names args result said) = []
 pairs_in sorts (Variables names S) = []
-pairs_in sorts (Equation left right fragments executable) = []
+pairs_in sorts (Statement rule left right fragments executable) = []
 pairs_in sorts (Import m) = []
 
 abbrev pub pairs_from : List Name → List SeenLined → List (ℕ × ℕ)

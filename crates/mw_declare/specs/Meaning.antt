@@ -3,7 +3,7 @@ pub use Rattle.mw_module.specs.Words.{texts}
 pub use Rattle.mw_text.specs.Interned.{Name, is_among, with_name, number_of}
 use Rattle.std.specs.Prelude.{ℕ, List, [], ◌∷◌, map}
 use Rattle.mw_lex.specs.declared.token.Token.{Token}
-use Rattle.mw_module.specs.Forms.{Shape, Sorts, Subsorts, Operators, Variables, Equation, Import}
+use Rattle.mw_module.specs.Forms.{Shape, Sorts, Subsorts, Operators, Variables, Statement, Import}
 use Rattle.mw_module.specs.Units.{SeenLined}
 
 abbrev pub with_names : List Name → List Name → List Name
@@ -16,7 +16,7 @@ with_sorts sorts (Sorts names) = with_names sorts (texts names)
 with_sorts sorts (Subsorts groups) = sorts
 with_sorts sorts (Operators names args result said) = sorts
 with_sorts sorts (Variables names S) = sorts
-with_sorts sorts (Equation left right fragments executable) = sorts
+with_sorts sorts (Statement rule left right fragments executable) = sorts
 with_sorts sorts (Import m) = sorts
 
 abbrev pub sorts_from : List Name → List SeenLined → List Name

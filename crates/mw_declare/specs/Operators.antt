@@ -8,7 +8,7 @@ use Rattle.mw_poset.specs.Order.{IsSort, ArePairsOf}
 use Rattle.mw_text.specs.Names.{name_of_tokens, items_of}
 use Rattle.mw_text.specs.Numerals.{number_in}
 use Rattle.mw_module.specs.Attributes.{Attributes, no_attributes, joined}
-use Rattle.mw_module.specs.Forms.{Shape, Sorts, Subsorts, Operators, Variables, Equation, Import}
+use Rattle.mw_module.specs.Forms.{Shape, Sorts, Subsorts, Operators, Variables, Statement, Import}
 use Rattle.mw_module.specs.Sortings.{WrittenSort}
 use Rattle.mw_module.specs.Units.{SeenLined}
 use Rattle.mw_declare.specs.Meaning.{Name, texts}
@@ -71,7 +71,7 @@ with_operators h os (Sorts names) = os
 with_operators h os (Subsorts groups) = os
 with_operators h os (Operators names args result said) = with_named os names (rank_of h args result) said
 with_operators h os (Variables names S) = os
-with_operators h os (Equation left right fragments executable) = os
+with_operators h os (Statement rule left right fragments executable) = os
 with_operators h os (Import m) = os
 
 abbrev pub operators_from : Hierarchy → List Declared → List SeenLined → List Declared

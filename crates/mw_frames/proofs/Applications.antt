@@ -17,7 +17,7 @@ use Rattle.mw_frames.specs.Arrivals.{Comes, IsNewFrame, level_over}
 use Rattle.mw_logic.specs.Module.{Module}
 use Rattle.mw_logic.proofs.CanonicalTerms.{not_successor}
 use Rattle.mw_stack.specs.Own.{spread}
-use Rattle.mw_deduction.specs.Replay.{Move}
+use Rattle.mw_deduction.specs.Replay.{Move, Stand}
 use Rattle.mw_frames.specs.declared.job.Frame.{Frame}
 use Rattle.mw_frames.specs.Taking.{IsPartAsked, Receives}
 use Rattle.mw_frames.proofs.OpeningAmong.{come_settled}
@@ -66,9 +66,9 @@ module _ (K : Run) (sig : Signature) (run : IsRun K sig) (count : ℕ) where
 
 -- What is known of a right side that comes for several arguments: by the operator of the whole.
 module _ (K : Run) (sig : Signature) (run : IsRun K sig) (count : ℕ) where
-  pub part_known : (m : Data) (f : Frame) (w : RawTerm) → IsPartAsked K count m f w → (us : List RawTerm) (e : Applied) (ss : List Move) (vs : List RawTerm) → IsApplied K.over K.rank e ss vs w
+  pub part_known : (m : Data) (f : Frame) (w : RawTerm) → (S : Stand) → IsPartAsked K count m f w S → (us : List RawTerm) (e : Applied) (ss : List Move) (vs : List RawTerm) → IsApplied K.over K.rank e ss vs w
       → IsKnownIn K.over K.rank (us ++ vs) (length us) f.op (clean e.right.now)
-  part_known m f w part us e ss vs a =
+  part_known m f w S part us e ss vs a =
       let h = part.asked.holds in
       let top : HasOnTop f.op w = λ g ts q. same_operator (sym q ∙ part.is) in
       right_known_here K sig run count us m.values m.moves m.frames m.done m.jobs e.number ss vs (clean e.right.now) w h a.redex f.op

@@ -1,5 +1,5 @@
--- An equation is applied to the term that the machine has in hand.
-use Rattle.std.specs.Prelude.{◌≡◌, ◌≤◌, ◌<◌, ℕ, zero, suc, ◌+◌, length, List, [], ◌∷◌, ◌++◌, true, false, Some, option_map, unwrap_or}
+-- A statement is applied to the term that the machine has in hand.
+use Rattle.std.specs.Prelude.{◌≡◌, ◌≤◌, ◌<◌, ℕ, zero, suc, ◌+◌, length, List, [], ◌∷◌, ◌++◌, Bool, true, false, Some, option_map, unwrap_or}
 use Rattle.std.specs.List.{zip}
 use Rattle.std.proofs.Common.{sym, subst, ap, ◌∙◌, arith}
 use Rattle.std.proofs.Math.Seq.{drop-append_seam}
@@ -19,7 +19,7 @@ use Rattle.mw_frames.specs.declared.job.Job.{Job}
 use Rattle.mw_frames.specs.declared.job.Job.TheVariants.{Walk, Try}
 use Rattle.mw_frames.specs.declared.job.Frame.{Frame}
 use Rattle.mw_frames.specs.Jobs.{term_of, AreOpened}
-use Rattle.mw_frames.specs.State.{Run, Data, Leads, IsRun, InHand, IsJob, IsKnownIn}
+use Rattle.mw_frames.specs.State.{Run, after_one, Data, Leads, IsRun, InHand, IsJob, IsKnownIn}
 use Rattle.mw_frames.specs.Redex.{IsRedex, MayCome, IsSeenIn, hole_level, MayFire, HasInHand, HasOnTop}
 use Rattle.mw_frames.specs.Larger.{AreSmall}
 use Rattle.mw_frames.proofs.Redexes.{made, made_comes, IsReplaced, fires}
@@ -29,6 +29,10 @@ use Rattle.mw_frames.proofs.KnownValues.{values_known, free_values_known, right_
 use Rattle.mw_frames.proofs.Growing.{opened_grown, all_good_grown}
 use Rattle.mw_frames.proofs.HoleDepths.{admitted_after, large_there, deep_there, raw_after, small_there}
 use Rattle.mw_frames.proofs.Turning.{at_hand, seen_here}
+
+-- what may be asked of a run may be behind one statement more
+pub run_after : (b : Bool) (K : Run) (sig : Signature) → IsRun K sig → IsRun (after_one b K) sig
+run_after b K sig run = record { signature = run.signature; accepted = run.accepted; sorted = run.sorted; well = run.well; start = run.start }
 
 module _ (K : Run) (sig : Signature) (run : IsRun K sig) (count : ℕ) where
   abbrev M : Module
@@ -77,9 +81,9 @@ module _ (K : Run) (sig : Signature) (run : IsRun K sig) (count : ℕ) where
         raw_after_here = raw_after here run.accepted w v c m.values m.frames m.done m.jobs os at_it.clear h.opened at_it.canonical seen_there at_it.raw at_it.admitted
 
     -- a replacement was made: what comes is in hand, as any job of which that is known, and more values are kept
-    pub replaced_here : (v : RawTerm) (ws : List RawTerm) (ms : List Move) → IsReplaced K count ms h.stand v
-        → HasInHand K (suc count) (record { frames = m.frames; done = m.done; jobs = m.jobs; values = m.values ++ ws; moves = ms }) v
-    replaced_here v ws ms f x e j = record {
+    pub replaced_here : (b : Bool) (v : RawTerm) (ws : List RawTerm) (ms : List Move) → IsReplaced K b count ms h.stand v
+        → HasInHand (after_one b K) (suc count) (record { frames = m.frames; done = m.done; jobs = m.jobs; values = m.values ++ ws; moves = ms }) v
+    replaced_here b v ws ms f x e j = record {
       stand = f.stand;
       leads = f.leads;
       opened = subst (AreOpened here (m.values ++ ws) m.frames m.done m.jobs) (sym f.opens) (opened_grown M K.rank ws m.values m.frames m.done m.jobs os h.good h.opened);
@@ -126,10 +130,10 @@ module _ (K : Run) (sig : Signature) (run : IsRun K sig) (count : ℕ) where
         (free_values_known M run.accepted run.sorted K.rank number ss vs right w r q.operator q.patterns q.left q.free q.found (at_term ms h.stand w h.leads h.hand).canonical h.job)
 
 module _ (K : Run) (sig : Signature) (run : IsRun K sig) (count : ℕ) where
-  -- The equation is applied: its right side is in hand. What shows its condition is kept before.
-  pub fires_so : (m n : Data) (number : ℕ) (ss : List Move) (es vs : List RawTerm) (right w : RawTerm) → MayFire K count m number ss vs right w → n.frames ≡ m.frames → n.done ≡ m.done → n.jobs ≡ m.jobs → n.values ≡ m.values ++ (es ++ vs)
-      → n.moves ≡ m.moves ++ (ss ++ applies number (is_rule K.over number) (meant K.over.signature (zip (variables_of K.over number) vs)) ∷ []) → HasInHand K (suc count) n (evaluated K.over.signature vs right)
-  fires_so m n number ss es vs right w h ef ed ej ev em =
+  -- The statement is applied: its right side is in hand. What shows its condition is kept before.
+  pub fires_so : (b : Bool) (m n : Data) (number : ℕ) (ss : List Move) (es vs : List RawTerm) (right w : RawTerm) → MayFire K b count m number ss vs right w → n.frames ≡ m.frames → n.done ≡ m.done → n.jobs ≡ m.jobs → n.values ≡ m.values ++ (es ++ vs)
+      → n.moves ≡ m.moves ++ (ss ++ applies number (is_rule K.over number) (meant K.over.signature (zip (variables_of K.over number) vs)) ∷ []) → HasInHand (after_one b K) (suc count) n (evaluated K.over.signature vs right)
+  fires_so b m n number ss es vs right w h ef ed ej ev em =
       let M : Module = K.over in
       let here : Signature = K.over.signature in
       let r = h.redex in
@@ -140,12 +144,12 @@ module _ (K : Run) (sig : Signature) (run : IsRun K sig) (count : ℕ) where
       let a : IsAdmitted here (plug (round here S.opens) v) =
       admitted_here K sig run count m w z.in_hand z.seen v (made_comes M run.accepted run.sorted K.rank number ss vs right w r)
       (subst (λ u. hole_level here m.frames u + height u ≤ 1000) e z.low) (ap (λ u. has_largest here (whole here S.opens u)) (sym e) ∙ z.small) in
-      let f = fires K run.accepted run.sorted count number ss vs right w r m.moves S run.start z.in_hand.leads z.in_hand.hand (seen_there K sig run count m w z.in_hand z.seen) a in
+      let f = fires K run.accepted run.sorted count number ss vs right w r b h.rule m.moves S h.free run.start z.in_hand.leads z.in_hand.hand (seen_there K sig run count m w z.in_hand z.seen) a in
       let is_it : at_number M.statements number ≡ Some r.statement = r.is_there.is_there in
-      let k : is_rule M number ≡ false = ap (λ o. unwrap_or (option_map (λ (e : Statement). e.rule) o) false) is_it ∙ r.ordinary.equation in
+      let k : is_rule M number ≡ b = ap (λ o. unwrap_or (option_map (λ (e : Statement). e.rule) o) false) is_it ∙ h.rule in
       let l : variables_of M number ≡ r.statement.variables = ap (λ o. unwrap_or (option_map (λ (e : Statement). e.variables) o) []) is_it in
-      let q : applies number false (meant here (zip r.statement.variables vs)) ≡ applies number (is_rule M number) (meant here (zip (variables_of M number) vs)) =
-      ap (λ b. applies number b (meant here (zip r.statement.variables vs))) (sym k) ∙ ap (λ ys. applies number (is_rule M number) (meant here (zip ys vs))) (sym l) in
-      so_in_hand K sig run (suc count) m n (es ++ vs) _ (evaluated here vs right)
-      (replaced_here K sig run count m w z.in_hand (evaluated here vs right) (es ++ vs) _ f)
+      let q : applies number b (meant here (zip r.statement.variables vs)) ≡ applies number (is_rule M number) (meant here (zip (variables_of M number) vs)) =
+      ap (λ c. applies number c (meant here (zip r.statement.variables vs))) (sym k) ∙ ap (λ ys. applies number (is_rule M number) (meant here (zip ys vs))) (sym l) in
+      so_in_hand (after_one b K) sig (run_after b K sig run) (suc count) m n (es ++ vs) _ (evaluated here vs right)
+      (replaced_here K sig run count m w z.in_hand b (evaluated here vs right) (es ++ vs) _ f)
       ef ed ej ev (em ∙ ap (λ n. m.moves ++ (ss ++ n ∷ [])) (sym q))

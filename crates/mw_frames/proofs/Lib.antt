@@ -16,6 +16,7 @@ pub mod JobOrder
 pub mod LeftOver
 pub mod Fitting
 pub mod FiringPart
+pub mod OpenHoles
 pub mod Refusing
 pub mod RowsMet
 pub mod FitsThere
@@ -33,3 +34,5 @@ pub mod OpeningAmong
 pub mod Applications
 pub mod Pairs
 pub mod PartsAsked
+pub mod CutPlaces
+pub mod IntoArguments

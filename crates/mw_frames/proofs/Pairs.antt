@@ -101,7 +101,7 @@ module _ (K : Run) (sig : Signature) (run : IsRun K sig) (k : ℕ) (d : Data) (f
 
   pair_inside : IsAsked K k inside pair
   pair_inside =
-      let (i, seen, same) = takes K sig run k d.values d.moves d.frames d.done d.jobs (apply f args) pair asked.holds (1 ∷ 2 ∷ []) two_taken (omega arith) frame refl refl refl refl others [] two_left in
+      let (i, seen, same, opens) = takes K sig run k d.values d.moves d.frames d.done d.jobs (apply f args) pair asked.holds (1 ∷ 2 ∷ []) two_taken (omega arith) frame refl refl refl refl others [] two_left in
       record { holds = i; seen = seen }
 
   -- What comes of it there.

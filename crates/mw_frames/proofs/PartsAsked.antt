@@ -62,7 +62,7 @@ module _ (K : Run) (sig : Signature) (run : IsRun K sig) (count : ℕ) where
   several_asked d t w ks a part =
       let f : Frame = record { op = part.takes.operator; level = hole_level here d.frames (apply part.takes.operator nil); from = length d.done; waits = length d.jobs } in
       let (os, ys, left) = left_over here part.takes.operator ks part.takes.args in
-      let (i, seen, same) = takes K sig run count d.values d.moves d.frames d.done d.jobs t w a.holds ks part.takes part.proper f refl refl refl refl os ys left in
+      let (i, seen, same, opens) = takes K sig run count d.values d.moves d.frames d.done d.jobs t w a.holds ks part.takes part.proper f refl refl refl refl os ys left in
       (record { frames = f ∷ d.frames; done = d.done ++ os; jobs = d.jobs ++ ys; values = d.values; moves = d.moves ++ among ks ∷ [] }, record { holds = i; seen = seen })
 
   part_asked : (d : Data) (t w : RawTerm) → IsAsked K count d t → (take : Option (List ℕ)) → IsPartTaken here take t w → IsAskedThere w

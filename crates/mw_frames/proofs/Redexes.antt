@@ -1,5 +1,5 @@
--- An equation is applied to the term in hand.
-use Rattle.std.specs.Prelude.{◌≡◌, ◌+◌, ℕ, zero, suc, List, [], ◌∷◌, ◌++◌, Bool, false, ◌&&◌, ◌||◌, IsTrue, refl}
+-- A statement is applied to the term in hand.
+use Rattle.std.specs.Prelude.{◌≡◌, ◌+◌, ℕ, zero, suc, List, [], ◌∷◌, ◌++◌, Bool, true, false, cond, ◌&&◌, ◌||◌, IsTrue, refl}
 use Rattle.std.specs.List.{zip}
 use Rattle.std.proofs.Common.{sym, subst, ap, ◌∙◌, arith, true≢false, ⊎_elim}
 use Rattle.std.proofs.lemmas.Bool.{and_from, or_cases, or_left, or_right}
@@ -7,7 +7,7 @@ use Rattle.mw_logic.specs.Term.{Variable, RawTerm, RawTerms, numeral, quoted, va
 use Rattle.mw_logic.specs.Signature.{Signature, HasKind, of_operator, IsRawTerm, an_operator, AreRawTerms, next}
 use Rattle.mw_logic.specs.Accepted.{IsAccepted, IsWellSorted}
 use Rattle.mw_logic.specs.Substitution.{Substitution, instance, occurs, occurs_in, is_bound, binds, binds_all, IsSubstitution, Extends}
-use Rattle.mw_logic.specs.Parts.{nested, IsAdmitted}
+use Rattle.mw_logic.specs.Parts.{nested, IsAdmitted, IsFrozen}
 use Rattle.mw_logic.specs.Module.{Fragment, equal, matches, has_sort, is_true, Module, binds_fragments}
 use Rattle.mw_logic.specs.Confluence.{AreBound}
 use Rattle.mw_logic.specs.Proof.{Proofs, replacement, rules, steps}
@@ -35,7 +35,7 @@ use Rattle.mw_deduction.proofs.Extended.{instance_extended, held_extended}
 use Rattle.mw_deduction.proofs.Moves.{plays-append, moves-append}
 use Rattle.mw_deduction.proofs.MoveStands.{becomes_is}
 use Rattle.mw_deduction.proofs.ReadingLaws as reading
-use Rattle.mw_frames.specs.State.{Run, Leads}
+use Rattle.mw_frames.specs.State.{Run, after_one, Leads}
 use Rattle.mw_frames.specs.Redex.{IsWaiting, IsShown, IsRedex, MayCome}
 use Rattle.mw_frames.proofs.RightSides.{kinds_here, left_here, right_here, among_here, all_bound_here, solution_binds, left_matches, right_is}
 use Rattle.mw_frames.proofs.Turning.{all_standing, at_hand}
@@ -149,10 +149,10 @@ module _ (M : Module) (ok : IsAccepted M.signature) (sorted : IsWellSorted M.sig
   pub made_reached : (es : Proofs) → (admitted_judgements M n).Held r.statement.fragments r.solution es r.reached → made ≡ instance r.reached r.statement.right
   made_reached es h = sym (instance_extended r.reached values_here r.reaches r.statement.right (λ x o. held_binds M n r.statement.fragments r.solution es r.reached (λ y. occurs y r.statement.left) (λ y k. solution_binds M ok sorted n number ms vs right w r y k) h x (r.ordinary.bound x o)))
 
-  -- the equation may be applied where its condition is shown, if what comes of the whole is admitted
-  pub may_apply : (S T : Stand) (es : Proofs) → S.hand ≡ w → IsWaiting es S T → S.rank ≡ n → (admitted_judgements M n).Held r.statement.fragments r.solution es r.reached → IsSeen sig S.opens w → IsCanonical sig w
-      → IsRawTerm sig (plug (round sig S.opens) (nested sig w)) → IsAdmitted sig (plug (round sig S.opens) made) → MayApply M number false values_here T
-  may_apply S T es e waits rank held seen k raw a =
+  -- the statement may be applied where its condition is shown, if what comes of the whole is admitted
+  pub may_apply : (c : Bool) → r.statement.rule ≡ c → (S T : Stand) (es : Proofs) → (IsTrue c → ¬ IsFrozen sig (round sig S.opens)) → S.hand ≡ w → IsWaiting es S T → S.rank ≡ n → (admitted_judgements M n).Held r.statement.fragments r.solution es r.reached → IsSeen sig S.opens w → IsCanonical sig w
+      → IsRawTerm sig (plug (round sig S.opens) (nested sig w)) → IsAdmitted sig (plug (round sig S.opens) made) → MayApply M number c values_here T
+  may_apply c kind S T es free e waits rank held seen k raw a =
       let left : RawTerm = instance values_here r.statement.left in
       let b : IsTrue (binds values_here r.statement.left) = binds_from values_here r.statement.left (λ x o. bound_here x (left_here M ok sorted n number ms vs right w r x o)) in
       let d : IsTrue (binds values_here r.statement.right) = binds_from values_here r.statement.right (λ x o. bound_here x (right_here M ok sorted n number ms vs right w r x o)) in
@@ -162,11 +162,11 @@ module _ (M : Module) (ok : IsAccepted M.signature) (sorted : IsWellSorted M.sig
       record {
         statement = r.statement;
         is_there = r.is_there.is_there;
-        rule = r.ordinary.equation;
+        rule = kind;
         replaces = record {
           statement = r.statement;
           is_there = r.is_there;
-          rule = r.ordinary.equation;
+          rule = kind;
           substitution = r.substitution;
           all_bound = rw (b, d) f;
           condition = subst (λ i. (admitted_judgements M i).Held r.statement.fragments values_here T.read.ready values_here) (sym (waits.rank ∙ rank))
@@ -177,7 +177,7 @@ module _ (M : Module) (ok : IsAccepted M.signature) (sorted : IsWellSorted M.sig
         };
         may = record {
           seen = subst (λ os. IsSeen sig os T.hand) (sym waits.opens) (subst (IsSeen sig S.opens) (sym (waits.hand ∙ e)) seen);
-          free = λ z. absurd (true≢false (sym z));
+          free = λ z. subst (λ os. ¬ IsFrozen sig (round sig os)) (sym waits.opens) (free z);
           raw_part = instance_raw sig ok sorted values_here r.substitution r.sides.left;
           is_part = normal_form-kept sig ok (left_matches M ok sorted n number ms vs right w r) ∙ fixed sig ok w k ∙ sym (waits.hand ∙ e);
           raw = subst (λ os. IsRawTerm sig (plug (round sig os) made)) (sym waits.opens) (raw_in_place sig ok (round sig S.opens) (nested sig w) made raw made_raw made_kinds);
@@ -185,10 +185,15 @@ module _ (M : Module) (ok : IsAccepted M.signature) (sorted : IsWellSorted M.sig
         };
       }
 
--- A replacement was made where a run stood: v is in hand.
-pub record IsReplaced (K : Run) (count : ℕ) (ms : List Move) (S : Stand) (v : RawTerm) : Type 0 where
+-- one more, where it is by a rule
+pub counted_on : (b : Bool) {n m k : ℕ} → n ≡ m + cond b 1 0 → m ≡ k → n ≡ cond b (suc k) k
+counted_on true p q = omega (arith, p, q)
+counted_on false p q = omega (arith, p, q)
+
+-- A replacement, by a rule where b says so, was made where a run stood: v is in hand.
+pub record IsReplaced (K : Run) (b : Bool) (count : ℕ) (ms : List Move) (S : Stand) (v : RawTerm) : Type 0 where
   pub stand : Stand
-  pub leads : Leads K (suc count) ms stand
+  pub leads : Leads (after_one b K) (suc count) ms stand
   pub opens : stand.opens ≡ S.opens
   pub hand : stand.hand ≡ v
 
@@ -203,33 +208,33 @@ module _ (K : Run) (ok : IsAccepted K.over.signature) (sorted : IsWellSorted K.o
   pub shows_there : (ms : List Move) (S : Stand) → AreStanding K.over K.start → Leads K count ms S → IsShown K.over K.rank r.statement.fragments r.solution r.reached ss S K.below
   shows_there ms S start h = r.shown S K.below (all_standing K ok sorted count ms S start h) h.rank h.ready
 
-  pub fires : (ms : List Move) (S : Stand) → AreStanding K.over K.start → Leads K count ms S → S.hand ≡ w → IsSeen here S.opens w
-      → IsAdmitted here (plug (round here S.opens) (instance s r.statement.right)) → IsReplaced K count (ms ++ (ss ++ applies number false s ∷ [])) S (evaluated here vs right)
-  fires ms S start h e seen a =
+  pub fires : (b : Bool) → r.statement.rule ≡ b → (ms : List Move) (S : Stand) → (IsTrue b → ¬ IsFrozen here (round here S.opens)) → AreStanding K.over K.start → Leads K count ms S → S.hand ≡ w → IsSeen here S.opens w
+      → IsAdmitted here (plug (round here S.opens) (instance s r.statement.right)) → IsReplaced K b count (ms ++ (ss ++ applies number b s ∷ [])) S (evaluated here vs right)
+  fires b kind ms S free start h e seen a =
       let at : At K.over (admitted_judgements K.over K.rank).Held (admitted_judgements K.over K.rank).Fails (nested here S.from) S.read S.opens w =
       subst (At K.over (admitted_judgements K.over K.rank).Held (admitted_judgements K.over K.rank).Fails (nested here S.from) S.read S.opens) e (at_hand K ok sorted count ms S start h) in
       let shown = shows_there ms S start h in
       let T : Stand = shown.waiting in
       let z = shown.waits in
-      let may : MayApply K.over number false s T = may_apply K.over ok sorted K.rank number ss vs right w r S T shown.evidence e z h.rank shown.holds seen at.canonical at.raw a in
-      let Q : Stand = replacing here (replacement number false s T.read.ready) (by_statement number s T.sides) (becomes K.over number s T.hand) T in
-      let one = (reading.one (replacement number false s T.read.ready) T.read).1 in
-      let by_rules = (reading.one (replacement number false s T.read.ready) T.read).0 in
+      let may : MayApply K.over number b s T = may_apply K.over ok sorted K.rank number ss vs right w r b kind S T shown.evidence free e z h.rank shown.holds seen at.canonical at.raw a in
+      let Q : Stand = replacing here (replacement number b s T.read.ready) (by_statement number s T.sides) (becomes K.over number s T.hand) T in
+      let one = (reading.one (replacement number b s T.read.ready) T.read).1 in
+      let by_rules = (reading.one (replacement number b s T.read.ready) T.read).0 in
       let old = h.steps in
       let done_steps : steps (proof_of T.read.done) ≡ steps (proof_of S.read.done) = ap (λ rs. steps (proof_of rs)) z.done in
       let done_rules : rules (proof_of T.read.done) ≡ rules (proof_of S.read.done) = ap (λ rs. rules (proof_of rs)) z.done in
-      let all : AreMoves K.over (ss ++ applies number false s ∷ []) (S ∷ K.below) = moves-append K.over ss (applies number false s ∷ []) (S ∷ K.below) shown.may (subst (AreMoves K.over (applies number false s ∷ [])) (sym shown.plays) (may, tt)) in
-      let goes : plays K.over (ss ++ applies number false s ∷ []) (S ∷ K.below) ≡ Q ∷ K.below = plays-append K.over ss (applies number false s ∷ []) (S ∷ K.below) ∙ ap (plays K.over (applies number false s ∷ [])) shown.plays in
+      let all : AreMoves K.over (ss ++ applies number b s ∷ []) (S ∷ K.below) = moves-append K.over ss (applies number b s ∷ []) (S ∷ K.below) shown.may (subst (AreMoves K.over (applies number b s ∷ [])) (sym shown.plays) (may, tt)) in
+      let goes : plays K.over (ss ++ applies number b s ∷ []) (S ∷ K.below) ≡ Q ∷ K.below = plays-append K.over ss (applies number b s ∷ []) (S ∷ K.below) ∙ ap (plays K.over (applies number b s ∷ [])) shown.plays in
       record {
         stand = Q;
         leads = record {
-          plays = plays-append K.over ms (ss ++ applies number false s ∷ []) K.start ∙ ap (plays K.over (ss ++ applies number false s ∷ [])) h.plays ∙ goes;
-          moves = moves-append K.over ms (ss ++ applies number false s ∷ []) K.start h.moves (subst (AreMoves K.over (ss ++ applies number false s ∷ [])) (sym h.plays) all);
+          plays = plays-append K.over ms (ss ++ applies number b s ∷ []) K.start ∙ ap (plays K.over (ss ++ applies number b s ∷ [])) h.plays ∙ goes;
+          moves = moves-append K.over ms (ss ++ applies number b s ∷ []) K.start h.moves (subst (AreMoves K.over (ss ++ applies number b s ∷ [])) (sym h.plays) all);
           rank = z.rank ∙ h.rank;
           from = z.from ∙ h.from;
           ready = refl;
           steps = omega (arith, one, old, done_steps);
-          rules = by_rules ∙ ap (λ n. n + 0) (done_rules ∙ h.rules);
+          rules = counted_on b by_rules (done_rules ∙ h.rules);
         };
         opens = z.opens;
         hand = becomes_is K.over ok number s T.hand r.statement r.is_there.is_there ∙ sym (right_is K.over ok sorted K.rank number ss vs right w r);

@@ -1,12 +1,12 @@
 -- Why the machine stops where something would come for the term in hand.
-use Rattle.std.specs.Prelude.{◌≡◌, ◌≤◌, ◌<◌, ◌+◌, ℕ, List, [], ◌∷◌, true, false}
+use Rattle.std.specs.Prelude.{◌≡◌, ◌≤◌, ◌<◌, ◌+◌, ℕ, List, [], ◌∷◌, Bool, true, false, IsTrue}
 use Rattle.std.proofs.Common.{sym, subst, ap, ◌∙◌}
 use Rattle.std.proofs.lemmas.Bool.{both_ways}
 use Rattle.mw_logic.specs.Term.{RawTerm, plug}
 use Rattle.mw_logic.specs.Signature.{Signature, IsRawTerm, IsIdentity}
 use Rattle.mw_logic.specs.Accepted.{IsAccepted}
 use Rattle.mw_logic.specs.Axioms.{EqualModulo}
-use Rattle.mw_logic.specs.Parts.{is_assoc, nested, IsClean, IsPart}
+use Rattle.mw_logic.specs.Parts.{is_assoc, nested, IsClean, IsPart, IsFrozen}
 use Rattle.mw_logic.specs.NormalForm.{identity_of, is_identity, normal_form, height, has_largest}
 use Rattle.mw_logic.specs.Judgements.{admitted_judgements}
 use Rattle.mw_logic.proofs.AxiomLaws.{trans, sym as back, in_context}
@@ -21,7 +21,7 @@ use Rattle.mw_deduction.proofs.MoveStands.{whole_is}
 use Rattle.mw_frames.specs.declared.job.Job.TheVariants.{Walk}
 use Rattle.mw_frames.specs.State.{Run, Data, IsRun, InHand}
 use Rattle.mw_frames.specs.Redex.{IsRedex, MayCome, IsSeenIn, hole_level}
-use Rattle.mw_frames.specs.Fires.{Becomes, by_equation, Refuses}
+use Rattle.mw_frames.specs.Fires.{Becomes, by_statement, Refuses}
 use Rattle.mw_frames.proofs.Redexes.{made, made_comes, made_reached, shows_there}
 use Rattle.mw_frames.proofs.RightSides.{right_is}
 use Rattle.mw_frames.proofs.FiringHere.{at_it, seen_there, deep_here, large_here}
@@ -68,37 +68,38 @@ module _ (K : Run) (sig : Signature) (run : IsRun K sig) (count : ℕ) (m : Data
       let y : EqualModulo here x (nested here w) = subst (λ u. EqualModulo here x (nested here u)) e (normal_form-sound here run.accepted raw) in
       record { clean = form_clean here run.accepted os x w at.clear clean e (seen_there K sig run count m w h seen); equal = trans s (in_context (round here os) (back y)) }
 
-  module _ (v t : RawTerm) (c : MayCome here w v) (becomes : Becomes K.over K.rank (nested here t) (plug (round here os) v)) where
-    pub refuses_deep : 1000 < hole_level here m.frames (normal_form here v) + height (normal_form here v) → Refuses K true (nested here t)
+  module _ (b : Bool) (v t : RawTerm) (c : MayCome here w v) (becomes : Becomes K.over K.rank b (nested here t) (plug (round here os) v)) where
+    pub refuses_deep : 1000 < hole_level here m.frames (normal_form here v) + height (normal_form here v) → Refuses K b true (nested here t)
     refuses_deep d = record { next = plug (round here os) v; becomes = becomes; deep = deep_here K sig run count m w h seen v c d }
 
-    pub refuses_large : hole_level here m.frames (normal_form here v) + height (normal_form here v) ≤ 1000 → has_largest here (whole here os (normal_form here v)) ≡ true → Refuses K false (nested here t)
-    refuses_large l z = let (a, b) = large_here K sig run count m w h seen v c l z in record { next = plug (round here os) v; becomes = becomes; large = a; not_deep = b }
+    pub refuses_large : hole_level here m.frames (normal_form here v) + height (normal_form here v) ≤ 1000 → has_largest here (whole here os (normal_form here v)) ≡ true → Refuses K b false (nested here t)
+    refuses_large l z = let (x, y) = large_here K sig run count m w h seen v c l z in record { next = plug (round here os) v; becomes = becomes; large = x; not_deep = y }
 
-  -- by an equation
-  module _ (number : ℕ) (ss : List Move) (vs : List RawTerm) (right : RawTerm) (r : IsRedex K.over K.rank number ss vs right w) (t : RawTerm) (q : t ≡ whole here os h.stand.hand) where
+  -- by a statement
+  module _ (number : ℕ) (ss : List Move) (vs : List RawTerm) (right : RawTerm) (r : IsRedex K.over K.rank number ss vs right w) (b : Bool) (kind : r.statement.rule ≡ b) (free : IsTrue b → ¬ IsFrozen here (round here os))
+      (t : RawTerm) (q : t ≡ whole here os h.stand.hand) where
     abbrev v : RawTerm
     v = made K.over run.accepted run.sorted K.rank number ss vs right w r
 
     is_evaluated : evaluated here vs right ≡ normal_form here v
     is_evaluated = right_is K.over run.accepted run.sorted K.rank number ss vs right w r
 
-    becomes_made : Becomes K.over K.rank (nested here t) (plug (round here os) v)
+    becomes_made : Becomes K.over K.rank b (nested here t) (plug (round here os) v)
     becomes_made =
         let at = at_it K sig run count m w h in
         let shown = shows_there K run.accepted run.sorted count number ss vs right w r m.moves h.stand run.start h.leads in
-        subst (λ u. Becomes K.over K.rank (nested here t) (plug (round here os) u)) (sym (made_reached K.over run.accepted run.sorted K.rank number ss vs right w r shown.evidence shown.holds))
-        (by_equation (round here os) (nested here w) number r.statement r.solution r.reached shown.evidence
+        subst (λ u. Becomes K.over K.rank b (nested here t) (plug (round here os) u)) (sym (made_reached K.over run.accepted run.sorted K.rank number ss vs right w r shown.evidence shown.holds))
+        (by_statement (round here os) (nested here w) number r.statement r.solution r.reached shown.evidence
         (is_part_there (nested here w) t
         (Rattle.mw_logic.proofs.Inside.raw_inside here run.accepted (round here os) (nested here w) at.raw)
         (Rattle.mw_logic.proofs.CanonicalTerms.clean here run.accepted w at.canonical)
         (Rattle.mw_logic.proofs.CanonicalTerms.fixed here run.accepted w at.canonical) q)
-        r.is_there r.ordinary r.solves shown.holds)
+        r.is_there kind free r.ordinary r.solves shown.holds)
 
-    pub equation_deep : 1000 < hole_level here m.frames (evaluated here vs right) + height (evaluated here vs right) → Refuses K true (nested here t)
-    equation_deep d = refuses_deep v t (made_comes K.over run.accepted run.sorted K.rank number ss vs right w r) becomes_made (subst (λ u. 1000 < hole_level here m.frames u + height u) is_evaluated d)
+    pub statement_deep : 1000 < hole_level here m.frames (evaluated here vs right) + height (evaluated here vs right) → Refuses K b true (nested here t)
+    statement_deep d = refuses_deep b v t (made_comes K.over run.accepted run.sorted K.rank number ss vs right w r) becomes_made (subst (λ u. 1000 < hole_level here m.frames u + height u) is_evaluated d)
 
-    pub equation_large : hole_level here m.frames (evaluated here vs right) + height (evaluated here vs right) ≤ 1000 → has_largest here (whole here os (evaluated here vs right)) ≡ true → Refuses K false (nested here t)
-    equation_large l z =
-        refuses_large v t (made_comes K.over run.accepted run.sorted K.rank number ss vs right w r) becomes_made (subst (λ u. hole_level here m.frames u + height u ≤ 1000) is_evaluated l)
+    pub statement_large : hole_level here m.frames (evaluated here vs right) + height (evaluated here vs right) ≤ 1000 → has_largest here (whole here os (evaluated here vs right)) ≡ true → Refuses K b false (nested here t)
+    statement_large l z =
+        refuses_large b v t (made_comes K.over run.accepted run.sorted K.rank number ss vs right w r) becomes_made (subst (λ u. hole_level here m.frames u + height u ≤ 1000) is_evaluated l)
         (ap (λ u. has_largest here (whole here os u)) (sym is_evaluated) ∙ z)

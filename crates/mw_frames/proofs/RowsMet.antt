@@ -34,7 +34,7 @@ use Rattle.mw_frames.specs.Redex.{MayCome, IsRowOf, MayMeetRow, HasInHand, IsSee
 use Rattle.mw_frames.specs.Fires.{Becomes, by_schema, Refuses}
 use Rattle.mw_frames.proofs.FiringHere.{admitted_here, raw_after_here, seen_there, replaced_here, so_in_hand}
 use Rattle.mw_frames.proofs.Larger.{number_arranged}
-use Rattle.mw_frames.proofs.Redexes.{IsReplaced}
+use Rattle.mw_frames.proofs.Redexes.{counted_on, IsReplaced}
 use Rattle.mw_frames.proofs.Refusing.{is_part_there, refuses_deep, refuses_large}
 
 -- What a row gives: a numeral, a constant, or one of two branches.
@@ -154,7 +154,7 @@ module _ (M : Module) (well : IsWellFormed M) (n : ℕ) (w t : RawTerm) (r : IsR
 -- the row is met where a run stands
 module _ (K : Run) (ok : IsAccepted K.over.signature) (count : ℕ) (w t : RawTerm) (r : IsRowOf K.over K.rank w t) where
   pub meets_row : (ms : List Move) (S : Stand) → Leads K count ms S → S.hand ≡ w → IsSeen K.over.signature S.opens w → IsRawTerm K.over.signature (plug (round K.over.signature S.opens) (nested K.over.signature t))
-      → IsAdmitted K.over.signature (plug (round K.over.signature S.opens) (nested K.over.signature t)) → IsReplaced K count (ms ++ meets t ∷ []) S t
+      → IsAdmitted K.over.signature (plug (round K.over.signature S.opens) (nested K.over.signature t)) → IsReplaced K false count (ms ++ meets t ∷ []) S t
   meets_row ms S h e seen raw a =
       let M : Module = K.over in
       let sig : Signature = K.over.signature in
@@ -181,7 +181,7 @@ module _ (K : Run) (ok : IsAccepted K.over.signature) (count : ℕ) (w t : RawTe
           from = h.from;
           ready = refl;
           steps = omega (arith, one, old);
-          rules = by_rules ∙ ap (λ n. n + 0) h.rules;
+          rules = counted_on false by_rules h.rules;
         };
         opens = refl;
         hand = refl;
@@ -204,20 +204,20 @@ module _ (K : Run) (sig : Signature) (run : IsRun K sig) (count : ℕ) where
       (subst (λ u. hole_level here m.frames u + height u ≤ 1000) e z.low) (ap (λ u. has_largest here (whole here S.opens u)) (sym e) ∙ z.small) in
       let raw = raw_after_here K sig run count m w z.in_hand z.seen v c in
       let f = meets_row K run.accepted count w t h.row m.moves S z.in_hand.leads z.in_hand.hand (seen_there K sig run count m w z.in_hand z.seen) raw a in
-      so_in_hand K sig run (suc count) m n (t ∷ []) _ t (replaced_here K sig run count m w z.in_hand t (t ∷ []) _ f) ef ed ej ev em
+      so_in_hand K sig run (suc count) m n (t ∷ []) _ t (replaced_here K sig run count m w z.in_hand false t (t ∷ []) _ f) ef ed ej ev em
 
   -- why the machine stops where it would come
   module _ (m : Data) (w t u : RawTerm) (h : InHand K count m (Walk w)) (seen : IsSeenIn here m.frames w) (r : IsRowOf K.over K.rank w t) (q : u ≡ whole here h.stand.opens h.stand.hand) where
-    becomes_met : Becomes K.over K.rank (nested here u) (plug (round here h.stand.opens) (nested here t))
+    becomes_met : Becomes K.over K.rank false (nested here u) (plug (round here h.stand.opens) (nested here t))
     becomes_met = by_schema (round here h.stand.opens) r.form (nested here t) (is_part_there K sig run count m w h seen r.form u r.raw r.clean r.is q) r.row
 
     is_itself_here : t ≡ normal_form here (nested here t)
     is_itself_here = sym (fixed here run.accepted t r.value.canonical)
 
-    pub row_deep : 1000 < hole_level here m.frames t + height t → Refuses K true (nested here u)
-    row_deep d = refuses_deep K sig run count m w h seen (nested here t) u (row_comes K.over run.well K.rank w t r) becomes_met (subst (λ v. 1000 < hole_level here m.frames v + height v) is_itself_here d)
+    pub row_deep : 1000 < hole_level here m.frames t + height t → Refuses K false true (nested here u)
+    row_deep d = refuses_deep K sig run count m w h seen false (nested here t) u (row_comes K.over run.well K.rank w t r) becomes_met (subst (λ v. 1000 < hole_level here m.frames v + height v) is_itself_here d)
 
-    pub row_large : hole_level here m.frames t + height t ≤ 1000 → has_largest here (whole here h.stand.opens t) ≡ true → Refuses K false (nested here u)
+    pub row_large : hole_level here m.frames t + height t ≤ 1000 → has_largest here (whole here h.stand.opens t) ≡ true → Refuses K false false (nested here u)
     row_large l z =
-        refuses_large K sig run count m w h seen (nested here t) u (row_comes K.over run.well K.rank w t r) becomes_met (subst (λ v. hole_level here m.frames v + height v ≤ 1000) is_itself_here l)
+        refuses_large K sig run count m w h seen false (nested here t) u (row_comes K.over run.well K.rank w t r) becomes_met (subst (λ v. hole_level here m.frames v + height v ≤ 1000) is_itself_here l)
         (ap (λ v. has_largest here (whole here h.stand.opens v)) (sym is_itself_here) ∙ z)

@@ -79,15 +79,15 @@ each_left P [] ts h = (h, tt)
 each_left P (k ∷ ks) ts h =
     let p = Each-parts P (front (k - 1) ts) (skip (k - 1) ts) (subst (Each P) (sym (join_parts (k - 1) ts)) h) in (p.0, others_each P k (k ∷ ks) (skip (k - 1) ts) p.1)
 
-left_climb : (ks : List ℕ) (ts : RawTerms) → Climbs ts → Climbs (join (before_taken ks ts) (behind_taken ks ts))
+pub left_climb : (ks : List ℕ) (ts : RawTerms) → Climbs ts → Climbs (join (before_taken ks ts) (behind_taken ks ts))
 left_climb [] ts h = subst Climbs (sym (join-nil ts)) h
 left_climb (k ∷ ks) ts h = behind_climb (front (k - 1) ts) k (k ∷ ks) (skip (k - 1) ts) (subst Climbs (sym (join_parts (k - 1) ts)) h)
 
 -- an argument stands among others in order wherever it comes
-among_others : (b a : RawTerms) (t : RawTerm) → sorted_terms (join b (cons t a)) ≡ sorted_terms (join (join b a) (cons t nil))
+pub among_others : (b a : RawTerms) (t : RawTerm) → sorted_terms (join b (cons t a)) ≡ sorted_terms (join (join b a) (cons t nil))
 among_others b a t = sorted_terms-middle b t a ∙ ap (λ us. insert_term t (sorted_terms us)) (sym (join-nil (join b a))) ∙ sym (sorted_terms-middle (join b a) t nil)
 
-rest_normal : (sig : Signature) (vs ts : List RawTerm) → rest sig vs (waiting_normal ts) ≡ terms_of ts
+pub rest_normal : (sig : Signature) (vs ts : List RawTerm) → rest sig vs (waiting_normal ts) ≡ terms_of ts
 rest_normal sig vs [] = refl
 rest_normal sig vs (t ∷ ts) = rest-append sig vs (waiting_normal ts) (Normal t) ∙ ap (cons t) (rest_normal sig vs ts)
 
@@ -114,7 +114,7 @@ module _ (K : Run) (sig : Signature) (run : IsRun K sig) (count : ℕ) where
   level_new vs [] ds xs os g c o = ap (λ ps. Rattle.mw_deduction.proofs.Depths.level_in here (round here ps) (apply g nil)) o
   level_new vs (f ∷ fs) ds xs os g c o = level_here K run.accepted run.sorted count vs f fs ds xs os g c o
 
-  normal_jobs : (vs ts : List RawTerm) → Each (IsNormalHere M K.rank) (terms_of ts) → AreJobs M K.rank vs (waiting_normal ts)
+  pub normal_jobs : (vs ts : List RawTerm) → Each (IsNormalHere M K.rank) (terms_of ts) → AreJobs M K.rank vs (waiting_normal ts)
   normal_jobs vs [] h = tt
   normal_jobs vs (t ∷ ts) h = behind (waiting_normal ts) (normal_jobs vs ts h.1)
     where
@@ -122,7 +122,7 @@ module _ (K : Run) (sig : Signature) (run : IsRun K sig) (count : ℕ) where
       behind [] a = (h.0, tt)
       behind (x ∷ xs) a = (a.0, behind xs a.1)
 
-  normal_at_hand : (ts : List RawTerm) → AreAtHand (waiting_normal ts)
+  pub normal_at_hand : (ts : List RawTerm) → AreAtHand (waiting_normal ts)
   normal_at_hand [] = tt
   normal_at_hand (t ∷ ts) = behind (waiting_normal ts) (normal_at_hand ts)
     where
@@ -130,7 +130,7 @@ module _ (K : Run) (sig : Signature) (run : IsRun K sig) (count : ℕ) where
       behind [] a = (tt, tt)
       behind (x ∷ xs) a = (a.0, behind xs a.1)
 
-  as_done : (f : ℕ) (ts : RawTerms) → Each (IsNormalHere M K.rank) ts → Each (IsDone M K.rank f) ts
+  pub as_done : (f : ℕ) (ts : RawTerms) → Each (IsNormalHere M K.rank) ts → Each (IsDone M K.rank f) ts
   as_done f nil h = tt
   as_done f (cons t ts) h = (inl h.0, as_done f ts h.1)
 
@@ -212,7 +212,7 @@ module _ (K : Run) (sig : Signature) (run : IsRun K sig) (count : ℕ) where
 
     -- they are in hand, and the others stand round them
     pub takes : (f : Frame) → f.op ≡ g → f.from ≡ length ds → f.waits ≡ length xs → f.level ≡ hole_level here fs (apply f.op nil) → (os : List RawTerm) (ys : List Job) → IsLeft here g ks m.args os ys
-        → (i : InHand K count (record { frames = f ∷ fs; done = ds ++ os; jobs = xs ++ ys; values = values; moves = ms ++ among ks ∷ [] }) (Try w)) × IsSeenIn here (f ∷ fs) w × (in_all i.stand ≡ in_all h.stand)
+        → (i : InHand K count (record { frames = f ∷ fs; done = ds ++ os; jobs = xs ++ ys; values = values; moves = ms ++ among ks ∷ [] }) (Try w)) × IsSeenIn here (f ∷ fs) w × (in_all i.stand ≡ in_all h.stand) × (i.stand.opens ≡ opened g b a ∷ h.stand.opens)
     takes f e ef ew el os ys l =
         let S : Stand = h.stand in
         let us : RawTerms = chosen 1 ks m.args in
@@ -254,6 +254,7 @@ module _ (K : Run) (sig : Signature) (run : IsRun K sig) (count : ℕ) where
           },
           subst (λ x. ¬ IsHidden here f.op x) (sym m.part) (several_seen f.op g us m.several),
           ap in_all same_stand,
+          refl,
         )
       where
         same_arguments : {i j : ℕ} {us ts : RawTerms} → apply i us ≡ apply j ts → us ≡ ts

@@ -229,6 +229,10 @@ module _ (K : Run) (ok : IsAccepted K.over.signature) (sorted : IsWellSorted K.o
           all nil z = tt
           all (cons y ts) z = (λ q. z q.successor, all ts z)
 
+  -- one element alone is itself
+  pub alone : (f : ℕ) (t : RawTerm) → is_assoc sig f ≡ true → IsFair sig f (cons t nil) → applied_in sig f (cons t nil) ≡ t
+  alone f t h fair = rw (h, flattened-elements (identity_of sig f) f (cons t nil) (fair.elements h), arranged-one (is_comm sig f) t) refl
+
   -- the only argument that is left, which waits, comes in the frame's place
   pub collapses : (vs : List RawTerm) (ms : List Move) (f : Frame) (fs : List Frame) (ds : List RawTerm) (xs : List Job) (x : Job) → f.waits ≤ length xs
       → Settled K count (record { frames = fs; done = ds; jobs = xs ++ x ∷ []; values = vs; moves = ms }) f → is_assoc sig f.op ≡ true → length ds ≤ f.from → length xs ≤ f.waits
@@ -250,10 +254,6 @@ module _ (K : Run) (ok : IsAccepted K.over.signature) (sorted : IsWellSorted K.o
         good = subst (λ zs. AreGood M K.rank vs fs zs xs) td (subst (λ zs. AreGood M K.rank vs fs (take f.from ds) zs) tx n.below);
         job = n.job;
       }
-    where
-      -- one element alone is itself
-      alone : (f : ℕ) (t : RawTerm) → is_assoc sig f ≡ true → IsFair sig f (cons t nil) → applied_in sig f (cons t nil) ≡ t
-      alone f t h fair = rw (h, flattened-elements (identity_of sig f) f (cons t nil) (fair.elements h), arranged-one (is_comm sig f) t) refl
 
   number-arranged : (c : Bool) (ts : RawTerms) → number_of_terms (arranged c ts) ≡ number_of_terms ts
   number-arranged false ts = refl

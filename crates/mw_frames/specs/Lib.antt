@@ -3,7 +3,7 @@ pub mod Jobs
 pub mod State
 pub mod Machines
 pub mod Steps
--- An equation that applies to a term.
+-- A statement that applies to a term.
 pub mod Redex
 -- Whether what comes may stand where it comes.
 pub mod Larger
@@ -16,7 +16,9 @@ pub mod Several
 -- Several arguments are taken.
 pub mod Taking
 pub mod Arrivals
--- What comes where an equation is applied.
+-- What comes where a statement is applied.
 pub mod Fires
+-- Into an argument of a normal term.
+pub mod Entered
 -- A row is met at the first two of several arguments.
 pub mod Pairs

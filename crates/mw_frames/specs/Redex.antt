@@ -1,23 +1,24 @@
--- An equation that applies to a term, and where the term stands.
-use Rattle.std.specs.Prelude.{◌≡◌, ◌⊎◌, ◌≤◌, ℕ, ◌+◌, List, [], ◌∷◌, length, false, IsTrue, IsFalse, ⊤}
+-- A statement that applies to a term, and where the term stands.
+use Rattle.std.specs.Prelude.{◌≡◌, ◌⊎◌, ◌≤◌, ℕ, ◌+◌, List, [], ◌∷◌, length, Bool, false, IsTrue, IsFalse, ⊤}
 use Rattle.std.specs.List.{zip}
 use Rattle.mw_logic.specs.Term.{Variable, RawTerm, RawTerms, numeral, quoted, variable, apply, nil, cons, is_ground}
 use Rattle.mw_logic.specs.Signature.{Signature, IsRawTerm, HasKind}
 use Rattle.mw_logic.specs.Substitution.{Substitution, occurs, IsSubstitution, Extends, IsSolution}
-use Rattle.mw_logic.specs.Parts.{nested, IsClean}
+use Rattle.mw_logic.specs.Parts.{nested, IsClean, IsFrozen}
 use Rattle.mw_logic.specs.NormalForm.{normal_form, height, has_largest}
 use Rattle.mw_logic.specs.Module.{Fragment, Module, Statement, IsStatement, Row}
 use Rattle.mw_logic.specs.Proof.{Proofs}
 use Rattle.mw_logic.specs.Proof as proof
 use Rattle.mw_logic.specs.Judgements.{IsNormalBy, admitted_judgements}
 use Rattle.mw_canon.specs.Canonical.{meant}
-use Rattle.mw_least.specs.Workable.{AreSides, IsOrdinaryEquation}
+use Rattle.mw_least.specs.Workable.{AreSides, IsOrdinary}
 use Rattle.mw_position.specs.Variables.{is_in, placed}
 use Rattle.mw_solving.specs.Values.{IsValue, AreValues}
 use Rattle.mw_stack.specs.Hidden.{IsHidden}
 use Rattle.mw_deduction.proofs.Depths.{added}
 use Rattle.mw_matching.specs.Matches.{evaluated}
 use Rattle.mw_deduction.specs.Replay.{Move, Stand, whole, plays, AreMoves}
+use Rattle.mw_deduction.specs.Standing.{round}
 use Rattle.mw_deduction.specs.Stands.{AreStanding}
 use Rattle.mw_frames.specs.declared.job.Job.{Job}
 use Rattle.mw_frames.specs.declared.job.Job.TheVariants.{Walk, Try}
@@ -60,13 +61,13 @@ IsBare (apply f (cons t ts)) = ⊥
 abbrev pub value_in : Signature → List Variable → List RawTerm → Variable → RawTerm
 value_in sig xs vs x = evaluated sig vs (placed xs (variable x))
 
--- The equation of this number applies to the term w in rank n: a solution makes its left side w, from there its condition holds, which the moves ms show, and
+-- The statement of this number applies to the term w in rank n: a solution makes its left side w, from there its condition holds, which the moves ms show, and
 -- the values of its variables are those that are reached. What a match found is normal, or has no arguments. `pattern` is the right side in canonical
 -- form, with positions for the variables.
 pub record IsRedex (M : Module) (n number : ℕ) (ms : List Move) (vs : List RawTerm) (pattern w : RawTerm) : Type 0 where
   pub statement : Statement
   pub is_there : IsStatement M number statement
-  pub ordinary : IsOrdinaryEquation M.signature statement
+  pub ordinary : IsOrdinary M.signature statement
   pub sides : AreSides M.signature statement
   pub size : length vs ≡ length statement.variables
   pub values : AreValues M.signature vs
@@ -111,11 +112,13 @@ pub record MayStand (K : Run) (count : ℕ) (m : Data) (w v : RawTerm) : Type 0 
   pub low : hole_level K.over.signature m.frames v + height v ≤ 1000
   pub small : has_largest K.over.signature (whole K.over.signature in_hand.stand.opens v) ≡ false
 
--- the equation applies to it, its arguments are normal, and its right side fits
-pub record MayFire (K : Run) (count : ℕ) (m : Data) (number : ℕ) (ms : List Move) (vs : List RawTerm) (pattern w : RawTerm) : Type 0 where
+-- The statement, a rule where b says so, applies to it, its arguments are normal, and its right side fits; a rule may change what stands there.
+pub record MayFire (K : Run) (b : Bool) (count : ℕ) (m : Data) (number : ℕ) (ms : List Move) (vs : List RawTerm) (pattern w : RawTerm) : Type 0 where
   pub redex : IsRedex K.over K.rank number ms vs pattern w
+  pub rule : redex.statement.rule ≡ b
   pub known : HasNormalArguments K.over K.rank w
   pub stands : MayStand K count m w (evaluated K.over.signature vs pattern)
+  pub free : IsTrue b → ¬ IsFrozen K.over.signature (round K.over.signature stands.in_hand.stand.opens)
 
 -- The term v is in hand, as any job for it of which that is known.
 abbrev pub HasInHand : Run → ℕ → Data → RawTerm → Type 0

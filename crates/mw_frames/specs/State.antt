@@ -1,5 +1,5 @@
 -- Where the machine stands.
-use Rattle.std.specs.Prelude.{◌≡◌, ◌⊎◌, ◌≤◌, ℕ, suc, ◌+◌, List, [], ◌∷◌, length, take, drop, true, false, IsTrue, ⊤}
+use Rattle.std.specs.Prelude.{◌≡◌, ◌⊎◌, ◌≤◌, ℕ, suc, ◌+◌, List, [], ◌∷◌, length, take, drop, Bool, true, false, cond, IsTrue, ⊤}
 use Rattle.mw_logic.specs.Term.{RawTerm, numeral, quoted, variable, apply, RawTerms, nil, cons, join, is_ground}
 use Rattle.mw_logic.specs.Terms.{terms_of}
 use Rattle.mw_logic.specs.Signature.{Signature, IsSuccessor}
@@ -28,13 +28,23 @@ use Rattle.mw_frames.specs.declared.job.Hand.{Hand}
 use Rattle.mw_frames.specs.declared.job.Hand.TheVariants.{One, Over}
 use Rattle.mw_frames.specs.Jobs.{value_at, is_sure, instance_of, term_of, rest, arguments, AreOpened, weight, work}
 
--- A run: the module, the rank, the term that it begins at, and the proofs under way when it began; below its own one stand those of outer conditions.
+-- A run: the module, the rank, the term that it begins at, and the proofs under way when it began; below its own one stand those of outer conditions. And
+-- how many rules were applied in it by now.
 pub record Run : Type 0 where
   pub over : Module
   pub rank : ℕ
   pub from : RawTerm
   pub start : List Stand
   pub below : List Stand
+  pub rules : ℕ
+
+-- the same run with so many rules applied
+abbrev pub with_rules : ℕ → Run → Run
+with_rules r K = record { over = K.over; rank = K.rank; from = K.from; start = K.start; below = K.below; rules = r }
+
+-- the same behind one statement more, which may be a rule
+abbrev pub after_one : Bool → Run → Run
+after_one b K = with_rules (cond b (suc K.rules) K.rules) K
 
 -- The machine's data: frames, the innermost first, terms that are done, what waits, the values that are kept, and the moves.
 pub record Data : Type 0 where
@@ -119,7 +129,7 @@ module _ (M : Module) (n : ℕ) where
   AreGood vs (f ∷ fs) ds js =
       IsGood vs f (terms_of (drop f.from ds)) (drop f.waits js) × (f.from ≤ length ds) × (f.waits ≤ length js) × AreGood vs fs (take f.from ds) (take f.waits js)
 
--- What was kept leads, from where the run began, to a stand of its own, which made so many replacements.
+-- What was kept leads, from where the run began, to a stand of its own, which made so many replacements, as many of them by rules as the run says.
 pub record Leads (K : Run) (count : ℕ) (ms : List Move) (stand : Stand) : Type 0 where
   pub plays : plays K.over ms K.start ≡ stand ∷ K.below
   pub moves : AreMoves K.over ms K.start
@@ -127,8 +137,7 @@ pub record Leads (K : Run) (count : ℕ) (ms : List Move) (stand : Stand) : Type
   pub from : stand.from ≡ K.from
   pub ready : stand.read.ready ≡ proof.nil
   pub steps : proof.steps (proof_of stand.read.done) ≡ count
-  -- by equations alone
-  pub rules : proof.rules (proof_of stand.read.done) ≡ 0
+  pub rules : proof.rules (proof_of stand.read.done) ≡ K.rules
 
 -- what may be asked of a run
 pub record IsRun (K : Run) (sig : Signature) : Type 0 where

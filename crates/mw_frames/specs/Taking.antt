@@ -8,7 +8,7 @@ use Rattle.mw_logic.specs.NormalForm.{is_comm, applied_in}
 use Rattle.mw_logic.proofs.Canonical.{IsCanonical}
 use Rattle.mw_arguments.specs.Places.{others}
 use Rattle.mw_deduction.specs.Standing.{round}
-use Rattle.mw_deduction.specs.Replay.{Stand}
+use Rattle.mw_deduction.specs.Replay.{Stand, opened, whole}
 use Rattle.mw_deduction.proofs.Depths.{level_in}
 use Rattle.mw_frames.specs.Fair.{IsFair}
 use Rattle.mw_frames.specs.declared.job.Job.{Job}
@@ -39,14 +39,18 @@ pub record IsLeft (sig : Signature) (f : ℕ) (ks : List ℕ) (args : RawTerms) 
   pub together : is_comm sig f ≡ true → (terms_of done ≡ join (before_taken ks args) (behind_taken ks args)) × (behind ≡ [])
   pub apart : is_comm sig f ≡ false → (terms_of done ≡ before_taken ks args) × (terms_of behind ≡ behind_taken ks args)
 
--- What is taken is in hand, in a frame of the associative operator on top of it.
-pub record IsPartAsked (K : Run) (count : ℕ) (m : Data) (f : Frame) (w : RawTerm) : Type 0 where
+-- What is taken is in hand, in a frame of the associative operator on top of it, where the stand S had the whole in hand.
+pub record IsPartAsked (K : Run) (count : ℕ) (m : Data) (f : Frame) (w : RawTerm) (S : Stand) : Type 0 where
   pub asked : IsAsked K count m w
   pub outer : List Frame
   pub inner : m.frames ≡ f ∷ outer
   pub assoc : is_assoc K.over.signature f.op ≡ true
   pub args : RawTerms
   pub is : w ≡ apply f.op args
+  pub before : RawTerms
+  pub after : RawTerms
+  pub opens : asked.holds.stand.opens ≡ opened f.op before after ∷ S.opens
+  pub same : whole K.over.signature asked.holds.stand.opens asked.holds.stand.hand ≡ whole K.over.signature S.opens S.hand
 
 -- A term t comes to a frame f of an associative operator, in front of what waits in it; none is in hand.
 pub record Receives (K : Run) (count : ℕ) (m : Data) (f : Frame) (t : RawTerm) : Type 0 where

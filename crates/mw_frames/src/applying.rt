@@ -1,20 +1,20 @@
-// An equation is applied.
-ghost use Rattle.std.specs.Prelude.{◌≡◌, ℕ, suc, List, IsTrue, IsFalse, IfOk, OnOk, None, reverse, take as take_first};
+// A statement is applied.
+ghost use Rattle.std.specs.Prelude.{◌≡◌, ℕ, suc, Bool, List, IsTrue, IsFalse, IfOk, OnOk, None, Some, reverse, take as take_first};
 ghost use Rattle.mw_logic.specs.Term.{RawTerm, RawTerms, apply as applied};
 ghost use Rattle.mw_logic.specs.Parts.{nested};
 ghost use Rattle.mw_logic.specs.Module.{Module};
 ghost use Rattle.mw_matching.specs.Matches.{evaluated};
 ghost use Rattle.mw_pattern.specs.Clean.{clean};
 ghost use Rattle.mw_frames.specs.Several.{IsSeveral};
-ghost use Rattle.mw_deduction.specs.Replay.{Move, whole as in_whole};
+ghost use Rattle.mw_deduction.specs.Replay.{Move, Stand, whole as in_whole};
 ghost use Rattle.mw_trail.specs.Tracks.{moves};
-ghost use Rattle.mw_frames.specs.State.{Run, IsRun, InHand, Settled, Holds};
+ghost use Rattle.mw_frames.specs.State.{Run, after_one, IsRun, InHand, Settled, Holds};
 ghost use Rattle.mw_frames.specs.Machines.{data_of, all_moves};
 ghost use Rattle.mw_frames.specs.Redex.{MayFire, HasOnTop};
 ghost use Rattle.mw_frames.specs.Larger.{IsFit, IsAround};
 ghost use Rattle.mw_frames.specs.Taking.{IsPartAsked};
 ghost use Rattle.mw_frames.specs.Steps.{IsAsked, IsComplete, IsAskedFor, asked_term};
-ghost use Rattle.mw_frames.specs.Fires.{IsPartTaken, IsApplied, Refuses, IsFired};
+ghost use Rattle.mw_frames.specs.Fires.{IsPartTaken, IsApplied, HasWhole, IsOpenTo, Refuses, IsFired, IsRefusedAs};
 ghost use Rattle.mw_frames.specs.declared.job.Job.TheVariants.{Walk as WalkOf};
 ghost use Rattle.mw_frames.specs.declared.looking.Asked.TheVariants.{Own as OwnOf};
 ghost use Rattle.mw_frames.specs.declared.limits.Fit.TheVariants.{Fits as FitsOf};
@@ -34,11 +34,12 @@ use mw_term::{OpId, Seq, Term, View};
 use mw_trail::Trail;
 use std::alloc::{AllocError, Global};
 
-/// An equation that is applied.
+/// A statement that is applied.
 #[derive(Clone, Copy)]
 pub struct Applied<'m> {
-    /// The statement's number, from 1.
+    /// Its number, from 1.
     pub number: usize,
+    pub rule: bool,
     pub right: &'m Pattern,
     /// No operator of the canonical right side has an axiom.
     pub free: bool,
@@ -48,7 +49,7 @@ pub struct Applied<'m> {
     pub sure: bool,
 }
 
-/// What an equation leaves that is applied.
+/// What a statement leaves that is applied.
 #[derive(Drop)]
 pub enum Fired<'m> {
     Goes(Hand<'m>),
@@ -79,7 +80,7 @@ fn known_by(by: Applied<'_>, top: OpId) -> OpId
     if by.sure { 0 } else { top }
 }
 
-/// The equation is applied to the term in hand, which has this operator on top: its right side is in hand.
+/// The statement is applied to the term in hand, which has this operator on top: its right side is in hand.
 #[inline(always)]
 fn go_whole<'m>(
     alloc: Global,
@@ -91,10 +92,10 @@ fn go_whole<'m>(
     values: &mut Vec<Term>,
 ) -> Result<Hand<'m>, AllocError>
     ensures { (K : Run) (k : ℕ) (w : RawTerm) → IsRun K facts.now
-        → MayFire K k (data_of K.over machine.old) by.entry.number (all_moves K.over sides.old.items) values.old.items (clean by.entry.right.now) w
+        → MayFire K by.entry.rule k (data_of K.over machine.old) by.entry.number (all_moves K.over sides.old.items) values.old.items (clean by.entry.right.now) w
         → IsApplied K.over K.rank by.entry (all_moves K.over sides.old.items) values.old.items w → HasOnTop top w
         → (((f : ℕ) (ts : RawTerms) → w ≡ applied f ts → ⊥) → top ≡ 1)
-        → IfOk result (Holds K (suc k) (data_of K.over machine.new)) }
+        → IfOk result (Holds (after_one by.entry.rule K) (suc k) (data_of K.over machine.new)) }
 {
     let base = apply_whole(alloc, machine, by.number, sides, values)?;
     let job = part_job(
@@ -117,9 +118,11 @@ pub(crate) fn refuse<'m>(
     term: Term,
     deep: bool,
 ) -> Result<Fired<'m>, AllocError>
-    ensures { (K : Run) (k : ℕ) → IsRun K facts.now → (h : InHand K k (data_of K.over machine.old) (WalkOf term))
-        → ((t : RawTerm) → t ≡ in_whole K.over.signature h.stand.opens h.stand.hand → Refuses K deep (nested K.over.signature t))
-        → IfOk result (IsFired K k (data_of K.over machine.new)) }
+    ensures means { (K : Run) (b : Bool) (k : ℕ) → IsRun K facts.now → (h : InHand K k (data_of K.over machine.old) (WalkOf term))
+        → ((t : RawTerm) → t ≡ in_whole K.over.signature h.stand.opens h.stand.hand → Refuses K b deep (nested K.over.signature t))
+        → IfOk result (IsFired K b k (data_of K.over machine.new)) }
+    ensures same { (K : Run) (k : ℕ) → IsRun K facts.now → (h : InHand K k (data_of K.over machine.old) (WalkOf term))
+        → IfOk result (IsRefusedAs (in_whole K.over.signature h.stand.opens h.stand.hand)) }
 {
     let whole = whole(alloc, facts, machine, term)?;
     if deep {
@@ -159,7 +162,7 @@ fn fit_here(
     Ok(fit)
 }
 
-/// The equation is applied to the term in hand.
+/// The statement is applied to the term in hand.
 fn fire_whole<'m>(
     alloc: Global,
     facts: &Facts,
@@ -169,8 +172,12 @@ fn fire_whole<'m>(
     sides: &mut Vec<Trail>,
     values: &mut Vec<Term>,
 ) -> Result<Fired<'m>, AllocError>
-    ensures { (K : Run) (k : ℕ) → IsRun K facts.now → IsAsked K k (data_of K.over machine.old) term
-        → IsApplied K.over K.rank by.entry (all_moves K.over sides.old.items) values.old.items term → IfOk result (IsFired K k (data_of K.over machine.new)) }
+    ensures means { (K : Run) (k : ℕ) → IsRun K facts.now → IsAsked K k (data_of K.over machine.old) term
+        → IsApplied K.over K.rank by.entry (all_moves K.over sides.old.items) values.old.items term
+        → (IsTrue by.entry.rule → IsOpenTo K k (data_of K.over machine.old) term None)
+        → IfOk result (IsFired K by.entry.rule k (data_of K.over machine.new)) }
+    ensures same { (K : Run) (k : ℕ) (t : RawTerm) → IsRun K facts.now → IsAsked K k (data_of K.over machine.old) term
+        → HasWhole K k (data_of K.over machine.old) t → IfOk result (IsRefusedAs t) }
 {
     match fit_here(alloc, facts, machine, by, values.as_slice())? {
         Fit::Fits => {
@@ -188,7 +195,7 @@ fn fire_whole<'m>(
     }
 }
 
-/// The equation is applied to what is in hand, which several arguments are: its right side comes among the others, in
+/// The statement is applied to what is in hand, which several arguments are: its right side comes among the others, in
 /// whose frame it stands.
 fn go_several<'m>(
     alloc: Global,
@@ -199,11 +206,11 @@ fn go_several<'m>(
     sides: &mut Vec<Trail>,
     values: &mut Vec<Term>,
 ) -> Result<(), AllocError>
-    ensures { (K : Run) (k : ℕ) (w : RawTerm) → IsRun K facts.now
-        → IsPartAsked K k (data_of K.over machine.old) frame w
-        → MayFire K k (data_of K.over machine.old) by.entry.number (all_moves K.over sides.old.items) values.old.items (clean by.entry.right.now) w
+    ensures { (K : Run) (k : ℕ) (w : RawTerm) (S : Stand) → IsRun K facts.now
+        → IsPartAsked K k (data_of K.over machine.old) frame w S
+        → MayFire K by.entry.rule k (data_of K.over machine.old) by.entry.number (all_moves K.over sides.old.items) values.old.items (clean by.entry.right.now) w
         → IsApplied K.over K.rank by.entry (all_moves K.over sides.old.items) values.old.items w
-        → OnOk result (Settled K (suc k) (data_of K.over machine.new) frame) }
+        → OnOk result (Settled (after_one by.entry.rule K) (suc k) (data_of K.over machine.new) frame) }
 {
     let base = apply_whole(alloc, machine, by.number, sides, values)?;
     leave_hole(machine)?;
@@ -220,17 +227,20 @@ pub(crate) fn refuse_part<'m>(
     numbers: &[u32],
     deep: bool,
 ) -> Result<Fired<'m>, AllocError>
-    ensures { (K : Run) (k : ℕ) (w : RawTerm) → IsRun K facts.now → IsSeveral facts.now numbers.now term.now w
+    ensures means { (K : Run) (b : Bool) (k : ℕ) (w : RawTerm) → IsRun K facts.now → IsSeveral facts.now numbers.now term.now w
         → (h : InHand K k (data_of K.over machine.old) (WalkOf w))
-        → ((t : RawTerm) → t ≡ in_whole K.over.signature h.stand.opens h.stand.hand → Refuses K deep (nested K.over.signature t))
-        → IfOk result (IsFired K k (data_of K.over machine.new)) }
+        → ((t : RawTerm) → t ≡ in_whole K.over.signature h.stand.opens h.stand.hand → Refuses K b deep (nested K.over.signature t))
+        → IfOk result (IsFired K b k (data_of K.over machine.new)) }
+    ensures same { (K : Run) (k : ℕ) (w : RawTerm) → IsRun K facts.now → IsSeveral facts.now numbers.now term.now w
+        → (h : InHand K k (data_of K.over machine.old) (WalkOf w))
+        → IfOk result (IsRefusedAs (in_whole K.over.signature h.stand.opens h.stand.hand)) }
 {
     let part = part_of(alloc, top_of(term), term, numbers)?;
     let fired = refuse(alloc, facts, machine, part, deep)?;
     Ok(fired)
 }
 
-/// The equation is applied to the arguments of these numbers of the term in hand.
+/// The statement is applied to the arguments of these numbers of the term in hand.
 fn fire_several<'m>(
     alloc: Global,
     facts: &Facts,
@@ -241,9 +251,12 @@ fn fire_several<'m>(
     sides: &mut Vec<Trail>,
     values: &mut Vec<Term>,
 ) -> Result<Fired<'m>, AllocError>
-    ensures { (K : Run) (k : ℕ) (w : RawTerm) → IsRun K facts.now → IsAsked K k (data_of K.over machine.old) term
+    ensures means { (K : Run) (k : ℕ) (w : RawTerm) → IsRun K facts.now → IsAsked K k (data_of K.over machine.old) term
         → IsSeveral facts.now numbers.now term w → IsApplied K.over K.rank by.entry (all_moves K.over sides.old.items) values.old.items w
-        → IfOk result (IsFired K k (data_of K.over machine.new)) }
+        → (IsTrue by.entry.rule → IsOpenTo K k (data_of K.over machine.old) term (Some numbers.now))
+        → IfOk result (IsFired K by.entry.rule k (data_of K.over machine.new)) }
+    ensures same { (K : Run) (k : ℕ) (w t : RawTerm) → IsRun K facts.now → IsAsked K k (data_of K.over machine.old) term
+        → IsSeveral facts.now numbers.now term w → HasWhole K k (data_of K.over machine.old) t → IfOk result (IsRefusedAs t) }
 {
     let frame = new_frame(facts, machine, top_of(&term))?;
     take_out(alloc, facts, machine, frame, &term, numbers)?;
@@ -263,7 +276,7 @@ fn fire_several<'m>(
     }
 }
 
-/// The equation is applied to the term in hand, or to several of its arguments.
+/// The statement is applied to the term in hand, or to several of its arguments.
 #[inline(never)]
 fn fire_term<'m>(
     alloc: Global,
@@ -275,9 +288,12 @@ fn fire_term<'m>(
     values: &mut Vec<Term>,
     take: &Option<Seq<u32>>,
 ) -> Result<Fired<'m>, AllocError>
-    ensures { (K : Run) (k : ℕ) (w : RawTerm) → IsRun K facts.now → IsAsked K k (data_of K.over machine.old) term
+    ensures means { (K : Run) (k : ℕ) (w : RawTerm) → IsRun K facts.now → IsAsked K k (data_of K.over machine.old) term
         → IsPartTaken facts.now take.now term w → IsApplied K.over K.rank by.entry (all_moves K.over sides.old.items) values.old.items w
-        → IfOk result (IsFired K k (data_of K.over machine.new)) }
+        → (IsTrue by.entry.rule → IsOpenTo K k (data_of K.over machine.old) term take.now)
+        → IfOk result (IsFired K by.entry.rule k (data_of K.over machine.new)) }
+    ensures same { (K : Run) (k : ℕ) (w t : RawTerm) → IsRun K facts.now → IsAsked K k (data_of K.over machine.old) term
+        → IsPartTaken facts.now take.now term w → HasWhole K k (data_of K.over machine.old) t → IfOk result (IsRefusedAs t) }
 {
     match take {
         None => {
@@ -300,7 +316,7 @@ fn fire_term<'m>(
     }
 }
 
-/// Whether the equation may be applied to the whole of a frame's operator over its own arguments.
+/// Whether the statement may be applied to the whole of a frame's operator over its own arguments.
 #[inline(always)]
 fn fits_own(
     alloc: Global,
@@ -336,7 +352,7 @@ fn fits_own(
     Ok(matches!(fit, Fit::Fits))
 }
 
-/// The equation is applied to a frame's operator over its own arguments, all of which are done.
+/// The statement is applied to a frame's operator over its own arguments, all of which are done.
 #[inline(always)]
 fn fire_own<'m>(
     alloc: Global,
@@ -348,9 +364,13 @@ fn fire_own<'m>(
     values: &mut Vec<Term>,
     take: &Option<Seq<u32>>,
 ) -> Result<Fired<'m>, AllocError>
-    ensures { (K : Run) (k : ℕ) (w : RawTerm) → IsRun K facts.now → IsComplete K k (data_of K.over machine.old) top
+    ensures means { (K : Run) (k : ℕ) (w : RawTerm) → IsRun K facts.now → IsComplete K k (data_of K.over machine.old) top
         → IsPartTaken facts.now take.now (asked_term (data_of K.over machine.old) (OwnOf top)) w → IsApplied K.over K.rank by.entry (all_moves K.over sides.old.items) values.old.items w
-        → IfOk result (IsFired K k (data_of K.over machine.new)) }
+        → (IsTrue by.entry.rule → IsOpenTo K k (data_of K.over machine.old) (asked_term (data_of K.over machine.old) (OwnOf top)) take.now)
+        → IfOk result (IsFired K by.entry.rule k (data_of K.over machine.new)) }
+    ensures same { (K : Run) (k : ℕ) (w t : RawTerm) → IsRun K facts.now → IsComplete K k (data_of K.over machine.old) top
+        → IsPartTaken facts.now take.now (asked_term (data_of K.over machine.old) (OwnOf top)) w
+        → HasWhole K k (data_of K.over machine.old) t → IfOk result (IsRefusedAs t) }
 {
     if fits_own(alloc, facts, machine, top, by, values.as_slice(), take)? {
         machine.done.truncate(top.from);
@@ -362,8 +382,8 @@ fn fire_own<'m>(
     Ok(fired)
 }
 
-/// An equation is applied to what was asked for, or to several of its arguments, by these values, which are taken, as is
-/// what shows its condition.
+/// A statement is applied to what was asked for, or to several of its arguments, by these values, which are taken, as is
+/// what shows its condition. A rule asks that no argument on the way is frozen.
 #[inline(always)]
 pub fn fire<'m>(
     alloc: Global,
@@ -375,9 +395,13 @@ pub fn fire<'m>(
     values: &mut Vec<Term>,
     take: &Option<Seq<u32>>,
 ) -> Result<Fired<'m>, AllocError>
-    ensures { (K : Run) (k : ℕ) (w : RawTerm) → IsRun K facts.now → IsAskedFor K k (data_of K.over machine.old) asked
+    ensures means { (K : Run) (k : ℕ) (w : RawTerm) → IsRun K facts.now → IsAskedFor K k (data_of K.over machine.old) asked
         → IsPartTaken facts.now take.now (asked_term (data_of K.over machine.old) asked) w → IsApplied K.over K.rank by.entry (all_moves K.over sides.old.items) values.old.items w
-        → IfOk result (IsFired K k (data_of K.over machine.new)) }
+        → (IsTrue by.entry.rule → IsOpenTo K k (data_of K.over machine.old) (asked_term (data_of K.over machine.old) asked) take.now)
+        → IfOk result (IsFired K by.entry.rule k (data_of K.over machine.new)) }
+    ensures same { (K : Run) (k : ℕ) (w t : RawTerm) → IsRun K facts.now → IsAskedFor K k (data_of K.over machine.old) asked
+        → IsPartTaken facts.now take.now (asked_term (data_of K.over machine.old) asked) w
+        → HasWhole K k (data_of K.over machine.old) t → IfOk result (IsRefusedAs t) }
 {
     match asked {
         Asked::Term(term) => {

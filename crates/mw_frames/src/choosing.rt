@@ -1,5 +1,5 @@
 // A choice is decided by its condition: a branch comes for it, as it waits.
-ghost use Rattle.std.specs.Prelude.{◌≡◌, ◌++◌, ◌∷◌, [], ℕ, List, Bool, Some, suc, cond, IfOk, IfSome, reverse};
+ghost use Rattle.std.specs.Prelude.{◌≡◌, ◌++◌, ◌∷◌, [], ℕ, List, Bool, Some, suc, false, cond, IfOk, IfSome, reverse};
 ghost use Rattle.mw_logic.specs.Term.{RawTerm};
 ghost use Rattle.mw_logic.specs.Signature.{Signature};
 ghost use Rattle.mw_logic.specs.Parts.{nested};
@@ -107,8 +107,8 @@ fn refuse_choice<'m>(
     deep: bool,
 ) -> Result<Fired<'m>, AllocError>
     ensures { (K : Run) (k : ℕ) (b : Bool) → IsRun K facts.now → (h : IsDecided K k (data_of K.over machine.old) top b)
-        → ((t : RawTerm) → t ≡ in_whole K.over.signature h.settled.stand.opens h.settled.stand.hand → Refuses K deep (nested K.over.signature t))
-        → IfOk result (IsFired K k (data_of K.over machine.new)) }
+        → ((t : RawTerm) → t ≡ in_whole K.over.signature h.settled.stand.opens h.settled.stand.hand → Refuses K false deep (nested K.over.signature t))
+        → IfOk result (IsFired K false k (data_of K.over machine.new)) }
 {
     let at = top.from.min(machine.done.len());
     let term = gather(alloc, facts, machine, top.op, at, top.waits)?;
@@ -126,7 +126,7 @@ pub fn decide<'m>(
     truth: bool,
 ) -> Result<Fired<'m>, AllocError>
     ensures { (K : Run) (k : ℕ) → IsRun K facts.now → IsDecided K k (data_of K.over machine.old) top truth
-        → IfOk result (IsFired K k (data_of K.over machine.new)) }
+        → IfOk result (IsFired K false k (data_of K.over machine.new)) }
 {
     let Some(job) = branch_of(machine.jobs.as_slice(), truth) else {
         return Err(AllocError);

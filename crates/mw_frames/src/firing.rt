@@ -1,5 +1,5 @@
 // What is in hand is replaced, and several arguments are gone into.
-ghost use Rattle.std.specs.Prelude.{◌≡◌, ℕ, suc, true, IfOk, OnOk};
+ghost use Rattle.std.specs.Prelude.{◌≡◌, ℕ, suc, Bool, true, IfOk, OnOk};
 ghost use Rattle.std.specs.Prelude.{List, [], ◌∷◌, ◌++◌, length, reverse};
 ghost use Rattle.mw_logic.specs.Term.{RawTerm, apply as applied, join};
 ghost use Rattle.mw_logic.specs.Terms.{terms_of, args_of};
@@ -10,7 +10,7 @@ ghost use Rattle.mw_logic.specs.NormalForm.{is_comm as comm_of};
 ghost use Rattle.mw_arguments.specs.Places.{chosen, others};
 ghost use Rattle.mw_matching.specs.Matches.{evaluated};
 ghost use Rattle.mw_frames.specs.Several.{IsSeveral};
-ghost use Rattle.mw_frames.specs.State.{Run, IsRun, InHand};
+ghost use Rattle.mw_frames.specs.State.{Run, after_one, IsRun, InHand};
 ghost use Rattle.mw_trail.specs.Tracks.{moves};
 ghost use Rattle.mw_frames.specs.Machines.{data_of, all_moves};
 ghost use Rattle.mw_frames.specs.Arrivals.{IsNewFrame};
@@ -42,7 +42,7 @@ fn show(alloc: Global, kept: &mut Trail, sides: &mut Vec<Trail>) -> Result<(), A
     Ok(())
 }
 
-/// The equation of this number is applied to the term in hand, by these values, which are taken, behind what shows its
+/// The statement of this number is applied to the term in hand, by these values, which are taken, behind what shows its
 /// condition. It is told behind how many other values they are kept.
 #[inline(always)]
 pub(crate) fn apply_whole(
@@ -52,9 +52,9 @@ pub(crate) fn apply_whole(
     sides: &mut Vec<Trail>,
     values: &mut Vec<Term>,
 ) -> Result<usize, AllocError>
-    ensures means { (K : Run) (k : ℕ) (sig : Signature) (right w : RawTerm) → IsRun K sig
-        → MayFire K k (data_of K.over machine.old) number (all_moves K.over sides.old.items) values.old.items right w
-        → OnOk result (HasInHand K (suc k) (data_of K.over machine.new)
+    ensures means { (K : Run) (b : Bool) (k : ℕ) (sig : Signature) (right w : RawTerm) → IsRun K sig
+        → MayFire K b k (data_of K.over machine.old) number (all_moves K.over sides.old.items) values.old.items right w
+        → OnOk result (HasInHand (after_one b K) (suc k) (data_of K.over machine.new)
         (evaluated K.over.signature values.old.items right)) }
     ensures frames { machine.new.frames.items ≡ machine.old.frames.items }
     ensures done { machine.new.done.items ≡ machine.old.done.items }
@@ -69,7 +69,7 @@ pub(crate) fn apply_whole(
 }
 
 /// Whether the operator is commutative.
-fn is_comm(facts: &Facts, operator: OpId) -> bool
+pub(crate) fn is_comm(facts: &Facts, operator: OpId) -> bool
     ensures { result ≡ comm_of facts.now operator }
 {
     match facts.axioms(operator) {
@@ -130,7 +130,7 @@ fn wait_others(
 
 /// The arguments that have none of these numbers, of which there is one: all are done where their order doesn't
 /// matter, else those before the first number are done and those behind it wait.
-fn leave_out(
+pub(crate) fn leave_out(
     alloc: Global,
     comm: bool,
     machine: &mut Machine<'_>,
@@ -178,11 +178,11 @@ pub(crate) fn take_out(
     numbers: &[u32],
 ) -> Result<(), AllocError>
     ensures { (K : Run) (k : ℕ) (w : RawTerm) → IsRun K facts.now
-        → InHand K k (data_of K.over machine.old) (TryOf subject.now)
+        → (h : InHand K k (data_of K.over machine.old) (TryOf subject.now))
         → IsNewFrame facts.now (reverse machine.old.frames.items)
         machine.old.done.items machine.old.jobs.items frame.op frame
         → HasOnTop frame.op subject.now → IsSeveral facts.now numbers.now subject.now w
-        → OnOk result (IsPartAsked K k (data_of K.over machine.new) frame w) }
+        → OnOk result (IsPartAsked K k (data_of K.over machine.new) frame w h.stand) }
 {
     machine.kept.among(numbers)?;
     leave_out(

@@ -7,16 +7,19 @@
 //! job, or a frame none of whose arguments is in hand.
 //!
 //! What contracts see is a run: a module, a rank, and where the trail leads by the moves of mw_deduction (`Holds`,
-//! specs/State): to a stand with these frames open and this term in hand, by so many replacements, none of them by a
-//! rule; what is done is normal, and what waits is known to be what its job says.
+//! specs/State): to a stand with these frames open and this term in hand, by so many replacements, as many of them by
+//! rules as the run says; what is done is normal, and what waits is known to be what its job says.
 //!
 //! - `step` opens a term, or puts one that is done to its operator's arguments, or takes the next that waits; or the
 //!   whole is normal (`IsEnd`); or a term over normal arguments asks for statements (`IsAskedFor`); or the condition of
 //!   an `if_then_else_fi` is a truth value, and its branches are as they were (`IsDecided`): the condition comes first,
 //!   and the branches where it is stuck. Where it goes on, less is left (`FallsBelow`), so steps end.
-//! - `fire` applies an equation, with values that make its left side what was asked for or several of its arguments
+//! - `fire` applies a statement, with values that make its left side what was asked for or several of its arguments
 //!   (`IsPartTaken`), and what shows its condition, one trail for each side (`AreShowing`, specs/Redex): one replacement
-//!   more is made, and its right side is in hand (`IsFired`).
+//!   more is made, and its right side is in hand (`IsFired`). A rule asks that no argument on the way is frozen
+//!   (`IsOpenTo`), which `enter` tells on its way.
+//! - `enter` goes into an argument of a normal term in hand, whose other arguments are done, or wait (`IsEntered`,
+//!   specs/Entered): so a rule is applied inside a term, and the reduction goes on there.
 //! - `meet` makes a replacement by a row of the schemata at what was asked for, or at several of its arguments, to a
 //!   term (`IsRowOf`, specs/Redex); `decide` one at a choice that is decided: the branch comes as it waits, the other
 //!   one is dropped.
@@ -42,6 +45,7 @@
 mod applying;
 mod choosing;
 mod coming;
+mod entering;
 mod firing;
 mod instances;
 mod job;
@@ -59,6 +63,7 @@ mod whole;
 
 pub use applying::{Applied, Fired, fire};
 pub use choosing::decide;
+pub use entering::enter;
 pub use instances::instance;
 pub use job::{Frame, Hand, Job};
 pub use looking::{Asked, Step};

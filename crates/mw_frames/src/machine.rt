@@ -1,6 +1,7 @@
 // The machine's data.
 ghost use Rattle.std.specs.Prelude.{◌≡◌, []};
 ghost use Rattle.mw_logic.specs.Module.{Module};
+ghost use Rattle.mw_trail.specs.Tracks.{moves};
 ghost use Rattle.mw_frames.specs.Machines.{data_of};
 
 use crate::job::{Frame, Job};
@@ -29,5 +30,14 @@ impl<'m> Machine<'m> {
             jobs: Vec::new(alloc),
             kept: Trail::new(alloc),
         }
+    }
+
+    /// Nothing is under way any more. What is kept stays.
+    pub fn restart(&mut self)
+        ensures { (M : Module) → data_of M self.new ≡ record { frames = []; done = []; jobs = []; values = self.old.kept.values; moves = moves M self.old.kept } }
+    {
+        self.frames.clear();
+        self.done.clear();
+        self.jobs.clear();
     }
 }

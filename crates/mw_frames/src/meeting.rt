@@ -1,5 +1,5 @@
 // A row of the schemata is met.
-ghost use Rattle.std.specs.Prelude.{◌≡◌, ◌++◌, ◌∷◌, [], ℕ, List, suc, IsTrue, IfOk, OnOk, None, reverse, take as take_first};
+ghost use Rattle.std.specs.Prelude.{◌≡◌, ◌++◌, ◌∷◌, [], ℕ, List, suc, false, IsTrue, IfOk, OnOk, None, reverse, take as take_first};
 ghost use Rattle.mw_logic.specs.Term.{RawTerm};
 ghost use Rattle.mw_logic.specs.Signature.{Signature, IsRawTerm};
 ghost use Rattle.mw_logic.specs.Parts.{nested, IsClean};
@@ -10,6 +10,7 @@ ghost use Rattle.mw_stack.specs.Own.{spread};
 ghost use Rattle.mw_trail.specs.Tracks.{moves};
 ghost use Rattle.mw_frames.specs.Several.{IsSeveral};
 ghost use Rattle.mw_frames.specs.Jobs.{term_of};
+ghost use Rattle.mw_deduction.specs.Replay.{Stand};
 ghost use Rattle.mw_frames.specs.State.{Run, IsRun, InHand, Settled, HasNormalArguments, IsJob, IsAtHand};
 ghost use Rattle.mw_frames.specs.Machines.{data_of};
 ghost use Rattle.mw_frames.specs.Arrivals.{Comes, KeepsFrames};
@@ -91,7 +92,7 @@ fn meet_whole<'m>(
     to: Term,
 ) -> Result<Fired<'m>, AllocError>
     ensures { (K : Run) (k : ℕ) → IsRun K facts.now → IsAsked K k (data_of K.over machine.old) term
-        → IsRowOf K.over K.rank term to → IfOk result (IsFired K k (data_of K.over machine.new)) }
+        → IsRowOf K.over K.rank term to → IfOk result (IsFired K false k (data_of K.over machine.new)) }
 {
     match fit_row(alloc, facts, machine, &to)? {
         Fit::Fits => {
@@ -135,8 +136,8 @@ fn meet_part<'m>(
     frame: Frame,
     to: Term,
 ) -> Result<(), AllocError>
-    ensures { (K : Run) (k : ℕ) (w : RawTerm) → IsRun K facts.now
-        → IsPartAsked K k (data_of K.over machine.old) frame w
+    ensures { (K : Run) (k : ℕ) (w : RawTerm) (S : Stand) → IsRun K facts.now
+        → IsPartAsked K k (data_of K.over machine.old) frame w S
         → MayMeetRow K k (data_of K.over machine.old) w to
         → OnOk result (Settled K (suc k) (data_of K.over machine.new) frame) }
 {
@@ -157,7 +158,7 @@ fn meet_several<'m>(
 ) -> Result<Fired<'m>, AllocError>
     ensures { (K : Run) (k : ℕ) (w : RawTerm) → IsRun K facts.now → IsAsked K k (data_of K.over machine.old) term
         → IsSeveral facts.now numbers.now term w → IsRowOf K.over K.rank w to
-        → IfOk result (IsFired K k (data_of K.over machine.new)) }
+        → IfOk result (IsFired K false k (data_of K.over machine.new)) }
 {
     let frame = new_frame(facts, machine, top_of(&term))?;
     take_out(alloc, facts, machine, frame, &term, numbers)?;
@@ -189,7 +190,7 @@ fn meet_term<'m>(
 ) -> Result<Fired<'m>, AllocError>
     ensures { (K : Run) (k : ℕ) (w : RawTerm) → IsRun K facts.now → IsAsked K k (data_of K.over machine.old) term
         → IsPartTaken facts.now take.now term w → IsRowOf K.over K.rank w to
-        → IfOk result (IsFired K k (data_of K.over machine.new)) }
+        → IfOk result (IsFired K false k (data_of K.over machine.new)) }
 {
     match take {
         None => {
@@ -249,7 +250,7 @@ fn meet_own<'m>(
 ) -> Result<Fired<'m>, AllocError>
     ensures { (K : Run) (k : ℕ) (w : RawTerm) → IsRun K facts.now → IsComplete K k (data_of K.over machine.old) top
         → IsPartTaken facts.now take.now (asked_term (data_of K.over machine.old) (OwnOf top)) w → IsRowOf K.over K.rank w to
-        → IfOk result (IsFired K k (data_of K.over machine.new)) }
+        → IfOk result (IsFired K false k (data_of K.over machine.new)) }
 {
     if row_fits_own(alloc, facts, machine, top, &to, take)? {
         machine.done.truncate(top.from);
@@ -272,7 +273,7 @@ pub fn meet<'m>(
 ) -> Result<Fired<'m>, AllocError>
     ensures { (K : Run) (k : ℕ) (w : RawTerm) → IsRun K facts.now → IsAskedFor K k (data_of K.over machine.old) asked
         → IsPartTaken facts.now take.now (asked_term (data_of K.over machine.old) asked) w → IsRowOf K.over K.rank w to
-        → IfOk result (IsFired K k (data_of K.over machine.new)) }
+        → IfOk result (IsFired K false k (data_of K.over machine.new)) }
 {
     match asked {
         Asked::Term(term) => {

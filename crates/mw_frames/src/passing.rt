@@ -45,7 +45,7 @@ fn before(facts: &Facts, done: &[Term], top: Frame, job: &Job<'_>) -> usize
 
 /// Whether an argument that comes next has others beside it, where an operator that is associative needs them.
 #[inline(always)]
-fn stands_beside(facts: &Facts, machine: &Machine<'_>, top: Frame) -> bool
+pub(crate) fn stands_beside(facts: &Facts, machine: &Machine<'_>, top: Frame) -> bool
     ensures no { IsFalse result → (assoc_of facts.now top.op ≡ true) × (length machine.now.done.items ≤ top.from) × (length machine.now.jobs.items ≤ top.waits) }
     ensures yes { IsTrue result → assoc_of facts.now top.op ≡ true → (top.from < length machine.now.done.items) ⊎ (top.waits < length machine.now.jobs.items) }
 {
@@ -57,7 +57,7 @@ fn stands_beside(facts: &Facts, machine: &Machine<'_>, top: Frame) -> bool
 
 /// Into an argument of a frame, with so many before it.
 #[inline(always)]
-fn go_in(machine: &mut Machine<'_>, top: Frame, before: usize) -> Result<(), AllocError>
+pub(crate) fn go_in(machine: &mut Machine<'_>, top: Frame, before: usize) -> Result<(), AllocError>
     ensures frames { OnOk result (machine.new.frames.items ≡ machine.old.frames.items ++ top ∷ []) }
     ensures done { OnOk result (machine.new.done.items ≡ machine.old.done.items) }
     ensures jobs { OnOk result (machine.new.jobs.items ≡ machine.old.jobs.items) }

@@ -97,7 +97,7 @@ no_import line (form.Sorts names) h = refl
 no_import line (form.Subsorts groups) h = refl
 no_import line (form.Operators names args result attributes) h = refl
 no_import line (form.Variables names sort) h = refl
-no_import line (form.Equation left right fragments executable) h = refl
+no_import line (form.Statement rule left right fragments executable) h = refl
 no_import line (form.Import m) h = absurd (h m refl)
 
 -- what is left at a place

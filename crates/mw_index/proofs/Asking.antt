@@ -8,19 +8,19 @@ use Rattle.mw_logic.specs.Term.{RawTerm, RawTerms}
 use Rattle.mw_logic.specs.Module.{Module, Statement, IsStatement}
 use Rattle.mw_match.proofs.Picking.{at_index, member_at}
 use Rattle.mw_solving.specs.Values.{IsValue}
-use Rattle.mw_index.specs.Equations.{IsLeft, IsSearchedLeft}
-use Rattle.mw_index.specs.Index.{operator_of, asked, own_asked, others_asked, IsNextOf, IsOf, IsIndexOf}
+use Rattle.mw_index.specs.Oriented.{IsLeft, IsSearchedLeft}
+use Rattle.mw_index.specs.Index.{operator_of, asked, own_asked, others_asked, IsNextOf, IsOf, IsEquationOf, IsIndexOf}
 use Rattle.mw_index.specs.Choices.{Tried, tried_of, AreTried, AreAllTried, IsChoice, IsKept, IsUnderWay, IsAnswer, IsSized, Covers, Stays, Passes, IsSearch, IsPlainOne, IsSearchedOne}
-use Rattle.mw_index.specs.declared.equations.Equation.{Equation}
-use Rattle.mw_index.specs.declared.equations.Searched.{Searched}
-use Rattle.mw_index.specs.declared.equations.Left.{Left}
-use Rattle.mw_index.specs.declared.equations.Left.TheVariants as left
+use Rattle.mw_index.specs.declared.oriented.Oriented.{Oriented}
+use Rattle.mw_index.specs.declared.oriented.Searched.{Searched}
+use Rattle.mw_index.specs.declared.oriented.Left.{Left}
+use Rattle.mw_index.specs.declared.oriented.Left.TheVariants as left
 use Rattle.mw_index.specs.declared.index.Index.{Index}
 use Rattle.mw_index.specs.declared.choices.Choice.{Choice}
 use Rattle.mw_index.specs.declared.choices.Choices.{Choices}
 use Rattle.mw_index.proofs.Trying.{are_tried_more}
 
-module _ (M : Module) (top : Option ℕ) (st : Equation) (of : IsOf M top st) where
+module _ (M : Module) (top : Option ℕ) (st : Oriented) (of : IsOf M top st) where
   pub plain_one : (ps : RawTerms) → st.left ≡ left.Plain ps → IsPlainOne M top st ps
   plain_one ps e = by_top top refl (subst (IsLeft M.signature top of.statement) e of.is.left)
     where
@@ -38,24 +38,24 @@ module _ (M : Module) (top : Option ℕ) (st : Equation) (of : IsOf M top st) wh
       by_top None h = record { of = of; here = here; left = subst (IsSearchedLeft M.signature of.statement) (sym i) h }
       by_top (Some f) h = record { of = of; here = here; left = subst (IsSearchedLeft M.signature of.statement) (sym i) h }
 
-pub choice_of : (M : Module) (top : Option ℕ) (st : Equation) (o : Option Choice) → IsOf M top st → IsSized st o → IfSome o (λ q. IsOf M top q.equation.now)
+pub choice_of : (M : Module) (top : Option ℕ) (st : Oriented) (o : Option Choice) → IsEquationOf M top st → IsSized st o → IfSome o (λ q. IsEquationOf M top q.by.now)
 choice_of M top st None i h = tt
-choice_of M top st (Some q) i (e, n) = subst (IsOf M top) (sym e) i
+choice_of M top st (Some q) i (e, n) = subst (IsEquationOf M top) (sym e) i
 
-pub sized_choice : (st : Equation) (o : Option Choice) → IsSized st o → IfSome o (λ q. length q.values.items ≡ length q.equation.now.sorts)
+pub sized_choice : (st : Oriented) (o : Option Choice) → IsSized st o → IfSome o (λ q. length q.values.items ≡ length q.by.now.sorts)
 sized_choice st None h = tt
-sized_choice st (Some q) (e, n) = n ∙ ap (λ (st : Equation). length st.sorts) (sym e)
+sized_choice st (Some q) (e, n) = n ∙ ap (λ (st : Oriented). length st.sorts) (sym e)
 
 -- members of two lists, one behind the other
-member_front : (x : Equation) (xs ys : List Equation) → Member x xs → Member x (xs ++ ys)
+member_front : (x : Oriented) (xs ys : List Oriented) → Member x xs → Member x (xs ++ ys)
 member_front x [] ys h = absurd h
 member_front x (z ∷ xs) ys h = ⊎_elim (λ e. inl e) (λ k. inr (member_front x xs ys k)) h
 
-member_behind : (x : Equation) (xs ys : List Equation) → Member x ys → Member x (xs ++ ys)
+member_behind : (x : Oriented) (xs ys : List Oriented) → Member x ys → Member x (xs ++ ys)
 member_behind x [] ys h = h
 member_behind x (z ∷ xs) ys h = inr (member_behind x xs ys h)
 
-member_either : (x : Equation) (xs ys : List Equation) → Member x (xs ++ ys) → Member x xs ⊎ Member x ys
+member_either : (x : Oriented) (xs ys : List Oriented) → Member x (xs ++ ys) → Member x xs ⊎ Member x ys
 member_either x [] ys h = inr h
 member_either x (z ∷ xs) ys h = ⊎_elim (λ e. inl (inl e)) (λ k. ⊎_elim (λ a. inl (inr a)) (λ b. inr b) (member_either x xs ys k)) h
 
@@ -64,8 +64,8 @@ asked_is : (m : Index) (top : Option ℕ) → asked m top ≡ own_asked m top ++
 asked_is m None = refl
 asked_is m (Some f) = refl
 
-pub asked_of : (M : Module) (m : Index) (top : Option ℕ) (i j : ℕ) (st : Equation) (own : Bool) → IsIndexOf M m
-    → IsNextOf (slice_get (own_asked m top) i) (slice_get (others_asked m top) j) st own → IsOf M top st
+pub asked_of : (M : Module) (m : Index) (top : Option ℕ) (i j : ℕ) (st : Oriented) (own : Bool) → IsIndexOf M m
+    → IsNextOf (slice_get (own_asked m top) i) (slice_get (others_asked m top) j) st own → IsEquationOf M top st
 asked_of M m top i j st true h e =
     h.sound top st (subst (Member st) (sym (asked_is m top)) (member_front st (own_asked m top) (others_asked m top) (member_at st (own_asked m top) i e.0)))
 asked_of M m top i j st false h e =
@@ -74,6 +74,10 @@ asked_of M m top i j st false h e =
 no_value : {B : Type 0} (o : Option B) (P : B → Type 0) → o ≡ None → MatchOption o ⊤ P
 no_value None P e = tt
 no_value (Some b) P e = cc
+
+-- a statement alone, at the beginning
+pub not_begun : (M : Module) (t : RawTerm) (tried : List Tried) (st : Oriented) (c : Choices) → c.given ≡ false → c.search ≡ None → IsUnderWay M t tried st c
+not_begun M t tried st c g s = record { given = λ h. absurd (both_ways _ g h); search = no_value _ _ s }
 
 pub nothing_left : {B : Type 0} (o : Option B) (P : Type 0) (Q : B → Type 0) → MatchOption o P Q → ((b : B) → o ≡ Some b → ⊥) → P
 nothing_left None P Q h n = h
@@ -91,25 +95,25 @@ nothing_passed M m t c n o g s u = record {
   subject = subst (IsKept t) (sym u) tt;
   passed = λ i st e l. absurd (omega (arith, l, n));
   passed_others = λ i st e l. absurd (omega (arith, l, o));
-  under_way = λ st b e. record { given = λ h. absurd (both_ways _ g h); search = no_value _ _ s };
+  under_way = λ st b e. not_begun M t [] st c g s;
 }
 
 -- the next one of two lists is one alone
-next_alone : (a b : Option Equation) (st st' : Equation) (own own' : Bool) → IsNextOf a b st own → IsNextOf a b st' own' → st ≡ st'
+next_alone : (a b : Option Oriented) (st st' : Oriented) (own own' : Bool) → IsNextOf a b st own → IsNextOf a b st' own' → st ≡ st'
 next_alone a b st st' true true h k = same_Some st st' (sym h.0 ∙ k.0)
 next_alone a b st st' true false h k = absurd (both_ways _ k.1 h.1)
 next_alone a b st st' false true h k = absurd (both_ways _ h.1 k.1)
 next_alone a b st st' false false h k = same_Some st st' (sym h.0 ∙ k.0)
 
 module _ (M : Module) (m : Index) (t : RawTerm) (tried : List Tried) where
-  abbrev mine : List Equation
+  abbrev mine : List Oriented
   mine = own_asked m (operator_of t)
 
-  abbrev other : List Equation
+  abbrev other : List Oriented
   other = others_asked m (operator_of t)
 
-  module _ (c new : Choices) (st : Equation) (own : Bool) (h : Covers M m t tried c) (is : IsNextOf (slice_get mine c.own) (slice_get other c.others) st own) (stays : Stays c new) where
-    same_one : (s : Equation) (b : Bool) → IsNextOf (slice_get mine new.own) (slice_get other new.others) s b → st ≡ s
+  module _ (c new : Choices) (st : Oriented) (own : Bool) (h : Covers M m t tried c) (is : IsNextOf (slice_get mine c.own) (slice_get other c.others) st own) (stays : Stays c new) where
+    same_one : (s : Oriented) (b : Bool) → IsNextOf (slice_get mine new.own) (slice_get other new.others) s b → st ≡ s
     same_one s b e = next_alone (slice_get mine c.own) (slice_get other c.others) st s own b is
         (subst (λ i. IsNextOf (slice_get mine i) (slice_get other c.others) s b) stays.own (subst (λ j. IsNextOf (slice_get mine new.own) (slice_get other j) s b) stays.others e))
 
@@ -117,7 +121,7 @@ module _ (M : Module) (m : Index) (t : RawTerm) (tried : List Tried) where
     pub chosen_covers : (o : Option Choice) → is_some o ≡ true → IsAnswer M t tried st o new → MatchOption o (AreAllTried M t tried) (λ q. IsChoice M t q × Covers M m t (tried ++ tried_of q ∷ []) new)
     chosen_covers None s a = absurd (both_ways _ refl s)
     chosen_covers (Some q) s a =
-        let (choice, equation, under) = a.answer in (
+        let (choice, by, under) = a.answer in (
           choice,
           record {
             subject = a.subject;
@@ -134,16 +138,13 @@ module _ (M : Module) (m : Index) (t : RawTerm) (tried : List Tried) where
       subject = subst (IsKept t) (sym p.subject) a.subject;
       passed = in_first own refl;
       passed_others = in_second own refl;
-      under_way = λ z b e. record {
-        given = λ k. absurd (both_ways _ p.given k);
-        search = no_value _ _ p.search;
-      };
+      under_way = λ z b e. not_begun M t tried z next p.given p.search;
     }
       where
-        it : (z : Equation) (e : Statement) → st ≡ z → IsStatement M z.number e → AreTried M.signature t tried z.number e
-        it z e w b = subst (λ (z : Equation). AreTried M.signature t tried z.number e) w (a.answer e (subst (λ (z : Equation). IsStatement M z.number e) (sym w) b))
+        it : (z : Oriented) (e : Statement) → st ≡ z → IsStatement M z.number e → AreTried M.signature t tried z.number e
+        it z e w b = subst (λ (z : Oriented). AreTried M.signature t tried z.number e) w (a.answer e (subst (λ (z : Oriented). IsStatement M z.number e) (sym w) b))
 
-        in_first : (b : Bool) → own ≡ b → (i : ℕ) (z : Equation) (e : Statement) → i < next.own → slice_get mine i ≡ Some z → IsStatement M z.number e → AreTried M.signature t tried z.number e
+        in_first : (b : Bool) → own ≡ b → (i : ℕ) (z : Oriented) (e : Statement) → i < next.own → slice_get mine i ≡ Some z → IsStatement M z.number e → AreTried M.signature t tried z.number e
         in_first true o i z e l k y =
             let n : next.own ≡ new.own + 1 = p.own ∙ ap (λ b. new.own + (if b then 1 else 0)) o in
             let here = subst (IsNextOf (slice_get mine c.own) (slice_get other c.others) st) o is in
@@ -154,7 +155,7 @@ module _ (M : Module) (m : Index) (t : RawTerm) (tried : List Tried) where
         in_first false o i z e l k y =
             let n : next.own ≡ new.own + 0 = p.own ∙ ap (λ b. new.own + (if b then 1 else 0)) o in h.passed i z e (omega (arith, l, n, stays.own)) k y
 
-        in_second : (b : Bool) → own ≡ b → (i : ℕ) (z : Equation) (e : Statement) → i < next.others → slice_get other i ≡ Some z → IsStatement M z.number e → AreTried M.signature t tried z.number e
+        in_second : (b : Bool) → own ≡ b → (i : ℕ) (z : Oriented) (e : Statement) → i < next.others → slice_get other i ≡ Some z → IsStatement M z.number e → AreTried M.signature t tried z.number e
         in_second false o i z e l k y =
             let n : next.others ≡ new.others + 1 = p.others ∙ ap (λ b. new.others + (if b then 0 else 1)) o in
             let here = subst (IsNextOf (slice_get mine c.own) (slice_get other c.others) st) o is in
@@ -177,7 +178,7 @@ module _ (M : Module) (m : Index) (t : RawTerm) (tried : List Tried) where
       let (x, y, q, same) = tried_it w top s sol in (x, y, q ∙ number, same)
 
 -- fewer are left when one was passed
-pub fewer_left : (m : Index) (top : Option ℕ) (c new next : Choices) (st : Equation) (own : Bool)
+pub fewer_left : (m : Index) (top : Option ℕ) (c new next : Choices) (st : Oriented) (own : Bool)
     → IsNextOf (slice_get (own_asked m top) c.own) (slice_get (others_asked m top) c.others) st own → Stays c new → Passes own new next
     → (length (own_asked m top) - next.own) + (length (others_asked m top) - next.others) < (length (own_asked m top) - c.own) + (length (others_asked m top) - c.others)
 fewer_left m top c new next st true is stays p =

@@ -180,7 +180,7 @@ module _ (M : Module) (ok : IsWorkable M) (k : ℕ) (e : Statement) (is : IsStat
   pub first_ready : AreReady sig e.variables lefts e.fragments
   first_ready = record {
     raw = raw;
-    in_turn = AreBound-same e.fragments (λ x. sym (in_lefts e x)) (ok.equations k e is).bound_in_turn;
+    in_turn = AreBound-same e.fragments (λ x. sym (in_lefts e x)) (ok.statements k e is).bound_in_turn;
     distinct = lefts_distinct e;
     among = λ x o. in_variables M ok k e is x ∙ of x (subst (λ b. (b || occurs_among x e.fragments) ≡ true) (in_lefts e x) o);
   }
@@ -202,8 +202,8 @@ module _ (M : Module) (ok : IsWorkable M) (k : ℕ) (e : Statement) (is : IsStat
       (λ i. or_right (b x || occurs x e.right) (occurs_among x e.fragments) i)
       (or_cases (b x) (occurs_among x e.fragments) (bound_from b e.fragments x a)))
       (λ a. ⊎_elim
-      (λ i. ⊎_elim (λ o. bound_stays b e.fragments x o) (λ o. (ok.equations k e is).bound x o) (or_cases (b x) (occurs x e.right) i))
-      (λ i. among_bound b e.fragments (ok.equations k e is).bound_in_turn x i)
+      (λ i. ⊎_elim (λ o. bound_stays b e.fragments x o) (λ o. (ok.statements k e is).bound x o) (or_cases (b x) (occurs x e.right) i))
+      (λ i. among_bound b e.fragments (ok.statements k e is).bound_in_turn x i)
       (or_cases (b x || occurs x e.right) (occurs_among x e.fragments) (sym (in_variables M ok k e is x) ∙ a)))
 
   module _ (ts : List Test) (tests : AreTests sig lefts e.fragments ts) where

@@ -33,7 +33,7 @@ use Rattle.mw_match.specs.Straight.{AreStraight}
 use Rattle.mw_search.specs.Lacking.{HaveTheirSorts, OneLacksItsSort}
 use Rattle.mw_index.specs.Choices.{AreFitting, IsPlainOne, solution_of}
 use Rattle.mw_index.specs.Index.{operator_of}
-use Rattle.mw_index.specs.declared.equations.Equation.{Equation}
+use Rattle.mw_index.specs.declared.oriented.Oriented.{Oriented}
 use Rattle.mw_index.proofs.PlainTerms.{plain_applied, values_each}
 use Rattle.mw_index.proofs.InOrder.{all_are_met}
 use Rattle.mw_index.proofs.Sides.{left_raw, left_among}
@@ -92,7 +92,7 @@ no_part sig f ts _ _ e n (several {f = g} {ts = us} a s c) =
     let k : g ≡ f = (apply_same g f us ts e).0 in
     absurd (both_ways _ n (ap (is_assoc sig) (sym k) ∙ assoc-true sig g a.operator a.is_there a.assoc))
 
-module _ (M : Module) (ok : IsWorkable M) (top : Option ℕ) (st : Equation) (ps : RawTerms) (one : IsPlainOne M top st ps) where
+module _ (M : Module) (ok : IsWorkable M) (top : Option ℕ) (st : Oriented) (ps : RawTerms) (one : IsPlainOne M top st ps) where
   abbrev sig : Signature
   sig = M.signature
 

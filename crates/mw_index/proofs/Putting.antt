@@ -4,20 +4,20 @@ use Rattle.std.proofs.Common.{sym, ap, subst, inl, inr, ⊎_elim}
 use Rattle.mw_logic.specs.Signature.{Member}
 use Rattle.mw_index.proofs.Listed.{same_or_not}
 use Rattle.mw_poset.proofs.Members.{member-left, member-right, member-append, member-last, member-push}
-use Rattle.mw_index.specs.Index.{listed, asked}
-use Rattle.mw_index.specs.Sections.{Asks, Puts}
-use Rattle.mw_index.specs.declared.equations.Equation.{Equation}
+use Rattle.mw_index.specs.Index.{Asks, listed, asked}
+use Rattle.mw_index.specs.Sections.{Puts}
+use Rattle.mw_index.specs.declared.oriented.Oriented.{Oriented}
 use Rattle.mw_index.specs.declared.index.Index.{Index}
 use Rattle.mw_index.specs.declared.index.Section.{Section}
 use Rattle.mw_index.specs.declared.index.Section.TheVariants.{Operator, Any, Leaves}
 
 -- Two lists, one behind the other, where one of them has one more.
-pub record IsLonger (st : Equation) (old new : List Equation) : Type 0 where
-  pub kept : (s : Equation) → Member s old → Member s new
+pub record IsLonger (st : Oriented) (old new : List Oriented) : Type 0 where
+  pub kept : (s : Oriented) → Member s old → Member s new
   pub put : Member st new
-  pub only : (s : Equation) → Member s new → Member s old ⊎ (st ≡ s)
+  pub only : (s : Oriented) → Member s new → Member s old ⊎ (st ≡ s)
 
-first_longer : (st : Equation) (xs ys : List Equation) → IsLonger st (xs ++ ys) ((xs ++ st ∷ []) ++ ys)
+first_longer : (st : Oriented) (xs ys : List Oriented) → IsLonger st (xs ++ ys) ((xs ++ st ∷ []) ++ ys)
 first_longer st xs ys = record {
   kept = λ s m. ⊎_elim (λ k. member-left s (xs ++ st ∷ []) ys (member-left s xs (st ∷ []) k)) (λ k. member-right s (xs ++ st ∷ []) ys k) (member-append s xs ys m);
   put = member-left st (xs ++ st ∷ []) ys (member-last st xs);
@@ -27,7 +27,7 @@ first_longer st xs ys = record {
       (member-append s (xs ++ st ∷ []) ys m);
 }
 
-second_longer : (st : Equation) (xs ys : List Equation) → IsLonger st (xs ++ ys) (xs ++ (ys ++ st ∷ []))
+second_longer : (st : Oriented) (xs ys : List Oriented) → IsLonger st (xs ++ ys) (xs ++ (ys ++ st ∷ []))
 second_longer st xs ys = record {
   kept = λ s m. ⊎_elim (λ k. member-left s xs (ys ++ st ∷ []) k) (λ k. member-right s xs (ys ++ st ∷ []) (member-left s ys (st ∷ []) k)) (member-append s xs ys m);
   put = member-right st xs (ys ++ st ∷ []) (member-last st ys);
@@ -37,7 +37,7 @@ second_longer st xs ys = record {
       (member-append s xs (ys ++ st ∷ []) m);
 }
 
-module _ (st : Equation) (old new : Index) where
+module _ (st : Oriented) (old new : Index) (rules : new.rules.items ≡ old.rules.items) where
   -- what is asked for each operator: one more, or the same
   puts : (q : Section) → ((top : Option ℕ) → (Asks q top × IsLonger st (asked old top) (asked new top)) ⊎ ((Asks q top → ⊥) × (asked new top ≡ asked old top))) → Puts q st old new
   puts q h = record {
@@ -47,6 +47,7 @@ module _ (st : Equation) (old new : Index) where
         (λ k. ⊎_elim (λ j. inl j) (λ e. inr (k.0, e)) (k.1.only s m))
         (λ k. inl (subst (Member s) k.1 m))
         (h top);
+    rules = rules;
   }
 
   none_some : (f : ℕ) → None ≡ Some f → ⊥
@@ -60,7 +61,7 @@ module _ (st : Equation) (old new : Index) where
       each (Some g) = ⊎_elim
           (λ (e : g ≡ f).
           let P : ℕ → Type 0 = λ g. IsLonger st (listed old g ++ old.any.items) (listed new g ++ new.any.items) in
-          let Q : List Equation → List Equation → Type 0 = λ xs ys. IsLonger st (listed old f ++ old.any.items) (xs ++ ys) in
+          let Q : List Oriented → List Oriented → Type 0 = λ xs ys. IsLonger st (listed old f ++ old.any.items) (xs ++ ys) in
           let k : P f = subst (λ ys. Q (listed new f) ys) (sym any) (subst (λ xs. Q xs old.any.items) (sym here) (first_longer st (listed old f) old.any.items)) in
           inl (ap Some e, subst P (sym e) k))
           (λ (n : g ≢ f). inr ((λ e. n (some_same g f e)), rw (others g n, any) refl))
@@ -74,10 +75,10 @@ module _ (st : Equation) (old new : Index) where
     where
       each : (top : Option ℕ) → (Asks Any top × IsLonger st (asked old top) (asked new top)) ⊎ ((Asks Any top → ⊥) × (asked new top ≡ asked old top))
       each None =
-          let Q : List Equation → List Equation → Type 0 = λ xs ys. IsLonger st (old.any.items ++ old.leaves.items) (xs ++ ys) in
+          let Q : List Oriented → List Oriented → Type 0 = λ xs ys. IsLonger st (old.any.items ++ old.leaves.items) (xs ++ ys) in
           inl (tt, subst (λ ys. Q new.any.items ys) (sym leaves) (subst (λ xs. Q xs old.leaves.items) (sym any) (first_longer st old.any.items old.leaves.items)))
       each (Some g) =
-          let Q : List Equation → List Equation → Type 0 = λ xs ys. IsLonger st (listed old g ++ old.any.items) (xs ++ ys) in
+          let Q : List Oriented → List Oriented → Type 0 = λ xs ys. IsLonger st (listed old g ++ old.any.items) (xs ++ ys) in
           inl (tt, subst (λ ys. Q (listed new g) ys) (sym any) (subst (λ xs. Q xs (old.any.items ++ st ∷ [])) (sym (top g)) (second_longer st (listed old g) old.any.items)))
 
   pub puts_leaves : ((g : ℕ) → listed new g ≡ listed old g) → new.any.items ≡ old.any.items → new.leaves.items ≡ old.leaves.items ++ st ∷ [] → Puts Leaves st old new
@@ -85,6 +86,6 @@ module _ (st : Equation) (old new : Index) where
     where
       each : (top : Option ℕ) → (Asks Leaves top × IsLonger st (asked old top) (asked new top)) ⊎ ((Asks Leaves top → ⊥) × (asked new top ≡ asked old top))
       each None =
-          let Q : List Equation → List Equation → Type 0 = λ xs ys. IsLonger st (old.any.items ++ old.leaves.items) (xs ++ ys) in
+          let Q : List Oriented → List Oriented → Type 0 = λ xs ys. IsLonger st (old.any.items ++ old.leaves.items) (xs ++ ys) in
           inl (refl, subst (λ ys. Q new.any.items ys) (sym leaves) (subst (λ xs. Q xs (old.leaves.items ++ st ∷ [])) (sym any) (second_longer st old.any.items old.leaves.items)))
       each (Some g) = inr ((λ e. none_some g (sym e)), rw (top g, any) refl)

@@ -21,11 +21,11 @@ use Rattle.mw_poset.proofs.Members.{member-append, member-right, member-last}
 use Rattle.mw_search.specs.Lacking.{Each}
 use Rattle.mw_solving.specs.Values.{IsValue, AreValues}
 use Rattle.mw_solving.specs.Inside.{IsSolutionOf}
-use Rattle.mw_index.specs.Equations.{IsEquation}
+use Rattle.mw_index.specs.Oriented.{IsOriented}
 use Rattle.mw_index.specs.Choices.{Tried, tried_of, solution_of, in_order, IsTried, AreTried, AreComing, IsTaken, IsChoice, IsKept, IsUnderWay, IsAnswer, IsSearchedOne}
 use Rattle.mw_index.specs.Index.{operator_of}
-use Rattle.mw_index.specs.declared.equations.Equation.{Equation}
-use Rattle.mw_index.specs.declared.equations.Searched.{Searched}
+use Rattle.mw_index.specs.declared.oriented.Oriented.{Oriented}
+use Rattle.mw_index.specs.declared.oriented.Searched.{Searched}
 use Rattle.mw_index.specs.declared.choices.Choice.{Choice}
 use Rattle.mw_index.specs.declared.choices.Choices.{Choices}
 use Rattle.mw_index.proofs.Orders.{order_values}
@@ -47,7 +47,7 @@ solved_part sig p t (Some ks) s (w, part, sol) = (w, part, sol)
 solved_substitution : (sig : Signature) (p t : RawTerm) (take : Option (List ℕ)) (s : Substitution) → IsSolutionOf sig true p t [] take s → IsSubstitution sig s
 solved_substitution sig p t take s h = (solved_part sig p t take s h).2.substitution
 
-module _ (M : Module) (ok : IsWorkable M) (top : Option ℕ) (st : Equation) (s : Searched) (one : IsSearchedOne M top st s) where
+module _ (M : Module) (ok : IsWorkable M) (top : Option ℕ) (st : Oriented) (s : Searched) (one : IsSearchedOne M top st s) where
   abbrev sig : Signature
   sig = M.signature
 
@@ -86,7 +86,7 @@ module _ (M : Module) (ok : IsWorkable M) (top : Option ℕ) (st : Equation) (s 
     ordered_size = ap length ordered ∙ length-map lefts _ ∙ sym sorts_size
 
     module _ (t : RawTerm) (v : IsValue sig t) (is : operator_of t ≡ top) (take : Option (List ℕ)) (sol : IsSolutionOf sig true e.left t [] take (meant sig r)) (q : Choice)
-        (equation : q.equation.now ≡ st) (items : q.values.items ≡ in_order (bound_values r) s.order) (taken : q.take ≡ take) where
+        (by : q.by.now ≡ st) (items : q.values.items ≡ in_order (bound_values r) s.order) (taken : q.take ≡ take) where
       values_are : q.values.items ≡ values_of r lefts
       values_are = items ∙ ordered
 
@@ -95,9 +95,8 @@ module _ (M : Module) (ok : IsWorkable M) (top : Option ℕ) (st : Equation) (s 
           let (w, part, here) = solved_part sig e.left t take (meant sig r) sol in
           record {
             statement = e;
-            is_there = subst (λ (st : Equation). IsStatement M st.number e) (sym equation) there;
-            equation = one.of.equation;
-            is = subst (IsEquation sig (operator_of t) e) (sym equation) (subst (λ top. IsEquation sig top e st) (sym is) one.of.is);
+            is_there = subst (λ (st : Oriented). IsStatement M st.number e) (sym by) there;
+            is = subst (IsOriented sig (operator_of t) e) (sym by) (subst (λ top. IsOriented sig top e st) (sym is) one.of.is);
             part = w;
             taken = subst (λ o. IsTaken sig o t w) (sym taken) part;
             values = subst (AreValues sig) (sym values_are) (rearranged_values sig accepted r values lefts bound);
@@ -110,7 +109,7 @@ module _ (M : Module) (ok : IsWorkable M) (top : Option ℕ) (st : Equation) (s 
       found_tried tried z same =
           let again : SameSolution sig (meant sig r) (solution_of sig e q.values.items) =
           subst (λ us. SameSolution sig (meant sig r) (solution_of sig e us)) (sym values_are) (rearranged_same sig accepted r values lefts bound (solved_substitution sig e.left t take (meant sig r) sol)) in
-          (tried_of q, member-last (tried_of q) tried, ap (λ (st : Equation). st.number) equation, same_solution-trans sig z (meant sig r) (solution_of sig e q.values.items) same again)
+          (tried_of q, member-last (tried_of q) tried, ap (λ (st : Oriented). st.number) by, same_solution-trans sig z (meant sig r) (solution_of sig e q.values.items) same again)
 
   module _ (t : RawTerm) (v : IsValue sig t) (is : operator_of t ≡ top) (tried : List Tried) (old : Coming) (h : AreComing sig t tried st.number e xs old) where
     not_left : (left : List Solution) → Each (Lacks old) left → (r : Solution) → Member r left → Member r old.candidates → FitsSorts old r → ⊥
@@ -144,9 +143,9 @@ module _ (M : Module) (ok : IsWorkable M) (top : Option ℕ) (st : Equation) (s 
       pub answered_named : (bound_variables r.subst ≡ xs) × AreValues sig (bound_values r.subst)
       answered_named = h.named r here
 
-      module _ (q : Choice) (equation : q.equation.now ≡ st) (items : q.values.items ≡ in_order (bound_values r.subst) s.order) (taken : q.take ≡ r.take) where
+      module _ (q : Choice) (by : q.by.now ≡ st) (items : q.values.items ≡ in_order (bound_values r.subst) s.order) (taken : q.take ≡ r.take) where
         pub answered_choice : IsChoice M t q
-        answered_choice = found_choice r.subst answered_named.0 answered_named.1 t v is r.take answered_solution q equation items taken
+        answered_choice = found_choice r.subst answered_named.0 answered_named.1 t v is r.take answered_solution q by items taken
 
         pub others_come : (d : Statement) → IsStatement M st.number d → AreComing sig t (tried ++ tried_of q ∷ []) st.number d xs new
         others_come d is_there =
@@ -160,7 +159,7 @@ module _ (M : Module) (ok : IsWorkable M) (top : Option ℕ) (st : Equation) (s 
             }))
           where
             answered : (z : Substitution) (c : Solution) → r ≡ c → SameSolution sig z (meant sig c.subst) → IsTried sig (tried ++ tried_of q ∷ []) st.number e z
-            answered z c e k = found_tried r.subst answered_named.0 answered_named.1 t v is r.take answered_solution q equation items taken tried z (subst (λ (c : Solution). SameSolution sig z (meant sig c.subst)) (sym e) k)
+            answered z c e k = found_tried r.subst answered_named.0 answered_named.1 t v is r.take answered_solution q by items taken tried z (subst (λ (c : Solution). SameSolution sig z (meant sig c.subst)) (sym e) k)
 
             complete : (ks : Option (List ℕ)) (z : Substitution) → IsSolutionOf sig true e.left t [] ks z
                 → IsTried sig (tried ++ tried_of q ∷ []) st.number e z ⊎ ((c : Solution) × Member c new.candidates × FitsSorts old c × SameSolution sig z (meant sig c.subst))
@@ -175,9 +174,9 @@ module _ (M : Module) (ok : IsWorkable M) (top : Option ℕ) (st : Equation) (s 
       -- so that is an answer, whatever values the choice has
       pub search_answer : (o : Option Choice) (c : Choices)
           → MatchOption o (length (in_order (bound_values r.subst) s.order) ≢ length st.sorts)
-          (λ q. (q.equation.now ≡ st) × (q.values.items ≡ in_order (bound_values r.subst) s.order) × (q.take ≡ r.take) × (length q.values.items ≡ length st.sorts))
+          (λ q. (q.by.now ≡ st) × (q.values.items ≡ in_order (bound_values r.subst) s.order) × (q.take ≡ r.take) × (length q.values.items ≡ length st.sorts))
           → IsKept t c.subject
-          → ((q : Choice) → q.equation.now ≡ st → q.values.items ≡ in_order (bound_values r.subst) s.order → q.take ≡ r.take → IsUnderWay M t (tried ++ tried_of q ∷ []) st c)
+          → ((q : Choice) → q.by.now ≡ st → q.values.items ≡ in_order (bound_values r.subst) s.order → q.take ≡ r.take → IsUnderWay M t (tried ++ tried_of q ∷ []) st c)
           → IsAnswer M t tried st o c
       search_answer None c n kept under = absurd (n (ordered_size r.subst answered_named.0 answered_named.1))
       search_answer (Some q) c (a, b, d, l) kept under = record { subject = kept; answer = (answered_choice q a b d, a, under q a b d) }

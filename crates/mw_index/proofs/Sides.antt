@@ -12,7 +12,7 @@ use Rattle.mw_logic.specs.Substitution.{occurs, occurs_in}
 use Rattle.mw_logic.proofs.InstanceLaws.{occurs_kept}
 use Rattle.mw_logic.proofs.SameConditions.{same_variable-refl}
 use Rattle.mw_logic.proofs.Soundness.{normal_form-sound}
-use Rattle.mw_least.specs.Workable.{IsWorkable, IsOrdinaryEquation}
+use Rattle.mw_least.specs.Workable.{IsWorkable, IsOrdinary}
 use Rattle.mw_least.specs.Conditions.{mentioned, occurs_among}
 use Rattle.mw_compile.specs.Compiled.{IsCompiled, AreAmong}
 use Rattle.mw_compile.specs.declared.compiled.Compiled.{Compiled}
@@ -58,8 +58,8 @@ module _ (e : Statement) where
   in_lefts x = is_in-met x [] e.left
 
 module _ (M : Module) (ok : IsWorkable M) (k : ℕ) (e : Statement) (is : IsStatement M k e) where
-  abbrev eq : IsOrdinaryEquation M.signature e
-  eq = ok.equations k e is
+  abbrev eq : IsOrdinary M.signature e
+  eq = ok.statements k e is
 
   -- are the first ones of the statement
   pub variables_front : HasFront (met [] e.left) e.variables

@@ -27,8 +27,8 @@ use Rattle.mw_solving.proofs.Solved.{solved, solution_matches}
 use Rattle.mw_term.specs.Signatures.{identity_of as identity_named}
 use Rattle.mw_term.specs.declared.signature.Identity.{Identity as Named}
 use Rattle.mw_deduction.specs.Tops.{IsTop, whole, several}
-use Rattle.mw_index.specs.Index.{operator_of}
-use Rattle.mw_index.specs.Sections.{IsLeaf, Asks, IsSectionOf}
+use Rattle.mw_index.specs.Index.{Asks, operator_of}
+use Rattle.mw_index.specs.Sections.{IsLeaf, IsSectionOf}
 use Rattle.mw_index.specs.declared.index.Section.{Section}
 use Rattle.mw_index.specs.declared.index.Section.TheVariants.{Operator, Any, Leaves}
 use Rattle.mw_index.proofs.PlainTerms.{uncounted}

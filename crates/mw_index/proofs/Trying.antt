@@ -11,13 +11,13 @@ use Rattle.mw_least.specs.Workable.{IsWorkable}
 use Rattle.mw_match.specs.Solutions.{Coming, AreNamed, IsAllSolutions}
 use Rattle.mw_poset.proofs.Members.{member-left, member-last}
 use Rattle.mw_solving.specs.Values.{IsValue, AreValues}
-use Rattle.mw_index.specs.Equations.{IsEquation}
+use Rattle.mw_index.specs.Oriented.{IsOriented}
 use Rattle.mw_index.specs.Choices.{Tried, tried_of, solution_of, IsTried, AreTried, AreComing, ComesFor, IsSearch, IsChoice, IsTaken, IsPlainOne, AreFitting}
 use Rattle.mw_index.specs.Index.{operator_of}
-use Rattle.mw_index.specs.declared.equations.Equation.{Equation}
-use Rattle.mw_index.specs.declared.equations.Searched.{Searched}
-use Rattle.mw_index.specs.declared.equations.Left.{Left}
-use Rattle.mw_index.specs.declared.equations.Left.TheVariants as left
+use Rattle.mw_index.specs.declared.oriented.Oriented.{Oriented}
+use Rattle.mw_index.specs.declared.oriented.Searched.{Searched}
+use Rattle.mw_index.specs.declared.oriented.Left.{Left}
+use Rattle.mw_index.specs.declared.oriented.Left.TheVariants as left
 use Rattle.mw_index.specs.declared.choices.Choice.{Choice}
 use Rattle.mw_index.proofs.Comparing.{told_sorts, told_lack, solved_by, values_given, solution_given}
 
@@ -51,7 +51,7 @@ module _ (sig : Signature) (tried new : List Tried) where
   search_more M t k l value (Some s) h = λ e is. comes_more t k e l (value s) (h e is)
 
 -- what values that are found say of an equation with a plain left side
-module _ (M : Module) (ok : IsWorkable M) (top : Option ℕ) (st : Equation) (ps : RawTerms) (one : IsPlainOne M top st ps) (t : RawTerm) (v : IsValue M.signature t) (is : operator_of t ≡ top) (tried : List Tried) where
+module _ (M : Module) (ok : IsWorkable M) (top : Option ℕ) (st : Oriented) (ps : RawTerms) (one : IsPlainOne M top st ps) (t : RawTerm) (v : IsValue M.signature t) (is : operator_of t ≡ top) (tried : List Tried) where
   abbrev e : Statement
   e = one.of.statement
 
@@ -61,7 +61,7 @@ module _ (M : Module) (ok : IsWorkable M) (top : Option ℕ) (st : Equation) (ps
       let (us, size, gives, values, sorts, same) = solved_by M ok top st ps one t v is w part s sol' in
       absurd (told_lack M.signature ok.signature.accepted us st.sorts values (h us size gives) sorts)
 
-  module _ (q : Choice) (equation : q.equation.now ≡ st) (whole : q.take ≡ None) (h : AreFitting M.signature st.sorts ps (args_of t) q.values.items true) where
+  module _ (q : Choice) (by : q.by.now ≡ st) (whole : q.take ≡ None) (h : AreFitting M.signature st.sorts ps (args_of t) q.values.items true) where
     pub all_tried : (d : Statement) → IsStatement M st.number d → AreTried M.signature t (tried ++ tried_of q ∷ []) st.number d
     all_tried d there w part s sol =
         let de : d ≡ e = one_statement M st.number d e there one.of.is_there in
@@ -70,7 +70,7 @@ module _ (M : Module) (ok : IsWorkable M) (top : Option ℕ) (st : Equation) (ps
         let found : us ≡ q.values.items = h.3 us size gives in (
           tried_of q,
           member-last (tried_of q) tried,
-          ap (λ (st : Equation). st.number) equation,
+          ap (λ (st : Oriented). st.number) by,
           subst (λ us. SameSolution M.signature s (solution_of M.signature d us)) found (subst (λ d. SameSolution M.signature s (solution_of M.signature d us)) (sym de) same),
         )
 
@@ -79,9 +79,8 @@ module _ (M : Module) (ok : IsWorkable M) (top : Option ℕ) (st : Equation) (ps
         let values : AreValues M.signature q.values.items = values_given M ok top st ps one t v is q.values.items h.0 h.1 in
         record {
           statement = e;
-          is_there = subst (λ (s : Equation). IsStatement M s.number e) (sym equation) one.of.is_there;
-          equation = one.of.equation;
-          is = subst (IsEquation M.signature (operator_of t) e) (sym equation) (subst (λ top. IsEquation M.signature top e st) (sym is) one.of.is);
+          is_there = subst (λ (s : Oriented). IsStatement M s.number e) (sym by) one.of.is_there;
+          is = subst (IsOriented M.signature (operator_of t) e) (sym by) (subst (λ top. IsOriented M.signature top e st) (sym is) one.of.is);
           part = t;
           taken = subst (λ o. IsTaken M.signature o t t) (sym whole) refl;
           values = values;

@@ -2,11 +2,11 @@
 pub mod Free
 -- Conditions as they are tested.
 pub mod Conditions
--- Equations as they are indexed.
-pub mod Equations
--- The index of a module's equations.
+-- Statements as they are indexed.
+pub mod Oriented
+-- The index of a module's statements.
 pub mod Index
--- Where equations are listed.
+-- Where statements are listed.
 pub mod Sections
 -- The choices at a term.
 pub mod Choices

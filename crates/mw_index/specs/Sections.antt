@@ -1,13 +1,14 @@
--- Where equations are listed.
-use Rattle.std.specs.Prelude.{ℕ, ◌≡◌, ◌⊎◌, false, Option, Some, None, take, IsTrue, List, ⊤}
+-- Where statements are listed.
+use Rattle.std.specs.Prelude.{ℕ, ◌≡◌, ◌⊎◌, ◌∷◌, ◌++◌, [], false, Option, None, take, IsTrue, List, ⊤}
 use Rattle.mw_logic.specs.Term.{Variable, RawTerm, numeral, quoted, variable, apply, RawTerms}
 use Rattle.mw_logic.specs.Signature.{Signature, Member}
 use Rattle.mw_logic.specs.Kinds.{is_successor}
 use Rattle.mw_logic.specs.Module.{Module}
 use Rattle.mw_logic.specs.NormalForm.{identity_of}
 use Rattle.mw_position.specs.Variables.{is_in}
-use Rattle.mw_index.specs.Index.{asked, IsIndexOf}
-use Rattle.mw_index.specs.declared.equations.Equation.{Equation}
+use Rattle.mw_index.specs.Index.{Asks, asked, IsIndexOf}
+use Rattle.mw_index.specs.declared.oriented.Oriented.{Oriented}
+use Rattle.mw_index.specs.declared.index.Rule.{Rule}
 use Rattle.mw_index.specs.declared.index.Index.{Index}
 use Rattle.mw_index.specs.declared.index.Section.{Section}
 use Rattle.mw_index.specs.declared.index.Section.TheVariants.{Operator, Any, Leaves}
@@ -19,23 +20,23 @@ IsLeaf (quoted q) = ⊤
 IsLeaf (variable x) = ⊥
 IsLeaf (apply f ts) = ⊥
 
--- the section's equations are asked for terms with this operator on top, or with none
-abbrev pub Asks : Section → Option ℕ → Type 0
-Asks (Operator f) top = top ≡ Some f
-Asks Any top = ⊤
-Asks Leaves top = top ≡ None
-
--- equations with the canonical left side p belong in the section
+-- statements with the canonical left side p belong in the section
 abbrev pub IsSectionOf : Signature → RawTerm → Section → Type 0
 IsSectionOf sig p (Operator f) = (args : RawTerms) × (p ≡ apply f args) × (identity_of sig f ≡ None) × (is_successor sig f ≡ false)
 IsSectionOf sig p Any = ⊤
 IsSectionOf sig p Leaves = IsLeaf p
 
 -- the new index has one more equation, in a section
-pub record Puts (q : Section) (st : Equation) (old new : Index) : Type 0 where
-  pub kept : (top : Option ℕ) (s : Equation) → Member s (asked old top) → Member s (asked new top)
+pub record Puts (q : Section) (st : Oriented) (old new : Index) : Type 0 where
+  pub kept : (top : Option ℕ) (s : Oriented) → Member s (asked old top) → Member s (asked new top)
   pub put : (top : Option ℕ) → Asks q top → Member st (asked new top)
-  pub only : (top : Option ℕ) (s : Equation) → Member s (asked new top) → Member s (asked old top) ⊎ (Asks q top × (st ≡ s))
+  pub only : (top : Option ℕ) (s : Oriented) → Member s (asked new top) → Member s (asked old top) ⊎ (Asks q top × (st ≡ s))
+  pub rules : new.rules.items ≡ old.rules.items
+
+-- it has one more rule
+pub record PutsRule (r : Rule) (old new : Index) : Type 0 where
+  pub equations : (top : Option ℕ) → asked new top ≡ asked old top
+  pub rules : new.rules.items ≡ old.rules.items ++ r ∷ []
 
 -- an index of the first statements
 abbrev pub IsIndexUpTo : Module → ℕ → Index → Type 0

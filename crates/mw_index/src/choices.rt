@@ -9,13 +9,14 @@ ghost use Rattle.mw_position.specs.Variables.{bound_values, sorts_of};
 ghost use Rattle.mw_match.specs.Straight.{AreStraight};
 ghost use Rattle.mw_solving.specs.Values.{IsValue};
 ghost use Rattle.mw_term.specs.declared.subst.Binding.{Binding as BindingOf};
-ghost use Rattle.mw_index.specs.Index.{operator_of, IsOf, IsIndexOf};
-ghost use Rattle.mw_index.specs.Equations.{IsSearchedLeft};
+ghost use Rattle.mw_index.specs.Index.{operator_of, IsOf, IsEquationOf, IsIndexOf};
+ghost use Rattle.mw_index.specs.Oriented.{IsSearchedLeft};
 ghost use Rattle.mw_index.specs.Choices.{Tried, subject_of, tried_of, in_order as in_order_of, AreAllTried, AreComing, AreFitting, IsKept, IsChoice, IsUnderWay, IsAnswer, IsPlainOne, IsSearchedOne, IsSized, Covers, Stays, Passes};
 ghost use Rattle.mw_index.specs.declared.index.Index.{Index as IndexOf};
+ghost use Rattle.mw_index.specs.declared.oriented.Oriented.{Oriented as OrientedOf};
 
-use crate::equations::{Equation, Left, Searched};
 use crate::index::Index;
+use crate::oriented::{Left, Oriented, Searched};
 use crate::subject::Subject;
 use mw_least::Ctx;
 use mw_match::{Solution, Solutions, all_match, have_sorts};
@@ -24,11 +25,11 @@ use mw_term::{Seq, Subst, Term, copy};
 use std::alloc::{AllocError, Global};
 use std::mem::replace;
 
-/// An equation with values of its left side's variables, in their order, that make the left side a term, or several of
+/// A statement with values of its left side's variables, in their order, that make the left side a term, or several of
 /// its arguments by their numbers.
 #[derive(Drop)]
 pub struct Choice<'m> {
-    pub equation: &'m Equation,
+    pub by: &'m Oriented,
     pub values: Vec<Term>,
     pub take: Option<Seq<u32>>,
 }
@@ -71,48 +72,44 @@ fn in_order(alloc: Global, subst: &Subst, order: &[usize]) -> Result<Vec<Term>, 
 /// The choice that a solution of a left side is, where it has a value for each variable.
 fn chosen<'m>(
     alloc: Global,
-    equation: &'m Equation,
+    by: &'m Oriented,
     searched: &Searched,
     solution: Solution,
 ) -> Result<Option<Choice<'m>>, AllocError>
     ensures { let vs = in_order_of (bound_values solution.subst) searched.now.order in
-        IfOk result (λ o. MatchOption o (length vs ≢ length equation.now.sorts)
-        (λ c. (c.equation.now ≡ equation.now) × (c.values.items ≡ vs) × (c.take ≡ solution.take)
-        × (length c.values.items ≡ length equation.now.sorts))) }
+        IfOk result (λ o. MatchOption o (length vs ≢ length by.now.sorts)
+        (λ c. (c.by.now ≡ by.now) × (c.values.items ≡ vs) × (c.take ≡ solution.take)
+        × (length c.values.items ≡ length by.now.sorts))) }
 {
     let values = in_order(alloc, &solution.subst, searched.order.as_slice())?;
     let Solution { take, .. } = solution;
-    if values.len() != equation.sorts.as_slice().len() {
+    if values.len() != by.sorts.as_slice().len() {
         return Ok(None);
     }
-    Ok(Some(Choice {
-        equation,
-        values,
-        take,
-    }))
+    Ok(Some(Choice { by, values, take }))
 }
 
-/// Whether an equation's left side has these arguments, by values of its variables' sorts, which are found.
+/// Whether a statement's left side has these arguments, by values of its variables' sorts, which are found.
 #[inline(always)]
 fn fits(
     alloc: Global,
     context: &Ctx,
-    equation: &Equation,
+    by: &Oriented,
     patterns: &Patterns,
     args: &[Term],
     found: &mut Vec<Term>,
 ) -> Result<bool, AllocError>
     requires numbered { AreNumbered 0 patterns.now }
     requires straight { AreStraight context.now.signature patterns.now }
-    requires count { counted_all 0 patterns.now ≡ length equation.now.sorts }
-    ensures { let sorts = equation.now.sorts in
+    requires count { counted_all 0 patterns.now ≡ length by.now.sorts }
+    ensures { let sorts = by.now.sorts in
         IfOk result (AreFitting context.now.signature sorts patterns.now (terms_of args.now) found.new.items) }
 {
     found.clear();
     if !all_match(alloc, context.facts(), patterns, args, found)? {
         return Ok(false);
     }
-    let sorts = equation.sorts.as_slice();
+    let sorts = by.sorts.as_slice();
     Ok(have_sorts(context, found.as_slice(), sorts))
 }
 
@@ -134,7 +131,9 @@ impl<'m> Choices<'m> {
     /// At the beginning again, for another term.
     #[inline(always)]
     pub fn again(&mut self)
-        ensures { (M : Module) (m : IndexOf) (t : RawTerm) → Covers M m t [] self.new }
+        ensures covers { (M : Module) (m : IndexOf) (t : RawTerm) → Covers M m t [] self.new }
+        ensures kept { (t : RawTerm) → IsKept t self.new.subject }
+        ensures none { (M : Module) (t : RawTerm) (tried : List Tried) (st : OrientedOf) → IsUnderWay M t tried st self.new }
     {
         self.own = 0;
         self.others = 0;
@@ -151,36 +150,36 @@ impl<'m> Choices<'m> {
         self.spare = spare;
     }
 
-    /// The choice of an equation whose left side is compared.
+    /// The choice of a statement whose left side is compared.
     #[inline(always)]
     fn compare(
         &mut self,
         alloc: Global,
         context: &Ctx,
-        equation: &'m Equation,
+        by: &'m Oriented,
         patterns: &Patterns,
         subject: Subject<'_>,
     ) -> Result<Option<Choice<'m>>, AllocError>
-        requires { IsPlainOne context.now (operator_of (subject_of subject)) equation.now patterns.now }
+        requires { IsPlainOne context.now (operator_of (subject_of subject)) by.now patterns.now }
         ensures same { Stays self.old self.new }
-        ensures sized { IfOk result (IsSized equation.now) }
+        ensures sized { IfOk result (IsSized by.now) }
         ensures is { let M = context.now in let t = subject_of subject.entry in
             (tried : List Tried) → IsValue M.signature t
-            → IsKept t self.old.subject → IsUnderWay M t tried equation.now self.old
-            → IfOk result (λ o. IsAnswer M t tried equation.now o self.new) }
+            → IsKept t self.old.subject → IsUnderWay M t tried by.now self.old
+            → IfOk result (λ o. IsAnswer M t tried by.now o self.new) }
     {
         if self.given {
             return Ok(None);
         }
         context.shows();
         let args = subject.args();
-        if !fits(alloc, context, equation, patterns, args, &mut self.spare)? {
+        if !fits(alloc, context, by, patterns, args, &mut self.spare)? {
             return Ok(None);
         }
         self.given = true;
         let values = replace(&mut self.spare, Vec::new(alloc));
         Ok(Some(Choice {
-            equation,
+            by,
             values,
             take: None,
         }))
@@ -217,23 +216,23 @@ impl<'m> Choices<'m> {
         Ok(Box::new(alloc, solutions)?)
     }
 
-    /// The next choice of an equation whose left side is searched for.
+    /// The next choice of a statement whose left side is searched for.
     #[inline(never)]
     fn seek(
         &mut self,
         alloc: Global,
         context: &'m Ctx,
-        equation: &'m Equation,
+        by: &'m Oriented,
         searched: &'m Searched,
         subject: Subject<'_>,
     ) -> Result<Option<Choice<'m>>, AllocError>
-        requires { IsSearchedOne context.now (operator_of (subject_of subject)) equation.now searched.now }
+        requires { IsSearchedOne context.now (operator_of (subject_of subject)) by.now searched.now }
         ensures same { Stays self.old self.new }
-        ensures sized { IfOk result (IsSized equation.now) }
+        ensures sized { IfOk result (IsSized by.now) }
         ensures is { let M = context.now in let t = subject_of subject.entry in
             (tried : List Tried) → IsValue M.signature t
-            → IsKept t self.old.subject → IsUnderWay M t tried equation.now self.old
-            → IfOk result (λ o. IsAnswer M t tried equation.now o self.new) }
+            → IsKept t self.old.subject → IsUnderWay M t tried by.now self.old
+            → IfOk result (λ o. IsAnswer M t tried by.now o self.new) }
     {
         context.shows();
         let mut solutions = self.solutions(alloc, context, searched, subject)?;
@@ -241,34 +240,34 @@ impl<'m> Choices<'m> {
         self.search = Some(solutions);
         match found {
             Some(solution) => {
-                let choice = chosen(alloc, equation, searched, solution)?;
+                let choice = chosen(alloc, by, searched, solution)?;
                 Ok(choice)
             }
             None => Ok(None),
         }
     }
 
-    /// The next choice of an equation.
+    /// The next choice of one statement at a canonical term that means a ground raw term; none where there is none.
     #[inline(always)]
-    fn ask(
+    pub fn ask(
         &mut self,
         alloc: Global,
         context: &'m Ctx,
-        equation: &'m Equation,
+        by: &'m Oriented,
         subject: Subject<'_>,
     ) -> Result<Option<Choice<'m>>, AllocError>
-        requires { IsOf context.now (operator_of (subject_of subject)) equation.now }
+        requires { IsOf context.now (operator_of (subject_of subject)) by.now }
         ensures same { Stays self.old self.new }
-        ensures sized { IfOk result (IsSized equation.now) }
+        ensures sized { IfOk result (IsSized by.now) }
         ensures is { let M = context.now in let t = subject_of subject.entry in
             (tried : List Tried) → IsValue M.signature t
-            → IsKept t self.old.subject → IsUnderWay M t tried equation.now self.old
-            → IfOk result (λ o. IsAnswer M t tried equation.now o self.new) }
+            → IsKept t self.old.subject → IsUnderWay M t tried by.now self.old
+            → IfOk result (λ o. IsAnswer M t tried by.now o self.new) }
     {
-        match &equation.left {
-            Left::Plain(patterns) => self.compare(alloc, context, equation, patterns, subject),
+        match &by.left {
+            Left::Plain(patterns) => self.compare(alloc, context, by, patterns, subject),
             Left::Searched(searched) => {
-                let found = self.seek(alloc, context, equation, searched, subject)?;
+                let found = self.seek(alloc, context, by, searched, subject)?;
                 Ok(found)
             }
         }
@@ -302,8 +301,8 @@ impl<'m> Choices<'m> {
     ) -> Result<Option<Choice<'m>>, AllocError>
         requires { IsIndexOf context.now index.now }
         ensures of { let top = operator_of (subject_of subject.entry) in
-            IfOk result (λ o. IfSome o (λ c. IsOf context.now top c.equation.now)) }
-        ensures values { IfOk result (λ o. IfSome o (λ c. length c.values.items ≡ length c.equation.now.sorts)) }
+            IfOk result (λ o. IfSome o (λ c. IsEquationOf context.now top c.by.now)) }
+        ensures values { IfOk result (λ o. IfSome o (λ c. length c.values.items ≡ length c.by.now.sorts)) }
         ensures is { let M = context.now in let t = subject_of subject.entry in
             (tried : List Tried) → IsValue M.signature t
             → Covers M index.now t tried self.old
@@ -313,8 +312,8 @@ impl<'m> Choices<'m> {
         context.shows();
         let top = subject.operator();
         while let Some(turn) = index.at(top, self.own, self.others) {
-            let (equation, own) = turn;
-            let found = self.ask(alloc, context, equation, subject)?;
+            let (by, own) = turn;
+            let found = self.ask(alloc, context, by, subject)?;
             if found.is_some() {
                 return Ok(found);
             }

@@ -1,14 +1,15 @@
-// The index of a module's equations.
-ghost use Rattle.std.specs.Prelude.{◌≡◌, ◌≢◌, ◌++◌, ◌∷◌, ◌≤◌, ◌<◌, ◌+◌, ◌^◌, ℕ, [], false, true, None, Option, length, slice_get, IfOk, IfSome, IsTrue, MatchOption, OnOk};
+// The index of a module's statements.
+ghost use Rattle.std.specs.Prelude.{◌≡◌, ◌↔◌, ◌≢◌, ◌++◌, ◌∷◌, ◌≤◌, ◌<◌, ◌+◌, ◌^◌, ℕ, [], false, true, None, Option, length, slice_get, IfOk, IfSome, IsTrue, MatchOption, OnOk};
 ghost use Rattle.mw_logic.specs.Kinds.{is_successor};
+ghost use Rattle.mw_logic.specs.Module.{Module};
 ghost use Rattle.mw_logic.specs.NormalForm.{identity_of};
-ghost use Rattle.mw_index.specs.Index.{asked, listed, own_asked, others_asked, IsNextOf, IsIndexOf};
-ghost use Rattle.mw_index.specs.Sections.{IsSectionOf, Puts, IsIndexUpTo};
+ghost use Rattle.mw_index.specs.Index.{Asks, asked, listed, own_asked, others_asked, IsNextOf, IsIndexOf, AreRulesOf};
+ghost use Rattle.mw_index.specs.Sections.{IsSectionOf, Puts, PutsRule, IsIndexUpTo};
 ghost use Rattle.mw_index.specs.declared.index.Section.TheVariants as Section;
 
-use crate::equations::Equation;
-use crate::making::equation_of;
+use crate::making::oriented;
 use crate::normal::normal;
+use crate::oriented::Oriented;
 use mw_canon::{Axioms, Facts};
 use mw_least::Ctx;
 use mw_term::{OpId, Statement, Term, View};
@@ -17,26 +18,54 @@ use std::alloc::{AllocError, Global};
 /// The equations with one operator on top of their canonical left sides, in order.
 #[derive(Drop)]
 pub struct Group {
-    pub list: Vec<Equation>,
+    pub list: Vec<Oriented>,
 }
 
-/// The executable equations of a module, by what their left sides are instances of.
+/// A rule, and where it is asked.
+#[derive(Drop)]
+pub struct Rule {
+    pub section: Section,
+    pub by: Oriented,
+}
+
+/// The executable equations of a module, by what their left sides are instances of; and its rules, in order.
 #[derive(Drop)]
 pub struct Index {
     /// By the operator that stays on top of each instance of the left side.
     by_top: Vec<Group>,
     /// Those whose instances may have any operator on top.
-    any: Vec<Equation>,
+    any: Vec<Oriented>,
     /// Those whose left side is a numeral or a quoted identifier.
-    leaves: Vec<Equation>,
+    leaves: Vec<Oriented>,
+    rules: Vec<Rule>,
 }
 
-/// Where an equation is listed.
+/// For which terms a statement is asked.
 #[derive(Clone, Copy)]
 pub enum Section {
+    /// Those with this operator on top.
     Operator(OpId),
+    /// All.
     Any,
+    /// Those without an operator.
     Leaves,
+}
+
+impl Section {
+    /// Whether it is asked for terms with this operator on top, or with none.
+    #[inline(always)]
+    pub fn asks(self, top: Option<OpId>) -> bool
+        ensures { IsTrue result ↔ Asks self top }
+    {
+        match self {
+            Section::Operator(operator) => match top {
+                Some(found) => found == operator,
+                None => false,
+            },
+            Section::Any => true,
+            Section::Leaves => top.is_none(),
+        }
+    }
 }
 
 /// Whether an operator stays on top, whatever its arguments become.
@@ -52,7 +81,7 @@ fn stays(facts: &Facts, operator: OpId) -> bool
     }
 }
 
-/// Where an equation with this canonical left side is listed.
+/// Where a statement with this canonical left side is listed.
 fn section_of(facts: &Facts, left: &Term) -> Section
     ensures { IsSectionOf facts.now left.now result }
 {
@@ -72,26 +101,24 @@ fn section_of(facts: &Facts, left: &Term) -> Section
 
 impl Index {
     fn none(alloc: Global) -> Index
-        ensures { (top : Option ℕ) → asked result top ≡ [] }
+        ensures equations { (top : Option ℕ) → asked result top ≡ [] }
+        ensures rules { result.rules.items ≡ [] }
     {
         Index {
             by_top: Vec::new(alloc),
             any: Vec::new(alloc),
             leaves: Vec::new(alloc),
+            rules: Vec::new(alloc),
         }
     }
 
     /// Puts an equation behind those with this operator on top.
-    fn put_under(
-        &mut self,
-        alloc: Global,
-        operator: OpId,
-        equation: Equation,
-    ) -> Result<(), AllocError>
-        ensures here { OnOk result (listed self.new operator ≡ listed self.old operator ++ equation ∷ []) }
+    fn put_under(&mut self, alloc: Global, operator: OpId, by: Oriented) -> Result<(), AllocError>
+        ensures here { OnOk result (listed self.new operator ≡ listed self.old operator ++ by ∷ []) }
         ensures others { OnOk result ((f : ℕ) → f ≢ operator → listed self.new f ≡ listed self.old f) }
         ensures any { self.new.any.items ≡ self.old.any.items }
         ensures leaves { self.new.leaves.items ≡ self.old.leaves.items }
+        ensures rules { self.new.rules.items ≡ self.old.rules.items }
     {
         while self.by_top.len() <= operator as usize {
             let group = Group {
@@ -100,48 +127,59 @@ impl Index {
             self.by_top.push(group)?;
         }
         let group = &mut self.by_top[operator as usize];
-        group.list.push(equation)?;
+        group.list.push(by)?;
         Ok(())
     }
 
-    fn put(&mut self, alloc: Global, section: Section, equation: Equation) -> Result<(), AllocError>
-        ensures { OnOk result (Puts section equation self.old self.new) }
+    fn put(&mut self, alloc: Global, section: Section, by: Oriented) -> Result<(), AllocError>
+        ensures { OnOk result (Puts section by self.old self.new) }
     {
         match section {
             Section::Operator(operator) => {
-                self.put_under(alloc, operator, equation)?;
+                self.put_under(alloc, operator, by)?;
                 Ok(())
             }
             Section::Any => {
-                self.any.push(equation)?;
+                self.any.push(by)?;
                 Ok(())
             }
             Section::Leaves => {
-                self.leaves.push(equation)?;
+                self.leaves.push(by)?;
                 Ok(())
             }
         }
     }
 
-    /// Lists a statement, if it is an executable equation.
+    fn put_rule(&mut self, section: Section, by: Oriented) -> Result<(), AllocError>
+        ensures { OnOk result (PutsRule (record { section = section; by = by }) self.old self.new) }
+    {
+        self.rules.push(Rule { section, by })?;
+        Ok(())
+    }
+
+    /// Lists a statement, if it is executable.
     fn list(&mut self, alloc: Global, context: &Ctx, at: usize) -> Result<(), AllocError>
         requires { at < length context.now.statements }
         ensures { OnOk result (IsIndexUpTo context.now at self.old → IsIndexUpTo context.now (at + 1) self.new) }
     {
         context.shows();
         let statement = &context.statements()[at];
-        if !statement.executable || statement.rule {
+        if !statement.executable {
             return Ok(());
         }
         let facts = context.facts();
         let left = normal(alloc, facts, &statement.left)?;
         let section = section_of(facts, &left);
-        let equation = equation_of(alloc, context, section, at + 1, statement, &left)?;
-        self.put(alloc, section, equation)?;
+        let by = oriented(alloc, context, section, at + 1, statement, &left)?;
+        if statement.rule {
+            self.put_rule(section, by)?;
+            return Ok(());
+        }
+        self.put(alloc, section, by)?;
         Ok(())
     }
 
-    /// The index of a module's equations.
+    /// The index of a module's statements.
     pub fn of(alloc: Global, context: &Ctx) -> Result<Index, AllocError>
         ensures { IfOk result (IsIndexOf context.now) }
     {
@@ -152,8 +190,15 @@ impl Index {
         Ok(index)
     }
 
+    /// Its executable rules, in the order of the module.
+    pub fn rules(&self) -> &[Rule]
+        ensures { (M : Module) → IsIndexOf M self.now → AreRulesOf M result.now }
+    {
+        self.rules.as_slice()
+    }
+
     #[inline(always)]
-    fn under(&self, operator: OpId) -> &[Equation]
+    fn under(&self, operator: OpId) -> &[Oriented]
         ensures { result.now ≡ listed self.now operator }
     {
         match self.by_top.get(operator as usize) {
@@ -164,7 +209,7 @@ impl Index {
 
     /// The equations that are asked for terms with an operator on top, or with none: two lists in order.
     #[inline(always)]
-    fn lists(&self, top: Option<OpId>) -> (&[Equation], &[Equation])
+    fn lists(&self, top: Option<OpId>) -> (&[Oriented], &[Oriented])
         ensures own { result.0.now ≡ own_asked self.now top }
         ensures others { result.1.now ≡ others_asked self.now top }
     {
@@ -177,7 +222,7 @@ impl Index {
     /// The next of the equations that are asked for terms with an operator on top, or with none, in the order of the
     /// module: where so many of the operator's own and so many others were passed. Whether it is one of its own.
     #[inline(always)]
-    pub fn at(&self, top: Option<OpId>, own: usize, others: usize) -> Option<(&Equation, bool)>
+    pub fn at(&self, top: Option<OpId>, own: usize, others: usize) -> Option<(&Oriented, bool)>
         ensures is { let a = own_asked self.now top in let b = others_asked self.now top in
             MatchOption result ((length a ≤ own) × (length b ≤ others)) (λ r. IsNextOf (slice_get a own) (slice_get b others) r.0.now r.1) }
         ensures bound { IfSome result (λ r. (r.1 ≡ true → own + 1 < 2 ^ 64) × (r.1 ≡ false → others + 1 < 2 ^ 64)) }
@@ -190,11 +235,11 @@ impl Index {
 /// The next of two lists by number, the first list's where so many of the first and so many of the second were passed.
 #[inline(always)]
 fn next_of<'m>(
-    first: &'m [Equation],
-    second: &'m [Equation],
+    first: &'m [Oriented],
+    second: &'m [Oriented],
     own: usize,
     others: usize,
-) -> Option<(&'m Equation, bool)>
+) -> Option<(&'m Oriented, bool)>
     ensures is { MatchOption result ((length first.now ≤ own) × (length second.now ≤ others))
         (λ r. IsNextOf (slice_get first.now own) (slice_get second.now others) r.0.now r.1) }
     ensures bound { IfSome result (λ r. (r.1 ≡ true → own + 1 < 2 ^ 64) × (r.1 ≡ false → others + 1 < 2 ^ 64)) }

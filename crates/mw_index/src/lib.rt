@@ -1,6 +1,6 @@
-//! An index of a module's equations, and the choices that they leave at a term, modulo the axioms of any accepted
-//! signature. A choice is an equation with values of its left side's variables that make the left side the term, or
-//! several of the term's arguments; whether the equation's condition holds isn't asked here.
+//! An index of a module's statements, and the choices that they leave at a term, modulo the axioms of any accepted
+//! signature. A choice is a statement with values of its left side's variables that make the left side the term, or
+//! several of the term's arguments; whether the statement's condition holds isn't asked here.
 //!
 //! - [`Index::of`] lists the executable equations by the operator on top of their canonical left sides. Where that
 //!   operator has an identity or is the successor of numbers, and where the left side is a variable, an instance may
@@ -8,8 +8,11 @@
 //!   identifier is asked for terms without an operator. Contracts see `asked`: what is asked for terms with an operator
 //!   on top, or with none. All of it are equations of the module (`IsOf`), and for each term that an equation applies
 //!   to, or applies to several arguments of, it is among what is asked (`IsIndexOf`).
-//! - An [`Equation`] has its canonical sides as patterns, the right one with positions for all variables of the
-//!   statement, of which those of the left side are the first (`IsEquation`). Its left side is compared argument by
+//! - `Index::rules` lists the executable rules, in the order of the module, each with its [`Section`], which tells for
+//!   which terms it is asked by the same rule: each rule is there, and asked for each term that it applies to, or
+//!   applies to several arguments of (`AreRulesOf`).
+//! - An [`Oriented`] statement has its canonical sides as patterns, the right one with positions for all variables of the
+//!   statement, of which those of the left side are the first (`IsOriented`). Its left side is compared argument by
 //!   argument where the operator on top has no axiom and no other one has but the successor of numbers (`Left::Plain`),
 //!   and searched for else (`Left::Searched`).
 //! - Its [`Condition`] has a [`Test`] for each fragment, in their order (`IsConditionOf`, specs/Conditions), with the
@@ -17,11 +20,13 @@
 //!   side, and behind them those that the patterns of matches before the test add. A match's pattern is compiled behind
 //!   these (mw_compile). In the end all variables of the statement are bound (`all_bound`), each once (proofs/Bound);
 //!   `order` has their places where the statement has them in another order.
-//! - [`Choices`] gives the choices at a term, one after another. What contracts see is `Covers`, of the choices that
-//!   were tried: each solution of an equation that was passed, for the term or a top part of it, is the same as one of
-//!   these. It holds at the beginning of none tried. `next` answers a choice (`IsChoice`: a solution of the left side
-//!   of an executable equation for a part of the term, by canonical values) and stands where that one is tried too; or
-//!   None, and then each solution of each executable equation at each top part of the term was tried (`AreAllTried`).
+//! - [`Choices`] gives the choices that equations leave at a term, one after another. What contracts see is `Covers`,
+//!   of the choices that were tried: each solution of an equation that was passed, for the term or a top part of it, is
+//!   the same as one of these. It holds at the beginning of none tried. `next` answers a choice (`IsChoice`: a solution
+//!   of the left side of an executable equation for a part of the term, by canonical values) and stands where that one
+//!   is tried too; or None, and then each solution of each executable equation at each top part of the term was tried
+//!   (`AreAllTried`).
+//!   `ask` does the same for one statement alone, and says the same of it (`IsAnswer`).
 //!
 //! Conditions: what `next` says of choices is of canonical terms that mean ground raw terms (`IsValue`). That the
 //! equation of a choice is one of the module's, for what is on top of the term (`IsOf`), and how many values it has, is
@@ -42,16 +47,16 @@
 
 mod choices;
 mod conditions;
-mod equations;
 mod index;
 mod making;
 mod normal;
 mod order;
+mod oriented;
 mod patterns;
 mod subject;
 
 pub use choices::{Choice, Choices};
 pub use conditions::{Condition, Matched, Side, Test};
-pub use equations::{Equation, Left, Searched};
-pub use index::Index;
+pub use index::{Index, Rule, Section};
+pub use oriented::{Left, Oriented, Searched};
 pub use subject::Subject;

@@ -1,16 +1,17 @@
-// Equations from statements.
+// Statements as they are indexed, from those of a module.
 ghost use Rattle.std.specs.Prelude.{◌≡◌, ℕ, [], Option, Some, length, map, IfOk, IsTrue};
 ghost use Rattle.mw_logic.specs.Module.{IsStatement};
 ghost use Rattle.mw_logic.specs.NormalForm.{normal_form};
 ghost use Rattle.mw_position.specs.Variables.{met, place, AreDistinct};
-ghost use Rattle.mw_index.specs.Equations.{IsLeft, IsSearchedLeft, HasFreeLeft, IsEquation};
-ghost use Rattle.mw_index.specs.Sections.{AreIn, Asks, IsSectionOf};
+ghost use Rattle.mw_index.specs.Index.{Asks};
+ghost use Rattle.mw_index.specs.Oriented.{IsLeft, IsSearchedLeft, HasFreeLeft, IsOriented};
+ghost use Rattle.mw_index.specs.Sections.{AreIn, IsSectionOf};
 
 use crate::conditions::condition_of;
-use crate::equations::{Equation, Left, Searched};
 use crate::index::Section;
 use crate::normal::normal;
 use crate::order::{left_places, order_of};
+use crate::oriented::{Left, Oriented, Searched};
 use crate::patterns::{are_free, is_free, pattern_of, plain_arguments};
 use mw_canon::Facts;
 use mw_compile::compile;
@@ -56,7 +57,7 @@ fn order_among(
     Ok(order)
 }
 
-/// The left side, with these variables, of an equation that is listed in a section.
+/// The left side, with these variables, of a statement that is listed in a section.
 fn left_of(
     alloc: Global,
     context: &Ctx,
@@ -93,21 +94,21 @@ fn is_sure(facts: &Facts, left: &Left) -> bool
     }
 }
 
-/// The equation of a statement with this canonical left side, for a section.
-pub fn equation_of(
+/// A statement with this canonical left side, as it is indexed, for a section.
+pub fn oriented(
     alloc: Global,
     context: &Ctx,
     section: Section,
     number: usize,
     statement: &Statement,
     left: &Term,
-) -> Result<Equation, AllocError>
+) -> Result<Oriented, AllocError>
     requires statement { IsStatement context.now number statement.now }
     requires left { left.now ≡ normal_form context.now.signature statement.now.left }
     requires section { IsSectionOf context.now.signature left.now section }
     ensures number { IfOk result (λ st. st.number ≡ number) }
     ensures is { let sig = context.now.signature in
-        IfOk result (λ st. (top : Option ℕ) → Asks section top → IsEquation sig top statement.now st) }
+        IfOk result (λ st. (top : Option ℕ) → Asks section top → IsOriented sig top statement.now st) }
 {
     context.shows();
     let places = Places::new(alloc, statement.variables.as_slice())?;
@@ -120,8 +121,9 @@ pub fn equation_of(
     let sure = is_sure(context.facts(), &left);
     let sorts = lefts.sorts(alloc)?;
     let condition = condition_of(alloc, context, number, statement, &places)?;
-    Ok(Equation {
+    Ok(Oriented {
         number,
+        rule: statement.rule,
         left,
         sure,
         right,

@@ -1,6 +1,6 @@
 -- The variables and the sides of conditions.
-use Rattle.std.specs.Prelude.{List, [], ◌∷◌, Bool, ◌||◌, false, IsTrue, ⊤}
-use Rattle.mw_logic.specs.Term.{Variable, RawTerm}
+use Rattle.std.specs.Prelude.{List, [], ◌∷◌, Bool, ◌||◌, false, ⊤}
+use Rattle.mw_logic.specs.Term.{Variable}
 use Rattle.mw_logic.specs.Signature.{Signature, IsRawTerm}
 use Rattle.mw_logic.specs.Accepted.{number_of_sort}
 use Rattle.mw_logic.specs.Preregular.{IsSortOf}

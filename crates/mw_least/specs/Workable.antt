@@ -1,6 +1,6 @@
 -- The modules that contexts hold: their signature is preregular modulo its axioms, its built-in operators are tests of equality and choices with the truth
--- values that they need, and the variables of their equations are bound in turn.
-use Rattle.std.specs.Prelude.{ℕ, ◌≡◌, ◌||◌, [], false, IsTrue, Some}
+-- values that they need, and the variables of their statements are bound in turn.
+use Rattle.std.specs.Prelude.{ℕ, ◌≡◌, ◌||◌, false, IsTrue, Some}
 use Rattle.mw_logic.specs.Term.{Variable, variable}
 use Rattle.mw_logic.specs.Signature.{Signature, at_number, HasKind, IsRawTerm}
 use Rattle.mw_logic.specs.Axioms.{EqualModulo}
@@ -20,10 +20,9 @@ pub record AreSides (sig : Signature) (e : Statement) : Type 0 where
   pub fragments : AreRawFragments sig e.fragments
   pub sorts : (x : Variable) → IsTrue ((occurs x e.left || occurs x e.right) || occurs_among x e.fragments) → IsSortOf sig x.sort
 
--- An equation that isn't `owise`. Its left side isn't a variable, modulo the axioms. Each side of its condition has variables of the left side, or of the
--- pattern of a match before it; the right side has variables of the left side, or of the pattern of a match.
-pub record IsOrdinaryEquation (sig : Signature) (e : Statement) : Type 0 where
-  pub equation : e.rule ≡ false
+-- An equation or a rule that isn't `owise`. Its left side isn't a variable, modulo the axioms. Each side of its condition has variables of the left side, or
+-- of the pattern of a match before it; the right side has variables of the left side, or of the pattern of a match.
+pub record IsOrdinary (sig : Signature) (e : Statement) : Type 0 where
   pub ordinary : e.owise ≡ false
   pub not_lone : (x : Variable) → EqualModulo sig e.left (variable x) → ⊥
   pub variables : e.variables ≡ mentioned e
@@ -36,4 +35,4 @@ pub record IsWorkable (M : Module) : Type 0 where
   pub numbers : HasItsSorts M.signature
   pub built : HasBuiltIns M.signature
   pub sides : (k : ℕ) (e : Statement) → at_number M.statements k ≡ Some e → AreSides M.signature e
-  pub equations : (k : ℕ) (e : Statement) → IsStatement M k e → IsOrdinaryEquation M.signature e
+  pub statements : (k : ℕ) (e : Statement) → IsStatement M k e → IsOrdinary M.signature e

@@ -6,7 +6,7 @@
 //!
 //! - `Ctx::new` makes the module of the given signature and statements. Conditions: it is workable (`IsWorkable`,
 //!   specs/Workable: preregular modulo its axioms, its built-in operators are tests of equality and choices, the
-//!   variables of its equations are bound in turn, also those of their conditions), the order is that of the
+//!   variables of its statements are bound in turn, also those of their conditions), the order is that of the
 //!   signature's sorts, the tables are the signature's. `shows` hands out that it is workable; so it is well-formed
 //!   (proofs/WellFormed).
 //! - `signature`, `facts`, `statements`, `order`, `schemata` are those of the module.

@@ -22,12 +22,12 @@ use Rattle.mw_module.specs.Openings.{opening_of}
 use Rattle.mw_module.specs.OperatorNames.{items_in, is_name, fits, all_fit}
 use Rattle.mw_module.specs.Attributes.{Attributes, no_attributes, joined, in_range, precedence_of, precedence_in, is_mark, said_as}
 use Rattle.mw_module.specs.Sortings.{WrittenSort, sorting_of, sortings_of}
-use Rattle.mw_module.specs.Equations.{unlabelled, attributes_len, group_at_end}
+use Rattle.mw_module.specs.Statements.{unlabelled, attributes_len, group_at_end}
 use Rattle.mw_module.specs.Conditions.{cut_at_if}
 use Rattle.mw_module.specs.Known.{IsNameFor, IsMark, IsPrecedence, IsGather, AreAttributes, IsKnown}
 use Rattle.mw_module.specs.Parts.{IsFine, AreParts}
 use Rattle.mw_module.specs.Reading.{then_of, tokens_of, has_marks, is_fine, read_at, lists_of, first_token, divided_at}
-use Rattle.mw_module.specs.Forms.{Shape, Import, Sorts, Operators, Formed, Shaped, import_form, grouped, typed, typed_names, said_from, Value, valued_with, valued, value_form, Profile, profiled, profile_form, declared, names_form, operators_form, fragments_form, sided, conditional, stated, equation_form, form_behind, formed, form_of}
+use Rattle.mw_module.specs.Forms.{Shape, Import, Sorts, Operators, Formed, Shaped, import_form, grouped, typed, typed_names, said_from, Value, valued_with, valued, value_form, Profile, profiled, profile_form, declared, names_form, operators_form, fragments_form, sided, left_place, conditional, stated, statement_form, form_behind, formed, form_of}
 use Rattle.mw_module.proofs.Parts.{then_holds, parts_read}
 
 abbrev pub IsKnownWhereFormed : Formed → Type 0
@@ -268,20 +268,20 @@ variables_known ts = of (colon == length ts)
     of true = tt
     of false = typed_names_known (take colon ts) (drop (colon + 1) ts)
 
-sided_known : (sides : Option (List Token × List Token)) (condition : Option (List Token)) (said : List Token) → IfOk (sided sides condition said) IsKnown
-sided_known None condition said = tt
-sided_known (Some sides) condition said = behind_any (fragments_form condition) _ (λ fragments. behind_any (read_at place.Statement role.Silent want.Nothing said) _ (λ more. tt))
+sided_known : (rule : Bool) (sides : Option (List Token × List Token)) (condition : Option (List Token)) (said : List Token) → IfOk (sided rule sides condition said) IsKnown
+sided_known rule None condition said = tt
+sided_known rule (Some sides) condition said = behind_any (fragments_form condition) _ (λ fragments. behind_any (read_at place.Statement role.Silent want.Nothing said) _ (λ more. tt))
 
-conditional_known : (cut : Option (List Token × List Token)) (said : List Token) → IfOk (conditional cut said) IsKnown
-conditional_known None said = tt
-conditional_known (Some cut) said = sided_known (divided_at place.Left cut.0) (Some cut.1) said
+conditional_known : (rule : Bool) (cut : Option (List Token × List Token)) (said : List Token) → IfOk (conditional rule cut said) IsKnown
+conditional_known rule None said = tt
+conditional_known rule (Some cut) said = sided_known rule (divided_at (left_place rule) cut.0) (Some cut.1) said
 
-stated_known : (with_condition : Bool) (ts said : List Token) → IfOk (stated with_condition ts said) IsKnown
-stated_known true ts said = conditional_known (cut_at_if ts) said
-stated_known false ts said = sided_known (divided_at place.Left ts) None said
+stated_known : (rule with_condition : Bool) (ts said : List Token) → IfOk (stated rule with_condition ts said) IsKnown
+stated_known rule true ts said = conditional_known rule (cut_at_if ts) said
+stated_known rule false ts said = sided_known rule (divided_at (left_place rule) ts) None said
 
-equation_known : (with_condition : Bool) (ts : List Token) → IfOk (equation_form with_condition ts) IsKnown
-equation_known with_condition ts = let us = unlabelled ts in let n = attributes_len us in stated_known with_condition (take (length us - n) us) (group_at_end n us)
+statement_known : (rule with_condition : Bool) (ts : List Token) → IfOk (statement_form rule with_condition ts) IsKnown
+statement_known rule with_condition ts = let us = unlabelled ts in let n = attributes_len us in stated_known rule with_condition (take (length us - n) us) (group_at_end n us)
 
 import_known : (ts : List Token) → IfOk (import_form ts) IsKnown
 import_known [] = tt
@@ -298,8 +298,10 @@ behind_known opening.Subsorts ts = behind_any (read_at place.Group role.Words wa
 behind_known opening.Operator ts = operators_known true ts
 behind_known opening.Operators ts = operators_known false ts
 behind_known opening.Variables ts = variables_known ts
-behind_known opening.Equation ts = equation_known false ts
-behind_known opening.Conditional ts = equation_known true ts
+behind_known opening.Equation ts = statement_known false false ts
+behind_known opening.ConditionalEquation ts = statement_known false true ts
+behind_known opening.Rule ts = statement_known true false ts
+behind_known opening.ConditionalRule ts = statement_known true true ts
 behind_known opening.Import ts = import_known ts
 behind_known opening.Elsewhere ts = tt
 behind_known opening.Unread ts = tt

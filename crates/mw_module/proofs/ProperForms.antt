@@ -24,10 +24,10 @@ use Rattle.mw_module.specs.declared.table.Test.TheVariants as test
 use Rattle.mw_module.specs.Words.{is, texts, count_before, is_punctuation_word, is_quoted, is_no_piece}
 use Rattle.mw_module.specs.Openings.{opening_of}
 use Rattle.mw_module.specs.OperatorNames.{items_in, is_fine, is_name}
-use Rattle.mw_module.specs.Equations.{has_label, unlabelled, attributes_len, group_at_end}
+use Rattle.mw_module.specs.Statements.{has_label, unlabelled, attributes_len, group_at_end}
 use Rattle.mw_module.specs.Rows.{row}
 use Rattle.mw_module.specs.Reading.{then_of, tokens_of, followed, reading, read_at, lists_of, first_token, divided, divided_at}
-use Rattle.mw_module.specs.Forms.{Import, Sorts, Operators, import_form, grouped, typed, typed_names, Profile, profile_form, declared, names_form, fragments_form, sided, conditional, stated, equation_form, form_behind, form_of}
+use Rattle.mw_module.specs.Forms.{Import, Sorts, Operators, import_form, grouped, typed, typed_names, Profile, profile_form, declared, names_form, fragments_form, sided, left_place, conditional, stated, statement_form, form_behind, form_of}
 use Rattle.mw_module.specs.Conditions.{open_if, cut_at_if, unmatched, matched, fragment_of, fragments_of}
 use Rattle.mw_module.specs.Tokens.{HasProperTexts, HasProperParts}
 use Rattle.mw_module.proofs.Parts.{then_holds}
@@ -166,7 +166,7 @@ variables_proper : (colon : ℕ) (ts : List Token) (b : Bool) → AreTokens ts �
 variables_proper colon ts true all = tt
 variables_proper colon ts false all = typed_names_proper (take colon ts) (drop (colon + 1) ts) (All-take IsToken colon ts all)
 
--- equations
+-- equations and rules
 unlabelled_tokens : (ts : List Token) → AreTokens ts → AreTokens (unlabelled ts)
 unlabelled_tokens ts all = of (has_label ts)
   where
@@ -213,25 +213,25 @@ condition_proper : (condition : Option (List Token)) → IfSome condition AreTok
 condition_proper None all = All-nil HasProperTexts
 condition_proper (Some ts) all = any_holds (All HasProperTexts) (read_at place.Condition role.Words want.Nothing ts) _ (λ parts. fragments_proper ts parts all)
 
-sided_proper : (sides : Option (List Token × List Token)) (condition : Option (List Token)) (said : List Token) → IfSome sides AreHalves → IfSome condition AreTokens → IfOk (sided sides condition said) HasProperParts
-sided_proper None condition said two all = tt
-sided_proper (Some sides) condition said two all =
+sided_proper : (rule : Bool) (sides : Option (List Token × List Token)) (condition : Option (List Token)) (said : List Token) → IfSome sides AreHalves → IfSome condition AreTokens → IfOk (sided rule sides condition said) HasProperParts
+sided_proper rule None condition said two all = tt
+sided_proper rule (Some sides) condition said two all =
     then_holds (All HasProperTexts) HasProperParts (fragments_form condition) _ (condition_proper condition all)
     (λ fragments each. any_holds HasProperParts (read_at place.Statement role.Silent want.Nothing said) _ (λ more. (two.0, two.1, each)))
 
-conditional_proper : (cut : Option (List Token × List Token)) (said : List Token) → IfSome cut AreHalves → IfOk (conditional cut said) HasProperParts
-conditional_proper None said two = tt
-conditional_proper (Some cut) said two = sided_proper (divided_at place.Left cut.0) (Some cut.1) said (halves_tokens place.Left cut.0 two.0) two.1
+conditional_proper : (rule : Bool) (cut : Option (List Token × List Token)) (said : List Token) → IfSome cut AreHalves → IfOk (conditional rule cut said) HasProperParts
+conditional_proper rule None said two = tt
+conditional_proper rule (Some cut) said two = sided_proper rule (divided_at (left_place rule) cut.0) (Some cut.1) said (halves_tokens (left_place rule) cut.0 two.0) two.1
 
-stated_proper : (with_condition : Bool) (ts said : List Token) → AreTokens ts → IfOk (stated with_condition ts said) HasProperParts
-stated_proper true ts said all = conditional_proper (cut_at_if ts) said (cut_tokens ts all)
-stated_proper false ts said all = sided_proper (divided_at place.Left ts) None said (halves_tokens place.Left ts all) tt
+stated_proper : (rule with_condition : Bool) (ts said : List Token) → AreTokens ts → IfOk (stated rule with_condition ts said) HasProperParts
+stated_proper rule true ts said all = conditional_proper rule (cut_at_if ts) said (cut_tokens ts all)
+stated_proper rule false ts said all = sided_proper rule (divided_at (left_place rule) ts) None said (halves_tokens (left_place rule) ts all) tt
 
-equation_proper : (with_condition : Bool) (ts : List Token) → AreTokens ts → IfOk (equation_form with_condition ts) HasProperParts
-equation_proper with_condition ts all =
+statement_proper : (rule with_condition : Bool) (ts : List Token) → AreTokens ts → IfOk (statement_form rule with_condition ts) HasProperParts
+statement_proper rule with_condition ts all =
     let us = unlabelled ts in
     let n = attributes_len us in
-    stated_proper with_condition (take (length us - n) us) (group_at_end n us) (All-take IsToken (length us - n) us (unlabelled_tokens ts all))
+    stated_proper rule with_condition (take (length us - n) us) (group_at_end n us) (All-take IsToken (length us - n) us (unlabelled_tokens ts all))
 
 -- the other forms
 grouped_proper : (ts : List Token) (parts : List Part) → IfOk (grouped ts parts) HasProperParts
@@ -259,8 +259,10 @@ behind_proper law opening.Subsorts ts all = any_holds HasProperParts (read_at pl
 behind_proper law opening.Operator ts all = operators_proper law true (count_before (codes ":") ts) ts (count_before (codes ":") ts == length ts) all
 behind_proper law opening.Operators ts all = operators_proper law false (count_before (codes ":") ts) ts (count_before (codes ":") ts == length ts) all
 behind_proper law opening.Variables ts all = variables_proper (count_before (codes ":") ts) ts (count_before (codes ":") ts == length ts) all
-behind_proper law opening.Equation ts all = equation_proper false ts all
-behind_proper law opening.Conditional ts all = equation_proper true ts all
+behind_proper law opening.Equation ts all = statement_proper false false ts all
+behind_proper law opening.ConditionalEquation ts all = statement_proper false true ts all
+behind_proper law opening.Rule ts all = statement_proper true false ts all
+behind_proper law opening.ConditionalRule ts all = statement_proper true true ts all
 behind_proper law opening.Import ts all = import_proper ts
 behind_proper law opening.Elsewhere ts all = tt
 behind_proper law opening.Unread ts all = tt

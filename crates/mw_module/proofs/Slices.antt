@@ -7,7 +7,7 @@ use Rattle.std.specs.List.{list_all}
 use Rattle.mw_lex.specs.declared.token.Token.{Token}
 use Rattle.mw_module.specs.Words.{seen_lists}
 use Rattle.mw_module.specs.OperatorNames.{items_in, fits, all_fit}
-use Rattle.mw_module.specs.Equations.{group_at_end}
+use Rattle.mw_module.specs.Statements.{group_at_end}
 
 -- what stands behind the first
 pub behind_first : (t : Token) (ts : List Token) → take (length (t ∷ ts) - 1) ts ≡ ts

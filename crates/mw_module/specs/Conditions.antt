@@ -1,4 +1,4 @@
--- The conditions of equations: where one begins, and its fragments.
+-- The conditions of equations and rules: where one begins, and its fragments.
 use Rattle.std.specs.Prelude.{ℕ, Bool, List, [], ◌∷◌, ◌+◌, ◌-◌, ◌==◌, ◌&&◌, map, take, drop, Option, None, Some, option_map, Result, Ok, Err, if◌then◌else◌, codes}
 use Rattle.std.specs.Global.{Vec}
 use Rattle.mw_lex.specs.declared.token.Token.{Token}

@@ -12,6 +12,7 @@ use Rattle.mw_module.specs.declared.operators.Profile.{Profile as HeldProfile}
 use Rattle.mw_module.specs.declared.machine.Part.{Part}
 use Rattle.mw_module.specs.declared.openings.Opening.{Opening}
 use Rattle.mw_module.specs.declared.openings.Opening.TheVariants as opening
+use Rattle.mw_module.specs.declared.table.Place.{Place}
 use Rattle.mw_module.specs.declared.table.Place.TheVariants as place
 use Rattle.mw_module.specs.declared.table.Role.TheVariants as role
 use Rattle.mw_module.specs.declared.table.Want.TheVariants as want
@@ -20,7 +21,7 @@ use Rattle.mw_module.specs.declared.table.Wrong.TheVariants.{Bad, Unread}
 use Rattle.mw_module.specs.Openings.{opening_of}
 use Rattle.mw_module.specs.OperatorNames.{all_fit}
 use Rattle.mw_module.specs.Attributes.{Attributes, seen_attributes, no_attributes, joined, said_as}
-use Rattle.mw_module.specs.Equations.{unlabelled, attributes_len, group_at_end}
+use Rattle.mw_module.specs.Statements.{unlabelled, attributes_len, group_at_end}
 use Rattle.mw_module.specs.Conditions.{WrittenFragment, seen_fragments, cut_at_if, Condition, condition_form}
 use Rattle.mw_module.specs.Reading.{told, then_of, tokens_of, read_at, lists_of, first_token, divided_at}
 use Rattle.mw_module.specs.Sortings.{WrittenSort, seen_sorting, seen_sortings, sorting_of, sortings_of}
@@ -34,8 +35,8 @@ pub data Shape : Type 0 where
   -- names, each as its tokens, sorts of arguments, the value's sort, and attributes
   Operators : List (List Token) → List WrittenSort → WrittenSort → Attributes → Shape
   Variables : List Token → Token → Shape
-  -- the sides, the fragments of the condition, if there is one, and whether it is executable
-  Equation : List Token → List Token → List WrittenFragment → Bool → Shape
+  -- whether it is a rule, the sides, the fragments of the condition, if there is one, and whether it is executable
+  Statement : Bool → List Token → List Token → List WrittenFragment → Bool → Shape
   -- a module's name
   Import : Token → Shape
 
@@ -45,7 +46,7 @@ shape_of (form.Sorts names) = Sorts names.now
 shape_of (form.Subsorts groups) = Subsorts (seen_lists groups.items)
 shape_of (form.Operators names args result attributes) = Operators (seen_lists names.items) (seen_sortings args.items) (seen_sorting result) (seen_attributes attributes)
 shape_of (form.Variables names sort) = Variables names.now sort.now
-shape_of (form.Equation left right fragments executable) = Equation left.now right.now (seen_fragments fragments.items) executable
+shape_of (form.Statement rule left right fragments executable) = Statement rule left.now right.now (seen_fragments fragments.items) executable
 shape_of (form.Import m) = Import m.now
 
 -- the form, or what is wrong
@@ -182,28 +183,34 @@ fragments_form (Some ts) = condition_form ts
 
 -- two sides, and what comes behind them: a condition, if there is one, and attributes, of which `nonexec` alone is a
 -- part
-abbrev pub sided : Option (List Token × List Token) → Option (List Token) → List Token → Shaped
-sided None condition said = Err Bad
-sided (Some sides) condition said = then_of (fragments_form condition) (λ fragments.
-    then_of (read_at place.Statement role.Silent want.Nothing said) (λ more. Ok (Equation sides.0 sides.1 fragments (length more == 0))))
+abbrev pub sided : Bool → Option (List Token × List Token) → Option (List Token) → List Token → Shaped
+sided rule None condition said = Err Bad
+sided rule (Some sides) condition said = then_of (fragments_form condition) (λ fragments.
+    then_of (read_at place.Statement role.Silent want.Nothing said) (λ more. Ok (Statement rule sides.0 sides.1 fragments (length more == 0))))
+
+-- the place where a left side begins: that of an equation ends at a `=`, that of a rule at a `=>`
+abbrev pub left_place : Bool → Place
+left_place false = place.Left
+left_place true = place.RuleLeft
 
 -- the same by the tokens of the sides; what is wrong with them is told first, and then what is wrong with the condition
-abbrev pub sides_form : List Token → Option (List Token) → List Token → Shaped
-sides_form sides condition said = sided (divided_at place.Left sides) condition said
+abbrev pub sides_form : Bool → List Token → Option (List Token) → List Token → Shaped
+sides_form rule sides condition said = sided rule (divided_at (left_place rule) sides) condition said
 
 -- sides and a condition, where there is one `if` between them
-abbrev pub conditional : Option (List Token × List Token) → List Token → Shaped
-conditional None said = Err Bad
-conditional (Some cut) said = sides_form cut.0 (Some cut.1) said
+abbrev pub conditional : Bool → Option (List Token × List Token) → List Token → Shaped
+conditional rule None said = Err Bad
+conditional rule (Some cut) said = sides_form rule cut.0 (Some cut.1) said
 
--- what an equation with a condition, or without, states in front of these attributes
-abbrev pub stated : Bool → List Token → List Token → Shaped
-stated true ts said = conditional (cut_at_if ts) said
-stated false ts said = sides_form ts None said
+-- what an equation or a rule, with a condition or without, states in front of these attributes
+abbrev pub stated : Bool → Bool → List Token → List Token → Shaped
+stated rule true ts said = conditional rule (cut_at_if ts) said
+stated rule false ts said = sides_form rule ts None said
 
--- `ceq`, `cq` and `eq`: a label, two sides, a condition behind `if` where the word asks for one, and attributes
-abbrev pub equation_form : Bool → List Token → Shaped
-equation_form with_condition ts = let us = unlabelled ts in let n = attributes_len us in stated with_condition (take (length us - n) us) (group_at_end n us)
+-- `eq`, `ceq`, `cq`, `rl` and `crl`: a label, two sides, a condition behind `if` where the word asks for one, and attributes
+abbrev pub statement_form : Bool → Bool → List Token → Shaped
+statement_form rule with_condition ts = let us = unlabelled ts in let n = attributes_len us in
+    stated rule with_condition (take (length us - n) us) (group_at_end n us)
 
 -- an import: a module's name and nothing more; module expressions aren't read
 abbrev pub import_form : List Token → Shaped
@@ -218,8 +225,10 @@ form_behind opening.Subsorts ts = subsorts_form ts
 form_behind opening.Operator ts = operators_form true ts
 form_behind opening.Operators ts = operators_form false ts
 form_behind opening.Variables ts = variables_form ts
-form_behind opening.Equation ts = equation_form false ts
-form_behind opening.Conditional ts = equation_form true ts
+form_behind opening.Equation ts = statement_form false false ts
+form_behind opening.ConditionalEquation ts = statement_form false true ts
+form_behind opening.Rule ts = statement_form true false ts
+form_behind opening.ConditionalRule ts = statement_form true true ts
 form_behind opening.Import ts = import_form ts
 form_behind opening.Elsewhere ts = Err Bad
 form_behind opening.Unread ts = Err Unread

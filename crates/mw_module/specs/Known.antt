@@ -3,7 +3,7 @@ use Rattle.std.specs.Prelude.{◌≡◌, ◌≢◌, ◌<◌, ◌⊎◌, ℕ, Boo
 use Rattle.mw_lex.specs.declared.token.Token.{Token}
 use Rattle.mw_text.specs.Names.{hole, count_holes}
 use Rattle.mw_module.specs.Attributes.{Attributes}
-use Rattle.mw_module.specs.Forms.{Shape, Sorts, Subsorts, Operators, Variables, Equation, Import}
+use Rattle.mw_module.specs.Forms.{Shape, Sorts, Subsorts, Operators, Variables, Statement, Import}
 use Rattle.mw_module.specs.OperatorNames.{items_in}
 use Rattle.mw_module.specs.Sortings.{WrittenSort}
 use Rattle.mw_module.specs.Units.{SeenLined, SeenUnit, Reads}
@@ -40,7 +40,7 @@ IsKnown (Sorts names) = Unit {0}
 IsKnown (Subsorts groups) = Unit {0}
 IsKnown (Operators names args value a) = AreOperators names args a
 IsKnown (Variables names sort) = Unit {0}
-IsKnown (Equation left right fragments executable) = Unit {0}
+IsKnown (Statement rule left right fragments executable) = Unit {0}
 IsKnown (Import m) = Unit {0}
 
 abbrev pub AreKnown : List SeenLined → Type 0

@@ -8,7 +8,7 @@ pub mod Attributes
 pub mod Reading
 pub mod Parts
 pub mod Sortings
-pub mod Equations
+pub mod Statements
 pub mod Conditions
 pub mod Forms
 pub mod Kinds

@@ -26,7 +26,8 @@ opening_of rules word = if bytes_eq word (codes "sort") || bytes_eq word (codes 
     else if bytes_eq word (codes "ops") then opening.Operators
     else if bytes_eq word (codes "var") || bytes_eq word (codes "vars") then opening.Variables
     else if bytes_eq word (codes "eq") then opening.Equation
-    else if bytes_eq word (codes "ceq") || bytes_eq word (codes "cq") then opening.Conditional
+    else if bytes_eq word (codes "ceq") || bytes_eq word (codes "cq") then opening.ConditionalEquation
     else if is_import word then opening.Import
-    else if rules && is_rule word then opening.Unread
+    else if rules && bytes_eq word (codes "rl") then opening.Rule
+    else if rules && bytes_eq word (codes "crl") then opening.ConditionalRule
     else if is_rule word || is_of_objects word then opening.Elsewhere else opening.Unread

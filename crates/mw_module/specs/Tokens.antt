@@ -6,7 +6,7 @@ use Rattle.mw_text.specs.Names.{name_of_tokens}
 use Rattle.mw_text.specs.Proper.{IsProperName}
 use Rattle.mw_module.specs.Words.{texts}
 use Rattle.mw_module.specs.Conditions.{WrittenFragment, Match, Equal, Other}
-use Rattle.mw_module.specs.Forms.{Shape, Sorts, Subsorts, Operators, Variables, Equation, Import}
+use Rattle.mw_module.specs.Forms.{Shape, Sorts, Subsorts, Operators, Variables, Statement, Import}
 use Rattle.mw_module.specs.Units.{SeenLined, SeenUnit, Reads}
 
 -- the texts of a fragment are made of tokens
@@ -21,7 +21,7 @@ HasProperParts (Sorts names) = All IsRun (texts names)
 HasProperParts (Subsorts groups) = ⊤
 HasProperParts (Operators names args result said) = All (λ (name : List Token). IsProperName (name_of_tokens (texts name))) names
 HasProperParts (Variables names sort) = All IsRun (texts names)
-HasProperParts (Equation left right fragments executable) = AreTokens left × AreTokens right × All HasProperTexts fragments
+HasProperParts (Statement rule left right fragments executable) = AreTokens left × AreTokens right × All HasProperTexts fragments
 HasProperParts (Import m) = ⊤
 
 abbrev pub AreProperStatements : List SeenLined → Type 0

@@ -1,4 +1,4 @@
-// Conditions of equations.
+// Conditions of equations and rules.
 ghost use Rattle.std.specs.Prelude.{◌≡◌, ◌<◌, length, option_map, IfSome, IfOk};
 ghost use Rattle.mw_module.specs.Words.{seen_halves};
 ghost use Rattle.mw_module.specs.Conditions.{seen_fragment, seen_fragments, seen_condition};

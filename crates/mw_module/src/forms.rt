@@ -4,12 +4,12 @@ ghost use Rattle.mw_module.specs.Forms as forms;
 
 use crate::attribute::Attributes;
 use crate::conditions::WrittenFragment;
-use crate::equations::equation_form;
 use crate::faults::FaultKind;
 use crate::machine::{first_token, lists_of, read};
 use crate::openings::{Opening, opening_of};
 use crate::operators::operators_form;
 use crate::sortings::WrittenSort;
+use crate::statements::statement_form;
 use crate::table::{Place, Read, Role, Want, Wrong, told};
 use crate::words::{count_before, is_word, tokens_from};
 use mw_lex::Token;
@@ -39,9 +39,10 @@ pub enum Form<'s> {
         names: &'s [Token],
         sort: &'s Token,
     },
-    /// The two sides of an equation, each of which may be empty, and the fragments of its condition: none where it has
-    /// no condition.
-    Equation {
+    /// The two sides of an equation, or of a rule, each of which may be empty, and the fragments of its condition: none
+    /// where it has no condition.
+    Statement {
+        rule: bool,
         left: &'s [Token],
         right: &'s [Token],
         fragments: Vec<WrittenFragment<'s>>,
@@ -133,8 +134,10 @@ fn form_behind<'s>(alloc: Global, opening: Opening, tokens: &'s [Token]) -> Read
         Opening::Operator => operators_form(alloc, true, tokens),
         Opening::Operators => operators_form(alloc, false, tokens),
         Opening::Variables => variables_form(alloc, tokens),
-        Opening::Equation => equation_form(alloc, false, tokens),
-        Opening::Conditional => equation_form(alloc, true, tokens),
+        Opening::Equation => statement_form(alloc, false, false, tokens),
+        Opening::ConditionalEquation => statement_form(alloc, false, true, tokens),
+        Opening::Rule => statement_form(alloc, true, false, tokens),
+        Opening::ConditionalRule => statement_form(alloc, true, true, tokens),
         Opening::Import => Ok(import_form(tokens)),
         Opening::Elsewhere => Ok(Err(Wrong::Bad)),
         Opening::Unread => Ok(Err(Wrong::Unread)),

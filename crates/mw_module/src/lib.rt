@@ -4,8 +4,8 @@
 //! statement goes to the first full stop. docs/LANGUAGE.md has the statements and attributes, docs/ERRORS.md the
 //! faults. What the words `fmod`, `mod`, `omod`, `fth`, `th`, `oth`, `view`, `smod` (and `proof`, where proofs are
 //! asked for) begin is found up to its own end word; of these functional and system modules are read, the others aren't
-//! in the profile. A system module may hold what a functional one does: its rules aren't read yet. Where the input ends
-//! first, a module, command or proof is unended; theories, views and strategy modules aren't in the profile.
+//! in the profile. A system module may hold rules besides what a functional one does. Where the input ends first, a
+//! module, command or proof is unended; theories, views and strategy modules aren't in the profile.
 //!
 //! - `read_unit` answers the unit that begins at a token, with its statements, or its fault; and the place of the next
 //!   one. Each statement is read once, by `Form::of`: its form, with slices of the source's tokens for its parts.
@@ -14,16 +14,18 @@
 //! - Statements are read by a table (table.rt, specs/Rows): each place in a statement has rows, and the first row that
 //!   a token meets says what becomes of it and where the next one stands. What is read is a list of parts, spans of
 //!   tokens with their roles. What is known only from behind, or from a word ahead, is cut off before: the names of
-//!   operators and variables end at the first colon, argument sorts at the first arrow; an equation's label and its
-//!   attributes (the group from the `[` that matches a last `]`, only these two counted, if its second token is an
-//!   attribute's) are taken off, and a counter of `( [ { if` and `) ] } fi`, never below 0, finds the `=`.
-//! - `ceq` and `cq` state an equation with a condition. What is left of its label and attributes is cut at the one `if`
-//!   that no `fi` closes, of all tokens only these two counted, a `fi` closing the last `if` that is open; where none
-//!   stays open, or several do, the statement is bad. Sides stand in front of it, divided as those of `eq` are, and the
-//!   condition behind it. Each `/\` that is outside by the counter above, from the condition's start on, divides it into
-//!   fragments; and a fragment is divided by the first such `:=`, also where a `=` stands in front of it, or else by the
-//!   first such `=`, or else is any other text: a sort test or a Boolean term. All these texts may be empty. A `=>`
-//!   outside isn't in the profile. What is wrong is told in this order: the `if`, the sides, the condition, attributes.
+//!   operators and variables end at the first colon, argument sorts at the first arrow; the label of an equation (`eq`)
+//!   or a rule (`rl`) and its attributes (the group from the `[` that matches a last `]`, only these two counted, if
+//!   its second token is an attribute's) are taken off, and a counter of `( [ { if` and `) ] } fi`, never below 0,
+//!   finds the `=` that divides an equation, or the `=>` that divides a rule.
+//! - `ceq` and `cq` state an equation with a condition, `crl` a rule with one. What is left of label and attributes is
+//!   cut at the one `if` that no `fi` closes, of all tokens only these two counted, a `fi` closing the last `if` that
+//!   is open; where none stays open, or several do, the statement is bad. Sides stand in front of it, divided as those
+//!   of `eq` or `rl` are, and the condition behind it. Each `/\` that is outside by the counter above, from the
+//!   condition's start on, divides it into fragments; and a fragment is divided by the first such `:=`, also where a
+//!   `=` stands in front of it, or else by the first such `=`, or else is any other text: a sort test or a Boolean
+//!   term. All these texts may be empty. A `=>` outside in a condition isn't in the profile. What is wrong is told in
+//!   this order: the `if`, the sides, the condition, attributes.
 //! - `op` has one name of one or more tokens, `ops` one or more, each a token or the tokens of a group in parentheses,
 //!   of which only parentheses are counted.
 //! - `Attributes` holds what a list says: the axioms, with the token that names an identity, a precedence, a gather,
@@ -50,7 +52,6 @@
 
 mod attribute;
 mod conditions;
-mod equations;
 mod faults;
 mod forms;
 mod kinds;
@@ -59,6 +60,7 @@ mod openings;
 mod operator_names;
 mod operators;
 mod sortings;
+mod statements;
 mod table;
 mod units;
 mod words;

@@ -13,11 +13,13 @@ pub enum Opening {
     Operators,
     Variables,
     Equation,
-    Conditional,
+    ConditionalEquation,
+    Rule,
+    ConditionalRule,
     Import,
     /// A statement of other kinds of modules.
     Elsewhere,
-    /// A statement that isn't read yet, or no statement's word.
+    /// No word of a statement that is read.
     Unread,
 }
 
@@ -68,11 +70,13 @@ pub fn opening_of(rules: bool, word: &[u8]) -> Opening
     } else if same(word, b"eq") {
         Opening::Equation
     } else if same(word, b"ceq") || same(word, b"cq") {
-        Opening::Conditional
+        Opening::ConditionalEquation
     } else if is_import(word) {
         Opening::Import
-    } else if rules && is_rule(word) {
-        Opening::Unread
+    } else if rules && same(word, b"rl") {
+        Opening::Rule
+    } else if rules && same(word, b"crl") {
+        Opening::ConditionalRule
     } else if is_rule(word) || is_of_objects(word) {
         Opening::Elsewhere
     } else {

@@ -39,8 +39,10 @@ pub enum Place {
     Format,
     Formatted,
     Metadata,
-    /// In the sides of an equation, or of a fragment of a condition that is one.
+    /// In the left side of an equation, or of a fragment of a condition that is one; and in that of a rule.
     Left,
+    RuleLeft,
+    /// In the right side.
     Right,
     /// In the pattern of a fragment that is a match.
     Pattern,
@@ -276,6 +278,18 @@ pub fn entry_of(place: Place) -> Entry
             Row { word: b"}", test: Any, act: Shallower, next: Ok(Place::Left) },
             Row { word: b"fi", test: Any, act: Shallower, next: Ok(Place::Left) },
             Row { word: b"", test: Any, act: Skip, next: Ok(Place::Left) },
+        ] },
+        Place::RuleLeft => Entry { end: Never, rows: &[
+            Row { word: b"=>", test: Outside, act: Next(Role::Words), next: Ok(Place::Right) },
+            Row { word: b"(", test: Any, act: Deeper, next: Ok(Place::RuleLeft) },
+            Row { word: b"[", test: Any, act: Deeper, next: Ok(Place::RuleLeft) },
+            Row { word: b"{", test: Any, act: Deeper, next: Ok(Place::RuleLeft) },
+            Row { word: b"if", test: Any, act: Deeper, next: Ok(Place::RuleLeft) },
+            Row { word: b")", test: Any, act: Shallower, next: Ok(Place::RuleLeft) },
+            Row { word: b"]", test: Any, act: Shallower, next: Ok(Place::RuleLeft) },
+            Row { word: b"}", test: Any, act: Shallower, next: Ok(Place::RuleLeft) },
+            Row { word: b"fi", test: Any, act: Shallower, next: Ok(Place::RuleLeft) },
+            Row { word: b"", test: Any, act: Skip, next: Ok(Place::RuleLeft) },
         ] },
         Place::Right => Entry { end: Closes, rows: &[
             Row { word: b"", test: Any, act: Skip, next: Ok(Place::Right) },

@@ -28,7 +28,7 @@ use Rattle.mw_position.specs.Variables.{is_in, met, placed, sorts_of, AreDistinc
 use Rattle.mw_position.proofs.Placing.{values_of}
 use Rattle.mw_pattern.specs.Clean.{clean}
 use Rattle.mw_least.specs.Conditions.{occurs_among, binds_among}
-use Rattle.mw_least.specs.Workable.{IsOrdinaryEquation, IsWorkable}
+use Rattle.mw_least.specs.Workable.{IsOrdinary, IsWorkable}
 use Rattle.mw_least.proofs.Mentioned.{is_mentioned}
 use Rattle.mw_index.specs.Choices.{IsTaken, in_order, tried_of}
 use Rattle.mw_index.specs.Conditions.{AreTests, all_bound}
@@ -37,12 +37,12 @@ use Rattle.mw_index.proofs.Bound.{bound_distinct, bound_variables_are, unconditi
 use Rattle.mw_index.proofs.ByTest.{of_none, put_in_order}
 use Rattle.mw_index.proofs.Sides.{lefts_distinct, in_lefts, left_raw, variables_distinct}
 use Rattle.mw_index.proofs.Trying.{one_statement}
-use Rattle.mw_index.specs.Equations.{IsLeft, HasFreeLeft}
+use Rattle.mw_index.specs.Oriented.{IsLeft, HasFreeLeft}
 use Rattle.mw_index.specs.Index.{operator_of}
 use Rattle.mw_index.specs.Free as index
 use Rattle.mw_index.specs.declared.choices.Choice.{Choice}
-use Rattle.mw_index.specs.declared.equations.Left.{Left}
-use Rattle.mw_index.specs.declared.equations.Left.TheVariants.{Plain, Searched}
+use Rattle.mw_index.specs.declared.oriented.Left.{Left}
+use Rattle.mw_index.specs.declared.oriented.Left.TheVariants.{Plain, Searched}
 use Rattle.mw_frames.specs.Free as frames
 use Rattle.mw_frames.specs.Redex.{AreShowing, IsRedex, IsRowOf}
 use Rattle.mw_deduction.specs.Replay.{Move}
@@ -122,7 +122,7 @@ nothing_shown M n C s e S B stands rank ready = record {
 }
 
 -- each variable stands in the left side then
-left_alone : (sig : Signature) (e : Statement) → IsOrdinaryEquation sig e → e.fragments ≡ [] → (x : Variable) → IsTrue (is_in x e.variables) → IsFalse (occurs x e.left) → ⊥
+left_alone : (sig : Signature) (e : Statement) → IsOrdinary sig e → e.fragments ≡ [] → (x : Variable) → IsTrue (is_in x e.variables) → IsFalse (occurs x e.left) → ⊥
 left_alone sig e is none x h k =
     both_ways _ k (⊎_elim (λ o. o) (λ o. subst (λ C. IsTrue (binds_among (λ y. occurs y e.left) C x)) none (is.bound x o)) (or_cases (occurs x e.left) (occurs x e.right) within))
   where
@@ -140,7 +140,7 @@ module _ (M : Module) (work : IsWorkable M) (t : RawTerm) (c : Choice) (h : IsTr
   e = h.choice.statement
 
   abbrev number : ℕ
-  number = c.equation.now.number
+  number = c.by.now.number
 
   abbrev there : IsStatement M number e
   there = h.choice.is_there
@@ -149,7 +149,7 @@ module _ (M : Module) (work : IsWorkable M) (t : RawTerm) (c : Choice) (h : IsTr
   lefts = met [] e.left
 
   abbrev tests : List Test
-  tests = c.equation.now.condition.tests
+  tests = c.by.now.condition.tests
 
   abbrev us : List RawTerm
   us = c.values.items
@@ -184,13 +184,14 @@ module _ (M : Module) (work : IsWorkable M) (t : RawTerm) (c : Choice) (h : IsTr
   -- without a condition it applies
   pub made_at_once : (n : ℕ) → tests ≡ [] → IsMade M n t c []
   made_at_once n bare =
-      let ordinary = work.equations number e there in
+      let ordinary = work.statements number e there in
       let none : e.fragments ≡ [] = no_fragments bare in
       let all : e.variables ≡ lefts = unconditional_variables M work number e there none in
       let same : s ≡ meant sig (zip e.variables us) = ap (λ xs. meant sig (zip xs us)) (sym all) in
       record {
         part = w;
         taken = taken_same sig c.take t w h.choice.taken;
+        rule = sym h.choice.is.rule;
         redex = record {
           statement = e;
           is_there = there;
@@ -208,16 +209,16 @@ module _ (M : Module) (work : IsWorkable M) (t : RawTerm) (c : Choice) (h : IsTr
           found = λ x i k. absurd (left_alone sig e ordinary none x i k);
           right = h.choice.is.right;
         };
-        free = λ k. free_same sig (clean c.equation.now.right) (h.choice.is.free k);
+        free = λ k. free_same sig (clean c.by.now.right) (h.choice.is.free k);
         levels = h.choice.is.levels;
         sure = λ k no.
-            let (f, ps, left, free) = free_left sig (operator_of t) e c.equation.now.left h.choice.is.left (h.choice.is.sure k) in
+            let (f, ps, left, free) = free_left sig (operator_of t) e c.by.now.left h.choice.is.left (h.choice.is.sure k) in
             record { operator = f; patterns = ps; left = left ∙ ap (λ xs. placed xs (normal_form sig e.left)) (sym all); free = free; found = λ x z k. absurd (left_alone sig e ordinary none x z k) };
       }
 
   -- where its condition holds, by values of all variables that are put in order
   pub made_so : (m : ℕ) (x : Test) → slice_get tests 0 ≡ Some x → (new : Choice) → new ≡ record c { values = new.values } → (ws : List RawTerm) (sides : List Reduced) (trails : List Track) → IsHeldBy M m e tests s ws sides → trail_moves M trails ≡ all_moves M sides
-      → MatchOption c.equation.now.condition.order (new.values.items ≡ ws) (λ ns. new.values.items ≡ in_order ws ns) → IsMade M (suc m) t new trails
+      → MatchOption c.by.now.condition.order (new.values.items ≡ ws) (λ ns. new.values.items ≡ in_order ws ns) → IsMade M (suc m) t new trails
   made_so m x some new is_new ws sides trails held shows put =
       let bs : List Variable = all_bound lefts tests in
       let xs : List Variable = e.variables in
@@ -225,15 +226,15 @@ module _ (M : Module) (work : IsWorkable M) (t : RawTerm) (c : Choice) (h : IsTr
       let r : Substitution = bound_to sig bs ws in
       let distinct : AreDistinct bs = bound_distinct M work number e there tests condition.tests in
       let vs : List RawTerm = new.values.items in
-      let ordered : vs ≡ values_of (zip bs ws) xs = in_their_order ws c.equation.now.condition.order put (put_in_order M work number e there c.equation.now.condition condition ws held.bound.size) in
+      let ordered : vs ≡ values_of (zip bs ws) xs = in_their_order ws c.by.now.condition.order put (put_in_order M work number e there c.by.now.condition condition ws held.bound.size) in
       let alike : (y : Variable) → is_in y xs ≡ is_in y bs = λ y. sym (bound_variables_are M work number e there tests condition.tests y) in
       let bound : AreBoundTo M xs vs = subst (AreBoundTo M xs) (sym ordered) (reordered_bound M ok bs ws held.bound xs alike (variables_distinct M work number e there)) in
-      let equation : new.equation ≡ c.equation = ap (λ (q : Choice). q.equation) is_new in
+      let by : new.by ≡ c.by = ap (λ (q : Choice). q.by) is_new in
       let taking : new.take ≡ c.take = ap (λ (q : Choice). q.take) is_new in
-      let redex : IsRedex M (suc m) number (trail_moves M trails) vs (clean c.equation.now.right) w = record {
+      let redex : IsRedex M (suc m) number (trail_moves M trails) vs (clean c.by.now.right) w = record {
         statement = e;
         is_there = there;
-        ordinary = work.equations number e there;
+        ordinary = work.statements number e there;
         sides = work.sides number e there.is_there;
         size = bound.size;
         values = bound.values;
@@ -247,13 +248,15 @@ module _ (M : Module) (work : IsWorkable M) (t : RawTerm) (c : Choice) (h : IsTr
         found = λ y i k. ⊎_elim (λ z. inl (normal_above M m _ z)) (λ z. inr z) (subst (AreFound M m e.left xs) (sym ordered) (reordered_found M ok bs ws held.bound xs alike m e.left held.found) y i k);
         right = h.choice.is.right;
       } in
+      let (redex', same) = subst (λ q. (r : IsRedex M (suc m) q.now.number (trail_moves M trails) vs (clean q.now.right) w) × (r.statement ≡ e)) (sym by) (redex, refl) in
       record {
         part = w;
         taken = subst (λ o. IsPartTaken sig o t w) (sym taking) (taken_same sig c.take t w h.choice.taken);
-        redex = subst (λ q. IsRedex M (suc m) q.now.number (trail_moves M trails) vs (clean q.now.right) w) (sym equation) redex;
-        free = λ k. subst (λ q. IsTrue q.now.free → frames.IsFree sig (clean q.now.right)) (sym equation) (λ k. free_same sig (clean c.equation.now.right) (h.choice.is.free k)) k;
-        levels = subst (λ q. q.now.levels ≡ min (height (fill [] (clean q.now.right))) (2 ^ 16 - 1)) (sym equation) h.choice.is.levels;
-        sure = λ k none. absurd (none_first tests x some (sym (ap (λ q. q.now.condition.tests) equation) ∙ none));
+        redex = redex';
+        rule = ap (λ (st : Statement). st.rule) same ∙ sym h.choice.is.rule ∙ ap (λ q. q.now.rule) (sym by);
+        free = λ k. subst (λ q. IsTrue q.now.free → frames.IsFree sig (clean q.now.right)) (sym by) (λ k. free_same sig (clean c.by.now.right) (h.choice.is.free k)) k;
+        levels = subst (λ q. q.now.levels ≡ min (height (fill [] (clean q.now.right))) (2 ^ 16 - 1)) (sym by) h.choice.is.levels;
+        sure = λ k none. absurd (none_first tests x some (sym (ap (λ q. q.now.condition.tests) by) ∙ none));
       }
     where
       none_first : (ts : List Test) (x : Test) → slice_get ts 0 ≡ Some x → ts ≡ [] → ⊥
@@ -265,25 +268,24 @@ module _ (M : Module) (work : IsWorkable M) (t : RawTerm) (c : Choice) (h : IsTr
   failed_so m f d is = subst (IsFailed M (suc m) (tried_of c)) (one_statement M number e d there is) (record { substitution = h.choice.solution.substitution; fails = fails_above M m e.fragments s f })
 
   -- it isn't told
-  halting_at : (n side : ℕ) (why : Reason) → IsCause M n side e.fragments s why → IsHaltingAt M n side t c.take why
+  halting_at : (n side : ℕ) (why : Reason) → IsCause M n side e.fragments s why → IsHaltingAt M c.by.now.rule n side t c.take why
   halting_at n side why cause = record {
     part = w;
     taken = taken_same sig c.take t w h.choice.taken;
-    form = nested sig w;
     raw = h.admitted.raw;
     clean = form_clean sig ok w canonical_part;
     is = h.admitted.canonical;
-    halting = record { number = number; statement = e; is_there = there; ordinary = work.equations number e there; solution = s; solves = h.choice.solution; cause = cause };
+    halting = record { number = number; statement = e; is_there = there; rule = sym h.choice.is.rule; ordinary = work.statements number e there; solution = s; solves = h.choice.solution; cause = cause };
   }
 
-  pub too_many : (side : ℕ) (x : Test) → slice_get tests 0 ≡ Some x → IsHaltingAt M 0 side t c.take reason.Nest
+  pub too_many : (side : ℕ) (x : Test) → slice_get tests 0 ≡ Some x → IsHaltingAt M c.by.now.rule 0 side t c.take reason.Nest
   too_many side x some = halting_at 0 side reason.Nest (refl, λ none. some_test tests x some (subst (λ C. AreTests sig lefts C tests) none h.choice.is.condition.tests))
     where
       some_test : (ts : List Test) (x : Test) → slice_get ts 0 ≡ Some x → AreTests sig lefts [] ts → ⊥
       some_test [] x some a = cc
       some_test (t ∷ ts) x some a = a
 
-  pub stopped_so : (m side : ℕ) (why : Reason) → IsStoppedInside M m side e.fragments s why → IsHaltingAt M (suc m) side t c.take reason.Condition
+  pub stopped_so : (m side : ℕ) (why : Reason) → IsStoppedInside M m side e.fragments s why → IsHaltingAt M c.by.now.rule (suc m) side t c.take reason.Condition
   stopped_so m side why stopped = halting_at (suc m) side reason.Condition (m, refl, why, stopped)
 
 row_taken : (sig : Signature) (o : Option (List ℕ)) (t w : RawTerm) → rows.IsTaken sig o t w → IsPartTaken sig o t w
@@ -319,15 +321,16 @@ pub big_taken : (sig : Signature) (t : RawTerm) (take : Option (List ℕ)) → (
 big_taken sig t take b = row_taken sig take t b.is_form.part b.is_form.taken
 
 -- what applies, as the machine takes it
-pub applied_so : (M : Module) (n : ℕ) (t : RawTerm) (c : Choice) (sides : List Track) → (made : IsMade M n t c sides) → (a : Applied) → IsAppliedAs c.equation.now a → IsApplied M n a (trail_moves M sides) c.values.items made.part
+pub applied_so : (M : Module) (n : ℕ) (t : RawTerm) (c : Choice) (sides : List Track) → (made : IsMade M n t c sides) → (a : Applied) → IsAppliedAs c.by.now a → IsApplied M n a (trail_moves M sides) c.values.items made.part
 applied_so M n t c sides made a is =
     let ms : List Move = trail_moves M sides in
     let vs : List RawTerm = c.values.items in
     let (redex, same) =
     subst (λ k. (r : IsRedex M n k ms vs (clean a.right.now) made.part) × (r.statement ≡ made.redex.statement)) (sym is.number)
-    (subst (λ p. (r : IsRedex M n c.equation.now.number ms vs (clean p) made.part) × (r.statement ≡ made.redex.statement)) (sym is.right) (made.redex, refl)) in
+    (subst (λ p. (r : IsRedex M n c.by.now.number ms vs (clean p) made.part) × (r.statement ≡ made.redex.statement)) (sym is.right) (made.redex, refl)) in
     record {
       redex = redex;
+      rule = ap (λ (st : Statement). st.rule) same ∙ made.rule ∙ sym is.rule;
       free = λ k. subst (λ p. frames.IsFree M.signature (clean p)) (sym is.right) (made.free (sym is.free ∙ k));
       levels = is.levels ∙ made.levels ∙ ap (λ p. min (height (fill [] (clean p))) (2 ^ 16 - 1)) (sym is.right);
       sure = λ k. let (z, none) = is.sure k in subst (λ st. IsSure M n st vs) (sym same) (made.sure z none);

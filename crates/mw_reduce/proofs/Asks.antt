@@ -38,8 +38,8 @@ fails_same M n C q r e i f = Fails-same M (AdmittedStep M) n C q r e i f
 
 pub nothing_applies : (M : Module) (n : ℕ) (t : RawTerm) (tried : List Tried) → HasNoRow M.signature t → AreFailed M n tried → AreAllTried M t tried → NothingAtTops M (admitted_judgements M n).Fails t
 nothing_applies M n t tried rows failed h = record {
-  no_equation = λ w top k e there equation s solution.
-      let (c, m, number, same) = h k e there equation w top s solution in
+  no_equation = λ w top k e there by s solution.
+      let (c, m, number, same) = h k e there by w top s solution in
       let f = failed c m e (subst (λ i. IsStatement M i e) (sym number) there) in
       fails_same M n e.fragments (solution_of M.signature e c.values) s (same_solution-sym M.signature s (solution_of M.signature e c.values) same) f.substitution f.fails;
   no_row = rows.no_row;

@@ -1,6 +1,6 @@
 -- What turns come to before a first replacement says of the term that the run begins at.
-use Rattle.std.specs.Prelude.{◌≡◌, ℕ, zero, suc, List, [], Bool, Option, refl}
-use Rattle.std.proofs.Common.{sym, subst, ap, ◌∙◌, arith}
+use Rattle.std.specs.Prelude.{◌≡◌, ℕ, zero, suc, List, [], Bool, false, Option, refl}
+use Rattle.std.proofs.Common.{sym, subst, ap, ◌∙◌, arith, true≢false}
 use Rattle.mw_logic.specs.Term.{RawTerm, Context}
 use Rattle.mw_logic.specs.Signature.{Signature, IsRawTerm}
 use Rattle.mw_logic.specs.Axioms.{EqualModulo}
@@ -48,7 +48,7 @@ use Rattle.mw_reduce.specs.Turns.{IsMetAt, IsBigAt}
 use Rattle.mw_reduce.specs.Attempts.{IsReady, IsHaltedAt, IsHalting}
 use Rattle.mw_reduce.specs.Evaluations.{run_of}
 use Rattle.mw_reduce.proofs.Applying.{row_applies, big_taken}
-use Rattle.mw_reduce.proofs.Ends.{normal_at, stops_by_pair, stops_by_nest, stops_by_side}
+use Rattle.mw_reduce.proofs.Ends.{normal_at, by_equations, stops_by_pair, stops_by_nest, stops_by_side}
 use Rattle.mw_reduce.proofs.Reduced.{is_run, starts}
 
 -- a row that leads somewhere is met
@@ -117,7 +117,7 @@ module _ (M : Module) (work : IsWorkable M) (n : ℕ) (t : RawTerm) (a : IsAdmit
       let v = asked_part_value K sig run 0 d q h.asked c.take w h.made.taken in
       let (C, part) = part_here d q h.asked c.take w h.made.taken (nested sig w) v.raw (form_clean sig ok w v.canonical) (fixed sig ok w v.canonical) in
       let shown = r.shown (begun n t) [] (starts M work n t a, tt) refl refl in
-      by_equation C (nested sig w) part c.equation.now.number r.statement r.is_there r.ordinary.equation r.solution r.reached shown.evidence r.solves ((admitted_within M n).Held r.statement.fragments r.solution shown.evidence r.reached shown.holds)
+      by_equation C (nested sig w) part c.by.now.number r.statement r.is_there (h.made.rule ∙ h.equation) r.solution r.reached shown.evidence r.solves ((admitted_within M n).Held r.statement.fragments r.solution shown.evidence r.reached shown.holds)
 
   by_a_row : (C : Context) (x v : RawTerm) → IsPart sig (nested sig t) C x → Row sig (IsNormalBy M (admitted_judgements M n).Fails) x v → IsReducible M n (nested sig t)
   by_a_row C x v part row = confluence.by_row C x part (row_meets sig (IsNormalBy M (admitted_judgements M n).Fails) x v row)
@@ -138,17 +138,17 @@ module _ (M : Module) (work : IsWorkable M) (n : ℕ) (t : RawTerm) (a : IsAdmit
   big_stops side d q take h =
       let b = h.big in
       let (C, part) = part_here d q h.asked take b.is_form.part (big_taken sig (asked_term d q) take b) b.form b.is_form.raw b.is_form.clean b.is_form.is in
-      stops_by_pair M n (nested sig t) reflexivity (nested sig t) 1 side (by_nothing M n (nested sig t)) (omega arith) (record { context = C; pair = b.form; is_part = part; too_big = b.too_big })
+      stops_by_pair M n (nested sig t) reflexivity (nested sig t) (limits_within 1 side) (by_nothing M n (nested sig t)) (omega arith) (record { context = C; pair = b.form; is_part = part; too_big = b.too_big })
 
   pub halted_stops : (side : ℕ) (d : Data) (q : Asked) (take : Option (List ℕ)) (why : Reason) → IsHaltedAt K 0 side d q take why → Stops M n (limits_within 1 side) (nested sig t) reflexivity (nested sig t) (reason_of why)
   halted_stops side d q take why h =
       let g = h.halting in
-      let part = part_here d q h.asked take g.part g.taken g.form g.raw g.clean g.is in
-      by_reason why g.form part g.halting
+      let part = part_here d q h.asked take g.part g.taken (nested sig g.part) g.raw g.clean g.is in
+      by_reason why (nested sig g.part) part g.halting
     where
-      by_reason : (why : Reason) (w : RawTerm) → (C : Context) × IsPart sig (nested sig t) C w → IsHalting M n side w why → Stops M n (limits_within 1 side) (nested sig t) reflexivity (nested sig t) (reason_of why)
-      by_reason reason.Nest w part h = stops_by_nest M n 1 side (nested sig t) reflexivity (nested sig t) (by_nothing M n (nested sig t)) (omega arith) w part h
-      by_reason reason.Condition w part h = stops_by_side M n 1 side (nested sig t) reflexivity (nested sig t) (by_nothing M n (nested sig t)) (omega arith) w part h
+      by_reason : (why : Reason) (w : RawTerm) → (C : Context) × IsPart sig (nested sig t) C w → IsHalting M false n side w why → Stops M n (limits_within 1 side) (nested sig t) reflexivity (nested sig t) (reason_of why)
+      by_reason reason.Nest w part h = stops_by_nest M n (limits_within 1 side) (nested sig t) reflexivity (nested sig t) false (by_equations M n (limits_within 1 side) reflexivity (nested sig t)) (by_nothing M n (nested sig t)) (omega arith) w part.0 part.1 (λ x. absurd (true≢false (sym x))) h
+      by_reason reason.Condition w part h = stops_by_side M n (limits_within 1 side) (nested sig t) reflexivity (nested sig t) false (by_equations M n (limits_within 1 side) reflexivity (nested sig t)) (by_nothing M n (nested sig t)) (omega arith) w part.0 part.1 (λ x. absurd (true≢false (sym x))) h
       by_reason reason.Rules w part h = absurd h.cause
       by_reason reason.Rewrites w part h = absurd h.cause
       by_reason reason.Depth w part h = absurd h.cause

@@ -1,5 +1,5 @@
 -- Where a run begins, and the deduction that it leaves.
-use Rattle.std.specs.Prelude.{◌≡◌, ◌≤◌, ℕ, [], ◌∷◌, refl}
+use Rattle.std.specs.Prelude.{◌≡◌, ◌≤◌, ◌+◌, ℕ, [], ◌∷◌, refl}
 use Rattle.std.proofs.Common.{sym, subst, ap, ◌∙◌, arith}
 use Rattle.mw_logic.specs.Term.{RawTerm}
 use Rattle.mw_logic.specs.Parts.{nested}
@@ -19,12 +19,14 @@ use Rattle.mw_frames.specs.declared.job.Job.TheVariants.{Walk}
 use Rattle.mw_frames.specs.declared.job.Hand.TheVariants.{One}
 use Rattle.mw_frames.specs.declared.machine.Machine.{Machine}
 use Rattle.mw_frames.specs.Machines.{data_of}
-use Rattle.mw_frames.specs.State.{Run, Data, IsRun, InHand, Holds}
+use Rattle.mw_frames.specs.State.{Run, with_rules, Data, IsRun, InHand, Holds}
 use Rattle.mw_frames.specs.Fires.{IsWhole}
 use Rattle.mw_reduce.specs.Driven.{IsDriven}
 use Rattle.mw_reduce.specs.Reductions.{IsOutcome, IsReductionOf}
 use Rattle.mw_reduce.specs.Evaluations.{run_of, nothing}
 use Rattle.mw_reduce.proofs.Ends.{whole_by, outcome_by}
+use Rattle.mw_reduce.specs.Limits.{limits_within}
+use Rattle.mw_reduce.specs.declared.drive.Driven.{Driven}
 use Rattle.mw_reduce.specs.declared.drive.End.{End}
 use Rattle.mw_reduce.specs.declared.drive.Outcome.{Outcome}
 use Rattle.mw_reduce.specs.declared.reducing.Budget.{Budget}
@@ -51,7 +53,8 @@ module _ (M : Module) (w : IsWorkable M) (n : ℕ) (t : RawTerm) (a : IsAdmitted
   begins_run first empty = subst (λ d. Holds (run_of M n t) 0 d (One (Walk t))) (sym (empty M)) begins_in_hand
 
 module _ (M : Module) (w : IsWorkable M) (n : ℕ) (low : n ≤ 63) (t : RawTerm) (a : IsAdmittedTerm M.signature t) where
-  module _ (k : Track) (count : ℕ) (d : Data) (u : RawTerm) (is : d.moves ≡ moves M k) (e : IsWhole (run_of M n t) count d u) where
+  -- what is kept of a whole, to which so many replacements lead, and as many by rules
+  module _ (ruled : ℕ) (k : Track) (count : ℕ) (d : Data) (u : RawTerm) (is : d.moves ≡ moves M k) (e : IsWhole (with_rules ruled (run_of M n t)) count d u) where
     pub whole_kept : IsKept M n t u k
     whole_kept = record {
       low = low;
@@ -65,39 +68,47 @@ module _ (M : Module) (w : IsWorkable M) (n : ℕ) (low : n ≤ 63) (t : RawTerm
     }
 
     -- the tree
-    its_proof : (deduced M n t u k).proof ≡ concluded e.stand
+    pub its_proof : (deduced M n t u k).proof ≡ concluded e.stand
     unfolding whole_kept
     its_proof = ap (λ B. concluded (first_of B)) whole_kept.stands
 
-    proves_it : Proves M n (concluded e.stand) (nested M.signature t) (nested M.signature u)
+    pub proves_it : Proves M n (concluded e.stand) (nested M.signature t) (nested M.signature u)
     unfolding whole_kept
     proves_it = subst (λ v. Proves M n (concluded e.stand) (nested M.signature t) (nested M.signature v)) e.hand
         (concludes M w.signature.accepted (moves M k) n t e.stand whole_kept.made (starts M w n t a) whole_kept.stands e.closed).1
 
-    counted : steps (concluded e.stand) ≡ count
+    pub counted : steps (concluded e.stand) ≡ count
     counted = let s = e.leads.steps in omega (arith, s)
 
-    pub whole_reduced : (most side : ℕ) (o : Outcome) → ((p : Proof) → Proves M n p (nested M.signature t) (nested M.signature u) → steps p ≡ count → IsOutcome M n most side (nested M.signature t) p (nested M.signature u) o)
+    pub rules_counted : rules (concluded e.stand) ≡ ruled
+    rules_counted = let r = e.leads.rules in omega (arith, r)
+
+    whole_reduced : ruled ≡ 0 → (most side : ℕ) (o : Outcome) → ((p : Proof) → Proves M n p (nested M.signature t) (nested M.signature u) → steps p ≡ count → IsOutcome M n (limits_within most side) (nested M.signature t) p (nested M.signature u) o)
         → IsReductionOf M t (record { steps = most; side = side; nest = n }) (deduced M n t u k) o
-    whole_reduced most side o ends = record {
+    whole_reduced none most side o ends = record {
       over = refl;
       rank = refl;
       from = refl;
-      equational = ap rules its_proof ∙ (let r = e.leads.rules in let z : rules (concluded e.stand) ≡ 0 = omega (arith, r) in z);
+      equational = ap rules its_proof ∙ rules_counted ∙ none;
       proves = subst (λ p. Proves M n p (nested M.signature t) (nested M.signature u)) (sym its_proof) proves_it;
-      ends = subst (λ p. IsOutcome M n most side (nested M.signature t) p (nested M.signature u) o) (sym its_proof) (ends (concluded e.stand) proves_it counted);
+      ends = subst (λ p. IsOutcome M n (limits_within most side) (nested M.signature t) p (nested M.signature u) o) (sym its_proof) (ends (concluded e.stand) proves_it counted);
     }
 
-  module _ (k : Track) (d : Data) (e : End) (side : ℕ) (is : d.moves ≡ moves M k) (most : ℕ) where
-    pub driven_reduced : IsDriven (run_of M n t) most side d e → IsKept M n t e.term k × IsReductionOf M t (record { steps = most; side = side; nest = n }) (deduced M n t e.term k) e.outcome
-    driven_reduced (count, by) =
+  module _ (k : Track) (d : Data) (r : Driven) (side : ℕ) (is : d.moves ≡ moves M k) (most : ℕ) where
+    pub driven_reduced : IsDriven (run_of M n t) most side d r → IsKept M n t r.end.term k × IsReductionOf M t (record { steps = most; side = side; nest = n }) (deduced M n t r.end.term k) r.end.outcome
+    driven_reduced (count, left, by) =
+        let e : End = r.end in
         let f = whole_by (run_of M n t) most side count d e by in
-        (whole_kept k count d e.term is f, whole_reduced k count d e.term is f most side e.outcome (outcome_by (run_of M n t) most side count d e by (nested M.signature t)))
+        (whole_kept 0 k count d e.term is f, whole_reduced 0 k count d e.term is f refl most side e.outcome (outcome_by (run_of M n t) (limits_within most side) count d e by (nested M.signature t)))
+
+-- from a beginning without replacements
+pub from_none : (K : Run) (limit side : ℕ) (d : Data) (r : Driven) → IsDriven K (0 + limit) side d r → IsDriven K limit side d r
+from_none K limit side d r h = let e : 0 + limit ≡ limit = omega arith in subst (λ n. IsDriven K n side d r) e h
 
 -- the deduction that a run leaves, from a machine where nothing is under way
 pub reduced_from : (M : Module) → IsWorkable M → (b : Budget) → b.nest ≤ 63 → (t : RawTerm) → IsAdmittedTerm M.signature t
     → (first : Machine) → ((N : Module) → data_of N first ≡ nothing)
-    → (last : Machine) (e : End) → ((K : Run) → IsRun K M.signature → K.over ≡ M → K.rank ≡ b.nest → Holds K 0 (data_of K.over first) (One (Walk t)) → IsDriven K b.steps b.side (data_of K.over last) e)
-    → IsKept M b.nest t e.term last.kept × IsReductionOf M t b (deduced M b.nest t e.term last.kept) e.outcome
-reduced_from M w b low t admitted first empty last e ran =
-    driven_reduced M w b.nest low t admitted last.kept (data_of M last) e b.side refl b.steps (ran (run_of M b.nest t) (is_run M w b.nest t admitted) refl refl (begins_run M w b.nest t admitted first empty))
+    → (last : Machine) (r : Driven) → ((K : Run) (k : ℕ) → IsRun K M.signature → K.over ≡ M → K.rank ≡ b.nest → Holds K k (data_of K.over first) (One (Walk t)) → IsDriven K (k + b.steps) b.side (data_of K.over last) r)
+    → IsKept M b.nest t r.end.term last.kept × IsReductionOf M t b (deduced M b.nest t r.end.term last.kept) r.end.outcome
+reduced_from M w b low t admitted first empty last r ran =
+    driven_reduced M w b.nest low t admitted last.kept (data_of M last) r b.side refl b.steps (from_none (run_of M b.nest t) b.steps b.side (data_of M last) r (ran (run_of M b.nest t) 0 (is_run M w b.nest t admitted) refl refl (begins_run M w b.nest t admitted first empty)))

@@ -48,6 +48,8 @@ use Rattle.mw_frames.specs.Fires.{IsWhole}
 use Rattle.mw_frames.proofs.PlacedTerms.{instance_placed}
 use Rattle.mw_reduce.specs.Driven.{IsDriven}
 use Rattle.mw_reduce.specs.Evaluations.{AreBoundTo, bound_to, AreAsked, IsEvidence, IsShown, IsStoppedFor, run_of}
+use Rattle.mw_reduce.specs.Limits.{limits_within}
+use Rattle.mw_reduce.specs.declared.drive.Driven.{Driven}
 use Rattle.mw_reduce.specs.declared.drive.End.{End}
 use Rattle.mw_reduce.specs.declared.drive.Outcome.TheVariants.{Done, Stopped}
 use Rattle.mw_proof.specs.declared.reason.Reason.{Reason}
@@ -189,14 +191,15 @@ module _ (M : Module) (work : IsWorkable M) (n : ℕ) (t : RawTerm) (raw : IsRaw
       }
 
   -- where its run stops it stops
-  pub side_stopped : (limit : ℕ) (k : Track) (d : Data) → d.moves ≡ moves M k → (e : End) (why : Reason) → e.outcome ≡ Stopped why → IsDriven (run_of M n u) limit limit d e → IsStoppedFor M n limit t why
-  side_stopped limit k d kept_as e why o (count, by) =
+  pub side_stopped : (limit : ℕ) (k : Track) (d : Data) → d.moves ≡ moves M k → (r : Driven) (why : Reason) → r.end.outcome ≡ Stopped why → IsDriven (run_of M n u) limit limit d r → IsStoppedFor M n limit t why
+  side_stopped limit k d kept_as r why o (count, left, by) =
+      let e : End = r.end in
       let w : IsWhole (run_of M n u) count d e.term = whole_by (run_of M n u) limit limit count d e by in
       let p : Proof = transitivity equality (deduced M n u e.term k).proof in
-      let ends = outcome_by (run_of M n u) limit limit count d e by t p (side_proves count e.term k d kept_as w) (side_steps count e.term k d kept_as w) in
+      let ends = outcome_by (run_of M n u) (limits_within limit limit) count d e by t p (side_proves count e.term k d kept_as w) (side_steps count e.term k d kept_as w) in
       let same : EqualModulo here t (nested here u) = subst (λ v. EqualModulo here t (nested here v)) (sym is) (normal_form-sound here accepted raw) in
       inr (IsAdmitted-equal here (back same) begins_at.admitted, (p, nested here e.term, side_rules count e.term k d kept_as w, rw o at ends))
 
-  pub side_done : (limit : ℕ) (k : Track) (d : Data) → d.moves ≡ moves M k → (e : End) → e.outcome ≡ Done → IsDriven (run_of M n u) limit limit d e → IsShown M n t (record { from = u; to = e.term; kept = k })
-  side_done limit k d kept_as e o (count, inl (l, z)) = side_shown count e.term k d kept_as (rw o at z)
-  side_done limit k d kept_as e o (count, inr (l, q, z)) = let bad : Done ≡ Stopped reason.Rewrites = sym o ∙ q in cc
+  pub side_done : (limit : ℕ) (k : Track) (d : Data) → d.moves ≡ moves M k → (r : Driven) → r.end.outcome ≡ Done → IsDriven (run_of M n u) limit limit d r → IsShown M n t (record { from = u; to = r.end.term; kept = k })
+  side_done limit k d kept_as r o (count, left, inl (l, z)) = side_shown count r.end.term k d kept_as (rw o at z)
+  side_done limit k d kept_as r o (count, left, inr (l, q, z)) = let bad : Done ≡ Stopped reason.Rewrites = sym o ∙ q in cc

@@ -14,8 +14,8 @@ use Rattle.mw_index.specs.declared.conditions.Side.{Side}
 use Rattle.mw_index.specs.declared.conditions.Matched.{Matched}
 use Rattle.mw_index.specs.declared.conditions.Test.{Test}
 use Rattle.mw_index.specs.declared.conditions.Test.TheVariants as test
-use Rattle.mw_index.specs.declared.equations.Equation.{Equation}
-use Rattle.mw_reduce.specs.Turns.{HasEquation}
+use Rattle.mw_index.specs.declared.oriented.Oriented.{Oriented}
+use Rattle.mw_reduce.specs.Turns.{HasOriented}
 use Rattle.mw_reduce.specs.Evaluations.{AreAsked, IsSomeTest, AreSomeTests}
 
 pub some_test_at : (sig : Signature) (xs : List Variable) (C : List Fragment) (ts : List Test) → AreTests sig xs C ts → (i : ℕ) (t : Test) → slice_get ts i ≡ Some t → IsSomeTest sig t
@@ -31,7 +31,7 @@ match_sorts sig m (xs, matches l t, h) = h.compiled.sorts
 match_sorts sig m (xs, has_sort t S, h) = absurd h
 match_sorts sig m (xs, is_true t, h) = absurd h
 
-pub equation_tests : (M : Module) (st : Equation) → HasEquation M st → AreSomeTests M.signature st.condition
+pub equation_tests : (M : Module) (st : Oriented) → HasOriented M st → AreSomeTests M.signature st.condition
 equation_tests M st (top, of) = (met [] of.statement.left, of.statement.fragments, of.is.condition.tests)
 
 -- the sides of a fragment whose turn it is

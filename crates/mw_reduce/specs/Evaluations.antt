@@ -113,7 +113,7 @@ pub record AreAsked (sig : Signature) (xs : List Variable) (t : RawTerm) : Type 
 
 -- the run that begins at a term, with nothing around it
 abbrev pub run_of : Module → ℕ → RawTerm → Run
-run_of M n t = record { over = M; rank = n; from = t; start = begun_at n t ∷ []; below = [] }
+run_of M n t = record { over = M; rank = n; from = t; start = begun_at n t ∷ []; below = []; rules = 0 }
 
 -- nothing is kept or waits
 abbrev pub nothing : Data

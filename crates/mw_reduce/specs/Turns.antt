@@ -1,5 +1,5 @@
 -- What comes of a turn: of a step of the machine, and of equations where they are asked for.
-use Rattle.std.specs.Prelude.{◌≡◌, ℕ, List, [], ◌∷◌, ◌++◌, length, Option, ⊤}
+use Rattle.std.specs.Prelude.{◌≡◌, ℕ, List, [], ◌∷◌, ◌++◌, length, false, Option, ⊤}
 use Rattle.mw_logic.specs.Term.{RawTerm}
 use Rattle.mw_logic.specs.Signature.{Member}
 use Rattle.mw_logic.specs.Substitution.{IsSubstitution}
@@ -8,7 +8,7 @@ use Rattle.mw_logic.specs.Judgements.{IsNormalBy, admitted_judgements}
 use Rattle.mw_builtin.specs.Steps.{IsGiven, IsTooBigAt, HasNoRow}
 use Rattle.mw_index.specs.Index.{IsOf}
 use Rattle.mw_index.specs.Choices.{IsChoice, Covers, Tried, tried_of, solution_of}
-use Rattle.mw_index.specs.declared.equations.Equation.{Equation}
+use Rattle.mw_index.specs.declared.oriented.Oriented.{Oriented}
 use Rattle.mw_index.specs.declared.index.Index.{Index}
 use Rattle.mw_index.specs.declared.choices.Choice.{Choice}
 use Rattle.mw_index.specs.declared.choices.Choices.{Choices}
@@ -34,7 +34,8 @@ pub record IsFound (K : Run) (count : ℕ) (m : Index) (d : Data) (rest : Choice
   pub asked : IsAskedFor K count d a
   pub rows : HasNoRow K.over.signature (asked_term d a)
   pub choice : IsChoice K.over (asked_term d a) c
-  pub sized : length c.values.items ≡ length c.equation.now.sorts
+  pub sized : length c.values.items ≡ length c.by.now.sorts
+  pub equation : c.by.now.rule ≡ false
   pub tried : List Tried
   pub failed : AreFailed K.over K.rank tried
   pub others : Covers K.over m (asked_term d a) (tried ++ tried_of c ∷ []) rest
@@ -66,15 +67,15 @@ TurnFalls M w m (Met a take to) = ⊤
 TurnFalls M w m (Big a take) = ⊤
 TurnFalls M w m (Decides f b) = ⊤
 
--- an equation of the module, as the index has it
-abbrev pub HasEquation : Module → Equation → Type 0
-HasEquation M st = (top : Option ℕ) × IsOf M top st
+-- a statement of the module, as the index has it
+abbrev pub HasOriented : Module → Oriented → Type 0
+HasOriented M st = (top : Option ℕ) × IsOf M top st
 
 -- what is found is one
 abbrev pub TurnOf : Module → Turn → Type 0
 TurnOf M (Goes h) = ⊤
 TurnOf M (Ended t) = ⊤
-TurnOf M (Found a c) = HasEquation M c.equation.now
+TurnOf M (Found a c) = HasOriented M c.by.now
 TurnOf M (Met a take to) = ⊤
 TurnOf M (Big a take) = ⊤
 TurnOf M (Decides f b) = ⊤

@@ -1,5 +1,5 @@
 // What comes of a pause, from one replacement to the next.
-ghost use Rattle.std.specs.Prelude.{◌≡◌, ◌<◌, ◌≤◌, ◌+◌, ℕ, IfOk, MatchOption};
+ghost use Rattle.std.specs.Prelude.{◌≡◌, ◌<◌, ◌≤◌, ◌+◌, ℕ, false, IfOk, MatchOption};
 ghost use Rattle.mw_logic.specs.Module.{Module};
 ghost use Rattle.mw_least.specs.Workable.{IsWorkable};
 ghost use Rattle.mw_index.specs.Index.{IsIndexOf};
@@ -15,7 +15,7 @@ use crate::pairs::join_pairs;
 use crate::turning::{Turn, take_turn};
 use mw_canon::Facts;
 use mw_frames::{Applied, Asked, Fired, Frame, Hand, Job, Machine, decide, fire, halt, meet};
-use mw_index::{Choice, Choices, Equation, Index};
+use mw_index::{Choice, Choices, Oriented, Index};
 use mw_least::Ctx;
 use mw_proof::Reason;
 use mw_term::{Seq, Term};
@@ -35,6 +35,14 @@ pub enum Outcome {
 pub struct End {
     pub term: Term,
     pub outcome: Outcome,
+}
+
+/// What a run comes to.
+#[derive(Drop)]
+pub struct Driven {
+    pub end: End,
+    /// How many steps are left to its limit.
+    pub left: u64,
 }
 
 /// What turns come to: the whole is normal, an equation applies, with what shows its condition, a row is met, a sum or
@@ -85,17 +93,18 @@ pub fn advance<'m>(
     }
 }
 
-/// The equation as the machine applies it.
+/// The statement as the machine applies it.
 #[inline(always)]
-fn applied<'m>(equation: &'m Equation) -> Applied<'m>
-    ensures { IsAppliedAs equation.now result }
+pub fn applied<'m>(by: &'m Oriented) -> Applied<'m>
+    ensures { IsAppliedAs by.now result }
 {
     Applied {
-        number: equation.number,
-        right: &equation.right,
-        free: equation.free,
-        levels: equation.levels,
-        sure: equation.sure && equation.condition.tests.as_slice().is_empty(),
+        number: by.number,
+        rule: by.rule,
+        right: &by.right,
+        free: by.free,
+        levels: by.levels,
+        sure: by.sure && by.condition.tests.as_slice().is_empty(),
     }
 }
 
@@ -111,14 +120,14 @@ fn apply<'m>(
     sides: Vec<Trail>,
 ) -> Result<Fired<'m>, AllocError>
     ensures { (K : Run) (k : ℕ) → IsRun K facts.now → IsReady K k (data_of K.over machine.old) asked choice.entry sides.items
-        → IfOk result (IsFired K k (data_of K.over machine.new)) }
+        → IfOk result (IsFired K false k (data_of K.over machine.new)) }
 {
     let Choice {
-        equation,
+        by,
         mut values,
         take,
     } = choice;
-    let by = applied(equation);
+    let by = applied(by);
     let mut sides = sides;
     let fired = fire(
         alloc,
@@ -231,7 +240,7 @@ fn halt_there(
 /// What comes of what was applied.
 #[inline(always)]
 fn after<'m>(fired: Fired<'m>) -> Next<'m>
-    ensures { (K : Run) (k side left : ℕ) (d : Data) → 0 < left → IsFired K k d fired.entry → IsNext K k side left d result }
+    ensures { (K : Run) (k side left : ℕ) (d : Data) → 0 < left → IsFired K false k d fired.entry → IsNext K k side left d result }
 {
     match fired {
         Fired::Goes(hand) => Next::Goes(hand, 1),

@@ -24,7 +24,7 @@
 //!
 //! A turn is a step of mw_frames, and where that asks for statements, the row that is met there, else the next choice
 //! of mw_index; where there is neither the term rests, for it is normal. `find` turns until something applies or stops,
-//! and `drive` makes that step, as often as the limit says (`IsDriven`, specs/Driven). `drive`, `find`, `try_choice`,
+//! and `run_on` makes that step, as often as the limit says (`IsDriven`, specs/Driven). `run_on`, `find`, `try_choice`,
 //! `evaluate`, `try_test` and `run_side` call one another in a circle, once for each condition inside another one, so at
 //! most 63 times; the native stack doesn't grow with terms there.
 //!
@@ -54,6 +54,8 @@ mod running;
 mod sides;
 mod turning;
 
-pub use drive::Outcome;
+pub use attempts::Attempt;
+pub use drive::{Driven, End, Outcome, applied};
 pub use judging::{Normality, Tried, conditions, is_normal};
 pub use reducing::{Budget, reduce};
+pub use running::{run_on, try_choice};

@@ -4,8 +4,8 @@ ghost use Rattle.mw_canon.specs.Canonical.{IsAdmittedTerm};
 ghost use Rattle.mw_index.specs.Index.{IsIndexOf};
 ghost use Rattle.mw_reduce.specs.Reductions.{IsReductionOf};
 
-use crate::drive::Outcome;
-use crate::running::drive;
+use crate::drive::{Driven, Outcome};
+use crate::running::run_on;
 use mw_frames::{Hand, Job, Machine};
 use mw_index::{Choices, Index};
 use mw_least::Ctx;
@@ -42,7 +42,7 @@ pub fn reduce<'m>(
     let mut machine = Machine::new(alloc);
     let hand = Hand::One(Job::Walk(term));
     let mut choices = Choices::new(alloc);
-    let end = drive(
+    let driven = run_on(
         alloc,
         context,
         index,
@@ -53,6 +53,7 @@ pub fn reduce<'m>(
         budget.side,
         budget.nest,
     )?;
+    let Driven { end, left: _ } = driven;
     let Machine { kept, .. } = machine;
     context.shows();
     let proved = Proved::of(context, budget.nest, from, end.term, kept);

@@ -1,5 +1,5 @@
 // Runs, and those of the sides of conditions inside them.
-ghost use Rattle.std.specs.Prelude.{◌≡◌, ◌<◌, ℕ, suc, List, [], ◌∷◌, IfOk};
+ghost use Rattle.std.specs.Prelude.{◌≡◌, ◌<◌, ◌≤◌, ◌+◌, ℕ, suc, List, [], ◌∷◌, IfOk};
 ghost use Rattle.mw_logic.specs.Term.{Variable, RawTerm};
 ghost use Rattle.mw_logic.specs.Module.{Module, Fragment, Statement as StatementOf, IsStatement};
 ghost use Rattle.mw_logic.specs.Signature.{IsRawTerm};
@@ -10,13 +10,14 @@ ghost use Rattle.mw_index.specs.Choices.{IsChoice};
 ghost use Rattle.mw_index.specs.Conditions.{IsSideOf, IsTestOf, IsConditionOf, AreReady, bound_by};
 ghost use Rattle.mw_frames.specs.State.{Run, IsRun, Holds};
 ghost use Rattle.mw_frames.specs.Machines.{data_of};
-ghost use Rattle.mw_reduce.specs.Turns.{HasEquation};
+ghost use Rattle.mw_reduce.specs.Turns.{HasOriented};
 ghost use Rattle.mw_reduce.specs.Driven.{IsDriven};
+ghost use Rattle.mw_reduce.specs.declared.drive.Outcome.TheVariants.{Done as DoneOf};
 ghost use Rattle.mw_reduce.specs.Attempts.{IsTriable, IsAttempt, IsPause};
 ghost use Rattle.mw_reduce.specs.Evaluations.{AreBoundTo, bound_to, AreAsked, IsSomeTest, AreSomeTests, IsSideShown, IsTested, IsVerdict};
 
 use crate::attempts::{Attempt, Settled, put_in_order, settle};
-use crate::drive::{End, Next, Outcome, Pause, advance, go_on};
+use crate::drive::{Driven, End, Next, Outcome, Pause, advance, go_on};
 use crate::evaluation::{Progress, Tested, Verdict, after_test, compared, held, opened, sorted};
 use crate::sides::{Begun, Running, Shown, all_enclosed, begin_side, end_side};
 use crate::turning::Turn;
@@ -27,9 +28,10 @@ use mw_proof::Reason;
 use mw_term::{Term, copy};
 use std::alloc::{AllocError, Global};
 
-/// From step to step, at most `limit` times. Sides of conditions make at most `side` steps each.
+/// From step to step, at most `limit` times. Sides of conditions make at most `side` steps each. It goes on from where
+/// the machine stands, whatever was done before.
 #[cycle(run)]
-pub fn drive<'m>(
+pub fn run_on<'m>(
     alloc: Global,
     context: &'m Ctx,
     index: &'m Index,
@@ -39,10 +41,11 @@ pub fn drive<'m>(
     limit: u64,
     side: u64,
     nest: u8,
-) -> Result<End, AllocError>
+) -> Result<Driven, AllocError>
     requires { IsIndexOf context.now index.now }
-    ensures { (K : Run) → IsRun K context.now.signature → K.over ≡ context.now → K.rank ≡ nest → Holds K 0 (data_of K.over machine.old) hand.entry
-        → IfOk result (IsDriven K limit side (data_of K.over machine.new)) }
+    ensures left { IfOk result (λ r. (r.left ≤ limit) × (r.end.outcome ≡ DoneOf → 0 < r.left)) }
+    ensures is { (K : Run) (k : ℕ) → IsRun K context.now.signature → K.over ≡ context.now → K.rank ≡ nest → Holds K k (data_of K.over machine.old) hand.entry
+        → IfOk result (IsDriven K (k + limit) side (data_of K.over machine.new)) }
 {
     let mut hand = hand;
     let mut left = limit;
@@ -54,15 +57,16 @@ pub fn drive<'m>(
                 left = left.saturating_sub(count.max(1));
             }
             Next::Ends(end) => {
-                return Ok(end);
+                return Ok(Driven { end, left });
             }
         }
     }
     let term = stop(alloc, context.facts(), machine, hand)?;
-    Ok(End {
+    let end = End {
         term,
         outcome: Outcome::Stopped(Reason::Rewrites),
-    })
+    };
+    Ok(Driven { end, left: 0 })
 }
 
 /// Turns until something applies: an equation whose condition holds, or a row; or until the whole is normal, or a
@@ -122,7 +126,7 @@ pub fn find<'m>(
 
 /// Whether the condition of a choice holds: then the choice has the values of all variables.
 #[cycle(run)]
-fn try_choice<'m>(
+pub fn try_choice<'m>(
     alloc: Global,
     context: &'m Ctx,
     index: &'m Index,
@@ -131,12 +135,12 @@ fn try_choice<'m>(
     nest: u8,
 ) -> Result<Attempt, AllocError>
     requires index { IsIndexOf context.now index.now }
-    requires equation { HasEquation context.now choice.old.equation.now }
+    requires by { HasOriented context.now choice.old.by.now }
     ensures same { choice.new ≡ record choice.old { values = choice.new.values } }
     ensures means { (t : RawTerm) → IsTriable context.now t choice.old → IfOk result (IsAttempt context.now nest side t choice.old choice.new) }
 {
     context.shows();
-    if choice.equation.condition.tests.as_slice().is_empty() {
+    if choice.by.condition.tests.as_slice().is_empty() {
         return Ok(Attempt::Made(Vec::new(alloc)));
     }
     if nest == 0 {
@@ -146,13 +150,13 @@ fn try_choice<'m>(
         alloc,
         context,
         index,
-        &choice.equation.condition,
+        &choice.by.condition,
         &mut choice.values,
         side,
         nest,
     )? {
         Verdict::Held(sides) => {
-            put_in_order(alloc, &choice.equation.condition, &mut choice.values)?;
+            put_in_order(alloc, &choice.by.condition, &mut choice.values)?;
             let trails = all_enclosed(alloc, sides)?;
             Ok(Attempt::Made(trails))
         }
@@ -307,7 +311,7 @@ fn run_side<'m>(
                 mut choices,
             } = Box::into_inner(running);
             let hand = Hand::One(Job::Walk(copy(&from)?));
-            let end = drive(
+            let driven = run_on(
                 alloc,
                 context,
                 index,
@@ -318,7 +322,7 @@ fn run_side<'m>(
                 limit,
                 nest - 1,
             )?;
-            Ok(end_side(from, machine, end))
+            Ok(end_side(from, machine, driven))
         }
     }
 }

@@ -13,7 +13,7 @@ ghost use Rattle.mw_frames.specs.Machines.{data_of, all_moves as trail_moves};
 ghost use Rattle.mw_reduce.specs.Driven.{IsDriven};
 ghost use Rattle.mw_reduce.specs.Evaluations.{AreBoundTo, bound_to, AreAsked, IsBegun, IsSideShown, run_of, nothing, side_moves, all_moves};
 
-use crate::drive::{End, Outcome};
+use crate::drive::{Driven, End, Outcome};
 use mw_canon::{CanonError, Facts};
 use mw_frames::{Machine, instance};
 use mw_index::{Choices, Side};
@@ -88,12 +88,13 @@ pub fn begin_side<'m>(
 }
 
 /// What comes of a side's run from this term.
-pub fn end_side(from: Term, machine: Machine<'_>, end: End) -> Shown
+pub fn end_side(from: Term, machine: Machine<'_>, driven: Driven) -> Shown
     ensures { (M : Module) (n limit : ℕ) (t : RawTerm) → IsWorkable M → IsRawTerm M.signature t
         → IsAdmittedTerm M.signature from → from ≡ normal_form M.signature t
-        → IsDriven (run_of M n from) limit limit (data_of M machine.entry) end
+        → IsDriven (run_of M n from) limit limit (data_of M machine.entry) driven
         → IsSideShown M n limit t result }
 {
+    let Driven { end, left: _ } = driven;
     let End { term, outcome } = end;
     match outcome {
         Outcome::Done => {

@@ -19,6 +19,7 @@ use Rattle.mw_logic.proofs.RawKept.{raw_kept}
 use Rattle.mw_logic.proofs.Soundness.{normal_form-sound}
 use Rattle.mw_print.specs.Sorts.{IsKindThere}
 use Rattle.mw_proof.specs.Deductions.{Deduction, IsDeduction}
+use Rattle.mw_reduce.specs.Limits.{limits_within}
 use Rattle.mw_reduce.specs.Reductions.{IsOutcome, IsReductionOf}
 use Rattle.mw_reduce.specs.declared.reducing.Budget.{Budget}
 use Rattle.mw_reduce.specs.declared.drive.Outcome.{Outcome}
@@ -27,15 +28,15 @@ use Rattle.mw_canon.specs.Canonical.{IsAdmittedTerm}
 use Rattle.mw_least.specs.Workable.{IsWorkable}
 use Rattle.mw_text.specs.Mixfix.{Reads}
 use Rattle.mw_module.specs.declared.faults.FaultKind.{FaultKind}
-use Rattle.mw_build.specs.Equations.{FitsIn, Oversized}
+use Rattle.mw_build.specs.Statements.{FitsIn, Oversized}
 use Rattle.mw_build.specs.Modules.{Accepted}
 use Rattle.mw_build.proofs.PrintedVariables.{named_there}
 use Rattle.mw_block.specs.Blocks.{Word, block, parsed_block}
-use Rattle.mw_top.specs.Commands.{IsCanonicalTerm, IsReduced, IsParsed, IsTrueWord, TermFault, big}
+use Rattle.mw_top.specs.Commands.{IsCanonicalTerm, IsDeduced, IsReduced, IsParsed, IsTrueWord, TermFault, big}
 use Rattle.mw_top.specs.Seen.{word_of}
 
 -- the word for an outcome is true where the outcome is
-true_word : (M : Module) (most : ℕ) (t : RawTerm) (p : Proof) (u : RawTerm) (o : Outcome) → rules p ≡ 0 → IsOutcome M 63 most most t p u o → IsTrueWord M most t p u (word_of o)
+true_word : (M : Module) (most : ℕ) (t : RawTerm) (p : Proof) (u : RawTerm) (o : Outcome) → rules p ≡ 0 → IsOutcome M 63 (limits_within most most) t p u o → IsTrueWord M most t p u (word_of o)
 true_word M most t p u Done r x = (r, x.0, x.1)
 true_word M most t p u (Stopped reason) r x = (r, x)
 
@@ -98,9 +99,9 @@ read_so a work words t read raw ground (Err x) h = tt
 
 pub reduced_by : (a : Accepted) (most : ℕ) (w t : RawTerm) (b : Budget) (d : Deduction) (o : Outcome) (text : List ℕ)
     → t ≡ normal_form a.module.signature w → b ≡ record { steps = most; side = most; nest = 63 } → IsReductionOf a.module t b d o → IsDeduction d
-    → (S : Sorted) → IsLeastSort a.module.signature (nested a.module.signature d.to) S → text ≡ block a.module.signature a.name d.from (min (count d.proof) (2 ^ 64 - 1)) S d.to (word_of o)
-    → IsReduced a most w text
-reduced_by a most w t b d o text canonical is r proved S least written =
+    → (S : Sorted) → IsLeastSort a.module.signature (nested a.module.signature d.to) S → (word : Word) → word ≡ word_of o
+    → text ≡ block (codes "reduce") a.module.signature a.name d.from (min (count d.proof) (2 ^ 64 - 1)) S d.to word → IsReduced a most w text
+reduced_by a most w t b d o text canonical is r proved S least word so written =
     let sig : Signature = a.module.signature in
     record {
       kept = d;
@@ -109,9 +110,10 @@ reduced_by a most w t b d o text canonical is r proved S least written =
       rank = r.rank ∙ ap (λ (x : Budget). x.nest) is;
       begins = r.from ∙ canonical;
       S = S;
-      word = word_of o;
+      word = word;
       least_sort = least;
-      true_word = true_word a.module most (nested sig d.from) d.proof (nested sig d.to) o r.equational (rw is at r.ends);
+      true_word = subst (IsTrueWord a.module most (nested sig d.from) d.proof (nested sig d.to)) (sym so)
+          (true_word a.module most (nested sig d.from) d.proof (nested sig d.to) o r.equational (rw is at r.ends));
       written = written;
     }
 
@@ -132,10 +134,10 @@ parsed_by a M m sig s name n w t canonical S text least written = record {
 }
 
 -- and that of a kept deduction
-pub block_by : (a : Accepted) (M : Module) → M ≡ a.module → (sig : Signature) → sig ≡ M.signature → (name : List ℕ) → name ≡ a.name → (S : Sorted) (text : List ℕ)
-    → (from t : RawTerm) → from ≡ t → (count n : ℕ) → count ≡ n → (to u : RawTerm) → to ≡ u → (word w : Word) → word ≡ w
-    → text ≡ block sig name from count S to word → text ≡ block a.module.signature a.name t n S u w
-block_by a M m sig s name named S text from t f count n c to u e word w k written =
-    written ∙ ap (λ x. block x name from count S to word) (s ∙ ap (λ (N : Module). N.signature) m) ∙ ap (λ x. block a.module.signature x from count S to word) named
-    ∙ ap (λ x. block a.module.signature a.name x count S to word) f ∙ ap (λ x. block a.module.signature a.name t x S to word) c
-    ∙ ap (λ x. block a.module.signature a.name t n S x word) e ∙ ap (λ x. block a.module.signature a.name t n S u x) k
+pub block_by : (a : Accepted) (M : Module) → M ≡ a.module → (sig : Signature) → sig ≡ M.signature → (name : List ℕ) → name ≡ a.name → (command : List ℕ) (S : Sorted) (word : Word)
+    (text : List ℕ) (from t : RawTerm) → from ≡ t → (count n : ℕ) → count ≡ n → (to u : RawTerm) → to ≡ u
+    → text ≡ block command sig name from count S to word → text ≡ block command a.module.signature a.name t n S u word
+block_by a M m sig s name named command S word text from t f count n c to u e written =
+    written ∙ ap (λ x. block command x name from count S to word) (s ∙ ap (λ (N : Module). N.signature) m)
+    ∙ ap (λ x. block command a.module.signature x from count S to word) named ∙ ap (λ x. block command a.module.signature a.name x count S to word) f
+    ∙ ap (λ x. block command a.module.signature a.name t x S to word) c ∙ ap (λ x. block command a.module.signature a.name t n S x word) e

@@ -10,7 +10,7 @@ use Rattle.mw_solving.proofs.Admitted.{admitted_value}
 use Rattle.mw_text.specs.Readings.{ReadsPair}
 use Rattle.mw_module.specs.declared.faults.FaultKind.{FaultKind}
 use Rattle.mw_module.specs.declared.faults.FaultKind.TheVariants.{TooDeep}
-use Rattle.mw_build.specs.Equations.{FitsIn, Oversized, deep, large}
+use Rattle.mw_build.specs.Statements.{FitsIn, Oversized, deep, large}
 use Rattle.mw_build.specs.Modules.{Accepted}
 use Rattle.mw_top.specs.declared.matching.Sides.{Sides}
 use Rattle.mw_top.specs.Matches.{AreCanonicalSides, AreOversized, deep as one_deep, large as one_large, SidesFault, big}

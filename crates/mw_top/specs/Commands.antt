@@ -1,5 +1,5 @@
 -- What the block of a command claims, and why a command is refused.
-use Rattle.std.specs.Prelude.{◌≡◌, ◌<◌, ◌-◌, ◌^◌, ℕ, Bool, true, false, List, [], ◌∷◌, length, min, bytes_eq, map, slice_get, Option, Some, None, IsTrue, IsFalse, if◌then◌else◌}
+use Rattle.std.specs.Prelude.{◌≡◌, ◌<◌, ◌-◌, ◌^◌, ℕ, Bool, true, false, List, [], ◌∷◌, length, min, bytes_eq, map, slice_get, Option, Some, None, IsTrue, IsFalse, if◌then◌else◌, codes}
 use Rattle.std.specs.List.{list_any}
 use Rattle.std.specs.Option.{option_or}
 use Rattle.mw_logic.specs.Term.{RawTerm, is_ground}
@@ -16,24 +16,25 @@ use Rattle.mw_text.specs.Mixfix.{IsSpelled, Reads}
 use Rattle.mw_text.specs.Readings.{NoneHas, TwoHave, IsShort}
 use Rattle.mw_lex.specs.declared.token.Token.{Token}
 use Rattle.mw_module.specs.declared.faults.FaultKind.{FaultKind}
-use Rattle.mw_module.specs.declared.faults.FaultKind.TheVariants.{TermTooLong, NoParse, Ambiguous, OpenTerm, NoModule, UnknownModule}
+use Rattle.mw_module.specs.declared.faults.FaultKind.TheVariants.{NotInProfile, TermTooLong, NoParse, Ambiguous, OpenTerm, NoModule, UnknownModule}
 use Rattle.mw_module.specs.Words.{texts}
 use Rattle.mw_command.specs.Commands.{SeenCommand}
 use Rattle.mw_command.specs.declared.commands.Word.{Word as CommandWord}
-use Rattle.mw_command.specs.declared.commands.Word.TheVariants.{Reduce, Parse, Match, Xmatch}
-use Rattle.mw_build.specs.Equations.{FitsIn, Oversized}
+use Rattle.mw_command.specs.declared.commands.Word.TheVariants.{Reduce, Rewrite, Parse, Match, Xmatch}
+use Rattle.mw_build.specs.Statements.{FitsIn, Oversized}
 use Rattle.mw_build.specs.Modules.{Accepted}
 use Rattle.mw_prelude.specs.Modules.{name_of}
 use Rattle.mw_prelude.specs.declared.modules.Predefined.TheVariants as predefined
 use Rattle.mw_proof.specs.Deductions.{Deduction, IsDeduction}
-use Rattle.mw_block.specs.Blocks.{Word, reduced, limit, block, parsed_block}
+use Rattle.mw_block.specs.Blocks.{Word, reduced, final, limit, block, parsed_block}
 use Rattle.mw_top.specs.Matches.{AreSides, IsMatched, SidesFault}
 
--- What the status word says of the proof from one term to another. `reduced`: it is by equations alone, has fewer steps than the limit, and
+-- What the status word of `reduce` says of the proof from one term to another. `reduced`: it is by equations alone, has fewer steps than the limit, and
 -- its end is normal. `limit`: it is by equations alone, and stops there for the reason that is told: it has as many steps as the limit, or a next
--- step exists whose term is too deep, and so on.
+-- step exists whose term is too deep, and so on. No other word is true.
 abbrev pub IsTrueWord : Module → ℕ → RawTerm → Proof → RawTerm → Word → Type 0
 IsTrueWord M most from p to reduced = (rules p ≡ 0) × (steps p < most) × IsNormal M 63 to
+IsTrueWord M most from p to final = ⊥
 IsTrueWord M most from p to (limit reason) = (rules p ≡ 0) × Stops M 63 (limits_of most) from p to reason
 
 -- The term is the one that a command's words spell. It has no variable, and fits in.
@@ -49,10 +50,10 @@ pub record IsCanonicalTerm (a : Accepted) (words : List (List ℕ)) (t : RawTerm
   pub canonical : t ≡ normal_form a.module.signature written
   pub admitted : IsAdmittedTerm a.module.signature t
 
--- The text is the block of the kept deduction in this module: what the `Proved` that was made is seen as, with all that its type keeps of it (`IsDeduction`: its
+-- The text is the block of the kept deduction in this module, for a command that is repeated so: what the `Proved` that was made is seen as, with all that its type keeps of it (`IsDeduction`: its
 -- proof leads from the one canonical term to the other, through admitted terms alone), at rank 63. It begins at the canonical form of this term, which the block repeats, and leads to
--- the canonical term that is printed, with its least sort or kind; the count is that of the proof, and the status word is true of it.
-pub record IsReduced (a : Accepted) (most : ℕ) (t : RawTerm) (text : List ℕ) : Type 0 where
+-- the canonical term that is printed, with its least sort or kind; the count is that of the proof, and what the status word says is true of it.
+pub record IsDeduced (a : Accepted) (command : List ℕ) (Says : RawTerm → Proof → RawTerm → Word → Type 0) (t : RawTerm) (text : List ℕ) : Type 0 where
   pub kept : Deduction
   pub deduction : IsDeduction kept
   pub over : kept.over ≡ a.module
@@ -61,8 +62,12 @@ pub record IsReduced (a : Accepted) (most : ℕ) (t : RawTerm) (text : List ℕ)
   pub S : Sorted
   pub word : Word
   pub least_sort : IsLeastSort a.module.signature (nested a.module.signature kept.to) S
-  pub true_word : IsTrueWord a.module most (nested a.module.signature kept.from) kept.proof (nested a.module.signature kept.to) word
-  pub written : text ≡ block a.module.signature a.name kept.from (min (count kept.proof) (2 ^ 64 - 1)) S kept.to word
+  pub true_word : Says (nested a.module.signature kept.from) kept.proof (nested a.module.signature kept.to) word
+  pub written : text ≡ block command a.module.signature a.name kept.from (min (count kept.proof) (2 ^ 64 - 1)) S kept.to word
+
+-- the block of a reduction of this term
+abbrev pub IsReduced : Accepted → ℕ → RawTerm → List ℕ → Type 0
+IsReduced a most t text = IsDeduced a (codes "reduce") (IsTrueWord a.module most) t text
 
 -- The text tells the canonical form of this term, with its least sort or kind.
 pub record IsParsed (a : Accepted) (t : RawTerm) (text : List ℕ) : Type 0 where
@@ -75,6 +80,7 @@ pub record IsParsed (a : Accepted) (t : RawTerm) (text : List ℕ) : Type 0 wher
 -- whether a command of this word matches a pattern, and then whether proper parts on top count
 abbrev pub inside_of : CommandWord → Option Bool
 inside_of Reduce = None
+inside_of Rewrite = None
 inside_of Parse = None
 inside_of Match = Some false
 inside_of Xmatch = Some true
@@ -124,6 +130,8 @@ pub data TermFault (a : Accepted) (words : List (List ℕ)) : FaultKind → Type
 
 -- why a command that stands in this module isn't answered
 pub data AnswerFault (a : Accepted) (c : SeenCommand) : FaultKind → Type 0 where
+  -- `rewrite` isn't answered yet
+  not_yet : c.word ≡ Rewrite → AnswerFault a c NotInProfile
   in_term : (cause : FaultKind) → inside_of c.word ≡ None → TermFault a (texts c.term) cause → AnswerFault a c cause
   undivided : (inside : Bool) → inside_of c.word ≡ Some inside → c.subject ≡ None → AnswerFault a c NoParse
   in_sides : (cause : FaultKind) (inside : Bool) (behind : List Token) → inside_of c.word ≡ Some inside → c.subject ≡ Some behind

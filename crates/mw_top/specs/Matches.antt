@@ -7,7 +7,7 @@ use Rattle.mw_logic.specs.NormalForm.{normal_form}
 use Rattle.mw_text.specs.Readings.{NoneHas, TwoHave, IsShort, ArePair, ReadsPair}
 use Rattle.mw_module.specs.declared.faults.FaultKind.{FaultKind}
 use Rattle.mw_module.specs.declared.faults.FaultKind.TheVariants.{TermTooLong, NoParse, Ambiguous, OpenTerm, TooDeep, NumberTooLarge}
-use Rattle.mw_build.specs.Equations.{FitsIn}
+use Rattle.mw_build.specs.Statements.{FitsIn}
 use Rattle.mw_build.specs.Modules.{Accepted}
 use Rattle.mw_solving.specs.Values.{IsValue}
 use Rattle.mw_match.specs.Listing.{AreListed}

@@ -13,7 +13,7 @@ ghost use Rattle.mw_position.specs.Variables.{sorts_of};
 ghost use Rattle.mw_compile.specs.Compiled.{IsCompiled};
 ghost use Rattle.mw_match.specs.Solutions.{IsAllSolutions};
 ghost use Rattle.mw_match.specs.Listing.{AreListed};
-ghost use Rattle.mw_build.specs.Equations.{Oversized, FitsIn};
+ghost use Rattle.mw_build.specs.Statements.{Oversized, FitsIn};
 ghost use Rattle.mw_build.specs.Modules.{Accepted};
 ghost use Rattle.mw_top.specs.Matches.{AreSides, AreCanonicalSides, AreOversized, IsMatched, SidesFault, match_word};
 

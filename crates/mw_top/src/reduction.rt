@@ -6,7 +6,7 @@ ghost use Rattle.mw_logic.specs.NormalForm.{normal_form};
 ghost use Rattle.mw_logic.specs.Proof.{count};
 ghost use Rattle.mw_logic.specs.Signature.{Sorted as SortedOf, IsRawTerm};
 ghost use Rattle.mw_logic.specs.Sorts.{IsLeastSort};
-ghost use Rattle.mw_block.specs.Blocks.{block as block_of};
+ghost use Rattle.mw_block.specs.Blocks.{block as block_of, command_text};
 ghost use Rattle.mw_term.specs.Raws.{raw_term};
 ghost use Rattle.mw_text.specs.Mixfix.{Reads};
 ghost use Rattle.mw_module.specs.Words.{texts};
@@ -18,7 +18,7 @@ ghost use Rattle.mw_top.specs.Seen.{word_of};
 ghost use Rattle.mw_canon.specs.Canonical.{IsAdmittedTerm};
 ghost use Rattle.mw_index.specs.Index.{IsIndexOf};
 
-use mw_block::{Reached, Status, parsed, reduction};
+use mw_block::{Echo, Reached, Status, deduction, parsed};
 use mw_build::{Module, canonical};
 use mw_index::Index;
 use mw_lex::Token;
@@ -86,31 +86,38 @@ fn status_of(outcome: Outcome) -> Status
     }
 }
 
-/// The block for a kept deduction, with the least sort of its end.
+/// The block for a kept deduction of a command of this word, with this bound, with the least sort of its end.
 fn block(
     alloc: Global,
     accepted: &Module,
+    command: &'static str,
+    bound: Option<u64>,
     proved: &Proved<'_>,
-    outcome: Outcome,
+    status: Status,
 ) -> Result<Vec<u8>, AllocError>
     requires { IsAdmittedTerm accepted.now.module.signature proved.now.to }
     ensures { IfOk result (λ text. (S : SortedOf) × IsLeastSort accepted.now.module.signature (nested accepted.now.module.signature proved.now.to) S
-        × (text.items ≡ block_of accepted.now.module.signature accepted.now.name proved.now.from (min (count proved.now.proof) (2 ^ 64 - 1)) S proved.now.to (word_of outcome))) }
+        × (text.items ≡ block_of (command_text command.now bound) accepted.now.module.signature accepted.now.name proved.now.from (min (count proved.now.proof) (2 ^ 64 - 1)) S proved.now.to (word_of_status status))) }
 {
     let context = accepted.context();
     context.shows();
+    let echo = Echo {
+        command,
+        bound,
+        name: accepted.name(),
+        term: proved.from(),
+    };
     let reached = Reached {
         count: proved.count(),
         sort: context.least_sort(proved.to()),
         term: proved.to(),
-        status: status_of(outcome),
+        status,
     };
-    reduction(
+    deduction(
         alloc,
         context.signature(),
         context.order(),
-        accepted.name(),
-        proved.from(),
+        &echo,
         &reached,
     )
 }
@@ -135,7 +142,7 @@ fn reduced_over(
     };
     let (proved, outcome) = reduce(alloc, context, index, term, budget)?;
     proved.shows();
-    block(alloc, accepted, &proved, outcome)
+    block(alloc, accepted, "reduce", None, &proved, status_of(outcome))
 }
 
 /// Reduces a term by at most so many steps, and gives the block.

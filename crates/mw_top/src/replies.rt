@@ -44,6 +44,8 @@ pub fn reply(
             let reply = reduction_of(alloc, accepted, command.term, most)?;
             Ok(reply)
         }
+        // Rules aren't applied yet.
+        Word::Rewrite => Ok(Err(FaultKind::NotInProfile)),
         Word::Parse => {
             let reply = parsed_of(alloc, accepted, command.term)?;
             Ok(reply)

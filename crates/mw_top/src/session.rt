@@ -208,7 +208,7 @@ impl<'s> Session<'s> {
         self.modules.get(number)
     }
 
-    /// Has the index of the equations made of the module in which a command is to be reduced.
+    /// Has the index of the statements made of the module in which a command's term is to be reduced.
     fn prepare(&mut self, alloc: Global, command: &Command<'_>) -> Result<(), AllocError>
         ensures { self.new ≡ self.old }
     {

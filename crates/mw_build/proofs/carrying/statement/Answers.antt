@@ -5,7 +5,7 @@ use Rattle.mw_term.specs.Raws.{raw_term}
 use Rattle.mw_term.specs.Statements.{fragment_of}
 use Rattle.mw_carry.specs.Carried.{IsCarried, AreCarriedFragments}
 use Rattle.mw_carry.proofs.Kept.{IsRawTerm-carried}
-use Rattle.mw_build.specs.Equations.{IsStatementOf, TermsFault}
+use Rattle.mw_build.specs.Statements.{IsStatementOf, TermsFault}
 use Rattle.mw_build.proofs.FragmentTerms.{raws_carried}
 use Rattle.mw_build.proofs.Imported.{of_carried}
 use Rattle.mw_build.proofs.carrying.statement.Goals as goal
@@ -40,9 +40,12 @@ returns-clause-imported c =
     let left = raw_term c.in_ok-left.field-0.left in
     let right = raw_term c.in_ok-left.field-0.right in
     let C = map fragment_of c.in_ok-left.field-0.fragments.items in
-    let same : c.statement.inside.executable ≡ st.executable = ap (λ (s : Statement). s.executable) c.statement.view_is in
+    let rule : c.statement.inside.rule ≡ st.rule = ap (λ (s : Statement). s.rule) c.statement.view_is in
+    let executable : c.statement.inside.executable ≡ st.executable = ap (λ (s : Statement). s.executable) c.statement.view_is in
     of_carried from sig c.requires.part c.requires.numbers c.shows.ensures st c.requires.sides c.requires.ordinary left right C
     (subst (λ (S : Signature). IsCarried from S st.left left) c.requires.to c.in_ok-left.ensures.left)
     (subst (λ (S : Signature). IsCarried from S st.right right) c.requires.to c.in_ok-left.ensures.right)
     (subst (λ (S : Signature). AreCarriedFragments from S st.fragments C) c.requires.to c.in_ok-left.ensures.fragments) c.statement_of.result
-    (subst (λ (b : Bool). IfOk c.statement_of.result (λ r. MatchResult r (IsStatementOf sig left right C b) (λ kind. TermsFault sig left right C b kind))) same c.statement_of.ensures)
+    (subst (λ (b : Bool). IfOk c.statement_of.result (λ r. MatchResult r (IsStatementOf sig left right C st.rule b) (λ kind. TermsFault sig left right C b kind))) executable
+    (subst (λ (b : Bool). IfOk c.statement_of.result (λ r. MatchResult r (IsStatementOf sig left right C b c.statement.inside.executable) (λ kind. TermsFault sig left right C c.statement.inside.executable kind))) rule
+    c.statement_of.ensures))

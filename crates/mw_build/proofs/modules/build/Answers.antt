@@ -6,7 +6,7 @@ use Rattle.mw_module.proofs.Causes.{passed_on}
 use Rattle.mw_import.specs.Flat.{IsFlat, ImportFault}
 use Rattle.mw_declare.specs.Faults.{typing_of}
 use Rattle.mw_declare.specs.Declarations.{Declares, DeclarationFault}
-use Rattle.mw_build.specs.Sides.{equations_of}
+use Rattle.mw_build.specs.Sides.{sides_of}
 use Rattle.mw_build.specs.Imported.{ArePartsOf, origins_of}
 use Rattle.mw_build.specs.Modules.{IsFlattened, IsRefused, StatementsFault, by_imports, by_declarations, by_statements, flattened, reached_of}
 use Rattle.mw_build.proofs.Loading.{loaded_parts, flattened_all, own_within}
@@ -70,8 +70,8 @@ returns-in_err-module-clause-fault c =
       typed = subst (λ (ts : List Lined). typing_of (map seen_lined ts) ≡ Ok c.in_ok-typing.typing) c.as_slice.ensures.value c.in_ok-typing.ensures.typed;
       flat = subst (λ (ts : List Lined). IsFlat us (map seen_lined ts) c.in_ok-flat.flat) c.as_slice-3.ensures.value c.in_ok-flat.ensures.flat;
     } in
-    passed_on (StatementsFault u.line d (origins_of ms c.as_slice-5.result.now) (equations_of u.statements)) (IsRefused us ms u c.args.name)
+    passed_on (StatementsFault u.line d (origins_of ms c.as_slice-5.result.now) (sides_of u.statements)) (IsRefused us ms u c.args.name)
     (λ f h. by_statements c.in_ok-typing.typing c.in_ok-flat.flat d flat
     (subst (λ (n : List ℕ). Declares (reached_of us n c.in_ok-flat.flat) c.in_ok-typing.typing (flattened us u c.in_ok-flat.flat) d) c.as_slice-4.ensures c.in_ok-declarations.ensures.declared)
-    (subst (λ (ks : List ℕ). StatementsFault u.line d (origins_of ms ks) (equations_of u.statements) f) c.as_slice-5.ensures h))
+    (subst (λ (ks : List ℕ). StatementsFault u.line d (origins_of ms ks) (sides_of u.statements) f) c.as_slice-5.ensures h))
     c.from_residual-in_err-module.result c.in_err-module.field-0.0 c.from_residual-in_err-module.ensures.1 c.in_err-module.ensures.fault

@@ -1,7 +1,7 @@
 use Rattle.std.proofs.Common.{[], ◌∷◌, Option, MatchOption, subst}
 use Rattle.mw_term.specs.Raws.{raw_term}
 use Rattle.mw_module.specs.declared.faults.FaultKind.{FaultKind}
-use Rattle.mw_build.specs.Equations.{FitsIn, Oversized, here}
+use Rattle.mw_build.specs.Statements.{FitsIn, Oversized, here}
 use Rattle.mw_build.proofs.Terms.{fits_so, next_told}
 use Rattle.mw_build.proofs.sizes.both_fault.Goals as goal
 

@@ -1,7 +1,7 @@
 use Rattle.std.proofs.Common.{[], ◌∷◌, All, IfOk, MatchOption, sym, subst}
 use Rattle.mw_term.specs.Raws.{raw_term}
 use Rattle.mw_term.specs.Statements.{fragment_of}
-use Rattle.mw_build.specs.Equations.{FitsIn, FirstOversized, terms_of}
+use Rattle.mw_build.specs.Statements.{FitsIn, FirstOversized, terms_of}
 use Rattle.mw_build.proofs.Terms.{one_told}
 use Rattle.mw_build.proofs.sizes.fragment_fault.Goals as goal
 

@@ -1,7 +1,7 @@
 use Rattle.std.proofs.Common.{[], ◌∷◌, All, Option, MatchOption, subst}
 use Rattle.mw_term.specs.Statements.{fragment_of}
 use Rattle.mw_module.specs.declared.faults.FaultKind.{FaultKind}
-use Rattle.mw_build.specs.Equations.{FitsIn, FirstOversized, terms_of}
+use Rattle.mw_build.specs.Statements.{FitsIn, FirstOversized, terms_of}
 use Rattle.mw_build.proofs.Terms.{all_fit_so}
 use Rattle.mw_build.proofs.FragmentTerms.{raw_next, fit_next, first_now, first_next}
 use Rattle.mw_build.proofs.sizes.fragments_fault.Goals as goal

@@ -2,7 +2,7 @@ use Rattle.std.proofs.Common.{length, map, All}
 use Rattle.mw_term.specs.Statements.{fragment_of}
 use Rattle.mw_module.specs.declared.faults.FaultKind.{FaultKind}
 use Rattle.mw_least.specs.Conditions.{AreRawFragments}
-use Rattle.mw_build.specs.Equations.{FitsIn, FirstOversized, terms_of}
+use Rattle.mw_build.specs.Statements.{FitsIn, FirstOversized, terms_of}
 use Rattle.mw_build.proofs.sizes.fragments_fault.Given as goal
 
 abbrev pub invariant-loop-rest : goal.invariant-loop-rest

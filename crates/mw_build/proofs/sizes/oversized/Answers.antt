@@ -1,6 +1,6 @@
 use Rattle.std.proofs.Common.{subst}
 use Rattle.mw_canon.specs.Causes.{HasCause}
-use Rattle.mw_build.specs.Equations.{deep, large}
+use Rattle.mw_build.specs.Statements.{deep, large}
 use Rattle.mw_build.proofs.sizes.oversized.Goals as goal
 
 pub returns-in-Deep : goal.returns-in-Deep

@@ -1,6 +1,6 @@
 use Rattle.std.proofs.Common.{◌≡◌, length, map}
 use Rattle.mw_term.specs.Statements.{fragment_of}
-use Rattle.mw_build.specs.Equations.{bound_by}
+use Rattle.mw_build.specs.Statements.{bound_by}
 use Rattle.mw_build.proofs.variables.bind_all.Given as goal
 
 abbrev pub invariant-loop-rest : goal.invariant-loop-rest

@@ -1,6 +1,6 @@
 use Rattle.std.proofs.Common.{◌≡◌, length, map}
 use Rattle.mw_term.specs.Statements.{fragment_of}
-use Rattle.mw_build.specs.Equations.{loose}
+use Rattle.mw_build.specs.Statements.{loose}
 use Rattle.mw_build.proofs.variables.loose.Given as goal
 
 abbrev pub invariant-loop-rest : goal.invariant-loop-rest

@@ -24,4 +24,4 @@ returns c = λ K k w run may is on leaf.
     let known : IsKnownIn M K.rank (us ++ vs) (length us) b p = known_applied K c.args.facts.now run k (data_of M m) w (let i = may.stands.in_hand in record { stand = i.stand; leads = i.leads; opened = i.opened; hand = i.hand; good = i.good; job = may.known }) us c.args.by (all_moves M c.args.sides.now.items) vs is c.args.top b on leaf c.known_by.ensures.sure c.known_by.ensures.unsure in
     let e : term_of M.signature (us ++ vs) x ≡ evaluated M.signature vs p = rw run.signature (s.term ∙ instance_behind c.args.facts.now us vs (us ++ vs) p (length us) refl refl) in
     let j : IsJob M K.rank (us ++ vs) x = s.known M K.rank over known in
-    c.in_ok-base.ensures.means K k c.args.facts.now p w run may x (rw new e) (rw new j)
+    c.in_ok-base.ensures.means K c.args.by.rule k c.args.facts.now p w run may x (rw new e) (rw new j)

@@ -1,4 +1,4 @@
-use Rattle.std.proofs.Common.{rules, ◌≡◌, ◌∙◌, sym, subst, ap, refl, min, length, take, drop, reverse}
+use Rattle.std.proofs.Common.{rules, false, ◌≡◌, ◌∙◌, sym, subst, ap, refl, min, length, take, drop, reverse}
 use Rattle.mw_logic.specs.Term.{RawTerm, join}
 use Rattle.mw_logic.specs.Terms.{terms_of}
 use Rattle.mw_logic.specs.NormalForm.{applied_in}
@@ -33,4 +33,4 @@ returns c = λ K k b run h refuses.
     let P : Data → RawTerm → Type 0 = λ x u. (i : InHand K k x (Walk u)) × (i.stand ≡ h.settled.stand) in
     let first : P (round_choice d f) (decided_term here d f) = (choice_in_hand K c.args.facts.now run k d f b h, refl) in
     let (i, q) = subst (λ x. P x c.in_ok-term.term) (sym same) (subst (P (round_choice d f)) (sym term) first) in
-    c.in_ok-fired.ensures K k run i (λ t e. refuses t (e ∙ ap (λ S. whole here S.opens S.hand) q))
+    c.in_ok-fired.ensures.means K false k run i (λ t e. refuses t (e ∙ ap (λ S. whole here S.opens S.hand) q))

@@ -12,7 +12,7 @@ use Rattle.mw_frames.proofs.Applications.{several_settled}
 use Rattle.mw_frames.proofs.meeting.meet_part.Goals as goal
 
 pub returns : goal.returns
-returns c = λ K k w run part may.
+returns c = λ K k w S run part may.
     let met = c.meet_here.new.machine in
     let old = c.leave_hole.new.machine in
     let after = c.wait_met.new.machine in

@@ -1,3 +1,4 @@
+use Rattle.std.specs.Prelude.{false}
 use Rattle.mw_frames.specs.Machines.{data_of}
 use Rattle.mw_frames.specs.Redex.{MayMeetRow, walked}
 use Rattle.mw_frames.proofs.RowsMet.{row_deep, row_large}
@@ -13,9 +14,9 @@ returns-in-Fits c = λ K k run a row.
 pub returns-in-TooDeep : goal.returns-in-TooDeep
 returns-in-TooDeep c = λ K k run a row.
     let z = rw c.in-TooDeep.is at (c.in_ok-fit_row.ensures K k c.args.term run (walked K k (data_of K.over c.args.machine.now) c.args.term a.holds) row) in
-    c.in_ok-fired-in-TooDeep.ensures K k run (walked K k (data_of K.over c.args.machine.now) c.args.term a.holds) (λ t e. row_deep K c.args.facts.now run k (data_of K.over c.args.machine.now) c.args.term c.args.to t (walked K k (data_of K.over c.args.machine.now) c.args.term a.holds) a.seen row e z)
+    c.in_ok-fired-in-TooDeep.ensures.means K false k run (walked K k (data_of K.over c.args.machine.now) c.args.term a.holds) (λ t e. row_deep K c.args.facts.now run k (data_of K.over c.args.machine.now) c.args.term c.args.to t (walked K k (data_of K.over c.args.machine.now) c.args.term a.holds) a.seen row e z)
 
 pub returns : goal.returns
 returns c = λ K k run a row.
     let z = rw c.in-TooLarge.is at (c.in_ok-fit_row.ensures K k c.args.term run (walked K k (data_of K.over c.args.machine.now) c.args.term a.holds) row) in
-    c.in_ok-fired-in-TooLarge.ensures K k run (walked K k (data_of K.over c.args.machine.now) c.args.term a.holds) (λ t e. row_large K c.args.facts.now run k (data_of K.over c.args.machine.now) c.args.term c.args.to t (walked K k (data_of K.over c.args.machine.now) c.args.term a.holds) a.seen row e z.0 z.1)
+    c.in_ok-fired-in-TooLarge.ensures.means K false k run (walked K k (data_of K.over c.args.machine.now) c.args.term a.holds) (λ t e. row_large K c.args.facts.now run k (data_of K.over c.args.machine.now) c.args.term c.args.to t (walked K k (data_of K.over c.args.machine.now) c.args.term a.holds) a.seen row e z.0 z.1)

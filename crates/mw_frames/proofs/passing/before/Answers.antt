@@ -1,29 +1,15 @@
-use Rattle.std.proofs.Common.{subst, ◌≡◌, ◌≤◌, ℕ, zero, suc, drop, Bool, true, false, refl, arith}
+use Rattle.std.proofs.Common.{subst, ◌≡◌, ℕ, drop, Bool, true, false, refl, arith}
 use Rattle.std.proofs.lemmas.List.{length-drop}
-use Rattle.mw_logic.specs.Term.{RawTerm, RawTerms, nil, cons}
-use Rattle.mw_logic.specs.Terms.{skip}
-use Rattle.mw_logic.specs.Signature.{Signature}
+use Rattle.mw_logic.specs.Term.{RawTerm, RawTerms}
 use Rattle.mw_logic.specs.Parts.{number_of_terms}
-use Rattle.mw_logic.specs.NormalForm.{is_comm, arranged}
+use Rattle.mw_logic.specs.NormalForm.{is_comm}
 use Rattle.mw_stack.specs.Own.{own}
 use Rattle.mw_stack.specs.Places.{IsPlace}
-use Rattle.mw_stack.proofs.Cutting.{place_cuts}
 use Rattle.mw_stack.proofs.Piles.{number-terms_of}
 use Rattle.mw_frames.specs.Jobs.{term_of}
 use Rattle.mw_frames.specs.Machines.{IsCutAt}
+use Rattle.mw_frames.proofs.CutPlaces.{is_cut}
 use Rattle.mw_frames.proofs.passing.before.Goals as goal
-
-is_cut : (sig : Signature) (f : ℕ) (ts : RawTerms) (x : RawTerm) (i : ℕ) → i ≤ number_of_terms ts → IsPlace (is_comm sig f) ts x i → arranged (is_comm sig f) ts ≡ ts → IsCutAt sig f ts x i
-is_cut sig f ts x i b p o = record { bound = b; behind = λ z. none z p; cut = λ waiting q. place_cuts (is_comm sig f) ts x waiting i o p q }
-  where
-    all : (j : ℕ) (us : RawTerms) → j ≡ number_of_terms us → skip j us ≡ nil
-    all zero nil e = refl
-    all zero (cons u us) e = cc
-    all (suc j) nil e = refl
-    all (suc j) (cons u us) e = all j us (omega (arith, e))
-
-    none : is_comm sig f ≡ false → IsPlace (is_comm sig f) ts x i → skip i ts ≡ nil
-    none z p = all i ts (subst (λ c. IsPlace c ts x i) z p)
 
 pub returns-in-Some : goal.returns-in-Some
 returns-in-Some c = λ vs h o.

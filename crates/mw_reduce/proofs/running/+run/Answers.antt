@@ -27,7 +27,7 @@ use Rattle.mw_reduce.specs.declared.evaluation.Tested.{Tested}
 use Rattle.mw_reduce.proofs.Applying.{left_bound, found_triable, made_at_once, made_so, failed_so, too_many, stopped_so}
 use Rattle.mw_reduce.proofs.Evaluating.{here_at, tested_at}
 use Rattle.mw_reduce.proofs.Going.{begin, hold}
-use Rattle.mw_reduce.proofs.Reduced.{is_run, begins_run}
+use Rattle.mw_reduce.proofs.Reduced.{is_run, begins_run, from_none}
 use Rattle.mw_reduce.proofs.SideRuns.{side_raw}
 use Rattle.mw_reduce.proofs.Tests.{none_there, one_there, some_test_at, at_equal, at_match, at_sort, at_truth}
 use Rattle.mw_reduce.proofs.running.+run.Goals as goal
@@ -35,25 +35,36 @@ use Rattle.mw_reduce.proofs.running.+run.Goals as goal
 made_less : (limit left made n m : ℕ) → left ≤ limit → made ≤ left → 0 < made → m ≡ max made 1 → n ≡ left - m → limit - left + made ≡ limit - n
 made_less limit left made n m a b c d e = omega (arith, a, b, c, d, e)
 
-pub drive-loop-left-preserved : goal.drive-loop-left-preserved
-drive-loop-left-preserved m c = (
+pub run_on-loop-left-preserved : goal.run_on-loop-left-preserved
+run_on-loop-left-preserved m c = (
   let a = c.loop-left.invariant.0 in let e = c.saturating_sub-left.ensures in omega (arith, a, e),
-  λ K run here rank h.
-      let p = c.in_ok-pause.ensures K (c.args.limit - c.loop-left.left) run here rank (c.loop-left.invariant.1 K run here rank h) in
-      let (some, few, z) = rw c.in-Goes.is at (c.in_ok-next.ensures K (c.args.limit - c.loop-left.left) c.args.side run here (search rules) p) in
+  λ K k run here rank h.
+      let n : ℕ = k + (c.args.limit - c.loop-left.left) in
+      let p = c.in_ok-pause.ensures K n run here rank (c.loop-left.invariant.1 K k run here rank h) in
+      let (some, few, z) = rw c.in-Goes.is at (c.in_ok-next.ensures K n c.args.side run here (search rules) p) in
       let more = made_less c.args.limit c.loop-left.left c.in-Goes.count c.saturating_sub-left.result c.max.result c.loop-left.invariant.0 few some c.max.ensures c.saturating_sub-left.ensures in
-      subst (λ n. Holds K n (data_of K.over c.go_on.new.machine) c.in-Goes.next) more z,
+      subst (λ i. Holds K i (data_of K.over c.go_on.new.machine) c.in-Goes.next) (omega (arith, more)) z,
 )
 
-pub drive-returns-in-Ends : goal.drive-returns-in-Ends
-drive-returns-in-Ends m c = λ K run here rank h.
-    let p = c.in_ok-pause.ensures K (c.args.limit - c.loop-left.left) run here rank (c.loop-left.invariant.1 K run here rank h) in
-    let z = rw c.in-Ends.is at (c.in_ok-next.ensures K (c.args.limit - c.loop-left.left) c.args.side run here (search rules) p) in
-    (c.args.limit - c.loop-left.left, inl ((search rules), z))
+pub run_on-returns-in-Ends-clause-left : goal.run_on-returns-in-Ends-clause-left
+run_on-returns-in-Ends-clause-left m c = (c.loop-left.invariant.0, λ e. (search rules))
 
-pub drive-returns : goal.drive-returns
-drive-returns m c = λ K run here rank h.
-    (c.args.limit - c.loop-left.left, inr ((search rules), refl, c.in_ok-term.ensures K (c.args.limit - c.loop-left.left) (rw c.facts.ensures run) (c.loop-left.invariant.1 K run here rank h)))
+pub run_on-returns-in-Ends-clause-is : goal.run_on-returns-in-Ends-clause-is
+run_on-returns-in-Ends-clause-is m c = λ K k run here rank h.
+    let n : ℕ = k + (c.args.limit - c.loop-left.left) in
+    let p = c.in_ok-pause.ensures K n run here rank (c.loop-left.invariant.1 K k run here rank h) in
+    let z = rw c.in-Ends.is at (c.in_ok-next.ensures K n c.args.side run here (search rules) p) in
+    let low : c.args.limit - c.loop-left.left < c.args.limit = (search rules) in
+    let a = c.loop-left.invariant.0 in (n, omega (arith, a), inl (omega (arith, low), z))
+
+pub run_on-returns-clause-left : goal.run_on-returns-clause-left
+run_on-returns-clause-left m c = (omega arith, λ e. cc)
+
+pub run_on-returns-clause-is : goal.run_on-returns-clause-is
+run_on-returns-clause-is m c = λ K k run here rank h.
+    let n : ℕ = k + (c.args.limit - c.loop-left.left) in
+    let all : c.args.limit - c.loop-left.left ≡ c.args.limit = (search rules) in
+    (n, omega (arith, all), inr (omega (arith, all), refl, c.in_ok-term.ensures K n (rw c.facts.ensures run) (c.loop-left.invariant.1 K k run here rank h)))
 
 pub find-loop-rounds-preserved-in-Goes : goal.find-loop-rounds-preserved-in-Goes
 find-loop-rounds-preserved-in-Goes m c = (tt, λ K k run here rank h. rw c.in-Goes.is at (c.in_ok-next.ensures.means K k run here (c.loop-rounds.invariant.1 K k run here rank h)))
@@ -149,8 +160,8 @@ evaluate-returns-then-at-tests m c = λ n number e nest there condition bound.
     let long = subst (λ (ts : List Test). Rattle.std.proofs.Common.length ts ≤ c.loop-rounds.at) c.as_slice-tests.ensures c.if-at-tests.true in
     hold M n e tests s c.loop-rounds.at c.loop-rounds.values.items c.loop-rounds.sides.items (reverse c.loop-rounds.others.items) h (drop_of_length-le tests long)
 
-pub run_side-returns-in_ok-end-in-Runs : goal.run_side-returns-in_ok-end-in-Runs
-run_side-returns-in_ok-end-in-Runs m c = λ n xs t nest asked is bound.
+pub run_side-returns-in_ok-driven-in-Runs : goal.run_side-returns-in_ok-driven-in-Runs
+run_side-returns-in_ok-driven-in-Runs m c = λ n xs t nest asked is bound.
     let M : Module = c.args.context.now in
     let work : IsWorkable M = c.shows.ensures in
     let v : RawTerm = instance (bound_to M.signature xs c.args.values.now) t in
@@ -160,29 +171,29 @@ run_side-returns-in_ok-end-in-Runs m c = λ n xs t nest asked is bound.
     let hand : Holds (run_of M n r.from) 0 (data_of M r.machine) (One (Walk c.in_ok-copy-in-Runs.field-0)) =
     subst (λ u. Holds (run_of M n r.from) 0 (data_of M r.machine) (One (Walk u))) (sym c.in_ok-copy-in-Runs.ensures) (begins_run M work n r.from low r.machine empty) in
     c.end_side.ensures M n c.args.limit v work (side_raw M work xs c.args.values.now bound t asked) low from
-    (c.in_ok-end-in-Runs.ensures (run_of M n r.from) (is_run M work n r.from low) refl (let e = nest in omega (arith, e)) hand)
+    (from_none (run_of M n r.from) c.args.limit c.args.limit _ c.in_ok-driven-in-Runs.driven (c.in_ok-driven-in-Runs.ensures.is (run_of M n r.from) 0 (is_run M work n r.from low) refl (let e = nest in omega (arith, e)) hand))
 
 pub try_choice-returns-then-is_empty-clause-means : goal.try_choice-returns-then-is_empty-clause-means
 try_choice-returns-then-is_empty-clause-means m c = λ t may.
     let q : Choice = c.args.choice.now in
-    let none = none_there q.equation.now.condition.tests c.as_slice.result.now c.is_empty.result c.as_slice.ensures c.is_empty.ensures c.if-is_empty.true in
+    let none = none_there q.by.now.condition.tests c.as_slice.result.now c.is_empty.result c.as_slice.ensures c.is_empty.ensures c.if-is_empty.true in
     subst (IsMade c.args.context.now c.args.nest t q) (sym c.new.ensures.items) (made_at_once c.args.context.now c.shows.ensures t q may c.args.nest none)
 
 pub try_choice-returns-then-nest-eq0-clause-means : goal.try_choice-returns-then-nest-eq0-clause-means
 try_choice-returns-then-nest-eq0-clause-means m c = λ t may.
     let q : Choice = c.args.choice.now in
-    let (x, some) = one_there q.equation.now.condition.tests c.as_slice.result.now c.is_empty.result c.as_slice.ensures c.is_empty.ensures c.if-is_empty.false in
-    subst (λ n. IsHaltingAt c.args.context.now n c.args.side t q.take reason.Nest) (sym c.if-nest-eq0.true) (too_many c.args.context.now c.shows.ensures t q may c.args.side x some)
+    let (x, some) = one_there q.by.now.condition.tests c.as_slice.result.now c.is_empty.result c.as_slice.ensures c.is_empty.ensures c.if-is_empty.false in
+    subst (λ n. IsHaltingAt c.args.context.now q.by.now.rule n c.args.side t q.take reason.Nest) (sym c.if-nest-eq0.true) (too_many c.args.context.now c.shows.ensures t q may c.args.side x some)
 
 pub try_choice-returns-in_ok-trails-in-Held-clause-means : goal.try_choice-returns-in_ok-trails-in-Held-clause-means
 try_choice-returns-in_ok-trails-in-Held-clause-means m c = λ t may.
     let M : Module = c.args.context.now in
     let q : Choice = c.args.choice.now in
-    let new : Choice = record { equation = q.equation; values = c.put_in_order.new.values; take = q.take } in
+    let new : Choice = record { by = q.by; values = c.put_in_order.new.values; take = q.take } in
     let n : ℕ = c.args.nest - 1 in
     let nest : c.args.nest ≡ suc n = let z = c.if-nest-eq0.false in omega (arith, z) in
-    let (x, some) = one_there q.equation.now.condition.tests c.as_slice.result.now c.is_empty.result c.as_slice.ensures c.is_empty.ensures c.if-is_empty.false in
-    let held = rw c.in-Held.is at (c.in_ok-sides.ensures n q.equation.now.number may.choice.statement nest may.choice.is_there may.choice.is.condition (left_bound M c.shows.ensures t q may)) in
+    let (x, some) = one_there q.by.now.condition.tests c.as_slice.result.now c.is_empty.result c.as_slice.ensures c.is_empty.ensures c.if-is_empty.false in
+    let held = rw c.in-Held.is at (c.in_ok-sides.ensures n q.by.now.number may.choice.statement nest may.choice.is_there may.choice.is.condition (left_bound M c.shows.ensures t q may)) in
     subst (λ k. IsMade M k t new c.in_ok-trails-in-Held.trails.items) (sym nest)
     (made_so M c.shows.ensures t q may n x some new refl c.evaluate.new.values.items c.in-Held.sides.items c.in_ok-trails-in-Held.trails.items held (c.in_ok-trails-in-Held.ensures M) c.in_ok-put_in_order-in-Held.ensures)
 
@@ -192,7 +203,7 @@ try_choice-returns-in-Failed-clause-means m c = λ t may e is.
     let q : Choice = c.args.choice.now in
     let n : ℕ = c.args.nest - 1 in
     let nest : c.args.nest ≡ suc n = let z = c.if-nest-eq0.false in omega (arith, z) in
-    let failed = rw c.in-Failed.is at (c.in_ok-sides.ensures n q.equation.now.number may.choice.statement nest may.choice.is_there may.choice.is.condition (left_bound M c.shows.ensures t q may)) in
+    let failed = rw c.in-Failed.is at (c.in_ok-sides.ensures n q.by.now.number may.choice.statement nest may.choice.is_there may.choice.is.condition (left_bound M c.shows.ensures t q may)) in
     subst (λ k. IsFailed M k (tried_of q) e) (sym nest) (failed_so M c.shows.ensures t q may n failed e is)
 
 pub try_choice-returns-in-Stopped-clause-means : goal.try_choice-returns-in-Stopped-clause-means
@@ -201,8 +212,8 @@ try_choice-returns-in-Stopped-clause-means m c = λ t may.
     let q : Choice = c.args.choice.now in
     let n : ℕ = c.args.nest - 1 in
     let nest : c.args.nest ≡ suc n = let z = c.if-nest-eq0.false in omega (arith, z) in
-    let stopped = rw c.in-Stopped.is at (c.in_ok-sides.ensures n q.equation.now.number may.choice.statement nest may.choice.is_there may.choice.is.condition (left_bound M c.shows.ensures t q may)) in
-    subst (λ k. IsHaltingAt M k c.args.side t q.take reason.Condition) (sym nest) (stopped_so M c.shows.ensures t q may n c.args.side c.in-Stopped.field-0 stopped)
+    let stopped = rw c.in-Stopped.is at (c.in_ok-sides.ensures n q.by.now.number may.choice.statement nest may.choice.is_there may.choice.is.condition (left_bound M c.shows.ensures t q may)) in
+    subst (λ k. IsHaltingAt M q.by.now.rule k c.args.side t q.take reason.Condition) (sym nest) (stopped_so M c.shows.ensures t q may n c.args.side c.in-Stopped.field-0 stopped)
 
 -- a side of the fragment stops
 abbrev StopsIn : (M : Module) → ℕ → ℕ → List Variable → List RawTerm → Reason → Fragment → List Variable → Type 0

@@ -8,8 +8,8 @@ use Rattle.mw_reduce.specs.Turns.{IsTurn, TurnOf}
 use Rattle.mw_reduce.specs.Evaluations.{AreBoundTo, bound_to, IsTrial}
 use Rattle.mw_reduce.proofs.running.+run.Given as goal
 
-abbrev pub decreases-drive : goal.decreases-drive
-decreases-drive l = 6 * l.nest + 5
+abbrev pub decreases-run_on : goal.decreases-run_on
+decreases-run_on l = 6 * l.nest + 5
 
 abbrev pub decreases-find : goal.decreases-find
 decreases-find l = 6 * l.nest + 4
@@ -26,12 +26,12 @@ decreases-try_test l = 6 * l.nest + 1
 abbrev pub decreases-run_side : goal.decreases-run_side
 decreases-run_side l = 6 * l.nest
 
-abbrev pub invariant-drive-loop-left : goal.invariant-drive-loop-left
-invariant-drive-loop-left l =
-    (l.left ≤ l.limit) × ((K : Run) → IsRun K l.context.signature → K.over ≡ l.context → K.rank ≡ l.nest → Holds K 0 (data_of K.over l.fn.machine) l.fn.hand → Holds K (l.limit - l.left) (data_of K.over l.machine) l.hand)
+abbrev pub invariant-run_on-loop-left : goal.invariant-run_on-loop-left
+invariant-run_on-loop-left l =
+    (l.left ≤ l.limit) × ((K : Run) (k : ℕ) → IsRun K l.context.signature → K.over ≡ l.context → K.rank ≡ l.nest → Holds K k (data_of K.over l.fn.machine) l.fn.hand → Holds K (k + (l.limit - l.left)) (data_of K.over l.machine) l.hand)
 
-abbrev pub decreases-drive-loop-left : goal.decreases-drive-loop-left
-decreases-drive-loop-left l = l.left
+abbrev pub decreases-run_on-loop-left : goal.decreases-run_on-loop-left
+decreases-run_on-loop-left l = l.left
 
 abbrev pub invariant-find-loop-rounds : goal.invariant-find-loop-rounds
 invariant-find-loop-rounds l =

@@ -13,7 +13,7 @@ returns-in-TooBig-clause-means c = λ K k run here a. record { asked = a; big = 
 pub returns-in_ok-turn-in-Nothing-clause-means : goal.returns-in_ok-turn-in-Nothing-clause-means
 returns-in_ok-turn-in-Nothing-clause-means c = λ K k run here a.
     c.in_ok-turn-in-Nothing.ensures.means K k [] run here a (rw c.in-Nothing.is at (c.in_ok-take.ensures K k run here a)) (none_failed K.over K.rank)
-    (c.again.ensures K.over c.args.index.now (asked_term (data_of K.over c.args.machine.now) c.args.asked))
+    (c.again.ensures.covers K.over c.args.index.now (asked_term (data_of K.over c.args.machine.now) c.args.asked))
 
 pub returns-in_ok-turn-in-Nothing-clause-falls : goal.returns-in_ok-turn-in-Nothing-clause-falls
 returns-in_ok-turn-in-Nothing-clause-falls c = λ M w h. c.in_ok-turn-in-Nothing.ensures.falls M w h

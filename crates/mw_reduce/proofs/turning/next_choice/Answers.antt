@@ -25,6 +25,7 @@ returns-in-Some-clause-means c = λ K k tried run here a rows failed covers.
       rows = rows;
       choice = subst (λ m. IsChoice m t c.in-Some.choice) (sym here) p.0;
       sized = z;
+      equation = (rw c.in-Some.is at c.in_ok-choice.ensures.of).1;
       tried = tried;
       failed = failed;
       others = subst (λ m. Covers m c.args.index.now t (tried ++ tried_of c.in-Some.choice ∷ []) c.next.new.self) (sym here) p.1;

@@ -6,14 +6,16 @@ use Rattle.mw_poset.specs.SortOrder.{order_of}
 use Rattle.mw_term.specs.Signatures.{sorted_of}
 use Rattle.mw_print.specs.Sorts.{IsKindThere}
 use Rattle.mw_canon.specs.Canonical.{IsAdmittedTerm}
+use Rattle.mw_block.specs.Blocks.{command_text}
+use Rattle.mw_block.specs.Seen.{word_of}
 use Rattle.mw_top.proofs.Answering.{kind_of_least, block_by, if_ok}
 use Rattle.mw_top.proofs.reduction.block.Goals as goal
 
-pub reduction-requires-clause-order : goal.reduction-requires-clause-order
-reduction-requires-clause-order c = c.order.ensures ∙ ap order_of (sym c.signature.ensures)
+pub deduction-requires-clause-order : goal.deduction-requires-clause-order
+deduction-requires-clause-order c = c.order.ensures ∙ ap order_of (sym c.signature.ensures)
 
-pub reduction-requires-clause-kind : goal.reduction-requires-clause-kind
-reduction-requires-clause-kind c =
+pub deduction-requires-clause-kind : goal.deduction-requires-clause-kind
+deduction-requires-clause-kind c =
     let M = c.context-context.result.now in
     let t = c.to.result.now in
     let S = sorted_of c.least_sort.result in
@@ -27,10 +29,10 @@ returns c =
     let S = sorted_of c.least_sort.result in
     let admitted : IsAdmittedTerm M.signature t = rw (c.context-context.ensures, c.to.ensures) c.requires in
     let least : IsLeastSort M.signature (nested M.signature t) S = c.least_sort.ensures admitted.canonical admitted.raw in
-    if_ok c.reduction.result c.reduction.ensures
+    if_ok c.deduction.result c.deduction.ensures
     (λ text written. (
       S,
       rw (c.context-context.ensures, c.to.ensures) at least,
-      block_by c.args.accepted.now M c.context-context.ensures c.signature.result.now c.signature.ensures c.name.result.now c.name.ensures S text.items
-          _ _ c.from.ensures _ _ c.count.ensures _ _ c.to-2.ensures _ _ c.status_of.ensures written,
+      block_by c.args.accepted.now M c.context-context.ensures c.signature.result.now c.signature.ensures c.name.result.now c.name.ensures
+          (command_text c.args.command.now c.args.bound) S (word_of c.args.status) text.items _ _ c.from.ensures _ _ c.count.ensures _ _ c.to-2.ensures written,
     ))

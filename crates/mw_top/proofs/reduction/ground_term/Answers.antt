@@ -4,7 +4,7 @@ use Rattle.mw_logic.specs.Signature.{Signature, IsRawTerm}
 use Rattle.mw_logic.specs.NormalForm.{normal_form}
 use Rattle.mw_logic.specs.Module.{Module}
 use Rattle.mw_term.specs.Raws.{raw_term}
-use Rattle.mw_build.specs.Equations.{FitsIn, Oversized}
+use Rattle.mw_build.specs.Statements.{FitsIn, Oversized}
 use Rattle.mw_least.specs.Workable.{IsWorkable}
 use Rattle.mw_top.specs.Commands.{opened}
 use Rattle.mw_top.proofs.Answering.{read_so}

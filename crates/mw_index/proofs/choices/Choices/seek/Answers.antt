@@ -4,8 +4,8 @@ use Rattle.mw_logic.specs.Module.{Module, Statement}
 use Rattle.mw_match.specs.Hands.{IsNext}
 use Rattle.mw_match.specs.Solutions.{Coming}
 use Rattle.mw_index.specs.Choices.{subject_of, tried_of, AreComing}
-use Rattle.mw_index.specs.declared.equations.Equation.{Equation}
-use Rattle.mw_index.specs.declared.equations.Searched.{Searched}
+use Rattle.mw_index.specs.declared.oriented.Oriented.{Oriented}
+use Rattle.mw_index.specs.declared.oriented.Searched.{Searched}
 use Rattle.mw_index.proofs.Sides.{left_raw}
 use Rattle.mw_index.proofs.Seeking.{none_left, others_come, search_answer}
 use Rattle.mw_index.proofs.Trying.{are_tried_more, search_to, comes_from}
@@ -14,7 +14,7 @@ use Rattle.mw_index.proofs.choices.Choices.seek.Goals as goal
 pub returns-in_ok-choice-in-Some-clause-is : goal.returns-in_ok-choice-in-Some-clause-is
 returns-in_ok-choice-in-Some-clause-is c tried v kept under =
     let M : Module = c.args.context.now in
-    let st : Equation = c.args.equation.now in
+    let st : Oriented = c.args.by.now in
     let s : Searched = c.args.searched.now in
     let t : RawTerm = subject_of c.args.subject in
     let e : Statement = c.requires.of.statement in
@@ -34,7 +34,7 @@ returns-in_ok-choice-in-Some-clause-is c tried v kept under =
 pub returns-in-None-clause-is : goal.returns-in-None-clause-is
 returns-in-None-clause-is c tried v kept under =
     let M : Module = c.args.context.now in
-    let st : Equation = c.args.equation.now in
+    let st : Oriented = c.args.by.now in
     let s : Searched = c.args.searched.now in
     let t : RawTerm = subject_of c.args.subject in
     let e : Statement = c.requires.of.statement in

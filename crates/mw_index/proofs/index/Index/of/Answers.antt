@@ -3,7 +3,7 @@ use Rattle.mw_index.proofs.Indexing.{index_none, index_all}
 use Rattle.mw_index.proofs.index.Index.of.Goals as goal
 
 pub loop-at-init : goal.loop-at-init
-loop-at-init c = index_none c.args.context.now c.none-index.result c.none-index.ensures
+loop-at-init c = index_none c.args.context.now c.none-index.result c.none-index.ensures.equations c.none-index.ensures.rules
 
 pub loop-at-preserved : goal.loop-at-preserved
 loop-at-preserved c = c.in_ok-list.ensures c.loop-at.invariant

@@ -7,6 +7,7 @@ invariant-loop-alloc l = record {
   listed : (f : ℕ) → listed l.self f ≡ listed l.fn.self f;
   any : l.self.any.items ≡ l.fn.self.any.items;
   leaves : l.self.leaves.items ≡ l.fn.self.leaves.items;
+  rules : l.self.rules.items ≡ l.fn.self.rules.items;
 }
 
 abbrev pub decreases-loop-alloc : goal.decreases-loop-alloc

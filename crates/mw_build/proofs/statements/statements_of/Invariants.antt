@@ -1,0 +1,10 @@
+use Rattle.std.proofs.Common.{List, take}
+use Rattle.mw_logic.specs.Term.{Variable}
+use Rattle.mw_build.specs.Sides.{all_seen_sides}
+use Rattle.mw_grammar.specs.Grammars.{IsGrammarOf}
+use Rattle.mw_build.specs.Statements.{AreReadAs}
+use Rattle.mw_build.proofs.statements.statements_of.Given as goal
+
+abbrev pub invariant-loop-written : goal.invariant-loop-written
+invariant-loop-written l = (variables : List Variable) → IsGrammarOf l.facts variables l.grammar
+    → AreReadAs l.facts variables (all_seen_sides (take l.written-index l.statements)) l.found.items

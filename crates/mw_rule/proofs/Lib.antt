@@ -1,0 +1,9 @@
+pub mod Reaching
+pub mod Finals
+pub mod Untold
+pub mod Places
+pub mod Outcomes
+mod Listed
+mod Passed
+mod Ended
+mod Looking
