@@ -1,25 +1,7 @@
-#!/usr/bin/env python3
-"""Times `rewrite` on modules with rules: Maude, and a program of mw beside it.
+"""Modules with rules, and terms of three sizes to be rewritten there, for bench/run.
 
-The programs have the form of those of bench/run: a name, and three sizes of a module's body and a term. In each of them
-the result and the number of rewrites are the same whichever solution or part is taken first. It prints, for each size:
-Maude's rewrites, its seconds and how its time grows with its rewrites from the smallest size to the largest, as an
-exponent; and with PROGRAM that program's seconds, its peak memory, its growth and the ratio.
-
-usage: rules.py [--only WORD] [--write FOLDER] [--check] [PROGRAM]
-
---write puts each source into a file, as it is for both; --check asks the model for small sizes and compares."""
-import argparse
-import math
-import os
-import pathlib
-import re
-import subprocess
-import sys
-import tempfile
-import time
-
-RUNS = 3
+In each of them the result is the same whichever rule, solution or part is taken first, and so is the number of
+rewrites."""
 
 # The token goes round once; each node is marked.
 RING = """
@@ -197,7 +179,7 @@ def looped(n):
            f"('n is {n}) ('m is {n}) ('s is 0)" + "}"
 
 
-CASES = {
+RULE_CASES = {
     "token ring": [(RING, f"token(0) ring({n}, {n})") for n in (320, 640, 1280)],
     "philosophers": [(PHILOSOPHERS, f"table({n}, {n})") for n in (240, 480, 960)],
     "bank": [(BANK, f"accounts({n}) messages({n}, {n})") for n in (400, 800, 1600)],
@@ -209,113 +191,3 @@ CASES = {
     "concurrent language": [(LANGUAGE, looped(n)) for n in (1000, 4000, 16000)],
     "binary numbers on a tape": [(TURING, f"m({n}, nil, inc, nil)") for n in (8000, 32000, 128000)],
 }
-SMALL = {
-    "token ring": (RING, "token(0) ring(6, 6)"),
-    "philosophers": (PHILOSOPHERS, "table(5, 5)"),
-    "bank": (BANK, "accounts(4) messages(4, 4)"),
-    "counter": (COUNTER, "c(20, 0)"),
-    "counter with a condition": (CONDITIONAL, "c(20, 0)"),
-    "bubble sort by rules": (BUBBLES, "blocks(3)"),
-    "leader election": (ELECTION, "ring(6, 6)"),
-    "leaves of a tree": (TREE, "tree(4, 1)"),
-    "concurrent language": (LANGUAGE, looped(5)),
-    "binary numbers on a tape": (TURING, "m(9, nil, inc, nil)"),
-}
-
-
-def source(case):
-    body, term = case
-    return f"mod BENCH is{body}\nendm\nrewrite {term} .\n"
-
-
-def timed(words, text):
-    """Seconds, peak bytes and what a run prints but for long results."""
-    with tempfile.TemporaryFile() as given, tempfile.TemporaryFile() as out:
-        given.write(text.encode())
-        given.seek(0)
-        start = time.perf_counter()
-        child = subprocess.Popen(words, stdin=given, stdout=out, stderr=subprocess.DEVNULL)
-        _, status, used = os.wait4(child.pid, 0)
-        seconds = time.perf_counter() - start
-        out.seek(0)
-        told = b"".join(line for line in out if line.startswith((b"rewrites: ", b"status: ", b"line ")))
-        return seconds, used.ru_maxrss * 1024, told.decode("latin-1")
-
-
-def best(words, text):
-    return min((timed(words, text) for _ in range(RUNS)), key=lambda run: run[0])
-
-
-def maude(case):
-    """Maude's rewrites, its seconds of processor time for them, and its peak bytes."""
-    best_of = (None, None, None)
-    for _ in range(RUNS):
-        _, peak, out = timed(["maude", "-no-banner", "-no-advise"], source(case) + "quit\n")
-        found = re.search(r"rewrites: (\d+) in (\d+)ms cpu", out)
-        seconds = max(int(found[2]), 1) / 1000
-        if best_of[1] is None or seconds < best_of[1]:
-            best_of = (int(found[1]), seconds, peak)
-    return best_of
-
-
-def growth(runs):
-    (small, fast), (large, slow) = runs[0], runs[-1]
-    return f"{math.log(slow / fast) / math.log(large / small):.2f}"
-
-
-def measured(name, cases, program, ground):
-    theirs, ours = [], []
-    for k, case in enumerate(cases):
-        rewrites, seconds, peak = maude(case)
-        theirs.append((rewrites, seconds))
-        cells = [name, case[1][:40], f"{rewrites:,}", f"{seconds:.3f}", f"{peak / 1e6:.0f} MB"]
-        cells.append(growth(theirs) if k == len(cases) - 1 else "")
-        if program:
-            own, peak, out = best([program, "run", "--max", "10000000"], source(case))
-            own = max(own - ground, 1e-6)
-            found = re.search(r"^rewrites: (\d+)$", out, re.M)
-            ours.append((int(found[1]) if found else 1, own))
-            cells += [f"{ours[-1][0]:,}", f"{own:.3f}", f"{peak / 1e6:.0f} MB"]
-            cells += [growth(ours) if k == len(cases) - 1 else "", f"{own / seconds:.1f}"]
-            cells += re.findall(r"^status: (.*)$", out, re.M)
-        print("| " + " | ".join(cells) + " |", flush=True)
-
-
-def checked(name):
-    sys.path.insert(0, str(pathlib.Path(__file__).resolve().parent.parent))
-    import model
-    text = source(SMALL[name]).encode()
-    answers = [model.deeply(lambda: model.answer(text, model.Config(seed=seed)))[0] for seed in (None, 1, 2, 3)]
-    out = timed(["maude", "-no-banner", "-no-advise"], text.decode() + "quit\n")[2]
-    print(name, "the same each time" if len(set(answers)) == 1 else "NOT the same", "Maude:", out.split("\n")[0])
-    print("   ", answers[0].split("\n")[1], answers[0].split("\n")[2][:110], answers[0].split("\n")[3])
-
-
-def main():
-    reader = argparse.ArgumentParser()
-    reader.add_argument("--only", default="")
-    reader.add_argument("--write")
-    reader.add_argument("--check", action="store_true")
-    reader.add_argument("program", nargs="?")
-    given = reader.parse_args()
-    chosen = {name: cases for name, cases in CASES.items() if given.only in name}
-    if given.write:
-        folder = pathlib.Path(given.write)
-        folder.mkdir(parents=True, exist_ok=True)
-        for name, cases in chosen.items():
-            for size, case in zip(("small", "middle", "large"), cases):
-                (folder / f"{name.replace(' ', '_')}-{size}.maude").write_text(source(case))
-        return
-    if given.check:
-        for name in chosen:
-            checked(name)
-        return
-    ground = best([given.program, "run"], "fmod E is sort S . op a : -> S . endfm reduce a .\n")[0] if given.program else 0
-    heads = ["program", "term", "Maude's rewrites", "Maude, s", "peak", "growth"]
-    heads += ["rewrites", "s", "peak", "growth", "ratio", "status"] if given.program else []
-    print("| " + " | ".join(heads) + " |\n|" + "---|" * len(heads))
-    for name, cases in chosen.items():
-        measured(name, cases, given.program, ground)
-
-
-main()
