@@ -7,3 +7,4 @@ mod Listed
 mod Passed
 mod Ended
 mod Looking
+mod Running
