@@ -1,5 +1,5 @@
 -- The block of a kept deduction answers a command.
-use Rattle.std.specs.Prelude.{◌≡◌, ◌-◌, ◌^◌, ℕ, List, None, min, IsTrue, Result, Ok, Err, IfOk, MatchResult, codes}
+use Rattle.std.specs.Prelude.{◌≡◌, ◌-◌, ◌^◌, ℕ, List, Option, None, min, IsTrue, Result, Ok, Err, IfOk, MatchResult, codes}
 use Rattle.std.proofs.Common.{◌∙◌, ap, subst, sym, refl, ⊎_elim}
 use Rattle.std.proofs.lemmas.Bool.{both_ways}
 use Rattle.mw_logic.specs.Term.{RawTerm, is_ground}
@@ -31,14 +31,22 @@ use Rattle.mw_module.specs.declared.faults.FaultKind.{FaultKind}
 use Rattle.mw_build.specs.Statements.{FitsIn, Oversized}
 use Rattle.mw_build.specs.Modules.{Accepted}
 use Rattle.mw_build.proofs.PrintedVariables.{named_there}
-use Rattle.mw_block.specs.Blocks.{Word, block, parsed_block}
-use Rattle.mw_top.specs.Commands.{IsCanonicalTerm, IsDeduced, IsReduced, IsParsed, IsTrueWord, TermFault, big}
+use Rattle.mw_rule.specs.Rewritings.{IsRewritten as EndsSo, IsRewritingOf}
+use Rattle.mw_rule.specs.declared.rewriting.Bounds.{Bounds}
+use Rattle.mw_block.specs.Blocks.{Word, reduced, final, command_text, block, parsed_block}
+use Rattle.mw_top.specs.Commands.{IsCanonicalTerm, IsDeduced, IsReduced, IsRewritten, IsParsed, IsTrueWord, IsTrueOfRewriting, limits_with_rules, TermFault, big}
 use Rattle.mw_top.specs.Seen.{word_of}
 
 -- the word for an outcome is true where the outcome is
-true_word : (M : Module) (most : ℕ) (t : RawTerm) (p : Proof) (u : RawTerm) (o : Outcome) → rules p ≡ 0 → IsOutcome M 63 (limits_within most most) t p u o → IsTrueWord M most t p u (word_of o)
+true_word : (M : Module) (most : ℕ) (t : RawTerm) (p : Proof) (u : RawTerm) (o : Outcome) → rules p ≡ 0 → IsOutcome M 63 (limits_within most most) t p u o → IsTrueWord M most t p u (word_of reduced o)
 true_word M most t p u Done r x = (r, x.0, x.1)
 true_word M most t p u (Stopped reason) r x = (r, x)
+
+-- and of a rewriting
+true_of_rewriting : (M : Module) (bound : Option ℕ) (most : ℕ) (t : RawTerm) (p : Proof) (u : RawTerm) (o : Outcome) → EndsSo M (limits_with_rules bound most) t p u o
+    → IsTrueOfRewriting M bound most t p u (word_of final o)
+true_of_rewriting M bound most t p u Done x = x
+true_of_rewriting M bound most t p u (Stopped reason) x = x
 
 module _ (sig : Signature) (ok : IsAccepted sig) (numbers : HasItsSorts sig) where
   there_along : {S T : ℕ} → IsSortOf sig S → SameKind sig S T → IsSortOf sig T
@@ -99,7 +107,7 @@ read_so a work words t read raw ground (Err x) h = tt
 
 pub reduced_by : (a : Accepted) (most : ℕ) (w t : RawTerm) (b : Budget) (d : Deduction) (o : Outcome) (text : List ℕ)
     → t ≡ normal_form a.module.signature w → b ≡ record { steps = most; side = most; nest = 63 } → IsReductionOf a.module t b d o → IsDeduction d
-    → (S : Sorted) → IsLeastSort a.module.signature (nested a.module.signature d.to) S → (word : Word) → word ≡ word_of o
+    → (S : Sorted) → IsLeastSort a.module.signature (nested a.module.signature d.to) S → (word : Word) → word ≡ word_of reduced o
     → text ≡ block (codes "reduce") a.module.signature a.name d.from (min (count d.proof) (2 ^ 64 - 1)) S d.to word → IsReduced a most w text
 reduced_by a most w t b d o text canonical is r proved S least word so written =
     let sig : Signature = a.module.signature in
@@ -114,6 +122,26 @@ reduced_by a most w t b d o text canonical is r proved S least word so written =
       least_sort = least;
       true_word = subst (IsTrueWord a.module most (nested sig d.from) d.proof (nested sig d.to)) (sym so)
           (true_word a.module most (nested sig d.from) d.proof (nested sig d.to) o r.equational (rw is at r.ends));
+      written = written;
+    }
+
+pub rewritten_by : (a : Accepted) (bound : Option ℕ) (most : ℕ) (w t : RawTerm) (b : Bounds) (d : Deduction) (o : Outcome) (text : List ℕ)
+    → t ≡ normal_form a.module.signature w → b ≡ record { rules = bound; steps = most; side = most } → IsRewritingOf a.module t b d o → IsDeduction d
+    → (S : Sorted) → IsLeastSort a.module.signature (nested a.module.signature d.to) S → (word : Word) → word ≡ word_of final o
+    → text ≡ block (command_text (codes "rewrite") bound) a.module.signature a.name d.from (min (count d.proof) (2 ^ 64 - 1)) S d.to word → IsRewritten a bound most w text
+rewritten_by a bound most w t b d o text canonical is r proved S least word so written =
+    let sig : Signature = a.module.signature in
+    record {
+      kept = d;
+      deduction = proved;
+      over = r.over;
+      rank = r.rank;
+      begins = r.from ∙ canonical;
+      S = S;
+      word = word;
+      least_sort = least;
+      true_word = subst (IsTrueOfRewriting a.module bound most (nested sig d.from) d.proof (nested sig d.to)) (sym so)
+          (true_of_rewriting a.module bound most (nested sig d.from) d.proof (nested sig d.to) o (rw is at r.ends));
       written = written;
     }
 

@@ -18,8 +18,7 @@ use Rattle.mw_build.specs.Modules.{Accepted, IsAccepted, IsRefused}
 use Rattle.mw_build.proofs.OneModule.{not_big, one_module, not_refused}
 use Rattle.mw_build.proofs.Pairwise.{there}
 use Rattle.mw_command.specs.declared.commands.Word.{Word}
-use Rattle.mw_command.specs.declared.commands.Word.TheVariants.{Reduce, Rewrite, Parse}
-use Rattle.mw_top.specs.Commands.{IsTerm, IsAnswer, reduction, parsing, matching, inside_of, TermFault, long, unread, unclear, opened, big, AnswerFault, not_yet, in_term, undivided, in_sides, CommandFault, nowhere, unknown, unanswered, module_for}
+use Rattle.mw_top.specs.Commands.{IsTerm, IsAnswer, reduction, rewriting, parsing, matching, inside_of, TermFault, long, unread, unclear, opened, big, AnswerFault, in_term, undivided, in_sides, CommandFault, nowhere, unknown, unanswered, module_for}
 use Rattle.mw_top.specs.Matches.{AreSides, AreOversized, deep, large as too_large, SidesFault, long as sides_long, unread as sides_unread, unclear as sides_unclear, opened as sides_opened, big as sides_big}
 use Rattle.mw_top.specs.Sources.{Loaded, with_module, IsTaken, name_of, Gives, formless, taken, refused, accepted, no_command, faulty, answered, Answered, nothing_yet, one_more}
 use Rattle.mw_top.specs.Outputs.{IsOutput, unlexed, answered as of_tokens}
@@ -53,19 +52,16 @@ no_inside : (w : Word) → inside_of w ≡ None → (b : Bool) → inside_of w �
 no_inside w none b some = none-some b (sym none ∙ some)
 
 -- nor has a command that is answered
-one_term : (a : Accepted) (c : SeenCommand) (term : RawTerm) (cause : FaultKind) → inside_of c.word ≡ None → (c.word ≡ Rewrite → ⊥) → IsTerm a (texts c.term) term
+one_term : (a : Accepted) (c : SeenCommand) (term : RawTerm) (cause : FaultKind) → inside_of c.word ≡ None → IsTerm a (texts c.term) term
     → AnswerFault a c cause → ⊥
-one_term a c term cause none other is (not_yet word) = other word
-one_term a c term cause none other is (in_term why term_word fault) = term_holds a (texts c.term) term is why fault
-one_term a c term cause none other is (undivided inside some missing) = no_inside c.word none inside some
-one_term a c term cause none other is (in_sides why inside behind some at fault) = no_inside c.word none inside some
+one_term a c term cause none is (in_term why term_word fault) = term_holds a (texts c.term) term is why fault
+one_term a c term cause none is (undivided inside some missing) = no_inside c.word none inside some
+one_term a c term cause none is (in_sides why inside behind some at fault) = no_inside c.word none inside some
 
 answer_holds : (a : Accepted) (most : ℕ) (c : SeenCommand) (text : List ℕ) → IsAnswer a most c text → (cause : FaultKind) → AnswerFault a c cause → ⊥
-answer_holds a most c text (reduction from block word is reduced) cause fault =
-    one_term a c from cause (ap inside_of word) (λ w. let e : ◌≡◌ {A = Word} Reduce Rewrite = sym word ∙ w in cc) is fault
-answer_holds a most c text (parsing term block word is parsed) cause fault =
-    one_term a c term cause (ap inside_of word) (λ w. let e : ◌≡◌ {A = Word} Parse Rewrite = sym word ∙ w in cc) is fault
-answer_holds a most c text (matching inside behind p t block word at are matched) cause (not_yet w) = no_inside c.word (ap inside_of w) inside word
+answer_holds a most c text (reduction from block word is reduced) cause fault = one_term a c from cause (ap inside_of word) is fault
+answer_holds a most c text (rewriting from block word is rewritten) cause fault = one_term a c from cause (ap inside_of word) is fault
+answer_holds a most c text (parsing term block word is parsed) cause fault = one_term a c term cause (ap inside_of word) is fault
 answer_holds a most c text (matching inside behind p t block word at are matched) cause (in_term why none fault) = no_inside c.word none inside word
 answer_holds a most c text (matching inside behind p t block word at are matched) cause (undivided other some none) = none-some behind (sym none ∙ at)
 answer_holds a most c text (matching inside behind p t block word at are matched) cause (in_sides why other ahead some there fault) =

@@ -1,5 +1,5 @@
 -- What the block of a command claims, and why a command is refused.
-use Rattle.std.specs.Prelude.{◌≡◌, ◌<◌, ◌-◌, ◌^◌, ℕ, Bool, true, false, List, [], ◌∷◌, length, min, bytes_eq, map, slice_get, Option, Some, None, IsTrue, IsFalse, if◌then◌else◌, codes}
+use Rattle.std.specs.Prelude.{◌≡◌, ◌≢◌, ◌<◌, ◌-◌, ◌^◌, ℕ, Bool, true, false, List, [], ◌∷◌, length, min, bytes_eq, map, slice_get, Option, Some, None, IsTrue, IsFalse, if◌then◌else◌, codes}
 use Rattle.std.specs.List.{list_any}
 use Rattle.std.specs.Option.{option_or}
 use Rattle.mw_logic.specs.Term.{RawTerm, is_ground}
@@ -10,13 +10,13 @@ use Rattle.mw_logic.specs.Parts.{nested}
 use Rattle.mw_logic.specs.NormalForm.{normal_form}
 use Rattle.mw_logic.specs.Proof.{Proof, rules, steps, count}
 use Rattle.mw_logic.specs.Judgements.{IsNormal}
-use Rattle.mw_logic.specs.Ends.{limits_of, Stops}
+use Rattle.mw_logic.specs.Ends.{Limits, limits_of, Stops, IsFinal}
 use Rattle.mw_canon.specs.Canonical.{IsAdmittedTerm}
 use Rattle.mw_text.specs.Mixfix.{IsSpelled, Reads}
 use Rattle.mw_text.specs.Readings.{NoneHas, TwoHave, IsShort}
 use Rattle.mw_lex.specs.declared.token.Token.{Token}
 use Rattle.mw_module.specs.declared.faults.FaultKind.{FaultKind}
-use Rattle.mw_module.specs.declared.faults.FaultKind.TheVariants.{NotInProfile, TermTooLong, NoParse, Ambiguous, OpenTerm, NoModule, UnknownModule}
+use Rattle.mw_module.specs.declared.faults.FaultKind.TheVariants.{TermTooLong, NoParse, Ambiguous, OpenTerm, NoModule, UnknownModule}
 use Rattle.mw_module.specs.Words.{texts}
 use Rattle.mw_command.specs.Commands.{SeenCommand}
 use Rattle.mw_command.specs.declared.commands.Word.{Word as CommandWord}
@@ -26,7 +26,7 @@ use Rattle.mw_build.specs.Modules.{Accepted}
 use Rattle.mw_prelude.specs.Modules.{name_of}
 use Rattle.mw_prelude.specs.declared.modules.Predefined.TheVariants as predefined
 use Rattle.mw_proof.specs.Deductions.{Deduction, IsDeduction}
-use Rattle.mw_block.specs.Blocks.{Word, reduced, final, limit, block, parsed_block}
+use Rattle.mw_block.specs.Blocks.{Word, reduced, final, limit, command_text, block, parsed_block}
 use Rattle.mw_top.specs.Matches.{AreSides, IsMatched, SidesFault}
 
 -- What the status word of `reduce` says of the proof from one term to another. `reduced`: it is by equations alone, has fewer steps than the limit, and
@@ -36,6 +36,18 @@ abbrev pub IsTrueWord : Module → ℕ → RawTerm → Proof → RawTerm → Wor
 IsTrueWord M most from p to reduced = (rules p ≡ 0) × (steps p < most) × IsNormal M 63 to
 IsTrueWord M most from p to final = ⊥
 IsTrueWord M most from p to (limit reason) = (rules p ≡ 0) × Stops M 63 (limits_of most) from p to reason
+
+-- by equations and rules, as many rules as the bound says, if there is one, at most so many steps, and so many for each side of a condition
+abbrev pub limits_with_rules : Option ℕ → ℕ → Limits
+limits_with_rules bound most = record { rules_too = true; bound = bound; most = most; most_of_sides = most }
+
+-- What the status word of `rewrite` says of the proof from one term to another. `final`: it has fewer steps than the limit, its rules aren't as many as the
+-- bound, and its end is final. `limit`: it stops there for the reason that is told: it has as many rules as the bound, at a normal term, or as many steps as
+-- the limit, or a next step exists whose term is too deep, and so on. No other word is true.
+abbrev pub IsTrueOfRewriting : Module → Option ℕ → ℕ → RawTerm → Proof → RawTerm → Word → Type 0
+IsTrueOfRewriting M bound most from p to reduced = ⊥
+IsTrueOfRewriting M bound most from p to final = (steps p < most) × (Some (rules p) ≢ bound) × IsFinal M to
+IsTrueOfRewriting M bound most from p to (limit reason) = Stops M 63 (limits_with_rules bound most) from p to reason
 
 -- The term is the one that a command's words spell. It has no variable, and fits in.
 pub record IsTerm (a : Accepted) (words : List (List ℕ)) (t : RawTerm) : Type 0 where
@@ -69,6 +81,10 @@ pub record IsDeduced (a : Accepted) (command : List ℕ) (Says : RawTerm → Pro
 abbrev pub IsReduced : Accepted → ℕ → RawTerm → List ℕ → Type 0
 IsReduced a most t text = IsDeduced a (codes "reduce") (IsTrueWord a.module most) t text
 
+-- the block of a rewriting of this term with this bound, which the block repeats
+abbrev pub IsRewritten : Accepted → Option ℕ → ℕ → RawTerm → List ℕ → Type 0
+IsRewritten a bound most t text = IsDeduced a (command_text (codes "rewrite") bound) (IsTrueOfRewriting a.module bound most) t text
+
 -- The text tells the canonical form of this term, with its least sort or kind.
 pub record IsParsed (a : Accepted) (t : RawTerm) (text : List ℕ) : Type 0 where
   pub shown : RawTerm
@@ -88,6 +104,7 @@ inside_of Xmatch = Some true
 -- the text answers a command
 pub data IsAnswer (a : Accepted) (most : ℕ) (c : SeenCommand) : List ℕ → Type 0 where
   reduction : (from : RawTerm) (text : List ℕ) → c.word ≡ Reduce → IsTerm a (texts c.term) from → IsReduced a most from text → IsAnswer a most c text
+  rewriting : (from : RawTerm) (text : List ℕ) → c.word ≡ Rewrite → IsTerm a (texts c.term) from → IsRewritten a c.bound most from text → IsAnswer a most c text
   parsing : (term : RawTerm) (text : List ℕ) → c.word ≡ Parse → IsTerm a (texts c.term) term → IsParsed a term text → IsAnswer a most c text
   matching : (inside : Bool) (behind : List Token) (p t : RawTerm) (text : List ℕ) → inside_of c.word ≡ Some inside → c.subject ≡ Some behind
       → AreSides a (texts c.term) (texts behind) p t → IsMatched a inside most p t text → IsAnswer a most c text
@@ -130,8 +147,6 @@ pub data TermFault (a : Accepted) (words : List (List ℕ)) : FaultKind → Type
 
 -- why a command that stands in this module isn't answered
 pub data AnswerFault (a : Accepted) (c : SeenCommand) : FaultKind → Type 0 where
-  -- `rewrite` isn't answered yet
-  not_yet : c.word ≡ Rewrite → AnswerFault a c NotInProfile
   in_term : (cause : FaultKind) → inside_of c.word ≡ None → TermFault a (texts c.term) cause → AnswerFault a c cause
   undivided : (inside : Bool) → inside_of c.word ≡ Some inside → c.subject ≡ None → AnswerFault a c NoParse
   in_sides : (cause : FaultKind) (inside : Bool) (behind : List Token) → inside_of c.word ≡ Some inside → c.subject ≡ Some behind

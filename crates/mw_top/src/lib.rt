@@ -46,6 +46,7 @@ mod matching;
 mod prelude;
 mod reduction;
 mod replies;
+mod rewriting;
 mod session;
 mod streams;
 mod units;

@@ -62,7 +62,7 @@ fn ground_term(
 }
 
 /// The canonical form of a command's term, if it has no variable and fits in, or what is wrong with the term.
-fn command_term(
+pub fn command_term(
     alloc: Global,
     accepted: &Module,
     tokens: &[Token],
@@ -77,17 +77,18 @@ fn command_term(
     }
 }
 
-fn status_of(outcome: Outcome) -> Status
-    ensures { word_of_status result ≡ word_of outcome }
+/// The status for an outcome, where this one is for `Done`.
+pub fn status_of(outcome: Outcome, done: Status) -> Status
+    ensures { word_of_status result ≡ word_of (word_of_status done) outcome }
 {
     match outcome {
-        Outcome::Done => Status::Reduced,
+        Outcome::Done => done,
         Outcome::Stopped(reason) => Status::Limit(reason),
     }
 }
 
 /// The block for a kept deduction of a command of this word, with this bound, with the least sort of its end.
-fn block(
+pub fn block(
     alloc: Global,
     accepted: &Module,
     command: &'static str,
@@ -142,7 +143,8 @@ fn reduced_over(
     };
     let (proved, outcome) = reduce(alloc, context, index, term, budget)?;
     proved.shows();
-    block(alloc, accepted, "reduce", None, &proved, status_of(outcome))
+    let status = status_of(outcome, Status::Reduced);
+    block(alloc, accepted, "reduce", None, &proved, status)
 }
 
 /// Reduces a term by at most so many steps, and gives the block.

@@ -5,6 +5,7 @@ ghost use Rattle.mw_top.specs.Commands.{IsAnswer, AnswerFault, inside_of};
 
 use crate::matching::matches_of;
 use crate::reduction::{parsed_of, reduction_of};
+use crate::rewriting::rewriting_of;
 use mw_build::Module;
 use mw_command::{Command, Word};
 use mw_module::FaultKind;
@@ -44,8 +45,10 @@ pub fn reply(
             let reply = reduction_of(alloc, accepted, command.term, most)?;
             Ok(reply)
         }
-        // Rules aren't applied yet.
-        Word::Rewrite => Ok(Err(FaultKind::NotInProfile)),
+        Word::Rewrite => {
+            let reply = rewriting_of(alloc, accepted, command.term, command.bound, most)?;
+            Ok(reply)
+        }
         Word::Parse => {
             let reply = parsed_of(alloc, accepted, command.term)?;
             Ok(reply)

@@ -208,11 +208,11 @@ impl<'s> Session<'s> {
         self.modules.get(number)
     }
 
-    /// Has the index of the statements made of the module in which a command's term is to be reduced.
+    /// Has the index of the statements made of the module in which a command's term is to be reduced or rewritten.
     fn prepare(&mut self, alloc: Global, command: &Command<'_>) -> Result<(), AllocError>
         ensures { self.new ≡ self.old }
     {
-        if !matches!(command.word, Word::Reduce) {
+        if !matches!(command.word, Word::Reduce | Word::Rewrite) {
             return Ok(());
         }
         let Some(number) = self.number_for(command) else {

@@ -1,5 +1,5 @@
 use Rattle.std.proofs.Common.{ap}
-use Rattle.mw_top.specs.Commands.{reduction, parsing, not_yet, in_term, inside_of}
+use Rattle.mw_top.specs.Commands.{reduction, rewriting, parsing, in_term, inside_of}
 use Rattle.mw_top.proofs.Giving.{match_both}
 use Rattle.mw_top.proofs.replies.reply.Goals as goal
 
@@ -9,8 +9,11 @@ returns-in_ok-reply-in-Reduce c =
     (λ text h. let (t, is, reduced) = h in reduction t text.items c.in-Reduce.is is reduced)
     (λ kind fault. in_term kind (ap inside_of c.in-Reduce.is) fault)
 
-pub returns-in-Rewrite : goal.returns-in-Rewrite
-returns-in-Rewrite c = not_yet c.in-Rewrite.is
+pub returns-in_ok-reply-in-Rewrite : goal.returns-in_ok-reply-in-Rewrite
+returns-in_ok-reply-in-Rewrite c =
+    match_both c.in_ok-reply-in-Rewrite.reply c.in_ok-reply-in-Rewrite.ensures
+    (λ text h. let (t, is, rewritten) = h in rewriting t text.items c.in-Rewrite.is is rewritten)
+    (λ kind fault. in_term kind (ap inside_of c.in-Rewrite.is) fault)
 
 pub returns-in_ok-reply-in-Parse : goal.returns-in_ok-reply-in-Parse
 returns-in_ok-reply-in-Parse c =

@@ -1,0 +1,25 @@
+use Rattle.std.proofs.Common.{refl, subst, sym}
+use Rattle.mw_logic.specs.Module.{Module}
+use Rattle.mw_canon.specs.Canonical.{IsAdmittedTerm}
+use Rattle.mw_index.specs.Index.{IsIndexOf}
+use Rattle.mw_rule.specs.Rewritings.{IsRewritingOf}
+use Rattle.mw_top.proofs.Answering.{rewritten_by, if_ok}
+use Rattle.mw_top.proofs.rewriting.rewritten_over.Goals as goal
+
+pub rewrite_alone-requires-clause-index : goal.rewrite_alone-requires-clause-index
+rewrite_alone-requires-clause-index c = subst (λ (M : Module). IsIndexOf M c.args.index.now) (sym c.context-context.ensures) c.requires.index
+
+pub rewrite_alone-requires-clause-admitted : goal.rewrite_alone-requires-clause-admitted
+rewrite_alone-requires-clause-admitted c = subst (λ (M : Module). IsAdmittedTerm M.signature c.args.term) (sym c.context-context.ensures) c.requires.admitted
+
+pub block-requires : goal.block-requires
+block-requires c =
+    let over = subst (λ (M : Module). IsAdmittedTerm M.signature c.in_ok-proved.proved.to) c.in_ok-proved.ensures.over c.shows.ensures.ends in
+    subst (λ (M : Module). IsAdmittedTerm M.signature c.in_ok-proved.proved.to) c.context-context.ensures over
+
+pub returns : goal.returns
+returns c = λ written canonical.
+    let bounds = record { rules = c.args.bound; steps = c.args.most; side = c.args.most } in
+    let made = subst (λ M. IsRewritingOf M c.args.term bounds c.in_ok-proved.proved c.in_ok-proved.outcome) c.context-context.ensures c.in_ok-proved.ensures in
+    if_ok c.block.result c.block.ensures
+    (λ text told. rewritten_by c.args.accepted.now c.args.bound c.args.most written c.args.term bounds c.in_ok-proved.proved c.in_ok-proved.outcome text.items canonical refl made c.shows.ensures told.0 told.1 _ c.status_of.ensures told.2)
