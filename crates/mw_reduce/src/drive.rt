@@ -15,7 +15,7 @@ use crate::pairs::join_pairs;
 use crate::turning::{Turn, take_turn};
 use mw_canon::Facts;
 use mw_frames::{Applied, Asked, Fired, Frame, Hand, Job, Machine, decide, fire, halt, meet};
-use mw_index::{Choice, Choices, Oriented, Index};
+use mw_index::{Choice, Choices, Index, Oriented};
 use mw_least::Ctx;
 use mw_proof::Reason;
 use mw_term::{Seq, Term};

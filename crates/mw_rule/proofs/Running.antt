@@ -37,6 +37,13 @@ is_some : Option ℕ → Bool
 is_some None = false
 is_some (Some n) = true
 
+-- at the beginning all are left
+pub bound_from : (r : ℕ) (most : Option ℕ) → r ≡ 0 → option_map (λ n. n + r) most ≡ most
+bound_from r None z = refl
+bound_from r (Some n) z =
+    let e : n + r ≡ n = omega (arith, z) in
+    ap Some e
+
 -- one rule more was applied, and one less is left
 pub bound_after : (bound : Option ℕ) (r : ℕ) → (bound ≡ Some 0 → ⊥) → option_map (λ n. n + suc r) (option_map (λ n. n - 1) bound) ≡ option_map (λ n. n + r) bound
 bound_after None r n = refl
