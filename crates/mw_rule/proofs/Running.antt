@@ -2,6 +2,7 @@
 use Rattle.std.specs.Prelude.{◌≡◌, ◌≢◌, ◌<◌, ◌+◌, ◌-◌, ℕ, zero, suc, Bool, true, false, Option, None, Some, option_map, unwrap_or, refl}
 use Rattle.std.proofs.Common.{sym, subst, ap, ◌∙◌, arith, true≢false, inl, inr}
 use Rattle.mw_logic.specs.Term.{RawTerm}
+use Rattle.mw_logic.specs.Signature.{Signature}
 use Rattle.mw_logic.specs.Module.{Module}
 use Rattle.mw_canon.specs.Canonical.{IsAdmittedTerm}
 use Rattle.mw_least.specs.Workable.{IsWorkable}
@@ -26,16 +27,22 @@ use Rattle.mw_rule.specs.Stepped.{EndsByRules, EndsRewriting, by_equations, by_b
 use Rattle.mw_rule.specs.declared.rewriting.Bounds.{Bounds}
 use Rattle.mw_rule.proofs.Outcomes.{rewriting_from}
 
-is_done : Outcome → Bool
+abbrev is_done : Outcome → Bool
 is_done Done = true
 is_done (Stopped why) = false
 
 not_both : (o : Outcome) (why : Reason) → o ≡ Done → o ≡ Stopped why → ⊥
 not_both o why a b = true≢false (ap is_done (sym a ∙ b))
 
-is_some : Option ℕ → Bool
+abbrev is_some : Option ℕ → Bool
 is_some None = false
 is_some (Some n) = true
+
+pub none_left : (bound : Option ℕ) → bound ≡ None → bound ≡ Some 0 → ⊥
+none_left bound a b = true≢false (ap is_some (sym b ∙ a))
+
+pub so_many_left : (bound : Option ℕ) (n : ℕ) → bound ≡ Some n → bound ≡ Some 0 → n ≡ 0
+so_many_left bound n a b = ap (λ o. unwrap_or o 0) (sym a ∙ b)
 
 -- at the beginning all are left
 pub bound_from : (r : ℕ) (most : Option ℕ) → r ≡ 0 → option_map (λ n. n + r) most ≡ most
@@ -59,6 +66,10 @@ not_reached (Some zero) r most e n f = absurd (n refl)
 not_reached (Some (suc k)) r most e n f =
     let z : r ≡ suc k + r = ap (λ o. unwrap_or o 0) (f ∙ sym e) in
     omega (arith, z)
+
+-- it is a run whatever it counts
+pub run_with : (K : Run) (sig : Signature) (r : ℕ) → IsRun K sig → IsRun (with_rules r K) sig
+run_with K sig r x = record { signature = x.signature; accepted = x.accepted; sorted = x.sorted; well = x.well; start = x.start }
 
 -- Where r rules and so many steps were made, a reduction was driven on.
 module _ (K : Run) (b : Bounds) (r count left : ℕ) (d : Data) (x : Driven) (sum : count + left ≡ b.steps) (h : IsDriven (with_rules r K) (count + left) b.side d x) where
