@@ -7,3 +7,7 @@ mod Listed
 mod Passed
 mod Ended
 mod Looking
+pub mod Alike
+pub mod Everywhere
+pub mod Known
+mod Ways

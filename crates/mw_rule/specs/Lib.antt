@@ -6,3 +6,5 @@ pub mod Redexes
 pub mod Rewritings
 -- What a step by a rule leaves.
 pub mod Stepped
+-- Rules that apply at parts of a term, but for those that are known to fail.
+pub mod Finding

@@ -26,9 +26,11 @@
 //! Neither proved nor tested: time and memory, and that an answer comes with memory at hand.
 #![tactic(auto)]
 
+mod finding;
 mod going;
 mod redexes;
 mod rewriting;
 mod spots;
 
+pub use finding::{Redex, find};
 pub use rewriting::{Bounds, rewrite_alone};
