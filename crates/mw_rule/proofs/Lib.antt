@@ -11,3 +11,5 @@ pub mod Alike
 pub mod Everywhere
 pub mod Known
 mod Ways
+mod Limits
+mod Applicable

@@ -8,3 +8,5 @@ pub mod Rewritings
 pub mod Stepped
 -- Rules that apply at parts of a term, but for those that are known to fail.
 pub mod Finding
+-- A rule that is applied to a normal term.
+pub mod Applications
