@@ -72,6 +72,31 @@ free_there : (sig : Signature) (take : Option (List ℕ)) (path : List ℕ) (t u
 free_there sig take path t u there way ks f ts e is =
     subst (λ v. IsOpenArgument sig true v 1) is (way_last sig path 1 t u there (subst (λ o. IsOpenWay sig true (way_of_place path o) t) e way))
 
+-- what is kept of one step by a rule, where nothing is under way any more
+module _ (M : Module) (work : IsWorkable M) (t : RawTerm) (a : IsAdmittedTerm M.signature t) where
+  abbrev behind : Run
+  behind = with_rules 1 (run_of M 63 t)
+
+  pub run_behind : IsRun behind M.signature
+  run_behind = let z = is_run M work 63 t a in record { signature = z.signature; accepted = z.accepted; sorted = z.sorted; well = z.well; start = z.start }
+
+  pub step_kept : (k : Track) (d : Data) (v : RawTerm) → d.moves ≡ moves M k → IsWhole behind 1 d v → IsKept M 63 t v k × IsOneStep M t v (deduced M 63 t v k)
+  step_kept k d v is f =
+      let low : 63 ≤ 63 = omega arith in
+      let tree = its_proof M work 63 low t a 1 k 1 d v is f in
+      (
+        whole_kept M work 63 low t a 1 k 1 d v is f,
+        record {
+          over = refl;
+          rank = refl;
+          from = refl;
+          to = refl;
+          proves = subst (λ p. Proves M 63 p (nested M.signature t) (nested M.signature v)) (sym tree) (proves_it M work 63 low t a 1 k 1 d v is f);
+          one = ap steps tree ∙ counted M work 63 low t a 1 k 1 d v is f;
+          by_rule = ap rules tree ∙ rules_counted M work 63 low t a 1 k 1 d v is f;
+        },
+      )
+
 module _ (M : Module) (work : IsWorkable M) (t : RawTerm) (path : List ℕ) (c : Choice) (sides : List Track) (h : IsApplicable M t path c sides) where
   abbrev sig : Signature
   sig = M.signature
@@ -173,28 +198,6 @@ module _ (M : Module) (work : IsWorkable M) (t : RawTerm) (path : List ℕ) (c :
 
   pub run_there : IsRun K sig
   run_there = is_run M work 63 t admitted_whole
-
-  -- the same behind the rule
-  pub run_behind : IsRun (with_rules 1 K) sig
-  run_behind = let z = run_there in record { signature = z.signature; accepted = z.accepted; sorted = z.sorted; well = z.well; start = z.start }
-
-  -- what is kept is the one step
-  pub step_kept : (k : Track) (d : Data) (v : RawTerm) → d.moves ≡ moves M k → IsWhole (with_rules 1 K) 1 d v → IsKept M 63 t v k × IsOneStep M t v (deduced M 63 t v k)
-  step_kept k d v is f =
-      let low : 63 ≤ 63 = omega arith in
-      let tree = its_proof M work 63 low t admitted_whole 1 k 1 d v is f in
-      (
-        whole_kept M work 63 low t admitted_whole 1 k 1 d v is f,
-        record {
-          over = refl;
-          rank = refl;
-          from = refl;
-          to = refl;
-          proves = subst (λ p. Proves M 63 p (nested sig t) (nested sig v)) (sym tree) (proves_it M work 63 low t admitted_whole 1 k 1 d v is f);
-          one = ap steps tree ∙ counted M work 63 low t admitted_whole 1 k 1 d v is f;
-          by_rule = ap rules tree ∙ rules_counted M work 63 low t admitted_whole 1 k 1 d v is f;
-        },
-      )
 
   -- the statement of this number is the one that applies
   pub same_statement : (d : Statement) → IsStatement M c.by.now.number d → e ≡ d

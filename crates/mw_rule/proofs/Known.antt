@@ -30,11 +30,15 @@ use Rattle.mw_redex.specs.Replaced.{IsTaken, IsOpenArgument, IsOpenWay, way_of_p
 use Rattle.mw_redex.specs.Paths.{at_path}
 use Rattle.mw_proof.specs.Failures.{Failure, IsFailure}
 use Rattle.mw_least.specs.Workable.{IsWorkable}
+use Rattle.mw_solving.specs.Values.{AreValues}
 use Rattle.mw_solving.proofs.Admitted.{admitted_value}
 use Rattle.mw_solving.proofs.Candidates.{variables_zipped, values_zipped}
 use Rattle.mw_index.specs.Choices as choices
 use Rattle.mw_index.specs.Choices.{Tried, tried_of, solution_of, IsTried}
-use Rattle.mw_index.specs.Index.{AreRulesOf}
+use Rattle.mw_index.specs.Index.{operator_of, AreRulesOf}
+use Rattle.mw_index.specs.Oriented.{IsOriented}
+use Rattle.mw_index.specs.declared.choices.Choice.{Choice}
+use Rattle.mw_index.specs.declared.oriented.Oriented.{Oriented}
 use Rattle.mw_index.specs.declared.index.Rule.{Rule}
 use Rattle.mw_index.proofs.Sides.{left_zipped}
 use Rattle.mw_reduce.specs.Attempts.{IsTriable}
@@ -149,6 +153,25 @@ module _ (M : Module) (work : IsWorkable M) (t : RawTerm) (a : IsAdmittedTerm M.
         fails = fails;
       })
 
+  -- the same choice again
+  tried_as : (c : Choice) → c.by.now ≡ x.choice.by.now → c.values.items ≡ us → c.take ≡ x.choice.take → IsTriable M h.spot.term.now c
+  tried_as c by values take =
+      let q = h.found.choice in
+      let u : RawTerm = h.spot.term.now in
+      record {
+        choice = record {
+          statement = e;
+          is_there = subst (λ (o : Oriented). IsStatement M o.number e) (sym by) q.is_there;
+          is = subst (IsOriented sig (operator_of u) e) (sym by) q.is;
+          part = q.part;
+          taken = subst (λ o. choices.IsTaken sig o u q.part) (sym take) q.taken;
+          values = subst (AreValues sig) (sym values) q.values;
+          solution = subst (λ vs. IsSolution sig e.left (nested sig q.part) [] (solution_of sig e vs)) (sym values) q.solution;
+        };
+        sized = ap length values ∙ triable.sized ∙ ap (λ (o : Oriented). length o.sorts) (sym by);
+        admitted = triable.admitted;
+      }
+
   -- or it isn't
   pub redex_there : (fs : List Failure) (s : Substitution) (path : List ℕ) → s ≡ zip e.variables us → (IsAmong fs x.choice.by.now.number s → ⊥)
       → at_path t path ≡ Some h.spot.term.now → IsOpenWay sig true path t
@@ -168,6 +191,7 @@ module _ (M : Module) (work : IsWorkable M) (t : RawTerm) (a : IsAdmittedTerm M.
         place = record { end = h.spot.term.now; there = there; taken = taken_there sig x.choice.take h.spot.term.now q.part q.taken };
         open_way = open_there sig x.choice.take path t h.spot.term.now q.part there way q.taken h.found.free;
         other = other;
+        triable = λ c k. let as_values : c.values.items ≡ us = k.values ∙ ap bound_values named ∙ values_zipped lefts us bound.size in (tried_as c k.by as_values k.take, ap (λ (o : Oriented). o.rule) k.by ∙ h.found.rule);
         asked = record {
           is_there = q.is_there;
           condition = q.is.condition;

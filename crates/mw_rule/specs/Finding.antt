@@ -8,10 +8,12 @@ use Rattle.mw_logic.specs.Substitution.{Substitution, value, Extends, IsSubstitu
 use Rattle.mw_logic.specs.Module.{Module, Statement, IsStatement}
 use Rattle.mw_logic.specs.Judgements.{Fails}
 use Rattle.mw_canon.specs.Canonical.{meant}
-use Rattle.mw_position.specs.Variables.{met}
+use Rattle.mw_position.specs.Variables.{met, bound_values}
 use Rattle.mw_redex.specs.Replaced.{IsPartAt, IsOpenWay, way_of_place}
 use Rattle.mw_proof.specs.Failures.{Failure, IsFailure}
 use Rattle.mw_index.specs.Choices.{Tried, solution_of}
+use Rattle.mw_index.specs.declared.choices.Choice.{Choice}
+use Rattle.mw_reduce.specs.Attempts.{IsTriable}
 use Rattle.mw_reduce.specs.Judgements.{IsAskedOf}
 use Rattle.mw_rule.specs.declared.finding.Redex.{Redex}
 
@@ -27,8 +29,14 @@ IsFailureOf f k s = (f.statement ≡ k) × Extends s f.subst × Extends f.subst 
 abbrev pub IsAmong : List Failure → ℕ → Substitution → Type 0
 IsAmong fs k s = (f : Failure) × Member f fs × IsFailureOf f k s
 
+-- the redex as a choice of its rule
+pub record IsChoiceOf (x : Redex) (c : Choice) : Type 0 where
+  pub by : c.by.now ≡ x.by.now
+  pub values : c.values.items ≡ bound_values x.subst
+  pub take : c.take ≡ x.place.take
+
 -- An executable rule has a solution for a part of t that rules may change. It is the part at the place. The rule with this solution isn't among the failures,
--- and may be asked of its condition.
+-- may be asked of its condition, and may be tried as a choice.
 pub record IsRedexOf (M : Module) (fs : List Failure) (t : RawTerm) (x : Redex) : Type 0 where
   pub statement : Statement
   pub is_there : IsStatement M x.by.now.number statement
@@ -41,6 +49,7 @@ pub record IsRedexOf (M : Module) (fs : List Failure) (t : RawTerm) (x : Redex) 
   pub open_way : IsOpenWay M.signature true (way_of_place x.place.path x.place.take) t
   pub other : IsAmong fs x.by.now.number x.subst → ⊥
   pub asked : IsAskedOf M x.by.now.number x.by.now.condition x.subst statement
+  pub triable : (c : Choice) → IsChoiceOf x c → IsTriable M place.end c × (c.by.now.rule ≡ true)
 
 -- the statement e, which has number k, is among the failures with the same solution, so its condition fails for it
 pub record IsKnown (M : Module) (fs : List Failure) (k : ℕ) (e : Statement) (s : Substitution) : Type 0 where

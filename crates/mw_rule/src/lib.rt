@@ -17,7 +17,7 @@
 //! - a [`Redex`] is an executable rule with a solution of its left side for a part that rules may change, by values of
 //!   the left side's variables in the order in which these are met, and the place of that part. None of the failures is
 //!   of this rule with these values and no others. The redex may be asked of its condition, by `conditions` of mw_reduce,
-//!   and what fails is a failure for the next call (`IsRedexOf`);
+//!   and what fails is a failure for the next call; or tried as a choice, by `try_choice` (`IsRedexOf`);
 //! - there is none exactly where each rule's every solution at each such part is among the failures, so that its
 //!   condition fails (`AreAllKnown`); a normal term is final then (`known_final`, proofs/Known).
 //!

@@ -1,5 +1,5 @@
 // One step by a rule, at a part of a normal term.
-ghost use Rattle.std.specs.Prelude.{◌≡◌, ◌≤◌, ◌⊎◌, ◌++◌, ℕ, List, true, false, Some, length, slice_get, IfOk, MatchOption};
+ghost use Rattle.std.specs.Prelude.{◌≡◌, ◌≤◌, ◌⊎◌, ◌++◌, ℕ, List, true, false, Some, None, length, slice_get, IfOk, MatchOption};
 ghost use Rattle.mw_logic.specs.Term.{RawTerm};
 ghost use Rattle.mw_logic.specs.Terms.{terms_of};
 ghost use Rattle.mw_logic.specs.NormalForm.{height, has_largest, some_largest};
@@ -9,15 +9,18 @@ ghost use Rattle.mw_pattern.specs.Clean.{clean};
 ghost use Rattle.mw_matching.specs.Matches.{evaluated};
 ghost use Rattle.mw_redex.specs.Paths.{at_path};
 ghost use Rattle.mw_redex.specs.Replaced.{IsOpenWay, replaced_at};
+ghost use Rattle.mw_frames.specs.State.{with_rules, Holds};
+ghost use Rattle.mw_frames.specs.Machines.{data_of};
+ghost use Rattle.mw_reduce.specs.Evaluations.{run_of};
 ghost use Rattle.mw_rule.specs.Stepped.{AreWays};
-ghost use Rattle.mw_rule.specs.Applications.{IsApplicable, IsPast, IsStepBy};
+ghost use Rattle.mw_rule.specs.Applications.{IsApplicable, IsPast, IsStepTo, IsStepBy};
 ghost use Rattle.mw_rule.specs.declared.spots.Spot.{Spot as SpotOf};
 
 use crate::redexes::Found;
 use crate::rewriting::fire_at;
 use crate::spots::{Spot, arguments};
 use mw_canon::{CanonError, Facts};
-use mw_frames::{Fired, Machine, instance, stop};
+use mw_frames::{Fired, Hand, Machine, instance, stop};
 use mw_index::Choice;
 use mw_least::Ctx;
 use mw_pattern::Pattern;
@@ -95,6 +98,43 @@ fn replaced(
     }
 }
 
+/// The one step that was made, where it leads to this whole.
+fn made<'m>(
+    alloc: Global,
+    context: &'m Ctx,
+    machine: Machine<'m>,
+    hand: Hand<'m>,
+    term: &Term,
+    whole: Option<Term>,
+) -> Result<OneStep<'m>, AllocError>
+    requires term { IsAdmittedTerm context.now.signature term.now }
+    requires holds { let M = context.now in Holds (with_rules 1 (run_of M 63 term.now)) 1 (data_of M machine) hand }
+    ensures { IfOk result (λ s. (u : RawTerm) × (whole ≡ Some u) × IsStepTo context.now term.now u s) }
+{
+    context.shows();
+    let mut machine = machine;
+    let end = stop(alloc, context.facts(), &mut machine, hand)?;
+    match whole {
+        Some(whole) if same(&end, &whole) => {
+            let Machine { kept, .. } = machine;
+            let proved = Proved::of(context, 63, copy(term)?, end, kept);
+            Ok(OneStep::Made(proved))
+        }
+        // the machine leaves what was made beside it
+        _ => Err(AllocError),
+    }
+}
+
+/// The rule isn't applied, where there is no whole that it leads to.
+fn refused<'m>(whole: Option<Term>, step: OneStep<'m>) -> Result<OneStep<'m>, AllocError>
+    ensures { IfOk result (λ s. (s ≡ step) × (whole ≡ None)) }
+{
+    match whole {
+        Some(_) => Err(AllocError),
+        None => Ok(step),
+    }
+}
+
 /// A rule is applied to a normal term, at the end of a path: what it takes there, and by which values, the choice says,
 /// which `try_choice` of mw_reduce completes, with the trails that show its condition. The proof has this one step.
 pub fn apply<'m>(
@@ -111,47 +151,18 @@ pub fn apply<'m>(
     context.shows();
     let Choice { by, values, take } = choice;
     let place = Place { path, take };
-    let whole = replaced(
-        alloc,
-        context.facts(),
-        term,
-        &place,
-        &by.right,
-        values.as_slice(),
-    )?;
+    let facts = context.facts();
+    let whole = replaced(alloc, facts, term, &place, &by.right, values.as_slice())?;
     let Place { path, take } = place;
     let spots = along(alloc, term, path.as_slice())?;
-    let at = path.as_slice().len();
-    let choice = Choice { by, values, take };
+    let found = Found {
+        at: path.as_slice().len(),
+        choice: Choice { by, values, take },
+    };
     let mut machine = Machine::new(alloc);
-    let found = Found { at, choice };
-    match fire_at(
-        alloc,
-        context,
-        &mut machine,
-        spots.as_slice(),
-        found,
-        sides,
-    )? {
-        Fired::Goes(hand) => {
-            let Some(whole) = whole else {
-                return Err(AllocError);
-            };
-            let end = stop(alloc, context.facts(), &mut machine, hand)?;
-            if !same(&end, &whole) {
-                return Err(AllocError);
-            }
-            let Machine { kept, .. } = machine;
-            let from = copy(term)?;
-            Ok(OneStep::Made(Proved::of(context, 63, from, end, kept)))
-        }
-        Fired::TooDeep(_) => match whole {
-            Some(_) => Err(AllocError),
-            None => Ok(OneStep::Deep),
-        },
-        Fired::TooLarge(_) => match whole {
-            Some(_) => Err(AllocError),
-            None => Ok(OneStep::Nat),
-        },
+    match fire_at(alloc, context, &mut machine, spots.as_slice(), found, sides)? {
+        Fired::Goes(hand) => made(alloc, context, machine, hand, term, whole),
+        Fired::TooDeep(_) => refused(whole, OneStep::Deep),
+        Fired::TooLarge(_) => refused(whole, OneStep::Nat),
     }
 }
