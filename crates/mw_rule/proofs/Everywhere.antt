@@ -69,4 +69,4 @@ tried_everywhere M work t v wanted rules are asks spots listed tried all w p k r
     let there : IsStatement M x.by.number r = subst (λ i. IsStatement M i r) (sym number) is in
     let asks_it : Asks x.section (operator_of spot.term.now) = subst (λ y. Asks x.section (operator_of y)) (sym same) asks_u in
     let (c, tried_it, of, alike) = all x member spot stands asks_it r there w (subst (λ y. IsOpenTop M.signature y w) (sym same) place) s sol in
-    (c, tried_it, of ∙ number, alike)
+    (c, tried_it, subst (λ i. c.number ≡ i) number of, alike)

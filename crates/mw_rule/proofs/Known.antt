@@ -1,5 +1,5 @@
 -- What is found, but for failures: a rule with a solution that isn't one of them; or all are.
-use Rattle.std.specs.Prelude.{◌≡◌, ℕ, List, [], ◌∷◌, ◌++◌, length, map, true, Option, Some, None, IsTrue, refl}
+use Rattle.std.specs.Prelude.{◌≡◌, ℕ, List, [], ◌∷◌, ◌++◌, length, map, true, Option, Some, None, slice_get, IsTrue, refl}
 use Rattle.std.specs.List.{zip}
 use Rattle.std.proofs.Common.{sym, subst, ap, ◌∙◌, ⊎_elim}
 use Rattle.std.proofs.lemmas.List.{length-map}
@@ -46,17 +46,18 @@ use Rattle.mw_reduce.specs.Evaluations.{AreBoundTo}
 use Rattle.mw_reduce.proofs.Applying.{left_bound}
 use Rattle.mw_rule.specs.Spots.{AreWanted, AreAllSpots}
 use Rattle.mw_rule.specs.Redexes.{AreAllAsked, IsFoundIn}
+use Rattle.mw_rule.specs.Stepped.{AreWays}
 use Rattle.mw_rule.specs.Finding.{IsFailureOf, IsAmong, IsRedexOf, IsKnown, AreAllKnown, IsTriedAmong, AreTriedAmong}
 use Rattle.mw_rule.specs.declared.spots.Wanted.{Wanted}
 use Rattle.mw_rule.specs.declared.spots.Spot.{Spot}
 use Rattle.mw_rule.specs.declared.redexes.Found.{Found}
 use Rattle.mw_rule.proofs.Alike.{same_values, same_meant, same_agrees, fails_alike}
 use Rattle.mw_rule.proofs.Everywhere.{tried_everywhere}
-use Rattle.mw_rule.proofs.Looking.{part_there, triable_there}
+use Rattle.mw_rule.proofs.Looking.{part_there, admitted_there}
 use Rattle.mw_rule.proofs.Ways.{way_more}
 
 -- one more that was tried
-pub one_more_among : (M : Module) (fs : List Failure) (tried : List Tried) (c : Tried) → AreTriedAmong M fs tried → ((e : Statement) → IsStatement M c.number e → IsTriedAmong M fs c e) → AreTriedAmong M fs (tried ++ c ∷ [])
+one_more_among : (M : Module) (fs : List Failure) (tried : List Tried) (c : Tried) → AreTriedAmong M fs tried → ((e : Statement) → IsStatement M c.number e → IsTriedAmong M fs c e) → AreTriedAmong M fs (tried ++ c ∷ [])
 one_more_among M fs tried c h f d m e is =
     ⊎_elim (λ k. h d k e is) (λ k. subst (λ (d : Tried). IsTriedAmong M fs d e) k (f e (subst (λ (d : Tried). IsStatement M d.number e) (sym k) is))) (member-push d c tried m)
 
@@ -104,23 +105,20 @@ pub known_final : (M : Module) (fs : List Failure) (t : RawTerm) → IsNormal M 
 known_final M fs t normal all = record { normal = normal; no_rule = λ C w p k r is rule s sol. (all C w p k r is rule s sol).fails }
 
 -- what stands at the end of a place
-taken_there : (sig : Signature) (take : Option (List ℕ)) (u w : RawTerm) → choices.IsTaken sig take u w → IsTaken sig take u w
-taken_there sig None u w h = sym h
-taken_there sig (Some ks) u w h = h.takes
+taken_there : (g : Signature) (take : Option (List ℕ)) (u w : RawTerm) → choices.IsTaken g take u w → IsTaken g take u w
+taken_there g None u w h = sym h
+taken_there g (Some ks) u w h = h.takes
 
 -- no argument on the way there is frozen
-open_there : (sig : Signature) (take : Option (List ℕ)) (path : List ℕ) (t u w : RawTerm) → at_path t path ≡ Some u → IsOpenWay sig true path t → choices.IsTaken sig take u w
-    → ((ks : List ℕ) (f : ℕ) (ts : RawTerms) → take ≡ Some ks → u ≡ apply f ts → Rattle.mw_logic.specs.CanonicalPart.IsOpen sig true f 1) → IsOpenWay sig true (way_of_place path take) t
-open_there sig None path t u w there way taken free = way
-open_there sig (Some ks) path t u w there way taken free =
+open_there : (g : Signature) (take : Option (List ℕ)) (path : List ℕ) (t u w : RawTerm) → at_path t path ≡ Some u → IsOpenWay g true path t → choices.IsTaken g take u w
+    → ((ks : List ℕ) (f : ℕ) (ts : RawTerms) → take ≡ Some ks → u ≡ apply f ts → Rattle.mw_logic.specs.CanonicalPart.IsOpen g true f 1) → IsOpenWay g true (way_of_place path take) t
+open_there g None path t u w there way taken free = way
+open_there g (Some ks) path t u w there way taken free =
     let m = taken.takes in
-    way_more sig path 1 t u there way (subst (λ v. IsOpenArgument sig true v 1) (sym m.term) (free ks m.operator m.args refl m.term))
+    way_more g path 1 t u there way (subst (λ v. IsOpenArgument g true v 1) (sym m.term) (free ks m.operator m.args refl m.term))
 
 -- a choice at a part of an admitted term
 module _ (M : Module) (work : IsWorkable M) (t : RawTerm) (a : IsAdmittedTerm M.signature t) (wanted : Wanted) (spots : List Spot) (listed : AreAllSpots M.signature wanted t spots) (x : Found) (h : IsFoundIn M spots x) where
-  abbrev sig : Signature
-  sig = M.signature
-
   abbrev e : Statement
   e = h.found.choice.statement
 
@@ -130,18 +128,18 @@ module _ (M : Module) (work : IsWorkable M) (t : RawTerm) (a : IsAdmittedTerm M.
   abbrev us : List RawTerm
   us = x.choice.values.items
 
-  triable : IsTriable M h.spot.term.now x.choice
-  triable = triable_there M work t a wanted spots listed x h
+  abbrev triable : IsTriable M h.spot.term.now x.choice
+  triable = record { choice = h.found.choice; sized = h.found.sized; admitted = admitted_there M work t a wanted spots listed x h }
 
   bound : AreBoundTo M lefts us
   bound = left_bound M work h.spot.term.now x.choice triable
 
   -- its values by the names of the left side's variables
-  pub named_there : zip e.variables us ≡ zip lefts us
+  named_there : zip e.variables us ≡ zip lefts us
   named_there = left_zipped M work x.choice.by.now.number e h.found.choice.is_there us bound.size
 
   -- it is among the failures
-  pub tried_there : (fs : List Failure) → (f : Failure) × Member f fs × IsFailureOf f x.choice.by.now.number (zip e.variables us) × IsFailure f
+  tried_there : (fs : List Failure) → (f : Failure) × Member f fs × IsFailureOf f x.choice.by.now.number (zip e.variables us) × IsFailure f
       → (d : Statement) → IsStatement M x.choice.by.now.number d → IsTriedAmong M fs (tried_of x.choice) d
   tried_there fs (f, member, is, fails) d there =
       let same : e ≡ d = same_Some e d (sym h.found.choice.is_there.is_there ∙ there.is_there) in
@@ -162,19 +160,19 @@ module _ (M : Module) (work : IsWorkable M) (t : RawTerm) (a : IsAdmittedTerm M.
         choice = record {
           statement = e;
           is_there = subst (λ (o : Oriented). IsStatement M o.number e) (sym by) q.is_there;
-          is = subst (IsOriented sig (operator_of u) e) (sym by) q.is;
+          is = subst (IsOriented M.signature (operator_of u) e) (sym by) q.is;
           part = q.part;
-          taken = subst (λ o. choices.IsTaken sig o u q.part) (sym take) q.taken;
-          values = subst (AreValues sig) (sym values) q.values;
-          solution = subst (λ vs. IsSolution sig e.left (nested sig q.part) [] (solution_of sig e vs)) (sym values) q.solution;
+          taken = subst (λ o. choices.IsTaken M.signature o u q.part) (sym take) q.taken;
+          values = subst (AreValues M.signature) (sym values) q.values;
+          solution = subst (λ vs. IsSolution M.signature e.left (nested M.signature q.part) [] (solution_of M.signature e vs)) (sym values) q.solution;
         };
         sized = ap length values ∙ triable.sized ∙ ap (λ (o : Oriented). length o.sorts) (sym by);
         admitted = triable.admitted;
       }
 
   -- or it isn't
-  pub redex_there : (fs : List Failure) (s : Substitution) (path : List ℕ) → s ≡ zip e.variables us → (IsAmong fs x.choice.by.now.number s → ⊥)
-      → at_path t path ≡ Some h.spot.term.now → IsOpenWay sig true path t
+  redex_there : (fs : List Failure) (s : Substitution) (path : List ℕ) → s ≡ zip e.variables us → (IsAmong fs x.choice.by.now.number s → ⊥)
+      → at_path t path ≡ Some h.spot.term.now → IsOpenWay M.signature true path t
       → IsRedexOf M fs t (record { by = x.choice.by; subst = s; place = record { path = path; take = x.choice.take } })
   redex_there fs s path is other there way =
       let (C, free, part) = part_there M work t a wanted spots listed x h in
@@ -187,9 +185,9 @@ module _ (M : Module) (work : IsWorkable M) (t : RawTerm) (a : IsAdmittedTerm M.
         context = C;
         part = q.part;
         for_rules = record { part = part; not_frozen = free refl };
-        solves = subst (λ z. IsSolution sig e.left (nested sig q.part) [] (meant sig z)) (sym named) q.solution;
-        place = record { end = h.spot.term.now; there = there; taken = taken_there sig x.choice.take h.spot.term.now q.part q.taken };
-        open_way = open_there sig x.choice.take path t h.spot.term.now q.part there way q.taken h.found.free;
+        solves = subst (λ z. IsSolution M.signature e.left (nested M.signature q.part) [] (meant M.signature z)) (sym named) q.solution;
+        place = record { end = h.spot.term.now; there = there; taken = taken_there M.signature x.choice.take h.spot.term.now q.part q.taken };
+        open_way = open_there M.signature x.choice.take path t h.spot.term.now q.part there way q.taken h.found.free;
         other = other;
         triable = λ c k. let as_values : c.values.items ≡ us = k.values ∙ ap bound_values named ∙ values_zipped lefts us bound.size in (tried_as c k.by as_values k.take, ap (λ (o : Oriented). o.rule) k.by ∙ h.found.rule);
         asked = record {
@@ -199,3 +197,19 @@ module _ (M : Module) (work : IsWorkable M) (t : RawTerm) (a : IsAdmittedTerm M.
           bound = subst (AreBoundTo M lefts) (sym (ap bound_values named ∙ values_zipped lefts us bound.size)) bound;
         };
       }
+
+  -- the same by what its values are named
+  module _ (s : Substitution) (vs : List RawTerm) (same : vs ≡ us) (is : (d : Statement) → IsStatement M x.choice.by.now.number d → s ≡ zip d.variables vs) where
+    name : s ≡ zip e.variables us
+    name = subst (λ ws. s ≡ zip e.variables ws) same (is e h.found.choice.is_there)
+
+    pub more_among : (fs : List Failure) (tried : List Tried) → AreTriedAmong M fs tried → (f : Failure) × Member f fs × IsFailureOf f x.choice.by.now.number s × IsFailure f → AreTriedAmong M fs (tried ++ tried_of x.choice ∷ [])
+    more_among fs tried among (f, member, of, fails) =
+        one_more_among M fs tried (tried_of x.choice) among (tried_there fs (f, member, subst (IsFailureOf f x.choice.by.now.number) name of, fails))
+
+    pub redex_found : (fs : List Failure) → (IsAmong fs x.choice.by.now.number s → ⊥) → (path : List ℕ) (parts : List Spot) → parts ≡ spots
+        → ((g : Signature) (root : RawTerm) (p : Spot) → AreWays g root parts → slice_get parts x.at ≡ Some p → (at_path root path ≡ Some p.term.now) × IsOpenWay g true path root)
+        → IsRedexOf M fs t (record { by = x.choice.by; subst = s; place = record { path = path; take = x.choice.take } })
+    redex_found fs other path parts listed_so way_to =
+        let (there, way) = way_to M.signature t h.spot (subst (AreWays M.signature t) (sym listed_so) listed.sound) (subst (λ ps. slice_get ps x.at ≡ Some h.spot) (sym listed_so) h.there) in
+        redex_there fs s path name other there way

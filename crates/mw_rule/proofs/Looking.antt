@@ -59,11 +59,11 @@ module _ (M : Module) (work : IsWorkable M) (t : RawTerm) (a : IsAdmittedTerm M.
   pub part_there : (C : Context) × IsOpenContext sig true C × IsPart sig (nested sig t) C (nested sig w)
   part_there = part_found sig ok {by_rule = true} {t = nested sig t} w a.raw (subst (λ y. IsPartOf sig true y w) (sym a.canonical) (reached_part sig t u w reached (open_part_of sig u w place_there)))
 
-  pub triable_there : IsTriable M u x.choice
-  triable_there =
+  pub admitted_there : IsAdmittedTerm sig w
+  admitted_there =
       let (C, free, part) = part_there in
       let v = top_value sig ok u w (open_top sig u w place_there) value_there in
-      record { choice = h.found.choice; sized = h.found.sized; admitted = record { raw = v.raw; canonical = fixed sig ok w v.canonical; admitted = part_admitted sig ok C (nested sig w) a.raw a.admitted part } }
+      record { raw = v.raw; canonical = fixed sig ok w v.canonical; admitted = part_admitted sig ok C (nested sig w) a.raw a.admitted part }
 
 -- the same of a normal term
 module _ (M : Module) (work : IsWorkable M) (t : RawTerm) (n : IsNormalTerm M (admitted_judgements M 63).Fails t) (wanted : Wanted) (spots : List Spot) (listed : AreAllSpots M.signature wanted t spots) where
@@ -74,4 +74,4 @@ module _ (M : Module) (work : IsWorkable M) (t : RawTerm) (n : IsNormalTerm M (a
   spots_values = values_listed M work.signature.accepted t (admitted_value M.signature work.signature.accepted t admitted_term) wanted spots listed
 
   pub triable : (x : Found) → (h : IsFoundIn M spots x) → IsTriable M h.spot.term.now x.choice
-  triable x h = triable_there M work t admitted_term wanted spots listed x h
+  triable x h = record { choice = h.found.choice; sized = h.found.sized; admitted = admitted_there M work t admitted_term wanted spots listed x h }

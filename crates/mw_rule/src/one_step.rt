@@ -114,20 +114,21 @@ fn made<'m>(
     context.shows();
     let mut machine = machine;
     let end = stop(alloc, context.facts(), &mut machine, hand)?;
-    match whole {
-        Some(whole) if same(&end, &whole) => {
-            let Machine { kept, .. } = machine;
-            let proved = Proved::of(context, 63, copy(term)?, end, kept);
-            Ok(OneStep::Made(proved))
-        }
-        // the machine leaves what was made beside it
-        _ => Err(AllocError),
+    let Some(whole) = whole else {
+        return Err(AllocError);
+    };
+    // it is: the machine leaves what was made beside it
+    if !same(&end, &whole) {
+        return Err(AllocError);
     }
+    let Machine { kept, .. } = machine;
+    let proved = Proved::of(context, 63, copy(term)?, end, kept);
+    Ok(OneStep::Made(proved))
 }
 
 /// The rule isn't applied, where there is no whole that it leads to.
 fn refused<'m>(whole: Option<Term>, step: OneStep<'m>) -> Result<OneStep<'m>, AllocError>
-    ensures { IfOk result (λ s. (s ≡ step) × (whole ≡ None)) }
+    ensures { IfOk result (λ s. (s ≡ step.entry) × (whole ≡ None)) }
 {
     match whole {
         Some(_) => Err(AllocError),
