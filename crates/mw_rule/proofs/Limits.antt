@@ -19,8 +19,7 @@ module _ (sig : Signature) (ok : IsAccepted sig) (w x : RawTerm) (kx : IsCanonic
       let whole : IsCanonical sig (apply f (join b (cons t a))) = subst (IsCanonical sig) e k in
       let each = Each-parts (IsCanonical sig) b (cons t a) (each_canonical sig (join b (cons t a)) whole.0) in
       let (ku, h) = replaced_so t u each.1.0 p in
-      let all : AreCanonical sig (join b (cons u a)) = all_canonical sig (join b (cons u a)) (Each-join (IsCanonical sig) b (cons u a) each.0 (ku, each.1.1)) in
-      (
+      let all : AreCanonical sig (join b (cons u a)) = all_canonical sig (join b (cons u a)) (Each-join (IsCanonical sig) b (cons u a) each.0 (ku, each.1.1)) in (
         subst (IsCanonical sig) (sym d) (applied_canonical sig ok f (join b (cons u a)) all),
         λ l. h (Each-parts (IsWithinDepth sig 1000) b (cons u a) (arguments_of_applied sig ok 999 f (join b (cons u a)) all (subst (IsWithinDepth sig 1000) d l))).1.0,
       )
@@ -28,8 +27,7 @@ module _ (sig : Signature) (ok : IsAccepted sig) (w x : RawTerm) (kx : IsCanonic
       let whole : IsCanonical sig (apply f (arranged (is_comm sig f) (join b (join us a)))) = subst (IsCanonical sig) e k in
       let each = Each-parts (IsCanonical sig) b (join us a) (Each-unarranged (IsCanonical sig) (is_comm sig f) (join b (join us a)) (each_canonical sig (arranged (is_comm sig f) (join b (join us a))) whole.0)) in
       let behind = (Each-parts (IsCanonical sig) us a each.1).1 in
-      let all : AreCanonical sig (join b (cons x a)) = all_canonical sig (join b (cons x a)) (Each-join (IsCanonical sig) b (cons x a) each.0 (kx, behind)) in
-      (
+      let all : AreCanonical sig (join b (cons x a)) = all_canonical sig (join b (cons x a)) (Each-join (IsCanonical sig) b (cons x a) each.0 (kx, behind)) in (
         subst (IsCanonical sig) (sym d) (applied_canonical sig ok f (join b (cons x a)) all),
         λ l. (Each-parts (IsWithinDepth sig 1000) b (cons x a) (arguments_of_applied sig ok 999 f (join b (cons x a)) all (subst (IsWithinDepth sig 1000) d l))).1.0,
       )

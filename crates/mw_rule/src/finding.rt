@@ -126,12 +126,7 @@ fn way_to(alloc: Global, spots: &[Spot<'_>], at: usize) -> Result<Seq<u32>, Allo
 }
 
 /// Values of the variables of a rule's left side.
-fn named(
-    alloc: Global,
-    context: &Ctx,
-    number: usize,
-    values: &[Term],
-) -> Result<Subst, AllocError>
+fn named(alloc: Global, context: &Ctx, number: usize, values: &[Term]) -> Result<Subst, AllocError>
     requires { (e : Statement) × IsStatement context.now number e }
     ensures { (e : Statement) → IsStatement context.now number e → IfOk result (λ s. s ≡ zip e.variables values.now) }
 {

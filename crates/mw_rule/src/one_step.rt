@@ -41,11 +41,7 @@ pub enum OneStep<'m> {
 }
 
 /// The parts on a way, from the whole on.
-fn along<'t>(
-    alloc: Global,
-    term: &'t Term,
-    path: &[u32],
-) -> Result<Vec<Spot<'t>>, AllocError>
+fn along<'t>(alloc: Global, term: &'t Term, path: &[u32]) -> Result<Vec<Spot<'t>>, AllocError>
     ensures { (sig : Signature) (end : RawTerm) (rest : List ℕ) → at_path term.now path.now ≡ Some end → IsOpenWay sig true (path.now ++ rest) term.now
         → IfOk result (λ spots. AreWays sig term.now spots.items × ((s : SpotOf) × (slice_get spots.items (length path.now) ≡ Some s) × (s.term.now ≡ end))) }
 {
@@ -146,7 +142,7 @@ pub fn apply<'m>(
     choice: Choice<'m>,
     sides: Vec<Trail>,
 ) -> Result<OneStep<'m>, AllocError>
-    requires { IsApplicable context.now term.now path choice.entry sides.items }
+    requires { IsApplicable context.now term.now path choice sides.items }
     ensures { IfOk result (IsStepBy context.now term.now path choice.entry) }
 {
     context.shows();

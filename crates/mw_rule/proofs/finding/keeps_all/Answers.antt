@@ -8,8 +8,7 @@ use Rattle.mw_rule.proofs.finding.keeps_all.Goals as goal
 pub returns : goal.returns
 returns c =
     let bs = c.args.pairs.now in
-    let r = c.args.others.now in
-    (
+    let r = c.args.others.now in (
       λ yes. subst (λ s. Extends s r) (sym c.requires) (all_kept bs r (λ i b at.
           let low = slice_get_within bs i b at in
           let done = c.loop-pair-test.false in

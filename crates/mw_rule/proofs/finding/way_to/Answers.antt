@@ -23,8 +23,7 @@ loop-place-preserved c = λ sig root s ways at.
     (λ (q, at_q, low, f, ts, term, number, clear).
     let there_x : at_path x.term.now old ≡ Some s.term.now = subst (λ (y : Spot). at_path y.term.now old ≡ Some s.term.now) same there in
     let way_x : IsOpenWay sig true old x.term.now = subst (λ (y : Spot). IsOpenWay sig true old y.term.now) same way in
-    let (arrives, opens) = way_by sig f ts x.number x.term.now s.term.now old number clear there_x way_x in
-    (
+    let (arrives, opens) = way_by sig f ts x.number x.term.now s.term.now old number clear there_x way_x in (
       q,
       at_q,
       subst (λ path. at_path q.term.now path ≡ Some s.term.now) longer (subst (λ t. at_path t (x.number ∷ old) ≡ Some s.term.now) (sym term) arrives),
