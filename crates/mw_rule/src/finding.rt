@@ -136,8 +136,8 @@ fn named(alloc: Global, context: &Ctx, number: usize, values: &[Term]) -> Result
 }
 
 /// The first rule in the order of the module that has a solution for a part that rules may change, outermost first and
-/// from the left, but for those that are among the failures with the same solution. None where there is none. Conditions
-/// aren't asked of.
+/// from the left, but for those that are among the failures with the same solution. None where there is none.
+/// Conditions aren't asked of.
 pub fn find<'m>(
     alloc: Global,
     context: &'m Ctx,
