@@ -2,7 +2,6 @@
 use Rattle.std.specs.Prelude.{◌≡◌, ℕ, List, [], true, IsTrue}
 use Rattle.std.proofs.Common.{sym, subst}
 use Rattle.mw_logic.specs.Term.{RawTerm}
-use Rattle.mw_logic.specs.Signature.{Member}
 use Rattle.mw_logic.specs.Accepted.{IsAccepted, IsWellSorted}
 use Rattle.mw_logic.specs.Parts.{nested}
 use Rattle.mw_logic.specs.CanonicalPart.{IsPartOf}
@@ -18,16 +17,16 @@ use Rattle.mw_deduction.specs.Tops.{IsNormalTerm}
 use Rattle.mw_deduction.proofs.Ending.{final_found}
 use Rattle.mw_least.specs.Workable.{IsWorkable}
 use Rattle.mw_solving.specs.Values.{IsValue}
-use Rattle.mw_index.specs.Index.{Asks, operator_of, AreRulesOf}
+use Rattle.mw_index.specs.Index.{AreRulesOf}
 use Rattle.mw_index.specs.Choices.{Tried, solution_of}
 use Rattle.mw_index.specs.declared.index.Rule.{Rule}
 use Rattle.mw_reduce.specs.Turns.{AreFailed}
 use Rattle.mw_reduce.proofs.Ends.{normal_at}
-use Rattle.mw_rule.specs.Spots.{IsReached, itself, IsOpenTop, AreWanted, AreAllSpots}
+use Rattle.mw_rule.specs.Spots.{IsReached, AreWanted, AreAllSpots}
 use Rattle.mw_rule.specs.Redexes.{AreAllAsked}
 use Rattle.mw_rule.specs.declared.spots.Wanted.{Wanted}
 use Rattle.mw_rule.specs.declared.spots.Spot.{Spot}
-use Rattle.mw_rule.proofs.Reaching.{part_reached, reached_normal, open_top}
+use Rattle.mw_rule.proofs.Everywhere.{value_reached, tried_everywhere}
 
 module _ (M : Module) (work : IsWorkable M) (t : RawTerm) (n : IsNormalTerm M (admitted_judgements M 63).Fails t) where
   abbrev ok : IsAccepted M.signature
@@ -42,11 +41,12 @@ module _ (M : Module) (work : IsWorkable M) (t : RawTerm) (n : IsNormalTerm M (a
   pub is_normal : IsNormal M 63 (nested M.signature t)
   is_normal = normal_at M 63 (nested M.signature t) (normal M (admitted_judgements M 63).Fails (Fails M 63) (admitted_within M 63).Fails (nested M.signature t) n.normal)
 
+  is_value : IsValue M.signature t
+  is_value = record { canonical = is_canonical; raw = n.raw; ground = n.normal.admitted.ground }
+
   -- what is reached in it is a value
   pub reached_value : (u : RawTerm) → IsReached M.signature t u → IsValue M.signature u
-  reached_value u h =
-      let (m, c) = reached_normal M ok sorted (admitted_judgements M 63).Fails t u n is_canonical h in
-      record { canonical = c; raw = m.raw; ground = m.normal.admitted.ground }
+  reached_value u h = value_reached M.signature ok t u is_value h
 
   pub all_fail : (wanted : Wanted) (rules : List Rule) → AreRulesOf M rules → AreWanted rules wanted
       → (spots : List Spot) → AreAllSpots M.signature wanted t spots → (tried : List Tried) → AreFailed M 63 tried → AreAllAsked M rules spots tried → IsFinal M (nested M.signature t)
@@ -54,12 +54,7 @@ module _ (M : Module) (work : IsWorkable M) (t : RawTerm) (n : IsNormalTerm M (a
     where
       each : (w : RawTerm) → IsPartOf M.signature true t w → (k : ℕ) (r : Statement) → IsStatement M k r → IsTrue r.rule → (s : Substitution) → IsSolution M.signature r.left (nested M.signature w) [] s → Fails M 63 r.fragments s
       each w p k r is rule s sol =
-          let (u, reached, place) = part_reached M.signature t t w itself p in
-          let (x, member, number, asked) = are.complete k r is rule in
-          let (spot, here, same) = listed.complete u reached (asks x member u (asked u w (reached_value u reached) (open_top M.signature u w place) s sol)) in
-          let there : IsStatement M x.by.number r = subst (λ i. IsStatement M i r) (sym number) is in
-          let asks_it : Asks x.section (operator_of spot.term.now) = subst (λ v. Asks x.section (operator_of v)) (sym same) (asked u w (reached_value u reached) (open_top M.signature u w place) s sol) in
-          let (c, tried_it, of, alike) = all x member spot here asks_it r there w (subst (λ v. IsOpenTop M.signature v w) (sym same) place) s sol in
-          let f = failed c tried_it r (subst (λ i. IsStatement M i r) (sym of) there) in
+          let (c, tried_it, number, alike) = tried_everywhere M work t is_value wanted rules are asks spots listed tried all w p k r is rule s sol in
+          let f = failed c tried_it r (subst (λ i. IsStatement M i r) (sym number) is) in
           (admitted_within M 63).Fails r.fragments s
           (Fails-same M (AdmittedStep M) 63 r.fragments (solution_of M.signature r c.values) s (same_solution-sym M.signature s (solution_of M.signature r c.values) alike) f.substitution f.fails)

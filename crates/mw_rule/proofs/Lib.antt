@@ -8,3 +8,9 @@ mod Passed
 mod Ended
 mod Looking
 mod Running
+pub mod Alike
+pub mod Everywhere
+pub mod Known
+mod Ways
+mod Limits
+mod Applicable

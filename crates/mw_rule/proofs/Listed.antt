@@ -52,12 +52,12 @@ member_got [] n x e = cc
 member_got (z ∷ zs) zero x e = inl (same_Some z x e)
 member_got (z ∷ zs) (suc n) x e = inr (member_got zs n x e)
 
-get_left : {X : Type 0} (xs ys : List X) (k : ℕ) (x : X) → slice_get xs k ≡ Some x → slice_get (xs ++ ys) k ≡ Some x
+pub get_left : {X : Type 0} (xs ys : List X) (k : ℕ) (x : X) → slice_get xs k ≡ Some x → slice_get (xs ++ ys) k ≡ Some x
 get_left [] ys k x e = cc
 get_left (z ∷ zs) ys zero x e = e
 get_left (z ∷ zs) ys (suc k) x e = get_left zs ys k x e
 
-get_pushed : {X : Type 0} (xs : List X) (y : X) (k : ℕ) (x : X) → slice_get (xs ++ y ∷ []) k ≡ Some x → (slice_get xs k ≡ Some x) ⊎ ((k ≡ length xs) × (y ≡ x))
+pub get_pushed : {X : Type 0} (xs : List X) (y : X) (k : ℕ) (x : X) → slice_get (xs ++ y ∷ []) k ≡ Some x → (slice_get xs k ≡ Some x) ⊎ ((k ≡ length xs) × (y ≡ x))
 get_pushed [] y zero x e = inr (refl, same_Some y x e)
 get_pushed [] y (suc k) x e = cc
 get_pushed (z ∷ zs) y zero x e = inl e

@@ -90,13 +90,14 @@ rewriting_from M w b t a k d e is (r, count, h) =
     let low : 63 ≤ 63 = omega Rattle.std.proofs.Common.arith in
     let f : IsWhole K count d e.term = whole_at_end K b count d e h in
     let tree = its_proof M w 63 low t a r k count d e.term is f in
-    let proves = proves_it M w 63 low t a r k count d e.term is f in
-    (whole_kept M w 63 low t a r k count d e.term is f,
-    record {
-      over = refl;
-      rank = refl;
-      from = refl;
-      proves = subst (λ p. Proves M 63 p (nested M.signature t) (nested M.signature e.term)) (sym tree) proves;
-      ends = subst (λ p. IsRewritten M (limits_of b) (nested M.signature t) p (nested M.signature e.term) e.outcome) (sym tree)
-          (rewritten_by K refl b count d e (nested M.signature t) (concluded f.stand) proves (counted M w 63 low t a r k count d e.term is f) (rules_counted M w 63 low t a r k count d e.term is f) h);
-    })
+    let proves = proves_it M w 63 low t a r k count d e.term is f in (
+      whole_kept M w 63 low t a r k count d e.term is f,
+      record {
+        over = refl;
+        rank = refl;
+        from = refl;
+        proves = subst (λ p. Proves M 63 p (nested M.signature t) (nested M.signature e.term)) (sym tree) proves;
+        ends = subst (λ p. IsRewritten M (limits_of b) (nested M.signature t) p (nested M.signature e.term) e.outcome) (sym tree)
+            (rewritten_by K refl b count d e (nested M.signature t) (concluded f.stand) proves (counted M w 63 low t a r k count d e.term is f) (rules_counted M w 63 low t a r k count d e.term is f) h);
+      },
+    )

@@ -42,30 +42,37 @@ at_end K count d t e n is =
 -- the first part is the root
 pub first_part : (K : Run) (count : ℕ) (d : Data) (root v : RawTerm) (spots : List Spot) (s : Spot) → AreWays K.over.signature root spots → slice_get spots 0 ≡ Some s → IsAt K count d root v → IsAtPart K count d spots 0 v
 first_part K count d root v spots s ways is at =
-    let z = (ways 0 s is).placed in
-    (s, is, ⊎_elim
-    (λ a. subst (λ t. IsAt K count d t v) (sym a.1) at)
-    (λ (p, there, low, f, ts, is, number, o). absurd (omega (arith, low)))
-    z)
+    let z = (ways 0 s is).placed in (
+      s,
+      is,
+      ⊎_elim
+          (λ a. subst (λ t. IsAt K count d t v) (sym a.1) at)
+          (λ (p, there, low, f, ts, is, number, o). absurd (omega (arith, low)))
+          z,
+    )
 
 -- from a part into one of its arguments
 pub next_part : (K : Run) (count : ℕ) (d n : Data) (root v : RawTerm) (spots : List Spot) (j : ℕ) (s p : Spot) → AreWays K.over.signature root spots → slice_get spots j ≡ Some s → 0 < j → slice_get spots s.parent ≡ Some p
     → IsAtPart K count d spots s.parent v → (u : RawTerm) → IsEntered K count d n p.term.now s.number u → IsAtPart K count n spots j v
-next_part K count d n root v spots j s p ways is some parent (q, there, at) u e = (s, is, ⊎_elim
-    (λ a. let z = a.0 in absurd (omega (arith, z, some)))
-    (λ (r, here, low, f, ts, term, number, clear).
-    let same : q ≡ p = same_Some q p (sym there ∙ parent) in
-    let alike : r ≡ p = same_Some r p (sym here ∙ parent) in
-    let is_term : p.term.now ≡ apply f ts = ap (λ (x : Spot). x.term.now) (sym alike) ∙ term in
-    let argument : at_number (list_of ts) s.number ≡ Some u = subst (λ t. at_number (list_of (args_of t)) s.number ≡ Some u) is_term e.is in
-    let arrived : u ≡ s.term.now = same_Some u s.term.now (sym argument ∙ number) in
-    subst (λ t. IsAt K count n t v) arrived (record {
-      holds = e.holds;
-      seen = e.seen;
-      free = e.free f ts is_term clear at.free;
-      same = e.same v at.same;
-    }))
-    (ways j s is).placed)
+next_part K count d n root v spots j s p ways is some parent (q, there, at) u e = (
+  s,
+  is,
+  ⊎_elim
+      (λ a. let z = a.0 in absurd (omega (arith, z, some)))
+      (λ (r, here, low, f, ts, term, number, clear).
+      let same : q ≡ p = same_Some q p (sym there ∙ parent) in
+      let alike : r ≡ p = same_Some r p (sym here ∙ parent) in
+      let is_term : p.term.now ≡ apply f ts = ap (λ (x : Spot). x.term.now) (sym alike) ∙ term in
+      let argument : at_number (list_of ts) s.number ≡ Some u = subst (λ t. at_number (list_of (args_of t)) s.number ≡ Some u) is_term e.is in
+      let arrived : u ≡ s.term.now = same_Some u s.term.now (sym argument ∙ number) in
+      subst (λ t. IsAt K count n t v) arrived (record {
+        holds = e.holds;
+        seen = e.seen;
+        free = e.free f ts is_term clear at.free;
+        same = e.same v at.same;
+      }))
+      (ways j s is).placed,
+)
 
 -- what is normal may be asked
 pub asked_there : (K : Run) (sig : Signature) → IsRun K sig → (count : ℕ) (d : Data) (t v : RawTerm) → IsAt K count d t v → IsAsked K count d t

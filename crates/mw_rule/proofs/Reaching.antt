@@ -82,8 +82,7 @@ module _ (M : Module) (ok : IsAccepted M.signature) (sorted : IsWellSorted M.sig
   pub reached_normal : (root u : RawTerm) → IsNormalTerm M F root → IsCanonical M.signature root → IsReached M.signature root u → IsNormalTerm M F u × IsCanonical M.signature u
   reached_normal root u n k itself = (n, k)
   reached_normal root u n k (argument f ts i v h at o) =
-      let (m, c) = reached_normal root (apply f ts) n k h in
-      (
+      let (m, c) = reached_normal root (apply f ts) n k h in (
         each_at (IsNormalTerm M F) ts i u (normal_has M ok sorted F (apply f ts) c m f ts refl) at,
         each_at (IsCanonical M.signature) ts i u (Rattle.mw_logic.proofs.Canonical.each_canonical M.signature ts c.0) at,
       )

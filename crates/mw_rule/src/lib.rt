@@ -11,24 +11,47 @@
 //!   term that is too deep, or that is not and has a number that is too large; or a side of a condition that is tried
 //!   next stops.
 //!
+//! `find` looks for one rule in any term, and applies none. It is given failures: statements with values for which
+//! their conditions fail (`Failing` of mw_proof). Proved (specs/Finding):
+//!
+//! - a [`Redex`] is an executable rule with a solution of its left side for a part that rules may change, by values of
+//!   the left side's variables in the order in which these are met, and the place of that part. None of the failures
+//!   is of this rule with these values and no others. The redex may be asked of its condition, by `conditions` of
+//!   mw_reduce, and what fails is a failure for the next call; or tried as a choice, by `try_choice` (`IsRedexOf`);
+//! - there is none exactly where each rule's every solution at each such part is among the failures, so that its
+//!   condition fails (`AreAllKnown`); a normal term is final then (`known_final`, proofs/Known).
+//!
+//! `apply` makes the one step from a normal term by a rule that applies at a place, which `try_choice` of mw_reduce has
+//! shown. Proved (specs/Applications): the `Proved` is a deduction of exactly one step, by a rule, from the term to the
+//! term with the canonical instance of the rule's right side in the part's place (`IsOneStep`). It is made exactly
+//! where that is within the limits; else a step by a rule would lead to what is too deep, or too large and not too
+//! deep. No clause says that the step in the proof is by the same rule.
+//!
 //! The whole is kept in one machine of mw_frames with one trail. A rule is applied where a normal whole was left: the
 //! machine goes into the arguments on the way (`enter`), whose others are known to be normal, and goes on from what the
 //! rule leaves. So a step costs what is found and what the rule leaves, and a move for each argument on the way and of
-//! what was gone into, and the whole is never reduced anew.
+//! what was gone into, and the whole is never reduced anew. `apply` goes the same way, and makes what the rule leaves
+//! beside it too, which it compares.
 //!
 //! The parts of a term are listed breadth first (`spots_of`): of arguments in which no operator is that a rule has on
 //! top, none. Rules are asked in the order of the module, each at each part in turn (`Redexes`), and its solutions there
 //! one after another. What fails isn't asked again before something changed.
 //!
-//! Conditions: the index is one of the context's module, the term is canonical and admitted. Want of memory is the only
-//! error. No clause says which of several rules, parts and solutions that apply is taken.
+//! Conditions: the index is one of the context's module, the term is canonical and admitted; of `find` that the
+//! failures are of the context's module; of `apply` that the term is normal and the rule applies there
+//! (`IsApplicable`). Want of memory is the only error. No clause says which of several rules, parts and solutions that
+//! apply is taken.
 //!
 //! Neither proved nor tested: time and memory, and that an answer comes with memory at hand.
 #![tactic(auto)]
 
+mod finding;
 mod going;
+mod one_step;
 mod redexes;
 mod rewriting;
 mod spots;
 
+pub use finding::{Redex, find};
+pub use one_step::{OneStep, apply};
 pub use rewriting::{Bounds, rewrite_alone};

@@ -54,7 +54,7 @@ enum Stepped<'m> {
 }
 
 /// A rule is applied at a part of the whole.
-fn fire_at<'m>(
+pub fn fire_at<'m>(
     alloc: Global,
     context: &'m Ctx,
     machine: &mut Machine<'m>,

@@ -52,7 +52,7 @@ fn may_have(term: &Term, wanted: Wanted) -> bool
     }
 }
 
-fn arguments(term: &Term) -> &[Term]
+pub fn arguments(term: &Term) -> &[Term]
     ensures { result.now ≡ list_of (args_of term.now) }
 {
     match term.view() {

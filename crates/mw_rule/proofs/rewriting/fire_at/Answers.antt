@@ -39,8 +39,7 @@ returns c = λ K k t run here e made.
     let is : IsApplied K.over K.rank c.applied.result (all_moves K.over c.args.sides.items) q.values.items made_v.part = applied_so K.over K.rank v q c.args.sides.items made_v c.applied.result c.applied.ensures in
     let rule : c.applied.result.rule ≡ true = c.applied.ensures.rule ∙ made.rule in
     let inside : ((ks : List ℕ) (f : ℕ) (ts : RawTerms) → q.take ≡ Some ks → v ≡ apply f ts → ¬ IsFrozenArgument sig f 1) = λ ks f ts a b. first_free sig f (made.free ks f ts a (sym copied ∙ b)) in
-    let free : IsOpenTo K k d v q.take = record { around = at_v.free; inside = inside } in
-    (
+    let free : IsOpenTo K k d v q.take = record { around = at_v.free; inside = inside } in (
       subst (λ b. IsFired K b k (data_of K.over c.fire.new.machine) c.in_ok-fired.fired) rule (c.in_ok-fired.ensures.means K k made_v.part facts asked taken is (λ z. free)),
       c.in_ok-fired.ensures.same K k made_v.part t facts asked taken at_v.same,
     )

@@ -32,37 +32,42 @@ returns-in_default c = λ K k run here rank e.
     let n : IsNormalTerm M (admitted_judgements M 63).Fails t = subst (λ r. IsNormalTerm M (admitted_judgements M r).Fails t) rank (subst (λ (N : Module). IsNormalTerm N (admitted_judgements N K.rank).Fails t) here e.normal) in
     let listed : AreAllSpots M.signature c.args.wanted t ss = subst (λ g. AreAllSpots g c.args.wanted t ss) c.facts.ensures c.in_ok-spots.ensures in
     let (tried, failed, asked) = c.loop-rounds.invariant.1 n in
-    let all = rw c.in_default.is at (rw c.as_slice.ensures.value at c.in_ok-found.ensures.is tried (spots_values M c.shows.ensures t n c.args.wanted ss listed) asked) in
-    (
+    let all = rw c.in_default.is at (rw c.as_slice.ensures.value at c.in_ok-found.ensures.is tried (spots_values M c.shows.ensures t n c.args.wanted ss listed) asked) in (
       subst (λ m. IsEnd K k (data_of K.over m) t) (sym c.loop-rounds.invariant.0) e,
       subst (λ (N : Module). IsFinal N (nested N.signature t)) (sym here) (all_fail M c.shows.ensures t n c.args.wanted c.args.rules.now c.requires.rules c.requires.wanted ss listed tried failed all),
     )
 
 pub loop-rounds-preserved-in-Fails : goal.loop-rounds-preserved-in-Fails
-loop-rounds-preserved-in-Fails c = (c.loop-rounds.invariant.0, λ n.
-    let M : Module = c.args.context.now in
-    let t = c.args.term.now in
-    let ss = c.in_ok-spots.spots.items in
-    let q : Choice = c.in-Some.found.choice in
-    let listed : AreAllSpots M.signature c.args.wanted t ss = subst (λ g. AreAllSpots g c.args.wanted t ss) c.facts.ensures c.in_ok-spots.ensures in
-    let (tried, failed, asked) = c.loop-rounds.invariant.1 n in
-    let z : IsFoundIn M ss c.in-Some.found × AreAsked M c.args.rules.now ss (tried ++ tried_of q ∷ []) c.next.new.self =
-    rw c.in-Some.is at (rw c.as_slice.ensures.value at c.in_ok-found.ensures.is tried (spots_values M c.shows.ensures t n c.args.wanted ss listed) asked) in
-    let told = c.in_ok-sides.ensures.means z.0.spot.term.now (triable M c.shows.ensures t n c.args.wanted ss listed c.in-Some.found z.0) in
-    (tried ++ tried_of q ∷ [], failed_more M 63 tried (tried_of q) failed (rw c.in-Fails.is at told), z.1))
+loop-rounds-preserved-in-Fails c = (
+  c.loop-rounds.invariant.0,
+  λ n.
+      let M : Module = c.args.context.now in
+      let t = c.args.term.now in
+      let ss = c.in_ok-spots.spots.items in
+      let q : Choice = c.in-Some.found.choice in
+      let listed : AreAllSpots M.signature c.args.wanted t ss = subst (λ g. AreAllSpots g c.args.wanted t ss) c.facts.ensures c.in_ok-spots.ensures in
+      let (tried, failed, asked) = c.loop-rounds.invariant.1 n in
+      let z : IsFoundIn M ss c.in-Some.found × AreAsked M c.args.rules.now ss (tried ++ tried_of q ∷ []) c.next.new.self =
+      rw c.in-Some.is at (rw c.as_slice.ensures.value at c.in_ok-found.ensures.is tried (spots_values M c.shows.ensures t n c.args.wanted ss listed) asked) in
+      let told = c.in_ok-sides.ensures.means z.0.spot.term.now (triable M c.shows.ensures t n c.args.wanted ss listed c.in-Some.found z.0) in
+      (tried ++ tried_of q ∷ [], failed_more M 63 tried (tried_of q) failed (rw c.in-Fails.is at told), z.1),
+)
 
 pub loop-rounds-preserved : goal.loop-rounds-preserved
-loop-rounds-preserved c = (c.loop-rounds.invariant.0, λ n.
-    let M : Module = c.args.context.now in
-    let t = c.args.term.now in
-    let ss = c.in_ok-spots.spots.items in
-    let q : Choice = c.in-Some.found.choice in
-    let listed : AreAllSpots M.signature c.args.wanted t ss = subst (λ g. AreAllSpots g c.args.wanted t ss) c.facts.ensures c.in_ok-spots.ensures in
-    let (tried, failed, asked) = c.loop-rounds.invariant.1 n in
-    let z : IsFoundIn M ss c.in-Some.found × AreAsked M c.args.rules.now ss (tried ++ tried_of q ∷ []) c.next.new.self =
-    rw c.in-Some.is at (rw c.as_slice.ensures.value at c.in_ok-found.ensures.is tried (spots_values M c.shows.ensures t n c.args.wanted ss listed) asked) in
-    let told = c.in_ok-sides.ensures.means z.0.spot.term.now (triable M c.shows.ensures t n c.args.wanted ss listed c.in-Some.found z.0) in
-    (tried ++ tried_of q ∷ [], failed_more M 63 tried (tried_of q) failed (rw c.in-Fails.is at told), z.1))
+loop-rounds-preserved c = (
+  c.loop-rounds.invariant.0,
+  λ n.
+      let M : Module = c.args.context.now in
+      let t = c.args.term.now in
+      let ss = c.in_ok-spots.spots.items in
+      let q : Choice = c.in-Some.found.choice in
+      let listed : AreAllSpots M.signature c.args.wanted t ss = subst (λ g. AreAllSpots g c.args.wanted t ss) c.facts.ensures c.in_ok-spots.ensures in
+      let (tried, failed, asked) = c.loop-rounds.invariant.1 n in
+      let z : IsFoundIn M ss c.in-Some.found × AreAsked M c.args.rules.now ss (tried ++ tried_of q ∷ []) c.next.new.self =
+      rw c.in-Some.is at (rw c.as_slice.ensures.value at c.in_ok-found.ensures.is tried (spots_values M c.shows.ensures t n c.args.wanted ss listed) asked) in
+      let told = c.in_ok-sides.ensures.means z.0.spot.term.now (triable M c.shows.ensures t n c.args.wanted ss listed c.in-Some.found z.0) in
+      (tried ++ tried_of q ∷ [], failed_more M 63 tried (tried_of q) failed (rw c.in-Fails.is at told), z.1),
+)
 
 pub returns-in-Made : goal.returns-in-Made
 returns-in-Made c = λ K k run here rank e.
@@ -111,8 +116,7 @@ returns-in-Halts c = λ K k run here rank e.
     let at_rank : IsHaltingAt K.over true K.rank c.args.side u q.take why = subst (λ r. IsHaltingAt K.over true r c.args.side u q.take why) (sym rank) (subst (λ (N : Module). IsHaltingAt N true 63 c.args.side u q.take why) (sym here) of_rule) in
     let reached = (listed.sound c.in-Some.found.at z.0.spot z.0.there).reached in
     let found : IsFoundAt K.over u q = subst (λ (N : Module). IsFoundAt N u q) (sym here) z.0.found in
-    let value : IsValue K.over.signature u = subst (λ (N : Module). IsValue N.signature u) (sym here) (reached_value M c.shows.ensures t n u reached) in
-    (
+    let value : IsValue K.over.signature u = subst (λ (N : Module). IsValue N.signature u) (sym here) (reached_value M c.shows.ensures t n u reached) in (
       subst (λ m. IsEnd K k (data_of K.over m) t) (sym c.loop-rounds.invariant.0) e,
       untold K c.args.context.now.signature run c.args.side t u e.normal (subst (λ (N : Module). IsReached N.signature t u) (sym here) reached) value q found why at_rank,
     )

@@ -29,12 +29,12 @@ returns-then-matches c = λ K run here rank none h.
     ends_at_bound K c.args.bounds r count c.loop-choices.left (data_of K.over c.run_on.new.machine) c.in_ok-driven.driven sum driven
     (elim c.match-matches.branch [ in-Done w ↦ w.in-Done.is | in_default w ↦ absurd (both_ways c.match-matches.matches w.matches-is c.if-not-matches.false) ])
     (elim c.match-matches-2.branch [
-      in-Some-eq0 w ↦
-        let z : c.loop-choices.bound ≡ Some 0 = w.in-Some-eq0.is ∙ ap (λ n. Some n) (sym w.in-Some-eq0.field-0-is ∙ w.in-Some-eq0.field-0-test) in
-        let same : 0 + r ≡ r = omega arith in
-        ap (λ n. Some n) (sym same) ∙ ap (option_map (λ n. n + r)) (sym z) ∙ full
-    | in_default-matches w ↦ absurd (both_ways c.match-matches-2.matches w.matches-is c.if-matches.true)
-    | in_default-matches-2 w ↦ absurd (both_ways c.match-matches-2.matches w.matches-is c.if-matches.true)
+      | in-Some-eq0 w ↦
+          let z : c.loop-choices.bound ≡ Some 0 = w.in-Some-eq0.is ∙ ap (λ n. Some n) (sym w.in-Some-eq0.field-0-is ∙ w.in-Some-eq0.field-0-test) in
+          let same : 0 + r ≡ r = omega arith in
+          ap (λ n. Some n) (sym same) ∙ ap (option_map (λ n. n + r)) (sym z) ∙ full
+      | in_default-matches w ↦ absurd (both_ways c.match-matches-2.matches w.matches-is c.if-matches.true)
+      | in_default-matches-2 w ↦ absurd (both_ways c.match-matches-2.matches w.matches-is c.if-matches.true)
     ])
 
 pub loop-choices-preserved : goal.loop-choices-preserved
@@ -45,10 +45,13 @@ loop-choices-preserved c = λ K run here rank none h.
     let done : x.end.outcome ≡ Done = elim c.match-matches.branch [ in-Done w ↦ w.in-Done.is | in_default w ↦ absurd (both_ways c.match-matches.matches w.matches-is c.if-not-matches.false) ] in
     let some_left : c.loop-choices.bound ≡ Some 0 → ⊥ = λ e. elim c.match-matches-2.branch [ in-Some-eq0 w ↦ both_ways c.match-matches-2.matches c.if-matches.false w.matches-is | in_default-matches w ↦ w.in_default-matches.field-0-test.1 (w.in_default-matches.field-0-is ∙ so_many_left c.loop-choices.bound w.in_default-matches.field-0 w.in_default-matches.is e) | in_default-matches-2 w ↦ none_left c.loop-choices.bound w.in_default-matches.is e ] in
     let (below, e) = at_end K c.args.bounds r count c.loop-choices.left (data_of K.over c.run_on.new.machine) x sum driven done in
-    let z = rw c.in-Goes.is at (c.in_ok-next.ensures (with_rules r K) driven.0 (run_with K c.args.context.now.signature r run) here rank e) in
-    (suc r, suc driven.0, z,
+    let z = rw c.in-Goes.is at (c.in_ok-next.ensures (with_rules r K) driven.0 (run_with K c.args.context.now.signature r run) here rank e) in (
+      suc r,
+      suc driven.0,
+      z,
       ap (λ n. suc driven.0 + n) c.saturating_sub-left.ensures ∙ one_more K c.args.bounds r count c.loop-choices.left (data_of K.over c.run_on.new.machine) x sum driven done,
-      ap (option_map (λ n. n + suc r)) c.one_less-bound.ensures ∙ bound_after c.loop-choices.bound r some_left ∙ full)
+      ap (option_map (λ n. n + suc r)) c.one_less-bound.ensures ∙ bound_after c.loop-choices.bound r some_left ∙ full,
+    )
 
 pub returns-in-Ends : goal.returns-in-Ends
 returns-in-Ends c = λ K run here rank none h.

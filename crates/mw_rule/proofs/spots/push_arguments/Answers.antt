@@ -33,14 +33,18 @@ loop-i-preserved c = λ root h.
           let free : ((f : ℕ) (ts : RawTerms) → spot.term.now ≡ apply f ts → IsOpen sig true f (i + 1)) = λ f ts e. subst (λ x. IsOpenArgument sig true x (i + 1)) (sym same ∙ e) o in
           rw (v.spots-is, v.in_ok-push.ensures.items) (spot, same, listed sig w root n spot i xs t there now _ refl refl c.in_ok-number.ensures free)
       | else-may_have v ↦
-          rw v.spots-is (spot, same, passed sig w root n spot i xs t there now (λ u r k o. elim v.else-may_have.branch [
-            | else-may_have-via-then-may_have+else-is_open z ↦
-                let open_there = subst (λ x. IsOpenArgument sig true x c.in_ok-number.number) same (subst (IsOpenArgument sig true spot.term.now) (sym c.in_ok-number.ensures) (open_argument sig spot.term.now (i + 1) o)) in
-                let yes : z.is_open.result ≡ true = z.is_open.ensures.1 (open_there, λ u e. tt) in
-                let no = z.if-is_open.false in
-                cc
-            | else-may_have-via-else-may_have z ↦ c.may_have.ensures z.if-may_have.false u (reached_inside sig t u r) k
-          ]))
+          rw v.spots-is (
+            spot,
+            same,
+            passed sig w root n spot i xs t there now (λ u r k o. elim v.else-may_have.branch [
+              | else-may_have-via-then-may_have+else-is_open z ↦
+                  let open_there = subst (λ x. IsOpenArgument sig true x c.in_ok-number.number) same (subst (IsOpenArgument sig true spot.term.now) (sym c.in_ok-number.ensures) (open_argument sig spot.term.now (i + 1) o)) in
+                  let yes : z.is_open.result ≡ true = z.is_open.ensures.1 (open_there, λ u e. tt) in
+                  let no = z.if-is_open.false in
+                  cc
+              | else-may_have-via-else-may_have z ↦ c.may_have.ensures z.if-may_have.false u (reached_inside sig t u r) k
+            ]),
+          )
     ]
 
 pub returns : goal.returns

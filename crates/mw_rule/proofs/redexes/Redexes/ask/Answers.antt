@@ -27,8 +27,7 @@ returns-then-is_none-clause-is c = λ tried v h.
       | then-is_none-via-else-is_none+then-is_open w ↦ λ ks f ts e z.
           let o = (w.is_open.ensures.0 w.if-is_open.true).0 in
           subst (λ s. IsOpen s true f 1) w.facts.ensures (subst (λ x. IsOpenArgument w.facts.result.now true x 1) z o)
-    ] in
-    (
+    ] in (
       record { choice = a.0; sized = sized.1 ∙ ap (λ (o : Oriented). length o.sorts) (sym sized.0); rule = ap (λ (o : Oriented). o.rule) sized.0 ∙ c.requires.rule; free = free },
       one_answered M t c.args.rule.now tried c.loop-rounds.self.choices c.ask.new.self now q answer.subject a.2,
     )

@@ -38,8 +38,7 @@ returns-in-Some-clause-is c = λ tried v h.
     let at = got_at ss x.at c.index-spots-at.result near c.index-spots-at.is ∙ ap Some c.index-spots-at.is in
     let member = subst (λ (y : Spot). Member y ss) c.index-spots-at.is (member_at ss x.at c.index-spots-at.result near c.index-spots-at.is) in
     let now = c.loop-rounds.invariant tried v h in
-    let (found, asked) = rw c.in-Some.is at (c.in_ok-choice.ensures.is tried (v s member) (now.here r s is at)) in
-    (
+    let (found, asked) = rw c.in-Some.is at (c.in_ok-choice.ensures.is tried (v s member) (now.here r s is at)) in (
       record { spot = s; there = at; found = found },
       one_found c.args.context.now rs ss tried x c.ask.new.self c.in_ok-choice.ensures.places.0 c.in_ok-choice.ensures.places.1 now r s is at (tried_of c.in-Some.choice) asked,
     )
