@@ -4,7 +4,7 @@ use Rattle.std.proofs.Common.{sym, subst, ap, ◌∙◌, inl, inr, ⊎_elim}
 use Rattle.std.proofs.lemmas.Option.{none-some}
 use Rattle.mw_logic.specs.Term.{Variable, RawTerm, numeral, quoted, variable, apply, RawTerms, nil, cons}
 use Rattle.mw_logic.specs.Signature.{Signature}
-use Rattle.mw_logic.specs.Axioms.{EqualModulo, done}
+use Rattle.mw_logic.specs.Axioms.{done}
 use Rattle.mw_logic.specs.Substitution.{Substitution, value, instance, instances, occurs, same_variable, Extends, AgreesWith, IsSolution}
 use Rattle.mw_logic.specs.Module.{Module, Fragment, equal, matches, has_sort, is_true}
 use Rattle.mw_logic.specs.Parts.{nested}

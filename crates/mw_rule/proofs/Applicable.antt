@@ -22,7 +22,7 @@ use Rattle.mw_logic.proofs.PartsOfNormalForm.{part_found, part_from_replacing}
 use Rattle.mw_canon.specs.Canonical.{IsAdmittedTerm, meant}
 use Rattle.mw_pattern.specs.Clean.{clean}
 use Rattle.mw_matching.specs.Matches.{evaluated}
-use Rattle.mw_deduction.specs.Replay.{begun, concluded}
+use Rattle.mw_deduction.specs.Replay.{begun}
 use Rattle.mw_deduction.proofs.NormalParts.{part_admitted}
 use Rattle.mw_trail.specs.Tracks.{Track, moves}
 use Rattle.mw_redex.specs.Paths.{at_path}
@@ -53,7 +53,6 @@ use Rattle.mw_rule.specs.Applications.{IsApplicable, IsPast, IsOneStep, IsStepTo
 use Rattle.mw_rule.specs.declared.one_step.OneStep.{OneStep}
 use Rattle.mw_rule.specs.declared.one_step.OneStep.TheVariants.{Deep, Nat}
 use Rattle.mw_rule.specs.declared.spots.Spot.{Spot}
-use Rattle.mw_rule.specs.declared.redexes.Found.{Found}
 use Rattle.mw_rule.proofs.Everywhere.{value_reached}
 use Rattle.mw_rule.proofs.Limits.{put_within}
 use Rattle.mw_rule.proofs.Reaching.{part_reached, open_top}

@@ -5,7 +5,7 @@ use Rattle.std.proofs.lemmas.Bool.{and_parts}
 use Rattle.std.proofs.lemmas.Option.{same_Some}
 use Rattle.mw_logic.specs.Term.{RawTerm, RawTerms, apply, nil, cons, is_ground, are_ground}
 use Rattle.mw_logic.specs.Terms.{list_of}
-use Rattle.mw_logic.specs.Signature.{Signature, Member, at_number}
+use Rattle.mw_logic.specs.Signature.{Signature, at_number}
 use Rattle.mw_logic.specs.Accepted.{IsAccepted}
 use Rattle.mw_logic.specs.Parts.{nested}
 use Rattle.mw_logic.specs.Substitution.{Substitution, IsSolution}
@@ -23,7 +23,7 @@ use Rattle.mw_solving.proofs.Grounds.{nested_ground}
 use Rattle.mw_index.specs.Index.{Asks, operator_of, AreRulesOf}
 use Rattle.mw_index.specs.Choices.{Tried, IsTried}
 use Rattle.mw_index.specs.declared.index.Rule.{Rule}
-use Rattle.mw_rule.specs.Spots.{IsReached, itself, argument, IsOpenTop, AreWanted, AreAllSpots}
+use Rattle.mw_rule.specs.Spots.{IsReached, itself, IsOpenTop, AreWanted, AreAllSpots}
 use Rattle.mw_rule.specs.Redexes.{AreAllAsked}
 use Rattle.mw_rule.specs.declared.spots.Wanted.{Wanted}
 use Rattle.mw_rule.specs.declared.spots.Spot.{Spot}

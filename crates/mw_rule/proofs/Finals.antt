@@ -1,5 +1,5 @@
 -- Where all rules were tried at all parts, and fail, the term is final.
-use Rattle.std.specs.Prelude.{◌≡◌, ℕ, List, [], true, IsTrue}
+use Rattle.std.specs.Prelude.{ℕ, List, [], true, IsTrue}
 use Rattle.std.proofs.Common.{sym, subst}
 use Rattle.mw_logic.specs.Term.{RawTerm}
 use Rattle.mw_logic.specs.Accepted.{IsAccepted, IsWellSorted}

@@ -1,10 +1,9 @@
 -- What is found, but for failures: a rule with a solution that isn't one of them; or all are.
-use Rattle.std.specs.Prelude.{◌≡◌, ℕ, List, [], ◌∷◌, ◌++◌, length, map, true, Option, Some, None, slice_get, IsTrue, refl}
+use Rattle.std.specs.Prelude.{◌≡◌, ℕ, List, [], ◌∷◌, ◌++◌, length, true, Option, Some, None, slice_get, refl}
 use Rattle.std.specs.List.{zip}
 use Rattle.std.proofs.Common.{sym, subst, ap, ◌∙◌, ⊎_elim}
-use Rattle.std.proofs.lemmas.List.{length-map}
 use Rattle.std.proofs.lemmas.Option.{same_Some}
-use Rattle.mw_logic.specs.Term.{Variable, RawTerm, RawTerms, apply, Context}
+use Rattle.mw_logic.specs.Term.{Variable, RawTerm, RawTerms, apply}
 use Rattle.mw_logic.specs.Signature.{Signature, Member, IsRawTerm, at_number}
 use Rattle.mw_logic.specs.Accepted.{IsAccepted}
 use Rattle.mw_logic.specs.Axioms.{done}

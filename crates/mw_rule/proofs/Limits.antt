@@ -1,5 +1,5 @@
 -- What is replaced in a canonical term, and the limits on terms.
-use Rattle.std.specs.Prelude.{◌≡◌, true}
+use Rattle.std.specs.Prelude.{true}
 use Rattle.std.proofs.Common.{sym, subst}
 use Rattle.mw_logic.specs.Term.{RawTerm, apply, cons, join}
 use Rattle.mw_logic.specs.Signature.{Signature}

@@ -8,12 +8,12 @@ use Rattle.mw_logic.specs.Terms.{args_of, list_of}
 use Rattle.mw_logic.specs.Signature.{Signature, Member, at_number}
 use Rattle.mw_logic.specs.CanonicalPart.{IsOpen}
 use Rattle.mw_poset.proofs.Members.{member-left, member-last}
-use Rattle.mw_term.specs.OperatorSets.{AreApart, Lacks, operators_in, operators_in_all}
+use Rattle.mw_term.specs.OperatorSets.{AreApart, operators_in, operators_in_all}
 use Rattle.mw_term.proofs.OperatorSets.{lacks_top, arguments_apart, first_apart, others_apart}
 use Rattle.mw_term.specs.declared.operators.Sought.{Sought}
 use Rattle.mw_redex.specs.Replaced.{IsOpenArgument}
 use Rattle.mw_index.specs.Index.{operator_of}
-use Rattle.mw_rule.specs.Spots.{IsInside, itself, argument, IsReached, IsWanted, IsSpot, AreSpots, AreAllSpots}
+use Rattle.mw_rule.specs.Spots.{IsInside, IsReached, IsWanted, IsSpot, AreSpots, AreAllSpots}
 use Rattle.mw_rule.specs.declared.spots.Spot.{Spot}
 use Rattle.mw_rule.specs.declared.spots.Wanted.{Wanted}
 use Rattle.mw_rule.specs.declared.spots.Wanted.TheVariants as wanted

@@ -1,8 +1,8 @@
 -- The parts of a term, and the choices of rules at them.
-use Rattle.std.specs.Prelude.{◌≡◌, List, true}
+use Rattle.std.specs.Prelude.{List, true}
 use Rattle.std.proofs.Common.{sym, subst}
 use Rattle.mw_logic.specs.Term.{RawTerm, Context}
-use Rattle.mw_logic.specs.Signature.{Signature, Member}
+use Rattle.mw_logic.specs.Signature.{Signature}
 use Rattle.mw_logic.specs.Accepted.{IsAccepted}
 use Rattle.mw_logic.specs.Parts.{nested, IsPart}
 use Rattle.mw_logic.specs.CanonicalPart.{IsPartOf}

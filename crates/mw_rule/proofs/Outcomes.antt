@@ -1,5 +1,5 @@
 -- What the end of a rewriting says of its proof.
-use Rattle.std.specs.Prelude.{◌≡◌, ◌≢◌, ◌<◌, ◌≤◌, ℕ, zero, suc, true, Option, Some, IsTrue, refl}
+use Rattle.std.specs.Prelude.{◌≡◌, ◌≢◌, ◌<◌, ◌≤◌, ℕ, zero, suc, true, Some, refl}
 use Rattle.std.proofs.Common.{sym, subst, ap, ◌∙◌}
 use Rattle.mw_logic.specs.Term.{RawTerm}
 use Rattle.mw_logic.specs.Parts.{nested}
@@ -9,8 +9,7 @@ use Rattle.mw_logic.specs.Judgements.{Proves, IsNormal, Fails, admitted_judgemen
 use Rattle.mw_logic.specs.Ends.{Limits, Stops, StopsBy, by_rules}
 use Rattle.mw_logic.proofs.Ranks.{admitted_within, normal}
 use Rattle.mw_deduction.specs.Replay.{concluded}
-use Rattle.mw_proof.specs.Deductions.{Deduction, IsKept, deduced}
-use Rattle.mw_proof.specs.declared.reason.Reason.{Reason}
+use Rattle.mw_proof.specs.Deductions.{IsKept, deduced}
 use Rattle.mw_proof.specs.declared.reason.Reason.TheVariants as reason
 use Rattle.mw_canon.specs.Canonical.{IsAdmittedTerm}
 use Rattle.mw_least.specs.Workable.{IsWorkable}
@@ -25,7 +24,7 @@ use Rattle.mw_reduce.specs.declared.drive.End.{End}
 use Rattle.mw_reduce.specs.declared.drive.Outcome.{Outcome}
 use Rattle.mw_reduce.specs.declared.drive.Outcome.TheVariants.{Done, Stopped}
 use Rattle.mw_rule.specs.Rewritings.{limits_of, IsRewritten, IsRewritingOf}
-use Rattle.mw_rule.specs.Stepped.{EndsRewriting, by_equations, by_bound, by_rules, EndsThere, EndsByRules, IsRewrittenBy}
+use Rattle.mw_rule.specs.Stepped.{EndsRewriting, by_equations, by_bound, by_rules, EndsThere, IsRewrittenBy}
 use Rattle.mw_rule.specs.declared.rewriting.Bounds.{Bounds}
 
 stops_by_bound : (M : Module) (n : ℕ) (limits : Limits) (t0 : RawTerm) (p : Proof) (u : RawTerm) → Proves M n p t0 u → steps p < limits.most → Some (rules p) ≡ limits.bound → IsNormal M n u → Stops M n limits t0 p u Rattle.mw_logic.specs.Ends.by_rules

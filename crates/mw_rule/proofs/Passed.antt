@@ -19,7 +19,6 @@ use Rattle.mw_arguments.specs.Places.{chosen, Rise}
 use Rattle.mw_solving.specs.Values.{IsValue}
 use Rattle.mw_solving.specs.Inside.{IsProperPart}
 use Rattle.mw_solving.proofs.Numbers.{chosen_number}
-use Rattle.mw_index.specs.Index.{Asks, operator_of}
 use Rattle.mw_index.specs.Choices.{Tried, tried_of, solution_of, AreTried, IsTaken, IsChoice, IsKept, IsUnderWay}
 use Rattle.mw_index.proofs.Staying.{top_value}
 use Rattle.mw_index.proofs.TopParts.{taken_top}

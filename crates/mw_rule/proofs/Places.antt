@@ -1,24 +1,20 @@
 -- Into the parts of a normal whole.
-use Rattle.std.specs.Prelude.{◌≡◌, ◌<◌, ℕ, zero, suc, List, [], ◌∷◌, Bool, true, Some, None, slice_get, refl}
-use Rattle.std.proofs.Common.{sym, subst, ap, ◌∙◌, arith, inl, inr, ⊎_elim}
+use Rattle.std.specs.Prelude.{◌≡◌, ◌<◌, ℕ, List, [], Some, slice_get}
+use Rattle.std.proofs.Common.{sym, subst, ap, ◌∙◌, arith, ⊎_elim}
 use Rattle.std.proofs.lemmas.Option.{same_Some}
-use Rattle.mw_logic.specs.Term.{RawTerm, RawTerms, apply}
+use Rattle.mw_logic.specs.Term.{RawTerm, apply}
 use Rattle.mw_logic.specs.Terms.{list_of, args_of}
 use Rattle.mw_logic.specs.Signature.{Signature, at_number}
 use Rattle.mw_logic.specs.Parts.{IsFrozen}
-use Rattle.mw_logic.specs.CanonicalPart.{IsOpen}
 use Rattle.mw_logic.specs.Judgements.{admitted_judgements}
-use Rattle.mw_logic.proofs.Canonical.{IsCanonical}
 use Rattle.mw_deduction.specs.Standing.{round}
-use Rattle.mw_deduction.specs.Replay.{Move, Stand, whole, plays}
-use Rattle.mw_frames.specs.declared.job.Job.TheVariants.{Try, Normal}
-use Rattle.mw_frames.specs.State.{Run, Data, Leads, IsRun, InHand}
+use Rattle.mw_deduction.specs.Replay.{Move, Stand, whole}
+use Rattle.mw_frames.specs.State.{Run, Data, Leads, IsRun}
 use Rattle.mw_frames.specs.Steps.{IsEnd, IsAsked}
 use Rattle.mw_frames.specs.Entered.{IsEntered}
 use Rattle.mw_frames.proofs.FiringHere.{at_term}
 use Rattle.mw_frames.proofs.Normals.{normal_has}
 use Rattle.mw_frames.proofs.Turning.{same_head}
-use Rattle.mw_rule.specs.Spots.{IsSpot}
 use Rattle.mw_rule.specs.Stepped.{IsAt, IsAtPart, AreWays}
 use Rattle.mw_rule.specs.declared.spots.Spot.{Spot}
 

@@ -1,5 +1,5 @@
 -- The parts that rules may change, by where they stand.
-use Rattle.std.specs.Prelude.{◌≡◌, ◌<◌, ◌-◌, ℕ, zero, suc, Bool, true, false, ◌||◌, cond, List, [], ◌∷◌, Some, slice_get, IsTrue, refl}
+use Rattle.std.specs.Prelude.{◌≡◌, ◌-◌, ℕ, zero, suc, Bool, true, false, ◌||◌, cond, List, [], ◌∷◌, Some, slice_get, refl}
 use Rattle.std.proofs.Common.{sym, subst, ap, ◌∙◌, arith}
 use Rattle.mw_logic.specs.Term.{RawTerm, RawTerms, apply, nil, cons, join}
 use Rattle.mw_logic.specs.Terms.{list_of, front}

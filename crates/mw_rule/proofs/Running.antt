@@ -23,7 +23,7 @@ use Rattle.mw_reduce.specs.declared.drive.Outcome.{Outcome}
 use Rattle.mw_reduce.specs.declared.drive.Outcome.TheVariants.{Done, Stopped}
 use Rattle.mw_reduce.proofs.Reduced.{is_run, begins_run}
 use Rattle.mw_rule.specs.Rewritings.{IsRewritingOf}
-use Rattle.mw_rule.specs.Stepped.{EndsByRules, EndsRewriting, by_equations, by_bound, by_rules, IsRewrittenBy}
+use Rattle.mw_rule.specs.Stepped.{EndsByRules, by_equations, by_bound, by_rules, IsRewrittenBy}
 use Rattle.mw_rule.specs.declared.rewriting.Bounds.{Bounds}
 use Rattle.mw_rule.proofs.Outcomes.{rewriting_from}
 

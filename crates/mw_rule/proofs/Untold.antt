@@ -1,10 +1,10 @@
 -- What is taken at a part that rules may change, and a rule of which it isn't told whether it applies there.
-use Rattle.std.specs.Prelude.{◌≡◌, ℕ, List, Bool, true, Option, Some, None, refl}
+use Rattle.std.specs.Prelude.{◌≡◌, ℕ, List, true, Option, Some, None, refl}
 use Rattle.std.proofs.Common.{sym, subst, ap, ◌∙◌}
 use Rattle.mw_logic.specs.Term.{RawTerm, RawTerms, apply}
 use Rattle.mw_logic.specs.Signature.{Signature}
 use Rattle.mw_logic.specs.Accepted.{IsAccepted}
-use Rattle.mw_logic.specs.Parts.{nested, IsPart}
+use Rattle.mw_logic.specs.Parts.{nested}
 use Rattle.mw_logic.specs.CanonicalPart.{IsOpen, IsPartOf}
 use Rattle.mw_logic.proofs.PartsOfNormalForm.{part_found}
 use Rattle.mw_arguments.specs.Places.{chosen}

@@ -1,5 +1,5 @@
 -- A rule that is applied to a normal term, at one of its parts.
-use Rattle.std.specs.Prelude.{◌≡◌, ◌<◌, ◌≤◌, ◌⊎◌, ℕ, List, Option, Some, true, false}
+use Rattle.std.specs.Prelude.{◌≡◌, ◌≤◌, ℕ, List, Option, Some, true, false}
 use Rattle.std.specs.List.{zip}
 use Rattle.mw_logic.specs.Term.{RawTerm}
 use Rattle.mw_logic.specs.Signature.{Signature}
@@ -9,7 +9,7 @@ use Rattle.mw_logic.specs.Substitution.{instance}
 use Rattle.mw_logic.specs.Module.{Module, Statement, IsStatement}
 use Rattle.mw_logic.specs.Proof.{rules, steps}
 use Rattle.mw_logic.specs.Judgements.{Proves, admitted_judgements}
-use Rattle.mw_canon.specs.Canonical.{IsAdmittedTerm, meant}
+use Rattle.mw_canon.specs.Canonical.{meant}
 use Rattle.mw_deduction.specs.Tops.{IsNormalTerm}
 use Rattle.mw_trail.specs.Tracks.{Track}
 use Rattle.mw_redex.specs.Paths.{at_path}

@@ -1,7 +1,7 @@
 -- How far rules are asked at the parts of a term.
 use Rattle.std.specs.Prelude.{◌≡◌, ◌⊎◌, ◌<◌, ℕ, List, [], true, Some, slice_get, length}
 use Rattle.mw_logic.specs.Term.{RawTerm, RawTerms, apply}
-use Rattle.mw_logic.specs.Signature.{Signature, Member}
+use Rattle.mw_logic.specs.Signature.{Member}
 use Rattle.mw_logic.specs.CanonicalPart.{IsOpen}
 use Rattle.mw_logic.specs.Substitution.{Substitution, IsSolution}
 use Rattle.mw_logic.specs.Parts.{nested}

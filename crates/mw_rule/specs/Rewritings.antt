@@ -1,5 +1,5 @@
 -- What a rewriting gives.
-use Rattle.std.specs.Prelude.{◌≡◌, ◌≢◌, ◌<◌, ℕ, true, Some}
+use Rattle.std.specs.Prelude.{◌≡◌, ◌≢◌, ◌<◌, true, Some}
 use Rattle.mw_logic.specs.Term.{RawTerm}
 use Rattle.mw_logic.specs.Parts.{nested}
 use Rattle.mw_logic.specs.Module.{Module}

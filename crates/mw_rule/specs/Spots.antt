@@ -1,7 +1,7 @@
 -- The parts of a term that rules may change, and those at which they are asked.
-use Rattle.std.specs.Prelude.{◌≡◌, ◌⊎◌, ◌<◌, ℕ, suc, List, [], ◌∷◌, length, drop, true, Some, slice_get, ⊤}
+use Rattle.std.specs.Prelude.{◌≡◌, ◌⊎◌, ◌<◌, ℕ, List, drop, true, Some, slice_get, ⊤}
 use Rattle.mw_logic.specs.Term.{RawTerm, RawTerms, apply}
-use Rattle.mw_logic.specs.Terms.{list_of, args_of}
+use Rattle.mw_logic.specs.Terms.{list_of}
 use Rattle.mw_logic.specs.Signature.{Signature, Member, IsAssociative, at_number}
 use Rattle.mw_logic.specs.NormalForm.{is_comm}
 use Rattle.mw_logic.specs.CanonicalPart.{IsOpen, AreSeveral, IsCut}

@@ -1,5 +1,5 @@
-use Rattle.std.specs.Prelude.{slice_get, IsTrue}
-use Rattle.std.proofs.Common.{◌≡◌, ◌<◌, Some, length, arith, sym, subst, ◌∙◌, ⊎_elim}
+use Rattle.std.specs.Prelude.{slice_get}
+use Rattle.std.proofs.Common.{◌≡◌, Some, arith, sym, subst, ◌∙◌, ⊎_elim}
 use Rattle.std.proofs.lemmas.Bool.{cases_lt, both_ways}
 use Rattle.std.proofs.lemmas.Option.{same_Some}
 use Rattle.mw_proof.specs.Failures.{Failure}

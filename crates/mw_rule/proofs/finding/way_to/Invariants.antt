@@ -1,5 +1,5 @@
 use Rattle.std.specs.Prelude.{slice_get}
-use Rattle.std.proofs.Common.{◌≡◌, List, true, Some, reverse}
+use Rattle.std.proofs.Common.{◌≡◌, true, Some, reverse}
 use Rattle.mw_logic.specs.Term.{RawTerm}
 use Rattle.mw_logic.specs.Signature.{Signature}
 use Rattle.mw_redex.specs.Paths.{at_path}

@@ -1,5 +1,5 @@
 use Rattle.std.specs.Prelude.{suc, slice_get}
-use Rattle.std.proofs.Common.{◌≡◌, ◌<◌, ◌+◌, ◌++◌, ◌∷◌, [], ℕ, List, Some, true, refl, length, drop, get_or, arith, ap, sym, subst, ◌∙◌, drop-cons, length-append}
+use Rattle.std.proofs.Common.{◌≡◌, ◌+◌, ◌++◌, ◌∷◌, [], ℕ, List, Some, true, refl, length, drop, get_or, arith, ap, sym, subst, ◌∙◌, drop-cons, length-append}
 use Rattle.std.proofs.lemmas.List.{drop_all}
 use Rattle.std.proofs.lemmas.Option.{same_Some}
 use Rattle.mw_logic.specs.Signature.{at_number}

@@ -1,9 +1,8 @@
-use Rattle.std.proofs.Common.{refl, subst, sym, ◌∷◌, [], true, length, List}
+use Rattle.std.proofs.Common.{refl, subst, true}
 use Rattle.std.proofs.lemmas.Result.{IfOk-weaker}
 use Rattle.mw_logic.specs.Module.{Module}
 use Rattle.mw_logic.specs.Parts.{nested}
-use Rattle.mw_frames.specs.Machines.{data_of}
-use Rattle.mw_frames.specs.Fires.{IsFired, IsRefusedAs, WouldBeTooDeep, WouldBeTooLarge}
+use Rattle.mw_frames.specs.Fires.{WouldBeTooDeep, WouldBeTooLarge}
 use Rattle.mw_rule.proofs.Applicable.{K, small_at, admitted_at, left_at, fires_along, run_there, ends_at_first, step_made, step_deep, step_large}
 use Rattle.mw_rule.proofs.one_step.apply.Goals as goal
 

@@ -1,6 +1,6 @@
-use Rattle.std.proofs.Common.{refl, sym, subst, ◌≡◌, ◌∙◌}
+use Rattle.std.proofs.Common.{refl, sym, subst, ◌≡◌}
 use Rattle.mw_logic.specs.Module.{Module}
-use Rattle.mw_proof.specs.Deductions.{Deduction, IsKept, deduced}
+use Rattle.mw_proof.specs.Deductions.{IsKept, deduced}
 use Rattle.mw_frames.specs.State.{IsRun, with_rules}
 use Rattle.mw_frames.specs.Machines.{data_of}
 use Rattle.mw_reduce.specs.Evaluations.{run_of}

@@ -1,13 +1,10 @@
-use Rattle.std.specs.Prelude.{◌≡◌, ◌≢◌, ◌<◌, ◌+◌, ◌-◌, ℕ, zero, suc, Option, Some, option_map}
-use Rattle.std.proofs.Common.{refl, sym, subst, ap, ◌∙◌, arith, true}
+use Rattle.std.specs.Prelude.{◌≡◌, ◌+◌, suc, Some, option_map}
+use Rattle.std.proofs.Common.{sym, ap, ◌∙◌, arith}
 use Rattle.std.proofs.lemmas.Bool.{both_ways}
-use Rattle.mw_frames.specs.State.{Run, with_rules, after_one, Holds}
+use Rattle.mw_frames.specs.State.{with_rules}
 use Rattle.mw_frames.specs.Machines.{data_of}
-use Rattle.mw_reduce.specs.Driven.{IsDriven}
 use Rattle.mw_reduce.specs.declared.drive.Driven.{Driven}
-use Rattle.mw_reduce.specs.declared.drive.Outcome.{Outcome}
 use Rattle.mw_reduce.specs.declared.drive.Outcome.TheVariants.{Done}
-use Rattle.mw_rule.specs.Stepped.{IsRewrittenBy}
 use Rattle.mw_rule.proofs.Running.{run_with, none_left, so_many_left, bound_from, bound_after, not_reached, ends_before, at_end, ends_at_bound, ends_by_rules, one_more}
 use Rattle.mw_rule.proofs.rewriting.run.Goals.{in-Done, in_default, in-Some-eq0, in_default-matches, in_default-matches-2}
 use Rattle.mw_rule.proofs.rewriting.run.Goals as goal

@@ -1,5 +1,5 @@
 use Rattle.std.specs.Prelude.{option_map}
-use Rattle.std.proofs.Common.{◌≡◌, ◌≤◌, ◌+◌, ℕ}
+use Rattle.std.proofs.Common.{◌≡◌, ◌+◌, ℕ}
 use Rattle.mw_frames.specs.State.{Run, with_rules, IsRun, Holds}
 use Rattle.mw_frames.specs.Machines.{data_of}
 use Rattle.mw_rule.proofs.rewriting.run.Given as goal

@@ -1,4 +1,4 @@
-use Rattle.std.proofs.Common.{◌≡◌, ◌≤◌, ◌+◌, arith, refl, ap, sym, subst, ◌∙◌, length, ℕ, Some, suc, true}
+use Rattle.std.proofs.Common.{◌≡◌, ◌+◌, arith, refl, ap, sym, subst, ◌∙◌, length, ℕ, Some, suc, true}
 use Rattle.mw_logic.specs.Term.{RawTerms, apply}
 use Rattle.mw_logic.specs.Terms.{args_of, list_of}
 use Rattle.mw_logic.specs.Signature.{at_number}

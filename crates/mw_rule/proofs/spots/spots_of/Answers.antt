@@ -1,7 +1,7 @@
 use Rattle.std.proofs.Common.{refl, ap, sym, subst, ◌∙◌, ◌++◌, ◌∷◌, []}
 use Rattle.mw_rule.specs.Spots.{AreSpots}
 use Rattle.mw_rule.specs.declared.spots.Spot.{Spot}
-use Rattle.mw_rule.proofs.Listed.{root_alone, all_listed}
+use Rattle.mw_rule.proofs.Listed.{root_alone}
 use Rattle.mw_rule.proofs.spots.spots_of.Goals as goal
 
 pub loop-at-init : goal.loop-at-init

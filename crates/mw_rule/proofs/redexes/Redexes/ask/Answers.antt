@@ -1,4 +1,3 @@
-use Rattle.std.specs.Prelude.{is_some}
 use Rattle.std.proofs.Common.{◌≡◌, ◌∷◌, ◌++◌, [], ℕ, List, Some, true, not, length, refl, ap, sym, subst, ◌∙◌}
 use Rattle.mw_logic.specs.Term.{RawTerm, RawTerms, apply}
 use Rattle.mw_logic.specs.CanonicalPart.{IsOpen}
