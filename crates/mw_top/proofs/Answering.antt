@@ -34,7 +34,7 @@ use Rattle.mw_build.proofs.PrintedVariables.{named_there}
 use Rattle.mw_rule.specs.Rewritings.{IsRewritten as EndsSo, IsRewritingOf}
 use Rattle.mw_rule.specs.declared.rewriting.Bounds.{Bounds}
 use Rattle.mw_block.specs.Blocks.{Word, reduced, final, command_text, block, parsed_block}
-use Rattle.mw_top.specs.Commands.{IsCanonicalTerm, IsDeduced, IsReduced, IsRewritten, IsParsed, IsTrueWord, IsTrueOfRewriting, limits_with_rules, TermFault, big}
+use Rattle.mw_top.specs.Commands.{IsCanonicalTerm, IsReduced, IsRewritten, IsParsed, IsTrueWord, IsTrueOfRewriting, limits_with_rules, TermFault, big}
 use Rattle.mw_top.specs.Seen.{word_of}
 
 -- the word for an outcome is true where the outcome is

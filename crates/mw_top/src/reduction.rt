@@ -114,13 +114,7 @@ pub fn block(
         term: proved.to(),
         status,
     };
-    deduction(
-        alloc,
-        context.signature(),
-        context.order(),
-        &echo,
-        &reached,
-    )
+    deduction(alloc, context.signature(), context.order(), &echo, &reached)
 }
 
 /// Reduces a term by at most so many steps, by an index of the module's equations, and gives the block.

@@ -21,4 +21,4 @@ pub returns : goal.returns
 returns c = λ written canonical.
     let reduction = subst (λ M. IsReductionOf M c.args.term (record { steps = c.args.most; side = c.args.most; nest = 63 }) c.in_ok-proved.proved c.in_ok-proved.outcome) c.context-context.ensures c.in_ok-proved.ensures in
     if_ok c.block.result c.block.ensures
-    (λ text told. reduced_by c.args.accepted.now c.args.most written c.args.term (record { steps = c.args.most; side = c.args.most; nest = 63 }) c.in_ok-proved.proved c.in_ok-proved.outcome text.items canonical refl reduction c.shows.ensures told.0 told.1 _ c.status_of.ensures told.2)
+    (λ text told. reduced_by c.args.accepted.now c.args.most written c.args.term (record { steps = c.args.most; side = c.args.most; nest = 63 }) c.in_ok-proved.proved c.in_ok-proved.outcome text.items canonical refl reduction c.shows.ensures told.0 told.1 _ c.status_of-status.ensures told.2)

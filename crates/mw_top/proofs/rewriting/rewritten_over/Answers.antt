@@ -3,6 +3,7 @@ use Rattle.mw_logic.specs.Module.{Module}
 use Rattle.mw_canon.specs.Canonical.{IsAdmittedTerm}
 use Rattle.mw_index.specs.Index.{IsIndexOf}
 use Rattle.mw_rule.specs.Rewritings.{IsRewritingOf}
+use Rattle.mw_rule.specs.declared.rewriting.Bounds.{Bounds}
 use Rattle.mw_top.proofs.Answering.{rewritten_by, if_ok}
 use Rattle.mw_top.proofs.rewriting.rewritten_over.Goals as goal
 
@@ -19,7 +20,7 @@ block-requires c =
 
 pub returns : goal.returns
 returns c = λ written canonical.
-    let bounds = record { rules = c.args.bound; steps = c.args.most; side = c.args.most } in
+    let bounds : Bounds = record { rules = c.args.bound; steps = c.args.most; side = c.args.most } in
     let made = subst (λ M. IsRewritingOf M c.args.term bounds c.in_ok-proved.proved c.in_ok-proved.outcome) c.context-context.ensures c.in_ok-proved.ensures in
     if_ok c.block.result c.block.ensures
-    (λ text told. rewritten_by c.args.accepted.now c.args.bound c.args.most written c.args.term bounds c.in_ok-proved.proved c.in_ok-proved.outcome text.items canonical refl made c.shows.ensures told.0 told.1 _ c.status_of.ensures told.2)
+    (λ text told. rewritten_by c.args.accepted.now c.args.bound c.args.most written c.args.term bounds c.in_ok-proved.proved c.in_ok-proved.outcome text.items canonical refl made c.shows.ensures told.0 told.1 _ c.status_of-status.ensures told.2)
