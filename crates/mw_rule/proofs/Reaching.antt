@@ -4,19 +4,15 @@ use Rattle.std.proofs.Common.{sym, subst, ap, ◌∙◌, arith}
 use Rattle.mw_logic.specs.Term.{RawTerm, RawTerms, apply, nil, cons, join}
 use Rattle.mw_logic.specs.Terms.{list_of, front}
 use Rattle.mw_logic.specs.Signature.{Signature, at_number}
-use Rattle.mw_logic.specs.Accepted.{IsAccepted, IsWellSorted}
 use Rattle.mw_logic.specs.Parts.{is_assoc, number_of_terms, IsFrozenArgument}
 use Rattle.mw_logic.specs.NormalForm.{is_comm}
 use Rattle.mw_logic.specs.CanonicalPart as part
 use Rattle.mw_logic.specs.CanonicalPart.{IsOpen, IsPartOf}
-use Rattle.mw_logic.specs.Module.{Module, Fragment}
-use Rattle.mw_logic.specs.Substitution.{Substitution}
-use Rattle.mw_logic.proofs.Canonical.{Each, IsCanonical}
+use Rattle.mw_logic.proofs.Canonical.{Each}
 use Rattle.mw_deduction.specs.Tops as top
-use Rattle.mw_deduction.specs.Tops.{IsTop, IsNormalTerm}
+use Rattle.mw_deduction.specs.Tops.{IsTop}
 use Rattle.mw_frames.specs.Taking.{before_taken, behind_taken}
 use Rattle.mw_frames.proofs.IntoArguments.{one_taken}
-use Rattle.mw_frames.proofs.Normals.{normal_has}
 use Rattle.mw_rule.specs.Spots.{IsReached, itself, argument, IsOpenTop, whole, several}
 
 -- the term at a number of a list
@@ -76,13 +72,3 @@ each_at P ts zero u h e = cc
 each_at P nil (suc i) u h e = cc
 each_at P (cons t ts) (suc zero) u h e = subst P (Rattle.std.proofs.lemmas.Option.same_Some t u e) h.0
 each_at P (cons t ts) (suc (suc i)) u h e = each_at P ts (suc i) u h.1 e
-
-module _ (M : Module) (ok : IsAccepted M.signature) (sorted : IsWellSorted M.signature) (F : List Fragment → Substitution → Type 0) where
-  -- what is reached in a normal term is normal
-  pub reached_normal : (root u : RawTerm) → IsNormalTerm M F root → IsCanonical M.signature root → IsReached M.signature root u → IsNormalTerm M F u × IsCanonical M.signature u
-  reached_normal root u n k itself = (n, k)
-  reached_normal root u n k (argument f ts i v h at o) =
-      let (m, c) = reached_normal root (apply f ts) n k h in (
-        each_at (IsNormalTerm M F) ts i u (normal_has M ok sorted F (apply f ts) c m f ts refl) at,
-        each_at (IsCanonical M.signature) ts i u (Rattle.mw_logic.proofs.Canonical.each_canonical M.signature ts c.0) at,
-      )
