@@ -37,6 +37,7 @@ mod groups;
 mod meeting;
 mod placing;
 mod reordering;
+mod sharing;
 mod singles;
 mod variables;
 
