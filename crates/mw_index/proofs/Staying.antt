@@ -1,5 +1,5 @@
--- An operator without an identity, which isn't the successor of numbers, stays on top of each canonical instance; and so does another one, where this
--- is so on top of two of its arguments.
+-- An operator without an identity, which isn't the successor of numbers, stays on top of each canonical instance; and
+-- so does another one on two arguments on which such operators are on top, or that are numerals or quoted identifiers.
 use Rattle.std.specs.Prelude.{◌≡◌, ℕ, suc, List, [], Bool, true, false, Option, Some, None, option_map, is_some, not, IsTrue, ◌⊎◌, ⊤, cond, refl}
 use Rattle.std.proofs.Common.{sym, ap, subst, ◌∙◌, arith, inl, inr}
 use Rattle.std.proofs.lemmas.Bool.{both_ways}
