@@ -13,3 +13,5 @@ pub mod Candidates
 pub mod RowLists
 pub mod Numbers
 pub mod Passed
+pub mod FreeNumbers
+pub mod PickedLaw

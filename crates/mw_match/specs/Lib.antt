@@ -2,5 +2,6 @@ pub mod Straight
 pub mod Matching
 pub mod Solutions
 pub mod Parts
+pub mod Choices
 pub mod Hands
 pub mod Listing
