@@ -1,6 +1,6 @@
 -- The matches of a pattern with a rest behind it, where its arguments become one element each: the arguments pick what they take, and the rest's elements
 -- tell the numbers that were picked.
-use Rattle.std.specs.Prelude.{◌≡◌, ◌≤◌, ◌<◌, ◌+◌, ◌-◌, ◌&&◌, ℕ, suc, List, [], ◌∷◌, ◌++◌, map, flat_map, length, take, Bool, true, false, cond, is_some, nat_lt, Option, Some, None, option_map, option_and_then, option_to_list, slice_get, unwrap_or, refl}
+use Rattle.std.specs.Prelude.{◌≡◌, ◌≤◌, ◌<◌, ◌+◌, ◌-◌, ◌&&◌, ℕ, suc, List, [], ◌∷◌, ◌++◌, map, flat_map, length, take, Bool, true, false, cond, is_some, nat_lt, Option, Some, None, option_map, option_and_then, option_to_list, slice_get, unwrap_or, ⊤, refl}
 use Rattle.std.proofs.Common.{inl, inr, ap, sym, subst, ◌∙◌, arith, length-append, append-nil}
 use Rattle.std.proofs.lemmas.Bool.{lt-ltb}
 use Rattle.std.proofs.lemmas.List.{map-append}
@@ -72,8 +72,9 @@ are_there (z ∷ zs) =
 -- one more is taken of a list in order
 module _ (args us : RawTerms) (d : RawTerm) (ca : Climbs args) (cu : Climbs us) (w : is_within us args ≡ true) (m : Among (left_behind us args) d) where
   abbrev left : RawTerms
-  abbrev less : RawTerms
   left = left_behind us args
+
+  abbrev less : RawTerms
   less = taken d left
 
   left_climbs : Climbs left
@@ -186,3 +187,77 @@ module _ (sig : Signature) (ok : IsAccepted sig) (single : List (List ℕ)) (f :
   shared q qs zs vs c none rigid =
       step q qs zs vs none rigid ∙ sym (flat_map-mapped (by_index q qs zs vs) (share_at zs) (news zs 0 (number_of_terms zs)))
       ∙ ap (flat_map (by_index q qs zs vs)) (news_shares e f zs c) ∙ flat_map-mapped (by_index q qs zs vs) (λ d. (d, taken d zs)) (heads (runs zs))
+
+  abbrev patterns : RawTerms → RawTerms
+  patterns qs = join qs (cons x nil)
+
+  abbrev frees : RawTerms → List (ℕ × RawTerm)
+  frees us = free 1 (numbers_of 1 us args) args
+
+  -- what is known of each first one that is free
+  abbrev IsChoice : RawTerms → ℕ × RawTerm → Type 0
+  IsChoice us z = (put z.0 (numbers_of 1 us args) ≡ numbers_of 1 (insert_term z.1 us) args) × (Among (left_behind us args) z.1 × IsCanonical sig z.1)
+
+  choices : (us : RawTerms) → Climbs us → is_within us args ≡ true → EachOf (IsChoice us) (firsts None (frees us))
+  choices us cu w =
+      let zs : List (ℕ × RawTerm) = frees us in
+      let there : EachOf (λ z. Among (left_behind us args) z.1) zs = subst (λ rs. EachOf (λ (z : ℕ × RawTerm). Among rs z.1) zs) (terms_free 1 us args) (are_there zs) in
+      let both : EachOf (λ z. Among (left_behind us args) z.1 × IsCanonical sig z.1) zs =
+      each_with {P = λ z. Among (left_behind us args) z.1} {Q = λ z. (1 ≤ z.0) × IsCanonical sig z.1} {R = λ z. Among (left_behind us args) z.1 × IsCanonical sig z.1} zs (λ z a k. (a, k.1)) there
+      (each_free (IsCanonical sig) 1 (numbers_of 1 us args) args own.each_canonical) in
+      each_with {P = λ z. put z.0 (numbers_of 1 us args) ≡ numbers_of 1 (insert_term z.1 us) args} {Q = λ z. Among (left_behind us args) z.1 × IsCanonical sig z.1} {R = IsChoice us} (firsts None zs)
+      (λ z a k. (a, k)) (goes_on None 1 us args cu args_climb w) (each_first (λ z. Among (left_behind us args) z.1 × IsCanonical sig z.1) None zs both)
+
+  heads_free : (us : RawTerms) → heads (runs (left_behind us args)) ≡ seconds (firsts None (frees us))
+  heads_free us = ap (λ zs. heads (runs zs)) (sym (terms_free 1 us args)) ∙ different (frees us)
+
+  -- what is picked where some are taken
+  abbrev Picked : RawTerms → RawTerms → Values → Type 0
+  Picked qs us vs = flat_map Left (found_bag sig single f (patterns qs) (left_behind us args) vs) ≡ map part_entry (picked sig single args qs (numbers_of 1 us args) vs)
+
+  abbrev of_choice : RawTerm → RawTerms → RawTerms → Values → ℕ × RawTerm → List Entry
+  of_choice q qs us vs z = flat_map (λ ws. map part_entry (picked sig single args qs (put z.0 (numbers_of 1 us args)) ws)) (found sig single q z.1 vs)
+
+  one_more : (q : RawTerm) (qs us : RawTerms) (vs : Values) → GoOn (cons q qs) vs → Climbs us → is_within us args ≡ true
+      → ((d : RawTerm) (ws : Values) → GoOn qs ws → Climbs (insert_term d us) → is_within (insert_term d us) args ≡ true → Picked qs (insert_term d us) ws)
+      → (z : ℕ × RawTerm) → IsChoice us z → flat_map Left (by_index q (patterns qs) (left_behind us args) vs (z.1, taken z.1 (left_behind us args))) ≡ of_choice q qs us vs z
+  one_more q qs us vs g cu w r z c =
+      let d : RawTerm = z.1 in
+      let zs : RawTerms = left_behind us args in
+      flat_map-flat_map Left (λ ws. found_bag sig single f (patterns qs) (taken d zs) ws) (found sig single q d vs)
+      ∙ flat_member (λ ws. flat_map Left (found_bag sig single f (patterns qs) (taken d zs) ws)) (λ ws. map part_entry (picked sig single args qs (put z.0 (numbers_of 1 us args)) ws)) (found sig single q d vs)
+      (λ ws n.
+      ap (λ rs. flat_map Left (found_bag sig single f (patterns qs) rs ws)) (sym (less_left args us d args_climb cu w c.1.0))
+      ∙ r d ws (further q qs d vs ws g c.1.1 n) (more_climbs args us d args_climb cu w c.1.0) (more_within args us d args_climb cu w c.1.0)
+      ∙ ap (λ ks. map part_entry (picked sig single args qs ks ws)) (sym c.0))
+
+  pub picked_left : (qs us : RawTerms) (vs : Values) → ArePicked sig single f qs → GoOn qs vs → Climbs us → is_within us args ≡ true
+      → 2 ≤ number_of_terms us + number_of_terms qs → number_of_terms us + number_of_terms qs < number_of_terms args → Picked qs us vs
+  picked_left nil us vs a g cu w two less =
+      let n = left_number args us args_climb w in
+      ap (flat_map Left) (rest_found (left_behind us args) vs g.all (omega (arith, n, less)))
+      ∙ append-nil (Left (vs ++ rebuilt e f (left_behind us args) ∷ [])) ∙ rest_entry us vs cu w (omega (arith, two)) (omega (arith, less))
+  picked_left (cons q qs) us vs a g cu w two less =
+      let zs : RawTerms = left_behind us args in
+      let F : RawTerm → List Values = λ d. by_index q (patterns qs) zs vs (d, taken d zs) in
+      let zs_first : List (ℕ × RawTerm) = firsts None (frees us) in
+      ap (flat_map Left) (shared q (patterns qs) zs vs (climbs_left us args args_climb) (a.0 vs) a.1.0 ∙ ap (flat_map F) (heads_free us) ∙ flat_map-mapped F (λ (z : ℕ × RawTerm). z.1) zs_first)
+      ∙ flat_map-flat_map Left (λ (z : ℕ × RawTerm). F z.1) zs_first
+      ∙ flat_each (IsChoice us) (λ z. flat_map Left (F z.1)) (of_choice q qs us vs) zs_first (choices us cu w)
+      (one_more q qs us vs g cu w
+      (λ d ws go climb within. (let n = number_more d us cu in picked_left qs (insert_term d us) ws a.1.1 go climb within (omega (arith, n, two)) (omega (arith, n, less)))))
+      ∙ sym (mapped_flat part_entry (λ (z : ℕ × RawTerm). flat_map (λ ws. picked sig single args qs (put z.0 (numbers_of 1 us args)) ws) (found sig single q z.1 vs)) zs_first
+      ∙ flat_each (λ z. ⊤) (λ z. map part_entry (flat_map (λ ws. picked sig single args qs (put z.0 (numbers_of 1 us args)) ws) (found sig single q z.1 vs))) (of_choice q qs us vs) zs_first (all_hold zs_first)
+      (λ z _. mapped_flat part_entry (λ ws. picked sig single args qs (put z.0 (numbers_of 1 us args)) ws) (found sig single q z.1 vs)))
+    where
+      all_hold : (zs : List (ℕ × RawTerm)) → EachOf (λ z. ⊤) zs
+      all_hold [] = tt
+      all_hold (z ∷ zs) = (tt, all_hold zs)
+
+  -- so with nothing taken
+  pub picks_are_lefts : (p : RawTerm) (qs : RawTerms) (vs : Values) → elements e f p ≡ qs → ArePicked sig single f qs → GoOn qs vs → 2 ≤ number_of_terms qs → number_of_terms qs < number_of_terms args
+      → AreSeveral args → left_entries sig single p m vs f args 0 ≡ map part_entry (picked sig single args qs [] vs)
+  picks_are_lefts p qs vs is a g two less several =
+      let found_are : found sig single (with_rest sig f p m) (apply f args) vs ≡ found_bag sig single f (patterns qs) args vs =
+      rw (h, ac) (ap (λ zs. found_bag sig single f (join zs (cons x nil)) (elements e f (apply f args)) vs) is ∙ ap (λ zs. found_bag sig single f (patterns qs) zs vs) (elements_several e f args several)) in
+      ap (flat_map Left) found_are ∙ picked_left qs nil vs a g tt refl two less
