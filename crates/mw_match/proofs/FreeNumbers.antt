@@ -1,5 +1,5 @@
 -- The numbers that are free among arguments in order: the terms that are left, and the first among equal ones, which go on the least numbers of what is taken.
-use Rattle.std.specs.Prelude.{◌≡◌, ◌≤◌, ◌<◌, ◌||◌, ℕ, suc, List, [], ◌∷◌, map, Bool, true, false, cond, nat_eq, nat_lt, Option, Some, None, refl}
+use Rattle.std.specs.Prelude.{◌≡◌, ◌≤◌, ◌<◌, ◌+◌, ℕ, suc, List, [], ◌∷◌, map, Bool, true, false, cond, nat_eq, nat_lt, Option, Some, None, refl}
 use Rattle.std.proofs.Common.{ap, sym, subst, ◌∙◌, arith}
 use Rattle.std.proofs.lemmas.Bool.{both_ways, eqb-true, eq-eqb}
 use Rattle.mw_logic.specs.Term.{RawTerm, RawTerms, nil, cons}
@@ -62,11 +62,11 @@ terms_free i (cons u us) (cons t ts) = by_test (same u t) (terms_free (suc i) us
     by_test false r d = ap terms (free_left i (cons u us) ts t) ∙ ap (cons t) d
 
 -- what all have
-each_with : {X : Type 0} {P Q R : X → Type 0} (xs : List X) → ((x : X) → P x → Q x → R x) → EachOf P xs → EachOf Q xs → EachOf R xs
+pub each_with : {X : Type 0} {P Q R : X → Type 0} (xs : List X) → ((x : X) → P x → Q x → R x) → EachOf P xs → EachOf Q xs → EachOf R xs
 each_with [] f h k = tt
 each_with (x ∷ xs) f h k = (f x h.0 k.0, each_with xs f h.1 k.1)
 
-each_first : (P : ℕ × RawTerm → Type 0) (o : Option RawTerm) (zs : List (ℕ × RawTerm)) → EachOf P zs → EachOf P (firsts o zs)
+pub each_first : (P : ℕ × RawTerm → Type 0) (o : Option RawTerm) (zs : List (ℕ × RawTerm)) → EachOf P zs → EachOf P (firsts o zs)
 each_first P o [] h = tt
 each_first P o (z ∷ zs) h = by_test (is_again o z.1) (each_first P (Some z.1) zs h.1)
   where
@@ -74,14 +74,14 @@ each_first P o (z ∷ zs) h = by_test (is_again o z.1) (each_first P (Some z.1) 
     by_test true r = r
     by_test false r = (h.0, r)
 
-abbrev IsFrom : ℕ → (RawTerm → Type 0) → ℕ × RawTerm → Type 0
+abbrev pub IsFrom : ℕ → (RawTerm → Type 0) → ℕ × RawTerm → Type 0
 IsFrom i P z = (i ≤ z.0) × P z.1
 
 lower : (i : ℕ) (P : RawTerm → Type 0) (zs : List (ℕ × RawTerm)) → EachOf (IsFrom (suc i) P) zs → EachOf (IsFrom i P) zs
 lower i P [] h = tt
 lower i P (z ∷ zs) h = let a = h.0.0 in ((omega (arith, a), h.0.1), lower i P zs h.1)
 
-each_free : (P : RawTerm → Type 0) (i : ℕ) (ks : List ℕ) (ts : RawTerms) → Each P ts → EachOf (IsFrom i P) (free i ks ts)
+pub each_free : (P : RawTerm → Type 0) (i : ℕ) (ks : List ℕ) (ts : RawTerms) → Each P ts → EachOf (IsFrom i P) (free i ks ts)
 each_free P i ks nil h = tt
 each_free P i ks (cons t ts) h = by_test (is_among i ks) (lower i P (free (suc i) ks ts) (each_free P (suc i) ks ts h.1))
   where
@@ -189,11 +189,11 @@ not_back t d h = by_test (same d t) refl
 -- what lies within a list in order begins with no less
 least_within : (u : RawTerm) (us : RawTerms) (t : RawTerm) (ts : RawTerms) → Climbs (cons t ts) → is_within (cons u us) ts ≡ true → stands_after t u ≡ false
 least_within u us t nil h w = absurd (both_ways _ refl w)
-least_within u us t (cons v vs) h w = by_test (same u v) refl w
+least_within u us t (cons v vs) h w = by_test (same u v) refl w (least_within u us t vs (h.0.1, h.1.1))
   where
-    by_test : (b : Bool) → same u v ≡ b → cond b (is_within us vs) (is_within (cons u us) vs) ≡ true → stands_after t u ≡ false
-    by_test true e w = subst (λ x. stands_after t x ≡ false) (sym (same_term u v e)) h.0.0
-    by_test false e w = least_within u us t vs (h.0.1, h.1.1) w
+    by_test : (b : Bool) → same u v ≡ b → cond b (is_within us vs) (is_within (cons u us) vs) ≡ true → (is_within (cons u us) vs ≡ true → stands_after t u ≡ false) → stands_after t u ≡ false
+    by_test true e w r = subst (λ x. stands_after t x ≡ false) (sym (same_term u v e)) h.0.0
+    by_test false e w r = r w
 
 -- where it is
 module _ (i : ℕ) (t : RawTerm) (us ts : RawTerms) (cu : Climbs (cons t us)) (ct : Climbs (cons t ts)) where
@@ -231,15 +231,17 @@ goes_on o i nil (cons t ts) cu ct w = free_first i nil ts t ct refl here later o
 
     later : (d : RawTerm) → same t d ≡ false → numbers_of i (cons d nil) (cons t ts) ≡ numbers_of (suc i) (cons d nil) ts
     later d n = rw (not_back t d n) refl
-goes_on o i (cons u us) (cons t ts) cu ct w = by_test (same u t) refl w
+goes_on o i (cons u us) (cons t ts) cu ct w = by_test (same u t) refl w (goes_on o (suc i) us ts cu.1 ct.1) (goes_on (Some t) (suc i) (cons u us) ts cu ct.1)
   where
     by_test : (b : Bool) → same u t ≡ b → cond b (is_within us ts) (is_within (cons u us) ts) ≡ true
+        → (is_within us ts ≡ true → EachOf (GoesOn (suc i) us ts) (firsts o (free (suc i) (numbers_of (suc i) us ts) ts)))
+        → (is_within (cons u us) ts ≡ true → EachOf (GoesOn (suc i) (cons u us) ts) (firsts (Some t) (free (suc i) (numbers_of (suc i) (cons u us) ts) ts)))
         → EachOf (GoesOn i (cons u us) (cons t ts)) (firsts o (free i (numbers_of i (cons u us) (cons t ts)) (cons t ts)))
-    by_test true e w =
+    by_test true e w r d =
         let k : t ≡ u = sym (same_term u t e) in
         subst (λ x. EachOf (GoesOn i (cons x us) (cons t ts)) (firsts o (free i (numbers_of i (cons x us) (cons t ts)) (cons t ts)))) k
-        (taken_first i t us ts (subst (λ x. Climbs (cons x us)) (sym k) cu) ct o (goes_on o (suc i) us ts cu.1 ct.1 w))
-    by_test false e w = free_first i (cons u us) ts t ct (skipped e) here later o (goes_on (Some t) (suc i) (cons u us) ts cu ct.1 w)
+        (taken_first i t us ts (subst (λ x. Climbs (cons x us)) (sym k) cu) ct o (r w))
+    by_test false e w r d = free_first i (cons u us) ts t ct (skipped e) here later o (d w)
       where
         skipped : same u t ≡ false → numbers_of i (cons u us) (cons t ts) ≡ numbers_of (suc i) (cons u us) ts
         skipped e = rw e refl

@@ -233,19 +233,19 @@ module _ (sig : Signature) (ok : IsAccepted sig) (single : List (List ℕ)) (f :
 
   pub picked_left : (qs us : RawTerms) (vs : Values) → ArePicked sig single f qs → GoOn qs vs → Climbs us → is_within us args ≡ true
       → 2 ≤ number_of_terms us + number_of_terms qs → number_of_terms us + number_of_terms qs < number_of_terms args → Picked qs us vs
-  picked_left nil us vs a g cu w two less =
+  picked_left nil us vs a g cu w two fewer =
       let n = left_number args us args_climb w in
-      ap (flat_map Left) (rest_found (left_behind us args) vs g.all (omega (arith, n, less)))
-      ∙ append-nil (Left (vs ++ rebuilt e f (left_behind us args) ∷ [])) ∙ rest_entry us vs cu w (omega (arith, two)) (omega (arith, less))
-  picked_left (cons q qs) us vs a g cu w two less =
+      ap (flat_map Left) (rest_found (left_behind us args) vs g.all (omega (arith, n, fewer)))
+      ∙ append-nil (Left (vs ++ rebuilt e f (left_behind us args) ∷ [])) ∙ rest_entry us vs cu w (omega (arith, two)) (omega (arith, fewer))
+  picked_left (cons q qs) us vs a g cu w two fewer =
       let zs : RawTerms = left_behind us args in
       let F : RawTerm → List Values = λ d. by_index q (patterns qs) zs vs (d, taken d zs) in
       let zs_first : List (ℕ × RawTerm) = firsts None (frees us) in
-      ap (flat_map Left) (shared q (patterns qs) zs vs (climbs_left us args args_climb) (a.0 vs) a.1.0 ∙ ap (flat_map F) (heads_free us) ∙ flat_map-mapped F (λ (z : ℕ × RawTerm). z.1) zs_first)
+      ap (flat_map Left) (shared q (patterns qs) zs vs (climbs_left us args args_climb) (a.0 vs) a.1 ∙ ap (flat_map F) (heads_free us) ∙ flat_map-mapped F (λ (z : ℕ × RawTerm). z.1) zs_first)
       ∙ flat_map-flat_map Left (λ (z : ℕ × RawTerm). F z.1) zs_first
       ∙ flat_each (IsChoice us) (λ z. flat_map Left (F z.1)) (of_choice q qs us vs) zs_first (choices us cu w)
       (one_more q qs us vs g cu w
-      (λ d ws go climb within. (let n = number_more d us cu in picked_left qs (insert_term d us) ws a.1.1 go climb within (omega (arith, n, two)) (omega (arith, n, less)))))
+      (λ d ws go climb within. (let n = number_more d us cu in picked_left qs (insert_term d us) ws a.2 go climb within (omega (arith, n, two)) (omega (arith, n, fewer)))))
       ∙ sym (mapped_flat part_entry (λ (z : ℕ × RawTerm). flat_map (λ ws. picked sig single args qs (put z.0 (numbers_of 1 us args)) ws) (found sig single q z.1 vs)) zs_first
       ∙ flat_each (λ z. ⊤) (λ z. map part_entry (flat_map (λ ws. picked sig single args qs (put z.0 (numbers_of 1 us args)) ws) (found sig single q z.1 vs))) (of_choice q qs us vs) zs_first (all_hold zs_first)
       (λ z _. mapped_flat part_entry (λ ws. picked sig single args qs (put z.0 (numbers_of 1 us args)) ws) (found sig single q z.1 vs)))
@@ -257,7 +257,7 @@ module _ (sig : Signature) (ok : IsAccepted sig) (single : List (List ℕ)) (f :
   -- so with nothing taken
   pub picks_are_lefts : (p : RawTerm) (qs : RawTerms) (vs : Values) → elements e f p ≡ qs → ArePicked sig single f qs → GoOn qs vs → 2 ≤ number_of_terms qs → number_of_terms qs < number_of_terms args
       → AreSeveral args → left_entries sig single p m vs f args 0 ≡ map part_entry (picked sig single args qs [] vs)
-  picks_are_lefts p qs vs is a g two less several =
+  picks_are_lefts p qs vs is a g two fewer several =
       let found_are : found sig single (with_rest sig f p m) (apply f args) vs ≡ found_bag sig single f (patterns qs) args vs =
       rw (h, ac) (ap (λ zs. found_bag sig single f (join zs (cons x nil)) (elements e f (apply f args)) vs) is ∙ ap (λ zs. found_bag sig single f (patterns qs) zs vs) (elements_several e f args several)) in
-      ap (flat_map Left) found_are ∙ picked_left qs nil vs a g tt refl two less
+      ap (flat_map Left) found_are ∙ picked_left qs nil vs a g tt refl (omega (arith, two)) (omega (arith, fewer))
