@@ -3,5 +3,6 @@ pub mod Matching
 pub mod Solutions
 pub mod Parts
 pub mod Choices
+pub mod Levels
 pub mod Hands
 pub mod Listing

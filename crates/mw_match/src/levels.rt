@@ -1,0 +1,183 @@
+// What the arguments of a pattern pick of a multiset's elements, one behind another.
+ghost use Rattle.std.specs.Prelude.{◌≡◌, ◌<◌, [], true, false, length, option_map, IfOk, OnOk, MatchOption, ⊤};
+ghost use Rattle.mw_logic.specs.Terms.{args_of, terms_of};
+ghost use Rattle.mw_matching.specs.Found.{found};
+ghost use Rattle.mw_matching.specs.Multisets.{term_at};
+ghost use Rattle.mw_search.specs.Lacking.{Skips};
+ghost use Rattle.mw_match.specs.Choices.{is_again as is_again_of, put as put_among};
+ghost use Rattle.mw_match.specs.Levels.{is_on, taken_by, choices_from, choices_at, ClashesAt, IsPassedBy};
+
+use crate::bindings::copied;
+use mw_canon::Facts;
+use mw_compile::Compiled;
+use mw_least::Ctx;
+use mw_search::{Search, clashes};
+use mw_term::{Seq, Term, View, compare, copy, number_at};
+use std::alloc::{AllocError, Global};
+
+/// An argument of the pattern on an element, by its index: the search for its matches, and the values that it goes on
+/// from.
+#[derive(Drop)]
+pub struct Level<'c> {
+    pub at: usize,
+    pub given: Seq<Term>,
+    pub search: Search<'c>,
+}
+
+/// The arguments of the pattern that stand on elements, in their order, and the match of the last one that is at hand.
+#[derive(Drop)]
+pub struct Levels<'c> {
+    pub alloc: Global,
+    pub context: &'c Ctx,
+    pub compiled: &'c Compiled,
+    pub subject: Term,
+    pub stack: Vec<Level<'c>>,
+    pub found: Option<Seq<Term>>,
+}
+
+/// Whether a level stands on this element.
+fn is_taken(levels: &[Level<'_>], index: usize) -> bool
+    ensures { result ≡ is_on index levels.now }
+{
+    for i in 0..levels.len() {
+        if levels[i].at == index {
+            return true;
+        }
+    }
+    false
+}
+
+/// Whether an element is the one before again.
+fn is_again(elements: &[Term], before: Option<usize>, index: usize) -> bool
+    requires there { index < length elements.now }
+    requires before { MatchOption before ⊤ (λ i. i < length elements.now) }
+    ensures { let args = terms_of elements.now in
+        result ≡ is_again_of (option_map (λ b. term_at b args) before) (term_at index args) }
+{
+    match before {
+        Some(i) => compare(&elements[i], &elements[index]).is_eq(),
+        None => false,
+    }
+}
+
+/// Whether a pattern may have a match on an element that isn't the one before again.
+fn may_stand(
+    facts: &Facts,
+    elements: &[Term],
+    pattern: &Term,
+    values: &[Term],
+    index: usize,
+    before: Option<usize>,
+) -> bool
+    requires there { index < length elements.now }
+    requires before { MatchOption before ⊤ (λ i. i < length elements.now) }
+    ensures may { let args = terms_of elements.now in
+        result ≡ true → is_again_of (option_map (λ b. term_at b args) before) (term_at index args) ≡ false }
+    ensures not { let args = terms_of elements.now in
+        result ≡ false → IsPassedBy facts.now args values.now pattern.now index before }
+{
+    if clashes(facts, pattern, &elements[index], values) {
+        return false;
+    }
+    !is_again(elements, before, index)
+}
+
+/// The first element from an index on that no level below stands on, that differs from the one before, and that may
+/// have a match.
+fn next_choice(
+    facts: &Facts,
+    elements: &[Term],
+    below: &[Level<'_>],
+    pattern: &Term,
+    values: &[Term],
+    from: usize,
+    before: Option<usize>,
+) -> Option<usize>
+    requires { MatchOption before ⊤ (λ i. i < length elements.now) }
+    ensures within { MatchOption result ⊤ (λ i. i < length elements.now) }
+    ensures next { let args = terms_of elements.now in
+        let ks = taken_by [] below.now in
+        Skips (ClashesAt facts.now values.now pattern.now) (choices_from args ks before from) (choices_at args ks result) }
+{
+    let mut last = before;
+    for i in from..elements.len() {
+        if !is_taken(below, i) {
+            if may_stand(facts, elements, pattern, values, i, last) {
+                return Some(i);
+            }
+            last = Some(i);
+        }
+    }
+    None
+}
+
+/// A number put among others that rise.
+fn put(numbers: &mut Vec<u32>, number: u32) -> Result<(), AllocError>
+    ensures { OnOk result (numbers.new.items ≡ put_among number numbers.old.items) }
+{
+    let mut index = 0;
+    while index < numbers.len() && numbers[index] <= number {
+        index += 1;
+    }
+    numbers.insert(index, number)?;
+    Ok(())
+}
+
+/// The numbers of the elements that levels stand on.
+fn numbers_taken(alloc: Global, levels: &[Level<'_>]) -> Result<Seq<u32>, AllocError>
+    ensures { IfOk result (λ ks. ks ≡ taken_by [] levels.now) }
+{
+    let mut made = Vec::new(alloc);
+    for level in levels {
+        put(&mut made, number_at(level.at)?)?;
+    }
+    Ok(Seq::of(made))
+}
+
+impl<'c> Levels<'c> {
+    fn elements(&self) -> &[Term]
+        ensures { terms_of result.now ≡ args_of self.now.subject }
+    {
+        match self.subject.view() {
+            View::Op(_, elements) => elements,
+            _ => &[],
+        }
+    }
+
+    fn patterns(&self) -> &'c [Term]
+        ensures { terms_of result.now ≡ args_of self.now.compiled.now.pattern }
+    {
+        match self.compiled.pattern.view() {
+            View::Op(_, patterns) => patterns,
+            _ => &[],
+        }
+    }
+
+    /// The search of a pattern on an element.
+    fn search_on(
+        &self,
+        pattern: &Term,
+        element: &Term,
+        values: &[Term],
+    ) -> Result<Search<'c>, AllocError>
+        ensures { let sig = self.now.context.now.signature in
+            let positions = self.now.compiled.now.positions in
+            IfOk result (λ s. s ≡ record {
+              signature = sig;
+              sorts = positions.sorts;
+              given = length values.now;
+              coming = found sig positions.single.items pattern.now element.now values.now;
+            }) }
+    {
+        let given = copied(self.alloc, values)?;
+        let search = Search::new(
+            self.alloc,
+            self.context,
+            &self.compiled.positions,
+            copy(pattern)?,
+            copy(element)?,
+            given,
+        )?;
+        Ok(search)
+    }
+}
