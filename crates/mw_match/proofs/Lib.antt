@@ -15,3 +15,4 @@ pub mod Numbers
 pub mod Passed
 pub mod FreeNumbers
 pub mod PickedLaw
+pub mod Choosing

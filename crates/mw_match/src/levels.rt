@@ -1,5 +1,5 @@
 // What the arguments of a pattern pick of a multiset's elements, one behind another.
-ghost use Rattle.std.specs.Prelude.{◌≡◌, ◌<◌, [], true, false, length, option_map, IfOk, OnOk, MatchOption, ⊤};
+ghost use Rattle.std.specs.Prelude.{◌≡◌, ◌<◌, ◌≤◌, ◌∷◌, ◌++◌, [], true, false, length, take, drop, option_map, IfOk, OnOk, MatchOption, ⊤};
 ghost use Rattle.mw_logic.specs.Terms.{args_of, terms_of};
 ghost use Rattle.mw_matching.specs.Found.{found};
 ghost use Rattle.mw_matching.specs.Multisets.{term_at};
@@ -111,15 +111,25 @@ fn next_choice(
     None
 }
 
+/// Where a number comes among others that rise.
+fn place_among(numbers: &[u32], number: u32) -> usize
+    ensures within { result ≤ length numbers.now }
+    ensures place { put_among number numbers.now ≡ take result numbers.now ++ number ∷ drop result numbers.now }
+{
+    for i in 0..numbers.len() {
+        if number < numbers[i] {
+            return i;
+        }
+    }
+    numbers.len()
+}
+
 /// A number put among others that rise.
 fn put(numbers: &mut Vec<u32>, number: u32) -> Result<(), AllocError>
     ensures { OnOk result (numbers.new.items ≡ put_among number numbers.old.items) }
 {
-    let mut index = 0;
-    while index < numbers.len() && numbers[index] <= number {
-        index += 1;
-    }
-    numbers.insert(index, number)?;
+    let place = place_among(numbers.as_slice(), number);
+    numbers.insert(place, number)?;
     Ok(())
 }
 
@@ -128,8 +138,9 @@ fn numbers_taken(alloc: Global, levels: &[Level<'_>]) -> Result<Seq<u32>, AllocE
     ensures { IfOk result (λ ks. ks ≡ taken_by [] levels.now) }
 {
     let mut made = Vec::new(alloc);
-    for level in levels {
-        put(&mut made, number_at(level.at)?)?;
+    for i in 0..levels.len() {
+        let number = number_at(levels[i].at)?;
+        put(&mut made, number)?;
     }
     Ok(Seq::of(made))
 }
