@@ -16,3 +16,4 @@ pub mod Passed
 pub mod FreeNumbers
 pub mod PickedLaw
 pub mod Choosing
+pub mod Traces
