@@ -7,18 +7,11 @@ use Rattle.mw_logic.specs.Terms.{skip}
 use Rattle.mw_logic.specs.Signature.{Signature}
 use Rattle.mw_logic.specs.Parts.{number_of_terms}
 use Rattle.mw_matching.specs.Found.{Values, found}
+use Rattle.mw_matching.specs.Multisets.{term_at}
 use Rattle.mw_search.specs.Lacking.{Each as EachOf, Skips}
 use Rattle.mw_match.specs.declared.levels.Level.{Level}
 use Rattle.mw_match.specs.Choices.{firsts, free, put, picked}
-use Rattle.mw_match.specs.Levels.{taken_by, ClashesAt, Trace, trace, tries, behind, come}
-
-abbrev pub picks_in : Trace → List (List ℕ × Values)
-picks_in ms = flat_map option_to_list ms
-
--- the same is picked in fewer steps
-pub record Shortens (old new : Trace) : Type 0 where
-  pub same : picks_in old ≡ picks_in new
-  pub fewer : length new < length old
+use Rattle.mw_match.specs.Levels.{taken_by, choices_from, choices_at, ClashesAt, Trace, picks_in, Shortens, trace, tries, behind, come}
 
 module _ (sig : Signature) (single : List (List ℕ)) (args : RawTerms) where
   abbrev Come : RawTerms → List ℕ → List Level → Option Values → Trace
@@ -92,3 +85,36 @@ module _ (sig : Signature) (single : List (List ℕ)) (args : RawTerms) where
           flat_map-append option_to_list (flat_map (λ us. trace sig single args qs (put z.0 ks) us) (found sig single q z.1 vs)) (tries sig single args q qs ks vs zs)
           ∙ ap (λ ms. ms ++ picks_in (tries sig single args q qs ks vs zs)) (of_values each (put z.0 ks) (found sig single q z.1 vs))
           ∙ ap (λ ms. flat_map (λ us. picked sig single args qs (put z.0 ks) us) (found sig single q z.1 vs) ++ ms) (of_choices each zs)
+
+  picks_end : (ms : Trace) → picks_in (ms ++ None ∷ []) ≡ picks_in ms
+  picks_end ms = flat_map-append option_to_list ms (None ∷ []) ∙ append-nil (picks_in ms)
+
+  length_end : (ms : Trace) → length (ms ++ None ∷ []) ≡ suc (length ms)
+  length_end ms = let n = length-append ms (None ∷ []) in omega (arith, n)
+
+  -- the next argument of the pattern has no choice, or begins with the first one that may have matches
+  pub none_chosen : (q : RawTerm) (rest : RawTerms) (ks : List ℕ) (vs : Values) → Skips (ClashesAt sig vs q) (choices_from args ks None 0) [] → Shortens (Traced (cons q rest) ks vs) []
+  none_chosen q rest ks vs s =
+      let old : Trace = Tries q rest ks vs (choices_from args ks None 0) in
+      let (a, b) = tries_skip q rest ks vs (choices_from args ks None 0) [] s in
+      record { same = picks_end old ∙ a; fewer = omega arith }
+
+  pub first_chosen : (q : RawTerm) (rest : RawTerms) (ks : List ℕ) (vs : Values) (l : Level) → l.given ≡ vs → l.search.coming ≡ found sig single q (term_at l.at args) vs
+      → Skips (ClashesAt sig vs q) (choices_from args ks None 0) (choices_at args ks (Some l.at)) → Shortens (Traced (cons q rest) ks vs) (behind sig single args q rest ks l)
+  first_chosen q rest ks vs l g e s =
+      let old : Trace = Tries q rest ks vs (choices_from args ks None 0) in
+      let later : Trace = Tries q rest ks vs (choices_from args ks (Some l.at) (suc l.at)) in
+      let first : Trace = flat_map (λ us. Traced rest (put (suc l.at) ks) us) (found sig single q (term_at l.at args) vs) in
+      let (a, b) = tries_skip q rest ks vs (choices_from args ks None 0) (choices_at args ks (Some l.at)) s in
+      let is : behind sig single args q rest ks l ≡ first ++ (later ++ None ∷ []) =
+      ap (λ uss. flat_map (λ us. Traced rest (put (suc l.at) ks) us) uss ++ (Tries q rest ks l.given (choices_from args ks (Some l.at) (suc l.at)) ++ None ∷ [])) e
+      ∙ ap (λ us. first ++ (Tries q rest ks us (choices_from args ks (Some l.at) (suc l.at)) ++ None ∷ [])) g in
+      let n : length (behind sig single args q rest ks l) ≡ length (first ++ (later ++ None ∷ [])) = ap (λ (ms : Trace). length ms) is in
+      let n1 = length-append first (later ++ None ∷ []) in
+      let n2 = length_end later in
+      let n3 = length_end old in
+      let n4 = length-append first later in
+      record {
+        same = picks_end old ∙ a ∙ flat_map-append option_to_list first later ∙ ap (λ xs. picks_in first ++ xs) (sym (picks_end later)) ∙ sym (flat_map-append option_to_list first (later ++ None ∷ [])) ∙ ap picks_in (sym is);
+        fewer = omega (arith, b, n, n1, n2, n3, n4);
+      }

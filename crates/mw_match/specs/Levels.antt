@@ -1,5 +1,5 @@
 -- Levels of choices: the arguments of a pattern that stand on a term's arguments, and what is still to come of them.
-use Rattle.std.specs.Prelude.{◌≡◌, ℕ, suc, List, [], ◌∷◌, ◌++◌, map, flat_map, ◌⊎◌, Bool, true, false, ◌||◌, nat_eq, Option, Some, None, option_map, option_to_list}
+use Rattle.std.specs.Prelude.{◌≡◌, ◌<◌, ℕ, suc, List, [], ◌∷◌, ◌++◌, map, flat_map, length, ◌⊎◌, Bool, true, false, ◌||◌, nat_eq, Option, Some, None, option_map, option_to_list}
 use Rattle.mw_logic.specs.Term.{RawTerm, RawTerms, nil, cons}
 use Rattle.mw_logic.specs.Terms.{args_of, skip}
 use Rattle.mw_logic.specs.Signature.{Signature}
@@ -45,6 +45,14 @@ Trace = List (Option (List ℕ × Values))
 abbrev pub entries_in : Trace → List Entry
 entries_in trace = map part_entry (flat_map option_to_list trace)
 
+abbrev pub picks_in : Trace → List (List ℕ × Values)
+picks_in ms = flat_map option_to_list ms
+
+-- the same is picked in fewer steps
+pub record Shortens (old new : Trace) : Type 0 where
+  pub same : picks_in old ≡ picks_in new
+  pub fewer : length new < length old
+
 module _ (sig : Signature) (single : List (List ℕ)) (args : RawTerms) where
   abbrev pub trace : RawTerms → List ℕ → Values → Trace
   trace nil ks vs = Some (ks, vs) ∷ []
@@ -63,6 +71,11 @@ module _ (sig : Signature) (single : List (List ℕ)) (args : RawTerms) where
   come qs ks [] o = flat_map (λ us. trace qs ks us) (option_to_list o)
   come nil ks (l ∷ ls) o = []
   come (cons q qs) ks (l ∷ ls) o = come qs (put (suc l.at) ks) ls o ++ behind q qs ks l
+
+  -- what a level has, if there is one
+  abbrev pub behind_found : RawTerm → RawTerms → List ℕ → Option Level → Trace
+  behind_found q qs ks None = []
+  behind_found q qs ks (Some l) = behind q qs ks l
 
 abbrev pub still_to_come : Levels → Trace
 still_to_come s = come s.context.now.signature s.compiled.now.positions.single.items (args_of s.subject) (args_of s.compiled.now.pattern) [] s.stack.items s.found

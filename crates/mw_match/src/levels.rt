@@ -1,11 +1,12 @@
 // What the arguments of a pattern pick of a multiset's elements, one behind another.
 ghost use Rattle.std.specs.Prelude.{◌≡◌, ◌<◌, ◌≤◌, ◌∷◌, ◌++◌, [], true, false, length, take, drop, option_map, IfOk, OnOk, MatchOption, ⊤};
-ghost use Rattle.mw_logic.specs.Terms.{args_of, terms_of};
+ghost use Rattle.mw_logic.specs.Term.{RawTerm, RawTerms, cons};
+ghost use Rattle.mw_logic.specs.Terms.{args_of, terms_of, skip};
 ghost use Rattle.mw_matching.specs.Found.{found};
 ghost use Rattle.mw_matching.specs.Multisets.{term_at};
 ghost use Rattle.mw_search.specs.Lacking.{Skips};
 ghost use Rattle.mw_match.specs.Choices.{is_again as is_again_of, put as put_among};
-ghost use Rattle.mw_match.specs.Levels.{is_on, taken_by, choices_from, choices_at, ClashesAt, IsPassedBy};
+ghost use Rattle.mw_match.specs.Levels.{is_on, taken_by, choices_from, choices_at, ClashesAt, IsPassedBy, Shortens, trace, behind, behind_found};
 
 use crate::bindings::copied;
 use mw_canon::Facts;
@@ -190,5 +191,60 @@ impl<'c> Levels<'c> {
             given,
         )?;
         Ok(search)
+    }
+
+    /// A level on an element.
+    fn level_on(
+        &self,
+        pattern: &Term,
+        at: usize,
+        element: &Term,
+        values: &[Term],
+    ) -> Result<Level<'c>, AllocError>
+        ensures at { IfOk result (λ l. l.at ≡ at) }
+        ensures given { IfOk result (λ l. l.given ≡ values.now) }
+        ensures search { let sig = self.now.context.now.signature in
+            let positions = self.now.compiled.now.positions in
+            IfOk result (λ l. l.search ≡ record {
+              signature = sig;
+              sorts = positions.sorts;
+              given = length values.now;
+              coming = found sig positions.single.items pattern.now element.now values.now;
+            }) }
+    {
+        let search = self.search_on(pattern, element, values)?;
+        let given = copied(self.alloc, values)?;
+        Ok(Level {
+            at,
+            given: Seq::of(given),
+            search,
+        })
+    }
+
+    /// The next argument of the pattern on the first element that it may match, going on from values.
+    fn next_level(&self, values: &[Term]) -> Result<Option<Level<'c>>, AllocError>
+        ensures { let sig = self.now.context.now.signature in
+            let single = self.now.compiled.now.positions.single.items in
+            let args = args_of self.now.subject in
+            let ks = taken_by [] self.now.stack.items in
+            IfOk result (λ o. (q : RawTerm) (rest : RawTerms)
+            → skip (length self.now.stack.items) (args_of self.now.compiled.now.pattern) ≡ cons q rest
+            → Shortens (trace sig single args (cons q rest) ks values.now)
+            (behind_found sig single args q rest ks o)) }
+    {
+        let depth = self.stack.len();
+        let patterns = self.patterns();
+        if depth >= patterns.len() {
+            return Ok(None);
+        }
+        let pattern = &patterns[depth];
+        let elements = self.elements();
+        let facts = self.context.facts();
+        let below = self.stack.as_slice();
+        let Some(at) = next_choice(facts, elements, below, pattern, values, 0, None) else {
+            return Ok(None);
+        };
+        let level = self.level_on(pattern, at, &elements[at], values)?;
+        Ok(Some(level))
     }
 }
