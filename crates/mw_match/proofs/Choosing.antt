@@ -58,12 +58,12 @@ pub among_levels : (i : ℕ) (ls : List Level) → is_among (suc i) (taken_by []
 among_levels i ls = among_taken i [] ls ∙ or_false (is_on i ls)
 
 -- terms by index
-skip_at : (i : ℕ) (ts : RawTerms) → i < number_of_terms ts → skip i ts ≡ cons (term_at i ts) (skip (suc i) ts)
+pub skip_at : (i : ℕ) (ts : RawTerms) → i < number_of_terms ts → skip i ts ≡ cons (term_at i ts) (skip (suc i) ts)
 skip_at i nil h = absurd (omega (arith, h))
 skip_at zero (cons t ts) h = refl
 skip_at (suc i) (cons t ts) h = skip_at i ts (omega (arith, h))
 
-skip_past : (i : ℕ) (ts : RawTerms) → number_of_terms ts ≤ i → skip i ts ≡ nil
+pub skip_past : (i : ℕ) (ts : RawTerms) → number_of_terms ts ≤ i → skip i ts ≡ nil
 skip_past zero nil h = refl
 skip_past (suc i) nil h = refl
 skip_past zero (cons t ts) h = absurd (omega (arith, h))

@@ -17,3 +17,4 @@ pub mod FreeNumbers
 pub mod PickedLaw
 pub mod Choosing
 pub mod Traces
+pub mod NextLevels
