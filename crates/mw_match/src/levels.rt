@@ -1,12 +1,13 @@
 // What the arguments of a pattern pick of a multiset's elements, one behind another.
-ghost use Rattle.std.specs.Prelude.{◌≡◌, ◌<◌, ◌≤◌, ◌∷◌, ◌++◌, [], true, false, length, take, drop, option_map, IfOk, OnOk, MatchOption, ⊤};
+ghost use Rattle.std.specs.Prelude.{◌≡◌, ◌<◌, ◌≤◌, ◌∷◌, ◌++◌, [], true, false, length, take, drop, option_map, IfOk, OnOk, OnErr, MatchOption, ⊤};
 ghost use Rattle.mw_logic.specs.Term.{RawTerm, RawTerms, cons};
 ghost use Rattle.mw_logic.specs.Terms.{args_of, terms_of, skip};
+ghost use Rattle.mw_logic.specs.Parts.{number_of_terms};
 ghost use Rattle.mw_matching.specs.Found.{found};
 ghost use Rattle.mw_matching.specs.Multisets.{term_at};
 ghost use Rattle.mw_search.specs.Lacking.{Skips};
 ghost use Rattle.mw_match.specs.Choices.{is_again as is_again_of, put as put_among};
-ghost use Rattle.mw_match.specs.Levels.{is_on, taken_by, choices_from, choices_at, ClashesAt, IsPassedBy, Shortens, trace, behind, behind_found};
+ghost use Rattle.mw_match.specs.Levels.{is_on, taken_by, choices_from, choices_at, ClashesAt, IsPassedBy, Shortens, trace, behind_found, still_to_come};
 
 use crate::bindings::copied;
 use mw_canon::Facts;
@@ -246,5 +247,24 @@ impl<'c> Levels<'c> {
         };
         let level = self.level_on(pattern, at, &elements[at], values)?;
         Ok(Some(level))
+    }
+
+    /// Goes on from the match at hand with the next argument of the pattern; the match is dropped then. For want of
+    /// memory the same is still to come.
+    fn descend(&mut self) -> Result<(), AllocError>
+        requires { length self.old.stack.items < number_of_terms (args_of self.old.compiled.now.pattern) }
+        ensures ok { OnOk result (MatchOption self.old.found ⊤
+            (λ _. Shortens (still_to_come self.old) (still_to_come self.new))) }
+        ensures err { OnErr result (still_to_come self.new ≡ still_to_come self.old) }
+    {
+        let Some(values) = &self.found else {
+            return Ok(());
+        };
+        let next = self.next_level(values.as_slice())?;
+        if let Some(level) = next {
+            self.stack.push(level)?;
+        }
+        self.found = None;
+        Ok(())
     }
 }
