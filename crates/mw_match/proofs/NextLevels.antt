@@ -1,5 +1,5 @@
 -- The next argument of a pattern, as a program finds it.
-use Rattle.std.specs.Prelude.{◌≡◌, ◌≤◌, ◌<◌, ℕ, suc, List, [], ◌∷◌, ◌++◌, get_or, length, Option, Some, None, option_to_list, refl}
+use Rattle.std.specs.Prelude.{◌≡◌, ◌≤◌, ◌<◌, ℕ, suc, List, [], ◌∷◌, ◌++◌, get_or, length, Option, Some, None, option_to_list, MatchOption, ⊤, refl}
 use Rattle.std.proofs.Common.{ap, sym, subst, ◌∙◌, arith, append-nil, length-append}
 use Rattle.std.proofs.lemmas.Grind.{flat_map-append}
 use Rattle.mw_logic.specs.Term.{RawTerm, RawTerms, nil, cons}
@@ -77,3 +77,6 @@ descended sig single args qs ls vs o h r =
         → come sig single args qs [] (ls ++ option_to_list o) None ≡ behind_found sig single args q rest (taken_by [] ls) o ++ come sig single args qs [] ls None
     by_level None q rest is = ap (λ ls. come sig single args qs [] ls None) (append-nil ls)
     by_level (Some l) q rest is = come_push sig single args qs [] ls l q rest is
+
+pub of_found : (o : Option Values) (vs us : Values) (P : Option Values → Type 0) → o ≡ Some us → vs ≡ us → P (Some vs) → MatchOption o ⊤ (λ _. P o)
+of_found o vs us P e v h = subst (λ x. MatchOption x ⊤ (λ _. P x)) (sym e) (subst (λ ws. P (Some ws)) v h)
