@@ -1,8 +1,8 @@
 -- Choices from an index on, step by step, and the numbers of what levels stand on.
-use Rattle.std.specs.Prelude.{◌≡◌, ◌≤◌, ◌<◌, ◌+◌, ◌⊎◌, ◌||◌, ℕ, zero, suc, List, [], ◌∷◌, ◌++◌, take, drop, get_or, length, Bool, true, false, cond, nat_eq, nat_lt, Option, Some, None, option_map, refl}
+use Rattle.std.specs.Prelude.{◌≡◌, ◌≤◌, ◌<◌, ◌+◌, ◌⊎◌, ◌||◌, ℕ, zero, suc, List, [], ◌∷◌, drop, get_or, length, Bool, true, false, cond, nat_eq, nat_lt, Option, Some, option_map, refl}
 use Rattle.std.proofs.Common.{inl, inr, ap, sym, subst, ◌∙◌, arith}
 use Rattle.mw_logic.specs.Term.{RawTerm, RawTerms, nil, cons}
-use Rattle.mw_logic.specs.Terms.{terms_of, skip}
+use Rattle.mw_logic.specs.Terms.{skip}
 use Rattle.mw_logic.specs.Signature.{Signature}
 use Rattle.mw_logic.specs.Parts.{number_of_terms}
 use Rattle.mw_matching.specs.Found.{Values, is_among}

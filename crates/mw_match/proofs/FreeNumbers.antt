@@ -3,10 +3,10 @@ use Rattle.std.specs.Prelude.{◌≡◌, ◌≤◌, ◌<◌, ◌+◌, ℕ, suc, 
 use Rattle.std.proofs.Common.{ap, sym, subst, ◌∙◌, arith}
 use Rattle.std.proofs.lemmas.Bool.{both_ways, eqb-true, eq-eqb}
 use Rattle.mw_logic.specs.Term.{RawTerm, RawTerms, nil, cons}
-use Rattle.mw_logic.specs.Parts.{Among, number_of_terms}
+use Rattle.mw_logic.specs.Parts.{number_of_terms}
 use Rattle.mw_logic.specs.TermOrder.{stands_after, insert_term}
-use Rattle.mw_logic.proofs.OrderLaws.{after-trans, after-antisym, not_after_itself}
-use Rattle.mw_logic.proofs.SortedLists.{same_term, same_itself, NoneBelow, Climbs, insert_first}
+use Rattle.mw_logic.proofs.OrderLaws.{after-trans, after-antisym}
+use Rattle.mw_logic.proofs.SortedLists.{same_term, same_itself, Climbs, insert_first}
 use Rattle.mw_logic.proofs.Canonical.{Each}
 use Rattle.mw_arguments.specs.Bags.{same, with_one, runs, heads}
 use Rattle.mw_arguments.specs.Places.{Rise, numbers_of}

@@ -1,20 +1,19 @@
 -- The matches of a pattern with a rest behind it, where its arguments become one element each: the arguments pick what they take, and the rest's elements
 -- tell the numbers that were picked.
-use Rattle.std.specs.Prelude.{◌≡◌, ◌≤◌, ◌<◌, ◌+◌, ◌-◌, ◌&&◌, ℕ, suc, List, [], ◌∷◌, ◌++◌, map, flat_map, length, take, Bool, true, false, cond, is_some, nat_lt, Option, Some, None, option_map, option_and_then, option_to_list, slice_get, unwrap_or, ⊤, refl}
+use Rattle.std.specs.Prelude.{◌≡◌, ◌≤◌, ◌<◌, ◌+◌, ◌-◌, ℕ, suc, List, [], ◌∷◌, ◌++◌, map, flat_map, length, take, true, nat_lt, Option, Some, None, option_map, option_and_then, option_to_list, slice_get, ⊤, refl}
 use Rattle.std.proofs.Common.{inl, inr, ap, sym, subst, ◌∙◌, arith, length-append, append-nil}
 use Rattle.std.proofs.lemmas.Bool.{lt-ltb}
 use Rattle.std.proofs.lemmas.List.{map-append}
 use Rattle.std.proofs.lemmas.Option.{slice_get_past}
 use Rattle.mw_logic.specs.Term.{RawTerm, variable, apply, RawTerms, nil, cons, join}
-use Rattle.mw_logic.specs.Terms.{skip}
 use Rattle.mw_logic.specs.Signature.{Signature, Identity, Member}
 use Rattle.mw_logic.specs.Accepted.{IsAccepted}
 use Rattle.mw_logic.specs.CanonicalPart.{AreSeveral}
 use Rattle.mw_logic.specs.Parts.{Among, is_assoc, number_of_terms}
 use Rattle.mw_logic.specs.TermOrder.{insert_term, sorted_terms}
 use Rattle.mw_logic.specs.NormalForm.{is_comm, identity_of, elements, rebuilt, arranged}
-use Rattle.mw_logic.proofs.Canonical.{Each, IsCanonical, IsElement}
-use Rattle.mw_logic.proofs.SortLaws.{sorted_terms-right, sorted_terms-left, sorted_terms-comm}
+use Rattle.mw_logic.proofs.Canonical.{IsCanonical, IsElement}
+use Rattle.mw_logic.proofs.SortLaws.{sorted_terms-left, sorted_terms-comm}
 use Rattle.mw_logic.proofs.SortedLists.{Climbs, climbs, climbs-sorted, sorted_terms-climbing}
 use Rattle.mw_logic.proofs.Elements.{taken}
 use Rattle.mw_position.specs.Positions.{position, counted_all, AreNumbered}
@@ -26,9 +25,9 @@ use Rattle.mw_arguments.proofs.ListPieces.{number_join}
 use Rattle.mw_arguments.proofs.Once.{flat_map-flat_map}
 use Rattle.mw_arguments.proofs.Standing.{put_back, climbs_taken}
 use Rattle.mw_matching.specs.Matches.{Theory, Fits, IsMatch, AllHaveArities}
-use Rattle.mw_matching.specs.Multisets.{is_within, left_behind, term_at, without, news}
+use Rattle.mw_matching.specs.Multisets.{is_within, left_behind, news}
 use Rattle.mw_matching.specs.Patterns.{is_rigid, theory}
-use Rattle.mw_matching.specs.Found.{Values, fits, is_single, is_element_under_all, value_of, found, found_bag, numbers_from}
+use Rattle.mw_matching.specs.Found.{Values, fits, is_single, value_of, found, found_bag}
 use Rattle.mw_matching.proofs.FoundMatches.{found_once}
 use Rattle.mw_matching.proofs.FoundShares.{AreElementsOf, elements_again, flat_map-mapped}
 use Rattle.mw_matching.proofs.Matches.{fits_longer}

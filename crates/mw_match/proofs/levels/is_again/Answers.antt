@@ -1,7 +1,7 @@
-use Rattle.std.specs.Prelude.{◌≡◌, ◌<◌, Some, length, option_map, MatchOption, ⊤}
+use Rattle.std.specs.Prelude.{◌<◌, length, option_map, MatchOption, ⊤}
 use Rattle.std.specs.Ordering.{is_eq}
 use Rattle.std.proofs.Common.{◌∙◌, ap, sym, subst}
-use Rattle.mw_logic.specs.Term.{RawTerm, RawTerms}
+use Rattle.mw_logic.specs.Term.{RawTerms}
 use Rattle.mw_logic.specs.Terms.{terms_of}
 use Rattle.mw_arguments.specs.Bags.{same}
 use Rattle.mw_matching.specs.Multisets.{term_at}

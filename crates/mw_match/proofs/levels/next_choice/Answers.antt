@@ -1,5 +1,5 @@
-use Rattle.std.specs.Prelude.{◌≡◌, ◌<◌, ◌≤◌, ◌+◌, [], suc, false, true, length, Some, MatchOption, ⊤, List, ℕ}
-use Rattle.std.proofs.Common.{◌∙◌, ap, sym, subst, arith}
+use Rattle.std.specs.Prelude.{◌≡◌, ◌<◌, ◌≤◌, ◌+◌, [], suc, false, length, Some, MatchOption, ⊤, List, ℕ}
+use Rattle.std.proofs.Common.{◌∙◌, sym, subst, arith}
 use Rattle.mw_logic.specs.Term.{RawTerms}
 use Rattle.mw_logic.specs.Terms.{terms_of}
 use Rattle.mw_logic.specs.Parts.{number_of_terms}
@@ -33,17 +33,19 @@ loop-i-preserved c =
     let among : is_among (suc c.loop-i.i) ks ≡ c.is_taken.result = among_levels c.loop-i.i c.args.below.now ∙ sym c.is_taken.ensures in
     let up : suc c.loop-i.i ≡ c.loop-i.i + 1 = omega arith in
     elim c.if-not-is_taken.branch [
-      | then-not-is_taken+else-may_stand w ↦
-          (subst (λ o. MatchOption o ⊤ (λ i. i < length c.args.elements.now)) (sym w.last-is) c.loop-i-test.true,
-          subst (λ o. Skips P old (choices_from args ks o (c.loop-i.i + 1))) (sym w.last-is)
-          (subst (λ j. Skips P old (choices_from args ks (Some c.loop-i.i) j)) up
-          (skips_more P old (choices_from args ks c.loop-i.last c.loop-i.i) (choices_from args ks (Some c.loop-i.i) (suc c.loop-i.i)) c.loop-i.invariant.1
-          (step_passed args ks c.loop-i.last c.loop-i.i c.args.facts.now c.args.values.now c.args.pattern.now low (among ∙ w.if-not-is_taken.true) (w.may_stand.ensures.not w.if-may_stand.false)))))
-      | else-not-is_taken w ↦
-          (subst (λ o. MatchOption o ⊤ (λ i. i < length c.args.elements.now)) (sym w.last-is) c.loop-i.invariant.0,
-          subst (λ o. Skips P old (choices_from args ks o (c.loop-i.i + 1))) (sym w.last-is)
-          (subst (λ j. Skips P old (choices_from args ks c.loop-i.last j)) up
-          (subst (Skips P old) (step_taken args ks c.loop-i.last c.loop-i.i low (among ∙ w.if-not-is_taken.false)) c.loop-i.invariant.1)))
+      | then-not-is_taken+else-may_stand w ↦ (
+        subst (λ o. MatchOption o ⊤ (λ i. i < length c.args.elements.now)) (sym w.last-is) c.loop-i-test.true,
+        subst (λ o. Skips P old (choices_from args ks o (c.loop-i.i + 1))) (sym w.last-is)
+            (subst (λ j. Skips P old (choices_from args ks (Some c.loop-i.i) j)) up
+            (skips_more P old (choices_from args ks c.loop-i.last c.loop-i.i) (choices_from args ks (Some c.loop-i.i) (suc c.loop-i.i)) c.loop-i.invariant.1
+            (step_passed args ks c.loop-i.last c.loop-i.i c.args.facts.now c.args.values.now c.args.pattern.now low (among ∙ w.if-not-is_taken.true) (w.may_stand.ensures.not w.if-may_stand.false)))),
+      )
+      | else-not-is_taken w ↦ (
+        subst (λ o. MatchOption o ⊤ (λ i. i < length c.args.elements.now)) (sym w.last-is) c.loop-i.invariant.0,
+        subst (λ o. Skips P old (choices_from args ks o (c.loop-i.i + 1))) (sym w.last-is)
+            (subst (λ j. Skips P old (choices_from args ks c.loop-i.last j)) up
+            (subst (Skips P old) (step_taken args ks c.loop-i.last c.loop-i.i low (among ∙ w.if-not-is_taken.false)) c.loop-i.invariant.1)),
+      )
     ]
 
 pub returns-clause-next : goal.returns-clause-next

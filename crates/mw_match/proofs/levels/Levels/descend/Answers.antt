@@ -17,7 +17,7 @@ returns-clause-ok c =
     let whole : MatchOption s.found ⊤ (λ _. Shortens (still_to_come s) after) =
     of_found s.found c.as_slice.result.now c.in-Some.values (λ o. Shortens (still_to_come (record s { found = o })) after) c.in-Some.is c.as_slice.ensures r in
     let goes_on : (items : List Level) → items ≡ s.stack.items ++ option_to_list c.in_ok-next.next → MatchOption s.found ⊤ (λ _. Shortens (still_to_come s)
-        (come s.context.now.signature s.compiled.now.positions.single.items (args_of s.subject) (args_of s.compiled.now.pattern) [] items None)) =
+    (come s.context.now.signature s.compiled.now.positions.single.items (args_of s.subject) (args_of s.compiled.now.pattern) [] items None)) =
     λ items e. subst (λ xs. MatchOption s.found ⊤ (λ _. Shortens (still_to_come s) (come s.context.now.signature s.compiled.now.positions.single.items (args_of s.subject) (args_of s.compiled.now.pattern) [] xs None))) (sym e) whole in
     elim c.match-next.branch [
       | in-Some-next+in_ok-push w ↦

@@ -1,9 +1,8 @@
 use Rattle.std.specs.Prelude.{◌≡◌, ◌<◌, get_or, length}
-use Rattle.std.proofs.Common.{sym, ap, ◌∙◌, subst, arith}
+use Rattle.std.proofs.Common.{ap, subst, arith}
 use Rattle.mw_logic.specs.Terms.{args_of}
 use Rattle.mw_search.specs.Searches.{Matches}
 use Rattle.mw_search.proofs.BagLists.{at_index}
-use Rattle.mw_match.specs.Levels.{taken_by}
 use Rattle.mw_match.proofs.NextLevels.{no_pattern, pattern_is, answer_none, answer_some}
 use Rattle.mw_match.proofs.levels.Levels.next_level.Goals as goal
 
