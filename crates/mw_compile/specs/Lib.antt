@@ -4,3 +4,5 @@ pub mod Compiled
 pub mod Groups
 -- Which values are one element.
 pub mod Singles
+-- Arguments with their variables.
+pub mod Sharing

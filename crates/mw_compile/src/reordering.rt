@@ -23,30 +23,35 @@ fn is_bag(facts: &Facts, operator: OpId) -> bool
     }
 }
 
-/// Whether each argument of an operator becomes one element.
-fn all_are_rigid(singles: &Singles<'_>, operator: OpId, args: &[Term]) -> bool {
-    let mut rest = args;
-    while let [arg, after @ ..] = rest {
-        if !singles.is_rigid(operator, arg) {
-            return false;
+/// Whether a variable stands in a term.
+fn has_variable(term: &Term) -> bool {
+    match term.view() {
+        View::Var(_) => true,
+        View::Op(_, args) => {
+            let mut rest = args;
+            while let [arg, after @ ..] = rest {
+                if has_variable(arg) {
+                    return true;
+                }
+                rest = after;
+            }
+            false
         }
-        rest = after;
+        _ => false,
     }
-    true
 }
 
-/// Whether an associative and commutative operator in a term stands on an argument that may become other than one
-/// element.
-fn has_choice(singles: &Singles<'_>, term: &Term) -> bool {
+/// Whether a variable stands under an associative and commutative operator in a term.
+fn has_choice(facts: &Facts, term: &Term) -> bool {
     let View::Op(operator, args) = term.view() else {
         return false;
     };
-    if is_bag(singles.facts(), operator) && !all_are_rigid(singles, operator, args) {
-        return true;
+    if is_bag(facts, operator) {
+        return has_variable(term);
     }
     let mut rest = args;
     while let [arg, after @ ..] = rest {
-        if has_choice(singles, arg) {
+        if has_choice(facts, arg) {
             return true;
         }
         rest = after;
@@ -55,8 +60,7 @@ fn has_choice(singles: &Singles<'_>, term: &Term) -> bool {
 }
 
 /// A pattern with the arguments of associative and commutative operators in another order, at every level, group by
-/// group, and in order within each. Its variables are known then, beside those that were known. Parts with no choice
-/// are shared.
+/// group. Its variables are known then, beside those that were known. Parts with no choice are shared.
 #[cycle(reordered)]
 pub fn reordered<'a>(
     alloc: Global,
@@ -66,7 +70,7 @@ pub fn reordered<'a>(
 ) -> Result<Term, AllocError>
     ensures { IfOk result (Reordered singles.now term.now) }
 {
-    if !has_choice(singles, term) {
+    if !has_choice(singles.facts(), term) {
         known.put_all(term)?;
         return copy(term);
     }
@@ -127,7 +131,8 @@ fn listed<'a>(alloc: Global, args: &'a [Term]) -> Result<Vec<&'a Term>, AllocErr
     Ok(list)
 }
 
-/// The arguments group by group.
+/// The arguments group by group: those that become one element as they are linked by variables, and the others of each
+/// group as they stand.
 fn grouped<'a>(
     alloc: Global,
     singles: &Singles<'_>,
@@ -150,7 +155,7 @@ fn grouped<'a>(
         };
         groups.put(group, arg)?;
     }
-    let list = groups.joined()?;
+    let list = groups.in_order(alloc, known)?;
     Ok(list)
 }
 

@@ -50,6 +50,40 @@ impl<'a> Variables<'a> {
         Ok(())
     }
 
+    /// The variables of a term, from the left, each once.
+    pub fn listed(alloc: Global, term: &'a Term) -> Result<Vec<&'a VarId>, AllocError> {
+        let mut met = Variables::none(alloc);
+        let mut list = Vec::new(alloc);
+        met.list_all(&mut list, term)?;
+        Ok(list)
+    }
+
+    /// Puts the variables of a term into the set, and those that are new there behind a list.
+    fn list_all(&mut self, list: &mut Vec<&'a VarId>, term: &'a Term) -> Result<(), AllocError> {
+        match term.view() {
+            View::Var(x) => {
+                let is_new = self.put(x)?;
+                if is_new {
+                    list.push(x)?;
+                }
+            }
+            View::Op(_, args) => {
+                let mut rest = args;
+                while let [arg, after @ ..] = rest {
+                    self.list_all(list, arg)?;
+                    rest = after;
+                }
+            }
+            _ => (),
+        }
+        Ok(())
+    }
+
+    /// Whether there are none.
+    pub fn is_empty(&self) -> bool {
+        self.set.is_empty()
+    }
+
     /// Whether a variable is in the set.
     pub fn has(&self, x: &VarId) -> bool {
         self.set.contains(&(x.name.as_slice(), x.sort))

@@ -1,6 +1,6 @@
 -- Where statements are listed.
 use Rattle.std.specs.Prelude.{ℕ, ◌≡◌, ◌⊎◌, ◌∷◌, ◌++◌, [], false, Option, None, take, IsTrue, List, ⊤}
-use Rattle.mw_logic.specs.Term.{Variable, RawTerm, numeral, quoted, variable, apply, RawTerms}
+use Rattle.mw_logic.specs.Term.{Variable, RawTerm, numeral, quoted, variable, apply, RawTerms, nil, cons}
 use Rattle.mw_logic.specs.Signature.{Signature, Member}
 use Rattle.mw_logic.specs.Kinds.{is_successor}
 use Rattle.mw_logic.specs.Module.{Module}
@@ -20,9 +20,30 @@ IsLeaf (quoted q) = ⊤
 IsLeaf (variable x) = ⊥
 IsLeaf (apply f ts) = ⊥
 
+-- the operator stays on top, whatever its arguments become
+abbrev pub OperatorStays : Signature → ℕ → Type 0
+OperatorStays sig f = (identity_of sig f ≡ None) × (is_successor sig f ≡ false)
+
+-- what is on top stays, whatever the variables become
+abbrev pub TopStays : Signature → RawTerm → Type 0
+TopStays sig (numeral n) = ⊤
+TopStays sig (quoted q) = ⊤
+TopStays sig (variable x) = ⊥
+TopStays sig (apply f ts) = OperatorStays sig f
+
+-- it does so on one of the terms
+abbrev pub OneStays : Signature → RawTerms → Type 0
+OneStays sig nil = ⊥
+OneStays sig (cons t ts) = TopStays sig t ⊎ OneStays sig ts
+
+-- and on two of them
+abbrev pub TwoStay : Signature → RawTerms → Type 0
+TwoStay sig nil = ⊥
+TwoStay sig (cons t ts) = (TopStays sig t × OneStays sig ts) ⊎ TwoStay sig ts
+
 -- statements with the canonical left side p belong in the section
 abbrev pub IsSectionOf : Signature → RawTerm → Section → Type 0
-IsSectionOf sig p (Operator f) = (args : RawTerms) × (p ≡ apply f args) × (identity_of sig f ≡ None) × (is_successor sig f ≡ false)
+IsSectionOf sig p (Operator f) = (args : RawTerms) × (p ≡ apply f args) × (OperatorStays sig f ⊎ TwoStay sig args)
 IsSectionOf sig p Any = ⊤
 IsSectionOf sig p Leaves = IsLeaf p
 

@@ -1,10 +1,9 @@
 // The index of a module's statements.
 ghost use Rattle.std.specs.Prelude.{◌≡◌, ◌↔◌, ◌≢◌, ◌++◌, ◌∷◌, ◌≤◌, ◌<◌, ◌+◌, ◌^◌, ℕ, [], false, true, None, Option, length, slice_get, IfOk, IfSome, IsTrue, MatchOption, OnOk};
-ghost use Rattle.mw_logic.specs.Kinds.{is_successor};
 ghost use Rattle.mw_logic.specs.Module.{Module};
-ghost use Rattle.mw_logic.specs.NormalForm.{identity_of};
+ghost use Rattle.mw_logic.specs.Terms.{terms_of};
 ghost use Rattle.mw_index.specs.Index.{Asks, asked, listed, own_asked, others_asked, IsNextOf, IsIndexOf, AreRulesOf};
-ghost use Rattle.mw_index.specs.Sections.{IsSectionOf, Puts, PutsRule, IsIndexUpTo};
+ghost use Rattle.mw_index.specs.Sections.{OperatorStays, TopStays, TwoStay, IsSectionOf, Puts, PutsRule, IsIndexUpTo};
 ghost use Rattle.mw_index.specs.declared.index.Section.TheVariants as Section;
 
 use crate::making::oriented;
@@ -70,7 +69,7 @@ impl Section {
 
 /// Whether an operator stays on top, whatever its arguments become.
 fn stays(facts: &Facts, operator: OpId) -> bool
-    ensures { IsTrue result → (identity_of facts.now operator ≡ None) × (is_successor facts.now operator ≡ false) }
+    ensures { IsTrue result → OperatorStays facts.now operator }
 {
     facts.shows();
     match facts.axioms(operator) {
@@ -81,6 +80,34 @@ fn stays(facts: &Facts, operator: OpId) -> bool
     }
 }
 
+/// Whether what is on top of a term stays, whatever its variables become.
+fn top_stays(facts: &Facts, term: &Term) -> bool
+    ensures { IsTrue result → TopStays facts.now term.now }
+{
+    match term.view() {
+        View::Nat(_) => true,
+        View::Qid(_) => true,
+        View::Var(_) => false,
+        View::Op(operator, _) => stays(facts, operator),
+    }
+}
+
+/// Whether it does so on two of these terms.
+fn two_stay(facts: &Facts, terms: &[Term]) -> bool
+    ensures { IsTrue result → TwoStay facts.now (terms_of terms.now) }
+{
+    let mut one = false;
+    for term in terms {
+        if top_stays(facts, term) {
+            if one {
+                return true;
+            }
+            one = true;
+        }
+    }
+    false
+}
+
 /// Where a statement with this canonical left side is listed.
 fn section_of(facts: &Facts, left: &Term) -> Section
     ensures { IsSectionOf facts.now left.now result }
@@ -89,8 +116,8 @@ fn section_of(facts: &Facts, left: &Term) -> Section
         View::Nat(_) => Section::Leaves,
         View::Qid(_) => Section::Leaves,
         View::Var(_) => Section::Any,
-        View::Op(operator, _) => {
-            if stays(facts, operator) {
+        View::Op(operator, args) => {
+            if stays(facts, operator) || two_stay(facts, args) {
                 Section::Operator(operator)
             } else {
                 Section::Any

@@ -4,10 +4,12 @@
 //!
 //! - [`Index::of`] lists the executable equations by the operator on top of their canonical left sides. Where that
 //!   operator has an identity or is the successor of numbers, and where the left side is a variable, an instance may
-//!   have another one on top, so the equation is asked for every term; one whose left side is a numeral or a quoted
-//!   identifier is asked for terms without an operator. Contracts see `asked`: what is asked for terms with an operator
-//!   on top, or with none. All of it are equations of the module (`IsOf`), and for each term that an equation applies
-//!   to, or applies to several arguments of, it is among what is asked (`IsIndexOf`).
+//!   have another one on top, so the equation is asked for every term. But an operator with an identity stays where two
+//!   of its arguments are numerals, quoted identifiers, or terms whose own operator stays whatever its arguments become
+//!   (`TwoStay`): none of them can become the identity, so two elements are left. An equation whose left side is a
+//!   numeral or a quoted identifier is asked for terms without an operator. Contracts see `asked`: what is asked for
+//!   terms with an operator on top, or with none. All of it are equations of the module (`IsOf`), and for each term that
+//!   an equation applies to, or applies to several arguments of, it is among what is asked (`IsIndexOf`).
 //! - `Index::rules` lists the executable rules, in the order of the module, each with its [`Section`], which tells for
 //!   which terms it is asked by the same rule: each rule is there, and asked for each term that it applies to, or
 //!   applies to several arguments of (`AreRulesOf`).

@@ -13,3 +13,8 @@ pub mod Candidates
 pub mod RowLists
 pub mod Numbers
 pub mod Passed
+pub mod FreeNumbers
+pub mod PickedLaw
+pub mod Choosing
+pub mod Traces
+pub mod NextLevels

@@ -67,6 +67,7 @@
 mod bindings;
 mod by_position;
 mod hand;
+mod levels;
 mod listing;
 mod parts;
 mod rows;

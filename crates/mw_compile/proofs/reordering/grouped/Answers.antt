@@ -1,6 +1,4 @@
-use Rattle.std.proofs.Common.{subst, sym}
-use Rattle.mw_logic.specs.Terms.{terms_of}
-use Rattle.mw_solving.specs.Reordered.{AreReordered}
+use Rattle.mw_solving.specs.Reordered.{then}
 use Rattle.mw_compile.proofs.Orders.{grouped_none, grouped_more, grouped_end}
 use Rattle.mw_compile.proofs.reordering.grouped.Goals as goal
 
@@ -14,5 +12,5 @@ loop-arg-preserved c =
 pub returns : goal.returns
 returns c =
     let sig = c.args.singles.now in
-    let ts = c.args.args.now in
-    subst (AreReordered sig c.args.operator (terms_of ts)) (sym c.in_ok-list.ensures) (grouped_end sig c.args.operator ts c.loop-arg.arg-index c.loop-arg.groups c.loop-arg-test.false c.loop-arg.invariant)
+    let f = c.args.operator in
+    then (grouped_end sig f c.args.args.now c.loop-arg.arg-index c.loop-arg.groups c.loop-arg-test.false c.loop-arg.invariant) (c.in_ok-list.ensures sig f c.requires.assoc c.requires.comm)

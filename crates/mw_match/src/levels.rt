@@ -1,0 +1,270 @@
+// What the arguments of a pattern pick of a multiset's elements, one behind another.
+ghost use Rattle.std.specs.Prelude.{◌≡◌, ◌<◌, ◌≤◌, ◌∷◌, ◌++◌, [], true, false, length, take, drop, option_map, IfOk, OnOk, OnErr, MatchOption, ⊤};
+ghost use Rattle.mw_logic.specs.Term.{RawTerm, RawTerms, cons};
+ghost use Rattle.mw_logic.specs.Terms.{args_of, terms_of, skip};
+ghost use Rattle.mw_logic.specs.Parts.{number_of_terms};
+ghost use Rattle.mw_matching.specs.Found.{found};
+ghost use Rattle.mw_matching.specs.Multisets.{term_at};
+ghost use Rattle.mw_search.specs.Lacking.{Skips};
+ghost use Rattle.mw_match.specs.Choices.{is_again as is_again_of, put as put_among};
+ghost use Rattle.mw_match.specs.Levels.{is_on, taken_by, choices_from, choices_at, ClashesAt, IsPassedBy, Shortens, trace, behind_found, still_to_come};
+
+use crate::bindings::copied;
+use mw_canon::Facts;
+use mw_compile::Compiled;
+use mw_least::Ctx;
+use mw_search::{Search, clashes};
+use mw_term::{Seq, Term, View, compare, copy, number_at};
+use std::alloc::{AllocError, Global};
+
+/// An argument of the pattern on an element, by its index: the search for its matches, and the values that it goes on
+/// from.
+#[derive(Drop)]
+pub struct Level<'c> {
+    pub at: usize,
+    pub given: Seq<Term>,
+    pub search: Search<'c>,
+}
+
+/// The arguments of the pattern that stand on elements, in their order, and the match of the last one that is at hand.
+#[derive(Drop)]
+pub struct Levels<'c> {
+    pub alloc: Global,
+    pub context: &'c Ctx,
+    pub compiled: &'c Compiled,
+    pub subject: Term,
+    pub stack: Vec<Level<'c>>,
+    pub found: Option<Seq<Term>>,
+}
+
+/// Whether a level stands on this element.
+fn is_taken(levels: &[Level<'_>], index: usize) -> bool
+    ensures { result ≡ is_on index levels.now }
+{
+    for i in 0..levels.len() {
+        if levels[i].at == index {
+            return true;
+        }
+    }
+    false
+}
+
+/// Whether an element is the one before again.
+fn is_again(elements: &[Term], before: Option<usize>, index: usize) -> bool
+    requires there { index < length elements.now }
+    requires before { MatchOption before ⊤ (λ i. i < length elements.now) }
+    ensures { let args = terms_of elements.now in
+        result ≡ is_again_of (option_map (λ b. term_at b args) before) (term_at index args) }
+{
+    match before {
+        Some(i) => compare(&elements[i], &elements[index]).is_eq(),
+        None => false,
+    }
+}
+
+/// Whether a pattern may have a match on an element that isn't the one before again.
+fn may_stand(
+    facts: &Facts,
+    elements: &[Term],
+    pattern: &Term,
+    values: &[Term],
+    index: usize,
+    before: Option<usize>,
+) -> bool
+    requires there { index < length elements.now }
+    requires before { MatchOption before ⊤ (λ i. i < length elements.now) }
+    ensures may { let args = terms_of elements.now in
+        result ≡ true → is_again_of (option_map (λ b. term_at b args) before) (term_at index args) ≡ false }
+    ensures not { let args = terms_of elements.now in
+        result ≡ false → IsPassedBy facts.now args values.now pattern.now index before }
+{
+    if clashes(facts, pattern, &elements[index], values) {
+        return false;
+    }
+    !is_again(elements, before, index)
+}
+
+/// The first element from an index on that no level below stands on, that differs from the one before, and that may
+/// have a match.
+fn next_choice(
+    facts: &Facts,
+    elements: &[Term],
+    below: &[Level<'_>],
+    pattern: &Term,
+    values: &[Term],
+    from: usize,
+    before: Option<usize>,
+) -> Option<usize>
+    requires { MatchOption before ⊤ (λ i. i < length elements.now) }
+    ensures within { MatchOption result ⊤ (λ i. i < length elements.now) }
+    ensures next { let args = terms_of elements.now in
+        let ks = taken_by [] below.now in
+        Skips (ClashesAt facts.now values.now pattern.now) (choices_from args ks before from) (choices_at args ks result) }
+{
+    let mut last = before;
+    for i in from..elements.len() {
+        if !is_taken(below, i) {
+            if may_stand(facts, elements, pattern, values, i, last) {
+                return Some(i);
+            }
+            last = Some(i);
+        }
+    }
+    None
+}
+
+/// Where a number comes among others that rise.
+fn place_among(numbers: &[u32], number: u32) -> usize
+    ensures within { result ≤ length numbers.now }
+    ensures place { put_among number numbers.now ≡ take result numbers.now ++ number ∷ drop result numbers.now }
+{
+    for i in 0..numbers.len() {
+        if number < numbers[i] {
+            return i;
+        }
+    }
+    numbers.len()
+}
+
+/// A number put among others that rise.
+fn put(numbers: &mut Vec<u32>, number: u32) -> Result<(), AllocError>
+    ensures { OnOk result (numbers.new.items ≡ put_among number numbers.old.items) }
+{
+    let place = place_among(numbers.as_slice(), number);
+    numbers.insert(place, number)?;
+    Ok(())
+}
+
+/// The numbers of the elements that levels stand on.
+fn numbers_taken(alloc: Global, levels: &[Level<'_>]) -> Result<Seq<u32>, AllocError>
+    ensures { IfOk result (λ ks. ks ≡ taken_by [] levels.now) }
+{
+    let mut made = Vec::new(alloc);
+    for i in 0..levels.len() {
+        let number = number_at(levels[i].at)?;
+        put(&mut made, number)?;
+    }
+    Ok(Seq::of(made))
+}
+
+impl<'c> Levels<'c> {
+    fn elements(&self) -> &[Term]
+        ensures { terms_of result.now ≡ args_of self.now.subject }
+    {
+        match self.subject.view() {
+            View::Op(_, elements) => elements,
+            _ => &[],
+        }
+    }
+
+    fn patterns(&self) -> &'c [Term]
+        ensures { terms_of result.now ≡ args_of self.now.compiled.now.pattern }
+    {
+        match self.compiled.pattern.view() {
+            View::Op(_, patterns) => patterns,
+            _ => &[],
+        }
+    }
+
+    /// The search of a pattern on an element.
+    fn search_on(
+        &self,
+        pattern: &Term,
+        element: &Term,
+        values: &[Term],
+    ) -> Result<Search<'c>, AllocError>
+        ensures { let sig = self.now.context.now.signature in
+            let positions = self.now.compiled.now.positions in
+            IfOk result (λ s. s ≡ record {
+              signature = sig;
+              sorts = positions.sorts;
+              given = length values.now;
+              coming = found sig positions.single.items pattern.now element.now values.now;
+            }) }
+    {
+        let given = copied(self.alloc, values)?;
+        let search = Search::new(
+            self.alloc,
+            self.context,
+            &self.compiled.positions,
+            copy(pattern)?,
+            copy(element)?,
+            given,
+        )?;
+        Ok(search)
+    }
+
+    /// A level on an element.
+    fn level_on(
+        &self,
+        pattern: &Term,
+        at: usize,
+        element: &Term,
+        values: &[Term],
+    ) -> Result<Level<'c>, AllocError>
+        ensures at { IfOk result (λ l. l.at ≡ at) }
+        ensures given { IfOk result (λ l. l.given ≡ values.now) }
+        ensures search { let sig = self.now.context.now.signature in
+            let positions = self.now.compiled.now.positions in
+            IfOk result (λ l. l.search ≡ record {
+              signature = sig;
+              sorts = positions.sorts;
+              given = length values.now;
+              coming = found sig positions.single.items pattern.now element.now values.now;
+            }) }
+    {
+        let search = self.search_on(pattern, element, values)?;
+        let given = copied(self.alloc, values)?;
+        Ok(Level {
+            at,
+            given: Seq::of(given),
+            search,
+        })
+    }
+
+    /// The next argument of the pattern on the first element that it may match, going on from values.
+    fn next_level(&self, values: &[Term]) -> Result<Option<Level<'c>>, AllocError>
+        ensures { let sig = self.now.context.now.signature in
+            let single = self.now.compiled.now.positions.single.items in
+            let args = args_of self.now.subject in
+            let ks = taken_by [] self.now.stack.items in
+            IfOk result (λ o. (q : RawTerm) (rest : RawTerms)
+            → skip (length self.now.stack.items) (args_of self.now.compiled.now.pattern) ≡ cons q rest
+            → Shortens (trace sig single args (cons q rest) ks values.now)
+            (behind_found sig single args q rest ks o)) }
+    {
+        let depth = self.stack.len();
+        let patterns = self.patterns();
+        if depth >= patterns.len() {
+            return Ok(None);
+        }
+        let pattern = &patterns[depth];
+        let elements = self.elements();
+        let facts = self.context.facts();
+        let below = self.stack.as_slice();
+        let Some(at) = next_choice(facts, elements, below, pattern, values, 0, None) else {
+            return Ok(None);
+        };
+        let level = self.level_on(pattern, at, &elements[at], values)?;
+        Ok(Some(level))
+    }
+
+    /// Goes on from the match at hand with the next argument of the pattern; the match is dropped then. For want of
+    /// memory the same is still to come.
+    fn descend(&mut self) -> Result<(), AllocError>
+        requires { length self.old.stack.items < number_of_terms (args_of self.old.compiled.now.pattern) }
+        ensures ok { OnOk result (MatchOption self.old.found ⊤
+            (λ _. Shortens (still_to_come self.old) (still_to_come self.new))) }
+        ensures err { OnErr result (still_to_come self.new ≡ still_to_come self.old) }
+    {
+        let Some(values) = &self.found else {
+            return Ok(());
+        };
+        let next = self.next_level(values.as_slice())?;
+        if let Some(level) = next {
+            self.stack.push(level)?;
+        }
+        self.found = None;
+        Ok(())
+    }
+}
