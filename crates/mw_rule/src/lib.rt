@@ -30,8 +30,9 @@
 //! The whole is kept in one machine of mw_frames with one trail. A rule is applied where a normal whole was left: the
 //! machine goes into the arguments on the way (`enter`), whose others are known to be normal, and goes on from what the
 //! rule leaves. So a step costs what is found and what the rule leaves, and a move for each argument on the way and of
-//! what was gone into, and the whole is never reduced anew. `apply` goes the same way, and makes what the rule leaves
-//! beside it too, which it compares.
+//! what was gone into, and the whole is never reduced anew. Where a rule applies to the whole, or to several of its
+//! arguments, the whole is given away (`fire_whole`): what isn't taken is moved, without a count. `apply` goes the same
+//! way, and makes what the rule leaves beside it too, which it compares.
 //!
 //! The parts of a term are listed breadth first (`spots_of`): of arguments in which no operator is that a rule has on
 //! top, none. Rules are asked in the order of the module, each at each part in turn (`Redexes`), and its solutions there
