@@ -70,6 +70,7 @@ mod hand;
 mod levels;
 mod listing;
 mod parts;
+mod picks;
 mod rows;
 mod solutions;
 mod sorts;
