@@ -2,7 +2,7 @@
 ghost use Rattle.std.specs.Prelude.{◌≡◌, ◌∷◌, ◌++◌, List, [], true, false, cond, length, Some, option_map, IfOk, OnErr, MatchOption};
 ghost use Rattle.mw_logic.specs.NormalForm.{normal_form};
 ghost use Rattle.mw_logic.specs.Signature.{IsRawTerm};
-ghost use Rattle.mw_logic.specs.Substitution.{IsSubstitution};
+ghost use Rattle.mw_logic.specs.Substitution.{IsSubstitution, Substitution};
 ghost use Rattle.mw_logic.specs.Term.{RawTerm};
 ghost use Rattle.mw_position.specs.Variables.{bound_variables, bound_values, sorts_of};
 ghost use Rattle.mw_canon.specs.Canonical.{meant};
@@ -11,7 +11,6 @@ ghost use Rattle.mw_compile.specs.Compiled.{IsCompiled};
 ghost use Rattle.mw_match.specs.Solutions.{AreNamed, IsAllSolutions, FitsSorts, PassesTo};
 ghost use Rattle.mw_match.specs.Hands.{IsKept, IsHeld, IsNoneByNumber, coming_with, first_entries, hand_entries, picked_entries};
 ghost use Rattle.mw_match.specs.declared.parts.Rest.{Rest as RestOf};
-ghost use Rattle.mw_term.specs.declared.subst.Binding.{Binding as BindingOf};
 
 use crate::bindings::{copied, values_of};
 use crate::hand::Hand;
@@ -135,13 +134,13 @@ fn in_parts<'c>(
 ) -> Result<Solutions<'c>, AllocError>
     requires { compiled.now.positions.sorts ≡ sorts_of compiled.now.variables }
     ensures all { let sig = context.now.signature in
-        (p : RawTerm) (s0 : List BindingOf) → bound_values s0 ≡ given.now
+        (p : RawTerm) (s0 : Substitution) → bound_values s0 ≡ given.now
         → IsRawTerm sig p → IsCompiled sig (normal_form sig p) (bound_variables s0) compiled.now
         → IsValue sig subject.now
         → IsSubstitution sig (meant sig s0) → AreValues sig given.now
         → IfOk result (IsAllSolutions sig true p subject.now (meant sig s0)) }
     ensures named { let sig = context.now.signature in
-        (p : RawTerm) (s0 : List BindingOf) → bound_values s0 ≡ given.now
+        (p : RawTerm) (s0 : Substitution) → bound_values s0 ≡ given.now
         → IsRawTerm sig p → IsCompiled sig (normal_form sig p) (bound_variables s0) compiled.now
         → IsValue sig subject.now
         → IsSubstitution sig (meant sig s0) → AreValues sig given.now
