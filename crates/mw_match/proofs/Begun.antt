@@ -24,51 +24,12 @@ use Rattle.mw_match.specs.declared.hand.Hand.{Hand}
 use Rattle.mw_match.specs.declared.levels.Levels.{Levels}
 use Rattle.mw_match.proofs.Traces.{trace_picks}
 
-module _ (p : Parts) (vs : Values) (sorts : p.compiled.now.positions.sorts ≡ sorts_of p.compiled.now.variables) (given : (r : Rest) → p.rest ≡ Some r → length vs ≡ length r.given) where
+module _ (p : Parts) (vs : Values) (sorts : p.compiled.now.positions.sorts ≡ sorts_of p.compiled.now.variables) where
   abbrev sig : Signature
   sig = p.context.now.signature
 
   abbrev single : List (List ℕ)
   single = p.compiled.now.positions.single.items
-
-  -- a search that has no match at hand yet
-  abbrev pub fresh : Place → Matches → Hand
-  fresh q m = record { place = q; search = m; found = None }
-
-  -- the search for the whole
-  abbrev pub of_whole : RawTerm → RawTerm → Values → Matches
-  of_whole q t us = record { signature = sig; sorts = p.compiled.now.positions.sorts; given = length us; coming = found sig single q t us }
-
-  pub whole_begun : (q t : RawTerm) (us : Values) (m : Matches) → q ≡ p.compiled.now.pattern → t ≡ p.subject → us ≡ vs → m ≡ of_whole q t us → m ≡ of_whole p.compiled.now.pattern p.subject vs
-  whole_begun q t us m a b c is = is ∙ ap (λ q. of_whole q t us) a ∙ ap (λ t. of_whole p.compiled.now.pattern t us) b ∙ ap (of_whole p.compiled.now.pattern p.subject) c
-
-  pub whole_kept : (m : Matches) → m ≡ of_whole p.compiled.now.pattern p.subject vs → IsKept p (fresh Whole m)
-  whole_kept m is = record {
-    signature = ap (λ (m : Matches). m.signature) is;
-    positions = ap (λ (m : Matches). m.sorts) is;
-    sorts = ap (λ (m : Matches). m.sorts) is ∙ sorts;
-    given = λ r e. ap (λ (m : Matches). m.given) is ∙ given r e;
-    sorted = tt;
-  }
-
-  pub whole_first : (m : Matches) → m ≡ of_whole p.compiled.now.pattern p.subject vs → hand_entries p (Some (fresh Whole m)) ≡ first_entries p vs
-  whole_first m is = ap (λ (m : Matches). entries_of p ((Whole, m.coming) ∷ searches_behind p Whole)) is
-
-  -- the one behind it, where the whole has no match
-  pub behind_kept : (q : Place) (m : Matches) → HasBegun p q m → IsKept p (fresh q m) × (m.given ≡ length vs)
-  behind_kept q m (r, some, is) = (record {
-    signature = ap (λ (m : Matches). m.signature) is;
-    positions = ap (λ (m : Matches). m.sorts) is;
-    sorts = ap (λ (m : Matches). m.sorts) is ∙ sorts;
-    given = λ r e. size ∙ given r e;
-    sorted = tt;
-  }, size)
-    where
-      size : m.given ≡ length vs
-      size = ap (λ (m : Matches). m.given) is ∙ sym (given r some)
-
-  pub first_none : IsNoneByNumber p vs → HasOtherNumber sig single p.compiled.now.pattern p.subject → first_entries p vs ≡ entries_of p (searches_behind p Whole)
-  first_none none other = ap (λ uss. flat_map (entries_at p Whole) uss ++ entries_of p (searches_behind p Whole)) (none other)
 
   -- nothing is picked yet
   module _ (s : Levels) (h : HasBegunPicking p vs s) where

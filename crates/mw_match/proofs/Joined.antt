@@ -1,5 +1,5 @@
 -- Proper parts that are picked are all proper parts that a pattern matches.
-use Rattle.std.specs.Prelude.{◌≡◌, ◌≤◌, ◌<◌, ◌+◌, Bool, true, false, ℕ, List, [], ◌++◌, length, drop, get_or, map, cond, None, IsTrue, refl}
+use Rattle.std.specs.Prelude.{◌≡◌, ◌≤◌, ◌<◌, ◌+◌, ◌-◌, Bool, true, false, not, ◌&&◌, ℕ, List, [], ◌++◌, length, drop, get_or, map, cond, None, IsTrue, refl}
 use Rattle.std.proofs.Common.{sym, ap, subst, ◌∙◌, arith}
 use Rattle.std.proofs.lemmas.Bool.{both_ways}
 use Rattle.std.proofs.lemmas.List.{append-nil}
@@ -9,13 +9,13 @@ use Rattle.mw_logic.specs.Signature.{Signature, Member}
 use Rattle.mw_logic.specs.Accepted.{IsAccepted}
 use Rattle.mw_logic.specs.CanonicalPart.{AreSeveral}
 use Rattle.mw_logic.specs.Parts.{is_assoc, number_of_terms}
-use Rattle.mw_logic.specs.NormalForm.{is_comm, identity_of}
+use Rattle.mw_logic.specs.NormalForm.{is_comm, identity_of, elements}
 use Rattle.mw_logic.proofs.Canonical.{IsCanonical, nat_eq-refl}
 use Rattle.mw_position.specs.Positions.{counted, IsNumbered}
 use Rattle.mw_matching.specs.Matches.{Fits, HasArities}
 use Rattle.mw_matching.specs.Patterns.{is_rigid, theory}
-use Rattle.mw_matching.specs.Found.{Values, value_of, fits, is_single}
-use Rattle.mw_solving.specs.Inside.{Entry, joins, left_entries, proper_entries, whole_entries, entries}
+use Rattle.mw_matching.specs.Found.{Values, value_of, are_none, fits, is_single}
+use Rattle.mw_solving.specs.Inside.{Entry, joins, left_entries, entries_from, proper_entries, whole_entries, entries}
 use Rattle.mw_solving.proofs.Parts.{several_from, elements_several, arguments_are}
 use Rattle.mw_search.specs.Goals.{top_of}
 use Rattle.mw_search.proofs.BagLists.{number_terms, terms_at, terms_past}
@@ -32,7 +32,11 @@ use Rattle.mw_match.proofs.Inside.{Sized, in_left, both_lists, own_rest, own_ent
 joined : (sig : Signature) (single : List (List ℕ)) (f : ℕ) (qs : RawTerms) → AreSeveral qs → joins sig single f (apply f qs) ≡ true
 joined sig single f nil s = absurd s
 joined sig single f (cons q nil) s = absurd s
-joined sig single f (cons q (cons r qs)) s = rw (nat_eq-refl f, elements_several (identity_of sig f) f (cons q (cons r qs)) tt) refl
+joined sig single f (cons q (cons r qs)) s =
+    let p : RawTerm = apply f (cons q (cons r qs)) in
+    let loose : is_rigid sig (is_single single) f p ≡ false = rw (nat_eq-refl f) refl in
+    let some : not (are_none (elements (identity_of sig f) f p)) ≡ true = ap (λ ts. not (are_none ts)) (elements_several (identity_of sig f) f (cons q (cons r qs)) tt) in
+    ap (λ b. not b && not (are_none (elements (identity_of sig f) f p))) loose ∙ some
 
 picked_under : (sig : Signature) → IsAccepted sig → (single : List (List ℕ)) (m f : ℕ) (args qs : RawTerms) (vs : Values) → is_assoc sig f ≡ true → is_comm sig f ≡ true → 2 ≤ number_of_terms qs → number_of_terms qs < number_of_terms args
     → ArePicked sig single f qs → IsCanonical sig (apply f args) → length single ≤ m → HasArities sig (apply f qs) → IsNumbered (length vs) (apply f qs) → counted (length vs) (apply f qs) ≡ m
@@ -44,7 +48,10 @@ picked_under sig ok single m f args qs vs h ac two fewer a k bound arities numbe
     let law : left_entries sig single (apply f qs) m vs f args 0 ≡ map part_entry (picked sig single args qs [] vs) =
     picks_are_lefts sig ok single f h ac args (arguments_are sig ok f h args several k) m bound (apply f qs) qs vs (elements_several (identity_of sig f) f qs those) a
     (record { fit = fit; numbered = numbered; arities = arities.1; all = all }) two fewer several in
-    sym (rw (h, join, ac) (append-nil (left_entries sig single (apply f qs) m vs f args 0)) ∙ law)
+    let lefts : List Entry = left_entries sig single (apply f qs) m vs f args 0 in
+    let more : List Entry = entries_from sig single (apply f qs) m vs f args 1 (number_of_terms args - 2) in
+    sym (ap (λ b. cond (b && joins sig single f (apply f qs)) (lefts ++ cond (is_comm sig f) [] more) []) h ∙ ap (λ b. cond b (lefts ++ cond (is_comm sig f) [] more) []) join
+    ∙ ap (λ b. lefts ++ cond b [] more) ac ∙ append-nil lefts ∙ law)
 
 pub picked_proper : (sig : Signature) → IsAccepted sig → (c : Compiled) (t : RawTerm) (vs : Values) → MayPick sig c t → IsCanonical sig t → length c.positions.single.items ≤ length c.variables
     → HasArities sig c.pattern → IsNumbered (length vs) c.pattern → counted (length vs) c.pattern ≡ length c.variables
@@ -88,7 +95,7 @@ taken_from p vs t true pick rest = (rest, pick refl)
 -- a pattern that may pick, as it is told by its parts
 pub pick_there : (sig : Signature) (c : Compiled) (t : RawTerm) (f g : ℕ) (ps ts : List RawTerm) (comm : Bool) → c.pattern ≡ apply g (terms_of ps) → t ≡ apply f (terms_of ts) → is_assoc sig f ≡ true → is_comm sig f ≡ comm → comm ≡ true → g ≡ f
     → 2 ≤ length ps → length ps < length ts → ArePicked sig c.positions.single.items f (terms_of ps) → MayPick sig c t
-pick_there sig c t f g ps ts comm pattern term assoc comm_is yes same two fewer picked =
+pick_there sig c t f g ps ts comm pattern term assoc comm_is commutes same two fewer each =
     let top : top_of t ≡ f = ap top_of term in
     let args : args_of t ≡ terms_of ts = ap args_of term in
     let qs : args_of c.pattern ≡ terms_of ps = ap args_of pattern in
@@ -100,10 +107,10 @@ pick_there sig c t f g ps ts comm pattern term assoc comm_is yes same two fewer 
       pattern = pattern ∙ ap (λ g. apply g (terms_of ps)) (same ∙ sym top) ∙ ap (apply (top_of t)) (sym qs);
       term = term ∙ ap (λ f. apply f (terms_of ts)) (sym top) ∙ ap (apply (top_of t)) (sym args);
       assoc = ap (is_assoc sig) top ∙ assoc;
-      comm = ap (is_comm sig) top ∙ comm_is ∙ yes;
+      comm = ap (is_comm sig) top ∙ comm_is ∙ commutes;
       two = omega (arith, two, m, number_qs);
       fewer = omega (arith, fewer, m, n, number_qs, number_args);
-      picked = subst (λ f. ArePicked sig c.positions.single.items f (args_of c.pattern)) (sym top) (subst (ArePicked sig c.positions.single.items f) (sym qs) picked);
+      picked = subst (λ f. ArePicked sig c.positions.single.items f (args_of c.pattern)) (sym top) (subst (ArePicked sig c.positions.single.items f) (sym qs) each);
     }
 
 -- one argument more is no variable and becomes one element

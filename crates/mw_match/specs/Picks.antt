@@ -23,10 +23,10 @@ pub record MayPick (sig : Signature) (c : Compiled) (t : RawTerm) : Type 0 where
   pub picked : ArePicked sig c.positions.single.items (top_of t) (args_of c.pattern)
 
 -- nothing is picked yet
-pub record HasBegunPicking (p : Parts) (given : Values) (s : Levels) : Type 0 where
+pub record HasBegunPicking (p : Parts) (vs : Values) (s : Levels) : Type 0 where
   pub context : s.context ≡ p.context
   pub compiled : s.compiled ≡ p.compiled
   pub subject : s.subject ≡ p.subject
-  pub given : s.given ≡ length given
+  pub given : s.given ≡ length vs
   pub stack : s.stack.items ≡ []
-  pub found : s.found ≡ Some given
+  pub found : s.found ≡ Some vs

@@ -34,10 +34,11 @@ fn are_elements(
     ensures { IsTrue result → ArePicked facts.now positions.now.single.items operator (terms_of patterns.now) }
 {
     for i in 0..patterns.len() {
-        if is_variable(&patterns[i]) {
+        let pattern = &patterns[i];
+        if is_variable(pattern) {
             return false;
         }
-        if !positions.is_rigid(facts, operator, &patterns[i]) {
+        if !positions.is_rigid(facts, operator, pattern) {
             return false;
         }
     }
