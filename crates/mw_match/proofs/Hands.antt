@@ -108,7 +108,7 @@ module _ (p : Parts) (old h : Hand) (r : IsReached p old h) (o : Option Solution
   handed_on none new is = subst (IsReached p old) (sym is) (reached_handed (is_none o none))
 
 -- the next search has begun
-pub same_coming : (s t : Signature) (Ss Ts : List ℕ) (m n : ℕ) (rs : List Solution) → s ≡ t → Ss ≡ Ts → m ≡ n
+same_coming : (s t : Signature) (Ss Ts : List ℕ) (m n : ℕ) (rs : List Solution) → s ≡ t → Ss ≡ Ts → m ≡ n
     → ◌≡◌ {A = Coming} (record { signature = s; sorts = Ss; given = m; candidates = rs }) (record { signature = t; sorts = Ts; given = n; candidates = rs })
 same_coming s t Ss Ts m n rs e f g =
     ap (λ s. record { signature = s; sorts = Ss; given = m; candidates = rs }) e ∙ ap (λ Ss. record { signature = t; sorts = Ss; given = m; candidates = rs }) f ∙ ap (λ m. record { signature = t; sorts = Ts; given = m; candidates = rs }) g

@@ -1,5 +1,5 @@
 // The solutions of a pattern.
-ghost use Rattle.std.specs.Prelude.{◌≡◌, ◌∷◌, ◌++◌, List, [], true, false, cond, length, Some, option_map, IfOk, OnErr, MatchOption};
+ghost use Rattle.std.specs.Prelude.{◌≡◌, ◌∷◌, ◌++◌, ℕ, List, [], true, false, cond, length, Some, option_map, IfOk, OnErr, MatchOption, ⊤};
 ghost use Rattle.mw_logic.specs.NormalForm.{normal_form};
 ghost use Rattle.mw_logic.specs.Signature.{IsRawTerm};
 ghost use Rattle.mw_logic.specs.Substitution.{IsSubstitution, Substitution};
@@ -9,7 +9,9 @@ ghost use Rattle.mw_canon.specs.Canonical.{meant};
 ghost use Rattle.mw_solving.specs.Values.{IsValue, AreValues};
 ghost use Rattle.mw_compile.specs.Compiled.{IsCompiled};
 ghost use Rattle.mw_match.specs.Solutions.{AreNamed, IsAllSolutions, FitsSorts, PassesTo};
-ghost use Rattle.mw_match.specs.Hands.{IsKept, IsHeld, IsNoneByNumber, coming_with, first_entries, hand_entries, picked_entries};
+ghost use Rattle.mw_match.specs.Hands.{IsKept, IsHeld, IsNext, IsNoneByNumber, ArePicking, coming_with, first_entries, hand_entries, pick_entries, picked_entries};
+ghost use Rattle.mw_match.specs.Levels.{AreKept};
+ghost use Rattle.mw_match.specs.declared.parts.Parts.{Parts as PartsOf};
 ghost use Rattle.mw_match.specs.declared.parts.Rest.{Rest as RestOf};
 
 use crate::bindings::{copied, values_of};
@@ -122,6 +124,43 @@ fn begin<'c>(parts: Parts<'c>, given: &[Term], by_picks: bool) -> Result<Solutio
         hand,
         picks,
     })
+}
+
+/// The next solution of a search that may have ended.
+fn next_at_hand<'c>(
+    parts: &Parts<'c>,
+    hand: &mut Option<Hand<'c>>,
+) -> Result<Option<Solution>, AllocError>
+    requires { MatchOption hand.old ⊤ (IsKept parts.now) }
+    ensures ok { (n : ℕ) → IsHeld parts.now n hand.old
+        → IfOk result (IsNext (coming_with parts.now n (hand_entries parts.now hand.old))
+            (coming_with parts.now n (hand_entries parts.now hand.new))) }
+    ensures err { (n : ℕ) → IsHeld parts.now n hand.old
+        → OnErr result (PassesTo (coming_with parts.now n (hand_entries parts.now hand.old))
+            (coming_with parts.now n (hand_entries parts.now hand.new)).candidates) }
+    ensures held { (n : ℕ) → IsHeld parts.now n hand.old → IsHeld parts.now n hand.new }
+{
+    match hand {
+        Some(hand) => hand.next(parts),
+        None => Ok(None),
+    }
+}
+
+/// The next solution of those that are picked, where there are picks.
+fn next_picked(picks: &mut Option<Levels<'_>>) -> Result<Option<Solution>, AllocError>
+    requires { MatchOption picks.old ⊤ AreKept }
+    ensures ok { (p : PartsOf) (n : ℕ) → MatchOption picks.old ⊤ (ArePicking p n)
+        → IfOk result (IsNext (coming_with p n (pick_entries picks.old)) (coming_with p n (pick_entries picks.new))) }
+    ensures err { (p : PartsOf) (n : ℕ) → MatchOption picks.old ⊤ (ArePicking p n)
+        → OnErr result (PassesTo (coming_with p n (pick_entries picks.old))
+            (coming_with p n (pick_entries picks.new)).candidates) }
+    ensures picking { (p : PartsOf) (n : ℕ) → MatchOption picks.old ⊤ (ArePicking p n)
+        → MatchOption picks.new ⊤ (ArePicking p n) }
+{
+    match picks {
+        Some(levels) => levels.next(),
+        None => Ok(None),
+    }
 }
 
 /// The solutions for a subject and for its proper parts on top.
@@ -245,15 +284,10 @@ impl<'c> Solutions<'c> {
         ensures err { OnErr result (PassesTo self.old self.new.candidates) }
         ensures same { self.new ≡ record self.old { candidates = self.new.candidates } }
     {
-        if let Some(hand) = &mut self.hand {
-            let found = hand.next(&self.parts)?;
-            if found.is_some() {
-                return Ok(found);
-            }
+        let found = next_at_hand(&self.parts, &mut self.hand)?;
+        if found.is_some() {
+            return Ok(found);
         }
-        match &mut self.picks {
-            Some(levels) => levels.next(),
-            None => Ok(None),
-        }
+        next_picked(&mut self.picks)
     }
 }
