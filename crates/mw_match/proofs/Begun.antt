@@ -1,24 +1,17 @@
 -- How solutions begin: with the search for the whole or the one behind it, and with what is picked.
-use Rattle.std.specs.Prelude.{◌≡◌, ◌≤◌, Bool, true, false, ℕ, List, [], ◌∷◌, ◌++◌, length, map, flat_map, cond, Option, None, Some, MatchOption, slice_get, ⊤, refl}
+use Rattle.std.specs.Prelude.{◌≡◌, Bool, true, false, ℕ, List, [], ◌++◌, length, map, cond, Option, None, Some, MatchOption, ⊤}
 use Rattle.std.proofs.Common.{sym, ap, subst, ◌∙◌, arith}
 use Rattle.std.proofs.lemmas.List.{append-nil}
 use Rattle.std.proofs.lemmas.Option.{slice_get_within, none-some}
-use Rattle.mw_logic.specs.Term.{RawTerm}
 use Rattle.mw_logic.specs.Terms.{args_of}
 use Rattle.mw_logic.specs.Signature.{Signature}
 use Rattle.mw_position.specs.Variables.{sorts_of}
-use Rattle.mw_matching.specs.Found.{Values, found}
-use Rattle.mw_solving.specs.Inside.{Entry}
+use Rattle.mw_matching.specs.Found.{Values}
 use Rattle.mw_search.specs.Lacking.{Each, HaveTheirSorts}
-use Rattle.mw_search.specs.Searches.{Matches}
-use Rattle.mw_match.specs.Choices.{picked, part_entry}
-use Rattle.mw_match.specs.Levels.{Trace, IsOn, GoOnFrom, come, picks_in, still_to_come, trace}
-use Rattle.mw_match.specs.Parts.{HasOtherNumber, entries_at, entries_of, searches_behind}
-use Rattle.mw_match.specs.Hands.{IsKept, IsHeld, IsNoneByNumber, HasBegun, ArePicking, first_entries, picked_entries, hand_entries, pick_entries, entries_left}
+use Rattle.mw_match.specs.Choices.{part_entry}
+use Rattle.mw_match.specs.Levels.{GoOnFrom, come, picks_in, still_to_come, trace}
+use Rattle.mw_match.specs.Hands.{ArePicking, first_entries, picked_entries, hand_entries, pick_entries, entries_left}
 use Rattle.mw_match.specs.Picks.{HasBegunPicking}
-use Rattle.mw_match.specs.declared.parts.Place.{Place}
-use Rattle.mw_match.specs.declared.parts.Place.TheVariants.{Whole}
-use Rattle.mw_match.specs.declared.parts.Rest.{Rest}
 use Rattle.mw_match.specs.declared.parts.Parts.{Parts}
 use Rattle.mw_match.specs.declared.hand.Hand.{Hand}
 use Rattle.mw_match.specs.declared.levels.Levels.{Levels}

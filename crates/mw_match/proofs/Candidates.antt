@@ -1,5 +1,5 @@
 -- Candidates by position, as solutions.
-use Rattle.std.specs.Prelude.{◌≡◌, ◌≤◌, Bool, ℕ, List, [], ◌++◌, true, length, map, Option, None, Some, Result, Ok, Err, OnErr, cond, slice_get, refl}
+use Rattle.std.specs.Prelude.{◌≡◌, ◌≤◌, Bool, ℕ, List, [], ◌++◌, true, length, map, Option, Some, Result, Ok, Err, OnErr, cond, slice_get, refl}
 use Rattle.std.specs.List.{zip}
 use Rattle.std.proofs.Common.{sym, ap, subst, ◌∙◌}
 use Rattle.mw_logic.specs.Term.{Variable, RawTerm}

@@ -1,13 +1,12 @@
 -- How solutions go on: with the search at hand, and then with what is picked.
-use Rattle.std.specs.Prelude.{◌≡◌, true, false, ℕ, List, [], ◌∷◌, ◌++◌, map, Option, None, Some, is_some, Result, Ok, Err, IfOk, OnErr, MatchOption, ⊤, refl}
+use Rattle.std.specs.Prelude.{◌≡◌, true, false, ℕ, List, [], ◌∷◌, ◌++◌, map, Option, None, Some, is_some, Result, Ok, Err, IfOk, OnErr, refl}
 use Rattle.std.proofs.Common.{sym, ap, subst, ◌∙◌, append_assoc}
 use Rattle.std.proofs.lemmas.Bool.{both_ways}
 use Rattle.std.proofs.lemmas.List.{map-append}
 use Rattle.mw_solving.specs.Inside.{Entry}
 use Rattle.mw_search.specs.Lacking.{Skips}
-use Rattle.mw_match.specs.Levels.{AreKept, coming_in}
 use Rattle.mw_match.specs.Solutions.{Coming, FitsSorts, Lacks, PassesTo, candidate}
-use Rattle.mw_match.specs.Hands.{IsKept, IsHeld, IsNext, ArePicking, coming_of, coming_with, hand_entries, pick_entries, entries_left}
+use Rattle.mw_match.specs.Hands.{IsNext, coming_with, hand_entries, pick_entries, entries_left}
 use Rattle.mw_match.specs.declared.parts.Parts.{Parts}
 use Rattle.mw_match.specs.declared.hand.Hand.{Hand}
 use Rattle.mw_match.specs.declared.levels.Levels.{Levels}

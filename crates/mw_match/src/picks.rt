@@ -2,7 +2,6 @@
 ghost use Rattle.std.specs.Prelude.{◌≡◌, false, cond, None, IfOk, IsTrue, MatchOption};
 ghost use Rattle.mw_logic.specs.Terms.{terms_of};
 ghost use Rattle.mw_matching.specs.Found.{Values, value_of};
-ghost use Rattle.mw_position.specs.Variables.{sorts_of};
 ghost use Rattle.mw_match.specs.Choices.{ArePicked};
 ghost use Rattle.mw_match.specs.Picks.{MayPick, HasBegunPicking};
 
@@ -25,12 +24,7 @@ fn is_variable(pattern: &Term) -> bool
 }
 
 /// Whether each of the patterns is no variable and becomes one element.
-fn are_elements(
-    facts: &Facts,
-    positions: &Positions,
-    operator: OpId,
-    patterns: &[Term],
-) -> bool
+fn are_elements(facts: &Facts, positions: &Positions, operator: OpId, patterns: &[Term]) -> bool
     ensures { IsTrue result → ArePicked facts.now positions.now.single.items operator (terms_of patterns.now) }
 {
     for i in 0..patterns.len() {

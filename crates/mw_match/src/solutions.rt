@@ -1,5 +1,5 @@
 // The solutions of a pattern.
-ghost use Rattle.std.specs.Prelude.{◌≡◌, ◌∷◌, ◌++◌, ℕ, List, [], true, false, cond, length, Some, option_map, IfOk, OnErr, MatchOption, ⊤};
+ghost use Rattle.std.specs.Prelude.{◌≡◌, ◌∷◌, ◌++◌, ℕ, [], true, false, cond, length, Some, IfOk, OnErr, MatchOption, ⊤};
 ghost use Rattle.mw_logic.specs.NormalForm.{normal_form};
 ghost use Rattle.mw_logic.specs.Signature.{IsRawTerm};
 ghost use Rattle.mw_logic.specs.Substitution.{IsSubstitution, Substitution};
@@ -134,10 +134,10 @@ fn next_at_hand<'c>(
     requires { MatchOption hand.old ⊤ (IsKept parts.now) }
     ensures ok { (n : ℕ) → IsHeld parts.now n hand.old
         → IfOk result (IsNext (coming_with parts.now n (hand_entries parts.now hand.old))
-            (coming_with parts.now n (hand_entries parts.now hand.new))) }
+        (coming_with parts.now n (hand_entries parts.now hand.new))) }
     ensures err { (n : ℕ) → IsHeld parts.now n hand.old
         → OnErr result (PassesTo (coming_with parts.now n (hand_entries parts.now hand.old))
-            (coming_with parts.now n (hand_entries parts.now hand.new)).candidates) }
+        (coming_with parts.now n (hand_entries parts.now hand.new)).candidates) }
     ensures held { (n : ℕ) → IsHeld parts.now n hand.old → IsHeld parts.now n hand.new }
 {
     match hand {
@@ -153,7 +153,7 @@ fn next_picked(picks: &mut Option<Levels<'_>>) -> Result<Option<Solution>, Alloc
         → IfOk result (IsNext (coming_with p n (pick_entries picks.old)) (coming_with p n (pick_entries picks.new))) }
     ensures err { (p : PartsOf) (n : ℕ) → MatchOption picks.old ⊤ (ArePicking p n)
         → OnErr result (PassesTo (coming_with p n (pick_entries picks.old))
-            (coming_with p n (pick_entries picks.new)).candidates) }
+        (coming_with p n (pick_entries picks.new)).candidates) }
     ensures picking { (p : PartsOf) (n : ℕ) → MatchOption picks.old ⊤ (ArePicking p n)
         → MatchOption picks.new ⊤ (ArePicking p n) }
 {

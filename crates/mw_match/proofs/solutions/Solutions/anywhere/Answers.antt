@@ -1,4 +1,4 @@
-use Rattle.std.proofs.Common.{◌≡◌, [], refl}
+use Rattle.std.proofs.Common.{[], refl}
 use Rattle.std.proofs.lemmas.Option.{none-some}
 use Rattle.mw_logic.specs.Signature.{Signature}
 use Rattle.mw_solving.specs.Values.{AreValues}
