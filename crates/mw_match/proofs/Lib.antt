@@ -18,3 +18,4 @@ pub mod PickedLaw
 pub mod Choosing
 pub mod Traces
 pub mod NextLevels
+pub mod NextPicks

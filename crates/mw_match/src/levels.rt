@@ -8,7 +8,7 @@ ghost use Rattle.mw_matching.specs.Multisets.{term_at};
 ghost use Rattle.mw_match.specs.Choices.{is_again as is_again_of, put as put_among};
 ghost use Rattle.mw_match.specs.Hands.{IsNext};
 ghost use Rattle.mw_match.specs.declared.levels.Level.{Level as LevelOf};
-ghost use Rattle.mw_match.specs.Levels.{behind, IsOn, is_on, taken_by, choices_from, choices_at, ClashesAt, IsPassedBy, Shortens, trace, behind_found, still_to_come, picks_in, AreKept, IsEnded, Misses, IsHandedOut, coming_in};
+ghost use Rattle.mw_match.specs.Levels.{behind, IsOn, is_on, taken_by, choices_from, choices_at, ClashesAt, IsPassedBy, Shortens, trace, behind_found, still_to_come, picks_in, AreKept, GoOnFrom, IsEnded, Misses, IsHandedOut, coming_in};
 ghost use Rattle.mw_match.specs.Solutions.{PassesTo};
 ghost use Rattle.mw_search.specs.Lacking.{Skips};
 
@@ -231,7 +231,7 @@ impl<'c> Levels<'c> {
 
     /// The next argument of the pattern on the first element that it may match, going on from values.
     fn next_level(&self, values: &[Term]) -> Result<Option<Level<'c>>, AllocError>
-        ensures { let sig = self.now.context.now.signature in
+        ensures next { let sig = self.now.context.now.signature in
             let single = self.now.compiled.now.positions.single.items in
             let args = args_of self.now.subject in
             let ks = taken_by [] self.now.stack.items in
@@ -239,6 +239,10 @@ impl<'c> Levels<'c> {
             → skip (length self.now.stack.items) (args_of self.now.compiled.now.pattern) ≡ cons q rest
             → Shortens (trace sig single args (cons q rest) ks values.now)
             (behind_found sig single args q rest ks o)) }
+        ensures kept { let sig = self.now.context.now.signature in
+            let sorts = self.now.compiled.now.positions.sorts in
+            IfOk result (λ o. GoOnFrom sig sorts self.now.given values.now
+            → MatchOption o ⊤ (IsOn sig sorts self.now.given (number_of_terms (args_of self.now.subject)))) }
     {
         let depth = self.stack.len();
         let patterns = self.patterns();
