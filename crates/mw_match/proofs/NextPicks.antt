@@ -1,5 +1,6 @@
 -- The next solution of what is picked: which levels are kept, what is passed over, and what is handed out.
 use Rattle.std.specs.Prelude.{◌≡◌, ◌+◌, ◌≤◌, ◌<◌, ℕ, List, [], ◌∷◌, ◌++◌, map, flat_map, length, Bool, true, false, Option, Some, None, is_some, option_to_list, MatchOption, ⊤, refl}
+use Rattle.std.specs.List.{zip}
 use Rattle.std.proofs.Common.{sym, ap, subst, ◌∙◌, arith, length-append}
 use Rattle.std.proofs.lemmas.Bool.{both_ways}
 use Rattle.std.proofs.lemmas.List.{map-append}
@@ -86,13 +87,19 @@ all_taken s us h =
     let rest : Trace = still_to_come (record s { found = None }) in
     ap picks_in (come_split sig single args qs [] ls us (omega (arith, h)) ∙ ap (λ ps. trace sig single args ps (taken_by [] ls) us ++ rest) (skip_past (length ls) qs (omega (arith, h))))
 
+candidate_is : (xs : List Variable) (us : Values) (ks : List ℕ) (r : Solution) → r.subst ≡ zip xs us → r.take ≡ Some ks → r ≡ candidate xs (part_entry (ks, us))
+candidate_is xs us ks r e f =
+    let first : r ≡ record { subst = zip xs us; take = r.take } = ap (λ s. record r { subst = s }) e in
+    first ∙ ap (λ o. candidate xs (o, us)) f
+
 pub handed_out : (s : Levels) (us : Values) (r : Solution) → s.found ≡ Some us → length s.stack.items ≡ number_of_terms (args_of s.compiled.now.pattern)
-    → r ≡ candidate s.compiled.now.variables (part_entry (taken_by [] s.stack.items, us)) → IsHandedOut s (record s { found = None }) (Some r)
-handed_out s us r e h is =
+    → r.subst ≡ zip s.compiled.now.variables us → r.take ≡ Some (taken_by [] s.stack.items) → IsHandedOut s (record s { found = None }) (Some r)
+handed_out s us r e h subst_is take_is =
+    let is : r ≡ candidate s.compiled.now.variables (part_entry (taken_by [] s.stack.items, us)) = candidate_is s.compiled.now.variables us (taken_by [] s.stack.items) r subst_is take_is in
     subst (λ o. MatchOption o (Some r ≡ None)
       (λ us. (Some r ≡ Some (candidate s.compiled.now.variables (part_entry (taken_by [] s.stack.items, us))))
       × (picks_in (still_to_come s) ≡ (taken_by [] s.stack.items, us) ∷ picks_in (still_to_come (record s { found = None }))))) (sym e)
-    (ap Some is, ap (λ o. picks_in (still_to_come (record s { found = o }))) e ∙ all_taken s us h)
+    (ap (λ r. Some r) is, ap (λ o. picks_in (still_to_come (record s { found = o }))) e ∙ all_taken s us h)
 
 -- from one state of the levels to another
 pub record AreReached (old new : Levels) : Type 0 where
