@@ -1,18 +1,19 @@
 -- The next solution of what is picked: which levels are kept, what is passed over, and what is handed out.
-use Rattle.std.specs.Prelude.{◌≡◌, ◌+◌, ◌≤◌, ◌<◌, ℕ, List, [], ◌∷◌, ◌++◌, map, flat_map, length, Bool, true, false, Option, Some, None, is_some, option_to_list, MatchOption, ⊤, refl}
+use Rattle.std.specs.Prelude.{◌≡◌, ◌+◌, ◌≤◌, ◌<◌, ℕ, List, [], ◌∷◌, ◌++◌, map, flat_map, length, Bool, true, false, Option, Some, None, is_some, not, option_to_list, MatchOption, ⊤, refl}
 use Rattle.std.specs.List.{zip}
 use Rattle.std.proofs.Common.{sym, ap, subst, ◌∙◌, arith, length-append}
 use Rattle.std.proofs.lemmas.Bool.{both_ways}
 use Rattle.std.proofs.lemmas.List.{map-append}
 use Rattle.std.proofs.lemmas.Grind.{flat_map-append}
 use Rattle.mw_logic.specs.Term.{RawTerm, RawTerms, nil, Variable}
-use Rattle.mw_logic.specs.Terms.{args_of, skip}
+use Rattle.mw_logic.specs.Terms.{args_of, terms_of, skip}
 use Rattle.mw_logic.specs.Parts.{number_of_terms}
 use Rattle.mw_logic.specs.Signature.{Signature}
 use Rattle.mw_position.specs.Variables.{sorts_of}
 use Rattle.mw_matching.specs.Found.{Values, found}
 use Rattle.mw_search.specs.Lacking.{Each, HaveTheirSorts, OneLacksItsSort, Skips}
 use Rattle.mw_search.specs.Searches.{Matches}
+use Rattle.mw_search.proofs.BagLists.{number_terms}
 use Rattle.mw_search.proofs.Beginning.{GoesOn, found_on}
 use Rattle.mw_match.specs.declared.levels.Level.{Level}
 use Rattle.mw_match.specs.declared.levels.Levels.{Levels}
@@ -20,7 +21,7 @@ use Rattle.mw_match.specs.declared.solutions.Solution.{Solution}
 use Rattle.mw_match.specs.Choices.{part_entry}
 use Rattle.mw_match.specs.Solutions.{Coming, PassesTo, FitsSorts, Lacks, candidate}
 use Rattle.mw_match.specs.Hands.{IsNext}
-use Rattle.mw_match.specs.Levels.{Trace, picks_in, taken_by, trace, come, still_to_come, IsOn, GoOnFrom, AreKept, Misses, coming_in, IsHandedOut}
+use Rattle.mw_match.specs.Levels.{Trace, Shortens, picks_in, taken_by, trace, come, still_to_come, IsOn, GoOnFrom, AreKept, Misses, coming_in, IsHandedOut}
 use Rattle.mw_match.proofs.Entries.{each_both, each_more, sorted_candidate, lacking_candidate}
 use Rattle.mw_match.proofs.Hands.{skips_more, skips_none}
 use Rattle.mw_match.proofs.Choosing.{skip_past}
@@ -125,6 +126,20 @@ module _ (old now new : Levels) (r : AreReached old now) where
   pub levels_turned : picks_in (still_to_come now) ≡ picks_in (still_to_come new) → new ≡ record now { stack = new.stack; found = new.found } → AreKept new → AreReached old new
   levels_turned e = levels_passed (skips_none (Misses now) (picks_in (still_to_come now)) (picks_in (still_to_come new)) e)
 
+-- nothing has changed
+pub levels_unchanged : (old now new : Levels) → AreReached old now → new ≡ now → AreReached old new
+levels_unchanged old now new r e = subst (AreReached old) (sym e) r
+
+-- the levels alone have changed
+stack_alone : (now new : Levels) → new ≡ record now { stack = new.stack } → new ≡ record now { stack = new.stack; found = new.found }
+stack_alone now new same = same ∙ ap (λ o. record now { stack = new.stack; found = o }) (ap (λ (s : Levels). s.found) (sym same))
+
+pub levels_shifted : (old now new : Levels) → AreReached old now → Shortens (still_to_come now) (still_to_come new) → new ≡ record now { stack = new.stack } → AreKept new → AreReached old new
+levels_shifted old now new r h same kept = levels_turned old now new r h.same (stack_alone now new same) kept
+
+pub patterns_number : (old now : Levels) (ps : List RawTerm) → AreReached old now → terms_of ps ≡ args_of old.compiled.now.pattern → length ps ≡ number_of_terms (args_of now.compiled.now.pattern)
+patterns_number old now ps r e = sym (number_terms ps) ∙ ap number_of_terms e ∙ ap (λ (s : Levels). number_of_terms (args_of s.compiled.now.pattern)) (sym r.same)
+
 -- what is passed over, as candidates
 module _ (s : Levels) (sorts : s.compiled.now.positions.sorts ≡ sorts_of s.compiled.now.variables) where
   abbrev As : List (List ℕ × Values) → List Solution
@@ -223,3 +238,16 @@ turns_found now new none some h =
 pub shortens_at : (o : Option Values) (P : Type 0) → is_some o ≡ true → MatchOption o ⊤ (λ _. P) → P
 shortens_at None P e h = absurd (both_ways false refl e)
 shortens_at (Some us) P e h = h
+
+-- tests of what is at hand
+pub none_at : (o : Option Values) (b : Bool) → b ≡ is_some o → b ≡ false → o ≡ None
+none_at None b e h = refl
+none_at (Some us) b e h = absurd (both_ways b h e)
+
+pub none_tested : (o : Option Values) (b : Bool) → b ≡ not (is_some o) → b ≡ true → o ≡ None
+none_tested None b e h = refl
+none_tested (Some us) b e h = absurd (both_ways b e h)
+
+pub some_tested : (o : Option Values) (b : Bool) → b ≡ not (is_some o) → b ≡ false → is_some o ≡ true
+some_tested None b e h = absurd (both_ways b h e)
+some_tested (Some us) b e h = refl
