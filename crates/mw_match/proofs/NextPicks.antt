@@ -1,17 +1,16 @@
 -- The next solution of what is picked: which levels are kept, what is passed over, and what is handed out.
-use Rattle.std.specs.Prelude.{◌≡◌, ◌+◌, ◌≤◌, ◌<◌, ℕ, List, [], ◌∷◌, ◌++◌, map, flat_map, length, Bool, true, false, Option, Some, None, is_some, not, option_to_list, MatchOption, ⊤, refl}
+use Rattle.std.specs.Prelude.{◌≡◌, ◌+◌, ◌≤◌, ◌<◌, ℕ, List, [], ◌∷◌, ◌++◌, map, flat_map, length, Bool, true, false, Option, Some, None, is_some, option_to_list, MatchOption, ⊤, refl}
 use Rattle.std.specs.List.{zip}
 use Rattle.std.proofs.Common.{sym, ap, subst, ◌∙◌, arith, length-append}
 use Rattle.std.proofs.lemmas.Bool.{both_ways}
 use Rattle.std.proofs.lemmas.List.{map-append}
-use Rattle.std.proofs.lemmas.Grind.{flat_map-append}
-use Rattle.mw_logic.specs.Term.{RawTerm, RawTerms, nil, Variable}
-use Rattle.mw_logic.specs.Terms.{args_of, terms_of, skip}
+use Rattle.mw_logic.specs.Term.{RawTerm, RawTerms, Variable}
+use Rattle.mw_logic.specs.Terms.{args_of, terms_of}
 use Rattle.mw_logic.specs.Parts.{number_of_terms}
 use Rattle.mw_logic.specs.Signature.{Signature}
 use Rattle.mw_position.specs.Variables.{sorts_of}
 use Rattle.mw_matching.specs.Found.{Values, found}
-use Rattle.mw_search.specs.Lacking.{Each, HaveTheirSorts, OneLacksItsSort, Skips}
+use Rattle.mw_search.specs.Lacking.{Each, HaveTheirSorts, Skips}
 use Rattle.mw_search.specs.Searches.{Matches}
 use Rattle.mw_search.proofs.BagLists.{number_terms}
 use Rattle.mw_search.proofs.Beginning.{GoesOn, found_on}
@@ -19,7 +18,7 @@ use Rattle.mw_match.specs.declared.levels.Level.{Level}
 use Rattle.mw_match.specs.declared.levels.Levels.{Levels}
 use Rattle.mw_match.specs.declared.solutions.Solution.{Solution}
 use Rattle.mw_match.specs.Choices.{part_entry}
-use Rattle.mw_match.specs.Solutions.{Coming, PassesTo, FitsSorts, Lacks, candidate}
+use Rattle.mw_match.specs.Solutions.{PassesTo, FitsSorts, Lacks, candidate}
 use Rattle.mw_match.specs.Hands.{IsNext}
 use Rattle.mw_match.specs.Levels.{Trace, Shortens, picks_in, taken_by, trace, come, still_to_come, IsOn, GoOnFrom, AreKept, Misses, coming_in, IsHandedOut}
 use Rattle.mw_match.proofs.Entries.{each_both, each_more, sorted_candidate, lacking_candidate}
@@ -98,8 +97,8 @@ pub handed_out : (s : Levels) (us : Values) (r : Solution) → s.found ≡ Some 
 handed_out s us r e h subst_is take_is =
     let is : r ≡ candidate s.compiled.now.variables (part_entry (taken_by [] s.stack.items, us)) = candidate_is s.compiled.now.variables us (taken_by [] s.stack.items) r subst_is take_is in
     subst (λ o. MatchOption o (Some r ≡ None)
-      (λ us. (Some r ≡ Some (candidate s.compiled.now.variables (part_entry (taken_by [] s.stack.items, us))))
-      × (picks_in (still_to_come s) ≡ (taken_by [] s.stack.items, us) ∷ picks_in (still_to_come (record s { found = None }))))) (sym e)
+    (λ us. (Some r ≡ Some (candidate s.compiled.now.variables (part_entry (taken_by [] s.stack.items, us))))
+    × (picks_in (still_to_come s) ≡ (taken_by [] s.stack.items, us) ∷ picks_in (still_to_come (record s { found = None }))))) (sym e)
     (ap (λ r. Some r) is, ap (λ o. picks_in (still_to_come (record s { found = o }))) e ∙ all_taken s us h)
 
 -- from one state of the levels to another
@@ -215,39 +214,7 @@ one_where_none (Some us) = 0
 abbrev pub turns_left : Levels → ℕ
 turns_left s = length (still_to_come s) + length (still_to_come s) + one_where_none s.found
 
-at_most_one_turn : (o : Option Values) → one_where_none o ≤ 1
-at_most_one_turn None = omega arith
-at_most_one_turn (Some us) = omega arith
-
-pub turns_shortened : (now new : Levels) → length (still_to_come new) < length (still_to_come now) → turns_left new < turns_left now
-turns_shortened now new h = let m = at_most_one_turn new.found in omega (arith, h, m)
-
-one_at_none : (o : Option Values) → o ≡ None → one_where_none o ≡ 1
-one_at_none o e = ap one_where_none e
-
-none_at_some : (o : Option Values) → is_some o ≡ true → one_where_none o ≡ 0
-none_at_some None e = absurd (both_ways false refl e)
-none_at_some (Some us) e = refl
-
-pub turns_found : (now new : Levels) → now.found ≡ None → is_some new.found ≡ true → length (still_to_come new) ≤ length (still_to_come now) → turns_left new < turns_left now
-turns_found now new none some h =
-    let m = one_at_none now.found none in
-    let n = none_at_some new.found some in
-    omega (arith, h, m, n)
-
-pub shortens_at : (o : Option Values) (P : Type 0) → is_some o ≡ true → MatchOption o ⊤ (λ _. P) → P
-shortens_at None P e h = absurd (both_ways false refl e)
-shortens_at (Some us) P e h = h
-
--- tests of what is at hand
+-- no match is at hand
 pub none_at : (o : Option Values) (b : Bool) → b ≡ is_some o → b ≡ false → o ≡ None
 none_at None b e h = refl
 none_at (Some us) b e h = absurd (both_ways b h e)
-
-pub none_tested : (o : Option Values) (b : Bool) → b ≡ not (is_some o) → b ≡ true → o ≡ None
-none_tested None b e h = refl
-none_tested (Some us) b e h = absurd (both_ways b e h)
-
-pub some_tested : (o : Option Values) (b : Bool) → b ≡ not (is_some o) → b ≡ false → is_some o ≡ true
-some_tested None b e h = absurd (both_ways b h e)
-some_tested (Some us) b e h = refl

@@ -3,7 +3,7 @@ use Rattle.std.proofs.lemmas.List.{nil_from_length}
 use Rattle.mw_match.specs.Levels.{picks_in}
 use Rattle.mw_match.proofs.Candidates.{on_err}
 use Rattle.mw_match.proofs.Taking.{is_none}
-use Rattle.mw_match.proofs.NextPicks.{patterns_number, passes_to, levels_unchanged, levels_turned, levels_passed, levels_shifted, none_left, handed_next, none_at, shortens_at}
+use Rattle.mw_match.proofs.NextPicks.{patterns_number, passes_to, levels_unchanged, levels_turned, levels_passed, levels_shifted, none_left, handed_next, none_at}
 use Rattle.mw_match.proofs.levels.Levels.next.Goals as goal
 
 pub hand_out-requires : goal.hand_out-requires
