@@ -18,3 +18,5 @@ pub mod PickedLaw
 pub mod Choosing
 pub mod Traces
 pub mod NextLevels
+pub mod Finding
+pub mod Shifting
