@@ -1,5 +1,5 @@
 -- The last level, when it has no match left: its next choice, or none.
-use Rattle.std.specs.Prelude.{◌≡◌, ◌≤◌, ◌<◌, ◌+◌, ℕ, suc, List, [], ◌∷◌, ◌++◌, flat_map, length, Option, Some, None, option_to_list, MatchOption, ⊤, refl}
+use Rattle.std.specs.Prelude.{◌≡◌, ◌≤◌, ◌<◌, ◌+◌, ◌-◌, ℕ, suc, List, [], ◌∷◌, ◌++◌, flat_map, length, take, get_or, Option, Some, None, option_to_list, MatchOption, ⊤, refl}
 use Rattle.std.proofs.Common.{ap, sym, subst, ◌∙◌, arith, append-nil, length-append}
 use Rattle.std.proofs.lemmas.Grind.{flat_map-append}
 use Rattle.mw_logic.specs.Term.{RawTerm, RawTerms, cons}
@@ -10,6 +10,7 @@ use Rattle.mw_matching.specs.Found.{Values, found}
 use Rattle.mw_matching.specs.Multisets.{term_at}
 use Rattle.mw_search.specs.Lacking.{Each, Skips, HaveTheirSorts}
 use Rattle.mw_search.specs.Searches.{Matches}
+use Rattle.mw_search.proofs.BagLists.{is_last_of}
 use Rattle.mw_search.proofs.Beginning.{GoesOn, found_on}
 use Rattle.mw_match.specs.declared.levels.Level.{Level}
 use Rattle.mw_match.specs.declared.levels.Levels.{Levels}
@@ -64,42 +65,56 @@ module _ (sig : Signature) (single : List (List ℕ)) (args : RawTerms) (q : Raw
         fewer = omega (arith, b, n, n0, n1, n2, n3, n4);
       }
 
--- the same as a program finds it: S, A, B, p and from are its own
-module _ (S sig : Signature) (single : List (List ℕ)) (A args : RawTerms) (B ls : List Level) (p q : RawTerm) (rest : RawTerms) (l : Level) (from : ℕ)
-    (e : S ≡ sig) (a : A ≡ args) (b : B ≡ ls) (w : p ≡ q) (f : from ≡ suc l.at) (empty : l.search.coming ≡ []) where
-  moved : (new : RawTerms → List ℕ → List (ℕ × RawTerm)) → Skips (ClashesAt S l.given p) (choices_from A (taken_by [] B) (Some l.at) from) (new A (taken_by [] B))
+-- the same as a program finds it: S, A, B, V, p and from are its own
+module _ (S sig : Signature) (single : List (List ℕ)) (A args : RawTerms) (B ls : List Level) (p q : RawTerm) (rest : RawTerms) (V : Values) (l : Level) (from : ℕ)
+    (e : S ≡ sig) (a : A ≡ args) (b : B ≡ ls) (w : p ≡ q) (v : V ≡ l.given) (f : from ≡ suc l.at) (empty : l.search.coming ≡ []) where
+  moved : (new : RawTerms → List ℕ → List (ℕ × RawTerm)) → Skips (ClashesAt S V p) (choices_from A (taken_by [] B) (Some l.at) from) (new A (taken_by [] B))
       → Skips (ClashesAt sig l.given q) (choices_from args (taken_by [] ls) (Some l.at) (suc l.at)) (new args (taken_by [] ls))
   moved new s =
       subst (λ S. Skips (ClashesAt S l.given q) (choices_from args (taken_by [] ls) (Some l.at) (suc l.at)) (new args (taken_by [] ls))) e
       (subst (λ p. Skips (ClashesAt S l.given p) (choices_from args (taken_by [] ls) (Some l.at) (suc l.at)) (new args (taken_by [] ls))) w
-      (subst (λ j. Skips (ClashesAt S l.given p) (choices_from args (taken_by [] ls) (Some l.at) j) (new args (taken_by [] ls))) f
-      (subst (λ B. Skips (ClashesAt S l.given p) (choices_from args (taken_by [] B) (Some l.at) from) (new args (taken_by [] B))) b
-      (subst (λ A. Skips (ClashesAt S l.given p) (choices_from A (taken_by [] B) (Some l.at) from) (new A (taken_by [] B))) a s))))
+      (subst (λ V. Skips (ClashesAt S V p) (choices_from args (taken_by [] ls) (Some l.at) (suc l.at)) (new args (taken_by [] ls))) v
+      (subst (λ j. Skips (ClashesAt S V p) (choices_from args (taken_by [] ls) (Some l.at) j) (new args (taken_by [] ls))) f
+      (subst (λ B. Skips (ClashesAt S V p) (choices_from args (taken_by [] B) (Some l.at) from) (new args (taken_by [] B))) b
+      (subst (λ A. Skips (ClashesAt S V p) (choices_from A (taken_by [] B) (Some l.at) from) (new A (taken_by [] B))) a s)))))
 
-  pub shift_none : Skips (ClashesAt S l.given p) (choices_from A (taken_by [] B) (Some l.at) from) [] → Shortens (behind sig single args q rest (taken_by [] ls) l) []
+  pub shift_none : Skips (ClashesAt S V p) (choices_from A (taken_by [] B) (Some l.at) from) [] → Shortens (behind sig single args q rest (taken_by [] ls) l) []
   shift_none s = none_left sig single args q rest (taken_by [] ls) l empty (moved (λ _ _. []) s)
 
-  pub shift_some : (m : Level) (i : ℕ) (t : RawTerm) → m.at ≡ i → m.given ≡ l.given → m.search.coming ≡ found sig single p t l.given → t ≡ term_at i A
-      → Skips (ClashesAt S l.given p) (choices_from A (taken_by [] B) (Some l.at) from) (choices_at A (taken_by [] B) (Some i)) → Shortens (behind sig single args q rest (taken_by [] ls) l) (behind sig single args q rest (taken_by [] ls) m)
+  pub shift_some : (m : Level) (i : ℕ) (t : RawTerm) → m.at ≡ i → m.given ≡ V → m.search.coming ≡ found sig single p t V → t ≡ term_at i A
+      → Skips (ClashesAt S V p) (choices_from A (taken_by [] B) (Some l.at) from) (choices_at A (taken_by [] B) (Some i)) → Shortens (behind sig single args q rest (taken_by [] ls) l) (behind sig single args q rest (taken_by [] ls) m)
   shift_some m i t at given coming is s =
-      next_left sig single args q rest (taken_by [] ls) l m empty given
-      (coming ∙ ap (λ p. found sig single p t l.given) w ∙ ap (λ t. found sig single q t l.given) (is ∙ ap (term_at i) a ∙ ap (λ i. term_at i args) (sym at)))
+      next_left sig single args q rest (taken_by [] ls) l m empty (given ∙ v)
+      (coming ∙ ap (found sig single p t) v ∙ ap (λ p. found sig single p t l.given) w ∙ ap (λ t. found sig single q t l.given) (is ∙ ap (term_at i) a ∙ ap (λ i. term_at i args) (sym at)))
       (subst (λ i. Skips (ClashesAt sig l.given q) (choices_from args (taken_by [] ls) (Some l.at) (suc l.at)) (choices_at args (taken_by [] ls) (Some i))) (sym at) (moved (λ A ks. choices_at A ks (Some i)) s))
 
 -- the new level is kept
-pub shifted_on : (sig : Signature) (sorts : List ℕ) (single : List (List ℕ)) (given number : ℕ) (l m : Level) (p t : RawTerm) → IsOn sig sorts given number l → m.given ≡ l.given
-    → m.search ≡ record { signature = sig; sorts = sorts; given = length l.given; coming = found sig single p t l.given } → m.at < number → IsOn sig sorts given number m
-shifted_on sig sorts single given number l m p t is g s low = record {
+pub shifted_on : (sig : Signature) (sorts : List ℕ) (single : List (List ℕ)) (given number : ℕ) (l m : Level) (p t : RawTerm) (V : Values) → IsOn sig sorts given number l → V ≡ l.given → m.given ≡ V
+    → m.search ≡ record { signature = sig; sorts = sorts; given = length V; coming = found sig single p t V } → m.at < number → IsOn sig sorts given number m
+shifted_on sig sorts single given number l m p t V is v g s low = record {
   signature = ap (λ (s : Matches). s.signature) s;
   positions = ap (λ (s : Matches). s.sorts) s;
   size = ap (λ (s : Matches). s.given) s ∙ ap (λ (vs : Values). length vs) (sym g);
-  more = subst (λ (vs : Values). given ≤ length vs) (sym g) is.more;
-  sorted = subst (λ vs. HaveTheirSorts sig sorts given vs) (sym g) is.sorted;
-  each = subst (λ vs. Each (λ us. (ws : Values) × (us ≡ vs ++ ws)) m.search.coming) (sym g)
-  (subst (Each (λ us. (ws : Values) × (us ≡ l.given ++ ws))) (sym (ap (λ (s : Matches). s.coming) s))
-  (each_more (found sig single p t l.given) (λ (us : Values) (k : GoesOn l.given us). (k.more, k.is)) (found_on sig single p t l.given)));
+  more = subst (λ (vs : Values). given ≤ length vs) (sym (g ∙ v)) is.more;
+  sorted = subst (λ vs. HaveTheirSorts sig sorts given vs) (sym (g ∙ v)) is.sorted;
+  each = subst (λ (vs : Values). Each (λ us. (ws : Values) × (us ≡ vs ++ ws)) m.search.coming) (sym g)
+  (subst (Each (λ us. (ws : Values) × (us ≡ V ++ ws))) (sym (ap (λ (s : Matches). s.coming) s))
+  (each_more (found sig single p t V) (λ (us : Values) (k : GoesOn V us). (k.more, k.is)) (found_on sig single p t V)));
   within = low;
 }
+
+-- the last of a list, as a program finds it
+pub last_is : (xs below : List Level) (l d : Level) → xs ≡ below ++ l ∷ [] → d ≡ get_or xs (length xs - 1) d → (take (length xs - 1) xs ≡ below) × (d ≡ l)
+last_is xs below l d e is =
+    let n : length xs ≡ length (below ++ l ∷ []) = ap (λ (xs : List Level). length xs) e in
+    let k = length-append below (l ∷ []) in
+    same_end (take (length xs - 1) xs) below d l (sym (is_last_of xs d (omega (arith, n, k)) is) ∙ e)
+
+pub last_kept : (s : Levels) → AreKept s → (xs : List Level) (d : Level) → xs ≡ s.stack.items → 1 ≤ length xs → d ≡ get_or xs (length xs - 1) d
+    → IsOn s.context.now.signature s.compiled.now.positions.sorts s.given (number_of_terms (args_of s.subject)) d
+last_kept s kept xs d e some is =
+    let P : Level → Type 0 = IsOn s.context.now.signature s.compiled.now.positions.sorts s.given (number_of_terms (args_of s.subject)) in
+    (each_parts P (take (length xs - 1) xs) (d ∷ []) (subst (Each P) (sym e ∙ is_last_of xs d (omega (arith, some)) is) kept.levels)).1.0
 
 -- The last level goes on to its next choice, or is taken away.
 module _ (s : Levels) (kept : AreKept s) (none : s.found ≡ None) (ended : IsEnded s) (ls : List Level) (l : Level) (is : s.stack.items ≡ ls ++ l ∷ []) (o : Option Level)
