@@ -11,6 +11,7 @@ use Rattle.mw_matching.specs.Multisets.{term_at}
 use Rattle.mw_search.specs.Lacking.{Each, Skips, HaveTheirSorts}
 use Rattle.mw_search.specs.Searches.{Matches}
 use Rattle.mw_search.proofs.BagLists.{is_last_of}
+use Rattle.mw_search.proofs.Meeting.{got_any}
 use Rattle.mw_search.proofs.Beginning.{GoesOn, found_on}
 use Rattle.mw_match.specs.declared.levels.Level.{Level}
 use Rattle.mw_match.specs.declared.levels.Levels.{Levels}
@@ -104,6 +105,12 @@ shifted_on sig sorts single given number l m p t V is v g s low = record {
 }
 
 -- the last of a list, as a program finds it
+has_last : (xs : List Level) → 0 < length xs → (l : Level) × (xs ≡ take (length xs - 1) xs ++ l ∷ [])
+has_last [] h = absurd (omega (arith, h))
+has_last (x ∷ xs) h =
+    let l : Level = get_or (x ∷ xs) (length (x ∷ xs) - 1) x in
+    (l, is_last_of (x ∷ xs) l h (got_any (x ∷ xs) (length (x ∷ xs) - 1) x l (omega arith)))
+
 pub last_is : (xs below : List Level) (l d : Level) → xs ≡ below ++ l ∷ [] → d ≡ get_or xs (length xs - 1) d → (take (length xs - 1) xs ≡ below) × (d ≡ l)
 last_is xs below l d e is =
     let n : length xs ≡ length (below ++ l ∷ []) = ap (λ (xs : List Level). length xs) e in
@@ -116,12 +123,16 @@ last_kept s kept xs d e some is =
     let P : Level → Type 0 = IsOn s.context.now.signature s.compiled.now.positions.sorts s.given (number_of_terms (args_of s.subject)) in
     (each_parts P (take (length xs - 1) xs) (d ∷ []) (subst (Each P) (sym e ∙ is_last_of xs d (omega (arith, some)) is) kept.levels)).1.0
 
+-- the last level's next choice, or none
+abbrev pub IsNextOfLast : Levels → Option Level → Type 0
+IsNextOfLast s o =
+    (below : List Level) (l : Level) (q : RawTerm) (rest : RawTerms) → s.stack.items ≡ below ++ l ∷ [] → l.search.coming ≡ [] → skip (length below) (args_of s.compiled.now.pattern) ≡ cons q rest
+    → Shortens (behind s.context.now.signature s.compiled.now.positions.single.items (args_of s.subject) q rest (taken_by [] below) l)
+    (behind_found s.context.now.signature s.compiled.now.positions.single.items (args_of s.subject) q rest (taken_by [] below) o)
+
 -- The last level goes on to its next choice, or is taken away.
 module _ (s : Levels) (kept : AreKept s) (none : s.found ≡ None) (ended : IsEnded s) (ls : List Level) (l : Level) (is : s.stack.items ≡ ls ++ l ∷ []) (o : Option Level)
-    (next : (below : List Level) (l : Level) (q : RawTerm) (rest : RawTerms) → s.stack.items ≡ below ++ l ∷ [] → l.search.coming ≡ [] → skip (length below) (args_of s.compiled.now.pattern) ≡ cons q rest
-        → Shortens (behind s.context.now.signature s.compiled.now.positions.single.items (args_of s.subject) q rest (taken_by [] below) l)
-        (behind_found s.context.now.signature s.compiled.now.positions.single.items (args_of s.subject) q rest (taken_by [] below) o))
-    (on : MatchOption o ⊤ (IsOn s.context.now.signature s.compiled.now.positions.sorts s.given (number_of_terms (args_of s.subject)))) where
+    (next : IsNextOfLast s o) (on : MatchOption o ⊤ (IsOn s.context.now.signature s.compiled.now.positions.sorts s.given (number_of_terms (args_of s.subject)))) where
   abbrev sig : Signature
   sig = s.context.now.signature
 
@@ -193,3 +204,16 @@ module _ (s : Levels) (kept : AreKept s) (none : s.found ≡ None) (ended : IsEn
           found = kept.found;
           depth = omega (arith, n, k, h, d);
         }
+
+-- the same as a program finds it
+pub record IsShifted (s new : Levels) : Type 0 where
+  pub shortens : Shortens (still_to_come s) (still_to_come new)
+  pub kept : AreKept new
+
+pub shifted : (s : Levels) → AreKept s → s.found ≡ None → IsEnded s → 0 < length s.stack.items → (o : Option Level) → IsNextOfLast s o
+    → MatchOption o ⊤ (IsOn s.context.now.signature s.compiled.now.positions.sorts s.given (number_of_terms (args_of s.subject)))
+    → (new : Levels) → new.stack.items ≡ take (length s.stack.items - 1) s.stack.items ++ option_to_list o → IsShifted s (record s { stack = new.stack })
+shifted s kept none ended some o next on new items =
+    let (l, is) = has_last s.stack.items some in
+    let ls : List Level = take (length s.stack.items - 1) s.stack.items in
+    record { shortens = shift_shortens s kept none ended ls l is o next on new items; kept = shift_kept s kept none ended ls l is o next on new items }
