@@ -131,22 +131,10 @@ IsNextOfLast s o =
     (behind_found s.context.now.signature s.compiled.now.positions.single.items (args_of s.subject) q rest (taken_by [] below) o)
 
 -- The last level goes on to its next choice, or is taken away.
-module _ (s : Levels) (kept : AreKept s) (none : s.found ≡ None) (ended : IsEnded s) (ls : List Level) (l : Level) (is : s.stack.items ≡ ls ++ l ∷ []) (o : Option Level)
-    (next : IsNextOfLast s o) (on : MatchOption o ⊤ (IsOn s.context.now.signature s.compiled.now.positions.sorts s.given (number_of_terms (args_of s.subject)))) where
-  abbrev sig : Signature
-  sig = s.context.now.signature
-
-  abbrev single : List (List ℕ)
-  single = s.compiled.now.positions.single.items
-
-  abbrev args : RawTerms
-  args = args_of s.subject
-
+module _ (s : Levels) (kept : AreKept s) (none : s.found ≡ None) (ended : IsEnded s) (ls : List Level) (l : Level) (is : s.stack.items ≡ ls ++ l ∷ []) (o : Option Level) (next : IsNextOfLast s o)
+    (new : Levels) (items : new.stack.items ≡ ls ++ option_to_list o) where
   abbrev qs : RawTerms
   qs = args_of s.compiled.now.pattern
-
-  abbrev Kept : Level → Type 0
-  Kept = IsOn sig s.compiled.now.positions.sorts s.given (number_of_terms args)
 
   abbrev q : RawTerm
   q = term_at (length ls) qs
@@ -154,66 +142,37 @@ module _ (s : Levels) (kept : AreKept s) (none : s.found ≡ None) (ended : IsEn
   abbrev rest : RawTerms
   rest = skip (suc (length ls)) qs
 
-  parts : Each Kept ls × Each Kept (l ∷ [])
-  parts = each_parts Kept ls (l ∷ []) (subst (Each Kept) is kept.levels)
+  abbrev Come : List Level → Option Values → Trace
+  Come = come s.context.now.signature s.compiled.now.positions.single.items (args_of s.subject) qs []
 
-  low : length ls < number_of_terms qs
-  low =
+  abbrev ending : Option Level → Trace
+  ending = behind_found s.context.now.signature s.compiled.now.positions.single.items (args_of s.subject) q rest (taken_by [] ls)
+
+  stands : skip (length ls) qs ≡ cons q rest
+  stands =
       let n : length s.stack.items ≡ length (ls ++ l ∷ []) = ap (λ (ls : List Level). length ls) is in
       let k = length-append ls (l ∷ []) in
       let d = kept.depth in
-      omega (arith, n, k, d)
+      skip_at (length ls) qs (omega (arith, n, k, d))
 
-  stands : skip (length ls) qs ≡ cons q rest
-  stands = skip_at (length ls) qs low
+  by_level : (o : Option Level) → Come (ls ++ option_to_list o) None ≡ ending o ++ Come ls None
+  by_level None = ap (λ ls. Come ls None) (append-nil ls)
+  by_level (Some m) = come_push s.context.now.signature s.compiled.now.positions.single.items (args_of s.subject) qs [] ls m q rest stands
 
-  by_level : (o : Option Level) → come sig single args qs [] (ls ++ option_to_list o) None ≡ behind_found sig single args q rest (taken_by [] ls) o ++ come sig single args qs [] ls None
-  by_level None = ap (λ ls. come sig single args qs [] ls None) (append-nil ls)
-  by_level (Some m) = come_push sig single args qs [] ls m q rest stands
+  old_is : still_to_come s ≡ ending (Some l) ++ Come ls None
+  old_is = ap (λ o. Come s.stack.items o) none ∙ ap (λ ls. Come ls None) is ∙ by_level (Some l)
 
-  module _ (new : Levels) (items : new.stack.items ≡ ls ++ option_to_list o) where
-    old_is : still_to_come s ≡ behind sig single args q rest (taken_by [] ls) l ++ come sig single args qs [] ls None
-    old_is = ap (λ o. come sig single args qs [] s.stack.items o) none ∙ ap (λ ls. come sig single args qs [] ls None) is ∙ come_push sig single args qs [] ls l q rest stands
+  new_is : still_to_come (record s { stack = new.stack }) ≡ ending o ++ Come ls None
+  new_is = ap (λ o. Come new.stack.items o) none ∙ ap (λ ls. Come ls None) items ∙ by_level o
 
-    new_is : still_to_come (record s { stack = new.stack }) ≡ behind_found sig single args q rest (taken_by [] ls) o ++ come sig single args qs [] ls None
-    new_is = ap (λ o. come sig single args qs [] new.stack.items o) none ∙ ap (λ ls. come sig single args qs [] ls None) items ∙ by_level o
-
-    pub shift_shortens : Shortens (still_to_come s) (still_to_come (record s { stack = new.stack }))
-    shift_shortens =
-        subst (λ ms. Shortens ms (still_to_come (record s { stack = new.stack }))) (sym old_is)
-        (subst (Shortens (behind sig single args q rest (taken_by [] ls) l ++ come sig single args qs [] ls None)) (sym new_is)
-        (in_front (behind sig single args q rest (taken_by [] ls) l) (behind_found sig single args q rest (taken_by [] ls) o) (come sig single args qs [] ls None) (next ls l q rest is (ended ls l is) stands)))
-
-    level_kept : (o : Option Level) → MatchOption o ⊤ Kept → Each Kept (option_to_list o)
-    level_kept None h = tt
-    level_kept (Some m) h = (h, tt)
-
-    one_more : (o : Option Level) → length (option_to_list o) ≤ 1
-    one_more None = omega arith
-    one_more (Some m) = omega arith
-
-    pub shift_kept : AreKept (record s { stack = new.stack })
-    shift_kept =
-        let n : length new.stack.items ≡ length (ls ++ option_to_list o) = ap (λ (ls : List Level). length ls) items in
-        let k = length-append ls (option_to_list o) in
-        let h = one_more o in
-        let d = low in
-        record {
-          sorts = kept.sorts;
-          levels = subst (Each Kept) (sym items) (each_both Kept ls (option_to_list o) parts.0 (level_kept o on));
-          found = kept.found;
-          depth = omega (arith, n, k, h, d);
-        }
+  shortened : Shortens (still_to_come s) (still_to_come (record s { stack = new.stack }))
+  shortened =
+      subst (λ ms. Shortens ms (still_to_come (record s { stack = new.stack }))) (sym old_is)
+      (subst (Shortens (ending (Some l) ++ Come ls None)) (sym new_is) (in_front (ending (Some l)) (ending o) (Come ls None) (next ls l q rest is (ended ls l is) stands)))
 
 -- the same as a program finds it
-pub record IsShifted (s new : Levels) : Type 0 where
-  pub shortens : Shortens (still_to_come s) (still_to_come new)
-  pub kept : AreKept new
-
 pub shifted : (s : Levels) → AreKept s → s.found ≡ None → IsEnded s → 0 < length s.stack.items → (o : Option Level) → IsNextOfLast s o
-    → MatchOption o ⊤ (IsOn s.context.now.signature s.compiled.now.positions.sorts s.given (number_of_terms (args_of s.subject)))
-    → (new : Levels) → new.stack.items ≡ take (length s.stack.items - 1) s.stack.items ++ option_to_list o → IsShifted s (record s { stack = new.stack })
-shifted s kept none ended some o next on new items =
+    → (new : Levels) → new.stack.items ≡ take (length s.stack.items - 1) s.stack.items ++ option_to_list o → Shortens (still_to_come s) (still_to_come (record s { stack = new.stack }))
+shifted s kept none ended some o next new items =
     let (l, is) = has_last s.stack.items some in
-    let ls : List Level = take (length s.stack.items - 1) s.stack.items in
-    record { shortens = shift_shortens s kept none ended ls l is o next on new items; kept = shift_kept s kept none ended ls l is o next on new items }
+    shortened s kept none ended (take (length s.stack.items - 1) s.stack.items) l is o next new items
