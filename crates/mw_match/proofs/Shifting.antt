@@ -1,5 +1,5 @@
 -- The last level, when it has no match left: its next choice, or none.
-use Rattle.std.specs.Prelude.{◌≡◌, ◌≤◌, ◌<◌, ◌+◌, ◌-◌, ℕ, suc, List, [], ◌∷◌, ◌++◌, flat_map, length, take, get_or, Option, Some, None, option_to_list, MatchOption, ⊤, refl}
+use Rattle.std.specs.Prelude.{◌≡◌, ◌≤◌, ◌<◌, ◌-◌, ℕ, suc, List, [], ◌∷◌, ◌++◌, flat_map, length, take, get_or, Option, Some, None, option_to_list}
 use Rattle.std.proofs.Common.{ap, sym, subst, ◌∙◌, arith, append-nil, length-append}
 use Rattle.std.proofs.lemmas.Grind.{flat_map-append}
 use Rattle.mw_logic.specs.Term.{RawTerm, RawTerms, cons}
@@ -18,7 +18,7 @@ use Rattle.mw_match.specs.declared.levels.Levels.{Levels}
 use Rattle.mw_match.specs.Choices.{put}
 use Rattle.mw_match.specs.Levels.{taken_by, choices_from, choices_at, ClashesAt, Trace, picks_in, Shortens, trace, tries, behind, behind_found, come, still_to_come, IsOn, AreKept, IsEnded}
 use Rattle.mw_match.proofs.Choosing.{skip_at}
-use Rattle.mw_match.proofs.Entries.{each_both, each_more}
+use Rattle.mw_match.proofs.Entries.{each_more}
 use Rattle.mw_match.proofs.Traces.{tries_skip, picks_end, length_end, come_push}
 use Rattle.mw_match.proofs.NextLevels.{in_front}
 use Rattle.mw_match.proofs.Finding.{same_end, each_parts}
@@ -99,8 +99,8 @@ shifted_on sig sorts single given number l m p t V is v g s low = record {
   more = subst (λ (vs : Values). given ≤ length vs) (sym (g ∙ v)) is.more;
   sorted = subst (λ vs. HaveTheirSorts sig sorts given vs) (sym (g ∙ v)) is.sorted;
   each = subst (λ (vs : Values). Each (λ us. (ws : Values) × (us ≡ vs ++ ws)) m.search.coming) (sym g)
-  (subst (Each (λ us. (ws : Values) × (us ≡ V ++ ws))) (sym (ap (λ (s : Matches). s.coming) s))
-  (each_more (found sig single p t V) (λ (us : Values) (k : GoesOn V us). (k.more, k.is)) (found_on sig single p t V)));
+      (subst (Each (λ us. (ws : Values) × (us ≡ V ++ ws))) (sym (ap (λ (s : Matches). s.coming) s))
+      (each_more (found sig single p t V) (λ (us : Values) (k : GoesOn V us). (k.more, k.is)) (found_on sig single p t V)));
   within = low;
 }
 

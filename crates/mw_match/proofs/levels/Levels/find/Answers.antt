@@ -1,5 +1,5 @@
-use Rattle.std.specs.Prelude.{◌≡◌, ◌-◌, get_or, length, refl}
-use Rattle.std.proofs.Common.{ap, arith, ◌∙◌}
+use Rattle.std.specs.Prelude.{◌-◌, refl}
+use Rattle.std.proofs.Common.{arith}
 use Rattle.std.specs.Vec.{with_item}
 use Rattle.mw_match.specs.declared.levels.Level.{Level}
 use Rattle.mw_match.specs.declared.levels.Levels.{Levels}

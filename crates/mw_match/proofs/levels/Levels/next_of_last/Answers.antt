@@ -1,10 +1,8 @@
-use Rattle.std.specs.Prelude.{◌≡◌, ◌<◌, ◌≤◌, ◌+◌, ◌-◌, ◌^◌, ◌∷◌, ◌++◌, [], ℕ, List, get_or, length, take}
+use Rattle.std.specs.Prelude.{◌≡◌, ◌<◌, ◌+◌, ◌-◌, ◌^◌, [], ℕ, List, get_or, length, take}
 use Rattle.std.proofs.Common.{ap, arith, ◌∙◌, subst, sym, rules}
-use Rattle.mw_logic.specs.Term.{RawTerms}
 use Rattle.mw_logic.specs.Terms.{args_of}
 use Rattle.mw_logic.specs.Parts.{number_of_terms}
-use Rattle.mw_matching.specs.Found.{found}
-use Rattle.mw_search.proofs.BagLists.{number_terms, at_index, is_last_of}
+use Rattle.mw_search.proofs.BagLists.{number_terms, at_index}
 use Rattle.mw_search.specs.Searches.{Matches}
 use Rattle.mw_match.specs.declared.levels.Level.{Level}
 use Rattle.mw_match.specs.declared.levels.Levels.{Levels}
