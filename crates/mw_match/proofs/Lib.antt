@@ -19,3 +19,5 @@ pub mod Choosing
 pub mod Traces
 pub mod NextLevels
 pub mod NextPicks
+pub mod Finding
+pub mod Shifting

@@ -360,7 +360,8 @@ impl<'c> Levels<'c> {
         let facts = self.context.facts();
         let values = last.given.as_slice();
         let from = last.at + 1;
-        let Some(at) = next_choice(facts, elements, below, pattern, values, from, Some(last.at)) else {
+        let Some(at) = next_choice(facts, elements, below, pattern, values, from, Some(last.at))
+        else {
             return Ok(None);
         };
         let level = self.level_on(pattern, at, &elements[at], values)?;
