@@ -21,3 +21,6 @@ pub mod PickedLaw
 pub mod Choosing
 pub mod Traces
 pub mod NextLevels
+pub mod NextPicks
+pub mod Finding
+pub mod Shifting

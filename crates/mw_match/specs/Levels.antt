@@ -1,8 +1,10 @@
 -- Levels of choices: the arguments of a pattern that stand on a term's arguments, and what is still to come of them.
 use Rattle.std.specs.Prelude.{◌≡◌, ◌<◌, ◌≤◌, ℕ, suc, List, [], ◌∷◌, ◌++◌, map, flat_map, length, ◌⊎◌, Bool, true, false, ◌||◌, nat_eq, Option, Some, None, option_map, option_to_list, MatchOption, ⊤}
-use Rattle.mw_logic.specs.Term.{RawTerm, RawTerms, nil, cons}
+use Rattle.mw_logic.specs.Term.{RawTerm, RawTerms, nil, cons, apply}
+use Rattle.mw_logic.specs.Kinds.{is_successor}
+use Rattle.mw_logic.specs.NormalForm.{is_comm}
 use Rattle.mw_logic.specs.Terms.{args_of, skip}
-use Rattle.mw_logic.specs.Parts.{number_of_terms}
+use Rattle.mw_logic.specs.Parts.{is_assoc, number_of_terms}
 use Rattle.mw_logic.specs.Signature.{Signature}
 use Rattle.mw_matching.specs.Found.{Values, found}
 use Rattle.mw_matching.specs.Multisets.{term_at}
@@ -42,6 +44,14 @@ ClashesAt sig vs q z = Clash sig vs q z.1
 -- a pattern has no match there, or the one before stands there again
 abbrev pub IsPassedBy : Signature → RawTerms → Values → RawTerm → ℕ → Option ℕ → Type 0
 IsPassedBy sig args vs q i before = Clash sig vs q (term_at i args) ⊎ (is_again (option_map (λ b. term_at b args) before) (term_at i args) ≡ true)
+
+-- an operator without axioms on top of a pattern
+pub record IsPlainTop (sig : Signature) (q : RawTerm) (f : ℕ) : Type 0 where
+  pub args : RawTerms
+  pub is : q ≡ apply f args
+  pub assoc : is_assoc sig f ≡ false
+  pub comm : is_comm sig f ≡ false
+  pub successor : is_successor sig f ≡ false
 
 -- what is picked, with a mark for each step
 abbrev pub Trace : Type 0

@@ -3,23 +3,23 @@ ghost use Rattle.std.specs.Prelude.{◌≡◌, ◌<◌, ◌≤◌, ◌∷◌, �
 ghost use Rattle.mw_logic.specs.Term.{RawTerm, RawTerms, cons};
 ghost use Rattle.mw_logic.specs.Terms.{args_of, terms_of, skip};
 ghost use Rattle.mw_logic.specs.Parts.{number_of_terms};
-ghost use Rattle.mw_matching.specs.Found.{found};
+ghost use Rattle.mw_matching.specs.Found.{found, has_top};
 ghost use Rattle.mw_matching.specs.Multisets.{term_at};
 ghost use Rattle.mw_match.specs.Choices.{is_again as is_again_of, put as put_among};
 ghost use Rattle.mw_match.specs.Hands.{IsNext};
 ghost use Rattle.mw_match.specs.declared.levels.Level.{Level as LevelOf};
-ghost use Rattle.mw_match.specs.Levels.{behind, IsOn, is_on, taken_by, choices_from, choices_at, ClashesAt, IsPassedBy, Shortens, trace, behind_found, still_to_come, picks_in, AreKept, IsEnded, Misses, IsHandedOut, coming_in};
+ghost use Rattle.mw_match.specs.Levels.{behind, IsOn, is_on, taken_by, choices_from, choices_at, ClashesAt, IsPassedBy, IsPlainTop, Shortens, trace, behind_found, still_to_come, picks_in, AreKept, GoOnFrom, IsEnded, Misses, IsHandedOut, coming_in};
 ghost use Rattle.mw_match.specs.Solutions.{PassesTo};
 ghost use Rattle.mw_search.specs.Lacking.{Skips};
 
 use crate::bindings::{bound, copied};
 use crate::hand::find;
 use crate::solutions::Solution;
-use mw_canon::Facts;
+use mw_canon::{Axioms, Facts};
 use mw_compile::Compiled;
 use mw_least::Ctx;
 use mw_search::{Search, clashes};
-use mw_term::{Seq, Term, View, compare, copy, number_at};
+use mw_term::{OpId, Seq, Term, View, compare, copy, number_at};
 use std::alloc::{AllocError, Global};
 
 /// An argument of the pattern on an element, by its index: the search for its matches, and the values that it goes on
@@ -69,22 +69,52 @@ fn is_again(elements: &[Term], before: Option<usize>, index: usize) -> bool
     }
 }
 
-/// Whether a pattern may have a match on an element that isn't the one before again.
+/// The operator on top of a pattern, where it has no axioms.
+fn plain_top(facts: &Facts, pattern: &Term) -> Option<OpId>
+    ensures { MatchOption result ⊤ (IsPlainTop facts.now pattern.now) }
+{
+    let View::Op(operator, _) = pattern.view() else {
+        return None;
+    };
+    match facts.axioms(operator) {
+        Axioms::Plain => Some(operator),
+        _ => None,
+    }
+}
+
+/// Whether a term has another operator on top than this one. Most elements of a large multiset are told by it.
+#[inline(always)]
+fn has_other(top: Option<OpId>, term: &Term) -> bool
+    ensures { result ≡ true → MatchOption top ⊥ (λ f. has_top f term.now ≡ false) }
+{
+    match (top, term.view()) {
+        (Some(operator), View::Op(other, _)) => operator != other,
+        _ => false,
+    }
+}
+
+/// Whether a pattern, which may have this operator on top, may have a match on an element that isn't the one before
+/// again.
 fn may_stand(
     facts: &Facts,
     elements: &[Term],
     pattern: &Term,
+    top: Option<OpId>,
     values: &[Term],
     index: usize,
     before: Option<usize>,
 ) -> bool
     requires there { index < length elements.now }
+    requires top { MatchOption top ⊤ (IsPlainTop facts.now pattern.now) }
     requires before { MatchOption before ⊤ (λ i. i < length elements.now) }
     ensures may { let args = terms_of elements.now in
         result ≡ true → is_again_of (option_map (λ b. term_at b args) before) (term_at index args) ≡ false }
     ensures not { let args = terms_of elements.now in
         result ≡ false → IsPassedBy facts.now args values.now pattern.now index before }
 {
+    if has_other(top, &elements[index]) {
+        return false;
+    }
     if clashes(facts, pattern, &elements[index], values) {
         return false;
     }
@@ -108,10 +138,11 @@ fn next_choice(
         let ks = taken_by [] below.now in
         Skips (ClashesAt facts.now values.now pattern.now) (choices_from args ks before from) (choices_at args ks result) }
 {
+    let top = plain_top(facts, pattern);
     let mut last = before;
     for i in from..elements.len() {
         if !is_taken(below, i) {
-            if may_stand(facts, elements, pattern, values, i, last) {
+            if may_stand(facts, elements, pattern, top, values, i, last) {
                 return Some(i);
             }
             last = Some(i);
@@ -231,7 +262,7 @@ impl<'c> Levels<'c> {
 
     /// The next argument of the pattern on the first element that it may match, going on from values.
     fn next_level(&self, values: &[Term]) -> Result<Option<Level<'c>>, AllocError>
-        ensures { let sig = self.now.context.now.signature in
+        ensures next { let sig = self.now.context.now.signature in
             let single = self.now.compiled.now.positions.single.items in
             let args = args_of self.now.subject in
             let ks = taken_by [] self.now.stack.items in
@@ -239,6 +270,10 @@ impl<'c> Levels<'c> {
             → skip (length self.now.stack.items) (args_of self.now.compiled.now.pattern) ≡ cons q rest
             → Shortens (trace sig single args (cons q rest) ks values.now)
             (behind_found sig single args q rest ks o)) }
+        ensures kept { let sig = self.now.context.now.signature in
+            let sorts = self.now.compiled.now.positions.sorts in
+            IfOk result (λ o. GoOnFrom sig sorts self.now.given values.now
+            → MatchOption o ⊤ (IsOn sig sorts self.now.given (number_of_terms (args_of self.now.subject)))) }
     {
         let depth = self.stack.len();
         let patterns = self.patterns();
@@ -325,7 +360,8 @@ impl<'c> Levels<'c> {
         let facts = self.context.facts();
         let values = last.given.as_slice();
         let from = last.at + 1;
-        let Some(at) = next_choice(facts, elements, below, pattern, values, from, Some(last.at)) else {
+        let Some(at) = next_choice(facts, elements, below, pattern, values, from, Some(last.at))
+        else {
             return Ok(None);
         };
         let level = self.level_on(pattern, at, &elements[at], values)?;
