@@ -1,14 +1,12 @@
 -- Arguments, and jobs that wait, as they are gone through one by one.
-use Rattle.std.specs.Prelude.{◌≡◌, ◌≢◌, ◌⊎◌, ◌≤◌, ◌<◌, ◌+◌, ◌-◌, min, ℕ, suc, List, [], ◌∷◌, ◌++◌, length, take, drop, true, false, nat_eq, refl}
-use Rattle.std.proofs.Common.{sym, ap, ◌∙◌, arith, inl, inr, get_or}
-use Rattle.std.proofs.Math.Seq.{drop-cons}
+use Rattle.std.specs.Prelude.{◌≡◌, ◌⊎◌, ◌≤◌, ◌<◌, ◌-◌, min, ℕ, List, [], ◌∷◌, ◌++◌, length, take, drop, true, false, refl}
+use Rattle.std.proofs.Common.{sym, ap, ◌∙◌, arith, inl, inr}
 use Rattle.std.proofs.lemmas.Bool.{both_ways}
 use Rattle.std.proofs.lemmas.List.{append_assoc, length-append, drop-append-le, take-append-le, take_all, drop_all}
 use Rattle.mw_logic.specs.Term.{RawTerm, RawTerms, nil, cons, join}
 use Rattle.mw_logic.specs.Terms.{terms_of, list_of}
 use Rattle.mw_logic.specs.Signature.{Signature}
 use Rattle.mw_logic.specs.NormalForm.{is_comm}
-use Rattle.mw_logic.proofs.Canonical.{nat_eq-refl}
 use Rattle.mw_logic.proofs.Pushed.{terms_of-append, join_pushed}
 use Rattle.mw_logic.proofs.SortLaws.{join-nil, join_assoc}
 use Rattle.mw_arguments.specs.Places.{chosen, others}

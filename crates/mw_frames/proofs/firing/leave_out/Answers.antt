@@ -1,4 +1,4 @@
-use Rattle.std.proofs.Common.{ap, sym, arith, ◌∙◌, ◌≡◌, ◌∷◌, [], ◌++◌, ◌-◌, min, length, take, drop, unwrap_or, slice_get}
+use Rattle.std.proofs.Common.{ap, sym, arith, ◌∙◌, ◌≡◌, ◌∷◌, [], ◌++◌, ◌-◌, min, length, take, unwrap_or, slice_get}
 use Rattle.std.proofs.lemmas.List.{append-nil}
 use Rattle.mw_logic.specs.Term.{join}
 use Rattle.mw_logic.specs.Terms.{terms_of}

@@ -1,4 +1,4 @@
-use Rattle.std.proofs.Common.{ap, sym, arith, ◌≡◌, ◌≢◌, ◌∙◌, ◌<◌, ◌+◌, ◌++◌, ◌∷◌, [], suc, get_or, length}
+use Rattle.std.proofs.Common.{ap, sym, arith, ◌≡◌, ◌≢◌, ◌∙◌, ◌<◌, ◌+◌, ◌∷◌, [], suc, get_or, length}
 use Rattle.std.proofs.lemmas.List.{nil_from_length}
 use Rattle.std.specs.Vec.Iter.{into_iter_items}
 use Rattle.mw_logic.specs.Terms.{terms_of}
