@@ -19,12 +19,13 @@ use Rattle.mw_reduce.specs.Driven.{EndsBy}
 use Rattle.mw_reduce.specs.declared.drive.End.{End}
 use Rattle.mw_reduce.specs.declared.drive.Outcome.{Outcome}
 use Rattle.mw_reduce.specs.declared.drive.Outcome.TheVariants.{Done, Stopped}
+use Rattle.mw_index.specs.declared.choices.Choice.{Choice}
 use Rattle.mw_rule.specs.Spots.{IsSpot}
 use Rattle.mw_rule.specs.declared.spots.Spot.{Spot}
 use Rattle.mw_rule.specs.declared.redexes.Found.{Found}
 use Rattle.mw_rule.specs.declared.rewriting.Bounds.{Bounds}
 use Rattle.mw_rule.specs.declared.rewriting.Looked.{Looked}
-use Rattle.mw_rule.specs.declared.rewriting.Looked.TheVariants.{Nothing, Fires, Halts}
+use Rattle.mw_rule.specs.declared.rewriting.Looked.TheVariants.{Nothing, Fires, Halts, Takes}
 use Rattle.mw_rule.specs.declared.rewriting.Stepped.{Stepped}
 use Rattle.mw_rule.specs.declared.rewriting.Stepped.TheVariants.{Goes, Ends}
 
@@ -51,6 +52,12 @@ pub record IsMadeAt (K : Run) (spots : List Spot) (t : RawTerm) (x : Found) (sid
   pub free : (ks : List ℕ) (f : ℕ) (ts : RawTerms) → x.choice.take ≡ Some ks → spot.term.now ≡ apply f ts → IsOpen K.over.signature true f 1
   pub made : IsMade K.over K.rank spot.term.now x.choice sides
 
+-- so to t itself, or to several of its arguments
+pub record IsMadeOf (K : Run) (t : RawTerm) (c : Choice) (sides : List Track) : Type 0 where
+  pub rule : c.by.now.rule ≡ true
+  pub free : (ks : List ℕ) (f : ℕ) (ts : RawTerms) → c.take ≡ Some ks → t ≡ apply f ts → IsOpen K.over.signature true f 1
+  pub made : IsMade K.over K.rank t c sides
+
 -- at a part of the whole t that rules may change it isn't told whether the condition of a rule holds
 pub record IsUntoldIn (K : Run) (side : ℕ) (t : RawTerm) (why : Reason) : Type 0 where
   pub context : Context
@@ -64,6 +71,7 @@ abbrev pub IsLooked : Run → ℕ → ℕ → Data → RawTerm → Looked → Ty
 IsLooked K count side d t Nothing = IsEnd K count d t × IsFinal K.over (nested K.over.signature t)
 IsLooked K count side d t (Fires f) = IsFired K true count d f × IsRefusedAs t f
 IsLooked K count side d t (Halts why) = IsEnd K count d t × IsUntoldIn K side t why
+IsLooked K count side d t (Takes c sides) = IsEnd K count d t × IsMadeOf K t c sides.items
 
 -- Why it goes on no further at the normal whole t.
 abbrev pub EndsThere : Run → ℕ → ℕ → Data → RawTerm → Outcome → Type 0

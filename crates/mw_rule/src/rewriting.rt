@@ -3,11 +3,11 @@ ghost use Rattle.std.specs.Prelude.{◌≡◌, ◌-◌, ℕ, true, option_map, I
 ghost use Rattle.mw_logic.specs.Term.{RawTerm};
 ghost use Rattle.mw_canon.specs.Canonical.{IsAdmittedTerm};
 ghost use Rattle.mw_index.specs.Index.{IsIndexOf, AreRulesOf};
-ghost use Rattle.mw_frames.specs.State.{Run, IsRun, Holds};
+ghost use Rattle.mw_frames.specs.State.{Run, Data, IsRun, Holds};
 ghost use Rattle.mw_frames.specs.Steps.{IsEnd};
 ghost use Rattle.mw_frames.specs.Machines.{data_of};
 ghost use Rattle.mw_rule.specs.Spots.{AreWanted};
-ghost use Rattle.mw_rule.specs.Stepped.{IsMadeAt, IsLooked, IsStepped, IsRewrittenBy};
+ghost use Rattle.mw_rule.specs.Stepped.{IsAt, IsMadeAt, IsMadeOf, IsLooked, IsStepped, IsRewrittenBy};
 ghost use Rattle.mw_rule.specs.Rewritings.{IsRewritingOf};
 ghost use Rattle.mw_rule.specs.declared.rewriting.Stepped.TheVariants.{Ends as EndsOf};
 ghost use Rattle.mw_frames.specs.Fires.{IsFired, IsRefusedAs};
@@ -44,6 +44,8 @@ enum Looked<'m> {
     Fires(Fired<'m>),
     /// It isn't told whether the condition of one holds.
     Halts(Reason),
+    /// One applies to the whole, or to several of its arguments; these show its condition.
+    Takes(Choice<'m>, Vec<Trail>),
 }
 
 /// What comes of it.
@@ -51,6 +53,38 @@ enum Looked<'m> {
 enum Stepped<'m> {
     Goes(Hand<'m>),
     Ends(End),
+}
+
+/// A rule is applied to what is in hand, or to several of its arguments.
+fn fire_in_hand<'m>(
+    alloc: Global,
+    context: &'m Ctx,
+    machine: &mut Machine<'m>,
+    part: Term,
+    choice: Choice<'m>,
+    sides: Vec<Trail>,
+) -> Result<Fired<'m>, AllocError>
+    ensures { (K : Run) (k : ℕ) (t : RawTerm) → IsRun K context.now.signature → K.over ≡ context.now → IsAt K k (data_of K.over machine.old) part t
+        → IsMadeOf K part choice.entry sides.items
+        → IfOk result (λ f. IsFired K true k (data_of K.over machine.new) f × IsRefusedAs t f) }
+{
+    let Choice {
+        by,
+        mut values,
+        take,
+    } = choice;
+    let mut sides = sides;
+    let fired = fire(
+        alloc,
+        context.facts(),
+        machine,
+        Asked::Term(part),
+        applied(by),
+        &mut sides,
+        &mut values,
+        &take,
+    )?;
+    Ok(fired)
 }
 
 /// A rule is applied at a part of the whole.
@@ -67,34 +101,36 @@ pub fn fire_at<'m>(
         → IfOk result (λ f. IsFired K true k (data_of K.over machine.new) f × IsRefusedAs t f) }
 {
     let Found { at, choice } = found;
-    let Choice {
-        by,
-        mut values,
-        take,
-    } = choice;
-    let mut sides = sides;
-    context.shows();
-    let facts = context.facts();
     machine.restart();
-    go_to(alloc, facts, machine, spots, at)?;
+    go_to(alloc, context.facts(), machine, spots, at)?;
     let part = match spots.get(at) {
         Some(spot) => copy(spot.term)?,
         None => return Err(AllocError),
     };
-    let fired = fire(
-        alloc,
-        facts,
-        machine,
-        Asked::Term(part),
-        applied(by),
-        &mut sides,
-        &mut values,
-        &take,
-    )?;
+    let fired = fire_in_hand(alloc, context, machine, part, choice, sides)?;
     Ok(fired)
 }
 
-/// The first rule that applies to a normal whole is applied.
+/// A rule is applied to the whole, or to several of its arguments. Where nothing else holds the whole, its other
+/// arguments are moved.
+fn fire_whole<'m>(
+    alloc: Global,
+    context: &'m Ctx,
+    machine: &mut Machine<'m>,
+    whole: Term,
+    choice: Choice<'m>,
+    sides: Vec<Trail>,
+) -> Result<Fired<'m>, AllocError>
+    ensures { (K : Run) (k : ℕ) → IsRun K context.now.signature → K.over ≡ context.now → IsEnd K k (data_of K.over machine.old) whole
+        → IsMadeOf K whole choice.entry sides.items
+        → IfOk result (λ f. IsFired K true k (data_of K.over machine.new) f × IsRefusedAs whole f) }
+{
+    machine.restart();
+    let fired = fire_in_hand(alloc, context, machine, whole, choice, sides)?;
+    Ok(fired)
+}
+
+/// The first rule that applies to a normal whole is applied, unless that is at the whole itself.
 fn look<'m>(
     alloc: Global,
     context: &'m Ctx,
@@ -122,6 +158,10 @@ fn look<'m>(
         };
         match try_choice(alloc, context, index, &mut found.choice, side, 63)? {
             Attempt::Made(sides) => {
+                if found.at == 0 {
+                    let Found { choice, .. } = found;
+                    return Ok(Looked::Takes(choice, sides));
+                }
                 let fired = fire_at(alloc, context, machine, spots.as_slice(), found, sides)?;
                 return Ok(Looked::Fires(fired));
             }
@@ -152,9 +192,23 @@ fn step<'m>(
     match look(alloc, context, index, machine, rules, wanted, &term, side)? {
         Looked::Nothing => Ok(ended(term, Outcome::Done)),
         Looked::Halts(reason) => Ok(ended(term, Outcome::Stopped(reason))),
-        Looked::Fires(Fired::Goes(hand)) => Ok(Stepped::Goes(hand)),
-        Looked::Fires(Fired::TooDeep(whole)) => Ok(ended(whole, Outcome::Stopped(Reason::Depth))),
-        Looked::Fires(Fired::TooLarge(whole)) => Ok(ended(whole, Outcome::Stopped(Reason::Nat))),
+        Looked::Fires(fired) => Ok(after(fired)),
+        Looked::Takes(choice, sides) => {
+            let fired = fire_whole(alloc, context, machine, term, choice, sides)?;
+            Ok(after(fired))
+        }
+    }
+}
+
+/// What comes of a rule that fired.
+fn after<'m>(fired: Fired<'m>) -> Stepped<'m>
+    ensures { (K : Run) (k side : ℕ) (old new : Data) (t : RawTerm) → K.rank ≡ 63 → IsEnd K k old t
+        → IsFired K true k new fired → IsRefusedAs t fired → IsStepped K k side new result }
+{
+    match fired {
+        Fired::Goes(hand) => Stepped::Goes(hand),
+        Fired::TooDeep(whole) => ended(whole, Outcome::Stopped(Reason::Depth)),
+        Fired::TooLarge(whole) => ended(whole, Outcome::Stopped(Reason::Nat)),
     }
 }
 

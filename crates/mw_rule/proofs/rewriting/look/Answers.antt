@@ -1,5 +1,4 @@
-use Rattle.std.proofs.Common.{refl, ap, sym, subst, ◌∙◌, ◌∷◌, ◌++◌, [], true}
-use Rattle.mw_logic.specs.CanonicalPart.{IsOpen}
+use Rattle.std.proofs.Common.{refl, ap, sym, subst, ◌∷◌, ◌++◌, [], true, arith}
 use Rattle.mw_logic.specs.Parts.{nested}
 use Rattle.mw_logic.specs.Module.{Module}
 use Rattle.mw_logic.specs.Judgements.{admitted_judgements}
@@ -12,12 +11,12 @@ use Rattle.mw_frames.specs.Steps.{IsEnd}
 use Rattle.mw_solving.specs.Values.{IsValue}
 use Rattle.mw_reduce.specs.Attempts.{IsAttempt, IsMade, IsHaltingAt}
 use Rattle.mw_reduce.proofs.Asks.{none_failed, failed_more}
-use Rattle.mw_rule.specs.Spots.{IsReached, IsSpot, AreAllSpots}
+use Rattle.mw_rule.specs.Spots.{IsReached, AreAllSpots}
 use Rattle.mw_rule.specs.Redexes.{IsFoundAt, IsFoundIn, AreAsked}
-use Rattle.mw_rule.specs.Stepped.{AreWays, IsMadeAt}
+use Rattle.mw_rule.specs.Stepped.{IsMadeAt}
 use Rattle.mw_rule.specs.declared.redexes.Found.{Found}
 use Rattle.mw_rule.proofs.Finals.{all_fail, reached_value}
-use Rattle.mw_rule.proofs.Looking.{spots_values, triable}
+use Rattle.mw_rule.proofs.Looking.{spots_values, triable, made_in, made_first}
 use Rattle.mw_rule.proofs.Untold.{untold}
 use Rattle.mw_rule.proofs.rewriting.look.Goals as goal
 
@@ -69,6 +68,25 @@ loop-rounds-preserved c = (
       (tried ++ tried_of q ∷ [], failed_more M 63 tried (tried_of q) failed (rw c.in-Fails.is at told), z.1),
 )
 
+pub returns-in-Made-then-found : goal.returns-in-Made-then-found
+returns-in-Made-then-found c = λ K k run here rank e.
+    let M : Module = c.args.context.now in
+    let t = c.args.term.now in
+    let ss = c.in_ok-spots.spots.items in
+    let q : Choice = c.in-Some.found.choice in
+    let n : IsNormalTerm M (admitted_judgements M 63).Fails t = subst (λ r. IsNormalTerm M (admitted_judgements M r).Fails t) rank (subst (λ (N : Module). IsNormalTerm N (admitted_judgements N K.rank).Fails t) here e.normal) in
+    let listed : AreAllSpots M.signature c.args.wanted t ss = subst (λ g. AreAllSpots g c.args.wanted t ss) c.facts.ensures c.in_ok-spots.ensures in
+    let (tried, failed, asked) = c.loop-rounds.invariant.1 n in
+    let z : IsFoundIn M ss c.in-Some.found × AreAsked M c.args.rules.now ss (tried ++ tried_of q ∷ []) c.next.new.self =
+    rw c.in-Some.is at (rw c.as_slice.ensures.value at c.in_ok-found.ensures.is tried (spots_values M c.shows.ensures t n c.args.wanted ss listed) asked) in
+    let told = c.in_ok-sides.ensures.means z.0.spot.term.now (triable M c.shows.ensures t n c.args.wanted ss listed c.in-Some.found z.0) in
+    let made : IsMade M 63 z.0.spot.term.now c.try_choice.new.choice c.in-Made.sides.items = subst (IsAttempt M 63 c.args.side z.0.spot.term.now q c.try_choice.new.choice) c.in-Made.is told in
+    let same = c.in_ok-sides.ensures.same in
+    let x : Found = record { at = c.in-Some.found.at; choice = c.try_choice.new.choice } in
+    let is : IsMadeAt K ss t x c.in-Made.sides.items = made_in M K here rank t c.args.wanted ss listed c.in-Some.found z.0 c.try_choice.new.choice c.in-Made.sides.items (ap (λ (y : Choice). y.by.now.rule) same) (ap (λ (y : Choice). y.take) same) made in
+    let old : IsEnd K k (data_of K.over c.loop-rounds.machine) t = subst (λ m. IsEnd K k (data_of K.over m) t) (sym c.loop-rounds.invariant.0) e in
+    (old, made_first K t ss x c.in-Made.sides.items (omega (arith, c.if-found.true)) is)
+
 pub returns-in-Made : goal.returns-in-Made
 returns-in-Made c = λ K k run here rank e.
     let M : Module = c.args.context.now in
@@ -83,17 +101,8 @@ returns-in-Made c = λ K k run here rank e.
     let told = c.in_ok-sides.ensures.means z.0.spot.term.now (triable M c.shows.ensures t n c.args.wanted ss listed c.in-Some.found z.0) in
     let made : IsMade M 63 z.0.spot.term.now c.try_choice.new.choice c.in-Made.sides.items = subst (IsAttempt M 63 c.args.side z.0.spot.term.now q c.try_choice.new.choice) c.in-Made.is told in
     let same = c.in_ok-sides.ensures.same in
-    let made_there : IsMade K.over K.rank z.0.spot.term.now c.try_choice.new.choice c.in-Made.sides.items = subst (λ r. IsMade K.over r z.0.spot.term.now c.try_choice.new.choice c.in-Made.sides.items) (sym rank) (subst (λ (N : Module). IsMade N 63 z.0.spot.term.now c.try_choice.new.choice c.in-Made.sides.items) (sym here) made) in
     let x : Found = record { at = c.in-Some.found.at; choice = c.try_choice.new.choice } in
-    let ways : AreWays K.over.signature t ss = λ j s a. subst (λ (N : Module). IsSpot N.signature t ss j s) (sym here) (listed.sound j s a) in
-    let is : IsMadeAt K ss t x c.in-Made.sides.items = record {
-      ways = ways;
-      spot = z.0.spot;
-      there = z.0.there;
-      rule = ap (λ (y : Choice). y.by.now.rule) same ∙ z.0.found.rule;
-      free = λ ks f ts a b. subst (λ (N : Module). IsOpen N.signature true f 1) (sym here) (z.0.found.free ks f ts (sym (ap (λ (y : Choice). y.take) same) ∙ a) b);
-      made = made_there;
-    } in
+    let is : IsMadeAt K ss t x c.in-Made.sides.items = made_in M K here rank t c.args.wanted ss listed c.in-Some.found z.0 c.try_choice.new.choice c.in-Made.sides.items (ap (λ (y : Choice). y.by.now.rule) same) (ap (λ (y : Choice). y.take) same) made in
     let old : IsEnd K k (data_of K.over c.loop-rounds.machine) t = subst (λ m. IsEnd K k (data_of K.over m) t) (sym c.loop-rounds.invariant.0) e in
     c.in_ok-fired-in-Made.ensures K k t run here old (subst (λ ys. IsMadeAt K ys t x c.in-Made.sides.items) (sym c.as_slice-in-Made.ensures.value) is)
 
