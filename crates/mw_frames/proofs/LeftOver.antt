@@ -1,18 +1,15 @@
 -- Arguments, and jobs that wait, as they are gone through one by one.
-use Rattle.std.specs.Prelude.{◌≡◌, ◌≢◌, ◌⊎◌, ◌≤◌, ◌<◌, ◌+◌, ◌-◌, min, ℕ, suc, List, [], ◌∷◌, ◌++◌, length, take, drop, true, false, nat_eq, refl}
-use Rattle.std.proofs.Common.{sym, ap, ◌∙◌, arith, inl, inr, get_or}
-use Rattle.std.proofs.Math.Seq.{drop-cons}
+use Rattle.std.specs.Prelude.{◌≡◌, ◌⊎◌, ◌≤◌, ◌<◌, ◌-◌, min, ℕ, List, [], ◌∷◌, ◌++◌, length, take, drop, true, false, refl}
+use Rattle.std.proofs.Common.{sym, ap, ◌∙◌, arith, inl, inr}
 use Rattle.std.proofs.lemmas.Bool.{both_ways}
 use Rattle.std.proofs.lemmas.List.{append_assoc, length-append, drop-append-le, take-append-le, take_all, drop_all}
 use Rattle.mw_logic.specs.Term.{RawTerm, RawTerms, nil, cons, join}
 use Rattle.mw_logic.specs.Terms.{terms_of, list_of}
 use Rattle.mw_logic.specs.Signature.{Signature}
 use Rattle.mw_logic.specs.NormalForm.{is_comm}
-use Rattle.mw_logic.proofs.Canonical.{nat_eq-refl}
 use Rattle.mw_logic.proofs.Pushed.{terms_of-append, join_pushed}
 use Rattle.mw_logic.proofs.SortLaws.{join-nil, join_assoc}
-use Rattle.mw_arguments.specs.Places.{others}
-use Rattle.mw_arguments.proofs.Middles.{differ}
+use Rattle.mw_arguments.specs.Places.{chosen, others}
 use Rattle.mw_frames.specs.declared.job.Job.{Job}
 use Rattle.mw_frames.specs.declared.job.Job.TheVariants.{Normal}
 use Rattle.mw_frames.specs.Jobs.{term_of, rest}
@@ -20,64 +17,7 @@ use Rattle.mw_stack.proofs.Piles.{front-terms_of, skip-terms_of}
 use Rattle.mw_stack.proofs.Piles as piles
 use Rattle.mw_frames.specs.Taking.{before_taken, behind_taken, waiting_normal, IsLeft}
 use Rattle.mw_frames.proofs.Turning.{rest-append}
-
-none_other : (i : ℕ) (k : ℕ) (ks : List ℕ) (t : RawTerm) (ts : RawTerms) → i ≡ k → others i (k ∷ ks) (cons t ts) ≡ others (suc i) ks ts
-none_other i k ks t ts e = rw (ap (nat_eq i) (sym e) ∙ nat_eq-refl i) refl
-
-one_other : (i : ℕ) (k : ℕ) (ks : List ℕ) (t : RawTerm) (ts : RawTerms) → i ≢ k → others i (k ∷ ks) (cons t ts) ≡ cons t (others (suc i) (k ∷ ks) ts)
-one_other i k ks t ts n = rw (differ i k n) refl
-
-module _ (first i next : ℕ) (ns : List ℕ) (ts : List RawTerm) (t : RawTerm) (within : i < length ts) (is : t ≡ get_or ts i t) (found : RawTerms) (z : RawTerms)
-    (so_far : join found (others (first + i) (drop next ns) (terms_of (drop i ts))) ≡ z) where
-  here : drop i ts ≡ t ∷ drop (suc i) ts
-  here = drop-cons ts i t within ∙ ap (λ u. u ∷ drop (suc i) ts) (sym is)
-
-  one_on : first + (i + 1) ≡ suc (first + i)
-  one_on = omega arith
-
-  plus_one : (n : ℕ) → n + 1 ≡ suc n
-  plus_one n = omega arith
-
-  -- its number is one of these
-  pub passed_over : (l : next < length ns) → get_or ns next 0 ≡ first + i → join found (others (first + (i + 1)) (drop (next + 1) ns) (terms_of (drop (i + 1) ts))) ≡ z
-  passed_over l e =
-      let m : drop next ns ≡ get_or ns next 0 ∷ drop (suc next) ns = drop-cons ns next 0 l in
-      let a : others (first + i) (drop next ns) (terms_of (drop i ts)) ≡ others (suc (first + i)) (drop (suc next) ns) (terms_of (drop (suc i) ts)) =
-      ap (λ ks. others (first + i) ks (terms_of (drop i ts))) m ∙ ap (λ us. others (first + i) (get_or ns next 0 ∷ drop (suc next) ns) (terms_of us)) here
-      ∙ none_other (first + i) (get_or ns next 0) (drop (suc next) ns) t (terms_of (drop (suc i) ts)) (sym e) in
-      ap (join found) (ap (λ n. others n (drop (next + 1) ns) (terms_of (drop (i + 1) ts))) one_on ∙ ap (λ n. others (suc (first + i)) (drop n ns) (terms_of (drop (i + 1) ts))) (plus_one next)
-      ∙ ap (λ n. others (suc (first + i)) (drop (suc next) ns) (terms_of (drop n ts))) (plus_one i) ∙ sym a) ∙ so_far
-
-  -- it is none of these
-  pub put_behind : (next < length ns → get_or ns next 0 ≢ first + i) → next ≤ length ns → (found' : RawTerms) → found' ≡ join found (cons t nil)
-      → join found' (others (first + (i + 1)) (drop next ns) (terms_of (drop (i + 1) ts))) ≡ z
-  put_behind n l found' e =
-      let a : others (first + i) (drop next ns) (terms_of (drop i ts)) ≡ cons t (others (suc (first + i)) (drop next ns) (terms_of (drop (suc i) ts))) =
-      ap (λ us. others (first + i) (drop next ns) (terms_of us)) here ∙ by_numbers (Rattle.std.proofs.lemmas.Bool.cases_lt next (length ns)) in
-      ap (join found') (ap (λ m. others m (drop next ns) (terms_of (drop (i + 1) ts))) one_on ∙ ap (λ m. others (suc (first + i)) (drop next ns) (terms_of (drop m ts))) (plus_one i))
-      ∙ ap (λ us. join us (others (suc (first + i)) (drop next ns) (terms_of (drop (suc i) ts)))) e
-      ∙ join_assoc found (cons t nil) (others (suc (first + i)) (drop next ns) (terms_of (drop (suc i) ts)))
-      ∙ ap (join found) (sym a) ∙ so_far
-    where
-      by_numbers : (next < length ns) ⊎ (length ns ≤ next) → others (first + i) (drop next ns) (cons t (terms_of (drop (suc i) ts))) ≡ cons t (others (suc (first + i)) (drop next ns) (terms_of (drop (suc i) ts)))
-      by_numbers (inl l) =
-          let m : drop next ns ≡ get_or ns next 0 ∷ drop (suc next) ns = drop-cons ns next 0 l in
-          let d : first + i ≢ get_or ns next 0 = λ q. n l (sym q) in
-          ap (λ ks. others (first + i) ks (cons t (terms_of (drop (suc i) ts)))) m ∙ one_other (first + i) (get_or ns next 0) (drop (suc next) ns) t (terms_of (drop (suc i) ts)) d
-          ∙ ap (λ ks. cons t (others (suc (first + i)) ks (terms_of (drop (suc i) ts)))) (sym m)
-      by_numbers (inr l) =
-          let m : drop next ns ≡ [] = drop_all next ns l in
-          ap (λ ks. others (first + i) ks (cons t (terms_of (drop (suc i) ts)))) m ∙ ap (λ ks. cons t (others (suc (first + i)) ks (terms_of (drop (suc i) ts)))) (sym m)
-
--- all were gone through
-pub none_left : (first i next : ℕ) (ns : List ℕ) (ts : List RawTerm) (found z : RawTerms) → length ts ≤ i → join found (others (first + i) (drop next ns) (terms_of (drop i ts))) ≡ z → found ≡ z
-none_left first i next ns ts found z l e =
-    let a : others (first + i) (drop next ns) (terms_of (drop i ts)) ≡ nil = ap (λ us. others (first + i) (drop next ns) (terms_of us)) (drop_all i ts l) ∙ nothing (first + i) (drop next ns) in
-    sym (join-nil found) ∙ ap (join found) (sym a) ∙ e
-  where
-    nothing : (i : ℕ) (ks : List ℕ) → others i ks nil ≡ nil
-    nothing i [] = refl
-    nothing i (k ∷ ks) = refl
+use Rattle.mw_frames.proofs.ChosenOnes.{chosen_later}
 
 waiting-last : (ts : List RawTerm) (t : RawTerm) → waiting_normal (ts ++ t ∷ []) ≡ Normal t ∷ waiting_normal ts
 waiting-last [] t = refl
@@ -139,6 +79,11 @@ terms_of-list_of nil = refl
 terms_of-list_of (cons t ts) = ap (cons t) (terms_of-list_of ts)
 
 -- Arguments are cut before the first one that is taken.
+pub taken_behind : (k : ℕ) (ks : List ℕ) (args : List RawTerm) (at : ℕ) → at ≡ min (k - 1) (length args) → 1 ≤ k → chosen k (k ∷ ks) (terms_of (drop at args)) ≡ chosen 1 (k ∷ ks) (terms_of args)
+taken_behind k ks args at e l =
+    ap (λ n. chosen k (k ∷ ks) (terms_of (drop n args))) e ∙ ap (λ us. chosen k (k ∷ ks) (terms_of us)) (cut_at (k - 1) args).0 ∙ ap (chosen k (k ∷ ks)) (sym (skip-terms_of (k - 1) args))
+    ∙ sym (chosen_later k ks 1 (k - 1) (terms_of args) (omega (arith, l)))
+
 module _ (sig : Signature) (f k : ℕ) (ks : List ℕ) (args : List RawTerm) (at : ℕ) (e : at ≡ min (k - 1) (length args)) where
   before_is : terms_of (take at args) ≡ before_taken (k ∷ ks) (terms_of args)
   before_is = ap (λ n. terms_of (take n args)) e ∙ ap terms_of (cut_at (k - 1) args).1 ∙ sym (front-terms_of (k - 1) args)

@@ -1,6 +1,7 @@
 // A statement is applied.
 ghost use Rattle.std.specs.Prelude.{◌≡◌, ℕ, suc, Bool, List, IsTrue, IsFalse, IfOk, OnOk, None, Some, reverse, take as take_first};
 ghost use Rattle.mw_logic.specs.Term.{RawTerm, RawTerms, apply as applied};
+ghost use Rattle.mw_logic.specs.Terms.{terms_of};
 ghost use Rattle.mw_logic.specs.Parts.{nested};
 ghost use Rattle.mw_logic.specs.Module.{Module};
 ghost use Rattle.mw_matching.specs.Matches.{evaluated};
@@ -20,7 +21,7 @@ ghost use Rattle.mw_frames.specs.declared.looking.Asked.TheVariants.{Own as OwnO
 ghost use Rattle.mw_frames.specs.declared.limits.Fit.TheVariants.{Fits as FitsOf};
 
 use crate::coming::{part_job, wait_parts};
-use crate::firing::{apply_whole, leave_hole, part_of, take_out};
+use crate::firing::{apply_whole, leave_hole, take_out};
 use crate::job::{Frame, Hand};
 use crate::limits::{Around, Fit, cut, fit_right};
 use crate::looking::Asked;
@@ -218,24 +219,24 @@ fn go_several<'m>(
     Ok(())
 }
 
-/// Nothing is applied to several arguments, which are in hand: the whole as it stands.
+/// Nothing is applied to several arguments of this operator, which are in hand: the whole as it stands.
 pub(crate) fn refuse_part<'m>(
     alloc: Global,
     facts: &Facts,
     machine: &mut Machine<'m>,
-    term: &Term,
-    numbers: &[u32],
+    operator: OpId,
+    taken: Vec<Term>,
     deep: bool,
 ) -> Result<Fired<'m>, AllocError>
-    ensures means { (K : Run) (b : Bool) (k : ℕ) (w : RawTerm) → IsRun K facts.now → IsSeveral facts.now numbers.now term.now w
+    ensures means { (K : Run) (b : Bool) (k : ℕ) (w : RawTerm) → IsRun K facts.now → w ≡ applied operator (terms_of taken.items)
         → (h : InHand K k (data_of K.over machine.old) (WalkOf w))
         → ((t : RawTerm) → t ≡ in_whole K.over.signature h.stand.opens h.stand.hand → Refuses K b deep (nested K.over.signature t))
         → IfOk result (IsFired K b k (data_of K.over machine.new)) }
-    ensures same { (K : Run) (k : ℕ) (w : RawTerm) → IsRun K facts.now → IsSeveral facts.now numbers.now term.now w
+    ensures same { (K : Run) (k : ℕ) (w : RawTerm) → IsRun K facts.now → w ≡ applied operator (terms_of taken.items)
         → (h : InHand K k (data_of K.over machine.old) (WalkOf w))
         → IfOk result (IsRefusedAs (in_whole K.over.signature h.stand.opens h.stand.hand)) }
 {
-    let part = part_of(alloc, top_of(term), term, numbers)?;
+    let part = Term::apply(alloc, operator, taken)?;
     let fired = refuse(alloc, facts, machine, part, deep)?;
     Ok(fired)
 }
@@ -259,18 +260,18 @@ fn fire_several<'m>(
         → IsSeveral facts.now numbers.now term w → HasWhole K k (data_of K.over machine.old) t → IfOk result (IsRefusedAs t) }
 {
     let frame = new_frame(facts, machine, top_of(&term))?;
-    take_out(alloc, facts, machine, frame, &term, numbers)?;
+    let taken = take_out(alloc, facts, machine, frame, term, numbers)?;
     match fit_here(alloc, facts, machine, by, values.as_slice())? {
         Fit::Fits => {
             go_several(alloc, facts, machine, frame, by, sides, values)?;
             Ok(Fired::Goes(Hand::Over(frame)))
         }
         Fit::TooDeep => {
-            let fired = refuse_part(alloc, facts, machine, &term, numbers, true)?;
+            let fired = refuse_part(alloc, facts, machine, frame.op, taken, true)?;
             Ok(fired)
         }
         Fit::TooLarge => {
-            let fired = refuse_part(alloc, facts, machine, &term, numbers, false)?;
+            let fired = refuse_part(alloc, facts, machine, frame.op, taken, false)?;
             Ok(fired)
         }
     }

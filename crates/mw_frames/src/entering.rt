@@ -38,7 +38,8 @@ pub fn enter(
     };
     let frame = new_frame(facts, machine, operator)?;
     let comm = is_comm(facts, operator);
-    leave_out(alloc, comm, machine, args, &[number])?;
+    let all = copy(term)?.into_args(alloc)?;
+    leave_out(alloc, comm, machine, all, &[number])?;
     if !stands_beside(facts, machine, frame) {
         return Ok(None);
     }

@@ -1,8 +1,8 @@
 // What is in hand is replaced, and several arguments are gone into.
-ghost use Rattle.std.specs.Prelude.{◌≡◌, ℕ, suc, Bool, true, IfOk, OnOk};
+ghost use Rattle.std.specs.Prelude.{◌≡◌, ◌≤◌, ℕ, suc, Bool, true, IfOk, OnOk};
 ghost use Rattle.std.specs.Prelude.{List, [], ◌∷◌, ◌++◌, length, reverse};
 ghost use Rattle.mw_logic.specs.Term.{RawTerm, apply as applied, join};
-ghost use Rattle.mw_logic.specs.Terms.{terms_of, args_of};
+ghost use Rattle.mw_logic.specs.Terms.{terms_of};
 ghost use Rattle.mw_logic.specs.Signature.{Signature};
 ghost use Rattle.mw_logic.specs.Parts.{is_assoc};
 ghost use Rattle.mw_logic.specs.Module.{Module};
@@ -23,7 +23,7 @@ ghost use Rattle.mw_frames.specs.declared.job.Frame.{Frame as FrameOf};
 use crate::job::{Frame, Job};
 use crate::machine::Machine;
 use mw_canon::{Axioms, Facts};
-use mw_term::{OpId, Term, View, copy};
+use mw_term::{OpId, Term};
 use mw_trail::Trail;
 use std::alloc::{AllocError, Global};
 use std::mem::replace;
@@ -79,25 +79,30 @@ pub(crate) fn is_comm(facts: &Facts, operator: OpId) -> bool
     }
 }
 
-/// Puts the terms, numbered from `first` on, that have none of these numbers behind those that were found.
-pub(crate) fn push_others(
+/// Sets apart the terms, numbered from `first` on, that have one of these numbers. The others come behind those that
+/// were found.
+fn set_apart(
+    alloc: Global,
     first: u32,
     numbers: &[u32],
-    terms: &[Term],
+    terms: Vec<Term>,
     found: &mut Vec<Term>,
-) -> Result<(), AllocError>
-    ensures { OnOk result (terms_of found.new.items
-        ≡ join (terms_of found.old.items) (others first numbers.now (terms_of terms.now))) }
+) -> Result<Vec<Term>, AllocError>
+    ensures taken { IfOk result (λ ts. terms_of ts.items ≡ chosen first numbers.now (terms_of terms.items)) }
+    ensures left { OnOk result (terms_of found.new.items
+        ≡ join (terms_of found.old.items) (others first numbers.now (terms_of terms.items))) }
 {
+    let mut taken = Vec::new(alloc);
     let mut next = 0;
-    for (i, term) in terms.iter().enumerate() {
+    for (i, term) in terms.into_iter().enumerate() {
         if next < numbers.len() && numbers[next] as usize == first as usize + i {
             next += 1;
+            taken.push(term)?;
         } else {
-            found.push(copy(term)?)?;
+            found.push(term)?;
         }
     }
-    Ok(())
+    Ok(taken)
 }
 
 /// Terms that are normal wait, the first one next.
@@ -111,89 +116,80 @@ fn wait_normal<'m>(terms: Vec<Term>, jobs: &mut Vec<Job<'m>>) -> Result<(), Allo
     Ok(())
 }
 
-/// The terms, numbered from `first` on, that have none of these numbers wait, the first one next.
+/// Sets apart the terms, numbered from `first` on, that have one of these numbers. The others wait, the first one next.
 fn wait_others(
     alloc: Global,
     first: u32,
     numbers: &[u32],
-    terms: &[Term],
+    terms: Vec<Term>,
     jobs: &mut Vec<Job<'_>>,
-) -> Result<(), AllocError>
-    ensures { OnOk result ((us : List RawTerm) × (jobs.new.items ≡ jobs.old.items ++ waiting_normal us)
-        × (terms_of us ≡ others first numbers.now (terms_of terms.now))) }
+) -> Result<Vec<Term>, AllocError>
+    ensures taken { IfOk result (λ ts. terms_of ts.items ≡ chosen first numbers.now (terms_of terms.items)) }
+    ensures left { OnOk result ((us : List RawTerm) × (jobs.new.items ≡ jobs.old.items ++ waiting_normal us)
+        × (terms_of us ≡ others first numbers.now (terms_of terms.items))) }
 {
     let mut waiting = Vec::new(alloc);
-    push_others(first, numbers, terms, &mut waiting)?;
+    let taken = set_apart(alloc, first, numbers, terms, &mut waiting)?;
     wait_normal(waiting, jobs)?;
-    Ok(())
+    Ok(taken)
 }
 
-/// The arguments that have none of these numbers, of which there is one: all are done where their order doesn't
-/// matter, else those before the first number are done and those behind it wait.
+/// Takes out the arguments that have these numbers, of which there is one: all others are done where their order
+/// doesn't matter, else those before the first number are done and those behind it wait.
 pub(crate) fn leave_out(
     alloc: Global,
     comm: bool,
     machine: &mut Machine<'_>,
-    args: &[Term],
+    args: Vec<Term>,
     numbers: &[u32],
-) -> Result<(), AllocError>
+) -> Result<Vec<Term>, AllocError>
+    ensures taken { (k : ℕ) (ks : List ℕ) → numbers.now ≡ k ∷ ks → 1 ≤ k
+        → IfOk result (λ ts. terms_of ts.items ≡ chosen 1 (k ∷ ks) (terms_of args.items)) }
     ensures left { (sig : Signature) (f k : ℕ) (ks : List ℕ) → comm ≡ comm_of sig f → numbers.now ≡ k ∷ ks
         → OnOk result ((os : List RawTerm) × (ys : List JobOf)
         × (machine.new.done.items ≡ machine.old.done.items ++ os)
         × (machine.new.jobs.items ≡ machine.old.jobs.items ++ ys)
-        × IsLeft sig f (k ∷ ks) (terms_of args.now) os ys) }
+        × IsLeft sig f (k ∷ ks) (terms_of args.items) os ys) }
     ensures frames { machine.new.frames.items ≡ machine.old.frames.items }
     ensures kept { machine.new.kept ≡ machine.old.kept }
 {
     let first = numbers.first().copied().unwrap_or(0);
+    let mut args = args;
     let at = (first as usize).saturating_sub(1).min(args.len());
-    let (before, behind) = args.split_at(at);
-    push_others(0, &[], before, &mut machine.done)?;
+    let behind = args.split_off(at)?;
+    machine.done.append(&mut args)?;
     if comm {
-        push_others(first, numbers, behind, &mut machine.done)?;
-        return Ok(());
+        let taken = set_apart(alloc, first, numbers, behind, &mut machine.done)?;
+        return Ok(taken);
     }
-    wait_others(alloc, first, numbers, behind, &mut machine.jobs)?;
-    Ok(())
-}
-
-/// The arguments of the operator on top.
-fn arguments(term: &Term) -> &[Term]
-    ensures { terms_of result.now ≡ args_of term.now }
-{
-    match term.view() {
-        View::Op(_, args) => args,
-        _ => &[],
-    }
+    let taken = wait_others(alloc, first, numbers, behind, &mut machine.jobs)?;
+    Ok(taken)
 }
 
 /// Several arguments of the term in hand, whose numbers these are, are gone into: the others come to a new frame of the
-/// same operator, in whose hole they stand.
+/// same operator, in whose hole they stand. They are moved where no other term shares them.
 pub(crate) fn take_out(
     alloc: Global,
     facts: &Facts,
     machine: &mut Machine<'_>,
     frame: Frame,
-    subject: &Term,
+    subject: Term,
     numbers: &[u32],
-) -> Result<(), AllocError>
-    ensures { (K : Run) (k : ℕ) (w : RawTerm) → IsRun K facts.now
-        → (h : InHand K k (data_of K.over machine.old) (TryOf subject.now))
+) -> Result<Vec<Term>, AllocError>
+    ensures taken { (sig : Signature) (w : RawTerm) → HasOnTop frame.op subject → IsSeveral sig numbers.now subject w
+        → IfOk result (λ ts. w ≡ applied frame.op (terms_of ts.items)) }
+    ensures asked { (K : Run) (k : ℕ) (w : RawTerm) → IsRun K facts.now
+        → (h : InHand K k (data_of K.over machine.old) (TryOf subject))
         → IsNewFrame facts.now (reverse machine.old.frames.items)
         machine.old.done.items machine.old.jobs.items frame.op frame
-        → HasOnTop frame.op subject.now → IsSeveral facts.now numbers.now subject.now w
+        → HasOnTop frame.op subject → IsSeveral facts.now numbers.now subject w
         → OnOk result (IsPartAsked K k (data_of K.over machine.new) frame w h.stand) }
 {
     machine.kept.among(numbers)?;
-    leave_out(
-        alloc,
-        is_comm(facts, frame.op),
-        machine,
-        arguments(subject),
-        numbers,
-    )?;
+    let args = subject.into_args(alloc)?;
+    let taken = leave_out(alloc, is_comm(facts, frame.op), machine, args, numbers)?;
     machine.frames.push(frame)?;
-    Ok(())
+    Ok(taken)
 }
 
 /// Out of the hole of the innermost frame, which is open then.
@@ -206,34 +202,4 @@ pub(crate) fn leave_hole(machine: &mut Machine<'_>) -> Result<(), AllocError>
     let _ = machine.frames.pop();
     machine.kept.leave()?;
     Ok(())
-}
-
-/// Puts the terms, numbered from 1, that have one of these numbers behind those that were found.
-fn push_chosen(numbers: &[u32], terms: &[Term], found: &mut Vec<Term>) -> Result<(), AllocError>
-    ensures { OnOk result (terms_of found.new.items
-        ≡ join (terms_of found.old.items) (chosen 1 numbers.now (terms_of terms.now))) }
-{
-    let mut next = 0;
-    for (i, term) in terms.iter().enumerate() {
-        if next < numbers.len() && numbers[next] as usize == i + 1 {
-            found.push(copy(term)?)?;
-            next += 1;
-        }
-    }
-    Ok(())
-}
-
-/// An operator on those arguments of a term that have these numbers.
-pub(crate) fn part_of(
-    alloc: Global,
-    operator: OpId,
-    subject: &Term,
-    numbers: &[u32],
-) -> Result<Term, AllocError>
-    ensures { IfOk result (λ t. t ≡ applied operator (chosen 1 numbers.now (args_of subject.now))) }
-{
-    let mut args = Vec::new(alloc);
-    push_chosen(numbers, arguments(subject), &mut args)?;
-    let part = Term::apply(alloc, operator, args)?;
-    Ok(part)
 }

@@ -17,7 +17,6 @@ ghost use Rattle.mw_frames.specs.Jobs.{term_of, rest, AreOpened};
 ghost use Rattle.mw_frames.specs.Larger.{grows as grows_of, AreSmall, StaysBranch, IsUnfolded, IsFit};
 ghost use Rattle.mw_frames.specs.Redex.{hole_level};
 
-use crate::firing::push_others;
 use crate::instances::{build, evaluate, is_over_largest};
 use crate::job::{Frame, Job};
 use mw_canon::{Axioms, Facts, rebuild};
@@ -170,6 +169,16 @@ pub(crate) fn job_term(
     }
 }
 
+/// The same terms again come behind the others.
+fn push_copies(terms: &[Term], found: &mut Vec<Term>) -> Result<(), AllocError>
+    ensures { OnOk result (found.new.items ≡ found.old.items ++ terms.now) }
+{
+    for term in terms {
+        found.push(copy(term)?)?;
+    }
+    Ok(())
+}
+
 /// The term of the job that waits, if one does, comes behind the others.
 fn push_waiting(
     alloc: Global,
@@ -207,7 +216,7 @@ fn folded(
         return Ok(None);
     }
     let mut args = Vec::new(alloc);
-    push_others(0, &[], own, &mut args)?;
+    push_copies(own, &mut args)?;
     args.push(copy(term)?)?;
     push_waiting(alloc, facts, values, waiting, &mut args)?;
     let whole = rebuild(alloc, facts, operator, args)?;

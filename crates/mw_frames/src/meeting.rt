@@ -26,7 +26,7 @@ ghost use Rattle.mw_frames.specs.declared.limits.Fit.TheVariants.{Fits as FitsOf
 
 use crate::applying::{Fired, all_around, refuse, refuse_part, top_of};
 use crate::coming::{is_commutative, pieces};
-use crate::firing::{leave_hole, part_of, take_out};
+use crate::firing::{leave_hole, take_out};
 use crate::job::{Frame, Hand, Job};
 use crate::limits::{Around, Fit, cut, fit_built, is_branch};
 use crate::looking::Asked;
@@ -161,18 +161,18 @@ fn meet_several<'m>(
         → IfOk result (IsFired K false k (data_of K.over machine.new)) }
 {
     let frame = new_frame(facts, machine, top_of(&term))?;
-    take_out(alloc, facts, machine, frame, &term, numbers)?;
+    let taken = take_out(alloc, facts, machine, frame, term, numbers)?;
     match fit_row(alloc, facts, machine, &to)? {
         Fit::Fits => {
             meet_part(facts, machine, frame, to)?;
             Ok(Fired::Goes(Hand::Over(frame)))
         }
         Fit::TooDeep => {
-            let fired = refuse_part(alloc, facts, machine, &term, numbers, true)?;
+            let fired = refuse_part(alloc, facts, machine, frame.op, taken, true)?;
             Ok(fired)
         }
         Fit::TooLarge => {
-            let fired = refuse_part(alloc, facts, machine, &term, numbers, false)?;
+            let fired = refuse_part(alloc, facts, machine, frame.op, taken, false)?;
             Ok(fired)
         }
     }
@@ -300,10 +300,9 @@ fn halt_part(
         → normal_form K.over.signature form ≡ w
         → IfOk result (λ t. IsWhole K k (data_of K.over machine.new) t × HasPart K.over.signature (nested K.over.signature t) form) }
 {
-    let top = top_of(&term);
-    let frame = new_frame(facts, machine, top)?;
-    take_out(alloc, facts, machine, frame, &term, numbers)?;
-    let part = part_of(alloc, top, &term, numbers)?;
+    let frame = new_frame(facts, machine, top_of(&term))?;
+    let taken = take_out(alloc, facts, machine, frame, term, numbers)?;
+    let part = Term::apply(alloc, frame.op, taken)?;
     let whole = whole(alloc, facts, machine, part)?;
     Ok(whole)
 }

@@ -1,18 +1,18 @@
 -- Choices from an index on, step by step, and the numbers of what levels stand on.
-use Rattle.std.specs.Prelude.{◌≡◌, ◌≤◌, ◌<◌, ◌+◌, ◌⊎◌, ◌||◌, ℕ, zero, suc, List, [], ◌∷◌, drop, get_or, length, Bool, true, false, cond, nat_eq, nat_lt, Option, Some, option_map, refl}
+use Rattle.std.specs.Prelude.{◌≡◌, ◌≤◌, ◌<◌, ◌+◌, ◌⊎◌, ◌||◌, ℕ, zero, suc, List, [], ◌∷◌, ◌++◌, drop, get_or, length, Bool, true, false, cond, nat_eq, nat_lt, Option, None, Some, option_map, MatchOption, ⊤, refl}
 use Rattle.std.proofs.Common.{inl, inr, ap, sym, subst, ◌∙◌, arith}
 use Rattle.mw_logic.specs.Term.{RawTerm, RawTerms, nil, cons}
 use Rattle.mw_logic.specs.Terms.{skip}
 use Rattle.mw_logic.specs.Signature.{Signature}
 use Rattle.mw_logic.specs.Parts.{number_of_terms}
-use Rattle.mw_matching.specs.Found.{Values, is_among}
+use Rattle.mw_matching.specs.Found.{Values, is_among, found, has_top}
 use Rattle.mw_matching.specs.Multisets.{term_at}
 use Rattle.mw_pattern.proofs.Lists.{drop_at}
 use Rattle.mw_search.specs.Clashes.{Clash}
 use Rattle.mw_search.specs.Lacking.{Skips}
 use Rattle.mw_match.specs.declared.levels.Level.{Level}
 use Rattle.mw_match.specs.Choices.{is_again, free, firsts, put}
-use Rattle.mw_match.specs.Levels.{is_on, taken_by, choices_from, choices_at, ClashesAt, IsPassedBy}
+use Rattle.mw_match.specs.Levels.{is_on, taken_by, choices_from, choices_at, ClashesAt, IsPassedBy, IsPlainTop}
 use Rattle.mw_match.proofs.Hands.{skips_none}
 
 -- levels by index
@@ -102,3 +102,12 @@ module _ (args : RawTerms) (ks : List ℕ) (before : Option ℕ) (i : ℕ) where
       by_test true w p = skips_none (ClashesAt sig vs q) (choices_from args ks (Some i) (suc i)) (choices_from args ks (Some i) (suc i)) refl
       by_test false w (inl c) = record { left = (suc i, t) ∷ []; each = (c, tt); rest = refl }
       by_test false w (inr a) = cc
+
+-- a pattern with an operator without axioms on top meets no term without it
+pub other_clash : (sig : Signature) (vs : Values) (q t : RawTerm) (f : ℕ) → IsPlainTop sig q f → has_top f t ≡ false → Clash sig vs q t
+other_clash sig vs q t f p h single more =
+    ap (λ q. found sig single q t (vs ++ more)) p.is ∙ rw (p.assoc, p.comm, p.successor, h) refl
+
+pub none_other : (sig : Signature) (vs : Values) (q t : RawTerm) (o : Option ℕ) → MatchOption o ⊤ (IsPlainTop sig q) → MatchOption o ⊥ (λ f. has_top f t ≡ false) → Clash sig vs q t
+none_other sig vs q t None p h = absurd h
+none_other sig vs q t (Some f) p h = other_clash sig vs q t f p h

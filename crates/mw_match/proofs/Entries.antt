@@ -78,7 +78,7 @@ module _ (c : Coming) (xs : List Variable) (us : Values) where
   pub sorted_candidate : HaveTheirSorts c.signature c.sorts c.given us → (r : Solution) → HasValues xs us r → FitsSorts c r
   sorted_candidate h r is = subst (λ s. HaveTheirSorts c.signature c.sorts c.given (bound_values s)) (sym is) (λ i t l e. h i t l (got_value xs us i t e))
 
-  lacking_candidate : c.sorts ≡ sorts_of xs → OneLacksItsSort c.signature c.sorts c.given us → (r : Solution) → HasValues xs us r → Lacks c r
+  pub lacking_candidate : c.sorts ≡ sorts_of xs → OneLacksItsSort c.signature c.sorts c.given us → (r : Solution) → HasValues xs us r → Lacks c r
   lacking_candidate k h r is =
       let (S, a, none) = h.lacks in
       let here : OneLacksItsSort c.signature c.sorts c.given (bound_values (zip xs us)) = record {

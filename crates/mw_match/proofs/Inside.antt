@@ -21,7 +21,7 @@ use Rattle.mw_match.specs.declared.parts.Parts.{Parts}
 abbrev pub Sized : ℕ → List Entry → Type 0
 Sized m es = (e : Entry) → Member e es → length e.1 ≡ m
 
-in_left : {X : Type 0} (x : X) (xs ys : List X) → Member x xs → Member x (xs ++ ys)
+pub in_left : {X : Type 0} (x : X) (xs ys : List X) → Member x xs → Member x (xs ++ ys)
 in_left x [] ys m = absurd m
 in_left x (y ∷ xs) ys (inl e) = inl e
 in_left x (y ∷ xs) ys (inr m) = inr (in_left x xs ys m)
@@ -34,7 +34,7 @@ flat_singles : {X Y : Type 0} (f : X → Y) (xs : List X) → flat_map (λ x. f 
 flat_singles f [] = refl
 flat_singles f (x ∷ xs) = ap (λ ys. f x ∷ ys) (flat_singles f xs)
 
-both_lists : {X : Type 0} {es bs cs ds : List X} → es ≡ bs → cs ≡ ds → es ++ cs ≡ bs ++ ds
+pub both_lists : {X : Type 0} {es bs cs ds : List X} → es ≡ bs → cs ≡ ds → es ++ cs ≡ bs ++ ds
 both_lists {es} {bs} {cs} {ds} e f = ap (λ xs. xs ++ cs) e ∙ ap (λ xs. bs ++ xs) f
 
 same_nat : (n : ℕ) → nat_eq n n ≡ true

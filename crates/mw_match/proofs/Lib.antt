@@ -9,7 +9,10 @@ pub mod Places
 pub mod Entries
 pub mod Hands
 pub mod Inside
+pub mod Joined
 pub mod Candidates
+pub mod Begun
+pub mod Passing
 pub mod RowLists
 pub mod Numbers
 pub mod Passed
@@ -18,3 +21,6 @@ pub mod PickedLaw
 pub mod Choosing
 pub mod Traces
 pub mod NextLevels
+pub mod NextPicks
+pub mod Finding
+pub mod Shifting

@@ -51,7 +51,7 @@ module _ (S sig : Signature) (single : List (List ℕ)) (A args : RawTerms) (B l
       (subst (λ i. Skips (ClashesAt sig vs q) (choices_from args (taken_by [] ls) None 0) (choices_at args (taken_by [] ls) (Some i))) (sym at) (moved (λ A ks. choices_at A ks (Some i)) s))
 
 -- what stands behind stays
-in_front : (a b ms : Trace) → Shortens a b → Shortens (a ++ ms) (b ++ ms)
+pub in_front : (a b ms : Trace) → Shortens a b → Shortens (a ++ ms) (b ++ ms)
 in_front a b ms h =
     let n = length-append a ms in
     let k = length-append b ms in

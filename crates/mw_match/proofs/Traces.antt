@@ -86,10 +86,10 @@ module _ (sig : Signature) (single : List (List ℕ)) (args : RawTerms) where
           ∙ ap (λ ms. ms ++ picks_in (tries sig single args q qs ks vs zs)) (of_values each (put z.0 ks) (found sig single q z.1 vs))
           ∙ ap (λ ms. flat_map (λ us. picked sig single args qs (put z.0 ks) us) (found sig single q z.1 vs) ++ ms) (of_choices each zs)
 
-  picks_end : (ms : Trace) → picks_in (ms ++ None ∷ []) ≡ picks_in ms
+  pub picks_end : (ms : Trace) → picks_in (ms ++ None ∷ []) ≡ picks_in ms
   picks_end ms = flat_map-append option_to_list ms (None ∷ []) ∙ append-nil (picks_in ms)
 
-  length_end : (ms : Trace) → length (ms ++ None ∷ []) ≡ suc (length ms)
+  pub length_end : (ms : Trace) → length (ms ++ None ∷ []) ≡ suc (length ms)
   length_end ms = let n = length-append ms (None ∷ []) in omega (arith, n)
 
   -- the next argument of the pattern has no choice, or begins with the first one that may have matches

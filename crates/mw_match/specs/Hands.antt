@@ -1,5 +1,5 @@
 -- A search with a match at hand, and what is still to come of it and behind it.
-use Rattle.std.specs.Prelude.{ℕ, suc, ◌+◌, ◌≡◌, ◌≤◌, List, [], ◌∷◌, map, length, Option, Some, None, MatchOption, ⊤}
+use Rattle.std.specs.Prelude.{ℕ, suc, ◌+◌, ◌≡◌, ◌≤◌, List, [], ◌∷◌, ◌++◌, map, length, Option, Some, None, MatchOption, ⊤}
 use Rattle.mw_position.specs.Variables.{sorts_of}
 use Rattle.mw_matching.specs.Found.{Values, found}
 use Rattle.mw_search.specs.Searches.{Matches, FitsSorts as FitsBySearch}
@@ -11,6 +11,11 @@ use Rattle.mw_match.specs.declared.hand.Hand.{Hand}
 use Rattle.mw_match.specs.declared.solutions.Solution.{Solution}
 use Rattle.mw_match.specs.Solutions.{Coming, PassesTo, FitsSorts, candidate, matches_of}
 use Rattle.mw_match.specs.Parts.{HasOtherNumber, Searched, searches_behind, entries_of, begins}
+use Rattle.mw_match.specs.declared.levels.Levels.{Levels}
+use Rattle.mw_match.specs.Choices.{picked, part_entry}
+use Rattle.mw_match.specs.Levels.{entries_in, still_to_come, AreKept}
+use Rattle.mw_logic.specs.Terms.{args_of}
+use Rattle.mw_solving.specs.Inside.{Entry}
 
 -- this search has just begun
 abbrev pub HasBegun : Parts → Place → Matches → Type 0
@@ -56,15 +61,45 @@ IsNoneByNumber p vs =
     HasOtherNumber p.context.now.signature p.compiled.now.positions.single.items p.compiled.now.pattern p.subject
     → found p.context.now.signature p.compiled.now.positions.single.items p.compiled.now.pattern p.subject vs ≡ []
 
--- the solutions with which a search for the whole begins
-abbrev pub first_of : Parts → Values → Coming
-first_of p vs = coming_of p (record {
-  place = Whole;
-  search = record {
-    signature = p.context.now.signature;
-    sorts = p.compiled.now.positions.sorts;
-    given = length vs;
-    coming = found p.context.now.signature p.compiled.now.positions.single.items p.compiled.now.pattern p.subject vs;
-  };
-  found = None;
-})
+-- the entries with which a search for the whole begins
+abbrev pub first_entries : Parts → Values → List Entry
+first_entries p vs =
+    entries_of p ((Whole, found p.context.now.signature p.compiled.now.positions.single.items p.compiled.now.pattern p.subject vs) ∷ searches_behind p Whole)
+
+-- those that are picked
+abbrev pub picked_entries : Parts → Values → List Entry
+picked_entries p vs = map part_entry (picked p.context.now.signature p.compiled.now.positions.single.items (args_of p.subject) (args_of p.compiled.now.pattern) [] vs)
+
+-- entries, where so many values were given
+abbrev pub coming_with : Parts → ℕ → List Entry → Coming
+coming_with p n es = record {
+  signature = p.context.now.signature;
+  sorts = p.compiled.now.positions.sorts;
+  given = n;
+  candidates = map (candidate p.compiled.now.variables) es;
+}
+
+abbrev pub hand_entries : Parts → Option Hand → List Entry
+hand_entries p None = []
+hand_entries p (Some h) = entries_of p (searches_of p h)
+
+abbrev pub pick_entries : Option Levels → List Entry
+pick_entries None = []
+pick_entries (Some s) = entries_in (still_to_come s)
+
+-- what is left of a search and of picks
+abbrev pub entries_left : Parts → Option Hand → Option Levels → List Entry
+entries_left p o picks = hand_entries p o ++ pick_entries picks
+
+-- a search that may have ended, and picks, where so many values were given
+abbrev pub IsHeld : Parts → ℕ → Option Hand → Type 0
+IsHeld p n o = MatchOption o ⊤ (λ h. IsKept p h × (h.search.given ≡ n))
+
+pub record ArePicking (p : Parts) (n : ℕ) (s : Levels) : Type 0 where
+  pub kept : AreKept s
+  pub context : s.context ≡ p.context
+  pub compiled : s.compiled ≡ p.compiled
+  pub given : s.given ≡ n
+
+abbrev pub AreHeld : Parts → ℕ → Option Hand → Option Levels → Type 0
+AreHeld p n o picks = IsHeld p n o × MatchOption picks ⊤ (ArePicking p n)

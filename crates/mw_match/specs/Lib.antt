@@ -2,6 +2,7 @@ pub mod Straight
 pub mod Matching
 pub mod Solutions
 pub mod Parts
+pub mod Picks
 pub mod Choices
 pub mod Levels
 pub mod Hands

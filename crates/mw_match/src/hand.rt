@@ -22,7 +22,7 @@ pub struct Hand<'c> {
 }
 
 /// Has a match at hand, if there is one.
-fn find(search: &mut Search<'_>, found: &mut Option<Seq<Term>>) -> Result<(), AllocError>
+pub fn find(search: &mut Search<'_>, found: &mut Option<Seq<Term>>) -> Result<(), AllocError>
     requires { MatchOption found.old ⊤ (FitsBySearch search.old) }
     ensures skips { Skips (LacksBySearch search.old) (matches_of found.old search.old.coming)
         (matches_of found.new search.new.coming) }

@@ -40,6 +40,13 @@
 //! searches for a pattern that becomes one element, whatever its variables' values are, and for a subject without an
 //! associative operator on top. A search begins when the one before has no match left.
 //!
+//! Where the pattern's arguments pick the elements that they take, no rest is searched for (`MayPick`, specs/Picks): the
+//! same associative and commutative operator is on top of both, and the pattern has two or more arguments, fewer than
+//! the subject, each of which is no variable and becomes one element. The first argument takes an element, the next one
+//! takes one of those that are left, and so on (`Levels`): of equal ones the first, and none that clashes with the
+//! argument, which mostly the operator on top tells. These are the matches with a rest, in the same order
+//! (`picks_are_lefts`, proofs/PickedLaw).
+//!
 //! A search doesn't begin where it is plain that it has no match. The whole is left out where all arguments of the
 //! pattern become one element each and the subject has another number of elements. From an argument on, where the
 //! operator isn't commutative, the pattern's arguments at the front that become one element each meet the next
@@ -56,7 +63,9 @@
 //! solution a copy of the variables' names, a count for each value and a number for each argument that it takes. For
 //! proper parts there are up to two searches for each argument, each with a count for each given value; one that
 //! doesn't begin takes no memory. The arguments aren't copied for a search but where a pattern without the operator on
-//! top is searched for. A match of a commutative operator with a rest costs two walks over the arguments. The native
+//! top is searched for. A match of a commutative operator with a rest costs two walks over the arguments. Where
+//! arguments are picked, each argument of the pattern costs a walk over the elements behind its last one, a few steps
+//! for each, and nothing is copied of elements that aren't taken. The native
 //! stack grows with the depth of the pattern in `matches`, and with that of terms where they are compared or walked for
 //! sorts.
 //!
@@ -70,6 +79,7 @@ mod hand;
 mod levels;
 mod listing;
 mod parts;
+mod picks;
 mod rows;
 mod solutions;
 mod sorts;

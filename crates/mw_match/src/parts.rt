@@ -1,5 +1,5 @@
 // The searches for the proper parts of a term, one behind another.
-ghost use Rattle.std.specs.Prelude.{◌≡◌, ◌∷◌, [], true, length, map, option_to_list, IfOk, MatchOption, IsTrue, ⊤};
+ghost use Rattle.std.specs.Prelude.{◌≡◌, ◌∷◌, [], true, cond, length, map, None, option_to_list, IfOk, MatchOption, IsTrue, ⊤};
 ghost use Rattle.mw_logic.specs.NormalForm.{is_comm as is_comm_of};
 ghost use Rattle.mw_logic.specs.Parts.{number_of_terms};
 ghost use Rattle.mw_logic.specs.Term.{RawTerm};
@@ -133,7 +133,7 @@ fn pattern_with_rest(
 }
 
 /// The pattern with a rest behind it, and the values that were given, for the proper parts of a subject.
-pub fn rest_for(
+fn rest_for(
     alloc: Global,
     facts: &Facts,
     compiled: &Compiled,
@@ -151,6 +151,26 @@ pub fn rest_for(
         pattern,
         given: Seq::of(given),
     }))
+}
+
+/// The same, unless the arguments of the pattern pick the elements that they take.
+pub fn rest_unless(
+    by_picks: bool,
+    alloc: Global,
+    facts: &Facts,
+    compiled: &Compiled,
+    subject: &Term,
+    given: &[Term],
+) -> Result<Option<Rest>, AllocError>
+    ensures { IfOk result (λ o. o ≡ cond by_picks None (rest_of given.now
+        (rest_pattern facts.now compiled.now.positions.single.items compiled.now.pattern
+        (length compiled.now.variables) subject.now))) }
+{
+    if by_picks {
+        return Ok(None);
+    }
+    let rest = rest_for(alloc, facts, compiled, subject, given)?;
+    Ok(rest)
 }
 
 impl Place {

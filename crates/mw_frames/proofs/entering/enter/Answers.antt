@@ -14,6 +14,7 @@ use Rattle.mw_trail.specs.Tracks.{moves}
 use Rattle.mw_frames.specs.Arrivals.{IsNewFrame}
 use Rattle.mw_frames.specs.Entered.{IsEntered}
 use Rattle.mw_frames.specs.Machines.{data_of}
+use Rattle.mw_frames.specs.Taking.{IsLeft}
 use Rattle.mw_frames.proofs.Applications.{same_frame}
 use Rattle.mw_frames.proofs.IntoArguments.{some_beside, arrives}
 use Rattle.mw_frames.proofs.entering.enter.Goals as goal
@@ -33,7 +34,9 @@ returns-then-not-stands_beside-clause-none c = λ K k run h.
     let is : c.args.term.now ≡ apply f.op (terms_of xs) = c.in-Op.ensures ∙ ap (λ g. apply g (terms_of xs)) (sym op) in
     let at : at_number xs c.args.number ≡ Some c.in-Some.argument.now = sym c.numbered.ensures ∙ ap (option_map (λ x. x.now)) c.in-Some.is in
     let comm = c.is_comm-comm.ensures ∙ ap (λ s. is_comm s c.in-Op.operator) (sym run.signature) ∙ ap (is_comm sig) (sym op) in
-    let (os, ys, d, j, left) = c.in_ok-leave_out.ensures.left sig f.op c.args.number [] comm refl in
+    let (os, ys, d, j, all) = c.in_ok-leave_out.ensures.left sig f.op c.args.number [] comm refl in
+    let args : terms_of c.in_ok-all.all.items ≡ terms_of xs = c.in_ok-all.ensures ∙ ap args_of (c.in_ok-copy.ensures ∙ c.in-Op.ensures) in
+    let left = subst (λ ts. IsLeft sig f.op (c.args.number ∷ []) ts os ys) args all in
     let z = c.stands_beside.ensures.no (search rules) in
     let own = c.leave_out.new.machine in
     absurd (some_beside K c.args.facts.now run k (data_of K.over m) c.args.term.now xs f c.args.number c.in-Some.argument.now os ys h is new at left (rw run.signature z.0) (rw d at z.1) (rw j at z.2))
@@ -50,7 +53,9 @@ returns-clause-means c = λ K k run h.
     let is : c.args.term.now ≡ apply f.op (terms_of xs) = c.in-Op.ensures ∙ ap (λ g. apply g (terms_of xs)) (sym op) in
     let at : at_number xs c.args.number ≡ Some c.in-Some.argument.now = sym c.numbered.ensures ∙ ap (option_map (λ x. x.now)) c.in-Some.is in
     let comm = c.is_comm-comm.ensures ∙ ap (λ s. is_comm s c.in-Op.operator) (sym run.signature) ∙ ap (is_comm sig) (sym op) in
-    let (os, ys, d, j, left) = c.in_ok-leave_out.ensures.left sig f.op c.args.number [] comm refl in
+    let (os, ys, d, j, all) = c.in_ok-leave_out.ensures.left sig f.op c.args.number [] comm refl in
+    let args : terms_of c.in_ok-all.all.items ≡ terms_of xs = c.in_ok-all.ensures ∙ ap args_of (c.in_ok-copy.ensures ∙ c.in-Op.ensures) in
+    let left = subst (λ ts. IsLeft sig f.op (c.args.number ∷ []) ts os ys) args all in
     let long : (is_assoc sig f.op ≡ true → (f.from < length (m.done.items ++ os)) ⊎ (f.waits < length (m.jobs.items ++ ys))) = subst (λ s. is_assoc s f.op ≡ true → (f.from < length (m.done.items ++ os)) ⊎ (f.waits < length (m.jobs.items ++ ys))) (sym run.signature) (rw (d, j) at (c.stands_beside.ensures.yes (search rules))) in
     let v = c.as_slice.ensures.value ∙ d in
     let bound : c.place_of-before.result ≤ length (drop f.from (m.done.items ++ os)) = rw v at c.place_of-before.ensures.bound in

@@ -1,11 +1,7 @@
-use Rattle.std.proofs.Common.{◌≡◌, ◌∙◌, sym, reverse, ap}
-use Rattle.mw_logic.specs.Term.{apply}
-use Rattle.mw_logic.specs.Terms.{args_of}
-use Rattle.mw_arguments.specs.Places.{chosen}
+use Rattle.std.proofs.Common.{◌≡◌, ◌∙◌, sym, reverse}
 use Rattle.mw_frames.specs.Machines.{data_of}
 use Rattle.mw_frames.specs.Arrivals.{IsNewFrame}
 use Rattle.mw_frames.specs.Redex.{HasOnTop, Stands, walked}
-use Rattle.mw_frames.specs.Several.{IsSeveral}
 use Rattle.mw_frames.specs.Taking.{IsPartAsked}
 use Rattle.mw_frames.proofs.Applications.{same_frame}
 use Rattle.mw_deduction.specs.Standing.{round}
@@ -17,14 +13,10 @@ returns c = λ K k w form run a part raw clean is.
     let m = c.args.machine.now in
     let n = c.take_out.new.machine in
     let f = c.in_ok-frame.frame in
-    let new : IsNewFrame c.args.facts.now (reverse m.frames.items) m.done.items m.jobs.items f.op f = same_frame c.args.facts.now (reverse m.frames.items) m.done.items m.jobs.items c.top_of-top.result f c.in_ok-frame.ensures in
-    let on : HasOnTop f.op c.args.term = λ g ts e. c.top_of-top.ensures.top g ts e ∙ sym c.in_ok-frame.ensures.operator in
-    let inside : IsPartAsked K k (data_of K.over n) f w a.holds.stand = c.in_ok-take_out.ensures K k w run a.holds new on part in
-    let part' : IsSeveral c.args.facts.now c.args.numbers.now c.args.term w = part in
-    let t = part'.takes in
-    let top = c.top_of-top.ensures.top t.operator t.args t.term in
-    let e : w ≡ c.in_ok-part.part =
-    sym (c.in_ok-part.ensures ∙ ap (λ g. apply g (chosen 1 c.args.numbers.now (args_of c.args.term))) (sym top) ∙ ap (λ u. apply t.operator (chosen 1 c.args.numbers.now (args_of u))) t.term ∙ sym t.part) in
+    let new : IsNewFrame c.args.facts.now (reverse m.frames.items) m.done.items m.jobs.items f.op f = same_frame c.args.facts.now (reverse m.frames.items) m.done.items m.jobs.items c.top_of.result f c.in_ok-frame.ensures in
+    let on : HasOnTop f.op c.args.term = λ g ts e. c.top_of.ensures.top g ts e ∙ sym c.in_ok-frame.ensures.operator in
+    let inside : IsPartAsked K k (data_of K.over n) f w a.holds.stand = c.in_ok-taken.ensures.asked K k w run a.holds new on part in
+    let e : w ≡ c.in_ok-part.part = c.in_ok-taken.ensures.taken c.args.facts.now w on part ∙ sym c.in_ok-part.ensures in
     let h = inside.asked.holds in
     let s : Stands K k (data_of K.over n) w = record { stand = h.stand; leads = h.leads; opened = h.opened; hand = h.hand } in
     let s' : Stands K k (data_of K.over n) c.in_ok-part.part = record { stand = h.stand; leads = h.leads; opened = h.opened; hand = h.hand ∙ e } in
