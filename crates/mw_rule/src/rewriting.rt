@@ -203,7 +203,7 @@ fn step<'m>(
 /// What comes of a rule that fired.
 fn after<'m>(fired: Fired<'m>) -> Stepped<'m>
     ensures { (K : Run) (k side : ℕ) (old new : Data) (t : RawTerm) → K.rank ≡ 63 → IsEnd K k old t
-        → IsFired K true k new fired → IsRefusedAs t fired → IsStepped K k side new result }
+        → IsFired K true k new fired.entry → IsRefusedAs t fired.entry → IsStepped K k side new result }
 {
     match fired {
         Fired::Goes(hand) => Stepped::Goes(hand),

@@ -68,8 +68,8 @@ loop-rounds-preserved c = (
       (tried ++ tried_of q ∷ [], failed_more M 63 tried (tried_of q) failed (rw c.in-Fails.is at told), z.1),
 )
 
-pub returns-in-Made-then-found : goal.returns-in-Made-then-found
-returns-in-Made-then-found c = λ K k run here rank e.
+pub returns-then-found-eq0 : goal.returns-then-found-eq0
+returns-then-found-eq0 c = λ K k run here rank e.
     let M : Module = c.args.context.now in
     let t = c.args.term.now in
     let ss = c.in_ok-spots.spots.items in
@@ -85,7 +85,7 @@ returns-in-Made-then-found c = λ K k run here rank e.
     let x : Found = record { at = c.in-Some.found.at; choice = c.try_choice.new.choice } in
     let is : IsMadeAt K ss t x c.in-Made.sides.items = made_in M K here rank t c.args.wanted ss listed c.in-Some.found z.0 c.try_choice.new.choice c.in-Made.sides.items (ap (λ (y : Choice). y.by.now.rule) same) (ap (λ (y : Choice). y.take) same) made in
     let old : IsEnd K k (data_of K.over c.loop-rounds.machine) t = subst (λ m. IsEnd K k (data_of K.over m) t) (sym c.loop-rounds.invariant.0) e in
-    (old, made_first K t ss x c.in-Made.sides.items (omega (arith, c.if-found.true)) is)
+    (old, made_first K t ss x c.in-Made.sides.items (omega (arith, c.if-found-eq0.true)) is)
 
 pub returns-in-Made : goal.returns-in-Made
 returns-in-Made c = λ K k run here rank e.

@@ -25,5 +25,5 @@ returns-in-Fires c = λ K k run here rank e.
 pub returns : goal.returns
 returns c = λ K k run here rank e.
     let (is, of) = rw c.in-Takes.is at (c.in_ok-look.ensures K k run here rank e) in
-    let (fired, same) = c.in_ok-fired.ensures K k run here is of in
+    let (fired, same) = c.in_ok-fired-in-Takes.ensures K k run here is of in
     c.after-in-Takes.ensures K k c.args.side (data_of K.over c.look.new.machine) (data_of K.over c.fire_whole.new.machine) c.args.term rank is fired same
