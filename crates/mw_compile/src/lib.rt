@@ -14,8 +14,9 @@
 //!   another of them or have values before. Each next one is, where there is such, one of those that share only
 //!   variables which have values by then: given ones, those met before, and those of the arguments chosen so far; and
 //!   of these, or of all where there is none such, one with most variables that have values by then. So of
-//!   `fork(L) fork(R) hungry(L, R)` the last one is met first. Where this leaves several, as within the other groups,
-//!   they keep their order.
+//!   `fork(L) fork(R) hungry(L, R)` the last one is met first. Where this leaves several, the last of them is met first,
+//!   whose operator was declared last: a message rather than the object that it goes to, since there are mostly fewer
+//!   messages. Within the other groups arguments keep their order.
 //! - Variables stand by position, in the order in which they are met, behind those that have values already.
 //! - Each position lists associative operators under which any value of its sort is one element (`AreSure` of
 //!   mw_solving). An operator that stands on a variable in the pattern is listed for a sort if none of its declarations
