@@ -21,8 +21,8 @@
 //!
 //! Cost: `close` takes a list for three arguments or more, and compares none. `put` compares a term with the last
 //! argument, and with log n others if it doesn't come behind that; then it moves those that come behind. Several
-//! elements take one comparison where they all come behind, else as many as there are arguments. Want of memory is the
-//! only error.
+//! elements take one comparison where they all come behind, else log n for each where they are few, and as many as
+//! there are arguments otherwise. Want of memory is the only error.
 #![tactic(auto)]
 
 mod closing;
