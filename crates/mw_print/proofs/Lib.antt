@@ -10,5 +10,7 @@ pub mod Bytes
 pub mod Runs
 pub mod Lexed
 pub mod Digits
+pub mod Numbers
+pub mod PrefixForms
 pub mod Proper
 pub mod Maximal

@@ -28,10 +28,12 @@
 #![tactic(auto)]
 
 mod laws;
+mod numbered;
 mod printing;
 mod sorts;
 mod writer;
 
 pub use laws::printed_reads_back;
+pub use numbered::prefix;
 pub use printing::mixfix;
 pub use sorts::{print_sort, print_sorted};
