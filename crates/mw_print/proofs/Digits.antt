@@ -32,10 +32,10 @@ digit_plain b d =
       | inr e ↦ e
     ]
 
-digit_runs : (b : ℕ) → IsDigit b → is_run_byte b ≡ true
+pub digit_runs : (b : ℕ) → IsDigit b → is_run_byte b ≡ true
 digit_runs b d = rw (digit_plain b d) (and_from _ true (and_from _ _ (le-leb 33 b (omega arith)) (le-leb b 126 (omega arith))) refl)
 
-pub digits_run : (bs : List ℕ) → AreDigits bs → run_len bs ≡ length bs
+digits_run : (bs : List ℕ) → AreDigits bs → run_len bs ≡ length bs
 digits_run [] d = refl
 digits_run (b ∷ []) d = rw (digit_runs b d.0) refl
 digits_run (b ∷ c ∷ bs) d =

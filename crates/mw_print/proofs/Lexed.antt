@@ -37,7 +37,7 @@ module _ (b : ℕ) (x rest : List ℕ) (at line : ℕ) where
       (ap (λ k. lexed k (at + 1) (line_after b line) (x ++ rest)) n ∙ skipped x rest (at + 1) (line_after b line))
 
 -- the lexer finds these tokens
-abbrev Finds : Lexed → List (List ℕ) → Type 0
+abbrev pub Finds : Lexed → List (List ℕ) → Type 0
 Finds lexed tokens = (found : List LexedToken) × (lexed ≡ Ok found) × (map (λ (t : LexedToken). t.text) found ≡ tokens)
 
 -- a token before what the lexer finds behind it
@@ -128,7 +128,7 @@ gap_stops x y ts run =
       ]
     ]
 
-lexes : (ts : List Token) → All IsProper (texts ts) → (at line : ℕ) → Finds (lexed 0 at line (spaced ts)) (texts ts)
+pub lexes : (ts : List Token) → All IsProper (texts ts) → (at line : ℕ) → Finds (lexed 0 at line (spaced ts)) (texts ts)
 lexes [] h at line = ([], refl, refl)
 lexes (x ∷ []) h at line =
     let none : (at line : ℕ) → Finds (lexed 0 at line []) [] = λ at line. ([], refl, refl) in

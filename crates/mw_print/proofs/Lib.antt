@@ -14,3 +14,8 @@ pub mod Numbers
 pub mod PrefixForms
 pub mod Proper
 pub mod Maximal
+pub mod PrefixWords
+pub mod PrefixLexed
+pub mod PrefixTold
+pub mod PrefixOpen
+pub mod CanonicalTold

@@ -6,3 +6,4 @@ pub mod Sorts
 pub mod Writing
 pub mod Prefix
 pub mod Laws
+pub mod PrefixLaws

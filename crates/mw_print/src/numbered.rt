@@ -1,5 +1,5 @@
 // Ground terms in numbered prefix form.
-ghost use Rattle.std.specs.Prelude.{◌≡◌, ◌++◌, [], codes, IsTrue, OnOk};
+ghost use Rattle.std.specs.Prelude.{◌≡◌, ◌++◌, [], codes, IsTrue, OnOk, OnErr};
 ghost use Rattle.mw_logic.specs.Term.{is_ground};
 ghost use Rattle.mw_print.specs.Printing.{called, divided};
 ghost use Rattle.mw_print.specs.Prefix.{prefixed, forms_of, prefix_text};
@@ -11,8 +11,7 @@ use mw_term::{OpId, Signature, Term, View};
 use std::alloc::{AllocError, Global};
 use std::mem::replace;
 
-/// Writes the numbered prefix form of a ground term behind a text. Where memory is wanting, the text may have lost what
-/// it had.
+/// Writes the numbered prefix form of a ground term behind a text. Where memory is wanting, the text is empty then.
 pub fn prefix(
     alloc: Global,
     signature: &Signature,
@@ -20,7 +19,8 @@ pub fn prefix(
     text: &mut Vec<u8>,
 ) -> Result<(), AllocError>
     requires ground { IsTrue (is_ground term.now) }
-    ensures { OnOk result (text.new.items ≡ text.old.items ++ prefix_text signature.now term.now) }
+    ensures written { OnOk result (text.new.items ≡ text.old.items ++ prefix_text signature.now term.now) }
+    ensures lost { OnErr result (text.new.items ≡ []) }
 {
     let mut writer = Writer::behind(replace(text, Vec::new(alloc)));
     write_form(signature, term, &mut writer)?;
