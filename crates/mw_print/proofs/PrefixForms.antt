@@ -1,5 +1,5 @@
 -- Prefix forms of arguments, written one after another.
-use Rattle.std.proofs.Common.{◌≡◌, ◌∙◌, ◌<◌, ℕ, suc, List, [], ◌∷◌, ◌++◌, length, ap, sym, refl, append_assoc, arith}
+use Rattle.std.proofs.Common.{◌≡◌, ◌∙◌, ◌<◌, suc, List, [], ◌∷◌, ◌++◌, length, ap, sym, refl, append_assoc, arith}
 use Rattle.mw_logic.specs.Term.{RawTerm}
 use Rattle.mw_logic.specs.Signature.{Signature}
 use Rattle.mw_print.specs.Tokens.{Token, comma}

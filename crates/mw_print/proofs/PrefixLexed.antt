@@ -1,9 +1,8 @@
 -- The tokens of prefix forms are proper.
-use Rattle.std.proofs.Common.{◌≡◌, ◌<◌, ◌^◌, ◌==◌, inl, inr, ℕ, false, List, [], ◌∷◌, ◌++◌, length, Option, Some, None, append_assoc, arith, refl}
-use Rattle.std.specs.Prelude.{codes, option_map, unwrap_or}
+use Rattle.std.proofs.Common.{◌≡◌, ◌<◌, ◌^◌, ◌==◌, inr, ℕ, false, List, [], ◌∷◌, ◌++◌, Option, Some, None, arith, refl}
+use Rattle.std.specs.Prelude.{option_map, unwrap_or}
 use Rattle.std.specs.Fmt.{decimal}
 use Rattle.std.proofs.lemmas.Bool.{ne_eqb}
-use Rattle.mw_lex.specs.Pieces.{run_len}
 use Rattle.mw_lex.specs.Texts.{IsProper}
 use Rattle.mw_lex.proofs.Runs.{IsWhole, whole_one, takes_none}
 use Rattle.mw_lex.proofs.Comments.{no_comment}

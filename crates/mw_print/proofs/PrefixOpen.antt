@@ -1,5 +1,5 @@
 -- How many parentheses of a prefix form are open at once.
-use Rattle.std.proofs.Common.{◌≡◌, ◌∙◌, ◌<◌, ◌≤◌, ◌^◌, ◌+◌, ◌-◌, ◌==◌, ℕ, suc, max, false, List, [], ◌∷◌, ◌++◌, refl, ap, sym, append_assoc, append-nil, arith}
+use Rattle.std.proofs.Common.{◌≡◌, ◌∙◌, ◌<◌, ◌≤◌, ◌^◌, ◌+◌, ◌-◌, ℕ, suc, max, List, [], ◌∷◌, ◌++◌, refl, ap, sym, append_assoc, append-nil, arith}
 use Rattle.std.specs.Prelude.{codes}
 use Rattle.std.specs.Fmt.{decimal}
 use Rattle.std.proofs.lemmas.Bool.{ne_eqb}
@@ -7,10 +7,9 @@ use Rattle.mw_logic.specs.Term.{RawTerm, numeral, quoted, variable, apply, RawTe
 use Rattle.mw_logic.specs.Signature.{Signature}
 use Rattle.mw_logic.specs.NormalForm.{height, highest}
 use Rattle.mw_text.specs.Mixfix.{IsIdentifier}
-use Rattle.mw_print.specs.Tokens.{texts}
-use Rattle.mw_print.specs.Prefix.{spelling_at, numbered, prefixed}
+use Rattle.mw_print.specs.Prefix.{spelling_at, numbered}
 use Rattle.mw_print.specs.PrefixLaws.{IsTold, AreTold, open_behind, most_open, PrefixIsShallow}
-use Rattle.mw_print.proofs.Digits.{IsDigit, AreSome, decimal_digits}
+use Rattle.mw_print.proofs.Digits.{AreSome, decimal_digits}
 use Rattle.mw_print.proofs.PrefixWords.{numbered_is, words, opened, after, words_are}
 
 -- Behind a token that begins with a digit, and behind a quoted identifier, as many are open as before it.
@@ -64,7 +63,11 @@ module _ (sig : Signature) where
         omega (arith, e, first, rest, some)
 
     after_open : (ts : RawTerms) → AreTold ts → (n : ℕ) (r : List (List ℕ)) → most_open (suc n) (after sig ts ++ r) ≡ max (suc n) (max (n + highest ts) (most_open n r))
-    after_open nil h n r = let a = open_already n r in omega (arith, a)
+    after_open nil h n r =
+        let b : open_behind (codes ")") (suc n) ≡ n = omega arith in
+        let e = ap (λ k. most_open k r) b in
+        let a = open_already n r in
+        omega (arith, e, a)
     after_open (cons t ts) h n r =
         let e = ap (most_open (suc n)) (append_assoc (words sig t) (after sig ts) r) in
         let first = form_open t h.0 (suc n) (after sig ts ++ r) in

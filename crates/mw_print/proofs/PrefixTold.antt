@@ -9,10 +9,9 @@ use Rattle.mw_lex.specs.Lexing.{Lexed, tokens_of}
 use Rattle.mw_logic.specs.Term.{RawTerm, numeral, quoted, variable, apply, RawTerms, nil, cons}
 use Rattle.mw_logic.specs.Signature.{Signature}
 use Rattle.mw_text.specs.Mixfix.{IsIdentifier}
-use Rattle.mw_print.specs.Tokens.{texts}
-use Rattle.mw_print.specs.Prefix.{spelling_at, numbered, prefixed, prefix_text}
+use Rattle.mw_print.specs.Prefix.{spelling_at, numbered}
 use Rattle.mw_print.specs.PrefixLaws.{IsTold, AreTold, PrefixTells, PrefixTextTells}
-use Rattle.mw_print.proofs.Digits.{IsDigit, AreDigits, AreSome, decimal_digits}
+use Rattle.mw_print.proofs.Digits.{AreDigits, AreSome, decimal_digits}
 use Rattle.mw_print.proofs.PrefixWords.{numbered_is, words, opened, after, words_are}
 use Rattle.mw_print.proofs.PrefixLexed.{prefix_lexed}
 
@@ -71,10 +70,24 @@ first_is e = cc
 rest_is : {x y : List ℕ} {xs ys : List (List ℕ)} → x ∷ xs ≡ y ∷ ys → xs ≡ ys
 rest_is e = cc
 
+-- the parentheses and the comma are told by their bytes
+abbrev byte_of : List ℕ → ℕ
+byte_of [] = 0
+byte_of (b ∷ x) = b
+
+close_opens : codes ")" ≡ codes "(" → ⊥
+close_opens e = let h : 41 ≡ 40 = ap byte_of e in absurd (omega (arith, h))
+
+comma_opens : codes "," ≡ codes "(" → ⊥
+comma_opens e = let h : 44 ≡ 40 = ap byte_of e in absurd (omega (arith, h))
+
+close_divides : codes ")" ≡ codes "," → ⊥
+close_divides e = let h : 41 ≡ 44 = ap byte_of e in absurd (omega (arith, h))
+
 module _ (sig : Signature) where
   after_shut : (ts : RawTerms) (r : List (List ℕ)) → IsShut (after sig ts ++ r)
-  after_shut nil r = λ e. cc
-  after_shut (cons t ts) r = λ e. cc
+  after_shut nil r = close_opens
+  after_shut (cons t ts) r = comma_opens
 
   -- a form before others, by what each of the two tells
   both_told : (t u : RawTerm) (ts us : RawTerms) (r s : List (List ℕ)) → (words sig t ++ (after sig ts ++ r) ≡ words sig u ++ (after sig us ++ s) → (t ≡ u) × (after sig ts ++ r ≡ after sig us ++ s))
@@ -114,8 +127,8 @@ module _ (sig : Signature) where
 
     after_told : (ts us : RawTerms) (r s : List (List ℕ)) → AreTold ts → AreTold us → IsShut r → IsShut s → after sig ts ++ r ≡ after sig us ++ s → (ts ≡ us) × (r ≡ s)
     after_told nil nil r s h k c d e = (refl, rest_is e)
-    after_told nil (cons u us) r s h k c d e = let bad : codes ")" ≡ codes "," = first_is e in cc
-    after_told (cons t ts) nil r s h k c d e = let bad : codes "," ≡ codes ")" = first_is e in cc
+    after_told nil (cons u us) r s h k c d e = absurd (close_divides (first_is e))
+    after_told (cons t ts) nil r s h k c d e = absurd (close_divides (sym (first_is e)))
     after_told (cons t ts) (cons u us) r s h k c d e = both_told t u ts us r s (term_told t u (after sig ts ++ r) (after sig us ++ s) h.0 k.0 (after_shut ts r) (after_shut us s)) (after_told ts us r s h.1 k.1 c d) (rest_is e)
 
 pub prefix_told : PrefixTells

@@ -1,5 +1,5 @@
 -- The tokens of a prefix form, from the first one on.
-use Rattle.std.proofs.Common.{◌≡◌, ◌∙◌, ℕ, List, [], ◌∷◌, ◌++◌, map, refl, ap, append_assoc}
+use Rattle.std.proofs.Common.{◌≡◌, ◌∙◌, ℕ, List, [], ◌∷◌, ◌++◌, refl, ap, append_assoc}
 use Rattle.std.specs.Prelude.{codes}
 use Rattle.std.specs.Fmt.{decimal}
 use Rattle.std.proofs.lemmas.List.{map-append}
@@ -14,7 +14,7 @@ pub numbered_is : (sig : Signature) (f : ℕ) → numbered sig f ≡ decimal f +
 numbered_is sig f = append_assoc (decimal f) (64 ∷ []) (spelling_at sig f)
 
 module _ (sig : Signature) where
-  mutual
+  abbrev mutual
     pub words : RawTerm → List (List ℕ)
     words (numeral n) = decimal n ∷ []
     words (quoted q) = q ∷ []
