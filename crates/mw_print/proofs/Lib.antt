@@ -19,3 +19,4 @@ pub mod PrefixLexed
 pub mod PrefixTold
 pub mod PrefixOpen
 pub mod CanonicalTold
+pub mod WholeNames

@@ -7,7 +7,8 @@ use Rattle.mw_logic.specs.Signature.{Signature, Operator, IsOperator, IsRawTerm}
 use Rattle.mw_logic.specs.NormalForm.{height}
 use Rattle.mw_logic.specs.Parts.{nested}
 use Rattle.mw_text.specs.Mixfix.{IsIdentifier}
-use Rattle.mw_text.specs.Proper.{HasIdentifiers}
+use Rattle.mw_text.specs.Names.{name_of_tokens}
+use Rattle.mw_text.specs.Proper.{IsProperName, HasIdentifiers}
 use Rattle.mw_print.specs.Tokens.{texts}
 use Rattle.mw_print.specs.Laws.{HasTokens}
 use Rattle.mw_print.specs.Prefix.{prefixed, prefix_text}
@@ -28,6 +29,10 @@ abbrev mutual
 -- The spelling of each operator is a run that is read to its end, so that it is one token with what stands before it.
 abbrev pub HasWholeSpellings : Signature → Type 0
 HasWholeSpellings sig = (f : ℕ) (o : Operator) → IsOperator sig f o → run_len o.spelling ≡ length o.spelling
+
+-- So is the name of tokens whose pieces are proper.
+abbrev pub NamesAreWhole : Type 0
+NamesAreWhole = (ts : List (List ℕ)) → IsProperName (name_of_tokens ts) → run_len (name_of_tokens ts) ≡ length (name_of_tokens ts)
 
 -- The text of a form is cut into the tokens of the form.
 abbrev pub PrefixLexes : Type 0

@@ -7,6 +7,12 @@ pub fn printed_reads_back()
     ensures { PrintedReadsBack }
 {}
 
+/// The law that a name of tokens has a spelling that is one token with a number and `@` before it, where its pieces are
+/// proper.
+pub fn names_are_whole()
+    ensures { prefix_laws.NamesAreWhole }
+{}
+
 /// The law that the text of a numbered prefix form is cut into the form's tokens.
 pub fn prefix_lexes()
     ensures { prefix_laws.PrefixLexes }
