@@ -20,3 +20,4 @@ pub mod PrefixTold
 pub mod PrefixOpen
 pub mod CanonicalTold
 pub mod WholeNames
+pub mod Before

@@ -44,7 +44,7 @@ module _ (sig : Signature) (whole : HasWholeSpellings sig) where
   numbered_proper f h = rw (numbered_is sig f) (digits_before (decimal f) (64 ∷ spelling_at sig f) (decimal_digits f h) (name_whole (spelling_at sig f) (spelling_whole f)))
 
   mutual
-    form_proper : (t : RawTerm) → IsTold t → AreProper (prefixed sig t)
+    pub form_proper : (t : RawTerm) → IsTold t → AreProper (prefixed sig t)
     form_proper (numeral n) h = (decimal_proper n h, tt)
     form_proper (quoted q) h = (h.1, tt)
     form_proper (variable x) h = tt

@@ -1,5 +1,8 @@
 -- What a numbered prefix form tells.
-use Rattle.std.specs.Prelude.{◌≡◌, ◌<◌, ◌^◌, ◌-◌, ◌==◌, ℕ, suc, max, List, [], ◌∷◌, length, IsTrue, if◌then◌else◌, ⊤}
+use Rattle.std.specs.Prelude.{◌≡◌, ◌<◌, ◌^◌, ◌-◌, ◌==◌, ◌++◌, ℕ, suc, max, true, false, List, [], ◌∷◌, map, length, Ok, IsTrue, if◌then◌else◌, ⊤}
+use Rattle.mw_lex.specs.declared.token.Token.{Token}
+use Rattle.mw_lex.specs.Bytes.{is_punctuation, is_run_byte}
+use Rattle.mw_lex.specs.Lexing.{lexed}
 use Rattle.mw_lex.specs.Pieces.{run_len}
 use Rattle.mw_lex.specs.Texts.{IsProper}
 use Rattle.mw_logic.specs.Term.{RawTerm, numeral, quoted, variable, apply, RawTerms, nil, cons, is_ground}
@@ -9,7 +12,7 @@ use Rattle.mw_logic.specs.Parts.{nested}
 use Rattle.mw_text.specs.Mixfix.{IsIdentifier}
 use Rattle.mw_text.specs.Names.{name_of_tokens}
 use Rattle.mw_text.specs.Proper.{IsProperName, HasIdentifiers}
-use Rattle.mw_print.specs.Tokens.{texts}
+use Rattle.mw_print.specs.Tokens.{texts, ends_in_backquote}
 use Rattle.mw_print.specs.Laws.{HasTokens}
 use Rattle.mw_print.specs.Prefix.{prefixed, prefix_text}
 
@@ -37,6 +40,20 @@ NamesAreWhole = (ts : List (List ℕ)) → IsProperName (name_of_tokens ts) → 
 -- The text of a form is cut into the tokens of the form.
 abbrev pub PrefixLexes : Type 0
 PrefixLexes = (sig : Signature) (t : RawTerm) → HasWholeSpellings sig → IsTold t → HasTokens (prefix_text sig t) (texts (prefixed sig t))
+
+-- The bytes begin with one that ends the last token of a text before them, if there are any.
+abbrev pub EndsLast : List ℕ → List ℕ → Type 0
+EndsLast text [] = ⊤
+EndsLast text (c ∷ rest) = (is_run_byte c ≡ false) × (ends_in_backquote text ≡ true → is_punctuation c ≡ false)
+
+-- The bytes are cut into these tokens, wherever they stand.
+abbrev pub HasTokensAnywhere : List ℕ → List (List ℕ) → Type 0
+HasTokensAnywhere text tokens = (at line : ℕ) → (found : List Token) × (lexed 0 at line text ≡ Ok found) × (map (λ (t : Token). t.text) found ≡ tokens)
+
+-- So is it before others.
+abbrev pub PrefixLexesBefore : Type 0
+PrefixLexesBefore = (sig : Signature) (t : RawTerm) (rest : List ℕ) (tokens : List (List ℕ)) → HasWholeSpellings sig → IsTold t → EndsLast (prefix_text sig t) rest → HasTokensAnywhere rest tokens
+    → HasTokensAnywhere (prefix_text sig t ++ rest) (texts (prefixed sig t) ++ tokens)
 
 -- The tokens of a form are those of one term alone.
 abbrev pub PrefixTells : Type 0

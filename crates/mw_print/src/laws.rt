@@ -13,9 +13,10 @@ pub fn names_are_whole()
     ensures { prefix_laws.NamesAreWhole }
 {}
 
-/// The law that the text of a numbered prefix form is cut into the form's tokens.
+/// The law that the text of a numbered prefix form is cut into the form's tokens, alone and before other bytes.
 pub fn prefix_lexes()
-    ensures { prefix_laws.PrefixLexes }
+    ensures alone { prefix_laws.PrefixLexes }
+    ensures before { prefix_laws.PrefixLexesBefore }
 {}
 
 /// The law that the tokens of a numbered prefix form, and its text, are those of one term alone.

@@ -32,7 +32,8 @@
 //!   (`PrintedProper`); and the text of proper tokens is cut into these (`PrintedLexes`).
 //! - Laws of numbered prefix forms (specs/PrefixLaws), of terms that are ground, whose quoted identifiers are tokens and
 //!   whose numbers are below 2^128 (`IsTold`); `canonical_is_told`: canonical terms are such terms. `prefix_lexes`: the
-//!   text is cut into the form's tokens, where operators' spellings are runs that are read to their ends;
+//!   text is cut into the form's tokens, also before other bytes, where operators' spellings are runs that are read to
+//!   their ends;
 //!   `names_are_whole`: names that are given by tokens have such spellings, where their pieces are proper.
 //!   `prefix_tells`: two terms with the same tokens, or with the same text, are one term. `prefix_is_shallow`: one
 //!   parenthesis fewer is open at once than the term is deep, so of an admitted term 999 at most.
@@ -50,7 +51,8 @@ mod sorts;
 mod writer;
 
 pub use laws::{
-    canonical_is_told, names_are_whole, prefix_is_shallow, prefix_lexes, prefix_tells, printed_reads_back,
+    canonical_is_told, names_are_whole, prefix_is_shallow, prefix_lexes, prefix_tells,
+    printed_reads_back,
 };
 pub use numbered::prefix;
 pub use printing::mixfix;
