@@ -9,9 +9,9 @@
 //! operator joins, what stands before each element is written first, and behind the last two what ends all forms that
 //! are open (specs/Chains), without recursion.
 //!
-//! The numbered prefix form, in which proof texts have ground terms, is a definition by recursion on the canonical term,
-//! as flattened as it is (specs/Prefix): a numeral in decimal, a quoted identifier, or an operator's number, `@` and its
-//! prefix spelling as one token, with the arguments behind it in parentheses, where there are any. Its tokens are
+//! The numbered prefix form, in which proof texts have ground terms, is a definition by recursion on the canonical
+//! term, flattened as it is (specs/Prefix): a numeral in decimal, a quoted identifier, or an operator's number, `@` and
+//! its prefix spelling as one token, with the arguments behind it in parentheses, where there are any. Its tokens are
 //! written as those of mixfix forms are, so a space stands behind one that ends in a backquote. `prefix` writes it
 //! behind a text, so that many forms make one text.
 //!
@@ -30,18 +30,19 @@
 //!   term nested. mw_build shows the premises of the modules that it accepts. It has three parts (specs/Laws): the
 //!   printed tokens spell the term, at the precedence at which it was printed (`PrintedSpells`); they are proper
 //!   (`PrintedProper`); and the text of proper tokens is cut into these (`PrintedLexes`).
-//! - Laws of numbered prefix forms (specs/PrefixLaws), of terms that are ground, whose quoted identifiers are tokens and
-//!   whose numbers are below 2^128 (`IsTold`); `canonical_is_told`: canonical terms are such terms. `prefix_lexes`: the
-//!   text is cut into the form's tokens, also before other bytes, where operators' spellings are runs that are read to
-//!   their ends;
-//!   `names_are_whole`: names that are given by tokens have such spellings, where their pieces are proper.
-//!   `prefix_tells`: two terms with the same tokens, or with the same text, are one term. `prefix_is_shallow`: one
-//!   parenthesis fewer is open at once than the term is deep, so of an admitted term 999 at most.
+//! - Laws of numbered prefix forms (specs/PrefixLaws), of terms that are ground, whose quoted identifiers are tokens
+//!   and whose numbers are below 2^128 (`IsTold`). `prefix_lexes`: the text is cut into the form's tokens, also before
+//!   other bytes, where operators' spellings are runs that are read to their ends. `prefix_tells`: two terms with the
+//!   same tokens, or with the same text, are one term. `prefix_is_shallow`: one parenthesis fewer is open at once than
+//!   the term is deep, so of an admitted term 999 at most. Two laws are for the premises. `canonical_is_told`: canonical
+//!   terms are such terms, where quoted identifiers are tokens. `names_are_whole`: names that are given by tokens have
+//!   such spellings, where their pieces are proper.
 //!
-//! `Memory` may come at any call. Only tested, by the sources in cases/: that the definition is the form that is meant.
-//! Neither: time, and that a printed text has no second reading (two terms may be printed alike). Cost: the length of
-//! the text and of the operators' names; the recursion is as deep as the flattened term. `prefix` takes time by the
-//! bytes that it writes, whatever stands before them, finds a name by its number, and takes no memory but the text's.
+//! `Memory` may come at any call. Only tested, by the sources in cases/: that the definition is the mixfix form that is
+//! meant. Neither: time, and that a text in mixfix form has no second reading (two terms may be printed alike). Cost:
+//! the length of the text and of the operators' names; the recursion is as deep as the flattened term. `prefix` takes
+//! time by the bytes that it writes, whatever stands before them, finds a name by its number, and takes no memory but
+//! the text's.
 #![tactic(auto)]
 
 mod laws;
