@@ -34,9 +34,9 @@
 //!   and whose numbers are below 2^128 (`IsTold`). `prefix_lexes`: the text is cut into the form's tokens, also before
 //!   other bytes, where operators' spellings are runs that are read to their ends. `prefix_tells`: two terms with the
 //!   same tokens, or with the same text, are one term. `prefix_is_shallow`: one parenthesis fewer is open at once than
-//!   the term is deep, so of an admitted term 999 at most. Two laws are for the premises. `canonical_is_told`: canonical
-//!   terms are such terms, where quoted identifiers are tokens. `names_are_whole`: names that are given by tokens have
-//!   such spellings, where their pieces are proper.
+//!   the term is deep, so 999 at most where the depth is at most 1,000. Two laws are for the premises.
+//!   `canonical_is_told`: canonical terms are such terms, where quoted identifiers are tokens. `names_are_whole`: names
+//!   that are given by tokens have such spellings, where their pieces are proper.
 //!
 //! `Memory` may come at any call. Only tested, by the sources in cases/: that the definition is the mixfix form that is
 //! meant. Neither: time, and that a text in mixfix form has no second reading (two terms may be printed alike). Cost:
