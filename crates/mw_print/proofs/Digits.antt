@@ -13,15 +13,15 @@ use Rattle.mw_text.specs.Numerals.{are_digits, number_in}
 use Rattle.mw_text.proofs.Numbers.{number_is}
 use Rattle.mw_print.proofs.Bytes.{seven}
 
-abbrev IsDigit : ℕ → Type 0
+abbrev pub IsDigit : ℕ → Type 0
 IsDigit b = (48 ≤ b) × (b ≤ 57)
 
-abbrev AreDigits : List ℕ → Type 0
+abbrev pub AreDigits : List ℕ → Type 0
 AreDigits [] = ⊤
 AreDigits (b ∷ bs) = IsDigit b × AreDigits bs
 
 -- one digit at least
-abbrev AreSome : List ℕ → Type 0
+abbrev pub AreSome : List ℕ → Type 0
 AreSome [] = ⊥
 AreSome (b ∷ bs) = IsDigit b × AreDigits bs
 
@@ -32,7 +32,7 @@ digit_plain b d =
       | inr e ↦ e
     ]
 
-digit_runs : (b : ℕ) → IsDigit b → is_run_byte b ≡ true
+pub digit_runs : (b : ℕ) → IsDigit b → is_run_byte b ≡ true
 digit_runs b d = rw (digit_plain b d) (and_from _ true (and_from _ _ (le-leb 33 b (omega arith)) (le-leb b 126 (omega arith))) refl)
 
 digits_run : (bs : List ℕ) → AreDigits bs → run_len bs ≡ length bs
@@ -54,7 +54,7 @@ digits_proper [] d = absurd d
 digits_proper (b ∷ bs) d =
     inr (digits_run (b ∷ bs) d, (λ e. absurd (omega (arith, d.0))), no_comment b (ne_eqb b 42 (λ e. absurd (omega (arith, d.0)))) (ne_eqb b 45 (λ e. absurd (omega (arith, d.0)))) bs)
 
-decimal_digits : (n : ℕ) → n < 2 ^ 128 → AreSome (decimal n)
+pub decimal_digits : (n : ℕ) → n < 2 ^ 128 → AreSome (decimal n)
 decimal_digits n h =
     decimal_by_steps_wide (λ n ds. AreSome ds) (λ n h. ((omega arith, omega arith), tt)) (λ n ds h d. more_digits ds (48 + n % 10) d (omega arith, omega arith)) n (omega (arith, h))
 

@@ -37,7 +37,7 @@ module _ (b : ℕ) (x rest : List ℕ) (at line : ℕ) where
       (ap (λ k. lexed k (at + 1) (line_after b line) (x ++ rest)) n ∙ skipped x rest (at + 1) (line_after b line))
 
 -- the lexer finds these tokens
-abbrev Finds : Lexed → List (List ℕ) → Type 0
+abbrev pub Finds : Lexed → List (List ℕ) → Type 0
 Finds lexed tokens = (found : List LexedToken) × (lexed ≡ Ok found) × (map (λ (t : LexedToken). t.text) found ≡ tokens)
 
 -- a token before what the lexer finds behind it
@@ -60,7 +60,7 @@ run_piece b x rest (whole, no_string, no_comment) s =
     rw (bare, byte.apart, byte.visible, byte.plain, ne_eqb b 34 no_string, reach) refl
 
 -- a proper token, and what the lexer finds behind it
-token_found : (x rest : List ℕ) (tokens : List (List ℕ)) → IsProper x → (IsRun x → Stops x rest) → ((at line : ℕ) → Finds (lexed 0 at line rest) tokens)
+pub token_found : (x rest : List ℕ) (tokens : List (List ℕ)) → IsProper x → (IsRun x → Stops x rest) → ((at line : ℕ) → Finds (lexed 0 at line rest) tokens)
     → (at line : ℕ) → Finds (lexed 0 at line (x ++ rest)) (x ∷ tokens)
 token_found [] rest tokens (inl mark) s found at line = absurd mark
 token_found [] rest tokens (inr run) s found at line = absurd run
@@ -72,7 +72,7 @@ token_found (b ∷ x) rest tokens (inr run) s found at line = found_front b x re
 passed : (s : List ℕ) (at line : ℕ) → lexed 0 at line (32 ∷ s) ≡ lexed 0 (at + 1) line s
 passed s at line = rw (no_comment 32 refl refl s) refl
 
-past_gap : (x y : Token) (s : List ℕ) (tokens : List (List ℕ)) → ((at line : ℕ) → Finds (lexed 0 at line s) tokens) → (at line : ℕ) → Finds (lexed 0 at line (gap x y ++ s)) tokens
+pub past_gap : (x y : Token) (s : List ℕ) (tokens : List (List ℕ)) → ((at line : ℕ) → Finds (lexed 0 at line s) tokens) → (at line : ℕ) → Finds (lexed 0 at line (gap x y ++ s)) tokens
 past_gap x y s tokens found at line =
     let wide : Finds (lexed 0 at line (32 ∷ s)) tokens = rw passed (found (at + 1) line) in
     elim (cases_Bool (is_apart x)) [
@@ -117,7 +117,7 @@ no_backquote opening e = refl
 no_backquote comma e = refl
 
 -- what stands behind a run ends it
-gap_stops : (x y : Token) (ts : List Token) → IsRun (text_of x) → Stops (text_of x) (gap x y ++ spaced (y ∷ ts))
+pub gap_stops : (x y : Token) (ts : List Token) → IsRun (text_of x) → Stops (text_of x) (gap x y ++ spaced (y ∷ ts))
 gap_stops x y ts run =
     let wide : Stops (text_of x) (32 ∷ spaced (y ∷ ts)) = (refl, λ q. refl) in
     elim (cases_Bool (is_apart x)) [
@@ -128,7 +128,7 @@ gap_stops x y ts run =
       ]
     ]
 
-lexes : (ts : List Token) → All IsProper (texts ts) → (at line : ℕ) → Finds (lexed 0 at line (spaced ts)) (texts ts)
+pub lexes : (ts : List Token) → All IsProper (texts ts) → (at line : ℕ) → Finds (lexed 0 at line (spaced ts)) (texts ts)
 lexes [] h at line = ([], refl, refl)
 lexes (x ∷ []) h at line =
     let none : (at line : ℕ) → Finds (lexed 0 at line []) [] = λ at line. ([], refl, refl) in

@@ -10,5 +10,14 @@ pub mod Bytes
 pub mod Runs
 pub mod Lexed
 pub mod Digits
+pub mod Numbers
+pub mod PrefixForms
 pub mod Proper
 pub mod Maximal
+pub mod PrefixWords
+pub mod PrefixLexed
+pub mod PrefixTold
+pub mod PrefixOpen
+pub mod CanonicalTold
+pub mod WholeNames
+pub mod Before

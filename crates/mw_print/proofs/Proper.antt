@@ -15,11 +15,11 @@ use Rattle.mw_print.specs.Laws.{HasProperLeaves, HaveProperLeaves, PrintedProper
 use Rattle.mw_print.proofs.Spelled.{spread_cases}
 use Rattle.mw_print.proofs.Digits.{decimal_proper}
 
-abbrev AreProper : List Token → Type 0
+abbrev pub AreProper : List Token → Type 0
 AreProper [] = ⊤
 AreProper (x ∷ xs) = IsProper (text_of x) × AreProper xs
 
-all_proper : (xs : List Token) → AreProper xs → All IsProper (texts xs)
+pub all_proper : (xs : List Token) → AreProper xs → All IsProper (texts xs)
 all_proper [] h = All-nil IsProper
 all_proper (x ∷ xs) h = All-cons IsProper (text_of x) (texts xs) h.0 (all_proper xs h.1)
 
@@ -31,7 +31,7 @@ names_proper : (names : List (List ℕ)) → All IsProper names → AreProper (m
 names_proper [] h = tt
 names_proper (n ∷ ns) h = (All-head IsProper n ns h, names_proper ns (All-tail IsProper n ns h))
 
-abbrev AreAllProper : List (List Token) → Type 0
+abbrev pub AreAllProper : List (List Token) → Type 0
 AreAllProper [] = ⊤
 AreAllProper (xs ∷ xss) = AreProper xs × AreAllProper xss
 
@@ -40,7 +40,7 @@ divided_proper [] h = tt
 divided_proper (xs ∷ []) h = h.0
 divided_proper (xs ∷ ys ∷ yss) h = both_proper xs (comma ∷ divided (ys ∷ yss)) h.0 (inl refl, divided_proper (ys ∷ yss) h.1)
 
-called_proper : (h : List Token) (xss : List (List Token)) → AreProper h → AreAllProper xss → AreProper (called h xss)
+pub called_proper : (h : List Token) (xss : List (List Token)) → AreProper h → AreAllProper xss → AreProper (called h xss)
 called_proper h [] p q = p
 called_proper h (xs ∷ xss) p q =
     both_proper (h ++ opening ∷ divided (xs ∷ xss)) (token (codes ")") ∷ []) (both_proper h (opening ∷ divided (xs ∷ xss)) p (inl refl, divided_proper (xs ∷ xss) q)) (inl refl, tt)

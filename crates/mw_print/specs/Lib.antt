@@ -4,4 +4,6 @@ pub mod Printing
 pub mod Chains
 pub mod Sorts
 pub mod Writing
+pub mod Prefix
 pub mod Laws
+pub mod PrefixLaws

@@ -1,7 +1,8 @@
 // A text to which tokens are written one after another.
-ghost use Rattle.std.specs.Prelude.{◌≡◌, ◌∷◌, ◌++◌, List, [], OnOk};
+ghost use Rattle.std.specs.Prelude.{◌≡◌, ◌∷◌, ◌++◌, List, [], codes, decimal, if◌then◌else◌, OnOk};
 ghost use Rattle.mw_print.specs.Tokens as tokens;
 ghost use Rattle.mw_print.specs.Tokens.{Token, opening, comma, spaced};
+ghost use Rattle.mw_print.specs.declared.writer.End.TheVariants.{Apart, Plain};
 ghost use Rattle.mw_print.specs.Writing as writing;
 ghost use Rattle.mw_print.specs.Writing.{written, Writes};
 
@@ -66,6 +67,30 @@ fn end_of(token: &[u8]) -> End
     }
 }
 
+/// How a text ends whose last token is longer than a byte and ends in this name.
+fn end_of_name(name: &[u8]) -> End
+    ensures { result ≡ (if tokens.ends_in_backquote name.now then Apart else Plain) }
+{
+    if ends_in_backquote(name) {
+        End::Apart
+    } else {
+        End::Plain
+    }
+}
+
+/// Writes a number in decimal behind a text.
+fn push_decimal(number: u128, text: &mut Vec<u8>) -> Result<(), AllocError>
+    ensures { OnOk result (text.new.items ≡ text.old.items ++ decimal number) }
+{
+    if number < 10 {
+        text.push(b'0' + number as u8)?;
+        return Ok(());
+    }
+    push_decimal(number / 10, text)?;
+    text.push(b'0' + (number % 10) as u8)?;
+    Ok(())
+}
+
 impl Writer {
     /// A text without tokens.
     pub fn new(alloc: Global) -> Writer
@@ -73,6 +98,16 @@ impl Writer {
     {
         Writer {
             text: Vec::new(alloc),
+            end: End::Empty,
+        }
+    }
+
+    /// A text, behind which tokens are to stand as in one that has none.
+    pub fn behind(text: Vec<u8>) -> Writer
+        ensures { (ts : List Token) → written result ts ≡ text.items ++ spaced ts }
+    {
+        Writer {
+            text,
             end: End::Empty,
         }
     }
@@ -99,6 +134,29 @@ impl Writer {
         self.space(closes(token))?;
         self.text.extend_from_slice(token)?;
         self.end = end_of(token);
+        Ok(())
+    }
+
+    /// Writes a number in decimal.
+    pub fn numeral(&mut self, number: u128) -> Result<(), AllocError>
+        ensures { OnOk result (Writes self.old self.new (tokens.token (decimal number) ∷ [])) }
+    {
+        self.space(false)?;
+        push_decimal(number, &mut self.text)?;
+        self.end = End::Plain;
+        Ok(())
+    }
+
+    /// Writes a number in decimal, `@` and a name, as one token.
+    pub fn numbered(&mut self, number: u32, name: &[u8]) -> Result<(), AllocError>
+        ensures { OnOk result
+            (Writes self.old self.new (tokens.token (decimal number ++ codes "@" ++ name.now) ∷ [])) }
+    {
+        self.space(false)?;
+        push_decimal(number as u128, &mut self.text)?;
+        self.text.push(b'@')?;
+        self.text.extend_from_slice(name)?;
+        self.end = end_of_name(name);
         Ok(())
     }
 
