@@ -80,7 +80,7 @@ move_behind M (begins t) T (S ∷ Q ∷ B) i = i
 move_behind M ends T (S ∷ []) i = i
 move_behind M ends T (S ∷ Q ∷ []) i = i
 move_behind M ends T (S ∷ Q ∷ P ∷ B) i = i
-move_behind M (applies k r s) T (S ∷ []) i = record { statement = i.statement; is_there = i.is_there; rule = i.rule; replaces = i.replaces; may = i.may }
+move_behind M (applies k r s) T (S ∷ []) i = record { statement = i.statement; is_there = i.is_there; rule = i.rule; replaces = i.replaces; starts = i.starts; may = i.may }
 move_behind M (applies k r s) T (S ∷ Q ∷ B) i = i
 move_behind M (meets t) T (S ∷ []) i = record { form = i.form; result = i.result; meets = i.meets; clean = i.clean; is = i.is; may = i.may; nothing_waits = i.nothing_waits }
 move_behind M (meets t) T (S ∷ Q ∷ B) i = i

@@ -37,6 +37,7 @@ module _ (M : Module) where
         is_there = m.is_there;
         rule = m.rule;
         replaces = replaces M (admitted_judgements M S.rank).Fails (admitted_judgements M n).Fails w.Fails (AdmittedStep M) (AdmittedStep M) (λ r t w v u x. x) (admitted_judgements M S.rank).Held (admitted_judgements M n).Held w.Held k r s S.read.ready _ _ m.replaces;
+        starts = m.starts;
         may = m.may;
       }
 

@@ -289,6 +289,7 @@ module _ (M : Module) (well : IsWellFormed M) (os : List Open) where
           is_there = i.is_there;
           rule = i.rule;
           replaces = i.replaces;
+          starts = i.starts;
           may = may_under r S Q (instance s i.statement.left) (instance s i.statement.right) h.0 g.0 refl (becomes_is M ok k s S.hand i.statement i.is_there) (subst (λ x. IsRawTerm sig (plug (round sig os) (nested sig x))) (sym f.1) start) fit.0 free i.may;
         }
     move_under (applies k r s) (S ∷ Q ∷ B) h g f a i = i

@@ -1,14 +1,14 @@
 -- What a kept proof means: its moves, carried out on flattened terms. They go into arguments and out of them, and replace what is in hand; the sides of a
 -- condition stand between `begin` and `end`, before the statement that they are evidence for. A replay tells for each replacement where it is made, by
 -- what, and the whole term before it and after it.
-use Rattle.std.specs.Prelude.{◌≡◌, ◌⊎◌, ◌<◌, ◌-◌, ◌+◌, ℕ, suc, List, [], ◌∷◌, ◌++◌, length, Bool, false, ◌&&◌, cond, nat_eq, IsTrue, option_map, unwrap_or, ⊤}
+use Rattle.std.specs.Prelude.{◌≡◌, ◌⊎◌, ◌<◌, ◌-◌, ◌+◌, ℕ, suc, List, [], ◌∷◌, ◌++◌, length, map, Bool, false, ◌&&◌, cond, nat_eq, IsTrue, option_map, unwrap_or, ⊤}
 use Rattle.mw_logic.specs.Term.{RawTerm, numeral, quoted, variable, apply, RawTerms, cons, join, plug}
 use Rattle.mw_logic.specs.Terms.{list_of, front, skip}
 use Rattle.mw_logic.specs.Signature.{Signature, IsRawTerm, at_number}
 use Rattle.mw_logic.specs.Substitution.{Substitution, instance}
 use Rattle.mw_logic.specs.Parts.{is_assoc, nested, number_of_terms, IsClean, IsAdmitted, IsFrozen}
 use Rattle.mw_logic.specs.NormalForm.{normal_form}
-use Rattle.mw_logic.specs.Module.{Statement, Module, Row}
+use Rattle.mw_logic.specs.Module.{Fragment, equal, matches, has_sort, is_true, Statement, Module, Row}
 use Rattle.mw_logic.specs.Proof.{Proof, equality, transitivity, replacement, row}
 use Rattle.mw_logic.specs.Proof as proof
 use Rattle.mw_logic.specs.Judgements.{Replaces, IsNormalBy, admitted_judgements}
@@ -166,12 +166,32 @@ pub record MayGoAmong (sig : Signature) (ks : List ℕ) (t : RawTerm) : Type 0 w
   pub takes : Takes sig ks t part
   pub proper : length ks < number_of_terms takes.args
 
--- a statement applies, by the evidence that waits
+-- the sides of fragments, in order
+abbrev pub sides_of : Fragment → List RawTerm
+sides_of (equal u v) = u ∷ v ∷ []
+sides_of (matches p u) = u ∷ []
+sides_of (has_sort u S) = u ∷ []
+sides_of (is_true b) = b ∷ []
+
+abbrev pub all_sides : List Fragment → List RawTerm
+all_sides [] = []
+all_sides (f ∷ fs) = sides_of f ++ all_sides fs
+
+-- what these sides begin at: their instances in canonical form
+abbrev pub begun_sides : Signature → Substitution → List RawTerm → List RawTerm
+begun_sides sig s ts = map (λ t. nested sig (normal_form sig (instance s t))) ts
+
+abbrev pub beginnings : Runs → List RawTerm
+beginnings end = []
+beginnings (another (run t u ds) rs) = t ∷ beginnings rs
+
+-- a statement applies, by the evidence that waits, which begins at the sides of its condition
 pub record MayApply (M : Module) (k : ℕ) (r : Bool) (s : Substitution) (S : Stand) : Type 0 where
   pub statement : Statement
   pub is_there : at_number M.statements k ≡ Rattle.std.specs.Prelude.Some statement
   pub rule : statement.rule ≡ r
   pub replaces : Replaces M (admitted_judgements M S.rank).Held (admitted_judgements M S.rank).Fails k r s S.read.ready (instance s statement.left) (instance s statement.right)
+  pub starts : beginnings S.sides ≡ begun_sides M.signature s (all_sides statement.fragments)
   pub may : MayReplace M r S.opens S.hand (instance s statement.left) (instance s statement.right)
 
 -- a row is met, and no evidence waits: a row takes none
