@@ -57,7 +57,7 @@ outermost_of M out n t (S ∷ B) h = instead n t S (going_out M.signature S.open
 outermost_of M (begins u) n t (S ∷ B) h = h
 outermost_of M ends n t (S ∷ []) h = h
 outermost_of M ends n t (S ∷ Q ∷ B) h = instead n t Q (showing M.signature S Q) B (λ k. k) h
-outermost_of M (applies k r s) n t (S ∷ B) h = instead n t S (replacing M.signature (replacement k r s S.read.ready) (by_statement k s S.sides) (becomes M k s S.hand) S) B (λ k. k) h
+outermost_of M (applies k r s vs) n t (S ∷ B) h = instead n t S (replacing M.signature (replacement k r s S.read.ready) (by_statement k s S.sides) (becomes M k s S.hand) S) B (λ k. k) h
 outermost_of M (meets u) n t (S ∷ B) h = instead n t S (replacing M.signature row by_row u S) B (λ k. k) h
 
 pub played_of : (M : Module) (ms : List Move) (n : ℕ) (t : RawTerm) (B : List Stand) → IsOutermostOf n t B → IsOutermostOf n t (plays M ms B)

@@ -53,7 +53,7 @@ totals M (out ∷ ms) (S ∷ B) a = totals M ms (going_out M.signature S.opens S
 totals M (begins t ∷ ms) (S ∷ B) a = let h = totals M ms (begun (S.rank - 1) t ∷ S ∷ B) a.1 in omega (arith, h)
 totals M (ends ∷ ms) (S ∷ []) a = absurd a.0
 totals M (ends ∷ ms) (S ∷ Q ∷ B) a = let h = totals M ms (play M ends (S ∷ Q ∷ B)) a.1 in let c = counted_given S.read Q.read a.0.nothing_waits in omega (arith, h, c)
-totals M (applies k r s ∷ ms) (S ∷ B) a = let h = totals M ms (play M (applies k r s) (S ∷ B)) a.1 in let c = counted_applying (replacement k r s S.read.ready) S.read refl in omega (arith, h, c)
+totals M (applies k r s vs ∷ ms) (S ∷ B) a = let h = totals M ms (play M (applies k r s vs) (S ∷ B)) a.1 in let c = counted_applying (replacement k r s S.read.ready) S.read refl in omega (arith, h, c)
 totals M (meets t ∷ ms) (S ∷ B) a =
     let h = totals M ms (play M (meets t) (S ∷ B)) a.1 in
     let e : count_of S.read.ready ≡ 0 = ap count_of a.0.nothing_waits in
@@ -90,7 +90,7 @@ outer_counts M (ends ∷ ms) S (Q ∷ B) a =
     let like = same_outermost Q (showing M.signature S Q) B refl in
     let h = outer_counts M ms (showing M.signature S Q) B a.1 in
     subst (λ d. AreCounted d ms (outermost (Q ∷ B)) (outermost (plays M ms (showing M.signature S Q ∷ B)))) e (subst (λ p. AreCounted (length B) ms p (outermost (plays M ms (showing M.signature S Q ∷ B)))) like h)
-outer_counts M (applies k r s ∷ ms) S [] a =
+outer_counts M (applies k r s vs ∷ ms) S [] a =
     let (x, y) = outer_counts M ms (replacing M.signature (replacement k r s S.read.ready) (by_statement k s S.sides) (becomes M k s S.hand) S) [] a.1 in
     let (u, v, w) = reading.one (replacement k r s S.read.ready) S.read in
     let z : cond {A = ℕ} (r && true) 1 0 ≡ cond r 1 0 = by_flag r in
@@ -99,7 +99,7 @@ outer_counts M (applies k r s ∷ ms) S [] a =
     by_flag : (r : Bool) → cond {A = ℕ} (r && true) 1 0 ≡ cond r 1 0
     by_flag true = refl
     by_flag false = refl
-outer_counts M (applies k r s ∷ ms) S (Q ∷ B) a =
+outer_counts M (applies k r s vs ∷ ms) S (Q ∷ B) a =
     let (x, y) = outer_counts M ms (replacing M.signature (replacement k r s S.read.ready) (by_statement k s S.sides) (becomes M k s S.hand) S) (Q ∷ B) a.1 in
     let d : nat_eq (suc (length B)) 0 ≡ false = further_in (length B) in
     let e : cond {A = ℕ} (nat_eq (suc (length B)) 0) 1 0 ≡ 0 = rw d refl in

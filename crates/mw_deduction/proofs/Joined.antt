@@ -58,8 +58,8 @@ play-behind M (begins t) T (S ∷ Q ∷ B) = refl
 play-behind M ends T (S ∷ []) = refl
 play-behind M ends T (S ∷ Q ∷ []) = refl
 play-behind M ends T (S ∷ Q ∷ P ∷ B) = refl
-play-behind M (applies k r s) T (S ∷ []) = ap (λ Q. Q ∷ []) (replacing-behind M.signature (replacement k r s S.read.ready) (by_statement k s S.sides) (becomes M k s S.hand) T S)
-play-behind M (applies k r s) T (S ∷ Q ∷ B) = refl
+play-behind M (applies k r s vs) T (S ∷ []) = ap (λ Q. Q ∷ []) (replacing-behind M.signature (replacement k r s S.read.ready) (by_statement k s S.sides) (becomes M k s S.hand) T S)
+play-behind M (applies k r s vs) T (S ∷ Q ∷ B) = refl
 play-behind M (meets t) T (S ∷ []) = ap (λ Q. Q ∷ []) (replacing-behind M.signature row by_row t T S)
 play-behind M (meets t) T (S ∷ Q ∷ B) = refl
 
@@ -80,8 +80,8 @@ move_behind M (begins t) T (S ∷ Q ∷ B) i = i
 move_behind M ends T (S ∷ []) i = i
 move_behind M ends T (S ∷ Q ∷ []) i = i
 move_behind M ends T (S ∷ Q ∷ P ∷ B) i = i
-move_behind M (applies k r s) T (S ∷ []) i = record { statement = i.statement; is_there = i.is_there; rule = i.rule; replaces = i.replaces; starts = i.starts; may = i.may }
-move_behind M (applies k r s) T (S ∷ Q ∷ B) i = i
+move_behind M (applies k r s vs) T (S ∷ []) i = record { statement = i.statement; is_there = i.is_there; rule = i.rule; replaces = i.replaces; values = i.values; starts = i.starts; may = i.may }
+move_behind M (applies k r s vs) T (S ∷ Q ∷ B) i = i
 move_behind M (meets t) T (S ∷ []) i = record { form = i.form; result = i.result; meets = i.meets; clean = i.clean; is = i.is; may = i.may; nothing_waits = i.nothing_waits }
 move_behind M (meets t) T (S ∷ Q ∷ B) i = i
 

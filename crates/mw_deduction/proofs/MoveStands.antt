@@ -154,9 +154,9 @@ module _ (M : Module) (ok : IsAccepted M.signature) where
   pub becomes_is : (k : ℕ) (s : Substitution) (t : RawTerm) (e : Statement) → at_number M.statements k ≡ Some e → becomes M k s t ≡ normal_form sig (instance s e.right)
   becomes_is k s t e h = ap (λ o. unwrap_or (option_map (λ (e : Statement). normal_form sig (instance s e.right)) o) t) h
 
-  applies_stands : (S : Stand) (k : ℕ) (r : Bool) (s : Substitution) → MayApply M k r s S → IsStanding M S
+  applies_stands : (S : Stand) (k : ℕ) (r : Bool) (s : Substitution) (vs : List RawTerm) → MayApply M k r s vs S → IsStanding M S
       → IsStanding M (replacing sig (replacement k r s S.read.ready) (by_statement k s S.sides) (becomes M k s S.hand) S)
-  applies_stands S k r s m h =
+  applies_stands S k r s vs m h =
       let w : RawTerm = instance s m.statement.left in
       let v : RawTerm = instance s m.statement.right in
       let q : EqualModulo sig w (nested sig S.hand) = same_part m.may in
@@ -202,7 +202,7 @@ module _ (M : Module) (ok : IsAccepted M.signature) where
   move_stands (begins t) (S ∷ B) h i = (begun_stands (S.rank - 1) t i.canonical i.raw i.admitted, h)
   move_stands ends (S ∷ []) h i = absurd i
   move_stands ends (S ∷ Q ∷ B) h i = (shows S Q (subst (λ os. IsStanding M (with_opens S os)) i.outside h.0) h.1.0, h.1.1)
-  move_stands (applies k r s) (S ∷ B) h i = (applies_stands S k r s i h.0, h.1)
+  move_stands (applies k r s vs) (S ∷ B) h i = (applies_stands S k r s vs i h.0, h.1)
   move_stands (meets t) (S ∷ B) h i = (meets_stands S t i h.0, h.1)
 
   -- and many

@@ -30,7 +30,7 @@ play_over M out (S ∷ B) C i = (i, refl)
 play_over M (begins t) (S ∷ B) C i = (i, refl)
 play_over M ends (S ∷ []) C i = absurd i
 play_over M ends (S ∷ Q ∷ B) C i = (i, refl)
-play_over M (applies k r s) (S ∷ B) C i = (i, refl)
+play_over M (applies k r s vs) (S ∷ B) C i = (i, refl)
 play_over M (meets t) (S ∷ B) C i = (i, refl)
 
 pub plays_over : (M : Module) (ms : List Move) (B C : List Stand) → AreMoves M ms B → AreMoves M ms (B ++ C) × (plays M ms (B ++ C) ≡ plays M ms B ++ C)

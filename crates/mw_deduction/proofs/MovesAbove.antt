@@ -29,14 +29,15 @@ out_raised sig [] n S l = (l, refl)
 out_raised sig (o ∷ os) n S l = (l, refl)
 
 module _ (M : Module) where
-  applies_above : {k : ℕ} {r : Bool} {s : Substitution} (n : ℕ) (S : Stand) → S.rank ≤ n → MayApply M k r s S → MayApply M k r s (ranked n S)
-  applies_above {k} {r} {s} n S l m =
+  applies_above : {k : ℕ} {r : Bool} {s : Substitution} {vs : List RawTerm} (n : ℕ) (S : Stand) → S.rank ≤ n → MayApply M k r s vs S → MayApply M k r s vs (ranked n S)
+  applies_above {k} {r} {s} {vs} n S l m =
       let w : Within (admitted_judgements M S.rank) (admitted_judgements M n) = within_above M S.rank n l in
       record {
         statement = m.statement;
         is_there = m.is_there;
         rule = m.rule;
         replaces = replaces M (admitted_judgements M S.rank).Fails (admitted_judgements M n).Fails w.Fails (AdmittedStep M) (AdmittedStep M) (λ r t w v u x. x) (admitted_judgements M S.rank).Held (admitted_judgements M n).Held w.Held k r s S.read.ready _ _ m.replaces;
+        values = m.values;
         starts = m.starts;
         may = m.may;
       }
@@ -70,7 +71,7 @@ module _ (M : Module) where
     record { outside = m.outside; nothing_waits = m.nothing_waits },
     (subst (λ P. IsRaised (showing M.signature S Q) (showing M.signature (ranked n S) P)) (sym h.0.1) (h.0.0, refl), h.1),
   )
-  at_rank (applies k r s) n S B C l h m = (applies_above n S l m, ((l, refl), h))
+  at_rank (applies k r s vs) n S B C l h m = (applies_above n S l m, ((l, refl), h))
   at_rank (meets t) n S B C l h m = (meets_above n S l m, ((l, refl), h))
 
   pub move_above : (m : Move) (B C : List Stand) → IsMove M m B → Above B C → IsMove M m C × Above (play M m B) (play M m C)

@@ -175,10 +175,10 @@ module _ (M : Module) (well : IsWellFormed M) (os : List Open) where
   play-under ends (S ∷ []) h g i = absurd i
   play-under ends (S ∷ Q ∷ []) h g i = refl
   play-under ends (S ∷ Q ∷ P ∷ B) h g i = refl
-  play-under (applies k r s) (S ∷ []) h g i =
+  play-under (applies k r s vs) (S ∷ []) h g i =
       ap (λ Q. Q ∷ []) (replacing-under (replacement k r s S.read.ready) (by_statement k s S.sides) (becomes M k s S.hand) S (λ t v. refl) (stand_canonical S h.0)
       (stand_canonical (replacing sig (replacement k r s S.read.ready) (by_statement k s S.sides) (becomes M k s S.hand) S) g.0))
-  play-under (applies k r s) (S ∷ Q ∷ B) h g i = refl
+  play-under (applies k r s vs) (S ∷ Q ∷ B) h g i = refl
   play-under (meets t) (S ∷ []) h g i = ap (λ Q. Q ∷ []) (replacing-under row by_row t S (λ t v. refl) (stand_canonical S h.0) (stand_canonical (replacing sig row by_row t S) g.0))
   play-under (meets t) (S ∷ Q ∷ B) h g i = refl
 
@@ -252,7 +252,7 @@ module _ (M : Module) (well : IsWellFormed M) (os : List Open) where
   move_grows (begins t) (S ∷ B) = (none, sym (both_none (outermost_run (S ∷ B))))
   move_grows ends (S ∷ []) = (none, sym (both_none S.run))
   move_grows ends (S ∷ Q ∷ B) = kept_run Q (showing sig S Q) B refl
-  move_grows (applies k r s) (S ∷ B) = replacing_grows (replacement k r s S.read.ready) (by_statement k s S.sides) (becomes M k s S.hand) S B
+  move_grows (applies k r s vs) (S ∷ B) = replacing_grows (replacement k r s S.read.ready) (by_statement k s S.sides) (becomes M k s S.hand) S B
   move_grows (meets t) (S ∷ B) = replacing_grows row by_row t S B
 
   moves_grow : (ms : List Move) (B : List Stand) → Grows B (plays M ms B)
@@ -280,7 +280,7 @@ module _ (M : Module) (well : IsWellFormed M) (os : List Open) where
     move_under ends (S ∷ []) h g f a i = i
     move_under ends (S ∷ Q ∷ []) h g f a i = i
     move_under ends (S ∷ Q ∷ P ∷ B) h g f a i = i
-    move_under (applies k r s) (S ∷ []) h g f a i =
+    move_under (applies k r s vs) (S ∷ []) h g f a i =
         let Q : Stand = replacing sig (replacement k r s S.read.ready) (by_statement k s S.sides) (becomes M k s S.hand) S in
         let fit = (all_parts S.run (one (by_statement k s S.sides (nested sig (whole sig S.opens S.hand)) (nested sig (whole sig S.opens Q.hand)))) a).1.0 in
         let free : IsTrue r → ¬ IsFrozen sig (round sig os) = λ x. fit.1 i.replaces.statement i.replaces.is_there (subst IsTrue (sym i.replaces.rule) x) in
@@ -289,10 +289,11 @@ module _ (M : Module) (well : IsWellFormed M) (os : List Open) where
           is_there = i.is_there;
           rule = i.rule;
           replaces = i.replaces;
+          values = i.values;
           starts = i.starts;
           may = may_under r S Q (instance s i.statement.left) (instance s i.statement.right) h.0 g.0 refl (becomes_is M ok k s S.hand i.statement i.is_there) (subst (λ x. IsRawTerm sig (plug (round sig os) (nested sig x))) (sym f.1) start) fit.0 free i.may;
         }
-    move_under (applies k r s) (S ∷ Q ∷ B) h g f a i = i
+    move_under (applies k r s vs) (S ∷ Q ∷ B) h g f a i = i
     move_under (meets u) (S ∷ []) h g f a i =
         let Q : Stand = replacing sig row by_row u S in
         let fit = (all_parts S.run (one (by_row (nested sig (whole sig S.opens S.hand)) (nested sig (whole sig S.opens u)))) a).1.0 in

@@ -2,7 +2,8 @@
 -- condition stand between `begin` and `end`, before the statement that they are evidence for. A replay tells for each replacement where it is made, by
 -- what, and the whole term before it and after it.
 use Rattle.std.specs.Prelude.{◌≡◌, ◌⊎◌, ◌<◌, ◌-◌, ◌+◌, ℕ, suc, List, [], ◌∷◌, ◌++◌, length, map, Bool, false, ◌&&◌, cond, nat_eq, IsTrue, option_map, unwrap_or, ⊤}
-use Rattle.mw_logic.specs.Term.{RawTerm, numeral, quoted, variable, apply, RawTerms, cons, join, plug}
+use Rattle.std.specs.List.{zip}
+use Rattle.mw_logic.specs.Term.{Variable, RawTerm, numeral, quoted, variable, apply, RawTerms, cons, join, plug}
 use Rattle.mw_logic.specs.Terms.{list_of, front, skip}
 use Rattle.mw_logic.specs.Signature.{Signature, IsRawTerm, at_number}
 use Rattle.mw_logic.specs.Substitution.{Substitution, instance}
@@ -21,15 +22,15 @@ use Rattle.mw_deduction.specs.Standing.{Open, filled, round, IsClear, IsSeen}
 use Rattle.mw_deduction.specs.Runs.{Done, by_statement, by_row, Dones, none, one, both, Run, run, Runs, end, another}
 
 -- Into the argument of this number; into several; out; into a side of a condition, which begins at this canonical term, and out of it; a statement, whether
--- it is a rule, and its substitution; a row of the schemata, and what comes of it. Arguments are numbered from 1, as they stand in the flattened term
--- in hand at that moment.
+-- it is a rule, its substitution, and the canonical terms that this was made of; a row of the schemata, and what comes of it. Arguments are numbered from 1,
+-- as they stand in the flattened term in hand at that moment.
 pub data Move : Type 0 where
   into : ℕ → Move
   among : List ℕ → Move
   out : Move
   begins : RawTerm → Move
   ends : Move
-  applies : ℕ → Bool → Substitution → Move
+  applies : ℕ → Bool → Substitution → List RawTerm → Move
   meets : RawTerm → Move
 
 -- A proof under way: the rank in which it is made, the flattened term that it began at, the operators that it went into, the innermost first, and the
@@ -133,7 +134,7 @@ play M out (S ∷ B) = going_out M.signature S.opens S ∷ B
 play M (begins t) (S ∷ B) = begun (S.rank - 1) t ∷ S ∷ B
 play M ends (S ∷ []) = S ∷ []
 play M ends (S ∷ Q ∷ B) = showing M.signature S Q ∷ B
-play M (applies k r s) (S ∷ B) = replacing M.signature (replacement k r s S.read.ready) (by_statement k s S.sides) (becomes M k s S.hand) S ∷ B
+play M (applies k r s vs) (S ∷ B) = replacing M.signature (replacement k r s S.read.ready) (by_statement k s S.sides) (becomes M k s S.hand) S ∷ B
 play M (meets t) (S ∷ B) = replacing M.signature row by_row t S ∷ B
 
 abbrev pub plays : Module → List Move → List Stand → List Stand
@@ -185,12 +186,24 @@ abbrev pub beginnings : Runs → List RawTerm
 beginnings end = []
 beginnings (another (run t u ds) rs) = t ∷ beginnings rs
 
+-- each is canonical
+abbrev pub AreAllCanonical : Signature → List RawTerm → Type 0
+AreAllCanonical sig [] = ⊤
+AreAllCanonical sig (v ∷ vs) = (IsCanonical sig v × IsRawTerm sig (nested sig v)) × AreAllCanonical sig vs
+
+-- the values of these variables, in their order, are these canonical terms
+pub record AreValuesOf (sig : Signature) (xs : List Variable) (vs : List RawTerm) (s : Substitution) : Type 0 where
+  pub size : length vs ≡ length xs
+  pub canonical : AreAllCanonical sig vs
+  pub are : s ≡ zip xs (map (nested sig) vs)
+
 -- a statement applies, by the evidence that waits, which begins at the sides of its condition
-pub record MayApply (M : Module) (k : ℕ) (r : Bool) (s : Substitution) (S : Stand) : Type 0 where
+pub record MayApply (M : Module) (k : ℕ) (r : Bool) (s : Substitution) (vs : List RawTerm) (S : Stand) : Type 0 where
   pub statement : Statement
   pub is_there : at_number M.statements k ≡ Rattle.std.specs.Prelude.Some statement
   pub rule : statement.rule ≡ r
   pub replaces : Replaces M (admitted_judgements M S.rank).Held (admitted_judgements M S.rank).Fails k r s S.read.ready (instance s statement.left) (instance s statement.right)
+  pub values : AreValuesOf M.signature statement.variables vs s
   pub starts : beginnings S.sides ≡ begun_sides M.signature s (all_sides statement.fragments)
   pub may : MayReplace M r S.opens S.hand (instance s statement.left) (instance s statement.right)
 
@@ -226,7 +239,7 @@ IsMove M out (S ∷ B) = (o : Open) × (os : List Open) × (S.opens ≡ o ∷ os
 IsMove M (begins t) (S ∷ B) = MayBegin M t S
 IsMove M ends (S ∷ []) = ⊥
 IsMove M ends (S ∷ Q ∷ B) = MayEnd S
-IsMove M (applies k r s) (S ∷ B) = MayApply M k r s S
+IsMove M (applies k r s vs) (S ∷ B) = MayApply M k r s vs S
 IsMove M (meets t) (S ∷ B) = MayMeet M t S
 
 -- each in turn
@@ -250,7 +263,7 @@ replacements (among ks ∷ ms) = replacements ms
 replacements (out ∷ ms) = replacements ms
 replacements (begins t ∷ ms) = replacements ms
 replacements (ends ∷ ms) = replacements ms
-replacements (applies k r s ∷ ms) = suc (replacements ms)
+replacements (applies k r s vs ∷ ms) = suc (replacements ms)
 replacements (meets t ∷ ms) = suc (replacements ms)
 
 -- how many they make outside sides, and by rules, so many sides further in
@@ -261,7 +274,7 @@ outer_steps d (among ks ∷ ms) = outer_steps d ms
 outer_steps d (out ∷ ms) = outer_steps d ms
 outer_steps d (begins t ∷ ms) = outer_steps (suc d) ms
 outer_steps d (ends ∷ ms) = outer_steps (d - 1) ms
-outer_steps d (applies k r s ∷ ms) = cond (nat_eq d 0) 1 0 + outer_steps d ms
+outer_steps d (applies k r s vs ∷ ms) = cond (nat_eq d 0) 1 0 + outer_steps d ms
 outer_steps d (meets t ∷ ms) = cond (nat_eq d 0) 1 0 + outer_steps d ms
 
 abbrev pub outer_rules : ℕ → List Move → ℕ
@@ -271,5 +284,5 @@ outer_rules d (among ks ∷ ms) = outer_rules d ms
 outer_rules d (out ∷ ms) = outer_rules d ms
 outer_rules d (begins t ∷ ms) = outer_rules (suc d) ms
 outer_rules d (ends ∷ ms) = outer_rules (d - 1) ms
-outer_rules d (applies k r s ∷ ms) = cond (r && nat_eq d 0) 1 0 + outer_rules d ms
+outer_rules d (applies k r s vs ∷ ms) = cond (r && nat_eq d 0) 1 0 + outer_rules d ms
 outer_rules d (meets t ∷ ms) = outer_rules d ms
