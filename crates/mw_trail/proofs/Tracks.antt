@@ -24,7 +24,7 @@ move-append M Out vs ws ns os a b = refl
 move-append M (Begin n) vs ws ns os a b =
     let l = length-drop n vs in ap begins (ap first_of (drop-append-le n vs ws (omega (arith, a))) ∙ first-append (drop n vs) ws (omega (arith, a, l)))
 move-append M End vs ws ns os a b = refl
-move-append M (Apply n k) vs ws ns os a b = ap (λ us. applies k (is_rule M k) (meant M.signature (zip (variables_of M k) us))) (take-append-le n vs ws a)
+move-append M (Apply n k) vs ws ns os a b = ap (λ us. applies k (is_rule M k) (meant M.signature (zip (variables_of M k) us)) us) (take-append-le n vs ws a)
 move-append M Row vs ws ns os a b = ap meets (first-append vs ws a)
 
 moves_of-append : (M : Module) (xs ys : List Item) (vs ws : List RawTerm) (ns os : List ℕ) → needed xs ≡ length vs → counted xs ≡ length ns
@@ -100,11 +100,11 @@ pub with_numbers : (t u : Track) (x : Item) (ns : List ℕ) → u.items ≡ t.it
 with_numbers t u x ns a b c = record { items = a; values = b ∙ sym (append-nil t.values); numbers = c }
 
 pub applied_moves : (M : Module) (t u : Track) (k n l : ℕ) (vs : List RawTerm) → IsTrack t → n ≡ length vs → k ≡ l → IsJoined t (alone (Apply n k) vs []) u
-    → moves M u ≡ moves M t ++ applies l (is_rule M l) (meant M.signature (zip (variables_of M l) vs)) ∷ []
+    → moves M u ≡ moves M t ++ applies l (is_rule M l) (meant M.signature (zip (variables_of M l) vs)) vs ∷ []
 applied_moves M t u k n l vs h e f j =
     moves-append M t (alone (Apply n k) vs []) u h j
-    ∙ ap (λ us. moves M t ++ applies k (is_rule M k) (meant M.signature (zip (variables_of M k) us)) ∷ []) (take_all n vs (omega (arith, e)))
-    ∙ ap (λ i. moves M t ++ applies i (is_rule M i) (meant M.signature (zip (variables_of M i) vs)) ∷ []) f
+    ∙ ap (λ us. moves M t ++ applies k (is_rule M k) (meant M.signature (zip (variables_of M k) us)) us ∷ []) (take_all n vs (omega (arith, e)))
+    ∙ ap (λ i. moves M t ++ applies i (is_rule M i) (meant M.signature (zip (variables_of M i) vs)) vs ∷ []) f
 
 pub among_moves : (M : Module) (t u : Track) (n : ℕ) (ns : List ℕ) → IsTrack t → n ≡ length ns → IsJoined t (alone (Among n) [] ns) u → moves M u ≡ moves M t ++ among ns ∷ []
 among_moves M t u n ns h e j = moves-append M t (alone (Among n) [] ns) u h j ∙ ap (λ os. moves M t ++ among os ∷ []) (take_all n ns (omega (arith, e)))

@@ -52,7 +52,7 @@ move_of M (Among n) vs ns = among (take n ns)
 move_of M Out vs ns = out
 move_of M (Begin n) vs ns = begins (first_of (drop n vs))
 move_of M End vs ns = ends
-move_of M (Apply n k) vs ns = applies k (is_rule M k) (meant M.signature (zip (variables_of M k) (take n vs)))
+move_of M (Apply n k) vs ns = applies k (is_rule M k) (meant M.signature (zip (variables_of M k) (take n vs))) (take n vs)
 move_of M Row vs ns = meets (first_of vs)
 
 abbrev pub moves_of : Module → List Item → List RawTerm → List ℕ → List Move

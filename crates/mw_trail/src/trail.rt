@@ -222,7 +222,7 @@ impl Trail {
     /// The statement of this number is applied, by these values, which are taken, and by the sides that wait.
     #[inline(always)]
     pub fn apply(&mut self, number: usize, values: &mut Vec<Term>) -> Result<(), AllocError>
-        ensures moves { OnOk result ((M : Module) → moves M self.new ≡ moves M self.old ++ applies number (is_rule M number) (meant M.signature (zip (variables_of M number) values.old.items)) ∷ []) }
+        ensures moves { OnOk result ((M : Module) → moves M self.new ≡ moves M self.old ++ applies number (is_rule M number) (meant M.signature (zip (variables_of M number) values.old.items)) values.old.items ∷ []) }
         ensures values { OnOk result (self.new.values ≡ self.old.values ++ values.old.items) }
         ensures keeps { OnOk result (Keeps self.old self.new) }
         ensures taken { OnOk result (values.new.items ≡ []) }
