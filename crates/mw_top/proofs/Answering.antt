@@ -1,5 +1,5 @@
 -- The block of a kept deduction answers a command.
-use Rattle.std.specs.Prelude.{◌≡◌, ◌-◌, ◌^◌, ℕ, List, Option, None, min, IsTrue, Result, Ok, Err, IfOk, MatchResult, codes}
+use Rattle.std.specs.Prelude.{◌≡◌, ◌-◌, ◌^◌, ◌++◌, ℕ, Bool, List, Option, None, min, IsTrue, Result, Ok, Err, IfOk, MatchResult, codes}
 use Rattle.std.proofs.Common.{◌∙◌, ap, subst, sym, refl, ⊎_elim}
 use Rattle.std.proofs.lemmas.Bool.{both_ways}
 use Rattle.mw_logic.specs.Term.{RawTerm, is_ground}
@@ -24,6 +24,7 @@ use Rattle.mw_reduce.specs.Reductions.{IsOutcome, IsReductionOf}
 use Rattle.mw_reduce.specs.declared.reducing.Budget.{Budget}
 use Rattle.mw_reduce.specs.declared.drive.Outcome.{Outcome}
 use Rattle.mw_reduce.specs.declared.drive.Outcome.TheVariants.{Done, Stopped}
+use Rattle.mw_words.specs.declared.Options.{Options}
 use Rattle.mw_canon.specs.Canonical.{IsAdmittedTerm}
 use Rattle.mw_least.specs.Workable.{IsWorkable}
 use Rattle.mw_text.specs.Mixfix.{Reads}
@@ -33,8 +34,9 @@ use Rattle.mw_build.specs.Modules.{Accepted}
 use Rattle.mw_build.proofs.PrintedVariables.{named_there}
 use Rattle.mw_rule.specs.Rewritings.{IsRewritten as EndsSo, IsRewritingOf}
 use Rattle.mw_rule.specs.declared.rewriting.Bounds.{Bounds}
+use Rattle.mw_block.specs.Notes.{noted}
 use Rattle.mw_block.specs.Blocks.{Word, reduced, final, command_text, block, parsed_block}
-use Rattle.mw_top.specs.Commands.{IsCanonicalTerm, IsReduced, IsRewritten, IsParsed, IsTrueWord, IsTrueOfRewriting, limits_with_rules, TermFault, big}
+use Rattle.mw_top.specs.Commands.{IsCanonicalTerm, IsProofWritten, IsReduced, IsRewritten, IsParsed, IsTrueWord, IsTrueOfRewriting, limits_with_rules, TermFault, big}
 use Rattle.mw_top.specs.Seen.{word_of}
 
 -- the word for an outcome is true where the outcome is
@@ -105,11 +107,11 @@ read_so a work words t read raw ground (Ok (Ok u)) h = record {
 read_so a work words t read raw ground (Ok (Err why)) h = big t why read ground h
 read_so a work words t read raw ground (Err x) h = tt
 
-pub reduced_by : (a : Accepted) (most : ℕ) (w t : RawTerm) (b : Budget) (d : Deduction) (o : Outcome) (text : List ℕ)
-    → t ≡ normal_form a.module.signature w → b ≡ record { steps = most; side = most; nest = 63 } → IsReductionOf a.module t b d o → IsDeduction d
+pub reduced_by : (a : Accepted) (options : Options) (w t : RawTerm) (b : Budget) (d : Deduction) (o : Outcome) (text : List ℕ)
+    → t ≡ normal_form a.module.signature w → b ≡ record { steps = options.max; side = options.max; nest = 63 } → IsReductionOf a.module t b d o → IsDeduction d
     → (S : Sorted) → IsLeastSort a.module.signature (nested a.module.signature d.to) S → (word : Word) → word ≡ word_of reduced o
-    → text ≡ block (codes "reduce") a.module.signature a.name d.from (min (count d.proof) (2 ^ 64 - 1)) S d.to word → IsReduced a most w text
-reduced_by a most w t b d o text canonical is r proved S least word so written =
+    → (proof : List ℕ) → IsProofWritten options.proof d a.name proof → text ≡ noted options.proof (block (codes "reduce") a.module.signature a.name d.from (min (count d.proof) (2 ^ 64 - 1)) S d.to word) ++ proof → IsReduced a options w text
+reduced_by a options w t b d o text canonical is r proved S least word so proof proof_is written =
     let sig : Signature = a.module.signature in
     record {
       kept = d;
@@ -120,16 +122,18 @@ reduced_by a most w t b d o text canonical is r proved S least word so written =
       S = S;
       word = word;
       least_sort = least;
-      true_word = subst (IsTrueWord a.module most (nested sig d.from) d.proof (nested sig d.to)) (sym so)
-          (true_word a.module most (nested sig d.from) d.proof (nested sig d.to) o r.equational (rw is at r.ends));
+      true_word = subst (IsTrueWord a.module options.max (nested sig d.from) d.proof (nested sig d.to)) (sym so)
+          (true_word a.module options.max (nested sig d.from) d.proof (nested sig d.to) o r.equational (rw is at r.ends));
+      proof = proof;
+      proof_is = proof_is;
       written = written;
     }
 
-pub rewritten_by : (a : Accepted) (bound : Option ℕ) (most : ℕ) (w t : RawTerm) (b : Bounds) (d : Deduction) (o : Outcome) (text : List ℕ)
-    → t ≡ normal_form a.module.signature w → b ≡ record { rules = bound; steps = most; side = most } → IsRewritingOf a.module t b d o → IsDeduction d
+pub rewritten_by : (a : Accepted) (bound : Option ℕ) (options : Options) (w t : RawTerm) (b : Bounds) (d : Deduction) (o : Outcome) (text : List ℕ)
+    → t ≡ normal_form a.module.signature w → b ≡ record { rules = bound; steps = options.max; side = options.max } → IsRewritingOf a.module t b d o → IsDeduction d
     → (S : Sorted) → IsLeastSort a.module.signature (nested a.module.signature d.to) S → (word : Word) → word ≡ word_of final o
-    → text ≡ block (command_text (codes "rewrite") bound) a.module.signature a.name d.from (min (count d.proof) (2 ^ 64 - 1)) S d.to word → IsRewritten a bound most w text
-rewritten_by a bound most w t b d o text canonical is r proved S least word so written =
+    → (proof : List ℕ) → IsProofWritten options.proof d a.name proof → text ≡ noted options.proof (block (command_text (codes "rewrite") bound) a.module.signature a.name d.from (min (count d.proof) (2 ^ 64 - 1)) S d.to word) ++ proof → IsRewritten a bound options w text
+rewritten_by a bound options w t b d o text canonical is r proved S least word so proof proof_is written =
     let sig : Signature = a.module.signature in
     record {
       kept = d;
@@ -140,8 +144,10 @@ rewritten_by a bound most w t b d o text canonical is r proved S least word so w
       S = S;
       word = word;
       least_sort = least;
-      true_word = subst (IsTrueOfRewriting a.module bound most (nested sig d.from) d.proof (nested sig d.to)) (sym so)
-          (true_of_rewriting a.module bound most (nested sig d.from) d.proof (nested sig d.to) o (rw is at r.ends));
+      true_word = subst (IsTrueOfRewriting a.module bound options.max (nested sig d.from) d.proof (nested sig d.to)) (sym so)
+          (true_of_rewriting a.module bound options.max (nested sig d.from) d.proof (nested sig d.to) o (rw is at r.ends));
+      proof = proof;
+      proof_is = proof_is;
       written = written;
     }
 
@@ -151,14 +157,14 @@ if_ok (Ok v) h k = k v h
 if_ok (Err e) h k = tt
 
 -- the text of a term that is told, by what the module says of itself
-pub parsed_by : (a : Accepted) (M : Module) → M ≡ a.module → (sig : Signature) → sig ≡ M.signature → (name : List ℕ) → name ≡ a.name → (w t : RawTerm) → t ≡ normal_form a.module.signature w → (S : Sorted) (text : List ℕ)
-    → IsLeastSort M.signature (nested M.signature t) S → text ≡ parsed_block sig name t S → IsParsed a w text
-parsed_by a M m sig s name n w t canonical S text least written = record {
+pub parsed_by : (a : Accepted) (proofs : Bool) (M : Module) → M ≡ a.module → (sig : Signature) → sig ≡ M.signature → (name : List ℕ) → name ≡ a.name → (w t : RawTerm) → t ≡ normal_form a.module.signature w → (S : Sorted) (text : List ℕ)
+    → IsLeastSort M.signature (nested M.signature t) S → text ≡ noted proofs (parsed_block sig name t S) → IsParsed a proofs w text
+parsed_by a proofs M m sig s name n w t canonical S text least written = record {
   shown = t;
   canonical = canonical;
   S = S;
   least_sort = subst (λ (N : Module). IsLeastSort N.signature (nested N.signature t) S) m least;
-  written = written ∙ ap (λ x. parsed_block x name t S) (s ∙ ap (λ (M : Module). M.signature) m) ∙ ap (λ x. parsed_block a.module.signature x t S) n;
+  written = written ∙ ap (λ x. noted proofs (parsed_block x name t S)) (s ∙ ap (λ (M : Module). M.signature) m) ∙ ap (λ x. noted proofs (parsed_block a.module.signature x t S)) n;
 }
 
 -- and that of a kept deduction

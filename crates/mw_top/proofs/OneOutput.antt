@@ -5,6 +5,7 @@ use Rattle.std.proofs.lemmas.List.{map-append}
 use Rattle.std.proofs.lemmas.List.Quantifiers.{position-Some}
 use Rattle.std.proofs.lemmas.Option.{none-some, same_Some, get_or_from_slice_get}
 use Rattle.std.proofs.lemmas.Slice.Eq.{bytes_eq-Decides}
+use Rattle.mw_words.specs.declared.Options.{Options}
 use Rattle.mw_logic.specs.Term.{RawTerm, is_ground}
 use Rattle.mw_logic.specs.Signature.{Member}
 use Rattle.mw_lex.specs.declared.token.Token.{Token}
@@ -58,23 +59,23 @@ one_term a c term cause none is (in_term why term_word fault) = term_holds a (te
 one_term a c term cause none is (undivided inside some missing) = no_inside c.word none inside some
 one_term a c term cause none is (in_sides why inside behind some at fault) = no_inside c.word none inside some
 
-answer_holds : (a : Accepted) (most : ℕ) (c : SeenCommand) (text : List ℕ) → IsAnswer a most c text → (cause : FaultKind) → AnswerFault a c cause → ⊥
-answer_holds a most c text (reduction from block word is reduced) cause fault = one_term a c from cause (ap inside_of word) is fault
-answer_holds a most c text (rewriting from block word is rewritten) cause fault = one_term a c from cause (ap inside_of word) is fault
-answer_holds a most c text (parsing term block word is parsed) cause fault = one_term a c term cause (ap inside_of word) is fault
-answer_holds a most c text (matching inside behind p t block word at are matched) cause (in_term why none fault) = no_inside c.word none inside word
-answer_holds a most c text (matching inside behind p t block word at are matched) cause (undivided other some none) = none-some behind (sym none ∙ at)
-answer_holds a most c text (matching inside behind p t block word at are matched) cause (in_sides why other ahead some there fault) =
+answer_holds : (a : Accepted) (options : Options) (c : SeenCommand) (text : List ℕ) → IsAnswer a options c text → (cause : FaultKind) → AnswerFault a c cause → ⊥
+answer_holds a options c text (reduction from block word is reduced) cause fault = one_term a c from cause (ap inside_of word) is fault
+answer_holds a options c text (rewriting from block word is rewritten) cause fault = one_term a c from cause (ap inside_of word) is fault
+answer_holds a options c text (parsing term block word is parsed) cause fault = one_term a c term cause (ap inside_of word) is fault
+answer_holds a options c text (matching inside behind p t block word at are matched) cause (in_term why none fault) = no_inside c.word none inside word
+answer_holds a options c text (matching inside behind p t block word at are matched) cause (undivided other some none) = none-some behind (sym none ∙ at)
+answer_holds a options c text (matching inside behind p t block word at are matched) cause (in_sides why other ahead some there fault) =
     let same : ahead ≡ behind = same_Some ahead behind (sym there ∙ at) in
     sides_hold a (texts c.term) (texts behind) p t are why (subst (λ ts. SidesFault a (texts c.term) (texts ts) why) same fault)
 
-command_holds : (a : Accepted) (most : ℕ) (text : List ℕ) (ms : List Accepted) (c : SeenCommand) (cause : FaultKind) → module_for ms c.module ≡ Some a
-    → IsAnswer a most c text → CommandFault ms c cause → ⊥
-command_holds a most text ms c cause m is (nowhere e none) = none-some a (sym none ∙ m)
-command_holds a most text ms c cause m is (unknown n e none) = none-some a (sym none ∙ m)
-command_holds a most text ms c cause m is (unanswered b why other fault) =
+command_holds : (a : Accepted) (options : Options) (text : List ℕ) (ms : List Accepted) (c : SeenCommand) (cause : FaultKind) → module_for ms c.module ≡ Some a
+    → IsAnswer a options c text → CommandFault ms c cause → ⊥
+command_holds a options text ms c cause m is (nowhere e none) = none-some a (sym none ∙ m)
+command_holds a options text ms c cause m is (unknown n e none) = none-some a (sym none ∙ m)
+command_holds a options text ms c cause m is (unanswered b why other fault) =
     let same : b ≡ a = same_Some b a (sym other ∙ m) in
-    answer_holds a most c text is why (subst (λ x. AnswerFault x c why) same fault)
+    answer_holds a options c text is why (subst (λ x. AnswerFault x c why) same fault)
 
 abbrev named_modules : List Accepted → List (List ℕ)
 named_modules ms = map (λ (m : Accepted). m.name) ms
@@ -113,8 +114,8 @@ not_found us n unnamed = of (number_named us n) refl
 not_there : (l : Loaded) → AreNamed l → (n : List ℕ) → (IsTaken l.modules n → ⊥) → number_named l.units n ≡ None
 not_there l named n free = not_found l.units n (λ m. free (subst (Member n) (sym named) m))
 
-module _ (most : ℕ) (before : Loaded) (alike : AreNamed before) where
-  names_kept : (o : Outcome) (text : List ℕ) (bad : Bool) (after : Loaded) → Gives most before o text bad after → AreNamed after
+module _ (options : Options) (before : Loaded) (alike : AreNamed before) where
+  names_kept : (o : Outcome) (text : List ℕ) (bad : Bool) (after : Loaded) → Gives options before o text bad after → AreNamed after
   names_kept o text bad after (formless f) = alike
   names_kept o text bad after (taken u n named is_taken) = alike
   names_kept o text bad after (refused u n r named free wrong) = alike
@@ -127,7 +128,7 @@ module _ (most : ℕ) (before : Loaded) (alike : AreNamed before) where
 
   -- what a module gives that is accepted
   from_accepted : (u : SeenUnit) (n reached : List ℕ) (a : Accepted) → name_of u ≡ Some n → (IsTaken before.modules n → ⊥)
-      → IsAccepted before.units before.modules u n reached a → (o : Outcome) → o ≡ Ok u → (text : List ℕ) (bad : Bool) (after : Loaded) → Gives most before o text bad after
+      → IsAccepted before.units before.modules u n reached a → (o : Outcome) → o ≡ Ok u → (text : List ℕ) (bad : Bool) (after : Loaded) → Gives options before o text bad after
       → (false ≡ bad) × (with_module before n u reached a ≡ after)
   from_accepted u n reached a named free is o e text bad after (formless f) = cc
   from_accepted u n reached a named free is o e text bad after (taken v m other is_taken) =
@@ -157,8 +158,8 @@ module _ (most : ℕ) (before : Loaded) (alike : AreNamed before) where
 
   -- what a command gives that is answered
   from_answered : (u : SeenUnit) (c : SeenCommand) (a : Accepted) (block : List ℕ) → name_of u ≡ None → command_of u ≡ Ok c → module_for before.modules c.module ≡ Some a
-      → IsAnswer a most c block
-      → (o : Outcome) → o ≡ Ok u → (text : List ℕ) (bad : Bool) (after : Loaded) → Gives most before o text bad after → (false ≡ bad) × (before ≡ after)
+      → IsAnswer a options c block
+      → (o : Outcome) → o ≡ Ok u → (text : List ℕ) (bad : Bool) (after : Loaded) → Gives options before o text bad after → (false ≡ bad) × (before ≡ after)
   from_answered u c a block unnamed command m is o e text bad after (formless f) = cc
   from_answered u c a block unnamed command m is o e text bad after (taken v n named is_taken) =
       let unit : v ≡ u = cc in absurd (none-some n (sym unnamed ∙ ap name_of (sym unit) ∙ named))
@@ -173,11 +174,11 @@ module _ (most : ℕ) (before : Loaded) (alike : AreNamed before) where
       let unit : v ≡ u = cc in
       let both : Ok d ≡ Ok c = sym asked ∙ ap command_of unit ∙ command in
       let same : d ≡ c = cc in
-      absurd (command_holds a most block before.modules c cause m is (subst (λ k. CommandFault before.modules k cause) same wrong))
+      absurd (command_holds a options block before.modules c cause m is (subst (λ k. CommandFault before.modules k cause) same wrong))
   from_answered u c a block unnamed command m is o e text bad after (answered v d b other_block other asked at answer) = (refl, refl)
 
   -- a unit gives refusals alone or none, and the same modules after it
-  gives_one : (o : Outcome) (text other : List ℕ) (bad worse : Bool) (after later : Loaded) → Gives most before o text bad after → Gives most before o other worse later
+  gives_one : (o : Outcome) (text other : List ℕ) (bad worse : Bool) (after later : Loaded) → Gives options before o text bad after → Gives options before o other worse later
       → (bad ≡ worse) × (after ≡ later)
   gives_one o text other bad worse after later (accepted u n reached a named free is) q = from_accepted u n reached a named free is o refl other worse later q
   gives_one o text other bad worse after later (answered u c a block unnamed command m is) q = from_answered u c a block unnamed command m is o refl other worse later q
@@ -196,9 +197,9 @@ one_unit tokens at o other next behind p q =
     let length : next - at ≡ behind - at = ap (λ (r : Reading). r.len) same in
     (ap (λ (r : Reading). r.outcome) same, omega (arith, length, p.further, q.further))
 
-module _ (most : ℕ) (tokens : List Token) where
+module _ (options : Options) (tokens : List Token) where
   -- no place within a unit is reached
-  none_within : (fuel p q : ℕ) (ms ns : Loaded) (t u : List ℕ) (bad worse : Bool) → Answered most tokens p ms t bad → Answered most tokens q ns u worse → p + q ≤ fuel → p < q
+  none_within : (fuel p q : ℕ) (ms ns : Loaded) (t u : List ℕ) (bad worse : Bool) → Answered options tokens p ms t bad → Answered options tokens q ns u worse → p + q ≤ fuel → p < q
       → (o : Outcome) (next : ℕ) → Reads false tokens p o next → next ≤ q
   none_within zero p q ms ns t u bad worse d e small less o next reads = absurd (omega (arith, small, less))
   none_within (suc fuel) p zero ms ns t u bad worse d nothing_yet small less o next reads = absurd (omega (arith, less))
@@ -213,13 +214,13 @@ module _ (most : ℕ) (tokens : List Token) where
       (cases_order at p)
 
   -- the units and the modules have the same names
-  names_held : (p : ℕ) (l : Loaded) (t : List ℕ) (bad : Bool) → Answered most tokens p l t bad → AreNamed l
+  names_held : (p : ℕ) (l : Loaded) (t : List ℕ) (bad : Bool) → Answered options tokens p l t bad → AreNamed l
   names_held p l t bad nothing_yet = refl
   names_held p l t bad (one_more at before text was d outcome next last flag after read gives) =
-      names_kept most before (names_held at before text was d) outcome last flag after gives
+      names_kept options before (names_held at before text was d) outcome last flag after gives
 
   -- the modules at a place are determined, and whether something was refused
-  answered_one : (p q : ℕ) (ms ns : Loaded) (t u : List ℕ) (bad worse : Bool) → Answered most tokens p ms t bad → Answered most tokens q ns u worse → p ≡ q → (ms ≡ ns) × (bad ≡ worse)
+  answered_one : (p q : ℕ) (ms ns : Loaded) (t u : List ℕ) (bad worse : Bool) → Answered options tokens p ms t bad → Answered options tokens q ns u worse → p ≡ q → (ms ≡ ns) × (bad ≡ worse)
   answered_one p q ms ns t u bad worse nothing_yet nothing_yet e = (refl, refl)
   answered_one p q ms ns t u bad worse nothing_yet (one_more at before text was d outcome next last flag after read gives) e =
       let further = read.further in absurd (omega (arith, further, e))
@@ -231,8 +232,8 @@ module _ (most : ℕ) (tokens : List Token) where
       (λ same.
       let rest = answered_one at place before earlier text written was wrong d k same in
       let one = one_unit tokens place outcome out p q (subst (λ i. Reads false tokens i outcome p) same read) reads in
-      let first : Gives most earlier out last flag after = subst (λ x. Gives most earlier x last flag after) one.0 (subst (λ xs. Gives most xs outcome last flag after) rest.0 gives) in
-      let here = gives_one most earlier (names_held place earlier written wrong k) out last behind flag worst after later first given in
+      let first : Gives options earlier out last flag after = subst (λ x. Gives options earlier x last flag after) one.0 (subst (λ xs. Gives options xs outcome last flag after) rest.0 gives) in
+      let here = gives_one options earlier (names_held place earlier written wrong k) out last behind flag worst after later first given in
       (here.1, ap (λ b. b || flag) rest.1 ∙ ap (λ b. wrong || b) here.0))
       (λ apart. ⊎_elim
       (λ below. let on = none_within (at + place) at place before earlier text written was wrong d k (omega arith) below outcome p read in
@@ -243,11 +244,11 @@ module _ (most : ℕ) (tokens : List Token) where
       (cases_order at place)
 
 -- outputs for the same bytes
-pub agree : (most : ℕ) (bytes text other : List ℕ) (bad worse : Bool) → IsOutput most bytes text bad → IsOutput most bytes other worse → bad ≡ worse
-agree most bytes text other bad worse (unlexed f e) (unlexed g h) = refl
-agree most bytes text other bad worse (unlexed f e) (of_tokens tokens after t b h d) = cc
-agree most bytes text other bad worse (of_tokens tokens after t b h d) (unlexed f e) = cc
-agree most bytes text other bad worse (of_tokens tokens after t b h d) (of_tokens others later u c k e) =
+pub agree : (options : Options) (bytes text other : List ℕ) (bad worse : Bool) → IsOutput options bytes text bad → IsOutput options bytes other worse → bad ≡ worse
+agree options bytes text other bad worse (unlexed f e) (unlexed g h) = refl
+agree options bytes text other bad worse (unlexed f e) (of_tokens tokens after t b h d) = cc
+agree options bytes text other bad worse (of_tokens tokens after t b h d) (unlexed f e) = cc
+agree options bytes text other bad worse (of_tokens tokens after t b h d) (of_tokens others later u c k e) =
     let both : Ok tokens ≡ Ok others = sym h ∙ k in
     let same : tokens ≡ others = cc in
-    (answered_one most others (length others) (length others) after later t u b c (subst (λ ts. Answered most ts (length ts) after t b) same d) e refl).1
+    (answered_one options others (length others) (length others) after later t u b c (subst (λ ts. Answered options ts (length ts) after t b) same d) e refl).1

@@ -1,5 +1,5 @@
 -- What the block of a command claims, and why a command is refused.
-use Rattle.std.specs.Prelude.{◌≡◌, ◌≢◌, ◌<◌, ◌-◌, ◌^◌, ℕ, Bool, true, false, List, [], ◌∷◌, length, min, bytes_eq, map, slice_get, Option, Some, None, IsTrue, IsFalse, if◌then◌else◌, codes}
+use Rattle.std.specs.Prelude.{◌≡◌, ◌≢◌, ◌<◌, ◌-◌, ◌^◌, ◌++◌, ℕ, Bool, true, false, List, [], ◌∷◌, length, min, bytes_eq, map, slice_get, Option, Some, None, IsTrue, IsFalse, if◌then◌else◌, codes}
 use Rattle.std.specs.List.{list_any}
 use Rattle.std.specs.Option.{option_or}
 use Rattle.mw_logic.specs.Term.{RawTerm, is_ground}
@@ -12,6 +12,7 @@ use Rattle.mw_logic.specs.Proof.{Proof, rules, steps, count}
 use Rattle.mw_logic.specs.Judgements.{IsNormal}
 use Rattle.mw_logic.specs.Ends.{Limits, limits_of, Stops, IsFinal}
 use Rattle.mw_canon.specs.Canonical.{IsAdmittedTerm}
+use Rattle.mw_words.specs.declared.Options.{Options}
 use Rattle.mw_text.specs.Mixfix.{IsSpelled, Reads}
 use Rattle.mw_text.specs.Readings.{NoneHas, TwoHave, IsShort}
 use Rattle.mw_lex.specs.declared.token.Token.{Token}
@@ -27,6 +28,8 @@ use Rattle.mw_prelude.specs.Modules.{name_of}
 use Rattle.mw_prelude.specs.declared.modules.Predefined.TheVariants as predefined
 use Rattle.mw_proof.specs.Deductions.{Deduction, IsDeduction}
 use Rattle.mw_block.specs.Blocks.{Word, reduced, final, limit, command_text, block, parsed_block}
+use Rattle.mw_block.specs.Notes.{noted}
+use Rattle.mw_prooftext.specs.Denoting.{IsTextOf}
 use Rattle.mw_top.specs.Matches.{AreSides, IsMatched, SidesFault}
 
 -- What the status word of `reduce` says of the proof from one term to another. `reduced`: it is by equations alone, has fewer steps than the limit, and
@@ -62,10 +65,16 @@ pub record IsCanonicalTerm (a : Accepted) (words : List (List ℕ)) (t : RawTerm
   pub canonical : t ≡ normal_form a.module.signature written
   pub admitted : IsAdmittedTerm a.module.signature t
 
+-- where proofs are asked for, the text of the deduction in the module of this name
+abbrev pub IsProofWritten : Bool → Deduction → List ℕ → List ℕ → Type 0
+IsProofWritten false d name proof = proof ≡ []
+IsProofWritten true d name proof = IsTextOf d 1 name proof
+
 -- The text is the block of the kept deduction in this module, for a command that is repeated so: what the `Proved` that was made is seen as, with all that its type keeps of it (`IsDeduction`: its
 -- proof leads from the one canonical term to the other, through admitted terms alone), at rank 63. It begins at the canonical form of this term, which the block repeats, and leads to
--- the canonical term that is printed, with its least sort or kind; the count is that of the proof, and what the status word says is true of it.
-pub record IsDeduced (a : Accepted) (command : List ℕ) (Says : RawTerm → Proof → RawTerm → Word → Type 0) (t : RawTerm) (text : List ℕ) : Type 0 where
+-- the canonical term that is printed, with its least sort or kind; the count is that of the proof, and what the status word says is true of it. Where proofs are asked for, its
+-- proof text stands behind.
+pub record IsDeduced (a : Accepted) (proofs : Bool) (command : List ℕ) (Says : RawTerm → Proof → RawTerm → Word → Type 0) (t : RawTerm) (text : List ℕ) : Type 0 where
   pub kept : Deduction
   pub deduction : IsDeduction kept
   pub over : kept.over ≡ a.module
@@ -75,23 +84,25 @@ pub record IsDeduced (a : Accepted) (command : List ℕ) (Says : RawTerm → Pro
   pub word : Word
   pub least_sort : IsLeastSort a.module.signature (nested a.module.signature kept.to) S
   pub true_word : Says (nested a.module.signature kept.from) kept.proof (nested a.module.signature kept.to) word
-  pub written : text ≡ block command a.module.signature a.name kept.from (min (count kept.proof) (2 ^ 64 - 1)) S kept.to word
+  pub proof : List ℕ
+  pub proof_is : IsProofWritten proofs kept a.name proof
+  pub written : text ≡ noted proofs (block command a.module.signature a.name kept.from (min (count kept.proof) (2 ^ 64 - 1)) S kept.to word) ++ proof
 
 -- the block of a reduction of this term
-abbrev pub IsReduced : Accepted → ℕ → RawTerm → List ℕ → Type 0
-IsReduced a most t text = IsDeduced a (codes "reduce") (IsTrueWord a.module most) t text
+abbrev pub IsReduced : Accepted → Options → RawTerm → List ℕ → Type 0
+IsReduced a options t text = IsDeduced a options.proof (codes "reduce") (IsTrueWord a.module options.max) t text
 
 -- the block of a rewriting of this term with this bound, which the block repeats
-abbrev pub IsRewritten : Accepted → Option ℕ → ℕ → RawTerm → List ℕ → Type 0
-IsRewritten a bound most t text = IsDeduced a (command_text (codes "rewrite") bound) (IsTrueOfRewriting a.module bound most) t text
+abbrev pub IsRewritten : Accepted → Option ℕ → Options → RawTerm → List ℕ → Type 0
+IsRewritten a bound options t text = IsDeduced a options.proof (command_text (codes "rewrite") bound) (IsTrueOfRewriting a.module bound options.max) t text
 
 -- The text tells the canonical form of this term, with its least sort or kind.
-pub record IsParsed (a : Accepted) (t : RawTerm) (text : List ℕ) : Type 0 where
+pub record IsParsed (a : Accepted) (proofs : Bool) (t : RawTerm) (text : List ℕ) : Type 0 where
   pub shown : RawTerm
   pub canonical : shown ≡ normal_form a.module.signature t
   pub S : Sorted
   pub least_sort : IsLeastSort a.module.signature (nested a.module.signature shown) S
-  pub written : text ≡ parsed_block a.module.signature a.name shown S
+  pub written : text ≡ noted proofs (parsed_block a.module.signature a.name shown S)
 
 -- whether a command of this word matches a pattern, and then whether proper parts on top count
 abbrev pub inside_of : CommandWord → Option Bool
@@ -102,12 +113,12 @@ inside_of Match = Some false
 inside_of Xmatch = Some true
 
 -- the text answers a command
-pub data IsAnswer (a : Accepted) (most : ℕ) (c : SeenCommand) : List ℕ → Type 0 where
-  reduction : (from : RawTerm) (text : List ℕ) → c.word ≡ Reduce → IsTerm a (texts c.term) from → IsReduced a most from text → IsAnswer a most c text
-  rewriting : (from : RawTerm) (text : List ℕ) → c.word ≡ Rewrite → IsTerm a (texts c.term) from → IsRewritten a c.bound most from text → IsAnswer a most c text
-  parsing : (term : RawTerm) (text : List ℕ) → c.word ≡ Parse → IsTerm a (texts c.term) term → IsParsed a term text → IsAnswer a most c text
+pub data IsAnswer (a : Accepted) (options : Options) (c : SeenCommand) : List ℕ → Type 0 where
+  reduction : (from : RawTerm) (text : List ℕ) → c.word ≡ Reduce → IsTerm a (texts c.term) from → IsReduced a options from text → IsAnswer a options c text
+  rewriting : (from : RawTerm) (text : List ℕ) → c.word ≡ Rewrite → IsTerm a (texts c.term) from → IsRewritten a c.bound options from text → IsAnswer a options c text
+  parsing : (term : RawTerm) (text : List ℕ) → c.word ≡ Parse → IsTerm a (texts c.term) term → IsParsed a options.proof term text → IsAnswer a options c text
   matching : (inside : Bool) (behind : List Token) (p t : RawTerm) (text : List ℕ) → inside_of c.word ≡ Some inside → c.subject ≡ Some behind
-      → AreSides a (texts c.term) (texts behind) p t → IsMatched a inside most p t text → IsAnswer a most c text
+      → AreSides a (texts c.term) (texts behind) p t → IsMatched a inside options p t text → IsAnswer a options c text
 
 -- the module of a name
 abbrev pub module_named : List Accepted → List ℕ → Option Accepted

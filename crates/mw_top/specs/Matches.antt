@@ -4,6 +4,7 @@ use Rattle.mw_logic.specs.Term.{RawTerm, is_ground}
 use Rattle.mw_logic.specs.Signature.{IsRawTerm}
 use Rattle.mw_logic.specs.Parts.{IsTooDeep, IsTooLarge}
 use Rattle.mw_logic.specs.NormalForm.{normal_form}
+use Rattle.mw_words.specs.declared.Options.{Options}
 use Rattle.mw_text.specs.Readings.{NoneHas, TwoHave, IsShort, ArePair, ReadsPair}
 use Rattle.mw_module.specs.declared.faults.FaultKind.{FaultKind}
 use Rattle.mw_module.specs.declared.faults.FaultKind.TheVariants.{TermTooLong, NoParse, Ambiguous, OpenTerm, TooDeep, NumberTooLarge}
@@ -13,6 +14,7 @@ use Rattle.mw_solving.specs.Values.{IsValue}
 use Rattle.mw_match.specs.Listing.{AreListed}
 use Rattle.mw_match.specs.declared.solutions.Solution.{Solution}
 use Rattle.mw_block.specs.Matches.{match_block}
+use Rattle.mw_block.specs.Notes.{noted}
 use Rattle.mw_top.specs.declared.matching.Sides.{Sides as CanonicalSides}
 
 -- The one pair of a pattern and a subject of one kind that these words spell. The subject has no variable, and both fit in.
@@ -28,12 +30,12 @@ match_word true = codes "xmatch"
 
 -- The text tells the canonical forms of pattern and subject, and solutions of the pattern for the whole of the subject and, `inside`, for its proper parts on
 -- top: each once, in order, and all of them, or as many as the limit says, which is told.
-pub record IsMatched (a : Accepted) (inside : Bool) (most : ℕ) (p t : RawTerm) (text : List ℕ) : Type 0 where
+pub record IsMatched (a : Accepted) (inside : Bool) (options : Options) (p t : RawTerm) (text : List ℕ) : Type 0 where
   pub solutions : List Solution
-  pub listed : AreListed a.module.signature inside p (normal_form a.module.signature t) [] most solutions
+  pub listed : AreListed a.module.signature inside p (normal_form a.module.signature t) [] options.max solutions
   pub limited : Bool
-  pub reached : IsTrue limited ↔ (length solutions ≡ most)
-  pub written : text ≡ match_block (match_word inside) a.module.signature a.name (normal_form a.module.signature p) (normal_form a.module.signature t) solutions limited
+  pub reached : IsTrue limited ↔ (length solutions ≡ options.max)
+  pub written : text ≡ noted options.proof (match_block (match_word inside) a.module.signature a.name (normal_form a.module.signature p) (normal_form a.module.signature t) solutions limited)
 
 -- The canonical forms of the sides that these words spell, as the engine takes them.
 pub record AreCanonicalSides (a : Accepted) (pattern subject : List (List ℕ)) (s : CanonicalSides) : Type 0 where

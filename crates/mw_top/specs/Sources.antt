@@ -1,5 +1,6 @@
 -- What is written for the units of a source, one after another.
 use Rattle.std.specs.Prelude.{◌≡◌, ◌++◌, ◌||◌, ℕ, Bool, true, false, List, [], ◌∷◌, map, Option, Some, None, option_map, Ok, Err}
+use Rattle.mw_words.specs.declared.Options.{Options}
 use Rattle.mw_lex.specs.declared.token.Token.{Token}
 use Rattle.mw_logic.specs.Signature.{Member}
 use Rattle.mw_module.specs.declared.faults.Fault.{Fault}
@@ -9,6 +10,7 @@ use Rattle.mw_module.specs.Units.{SeenUnit, Outcome, Reads}
 use Rattle.mw_command.specs.Commands.{SeenCommand, command_of}
 use Rattle.mw_import.specs.Flat.{FlatUnit}
 use Rattle.mw_build.specs.Modules.{Accepted, IsAccepted, IsRefused}
+use Rattle.mw_block.specs.Notes.{noted}
 use Rattle.mw_block.specs.Refused.{refusal_line}
 use Rattle.mw_top.specs.Commands.{IsAnswer, CommandFault, module_for}
 
@@ -34,27 +36,31 @@ IsTaken ms n = Member n (map (λ (a : Accepted). a.name) ms)
 abbrev pub name_of : SeenUnit → Option (List ℕ)
 name_of u = option_map (λ (t : Token). t.text) u.name
 
+-- the line of a refusal, as it is written
+abbrev pub told_refusal : Options → Fault → List ℕ
+told_refusal options f = noted options.proof (refusal_line f)
+
 -- What a unit gives, where these modules were accepted: its text, whether it is refused, and the modules after it.
-pub data Gives (most : ℕ) (before : Loaded) : Outcome → List ℕ → Bool → Loaded → Type 0 where
+pub data Gives (options : Options) (before : Loaded) : Outcome → List ℕ → Bool → Loaded → Type 0 where
   -- what isn't a unit by its form
-  formless : (f : Fault) → Gives most before (Err f) (refusal_line f) true before
+  formless : (f : Fault) → Gives options before (Err f) (told_refusal options f) true before
   -- a module: its name is taken, it has a fault, or it is accepted
   taken : (u : SeenUnit) (n : List ℕ) → name_of u ≡ Some n → IsTaken before.modules n
-      → Gives most before (Ok u) (refusal_line (record { line = u.line; kind = AlreadyDefined n })) true before
+      → Gives options before (Ok u) (told_refusal options (record { line = u.line; kind = AlreadyDefined n })) true before
   refused : (u : SeenUnit) (n : List ℕ) (r : Fault) → name_of u ≡ Some n → (IsTaken before.modules n → ⊥) → IsRefused before.units before.modules u n r
-      → Gives most before (Ok u) (refusal_line r) true before
+      → Gives options before (Ok u) (told_refusal options r) true before
   accepted : (u : SeenUnit) (n reached : List ℕ) (a : Accepted) → name_of u ≡ Some n → (IsTaken before.modules n → ⊥)
-      → IsAccepted before.units before.modules u n reached a → Gives most before (Ok u) [] false (with_module before n u reached a)
+      → IsAccepted before.units before.modules u n reached a → Gives options before (Ok u) [] false (with_module before n u reached a)
   -- a command: it isn't of its form, it has a fault, or it is answered
-  no_command : (u : SeenUnit) (f : Fault) → name_of u ≡ None → command_of u ≡ Err f → Gives most before (Ok u) (refusal_line f) true before
+  no_command : (u : SeenUnit) (f : Fault) → name_of u ≡ None → command_of u ≡ Err f → Gives options before (Ok u) (told_refusal options f) true before
   faulty : (u : SeenUnit) (c : SeenCommand) (cause : FaultKind) → name_of u ≡ None → command_of u ≡ Ok c → CommandFault before.modules c cause
-      → Gives most before (Ok u) (refusal_line (record { line = u.line; kind = cause })) true before
+      → Gives options before (Ok u) (told_refusal options (record { line = u.line; kind = cause })) true before
   answered : (u : SeenUnit) (c : SeenCommand) (a : Accepted) (text : List ℕ) → name_of u ≡ None → command_of u ≡ Ok c → module_for before.modules c.module ≡ Some a
-      → IsAnswer a most c text → Gives most before (Ok u) text false before
+      → IsAnswer a options c text → Gives options before (Ok u) text false before
 
 -- The units of these tokens up to a place are answered, in order: their texts, whether one of them was refused, and the modules that were accepted.
-pub data Answered (most : ℕ) (tokens : List Token) : ℕ → Loaded → List ℕ → Bool → Type 0 where
-  nothing_yet : Answered most tokens 0 no_modules [] false
-  one_more : (at : ℕ) (before : Loaded) (text : List ℕ) (bad : Bool) → Answered most tokens at before text bad
+pub data Answered (options : Options) (tokens : List Token) : ℕ → Loaded → List ℕ → Bool → Type 0 where
+  nothing_yet : Answered options tokens 0 no_modules [] false
+  one_more : (at : ℕ) (before : Loaded) (text : List ℕ) (bad : Bool) → Answered options tokens at before text bad
       → (outcome : Outcome) (next : ℕ) (last : List ℕ) (refused : Bool) (after : Loaded) → Reads false tokens at outcome next
-      → Gives most before outcome last refused after → Answered most tokens next after (text ++ last) (bad || refused)
+      → Gives options before outcome last refused after → Answered options tokens next after (text ++ last) (bad || refused)

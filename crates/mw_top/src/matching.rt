@@ -17,7 +17,7 @@ ghost use Rattle.mw_build.specs.Statements.{Oversized, FitsIn};
 ghost use Rattle.mw_build.specs.Modules.{Accepted};
 ghost use Rattle.mw_top.specs.Matches.{AreSides, AreCanonicalSides, AreOversized, IsMatched, SidesFault, match_word};
 
-use mw_block::{Matched, matches};
+use mw_block::{Matched, matches, noted};
 use mw_build::{Module, canonical};
 use mw_compile::{Compiled, compile};
 use mw_least::Ctx;
@@ -26,6 +26,7 @@ use mw_match::{Solution, Solutions, listed};
 use mw_module::FaultKind;
 use mw_parse::PairError;
 use mw_term::{Raw, Seq, Subst, Term};
+use mw_words::Options;
 use std::alloc::{AllocError, Global};
 
 /// The canonical forms of a pattern and a subject.
@@ -214,24 +215,24 @@ fn matched(
     accepted: &Module,
     sides: &Sides,
     inside: bool,
-    most: u64,
+    options: Options,
 ) -> Result<Vec<u8>, AllocError>
     requires { IsValue accepted.now.module.signature sides.now.subject }
     ensures { let sig = accepted.now.module.signature in
         (p t : RawTerm) → IsRawTerm sig p → sides.now.pattern ≡ normal_form sig p → sides.now.subject ≡ normal_form sig t
-        → IfOk result (λ text. IsMatched accepted.now inside most p t text.items) }
+        → IfOk result (λ text. IsMatched accepted.now inside options p t text.items) }
 {
     let context = accepted.context();
-    let found = solutions(alloc, context, sides, inside, most)?;
-    let limited = found.len() as u64 == most;
+    let found = solutions(alloc, context, sides, inside, options.max)?;
+    let limited = found.len() as u64 == options.max;
     let told = Matched {
         command: word_text(inside),
         name: accepted.name(),
         pattern: &sides.pattern,
         subject: &sides.subject,
     };
-    let text = matches(alloc, context.signature(), &told, found.as_slice(), limited)?;
-    Ok(text)
+    let block = matches(alloc, context.signature(), &told, found.as_slice(), limited)?;
+    noted(alloc, options.proof, block)
 }
 
 /// What the matches of a pattern give: their block, with at most so many, or a fault.
@@ -241,17 +242,17 @@ pub fn matches_of(
     pattern: &[Token],
     subject: &[Token],
     inside: bool,
-    most: u64,
+    options: Options,
 ) -> Result<Result<Vec<u8>, FaultKind>, AllocError>
     ensures { let left = texts pattern.now in
         let right = texts subject.now in
         IfOk result (λ r. MatchResult r
-        (λ text. (p : RawTerm) × (t : RawTerm) × AreSides accepted.now left right p t × IsMatched accepted.now inside most p t text.items)
+        (λ text. (p : RawTerm) × (t : RawTerm) × AreSides accepted.now left right p t × IsMatched accepted.now inside options p t text.items)
         (SidesFault accepted.now left right)) }
 {
     match read_sides(alloc, accepted, pattern, subject)? {
         Ok(sides) => {
-            let text = matched(alloc, accepted, &sides, inside, most)?;
+            let text = matched(alloc, accepted, &sides, inside, options)?;
             Ok(Ok(text))
         }
         Err(kind) => Ok(Err(kind)),

@@ -1,5 +1,5 @@
 // Commands for one term: it is read, and reduced where the command asks for it, and its block is written.
-ghost use Rattle.std.specs.Prelude.{◌≡◌, ◌-◌, ◌^◌, ℕ, List, min, None, IfOk, MatchResult};
+ghost use Rattle.std.specs.Prelude.{◌≡◌, ◌-◌, ◌^◌, ◌++◌, ℕ, List, min, None, IfOk, MatchResult};
 ghost use Rattle.mw_logic.specs.Term.{RawTerm};
 ghost use Rattle.mw_logic.specs.Parts.{nested};
 ghost use Rattle.mw_logic.specs.NormalForm.{normal_form};
@@ -7,26 +7,29 @@ ghost use Rattle.mw_logic.specs.Proof.{count};
 ghost use Rattle.mw_logic.specs.Signature.{Sorted as SortedOf, IsRawTerm};
 ghost use Rattle.mw_logic.specs.Sorts.{IsLeastSort};
 ghost use Rattle.mw_block.specs.Blocks.{block as block_of, command_text};
+ghost use Rattle.mw_block.specs.Notes as notes;
 ghost use Rattle.mw_term.specs.Raws.{raw_term};
 ghost use Rattle.mw_text.specs.Mixfix.{Reads};
 ghost use Rattle.mw_module.specs.Words.{texts};
 ghost use Rattle.mw_parse.specs.Answers.{HasCause as HasReadingCause};
 ghost use Rattle.mw_build.specs.Modules.{Accepted};
 ghost use Rattle.mw_block.specs.Seen.{word_of as word_of_status};
-ghost use Rattle.mw_top.specs.Commands.{IsTerm, IsCanonicalTerm, IsReduced, IsParsed, TermFault};
+ghost use Rattle.mw_top.specs.Commands.{IsTerm, IsCanonicalTerm, IsReduced, IsParsed, IsProofWritten, TermFault};
 ghost use Rattle.mw_top.specs.Seen.{word_of};
 ghost use Rattle.mw_canon.specs.Canonical.{IsAdmittedTerm};
 ghost use Rattle.mw_index.specs.Index.{IsIndexOf};
 
-use mw_block::{Echo, Reached, Status, deduction, parsed};
+use mw_block::{Echo, Reached, Status, deduction, noted, parsed};
 use mw_build::{Module, canonical};
 use mw_index::Index;
 use mw_lex::Token;
 use mw_module::FaultKind;
 use mw_parse::ParseError;
 use mw_proof::Proved;
+use mw_prooftext::write;
 use mw_reduce::{Budget, Outcome, reduce};
 use mw_term::{Raw, Term};
+use mw_words::Options;
 use std::alloc::{AllocError, Global};
 
 /// What is wrong with a text that isn't read.
@@ -87,24 +90,30 @@ pub fn status_of(outcome: Outcome, done: Status) -> Status
     }
 }
 
-/// The block for a kept deduction of a command of this word, with this bound, with the least sort of its end.
-pub fn block(
+/// What a block repeats of its command: its word, and its bound, where it has one.
+#[derive(Clone, Copy)]
+pub struct Repeated {
+    pub command: &'static str,
+    pub bound: Option<u64>,
+}
+
+/// The block for a kept deduction, with the least sort of its end.
+fn block(
     alloc: Global,
     accepted: &Module,
-    command: &'static str,
-    bound: Option<u64>,
+    repeated: Repeated,
     proved: &Proved<'_>,
     status: Status,
 ) -> Result<Vec<u8>, AllocError>
     requires { IsAdmittedTerm accepted.now.module.signature proved.now.to }
     ensures { IfOk result (λ text. (S : SortedOf) × IsLeastSort accepted.now.module.signature (nested accepted.now.module.signature proved.now.to) S
-        × (text.items ≡ block_of (command_text command.now bound) accepted.now.module.signature accepted.now.name proved.now.from (min (count proved.now.proof) (2 ^ 64 - 1)) S proved.now.to (word_of_status status))) }
+        × (text.items ≡ block_of (command_text repeated.command.now repeated.bound) accepted.now.module.signature accepted.now.name proved.now.from (min (count proved.now.proof) (2 ^ 64 - 1)) S proved.now.to (word_of_status status))) }
 {
     let context = accepted.context();
     context.shows();
     let echo = Echo {
-        command,
-        bound,
+        command: repeated.command,
+        bound: repeated.bound,
         name: accepted.name(),
         term: proved.from(),
     };
@@ -117,80 +126,113 @@ pub fn block(
     deduction(alloc, context.signature(), context.order(), &echo, &reached)
 }
 
-/// Reduces a term by at most so many steps, by an index of the module's equations, and gives the block.
+/// The text for a kept deduction: its block and, where proofs are asked for, its proof.
+pub fn told(
+    alloc: Global,
+    accepted: &Module,
+    repeated: Repeated,
+    proved: &Proved<'_>,
+    status: Status,
+    options: Options,
+) -> Result<Vec<u8>, AllocError>
+    requires { IsAdmittedTerm accepted.now.module.signature proved.now.to }
+    ensures { IfOk result (λ text. (S : SortedOf) × IsLeastSort accepted.now.module.signature (nested accepted.now.module.signature proved.now.to) S
+        × (proof : List ℕ) × IsProofWritten options.proof proved.now accepted.now.name proof
+        × (text.items ≡ notes.noted options.proof (block_of (command_text repeated.command.now repeated.bound) accepted.now.module.signature accepted.now.name proved.now.from (min (count proved.now.proof) (2 ^ 64 - 1)) S proved.now.to (word_of_status status)) ++ proof)) }
+{
+    let block = block(alloc, accepted, repeated, proved, status)?;
+    let mut text = noted(alloc, options.proof, block)?;
+    if options.proof {
+        let mut proof = write(alloc, accepted.name(), proved, 1)?;
+        text.append(&mut proof)?;
+    }
+    Ok(text)
+}
+
+/// Reduces a term by at most so many steps, by an index of the module's equations, and gives the text.
 fn reduced_over(
     alloc: Global,
     accepted: &Module,
     index: &Index,
     term: Term,
-    most: u64,
+    options: Options,
 ) -> Result<Vec<u8>, AllocError>
     requires admitted { IsAdmittedTerm accepted.now.module.signature term }
     requires index { IsIndexOf accepted.now.module index.now }
-    ensures { (written : RawTerm) → term ≡ normal_form accepted.now.module.signature written → IfOk result (λ text. IsReduced accepted.now most written text.items) }
+    ensures { (written : RawTerm) → term ≡ normal_form accepted.now.module.signature written → IfOk result (λ text. IsReduced accepted.now options written text.items) }
 {
     let context = accepted.context();
     let budget = Budget {
-        steps: most,
-        side: most,
+        steps: options.max,
+        side: options.max,
         nest: 63,
     };
     let (proved, outcome) = reduce(alloc, context, index, term, budget)?;
     proved.shows();
     let status = status_of(outcome, Status::Reduced);
-    block(alloc, accepted, "reduce", None, &proved, status)
+    let echo = Repeated {
+        command: "reduce",
+        bound: None,
+    };
+    told(alloc, accepted, echo, &proved, status, options)
 }
 
-/// Reduces a term by at most so many steps, and gives the block.
+/// Reduces a term by at most so many steps, and gives the text.
 fn reduced_term(
     alloc: Global,
     accepted: &Module,
     term: Term,
-    most: u64,
+    options: Options,
 ) -> Result<Vec<u8>, AllocError>
     requires { IsAdmittedTerm accepted.now.module.signature term }
-    ensures { (written : RawTerm) → term ≡ normal_form accepted.now.module.signature written → IfOk result (λ text. IsReduced accepted.now most written text.items) }
+    ensures { (written : RawTerm) → term ≡ normal_form accepted.now.module.signature written → IfOk result (λ text. IsReduced accepted.now options written text.items) }
 {
     if let Some(index) = accepted.index() {
-        return reduced_over(alloc, accepted, index, term, most);
+        return reduced_over(alloc, accepted, index, term, options);
     }
     let index = Index::of(alloc, accepted.context())?;
-    reduced_over(alloc, accepted, &index, term, most)
+    reduced_over(alloc, accepted, &index, term, options)
 }
 
 /// The block that tells a term with its sort.
-fn parsed_term(alloc: Global, accepted: &Module, term: &Term) -> Result<Vec<u8>, AllocError>
+fn parsed_term(
+    alloc: Global,
+    accepted: &Module,
+    term: &Term,
+    options: Options,
+) -> Result<Vec<u8>, AllocError>
     requires { IsAdmittedTerm accepted.now.module.signature term.now }
-    ensures { (written : RawTerm) → term.now ≡ normal_form accepted.now.module.signature written → IfOk result (λ text. IsParsed accepted.now written text.items) }
+    ensures { (written : RawTerm) → term.now ≡ normal_form accepted.now.module.signature written → IfOk result (λ text. IsParsed accepted.now options.proof written text.items) }
 {
     let context = accepted.context();
     context.shows();
     let sort = context.least_sort(term);
-    parsed(
+    let block = parsed(
         alloc,
         context.signature(),
         context.order(),
         accepted.name(),
         term,
         sort,
-    )
+    )?;
+    noted(alloc, options.proof, block)
 }
 
-/// What a reduction of what the tokens spell gives, by at most so many steps: its block, or a fault.
+/// What a reduction of what the tokens spell gives, by at most so many steps: its text, or a fault.
 pub fn reduction_of(
     alloc: Global,
     accepted: &Module,
     tokens: &[Token],
-    most: u64,
+    options: Options,
 ) -> Result<Result<Vec<u8>, FaultKind>, AllocError>
     ensures { let words = texts tokens.now in
         IfOk result (λ r. MatchResult r
-        (λ text. (t : RawTerm) × IsTerm accepted.now words t × IsReduced accepted.now most t text.items)
+        (λ text. (t : RawTerm) × IsTerm accepted.now words t × IsReduced accepted.now options t text.items)
         (λ kind. TermFault accepted.now words kind)) }
 {
     match command_term(alloc, accepted, tokens)? {
         Ok(term) => {
-            let text = reduced_term(alloc, accepted, term, most)?;
+            let text = reduced_term(alloc, accepted, term, options)?;
             Ok(Ok(text))
         }
         Err(kind) => Ok(Err(kind)),
@@ -202,15 +244,16 @@ pub fn parsed_of(
     alloc: Global,
     accepted: &Module,
     tokens: &[Token],
+    options: Options,
 ) -> Result<Result<Vec<u8>, FaultKind>, AllocError>
     ensures { let words = texts tokens.now in
         IfOk result (λ r. MatchResult r
-        (λ text. (t : RawTerm) × IsTerm accepted.now words t × IsParsed accepted.now t text.items)
+        (λ text. (t : RawTerm) × IsTerm accepted.now words t × IsParsed accepted.now options.proof t text.items)
         (λ kind. TermFault accepted.now words kind)) }
 {
     match command_term(alloc, accepted, tokens)? {
         Ok(term) => {
-            let text = parsed_term(alloc, accepted, &term)?;
+            let text = parsed_term(alloc, accepted, &term, options)?;
             Ok(Ok(text))
         }
         Err(kind) => Ok(Err(kind)),

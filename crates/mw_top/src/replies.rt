@@ -1,4 +1,4 @@
-// What a command gives in the module in which it stands: its block, or a fault.
+// What a command gives in the module in which it stands: its text, or a fault.
 ghost use Rattle.std.specs.Prelude.{◌≡◌, Some, IfOk, MatchResult};
 ghost use Rattle.mw_command.specs.Commands.{seen_command};
 ghost use Rattle.mw_top.specs.Commands.{IsAnswer, AnswerFault, inside_of};
@@ -9,6 +9,7 @@ use crate::rewriting::rewriting_of;
 use mw_build::Module;
 use mw_command::{Command, Word};
 use mw_module::FaultKind;
+use mw_words::Options;
 use std::alloc::{AllocError, Global};
 
 /// What a command that matches a pattern gives, for parts on top too where these count.
@@ -17,16 +18,16 @@ fn match_reply(
     accepted: &Module,
     command: &Command<'_>,
     inside: bool,
-    most: u64,
+    options: Options,
 ) -> Result<Result<Vec<u8>, FaultKind>, AllocError>
     requires { inside_of command.now.word ≡ Some inside }
     ensures { let c = seen_command command.now in
-        IfOk result (λ r. MatchResult r (λ text. IsAnswer accepted.now most c text.items) (AnswerFault accepted.now c)) }
+        IfOk result (λ r. MatchResult r (λ text. IsAnswer accepted.now options c text.items) (AnswerFault accepted.now c)) }
 {
     let Some(subject) = command.subject else {
         return Ok(Err(FaultKind::NoParse));
     };
-    let reply = matches_of(alloc, accepted, command.term, subject, inside, most)?;
+    let reply = matches_of(alloc, accepted, command.term, subject, inside, options)?;
     Ok(reply)
 }
 
@@ -35,25 +36,25 @@ pub fn reply(
     alloc: Global,
     accepted: &Module,
     command: &Command<'_>,
-    most: u64,
+    options: Options,
 ) -> Result<Result<Vec<u8>, FaultKind>, AllocError>
     ensures { let c = seen_command command.now in
-        IfOk result (λ r. MatchResult r (λ text. IsAnswer accepted.now most c text.items) (AnswerFault accepted.now c)) }
+        IfOk result (λ r. MatchResult r (λ text. IsAnswer accepted.now options c text.items) (AnswerFault accepted.now c)) }
 {
     match command.word {
         Word::Reduce => {
-            let reply = reduction_of(alloc, accepted, command.term, most)?;
+            let reply = reduction_of(alloc, accepted, command.term, options)?;
             Ok(reply)
         }
         Word::Rewrite => {
-            let reply = rewriting_of(alloc, accepted, command.term, command.bound, most)?;
+            let reply = rewriting_of(alloc, accepted, command.term, command.bound, options)?;
             Ok(reply)
         }
         Word::Parse => {
-            let reply = parsed_of(alloc, accepted, command.term)?;
+            let reply = parsed_of(alloc, accepted, command.term, options)?;
             Ok(reply)
         }
-        Word::Match => match_reply(alloc, accepted, command, false, most),
-        Word::Xmatch => match_reply(alloc, accepted, command, true, most),
+        Word::Match => match_reply(alloc, accepted, command, false, options),
+        Word::Xmatch => match_reply(alloc, accepted, command, true, options),
     }
 }

@@ -3,13 +3,12 @@ ghost use Rattle.std.specs.Prelude.{◌≡◌, ◌↔◌, ◌++◌, ◌∷◌, �
 ghost use Rattle.mw_module.specs.Known.{AreKnown};
 ghost use Rattle.mw_module.specs.Units.{SeenUnit, seen_unit};
 ghost use Rattle.mw_command.specs.Commands.{command_of, seen_command};
-ghost use Rattle.mw_block.specs.Refused.{refusal_line};
 ghost use Rattle.mw_build.specs.Modules.{Accepted, IsAccepted, IsRefused};
 ghost use Rattle.mw_top.specs.Commands.{CommandFault, is_kept as is_kept_name, module_named, module_at, last_module, module_for};
-ghost use Rattle.mw_top.specs.Sources.{IsTaken, Gives, name_of, no_modules, with_module};
+ghost use Rattle.mw_top.specs.Sources.{IsTaken, Gives, name_of, no_modules, told_refusal, with_module};
 
 use crate::replies::reply;
-use mw_block::refusal;
+use mw_block::{noted, refusal};
 use mw_build::{Built, Module, build};
 use mw_command::{Command, Word, read};
 use mw_import::Units;
@@ -17,6 +16,7 @@ use mw_lex::Token;
 use mw_module::{Fault, FaultKind, Unit, UnitError};
 use mw_prelude::Predefined;
 use mw_term::{Name, copy_name};
+use mw_words::Options;
 use std::alloc::{AllocError, Global};
 use std::marker::Model;
 
@@ -51,17 +51,23 @@ impl<'s> Model for Session<'s> {
 }
 
 /// A refusal at a line.
-fn refused(alloc: Global, line: u32, kind: FaultKind) -> Result<Answer, AllocError>
-    ensures { IfOk result (λ a. (a.text.items ≡ refusal_line (record { line = line; kind = kind })) × (a.refused ≡ true)) }
+fn refused(
+    alloc: Global,
+    options: Options,
+    line: u32,
+    kind: FaultKind,
+) -> Result<Answer, AllocError>
+    ensures { IfOk result (λ a. (a.text.items ≡ told_refusal options (record { line = line; kind = kind })) × (a.refused ≡ true)) }
 {
-    refused_by(alloc, Fault { line, kind })
+    refused_by(alloc, options, Fault { line, kind })
 }
 
 /// The refusal of a fault.
-pub fn refused_by(alloc: Global, fault: Fault) -> Result<Answer, AllocError>
-    ensures { IfOk result (λ a. (a.text.items ≡ refusal_line fault) × (a.refused ≡ true)) }
+pub fn refused_by(alloc: Global, options: Options, fault: Fault) -> Result<Answer, AllocError>
+    ensures { IfOk result (λ a. (a.text.items ≡ told_refusal options fault) × (a.refused ≡ true)) }
 {
-    let text = refusal(alloc, &fault)?;
+    let line = refusal(alloc, &fault)?;
+    let text = noted(alloc, options.proof, line)?;
     Ok(Answer {
         text,
         refused: true,
@@ -168,15 +174,16 @@ impl<'s> Session<'s> {
         alloc: Global,
         unit: Unit<'s>,
         name: &Token,
+        options: Options,
     ) -> Result<Answer, AllocError>
         requires named { name_of (seen_unit unit) ≡ Some name.now.text }
         requires known { AreKnown (seen_unit unit).statements }
-        ensures { (most : ℕ) → IfOk result (λ a. Gives most self.old (Ok (seen_unit unit.entry)) a.text.items a.refused self.new) }
+        ensures { IfOk result (λ a. Gives options self.old (Ok (seen_unit unit.entry)) a.text.items a.refused self.new) }
     {
         let text = name.text.as_slice();
         let name = copy_name(alloc, &name.text)?;
         if self.is_taken(text) {
-            return refused(alloc, unit.line, FaultKind::AlreadyDefined(name));
+            return refused(alloc, options, unit.line, FaultKind::AlreadyDefined(name));
         }
         match self.built(alloc, &unit, name)? {
             Ok(built) => {
@@ -186,7 +193,7 @@ impl<'s> Session<'s> {
                     refused: false,
                 })
             }
-            Err(fault) => refused_by(alloc, fault),
+            Err(fault) => refused_by(alloc, options, fault),
         }
     }
 
@@ -230,37 +237,37 @@ impl<'s> Session<'s> {
         alloc: Global,
         line: u32,
         command: &Command<'_>,
-        most: u64,
+        options: Options,
     ) -> Result<Answer, AllocError>
         ensures { (u : SeenUnit) → u.line ≡ line → name_of u ≡ None → command_of u ≡ Ok (seen_command command.now)
-            → IfOk result (λ a. Gives most self.now (Ok u) a.text.items a.refused self.now) }
+            → IfOk result (λ a. Gives options self.now (Ok u) a.text.items a.refused self.now) }
     {
         let Some(module) = self.module_for(command) else {
-            return refused(alloc, line, missing(alloc, command)?);
+            return refused(alloc, options, line, missing(alloc, command)?);
         };
-        match reply(alloc, module, command, most)? {
+        match reply(alloc, module, command, options)? {
             Ok(text) => Ok(Answer {
                 text,
                 refused: false,
             }),
-            Err(kind) => refused(alloc, line, kind),
+            Err(kind) => refused(alloc, options, line, kind),
         }
     }
 
     /// What a unit gives, where a command makes at most so many steps.
-    pub fn answer(&mut self, alloc: Global, unit: Unit<'s>, most: u64) -> Result<Answer, AllocError>
+    pub fn answer(&mut self, alloc: Global, unit: Unit<'s>, options: Options) -> Result<Answer, AllocError>
         requires { AreKnown (seen_unit unit).statements }
-        ensures { IfOk result (λ a. Gives most self.old (Ok (seen_unit unit.entry)) a.text.items a.refused self.new) }
+        ensures { IfOk result (λ a. Gives options self.old (Ok (seen_unit unit.entry)) a.text.items a.refused self.new) }
     {
         if let Some(name) = unit.name {
-            return self.answer_module(alloc, unit, name);
+            return self.answer_module(alloc, unit, name, options);
         }
         match read(&unit) {
             Ok(command) => {
                 self.prepare(alloc, &command)?;
-                self.answer_command(alloc, unit.line, &command, most)
+                self.answer_command(alloc, unit.line, &command, options)
             }
-            Err(fault) => refused_by(alloc, fault),
+            Err(fault) => refused_by(alloc, options, fault),
         }
     }
 }

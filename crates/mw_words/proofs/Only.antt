@@ -1,5 +1,5 @@
 -- The words ask for one thing at most.
-use Rattle.std.proofs.Common.{◌≡◌, ◌∙◌, ◌<◌, ◌^◌, ◌⊎◌, inl, inr, ℕ, Option, Some, None, List, [], ◌∷◌, codes, arith, refl, sym, ap, subst, true}
+use Rattle.std.proofs.Common.{◌≡◌, ◌∙◌, ◌<◌, ◌^◌, ◌⊎◌, inl, inr, ℕ, Option, Some, None, List, [], ◌∷◌, codes, arith, refl, sym, ap, subst, Bool, true, false}
 use Rattle.std.specs.Prelude.{◌≢◌, Result, Ok, Err, IfOk}
 use Rattle.std.proofs.lemmas.Fmt.{decimal_injective}
 use Rattle.clap.specs.Walk.{Row, first_of}
@@ -10,7 +10,8 @@ use Rattle.clap.specs.declared.error.kind.ErrorKind.TheVariants.{DisplayHelp, Di
 use Rattle.mw_words.specs.declared.Asked.{Asked}
 use Rattle.mw_words.specs.declared.Asked.TheVariants.{Run, Help, Version}
 use Rattle.mw_words.specs.declared.WordsError.{WordsError}
-use Rattle.mw_words.specs.Asked.{Asks, IsCommand, IsMax, IsValue}
+use Rattle.mw_words.specs.Asked.{Asks, AreOptions, IsCommand, IsMax, IsProofAsked, IsValue}
+use Rattle.mw_words.specs.declared.Options.{Options}
 use Rattle.mw_words.specs.CommandLine.{mw_app}
 use Rattle.mw_words.proofs.Apart.{is_request, request_alone}
 
@@ -24,10 +25,24 @@ one_rows words name r s p q =
     let pairs : (name, r) ≡ (name, s) = (cc (p.named, q.named)) in
     ap (λ (pair : List ℕ × List Row). pair.1) pairs
 
+-- both say whether the flag was given
+one_flag : (rows : List Row) (a b : Bool) → IsProofAsked rows a → IsProofAsked rows b → a ≡ b
+one_flag rows true true p q = refl
+one_flag rows true false p q = sym (q.1 (p.0 refl))
+one_flag rows false true p q = p.1 (q.0 refl)
+one_flag rows false false p q = refl
+
+one_options : (rows : List Row) (a b : Options) → AreOptions rows a → AreOptions rows b → a ≡ b
+one_options rows a b p q =
+    let most : a.max ≡ b.max = one_value 1 10000000 1000000 (omega arith) (first_of (codes "max") rows) a.max b.max p.max q.max in
+    let proof : a.proof ≡ b.proof = one_flag rows a.proof b.proof p.proof q.proof in
+    let made : ℕ → Bool → Options = λ m p. record { max = m; proof = p } in
+    ap (λ m. made m a.proof) most ∙ ap (λ p. made b.max p) proof
+
 pub one_answer : (words : List (List ℕ)) (a b : Asked) → Asks words a → Asks words b → b ≡ a
 one_answer words (Run m) (Run n) p q =
     let same = one_rows words (codes "run") q.0 p.0 q.1 p.1 in
-    ap Run (one_value 1 10000000 1000000 (omega arith) (first_of (codes "max") p.0) n m (subst (λ rows. IsMax rows n) same q.2) p.2)
+    ap Run (one_options p.0 n m (subst (λ rows. AreOptions rows n) same q.2) p.2)
 one_answer words (Run m) Help p q = (cc (p.1.taken, q))
 one_answer words (Run m) Version p q = (cc (p.1.taken, q))
 one_answer words Help (Run n) p q = (cc (p, q.1.taken))

@@ -1,11 +1,12 @@
 -- What the words of a command line ask for.
-use Rattle.std.specs.Prelude.{◌≡◌, ◌≤◌, ℕ, List, [], ◌∷◌, Option, Some, None, String, map, string_bytes, codes}
+use Rattle.std.specs.Prelude.{◌≡◌, ◌≤◌, ◌↔◌, ℕ, Bool, List, [], ◌∷◌, Option, Some, None, String, map, string_bytes, codes, IsTrue}
 use Rattle.std.specs.Global.{Global}
 use Rattle.std.specs.Fmt.{decimal}
 use Rattle.clap.specs.Walk.{Row, first_of}
 use Rattle.clap.specs.Simple.{subcommand_of}
 use Rattle.clap.specs.Faults.{fault_of}
 use Rattle.clap.specs.declared.error.kind.ErrorKind.TheVariants.{DisplayHelp, DisplayVersion}
+use Rattle.mw_words.specs.declared.Options.{Options}
 use Rattle.mw_words.specs.declared.Asked.{Asked}
 use Rattle.mw_words.specs.declared.Asked.TheVariants.{Run, Help, Version}
 use Rattle.mw_words.specs.CommandLine.{mw_app}
@@ -34,9 +35,18 @@ IsValue low high absent (Some text) n = IsNumber low high text n
 abbrev pub IsMax : List Row → ℕ → Type 0
 IsMax rows max = IsValue 1 10000000 1000000 (first_of (codes "max") rows) max
 
+-- `--proof` is there: clap gives its row the text `true` then
+abbrev pub IsProofAsked : List Row → Bool → Type 0
+IsProofAsked rows proof = IsTrue proof ↔ (first_of (codes "proof") rows ≡ Some (codes "true"))
+
+-- what the arguments of `run` ask for
+pub record AreOptions (rows : List Row) (o : Options) : Type 0 where
+  pub max : IsMax rows o.max
+  pub proof : IsProofAsked rows o.proof
+
 -- the words, with the program's name first, ask for this; for help and the version, clap's walk along the words ends at a
 -- request for it
 abbrev pub Asks : List (List ℕ) → Asked → Type 0
-Asks words (Run max) = (rows : List Row) × IsCommand words (codes "run") rows × IsMax rows max
+Asks words (Run o) = (rows : List Row) × IsCommand words (codes "run") rows × AreOptions rows o
 Asks words Help = fault_of mw_app words ≡ DisplayHelp ∷ []
 Asks words Version = fault_of mw_app words ≡ DisplayVersion ∷ []

@@ -2,15 +2,19 @@
 use Rattle.std.specs.Prelude.{List, ℕ, Some, true, codes}
 use Rattle.clap.specs.Walk.{Rule}
 use Rattle.clap.specs.Simple.{App, new_app, new_rule, on_top, with_rule, with_subcommand}
-use Rattle.clap.specs.declared.builder.action.ArgAction.TheVariants.{Set}
+use Rattle.clap.specs.declared.builder.action.ArgAction.TheVariants.{Set, SetTrue}
 
 -- an option with a value, as `--name VALUE` or `--name=VALUE`
 abbrev pub option_rule : List ℕ → Rule
 option_rule name = record (new_rule name) { long = Some name; action = Some Set }
 
--- `run [--max N]`
+-- an option without one
+abbrev pub flag_rule : List ℕ → Rule
+flag_rule name = record (new_rule name) { long = Some name; action = Some SetTrue }
+
+-- `run [--max N] [--proof]`
 abbrev pub run_app : App
-run_app = with_rule (new_app (codes "run")) (option_rule (codes "max"))
+run_app = with_rule (with_rule (new_app (codes "run")) (option_rule (codes "max"))) (flag_rule (codes "proof"))
 
 -- the program without its subcommands: it wants one, `help` is none, and it has a version
 abbrev pub program_app : App

@@ -10,13 +10,15 @@ version_line = line (codes "mw 0.1.0")
 
 -- the commands with their options
 abbrev pub help_commands : List ℕ
-help_commands = line (codes "mw run [--max N]    answers the commands of the source on standard input")
-    ++ line (codes "mw --help, -h       writes this text, as `mw run --help` does")
-    ++ line (codes "mw --version, -V    writes the version")
+help_commands = line (codes "mw run [--max N] [--proof]    answers the commands of the source on standard input")
+    ++ line (codes "mw --help, -h                 writes this text, as `mw run --help` does")
+    ++ line (codes "mw --version, -V              writes the version")
 
 -- the options with their ranges and defaults
 abbrev pub help_options : List ℕ
-help_options = line (codes "--max N             the most rewrites of a command, 1 to 10000000 (default 1000000)")
+help_options = line (codes "--max N     the most rewrites of a command, 1 to 10000000 (default 1000000)")
+    ++ line (codes "--proof     writes behind each block of reduce and rewrite its proof, and `*** ` before each other line;")
+    ++ line (codes "            a proof is held in memory whole, and spells out the values of each step")
 
 -- the statuses
 abbrev pub help_statuses : List ℕ

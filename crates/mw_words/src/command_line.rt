@@ -7,7 +7,7 @@ ghost use Rattle.clap.specs.Kinds.{IsAmong};
 ghost use Rattle.clap.specs.Walk.{rule_of};
 ghost use Rattle.clap.specs.declared.builder.command.Command.TheViews.{out-Command as fields_of};
 ghost use Rattle.mw_words.specs.Asked.{texts};
-ghost use Rattle.mw_words.specs.CommandLine.{mw_app, option_rule, program_app, run_app};
+ghost use Rattle.mw_words.specs.CommandLine.{flag_rule, mw_app, option_rule, program_app, run_app};
 
 use crate::texts::version_text;
 use clap::error::ErrorKind;
@@ -21,11 +21,21 @@ fn option<'a>(alloc: Global, name: &'a str) -> Arg<'a>
     Arg::new(alloc, name).long(name).action(ArgAction::Set)
 }
 
+fn flag<'a>(alloc: Global, name: &'a str) -> Arg<'a>
+    ensures rule { rule_of result ≡ flag_rule name.entry.now }
+    ensures local { result.global ≡ false }
+{
+    Arg::new(alloc, name)
+        .long(name)
+        .action(ArgAction::SetTrue)
+}
+
 fn run_command<'a>(alloc: Global) -> Result<Command<'a>, AllocError>
     ensures app { IfOk result (λ c. app_of c ≡ run_app) }
     ensures local { IfOk result (λ c. (fields_of c).has_globals ≡ false) }
 {
-    Command::new(alloc, "run").arg(option(alloc, "max"))
+    let command = Command::new(alloc, "run").arg(option(alloc, "max"))?;
+    command.arg(flag(alloc, "proof"))
 }
 
 /// With a version, so that clap knows `--version`; what it would write for it is never shown.

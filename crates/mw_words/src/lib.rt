@@ -1,7 +1,8 @@
 //! The words of the command line, read by clap: what they ask for, and the texts that answer `--help` and `--version`.
 //!
-//! - The first word is the program's name, whatever it is. `run`, with `--max N` or `--max=N` at most once, is a run; N
-//!   is a number from 1 to 10,000,000 in digits, with no sign and no zero in front, 1,000,000 without the option.
+//! - The first word is the program's name, whatever it is. `run`, with `--max N` or `--max=N` and `--proof` each at most
+//!   once, is a run; N is a number from 1 to 10,000,000 in digits, with no sign and no zero in front, 1,000,000 without
+//!   the option.
 //! - `--help` and `-h`, of the program and of `run`, ask for help, `--version` and `-V` of the program for the version.
 //!   Clap reads from the left: words behind such a wish say nothing, a word in front that it refuses is refused. What N
 //!   is is looked at last: `mw run --max 007 --help` is help.
@@ -20,11 +21,12 @@
 //! `Asks`; a new subcommand a function of `command_line`, an arm of `read_words`, and a line of `mw_app` and of `Asks`.
 #![tactic(auto)]
 
-ghost use Rattle.std.specs.Prelude.{◌≡◌, ◌≢◌, ◌⊎◌, ℕ, IfOk, IsErrOf};
-ghost use Rattle.clap.specs.Walk.{rows_of};
+ghost use Rattle.std.specs.Prelude.{◌≡◌, ◌≢◌, ◌⊎◌, ◌↔◌, ℕ, Some, codes, IsTrue, IfOk, IsErrOf};
+ghost use Rattle.clap.specs.Walk.{first_of, rows_of};
 ghost use Rattle.clap.specs.Matches.{found_of};
 ghost use Rattle.clap.specs.Simple.{subcommand_rows_of};
-ghost use Rattle.mw_words.specs.Asked.{texts, Asks, IsMax};
+ghost use Rattle.mw_words.specs.Asked.{texts, Asks, AreOptions, IsMax};
+ghost use Rattle.mw_words.specs.declared.Options.{Options as OptionsOf};
 ghost use Rattle.mw_words.specs.declared.WordsError.TheVariants.{Memory as MemoryError};
 
 mod command_line;
@@ -38,11 +40,20 @@ use number::option_number;
 use std::alloc::{AllocError, Global};
 pub use texts::{help_text, version_text};
 
+/// How a source is to be answered.
+#[derive(Clone, Copy, Debug, PartialEq, Eq)]
+pub struct Options {
+    /// With at most so many rewrites for each command, or so many solutions.
+    pub max: u64,
+    /// With the proof of each reduction and rewriting.
+    pub proof: bool,
+}
+
 /// What the words ask for.
 #[derive(Clone, Copy, Debug, PartialEq, Eq)]
 pub enum Asked {
-    /// `run`: to answer a source, with at most `max` rewrites for each command.
-    Run { max: u64 },
+    /// `run`: to answer a source.
+    Run(Options),
     /// `--help` or `-h`, of the program or of a command: to write the help text.
     Help,
     /// `--version` or `-V` of the program: to write its version.
@@ -79,21 +90,33 @@ fn asked_instead(kind: ErrorKind) -> Result<Asked, WordsError>
     }
 }
 
+/// Whether the flag of this name was given: its value is the text `true` then.
+#[tactic(auto, using(crate::proofs::Rows::first_value_rows))]
+fn is_given(matches: &ArgMatches<'_>, name: &str) -> bool
+    ensures { IsTrue result ↔ (first_of name.now (rows_of (found_of matches.now)) ≡ Some (codes "true")) }
+{
+    match matches.get_str(name) {
+        Some(text) => text == "true",
+        None => false,
+    }
+}
+
 /// What `run` with these arguments asks for.
 fn read_run(alloc: Global, matches: &ArgMatches<'_>) -> Result<Asked, WordsError>
-    ensures asked { IfOk result (λ asked. (max : ℕ) × (asked ≡ Asked.Run max) × IsMax (rows_of (found_of matches.now)) max) }
-    ensures usage { IsErrOf result WordsError.Usage → (max : ℕ) → IsMax (rows_of (found_of matches.now)) max → ⊥ }
+    ensures asked { IfOk result (λ asked. (o : OptionsOf) × (asked ≡ Asked.Run o) × AreOptions (rows_of (found_of matches.now)) o) }
+    ensures usage { IsErrOf result WordsError.Usage → (o : OptionsOf) → AreOptions (rows_of (found_of matches.now)) o → ⊥ }
 {
+    let proof = is_given(matches, "proof");
     match option_number(alloc, matches, "max", 1, 10_000_000, 1_000_000)? {
-        Some(max) => Ok(Asked::Run { max }),
+        Some(max) => Ok(Asked::Run(Options { max, proof })),
         None => Err(WordsError::Usage),
     }
 }
 
 /// Reads the words of a command line, of which the first is the program's name.
 ///
-/// - `run`, with `--max N` or `--max=N` at most once, asks for a run. N is a number from 1 to 10,000,000 in digits, with
-///   no sign and no zero in front. Without it the run has 1,000,000.
+/// - `run`, with `--max N` or `--max=N` and `--proof` each at most once, asks for a run. N is a number from 1 to
+///   10,000,000 in digits, with no sign and no zero in front. Without it the run has 1,000,000.
 /// - `--help` and `-h` ask for help, `--version` and `-V` for the version. Clap reads from the left and ends there, so the
 ///   words behind them say nothing, but a word in front that clap refuses is refused.
 ///

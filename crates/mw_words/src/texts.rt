@@ -6,10 +6,12 @@ ghost use Rattle.mw_words.specs.Texts.{help, version_line};
 const VERSION: &str = "mw 0.1.0\n";
 
 const HELP: &str = "\
-mw run [--max N]    answers the commands of the source on standard input
-mw --help, -h       writes this text, as `mw run --help` does
-mw --version, -V    writes the version
---max N             the most rewrites of a command, 1 to 10000000 (default 1000000)
+mw run [--max N] [--proof]    answers the commands of the source on standard input
+mw --help, -h                 writes this text, as `mw run --help` does
+mw --version, -V              writes the version
+--max N     the most rewrites of a command, 1 to 10000000 (default 1000000)
+--proof     writes behind each block of reduce and rewrite its proof, and `*** ` before each other line;
+            a proof is held in memory whole, and spells out the values of each step
 Exit status:
   0  all was answered
   1  a part of the source was refused

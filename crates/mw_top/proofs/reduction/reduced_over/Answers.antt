@@ -12,13 +12,13 @@ reduce-requires-clause-admitted c = subst (λ (M : Module). IsAdmittedTerm M.sig
 pub reduce-requires-clause-index : goal.reduce-requires-clause-index
 reduce-requires-clause-index c = subst (λ (M : Module). IsIndexOf M c.args.index.now) (sym c.context-context.ensures) c.requires.index
 
-pub block-requires : goal.block-requires
-block-requires c =
+pub told-requires : goal.told-requires
+told-requires c =
     let over = subst (λ (M : Module). IsAdmittedTerm M.signature c.in_ok-proved.proved.to) c.in_ok-proved.ensures.over c.shows.ensures.ends in
     subst (λ (M : Module). IsAdmittedTerm M.signature c.in_ok-proved.proved.to) c.context-context.ensures over
 
 pub returns : goal.returns
 returns c = λ written canonical.
-    let reduction = subst (λ M. IsReductionOf M c.args.term (record { steps = c.args.most; side = c.args.most; nest = 63 }) c.in_ok-proved.proved c.in_ok-proved.outcome) c.context-context.ensures c.in_ok-proved.ensures in
-    if_ok c.block.result c.block.ensures
-    (λ text told. reduced_by c.args.accepted.now c.args.most written c.args.term (record { steps = c.args.most; side = c.args.most; nest = 63 }) c.in_ok-proved.proved c.in_ok-proved.outcome text.items canonical refl reduction c.shows.ensures told.0 told.1 _ c.status_of-status.ensures told.2)
+    let reduction = subst (λ M. IsReductionOf M c.args.term (record { steps = c.args.options.max; side = c.args.options.max; nest = 63 }) c.in_ok-proved.proved c.in_ok-proved.outcome) c.context-context.ensures c.in_ok-proved.ensures in
+    if_ok c.told.result c.told.ensures
+    (λ text told. let (S, least, proof, proof_is, is) = told in reduced_by c.args.accepted.now c.args.options written c.args.term (record { steps = c.args.options.max; side = c.args.options.max; nest = 63 }) c.in_ok-proved.proved c.in_ok-proved.outcome text.items canonical refl reduction c.shows.ensures S least _ c.status_of-status.ensures proof proof_is is)

@@ -13,14 +13,14 @@ rewrite_alone-requires-clause-index c = subst (λ (M : Module). IsIndexOf M c.ar
 pub rewrite_alone-requires-clause-admitted : goal.rewrite_alone-requires-clause-admitted
 rewrite_alone-requires-clause-admitted c = subst (λ (M : Module). IsAdmittedTerm M.signature c.args.term) (sym c.context-context.ensures) c.requires.admitted
 
-pub block-requires : goal.block-requires
-block-requires c =
+pub told-requires : goal.told-requires
+told-requires c =
     let over = subst (λ (M : Module). IsAdmittedTerm M.signature c.in_ok-proved.proved.to) c.in_ok-proved.ensures.over c.shows.ensures.ends in
     subst (λ (M : Module). IsAdmittedTerm M.signature c.in_ok-proved.proved.to) c.context-context.ensures over
 
 pub returns : goal.returns
 returns c = λ written canonical.
-    let bounds : Bounds = record { rules = c.args.bound; steps = c.args.most; side = c.args.most } in
+    let bounds : Bounds = record { rules = c.args.bound; steps = c.args.options.max; side = c.args.options.max } in
     let made = subst (λ M. IsRewritingOf M c.args.term bounds c.in_ok-proved.proved c.in_ok-proved.outcome) c.context-context.ensures c.in_ok-proved.ensures in
-    if_ok c.block.result c.block.ensures
-    (λ text told. rewritten_by c.args.accepted.now c.args.bound c.args.most written c.args.term bounds c.in_ok-proved.proved c.in_ok-proved.outcome text.items canonical refl made c.shows.ensures told.0 told.1 _ c.status_of-status.ensures told.2)
+    if_ok c.told.result c.told.ensures
+    (λ text told. let (S, least, proof, proof_is, is) = told in rewritten_by c.args.accepted.now c.args.bound c.args.options written c.args.term bounds c.in_ok-proved.proved c.in_ok-proved.outcome text.items canonical refl made c.shows.ensures S least _ c.status_of-status.ensures proof proof_is is)

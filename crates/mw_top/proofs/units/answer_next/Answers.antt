@@ -17,5 +17,5 @@ pub returns-in_ok-refused_by-in-Err-clause-gives : goal.returns-in_ok-refused_by
 returns-in_ok-refused_by-in-Err-clause-gives c =
     let next = c.in_ok-outcome.next in
     let read = subst (λ (r : Result SourceUnit Fault). Reads false c.args.tokens.now c.args.at (seen_outcome r) next) c.in-Err.is c.in_ok-outcome.ensures in
-    let told = refused_gives c.args.most c.args.session.now (Err c.in-Err.fault) c.in-Err.fault _ _ (formless c.in-Err.fault) c.in_ok-refused_by-in-Err.ensures in
+    let told = refused_gives c.args.options c.args.session.now (Err c.in-Err.fault) c.in-Err.fault _ _ (formless c.in-Err.fault) c.in_ok-refused_by-in-Err.ensures in
     (Err c.in-Err.fault, read, told)

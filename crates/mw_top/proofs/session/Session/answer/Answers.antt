@@ -14,7 +14,7 @@ pub returns-in-Ok : goal.returns-in-Ok
 returns-in-Ok c =
     let u = seen_unit c.args.unit in
     let after = c.prepare.new.self in
-    subst (λ (before : Loaded). IfOk c.answer_command.result (λ a. Gives c.args.most before (Ok u) a.text.items a.refused after)) c.in_ok-prepare-in-Ok.ensures
+    subst (λ (before : Loaded). IfOk c.answer_command.result (λ a. Gives c.args.options before (Ok u) a.text.items a.refused after)) c.in_ok-prepare-in-Ok.ensures
     (c.answer_command.ensures u refl (none_named c.args.unit.name c.in_default.not-Some) c.in-Ok.ensures.command)
 
 pub returns : goal.returns
@@ -22,4 +22,4 @@ returns c =
     let u = seen_unit c.args.unit in
     let none = none_named c.args.unit.name c.in_default.not-Some in
     if_ok c.refused_by.result c.refused_by.ensures
-    (λ a h. refused_gives c.args.most c.args.self.now (Ok u) c.in-Err.fault a.text.items a.refused (no_command u c.in-Err.fault none c.in-Err.ensures.fault) h)
+    (λ a h. refused_gives c.args.options c.args.self.now (Ok u) c.in-Err.fault a.text.items a.refused (no_command u c.in-Err.fault none c.in-Err.ensures.fault) h)

@@ -10,7 +10,7 @@ pub returns-in_default : goal.returns-in_default
 returns-in_default c = λ u line named command.
     let none = none_there (λ m. m.now) c.module_for.result _ c.in_default.not-Some c.module_for.ensures in
     if_ok c.refused.result c.refused.ensures
-    (λ a h. refused_gives c.args.most c.args.self.now (Ok u) (record { line = c.args.line; kind = c.in_ok-missing.field-0 }) a.text.items a.refused
+    (λ a h. refused_gives c.args.options c.args.self.now (Ok u) (record { line = c.args.line; kind = c.in_ok-missing.field-0 }) a.text.items a.refused
     (rw (sym line) (faulty u (seen_command c.args.command.now) c.in_ok-missing.field-0 named command (c.in_ok-missing.ensures c.args.self.now.modules none))) h)
 
 pub returns-in-Ok : goal.returns-in-Ok
@@ -21,5 +21,5 @@ pub returns-in-Err : goal.returns-in-Err
 returns-in-Err c = λ u line named command.
     let wrong = match_err _ _ c.in_ok-text.field-0 c.in_ok-text.ensures c.in-Err.kind c.in-Err.is in
     if_ok c.refused-in-Err.result c.refused-in-Err.ensures
-    (λ a h. refused_gives c.args.most c.args.self.now (Ok u) (record { line = c.args.line; kind = c.in-Err.kind }) a.text.items a.refused
+    (λ a h. refused_gives c.args.options c.args.self.now (Ok u) (record { line = c.args.line; kind = c.in-Err.kind }) a.text.items a.refused
     (rw (sym line) (faulty u (seen_command c.args.command.now) c.in-Err.kind named command (unanswered c.in-Some.module.now c.in-Err.kind (sym c.in-Some.ensures) wrong))) h)

@@ -1,5 +1,0 @@
-pub mod Items
-pub mod Texts
-pub mod Tells
-pub mod Grounds
-pub mod Chains
