@@ -1,0 +1,5 @@
+pub mod Items
+pub mod Texts
+pub mod Tells
+pub mod Grounds
+pub mod Chains

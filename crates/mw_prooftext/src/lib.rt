@@ -1,0 +1,23 @@
+//! Proof texts.
+//!
+//! A proof text says of each replacement of a kept proof where in the whole canonical term it stands, by which
+//! statement or row, with which values, and with which evidence for its condition; docs/FORMATS.md has the format.
+//! specs/Texts gives a text's bytes by its items, specs/Tells what items mean: the run that they tell from a canonical
+//! term on, each at its place in the term that the one before it left (`ReplacesAt` of mw_redex).
+//!
+//! Proved: `write` answers a text that tells the run of the proof, from its first term to its last one (`IsTextOf`),
+//! and the proof carries that run out, modulo the axioms (`Denotes` of mw_deduction). So the text denotes the proof.
+//!
+//! Conditions: none; a [`mw_proof::Proved`] keeps what is needed. Want of memory is the only error.
+//!
+//! Cost: the text is written in one pass over the trail, with the term that each proof under way has, opened where its
+//! moves are (mw_spot): no walk from the top. A side's items are written apart and moved behind its statement, once
+//! for each condition that it stands in, of which there are 63 at most. A text is as long as the values that it spells
+//! out. Neither proved nor tested here: time, and that calls answer with memory at hand.
+#![tactic(auto)]
+
+mod chains;
+mod lines;
+mod writing;
+
+pub use writing::write;
