@@ -1,5 +1,5 @@
 // What the words of a command line ask for.
-use mw_words::{Asked, WordsError, read_words};
+use mw_words::{Asked, Options, WordsError, read_words};
 use std::alloc::Global;
 use std::test::Fail;
 
@@ -15,15 +15,19 @@ fn asked(alloc: Global, line: &str) -> Result<Result<Asked, WordsError>, Fail> {
 #[test]
 fn words_are_read(rt: HostRuntime) -> Result<(), Fail> {
     let alloc = rt.alloc();
-    for (line, max) in [
-        ("mw run", 1_000_000),
-        ("another run", 1_000_000),
-        ("mw run --", 1_000_000),
-        ("mw run --max 1", 1),
-        ("mw run --max 5", 5),
-        ("mw run --max=10000000", 10_000_000),
+    for (line, max, proof) in [
+        ("mw run", 1_000_000, false),
+        ("another run", 1_000_000, false),
+        ("mw run --", 1_000_000, false),
+        ("mw run --max 1", 1, false),
+        ("mw run --max 5", 5, false),
+        ("mw run --max=10000000", 10_000_000, false),
+        ("mw run --proof", 1_000_000, true),
+        ("mw run --max 5 --proof", 5, true),
+        ("mw run --proof --max=5", 5, true),
     ] {
-        assert_eq!(rt; asked(alloc, line)?, Ok(Asked::Run { max }), "{line}");
+        let options = Options { max, proof };
+        assert_eq!(rt; asked(alloc, line)?, Ok(Asked::Run(options)), "{line}");
     }
     for (line, want) in [
         ("mw --help", Asked::Help),
@@ -31,6 +35,7 @@ fn words_are_read(rt: HostRuntime) -> Result<(), Fail> {
         ("mw run --help", Asked::Help),
         ("mw run -h", Asked::Help),
         ("mw run --max 007 --help", Asked::Help),
+        ("mw run --proof --help", Asked::Help),
         ("mw --help more", Asked::Help),
         ("mw --version", Asked::Version),
         ("mw -V", Asked::Version),
@@ -62,8 +67,10 @@ fn other_words_ask_for_nothing(rt: HostRuntime) -> Result<(), Fail> {
         "mw run --max 10000001",
         "mw run --max 18446744073709551617",
         "mw run --max 5 --max 5",
-        "mw run --proof",
-        "mw run --proof --help",
+        "mw --proof run",
+        "mw run --proof 1",
+        "mw run --proof=true",
+        "mw run --proof --proof",
         "mw run --workers 2",
         "mw run --rounds",
         "mw run --version",
