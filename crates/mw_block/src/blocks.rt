@@ -6,9 +6,9 @@ ghost use Rattle.mw_print.specs.Sorts.{IsKindThere};
 ghost use Rattle.mw_block.specs.Blocks.{block, command_text, count_line, echo_line, parsed_block, result_line, sort_line, status_line, word_text};
 ghost use Rattle.mw_block.specs.Seen.{word_of};
 
-use crate::printing::{print, print_number};
+use crate::printing::print;
 use mw_poset::Poset;
-use mw_print::print_sorted;
+use mw_print::{print_sorted, push_decimal};
 use mw_proof::Reason;
 use mw_term::{Name, Signature, Sorted, Term};
 use std::alloc::{AllocError, Global};
@@ -34,14 +34,14 @@ pub struct Echo<'t> {
 }
 
 /// The command by its word, with its bound.
-fn write_command(alloc: Global, echo: &Echo<'_>, text: &mut Vec<u8>) -> Result<(), AllocError>
+fn write_command(echo: &Echo<'_>, text: &mut Vec<u8>) -> Result<(), AllocError>
     ensures { OnOk result (text.new.items ≡ text.old.items ++ command_text echo.now.command.now echo.now.bound) }
 {
     text.extend_from_slice(echo.command.as_bytes())?;
     match echo.bound {
         Some(bound) => {
             text.extend_from_slice(" [".as_bytes())?;
-            print_number(alloc, bound as u128, text)?;
+            push_decimal(bound as u128, text)?;
             text.extend_from_slice("]".as_bytes())
         }
         None => Ok(()),
@@ -57,7 +57,7 @@ fn write_echo(
 ) -> Result<(), AllocError>
     ensures { OnOk result (text.new.items ≡ text.old.items ++ echo_line (command_text echo.now.command.now echo.now.bound) signature.now echo.now.name.now echo.now.term.now) }
 {
-    write_command(alloc, echo, text)?;
+    write_command(echo, text)?;
     text.extend_from_slice(" in ".as_bytes())?;
     text.extend_from_slice(echo.name.as_slice())?;
     text.extend_from_slice(" : ".as_bytes())?;
@@ -66,11 +66,11 @@ fn write_echo(
 }
 
 /// How many replacements were made.
-fn write_count(alloc: Global, count: u64, text: &mut Vec<u8>) -> Result<(), AllocError>
+fn write_count(count: u64, text: &mut Vec<u8>) -> Result<(), AllocError>
     ensures { OnOk result (text.new.items ≡ text.old.items ++ count_line count) }
 {
     text.extend_from_slice("rewrites: ".as_bytes())?;
-    print_number(alloc, count as u128, text)?;
+    push_decimal(count as u128, text)?;
     text.extend_from_slice("\n".as_bytes())
 }
 
@@ -158,7 +158,7 @@ pub fn deduction(
 {
     let mut text = Vec::new(alloc);
     write_echo(alloc, signature, echo, &mut text)?;
-    write_count(alloc, reached.count, &mut text)?;
+    write_count(reached.count, &mut text)?;
     write_result(
         alloc,
         signature,

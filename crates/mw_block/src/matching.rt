@@ -5,8 +5,9 @@ ghost use Rattle.mw_print.specs.Printing.{term_text};
 ghost use Rattle.mw_match.specs.declared.solutions.Solution.{Solution as SolutionOf};
 ghost use Rattle.mw_block.specs.Matches.{end_line, end_text, found_line, match_block, match_echo, solution_lines, pairs_of, solutions_lines, spaced_numbers, take_line, value_lines};
 
-use crate::printing::{print, print_number};
+use crate::printing::print;
 use mw_match::Solution;
+use mw_print::push_decimal;
 use mw_term::{Binding, Name, Seq, Signature, Term, VarId, copy_name};
 use std::alloc::{AllocError, Global};
 
@@ -37,26 +38,26 @@ fn write_echo(
     text.extend_from_slice(" .\n".as_bytes())
 }
 
-fn write_numbers(alloc: Global, numbers: &[u32], text: &mut Vec<u8>) -> Result<(), AllocError>
+fn write_numbers(numbers: &[u32], text: &mut Vec<u8>) -> Result<(), AllocError>
     ensures { OnOk result (text.new.items ≡ text.old.items ++ spaced_numbers numbers.now) }
 {
     let mut rest = numbers;
     while let [number, after @ ..] = rest {
         text.extend_from_slice(" ".as_bytes())?;
-        print_number(alloc, *number as u128, text)?;
+        push_decimal(*number as u128, text)?;
         rest = after;
     }
     Ok(())
 }
 
 /// Which arguments are taken, where not the whole is.
-fn write_take(alloc: Global, take: &Option<Seq<u32>>, text: &mut Vec<u8>) -> Result<(), AllocError>
+fn write_take(take: &Option<Seq<u32>>, text: &mut Vec<u8>) -> Result<(), AllocError>
     ensures { OnOk result (text.new.items ≡ text.old.items ++ take_line take.now) }
 {
     match take {
         Some(numbers) => {
             text.extend_from_slice("take".as_bytes())?;
-            write_numbers(alloc, numbers.as_slice(), text)?;
+            write_numbers(numbers.as_slice(), text)?;
             text.extend_from_slice("\n".as_bytes())
         }
         None => Ok(()),
@@ -118,9 +119,9 @@ fn write_solution(
     ensures { OnOk result (text.new.items ≡ text.old.items ++ solution_lines signature.now number solution.now) }
 {
     text.extend_from_slice("solution ".as_bytes())?;
-    print_number(alloc, number as u128, text)?;
+    push_decimal(number as u128, text)?;
     text.extend_from_slice("\n".as_bytes())?;
-    write_take(alloc, &solution.take, text)?;
+    write_take(&solution.take, text)?;
     write_values(alloc, signature, solution.subst.pairs.as_slice(), text)
 }
 
@@ -148,11 +149,11 @@ fn end_word(limited: bool) -> &'static str
     if limited { "limit solutions" } else { "all" }
 }
 
-fn write_count(alloc: Global, count: usize, text: &mut Vec<u8>) -> Result<(), AllocError>
+fn write_count(count: usize, text: &mut Vec<u8>) -> Result<(), AllocError>
     ensures { OnOk result (text.new.items ≡ text.old.items ++ found_line count) }
 {
     text.extend_from_slice("solutions: ".as_bytes())?;
-    print_number(alloc, count as u128, text)?;
+    push_decimal(count as u128, text)?;
     text.extend_from_slice("\n".as_bytes())
 }
 
@@ -177,7 +178,7 @@ pub fn matches(
     let mut text = Vec::new(alloc);
     write_echo(alloc, signature, matched, &mut text)?;
     write_solutions(alloc, signature, solutions, &mut text)?;
-    write_count(alloc, solutions.len(), &mut text)?;
+    write_count(solutions.len(), &mut text)?;
     write_end(limited, &mut text)?;
     Ok(text)
 }

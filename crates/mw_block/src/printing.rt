@@ -1,6 +1,5 @@
-// Terms and numbers behind a text.
+// Terms behind a text.
 ghost use Rattle.std.specs.Prelude.{◌≡◌, ◌++◌, OnOk};
-ghost use Rattle.std.specs.Fmt.{decimal};
 ghost use Rattle.mw_print.specs.Printing.{term_text};
 
 use mw_print::mixfix;
@@ -18,12 +17,4 @@ pub fn print(
 {
     let printed = mixfix(alloc, signature, term)?;
     text.extend_from_slice(printed.as_slice())
-}
-
-/// Writes a number in decimal digits behind a text.
-pub fn print_number(alloc: Global, number: u128, text: &mut Vec<u8>) -> Result<(), AllocError>
-    ensures { OnOk result (text.new.items ≡ text.old.items ++ decimal number) }
-{
-    let digits = format!(in alloc; "{number}")?;
-    text.extend_from_slice(digits.as_bytes())
 }

@@ -2,8 +2,8 @@
 ghost use Rattle.std.specs.Prelude.{◌≡◌, ◌++◌, IfOk, OnOk};
 ghost use Rattle.mw_block.specs.Refused.{detail_text, kind_text, refusal_line, spaced};
 
-use crate::printing::print_number;
 use mw_module::{Fault, FaultKind};
+use mw_print::push_decimal;
 use mw_term::Name;
 use std::alloc::{AllocError, Global};
 
@@ -95,7 +95,7 @@ pub fn refusal(alloc: Global, fault: &Fault) -> Result<Vec<u8>, AllocError>
 {
     let mut text = Vec::new(alloc);
     text.extend_from_slice(b"line ")?;
-    print_number(alloc, fault.line as u128, &mut text)?;
+    push_decimal(fault.line as u128, &mut text)?;
     text.extend_from_slice(b": refused: ")?;
     text.extend_from_slice(kind_words(&fault.kind).as_bytes())?;
     write_detail(&fault.kind, &mut text)?;

@@ -38,6 +38,8 @@
 //!   `canonical_is_told`: canonical terms are such terms, where quoted identifiers are tokens. `names_are_whole`: names
 //!   that are given by tokens have such spellings, where their pieces are proper.
 //!
+//! - `push_decimal`: the digits of the number, behind the text.
+//!
 //! `Memory` may come at any call. Only tested, by the sources in cases/: that the definition is the mixfix form that is
 //! meant. Neither: time, and that a text in mixfix form has no second reading (two terms may be printed alike). Cost:
 //! the length of the text and of the operators' names; the recursion is as deep as the flattened term. `prefix` takes
@@ -58,3 +60,4 @@ pub use laws::{
 pub use numbered::prefix;
 pub use printing::mixfix;
 pub use sorts::{print_sort, print_sorted};
+pub use writer::push_decimal;

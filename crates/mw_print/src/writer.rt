@@ -79,7 +79,7 @@ fn end_of_name(name: &[u8]) -> End
 }
 
 /// Writes a number in decimal behind a text.
-fn push_decimal(number: u128, text: &mut Vec<u8>) -> Result<(), AllocError>
+pub fn push_decimal(number: u128, text: &mut Vec<u8>) -> Result<(), AllocError>
     ensures { OnOk result (text.new.items ≡ text.old.items ++ decimal number) }
 {
     if number < 10 {
