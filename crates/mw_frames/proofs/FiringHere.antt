@@ -132,7 +132,7 @@ module _ (K : Run) (sig : Signature) (run : IsRun K sig) (count : ℕ) where
 module _ (K : Run) (sig : Signature) (run : IsRun K sig) (count : ℕ) where
   -- The statement is applied: its right side is in hand. What shows its condition is kept before.
   pub fires_so : (b : Bool) (m n : Data) (number : ℕ) (ss : List Move) (es vs : List RawTerm) (right w : RawTerm) → MayFire K b count m number ss vs right w → n.frames ≡ m.frames → n.done ≡ m.done → n.jobs ≡ m.jobs → n.values ≡ m.values ++ (es ++ vs)
-      → n.moves ≡ m.moves ++ (ss ++ applies number (is_rule K.over number) (meant K.over.signature (zip (variables_of K.over number) vs)) ∷ []) → HasInHand (after_one b K) (suc count) n (evaluated K.over.signature vs right)
+      → n.moves ≡ m.moves ++ (ss ++ applies number (is_rule K.over number) (meant K.over.signature (zip (variables_of K.over number) vs)) vs ∷ []) → HasInHand (after_one b K) (suc count) n (evaluated K.over.signature vs right)
   fires_so b m n number ss es vs right w h ef ed ej ev em =
       let M : Module = K.over in
       let here : Signature = K.over.signature in
@@ -148,8 +148,8 @@ module _ (K : Run) (sig : Signature) (run : IsRun K sig) (count : ℕ) where
       let is_it : at_number M.statements number ≡ Some r.statement = r.is_there.is_there in
       let k : is_rule M number ≡ b = ap (λ o. unwrap_or (option_map (λ (e : Statement). e.rule) o) false) is_it ∙ h.rule in
       let l : variables_of M number ≡ r.statement.variables = ap (λ o. unwrap_or (option_map (λ (e : Statement). e.variables) o) []) is_it in
-      let q : applies number b (meant here (zip r.statement.variables vs)) ≡ applies number (is_rule M number) (meant here (zip (variables_of M number) vs)) =
-      ap (λ c. applies number c (meant here (zip r.statement.variables vs))) (sym k) ∙ ap (λ ys. applies number (is_rule M number) (meant here (zip ys vs))) (sym l) in
+      let q : applies number b (meant here (zip r.statement.variables vs)) vs ≡ applies number (is_rule M number) (meant here (zip (variables_of M number) vs)) vs =
+      ap (λ c. applies number c (meant here (zip r.statement.variables vs)) vs) (sym k) ∙ ap (λ ys. applies number (is_rule M number) (meant here (zip ys vs)) vs) (sym l) in
       so_in_hand (after_one b K) sig (run_after b K sig run) (suc count) m n (es ++ vs) _ (evaluated here vs right)
       (replaced_here K sig run count m w z.in_hand b (evaluated here vs right) (es ++ vs) _ f)
       ef ed ej ev (em ∙ ap (λ n. m.moves ++ (ss ++ n ∷ [])) (sym q))

@@ -25,11 +25,13 @@ use Rattle.mw_logic.proofs.Soundness.{HasKind-same}
 use Rattle.mw_canon.specs.Canonical.{meant}
 use Rattle.mw_position.specs.Variables.{is_in}
 use Rattle.mw_least.specs.Conditions.{occurs_among, binds_among}
+use Rattle.mw_solving.specs.Values.{AreValues}
+use Rattle.mw_solving.proofs.Positions.{meant_zip}
 use Rattle.mw_matching.specs.Matches.{evaluated}
 use Rattle.mw_deduction.specs.Chains.{proof_of}
 use Rattle.mw_deduction.specs.Standing.{round, IsSeen, At}
 use Rattle.mw_deduction.specs.Runs.{by_statement}
-use Rattle.mw_deduction.specs.Replay.{Move, applies, Stand, becomes, replacing, plays, AreMoves, MayApply}
+use Rattle.mw_deduction.specs.Replay.{Move, applies, Stand, becomes, replacing, plays, AreMoves, all_sides, begun_sides, beginnings, AreAllCanonical, MayApply}
 use Rattle.mw_deduction.specs.Stands.{AreStanding}
 use Rattle.mw_deduction.proofs.Extended.{instance_extended, held_extended}
 use Rattle.mw_deduction.proofs.Moves.{plays-append, moves-append}
@@ -56,6 +58,11 @@ module _ (sig : Signature) (ok : IsAccepted sig) where
   pub raw_in_place : (C : Context) (t u : RawTerm) → IsRawTerm sig (plug C t) → IsRawTerm sig u → ((L : ℕ) → HasKind sig t L → HasKind sig u L) → IsRawTerm sig (plug C u)
   raw_in_place [] t u r s h = s
   raw_in_place (c ∷ C) t u r s h = raw_in_place C (fill c t) (fill c u) r (raw_filled c t u (raw_inside sig ok C (fill c t) r) s h) (kinds_filled c t u)
+
+-- values are canonical
+all_canonical : (sig : Signature) (vs : List RawTerm) → AreValues sig vs → AreAllCanonical sig vs
+all_canonical sig [] h = tt
+all_canonical sig (v ∷ vs) h = let k = h 0 v refl in ((k.canonical, k.raw), all_canonical sig vs (λ i u e. h (suc i) u e))
 
 -- what is bound one by one is bound in all
 mutual
@@ -150,9 +157,10 @@ module _ (M : Module) (ok : IsAccepted M.signature) (sorted : IsWellSorted M.sig
   made_reached es h = sym (instance_extended r.reached values_here r.reaches r.statement.right (λ x o. held_binds M n r.statement.fragments r.solution es r.reached (λ y. occurs y r.statement.left) (λ y k. solution_binds M ok sorted n number ms vs right w r y k) h x (r.ordinary.bound x o)))
 
   -- the statement may be applied where its condition is shown, if what comes of the whole is admitted
-  pub may_apply : (c : Bool) → r.statement.rule ≡ c → (S T : Stand) (es : Proofs) → (IsTrue c → ¬ IsFrozen sig (round sig S.opens)) → S.hand ≡ w → IsWaiting es S T → S.rank ≡ n → (admitted_judgements M n).Held r.statement.fragments r.solution es r.reached → IsSeen sig S.opens w → IsCanonical sig w
-      → IsRawTerm sig (plug (round sig S.opens) (nested sig w)) → IsAdmitted sig (plug (round sig S.opens) made) → MayApply M number c values_here T
-  may_apply c kind S T es free e waits rank held seen k raw a =
+  pub may_apply : (c : Bool) → r.statement.rule ≡ c → (S T : Stand) (es : Proofs) → (IsTrue c → ¬ IsFrozen sig (round sig S.opens)) → S.hand ≡ w → IsWaiting es S T → S.rank ≡ n → (admitted_judgements M n).Held r.statement.fragments r.solution es r.reached
+      → ((q : Substitution) → Extends r.reached q → beginnings T.sides ≡ begun_sides sig q (all_sides r.statement.fragments)) → IsSeen sig S.opens w → IsCanonical sig w
+      → IsRawTerm sig (plug (round sig S.opens) (nested sig w)) → IsAdmitted sig (plug (round sig S.opens) made) → MayApply M number c values_here vs T
+  may_apply c kind S T es free e waits rank held starts seen k raw a =
       let left : RawTerm = instance values_here r.statement.left in
       let b : IsTrue (binds values_here r.statement.left) = binds_from values_here r.statement.left (λ x o. bound_here x (left_here M ok sorted n number ms vs right w r x o)) in
       let d : IsTrue (binds values_here r.statement.right) = binds_from values_here r.statement.right (λ x o. bound_here x (right_here M ok sorted n number ms vs right w r x o)) in
@@ -175,6 +183,8 @@ module _ (M : Module) (ok : IsAccepted M.signature) (sorted : IsWellSorted M.sig
           from = refl;
           to = refl;
         };
+        values = record { size = r.size; canonical = all_canonical sig vs r.values; are = meant_zip sig r.statement.variables vs };
+        starts = starts values_here r.reaches;
         may = record {
           seen = subst (λ os. IsSeen sig os T.hand) (sym waits.opens) (subst (IsSeen sig S.opens) (sym (waits.hand ∙ e)) seen);
           free = λ z. subst (λ os. ¬ IsFrozen sig (round sig os)) (sym waits.opens) (free z);
@@ -209,27 +219,27 @@ module _ (K : Run) (ok : IsAccepted K.over.signature) (sorted : IsWellSorted K.o
   shows_there ms S start h = r.shown S K.below (all_standing K ok sorted count ms S start h) h.rank h.ready
 
   pub fires : (b : Bool) → r.statement.rule ≡ b → (ms : List Move) (S : Stand) → (IsTrue b → ¬ IsFrozen here (round here S.opens)) → AreStanding K.over K.start → Leads K count ms S → S.hand ≡ w → IsSeen here S.opens w
-      → IsAdmitted here (plug (round here S.opens) (instance s r.statement.right)) → IsReplaced K b count (ms ++ (ss ++ applies number b s ∷ [])) S (evaluated here vs right)
+      → IsAdmitted here (plug (round here S.opens) (instance s r.statement.right)) → IsReplaced K b count (ms ++ (ss ++ applies number b s vs ∷ [])) S (evaluated here vs right)
   fires b kind ms S free start h e seen a =
       let at : At K.over (admitted_judgements K.over K.rank).Held (admitted_judgements K.over K.rank).Fails (nested here S.from) S.read S.opens w =
       subst (At K.over (admitted_judgements K.over K.rank).Held (admitted_judgements K.over K.rank).Fails (nested here S.from) S.read S.opens) e (at_hand K ok sorted count ms S start h) in
       let shown = shows_there ms S start h in
       let T : Stand = shown.waiting in
       let z = shown.waits in
-      let may : MayApply K.over number b s T = may_apply K.over ok sorted K.rank number ss vs right w r b kind S T shown.evidence free e z h.rank shown.holds seen at.canonical at.raw a in
+      let may : MayApply K.over number b s vs T = may_apply K.over ok sorted K.rank number ss vs right w r b kind S T shown.evidence free e z h.rank shown.holds shown.starts seen at.canonical at.raw a in
       let Q : Stand = replacing here (replacement number b s T.read.ready) (by_statement number s T.sides) (becomes K.over number s T.hand) T in
       let one = (reading.one (replacement number b s T.read.ready) T.read).1 in
       let by_rules = (reading.one (replacement number b s T.read.ready) T.read).0 in
       let old = h.steps in
       let done_steps : steps (proof_of T.read.done) ≡ steps (proof_of S.read.done) = ap (λ rs. steps (proof_of rs)) z.done in
       let done_rules : rules (proof_of T.read.done) ≡ rules (proof_of S.read.done) = ap (λ rs. rules (proof_of rs)) z.done in
-      let all : AreMoves K.over (ss ++ applies number b s ∷ []) (S ∷ K.below) = moves-append K.over ss (applies number b s ∷ []) (S ∷ K.below) shown.may (subst (AreMoves K.over (applies number b s ∷ [])) (sym shown.plays) (may, tt)) in
-      let goes : plays K.over (ss ++ applies number b s ∷ []) (S ∷ K.below) ≡ Q ∷ K.below = plays-append K.over ss (applies number b s ∷ []) (S ∷ K.below) ∙ ap (plays K.over (applies number b s ∷ [])) shown.plays in
+      let all : AreMoves K.over (ss ++ applies number b s vs ∷ []) (S ∷ K.below) = moves-append K.over ss (applies number b s vs ∷ []) (S ∷ K.below) shown.may (subst (AreMoves K.over (applies number b s vs ∷ [])) (sym shown.plays) (may, tt)) in
+      let goes : plays K.over (ss ++ applies number b s vs ∷ []) (S ∷ K.below) ≡ Q ∷ K.below = plays-append K.over ss (applies number b s vs ∷ []) (S ∷ K.below) ∙ ap (plays K.over (applies number b s vs ∷ [])) shown.plays in
       record {
         stand = Q;
         leads = record {
-          plays = plays-append K.over ms (ss ++ applies number b s ∷ []) K.start ∙ ap (plays K.over (ss ++ applies number b s ∷ [])) h.plays ∙ goes;
-          moves = moves-append K.over ms (ss ++ applies number b s ∷ []) K.start h.moves (subst (AreMoves K.over (ss ++ applies number b s ∷ [])) (sym h.plays) all);
+          plays = plays-append K.over ms (ss ++ applies number b s vs ∷ []) K.start ∙ ap (plays K.over (ss ++ applies number b s vs ∷ [])) h.plays ∙ goes;
+          moves = moves-append K.over ms (ss ++ applies number b s vs ∷ []) K.start h.moves (subst (AreMoves K.over (ss ++ applies number b s vs ∷ [])) (sym h.plays) all);
           rank = z.rank ∙ h.rank;
           from = z.from ∙ h.from;
           ready = refl;

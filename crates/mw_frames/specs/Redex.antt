@@ -17,7 +17,7 @@ use Rattle.mw_solving.specs.Values.{IsValue, AreValues}
 use Rattle.mw_stack.specs.Hidden.{IsHidden}
 use Rattle.mw_deduction.proofs.Depths.{added}
 use Rattle.mw_matching.specs.Matches.{evaluated}
-use Rattle.mw_deduction.specs.Replay.{Move, Stand, whole, plays, AreMoves}
+use Rattle.mw_deduction.specs.Replay.{Move, Stand, whole, plays, AreMoves, all_sides, begun_sides, beginnings}
 use Rattle.mw_deduction.specs.Standing.{round}
 use Rattle.mw_deduction.specs.Stands.{AreStanding}
 use Rattle.mw_frames.specs.declared.job.Job.{Job}
@@ -36,13 +36,15 @@ pub record IsWaiting (es : Proofs) (S T : Stand) : Type 0 where
   pub done : T.read.done ≡ S.read.done
   pub ready : T.read.ready ≡ es
 
--- The moves may be made from the stand S on; then evidence waits by which the condition holds, from s on, and reaches r.
+-- The moves may be made from the stand S on; then evidence waits by which the condition holds, from s on, and reaches r. The sides that it was shown by began
+-- at those of the condition: at their canonical instances by r, and so by all that extends it.
 pub record IsShown (M : Module) (n : ℕ) (C : List Fragment) (s r : Substitution) (ms : List Move) (S : Stand) (B : List Stand) : Type 0 where
   pub evidence : Proofs
   pub waiting : Stand
   pub may : AreMoves M ms (S ∷ B)
   pub plays : plays M ms (S ∷ B) ≡ waiting ∷ B
   pub waits : IsWaiting evidence S waiting
+  pub starts : (q : Substitution) → Extends r q → beginnings waiting.sides ≡ begun_sides M.signature q (all_sides C)
   pub holds : (admitted_judgements M n).Held C s evidence r
 
 -- so they may wherever a proof stands in this rank

@@ -15,9 +15,9 @@
 //!   an `if_then_else_fi` is a truth value, and its branches are as they were (`IsDecided`): the condition comes first,
 //!   and the branches where it is stuck. Where it goes on, less is left (`FallsBelow`), so steps end.
 //! - `fire` applies a statement, with values that make its left side what was asked for or several of its arguments
-//!   (`IsPartTaken`), and what shows its condition, one trail for each side (`AreShowing`, specs/Redex): one replacement
-//!   more is made, and its right side is in hand (`IsFired`). A rule asks that no argument on the way is frozen
-//!   (`IsOpenTo`), which `enter` tells on its way.
+//!   (`IsPartTaken`), and what shows its condition, one trail for each side, which begins at that side (`AreShowing`,
+//!   specs/Redex): one replacement more is made, and its right side is in hand (`IsFired`). A rule asks that no argument
+//!   on the way is frozen (`IsOpenTo`), which `enter` tells on its way.
 //! - `enter` goes into an argument of a normal term in hand, whose other arguments are done, or wait (`IsEntered`,
 //!   specs/Entered): so a rule is applied inside a term, and the reduction goes on there.
 //! - `meet` makes a replacement by a row of the schemata at what was asked for, or at several of its arguments, to a

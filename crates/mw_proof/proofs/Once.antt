@@ -1,8 +1,9 @@
 -- One replacement of a whole term, with its evidence, is kept.
-use Rattle.std.specs.Prelude.{◌≡◌, ◌≤◌, ◌<◌, ◌-◌, ◌++◌, ℕ, List, [], ◌∷◌, Bool, false, Some, option_map, unwrap_or, refl}
+use Rattle.std.specs.Prelude.{◌≡◌, ◌≤◌, ◌<◌, ◌-◌, ◌++◌, ℕ, List, [], ◌∷◌, length, map, Bool, false, Some, option_map, unwrap_or, refl}
 use Rattle.std.specs.List.{zip}
 use Rattle.std.proofs.Common.{sym, subst, ap, ◌∙◌, arith, append_assoc}
-use Rattle.mw_logic.specs.Term.{RawTerm}
+use Rattle.std.proofs.lemmas.List.{length-map}
+use Rattle.mw_logic.specs.Term.{Variable, RawTerm}
 use Rattle.mw_logic.specs.Signature.{Signature, IsRawTerm, at_number}
 use Rattle.mw_logic.specs.Accepted.{IsAccepted, IsWellSorted}
 use Rattle.mw_logic.specs.Substitution.{Substitution, instance}
@@ -15,19 +16,18 @@ use Rattle.mw_logic.proofs.Canonical.{IsCanonical, canonical}
 use Rattle.mw_logic.proofs.EqualTerms.{IsAdmitted-equal}
 use Rattle.mw_logic.proofs.Soundness.{normal_form-sound}
 use Rattle.mw_logic.proofs.SolutionLaws.{instance_raw}
-use Rattle.mw_canon.specs.Canonical.{IsAdmittedTerm, meant}
-use Rattle.mw_deduction.specs.Chains.{proof_of}
+use Rattle.mw_canon.specs.Canonical.{IsAdmittedTerm, HasAdmittedValues, meant}
 use Rattle.mw_deduction.specs.Reading.{behind}
 use Rattle.mw_deduction.specs.Frontier.{together}
 use Rattle.mw_deduction.specs.Runs.{by_statement, by_row, none, one, Runs, end, another, Run, run}
-use Rattle.mw_deduction.specs.Replay.{Move, begins, ends, applies, meets, Stand, begun, becomes, put_behind, replacing, showing, plays, MayReplace, MayBegin, AreMoves, concluded}
+use Rattle.mw_deduction.specs.Replay.{Move, begins, ends, applies, meets, Stand, begun, becomes, put_behind, replacing, showing, plays, MayReplace, MayBegin, AreMoves, concluded, beginnings, AreAllCanonical, AreValuesOf}
 use Rattle.mw_deduction.specs.Above.{ranked}
 use Rattle.mw_deduction.proofs.Concluding.{IsOutermostOf, played_of}
 use Rattle.mw_deduction.proofs.Moves.{plays-append, moves-append, plays_over}
 use Rattle.mw_deduction.proofs.MoveStands.{becomes_is}
 use Rattle.mw_trail.specs.Tracks.{Track, moves, variables_of, is_rule}
 use Rattle.mw_proof.specs.Deductions.{Deduction, first_of, end_of, deduced, IsKept}
-use Rattle.mw_proof.specs.Replacing.{evidence, carried_out, AreBelow, AreSides, bindings, values_of, instance_in, MayApply, Applies, MeetsRow}
+use Rattle.mw_proof.specs.Replacing.{evidence, carried_out, AreBelow, AreSides, bindings, value_of, values_of, instance_in, MayApply, Applies, MeetsRow}
 use Rattle.mw_proof.proofs.Keeping.{kept_above}
 
 together-nil : (es : Proofs) → together es nil ≡ es
@@ -50,6 +50,27 @@ all_runs-end (another r rs) = ap (another r) (all_runs-end rs)
 all_runs-behind : (rs : Runs) (q : Run) (qs : Runs) → all_runs (put_behind rs q) qs ≡ all_runs rs (another q qs)
 all_runs-behind end q qs = refl
 all_runs-behind (another r rs) q qs = ap (another r) (all_runs-behind rs q qs)
+
+-- what is carried out begins where the deductions do
+beginnings-carried : (sig : Signature) (ds : List Deduction) → beginnings (carried_out sig ds) ≡ map (λ (d : Deduction). nested sig d.from) ds
+beginnings-carried sig [] = refl
+beginnings-carried sig (d ∷ ds) = ap (λ ts. nested sig d.from ∷ ts) (beginnings-carried sig ds)
+
+-- the values of variables, as canonical terms
+meant_zip : (sig : Signature) (xs : List Variable) (vs : List RawTerm) → meant sig (zip xs vs) ≡ zip xs (map (nested sig) vs)
+meant_zip sig [] vs = refl
+meant_zip sig (x ∷ xs) [] = refl
+meant_zip sig (x ∷ xs) (v ∷ vs) = ap (λ s. (x, nested sig v) ∷ s) (meant_zip sig xs vs)
+
+all_canonical : (sig : Signature) → IsAccepted sig → (xs : List Variable) (vs : List RawTerm) → length vs ≡ length xs → HasAdmittedValues sig (zip xs vs) → AreAllCanonical sig vs
+all_canonical sig ok xs [] l h = tt
+all_canonical sig ok [] (v ∷ vs) l h = absurd (omega (arith, l))
+all_canonical sig ok (x ∷ xs) (v ∷ vs) l h = ((subst (IsCanonical sig) h.0.canonical (canonical sig ok (nested sig v)), h.0.raw), all_canonical sig ok xs vs (omega (arith, l)) h.1)
+
+values_are : (sig : Signature) → IsAccepted sig → (s : Substitution) (xs : List Variable) → HasAdmittedValues sig (bindings s xs) → AreValuesOf sig xs (values_of s xs) (meant sig (bindings s xs))
+values_are sig ok s xs h =
+    let l : length (values_of s xs) ≡ length xs = length-map xs (value_of s) in
+    record { size = l; canonical = all_canonical sig ok xs (values_of s xs) l h; are = meant_zip sig xs (values_of s xs) }
 
 -- a proof at its beginning, with this evidence that waits
 abbrev waiting : ℕ → RawTerm → Proofs → Runs → Stand
@@ -158,13 +179,14 @@ module _ (M : Module) (ok : IsAccepted M.signature) (n : ℕ) (low : n ≤ 63) (
     u = instance_in M.signature (bindings s may.statement.variables) may.statement.right
 
     pub applied_kept : t ≡ instance_in M.signature (bindings s may.statement.variables) may.statement.left → (ms : List Move) → AreSides M ds ms → (l : Track)
-        → moves M l ≡ ms ++ applies k (is_rule M k) (meant M.signature (zip (variables_of M k) (values_of s may.statement.variables))) ∷ []
+        → moves M l ≡ ms ++ applies k (is_rule M k) (meant M.signature (zip (variables_of M k) (values_of s may.statement.variables))) (values_of s may.statement.variables) ∷ []
         → IsKept M n t u l × ((end_of M n t l).run ≡ one (by_statement k b (carried_out M.signature ds) (nested M.signature t) (nested M.signature u)))
     applied_kept from ms shown l is =
         let there = may.is_there.is_there in
-        let last : Move = applies k may.statement.rule b in
-        let e : moves M l ≡ ms ++ last ∷ [] = is ∙ ap (λ r. ms ++ applies k r (meant M.signature (zip (variables_of M k) (values_of s may.statement.variables))) ∷ []) (rule_at M k may.statement there)
-        ∙ ap (λ xs. ms ++ applies k may.statement.rule (meant M.signature (zip xs (values_of s may.statement.variables))) ∷ []) (variables_at M k may.statement there) in
+        let vs : List RawTerm = values_of s may.statement.variables in
+        let last : Move = applies k may.statement.rule b vs in
+        let e : moves M l ≡ ms ++ last ∷ [] = is ∙ ap (λ r. ms ++ applies k r (meant M.signature (zip (variables_of M k) vs)) vs ∷ []) (rule_at M k may.statement there)
+        ∙ ap (λ xs. ms ++ applies k may.statement.rule (meant M.signature (zip xs vs)) vs ∷ []) (variables_at M k may.statement there) in
         let (a, p) = all_sides M ok n t low ds ms may.below shown nil end in
         let S : Stand = waiting n t (evidence ds) (carried_out M.signature ds) in
         let Q : Stand = replacing M.signature (replacement k may.statement.rule b (evidence ds)) (by_statement k b (carried_out M.signature ds)) (becomes M k b t) S in
@@ -185,6 +207,8 @@ module _ (M : Module) (ok : IsAccepted M.signature) (n : ℕ) (low : n ≤ 63) (
               from = refl;
               to = refl;
             };
+            values = values_are M.signature ok s may.statement.variables may.values;
+            starts = beginnings-carried M.signature ds ∙ may.starts;
             may = may_replace may.statement.rule (instance b may.statement.left) (instance b may.statement.right) (instance_raw M.signature ok sorted b may.substitution left) (sym from)
                 (instance_raw M.signature ok sorted b may.substitution right) may.ends;
           },
@@ -239,12 +263,12 @@ module _ (M : Module) (ok : IsAccepted M.signature) (n : ℕ) (low : n ≤ 63) (
 module _ (M : Module) (ok : IsAccepted M.signature) (sorted : IsWellSorted M.signature) (n : ℕ) (low : n ≤ 63) (k : ℕ) (s : Substitution) (ds : List Deduction) (may : MayApply M n k s ds)
     (left : IsRawTerm M.signature may.statement.left) (right : IsRawTerm M.signature may.statement.right) (t u : RawTerm) (vs : List RawTerm)
     (from : t ≡ instance_in M.signature (bindings s may.statement.variables) may.statement.left) (to : u ≡ instance_in M.signature (bindings s may.statement.variables) may.statement.right)
-    (values : vs ≡ values_of s may.statement.variables) (ms : List Move) (shown : AreSides M ds ms) (l : Track) (is : moves M l ≡ ms ++ applies k (is_rule M k) (meant M.signature (zip (variables_of M k) vs)) ∷ []) where
+    (values : vs ≡ values_of s may.statement.variables) (ms : List Move) (shown : AreSides M ds ms) (l : Track) (is : moves M l ≡ ms ++ applies k (is_rule M k) (meant M.signature (zip (variables_of M k) vs)) vs ∷ []) where
   built : IsKept M n t u l × ((end_of M n t l).run ≡ one (by_statement k (meant M.signature (bindings s may.statement.variables)) (carried_out M.signature ds) (nested M.signature t) (nested M.signature u)))
   built =
       let IsIt : RawTerm → Type 0 = λ x. IsKept M n t x l × ((end_of M n t l).run ≡ one (by_statement k (meant M.signature (bindings s may.statement.variables)) (carried_out M.signature ds) (nested M.signature t) (nested M.signature x))) in
       subst IsIt (sym to) (applied_kept M ok n low t (subst (IsAdmittedTerm M.signature) (sym from) may.begins) k s ds may left right sorted from ms shown l
-      (is ∙ ap (λ ws. ms ++ applies k (is_rule M k) (meant M.signature (zip (variables_of M k) ws)) ∷ []) values))
+      (is ∙ ap (λ ws. ms ++ applies k (is_rule M k) (meant M.signature (zip (variables_of M k) ws)) ws ∷ []) values))
 
   pub kept_built : IsKept M n t u l
   kept_built = built.0

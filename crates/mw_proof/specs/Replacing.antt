@@ -7,11 +7,11 @@ use Rattle.mw_logic.specs.Substitution.{Substitution, value, instance, IsSubstit
 use Rattle.mw_logic.specs.Parts.{nested, IsClean}
 use Rattle.mw_logic.specs.NormalForm.{normal_form}
 use Rattle.mw_logic.specs.Module.{Module, Statement, IsStatement, binds_statement, Row}
-use Rattle.mw_logic.specs.Proof.{Proof, reflexivity, equality, congruence, transitivity, replacement, row, Proofs, nil, cons}
+use Rattle.mw_logic.specs.Proof.{equality, transitivity, Proofs, nil, cons}
 use Rattle.mw_logic.specs.Judgements.{IsNormalBy, IsPlainBy, admitted_judgements}
 use Rattle.mw_canon.specs.Canonical.{IsAdmittedTerm, HasAdmittedValues, meant}
 use Rattle.mw_deduction.specs.Runs.{by_statement, by_row, one, Runs, end, another, run}
-use Rattle.mw_deduction.specs.Replay.{Move, begins, ends}
+use Rattle.mw_deduction.specs.Replay.{Move, begins, ends, all_sides, begun_sides}
 use Rattle.mw_trail.specs.Tracks.{Track, moves}
 use Rattle.mw_proof.specs.Deductions.{Deduction, deduced, IsKept}
 use Rattle.mw_proof.specs.declared.replacing.By.{By}
@@ -56,7 +56,8 @@ abbrev pub instance_in : Signature → Substitution → RawTerm → RawTerm
 instance_in sig s t = normal_form sig (instance (meant sig s) t)
 
 -- Statement k is there and executable. The values of its variables, in their order, are canonical terms that are admitted, and a substitution that binds them.
--- The evidence is of ranks below n and shows the condition in rank n, an `owise` equation has a plain term there, and both instances are admitted.
+-- The evidence is of ranks below n, begins at the canonical instances of the condition's sides, in order, and shows the condition in rank n, an `owise`
+-- equation has a plain term there, and both instances are admitted.
 pub record MayApply (M : Module) (n k : ℕ) (s : Substitution) (ds : List Deduction) : Type 0 where
   pub statement : Statement
   pub is_there : IsStatement M k statement
@@ -64,6 +65,7 @@ pub record MayApply (M : Module) (n k : ℕ) (s : Substitution) (ds : List Deduc
   pub substitution : IsSubstitution M.signature (meant M.signature (bindings s statement.variables))
   pub bound : IsTrue (binds_statement (meant M.signature (bindings s statement.variables)) statement)
   pub below : AreBelow M n ds
+  pub starts : map (λ (d : Deduction). nested M.signature d.from) ds ≡ begun_sides M.signature (meant M.signature (bindings s statement.variables)) (all_sides statement.fragments)
   pub condition : (admitted_judgements M n).Held statement.fragments (meant M.signature (bindings s statement.variables)) (evidence ds) (meant M.signature (bindings s statement.variables))
   pub plain : IsTrue statement.owise → IsPlainBy M (admitted_judgements M n).Fails (instance (meant M.signature (bindings s statement.variables)) statement.left)
   pub begins : IsAdmittedTerm M.signature (instance_in M.signature (bindings s statement.variables) statement.left)

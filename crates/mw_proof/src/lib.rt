@@ -34,7 +34,8 @@
 //! are of one module and the ends meet. Of `under` and `beside` that the module is well-formed, that what stands
 //! beside is clear (`IsClear`; elements, under an associative operator), that the whole begins with a canonical term
 //! that is admitted, and that each replacement may be made there (`AllMayBeUnder`, `AreBeside`). Of `replace` that
-//! the statement may be applied, or the row is met, in the rank (`MayReplace`). Want of memory is the only error.
+//! the statement may be applied, or the row is met, in the rank (`MayReplace`); so each deduction that is given as
+//! evidence begins at the canonical instance of its side of the condition. Want of memory is the only error.
 //!
 //! Neither proved nor tested here: time, and that calls answer with memory at hand.
 #![tactic(auto)]

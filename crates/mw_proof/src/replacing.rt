@@ -27,8 +27,8 @@ pub enum By<'m> {
 }
 
 /// The proof that is one replacement, of a whole term, in this rank. The statement must be there and executable and
-/// have all its variables bound, its condition must be shown by the evidence, which is of lower ranks, and both
-/// instances must be admitted; a row must be one.
+/// have all its variables bound, its condition must be shown by the evidence, which is of lower ranks and begins at the
+/// canonical instances of the condition's sides, and both instances must be admitted; a row must be one.
 pub fn replace<'m>(
     alloc: Global,
     context: &'m Ctx,

@@ -15,7 +15,7 @@ returns-clause-means c = λ K b k sig right w run h.
     let n : Machine = record { frames = m.frames; done = m.done; jobs = m.jobs; kept = c.apply.new.self } in
     let (es, kept) = c.in_ok-show.ensures.values in
     let vs : List RawTerm = c.args.values.now.items in
-    let x : Move = applies c.args.number (is_rule K.over c.args.number) (meant K.over.signature (zip (variables_of K.over c.args.number) vs)) in
+    let x : Move = applies c.args.number (is_rule K.over c.args.number) (meant K.over.signature (zip (variables_of K.over c.args.number) vs)) vs in
     let before : List Move = moves K.over m.kept in
     let ss : List Move = all_moves K.over c.args.sides.now.items in
     fires_so K sig run k b (data_of K.over m) (data_of K.over n) c.args.number ss es vs right w h
