@@ -1,0 +1,2 @@
+-- Laws of proof texts.
+pub mod Values
