@@ -1,2 +1,3 @@
 -- Laws of proof texts.
+pub mod Closing
 pub mod Values
