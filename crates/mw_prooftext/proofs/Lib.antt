@@ -1,3 +1,5 @@
 -- Laws of proof texts.
 pub mod Closing
-pub mod Values
+pub mod Inside
+pub mod AdmittedValues
+pub mod RightSides
