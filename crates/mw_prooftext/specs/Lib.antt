@@ -3,3 +3,4 @@ pub mod Texts
 pub mod Tells
 pub mod Grounds
 pub mod Chains
+pub mod Applied

@@ -57,7 +57,7 @@ module _ (sig : Signature) where
 
     pub where_text : Groups → List ℕ
     where_text end = []
-    where_text (group g gs) = codes " where" ++ groups_text (group g gs)
+    where_text (group g gs) = codes " where {" ++ (items_text g ++ (codes " }" ++ groups_text gs))
 
     pub groups_text : Groups → List ℕ
     groups_text end = []

@@ -1,0 +1,5 @@
+-- Laws of proof texts.
+pub mod Closing
+pub mod Inside
+pub mod AdmittedValues
+pub mod RightSides
