@@ -1,5 +1,5 @@
 // The numbers of arguments under a level's operator.
-ghost use Rattle.std.specs.Prelude.{◌≡◌, ◌≤◌, map, length, IfOk, MatchOption, true, false};
+ghost use Rattle.std.specs.Prelude.{◌≡◌, ◌+◌, map, IfOk, MatchOption, true, false};
 ghost use Rattle.mw_logic.specs.Terms.{terms_of, args_of};
 ghost use Rattle.mw_spot.specs.Walks.{IsOrderly};
 ghost use Rattle.mw_spot.specs.Spots.{place as place_of_term, numbers as numbers_of_terms, number_of, is_spread};
@@ -12,14 +12,22 @@ use std::alloc::{AllocError, Global};
 
 /// How many arguments stand before a term where it comes among the level's.
 pub(crate) fn place(facts: &Facts, level: &Level, term: &Term) -> usize
-    ensures bound { result ≤ length level.others.items }
-    ensures place { IsOrderly facts.now level.now → result ≡ place_of_term facts.now level.now term.now }
+    ensures { IsOrderly facts.now level.now → result ≡ place_of_term facts.now level.now term.now }
 {
     if level.is_commutative(facts) {
         place_of(facts, level.operator, level.others.as_slice(), 0, term)
     } else {
         level.at
     }
+}
+
+/// The number of what stands at an index behind so many others, counted from 1. More than numbers can tell counts as
+/// want of memory.
+fn number_behind(before: usize, index: usize) -> Result<u32, AllocError>
+    ensures { IfOk result (λ number. number ≡ before + (index + 1)) }
+{
+    let index = before.checked_add(index).ok_or(AllocError)?;
+    number_at(index)
 }
 
 /// The number of one of the terms that come among the level's arguments together: the one that has this number among
@@ -34,7 +42,7 @@ pub(crate) fn number(
         → IfOk result (λ n. n ≡ number_of facts.now level.now (terms_of terms.now) number) }
 {
     match numbered(terms, number) {
-        Some(term) => number_at(place(facts, level, term) + (number as usize - 1)),
+        Some(term) => number_behind(place(facts, level, term), number as usize - 1),
         None => Ok(number),
     }
 }
@@ -51,7 +59,7 @@ pub(crate) fn all_numbers(
 {
     let mut found = Vec::with_capacity(alloc, terms.len())?;
     for (i, term) in terms.iter().enumerate() {
-        found.push(number_at(place(facts, level, term) + i)?)?;
+        found.push(number_behind(place(facts, level, term), i)?)?;
     }
     Ok(found)
 }
