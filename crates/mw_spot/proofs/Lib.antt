@@ -8,3 +8,5 @@ pub mod Among
 pub mod Exchanging
 -- Levels with terms in their holes.
 pub mod Filled
+-- Places from level to level.
+pub mod Raised
