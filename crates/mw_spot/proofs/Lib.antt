@@ -10,3 +10,4 @@ pub mod Exchanging
 pub mod Filled
 -- Places from level to level.
 pub mod Raised
+pub mod Climbed

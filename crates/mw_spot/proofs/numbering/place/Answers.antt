@@ -3,6 +3,7 @@ use Rattle.mw_logic.specs.NormalForm.{is_comm}
 use Rattle.mw_stack.specs.Own.{own, IsOrdered}
 use Rattle.mw_stack.specs.Places.{IsPlace}
 use Rattle.mw_spot.proofs.Levels.{place_stays, place_found}
+use Rattle.mw_spot.proofs.Climbed.{spotted}
 use Rattle.mw_spot.proofs.Raised.{raises}
 use Rattle.mw_spot.proofs.Filled.{filled_seen}
 use Rattle.mw_spot.proofs.Among.{all_follow}
