@@ -11,3 +11,6 @@ pub mod Filled
 -- Places from level to level.
 pub mod Raised
 pub mod Climbed
+-- Into arguments, and out of them.
+pub mod Entering
+pub mod Parted

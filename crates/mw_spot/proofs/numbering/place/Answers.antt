@@ -3,6 +3,8 @@ use Rattle.mw_logic.specs.NormalForm.{is_comm}
 use Rattle.mw_stack.specs.Own.{own, IsOrdered}
 use Rattle.mw_stack.specs.Places.{IsPlace}
 use Rattle.mw_spot.proofs.Levels.{place_stays, place_found}
+use Rattle.mw_spot.proofs.Parted.{all_taken}
+use Rattle.mw_spot.proofs.Entering.{left_out}
 use Rattle.mw_spot.proofs.Climbed.{spotted}
 use Rattle.mw_spot.proofs.Raised.{raises}
 use Rattle.mw_spot.proofs.Filled.{filled_seen}
