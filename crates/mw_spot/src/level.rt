@@ -1,0 +1,91 @@
+// One level of a walk: an operator, and its arguments but for those in the hole.
+ghost use Rattle.std.specs.Prelude.{◌≡◌, ◌↔◌, IfOk, IsTrue};
+ghost use Rattle.mw_deduction.specs.Standing.{filled};
+ghost use Rattle.mw_logic.specs.NormalForm.{is_comm};
+ghost use Rattle.mw_spot.specs.Spots.{IsFree};
+
+use mw_canon::{Axioms, Facts, rebuild};
+use mw_term::{OpId, Term, copy};
+use std::alloc::{AllocError, Global};
+use std::marker::Model;
+
+/// An operator that was gone into, its arguments but for what stands in the hole, and how many of these come before it.
+#[derive(Drop)]
+pub(crate) struct Level {
+    pub operator: OpId,
+    pub others: Vec<Term>,
+    pub at: usize,
+}
+
+impl Model for Level {
+    ghost use Rattle.std.specs.Coded.{codes};
+    ghost use Rattle.mw_logic.specs.TermCode.{coded_terms};
+    ghost use Rattle.mw_deduction.specs.Standing.{Open};
+
+    ghost Value = { Open };
+
+    ghost coded = { Prim.hlevel (codes, coded_terms) };
+
+    ghost use Rattle.std.specs.Prelude.{take, drop, length, ◌≤◌};
+    ghost use Rattle.mw_logic.specs.Terms.{terms_of};
+
+    ghost view = { λ l. record { operator = l.operator; before = terms_of (take l.at l.others.items); after = terms_of (drop l.at l.others.items) } };
+
+    ghost invariant = { λ l. l.at ≤ length l.others.items };
+}
+
+impl Level {
+    /// The operator again, with a term in the hole.
+    pub fn filled(self, alloc: Global, facts: &Facts, term: Term) -> Result<Term, AllocError>
+        ensures { IfOk result (λ t. t ≡ filled facts.now self term) }
+    {
+        let Level {
+            operator,
+            others,
+            at,
+        } = self;
+        let mut args = others;
+        args.insert(at, term)?;
+        let term = rebuild(alloc, facts, operator, args)?;
+        Ok(term)
+    }
+
+    /// The same, of copies of the arguments.
+    pub fn filled_again(&self, alloc: Global, facts: &Facts, term: Term) -> Result<Term, AllocError>
+        ensures { IfOk result (λ t. t ≡ filled facts.now self.now term) }
+    {
+        let mut others = Vec::with_capacity(alloc, self.others.len() + 1)?;
+        for other in &self.others {
+            others.push(copy(other)?)?;
+        }
+        let operator = self.operator;
+        let at = self.at;
+        let level = Level {
+            operator,
+            others,
+            at,
+        };
+        level.filled(alloc, facts, term)
+    }
+
+    /// Whether each argument stays where it is, and as it is.
+    pub fn is_free(&self, facts: &Facts) -> bool
+        ensures { IsTrue result ↔ IsFree facts.now self.now }
+    {
+        match facts.axioms(self.operator) {
+            Axioms::Plain | Axioms::Successor => true,
+            Axioms::Commutative | Axioms::Associative { .. } => false,
+        }
+    }
+
+    /// Whether the operator is commutative.
+    pub fn is_commutative(&self, facts: &Facts) -> bool
+        ensures { result ≡ is_comm facts.now self.now.operator }
+    {
+        match facts.axioms(self.operator) {
+            Axioms::Plain | Axioms::Successor => false,
+            Axioms::Commutative => true,
+            Axioms::Associative { comm, .. } => comm,
+        }
+    }
+}

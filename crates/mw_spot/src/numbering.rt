@@ -1,0 +1,99 @@
+// The numbers of arguments under a level's operator.
+ghost use Rattle.std.specs.Prelude.{◌≡◌, ◌+◌, map, IfOk, MatchOption, true, false};
+ghost use Rattle.mw_logic.specs.Terms.{terms_of, args_of};
+ghost use Rattle.mw_spot.specs.Walks.{IsOrderly};
+ghost use Rattle.mw_spot.specs.Spots.{place as place_of_term, numbers as numbers_of_terms, number_of, is_spread};
+
+use crate::level::Level;
+use mw_canon::{Axioms, Facts};
+use mw_stack::place_of;
+use mw_term::{Term, View, number_at, numbered};
+use std::alloc::{AllocError, Global};
+
+/// How many arguments stand before a term where it comes among the level's.
+pub(crate) fn place(facts: &Facts, level: &Level, term: &Term) -> usize
+    ensures { IsOrderly facts.now level.now → result ≡ place_of_term facts.now level.now term.now }
+{
+    if level.is_commutative(facts) {
+        place_of(facts, level.operator, level.others.as_slice(), 0, term)
+    } else {
+        level.at
+    }
+}
+
+/// The number of what stands at an index behind so many others, counted from 1. More than numbers can tell counts as
+/// want of memory.
+fn number_behind(before: usize, index: usize) -> Result<u32, AllocError>
+    ensures { IfOk result (λ number. number ≡ before + (index + 1)) }
+{
+    let index = before.checked_add(index).ok_or(AllocError)?;
+    number_at(index)
+}
+
+/// The number of one of the terms that come among the level's arguments together: the one that has this number among
+/// them. A number that none has stays.
+pub(crate) fn number(
+    facts: &Facts,
+    level: &Level,
+    terms: &[Term],
+    number: u32,
+) -> Result<u32, AllocError>
+    ensures { IsOrderly facts.now level.now
+        → IfOk result (λ n. n ≡ number_of facts.now level.now (terms_of terms.now) number) }
+{
+    match numbered(terms, number) {
+        Some(term) => number_behind(place(facts, level, term), number as usize - 1),
+        None => Ok(number),
+    }
+}
+
+/// The numbers of all of them.
+pub(crate) fn all_numbers(
+    alloc: Global,
+    facts: &Facts,
+    level: &Level,
+    terms: &[Term],
+) -> Result<Vec<u32>, AllocError>
+    ensures { IsOrderly facts.now level.now
+        → IfOk result (λ ns. ns.items ≡ numbers_of_terms facts.now level.now 1 (terms_of terms.now)) }
+{
+    let mut found = Vec::with_capacity(alloc, terms.len())?;
+    for (i, term) in terms.iter().enumerate() {
+        found.push(number_behind(place(facts, level, term), i)?)?;
+    }
+    Ok(found)
+}
+
+/// The numbers of those that have these numbers among them.
+pub(crate) fn some_numbers(
+    alloc: Global,
+    facts: &Facts,
+    level: &Level,
+    terms: &[Term],
+    numbers: &[u32],
+) -> Result<Vec<u32>, AllocError>
+    ensures { IsOrderly facts.now level.now
+        → IfOk result (λ ns. ns.items ≡ map (number_of facts.now level.now (terms_of terms.now)) numbers.now) }
+{
+    let mut found = Vec::with_capacity(alloc, numbers.len())?;
+    for k in numbers {
+        found.push(number(facts, level, terms, *k)?)?;
+    }
+    Ok(found)
+}
+
+/// The arguments as which a term comes among the level's: its own, where the level's operator is associative and
+/// stands on top of it too.
+pub(crate) fn spread<'t>(facts: &Facts, level: &Level, term: &'t Term) -> Option<&'t [Term]>
+    ensures { MatchOption result (is_spread facts.now level.now term.now ≡ false)
+        (λ es. (is_spread facts.now level.now term.now ≡ true) × (terms_of es.now ≡ args_of term.now)) }
+{
+    match (facts.axioms(level.operator), term.view()) {
+        (Axioms::Associative { .. }, View::Op(operator, args))
+            if operator == level.operator && !args.is_empty() =>
+        {
+            Some(args)
+        }
+        _ => None,
+    }
+}

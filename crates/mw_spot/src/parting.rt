@@ -1,0 +1,44 @@
+// Several arguments are parted from the others.
+ghost use Rattle.std.specs.Prelude.{◌≡◌, ◌-◌, min, IfOk};
+ghost use Rattle.mw_arguments.specs.Places.{chosen, others as others_of};
+ghost use Rattle.mw_logic.specs.Term.{apply as applied, join};
+ghost use Rattle.mw_logic.specs.Terms.{terms_of};
+ghost use Rattle.mw_logic.specs.Parts.{number_of_terms};
+
+use crate::level::Level;
+use mw_term::{OpId, Term, copy};
+use std::alloc::{AllocError, Global};
+
+/// The operator on those arguments that have these numbers, which rise, and the level that is left of it.
+pub(crate) fn parted(
+    alloc: Global,
+    operator: OpId,
+    args: &[Term],
+    first: u32,
+    numbers: &[u32],
+) -> Result<(Term, Level), AllocError>
+    ensures term { IfOk result (λ (term, _). term ≡ applied operator (chosen 1 numbers.now (terms_of args.now))) }
+    ensures level { IfOk result (λ (_, level). (level.operator ≡ operator) × (join level.before level.after ≡ others_of 1 numbers.now (terms_of args.now)) × (number_of_terms level.before ≡ min (first - 1) (number_of_terms (others_of 1 numbers.now (terms_of args.now))))) }
+{
+    let mut taken = Vec::new(alloc);
+    let mut others = Vec::with_capacity(alloc, args.len())?;
+    let mut rest = numbers;
+    for (i, term) in args.iter().enumerate() {
+        let term = copy(term)?;
+        match rest {
+            [next, more @ ..] if *next as usize == i + 1 => {
+                taken.push(term)?;
+                rest = more;
+            }
+            _ => others.push(term)?,
+        }
+    }
+    let at = (first as usize).saturating_sub(1).min(others.len());
+    let level = Level {
+        operator,
+        others,
+        at,
+    };
+    let term = Term::apply(alloc, operator, taken)?;
+    Ok((term, level))
+}
