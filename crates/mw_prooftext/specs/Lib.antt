@@ -2,4 +2,6 @@ pub mod Items
 pub mod Texts
 pub mod Tells
 pub mod Grounds
+pub mod Told
 pub mod Chains
+pub mod Denoting

@@ -49,15 +49,16 @@ module _ (sig : Signature) where
   abbrev pub step_text : Bool → ℕ → Spot → List RawTerm → List ℕ
   step_text owise k s vs = cond owise (codes "owise ") (codes "step ") ++ (decimal k ++ (spot_text s ++ with_text vs))
 
+  -- the word before groups, where there are any
+  abbrev pub where_word : Groups → List ℕ
+  where_word end = []
+  where_word (group g gs) = codes " where"
+
   -- an item on one line; the groups of a step stand in braces, their items in them each behind a space
   abbrev mutual
     pub item_text : Item → List ℕ
-    item_text (step owise k s vs gs) = step_text owise k s vs ++ where_text gs
+    item_text (step owise k s vs gs) = step_text owise k s vs ++ (where_word gs ++ groups_text gs)
     item_text (built s) = built_text s
-
-    pub where_text : Groups → List ℕ
-    where_text end = []
-    where_text (group g gs) = codes " where" ++ groups_text (group g gs)
 
     pub groups_text : Groups → List ℕ
     groups_text end = []
