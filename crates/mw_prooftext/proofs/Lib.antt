@@ -1,0 +1,4 @@
+mod TextLaws
+mod TellLaws
+mod Wholes
+mod Telling

@@ -33,6 +33,11 @@ boxed form = codes " [" ++ (form ++ closing form)
 abbrev pub built_text : Spot → List ℕ
 built_text s = codes "step built" ++ spot_text s
 
+-- the word before groups, where there are any
+abbrev pub where_word : Groups → List ℕ
+where_word end = []
+where_word (group g gs) = codes " where"
+
 module _ (sig : Signature) where
   abbrev pub value_text : RawTerm → List ℕ
   value_text t = boxed (prefix_text sig t)
@@ -48,11 +53,6 @@ module _ (sig : Signature) where
 
   abbrev pub step_text : Bool → ℕ → Spot → List RawTerm → List ℕ
   step_text owise k s vs = cond owise (codes "owise ") (codes "step ") ++ (decimal k ++ (spot_text s ++ with_text vs))
-
-  -- the word before groups, where there are any
-  abbrev pub where_word : Groups → List ℕ
-  where_word end = []
-  where_word (group g gs) = codes " where"
 
   -- an item on one line; the groups of a step stand in braces, their items in them each behind a space
   abbrev mutual

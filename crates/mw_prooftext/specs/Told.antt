@@ -1,5 +1,5 @@
 -- A text under way: of a proof under way the items that are told of it, and the groups of sides that wait for their statement.
-use Rattle.std.specs.Prelude.{◌≡◌, ℕ, List, ◌++◌, Bool, cond}
+use Rattle.std.specs.Prelude.{◌≡◌, ℕ, List, [], ◌∷◌, ◌++◌, Bool, cond, codes}
 use Rattle.mw_logic.specs.Term.{RawTerm}
 use Rattle.mw_logic.specs.Signature.{Signature}
 use Rattle.mw_logic.specs.Parts.{nested}
@@ -22,8 +22,24 @@ ShowsSides M (group g gs) rs =
 abbrev pub told_items : Signature → Bool → Items → List ℕ
 told_items sig outer is = cond outer (lines_text sig is) (items_text sig is)
 
--- What is written of the proof under way S: behind the head, items that tell its run up to the whole term that it has now; and apart from them the groups.
+-- what stands before an item and behind it, with the groups that waited for it
+abbrev pub item_start : Bool → List ℕ
+item_start outer = cond outer [] (32 ∷ [])
+
+abbrev pub word_before : List ℕ → List ℕ
+word_before [] = []
+word_before (b ∷ bs) = codes " where"
+
+abbrev pub item_end : Bool → List ℕ → List ℕ
+item_end outer groups = (word_before groups ++ groups) ++ cond outer (10 ∷ []) []
+
+-- a group in braces
+abbrev pub braced : List ℕ → List ℕ
+braced text = codes " {" ++ (text ++ codes " }")
+
+-- What is written of the proof under way S, which began at a canonical term: behind the head, items that tell its run up to the whole term that it has now; and apart from them the groups.
 pub record IsTold (M : Module) (head : List ℕ) (outer : Bool) (text groups : List ℕ) (S : Stand) : Type 0 where
+  pub canonical : IsCanonical M.signature S.from
   pub items : Items
   pub text_is : text ≡ head ++ told_items M.signature outer items
   pub tells : Tells M items S.from (whole M.signature S.opens S.hand) S.run
