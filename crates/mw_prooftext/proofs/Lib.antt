@@ -1,4 +1,7 @@
-mod TextLaws
-mod TellLaws
-mod Wholes
-mod Telling
+-- Laws of proof texts.
+pub mod Closing
+pub mod Values
+pub mod TextLaws
+pub mod TellLaws
+pub mod Wholes
+pub mod Telling

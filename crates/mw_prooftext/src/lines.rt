@@ -37,6 +37,16 @@ fn write_place(place: &Place, text: &mut Vec<u8>) -> Result<(), AllocError>
     }
 }
 
+/// What stands behind a form, and behind a text that ends in it.
+fn closing(form: &[u8]) -> &'static [u8]
+    ensures { result.now ≡ texts.closing form.now }
+{
+    match form {
+        [.., last] => { if *last == b'`' { b" ]" } else { b"]" } }
+        [] => b"]",
+    }
+}
+
 /// The form of a term in brackets.
 fn write_value(
     alloc: Global,
@@ -49,10 +59,9 @@ fn write_value(
 {
     text.extend_from_slice(b" [")?;
     prefix(alloc, signature, term, text)?;
-    match text.as_slice() {
-        [.., b'`'] => text.extend_from_slice(b" ]"),
-        _ => text.extend_from_slice(b"]"),
-    }
+    let closing = closing(text.as_slice());
+    text.extend_from_slice(closing)?;
+    Ok(())
 }
 
 /// The values of a statement, where it has any.
@@ -88,7 +97,9 @@ pub(crate) fn write_step(
     text: &mut Vec<u8>,
 ) -> Result<(), AllocError>
     requires ground { AreGround values.now }
-    ensures { OnOk result (text.new.items ≡ text.old.items ++ texts.step_text signature.now owise number (spot_of place.now) values.now) }
+    ensures { OnOk result
+        (text.new.items ≡ text.old.items
+        ++ texts.step_text signature.now owise number (spot_of place.now) values.now) }
 {
     let word: &[u8] = if owise { b"owise " } else { b"step " };
     text.extend_from_slice(word)?;
