@@ -3,3 +3,7 @@ pub mod Closing
 pub mod Inside
 pub mod AdmittedValues
 pub mod RightSides
+pub mod TextLaws
+pub mod TellLaws
+pub mod Wholes
+pub mod Telling

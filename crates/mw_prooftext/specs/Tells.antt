@@ -1,19 +1,16 @@
 -- What a proof text means: the replacements that its items tell, one after another, from one canonical term to another.
-use Rattle.std.specs.Prelude.{◌≡◌, ℕ, List, [], ◌∷◌, map, Bool, false, ⊤}
-use Rattle.std.specs.List.{zip}
+use Rattle.std.specs.Prelude.{◌≡◌, ℕ, List, [], ◌∷◌, Bool, false, ⊤}
 use Rattle.mw_logic.specs.Term.{RawTerm}
 use Rattle.mw_logic.specs.Signature.{Signature}
 use Rattle.mw_logic.specs.Substitution.{Substitution, instance}
 use Rattle.mw_logic.specs.Parts.{nested, IsClean}
 use Rattle.mw_logic.specs.NormalForm.{normal_form}
 use Rattle.mw_logic.specs.Module.{Module, Statement, IsStatement, Row}
-use Rattle.mw_deduction.specs.Runs.{Done, by_statement, by_row, Dones, Run, run, Runs, another, Denotes}
+use Rattle.mw_deduction.specs.Runs.{Done, by_statement, by_row, Dones, run, Runs, another}
 use Rattle.mw_deduction.specs.Runs as runs
 use Rattle.mw_deduction.specs.Replay.{AreValuesOf, all_sides}
 use Rattle.mw_redex.specs.Replaced.{ReplacesAt}
-use Rattle.mw_proof.specs.Deductions.{Deduction}
 use Rattle.mw_prooftext.specs.Items.{Spot, Item, step, built, Items, none, more, Groups, end, group}
-use Rattle.mw_prooftext.specs.Texts.{text_of}
 
 -- The part of t at the place is the canonical form of w, and u is t with that of v in its stead. For a rule no argument on the way is frozen.
 abbrev pub Replaces : Signature → Bool → RawTerm → RawTerm → Spot → RawTerm → RawTerm → Type 0
@@ -56,10 +53,3 @@ module _ (M : Module) where
     TellsSides (group g gs) s (l ∷ ls) rs =
         (u : RawTerm) × (ds : Dones) × (qs : Runs) × (rs ≡ another (run (nested M.signature (normal_form M.signature (instance s l))) (nested M.signature u) ds) qs)
         × Tells g (normal_form M.signature (instance s l)) u ds × TellsSides gs s ls qs
-
--- The text tells the run of the deduction, from its first term to its last, and its proof carries that run out, modulo the axioms.
-pub record IsTextOf (d : Deduction) (version : ℕ) (name text : List ℕ) : Type 0 where
-  pub items : Items
-  pub is : text ≡ text_of d.over.signature version name d.from items d.to
-  pub tells : Tells d.over items d.from d.to d.run
-  pub denotes : Denotes d.over.signature (run (nested d.over.signature d.from) (nested d.over.signature d.to) d.run) d.proof

@@ -33,6 +33,11 @@ boxed form = codes " [" ++ (form ++ closing form)
 abbrev pub built_text : Spot → List ℕ
 built_text s = codes "step built" ++ spot_text s
 
+-- the word before groups, where there are any
+abbrev pub where_word : Groups → List ℕ
+where_word end = []
+where_word (group g gs) = codes " where"
+
 module _ (sig : Signature) where
   abbrev pub value_text : RawTerm → List ℕ
   value_text t = boxed (prefix_text sig t)
@@ -52,12 +57,8 @@ module _ (sig : Signature) where
   -- an item on one line; the groups of a step stand in braces, their items in them each behind a space
   abbrev mutual
     pub item_text : Item → List ℕ
-    item_text (step owise k s vs gs) = step_text owise k s vs ++ where_text gs
+    item_text (step owise k s vs gs) = step_text owise k s vs ++ (where_word gs ++ groups_text gs)
     item_text (built s) = built_text s
-
-    pub where_text : Groups → List ℕ
-    where_text end = []
-    where_text (group g gs) = codes " where {" ++ (items_text g ++ (codes " }" ++ groups_text gs))
 
     pub groups_text : Groups → List ℕ
     groups_text end = []
