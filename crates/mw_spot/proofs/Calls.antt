@@ -56,3 +56,7 @@ spread_is sig o t f [] h e q l = absurd (omega (arith, l))
 spread_is sig o t f (a ∷ args) h e q l =
     let s : stands_on o.operator (apply f (terms_of (a ∷ args))) ≡ true = eq-eqb o.operator f (sym e) in
     (ap (is_spread sig o) q ∙ and_from (is_assoc sig o.operator) (stands_on o.operator (apply f (terms_of (a ∷ args)))) h s, sym (ap args_of q))
+
+-- lists are the same as lists of terms
+pub same_list : (xs ys : List RawTerm) → terms_of xs ≡ terms_of ys → xs ≡ ys
+same_list xs ys e = sym (list_of-terms_of xs) ∙ ap list_of e ∙ list_of-terms_of ys
