@@ -1,9 +1,9 @@
 -- A place from level to level, up to the whole.
-use Rattle.std.specs.Prelude.{◌≡◌, ◌+◌, ℕ, suc, List, [], ◌∷◌, ◌++◌, reverse, Bool, true, false, ◌||◌, Option, None, All, IsTrue, ⊤, refl}
+use Rattle.std.specs.Prelude.{◌≡◌, ◌+◌, ℕ, suc, List, [], ◌∷◌, ◌++◌, take, drop, reverse, Bool, true, false, ◌||◌, Option, None, All, IsTrue, ⊤, refl}
 use Rattle.std.proofs.Common.{ap, sym, subst, ◌∙◌, arith, inl, inr, ⊎_elim}
 use Rattle.std.proofs.lemmas.Bool.{or_left}
 use Rattle.std.proofs.lemmas.List.Elements.{All-head, All-tail}
-use Rattle.std.proofs.lemmas.List.{reverse-append}
+use Rattle.std.proofs.lemmas.List.{take-append-drop, reverse-append}
 use Rattle.mw_logic.specs.Term.{RawTerm, RawTerms, nil, cons, join, Context, plug}
 use Rattle.mw_logic.specs.Signature.{Signature, Operator, IsOperator, IsRawTerm}
 use Rattle.mw_logic.specs.Accepted.{IsAccepted}
@@ -21,7 +21,7 @@ use Rattle.mw_deduction.specs.Standing.{Open, filled, context_at, round, IsClear
 use Rattle.mw_deduction.specs.Stands.{IsStanding}
 use Rattle.mw_deduction.specs.Replay.{Stand, whole, MayReplace}
 use Rattle.mw_redex.specs.Replaced.{ReplacesAt}
-use Rattle.mw_spot.specs.Walks.{IsOrderly, AreOrderly}
+use Rattle.mw_spot.specs.Walks.{Walked, IsOrderly, AreOrderly, IsAt}
 use Rattle.mw_spot.specs.Spots.{place, is_spread, raised_path, raised_take, climbed_path, climbed_take, IsFree, passed}
 use Rattle.mw_spot.proofs.Filled.{filled_canonical, filled_seen}
 use Rattle.mw_spot.proofs.Raised.{raises}
@@ -142,3 +142,29 @@ module _ (sig : Signature) where
       let two : raised_take sig o t path take ≡ take = rw p refl in
       let rest = free_passed os (filled sig o t) (raised_path sig o t path) (raised_take sig o t path take) h.1 in
       (rest.0 ∙ ap (passed os) one, rest.1 ∙ two)
+
+-- Where the innermost levels are climbed and the outermost passed, the place is that of the replacement.
+pub stands_there : (M : Module) (sig : Signature) → M.signature ≡ sig → IsAccepted sig → (W : Walked) (S : Stand) (r : Bool) (w v : RawTerm) → IsAt sig W S → IsStanding M S → MayReplace M r S.opens S.hand w v
+    → (levels : List Open) (n : ℕ) → reverse levels ≡ W.opens → All (IsFree sig) (take n levels) → (start path ways : List ℕ) (begun found taken : Option (List ℕ)) → start ≡ [] → begun ≡ None
+    → (AreOrderly sig (reverse (drop n levels)) → path ≡ climbed_path sig (reverse (drop n levels)) W.hand start begun) → (AreOrderly sig (reverse (drop n levels)) → found ≡ climbed_take sig (reverse (drop n levels)) W.hand start begun)
+    → ways ≡ passed (reverse (take n levels)) path → taken ≡ found
+    → ReplacesAt sig r S.hand (normal_form sig v) ways taken (whole sig S.opens S.hand) (whole sig S.opens (normal_form sig v))
+stands_there M sig is ok W S r w v here stands may levels n e free start path ways begun found taken s b p q l m =
+    let os : List Open = reverse (drop n levels) in
+    let ps : List Open = reverse (take n levels) in
+    let parts : S.opens ≡ os ++ ps = here.opens ∙ sym e ∙ sym (ap reverse (take-append-drop n levels)) ∙ reverse-append (take n levels) (drop n levels) in
+    let all : AreOrderly sig S.opens = subst (AreOrderly sig) (sym here.opens) here.orderly in
+    let orderly : AreOrderly sig os = (orderly-append sig os ps (subst (AreOrderly sig) parts all)).0 in
+    let t : RawTerm = S.hand in
+    let hand : W.hand ≡ t = sym here.hand in
+    let path_is : path ≡ climbed_path sig os t [] None = p orderly ∙ ap (λ u. climbed_path sig os u start begun) hand ∙ ap (λ s. climbed_path sig os t s begun) s ∙ ap (climbed_path sig os t []) b in
+    let take_is : found ≡ climbed_take sig os t [] None = q orderly ∙ ap (λ u. climbed_take sig os u start begun) hand ∙ ap (λ s. climbed_take sig os t s begun) s ∙ ap (climbed_take sig os t []) b in
+    let outer = free_passed sig ps (whole sig os t) (climbed_path sig os t [] None) (climbed_take sig os t [] None) (free_reversed sig (take n levels) free) in
+    let split = climbed-append sig os ps t [] None in
+    let ways_are : climbed_path sig S.opens t [] None ≡ ways = ap (λ os. climbed_path sig os t [] None) parts ∙ split.0 ∙ outer.0 ∙ ap (passed ps) (sym path_is) ∙ sym l in
+    let taken_is : climbed_take sig S.opens t [] None ≡ taken = ap (λ os. climbed_take sig os t [] None) parts ∙ split.1 ∙ outer.1 ∙ sym take_is ∙ sym m in
+    let whole_place : ReplacesAt sig r t (normal_form sig v) (climbed_path sig S.opens t [] None) (climbed_take sig S.opens t [] None) (whole sig S.opens t) (whole sig S.opens (normal_form sig v)) =
+    subst (λ sig. AreOrderly sig S.opens → ReplacesAt sig r t (normal_form sig v) (climbed_path sig S.opens t [] None) (climbed_take sig S.opens t [] None) (whole sig S.opens t) (whole sig S.opens (normal_form sig v))) is
+    (λ h. spotted M (subst IsAccepted (sym is) ok) S r w v stands h may) all in
+    subst (λ is. ReplacesAt sig r t (normal_form sig v) is taken (whole sig S.opens t) (whole sig S.opens (normal_form sig v))) ways_are
+    (subst (λ o. ReplacesAt sig r t (normal_form sig v) (climbed_path sig S.opens t [] None) o (whole sig S.opens t) (whole sig S.opens (normal_form sig v))) taken_is whole_place)

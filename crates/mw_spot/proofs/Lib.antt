@@ -14,3 +14,5 @@ pub mod Climbed
 -- Into arguments, and out of them.
 pub mod Entering
 pub mod Parted
+-- What calls answer.
+pub mod Calls

@@ -130,6 +130,7 @@ impl Walk {
             → IfOk result (λ place. ReplacesAt facts.now by_rule S.hand (normal_form facts.now v) place.path place.take
             (whole facts.now S.opens S.hand) (whole facts.now S.opens (normal_form facts.now v))) }
     {
+        facts.shows();
         let levels = self.levels.as_slice();
         let free = free(facts, levels);
         let hand = copy(&self.hand)?;

@@ -1,0 +1,28 @@
+use Rattle.std.proofs.Common.{◌≡◌, ◌∙◌, ◌-◌, ap, sym, subst, reverse, take, drop, length}
+use Rattle.std.proofs.Math.Seq.{take-length}
+use Rattle.std.proofs.lemmas.List.{length-drop}
+use Rattle.mw_spot.specs.Walks.{AreOrderly}
+use Rattle.mw_spot.specs.Spots.{climbed_path, climbed_take}
+use Rattle.mw_spot.proofs.Climbed.{stands_there}
+use Rattle.mw_spot.proofs.walk.Walk.spot.Goals as goal
+
+pub returns : goal.returns
+returns c = λ M S by_rule w v is here stands may.
+    let sig = c.args.facts.now in
+    let levels = c.as_slice-levels.result.now in
+    let n = c.free-free.result in
+    let W = c.args.self.now in
+    let opens : reverse levels ≡ W.opens = ap reverse c.as_slice-levels.ensures.value ∙ ap (λ w. w.opens) c.self.view_is in
+    let hand : c.in_ok-hand.hand ≡ W.hand = c.in_ok-hand.ensures ∙ ap (λ w. w.hand) c.self.view_is in
+    let os = reverse (drop n levels) in
+    let start = reverse c.new-spot.result.path.items in
+    let begun = c.new-spot.result.take in
+    let t = c.in_ok-hand.hand in
+    let path = reverse c.climb.new.spot.path.items in
+    let taken = c.climb.new.spot.take in
+    let within : take (length levels - n) (drop n levels) ≡ drop n levels = ap (λ m. take m (drop n levels)) (sym (length-drop n levels)) ∙ take-length (drop n levels) in
+    stands_there M sig is c.shows.ensures W S by_rule w v here stands may levels n opens c.free-free.ensures.free start path c.into_place.result.path begun taken c.into_place.result.take
+    (ap reverse c.new-spot.ensures.path) c.new-spot.ensures.take
+    (λ o. subst (λ ls. AreOrderly sig (reverse ls) → path ≡ climbed_path sig (reverse ls) t start begun) within c.in_ok-climb.ensures.path o ∙ ap (λ t. climbed_path sig os t start begun) hand)
+    (λ o. subst (λ ls. AreOrderly sig (reverse ls) → taken ≡ climbed_take sig (reverse ls) t start begun) within c.in_ok-climb.ensures.take o ∙ ap (λ t. climbed_take sig os t start begun) hand)
+    (c.into_place.ensures.path ∙ c.in_ok-pass.ensures.path) (c.into_place.ensures.take ∙ c.in_ok-pass.ensures.take)
