@@ -5,3 +5,4 @@ pub mod TextLaws
 pub mod TellLaws
 pub mod Wholes
 pub mod Telling
+pub mod ChainLaws
