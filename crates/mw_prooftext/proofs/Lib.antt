@@ -1,6 +1,8 @@
 -- Laws of proof texts.
 pub mod Closing
-pub mod Values
+pub mod Inside
+pub mod AdmittedValues
+pub mod RightSides
 pub mod TextLaws
 pub mod TellLaws
 pub mod Wholes

@@ -2,6 +2,7 @@ pub mod Items
 pub mod Texts
 pub mod Tells
 pub mod Grounds
+pub mod Applied
 pub mod Told
 pub mod Chains
 pub mod Denoting

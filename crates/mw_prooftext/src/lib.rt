@@ -18,6 +18,7 @@
 
 mod chains;
 mod lines;
+mod values;
 mod writing;
 
 pub use writing::write;

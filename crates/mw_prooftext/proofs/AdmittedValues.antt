@@ -1,25 +1,23 @@
 -- Where a statement may be applied, its values are canonical terms that are admitted: each variable stands in the left side, or in the pattern of a match; so its
 -- value is a part of the term in hand, or of what a side evaluates to, or a leaf.
-use Rattle.std.specs.Prelude.{◌≡◌, ◌≤◌, ℕ, zero, suc, List, [], ◌∷◌, length, map, Bool, true, false, ◌||◌, ◌&&◌, cond, Some, is_some, IsTrue, refl}
+use Rattle.std.specs.Prelude.{◌≡◌, ℕ, zero, suc, List, [], ◌∷◌, length, map, Bool, true, false, ◌||◌, cond, Some, is_some, IsTrue, refl}
 use Rattle.std.specs.List.{zip}
 use Rattle.std.proofs.Common.{sym, subst, ap, ◌∙◌, ⊎_elim, arith, true≢false}
 use Rattle.std.proofs.lemmas.Bool.{both_ways, or_cases, or_right}
 use Rattle.std.proofs.lemmas.List.{length-map}
 use Rattle.std.proofs.lemmas.Option.{same_Some}
 use Rattle.mw_logic.specs.Term.{Variable, RawTerm, is_ground}
-use Rattle.mw_logic.specs.Signature.{Signature, constant_of, numeral_of, IsRawTerm}
+use Rattle.mw_logic.specs.Signature.{Signature, IsRawTerm}
 use Rattle.mw_logic.specs.Accepted.{IsAccepted, IsWellSorted}
-use Rattle.mw_logic.specs.Axioms.{EqualModulo, done}
+use Rattle.mw_logic.specs.Axioms.{EqualModulo}
 use Rattle.mw_logic.specs.Substitution.{Substitution, same_variable, value, instance, occurs, is_bound, IsSubstitution}
-use Rattle.mw_logic.specs.Parts.{nested, IsPart, IsAdmitted}
-use Rattle.mw_logic.specs.Kinds.{is_successor}
-use Rattle.mw_logic.specs.NormalForm.{normal_form, height, has_largest}
+use Rattle.mw_logic.specs.Parts.{nested, IsAdmitted}
+use Rattle.mw_logic.specs.NormalForm.{normal_form}
 use Rattle.mw_logic.specs.Module.{Fragment, equal, matches, has_sort, is_true, Statement, Module, IsStatement}
 use Rattle.mw_logic.specs.Proof.{Proofs}
 use Rattle.mw_logic.specs.Judgements.{Judgements, HoldsAbove, judgements_with, admitted_judgements}
 use Rattle.mw_logic.specs.Confluence.{AreBound}
-use Rattle.mw_logic.proofs.Admitted.{admitted-iff}
-use Rattle.mw_logic.proofs.AxiomLaws.{sym as back}
+use Rattle.mw_logic.proofs.Canonical.{canonical}
 use Rattle.mw_logic.proofs.CanonicalTerms.{fixed}
 use Rattle.mw_logic.proofs.EqualTerms.{IsAdmitted-equal}
 use Rattle.mw_logic.proofs.Inside.{raw_inside}
@@ -34,37 +32,26 @@ use Rattle.mw_solving.proofs.Grounds.{nested_ground}
 use Rattle.mw_least.specs.Conditions.{occurs_among, binds_among, AreRawFragments}
 use Rattle.mw_least.specs.Workable.{AreSides, IsOrdinary, IsWorkable}
 use Rattle.mw_least.proofs.Mentioned.{is_mentioned}
-use Rattle.mw_deduction.specs.Standing.{round, IsSeen}
+use Rattle.mw_deduction.specs.Standing.{round}
 use Rattle.mw_deduction.specs.Stands.{IsStanding}
 use Rattle.mw_deduction.specs.Replay.{Stand, AreAllCanonical, MayApply}
-use Rattle.mw_deduction.proofs.Clear.{clear_clean}
 use Rattle.mw_deduction.proofs.Extended.{reached_extends}
-use Rattle.mw_deduction.proofs.NormalParts.{ground_within, part_admitted}
-use Rattle.mw_deduction.proofs.ValuesInside.{IsLeaf, of_identity, of_numeral, value_found}
+use Rattle.mw_deduction.proofs.ValuesInside.{value_found}
 use Rattle.mw_prooftext.specs.Grounds.{AreGround}
+use Rattle.mw_prooftext.proofs.Inside.{found_admitted, inside_admitted}
 
 -- a canonical term that is admitted is ground
 pub ground_term : (sig : Signature) (t : RawTerm) → IsAdmittedTerm sig t → IsTrue (is_ground t)
 ground_term sig t a = sym (nested_ground sig t) ∙ a.admitted.ground
 
 module _ (sig : Signature) (ok : IsAccepted sig) where
-  leaf_limits : {v : RawTerm} → IsLeaf sig v → (height v ≤ 1000) × (has_largest sig v ≡ false)
-  leaf_limits (of_identity f (constant_of c) e) = (omega arith, none (is_successor sig c))
-    where
-      none : (b : Bool) → ((b && false) || false) ≡ false
-      none true = refl
-      none false = refl
-  leaf_limits (of_identity f (numeral_of n) e) = (omega arith, refl)
-  leaf_limits of_numeral = (omega arith, refl)
-
   -- a value in an instance that is equal, modulo the axioms, to an admitted term
   value_admitted : IsWellSorted sig → (s : Substitution) → IsSubstitution sig s → (p T : RawTerm) → IsRawTerm sig p → IsAdmitted sig T → EqualModulo sig (instance s p) T → (x : Variable) (u : RawTerm) → IsTrue (occurs x p) → value s x ≡ Some u → IsAdmitted sig u
   value_admitted sorted s is p T raw a e x u o h =
       let ri : IsRawTerm sig (instance s p) = instance_raw sig ok sorted s is raw in
       let rt : IsRawTerm sig T = (raw_kept sig ok e).0 ri in
       let (g, ru, l) = substitution_value sig s is x u h in
-      let n : EqualModulo sig (nested sig (normal_form sig u)) u = back (normal_form-sound sig ok ru) in
-      ⊎_elim (λ c. IsAdmitted-equal sig n (part_admitted sig ok c.0 (nested sig (normal_form sig u)) rt a c.1)) (λ c. let (b, d) = leaf_limits c in (admitted-iff sig ok ru).1 (g, b, d)) (value_found sig ok s p T x u rt ri e o h)
+      found_admitted sig ok T u rt a ru g (value_found sig ok s p T x u rt ri e o h)
 
 -- In a condition that holds, where variables are bound in turn, so is the value of each variable: those that were bound before have admitted values.
 module _ (M : Module) (ok : IsAccepted M.signature) (sorted : IsWellSorted M.signature) (r : Substitution) where
@@ -146,18 +133,12 @@ module _ (M : Module) (work : IsWorkable M) (S : Stand) (stands : IsStanding M S
   abbrev ok : IsAccepted sig
   ok = work.signature.accepted
 
-  pub hand_ground : IsTrue (is_ground S.hand)
-  hand_ground = sym (nested_ground sig S.hand) ∙ ground_within (round sig S.opens) (nested sig S.hand) stands.at.admitted.ground
-
-  -- the term in hand is admitted where it is seen
-  pub hand_admitted : IsSeen sig S.opens S.hand → IsAdmittedTerm sig S.hand
-  hand_admitted seen =
-      let p : IsPart sig (Rattle.mw_logic.specs.Term.plug (round sig S.opens) (nested sig S.hand)) (round sig S.opens) (nested sig S.hand) = record { clean = clear_clean sig ok S.opens S.hand stands.at.clear stands.at.canonical seen; equal = done } in
-      record {
-        raw = raw_inside sig ok (round sig S.opens) (nested sig S.hand) stands.at.raw;
-        canonical = fixed sig ok S.hand stands.at.canonical;
-        admitted = part_admitted sig ok (round sig S.opens) (nested sig S.hand) stands.at.raw stands.at.admitted p;
-      }
+  pub hand_admitted : IsAdmittedTerm sig S.hand
+  hand_admitted = record {
+    raw = raw_inside sig ok (round sig S.opens) (nested sig S.hand) stands.at.raw;
+    canonical = fixed sig ok S.hand stands.at.canonical;
+    admitted = inside_admitted sig ok (round sig S.opens) (nested sig S.hand) stands.at.raw stands.at.admitted;
+  }
 
   module _ (k : ℕ) (r : Bool) (s : Substitution) (vs : List RawTerm) (may : MayApply M k r s vs S) where
     abbrev e : Statement
@@ -179,7 +160,7 @@ module _ (M : Module) (work : IsWorkable M) (S : Stand) (stands : IsStanding M S
     left_known x o u h =
         let raw : IsRawTerm sig (instance s e.left) = instance_raw sig ok work.signature.well_sorted s may.replaces.substitution sides.left in
         let m : EqualModulo sig (instance s e.left) (nested sig S.hand) = subst (λ t. EqualModulo sig (instance s e.left) (nested sig t)) may.may.is_part (normal_form-sound sig ok raw) in
-        value_admitted sig ok work.signature.well_sorted s may.replaces.substitution e.left (nested sig S.hand) sides.left (hand_admitted may.may.seen).admitted m x u o h
+        value_admitted sig ok work.signature.well_sorted s may.replaces.substitution e.left (nested sig S.hand) sides.left hand_admitted.admitted m x u o h
 
     known : (x : Variable) (u : RawTerm) → value s x ≡ Some u → IsAdmitted sig u
     known x u h =
@@ -194,3 +175,16 @@ module _ (M : Module) (work : IsWorkable M) (S : Stand) (stands : IsStanding M S
 
     pub are_ground : AreGround vs
     are_ground = values_ground sig ok e.variables vs may.values.size has_admitted_values
+
+    -- what comes of it
+    right_raw : IsRawTerm sig (instance s e.right)
+    right_raw = instance_raw sig ok work.signature.well_sorted s may.replaces.substitution sides.right
+
+    pub right_admitted : IsAdmittedTerm sig (normal_form sig (instance s e.right))
+    right_admitted =
+        let n : EqualModulo sig (instance s e.right) (nested sig (normal_form sig (instance s e.right))) = normal_form-sound sig ok right_raw in
+        record {
+          raw = (raw_kept sig ok n).0 right_raw;
+          canonical = fixed sig ok (normal_form sig (instance s e.right)) (canonical sig ok (instance s e.right));
+          admitted = IsAdmitted-equal sig n (inside_admitted sig ok (round sig S.opens) (instance s e.right) may.may.raw may.may.admitted);
+        }
