@@ -7,3 +7,4 @@ pub mod TextLaws
 pub mod TellLaws
 pub mod Wholes
 pub mod Telling
+pub mod ChainLaws

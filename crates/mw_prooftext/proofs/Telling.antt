@@ -26,6 +26,11 @@ use Rattle.mw_prooftext.proofs.TextLaws.{told-with, groups-with, word_is}
 use Rattle.mw_prooftext.proofs.TellLaws.{tells_then, shows-with, no_groups, no_sides, sides_told}
 use Rattle.mw_prooftext.proofs.Wholes.{IsSameTold}
 
+-- three pieces behind a text
+pub three_behind : (text a b d x y z : List ℕ) → x ≡ text ++ a → y ≡ x ++ b → z ≡ y ++ d → z ≡ text ++ (a ++ (b ++ d))
+three_behind text a b d x y z e f g =
+    g ∙ ap (λ w. w ++ d) f ∙ ap (λ w. (w ++ b) ++ d) e ∙ append_assoc (text ++ a) b d ∙ append_assoc text a (b ++ d)
+
 module _ (M : Module) where
   abbrev sig : Signature
   sig = M.signature
@@ -57,6 +62,10 @@ module _ (M : Module) where
     groups_are = h.groups_are;
     shows = rw s h.shows;
   }
+
+  -- the same text, and the same groups
+  pub told_as : {head : List ℕ} {outer : Bool} {S : Stand} (text words groups waiting : List ℕ) → text ≡ words → groups ≡ waiting → IsTold M head outer words waiting S → IsTold M head outer text groups S
+  told_as {head} {outer} {S} text words groups waiting e f h = subst (λ t. IsTold M head outer t groups S) (sym e) (subst (λ g. IsTold M head outer words g S) (sym f) h)
 
   -- an item behind the others
   text_with : (head text groups : List ℕ) (outer : Bool) (is : Items) (i : Item) (words : List ℕ) → text ≡ head ++ told_items sig outer is → item_text sig i ≡ words ++ (word_before groups ++ groups)

@@ -1,8 +1,8 @@
 pub mod Items
 pub mod Texts
 pub mod Tells
-pub mod Denoting
 pub mod Grounds
+pub mod Applied
 pub mod Told
 pub mod Chains
-pub mod Applied
+pub mod Denoting

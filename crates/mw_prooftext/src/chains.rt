@@ -1,22 +1,50 @@
 // A text under way, move by move.
-ghost use Rattle.std.specs.Prelude.{◌≡◌, ◌++◌, ℕ, List, [], ◌∷◌, Bool, IsTrue, IfOk, OnOk, reverse};
-ghost use Rattle.mw_logic.specs.Term.{RawTerm};
-ghost use Rattle.mw_logic.specs.Module.{Module, Statement as StatementOf};
-ghost use Rattle.mw_logic.specs.NormalForm.{normal_form};
-ghost use Rattle.mw_logic.specs.Substitution.{instance as instance_of};
-ghost use Rattle.mw_canon.specs.Canonical.{HasAdmittedValues, meant, IsAdmittedTerm};
-ghost use Rattle.mw_deduction.specs.Replay.{Move, Stand, IsMove, play};
-ghost use Rattle.mw_deduction.specs.Stands.{AreStanding};
-ghost use Rattle.mw_trail.specs.Tracks.{move_of};
-ghost use Rattle.mw_prooftext.specs.Chains.{IsChain, AreChains};
+ghost use Rattle.std.specs.Prelude.{◌≡◌, ◌++◌, ◌≤◌, ℕ, List, [], ◌∷◌, Bool, false, IfOk, OnOk, length, reverse};
+ghost use Rattle.mw_logic.specs.Accepted.{IsAccepted};
+ghost use Rattle.mw_logic.specs.Module.{Module};
+ghost use Rattle.mw_logic.specs.Substitution.{Substitution};
+ghost use Rattle.mw_logic.proofs.Canonical.{IsCanonical};
+ghost use Rattle.mw_deduction.specs.Replay.{Stand, applies, meets, begun, into_argument, into_several, going_out, showing, play, MayGoIn, MayGoAmong, MayApply, MayMeet, MayEnd, IsMove};
+ghost use Rattle.mw_deduction.specs.Standing.{Open};
+ghost use Rattle.mw_deduction.specs.Stands.{IsStanding, AreStanding};
+ghost use Rattle.mw_trail.specs.Tracks.{move_of, needs, counts};
+ghost use Rattle.mw_prooftext.specs.Told.{item_start, item_end};
+ghost use Rattle.mw_prooftext.specs.Chains.{IsChain, AreChains, Goes, MayMove, moved, IsMadeSomewhere, IsAppliedSomewhere};
 
 use crate::lines::{write_built, write_step};
-use mw_canon::{CanonError, instance};
+use crate::values::right_side;
+use mw_canon::Facts;
 use mw_least::Ctx;
 use mw_spot::Walk;
-use mw_term::{Binding, Seq, Statement, Subst, Term, VarId, copy, copy_name, numbered};
+use mw_term::{Term, copy, numbered};
 use mw_trail::Item;
 use std::alloc::{AllocError, Global};
+
+/// What stands before an item, on a line or in braces.
+fn begin_item(outer: bool, text: &mut Vec<u8>) -> Result<(), AllocError>
+    ensures { OnOk result (text.new.items ≡ text.old.items ++ item_start outer) }
+{
+    if outer {
+        return Ok(());
+    }
+    text.push(b' ')?;
+    Ok(())
+}
+
+/// What stands behind one: the groups that waited for it, and the line's end.
+fn end_item(outer: bool, groups: &mut Vec<u8>, text: &mut Vec<u8>) -> Result<(), AllocError>
+    ensures text { OnOk result (text.new.items ≡ text.old.items ++ item_end outer groups.old.items) }
+    ensures groups { OnOk result (groups.new.items ≡ []) }
+{
+    if !groups.is_empty() {
+        text.extend_from_slice(b" where")?;
+        text.append(groups)?;
+    }
+    if outer {
+        text.push(b'\n')?;
+    }
+    Ok(())
+}
 
 /// A proof under way, as it is told.
 #[derive(Drop)]
@@ -33,7 +61,10 @@ pub struct Chain {
 
 impl Chain {
     /// One that begins at this term, behind a text: the whole proof, or the side of a condition.
-    pub fn new(alloc: Global, outer: bool, text: Vec<u8>, from: Term) -> Chain {
+    pub fn new(alloc: Global, outer: bool, text: Vec<u8>, from: Term) -> Chain
+        ensures outer { result.outer ≡ outer }
+        ensures chain { (M : Module) (n : ℕ) → IsCanonical M.signature from → IsChain M text.items result (begun n from) }
+    {
         Chain {
             walk: Walk::new(alloc, from),
             outer,
@@ -43,98 +74,120 @@ impl Chain {
     }
 
     /// The text.
-    pub fn into_text(self) -> Vec<u8> {
+    pub fn into_text(self) -> Vec<u8>
+        ensures { result ≡ self.text }
+    {
         let Chain { text, .. } = self;
         text
     }
 
-    /// What stands before an item.
-    fn begin_item(&mut self) -> Result<(), AllocError> {
-        if self.outer {
-            return Ok(());
-        }
-        self.text.push(b' ')
+    /// Into an argument.
+    fn enter(self, alloc: Global, number: u32) -> Result<Chain, AllocError>
+        ensures { (M : Module) (S : Stand) → IsAccepted M.signature → IsStanding M S → MayGoIn M.signature number S.hand
+            → IfOk result (Goes M S (into_argument M.signature number S.hand S) self) }
+    {
+        let mut chain = self;
+        chain.walk.enter(alloc, number)?;
+        Ok(chain)
     }
 
-    /// What stands behind one: the groups that waited for it, and the line's end.
-    fn end_item(&mut self) -> Result<(), AllocError> {
-        if !self.groups.is_empty() {
-            self.text.extend_from_slice(b" where")?;
-            self.text.append(&mut self.groups)?;
-        }
-        if self.outer {
-            self.text.push(b'\n')?;
-        }
-        Ok(())
+    /// Into several.
+    fn among(self, alloc: Global, numbers: &[u32]) -> Result<Chain, AllocError>
+        ensures { (M : Module) (S : Stand) → IsAccepted M.signature → IsStanding M S
+            → MayGoAmong M.signature numbers.now S.hand
+            → IfOk result (Goes M S (into_several M.signature numbers.now S.hand S) self) }
+    {
+        let mut chain = self;
+        chain.walk.among(alloc, numbers)?;
+        Ok(chain)
+    }
+
+    /// Out again.
+    fn leave(self, alloc: Global, facts: &Facts) -> Result<Chain, AllocError>
+        ensures { (M : Module) (S : Stand) (o : Open) (os : List Open) → M.signature ≡ facts.now → S.opens ≡ o ∷ os
+            → IfOk result (Goes M S (going_out M.signature S.opens S) self) }
+    {
+        let mut chain = self;
+        chain.walk.leave(alloc, facts)?;
+        Ok(chain)
     }
 
     /// The statement of this number is applied to what is in hand, by these values.
     fn step(
-        &mut self,
+        self,
         alloc: Global,
         context: &Ctx,
         number: u32,
         values: &[Term],
-    ) -> Result<(), AllocError> {
+    ) -> Result<Chain, AllocError>
+        requires { IsAppliedSomewhere context.now number values.now }
+        ensures { (S : Stand) (r : Bool) (s : Substitution) → IsStanding context.now S
+            → MayApply context.now number r s values.now S
+            → IfOk result (Goes context.now S (moved context.now (applies number r s values.now) S) self) }
+    {
+        context.shows();
         let Some(statement) = numbered(context.statements(), number) else {
-            return Ok(());
+            return Ok(self);
         };
-        let place = self.walk.spot(alloc, context.facts())?;
-        let term = right_side(alloc, context, statement, values)?;
-        self.begin_item()?;
+        let Chain {
+            walk,
+            outer,
+            text,
+            groups,
+        } = self;
+        let (mut walk, mut text, mut groups) = (walk, text, groups);
         let (signature, owise) = (context.signature(), statement.owise);
-        write_step(alloc, signature, owise, number, &place, values, &mut self.text)?;
-        self.end_item()?;
-        self.walk.put(term);
-        Ok(())
+        let place = walk.spot(alloc, context.facts())?;
+        let term = right_side(alloc, context, statement, values)?;
+        begin_item(outer, &mut text)?;
+        write_step(alloc, signature, owise, number, &place, values, &mut text)?;
+        end_item(outer, &mut groups, &mut text)?;
+        walk.put(term);
+        Ok(Chain {
+            walk,
+            outer,
+            text,
+            groups,
+        })
     }
 
     /// A row of the schemata is met by what is in hand, and this term comes of it.
-    fn row(&mut self, alloc: Global, context: &Ctx, term: &Term) -> Result<(), AllocError> {
-        let place = self.walk.spot(alloc, context.facts())?;
-        self.begin_item()?;
-        write_built(&place, &mut self.text)?;
-        self.end_item()?;
-        self.walk.put(copy(term)?);
-        Ok(())
+    fn row(self, alloc: Global, context: &Ctx, term: &Term) -> Result<Chain, AllocError>
+        ensures { (S : Stand) → IsStanding context.now S → MayMeet context.now term.now S
+            → IfOk result (Goes context.now S (moved context.now (meets term.now) S) self) }
+    {
+        context.shows();
+        let Chain {
+            walk,
+            outer,
+            text,
+            groups,
+        } = self;
+        let (mut walk, mut text, mut groups) = (walk, text, groups);
+        let place = walk.spot(alloc, context.facts())?;
+        begin_item(outer, &mut text)?;
+        write_built(&place, &mut text)?;
+        end_item(outer, &mut groups, &mut text)?;
+        walk.put(copy(term)?);
+        Ok(Chain {
+            walk,
+            outer,
+            text,
+            groups,
+        })
     }
 
     /// The side of a condition was told.
-    fn take_side(&mut self, side: Chain) -> Result<(), AllocError> {
+    fn with_side(self, side: Chain) -> Result<Chain, AllocError>
+        ensures { (M : Module) (S Q : Stand) → MayEnd S → side.outer ≡ false → IsChain M [] side S
+            → IfOk result (Goes M Q (showing M.signature S Q) self) }
+    {
+        let mut chain = self;
         let mut text = side.into_text();
-        self.groups.extend_from_slice(b" {")?;
-        self.groups.append(&mut text)?;
-        self.groups.extend_from_slice(b" }")
-    }
-}
-
-/// These variables with their values, in order.
-fn bindings(alloc: Global, variables: &[VarId], values: &[Term]) -> Result<Subst, AllocError> {
-    let mut pairs = Vec::with_capacity(alloc, variables.len())?;
-    for (variable, value) in variables.iter().zip(values) {
-        let name = copy_name(alloc, &variable.name)?;
-        let sort = variable.sort;
-        let variable = VarId { name, sort };
-        let value = copy(value)?;
-        pairs.push(Binding { variable, value })?;
-    }
-    let pairs = Seq::of(pairs);
-    Ok(Subst { pairs })
-}
-
-/// The canonical instance of the right side of a statement.
-fn right_side(
-    alloc: Global,
-    context: &Ctx,
-    statement: &Statement,
-    values: &[Term],
-) -> Result<Term, AllocError> {
-    let substitution = bindings(alloc, statement.variables.as_slice(), values)?;
-    match instance(alloc, context.facts(), &substitution, &statement.right) {
-        Ok(term) => Ok(term),
-        Err(CanonError::Memory) => Err(AllocError),
-        Err(CanonError::Deep) => unreachable!(),
-        Err(CanonError::Nat) => unreachable!(),
+        chain.groups.extend_from_slice(b" {")?;
+        chain.groups.append(&mut text)?;
+        chain.groups.extend_from_slice(b" }")?;
+        Ok(chain)
     }
 }
 
@@ -145,15 +198,24 @@ fn tell_inside(
     item: Item,
     values: &[Term],
     numbers: &[u32],
-    chain: &mut Chain,
-) -> Result<(), AllocError> {
+    chain: Chain,
+) -> Result<Chain, AllocError>
+    requires values { needs item ≤ length values.now }
+    requires numbers { counts item ≤ length numbers.now }
+    requires may { IsMadeSomewhere context.now (move_of context.now item values.now numbers.now) }
+    ensures { (S : Stand) → IsStanding context.now S
+        → MayMove context.now (move_of context.now item values.now numbers.now) S
+        → IfOk result (Goes context.now S
+        (moved context.now (move_of context.now item values.now numbers.now) S) chain) }
+{
+    context.shows();
     match item {
-        Item::Into(number) => chain.walk.enter(alloc, number),
-        Item::Among(count) => chain.walk.among(alloc, &numbers[..count as usize]),
-        Item::Out => chain.walk.leave(alloc, context.facts()),
+        Item::Into(number) => chain.enter(alloc, number),
+        Item::Among(count) => chain.among(alloc, &numbers[..count as usize]),
+        Item::Out => chain.leave(alloc, context.facts()),
         Item::Apply(count, number) => chain.step(alloc, context, number, &values[..count as usize]),
         Item::Row => chain.row(alloc, context, &values[0]),
-        Item::Begin(_) | Item::End => Ok(()),
+        Item::Begin(_) | Item::End => Ok(chain),
     }
 }
 
@@ -166,29 +228,36 @@ pub(crate) fn tell(
     numbers: &[u32],
     chains: &mut Vec<Chain>,
 ) -> Result<(), AllocError>
+    requires values { needs item ≤ length values.now }
+    requires numbers { counts item ≤ length numbers.now }
+    requires may { IsMadeSomewhere context.now (move_of context.now item values.now numbers.now) }
     ensures { (head : List ℕ) (B : List Stand) → AreStanding context.now B
         → IsMove context.now (move_of context.now item values.now numbers.now) B
         → AreChains context.now head (reverse chains.old.items) B
         → OnOk result (AreChains context.now head (reverse chains.new.items)
         (play context.now (move_of context.now item values.now numbers.now) B)) }
 {
+    let Some(chain) = chains.pop() else {
+        return Ok(());
+    };
     match item {
         Item::Begin(count) => {
             let from = copy(&values[count as usize])?;
-            chains.push(Chain::new(alloc, false, Vec::new(alloc), from))
+            let side = Chain::new(alloc, false, Vec::new(alloc), from);
+            chains.push(chain)?;
+            chains.push(side)?;
         }
         Item::End => {
-            let Some(side) = chains.pop() else {
+            let Some(below) = chains.pop() else {
                 return Ok(());
             };
-            match chains.last_mut() {
-                Some(chain) => chain.take_side(side),
-                None => Ok(()),
-            }
+            let below = below.with_side(chain)?;
+            chains.push(below)?;
         }
-        _ => match chains.last_mut() {
-            Some(chain) => tell_inside(alloc, context, item, values, numbers, chain),
-            None => Ok(()),
-        },
+        Item::Into(_) | Item::Among(_) | Item::Out | Item::Apply(_, _) | Item::Row => {
+            let chain = tell_inside(alloc, context, item, values, numbers, chain)?;
+            chains.push(chain)?;
+        }
     }
+    Ok(())
 }
