@@ -101,7 +101,7 @@ module _ (sig : Signature) (ok : IsAccepted sig) (r : Bool) where
 -- where the replacements of a kept proof stand
 pub spotted : (M : Module) → IsAccepted M.signature → (S : Stand) (r : Bool) (w v : RawTerm) → IsStanding M S → AreOrderly M.signature S.opens → MayReplace M r S.opens S.hand w v
     → ReplacesAt M.signature r S.hand (normal_form M.signature v) (climbed_path M.signature S.opens S.hand [] None) (climbed_take M.signature S.opens S.hand [] None) (whole M.signature S.opens S.hand)
-        (whole M.signature S.opens (normal_form M.signature v))
+    (whole M.signature S.opens (normal_form M.signature v))
 spotted M ok S r w v h orderly may =
     climbs_to M.signature ok r S.hand (normal_form M.signature v) (canonical M.signature ok v) S.opens S.hand (normal_form M.signature v) [] None h.at.clear orderly
     (holes_open M.signature ok r S.opens (nested M.signature S.hand) h.at.raw h.at.clear may.free) h.at.canonical may.seen

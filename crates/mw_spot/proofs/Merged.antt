@@ -6,14 +6,14 @@ use Rattle.mw_logic.specs.Term.{RawTerm, RawTerms, nil, cons, join}
 use Rattle.mw_logic.specs.Terms.{front, skip}
 use Rattle.mw_logic.specs.Parts.{number_of_terms}
 use Rattle.mw_logic.specs.TermOrder.{stands_after, insert_term, sorted_terms}
-use Rattle.mw_logic.proofs.OrderLaws.{after-trans, after-asym}
-use Rattle.mw_logic.proofs.Canonical.{Each}
-use Rattle.mw_logic.proofs.SortedLists.{Climbs, NoneBelow, sorted_terms-climbing}
+use Rattle.mw_logic.proofs.OrderLaws.{after-trans, after-asym, not_after_itself}
+use Rattle.mw_logic.proofs.SortLaws.{join_assoc, sorted_terms-comm}
+use Rattle.mw_logic.proofs.Canonical.{Each, Each-join, Each-arranged}
+use Rattle.mw_logic.proofs.SortedLists.{Climbs, NoneBelow, NoneBelow-lower, insert_first}
 use Rattle.mw_arguments.specs.Places.{chosen, Rise}
 use Rattle.mw_arguments.proofs.Middles.{chosen-middle}
-use Rattle.mw_arguments.proofs.ListPieces.{number_front}
-use Rattle.mw_stack.specs.Places.{Divides}
-use Rattle.mw_stack.proofs.Cutting.{place_cuts}
+use Rattle.mw_arguments.proofs.ListPieces.{number_front, join_parts}
+use Rattle.mw_stack.proofs.Cutting.{each_weaker, climbs_parts}
 use Rattle.mw_spot.specs.Spots.{below}
 
 -- a list in order has as many terms
@@ -29,55 +29,74 @@ pub number-sorted : (ts : RawTerms) → number_of_terms (sorted_terms ts) ≡ nu
 number-sorted nil = refl
 number-sorted (cons t ts) = number-insert t (sorted_terms ts) ∙ ap suc (number-sorted ts)
 
--- where the list is divided
-pub divides_below : (ts : RawTerms) (t : RawTerm) (i : ℕ) → i ≤ number_of_terms ts → Divides ts t i → i ≡ below t ts
-divides_below nil t zero l d = refl
-divides_below nil t (suc i) l d = absurd (omega (arith, l))
-divides_below (cons u us) t zero l d = rw (d.behind.0) refl
-divides_below (cons u us) t (suc i) l d = rw (d.before.0) (ap suc (divides_below us t i (omega (arith, l)) (record { before = d.before.1; behind = d.behind })))
-
-all_behind : (t u : RawTerm) (us : RawTerms) → stands_after u t ≡ true → NoneBelow u us → Each (λ v. stands_after v t ≡ true) us
-all_behind t u nil h n = tt
-all_behind t u (cons v us) h n = (by_test (stands_after v t) refl, all_behind t u us h n.1)
+-- where a list in order is cut: the terms that stand before t, and the others, which don't
+all_before : (t : RawTerm) (ts : RawTerms) → Each (λ u. stands_after t u ≡ true) (front (below t ts) ts)
+all_before t nil = tt
+all_before t (cons u us) = by_test (stands_after t u) refl (all_before t us)
   where
-    by_test : (b : Bool) → stands_after v t ≡ b → b ≡ true
-    by_test true e = refl
-    by_test false e = absurd (both_ways _ (after-trans u v t n.0 e) h)
+    by_test : (b : Bool) → stands_after t u ≡ b → Each (λ u. stands_after t u ≡ true) (front (below t us) us) → Each (λ u. stands_after t u ≡ true) (front (cond b (suc (below t us)) 0) (cons u us))
+    by_test true e r = (e, r)
+    by_test false e r = tt
 
-below_divides : (t : RawTerm) (ts : RawTerms) → Climbs ts → Divides ts t (below t ts)
-below_divides t nil c = record { before = tt; behind = tt }
-below_divides t (cons u us) c = by_test (stands_after u t) refl (below_divides t us c.1)
+none_before : (t : RawTerm) (ts : RawTerms) → Climbs ts → NoneBelow t (skip (below t ts) ts)
+none_before t nil c = tt
+none_before t (cons u us) c = by_test (stands_after t u) refl (none_before t us c.1)
   where
-    by_test : (b : Bool) → stands_after u t ≡ b → Divides us t (below t us) → Divides (cons u us) t (cond b 0 (suc (below t us)))
-    by_test true e r = record { before = tt; behind = (e, all_behind t u us e c.0) }
-    by_test false e r = record { before = (e, r.before); behind = r.behind }
+    by_test : (b : Bool) → stands_after t u ≡ b → NoneBelow t (skip (below t us) us) → NoneBelow t (skip (cond b (suc (below t us)) 0) (cons u us))
+    by_test true e r = r
+    by_test false e r = (e, NoneBelow-lower t u us e c.0)
+
+sorted_behind : (ts us : RawTerms) → Climbs ts → Each (λ t. NoneBelow t us) ts → sorted_terms (join ts us) ≡ join ts (sorted_terms us)
+sorted_behind nil us h n = refl
+sorted_behind (cons t ts) us h n =
+    ap (insert_term t) (sorted_behind ts us h.1 n.1)
+    ∙ insert_first t (join ts (sorted_terms us)) (Each-join (λ u. stands_after t u ≡ false) ts (sorted_terms us) h.0 (Each-arranged (λ u. stands_after t u ≡ false) true us n.0))
+
+-- the first of the terms that come comes there, and the others behind it
+cut_there : (t : RawTerm) (us ts : RawTerms) → Climbs ts → Climbs (cons t us) → sorted_terms (join ts (cons t us)) ≡ join (front (below t ts) ts) (cons t (sorted_terms (join (skip (below t ts) ts) us)))
+cut_there t us ts c d =
+    let b : RawTerms = front (below t ts) ts in
+    let a : RawTerms = skip (below t ts) ts in
+    let z : join b a ≡ ts = join_parts (below t ts) ts in
+    let k : _ = climbs_parts b a (subst Climbs (sym z) c) in
+    let h : NoneBelow t a = none_before t ts c in
+    let m : NoneBelow t (join a (cons t us)) = Each-join (λ u. stands_after t u ≡ false) a (cons t us) h (not_after_itself t, d.0) in
+    let n : Each (λ u. NoneBelow u (join a (cons t us))) b =
+    each_weaker (λ u. stands_after t u ≡ true) (λ u. NoneBelow u (join a (cons t us))) b (λ u e. NoneBelow-lower u t (join a (cons t us)) (after-asym t u e) m) (all_before t ts) in
+    let l : NoneBelow t (sorted_terms (join us a)) = Each-arranged (λ u. stands_after t u ≡ false) true (join us a) (Each-join (λ u. stands_after t u ≡ false) us a d.0 h) in
+    ap (λ vs. sorted_terms (join vs (cons t us))) (sym z) ∙ ap sorted_terms (join_assoc b a (cons t us)) ∙ sorted_behind b (join a (cons t us)) k.0 n
+    ∙ ap (join b) (sorted_terms-comm a (cons t us) ∙ insert_first t (sorted_terms (join us a)) l ∙ ap (cons t) (sorted_terms-comm us a))
 
 pub below_within : (t : RawTerm) (ts : RawTerms) → below t ts ≤ number_of_terms ts
 below_within t nil = omega arith
-below_within t (cons u us) = by_test (stands_after u t) (below_within t us)
+below_within t (cons u us) = by_test (stands_after t u) (below_within t us)
   where
-    by_test : (b : Bool) → below t us ≤ number_of_terms us → cond b 0 (suc (below t us)) ≤ suc (number_of_terms us)
-    by_test true r = omega arith
-    by_test false r = omega (arith, r)
+    by_test : (b : Bool) → below t us ≤ number_of_terms us → cond b (suc (below t us)) 0 ≤ suc (number_of_terms us)
+    by_test true r = omega (arith, r)
+    by_test false r = omega arith
 
 -- a later term has no fewer before it
 below_later : (t u : RawTerm) (ts : RawTerms) → stands_after t u ≡ false → below t ts ≤ below u ts
 below_later t u nil h = omega arith
-below_later t u (cons v vs) h = by_test (stands_after v t) refl (below_later t u vs h)
+below_later t u (cons v vs) h = by_test (stands_after t v) refl (below_later t u vs h)
   where
-    by_test : (b : Bool) → stands_after v t ≡ b → below t vs ≤ below u vs → cond b 0 (suc (below t vs)) ≤ cond (stands_after v u) 0 (suc (below u vs))
-    by_test true e r = omega arith
-    by_test false e r = rw (after-trans v t u e h) (omega (arith, r))
+    by_other : (b : Bool) → stands_after u v ≡ b → stands_after t v ≡ true → b ≡ true
+    by_other true e f = refl
+    by_other false e f = absurd (both_ways _ (after-trans t u v h e) f)
+
+    by_test : (b : Bool) → stands_after t v ≡ b → below t vs ≤ below u vs → cond b (suc (below t vs)) 0 ≤ cond (stands_after u v) (suc (below u vs)) 0
+    by_test true e r = rw (by_other (stands_after u v) refl e) (omega (arith, r))
+    by_test false e r = omega arith
 
 -- without some of those before it
 below_skipped : (t : RawTerm) (q : ℕ) (ts : RawTerms) → q ≤ below t ts → below t ts ≡ q + below t (skip q ts)
 below_skipped t zero ts h = omega arith
 below_skipped t (suc q) nil h = absurd (omega (arith, h))
-below_skipped t (suc q) (cons u us) h = by_test (stands_after u t) (below_skipped t q us) h
+below_skipped t (suc q) (cons u us) h = by_test (stands_after t u) (below_skipped t q us) h
   where
-    by_test : (b : Bool) → (q ≤ below t us → below t us ≡ q + below t (skip q us)) → suc q ≤ cond b 0 (suc (below t us)) → cond b 0 (suc (below t us)) ≡ suc q + below t (skip q us)
-    by_test true r l = absurd (omega (arith, l))
-    by_test false r l = let e = r (omega (arith, l)) in omega (arith, e)
+    by_test : (b : Bool) → (q ≤ below t us → below t us ≡ q + below t (skip q us)) → suc q ≤ cond b (suc (below t us)) 0 → cond b (suc (below t us)) 0 ≡ suc q + below t (skip q us)
+    by_test true r l = let e = r (omega (arith, l)) in omega (arith, e)
+    by_test false r l = absurd (omega (arith, l))
 
 climbs_skip : (q : ℕ) (ts : RawTerms) → Climbs ts → Climbs (skip q ts)
 climbs_skip zero ts c = c
@@ -121,7 +140,7 @@ merged_chosen q i ds (cons e es) d c b =
     let s : p ≡ q + r = below_skipped e q ds b.0 in
     let cs : Climbs rest = climbs_skip q ds d in
     let cut : sorted_terms (join rest (cons e es)) ≡ join (front r rest) (cons e (sorted_terms (join (skip r rest) es))) =
-    place_cuts true rest e es r (sorted_terms-climbing rest cs) (below_divides e rest cs) (sorted_terms-climbing (cons e es) c) in
+    cut_there e es rest cs c in
     let left : skip r rest ≡ skip p ds = skip_skip r q ds ∙ ap (λ n. skip n ds) (sym s) in
     let size : number_of_terms (front r rest) ≡ r = number_front r rest (below_within e rest) in
     let z : p + i ≡ (q + i) + number_of_terms (front r rest) = omega (arith, s, size) in

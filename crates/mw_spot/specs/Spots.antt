@@ -9,10 +9,10 @@ use Rattle.mw_logic.specs.TermOrder.{stands_after}
 use Rattle.mw_logic.specs.NormalForm.{is_comm}
 use Rattle.mw_deduction.specs.Standing.{Open, filled}
 
--- how many of the terms, from the first on, don't come behind t
+-- how many of the terms, from the first on, stand before t
 abbrev pub below : RawTerm → RawTerms → ℕ
 below t nil = 0
-below t (cons u us) = cond (stands_after u t) 0 (suc (below t us))
+below t (cons u us) = cond (stands_after t u) (suc (below t us)) 0
 
 -- how many arguments stand before t where it comes among those beside the hole
 abbrev pub place : Signature → Open → RawTerm → ℕ

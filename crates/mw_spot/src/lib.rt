@@ -1,4 +1,37 @@
-//! Where a replacement of a kept proof stands in the whole term.
+//! Where the replacements of a kept proof stand.
+//!
+//! A kept proof is a list of moves (mw_deduction): into an argument, into several, out again, and replacements of the
+//! term in hand. A `Walk` makes these moves on a term, and `spot` tells the place of the term in hand in the whole
+//! canonical term at that moment, as mw_redex has places: the numbers of the arguments on the way, and maybe those of
+//! several arguments of the associative operator at its end.
+//!
+//! A walk keeps the operators that it went into, each with its other arguments. From the innermost on, a place in what
+//! stands in an operator's hole becomes one in the operator's term. Under an operator without axioms the argument has
+//! the number that it was entered by. Under a commutative one it has the number at which it comes in order among the
+//! others, of equal ones the least. Where an associative operator stands on top of what is in its hole, too, the
+//! arguments of the inner one come one by one among those of the outer one, and so does what was taken of them.
+//!
+//! Proved (specs/Walks, specs/Spots), for every accepted signature:
+//!
+//! - A walk that stands where a kept proof stands (`IsAt`: the same operators round the same term) stands where the
+//!   proof does after each move: `enter`, `among` and `leave` are `into_argument`, `into_several` and `going_out` of
+//!   mw_deduction, `new` begins, and `put` puts another term in hand.
+//! - `spot` answers a place of the whole term, of which it says: where the proof may replace the term in hand there, it
+//!   stands at that place, for rules in no frozen argument, and the whole term with the new one put there is the whole
+//!   that comes of the replacement (`ReplacesAt` of mw_redex).
+//!
+//! Conditions: the term in hand is canonical and the move may be made (`MayGoIn`, `MayGoAmong`); for `spot` the proof's
+//! stand is one that its moves lead to (`IsStanding`) and the replacement may be made (`MayReplace`). Else nothing is
+//! said of the answers, but each call is safe and ends.
+//!
+//! Errors: want of memory alone, or a number beyond 32 bits. After one, in `enter`, `among` or `leave`, nothing is said
+//! of the walk, and it is not to be used again; `spot` changes nothing.
+//!
+//! Cost: `enter` and `among` copy the operator's arguments, by one count each; `leave` takes what `rebuild` of mw_canon
+//! takes. `spot` makes no term where no operator on the way is associative or commutative. Else it makes, of copies,
+//! what stands in the hole of the outermost of these, level by level, and compares each argument that it asks the
+//! number of with log n others; its native stack grows with the levels. Neither proved nor tested here: time, and that
+//! calls answer with memory at hand.
 #![tactic(auto)]
 
 mod level;

@@ -6,16 +6,17 @@ ghost use Rattle.mw_spot.specs.Spots.{place as place_of_term, numbers as numbers
 
 use crate::level::Level;
 use mw_canon::{Axioms, Facts};
-use mw_stack::place_of;
-use mw_term::{Term, View, number_at, numbered};
+use mw_term::{Term, View, compare, number_at, numbered};
 use std::alloc::{AllocError, Global};
 
-/// How many arguments stand before a term where it comes among the level's.
+/// How many arguments stand before a term where it comes among the level's: of a commutative operator those that the
+/// order of terms puts before it.
 pub(crate) fn place(facts: &Facts, level: &Level, term: &Term) -> usize
     ensures { IsOrderly facts.now level.now → result ≡ place_of_term facts.now level.now term.now }
 {
     if level.is_commutative(facts) {
-        place_of(facts, level.operator, level.others.as_slice(), 0, term)
+        let others = level.others.as_slice();
+        others.partition_point(|other| compare(term, other).is_gt())
     } else {
         level.at
     }
@@ -90,10 +91,7 @@ pub(crate) fn spread<'t>(facts: &Facts, level: &Level, term: &'t Term) -> Option
 {
     match (facts.axioms(level.operator), term.view()) {
         (Axioms::Associative { .. }, View::Op(operator, args))
-            if operator == level.operator && !args.is_empty() =>
-        {
-            Some(args)
-        }
+            if operator == level.operator && !args.is_empty() => { Some(args) }
         _ => None,
     }
 }

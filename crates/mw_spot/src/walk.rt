@@ -123,7 +123,7 @@ impl Walk {
         Ok(())
     }
 
-    /// Where the term in hand stands in the whole.
+    /// The place of the term in hand in the whole: there it is replaced, where a kept proof that stands here replaces it.
     pub fn spot(&self, alloc: Global, facts: &Facts) -> Result<Place, AllocError>
         ensures { (M : Module) (S : Stand) (by_rule : Bool) (w v : RawTerm) → M.signature ≡ facts.now
             → IsAt facts.now self.now S → IsStanding M S → MayReplace M by_rule S.opens S.hand w v
