@@ -147,7 +147,12 @@ fn tell<K: Sink>(sink: &mut K, text: &str, status: u8) -> u8
 }
 
 /// Reads a source to its end, and answers its units.
-fn answer_source<S: Source, K: Sink>(alloc: Global, options: Options, source: &mut S, sink: &mut K) -> u8
+fn answer_source<S: Source, K: Sink>(
+    alloc: Global,
+    options: Options,
+    source: &mut S,
+    sink: &mut K,
+) -> u8
     ensures { (words : List (List ℕ)) → Asks words (Asked.Run options)
         → Did words (S.left source.old) (S.left source.new) (S.faults source.old) (S.faults source.new) (K.held sink.old) (K.held sink.new) (K.faults sink.old) (K.faults sink.new) result }
 {

@@ -255,7 +255,12 @@ impl<'s> Session<'s> {
     }
 
     /// What a unit gives, where a command makes at most so many steps.
-    pub fn answer(&mut self, alloc: Global, unit: Unit<'s>, options: Options) -> Result<Answer, AllocError>
+    pub fn answer(
+        &mut self,
+        alloc: Global,
+        unit: Unit<'s>,
+        options: Options,
+    ) -> Result<Answer, AllocError>
         requires { AreKnown (seen_unit unit).statements }
         ensures { IfOk result (λ a. Gives options self.old (Ok (seen_unit unit.entry)) a.text.items a.refused self.new) }
     {
