@@ -1,11 +1,11 @@
 -- What calls answer, as the definitions say it.
-use Rattle.std.specs.Prelude.{◌≡◌, ◌+◌, ◌-◌, ◌<◌, ◌≤◌, ℕ, zero, suc, List, [], ◌∷◌, ◌++◌, take, drop, length, get_or, reverse, Bool, true, false, nat_eq, ◌&&◌, Option, Some, None, option_map, unwrap_or, slice_get, IfOk, OnOk, refl}
+use Rattle.std.specs.Prelude.{◌≡◌, ◌+◌, ◌-◌, ◌≤◌, ℕ, zero, suc, List, [], ◌∷◌, ◌++◌, take, drop, length, get_or, reverse, true, Some, None, option_map, unwrap_or, IfOk, OnOk}
 use Rattle.std.specs.Prelude.{Result, Ok, Err}
 use Rattle.std.proofs.Common.{ap, sym, subst, ◌∙◌, arith}
 use Rattle.std.proofs.lemmas.Bool.{and_from, eq-eqb}
 use Rattle.std.proofs.lemmas.List.{take_more, reverse-append}
 use Rattle.std.proofs.Math.Seq.{take-length}
-use Rattle.mw_logic.specs.Term.{RawTerm, apply, RawTerms, nil, cons, join}
+use Rattle.mw_logic.specs.Term.{RawTerm, apply}
 use Rattle.mw_logic.specs.Terms.{terms_of, list_of, args_of}
 use Rattle.mw_logic.specs.Signature.{Signature, at_number}
 use Rattle.mw_logic.specs.Parts.{is_assoc}
@@ -13,7 +13,8 @@ use Rattle.mw_logic.specs.NormalForm.{applied_in}
 use Rattle.mw_term.proofs.Terms.{list_of-terms_of}
 use Rattle.mw_deduction.specs.Standing.{Open, filled}
 use Rattle.mw_spot.specs.Spots.{place, number_of, stands_on, is_spread}
-use Rattle.mw_spot.proofs.Levels.{level_of, with_one}
+use Rattle.mw_spot.specs.Walks.{level_of}
+use Rattle.mw_spot.proofs.Levels.{with_one}
 
 pub if_ok : {T E : Type 0} (r : Result T E) (P Q : T → Type 0) → ((t : T) → P t → Q t) → IfOk r P → IfOk r Q
 if_ok (Ok t) P Q w h = w t h

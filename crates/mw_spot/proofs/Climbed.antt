@@ -1,13 +1,13 @@
 -- A place from level to level, up to the whole.
 use Rattle.std.specs.Prelude.{◌≡◌, ◌+◌, ℕ, suc, List, [], ◌∷◌, ◌++◌, take, drop, reverse, Bool, true, false, ◌||◌, Option, None, All, IsTrue, ⊤, refl}
-use Rattle.std.proofs.Common.{ap, sym, subst, ◌∙◌, arith, inl, inr, ⊎_elim}
+use Rattle.std.proofs.Common.{ap, sym, subst, ◌∙◌, inl, inr, ⊎_elim}
 use Rattle.std.proofs.lemmas.Bool.{or_left}
 use Rattle.std.proofs.lemmas.List.Elements.{All-head, All-tail}
 use Rattle.std.proofs.lemmas.List.{take-append-drop, reverse-append}
 use Rattle.mw_logic.specs.Term.{RawTerm, RawTerms, nil, cons, join, Context, plug}
 use Rattle.mw_logic.specs.Signature.{Signature, Operator, IsOperator, IsRawTerm}
 use Rattle.mw_logic.specs.Accepted.{IsAccepted}
-use Rattle.mw_logic.specs.Parts.{is_assoc, nested, all_nested, chain, number_of_terms, IsFrozenArgument, IsFrozen}
+use Rattle.mw_logic.specs.Parts.{is_assoc, nested, all_nested, chain, number_of_terms, IsFrozenArgument}
 use Rattle.mw_logic.specs.NormalForm.{is_comm, normal_form}
 use Rattle.mw_logic.specs.CanonicalPart.{IsOpen}
 use Rattle.mw_logic.specs.Module.{Module}
@@ -21,8 +21,8 @@ use Rattle.mw_deduction.specs.Standing.{Open, filled, context_at, round, IsClear
 use Rattle.mw_deduction.specs.Stands.{IsStanding}
 use Rattle.mw_deduction.specs.Replay.{Stand, whole, MayReplace}
 use Rattle.mw_redex.specs.Replaced.{ReplacesAt}
-use Rattle.mw_spot.specs.Walks.{Walked, IsOrderly, AreOrderly, IsAt}
-use Rattle.mw_spot.specs.Spots.{place, is_spread, raised_path, raised_take, climbed_path, climbed_take, IsFree, passed}
+use Rattle.mw_spot.specs.Walks.{Walked, AreOrderly, IsAt}
+use Rattle.mw_spot.specs.Spots.{raised_path, raised_take, climbed_path, climbed_take, IsFree, passed}
 use Rattle.mw_spot.proofs.Filled.{filled_canonical, filled_seen}
 use Rattle.mw_spot.proofs.Raised.{raises}
 

@@ -1,5 +1,5 @@
 -- Into arguments, and out of them: the walk stands where the moves do.
-use Rattle.std.specs.Prelude.{◌≡◌, ◌+◌, ◌-◌, ◌<◌, ◌≤◌, ◌^◌, min, ℕ, zero, suc, List, [], ◌∷◌, ◌++◌, take, drop, length, get_or, Bool, true, false, cond, ◌&&◌, nat_eq, nat_lt, refl}
+use Rattle.std.specs.Prelude.{◌≡◌, ◌+◌, ◌-◌, ◌<◌, ◌≤◌, ◌^◌, min, ℕ, suc, List, [], ◌∷◌, ◌++◌, take, drop, length, get_or, Bool, true, false, cond, ◌&&◌, nat_eq, nat_lt, refl}
 use Rattle.std.proofs.Common.{ap, sym, subst, ◌∙◌, arith, drop-cons}
 use Rattle.std.proofs.lemmas.List.{take-append-drop, length-take}
 use Rattle.std.proofs.Math.Seq.{take-append_seam, drop-append_seam}
@@ -9,11 +9,11 @@ use Rattle.mw_logic.specs.Signature.{Signature}
 use Rattle.mw_logic.specs.Accepted.{IsAccepted}
 use Rattle.mw_logic.specs.Parts.{is_assoc, number_of_terms}
 use Rattle.mw_logic.specs.Kinds.{is_successor}
-use Rattle.mw_logic.specs.TermOrder.{stands_after, sorted_terms}
+use Rattle.mw_logic.specs.TermOrder.{stands_after}
 use Rattle.mw_logic.specs.NormalForm.{is_comm, arranged, counted}
 use Rattle.mw_logic.proofs.Pushed.{terms_of-append}
 use Rattle.mw_logic.proofs.Canonical.{Each, IsCanonical, nat_eq-refl}
-use Rattle.mw_logic.proofs.SortedLists.{Climbs, NoneBelow, climbs, sorted_terms-climbing}
+use Rattle.mw_logic.proofs.SortedLists.{Climbs, climbs, sorted_terms-climbing}
 use Rattle.mw_arguments.specs.Places.{chosen, others, Rise}
 use Rattle.mw_arguments.proofs.Arguments.{args_in_order}
 use Rattle.mw_arguments.proofs.Middles.{Divided, first_there, others-middle}
@@ -22,8 +22,7 @@ use Rattle.mw_deduction.specs.Standing.{Open, filled}
 use Rattle.mw_deduction.specs.Replay.{Stand, opened, going_in, into_argument, into_several, going_out, MayGoIn, MayGoAmong}
 use Rattle.mw_deduction.proofs.Taking.{into_is, front-join, skip-join}
 use Rattle.mw_redex.proofs.Middles.{number-join}
-use Rattle.mw_spot.specs.Walks.{Walked, IsOrderly, AreOrderly, IsAt}
-use Rattle.mw_spot.proofs.Levels.{level_of, beside}
+use Rattle.mw_spot.specs.Walks.{Walked, level_of, IsOrderly, IsAt}
 use Rattle.mw_spot.proofs.Exchanging.{same_cut}
 
 same_operator : {f g : ℕ} {ts us : RawTerms} → apply f ts ≡ apply g us → f ≡ g
@@ -37,6 +36,9 @@ same_first e = cc
 
 same_rest : {t u : RawTerm} {ts us : RawTerms} → cons t ts ≡ cons u us → ts ≡ us
 same_rest e = cc
+
+same_level : (f g : ℕ) (b a c d : RawTerms) → f ≡ g → b ≡ c → a ≡ d → opened f b a ≡ opened g c d
+same_level f g b a c d p q r = ap (λ h. opened h b a) p ∙ ap (λ us. opened g us a) q ∙ ap (opened g c) r
 
 -- what is left of a list in order is in order
 others_each : (P : RawTerm → Type 0) (i : ℕ) (ks : List ℕ) (ts : RawTerms) → Each P ts → Each P (others i ks ts)
@@ -116,8 +118,7 @@ module _ (sig : Signature) (ok : IsAccepted sig) where
           let front : take at left ≡ take at args = ap (take at) l ∙ ap (λ n. take n (take at args ++ drop (suc at) args)) (sym long) ∙ take-append_seam (take at args) (drop (suc at) args) in
           let back : drop at left ≡ drop (suc at) args = ap (drop at) l ∙ ap (λ n. drop n (take at args ++ drop (suc at) args)) (sym long) ∙ drop-append_seam (take at args) (drop (suc at) args) in
           let level : level_of f at left ≡ opened may.operator may.before may.after =
-          ap (λ ys. record { operator = f; before = terms_of ys; after = terms_of (drop at left) }) front ∙ ap (λ ys. record { operator = f; before = b; after = terms_of ys }) back
-          ∙ ap (λ g. opened g b a) (same_operator whole) ∙ ap (λ b. opened may.operator b a) same.0 ∙ ap (opened may.operator may.before) (same_rest same.1) in
+          same_level f may.operator (terms_of (take at left)) (terms_of (drop at left)) may.before may.after (same_operator whole) (ap terms_of front ∙ same.0) (ap terms_of back ∙ same_rest same.1) in
           let canonical : IsCanonical sig (apply may.operator (join may.before (cons may.argument may.after))) = subst (IsCanonical sig) may.is k in
           let one : others 1 (i ∷ []) (join may.before (cons may.argument may.after)) ≡ join may.before may.after = others-middle 1 i [] may.before may.argument may.after (omega (arith, n)) in
           let order : IsOrderly sig (opened may.operator may.before may.after) =
@@ -158,7 +159,7 @@ module _ (sig : Signature) (ok : IsAccepted sig) where
               let number : number_of_terms o.before ≡ number_of_terms d.before = omega (arith, n, l, c, y) in
               let same = same_cut o.before d.before o.after rest number (j ∙ left) in
               let level : o ≡ opened f (front (i - 1) (terms_of args)) (others i (i ∷ ks) (skip (i - 1) (terms_of args))) =
-              ap (λ g. opened g o.before o.after) e ∙ ap (λ b. opened f b o.after) (same.0 ∙ sym first) ∙ ap (opened f (front (i - 1) (terms_of args))) (same.1 ∙ sym second) in
+              same_level o.operator f o.before o.after (front (i - 1) (terms_of args)) (others i (i ∷ ks) (skip (i - 1) (terms_of args))) e (same.0 ∙ sym first) (same.1 ∙ sym second) in
               let order : IsOrderly sig o =
               subst (λ g. arranged (is_comm sig g) (join o.before o.after) ≡ join o.before o.after) (sym e)
               (subst (λ ts. arranged (is_comm sig f) ts ≡ ts) (sym j) (left_in_order f (i ∷ ks) (terms_of args) (subst (IsCanonical sig) hand k))) in

@@ -1,23 +1,22 @@
 -- A level with a term in its hole: its operator on all arguments, where the term is seen.
-use Rattle.std.specs.Prelude.{◌≡◌, ◌+◌, ◌<◌, ◌^◌, ℕ, suc, List, [], ◌∷◌, max, Bool, true, false, cond, ◌&&◌, nat_eq, nat_lt, Option, IsFalse, refl}
+use Rattle.std.specs.Prelude.{◌≡◌, ◌+◌, ◌^◌, ℕ, suc, max, Bool, true, false, cond, ◌&&◌, nat_lt, Option, refl}
 use Rattle.std.proofs.Common.{ap, sym, subst, ◌∙◌, arith}
 use Rattle.std.proofs.lemmas.Bool.{both_ways, eqb-true, and_parts, ltb-true}
 use Rattle.mw_logic.specs.Term.{RawTerm, numeral, quoted, variable, apply, RawTerms, nil, cons, join}
 use Rattle.mw_logic.specs.Terms.{args_of}
-use Rattle.mw_logic.specs.Signature.{Signature, Identity, IsSuccessor}
+use Rattle.mw_logic.specs.Signature.{Signature, Identity}
 use Rattle.mw_logic.specs.Accepted.{IsAccepted}
 use Rattle.mw_logic.specs.Parts.{is_assoc, number_of_terms}
 use Rattle.mw_logic.specs.Kinds.{is_successor}
-use Rattle.mw_logic.specs.NormalForm.{is_comm, identity_of, is_identity, own_arguments, elements, flattened, rebuilt, arranged, counted, applied_in, height}
+use Rattle.mw_logic.specs.NormalForm.{is_comm, identity_of, is_identity, own_arguments, elements, flattened, arranged, counted, applied_in, height}
 use Rattle.mw_logic.specs.CanonicalPart.{AreSeveral}
-use Rattle.mw_logic.proofs.Canonical.{Each, Each-join, IsElement, IsCanonical, AreCanonical, each_canonical, all_canonical, arranged-one, flattened-elements, applied_canonical, is_identity-arguments, nat_eq-refl}
+use Rattle.mw_logic.proofs.Canonical.{Each-join, IsCanonical, each_canonical, all_canonical, arranged-one, flattened-elements, applied_canonical, is_identity-arguments, nat_eq-refl}
 use Rattle.mw_logic.proofs.Soundness.{IsLong, long-join, long-arranged, several-join, several-arranged, rebuilt-several}
 use Rattle.mw_logic.proofs.Replacing.{flattened-join}
 use Rattle.mw_logic.proofs.SortedLists.{Climbs, climbs}
 use Rattle.mw_logic.proofs.Successor.{is_successor-sound}
 use Rattle.mw_arguments.proofs.Arguments.{args_in_order}
 use Rattle.mw_deduction.specs.Standing.{Open, filled, IsClear, IsSeenBy}
-use Rattle.mw_redex.proofs.Middles.{number-join}
 use Rattle.mw_spot.specs.Spots.{stands_on, is_spread}
 use Rattle.mw_spot.proofs.Among.{with_all, number_all}
 

@@ -1,11 +1,11 @@
 -- A level of a walk: the arguments beside the hole stand in one list.
-use Rattle.std.specs.Prelude.{◌≡◌, ◌≤◌, ◌<◌, ◌+◌, ◌++◌, ℕ, zero, suc, List, [], ◌∷◌, take, drop, length, get_or, Bool, true, false, refl}
+use Rattle.std.specs.Prelude.{◌≡◌, ◌≤◌, ◌<◌, ◌++◌, ℕ, zero, suc, List, [], ◌∷◌, take, drop, length, get_or, Bool, true, false, refl}
 use Rattle.std.specs.Ordering.{is_gt}
 use Rattle.std.specs.List.Sorted.{IsPartitionedBy, IsPartitionPoint}
 use Rattle.std.proofs.Common.{ap, sym, subst, ◌∙◌, arith}
 use Rattle.std.proofs.lemmas.Bool.{both_ways}
 use Rattle.std.proofs.lemmas.List.{take-append-drop, length-take}
-use Rattle.mw_logic.specs.Term.{RawTerm, RawTerms, cons, join}
+use Rattle.mw_logic.specs.Term.{RawTerm, cons, join}
 use Rattle.mw_logic.specs.Terms.{terms_of}
 use Rattle.mw_logic.specs.Signature.{Signature}
 use Rattle.mw_logic.specs.TermOrder.{compare_terms, stands_after, sorted_terms}
@@ -16,12 +16,9 @@ use Rattle.mw_logic.specs.Parts.{number_of_terms}
 use Rattle.mw_logic.proofs.Pushed.{terms_of-append}
 use Rattle.mw_deduction.specs.Standing.{Open}
 use Rattle.mw_stack.proofs.Piles.{number-terms_of}
-use Rattle.mw_spot.specs.Walks.{IsOrderly}
+use Rattle.mw_spot.specs.Walks.{level_of, IsOrderly}
 use Rattle.mw_spot.specs.Spots.{below, place}
 use Rattle.mw_stack.proofs.Searched.{none_after, after_test}
-
-abbrev pub level_of : ℕ → ℕ → List RawTerm → Open
-level_of f at xs = record { operator = f; before = terms_of (take at xs); after = terms_of (drop at xs) }
 
 pub beside : (at : ℕ) (xs : List RawTerm) → join (terms_of (take at xs)) (terms_of (drop at xs)) ≡ terms_of xs
 beside at xs = sym (terms_of-append (take at xs) (drop at xs)) ∙ ap terms_of (take-append-drop at xs)

@@ -1,7 +1,7 @@
 -- Terms are gone through one by one, and those that have one of some numbers are set apart.
 use Rattle.std.specs.Prelude.{◌≡◌, ◌+◌, ◌-◌, ◌<◌, ◌≤◌, ℕ, suc, List, [], ◌∷◌, ◌++◌, take, drop, length, get_or, refl}
 use Rattle.std.proofs.Common.{ap, sym, ◌∙◌, arith, add-one, drop-cons, drop_of_length-le}
-use Rattle.mw_logic.specs.Term.{RawTerm, RawTerms, nil, cons, join}
+use Rattle.mw_logic.specs.Term.{RawTerm, RawTerms, cons, join}
 use Rattle.mw_logic.specs.Terms.{terms_of}
 use Rattle.mw_logic.proofs.Canonical.{nat_eq-refl}
 use Rattle.mw_logic.proofs.SortLaws.{join-nil}

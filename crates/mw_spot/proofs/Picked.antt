@@ -1,11 +1,11 @@
 -- Numbers that rise, and those of them that other numbers pick.
-use Rattle.std.specs.Prelude.{◌≡◌, ◌+◌, ◌-◌, ◌<◌, ◌≤◌, ℕ, zero, suc, List, [], ◌∷◌, length, map, Bool, true, false, cond, nat_eq, Option, Some, None, unwrap_or, slice_get, refl}
+use Rattle.std.specs.Prelude.{◌≡◌, ◌+◌, ◌-◌, ◌≤◌, ℕ, suc, List, [], ◌∷◌, length, map, Bool, true, false, cond, nat_eq, unwrap_or, slice_get, refl}
 use Rattle.std.proofs.Common.{ap, sym, subst, ◌∙◌, arith}
 use Rattle.std.proofs.lemmas.Bool.{both_ways, eqb-true, eq-eqb}
 use Rattle.mw_logic.specs.Term.{RawTerm, RawTerms, nil, cons, join}
 use Rattle.mw_logic.specs.Parts.{number_of_terms}
 use Rattle.mw_arguments.specs.Places.{chosen, Rise}
-use Rattle.mw_arguments.proofs.Middles.{apart, differ}
+use Rattle.mw_arguments.proofs.Middles.{apart}
 use Rattle.mw_redex.proofs.Middles.{rise_lower}
 
 -- what numbers that rise choose of a list stands behind the terms before the first of them

@@ -1,14 +1,14 @@
 -- A replacement in the term in a level's hole is one in what the level is with it, at the raised place.
-use Rattle.std.specs.Prelude.{◌≡◌, ◌+◌, ◌<◌, ◌≤◌, ℕ, zero, suc, List, [], ◌∷◌, map, Bool, true, false, cond, nat_eq, ◌||◌, Option, Some, None, option_map, option_and_then, unwrap_or, slice_get, refl}
+use Rattle.std.specs.Prelude.{◌≡◌, ◌+◌, ℕ, zero, suc, List, [], ◌∷◌, map, Bool, true, false, cond, nat_eq, Option, Some, None, option_map, option_and_then, unwrap_or, slice_get, refl}
 use Rattle.std.proofs.Common.{ap, sym, subst, ◌∙◌, arith}
-use Rattle.std.proofs.lemmas.Bool.{both_ways, and_parts, or_left, or_right}
+use Rattle.std.proofs.lemmas.Bool.{and_parts, or_left, or_right}
 use Rattle.mw_logic.specs.Term.{RawTerm, apply, RawTerms, nil, cons, join}
 use Rattle.mw_logic.specs.Terms.{list_of, args_of}
 use Rattle.mw_logic.specs.Signature.{Signature}
 use Rattle.mw_logic.specs.Accepted.{IsAccepted}
-use Rattle.mw_logic.specs.Parts.{is_assoc, nested, number_of_terms}
-use Rattle.mw_logic.specs.TermOrder.{sorted_terms, insert_term}
-use Rattle.mw_logic.specs.NormalForm.{is_comm, applied_in, normal_form}
+use Rattle.mw_logic.specs.Parts.{is_assoc, number_of_terms}
+use Rattle.mw_logic.specs.TermOrder.{sorted_terms}
+use Rattle.mw_logic.specs.NormalForm.{is_comm, applied_in}
 use Rattle.mw_logic.specs.CanonicalPart.{AreSeveral, IsOpen}
 use Rattle.mw_logic.proofs.SortLaws.{join-nil, join_assoc}
 use Rattle.mw_logic.proofs.SortedLists.{Climbs}
@@ -17,12 +17,12 @@ use Rattle.mw_logic.proofs.CanonicalTerms.{fixed}
 use Rattle.mw_logic.proofs.Frozen.{open_anywhere}
 use Rattle.mw_logic.proofs.Inside.{associative}
 use Rattle.mw_logic.proofs.Replacing.{sorted_terms-middle, applied-inside, replaced_canonical}
-use Rattle.mw_arguments.specs.Places.{chosen, others, Rise, Follow, Takes}
+use Rattle.mw_arguments.specs.Places.{chosen, others, Rise, Follow}
 use Rattle.mw_arguments.proofs.Places.{chosen_whole}
 use Rattle.mw_arguments.proofs.Middles.{Divided, divided, middle_found, first_there, chosen-middle, others-middle, followed}
 use Rattle.mw_deduction.specs.Standing.{Open, filled, IsClear, IsSeenBy}
 use Rattle.mw_redex.specs.Paths.{at_path}
-use Rattle.mw_redex.specs.Replaced.{exchanged, put_in, replaced_at, IsTaken, IsPartAt, IsOpenArgument, IsOpenWay, way_of_place, ReplacesAt}
+use Rattle.mw_redex.specs.Replaced.{exchanged, put_in, replaced_at, IsOpenArgument, IsOpenWay, way_of_place, ReplacesAt}
 use Rattle.mw_redex.proofs.Middles.{exchanged-middle, number-join}
 use Rattle.mw_redex.proofs.Standing.{place_in_term}
 use Rattle.mw_spot.specs.Walks.{IsOrderly}

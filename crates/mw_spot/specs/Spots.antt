@@ -1,6 +1,6 @@
 -- Numbers of arguments, and the place that they give: each level of a walk, from the innermost on, tells where what stands in its hole is found in the
 -- canonical term that comes of it.
-use Rattle.std.specs.Prelude.{◌≡◌, ◌+◌, ℕ, suc, List, [], ◌∷◌, map, Bool, false, cond, ◌&&◌, nat_eq, Option, Some, None, option_map, unwrap_or, ⊤}
+use Rattle.std.specs.Prelude.{◌≡◌, ◌+◌, ℕ, suc, List, [], ◌∷◌, map, Bool, false, cond, ◌&&◌, nat_eq, Option, Some, None, option_map, unwrap_or}
 use Rattle.mw_logic.specs.Term.{RawTerm, numeral, quoted, variable, apply, RawTerms, nil, cons, join}
 use Rattle.mw_logic.specs.Terms.{list_of, args_of}
 use Rattle.mw_logic.specs.Signature.{Signature, at_number}

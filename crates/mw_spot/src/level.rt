@@ -26,10 +26,10 @@ impl Model for Level {
 
     ghost coded = { Prim.hlevel (codes, coded_terms) };
 
-    ghost use Rattle.std.specs.Prelude.{take, drop, length, ◌≤◌};
-    ghost use Rattle.mw_logic.specs.Terms.{terms_of};
+    ghost use Rattle.std.specs.Prelude.{length, ◌≤◌};
+    ghost use Rattle.mw_spot.specs.Walks.{level_of};
 
-    ghost view = { λ l. record { operator = l.operator; before = terms_of (take l.at l.others.items); after = terms_of (drop l.at l.others.items) } };
+    ghost view = { λ l. level_of l.operator l.at l.others.items };
 
     ghost invariant = { λ l. l.at ≤ length l.others.items };
 }

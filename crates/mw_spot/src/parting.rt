@@ -1,9 +1,9 @@
 // Several arguments are parted from the others.
-ghost use Rattle.std.specs.Prelude.{◌≡◌, ◌-◌, min, IfOk};
-ghost use Rattle.mw_arguments.specs.Places.{chosen, others as others_of};
-ghost use Rattle.mw_logic.specs.Term.{apply as applied, join};
+ghost use Rattle.std.specs.Prelude.{◌≡◌, IfOk};
+ghost use Rattle.mw_arguments.specs.Places.{chosen};
+ghost use Rattle.mw_logic.specs.Term.{apply as applied};
 ghost use Rattle.mw_logic.specs.Terms.{terms_of};
-ghost use Rattle.mw_logic.specs.Parts.{number_of_terms};
+ghost use Rattle.mw_spot.specs.Walks.{IsLeft};
 
 use crate::level::Level;
 use mw_term::{OpId, Term, copy};
@@ -18,7 +18,7 @@ pub(crate) fn parted(
     numbers: &[u32],
 ) -> Result<(Term, Level), AllocError>
     ensures term { IfOk result (λ (term, _). term ≡ applied operator (chosen 1 numbers.now (terms_of args.now))) }
-    ensures level { IfOk result (λ (_, level). (level.operator ≡ operator) × (join level.before level.after ≡ others_of 1 numbers.now (terms_of args.now)) × (number_of_terms level.before ≡ min (first - 1) (number_of_terms (others_of 1 numbers.now (terms_of args.now))))) }
+    ensures level { IfOk result (λ (_, level). IsLeft operator first numbers.now (terms_of args.now) level) }
 {
     let mut taken = Vec::new(alloc);
     let mut others = Vec::with_capacity(alloc, args.len())?;

@@ -2,7 +2,8 @@
 ghost use Rattle.std.specs.Prelude.{◌≡◌, ◌≤◌, [], All, None, take, length, reverse, OnOk};
 ghost use Rattle.mw_logic.specs.Terms.{terms_of};
 ghost use Rattle.mw_spot.specs.Walks.{IsOrderly, AreOrderly};
-ghost use Rattle.mw_spot.specs.Spots.{IsFree, spread_path, spread_take, raised_path, raised_take, climbed_path, climbed_take, passed};
+ghost use Rattle.mw_spot.specs.Spots.{IsFree, spread_path, spread_take, raised_path, raised_take};
+ghost use Rattle.mw_spot.specs.Spots.{climbed_path, climbed_take, passed};
 
 use crate::level::Level;
 use crate::numbering::{all_numbers, number, place, some_numbers, spread};

@@ -1,6 +1,7 @@
 // Walks.
 ghost use Rattle.std.specs.Prelude.{◌≡◌, [], Bool, IfOk, OnOk};
-ghost use Rattle.mw_deduction.specs.Replay.{Stand, into_argument, into_several, going_out, whole, MayGoIn, MayGoAmong, MayReplace};
+ghost use Rattle.mw_deduction.specs.Replay.{Stand, into_argument, into_several, going_out, whole};
+ghost use Rattle.mw_deduction.specs.Replay.{MayGoIn, MayGoAmong, MayReplace};
 ghost use Rattle.mw_deduction.specs.Stands.{IsStanding};
 ghost use Rattle.mw_logic.specs.Term.{RawTerm};
 ghost use Rattle.mw_logic.specs.Module.{Module};
@@ -123,7 +124,8 @@ impl Walk {
         Ok(())
     }
 
-    /// The place of the term in hand in the whole: there it is replaced, where a kept proof that stands here replaces it.
+    /// The place of the term in hand in the whole. Where a kept proof that stands here replaces the term, it does so
+    /// there.
     pub fn spot(&self, alloc: Global, facts: &Facts) -> Result<Place, AllocError>
         ensures { (M : Module) (S : Stand) (by_rule : Bool) (w v : RawTerm) → M.signature ≡ facts.now
             → IsAt facts.now self.now S → IsStanding M S → MayReplace M by_rule S.opens S.hand w v

@@ -1,4 +1,4 @@
-use Rattle.std.proofs.Common.{◌≡◌, ◌∙◌, ◌+◌, ◌-◌, ap, subst, sym, arith, IfOk}
+use Rattle.std.proofs.Common.{◌≡◌, ◌∙◌, ◌+◌, ◌-◌, sym}
 use Rattle.mw_logic.specs.Terms.{terms_of}
 use Rattle.mw_spot.specs.Spots.{number_of}
 use Rattle.mw_spot.proofs.Calls.{if_ok, number_found, number_missing}

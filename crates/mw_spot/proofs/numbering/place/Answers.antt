@@ -1,5 +1,4 @@
 use Rattle.std.proofs.Common.{◌≡◌, is_gt, subst, sym, rules}
-use Rattle.std.specs.List.Sorted.{IsPartitionPoint}
 use Rattle.std.proofs.lemmas.List.Sorted.{IsPartitionPoint-from_clause}
 use Rattle.mw_logic.specs.TermOrder.{compare_terms, sorted_terms}
 use Rattle.mw_logic.specs.Terms.{terms_of}

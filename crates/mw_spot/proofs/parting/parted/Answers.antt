@@ -44,4 +44,4 @@ returns-clause-level c =
     let n = c.len.ensures in
     let v = c.loop-i.others.ok.0 in
     let size = sym (ap number_of_terms all) ∙ number-terms_of xs in
-    (refl, beside c.min-at.result xs ∙ all, so_many c.min-at.result xs (omega (arith, m, n, v)) ∙ omega (arith, m, s, n, v, size))
+    record { operator = refl; others = beside c.min-at.result xs ∙ all; before = so_many c.min-at.result xs (omega (arith, m, n, v)) ∙ omega (arith, m, s, n, v, size) }

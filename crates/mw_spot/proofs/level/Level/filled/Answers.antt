@@ -1,4 +1,4 @@
-use Rattle.std.proofs.Common.{◌∙◌, ap, subst, sym, arith}
+use Rattle.std.proofs.Common.{◌∙◌}
 use Rattle.mw_spot.proofs.Calls.{filled_is}
 use Rattle.mw_spot.proofs.level.Level.filled.Goals as goal
 

@@ -26,6 +26,6 @@ returns c = λ sig S ok here k may.
     ap (λ os. o ∷ os) (ap (λ w. w.opens) (sym c.self.view_is)) ∙ sym (pushed_first c.self.inside.levels.items c.push.new.self.items o c.in_ok-push.ensures.items) in
     subst (λ os. IsAt sig (record { opens = os; hand = t }) (into_several sig ns S.hand S)) opens
     (subst (λ ns. IsAt sig (record { opens = o ∷ c.args.self.now.opens; hand = t }) (into_several sig ns S.hand S)) (sym first)
-    (entered_among sig ok c.args.self.now S here k i ks (subst (λ ns. MayGoAmong sig ns S.hand) first may) f args is o t h.level.0 (h.level.1 ∙ ap (λ ns. others 1 ns (terms_of args)) first)
-    (subst (λ ns. number_of_terms o.before ≡ min (i - 1) (number_of_terms (others 1 ns (terms_of args)))) first h.level.2)
+    (entered_among sig ok c.args.self.now S here k i ks (subst (λ ns. MayGoAmong sig ns S.hand) first may) f args is o t h.level.operator (h.level.others ∙ ap (λ ns. others 1 ns (terms_of args)) first)
+    (subst (λ ns. number_of_terms o.before ≡ min (i - 1) (number_of_terms (others 1 ns (terms_of args)))) first h.level.before)
     (h.term ∙ ap (λ ns. apply f (chosen 1 ns (terms_of args))) first)))

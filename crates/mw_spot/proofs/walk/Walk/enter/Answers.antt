@@ -2,8 +2,7 @@ use Rattle.std.proofs.Common.{◌≡◌, ◌∙◌, ◌-◌, ◌++◌, ◌∷◌
 use Rattle.mw_logic.specs.Term.{apply}
 use Rattle.mw_logic.specs.Terms.{terms_of, args_of}
 use Rattle.mw_deduction.specs.Replay.{into_argument}
-use Rattle.mw_spot.specs.Walks.{IsAt}
-use Rattle.mw_spot.proofs.Levels.{level_of}
+use Rattle.mw_spot.specs.Walks.{level_of, IsAt}
 use Rattle.mw_spot.proofs.Entering.{from_one, to_last, entered}
 use Rattle.mw_spot.proofs.Calls.{pushed_first, same_list}
 use Rattle.mw_spot.proofs.walk.Walk.enter.Goals as goal
