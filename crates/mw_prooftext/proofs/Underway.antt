@@ -1,7 +1,8 @@
 -- A trail that is told so far.
 use Rattle.std.specs.Prelude.{◌≡◌, ◌≤◌, ◌<◌, ◌+◌, ℕ, List, [], ◌∷◌, ◌++◌, length, drop, reverse, true, refl}
-use Rattle.std.proofs.Common.{sym, subst, ap, ◌∙◌, arith, length-drop, get_or, add-one, drop-cons}
+use Rattle.std.proofs.Common.{sym, subst, ap, ◌∙◌, arith, length-drop, get_or, add-one, drop-cons, append_assoc}
 use Rattle.mw_logic.specs.Term.{RawTerm}
+use Rattle.mw_logic.specs.Signature.{Signature}
 use Rattle.mw_logic.specs.Accepted.{IsAccepted}
 use Rattle.mw_logic.specs.Parts.{nested}
 use Rattle.mw_logic.specs.Module.{Module}
@@ -13,12 +14,13 @@ use Rattle.mw_deduction.proofs.MoveStands.{begun_stands, move_stands}
 use Rattle.mw_trail.specs.declared.trail.Item.{Item}
 use Rattle.mw_trail.specs.declared.trail.Item.TheVariants.{Into}
 use Rattle.mw_trail.specs.Tracks.{Track, IsTrack, move_of, moves_of, moves, needs, counts, needed, counted}
-use Rattle.mw_proof.specs.Deductions.{Deduction, first_of, end_of, deduced, IsKept}
+use Rattle.mw_proof.specs.Deductions.{Deduction, IsDeduction, first_of, end_of, deduced, IsKept}
 use Rattle.mw_prooftext.specs.declared.chains.Chain.{Chain}
+use Rattle.mw_prooftext.specs.Texts.{lines_text, head_text, end_text}
 use Rattle.mw_prooftext.specs.Tells.{Tells}
 use Rattle.mw_prooftext.specs.Chains.{IsChain, AreChains, IsMadeSomewhere}
 use Rattle.mw_prooftext.specs.Told.{told_items}
-use Rattle.mw_prooftext.specs.Denoting.{HasItems}
+use Rattle.mw_prooftext.specs.Denoting.{HasItems, IsTextOf}
 use Rattle.mw_prooftext.proofs.ChainLaws.{reverse_behind}
 
 -- The items that are left may be carried out from some stands on, and end where the whole trail does; the chains are those of these stands.
@@ -131,3 +133,17 @@ module _ (M : Module) (ok : IsAccepted M.signature) where
       subst (λ ms. P (chains ++ c ∷ []) [] k.items k.values ms) ns (subst (λ us. P (chains ++ c ∷ []) [] k.items us numbers) vs (subst (λ xs. P (chains ++ c ∷ []) [] xs first numbers) is
       (subst (λ ls. P (chains ++ c ∷ []) ls items first numbers) none (subst (λ qs. P qs left items first numbers) cs w)))) in
       subst (λ x. HasItems x head c.text.items) (sym e) (ended_under_way head c chains d.rank d.from d.to k values rest h a)
+
+-- between its head and its end
+pub text_written : (d : Deduction) (version : ℕ) (name head text all : List ℕ) (sig : Signature) (from to : RawTerm) → IsDeduction d → sig ≡ d.over.signature → from ≡ d.from → to ≡ d.to
+    → head ≡ head_text sig version name from → HasItems d head text → all ≡ text ++ end_text sig to → IsTextOf d version name all
+text_written d version name head text all sig from to h s f t begins w ends =
+    let g : Signature = d.over.signature in
+    let first : head ≡ head_text g version name d.from = begins ∙ ap (λ x. head_text x version name from) s ∙ ap (head_text g version name) f in
+    let last : end_text sig to ≡ end_text g d.to = ap (λ x. end_text x to) s ∙ ap (end_text g) t in
+    record {
+      items = w.items;
+      is = ends ∙ ap (λ x. text ++ x) last ∙ ap (λ x. x ++ end_text g d.to) w.text_is ∙ append_assoc head (lines_text g w.items) (end_text g d.to) ∙ ap (λ x. x ++ (lines_text g w.items ++ end_text g d.to)) first;
+      tells = w.tells;
+      denotes = h.denotes;
+    }
