@@ -1,10 +1,7 @@
-use Rattle.std.proofs.Common.{◌≡◌, ◌++◌, [], ◌∷◌, ℕ, suc, List, drop, length, get_or, reverse, Vec, Global, ◌<◌, ◌+◌, sym, subst, ap, ◌∙◌, refl, add-one, drop-cons}
+use Rattle.std.proofs.Common.{◌≡◌, ◌++◌, [], ◌∷◌, ℕ, List, drop, get_or, reverse, Vec, Global, sym, subst, ap, ◌∙◌}
 use Rattle.std.proofs.lemmas.List.{drop_all, nil_from_length}
 use Rattle.std.specs.Option.{option_to_list}
 use Rattle.mw_logic.specs.Module.{Module}
-use Rattle.mw_logic.specs.Accepted.{IsAccepted}
-use Rattle.mw_deduction.specs.Replay.{begun, plays}
-use Rattle.mw_deduction.specs.Replay as replay
 use Rattle.mw_trail.specs.declared.trail.Item.{Item}
 use Rattle.mw_trail.specs.declared.trail.Item.TheVariants.{Into}
 use Rattle.mw_trail.specs.Tracks.{Track, needs, counts}

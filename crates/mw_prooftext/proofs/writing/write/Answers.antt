@@ -1,5 +1,5 @@
-use Rattle.std.proofs.Common.{◌≡◌, IsTrue, sym, subst, ap, ◌∙◌}
-use Rattle.mw_logic.specs.Term.{RawTerm, is_ground}
+use Rattle.std.proofs.Common.{IsTrue, sym, subst, ap, ◌∙◌}
+use Rattle.mw_logic.specs.Term.{is_ground}
 use Rattle.mw_logic.specs.Module.{Module}
 use Rattle.mw_proof.specs.Deductions.{Deduction}
 use Rattle.mw_prooftext.proofs.AdmittedValues.{ground_term}
