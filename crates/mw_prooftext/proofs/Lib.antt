@@ -8,3 +8,4 @@ pub mod TellLaws
 pub mod Wholes
 pub mod Telling
 pub mod ChainLaws
+pub mod Underway

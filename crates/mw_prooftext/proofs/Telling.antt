@@ -5,11 +5,9 @@ use Rattle.mw_logic.specs.Term.{RawTerm}
 use Rattle.mw_logic.specs.Signature.{Signature, at_number}
 use Rattle.mw_logic.specs.Accepted.{IsAccepted}
 use Rattle.mw_logic.specs.Substitution.{Substitution, instance}
-use Rattle.mw_logic.specs.Parts.{nested}
 use Rattle.mw_logic.specs.NormalForm.{normal_form}
 use Rattle.mw_logic.specs.Module.{Module, Statement, IsStatement}
-use Rattle.mw_logic.specs.Proof.{Proof, replacement, row}
-use Rattle.mw_logic.specs.Proof as proof
+use Rattle.mw_logic.specs.Proof.{replacement, row}
 use Rattle.mw_logic.proofs.Canonical.{IsCanonical}
 use Rattle.mw_logic.proofs.Ranks.{row_within}
 use Rattle.mw_redex.specs.Replaced.{ReplacesAt}
@@ -17,10 +15,10 @@ use Rattle.mw_deduction.specs.Runs.{by_statement, by_row}
 use Rattle.mw_deduction.specs.Runs as runs
 use Rattle.mw_deduction.specs.Replay.{Stand, begun, whole, replacing, becomes, showing, all_sides, MayApply, MayMeet, MayEnd}
 use Rattle.mw_deduction.specs.Stands.{IsStanding}
-use Rattle.mw_deduction.proofs.MoveStands.{becomes_is, with_opens}
+use Rattle.mw_deduction.proofs.MoveStands.{becomes_is}
 use Rattle.mw_prooftext.specs.Items.{Spot, Item, step, built, Items, none, Groups, end, with_item, with_group}
-use Rattle.mw_prooftext.specs.Texts.{item_text, where_word, groups_text, items_text, step_text, built_text}
-use Rattle.mw_prooftext.specs.Tells.{IsStep, IsBuilt, Tells, TellsOne}
+use Rattle.mw_prooftext.specs.Texts.{item_text, where_word, groups_text, step_text, built_text}
+use Rattle.mw_prooftext.specs.Tells.{IsStep, IsBuilt, Tells}
 use Rattle.mw_prooftext.specs.Told.{ShowsSides, told_items, item_start, word_before, item_end, braced, IsTold}
 use Rattle.mw_prooftext.proofs.TextLaws.{told-with, groups-with, word_is}
 use Rattle.mw_prooftext.proofs.TellLaws.{tells_then, shows-with, no_groups, no_sides, sides_told}

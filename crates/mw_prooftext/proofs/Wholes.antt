@@ -1,6 +1,6 @@
 -- Into arguments and out of them the whole term stays as it is.
 use Rattle.std.specs.Prelude.{◌≡◌, ◌<◌, ℕ, List, [], ◌∷◌, length, refl}
-use Rattle.std.proofs.Common.{ap, sym, subst, ◌∙◌}
+use Rattle.std.proofs.Common.{ap, sym, subst}
 use Rattle.mw_logic.specs.Term.{RawTerm, RawTerms, apply, cons, join}
 use Rattle.mw_logic.specs.Signature.{Signature}
 use Rattle.mw_logic.specs.Accepted.{IsAccepted}
@@ -10,7 +10,7 @@ use Rattle.mw_logic.specs.Judgements.{admitted_judgements}
 use Rattle.mw_logic.proofs.Canonical.{IsCanonical}
 use Rattle.mw_arguments.specs.Places.{chosen, Takes}
 use Rattle.mw_deduction.specs.Standing.{Open}
-use Rattle.mw_deduction.specs.Replay.{Stand, opened, whole, into_argument, into_several, going_out, MayGoIn, MayGoAmong}
+use Rattle.mw_deduction.specs.Replay.{Stand, whole, into_argument, into_several, going_out, MayGoIn, MayGoAmong}
 use Rattle.mw_deduction.proofs.Standing.{several_filled}
 use Rattle.mw_deduction.proofs.Taking.{into_is, Taken, taken, cut_out}
 use Rattle.mw_deduction.proofs.MoveStands.{with_hand, with_opens}

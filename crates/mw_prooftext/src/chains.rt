@@ -129,26 +129,23 @@ impl Chain {
         let Some(statement) = numbered(context.statements(), number) else {
             return Ok(self);
         };
-        let Chain {
-            walk,
-            outer,
-            text,
-            groups,
-        } = self;
-        let (mut walk, mut text, mut groups) = (walk, text, groups);
+        let mut chain = self;
         let (signature, owise) = (context.signature(), statement.owise);
-        let place = walk.spot(alloc, context.facts())?;
+        let place = chain.walk.spot(alloc, context.facts())?;
         let term = right_side(alloc, context, statement, values)?;
-        begin_item(outer, &mut text)?;
-        write_step(alloc, signature, owise, number, &place, values, &mut text)?;
-        end_item(outer, &mut groups, &mut text)?;
-        walk.put(term);
-        Ok(Chain {
-            walk,
-            outer,
-            text,
-            groups,
-        })
+        begin_item(chain.outer, &mut chain.text)?;
+        write_step(
+            alloc,
+            signature,
+            owise,
+            number,
+            &place,
+            values,
+            &mut chain.text,
+        )?;
+        end_item(chain.outer, &mut chain.groups, &mut chain.text)?;
+        chain.walk.put(term);
+        Ok(chain)
     }
 
     /// A row of the schemata is met by what is in hand, and this term comes of it.
@@ -157,24 +154,13 @@ impl Chain {
             → IfOk result (Goes context.now S (moved context.now (meets term.now) S) self) }
     {
         context.shows();
-        let Chain {
-            walk,
-            outer,
-            text,
-            groups,
-        } = self;
-        let (mut walk, mut text, mut groups) = (walk, text, groups);
-        let place = walk.spot(alloc, context.facts())?;
-        begin_item(outer, &mut text)?;
-        write_built(&place, &mut text)?;
-        end_item(outer, &mut groups, &mut text)?;
-        walk.put(copy(term)?);
-        Ok(Chain {
-            walk,
-            outer,
-            text,
-            groups,
-        })
+        let mut chain = self;
+        let place = chain.walk.spot(alloc, context.facts())?;
+        begin_item(chain.outer, &mut chain.text)?;
+        write_built(&place, &mut chain.text)?;
+        end_item(chain.outer, &mut chain.groups, &mut chain.text)?;
+        chain.walk.put(copy(term)?);
+        Ok(chain)
     }
 
     /// The side of a condition was told.

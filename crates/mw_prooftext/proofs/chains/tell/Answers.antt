@@ -1,8 +1,7 @@
-use Rattle.std.proofs.Common.{◌≡◌, ◌++◌, ◌⊎◌, [], ◌∷◌, ℕ, List, reverse, sym, subst, ap, ◌∙◌, ⊎_elim}
+use Rattle.std.proofs.Common.{◌≡◌, ◌++◌, [], ◌∷◌, List, reverse, sym, subst, ap, ◌∙◌, ⊎_elim}
 use Rattle.std.specs.Option.{option_to_list}
 use Rattle.mw_logic.specs.Module.{Module}
-use Rattle.mw_deduction.specs.Replay.{Move, Stand, play, IsMove}
-use Rattle.mw_deduction.specs.Stands.{AreStanding}
+use Rattle.mw_deduction.specs.Replay.{Move, play, IsMove}
 use Rattle.mw_trail.specs.declared.trail.Item.{Item}
 use Rattle.mw_trail.specs.Tracks.{move_of}
 use Rattle.mw_prooftext.specs.declared.chains.Chain.{Chain}

@@ -1,4 +1,4 @@
-use Rattle.std.proofs.Common.{◌≡◌, ◌++◌, Some, sym, subst, refl, ap, ◌∙◌, map}
+use Rattle.std.proofs.Common.{◌≡◌, ◌++◌, sym, subst, refl, ap, ◌∙◌, map}
 use Rattle.std.proofs.lemmas.Option.{same_Some}
 use Rattle.std.specs.List.{zip}
 use Rattle.mw_logic.specs.Term.{RawTerm}

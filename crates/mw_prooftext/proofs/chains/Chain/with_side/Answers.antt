@@ -1,5 +1,4 @@
-use Rattle.std.proofs.Common.{◌≡◌, [], ◌++◌, false, codes, sym, subst, ap, ◌∙◌, refl, append_assoc}
-use Rattle.mw_deduction.specs.Replay.{showing}
+use Rattle.std.proofs.Common.{◌≡◌, [], ◌++◌, false, codes, subst, ap, ◌∙◌, refl}
 use Rattle.mw_prooftext.specs.Told.{braced, IsTold}
 use Rattle.mw_prooftext.proofs.Telling.{side_told, told_as, three_behind}
 use Rattle.mw_prooftext.proofs.chains.Chain.with_side.Goals as goal
