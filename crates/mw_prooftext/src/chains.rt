@@ -4,12 +4,14 @@ ghost use Rattle.mw_logic.specs.Accepted.{IsAccepted};
 ghost use Rattle.mw_logic.specs.Module.{Module};
 ghost use Rattle.mw_logic.specs.Substitution.{Substitution};
 ghost use Rattle.mw_logic.proofs.Canonical.{IsCanonical};
-ghost use Rattle.mw_deduction.specs.Replay.{Stand, applies, meets, begun, into_argument, into_several, going_out, showing, play, MayGoIn, MayGoAmong, MayApply, MayMeet, MayEnd, IsMove};
+ghost use Rattle.mw_deduction.specs.Replay.{Stand, applies, meets, begun, into_argument, into_several, going_out};
+ghost use Rattle.mw_deduction.specs.Replay.{showing, play, MayGoIn, MayGoAmong, MayApply, MayMeet, MayEnd, IsMove};
 ghost use Rattle.mw_deduction.specs.Standing.{Open};
 ghost use Rattle.mw_deduction.specs.Stands.{IsStanding, AreStanding};
 ghost use Rattle.mw_trail.specs.Tracks.{move_of, needs, counts};
 ghost use Rattle.mw_prooftext.specs.Told.{item_start, item_end};
-ghost use Rattle.mw_prooftext.specs.Chains.{IsChain, AreChains, Goes, MayMove, moved, IsMadeSomewhere, IsAppliedSomewhere};
+ghost use Rattle.mw_prooftext.specs.Chains.{IsChain, AreChains, Goes, MayMove};
+ghost use Rattle.mw_prooftext.specs.Chains.{moved, IsMadeSomewhere, IsAppliedSomewhere};
 
 use crate::lines::{write_built, write_step};
 use crate::values::right_side;
@@ -63,7 +65,8 @@ impl Chain {
     /// One that begins at this term, behind a text: the whole proof, or the side of a condition.
     pub fn new(alloc: Global, outer: bool, text: Vec<u8>, from: Term) -> Chain
         ensures outer { result.outer ≡ outer }
-        ensures chain { (M : Module) (n : ℕ) → IsCanonical M.signature from → IsChain M text.items result (begun n from) }
+        ensures chain { (M : Module) (n : ℕ) → IsCanonical M.signature from
+            → IsChain M text.items result (begun n from) }
     {
         Chain {
             walk: Walk::new(alloc, from),

@@ -5,8 +5,9 @@
 //! specs/Texts gives a text's bytes by its items, specs/Tells what items mean: the run that they tell from a canonical
 //! term on, each at its place in the term that the one before it left (`ReplacesAt` of mw_redex).
 //!
-//! Proved: `write` answers a text that tells the run of the proof, from its first term to its last one (`IsTextOf`),
-//! and the proof carries that run out, modulo the axioms (`Denotes` of mw_deduction). So the text denotes the proof.
+//! Proved: `write` answers a text that tells the run of the proof, from its first term to its last one, and the proof
+//! carries that run out, modulo the axioms (`Denotes` of mw_deduction). So the text denotes the proof. That is
+//! `IsTextOf` of specs/Denoting.
 //!
 //! Conditions: none; a [`mw_proof::Proved`] keeps what is needed. Want of memory is the only error.
 //!
