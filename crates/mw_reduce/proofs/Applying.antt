@@ -45,7 +45,7 @@ use Rattle.mw_index.specs.declared.oriented.Left.{Left}
 use Rattle.mw_index.specs.declared.oriented.Left.TheVariants.{Plain, Searched}
 use Rattle.mw_frames.specs.Free as frames
 use Rattle.mw_frames.specs.Redex.{AreShowing, IsRedex, IsRowOf}
-use Rattle.mw_deduction.specs.Replay.{Move}
+use Rattle.mw_deduction.specs.Replay.{Move, all_sides, begun_sides}
 use Rattle.mw_frames.specs.Fires.{IsPartTaken, IsApplied, IsSure}
 use Rattle.mw_frames.specs.declared.applying.Applied.{Applied}
 use Rattle.mw_frames.specs.Machines.{all_moves as trail_moves}
@@ -61,9 +61,9 @@ use Rattle.mw_proof.specs.declared.reason.Reason.{Reason}
 use Rattle.mw_proof.specs.declared.reason.Reason.TheVariants as reason
 use Rattle.mw_reduce.specs.Turns.{IsFailed, IsFound}
 use Rattle.mw_reduce.specs.Attempts.{IsAppliedAs, IsTriable, IsMade, IsCause, IsHaltingAt}
-use Rattle.mw_reduce.specs.Evaluations.{AreBoundTo, bound_to, AreFound, proofs_of, all_moves, IsHeldBy, IsStoppedInside}
+use Rattle.mw_reduce.specs.Evaluations.{AreBoundTo, bound_to, AreFound, proofs_of, starts_of, all_moves, IsHeldBy, IsStoppedInside}
 use Rattle.mw_reduce.specs.declared.sides.Reduced.{Reduced}
-use Rattle.mw_reduce.proofs.Evidence.{evidence_shows}
+use Rattle.mw_reduce.proofs.Evidence.{none_begun, evidence_shows}
 use Rattle.mw_reduce.proofs.Values.{normal_above, reordered_extends, reordered_found, reordered_bound}
 
 -- values that were put in order
@@ -113,6 +113,7 @@ nothing_held M n C s e = subst (λ D. (admitted_judgements M n).Held D s nil s) 
 -- without a condition nothing is shown
 nothing_shown : (M : Module) (n : ℕ) (C : List Fragment) (s : Substitution) → C ≡ [] → AreShowing M n C s s []
 nothing_shown M n C s e S B stands rank ready = record {
+  starts = λ q x. none_begun M S stands.0 ready ∙ ap (λ D. begun_sides M.signature q (all_sides D)) (sym e);
   evidence = nil;
   waiting = S;
   may = tt;
@@ -242,7 +243,7 @@ module _ (M : Module) (work : IsWorkable M) (t : RawTerm) (c : Choice) (h : IsTr
         solution = s;
         solves = h.choice.solution;
         reached = r;
-        shown = subst (AreShowing M (suc m) e.fragments s r) (sym shows) (evidence_shows M (suc m) e.fragments s r (proofs_of M m sides) (all_moves M sides) held.shown.evidence (Held_before M (AdmittedStep M) m e.fragments s (proofs_of M m sides) r held.holds));
+        shown = subst (AreShowing M (suc m) e.fragments s r) (sym shows) (evidence_shows M (suc m) e.fragments s r (proofs_of M m sides) (starts_of M sides) (all_moves M sides) held.shown.evidence (Held_before M (AdmittedStep M) m e.fragments s (proofs_of M m sides) r held.holds) held.starts);
         goes_on = reached_extends M (admitted_judgements M m) e.fragments s (proofs_of M m sides) r held.holds;
         reaches = subst (λ us. Extends r (bound_to sig xs us)) (sym ordered) (reordered_extends M ok bs ws held.bound xs alike);
         found = λ y i k. ⊎_elim (λ z. inl (normal_above M m _ z)) (λ z. inr z) (subst (AreFound M m e.left xs) (sym ordered) (reordered_found M ok bs ws held.bound xs alike m e.left held.found) y i k);

@@ -14,7 +14,8 @@ use Rattle.mw_logic.specs.Proof.{Proof, nil, equality, transitivity}
 use Rattle.mw_logic.specs.Judgements.{MeetsSort}
 use Rattle.mw_logic.proofs.Invariance.{normal_form-kept}
 use Rattle.mw_builtin.proofs.Giving.{kept_truth, nested_constant}
-use Rattle.mw_reduce.specs.Evaluations.{bound_to, deduction_of, IsShown, IsHolding, IsFailing}
+use Rattle.mw_deduction.specs.Replay.{begun_sides}
+use Rattle.mw_reduce.specs.Evaluations.{bound_to, deduction_of, starts_of, IsShown, IsHolding, IsFailing}
 use Rattle.mw_reduce.specs.declared.sides.Reduced.{Reduced}
 use Rattle.mw_reduce.proofs.Evidence.{one_shown, more_shown}
 
@@ -29,11 +30,14 @@ module _ (M : Module) (n limit : ℕ) (xs : List Variable) (vs : List RawTerm) w
   proof_of k = transitivity equality (deduction_of M n k).proof
 
   module _ (u : RawTerm) (k : Reduced) (h : IsShown M n (instance r u) k) where
+    begins_there : starts_of M (k ∷ []) ≡ begun_sides sig r (u ∷ [])
+    begins_there = ap (λ t. nested sig t ∷ []) h.begins
+
     -- a side that is true
     pub true_holds : IsTruth sig true k.to → IsHolding M n (is_true u) r (k ∷ [])
     true_holds (c, e, named) =
         let t : IsTruth sig true (nested sig k.to) = (c, ap (nested sig) e ∙ nested_constant sig c, named) in
-        record { sides = one_shown M n (instance r u) k h; holds = (proof_of k, nil, nested sig k.to, refl, h.evaluates, t, (refl, refl)); fails_behind = λ D f. (proof_of k, nested sig k.to, h.evaluates, inr f) }
+        record { sides = one_shown M n (instance r u) k h; starts = begins_there; holds = (proof_of k, nil, nested sig k.to, refl, h.evaluates, t, (refl, refl)); fails_behind = λ D f. (proof_of k, nested sig k.to, h.evaluates, inr f) }
 
     pub true_fails : IsAccepted sig → (IsTruth sig true k.to → ⊥) → IsFailing M n (is_true u) r
     true_fails ok wrong = λ D. (proof_of k, nested sig k.to, h.evaluates, inl (λ t truth e. wrong (as_told t truth e)))
@@ -44,7 +48,7 @@ module _ (M : Module) (n limit : ℕ) (xs : List Variable) (vs : List RawTerm) w
     -- a side that has a sort
     pub sort_holds : (S : Sorted) → MeetsSort sig (nested sig k.to) S → IsHolding M n (has_sort u S) r (k ∷ [])
     sort_holds S m =
-        record { sides = one_shown M n (instance r u) k h; holds = (proof_of k, nil, nested sig k.to, refl, h.evaluates, m, (refl, refl)); fails_behind = λ D f. (proof_of k, nested sig k.to, h.evaluates, inr f) }
+        record { sides = one_shown M n (instance r u) k h; starts = begins_there; holds = (proof_of k, nil, nested sig k.to, refl, h.evaluates, m, (refl, refl)); fails_behind = λ D f. (proof_of k, nested sig k.to, h.evaluates, inr f) }
 
     pub sort_fails : (S : Sorted) → (MeetsSort sig (nested sig k.to) S → ⊥) → IsFailing M n (has_sort u S) r
     sort_fails S wrong = λ D. (proof_of k, nested sig k.to, h.evaluates, inl wrong)
@@ -54,6 +58,7 @@ module _ (M : Module) (n limit : ℕ) (xs : List Variable) (vs : List RawTerm) w
       pub equal_holds : k.to ≡ l.to → IsHolding M n (equal u v) r (k ∷ l ∷ [])
       equal_holds e = record {
         sides = more_shown M n (k ∷ []) (l ∷ []) (one_shown M n (instance r u) k h) (one_shown M n (instance r v) l g);
+        starts = ap (λ t. nested sig t ∷ nested sig l.from ∷ []) h.begins ∙ ap (λ t. nested sig (normal_form sig (instance r u)) ∷ nested sig t ∷ []) g.begins;
         holds = (proof_of k, proof_of l, nil, nested sig k.to, nested sig l.to, refl, h.evaluates, g.evaluates, subst (λ c. EqualModulo sig (nested sig k.to) (nested sig c)) e done, (refl, refl));
         fails_behind = λ D f. (proof_of k, proof_of l, nested sig k.to, nested sig l.to, h.evaluates, g.evaluates, inr f);
       }

@@ -7,7 +7,8 @@ use Rattle.std.proofs.lemmas.Option.{same_Some}
 use Rattle.mw_logic.specs.Term.{Variable, RawTerm}
 use Rattle.mw_logic.specs.Signature.{Signature, Member, IsRawTerm}
 use Rattle.mw_logic.specs.Accepted.{IsAccepted}
-use Rattle.mw_logic.specs.Substitution.{Substitution, instance, IsSolution}
+use Rattle.mw_logic.specs.Confluence.{AreBound}
+use Rattle.mw_logic.specs.Substitution.{Substitution, instance, is_bound, IsSolution, Extends}
 use Rattle.mw_logic.specs.Parts.{nested}
 use Rattle.mw_logic.specs.Module.{Fragment, matches, Module, Statement, IsStatement}
 use Rattle.mw_logic.specs.Proof.{Proof, Proofs, nil, cons, equality, transitivity}
@@ -29,10 +30,12 @@ use Rattle.mw_index.proofs.Bound.{ready_more, first_ready}
 use Rattle.mw_index.proofs.ByTest.{of_none}
 use Rattle.mw_index.proofs.Rearranging.{zip_parts}
 use Rattle.mw_index.proofs.Sides.{in_lefts}
-use Rattle.mw_reduce.specs.Evaluations.{AreBoundTo, bound_to, AreFound, deduction_of, proofs_of, AreShown, IsHolding, IsFailing, IsOpening, IsStoppedFor, IsPlace, AreOpen, IsComing, AreLeft, IsTrial, IsAt, IsBack, Tries, IsStoppedInside, IsHeldBy}
+use Rattle.mw_deduction.specs.Replay.{sides_of, all_sides, begun_sides}
+use Rattle.mw_reduce.specs.Evaluations.{AreBoundTo, bound_to, AreFound, deduction_of, proofs_of, starts_of, AreShown, IsHolding, IsFailing, IsOpening, IsStoppedFor, IsPlace, IsSplit, AreOpen, IsComing, AreLeft, IsTrial, IsAt, IsBack, Tries, IsStoppedInside, IsHeldBy}
 use Rattle.mw_reduce.specs.declared.sides.Reduced.{Reduced}
 use Rattle.mw_reduce.specs.declared.evaluation.Other.{Other}
 use Rattle.mw_reduce.proofs.Evidence.{proofs_together, none_shown, one_shown, more_shown}
+use Rattle.mw_reduce.proofs.Splits.{bound_by_values, first_split, split_more, whole_split}
 use Rattle.mw_reduce.proofs.Values.{solution_whole, match_bound, match_finds}
 use Rattle.mw_proof.specs.declared.reason.Reason.{Reason}
 
@@ -80,7 +83,7 @@ module _ (M : Module) (n : ℕ) (e : Statement) (tests : List Test) where
             within = longer o.sides sides ts h.within;
             variables = h.variables;
             place = subst (λ us. IsPlace M n e tests o.at us h.variables D) (sym same) h.place;
-            each = h.each;
+            each = λ q m z. let (named, bound, found, split) = h.each q m z in (named, bound, found, subst (λ us. IsSplit M e.fragments (bound_to sig h.variables (values q)) us D) (sym same) split);
             telling = h.telling;
           },
           subst (λ us. AreOpen M n e tests us Ds os) (sym same) more,
@@ -116,6 +119,7 @@ module _ (M : Module) (n : ℕ) (e : Statement) (tests : List Test) where
             place = subst (IsPlace M n e tests at sides h.variables) is h.place;
             bound = h.bound;
             found = h.found;
+            split = subst (IsSplit M e.fragments (bound_to sig h.variables vs) sides) is h.split;
             rests = h.rests;
             waiting = h.waiting;
             frontier = subst (λ D. IsFrontier M (admitted_judgements M n) e.fragments s (IsOneOr (alternative D (bound_to sig h.variables vs) (proofs_of M n sides)) (AreLeft M n sides h.rests os))) is h.frontier;
@@ -136,6 +140,9 @@ module _ (M : Module) (n : ℕ) (e : Statement) (tests : List Test) where
       abbrev r : Substitution
       r = bound_to sig xs vs
 
+      all_there : AreBound (is_bound r) (f ∷ C)
+      all_there = bound_by_values M xs vs h.bound (f ∷ C) h.place.ready.in_turn
+
       -- where the test holds it goes on at the next one
       pub go_on : bound_by xs h.test ≡ xs → (ts : List Reduced) → IsHolding M n f r ts → IsTrial M n e tests s (suc at) vs (sides ++ ts) os
       go_on same ts holding =
@@ -145,6 +152,7 @@ module _ (M : Module) (n : ℕ) (e : Statement) (tests : List Test) where
             place = subst (λ ys. IsPlace M n e tests (suc at) (sides ++ ts) ys C) same (next_place work at h.test h.here sides ts xs f C h.place h.is_test h.behind holding.sides);
             bound = h.bound;
             found = h.found;
+            split = split_more M e.fragments f C r r sides ts (λ x u k. k) all_there h.split holding.starts;
             rests = h.rests;
             waiting = waiting;
             frontier = subst (λ As. Frontier (IsOneOr (alternative C r (proofs_of M n (sides ++ ts))) As)) (sym left)
@@ -174,6 +182,7 @@ module _ (M : Module) (n : ℕ) (e : Statement) (tests : List Test) where
           let whole : take o.sides after ≡ after = ap (λ m. take m after) count ∙ take_all after in
           let raw : IsRawTerm sig l = (subst (λ f. AreRawFragments sig (f ∷ C)) opening.is h.place.ready.raw).0 in
           let (waiting, left) = open_more sides (k ∷ []) h.rests os h.waiting in
+          let own : starts_of M (k ∷ []) ≡ begun_sides sig r (sides_of f) = subst (λ f. starts_of M (k ∷ []) ≡ begun_sides sig r (sides_of f)) (sym opening.is) (ap (λ t. nested sig t ∷ []) opening.shown.begins) in
           let front : Frontier (IsOneOr (alternative (matches l opening.side ∷ C) r (proofs_of M n sides)) (AreLeft M n sides h.rests os)) =
           subst (λ f. Frontier (IsOneOr (alternative (f ∷ C) r (proofs_of M n sides)) (AreLeft M n sides h.rests os))) opening.is h.frontier in
           let proof : Proof = transitivity equality (deduction_of M n k).proof in
@@ -192,10 +201,13 @@ module _ (M : Module) (n : ℕ) (e : Statement) (tests : List Test) where
                 place = subst (λ us. IsPlace M n e tests o.at us ys C) (sym whole) (subst (λ i. IsPlace M n e tests i after ys C) (sym here) q);
                 each = λ c m z.
                     let (named, valued) = opening.named c m in
+                    let same : bound_to sig ys (values c) ≡ meant sig c.subst = ap (λ xs. bound_to sig xs (values c)) (sym named) ∙ ap (meant sig) (zip_parts c.subst) in
+                    let extends : Extends r (bound_to sig ys (values c)) = subst (Extends r) (sym same) (solved c m z).extends in
                     let sorted = work.signature.well_sorted in (
                       named,
                       match_bound M ok sorted n xs vs h.bound l raw k.to opening.shown.normal c.subst valued (solved c m z) ys named,
                       match_finds M ok sorted n xs vs h.bound l raw k.to opening.shown.normal c.subst valued (solved c m z) ys named e.left h.found,
+                      subst (λ us. IsSplit M e.fragments (bound_to sig ys (values c)) us C) (sym whole) (split_more M e.fragments f C r (bound_to sig ys (values c)) sides (k ∷ []) extends all_there h.split own),
                     );
                 telling = λ c m z lacks. opening.all.lacking c m lacks (opening.all.sound c m z);
               },
@@ -219,6 +231,8 @@ module _ (M : Module) (n : ℕ) (e : Statement) (tests : List Test) where
           holds = subst (λ ys. HoldsAbove M (admitted_judgements M n) e.fragments s (proofs_of M n sides) (bound_to sig ys vs)) all (holds M (admitted_judgements M n) e.fragments s (bound_to sig xs vs) (proofs_of M n sides) (AreLeft M n sides h.rests os) front);
           bound = subst (λ ys. AreBoundTo M ys vs) all h.bound;
           found = subst (λ ys. AreFound M n e.left ys vs) all h.found;
+          starts = subst (λ ys. (q : Substitution) → Extends (bound_to sig ys vs) q → starts_of M sides ≡ begun_sides sig q (all_sides e.fragments)) all
+              (whole_split M e.fragments (bound_to sig xs vs) sides h.rest h.split none_left);
         }
 
     -- nor another solution
@@ -256,7 +270,7 @@ module _ (M : Module) (n : ℕ) (e : Statement) (tests : List Test) where
         by_rests (D ∷ Ds) (a, more) f =
             let ys : List Variable = a.variables in
             let shown : List Reduced = take o.sides before in
-            let (named, bound, found) = a.each first here fits in
+            let (named, bound, found, split) = a.each first here fits in
             let p : IsPlace M n e tests o.at after ys D = subst (λ us. IsPlace M n e tests o.at us ys D) (sym made) a.place in
             let same : bound_to sig ys vs ≡ meant sig first.subst = ap (λ us. bound_to sig ys us) is ∙ ap (λ xs. bound_to sig xs (values first)) (sym named) ∙ ap (meant sig) (zip_parts first.subst) in
             let kept : take o'.sides after ≡ after = ap (λ m. take m after) count ∙ ap (take o.sides) made ∙ take_take o.sides before ∙ sym made in
@@ -271,13 +285,16 @@ module _ (M : Module) (n : ℕ) (e : Statement) (tests : List Test) where
               place = p;
               bound = subst (AreBoundTo M ys) (sym is) bound;
               found = subst (AreFound M n e.left ys) (sym is) found;
+              split = subst (λ ws. IsSplit M e.fragments (bound_to sig ys ws) after D) (sym is) (subst (λ us. IsSplit M e.fragments (bound_to sig ys (values first)) us D) (sym made) split);
               rests = D ∷ Ds;
               waiting = (
                 record {
                   within = short;
                   variables = ys;
                   place = subst (λ us. IsPlace M n e tests o'.at us ys D) (sym kept) (subst (λ i. IsPlace M n e tests i after ys D) (sym at) p);
-                  each = λ q m g. a.each q (older q m) (fits_too q g);
+                  each = λ q m g.
+                      let (named, bound, found, split) = a.each q (older q m) (fits_too q g) in
+                      (named, bound, found, subst (λ us. IsSplit M e.fragments (bound_to sig ys (values q)) us D) (sym made ∙ sym kept) split);
                   telling = λ q m g l. a.telling q (older q m) (fits_too q g) (lacks_too q l);
                 },
                 subst (λ us. AreOpen M n e tests us Ds os) (sym made ∙ sym kept) more,
@@ -329,6 +346,7 @@ begin M work n number e there tests is us bound = record {
   place = record { fitting = is; ready = first_ready M work number e there; ends = refl; shown = none_shown M n };
   bound = bound;
   found = λ x h k. absurd (both_ways _ k (sym (in_lefts e x) ∙ h));
+  split = first_split M e.fragments (bound_to M.signature (met [] e.left) us);
   rests = [];
   waiting = tt;
   frontier = starts M (admitted_judgements M n) e.fragments (bound_to M.signature (met [] e.left) us);

@@ -13,8 +13,11 @@ use Rattle.mw_canon.specs.Canonical.{meant}
 use Rattle.mw_position.specs.Variables.{is_in, met, bound_values}
 use Rattle.mw_position.proofs.Placing.{values_of}
 use Rattle.mw_solving.proofs.Candidates.{variables_zipped, values_zipped}
+use Rattle.mw_logic.specs.Parts.{nested}
+use Rattle.mw_deduction.specs.Replay.{all_sides, begun_sides}
 use Rattle.mw_deduction.proofs.Frontiers.{Held_before}
 use Rattle.mw_least.specs.Workable.{IsWorkable}
+use Rattle.mw_proof.specs.Deductions.{Deduction}
 use Rattle.mw_proof.specs.Replacing.{AreBelow}
 use Rattle.mw_proof.specs.Failures.{IsFailure}
 use Rattle.mw_proof.specs.declared.reason.Reason.{Reason}
@@ -25,7 +28,7 @@ use Rattle.mw_index.proofs.Bound.{bound_variables_are, unconditional_variables}
 use Rattle.mw_index.proofs.ByTest.{of_none, put_in_order}
 use Rattle.mw_index.proofs.Rearranging.{zip_parts}
 use Rattle.mw_index.proofs.Sides.{variables_distinct}
-use Rattle.mw_reduce.specs.Evaluations.{AreBoundTo, bound_to, deduction_of, proofs_of, IsHeldBy, IsStoppedInside}
+use Rattle.mw_reduce.specs.Evaluations.{AreBoundTo, bound_to, deduction_of, proofs_of, starts_of, IsHeldBy, IsStoppedInside}
 use Rattle.mw_reduce.specs.Judgements.{IsAskedOf, IsHeldWith, IsUntold}
 use Rattle.mw_reduce.specs.declared.sides.Reduced.{Reduced}
 use Rattle.mw_reduce.proofs.Applying.{nothing_held, fails_above, in_their_order}
@@ -35,6 +38,11 @@ use Rattle.mw_reduce.proofs.Values.{reordered_extends, reordered_bound}
 all_below : (M : Module) (m : ℕ) (rs : List Reduced) → AreBelow M (suc m) (map (deduction_of M m) rs)
 all_below M m [] = tt
 all_below M m (r ∷ rs) = (refl, omega arith, all_below M m rs)
+
+-- deductions begin where their sides do
+starts_deduced : (M : Module) (m : ℕ) (rs : List Reduced) → map (λ (d : Deduction). nested M.signature d.from) (map (deduction_of M m) rs) ≡ starts_of M rs
+starts_deduced M m [] = refl
+starts_deduced M m (r ∷ rs) = ap (λ ts. nested M.signature r.from ∷ ts) (starts_deduced M m rs)
 
 module _ (M : Module) (work : IsWorkable M) (number : ℕ) (c : Condition) (s : Substitution) (e : Statement) (a : IsAskedOf M number c s e) (us : List RawTerm) (given : us ≡ bound_values s) where
   abbrev sig : Signature
@@ -65,6 +73,7 @@ module _ (M : Module) (work : IsWorkable M) (number : ℕ) (c : Condition) (s : 
         variables = a.variables ∙ sym all;
         bound = subst (λ xs. AreBoundTo M xs (bound_values s)) (sym all) a.bound;
         below = tt;
+        starts = ap (λ D. begun_sides sig (meant sig s) (all_sides D)) (sym none);
       }
 
   -- where it holds, by values that are put in order
@@ -76,13 +85,15 @@ module _ (M : Module) (work : IsWorkable M) (number : ℕ) (c : Condition) (s : 
       let ordered : vs ≡ values_of (zip bs ws) xs = in_their_order ws c.order put (put_in_order M work number e a.is_there c a.condition ws held.bound.size) in
       let alike : (y : Variable) → is_in y xs ≡ is_in y bs = λ y. sym (bound_variables_are M work number e a.is_there c.tests a.condition.tests y) in
       let bound : AreBoundTo M xs vs = subst (AreBoundTo M xs) (sym ordered) (reordered_bound M ok bs ws held.bound xs alike (variables_distinct M work number e a.is_there)) in
+      let reaches : Extends (bound_to sig bs ws) (bound_to sig xs vs) = subst (λ us. Extends (bound_to sig bs ws) (bound_to sig xs us)) (sym ordered) (reordered_extends M ok bs ws held.bound xs alike) in
       record {
         reached = bound_to sig bs ws;
         holds = subst (λ r. (admitted_judgements M (suc m)).Held e.fragments r (proofs_of M m sides) (bound_to sig bs ws)) given_meant (Held_before M (AdmittedStep M) m e.fragments (bound_to sig lefts us) (proofs_of M m sides) (bound_to sig bs ws) held.holds);
-        reaches = subst (λ us. Extends (bound_to sig bs ws) (bound_to sig xs us)) (sym ordered) (reordered_extends M ok bs ws held.bound xs alike);
+        reaches = reaches;
         variables = variables_zipped xs vs bound.size;
         bound = subst (AreBoundTo M xs) (sym (values_zipped xs vs bound.size)) bound;
         below = all_below M m sides;
+        starts = starts_deduced M m sides ∙ held.starts (bound_to sig xs vs) reaches;
       }
 
   -- where it fails it fails in each rank above

@@ -1,6 +1,7 @@
 pub mod Asks
 pub mod Values
 pub mod Evidence
+pub mod Splits
 pub mod Tests
 pub mod Going
 pub mod Deciding

@@ -34,7 +34,8 @@ use Rattle.mw_deduction.specs.Frontier.{together}
 use Rattle.mw_deduction.specs.Reading.{behind}
 use Rattle.mw_deduction.specs.Standing.{At}
 use Rattle.mw_deduction.specs.Stands.{IsStanding, AreStanding}
-use Rattle.mw_deduction.specs.Replay.{Move, begins, ends, Stand, begun, plays, showing, AreMoves, concluded}
+use Rattle.mw_deduction.specs.Replay.{Move, begins, ends, Stand, begun, plays, put_behind, showing, AreMoves, concluded, beginnings}
+use Rattle.mw_deduction.specs.Runs.{Dones, Runs, end, another, run}
 use Rattle.mw_trail.specs.Tracks.{Track, moves}
 use Rattle.mw_proof.specs.Deductions.{deduced, first_of, IsKept}
 use Rattle.mw_proof.specs.declared.reason.Reason.TheVariants as reason
@@ -104,6 +105,11 @@ behind_together : (ps : Proofs) (p : Proof) → behind ps p ≡ together ps (con
 behind_together nil p = refl
 behind_together (cons q ps) p = ap (cons q) (behind_together ps p)
 
+-- so does what was carried out
+beginnings_behind : (rs : Runs) (t u : RawTerm) (ds : Dones) → beginnings (put_behind rs (run t u ds)) ≡ beginnings rs ++ t ∷ []
+beginnings_behind end t u ds = refl
+beginnings_behind (another (run v w es) rs) t u ds = ap (λ ts. v ∷ ts) (beginnings_behind rs t u ds)
+
 -- what is proved from an equal term
 equal_first : (M : Module) (n : ℕ) (t m u : RawTerm) (q : Proof) → EqualModulo M.signature t m → Proves M n q m u → Proves M n (transitivity equality q) t u
 unfolding judgements_with
@@ -158,7 +164,7 @@ module _ (M : Module) (work : IsWorkable M) (n : ℕ) (t : RawTerm) (raw : IsRaw
     side_rules = ap (λ p. rules (transitivity equality p)) proof_is ∙ (let r = e.leads.rules in let z : rules (transitivity equality (concluded T)) ≡ 0 = omega (arith, r) in z)
 
     -- what it did may be done as a side, wherever a proof stands one rank above
-    side_evidence : IsEvidence M (suc n) (cons (transitivity equality kept_proof) nil) (begins u ∷ (ms ++ ends ∷ []))
+    side_evidence : IsEvidence M (suc n) (cons (transitivity equality kept_proof) nil) (nested here u ∷ []) (begins u ∷ (ms ++ ends ∷ []))
     side_evidence = λ S B rank.
         let inner : List Stand = begun n u ∷ S ∷ B in
         let (may, same) = plays_over M ms (begun n u ∷ []) (S ∷ B) made in
@@ -170,6 +176,7 @@ module _ (M : Module) (work : IsWorkable M) (n : ℕ) (t : RawTerm) (raw : IsRaw
           may = (record { rank = n; above = rank; canonical = subst (IsCanonical here) begins_at.canonical (canonical here accepted (nested here u)); raw = begins_at.raw; admitted = begins_at.admitted }, subst (AreMoves M (ms ++ ends ∷ [])) (sym low) all);
           plays = ap (plays M (ms ++ ends ∷ [])) low ∙ plays-append M ms (ends ∷ []) inner ∙ ap (plays M (ends ∷ [])) there;
           waits = record { rank = refl; from = refl; opens = refl; hand = refl; entered = refl; done = refl; ready = behind_together S.read.ready (transitivity equality (concluded T)) ∙ ap (λ p. together S.read.ready (cons (transitivity equality p) nil)) (sym proof_is) };
+          starts = beginnings_behind S.sides (nested here T.from) (nested here T.hand) T.run ∙ ap (λ v. beginnings S.sides ++ nested here v ∷ []) e.leads.from;
         }
 
   -- at a normal term it evaluates to it
@@ -184,6 +191,7 @@ module _ (M : Module) (work : IsWorkable M) (n : ℕ) (t : RawTerm) (raw : IsRaw
       (subst (λ v. At M (admitted_judgements M n).Held (admitted_judgements M n).Fails (nested here v) e.stand.read e.stand.opens e.stand.hand) e.leads.from
       (subst (λ k. At M (admitted_judgements M k).Held (admitted_judgements M k).Fails (nested here e.stand.from) e.stand.read e.stand.opens e.stand.hand) e.leads.rank h.at)))) in
       record {
+        begins = is;
         evaluates = subst (λ p. Evaluates (admitted_judgements M n) t (transitivity equality p) (nested here a)) (sym (proof_is count a k d kept_as w)) (side_evaluates M accepted n t e.stand.read a raw at e.leads.rules e.normal.normal);
         normal = e.normal;
         evidence = side_evidence count a k d kept_as w;

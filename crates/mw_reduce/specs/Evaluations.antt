@@ -4,7 +4,7 @@ use Rattle.std.specs.List.{zip}
 use Rattle.mw_logic.specs.Term.{Variable, RawTerm}
 use Rattle.mw_logic.specs.Terms.{terms_of}
 use Rattle.mw_logic.specs.Signature.{Signature, Member, IsRawTerm}
-use Rattle.mw_logic.specs.Substitution.{Substitution, instance, occurs, IsSubstitution}
+use Rattle.mw_logic.specs.Substitution.{Substitution, instance, occurs, IsSubstitution, Extends}
 use Rattle.mw_logic.specs.Parts.{nested, IsAdmitted}
 use Rattle.mw_logic.specs.NormalForm.{normal_form, some_largest}
 use Rattle.mw_logic.specs.Module.{Fragment, matches, Module, Statement}
@@ -15,7 +15,7 @@ use Rattle.mw_canon.specs.Canonical.{meant, IsAdmittedTerm}
 use Rattle.mw_position.specs.Variables.{is_in, met, bound_variables, AreDistinct}
 use Rattle.mw_solving.specs.Values.{AreValues}
 use Rattle.mw_deduction.specs.Frontier.{Alternative, alternative, together, IsOneOr, IsSolvedOr, IsFrontier}
-use Rattle.mw_deduction.specs.Replay.{Move, begins, ends, Stand, begun as begun_at, plays, AreMoves}
+use Rattle.mw_deduction.specs.Replay.{Move, begins, ends, Stand, begun as begun_at, plays, AreMoves, sides_of, all_sides, begun_sides, beginnings}
 use Rattle.mw_trail.specs.Tracks.{moves}
 use Rattle.mw_proof.specs.Deductions.{Deduction, deduced, IsKept}
 use Rattle.mw_proof.specs.Replacing.{evidence}
@@ -58,23 +58,27 @@ bound_to sig xs vs = meant sig (zip xs vs)
 abbrev pub AreFound : Module → ℕ → RawTerm → List Variable → List RawTerm → Type 0
 AreFound M n l xs vs = (x : Variable) → IsTrue (is_in x xs) → IsFalse (occurs x l) → IsNormalHere M n (value_in M.signature xs vs x) ⊎ IsBare (value_in M.signature xs vs x)
 
--- The moves may be made from the stand S on; then this evidence waits behind what waited.
-pub record IsEvidenceAt (M : Module) (es : Proofs) (ms : List Move) (S : Stand) (B : List Stand) : Type 0 where
+-- The moves may be made from the stand S on; then this evidence waits behind what waited, and its sides began at the terms ts.
+pub record IsEvidenceAt (M : Module) (es : Proofs) (ts : List RawTerm) (ms : List Move) (S : Stand) (B : List Stand) : Type 0 where
   pub waiting : Stand
   pub may : AreMoves M ms (S ∷ B)
   pub plays : plays M ms (S ∷ B) ≡ waiting ∷ B
   pub waits : IsWaiting (together S.read.ready es) S waiting
+  pub starts : beginnings waiting.sides ≡ beginnings S.sides ++ ts
 
 -- so they may wherever a proof stands in this rank
-abbrev pub IsEvidence : Module → ℕ → Proofs → List Move → Type 0
-IsEvidence M n es ms = (S : Stand) (B : List Stand) → S.rank ≡ n → IsEvidenceAt M es ms S B
+abbrev pub IsEvidence : Module → ℕ → Proofs → List RawTerm → List Move → Type 0
+IsEvidence M n es ts ms = (S : Stand) (B : List Stand) → S.rank ≡ n → IsEvidenceAt M es ts ms S B
 
--- the deductions that sides are in rank n, and the moves that show them one after another
+-- the deductions that sides are in rank n, what they begin at, and the moves that show them one after another
 abbrev pub deduction_of : Module → ℕ → Reduced → Deduction
 deduction_of M n r = deduced M n r.from r.to r.kept
 
 abbrev pub proofs_of : Module → ℕ → List Reduced → Proofs
 proofs_of M n rs = evidence (map (deduction_of M n) rs)
+
+abbrev pub starts_of : Module → List Reduced → List RawTerm
+starts_of M rs = map (λ (r : Reduced). nested M.signature r.from) rs
 
 abbrev pub side_moves : Module → Reduced → List Move
 side_moves M r = begins r.from ∷ (moves M r.kept ++ ends ∷ [])
@@ -88,12 +92,13 @@ abbrev pub AreKept : Module → ℕ → List Reduced → Type 0
 AreKept M n [] = ⊤
 AreKept M n (r ∷ rs) = (n ≤ 63 → IsKept M n r.from r.to r.kept) × AreKept M n rs
 
--- The instance t of a side evaluates in rank n to what the canonical term means that it was reduced to, by its proof, for which its moves are evidence one
--- rank above.
+-- The instance t of a side, in canonical form, is where it begins. It evaluates in rank n to what the canonical term means that it was reduced to, by its
+-- proof, for which its moves are evidence one rank above.
 pub record IsShown (M : Module) (n : ℕ) (t : RawTerm) (r : Reduced) : Type 0 where
+  pub begins : r.from ≡ normal_form M.signature t
   pub evaluates : Evaluates (admitted_judgements M n) t (transitivity equality (deduction_of M n r).proof) (nested M.signature r.to)
   pub normal : IsNormalHere M n r.to
-  pub evidence : IsEvidence M (suc n) (cons (transitivity equality (deduction_of M n r).proof) nil) (side_moves M r)
+  pub evidence : IsEvidence M (suc n) (cons (transitivity equality (deduction_of M n r).proof) nil) (nested M.signature r.from ∷ []) (side_moves M r)
   pub kept : n ≤ 63 → IsKept M n r.from r.to r.kept
 
 -- It stops: at once, or its run does in rank n, within so many steps.
@@ -126,12 +131,13 @@ IsBegun M t (begun.Stops why) = StopsAtOnce M t (reason_of why)
 
 -- these sides are shown
 pub record AreShown (M : Module) (n : ℕ) (rs : List Reduced) : Type 0 where
-  pub evidence : IsEvidence M (suc n) (proofs_of M n rs) (all_moves M rs)
+  pub evidence : IsEvidence M (suc n) (proofs_of M n rs) (starts_of M rs) (all_moves M rs)
   pub kept : AreKept M n rs
 
--- the fragment f holds by these sides, and binds nothing
+-- the fragment f holds by these sides, which are its own, and binds nothing
 pub record IsHolding (M : Module) (n : ℕ) (f : Fragment) (r : Substitution) (rs : List Reduced) : Type 0 where
   pub sides : AreShown M n rs
+  pub starts : starts_of M rs ≡ begun_sides M.signature r (sides_of f)
   pub holds : HoldsAbove M (admitted_judgements M n) (f ∷ []) r (proofs_of M n rs) r
   pub fails_behind : (D : List Fragment) → FailsAbove M (admitted_judgements M n) D r → FailsAbove M (admitted_judgements M n) (f ∷ D) r
 
@@ -170,6 +176,13 @@ pub record IsPlace (M : Module) (n : ℕ) (e : Statement) (tests : List Test) (a
   pub ends : all_bound xs (drop at tests) ≡ all_bound (met [] e.left) tests
   pub shown : AreShown M n sides
 
+-- The condition C is what is held, and then the rest. These sides begin at those of what is held: at their canonical instances by r, and so by all that
+-- extends it.
+pub record IsSplit (M : Module) (C : List Fragment) (r : Substitution) (sides : List Reduced) (rest : List Fragment) : Type 0 where
+  pub held : List Fragment
+  pub is : C ≡ held ++ rest
+  pub starts : (q : Substitution) → Extends r q → starts_of M sides ≡ begun_sides M.signature q (all_sides held)
+
 -- Solutions that are still to be tried: where they lead on, and what each one binds.
 pub record IsOpen (M : Module) (n : ℕ) (e : Statement) (tests : List Test) (sides : List Reduced) (rest : List Fragment) (o : Other) : Type 0 where
   pub within : o.sides ≤ length sides
@@ -177,6 +190,7 @@ pub record IsOpen (M : Module) (n : ℕ) (e : Statement) (tests : List Test) (si
   pub place : IsPlace M n e tests o.at (take o.sides sides) variables rest
   pub each : (r : Solution) → Member r o.solutions.value.candidates → FitsSorts o.solutions.value r
       → (bound_variables r.subst ≡ variables) × AreBoundTo M variables (values r) × AreFound M n e.left variables (values r)
+      × IsSplit M e.fragments (bound_to M.signature variables (values r)) (take o.sides sides) rest
   pub telling : (r : Solution) → Member r o.solutions.value.candidates → FitsSorts o.solutions.value r → Lacks o.solutions.value r → ⊥
 
 -- one by one, the innermost first, each with what is left of the condition
@@ -203,6 +217,7 @@ pub record IsTrial (M : Module) (n : ℕ) (e : Statement) (tests : List Test) (s
   pub place : IsPlace M n e tests at sides variables rest
   pub bound : AreBoundTo M variables vs
   pub found : AreFound M n e.left variables vs
+  pub split : IsSplit M e.fragments (bound_to M.signature variables vs) sides rest
   pub rests : List (List Fragment)
   pub waiting : AreOpen M n e tests sides rests others
   pub frontier : IsFrontier M (admitted_judgements M n) e.fragments s (IsOneOr (alternative rest (bound_to M.signature variables vs) (proofs_of M n sides)) (AreLeft M n sides rests others))
@@ -212,6 +227,7 @@ pub record IsAt (M : Module) (n : ℕ) (e : Statement) (tests : List Test) (s : 
   pub place : IsPlace M n e tests at sides xs (f ∷ C)
   pub bound : AreBoundTo M xs vs
   pub found : AreFound M n e.left xs vs
+  pub split : IsSplit M e.fragments (bound_to M.signature xs vs) sides (f ∷ C)
   pub rests : List (List Fragment)
   pub waiting : AreOpen M n e tests sides rests others
   pub frontier : IsFrontier M (admitted_judgements M n) e.fragments s (IsOneOr (alternative (f ∷ C) (bound_to M.signature xs vs) (proofs_of M n sides)) (AreLeft M n sides rests others))
@@ -246,12 +262,13 @@ pub record IsStoppedInside (M : Module) (n limit : ℕ) (C : List Fragment) (s :
   pub is_side : IsSide fragment side
   pub stops : IsStoppedFor M n limit (instance reached side) why
 
--- The condition of e holds from s on, by values of all variables that are bound in it.
+-- The condition of e holds from s on, by values of all variables that are bound in it. The sides begin at its own, in order.
 pub record IsHeldBy (M : Module) (n : ℕ) (e : Statement) (tests : List Test) (s : Substitution) (vs : List RawTerm) (sides : List Reduced) : Type 0 where
   pub shown : AreShown M n sides
   pub holds : HoldsAbove M (admitted_judgements M n) e.fragments s (proofs_of M n sides) (bound_to M.signature (all_bound (met [] e.left) tests) vs)
   pub bound : AreBoundTo M (all_bound (met [] e.left) tests) vs
   pub found : AreFound M n e.left (all_bound (met [] e.left) tests) vs
+  pub starts : (q : Substitution) → Extends (bound_to M.signature (all_bound (met [] e.left) tests) vs) q → starts_of M sides ≡ begun_sides M.signature q (all_sides e.fragments)
 
 abbrev pub IsVerdict : Module → ℕ → ℕ → Statement → List Test → Substitution → List RawTerm → Verdict → Type 0
 IsVerdict M n limit e tests s vs (Held sides) = IsHeldBy M n e tests s vs sides.items

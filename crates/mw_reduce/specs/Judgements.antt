@@ -1,5 +1,5 @@
 -- What is told of a condition, and of a term, asked of by themselves.
-use Rattle.std.specs.Prelude.{◌≡◌, ◌≢◌, ◌⊎◌, ℕ, suc, List, []}
+use Rattle.std.specs.Prelude.{◌≡◌, ◌≢◌, ◌⊎◌, ℕ, suc, List, [], map}
 use Rattle.mw_logic.specs.Term.{RawTerm}
 use Rattle.mw_logic.specs.Parts.{nested}
 use Rattle.mw_logic.specs.Substitution.{Substitution, Extends}
@@ -10,6 +10,7 @@ use Rattle.mw_logic.specs.Ends.{Stops}
 use Rattle.mw_logic.specs.Confluence.{IsReducible}
 use Rattle.mw_canon.specs.Canonical.{meant}
 use Rattle.mw_position.specs.Variables.{met, bound_variables, bound_values}
+use Rattle.mw_deduction.specs.Replay.{all_sides, begun_sides}
 use Rattle.mw_proof.specs.Deductions.{Deduction}
 use Rattle.mw_proof.specs.Replacing.{evidence, AreBelow}
 use Rattle.mw_proof.specs.Reasons.{reason_of}
@@ -31,7 +32,8 @@ pub record IsAskedOf (M : Module) (number : ℕ) (c : Condition) (s : Substituti
   pub variables : bound_variables s ≡ met [] e.left
   pub bound : AreBoundTo M (met [] e.left) (bound_values s)
 
--- Its condition holds in rank n from s on, by deductions of its sides in lower ranks, and reaches these values of all its variables.
+-- Its condition holds in rank n from s on, by deductions of its sides in lower ranks, in order, and reaches these values of all its variables. Each deduction
+-- begins at the canonical instance of its side.
 pub record IsHeldWith (M : Module) (n : ℕ) (e : Statement) (s values : Substitution) (ds : List Deduction) : Type 0 where
   pub reached : Substitution
   pub holds : (admitted_judgements M n).Held e.fragments (meant M.signature s) (evidence ds) reached
@@ -39,6 +41,7 @@ pub record IsHeldWith (M : Module) (n : ℕ) (e : Statement) (s values : Substit
   pub variables : bound_variables values ≡ e.variables
   pub bound : AreBoundTo M e.variables (bound_values values)
   pub below : AreBelow M n ds
+  pub starts : map (λ (d : Deduction). nested M.signature d.from) ds ≡ begun_sides M.signature (meant M.signature values) (all_sides e.fragments)
 
 -- it would be one too many, or a side stops
 abbrev pub IsUntold : Module → ℕ → ℕ → Statement → Substitution → Reason → Type 0

@@ -13,11 +13,12 @@
 //!
 //! A step is an equation that is applied, or a row of the schemata of numbers, `==`, `=/=` and `if_then_else_fi` that
 //! is met (mw_builtin); each counts one. An equation is applied where its condition holds: its fragments are tested one
-//! after another (`evaluate`, specs/Evaluations). Each side of one is reduced in a run of its own (`run_side`), one rank
-//! below, with its own limit on steps, and what shows it is kept between brackets in the proof. The solutions of a
-//! match wait, with the sides that were shown by then, and each is tried until the rest holds: what is known then is
-//! that the condition fails where all that is left fails (`IsFrontier` of mw_deduction). Where it fails nothing is kept
-//! of it, and the next choice comes.
+//! after another (`evaluate`, specs/Evaluations). Each side of one is reduced in a run of its own (`run_side`) from its
+//! canonical instance, one rank below, with its own limit on steps, and what shows it is kept between brackets in the
+//! proof: so this begins, side by side, at the sides of the condition (`IsSplit`). The solutions of a match wait, with
+//! the sides that were shown by then, and each is tried until the rest holds: what is known then is that the condition
+//! fails where all that is left fails (`IsFrontier` of mw_deduction). Where it fails nothing is kept of it, and the next
+//! choice comes.
 //!
 //! Rows at two of many numerals of a sum or product are met one after the other, without the terms between, so a long
 //! sum takes the time of its length and not of its square (`join_pairs`); each counts one, the least two first.
@@ -29,7 +30,8 @@
 //! most 63 times; the native stack doesn't grow with terms there.
 //!
 //! - `conditions` asks of a statement's condition alone, for values of its left side's variables: it holds, by deductions
-//!   of its sides; it fails; or it isn't told, for the reason that is answered (specs/Judgements).
+//!   of its sides, each from its canonical instance; it fails; or it isn't told, for the reason that is answered
+//!   (specs/Judgements).
 //! - `is_normal` asks of a term alone: yes; no, since the condition of an equation holds at a part of it, or a row is met
 //!   there; or it isn't told, as a reduction would stop there before its first step.
 //!
