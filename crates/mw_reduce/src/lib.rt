@@ -17,8 +17,8 @@
 //! canonical instance, one rank below, with its own limit on steps, and what shows it is kept between brackets in the
 //! proof: so this begins, side by side, at the sides of the condition (`IsSplit`). The solutions of a match wait, with
 //! the sides that were shown by then, and each is tried until the rest holds: what is known then is that the condition
-//! fails where all that is left fails (`IsFrontier` of mw_deduction). Where it fails nothing is kept of it, and the next
-//! choice comes.
+//! fails where all that is left fails (`IsFrontier` of mw_deduction). Where it fails nothing is kept of it, and the
+//! next choice comes.
 //!
 //! Rows at two of many numerals of a sum or product are met one after the other, without the terms between, so a long
 //! sum takes the time of its length and not of its square (`join_pairs`); each counts one, the least two first.
@@ -26,22 +26,22 @@
 //! A turn is a step of mw_frames, and where that asks for statements, the row that is met there, else the next choice
 //! of mw_index; where there is neither the term rests, for it is normal. `find` turns until something applies or stops,
 //! and `run_on` makes that step, as often as the limit says (`IsDriven`, specs/Driven). `run_on`, `find`, `try_choice`,
-//! `evaluate`, `try_test` and `run_side` call one another in a circle, once for each condition inside another one, so at
-//! most 63 times; the native stack doesn't grow with terms there.
+//! `evaluate`, `try_test` and `run_side` call one another in a circle, once for each condition inside another one, so
+//! at most 63 times; the native stack doesn't grow with terms there.
 //!
-//! - `conditions` asks of a statement's condition alone, for values of its left side's variables: it holds, by deductions
-//!   of its sides, each from its canonical instance; it fails; or it isn't told, for the reason that is answered
-//!   (specs/Judgements).
-//! - `is_normal` asks of a term alone: yes; no, since the condition of an equation holds at a part of it, or a row is met
-//!   there; or it isn't told, as a reduction would stop there before its first step.
+//! - `conditions` asks of a statement's condition alone, for values of its left side's variables: it holds, by
+//!   deductions of its sides, each from its canonical instance; it fails; or it isn't told, for the reason that is
+//!   answered (specs/Judgements).
+//! - `is_normal` asks of a term alone: yes; no, since the condition of an equation holds at a part of it, or a row is
+//!   met there; or it isn't told, as a reduction would stop there before its first step.
 //!
 //! Conditions: the index is one of the context's module, the term is canonical and admitted, `nest` is at most 63. Want
 //! of memory is the only error. No clause says which of several equations, solutions and rows that apply is taken, nor
 //! in which order parts are reduced; the code goes from inside out and from the left, but reduces the condition of a
 //! choice before its branches, and of these only the one that is taken.
 //!
-//! Cost: a side is walked whole, the values in it too, as these are known to be normal one rank above alone. An equation
-//! without a condition is applied without any of this.
+//! Cost: a side is walked whole, the values in it too, as these are known to be normal one rank above alone. An
+//! equation without a condition is applied without any of this.
 //!
 //! Neither proved nor tested: time and memory, and that an answer comes with memory at hand.
 #![tactic(auto)]
