@@ -52,7 +52,7 @@ impl Level {
         self.with_elements(alloc, facts, term)
     }
 
-    /// The same by any list of arguments, which is put in order and flattened as a whole.
+    /// The same where each argument stays where it is.
     fn with_one(self, alloc: Global, facts: &Facts, term: Term) -> Result<Term, AllocError>
         ensures { IfOk result (λ t. t ≡ filled facts.now self term) }
     {
@@ -106,7 +106,8 @@ impl Level {
 
     /// The same, of copies of the arguments.
     pub fn filled_again(&self, alloc: Global, facts: &Facts, term: Term) -> Result<Term, AllocError>
-        ensures { IfOk result (λ t. t ≡ filled facts.now self.now term) }
+        ensures { IsOrderly facts.now self.now → IsClear facts.now self.now → IsCanonical facts.now term
+            → IfOk result (λ t. t ≡ filled facts.now self.now term) }
     {
         let mut others = Vec::with_capacity(alloc, self.others.len() + 1)?;
         for other in &self.others {
@@ -119,7 +120,7 @@ impl Level {
             others,
             at,
         };
-        level.with_one(alloc, facts, term)
+        level.filled(alloc, facts, term)
     }
 
     /// Whether each argument stays where it is, and as it is.
