@@ -28,9 +28,9 @@
 //! of the walk, and it is not to be used again; `spot` changes nothing.
 //!
 //! Cost: `enter` and `among` move the operator's arguments where nobody else holds the term in hand, and count each
-//! once where somebody does. `leave` moves them back, and what comes in is put in order among them by `put` of mw_stack,
-//! where the operator is commutative: one term by log n comparisons. Nothing else is compared. `spot` makes no term
-//! where no operator on the way is associative or commutative. Else it makes, of copies, what stands in the hole of the
+//! once where somebody does. `leave` moves them back, and where the operator is commutative, `put` of mw_stack brings
+//! what comes in among them: one term by log n comparisons. Nothing else is compared. `spot` makes no term where no
+//! operator on the way is associative or commutative. Else it makes, of copies, what stands in the hole of the
 //! outermost of these, level by level as `leave` does, and compares each argument that it asks the number of with log n
 //! others; its native stack grows with the levels. Neither proved nor tested here: time, and that calls answer with
 //! memory at hand.

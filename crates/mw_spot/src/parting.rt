@@ -9,7 +9,8 @@ use crate::level::Level;
 use mw_term::{OpId, Term};
 use std::alloc::{AllocError, Global};
 
-/// The operator on those arguments that have these numbers, which rise, and the level that is left of it. They are moved.
+/// The operator on those arguments that have these numbers, which rise, and the level that is left of it. Arguments are
+/// moved.
 pub(crate) fn parted(
     alloc: Global,
     operator: OpId,
