@@ -107,8 +107,8 @@ impl Chain {
 
     /// Out again.
     fn leave(self, alloc: Global, facts: &Facts) -> Result<Chain, AllocError>
-        ensures { (M : Module) (S : Stand) (o : Open) (os : List Open) → M.signature ≡ facts.now → S.opens ≡ o ∷ os
-            → IfOk result (Goes M S (going_out M.signature S.opens S) self) }
+        ensures { (M : Module) (S : Stand) (o : Open) (os : List Open) → M.signature ≡ facts.now → IsStanding M S
+            → S.opens ≡ o ∷ os → IfOk result (Goes M S (going_out M.signature S.opens S) self) }
     {
         let mut chain = self;
         chain.walk.leave(alloc, facts)?;

@@ -120,6 +120,10 @@ module _ (sig : Signature) where
   orderly-append [] ps h = (tt, h)
   orderly-append (o ∷ os) ps h = let q = orderly-append os ps h.1 in ((h.0, q.0), q.1)
 
+  pub clear-append : (os ps : List Open) → AreClear sig (os ++ ps) → AreClear sig os × AreClear sig ps
+  clear-append [] ps h = (tt, h)
+  clear-append (o ∷ os) ps h = let q = clear-append os ps h.1 in ((h.0, q.0), q.1)
+
   abbrev pub AreFree : List Open → Type 0
   AreFree [] = ⊤
   AreFree (o ∷ os) = IsFree sig o × AreFree os
@@ -146,7 +150,7 @@ module _ (sig : Signature) where
 -- Where the innermost levels are climbed and the outermost passed, the place is that of the replacement.
 pub stands_there : (M : Module) (sig : Signature) → M.signature ≡ sig → IsAccepted sig → (W : Walked) (S : Stand) (r : Bool) (w v : RawTerm) → IsAt sig W S → IsStanding M S → MayReplace M r S.opens S.hand w v
     → (levels : List Open) (n : ℕ) → reverse levels ≡ W.opens → All (IsFree sig) (take n levels) → (start path ways : List ℕ) (begun found taken : Option (List ℕ)) → start ≡ [] → begun ≡ None
-    → (AreOrderly sig (reverse (drop n levels)) → path ≡ climbed_path sig (reverse (drop n levels)) W.hand start begun) → (AreOrderly sig (reverse (drop n levels)) → found ≡ climbed_take sig (reverse (drop n levels)) W.hand start begun)
+    → (AreOrderly sig (reverse (drop n levels)) → AreClear sig (reverse (drop n levels)) → IsCanonical sig W.hand → path ≡ climbed_path sig (reverse (drop n levels)) W.hand start begun) → (AreOrderly sig (reverse (drop n levels)) → AreClear sig (reverse (drop n levels)) → IsCanonical sig W.hand → found ≡ climbed_take sig (reverse (drop n levels)) W.hand start begun)
     → ways ≡ passed (reverse (take n levels)) path → taken ≡ found
     → ReplacesAt sig r S.hand (normal_form sig v) ways taken (whole sig S.opens S.hand) (whole sig S.opens (normal_form sig v))
 stands_there M sig is ok W S r w v here stands may levels n e free start path ways begun found taken s b p q l m =
@@ -155,10 +159,13 @@ stands_there M sig is ok W S r w v here stands may levels n e free start path wa
     let parts : S.opens ≡ os ++ ps = here.opens ∙ sym e ∙ sym (ap reverse (take-append-drop n levels)) ∙ reverse-append (take n levels) (drop n levels) in
     let all : AreOrderly sig S.opens = subst (AreOrderly sig) (sym here.opens) here.orderly in
     let orderly : AreOrderly sig os = (orderly-append sig os ps (subst (AreOrderly sig) parts all)).0 in
+    let every : AreClear sig S.opens = subst (λ sig. AreClear sig S.opens) is stands.at.clear in
+    let clear : AreClear sig os = (clear-append sig os ps (subst (AreClear sig) parts every)).0 in
     let t : RawTerm = S.hand in
     let hand : W.hand ≡ t = sym here.hand in
-    let path_is : path ≡ climbed_path sig os t [] None = p orderly ∙ ap (λ u. climbed_path sig os u start begun) hand ∙ ap (λ s. climbed_path sig os t s begun) s ∙ ap (climbed_path sig os t []) b in
-    let take_is : found ≡ climbed_take sig os t [] None = q orderly ∙ ap (λ u. climbed_take sig os u start begun) hand ∙ ap (λ s. climbed_take sig os t s begun) s ∙ ap (climbed_take sig os t []) b in
+    let canonical : IsCanonical sig W.hand = subst (IsCanonical sig) here.hand (subst (λ sig. IsCanonical sig t) is stands.at.canonical) in
+    let path_is : path ≡ climbed_path sig os t [] None = p orderly clear canonical ∙ ap (λ u. climbed_path sig os u start begun) hand ∙ ap (λ s. climbed_path sig os t s begun) s ∙ ap (climbed_path sig os t []) b in
+    let take_is : found ≡ climbed_take sig os t [] None = q orderly clear canonical ∙ ap (λ u. climbed_take sig os u start begun) hand ∙ ap (λ s. climbed_take sig os t s begun) s ∙ ap (climbed_take sig os t []) b in
     let outer = free_passed sig ps (whole sig os t) (climbed_path sig os t [] None) (climbed_take sig os t [] None) (free_reversed sig (take n levels) free) in
     let split = climbed-append sig os ps t [] None in
     let ways_are : climbed_path sig S.opens t [] None ≡ ways = ap (λ os. climbed_path sig os t [] None) parts ∙ split.0 ∙ outer.0 ∙ ap (passed ps) (sym path_is) ∙ sym l in

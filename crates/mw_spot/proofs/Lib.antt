@@ -8,6 +8,7 @@ pub mod Among
 pub mod Exchanging
 -- Levels with terms in their holes.
 pub mod Filled
+pub mod Closing
 -- Places from level to level.
 pub mod Raised
 pub mod Climbed

@@ -1,5 +1,5 @@
 -- Terms are gone through one by one, and those that have one of some numbers are set apart.
-use Rattle.std.specs.Prelude.{◌≡◌, ◌+◌, ◌-◌, ◌<◌, ◌≤◌, ℕ, suc, List, [], ◌∷◌, ◌++◌, take, drop, length, get_or, refl}
+use Rattle.std.specs.Prelude.{◌≡◌, ◌+◌, ◌-◌, ◌<◌, ◌≤◌, ℕ, suc, List, [], ◌∷◌, ◌++◌, take, drop, length, get_or, zero, refl}
 use Rattle.std.proofs.Common.{ap, sym, ◌∙◌, arith, add-one, drop-cons, drop_of_length-le}
 use Rattle.mw_logic.specs.Term.{RawTerm, RawTerms, cons, join}
 use Rattle.mw_logic.specs.Terms.{terms_of}
@@ -10,6 +10,29 @@ use Rattle.mw_arguments.specs.Places.{chosen}
 use Rattle.mw_arguments.proofs.Middles.{differ}
 use Rattle.mw_redex.proofs.Exchanged.{first_and_rest}
 use Rattle.mw_spot.proofs.Picked.{chosen_nil}
+
+-- the first of those that are to come
+pub first_to_come : {A : Type 0} (xs ys : List A) (i : ℕ) (t : A) → t ∷ ys ≡ drop i xs → (i < length xs) × (t ≡ get_or xs i t) × (ys ≡ drop (i + 1) xs)
+first_to_come [] ys zero t e = cc
+first_to_come [] ys (suc i) t e = cc
+first_to_come (x ∷ xs) ys zero t e = (omega arith, same_head e, same_tail e)
+  where
+    same_head : t ∷ ys ≡ x ∷ xs → t ≡ x
+    same_head e = cc
+
+    same_tail : t ∷ ys ≡ x ∷ xs → ys ≡ xs
+    same_tail e = cc
+first_to_come (x ∷ xs) ys (suc i) t e =
+    let r = first_to_come xs ys i t e in
+    let l = r.0 in
+    let z : suc (i + 1) ≡ suc i + 1 = omega arith in
+    (omega (arith, l), r.1, r.2 ∙ ap (λ n. drop n (x ∷ xs)) z)
+
+-- there are none
+pub none_to_come : {A : Type 0} (xs : List A) (i : ℕ) → drop i xs ≡ [] → length xs ≤ i
+none_to_come [] i e = omega arith
+none_to_come (x ∷ xs) zero e = cc
+none_to_come (x ∷ xs) (suc i) e = let r = none_to_come xs i e in omega (arith, r)
 
 terms_at : (ts : List RawTerm) (i : ℕ) (t : RawTerm) → i < length ts → t ≡ get_or ts i t → terms_of (drop i ts) ≡ cons t (terms_of (drop (i + 1) ts))
 terms_at ts i t h e = ap terms_of (drop-cons ts i t h) ∙ rw (← e, add-one) refl

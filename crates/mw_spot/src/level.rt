@@ -1,10 +1,13 @@
 // One level of a walk: an operator, and its arguments but for those in the hole.
-ghost use Rattle.std.specs.Prelude.{◌≡◌, ◌↔◌, IfOk, IsTrue};
-ghost use Rattle.mw_deduction.specs.Standing.{filled};
+ghost use Rattle.std.specs.Prelude.{◌≡◌, ◌↔◌, true, false, IfOk, IsTrue};
+ghost use Rattle.mw_deduction.specs.Standing.{filled, IsClear};
 ghost use Rattle.mw_logic.specs.NormalForm.{is_comm};
+ghost use Rattle.mw_logic.proofs.Canonical.{IsCanonical};
 ghost use Rattle.mw_spot.specs.Spots.{IsFree};
+ghost use Rattle.mw_spot.specs.Walks.{IsOrderly};
 
 use mw_canon::{Axioms, Facts, rebuild};
+use mw_stack::{close, put};
 use mw_term::{OpId, Term, copy};
 use std::alloc::{AllocError, Global};
 use std::marker::Model;
@@ -37,6 +40,20 @@ impl Model for Level {
 impl Level {
     /// The operator again, with a term in the hole.
     pub fn filled(self, alloc: Global, facts: &Facts, term: Term) -> Result<Term, AllocError>
+        ensures { IsOrderly facts.now self → IsClear facts.now self → IsCanonical facts.now term
+            → IfOk result (λ t. t ≡ filled facts.now self term) }
+    {
+        if self.is_free(facts) {
+            return self.with_one(alloc, facts, term);
+        }
+        if self.is_commutative(facts) {
+            return self.with_one_in_order(alloc, facts, term);
+        }
+        self.with_elements(alloc, facts, term)
+    }
+
+    /// The same where each argument stays where it is.
+    fn with_one(self, alloc: Global, facts: &Facts, term: Term) -> Result<Term, AllocError>
         ensures { IfOk result (λ t. t ≡ filled facts.now self term) }
     {
         let Level {
@@ -50,9 +67,47 @@ impl Level {
         Ok(term)
     }
 
+    /// The same where the operator is commutative: what comes is put in order among the others, which are in order.
+    fn with_one_in_order(self, alloc: Global, facts: &Facts, term: Term) -> Result<Term, AllocError>
+        ensures { is_comm facts.now self.operator ≡ true
+            → IsOrderly facts.now self → IsClear facts.now self → IsCanonical facts.now term
+            → IfOk result (λ t. t ≡ filled facts.now self term) }
+    {
+        facts.shows();
+        let Level {
+            operator,
+            others,
+            ..
+        } = self;
+        let mut args = others;
+        put(alloc, facts, operator, &mut args, 0, term)?;
+        let term = close(alloc, facts, operator, &mut args, 0)?;
+        Ok(term)
+    }
+
+    /// The same where the operator isn't commutative: what comes is put between the others.
+    fn with_elements(self, alloc: Global, facts: &Facts, term: Term) -> Result<Term, AllocError>
+        ensures { is_comm facts.now self.operator ≡ false → IsClear facts.now self → IsCanonical facts.now term
+            → IfOk result (λ t. t ≡ filled facts.now self term) }
+    {
+        facts.shows();
+        let Level {
+            operator,
+            others,
+            at,
+        } = self;
+        let mut args = others;
+        let mut behind = args.split_off(at)?;
+        put(alloc, facts, operator, &mut args, 0, term)?;
+        args.append(&mut behind)?;
+        let term = close(alloc, facts, operator, &mut args, 0)?;
+        Ok(term)
+    }
+
     /// The same, of copies of the arguments.
     pub fn filled_again(&self, alloc: Global, facts: &Facts, term: Term) -> Result<Term, AllocError>
-        ensures { IfOk result (λ t. t ≡ filled facts.now self.now term) }
+        ensures { IsOrderly facts.now self.now → IsClear facts.now self.now → IsCanonical facts.now term
+            → IfOk result (λ t. t ≡ filled facts.now self.now term) }
     {
         let mut others = Vec::with_capacity(alloc, self.others.len() + 1)?;
         for other in &self.others {

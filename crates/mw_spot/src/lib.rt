@@ -20,18 +20,20 @@
 //!   stands at that place, for rules in no frozen argument, and the whole term with the new one put there is the whole
 //!   that comes of the replacement (`ReplacesAt` of mw_redex).
 //!
-//! Conditions: the term in hand is canonical and the move may be made (`MayGoIn`, `MayGoAmong`); for `spot` the proof's
-//! stand is one that its moves lead to (`IsStanding`) and the replacement may be made (`MayReplace`). Else nothing is
-//! said of the answers, but each call is safe and ends.
+//! Conditions: the term in hand is canonical and the move may be made (`MayGoIn`, `MayGoAmong`); for `leave` and `spot`
+//! the proof's stand is one that its moves lead to (`IsStanding`), and for `spot` the replacement may be made
+//! (`MayReplace`). Else nothing is said of the answers, but each call is safe and ends.
 //!
 //! Errors: want of memory alone, or a number beyond 32 bits. After one, in `enter`, `among` or `leave`, nothing is said
 //! of the walk, and it is not to be used again; `spot` changes nothing.
 //!
-//! Cost: `enter` and `among` copy the operator's arguments, by one count each; `leave` takes what `rebuild` of mw_canon
-//! takes. `spot` makes no term where no operator on the way is associative or commutative. Else it makes, of copies,
-//! what stands in the hole of the outermost of these, level by level, and compares each argument that it asks the
-//! number of with log n others; its native stack grows with the levels. Neither proved nor tested here: time, and that
-//! calls answer with memory at hand.
+//! Cost: `enter` and `among` move the operator's arguments where nobody else holds the term in hand, and count each
+//! once where somebody does. `leave` moves them back, and where the operator is commutative, `put` of mw_stack brings
+//! what comes in among them: one term by log n comparisons. Nothing else is compared. `spot` makes no term where no
+//! operator on the way is associative or commutative. Else it makes, of copies, what stands in the hole of the
+//! outermost of these, level by level as `leave` does, and compares each argument that it asks the number of with log n
+//! others; its native stack grows with the levels. Neither proved nor tested here: time, and that calls answer with
+//! memory at hand.
 #![tactic(auto)]
 
 mod level;

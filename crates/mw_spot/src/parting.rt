@@ -6,25 +6,25 @@ ghost use Rattle.mw_logic.specs.Terms.{terms_of};
 ghost use Rattle.mw_spot.specs.Walks.{IsLeft};
 
 use crate::level::Level;
-use mw_term::{OpId, Term, copy};
+use mw_term::{OpId, Term};
 use std::alloc::{AllocError, Global};
 
-/// The operator on those arguments that have these numbers, which rise, and the level that is left of it.
+/// The operator on those arguments that have these numbers, which rise, and the level that is left of it. Arguments are
+/// moved.
 pub(crate) fn parted(
     alloc: Global,
     operator: OpId,
-    args: &[Term],
+    args: Vec<Term>,
     first: u32,
     numbers: &[u32],
 ) -> Result<(Term, Level), AllocError>
-    ensures term { IfOk result (λ (term, _). term ≡ applied operator (chosen 1 numbers.now (terms_of args.now))) }
-    ensures level { IfOk result (λ (_, level). IsLeft operator first numbers.now (terms_of args.now) level) }
+    ensures term { IfOk result (λ (term, _). term ≡ applied operator (chosen 1 numbers.now (terms_of args.items))) }
+    ensures level { IfOk result (λ (_, level). IsLeft operator first numbers.now (terms_of args.items) level) }
 {
     let mut taken = Vec::new(alloc);
     let mut others = Vec::with_capacity(alloc, args.len())?;
     let mut rest = numbers;
-    for (i, term) in args.iter().enumerate() {
-        let term = copy(term)?;
+    for (i, term) in args.into_iter().enumerate() {
         match rest {
             [next, more @ ..] if *next as usize == i + 1 => {
                 taken.push(term)?;

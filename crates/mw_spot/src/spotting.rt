@@ -1,6 +1,8 @@
 // The place of what stands in the innermost hole, from level to level.
 ghost use Rattle.std.specs.Prelude.{◌≡◌, ◌≤◌, [], All, None, take, length, reverse, OnOk};
 ghost use Rattle.mw_logic.specs.Terms.{terms_of};
+ghost use Rattle.mw_logic.proofs.Canonical.{IsCanonical};
+ghost use Rattle.mw_deduction.specs.Standing.{AreClear};
 ghost use Rattle.mw_spot.specs.Walks.{IsOrderly, AreOrderly};
 ghost use Rattle.mw_spot.specs.Spots.{IsFree, spread_path, spread_take, raised_path, raised_take};
 ghost use Rattle.mw_spot.specs.Spots.{climbed_path, climbed_take, passed};
@@ -107,12 +109,15 @@ pub(crate) fn climb(
     spot: &mut Spot,
 ) -> Result<(), AllocError>
     ensures path { AreOrderly facts.now (reverse levels.now)
+        → AreClear facts.now (reverse levels.now) → IsCanonical facts.now inner
         → OnOk result (reverse spot.new.path.items
         ≡ climbed_path facts.now (reverse levels.now) inner (reverse spot.old.path.items) spot.old.take) }
     ensures take { AreOrderly facts.now (reverse levels.now)
+        → AreClear facts.now (reverse levels.now) → IsCanonical facts.now inner
         → OnOk result (spot.new.take
         ≡ climbed_take facts.now (reverse levels.now) inner (reverse spot.old.path.items) spot.old.take) }
 {
+    facts.shows();
     let [before @ .., level] = levels else {
         return Ok(());
     };

@@ -20,6 +20,7 @@ use mw_redex::Place;
 use mw_term::{Term, View, copy};
 use std::alloc::{AllocError, Global};
 use std::marker::Model;
+use std::mem::replace;
 
 /// A walk with the moves of a kept proof: the operators that it went into, and the term in hand.
 #[derive(Drop)]
@@ -60,6 +61,15 @@ impl Walk {
         &self.hand
     }
 
+    /// The term in hand, for which a small one comes: so nothing else shares it here.
+    fn take_hand(&mut self, alloc: Global) -> Result<Term, AllocError>
+        ensures hand { IfOk result (λ t. t ≡ self.old.hand) }
+        ensures opens { self.new.opens ≡ self.old.opens }
+    {
+        let small = Term::numeral(alloc, 0)?;
+        Ok(replace(&mut self.hand, small))
+    }
+
     /// Another term comes for the one in hand.
     pub fn put(&mut self, term: Term)
         ensures { (sig : Signature) (S T : Stand) → IsAt sig self.old S → T.opens ≡ S.opens → T.hand ≡ term
@@ -81,7 +91,7 @@ impl Walk {
             return Ok(());
         }
         let at = index - 1;
-        let mut others = copy(&self.hand)?.into_args(alloc)?;
+        let mut others = self.take_hand(alloc)?.into_args(alloc)?;
         let hand = others.remove(at);
         let level = Level {
             operator,
@@ -99,12 +109,13 @@ impl Walk {
             → MayGoAmong sig numbers.now S.hand
             → OnOk result (IsAt sig self.new (into_several sig numbers.now S.hand S)) }
     {
-        let View::Op(operator, args) = self.hand.view() else {
+        let View::Op(operator, _) = self.hand.view() else {
             return Ok(());
         };
         let [first, ..] = numbers else {
             return Ok(());
         };
+        let args = self.take_hand(alloc)?.into_args(alloc)?;
         let (hand, level) = parted(alloc, operator, args, *first, numbers)?;
         self.levels.push(level)?;
         self.hand = hand;
@@ -113,13 +124,13 @@ impl Walk {
 
     /// Out of the innermost operator: what stands in its hole is put in order among its arguments.
     pub fn leave(&mut self, alloc: Global, facts: &Facts) -> Result<(), AllocError>
-        ensures { (S : Stand) → IsAt facts.now self.old S
+        ensures { (M : Module) (S : Stand) → M.signature ≡ facts.now → IsAt facts.now self.old S → IsStanding M S
             → OnOk result (IsAt facts.now self.new (going_out facts.now S.opens S)) }
     {
         let Some(level) = self.levels.pop() else {
             return Ok(());
         };
-        let hand = copy(&self.hand)?;
+        let hand = self.take_hand(alloc)?;
         self.hand = level.filled(alloc, facts, hand)?;
         Ok(())
     }

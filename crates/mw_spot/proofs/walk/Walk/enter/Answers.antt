@@ -23,7 +23,8 @@ returns-then-index-eq0 c = λ sig S ok here k may.
 pub remove-hand-requires : goal.remove-hand-requires
 remove-hand-requires c =
     let args = c.in-Op.args.now in
-    let same : c.in_ok-others.others.items ≡ args = same_list c.in_ok-others.others.items args (c.in_ok-others.ensures ∙ ap args_of (c.in_ok-copy.ensures ∙ c.in-Op.ensures)) in
+    let is : c.args.self.now.hand ≡ apply c.in-Op.operator (terms_of args) = ap (λ w. w.hand) (sym c.self.view_is) ∙ c.in-Op.ensures in
+    let same : c.in_ok-others.others.items ≡ args = same_list c.in_ok-others.others.items args (c.in_ok-others.ensures ∙ ap args_of (c.in_ok-take_hand.ensures.hand ∙ is)) in
     let size = ap length same in
     let v = c.in_ok-others.others.ok.0 in
     let a = c.if-index-eq0.false in
@@ -36,7 +37,7 @@ returns c = λ sig S ok here k may.
     let args = c.in-Op.args.now in
     let is : c.args.self.now.hand ≡ apply f (terms_of args) = ap (λ w. w.hand) (sym c.self.view_is) ∙ c.in-Op.ensures in
     let others = c.in_ok-others.others.items in
-    let same : others ≡ args = same_list others args (c.in_ok-others.ensures ∙ ap args_of (c.in_ok-copy.ensures ∙ c.in-Op.ensures)) in
+    let same : others ≡ args = same_list others args (c.in_ok-others.ensures ∙ ap args_of (c.in_ok-take_hand.ensures.hand ∙ is)) in
     let at = c.args.number - 1 in
     let x = c.remove-hand.result in
     let left = c.remove-hand.new.self.items in
@@ -45,5 +46,5 @@ returns c = λ sig S ok here k may.
     let rest : left ≡ take at args ++ drop (suc at) args = c.remove-hand.ensures.items ∙ ap (λ xs. take at xs ++ drop (suc at) xs) same in
     let found : get_or args at x ≡ x = sym (c.remove-hand.ensures.value ∙ ap (λ xs. get_or xs at x) same) in
     let opens : (level_of f at left ∷ c.args.self.now.opens) ≡ reverse c.push.new.self.items =
-    ap (λ os. level_of f at left ∷ os) (ap (λ w. w.opens) (sym c.self.view_is)) ∙ sym (pushed_first c.self.inside.levels.items c.push.new.self.items (level_of f at left) c.in_ok-push.ensures.items) in
+    ap (λ os. level_of f at left ∷ os) (sym (ap (λ w. w.opens) c.self-2.view_is ∙ c.in_ok-take_hand.ensures.opens)) ∙ sym (pushed_first c.self-2.inside.levels.items c.push.new.self.items (level_of f at left) c.in_ok-push.ensures.items) in
     subst (λ os. IsAt sig (record { opens = os; hand = x }) (into_argument sig c.args.number S.hand S)) opens (entered sig ok c.args.self.now S here k c.args.number may f args is at left x next rest found)

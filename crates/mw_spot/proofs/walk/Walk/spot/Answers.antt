@@ -1,6 +1,8 @@
 use Rattle.std.proofs.Common.{◌≡◌, ◌∙◌, ◌-◌, ap, sym, subst, reverse, take, drop, length}
 use Rattle.std.proofs.Math.Seq.{take-length}
 use Rattle.std.proofs.lemmas.List.{length-drop}
+use Rattle.mw_logic.proofs.Canonical.{IsCanonical}
+use Rattle.mw_deduction.specs.Standing.{AreClear}
 use Rattle.mw_spot.specs.Walks.{AreOrderly}
 use Rattle.mw_spot.specs.Spots.{climbed_path, climbed_take}
 use Rattle.mw_spot.proofs.Climbed.{stands_there}
@@ -23,6 +25,6 @@ returns c = λ M S by_rule w v is here stands may.
     let within : take (length levels - n) (drop n levels) ≡ drop n levels = ap (λ m. take m (drop n levels)) (sym (length-drop n levels)) ∙ take-length (drop n levels) in
     stands_there M sig is c.shows.ensures W S by_rule w v here stands may levels n opens c.free-free.ensures.free start path c.into_place.result.path begun taken c.into_place.result.take
     (ap reverse c.new-spot.ensures.path) c.new-spot.ensures.take
-    (λ o. subst (λ ls. AreOrderly sig (reverse ls) → path ≡ climbed_path sig (reverse ls) t start begun) within c.in_ok-climb.ensures.path o ∙ ap (λ t. climbed_path sig os t start begun) hand)
-    (λ o. subst (λ ls. AreOrderly sig (reverse ls) → taken ≡ climbed_take sig (reverse ls) t start begun) within c.in_ok-climb.ensures.take o ∙ ap (λ t. climbed_take sig os t start begun) hand)
+    (λ o e k. subst (λ ls. AreOrderly sig (reverse ls) → AreClear sig (reverse ls) → IsCanonical sig t → path ≡ climbed_path sig (reverse ls) t start begun) within c.in_ok-climb.ensures.path o e (subst (IsCanonical sig) (sym hand) k) ∙ ap (λ t. climbed_path sig os t start begun) hand)
+    (λ o e k. subst (λ ls. AreOrderly sig (reverse ls) → AreClear sig (reverse ls) → IsCanonical sig t → taken ≡ climbed_take sig (reverse ls) t start begun) within c.in_ok-climb.ensures.take o e (subst (IsCanonical sig) (sym hand) k) ∙ ap (λ t. climbed_take sig os t start begun) hand)
     (c.into_place.ensures.path ∙ c.in_ok-pass.ensures.path) (c.into_place.ensures.take ∙ c.in_ok-pass.ensures.take)
