@@ -12,7 +12,7 @@ use Rattle.mw_logic.specs.Parts.{is_assoc}
 use Rattle.mw_logic.specs.NormalForm.{applied_in}
 use Rattle.mw_term.proofs.Terms.{list_of-terms_of}
 use Rattle.mw_deduction.specs.Standing.{Open, filled}
-use Rattle.mw_spot.specs.Spots.{place, number_of, stands_on, is_spread}
+use Rattle.mw_spot.specs.Spots.{number_of, stands_on, is_spread}
 use Rattle.mw_spot.specs.Walks.{level_of}
 use Rattle.mw_spot.proofs.Levels.{with_one}
 
@@ -41,14 +41,14 @@ pub filled_is : (sig : Signature) (f at : ℕ) (xs ys : List RawTerm) (t : RawTe
 filled_is sig f at xs ys t o e w = subst (λ o. applied_in sig f (terms_of ys) ≡ filled sig o t) e (ap (λ zs. applied_in sig f (terms_of zs)) w ∙ ap (applied_in sig f) (with_one at xs t))
 
 -- one of the terms has a number among them, or none has it
-pub number_found : (sig : Signature) (o : Open) (ts : List RawTerm) (j p : ℕ) (t : RawTerm) → at_number ts j ≡ Some t → p ≡ place sig o t → p + (j - 1 + 1) ≡ number_of sig o (terms_of ts) j
-number_found sig o ts zero p t e q = cc
-number_found sig o ts (suc j) p t e q =
+pub number_found : (at : RawTerm → ℕ) (ts : List RawTerm) (j p : ℕ) (t : RawTerm) → at_number ts j ≡ Some t → p ≡ at t → p + (j - 1 + 1) ≡ number_of at (terms_of ts) j
+number_found at ts zero p t e q = cc
+number_found at ts (suc j) p t e q =
     let z : suc j - 1 + 1 ≡ suc j = omega arith in
-    ap (λ n. p + n) z ∙ ap (λ p. p + suc j) q ∙ sym (ap (λ us. unwrap_or (option_map (λ e. place sig o e + suc j) (at_number us (suc j))) (suc j)) (list_of-terms_of ts) ∙ ap (λ x. unwrap_or (option_map (λ e. place sig o e + suc j) x) (suc j)) e)
+    ap (λ n. p + n) z ∙ ap (λ p. p + suc j) q ∙ sym (ap (λ us. unwrap_or (option_map (λ e. at e + suc j) (at_number us (suc j))) (suc j)) (list_of-terms_of ts) ∙ ap (λ x. unwrap_or (option_map (λ e. at e + suc j) x) (suc j)) e)
 
-pub number_missing : (sig : Signature) (o : Open) (ts : List RawTerm) (j : ℕ) → at_number ts j ≡ None → j ≡ number_of sig o (terms_of ts) j
-number_missing sig o ts j e = sym (ap (λ us. unwrap_or (option_map (λ e. place sig o e + j) (at_number us j)) j) (list_of-terms_of ts) ∙ ap (λ x. unwrap_or (option_map (λ e. place sig o e + j) x) j) e)
+pub number_missing : (at : RawTerm → ℕ) (ts : List RawTerm) (j : ℕ) → at_number ts j ≡ None → j ≡ number_of at (terms_of ts) j
+number_missing at ts j e = sym (ap (λ us. unwrap_or (option_map (λ e. at e + j) (at_number us j)) j) (list_of-terms_of ts) ∙ ap (λ x. unwrap_or (option_map (λ e. at e + j) x) j) e)
 
 -- a term that comes as its arguments
 pub spread_is : (sig : Signature) (o : Open) (t : RawTerm) (f : ℕ) (args : List RawTerm) → is_assoc sig o.operator ≡ true → f ≡ o.operator → t ≡ apply f (terms_of args) → 1 ≤ length args

@@ -1,4 +1,4 @@
--- A place from level to level, up to the whole.
+-- A place in the innermost hole, as a place in the whole.
 use Rattle.std.specs.Prelude.{◌≡◌, ◌+◌, ℕ, suc, List, [], ◌∷◌, ◌++◌, take, drop, reverse, Bool, true, false, ◌||◌, Option, None, All, IsTrue, ⊤, refl}
 use Rattle.std.proofs.Common.{ap, sym, subst, ◌∙◌, inl, inr, ⊎_elim}
 use Rattle.std.proofs.lemmas.Bool.{or_left}
@@ -17,23 +17,32 @@ use Rattle.mw_logic.proofs.Frozen.{IsUnfrozen, IsOpenContext, open_first, open-i
 use Rattle.mw_logic.proofs.Inside.{raw_inside}
 use Rattle.mw_logic.proofs.Soundness.{IsLong}
 use Rattle.mw_deduction.specs.Places.{frame, context_of}
-use Rattle.mw_deduction.specs.Standing.{Open, filled, context_at, round, IsClear, AreClear, IsSeen}
+use Rattle.mw_deduction.specs.Standing.{Open, filled, context_at, round, IsClear, AreClear}
 use Rattle.mw_deduction.specs.Stands.{IsStanding}
 use Rattle.mw_deduction.specs.Replay.{Stand, whole, MayReplace}
 use Rattle.mw_redex.specs.Replaced.{ReplacesAt}
 use Rattle.mw_spot.specs.Walks.{Walked, AreOrderly, IsAt}
-use Rattle.mw_spot.specs.Spots.{raised_path, raised_take, climbed_path, climbed_take, IsFree, passed}
-use Rattle.mw_spot.proofs.Filled.{filled_canonical, filled_seen}
+use Rattle.mw_spot.specs.Spots.{place, is_spread, raised_path, raised_take, AreOpenHoles, StandsIn, IsFree, passed}
+use Rattle.mw_spot.proofs.Held.{whole-append, stands_within, stands_beyond}
 use Rattle.mw_spot.proofs.Raised.{raises}
 
 number-nested : (sig : Signature) (ts : RawTerms) → number_of_terms (all_nested sig ts) ≡ number_of_terms ts
 number-nested sig nil = refl
 number-nested sig (cons t ts) = ap suc (number-nested sig ts)
 
--- the holes may be changed, each in its operator
-abbrev pub AreOpenHoles : Signature → Bool → List Open → Type 0
-AreOpenHoles sig r [] = ⊤
-AreOpenHoles sig r (o ∷ os) = IsOpen sig r o.operator (suc (number_of_terms o.before)) × AreOpenHoles sig r os
+module _ (sig : Signature) where
+  abbrev pub AreFree : List Open → Type 0
+  AreFree [] = ⊤
+  AreFree (o ∷ os) = IsFree sig o × AreFree os
+
+  free-append : (os ps : List Open) → AreFree os → AreFree ps → AreFree (os ++ ps)
+  free-append [] ps h k = k
+  free-append (o ∷ os) ps h k = (h.0, free-append os ps h.1 k)
+
+  free_reversed : (os : List Open) → All (IsFree sig) os → AreFree (reverse os)
+  free_reversed [] h = tt
+  free_reversed (o ∷ os) h =
+      subst AreFree (sym (reverse-append (o ∷ []) os)) (free-append (reverse os) (o ∷ []) (free_reversed os (All-tail (IsFree sig) o os h)) (All-head (IsFree sig) o os h, tt))
 
 module _ (sig : Signature) (ok : IsAccepted sig) (r : Bool) where
   parts_open : (C D : Context) → IsOpenContext sig r (C ++ D) → IsOpenContext sig r C × IsOpenContext sig r D
@@ -87,91 +96,52 @@ module _ (sig : Signature) (ok : IsAccepted sig) (r : Bool) where
       (hole_open o u (raw_inside sig ok (round sig os) (plug (context_at sig o) u) s) clear.0 q.0, holes_open os (plug (context_at sig o) u) s clear.1 q.1)
 
   module _ (w x : RawTerm) (kx : IsCanonical sig x) where
-    climbs_to : (os : List Open) (t y : RawTerm) (path : List ℕ) (take : Option (List ℕ)) → AreClear sig os → AreOrderly sig os → AreOpenHoles sig r os → IsCanonical sig t → IsSeen sig os t
-        → ReplacesAt sig r w x path take t y → ReplacesAt sig r w x (climbed_path sig os t path take) (climbed_take sig os t path take) (whole sig os t) (whole sig os y)
-    climbs_to [] t y path take clear orderly free k seen a = a
-    climbs_to (o ∷ os) t y path take clear orderly free k seen a =
-        climbs_to os (filled sig o t) (filled sig o y) (raised_path sig o t path) (raised_take sig o t path take) clear.1 orderly.1 free.1 (filled_canonical sig ok o clear.0 t k) (above os)
-        (raises sig ok r w x kx o clear.0 orderly.0 free.0 t y path take k seen a)
-      where
-        above : (os : List Open) → IsSeen sig os (filled sig o t)
-        above [] = tt
-        above (p ∷ os) = filled_seen sig ok o clear.0 p t k seen
-
--- where the replacements of a kept proof stand
-pub spotted : (M : Module) → IsAccepted M.signature → (S : Stand) (r : Bool) (w v : RawTerm) → IsStanding M S → AreOrderly M.signature S.opens → MayReplace M r S.opens S.hand w v
-    → ReplacesAt M.signature r S.hand (normal_form M.signature v) (climbed_path M.signature S.opens S.hand [] None) (climbed_take M.signature S.opens S.hand [] None) (whole M.signature S.opens S.hand)
-    (whole M.signature S.opens (normal_form M.signature v))
-spotted M ok S r w v h orderly may =
-    climbs_to M.signature ok r S.hand (normal_form M.signature v) (canonical M.signature ok v) S.opens S.hand (normal_form M.signature v) [] None h.at.clear orderly
-    (holes_open M.signature ok r S.opens (nested M.signature S.hand) h.at.raw h.at.clear may.free) h.at.canonical may.seen
-    (record { part = record { end = S.hand; there = refl; taken = refl }; open_way = tt; becomes = refl })
-
--- Through levels that are free a path goes on without a look at the term.
-module _ (sig : Signature) where
-  -- it is raised level by level
-  pub climbed-append : (os ps : List Open) (t : RawTerm) (path : List ℕ) (take : Option (List ℕ))
-      → (climbed_path sig (os ++ ps) t path take ≡ climbed_path sig ps (whole sig os t) (climbed_path sig os t path take) (climbed_take sig os t path take))
-      × (climbed_take sig (os ++ ps) t path take ≡ climbed_take sig ps (whole sig os t) (climbed_path sig os t path take) (climbed_take sig os t path take))
-  climbed-append [] ps t path take = (refl, refl)
-  climbed-append (o ∷ os) ps t path take = climbed-append os ps (filled sig o t) (raised_path sig o t path) (raised_take sig o t path take)
-
-  pub orderly-append : (os ps : List Open) → AreOrderly sig (os ++ ps) → AreOrderly sig os × AreOrderly sig ps
-  orderly-append [] ps h = (tt, h)
-  orderly-append (o ∷ os) ps h = let q = orderly-append os ps h.1 in ((h.0, q.0), q.1)
-
-  pub clear-append : (os ps : List Open) → AreClear sig (os ++ ps) → AreClear sig os × AreClear sig ps
-  clear-append [] ps h = (tt, h)
-  clear-append (o ∷ os) ps h = let q = clear-append os ps h.1 in ((h.0, q.0), q.1)
-
-  abbrev pub AreFree : List Open → Type 0
-  AreFree [] = ⊤
-  AreFree (o ∷ os) = IsFree sig o × AreFree os
-
-  free-append : (os ps : List Open) → AreFree os → AreFree ps → AreFree (os ++ ps)
-  free-append [] ps h k = k
-  free-append (o ∷ os) ps h k = (h.0, free-append os ps h.1 k)
-
-  pub free_reversed : (os : List Open) → All (IsFree sig) os → AreFree (reverse os)
-  free_reversed [] h = tt
-  free_reversed (o ∷ os) h =
-      subst AreFree (sym (reverse-append (o ∷ []) os)) (free-append (reverse os) (o ∷ []) (free_reversed os (All-tail (IsFree sig) o os h)) (All-head (IsFree sig) o os h, tt))
-
-  pub free_passed : (os : List Open) (t : RawTerm) (path : List ℕ) (take : Option (List ℕ)) → AreFree os → (climbed_path sig os t path take ≡ passed os path) × (climbed_take sig os t path take ≡ take)
-  free_passed [] t path take h = (refl, refl)
-  free_passed (o ∷ os) t path take h =
-      let p : is_assoc sig o.operator ≡ false = h.0.0 in
-      let q : is_comm sig o.operator ≡ false = h.0.1 in
-      let one : raised_path sig o t path ≡ (number_of_terms o.before + 1) ∷ path = rw (p, q) refl in
-      let two : raised_take sig o t path take ≡ take = rw p refl in
-      let rest = free_passed os (filled sig o t) (raised_path sig o t path) (raised_take sig o t path take) h.1 in
-      (rest.0 ∙ ap (passed os) one, rest.1 ∙ two)
+    -- Through holes that are free a path goes on without a look at the term.
+    passes : (os : List Open) (t y : RawTerm) (path : List ℕ) (take : Option (List ℕ)) → AreFree sig os → StandsIn sig r os t → ReplacesAt sig r w x path take t y
+        → ReplacesAt sig r w x (passed os path) take (whole sig os t) (whole sig os y)
+    passes [] t y path take free stands a = a
+    passes (o ∷ os) t y path take free stands a =
+        let p : is_assoc sig o.operator ≡ false = free.0.0 in
+        let q : is_comm sig o.operator ≡ false = free.0.1 in
+        let one : raised_path (place sig o) (is_spread sig o t) t path ≡ (number_of_terms o.before + 1) ∷ path = rw (p, q) refl in
+        let two : raised_take (place sig o) (is_spread sig o t) t path take ≡ take = rw p refl in
+        passes os (filled sig o t) (filled sig o y) ((number_of_terms o.before + 1) ∷ path) take free.1 (stands_beyond sig ok r (o ∷ []) os t stands)
+        (subst (λ is. ReplacesAt sig r w x is take (filled sig o t) (filled sig o y)) one
+        (subst (λ is. ReplacesAt sig r w x (raised_path (place sig o) (is_spread sig o t) t path) is (filled sig o t) (filled sig o y)) two
+        (raises sig ok r w x kx o stands.clear.0 stands.orderly.0 stands.open_holes.0 t y path take stands.canonical stands.seen a)))
 
 -- Where the innermost levels are climbed and the outermost passed, the place is that of the replacement.
 pub stands_there : (M : Module) (sig : Signature) → M.signature ≡ sig → IsAccepted sig → (W : Walked) (S : Stand) (r : Bool) (w v : RawTerm) → IsAt sig W S → IsStanding M S → MayReplace M r S.opens S.hand w v
     → (levels : List Open) (n : ℕ) → reverse levels ≡ W.opens → All (IsFree sig) (take n levels) → (start path ways : List ℕ) (begun found taken : Option (List ℕ)) → start ≡ [] → begun ≡ None
-    → (AreOrderly sig (reverse (drop n levels)) → AreClear sig (reverse (drop n levels)) → IsCanonical sig W.hand → path ≡ climbed_path sig (reverse (drop n levels)) W.hand start begun) → (AreOrderly sig (reverse (drop n levels)) → AreClear sig (reverse (drop n levels)) → IsCanonical sig W.hand → found ≡ climbed_take sig (reverse (drop n levels)) W.hand start begun)
+    → (StandsIn sig r (reverse (drop n levels)) W.hand → IsCanonical sig (normal_form sig v) → ReplacesAt sig r S.hand (normal_form sig v) start begun W.hand (normal_form sig v)
+    → ReplacesAt sig r S.hand (normal_form sig v) path found (whole sig (reverse (drop n levels)) W.hand) (whole sig (reverse (drop n levels)) (normal_form sig v)))
     → ways ≡ passed (reverse (take n levels)) path → taken ≡ found
     → ReplacesAt sig r S.hand (normal_form sig v) ways taken (whole sig S.opens S.hand) (whole sig S.opens (normal_form sig v))
-stands_there M sig is ok W S r w v here stands may levels n e free start path ways begun found taken s b p q l m =
+stands_there M sig is ok W S r w v here stands may levels n e free start path ways begun found taken s b climbed l m =
     let os : List Open = reverse (drop n levels) in
     let ps : List Open = reverse (take n levels) in
-    let parts : S.opens ≡ os ++ ps = here.opens ∙ sym e ∙ sym (ap reverse (take-append-drop n levels)) ∙ reverse-append (take n levels) (drop n levels) in
-    let all : AreOrderly sig S.opens = subst (AreOrderly sig) (sym here.opens) here.orderly in
-    let orderly : AreOrderly sig os = (orderly-append sig os ps (subst (AreOrderly sig) parts all)).0 in
-    let every : AreClear sig S.opens = subst (λ sig. AreClear sig S.opens) is stands.at.clear in
-    let clear : AreClear sig os = (clear-append sig os ps (subst (AreClear sig) parts every)).0 in
     let t : RawTerm = S.hand in
-    let hand : W.hand ≡ t = sym here.hand in
-    let canonical : IsCanonical sig W.hand = subst (IsCanonical sig) here.hand (subst (λ sig. IsCanonical sig t) is stands.at.canonical) in
-    let path_is : path ≡ climbed_path sig os t [] None = p orderly clear canonical ∙ ap (λ u. climbed_path sig os u start begun) hand ∙ ap (λ s. climbed_path sig os t s begun) s ∙ ap (climbed_path sig os t []) b in
-    let take_is : found ≡ climbed_take sig os t [] None = q orderly clear canonical ∙ ap (λ u. climbed_take sig os u start begun) hand ∙ ap (λ s. climbed_take sig os t s begun) s ∙ ap (climbed_take sig os t []) b in
-    let outer = free_passed sig ps (whole sig os t) (climbed_path sig os t [] None) (climbed_take sig os t [] None) (free_reversed sig (take n levels) free) in
-    let split = climbed-append sig os ps t [] None in
-    let ways_are : climbed_path sig S.opens t [] None ≡ ways = ap (λ os. climbed_path sig os t [] None) parts ∙ split.0 ∙ outer.0 ∙ ap (passed ps) (sym path_is) ∙ sym l in
-    let taken_is : climbed_take sig S.opens t [] None ≡ taken = ap (λ os. climbed_take sig os t [] None) parts ∙ split.1 ∙ outer.1 ∙ sym take_is ∙ sym m in
-    let whole_place : ReplacesAt sig r t (normal_form sig v) (climbed_path sig S.opens t [] None) (climbed_take sig S.opens t [] None) (whole sig S.opens t) (whole sig S.opens (normal_form sig v)) =
-    subst (λ sig. AreOrderly sig S.opens → ReplacesAt sig r t (normal_form sig v) (climbed_path sig S.opens t [] None) (climbed_take sig S.opens t [] None) (whole sig S.opens t) (whole sig S.opens (normal_form sig v))) is
-    (λ h. spotted M (subst IsAccepted (sym is) ok) S r w v stands h may) all in
-    subst (λ is. ReplacesAt sig r t (normal_form sig v) is taken (whole sig S.opens t) (whole sig S.opens (normal_form sig v))) ways_are
-    (subst (λ o. ReplacesAt sig r t (normal_form sig v) (climbed_path sig S.opens t [] None) o (whole sig S.opens t) (whole sig S.opens (normal_form sig v))) taken_is whole_place)
+    let x : RawTerm = normal_form sig v in
+    let kx : IsCanonical sig x = canonical sig ok v in
+    let parts : S.opens ≡ os ++ ps = here.opens ∙ sym e ∙ sym (ap reverse (take-append-drop n levels)) ∙ reverse-append (take n levels) (drop n levels) in
+    let held : StandsIn sig r S.opens t = subst (λ sig. AreOrderly sig S.opens → StandsIn sig r S.opens t) is
+    (λ o. record {
+      orderly = o;
+      clear = stands.at.clear;
+      open_holes = holes_open M.signature (subst IsAccepted (sym is) ok) r S.opens (nested M.signature t) stands.at.raw stands.at.clear may.free;
+      canonical = stands.at.canonical;
+      seen = may.seen;
+    }) (subst (AreOrderly sig) (sym here.opens) here.orderly) in
+    let both : StandsIn sig r (os ++ ps) t = subst (λ os. StandsIn sig r os t) parts held in
+    let begins : ReplacesAt sig r t x [] None t x = record { part = record { end = t; there = refl; taken = refl }; open_way = tt; becomes = refl } in
+    let starts : ReplacesAt sig r t x start begun W.hand x =
+    subst (λ path. ReplacesAt sig r t x path begun W.hand x) (sym s) (subst (λ take. ReplacesAt sig r t x [] take W.hand x) (sym b) (subst (λ u. ReplacesAt sig r t x [] None u x) here.hand begins)) in
+    let inner : ReplacesAt sig r t x path found (whole sig os t) (whole sig os x) =
+    subst (λ u. ReplacesAt sig r t x path found (whole sig os u) (whole sig os x)) (sym here.hand) (climbed (subst (StandsIn sig r os) here.hand (stands_within sig ok r os ps t both)) kx starts) in
+    let outer : ReplacesAt sig r t x (passed ps path) found (whole sig ps (whole sig os t)) (whole sig ps (whole sig os x)) =
+    passes sig ok r t x kx ps (whole sig os t) (whole sig os x) path found (free_reversed sig (take n levels) free) (stands_beyond sig ok r os ps t both) inner in
+    let from : whole sig ps (whole sig os t) ≡ whole sig S.opens t = sym (whole-append sig os ps t) ∙ ap (λ os. whole sig os t) (sym parts) in
+    let to : whole sig ps (whole sig os x) ≡ whole sig S.opens x = sym (whole-append sig os ps x) ∙ ap (λ os. whole sig os x) (sym parts) in
+    subst (λ path. ReplacesAt sig r t x path taken (whole sig S.opens t) (whole sig S.opens x)) (sym l)
+    (subst (λ take. ReplacesAt sig r t x (passed ps path) take (whole sig S.opens t) (whole sig S.opens x)) (sym m)
+    (subst (λ u. ReplacesAt sig r t x (passed ps path) found u (whole sig S.opens x)) from (subst (ReplacesAt sig r t x (passed ps path) found (whole sig ps (whole sig os t))) to outer)))

@@ -18,21 +18,13 @@ use Rattle.mw_arguments.specs.Places.{chosen, others, Rise}
 use Rattle.mw_arguments.proofs.Arguments.{args_in_order}
 use Rattle.mw_arguments.proofs.Middles.{Divided, first_there, others-middle}
 use Rattle.mw_stack.proofs.Piles.{number-terms_of}
-use Rattle.mw_deduction.specs.Standing.{Open, filled}
-use Rattle.mw_deduction.specs.Replay.{Stand, opened, going_in, into_argument, into_several, going_out, MayGoIn, MayGoAmong}
+use Rattle.mw_deduction.specs.Standing.{Open}
+use Rattle.mw_deduction.specs.Replay.{Stand, opened, going_in, into_argument, into_several, MayGoIn, MayGoAmong}
 use Rattle.mw_deduction.proofs.Taking.{into_is, front-join, skip-join}
 use Rattle.mw_redex.proofs.Middles.{number-join}
 use Rattle.mw_spot.specs.Walks.{Walked, level_of, IsOrderly, IsAt}
 use Rattle.mw_spot.proofs.Exchanging.{same_cut}
-
-same_operator : {f g : ℕ} {ts us : RawTerms} → apply f ts ≡ apply g us → f ≡ g
-same_operator e = cc
-
-same_arguments : {f g : ℕ} {ts us : RawTerms} → apply f ts ≡ apply g us → ts ≡ us
-same_arguments e = cc
-
-same_first : {t u : RawTerm} {ts us : RawTerms} → cons t ts ≡ cons u us → t ≡ u
-same_first e = cc
+use Rattle.mw_spot.proofs.Raised.{same_first, same_operator, same_arguments}
 
 same_rest : {t u : RawTerm} {ts us : RawTerms} → cons t ts ≡ cons u us → ts ≡ us
 same_rest e = cc
@@ -168,12 +160,3 @@ module _ (sig : Signature) (ok : IsAccepted sig) where
                 hand = sym h;
                 orderly = (order, here.orderly);
               }
-
--- out again
-pub left_out : (sig : Signature) (o : Open) (os : List Open) (t : RawTerm) (S : Stand) → IsAt sig (record { opens = o ∷ os; hand = t }) S → IsAt sig (record { opens = os; hand = filled sig o t }) (going_out sig S.opens S)
-left_out sig o os t S h =
-    subst (λ ps. IsAt sig (record { opens = os; hand = filled sig o t }) (going_out sig ps S)) (sym h.opens)
-    (record { opens = refl; hand = ap (filled sig o) h.hand; orderly = h.orderly.1 })
-
-pub nothing_left : (sig : Signature) (w : Walked) (S : Stand) → w.opens ≡ [] → IsAt sig w S → IsAt sig w (going_out sig S.opens S)
-nothing_left sig w S e h = subst (λ ps. IsAt sig w (going_out sig ps S)) (sym (h.opens ∙ e)) h

@@ -1,5 +1,5 @@
 -- A level with a term in its hole: its operator on all arguments, where the term is seen.
-use Rattle.std.specs.Prelude.{◌≡◌, ◌+◌, ◌^◌, ℕ, suc, max, Bool, true, false, cond, ◌&&◌, nat_lt, Option, refl}
+use Rattle.std.specs.Prelude.{◌≡◌, ◌+◌, ◌^◌, ℕ, suc, max, Bool, true, false, ◌&&◌, nat_lt, Option, refl}
 use Rattle.std.proofs.Common.{ap, sym, subst, ◌∙◌, arith}
 use Rattle.std.proofs.lemmas.Bool.{both_ways, eqb-true, and_parts, ltb-true}
 use Rattle.mw_logic.specs.Term.{RawTerm, numeral, quoted, variable, apply, RawTerms, nil, cons, join}
@@ -20,11 +20,7 @@ use Rattle.mw_deduction.specs.Standing.{Open, filled, IsClear, IsSeenBy}
 use Rattle.mw_spot.specs.Spots.{stands_on, is_spread}
 use Rattle.mw_spot.proofs.Among.{with_all, number_all}
 
--- as what a term comes among the arguments
-abbrev pub terms_there : Signature → Open → RawTerm → RawTerms
-terms_there sig o t = cond (is_spread sig o t) (args_of t) (cons t nil)
-
-long_several : (ts : RawTerms) → AreSeveral ts → IsLong ts
+pub long_several : (ts : RawTerms) → AreSeveral ts → IsLong ts
 long_several nil l = absurd l
 long_several (cons t ts) l = tt
 
@@ -135,7 +131,7 @@ module _ (sig : Signature) (ok : IsAccepted sig) where
     on_some p f nil l = absurd l
     on_some p f (cons t ts) l = record { not_identity = λ h. is_identity-arguments (identity_of sig p.operator) f t ts; not_numeral = λ n s e m. cc }
 
-    long_all : (es : RawTerms) → IsLong es → IsLong (with_all sig o es)
+    pub long_all : (es : RawTerms) → IsLong es → IsLong (with_all sig o es)
     long_all es l = long-arranged (is_comm sig o.operator) (join o.before (join es o.after)) (longer o.before)
       where
         longer : (b : RawTerms) → IsLong (join b (join es o.after))

@@ -11,6 +11,10 @@ pub mod Filled
 pub mod Closing
 -- Places from level to level.
 pub mod Raised
+pub mod Held
+pub mod Grouped
+pub mod Gathered
+pub mod Climbing
 pub mod Climbed
 -- Into arguments, and out of them.
 pub mod Entering

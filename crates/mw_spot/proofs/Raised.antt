@@ -34,16 +34,16 @@ use Rattle.mw_spot.proofs.Filled.{long_middle, stands_on_its, spread_order, fill
 nothing : {A : Type 0} {x : A} → None ≡ Some x → ⊥
 nothing e = cc
 
-same_some : {A : Type 0} {x y : A} → Some x ≡ Some y → x ≡ y
+pub same_some : {A : Type 0} {x y : A} → Some x ≡ Some y → x ≡ y
 same_some e = cc
 
-same_first : {t u : RawTerm} {ts us : RawTerms} → cons t ts ≡ cons u us → t ≡ u
+pub same_first : {t u : RawTerm} {ts us : RawTerms} → cons t ts ≡ cons u us → t ≡ u
 same_first e = cc
 
-same_operator : {f g : ℕ} {ts us : RawTerms} → apply f ts ≡ apply g us → f ≡ g
+pub same_operator : {f g : ℕ} {ts us : RawTerms} → apply f ts ≡ apply g us → f ≡ g
 same_operator e = cc
 
-same_arguments : {f g : ℕ} {ts us : RawTerms} → apply f ts ≡ apply g us → ts ≡ us
+pub same_arguments : {f g : ℕ} {ts us : RawTerms} → apply f ts ≡ apply g us → ts ≡ us
 same_arguments e = cc
 
 way-cons : (i : ℕ) (path : List ℕ) (take : Option (List ℕ)) → way_of_place (i ∷ path) take ≡ i ∷ way_of_place path take
@@ -171,12 +171,12 @@ module _ (sig : Signature) (ok : IsAccepted sig) (r : Bool) (w x : RawTerm) wher
           ap (filled sig o) e ∙ applied-inside sig ok o.operator h o.before (join c (cons z d)) o.after (long_middle c z d) q
           ∙ ap (λ ts. applied_in sig o.operator (join o.before ts)) (join_assoc c (cons z d) o.after) ∙ ap (applied_in sig o.operator) (sym (join_assoc o.before c (cons z (join d o.after))))
 
-      all_raised : (es' : RawTerms) → es ≡ es' → (y : RawTerm) → w ≡ apply o.operator es → y ≡ x → ReplacesAt sig r w x [] (Some (numbers sig o 1 es)) (filled sig o (apply o.operator es)) (filled sig o y)
+      all_raised : (es' : RawTerms) → es ≡ es' → (y : RawTerm) → w ≡ apply o.operator es → y ≡ x → ReplacesAt sig r w x [] (Some (numbers (place sig o) 1 es)) (filled sig o (apply o.operator es)) (filled sig o y)
       all_raised nil z y e q = absurd (subst AreSeveral z l)
       all_raised (cons u us) z y e q =
           let n : ℕ = place sig o u + 1 in
-          let ns : List ℕ = numbers sig o 2 us in
-          let m : numbers sig o 1 es ≡ n ∷ ns = ap (numbers sig o 1) z in
+          let ns : List ℕ = numbers (place sig o) 2 us in
+          let m : numbers (place sig o) 1 es ≡ n ∷ ns = ap (numbers (place sig o) 1) z in
           let nothing_more : join es (join nil nil) ≡ es = join-nil es in
           let stand : StandAmong (is_comm sig o.operator) es es nil nil n ns = record {
             in_order = λ c. ap sorted_terms nothing_more;
@@ -191,10 +191,10 @@ module _ (sig : Signature) (ok : IsAccepted sig) (r : Bool) (w x : RawTerm) wher
 
       some_raised : (i : ℕ) (ks : List ℕ) (y : RawTerm) → Rise 1 (suc (number_of_terms es)) (i ∷ ks) → AreSeveral (chosen 1 (i ∷ ks) es) → (is_comm sig o.operator ≡ false → Follow (i ∷ ks))
           → w ≡ apply o.operator (chosen 1 (i ∷ ks) es) → y ≡ applied_in sig o.operator (exchanged 1 i ks x es)
-          → ReplacesAt sig r w x [] (Some (map (number_of sig o es) (i ∷ ks))) (filled sig o (apply o.operator es)) (filled sig o y)
+          → ReplacesAt sig r w x [] (Some (map (number_of (place sig o) es) (i ∷ ks))) (filled sig o (apply o.operator es)) (filled sig o y)
       some_raised i ks y rise m follow e q = by_place (first_there i ks es rise)
         where
-          by_place : (j : ℕ) × (i ≡ suc j) × (t : RawTerm) × Divided es j t → ReplacesAt sig r w x [] (Some (map (number_of sig o es) (i ∷ ks))) (filled sig o (apply o.operator es)) (filled sig o y)
+          by_place : (j : ℕ) × (i ≡ suc j) × (t : RawTerm) × Divided es j t → ReplacesAt sig r w x [] (Some (map (number_of (place sig o) es) (i ∷ ks))) (filled sig o (apply o.operator es)) (filled sig o y)
           by_place (j, p, t, g) =
               let us : RawTerms = chosen 1 (i ∷ ks) es in
               let c : RawTerms = g.before in
@@ -202,7 +202,7 @@ module _ (sig : Signature) (ok : IsAccepted sig) (r : Bool) (w x : RawTerm) wher
               let z : i ≡ 1 + number_of_terms c = let s = g.size in omega (arith, p, s) in
               let picked : us ≡ cons t (chosen (suc i) ks g.after) = ap (chosen 1 (i ∷ ks)) g.whole ∙ chosen-middle 1 i ks c t g.after z in
               let left : others 1 (i ∷ ks) es ≡ join c d = ap (others 1 (i ∷ ks)) g.whole ∙ others-middle 1 i ks c t g.after z in
-              let stand : StandAmong (is_comm sig o.operator) es us c d (number_of sig o es i) (map (number_of sig o es) ks) = record {
+              let stand : StandAmong (is_comm sig o.operator) es us c d (number_of (place sig o) es i) (map (number_of (place sig o) es) ks) = record {
                 in_order = λ b. ap (λ ts. sorted_terms (join us ts)) (sym left) ∙ chosen_whole 1 (i ∷ ks) es;
                 whole = λ b. g.whole ∙ ap (join c) (ap (cons t) (sym (followed i ks g.after (follow b))) ∙ ap (λ ts. join ts d) (sym picked));
                 follow = λ b. some_follow sig o b es 1 (i ∷ ks) (omega arith) rise (follow b);
@@ -210,18 +210,18 @@ module _ (sig : Signature) (ok : IsAccepted sig) (r : Bool) (w x : RawTerm) wher
               let put : exchanged 1 i ks x es ≡ join c (cons x d) = ap (exchanged 1 i ks x) g.whole ∙ exchanged-middle 1 i ks x c t g.after z in
               let ke : AreCanonical sig (join c (cons t g.after)) = subst (AreCanonical sig) g.whole k.0 in
               let kz : AreCanonical sig (join c (cons x d)) = canonical_with sig c t g.after x d ke kx (others_canonical sig (suc i) ks g.after) in
-              taken_raised us c d (number_of sig o es i) (map (number_of sig o es) ks) y stand (some_rise sig o orderly es climb (i ∷ ks) rise) (some_chosen sig o orderly es climb (i ∷ ks) rise)
+              taken_raised us c d (number_of (place sig o) es i) (map (number_of (place sig o) es) ks) y stand (some_rise sig o orderly es climb (i ∷ ks) rise) (some_chosen sig o orderly es climb (i ∷ ks) rise)
               (λ b. let s = number_plain sig o b es i ks rise in omega (arith, s, z)) m e (joined c x d y kz (q ∙ ap (applied_in sig o.operator) put))
 
       -- inside one of them
       argument_raised : (i : ℕ) (path : List ℕ) (take : Option (List ℕ)) (t y : RawTerm) → slice_get (list_of es) i ≡ Some t → ReplacesAt sig r w x path take t (replaced_at sig path take x t)
-          → y ≡ put_in sig (suc i) [] (replaced_at sig path take x t) (apply o.operator es) → ReplacesAt sig r w x (number_of sig o es (suc i) ∷ path) take (filled sig o (apply o.operator es)) (filled sig o y)
+          → y ≡ put_in sig (suc i) [] (replaced_at sig path take x t) (apply o.operator es) → ReplacesAt sig r w x (number_of (place sig o) es (suc i) ∷ path) take (filled sig o (apply o.operator es)) (filled sig o y)
       argument_raised i path take t y e a q =
           let g : Divided es i t = divided es i t e in
           let c : RawTerms = g.before in
           let d : RawTerms = g.after in
           let z : RawTerm = replaced_at sig path take x t in
-          let n : ℕ = number_of sig o es (suc i) in
+          let n : ℕ = number_of (place sig o) es (suc i) in
           let s : suc i ≡ 1 + number_of_terms c = let s = g.size in omega (arith, s) in
           let size : number_of_terms es ≡ number_of_terms c + suc (number_of_terms d) = ap number_of_terms g.whole ∙ number-join c (cons t d) in
           let rise : Rise 1 (suc (number_of_terms es)) (suc i ∷ []) = (omega arith, omega (arith, s, size), tt) in
@@ -243,7 +243,7 @@ module _ (sig : Signature) (ok : IsAccepted sig) (r : Bool) (w x : RawTerm) wher
           (at_number o.operator all t z (filled sig o y) n path take rises picks (opened n) (f ∙ sym (exchanged_among sig ok o.operator o.before o.after es (cons t nil) c d n [] stand z rises picks number)) a)
 
       spread_raised : (path : List ℕ) (take : Option (List ℕ)) (y : RawTerm) → ReplacesAt sig r w x path take (apply o.operator es) y
-          → ReplacesAt sig r w x (spread_path sig o es path) (spread_take sig o es path take) (filled sig o (apply o.operator es)) (filled sig o y)
+          → ReplacesAt sig r w x (spread_path (place sig o) es path) (spread_take (place sig o) es path take) (filled sig o (apply o.operator es)) (filled sig o y)
       spread_raised [] None y a = all_raised es refl y (sym (same_some a.part.there ∙ a.part.taken)) a.becomes
       spread_raised [] (Some []) y a = absurd (a.part.taken.several)
       spread_raised [] (Some (i ∷ ks)) y a =
@@ -261,21 +261,21 @@ module _ (sig : Signature) (ok : IsAccepted sig) (r : Bool) (w x : RawTerm) wher
 
           by_option : (s : Option RawTerm) → slice_get (list_of es) i ≡ s → option_and_then (λ t. at_path t path) s ≡ Some a.part.end
               → y ≡ unwrap_or (option_map (λ t. put_in sig (suc i) [] (replaced_at sig path take x t) (apply o.operator es)) s) (apply o.operator es)
-              → ReplacesAt sig r w x (number_of sig o es (suc i) ∷ path) take (filled sig o (apply o.operator es)) (filled sig o y)
+              → ReplacesAt sig r w x (number_of (place sig o) es (suc i) ∷ path) take (filled sig o (apply o.operator es)) (filled sig o y)
           by_option None e p q = absurd (nothing p)
           by_option (Some t) e p q =
               argument_raised i path take t y e (record { part = record { end = a.part.end; there = p; taken = a.part.taken }; open_way = open_way.1 t e; becomes = refl }) q
 
     -- So a place is raised.
     pub raises : (t y : RawTerm) (path : List ℕ) (take : Option (List ℕ)) → IsCanonical sig t → IsSeenBy sig o t → ReplacesAt sig r w x path take t y
-        → ReplacesAt sig r w x (raised_path sig o t path) (raised_take sig o t path take) (filled sig o t) (filled sig o y)
+        → ReplacesAt sig r w x (raised_path (place sig o) (is_spread sig o t) t path) (raised_take (place sig o) (is_spread sig o t) t path take) (filled sig o t) (filled sig o y)
     raises t y path take k seen a = by_spread (is_spread sig o t) refl
       where
         by_spread : (m : Bool) → is_spread sig o t ≡ m
-            → ReplacesAt sig r w x (cond m (spread_path sig o (args_of t) path) ((place sig o t + 1) ∷ path)) (cond m (spread_take sig o (args_of t) path take) take) (filled sig o t) (filled sig o y)
+            → ReplacesAt sig r w x (cond m (spread_path (place sig o) (args_of t) path) ((place sig o t + 1) ∷ path)) (cond m (spread_take (place sig o) (args_of t) path take) take) (filled sig o t) (filled sig o y)
         by_spread false s = one_raised t y path take s seen a
         by_spread true s =
             let p = and_parts (is_assoc sig o.operator) (stands_on o.operator t) s in
             let (e, l) = stands_on_its sig ok o.operator t p.0 k p.1 in
             let g = spread_raised p.0 (args_of t) l (subst (IsCanonical sig) e k) (subst (IsSeenBy sig o) e seen) path take y (subst (λ t. ReplacesAt sig r w x path take t y) e a) in
-            subst (λ u. ReplacesAt sig r w x (spread_path sig o (args_of t) path) (spread_take sig o (args_of t) path take) (filled sig o u) (filled sig o y)) (sym e) g
+            subst (λ u. ReplacesAt sig r w x (spread_path (place sig o) (args_of t) path) (spread_take (place sig o) (args_of t) path take) (filled sig o u) (filled sig o y)) (sym e) g

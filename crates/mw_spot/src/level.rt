@@ -8,7 +8,7 @@ ghost use Rattle.mw_spot.specs.Walks.{IsOrderly};
 
 use mw_canon::{Axioms, Facts, rebuild};
 use mw_stack::{close, put};
-use mw_term::{OpId, Term, copy};
+use mw_term::{OpId, Term};
 use std::alloc::{AllocError, Global};
 use std::marker::Model;
 
@@ -102,25 +102,6 @@ impl Level {
         args.append(&mut behind)?;
         let term = close(alloc, facts, operator, &mut args, 0)?;
         Ok(term)
-    }
-
-    /// The same, of copies of the arguments.
-    pub fn filled_again(&self, alloc: Global, facts: &Facts, term: Term) -> Result<Term, AllocError>
-        ensures { IsOrderly facts.now self.now → IsClear facts.now self.now → IsCanonical facts.now term
-            → IfOk result (λ t. t ≡ filled facts.now self.now term) }
-    {
-        let mut others = Vec::with_capacity(alloc, self.others.len() + 1)?;
-        for other in &self.others {
-            others.push(copy(other)?)?;
-        }
-        let operator = self.operator;
-        let at = self.at;
-        let level = Level {
-            operator,
-            others,
-            at,
-        };
-        level.filled(alloc, facts, term)
     }
 
     /// Whether each argument stays where it is, and as it is.

@@ -9,7 +9,9 @@
 //! stands in an operator's hole becomes one in the operator's term. Under an operator without axioms the argument has
 //! the number that it was entered by. Under a commutative one it has the number at which it comes in order among the
 //! others, of equal ones the least. Where an associative operator stands on top of what is in its hole, too, the
-//! arguments of the inner one come one by one among those of the outer one, and so does what was taken of them.
+//! arguments of the inner one come one by one among those of the outer one, and so does what was taken of them: each
+//! has so many more before it as the order of terms puts there, whatever the others are. So the levels of one
+//! associative operator, one in the other, are passed at once, and only for what the place names.
 //!
 //! Proved (specs/Walks, specs/Spots), for every accepted signature:
 //!
@@ -29,13 +31,14 @@
 //!
 //! Cost: `enter` and `among` move the operator's arguments where nobody else holds the term in hand, and count each
 //! once where somebody does. `leave` moves them back, and where the operator is commutative, `put` of mw_stack brings
-//! what comes in among them: one term by log n comparisons. Nothing else is compared. `spot` makes no term where no
-//! operator on the way is associative or commutative. Else it makes, of copies, what stands in the hole of the
-//! outermost of these, level by level as `leave` does, and compares each argument that it asks the number of with log n
-//! others; its native stack grows with the levels. Neither proved nor tested here: time, and that calls answer with
-//! memory at hand.
+//! what comes in among them: one term by log n comparisons, many by a merge. `spot` looks, for each argument that the
+//! place names, once into each level: log n comparisons where the operator is commutative, else none. It makes a term
+//! only where levels of a second associative or commutative operator stand round those of a first: what these are
+//! together, of copies, put in order by one sort that takes the levels' arguments as runs. Its native stack grows with
+//! the changes of the operator. Neither proved nor tested here: time, and that calls answer with memory at hand.
 #![tactic(auto)]
 
+mod gathering;
 mod level;
 mod numbering;
 mod parting;

@@ -1,8 +1,9 @@
-// The numbers of arguments under a level's operator.
-ghost use Rattle.std.specs.Prelude.{◌≡◌, ◌+◌, map, IfOk, MatchOption, true, false};
+// The numbers of arguments under the operator of one or several levels.
+ghost use Rattle.std.specs.Prelude.{◌≡◌, ◌+◌, map, reverse, All, IfOk, MatchOption, true, false};
 ghost use Rattle.mw_logic.specs.Terms.{terms_of, args_of};
 ghost use Rattle.mw_spot.specs.Walks.{IsOrderly};
-ghost use Rattle.mw_spot.specs.Spots.{place as place_of_term, numbers as numbers_of_terms, number_of, is_spread};
+ghost use Rattle.mw_spot.specs.Spots.{place as place_of_term, places as places_of_term};
+ghost use Rattle.mw_spot.specs.Spots.{numbers as numbers_of_terms, number_of, is_spread};
 
 use crate::level::Level;
 use mw_canon::{Axioms, Facts};
@@ -11,7 +12,7 @@ use std::alloc::{AllocError, Global};
 
 /// How many arguments stand before a term where it comes among the level's: of a commutative operator those that the
 /// order of terms puts before it.
-pub(crate) fn place(facts: &Facts, level: &Level, term: &Term) -> usize
+fn place(facts: &Facts, level: &Level, term: &Term) -> usize
     ensures { IsOrderly facts.now level.now → result ≡ place_of_term facts.now level.now term.now }
 {
     if level.is_commutative(facts) {
@@ -22,8 +23,21 @@ pub(crate) fn place(facts: &Facts, level: &Level, term: &Term) -> usize
     }
 }
 
-/// The number of what stands at an index behind so many others, counted from 1. More than numbers can tell counts as
-/// want of memory.
+/// The same of all these levels. More than numbers can tell counts as want of memory.
+pub(crate) fn places(facts: &Facts, levels: &[Level], term: &Term) -> Result<usize, AllocError>
+    ensures { All (IsOrderly facts.now) levels.now
+        → IfOk result (λ n. n ≡ places_of_term facts.now (reverse levels.now) term.now) }
+{
+    let mut before: usize = 0;
+    for level in levels {
+        before = before
+            .checked_add(place(facts, level, term))
+            .ok_or(AllocError)?;
+    }
+    Ok(before)
+}
+
+/// The number of what stands at an index behind so many others, counted from 1.
 fn number_behind(before: usize, index: usize) -> Result<u32, AllocError>
     ensures { IfOk result (λ number. number ≡ before + (index + 1)) }
 {
@@ -31,19 +45,19 @@ fn number_behind(before: usize, index: usize) -> Result<u32, AllocError>
     number_at(index)
 }
 
-/// The number of one of the terms that come among the level's arguments together: the one that has this number among
+/// The number of one of the terms that come among the levels' arguments together: the one that has this number among
 /// them. A number that none has stays.
 pub(crate) fn number(
     facts: &Facts,
-    level: &Level,
+    levels: &[Level],
     terms: &[Term],
     number: u32,
 ) -> Result<u32, AllocError>
-    ensures { IsOrderly facts.now level.now
-        → IfOk result (λ n. n ≡ number_of facts.now level.now (terms_of terms.now) number) }
+    ensures { All (IsOrderly facts.now) levels.now
+        → IfOk result (λ n. n ≡ number_of (places_of_term facts.now (reverse levels.now)) (terms_of terms.now) number) }
 {
     match numbered(terms, number) {
-        Some(term) => number_behind(place(facts, level, term), number as usize - 1),
+        Some(term) => number_behind(places(facts, levels, term)?, number as usize - 1),
         None => Ok(number),
     }
 }
@@ -52,15 +66,15 @@ pub(crate) fn number(
 pub(crate) fn all_numbers(
     alloc: Global,
     facts: &Facts,
-    level: &Level,
+    levels: &[Level],
     terms: &[Term],
 ) -> Result<Vec<u32>, AllocError>
-    ensures { IsOrderly facts.now level.now
-        → IfOk result (λ ns. ns.items ≡ numbers_of_terms facts.now level.now 1 (terms_of terms.now)) }
+    ensures { All (IsOrderly facts.now) levels.now → IfOk result
+        (λ ns. ns.items ≡ numbers_of_terms (places_of_term facts.now (reverse levels.now)) 1 (terms_of terms.now)) }
 {
     let mut found = Vec::with_capacity(alloc, terms.len())?;
     for (i, term) in terms.iter().enumerate() {
-        found.push(number_behind(place(facts, level, term), i)?)?;
+        found.push(number_behind(places(facts, levels, term)?, i)?)?;
     }
     Ok(found)
 }
@@ -69,16 +83,16 @@ pub(crate) fn all_numbers(
 pub(crate) fn some_numbers(
     alloc: Global,
     facts: &Facts,
-    level: &Level,
+    levels: &[Level],
     terms: &[Term],
     numbers: &[u32],
 ) -> Result<Vec<u32>, AllocError>
-    ensures { IsOrderly facts.now level.now
-        → IfOk result (λ ns. ns.items ≡ map (number_of facts.now level.now (terms_of terms.now)) numbers.now) }
+    ensures { All (IsOrderly facts.now) levels.now → IfOk result (λ ns. ns.items
+        ≡ map (number_of (places_of_term facts.now (reverse levels.now)) (terms_of terms.now)) numbers.now) }
 {
     let mut found = Vec::with_capacity(alloc, numbers.len())?;
     for k in numbers {
-        found.push(number(facts, level, terms, *k)?)?;
+        found.push(number(facts, levels, terms, *k)?)?;
     }
     Ok(found)
 }

@@ -1,14 +1,17 @@
 // The place of what stands in the innermost hole, from level to level.
-ghost use Rattle.std.specs.Prelude.{◌≡◌, ◌≤◌, [], All, None, take, length, reverse, OnOk};
+ghost use Rattle.std.specs.Prelude.{◌≡◌, ◌≤◌, [], All, Bool, None, take, length, reverse, OnOk};
+ghost use Rattle.mw_logic.specs.Term.{RawTerm};
 ghost use Rattle.mw_logic.specs.Terms.{terms_of};
 ghost use Rattle.mw_logic.proofs.Canonical.{IsCanonical};
-ghost use Rattle.mw_deduction.specs.Standing.{AreClear};
-ghost use Rattle.mw_spot.specs.Walks.{IsOrderly, AreOrderly};
-ghost use Rattle.mw_spot.specs.Spots.{IsFree, spread_path, spread_take, raised_path, raised_take};
-ghost use Rattle.mw_spot.specs.Spots.{climbed_path, climbed_take, passed};
+ghost use Rattle.mw_deduction.specs.Replay.{whole};
+ghost use Rattle.mw_redex.specs.Replaced.{ReplacesAt};
+ghost use Rattle.mw_spot.specs.Walks.{IsOrderly};
+ghost use Rattle.mw_spot.specs.Spots.{places as places_of, spread_path, spread_take, is_spread};
+ghost use Rattle.mw_spot.specs.Spots.{raised_path, raised_take, StandsIn, IsFree, passed};
 
+use crate::gathering::{gathered, outside};
 use crate::level::Level;
-use crate::numbering::{all_numbers, number, place, some_numbers, spread};
+use crate::numbering::{all_numbers, number, places, some_numbers, spread};
 use mw_canon::Facts;
 use mw_redex::Place;
 use mw_term::{Seq, Term, number_at};
@@ -49,58 +52,64 @@ impl Spot {
     }
 }
 
-/// A place in what comes as several arguments among those of a level, as a place beside these.
+/// A place in what comes as several arguments among those of some levels, as a place beside these.
 fn spread_out(
     alloc: Global,
     facts: &Facts,
-    level: &Level,
+    levels: &[Level],
     terms: &[Term],
     spot: &mut Spot,
 ) -> Result<(), AllocError>
-    ensures path { IsOrderly facts.now level.now
+    ensures path { All (IsOrderly facts.now) levels.now
         → OnOk result (reverse spot.new.path.items
-        ≡ spread_path facts.now level.now (terms_of terms.now) (reverse spot.old.path.items)) }
-    ensures take { IsOrderly facts.now level.now
-        → OnOk result (spot.new.take
-        ≡ spread_take facts.now level.now (terms_of terms.now) (reverse spot.old.path.items) spot.old.take) }
+        ≡ spread_path (places_of facts.now (reverse levels.now)) (terms_of terms.now) (reverse spot.old.path.items)) }
+    ensures take { All (IsOrderly facts.now) levels.now
+        → OnOk result (spot.new.take ≡ spread_take (places_of facts.now (reverse levels.now)) (terms_of terms.now)
+        (reverse spot.old.path.items) spot.old.take) }
 {
     if let Some(last) = spot.path.pop() {
-        let number = number(facts, level, terms, last)?;
+        let number = number(facts, levels, terms, last)?;
         spot.path.push(number)?;
         return Ok(());
     }
     let numbers = match &spot.take {
-        None => all_numbers(alloc, facts, level, terms)?,
-        Some(taken) => some_numbers(alloc, facts, level, terms, taken.as_slice())?,
+        None => all_numbers(alloc, facts, levels, terms)?,
+        Some(taken) => some_numbers(alloc, facts, levels, terms, taken.as_slice())?,
     };
     spot.take = Some(Seq::of(numbers));
     Ok(())
 }
 
-/// A place in the term in a level's hole, as a place in what the level is with it.
+/// A place in the term in the hole of the innermost of some levels of one operator, `level`, as a place in what all of
+/// them are with it.
 fn raise(
     alloc: Global,
     facts: &Facts,
     level: &Level,
+    levels: &[Level],
     inner: &Term,
     spot: &mut Spot,
 ) -> Result<(), AllocError>
-    ensures path { IsOrderly facts.now level.now
+    ensures path { All (IsOrderly facts.now) levels.now
         → OnOk result (reverse spot.new.path.items
-        ≡ raised_path facts.now level.now inner.now (reverse spot.old.path.items)) }
-    ensures take { IsOrderly facts.now level.now
+        ≡ raised_path (places_of facts.now (reverse levels.now)) (is_spread facts.now level.now inner.now) inner.now
+        (reverse spot.old.path.items)) }
+    ensures take { All (IsOrderly facts.now) levels.now
         → OnOk result (spot.new.take
-        ≡ raised_take facts.now level.now inner.now (reverse spot.old.path.items) spot.old.take) }
+        ≡ raised_take (places_of facts.now (reverse levels.now)) (is_spread facts.now level.now inner.now) inner.now
+        (reverse spot.old.path.items) spot.old.take) }
 {
     if let Some(args) = spread(facts, level, inner) {
-        return spread_out(alloc, facts, level, args, spot);
+        return spread_out(alloc, facts, levels, args, spot);
     }
-    let number = number_at(place(facts, level, inner))?;
+    let number = number_at(places(facts, levels, inner)?)?;
     spot.path.push(number)?;
     Ok(())
 }
 
-/// A place in the term in the hole of the last of some levels, as a place in what all of them are with it.
+/// A place in the term in the hole of the last of some levels, as a place in what all of them are with it: a
+/// replacement at the one is a replacement at the other. Levels of one associative operator, one in the other, are
+/// passed at once, and put together only where others stand round them.
 pub(crate) fn climb(
     alloc: Global,
     facts: &Facts,
@@ -108,25 +117,24 @@ pub(crate) fn climb(
     inner: Term,
     spot: &mut Spot,
 ) -> Result<(), AllocError>
-    ensures path { AreOrderly facts.now (reverse levels.now)
-        → AreClear facts.now (reverse levels.now) → IsCanonical facts.now inner
-        → OnOk result (reverse spot.new.path.items
-        ≡ climbed_path facts.now (reverse levels.now) inner (reverse spot.old.path.items) spot.old.take) }
-    ensures take { AreOrderly facts.now (reverse levels.now)
-        → AreClear facts.now (reverse levels.now) → IsCanonical facts.now inner
-        → OnOk result (spot.new.take
-        ≡ climbed_take facts.now (reverse levels.now) inner (reverse spot.old.path.items) spot.old.take) }
+    ensures { (by_rule : Bool) (w x y : RawTerm) → StandsIn facts.now by_rule (reverse levels.now) inner
+        → IsCanonical facts.now x
+        → ReplacesAt facts.now by_rule w x (reverse spot.old.path.items) spot.old.take inner y
+        → OnOk result (ReplacesAt facts.now by_rule w x (reverse spot.new.path.items) spot.new.take
+        (whole facts.now (reverse levels.now) inner) (whole facts.now (reverse levels.now) y)) }
 {
     facts.shows();
     let [before @ .., level] = levels else {
         return Ok(());
     };
-    raise(alloc, facts, level, &inner, spot)?;
-    if before.is_empty() {
+    let outside = outside(facts, level.operator, before);
+    let same = &levels[outside..];
+    raise(alloc, facts, level, same, &inner, spot)?;
+    if outside == 0 {
         return Ok(());
     }
-    let outer = level.filled_again(alloc, facts, inner)?;
-    climb(alloc, facts, before, outer, spot)
+    let outer = gathered(alloc, facts, level.operator, same, inner)?;
+    climb(alloc, facts, &before[..outside], outer, spot)
 }
 
 /// The same where the levels are free: nothing is built.

@@ -2,9 +2,10 @@ use Rattle.std.proofs.Common.{◌≡◌, ◌∙◌, ◌-◌, ap, sym, subst, rev
 use Rattle.std.proofs.Math.Seq.{take-length}
 use Rattle.std.proofs.lemmas.List.{length-drop}
 use Rattle.mw_logic.proofs.Canonical.{IsCanonical}
-use Rattle.mw_deduction.specs.Standing.{AreClear}
-use Rattle.mw_spot.specs.Walks.{AreOrderly}
-use Rattle.mw_spot.specs.Spots.{climbed_path, climbed_take}
+use Rattle.mw_logic.specs.NormalForm.{normal_form}
+use Rattle.mw_deduction.specs.Replay.{whole}
+use Rattle.mw_redex.specs.Replaced.{ReplacesAt}
+use Rattle.mw_spot.specs.Spots.{StandsIn}
 use Rattle.mw_spot.proofs.Climbed.{stands_there}
 use Rattle.mw_spot.proofs.walk.Walk.spot.Goals as goal
 
@@ -23,8 +24,10 @@ returns c = λ M S by_rule w v is here stands may.
     let path = reverse c.climb.new.spot.path.items in
     let taken = c.climb.new.spot.take in
     let within : take (length levels - n) (drop n levels) ≡ drop n levels = ap (λ m. take m (drop n levels)) (sym (length-drop n levels)) ∙ take-length (drop n levels) in
+    let x = normal_form sig v in
+    let climbed = subst (λ ls. StandsIn sig by_rule (reverse ls) t → IsCanonical sig x → ReplacesAt sig by_rule S.hand x start begun t x → ReplacesAt sig by_rule S.hand x path taken (whole sig (reverse ls) t) (whole sig (reverse ls) x)) within
+    (c.in_ok-climb.ensures by_rule S.hand x x) in
     stands_there M sig is c.shows.ensures W S by_rule w v here stands may levels n opens c.free-free.ensures.free start path c.into_place.result.path begun taken c.into_place.result.take
     (ap reverse c.new-spot.ensures.path) c.new-spot.ensures.take
-    (λ o e k. subst (λ ls. AreOrderly sig (reverse ls) → AreClear sig (reverse ls) → IsCanonical sig t → path ≡ climbed_path sig (reverse ls) t start begun) within c.in_ok-climb.ensures.path o e (subst (IsCanonical sig) (sym hand) k) ∙ ap (λ t. climbed_path sig os t start begun) hand)
-    (λ o e k. subst (λ ls. AreOrderly sig (reverse ls) → AreClear sig (reverse ls) → IsCanonical sig t → taken ≡ climbed_take sig (reverse ls) t start begun) within c.in_ok-climb.ensures.take o e (subst (IsCanonical sig) (sym hand) k) ∙ ap (λ t. climbed_take sig os t start begun) hand)
+    (subst (λ u. StandsIn sig by_rule os u → IsCanonical sig x → ReplacesAt sig by_rule S.hand x start begun u x → ReplacesAt sig by_rule S.hand x path taken (whole sig os u) (whole sig os x)) hand climbed)
     (c.into_place.ensures.path ∙ c.in_ok-pass.ensures.path) (c.into_place.ensures.take ∙ c.in_ok-pass.ensures.take)
