@@ -62,14 +62,6 @@ module _ (M : Module) (head : List ℕ) where
       let a : AreChains M head (c ∷ reverse rest) B = subst (λ xs. AreChains M head xs B) (ap reverse e ∙ reverse_behind rest c) h in
       subst (λ xs. AreChains M head xs (play M m B)) (sym (ap reverse f ∙ reverse_behind rest d)) (chain_moves m c d (reverse rest) B s i n g a)
 
-  -- or it begins a side;
-  pub told_begun : (t : RawTerm) (c d : Chain) (old rest next new : List Chain) (B : List Stand) → IsMove M (begins t) B → d.outer ≡ false → ((n : ℕ) → IsCanonical M.signature t → IsChain M [] d (begun n t))
-      → old ≡ rest ++ c ∷ [] → next ≡ rest ++ c ∷ [] → new ≡ next ++ d ∷ [] → AreChains M head (reverse old) B → AreChains M head (reverse new) (play M (begins t) B)
-  told_begun t c d old rest next new B i o g e f k h =
-      let a : AreChains M head (c ∷ reverse rest) B = subst (λ xs. AreChains M head xs B) (ap reverse e ∙ reverse_behind rest c) h in
-      let n : reverse new ≡ d ∷ c ∷ reverse rest = ap reverse k ∙ reverse_behind next d ∙ ap (λ xs. d ∷ reverse xs) f ∙ ap (λ xs. d ∷ xs) (reverse_behind rest c) in
-      subst (λ xs. AreChains M head xs (play M (begins t) B)) (sym n) (chain_begins t c d (reverse rest) B i o g a)
-
   -- or it is a side, and ends.
   pub told_ended : (c d e : Chain) (old rest low new : List Chain) (B : List Stand) → IsMove M ends B → ((S Q : Stand) → MayEnd S → c.outer ≡ false → IsChain M [] c S → Goes M Q (showing M.signature S Q) d e)
       → old ≡ rest ++ c ∷ [] → rest ≡ low ++ d ∷ [] → new ≡ low ++ e ∷ [] → AreChains M head (reverse old) B → AreChains M head (reverse new) (play M ends B)

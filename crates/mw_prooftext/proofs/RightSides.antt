@@ -1,11 +1,10 @@
 -- What comes of a statement that is applied, as it is built.
-use Rattle.std.specs.Prelude.{◌≡◌, ℕ, List, map, Bool, Some}
+use Rattle.std.specs.Prelude.{◌≡◌, List, map}
 use Rattle.std.specs.List.{zip}
 use Rattle.std.proofs.Common.{sym, subst, ap, ◌∙◌}
 use Rattle.std.proofs.lemmas.Option.{same_Some}
 use Rattle.mw_logic.specs.Term.{RawTerm}
-use Rattle.mw_logic.specs.Signature.{Signature, at_number, IsRawTerm}
-use Rattle.mw_logic.specs.Accepted.{IsAccepted}
+use Rattle.mw_logic.specs.Signature.{Signature, IsRawTerm}
 use Rattle.mw_logic.specs.Substitution.{Substitution, instance, IsSubstitution}
 use Rattle.mw_logic.specs.Parts.{nested}
 use Rattle.mw_logic.specs.NormalForm.{normal_form}
@@ -16,8 +15,6 @@ use Rattle.mw_canon.specs.declared.CanonError.{CanonError}
 use Rattle.mw_canon.specs.declared.CanonError.TheVariants.{Deep, Nat}
 use Rattle.mw_solving.proofs.Positions.{meant_zip}
 use Rattle.mw_least.specs.Workable.{IsWorkable}
-use Rattle.mw_deduction.specs.Replay.{Stand, becomes, MayApply}
-use Rattle.mw_deduction.proofs.MoveStands.{becomes_is}
 use Rattle.mw_proof.proofs.Written.{written_raw, written_normal, never_deep, never_large}
 use Rattle.mw_prooftext.specs.Applied.{IsApplied}
 use Rattle.mw_prooftext.proofs.AdmittedValues.{has_admitted_values, right_admitted}
@@ -80,10 +77,3 @@ module _ (M : Module) (work : IsWorkable M) (e : Statement) (vs : List RawTerm) 
 
     pub right_not_large : (c : CanonError) → c ≡ Nat → HasCause S (instance (meant S s) (nested S t)) c → ⊥
     right_not_large = never_large sig work.signature.accepted work.signature.well_sorted s its_substitution t its_raw its_admitted S is_S
-
--- a move that applies the statement makes that of the term in hand
-pub becomes_right : (M : Module) → IsAccepted M.signature → (k : ℕ) (r : Bool) (s : Substitution) (vs : List RawTerm) (S : Stand) → MayApply M k r s vs S → (e : Statement) → at_number M.statements k ≡ Some e → (t : RawTerm)
-    → becomes M k s t ≡ normal_form M.signature (instance (zip e.variables (map (nested M.signature) vs)) e.right)
-becomes_right M ok k r s vs S may e there t =
-    let same : may.statement ≡ e = same_Some may.statement e (sym may.is_there ∙ there) in
-    becomes_is M ok k s t e there ∙ ap (λ q. normal_form M.signature (instance q e.right)) (may.values.are ∙ ap (λ (d : Statement). zip d.variables (map (nested M.signature) vs)) same)

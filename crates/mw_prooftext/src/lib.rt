@@ -12,9 +12,10 @@
 //! Conditions: none; a [`mw_proof::Proved`] keeps what is needed. Want of memory is the only error.
 //!
 //! Cost: the text is written in one pass over the trail, with the term that each proof under way has, opened where its
-//! moves are (mw_spot): no walk from the top. A side's items are written apart and moved behind its statement, once
-//! for each condition that it stands in, of which there are 63 at most. A text is as long as the values that it spells
-//! out. Neither proved nor tested here: time, and that calls answer with memory at hand.
+//! moves are (mw_spot). A line costs its own length, which is mostly that of the values that it spells out, and for
+//! each argument that its place names one look into each level above it. A side's items are written apart and moved
+//! behind its statement, once for each condition that it stands in, of which there are 63 at most. Neither proved nor
+//! tested here: time, and that calls answer with memory at hand.
 #![tactic(auto)]
 
 mod chains;
