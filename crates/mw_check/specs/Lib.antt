@@ -1,0 +1,2 @@
+-- What is at a place.
+pub mod Parts
