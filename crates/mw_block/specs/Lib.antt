@@ -4,3 +4,4 @@ pub mod Matches
 pub mod Notes
 pub mod Refused
 pub mod Seen
+pub mod Verdicts

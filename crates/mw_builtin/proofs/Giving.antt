@@ -1,6 +1,6 @@
 -- What rows give at a form of what is taken.
 use Rattle.std.specs.Prelude.{◌≡◌, ◌↔◌, ℕ, zero, suc, List, [], ◌∷◌, Bool, true, false, not, cond, Option, Some, IsTrue, codes, refl, ⊤}
-use Rattle.std.proofs.Common.{ap, sym, subst, ◌∙◌}
+use Rattle.std.proofs.Common.{inl, inr, ap, sym, subst, ◌∙◌}
 use Rattle.std.proofs.lemmas.Bool.{both_ways}
 use Rattle.mw_logic.specs.Term.{RawTerm, numeral, nil, binary, constant}
 use Rattle.mw_logic.specs.Signature.{Signature, IsRawTerm, an_operator, AreRawTerms, end, at_number}
@@ -10,7 +10,7 @@ use Rattle.mw_logic.specs.Built.{HasBuiltIns}
 use Rattle.mw_logic.specs.WellFormed.{IsWellFormed}
 use Rattle.mw_logic.specs.Parts.{is_assoc, nested, nest}
 use Rattle.mw_logic.specs.NormalForm.{normal_form}
-use Rattle.mw_logic.specs.Module.{BuiltIn, result_of, Denotes, IsTruth, IsBuiltIn, IsPolymorphic, AreKindsOf, Module, Statement, Row, arithmetic, equal_terms, unequal_terms, not_different, different}
+use Rattle.mw_logic.specs.Module.{BuiltIn, result_of, Denotes, IsTruth, IsBuiltIn, IsPolymorphic, AreKindsOf, Module, Statement, Row, arithmetic, equal_terms, unequal_terms, not_different, different, if_true, if_false}
 use Rattle.mw_logic.specs.Proof as proof
 use Rattle.mw_logic.proofs.CleanForms.{keeps_top}
 use Rattle.mw_logic.proofs.Invariance.{normal_form-kept}
@@ -18,7 +18,7 @@ use Rattle.mw_logic.proofs.RawLed.{leads_raw}
 use Rattle.mw_logic.proofs.Soundness.{equal}
 use Rattle.mw_builtin.specs.Results.{IsFound}
 use Rattle.mw_builtin.specs.Schemata.{IsNamedTruth}
-use Rattle.mw_builtin.specs.Steps.{IsFormOf, IsGroundTerm, IsStepOf, met_for}
+use Rattle.mw_builtin.specs.Steps.{IsFormOf, IsGroundTerm, IsStepOf, IsTestOf, IsAnyTerm, met_for}
 use Rattle.mw_builtin.specs.declared.pairs.Found.{Found}
 use Rattle.mw_builtin.specs.declared.pairs.Found.TheVariants.{Number, Constant, TooBig}
 use Rattle.mw_builtin.proofs.BuiltLaws.{built_tests, built_choices}
@@ -50,6 +50,16 @@ ground_truth sig ok b c named = record {
 
 pub nested_truth : (sig : Signature) (b : Bool) (c : ℕ) → IsNamedTruth sig b c → IsTruth sig b (nested sig (constant c))
 nested_truth sig b c named = (c, nested_constant sig c, named)
+
+-- A row on any sides is one on normal sides, where those that a test tells apart are normal.
+pub row_on_sides : (sig : Signature) (N : RawTerm → Type 0) {t r : RawTerm} → Row sig IsAnyTerm t r → ((f : ℕ) (u v : RawTerm) → t ≡ binary f u v → IsTestOf sig f → ¬ EqualModulo sig u v → N u × N v) → Row sig N t r
+row_on_sides sig N (arithmetic b is d) h = arithmetic b is d
+row_on_sides sig N (equal_terms p e d) h = equal_terms p e d
+row_on_sides sig N (unequal_terms {f} {u} {v} p a b e d) h = let n = h f u v refl (inl p) e in unequal_terms p n.0 n.1 e d
+row_on_sides sig N (not_different p e d) h = not_different p e d
+row_on_sides sig N (different {f} {u} {v} p a b e d) h = let n = h f u v refl (inr p) e in different p n.0 n.1 e d
+row_on_sides sig N (if_true p d) h = if_true p d
+row_on_sides sig N (if_false p d) h = if_false p d
 
 -- a module with these operators and nothing else
 abbrev alone : Signature → Module
@@ -101,21 +111,30 @@ module _ (sig : Signature) (ok : IsAccepted sig) (sorted : IsWellSorted sig) (bu
     too_big = record { operator = f; m = m; n = n; schema = b; is_built_in = is; is = refl; too_big = e };
   }
 
-  -- two normal terms under a test
+  -- two terms under a test, normal where they differ
   pub test_step : (f : ℕ) (w : Bool) → IsPolymorphic sig f (cond w (codes "_==_") (codes "_=/=_")) → (u v : RawTerm) → IsFormOf sig take t (binary f (nested sig u) (nested sig v))
-      → normal_form sig (nested sig u) ≡ u → normal_form sig (nested sig v) ≡ v → N (nested sig u) → N (nested sig v) → (e : Bool) → (IsTrue e ↔ (u ≡ v)) → (c : ℕ) → IsNamedTruth sig (cond w e (not e)) c → IsStepOf sig N t (met_for take (Constant c))
-  test_step f w is u v form p q nu nv e same c named = record {
+      → normal_form sig (nested sig u) ≡ u → normal_form sig (nested sig v) ≡ v → ((u ≡ v → ⊥) → N (nested sig u) × N (nested sig v)) → (e : Bool) → (IsTrue e ↔ (u ≡ v)) → (c : ℕ) → IsNamedTruth sig (cond w e (not e)) c → IsStepOf sig N t (met_for take (Constant c))
+  test_step f w is u v form p q sides e same c named = record {
     form = binary f (nested sig u) (nested sig v);
     is_form = form;
-    meets = by_cases w e is same (nested_truth sig (cond w e (not e)) c named);
+    meets = row_on_sides sig N (by_cases w e is same (nested_truth sig (cond w e (not e)) c named)) at_sides;
     term = ground_truth sig ok (cond w e (not e)) c named;
   }
     where
       differ : (u ≡ v → ⊥) → ¬ EqualModulo sig (nested sig u) (nested sig v)
       differ d h = d (sym p ∙ normal_form-kept sig ok h ∙ q)
 
-      by_cases : (w e : Bool) → IsPolymorphic sig f (cond w (codes "_==_") (codes "_=/=_")) → (IsTrue e ↔ (u ≡ v)) → IsTruth sig (cond w e (not e)) (nested sig (constant c)) → Row sig N (binary f (nested sig u) (nested sig v)) (nested sig (constant c))
+      same_sides : {f g : ℕ} {a b x y : RawTerm} → binary f a b ≡ binary g x y → (a ≡ x) × (b ≡ y)
+      same_sides e = (cc, cc)
+
+      at_sides : (g : ℕ) (x y : RawTerm) → binary f (nested sig u) (nested sig v) ≡ binary g x y → IsTestOf sig g → ¬ EqualModulo sig x y → N x × N y
+      at_sides g x y h test d =
+          let s = same_sides h in
+          let n = sides (λ z. d (equal (sym s.0 ∙ ap (nested sig) z ∙ s.1))) in
+          (subst N s.0 n.0, subst N s.1 n.1)
+
+      by_cases : (w e : Bool) → IsPolymorphic sig f (cond w (codes "_==_") (codes "_=/=_")) → (IsTrue e ↔ (u ≡ v)) → IsTruth sig (cond w e (not e)) (nested sig (constant c)) → Row sig IsAnyTerm (binary f (nested sig u) (nested sig v)) (nested sig (constant c))
       by_cases true true is same h = equal_terms is (equal (ap (nested sig) (same.0 refl))) h
-      by_cases true false is same h = unequal_terms is nu nv (differ (λ x. both_ways _ refl (same.1 x))) h
+      by_cases true false is same h = unequal_terms is tt tt (differ (λ x. both_ways _ refl (same.1 x))) h
       by_cases false true is same h = not_different is (equal (ap (nested sig) (same.0 refl))) h
-      by_cases false false is same h = different is nu nv (differ (λ x. both_ways _ refl (same.1 x))) h
+      by_cases false false is same h = different is tt tt (differ (λ x. both_ways _ refl (same.1 x))) h

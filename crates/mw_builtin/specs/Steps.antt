@@ -1,17 +1,15 @@
 -- A step by a row at the top of a canonical term.
-use Rattle.std.specs.Prelude.{◌≡◌, ◌<◌, ◌+◌, ℕ, List, [], ◌∷◌, length, Option, Some, None, IsTrue}
+use Rattle.std.specs.Prelude.{◌≡◌, ◌⊎◌, ◌<◌, ◌+◌, ℕ, List, [], ◌∷◌, length, Option, Some, None, IsTrue, codes, ⊤}
 use Rattle.mw_logic.specs.Term.{RawTerm, RawTerms, numeral, apply, constant, is_ground}
 use Rattle.mw_logic.specs.Terms.{terms_of}
 use Rattle.mw_logic.specs.Accepted.{IsAccepted, IsWellSorted}
 use Rattle.mw_logic.specs.Built.{HasBuiltIns}
-use Rattle.mw_logic.specs.Substitution.{Substitution}
-use Rattle.mw_logic.proofs.Canonical.{Each}
 use Rattle.mw_logic.specs.Signature.{Signature, IsRawTerm}
 use Rattle.mw_logic.specs.Parts.{nested, IsClean, number_of_terms}
 use Rattle.mw_logic.specs.NormalForm.{normal_form}
-use Rattle.mw_logic.specs.Module.{Module, Fragment, Row, MeetsRow, IsTooBigPair}
+use Rattle.mw_logic.specs.Module.{IsPolymorphic, Row, MeetsRow, IsTooBigPair}
 use Rattle.mw_arguments.specs.Places.{Takes}
-use Rattle.mw_deduction.specs.Tops.{IsTop, IsNormalTerm}
+use Rattle.mw_deduction.specs.Tops.{IsTop}
 use Rattle.mw_builtin.specs.Schemata.{AreSchemataOf}
 use Rattle.mw_builtin.specs.declared.pairs.Found.{Found}
 use Rattle.mw_builtin.specs.declared.pairs.Found.TheVariants.{Number, Constant, TooBig}
@@ -62,14 +60,31 @@ IsStepOf sig IsNormal t met.Nothing = HasNoRow sig t
 IsStepOf sig IsNormal t (met.Gives take to) = IsGiven sig IsNormal t take to
 IsStepOf sig IsNormal t (met.TooBig take) = IsTooBigAt sig t take
 
--- A canonical ground term, an operator on normal arguments, in a module with these schemata.
-pub record IsAsked (M : Module) (F : List Fragment → Substitution → Type 0) (s : Schemata) (f : ℕ) (args : List RawTerm) : Type 0 where
-  pub schemata : AreSchemataOf M.signature s
-  pub accepted : IsAccepted M.signature
-  pub sorted : IsWellSorted M.signature
-  pub built : HasBuiltIns M.signature
-  pub term : IsGroundTerm M.signature (apply f (terms_of args))
-  pub normal : Each (IsNormalTerm M F) (terms_of args)
+-- f is a test of equality, or of the contrary
+abbrev pub IsTestOf : Signature → ℕ → Type 0
+IsTestOf sig f = IsPolymorphic sig f (codes "_==_") ⊎ IsPolymorphic sig f (codes "_=/=_")
+
+-- f is a test, its first two arguments differ, and w is one of them, nested
+pub record IsSide (sig : Signature) (f : ℕ) (args : List RawTerm) (w : RawTerm) : Type 0 where
+  pub test : IsTestOf sig f
+  pub first : RawTerm
+  pub second : RawTerm
+  pub rest : List RawTerm
+  pub there : args ≡ first ∷ second ∷ rest
+  pub differ : first ≡ second → ⊥
+  pub is : (w ≡ nested sig first) ⊎ (w ≡ nested sig second)
+
+-- any term, normal or not
+abbrev pub IsAnyTerm : RawTerm → Type 0
+IsAnyTerm t = ⊤
+
+-- A canonical ground term, an operator on arguments, in a signature with these schemata.
+pub record IsAsked (sig : Signature) (s : Schemata) (f : ℕ) (args : List RawTerm) : Type 0 where
+  pub schemata : AreSchemataOf sig s
+  pub accepted : IsAccepted sig
+  pub sorted : IsWellSorted sig
+  pub built : HasBuiltIns sig
+  pub term : IsGroundTerm sig (apply f (terms_of args))
 
 -- two neighbours by the index of the second, or the whole where there are two arguments
 abbrev pub AreNeighbours : ℕ → ℕ → Option (List ℕ) → Type 0

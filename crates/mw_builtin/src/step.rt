@@ -12,7 +12,7 @@ ghost use Rattle.mw_logic.specs.Terms.{terms_of};
 ghost use Rattle.mw_canon.specs.Axioms.{HasAxioms};
 ghost use Rattle.mw_deduction.specs.Tops.{IsNormalTerm};
 ghost use Rattle.mw_builtin.specs.Schemata.{AreSchemataOf, on_numbers as on_numbers_of};
-ghost use Rattle.mw_builtin.specs.Steps.{IsStepOf, IsGroundTerm, IsAsked, AreNeighbours, met_for};
+ghost use Rattle.mw_builtin.specs.Steps.{IsStepOf, IsGroundTerm, IsAsked, IsAnyTerm, IsSide, AreNeighbours, met_for};
 
 use crate::pairs::{Found, first_pair};
 use crate::schema::{BuiltIn, Schema};
@@ -94,8 +94,9 @@ impl Schemata {
         operator: BuiltIn,
         args: &[Term],
     ) -> Result<Met, AllocError>
-        ensures { (M : Module) (n : ℕ) (f : ℕ) → IsAsked M (admitted_judgements M n).Fails self.now f args.now → IsBuiltIn M.signature f (on_numbers_of operator) → comm ≡ is_comm M.signature f
-            → IfOk result (IsStepOf M.signature (IsNormalBy M (admitted_judgements M n).Fails) (applied f (terms_of args.now))) }
+        ensures { (sig : SignatureOf) (f : ℕ) → IsAsked sig self.now f args.now → IsBuiltIn sig f (on_numbers_of operator)
+            → comm ≡ is_comm sig f
+            → IfOk result (IsStepOf sig (IsSide sig f args.now) (applied f (terms_of args.now))) }
     {
         let Some(pair) = first_pair(self, operator, comm, args) else {
             return Ok(Met::Nothing);
@@ -107,8 +108,9 @@ impl Schemata {
 
     /// The step by a test of the first two arguments, which gives this truth value where they are the same.
     fn on_equals(&self, alloc: Global, where_same: bool, args: &[Term]) -> Result<Met, AllocError>
-        ensures { (M : Module) (n : ℕ) (f : ℕ) → IsAsked M (admitted_judgements M n).Fails self.now f args.now → IsPolymorphic M.signature f (cond where_same (codes "_==_") (codes "_=/=_"))
-            → IfOk result (IsStepOf M.signature (IsNormalBy M (admitted_judgements M n).Fails) (applied f (terms_of args.now))) }
+        ensures { (sig : SignatureOf) (f : ℕ) → IsAsked sig self.now f args.now
+            → IsPolymorphic sig f (cond where_same (codes "_==_") (codes "_=/=_"))
+            → IfOk result (IsStepOf sig (IsSide sig f args.now) (applied f (terms_of args.now))) }
     {
         let [first, second, ..] = args else {
             return Ok(Met::Nothing);
@@ -124,8 +126,9 @@ impl Schemata {
 
     /// The step by a choice between the second and the third argument.
     fn on_choice(&self, args: &[Term]) -> Result<Met, AllocError>
-        ensures { (M : Module) (n : ℕ) (f : ℕ) → IsAsked M (admitted_judgements M n).Fails self.now f args.now → IsPolymorphic M.signature f (codes "if_then_else_fi")
-            → IfOk result (IsStepOf M.signature (IsNormalBy M (admitted_judgements M n).Fails) (applied f (terms_of args.now))) }
+        ensures { (sig : SignatureOf) (f : ℕ) → IsAsked sig self.now f args.now
+            → IsPolymorphic sig f (codes "if_then_else_fi")
+            → IfOk result (IsStepOf sig (IsSide sig f args.now) (applied f (terms_of args.now))) }
     {
         if args.len() != 3 {
             return Ok(Met::Nothing);
@@ -137,8 +140,8 @@ impl Schemata {
         Ok(Met::Gives { take: None, to })
     }
 
-    /// What a row does at the top of the operator on these arguments, which are normal. Under a commutative operator the
-    /// least numerals come first.
+    /// What a row does at the top of the operator on these arguments. Where a test tells two terms apart, its row wants
+    /// both normal: they are the first two arguments. Under a commutative operator the least numerals come first.
     pub fn step(
         &self,
         alloc: Global,
@@ -146,9 +149,18 @@ impl Schemata {
         operator: OpId,
         args: &[Term],
     ) -> Result<Met, AllocError>
-        ensures { (M : Module) (n : ℕ) → AreSchemataOf M.signature self.now → facts.now ≡ M.signature → IsAccepted M.signature → IsWellSorted M.signature → HasBuiltIns M.signature
+        // Of normal arguments.
+        ensures normal { (M : Module) (n : ℕ) → AreSchemataOf M.signature self.now → facts.now ≡ M.signature → IsAccepted M.signature → IsWellSorted M.signature → HasBuiltIns M.signature
             → IsGroundTerm M.signature (applied operator (terms_of args.now)) → Each (IsNormalTerm M (admitted_judgements M n).Fails) (terms_of args.now)
             → IfOk result (IsStepOf M.signature (IsNormalBy M (admitted_judgements M n).Fails) (applied operator (terms_of args.now))) }
+        // Of any arguments, by rows that don't ask whether their sides are normal.
+        ensures rows { (sig : SignatureOf) → AreSchemataOf sig self.now → facts.now ≡ sig
+            → IsAccepted sig → IsWellSorted sig → HasBuiltIns sig → IsGroundTerm sig (applied operator (terms_of args.now))
+            → IfOk result (IsStepOf sig IsAnyTerm (applied operator (terms_of args.now))) }
+        // Which sides they tell apart.
+        ensures sides { (sig : SignatureOf) → AreSchemataOf sig self.now → facts.now ≡ sig
+            → IsAccepted sig → IsWellSorted sig → HasBuiltIns sig → IsGroundTerm sig (applied operator (terms_of args.now))
+            → IfOk result (IsStepOf sig (IsSide sig operator args.now) (applied operator (terms_of args.now))) }
     {
         match self.schema(operator) {
             Schema::Nothing | Schema::Truth(_) => Ok(Met::Nothing),

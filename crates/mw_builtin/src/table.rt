@@ -1,5 +1,5 @@
 // The schemata of a signature's operators, by number.
-ghost use Rattle.std.specs.Prelude.{◌≡◌, ◌↔◌, ℕ, Bool, unwrap_or, codes, IfOk, IsTrue, MatchOption};
+ghost use Rattle.std.specs.Prelude.{◌≡◌, ◌↔◌, ℕ, Bool, cond, unwrap_or, codes, IfOk, IsTrue, MatchOption};
 ghost use Rattle.mw_logic.specs.Accepted.{IsAccepted};
 ghost use Rattle.mw_logic.specs.Module.{IsPolymorphic, IsTruth, IsBuiltIn, plus, times};
 ghost use Rattle.mw_logic.specs.Preregular.{HasItsSorts};
@@ -7,6 +7,7 @@ ghost use Rattle.mw_logic.specs.Signature.{Signature as SignatureOf, at_number};
 ghost use Rattle.mw_poset.specs.SortOrder.{order_of};
 ghost use Rattle.mw_builtin.specs.declared.schema.Schema.TheVariants.{Nothing as NothingOf, Truth as TruthOf};
 ghost use Rattle.mw_builtin.specs.Schemata.{AreSchemataOf, AreSchemas, IsConstantFor, on_numbers, of_sum};
+ghost use Rattle.mw_builtin.specs.Steps.{IsTestOf};
 
 use crate::rows::rows;
 use crate::schema::{BuiltIn, Schema};
@@ -100,6 +101,18 @@ impl Schemata {
         match self.schema(operator) {
             Schema::Choice => true,
             _ => false,
+        }
+    }
+
+    /// Whether an operator is a test: `true` of `_==_`, `false` of `_=/=_`.
+    pub fn test(&self, operator: OpId) -> Option<bool>
+        ensures { (sig : SignatureOf) → AreSchemataOf sig self.now
+            → MatchOption result (¬ IsTestOf sig operator) (λ b. IsPolymorphic sig operator (cond b (codes "_==_") (codes "_=/=_"))) }
+    {
+        match self.schema(operator) {
+            Schema::Equality => Some(true),
+            Schema::Inequality => Some(false),
+            _ => None,
         }
     }
 

@@ -83,6 +83,7 @@ module _ (Q : Token → Type 0) (P : Shape → Type 0) (formed : (rules : Bool) 
   unit_so : (k : Kind) (first : Token) (ts : List Token) → All Q ts → AreIn (unit_with k first ts)
   unit_so kind.Functional first ts all = module_so false ts first (drop 1 ts) all (All-drop Q 1 ts all)
   unit_so kind.System first ts all = module_so true ts first (drop 1 ts) all (All-drop Q 1 ts all)
+  unit_so kind.Proof first ts all = (All-nil IsSo, all)
   unit_so kind.Command first ts all = (All-nil IsSo, all)
   unit_so _ first ts all = tt
 

@@ -162,7 +162,7 @@ unit_with kind.SystemTheory first ts = Err (record { line = first.line; kind = N
 unit_with kind.ObjectTheory first ts = Err (record { line = first.line; kind = NotInProfile })
 unit_with kind.View first ts = Err (record { line = first.line; kind = NotInProfile })
 unit_with kind.Strategy first ts = Err (record { line = first.line; kind = NotInProfile })
-unit_with kind.Proof first ts = Err (record { line = first.line; kind = NotInProfile })
+unit_with kind.Proof first ts = Ok (record { line = first.line; word = first.text; name = None; statements = []; tokens = ts })
 unit_with kind.Command first ts = Ok (record { line = first.line; word = first.text; name = None; statements = []; tokens = ts })
 
 -- a unit or what is wrong with it, and how many tokens it has

@@ -133,7 +133,7 @@ fn read_whole<'s>(
     match kind {
         Kind::Functional => read_module(alloc, false, tokens, first, behind_first(tokens)),
         Kind::System => read_module(alloc, true, tokens, first, behind_first(tokens)),
-        Kind::Command => Ok(Ok(Unit {
+        Kind::Proof | Kind::Command => Ok(Ok(Unit {
             line: first.line,
             word: first.text.as_slice(),
             name: None,

@@ -17,6 +17,28 @@ result N: s(s(z))
 status: reduced
 ";
 
+const CHECKED: &str =
+    "fmod P is sort N . op z : -> N . op s : N -> N . op plus : N N -> N . vars X Y : N .
+  eq plus(z, Y) = Y . eq plus(s(X), Y) = s(plus(X, Y)) . endfm
+proof 1 in P
+from 10@plus(9@s(8@z), 9@s(8@z))
+step 13 at with [8@z] [9@s(8@z)]
+step 12 at 1 with [9@s(8@z)]
+to 9@s(9@s(8@z))
+endproof
+";
+
+const ILL_SORTED: &str =
+    "fmod P is sort N . op z : -> N . op s : N -> N . op plus : N N -> N . vars X Y : N .
+  eq plus(z, Y) = Y . eq plus(s(X), Y) = s(plus(X, Y)) . endfm
+proof 1 in P
+from 10@plus(9@s(8@z), 9@s(8@z))
+step 13 at with [8@z] [1@true]
+step 12 at 1 with [9@s(8@z)]
+to 9@s(9@s(8@z))
+endproof
+";
+
 const USAGE: &str = "usage: mw run, mw check, mw gen\n";
 
 /// Words behind the program's name, parted by single spaces.
@@ -32,7 +54,7 @@ fn words(alloc: Global, line: &str) -> Result<Vec<String>, AllocError> {
 /// front of what is written.
 type Row = (&'static str, &'static str, u64, u64, u8, &'static str);
 
-static ROWS: [Row; 14] = [
+static ROWS: [Row; 18] = [
     ("mw run", "", 0, 0, 0, ""),
     ("mw run", PEANO, 0, 0, 0, PEANO_BLOCK),
     ("mw --version", PEANO, 1, 0, 0, "mw 0.1.0\n"),
@@ -47,6 +69,17 @@ static ROWS: [Row; 14] = [
     ("mw run", PEANO, 0, 2, 4, "reduce "),
     ("mw --version", PEANO, 0, 2, 4, "mw 0.1."),
     ("mw", PEANO, 0, 1, 4, ""),
+    ("mw check", PEANO, 0, 0, 0, ""),
+    ("mw check", CHECKED, 0, 0, 0, "proof 1: yes, 2 rewrites\n"),
+    (
+        "mw check",
+        ILL_SORTED,
+        0,
+        0,
+        1,
+        "proof 1: no at step 1: binding\n",
+    ),
+    ("mw check", CHECKED, 0, 2, 4, "proof 1"),
 ];
 
 /// A row whose source gives 100 bytes a call, and whose sink takes seven.

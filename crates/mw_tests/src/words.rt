@@ -46,6 +46,30 @@ fn words_are_read(rt: HostRuntime) -> Result<(), Fail> {
 }
 
 #[test]
+fn words_of_check_are_read(rt: HostRuntime) -> Result<(), Fail> {
+    let alloc = rt.alloc();
+    for (line, max) in [
+        ("mw check", 1_000_000),
+        ("mw check --", 1_000_000),
+        ("mw check --max 1", 1),
+        ("mw check --max 5", 5),
+        ("mw check --max=5", 5),
+        ("mw check --max=10000000", 10_000_000),
+    ] {
+        assert_eq!(rt; asked(alloc, line)?, Ok(Asked::Check { max }), "{line}");
+    }
+    for line in [
+        "mw check --help",
+        "mw check -h",
+        "mw check --max 007 --help",
+        "mw check --max 5 -h",
+    ] {
+        assert_eq!(rt; asked(alloc, line)?, Ok(Asked::Help), "{line}");
+    }
+    Ok(())
+}
+
+#[test]
 fn other_words_ask_for_nothing(rt: HostRuntime) -> Result<(), Fail> {
     let alloc = rt.alloc();
     for line in [
@@ -53,9 +77,11 @@ fn other_words_ask_for_nothing(rt: HostRuntime) -> Result<(), Fail> {
         "mw 5",
         "mw help",
         "mw Run",
-        "mw check",
+        "mw Check",
         "mw gen 2",
         "mw --max 5 run",
+        "mw --max 5 check",
+        "mw run check",
         "mw run 5",
         "mw run --max",
         "mw run --max=",
@@ -74,6 +100,15 @@ fn other_words_ask_for_nothing(rt: HostRuntime) -> Result<(), Fail> {
         "mw run --workers 2",
         "mw run --rounds",
         "mw run --version",
+        "mw check x",
+        "mw check --max",
+        "mw check --max 0",
+        "mw check --max 007",
+        "mw check --max 10000001",
+        "mw check --max 5 --max 5",
+        "mw check --proof",
+        "mw check --proof --help",
+        "mw check --version",
     ] {
         assert_eq!(rt; asked(alloc, line)?, Err(WordsError::Usage), "{line}");
     }

@@ -4,8 +4,13 @@ use Rattle.std.proofs.lemmas.List.{append-nil}
 use Rattle.std.specs.declared.option.Option.{Option}
 use Rattle.std.specs.Io.KnownBytes.{Consumes, IsAtEnd}
 use Rattle.mw_words.specs.declared.Options.{Options}
+use Rattle.mw_words.specs.declared.Asked.{Asked}
+use Rattle.mw_top.specs.Purposes.{AskFor}
+use Rattle.mw_top.specs.declared.purpose.Purpose.{Purpose}
+use Rattle.mw_top.specs.declared.purpose.Purpose.TheVariants.{Run, Check}
 use Rattle.mw_words.specs.Asked.{Asks}
-use Rattle.mw_words.specs.declared.Asked.TheVariants.{Run, Help, Version}
+use Rattle.mw_words.specs.declared.Asked.TheVariants.{Help, Version}
+use Rattle.mw_words.specs.declared.Asked.TheVariants as asked
 use Rattle.mw_words.proofs.Only.{one_answer}
 use Rattle.mw_top.specs.Moved.{Wrote}
 use Rattle.mw_top.specs.Outputs.{IsOutput}
@@ -28,9 +33,9 @@ never_3 s h e = ⊎_elim (λ a. omega (arith, a, e)) (λ k. ⊎_elim (λ a. omeg
 pub never_6 : (s : ℕ) → IsOfBytes s → s ≡ 6 → ⊥
 never_6 s h e = ⊎_elim (λ a. omega (arith, a, e)) (λ k. ⊎_elim (λ a. omega (arith, a, e)) (λ a. omega (arith, a, e)) k) h
 
-pub ran : (words : List (List ℕ)) (left left_after held held_after : Option (List ℕ)) (P : Options → List ℕ → List ℕ → Type 0) (options : Options) (bytes : List ℕ)
-    → Asks words (Run options) → ReadsWhole left left_after bytes → Wrote held held_after (P options bytes) → Ran words left left_after held held_after P
-ran words left left_after held held_after P options bytes asked read w = record { options = options; asked = asked; bytes = bytes; read = read; text = w.0; written = w.1; appended = w.2 }
+pub ran : (words : List (List ℕ)) (left left_after held held_after : Option (List ℕ)) (P : Purpose → List ℕ → List ℕ → Type 0) (purpose : Purpose) (bytes : List ℕ)
+    → AskFor words purpose → ReadsWhole left left_after bytes → Wrote held held_after (P purpose bytes) → Ran words left left_after held held_after P
+ran words left left_after held held_after P purpose bytes asks read w = record { purpose = purpose; asked = asks; bytes = bytes; read = read; text = w.0; written = w.1; appended = w.2 }
 
 by_status : {P : Type 0} (s : ℕ) → s ≤ 6 → (s ≡ 0 → P) → (s ≡ 1 → P) → (s ≡ 2 → P) → (s ≡ 3 → P) → (s ≡ 4 → P) → (s ≡ 5 → P) → (s ≡ 6 → P) → P
 by_status zero le a b c d e f g = a refl
@@ -52,50 +57,79 @@ told_length None new bytes seen e given = let no : ⊥ = (cc) in absurd no
 told_length (Some xs) None bytes seen e given = absurd given
 told_length (Some xs) (Some ys) bytes seen e given = let same : bytes ≡ seen ++ ys = (cc) in rw same (rw length-append (omega arith))
 
-same_options : (a b : Options) → Run a ≡ Run b → a ≡ b
-same_options a b e = cc
+-- what the words of a purpose are read as
+abbrev asked_of : Purpose → Asked
+asked_of (Run options) = asked.Run options
+asked_of (Check max) = asked.Check max
 
-no_text : (words : List (List ℕ)) (options : Options) (text : List ℕ) → Asks words (Run options) → AskText words text → ⊥
-no_text words options text asks h = ⊎_elim
-    (λ a. let wrong : Help ≡ Run options = one_answer words (Run options) Help asks a.0 in cc)
-    (λ a. let wrong : Version ≡ Run options = one_answer words (Run options) Version asks a.0 in cc)
+asks_it : (words : List (List ℕ)) (p : Purpose) → AskFor words p → Asks words (asked_of p)
+asks_it words (Run options) h = h
+asks_it words (Check max) h = h
+
+one_purpose : (p q : Purpose) → asked_of p ≡ asked_of q → p ≡ q
+one_purpose (Run a) (Run b) e = cc
+one_purpose (Run a) (Check n) e = cc
+one_purpose (Check m) (Run b) e = cc
+one_purpose (Check m) (Check n) e = cc
+
+no_help : (p : Purpose) → Help ≡ asked_of p → ⊥
+no_help (Run options) e = cc
+no_help (Check max) e = cc
+
+no_version : (p : Purpose) → Version ≡ asked_of p → ⊥
+no_version (Run options) e = cc
+no_version (Check max) e = cc
+
+no_text : (words : List (List ℕ)) (purpose : Purpose) (text : List ℕ) → AskFor words purpose → AskText words text → ⊥
+no_text words purpose text asks h = ⊎_elim
+    (λ a. no_help purpose (one_answer words (asked_of purpose) Help (asks_it words purpose asks) a.0))
+    (λ a. no_version purpose (one_answer words (asked_of purpose) Version (asks_it words purpose asks) a.0))
     h
 
-module _ (options : Options) (bytes : List ℕ) where
-  never_both : HasOutput options bytes false → HasOutput options bytes true → ⊥
-  never_both a b = let wrong : false ≡ true = agree options bytes a.1.0 b.1.0 false true a.1.1 b.1.1 in cc
+module _ (purpose : Purpose) (bytes : List ℕ) where
+  never_both : (options : Options) → purpose ≡ Run options → HasOutput purpose bytes false → HasOutput purpose bytes true → ⊥
+  never_both options e a b =
+      let first : HasOutput (Run options) bytes false = subst (λ p. HasOutput p bytes false) e a in
+      let second : HasOutput (Run options) bytes true = subst (λ p. HasOutput p bytes true) e b in
+      let wrong : false ≡ true = agree options bytes first.1.0 second.1.0 false true first.1.1 second.1.1 in cc
 
-  exact_answered : (s : ℕ) → s ≡ 0 → HasOutput options bytes false → IsExactFor options bytes s
+  exact_answered : (s : ℕ) → s ≡ 0 → HasOutput purpose bytes false → IsExactFor purpose bytes s
   exact_answered s e output = record {
     known = inl e;
-    answered = (λ z. output, λ h. e);
-    refused = (λ z. absurd (omega (arith, e, z)), λ h. absurd (never_both output h));
+    answered = λ z. output;
+    refused = λ z. absurd (omega (arith, e, z));
+    answered_there = λ options p h. e;
+    refused_there = λ options p h. absurd (never_both options p output h);
     too_long = (λ z. absurd (omega (arith, e, z)), λ h. absurd (omega (arith, h, output.0)));
   }
 
-  exact_refused : (s : ℕ) → s ≡ 1 → HasOutput options bytes true → IsExactFor options bytes s
+  exact_refused : (s : ℕ) → s ≡ 1 → HasOutput purpose bytes true → IsExactFor purpose bytes s
   exact_refused s e output = record {
     known = inr (inl e);
-    answered = (λ z. absurd (omega (arith, e, z)), λ h. absurd (never_both h output));
-    refused = (λ z. output, λ h. e);
+    answered = λ z. absurd (omega (arith, e, z));
+    refused = λ z. output;
+    answered_there = λ options p h. absurd (never_both options p h output);
+    refused_there = λ options p h. e;
     too_long = (λ z. absurd (omega (arith, e, z)), λ h. absurd (omega (arith, h, output.0)));
   }
 
-  exact_long : (s : ℕ) → s ≡ 6 → 8388608 < length bytes → IsExactFor options bytes s
+  exact_long : (s : ℕ) → s ≡ 6 → 8388608 < length bytes → IsExactFor purpose bytes s
   exact_long s e large = record {
     known = inr (inr e);
-    answered = (λ z. absurd (omega (arith, e, z)), λ h. absurd (omega (arith, large, h.0)));
-    refused = (λ z. absurd (omega (arith, e, z)), λ h. absurd (omega (arith, large, h.0)));
+    answered = λ z. absurd (omega (arith, e, z));
+    refused = λ z. absurd (omega (arith, e, z));
+    answered_there = λ options p h. absurd (omega (arith, large, h.0));
+    refused_there = λ options p h. absurd (omega (arith, large, h.0));
     too_long = (λ z. large, λ h. e);
   }
 
-module _ (words : List (List ℕ)) (left left_after held held_after : Option (List ℕ)) (bytes : List ℕ) (options : Options) (told : left ≡ Some bytes) (asks : Asks words (Run options)) where
+module _ (words : List (List ℕ)) (left left_after held held_after : Option (List ℕ)) (bytes : List ℕ) (purpose : Purpose) (told : left ≡ Some bytes) (asks : AskFor words purpose) where
   -- what was written answers these bytes
-  output_of : (bad : Bool) → Ran words left left_after held held_after (λ m b text. IsOutput m b text bad) → HasOutput options bytes bad
+  output_of : (bad : Bool) → Ran words left left_after held held_after (λ m b text. IsOutput m b text bad) → HasOutput purpose bytes bad
   output_of bad r =
-      let m = same_options r.options options (one_answer words (Run options) (Run r.options) asks r.asked) in
+      let m = one_purpose r.purpose purpose (one_answer words (asked_of purpose) (asked_of r.purpose) (asks_it words purpose asks) (asks_it words r.purpose r.asked)) in
       let b = told_bytes left left_after bytes r.bytes told r.read.given r.read.end in
-      (subst (λ bs. length bs ≤ 8388608) b r.read.short, (r.text, subst (λ n. IsOutput n bytes r.text bad) m (subst (λ bs. IsOutput r.options bs r.text bad) b r.written)))
+      (subst (λ bs. length bs ≤ 8388608) b r.read.short, (r.text, subst (λ n. IsOutput n bytes r.text bad) m (subst (λ bs. IsOutput r.purpose bs r.text bad) b r.written)))
 
   module _ (source source_after sink sink_after s : ℕ) (d : Did words left left_after source source_after held held_after sink sink_after s) where
     are_many : s ≡ 6 → 8388608 < length bytes
@@ -104,15 +138,15 @@ module _ (words : List (List ℕ)) (left left_after held held_after : Option (Li
 pub exact : (words : List (List ℕ)) (left left_after : Option (List ℕ)) (source source_after : ℕ) (held held_after : Option (List ℕ)) (sink sink_after s : ℕ) (source_rose sink_rose : Type 0)
     → (s ≡ 3 → source_rose) → (s ≡ 4 → sink_rose)
     → Did words left left_after source source_after held held_after sink sink_after s → IsExact words left source_rose sink_rose s
-exact words left left_after source source_after held held_after sink sink_after s source_rose sink_rose at_3 at_4 d = λ bytes options told asks no_source no_sink.
+exact words left left_after source source_after held held_after sink sink_after s source_rose sink_rose at_3 at_4 d = λ bytes purpose told asks no_source no_sink.
     by_status s d.known
     (λ e. ⊎_elim
-    (λ r. inr (exact_answered options bytes s e (output_of words left left_after held held_after bytes options told asks false r)))
-    (λ t. absurd (no_text words options t.text asks t.is))
+    (λ r. inr (exact_answered purpose bytes s e (output_of words left left_after held held_after bytes purpose told asks false r)))
+    (λ t. absurd (no_text words purpose t.text asks t.is))
     (d.answered e))
-    (λ e. inr (exact_refused options bytes s e (output_of words left left_after held held_after bytes options told asks true (d.refused e))))
-    (λ e. absurd ((d.usage_told e).is.0 (Run options) asks))
+    (λ e. inr (exact_refused purpose bytes s e (output_of words left left_after held held_after bytes purpose told asks true (d.refused e))))
+    (λ e. absurd ((d.usage_told e).is.0 (asked_of purpose) (asks_it words purpose asks)))
     (λ e. absurd (no_source (at_3 e)))
     (λ e. absurd (no_sink (at_4 e)))
     (λ e. inl e)
-    (λ e. inr (exact_long options bytes s e (are_many words left left_after held held_after bytes options told asks source source_after sink sink_after s d e)))
+    (λ e. inr (exact_long purpose bytes s e (are_many words left left_after held held_after bytes purpose told asks source source_after sink sink_after s d e)))

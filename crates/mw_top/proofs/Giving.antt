@@ -1,16 +1,16 @@
 -- What a unit gives, from what is known of its text.
 use Rattle.std.proofs.Common.{◌≡◌, ℕ, List, Bool, true, subst, sym, refl, Option, Some, None, option_map, Result, Ok, Err, MatchResult}
 use Rattle.std.specs.Borrow.{Bor}
-use Rattle.mw_words.specs.declared.Options.{Options}
+use Rattle.mw_top.specs.declared.purpose.Purpose.{Purpose}
 use Rattle.mw_lex.specs.declared.token.Token.{Token}
 use Rattle.mw_module.specs.declared.faults.Fault.{Fault}
 use Rattle.mw_module.specs.Units.{Outcome}
 use Rattle.mw_top.specs.Sources.{Loaded, Gives, told_refusal}
 
-pub refused_gives : (options : Options) (before : Loaded) (out : Outcome) (r : Fault) (text : List ℕ) (refused : Bool) → Gives options before out (told_refusal options r) true before
-    → (text ≡ told_refusal options r) × (refused ≡ true) → Gives options before out text refused before
-refused_gives options before out r text refused g h =
-    subst (λ b. Gives options before out text b before) (sym h.1) (subst (λ t. Gives options before out t true before) (sym h.0) g)
+pub refused_gives : (purpose : Purpose) (before : Loaded) (out : Outcome) (r : Fault) (text : List ℕ) (refused : Bool) → Gives purpose before out (told_refusal purpose r) true before
+    → (text ≡ told_refusal purpose r) × (refused ≡ true) → Gives purpose before out text refused before
+refused_gives purpose before out r text refused g h =
+    subst (λ b. Gives purpose before out text b before) (sym h.1) (subst (λ t. Gives purpose before out t true before) (sym h.0) g)
 
 -- where no value is there
 pub none_there : {A B : Type 0} (f : A → B) (r : Option A) (o : Option B) → ((x : A) → r ≡ Some x → ⊥) → option_map f r ≡ o → o ≡ None

@@ -7,3 +7,5 @@ pub mod Giving
 pub mod Bytes
 pub mod OneOutput
 pub mod Doing
+pub mod Asking
+pub mod Judging

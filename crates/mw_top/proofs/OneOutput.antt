@@ -21,7 +21,8 @@ use Rattle.mw_build.proofs.Pairwise.{there}
 use Rattle.mw_command.specs.declared.commands.Word.{Word}
 use Rattle.mw_top.specs.Commands.{IsTerm, IsAnswer, reduction, rewriting, parsing, matching, inside_of, TermFault, long, unread, unclear, opened, big, AnswerFault, in_term, undivided, in_sides, CommandFault, nowhere, unknown, unanswered, module_for}
 use Rattle.mw_top.specs.Matches.{AreSides, AreOversized, deep, large as too_large, SidesFault, long as sides_long, unread as sides_unread, unclear as sides_unclear, opened as sides_opened, big as sides_big}
-use Rattle.mw_top.specs.Sources.{Loaded, with_module, IsTaken, name_of, Gives, formless, taken, refused, accepted, no_command, faulty, answered, Answered, nothing_yet, one_more}
+use Rattle.mw_top.specs.declared.purpose.Purpose.TheVariants.{Run}
+use Rattle.mw_top.specs.Sources.{Loaded, with_module, IsTaken, name_of, Gives, formless, taken, refused, accepted, no_command, faulty, answered, passed, judged, Answered, nothing_yet, one_more}
 use Rattle.mw_top.specs.Outputs.{IsOutput, unlexed, answered as of_tokens}
 
 -- a term that is read has no fault
@@ -115,20 +116,22 @@ not_there : (l : Loaded) → AreNamed l → (n : List ℕ) → (IsTaken l.module
 not_there l named n free = not_found l.units n (λ m. free (subst (Member n) (sym named) m))
 
 module _ (options : Options) (before : Loaded) (alike : AreNamed before) where
-  names_kept : (o : Outcome) (text : List ℕ) (bad : Bool) (after : Loaded) → Gives options before o text bad after → AreNamed after
+  names_kept : (o : Outcome) (text : List ℕ) (bad : Bool) (after : Loaded) → Gives (Run options) before o text bad after → AreNamed after
   names_kept o text bad after (formless f) = alike
   names_kept o text bad after (taken u n named is_taken) = alike
   names_kept o text bad after (refused u n r named free wrong) = alike
   names_kept o text bad after (accepted u n reached a named free is) =
       map-append (λ (m : Accepted). m.name) before.modules (a ∷ []) ∙ ap (λ ns. ns ++ a.name ∷ []) alike ∙ ap (λ m. named_units before.units ++ m ∷ []) is.holds.named
       ∙ sym (map-append (λ (u : FlatUnit). u.name) before.units (record { name = n; statements = u.statements; reached = reached } ∷ []))
-  names_kept o text bad after (no_command u f unnamed wrong) = alike
-  names_kept o text bad after (faulty u c cause unnamed command wrong) = alike
-  names_kept o text bad after (answered u c b block unnamed command m answer) = alike
+  names_kept o text bad after (no_command opts u f by unnamed wrong) = alike
+  names_kept o text bad after (faulty opts u c cause by unnamed command wrong) = alike
+  names_kept o text bad after (answered opts u c b block by unnamed command m answer) = alike
+  names_kept o text bad after (passed max u by unnamed other) = cc
+  names_kept o text bad after (judged max u v by unnamed proof is) = cc
 
   -- what a module gives that is accepted
   from_accepted : (u : SeenUnit) (n reached : List ℕ) (a : Accepted) → name_of u ≡ Some n → (IsTaken before.modules n → ⊥)
-      → IsAccepted before.units before.modules u n reached a → (o : Outcome) → o ≡ Ok u → (text : List ℕ) (bad : Bool) (after : Loaded) → Gives options before o text bad after
+      → IsAccepted before.units before.modules u n reached a → (o : Outcome) → o ≡ Ok u → (text : List ℕ) (bad : Bool) (after : Loaded) → Gives (Run options) before o text bad after
       → (false ≡ bad) × (with_module before n u reached a ≡ after)
   from_accepted u n reached a named free is o e text bad after (formless f) = cc
   from_accepted u n reached a named free is o e text bad after (taken v m other is_taken) =
@@ -149,43 +152,51 @@ module _ (options : Options) (before : Loaded) (alike : AreNamed before) where
         ap (λ ks. with_module before n u ks a) same.0 ∙ ap (with_module before n u others) same.1 ∙ ap (λ k. with_module before k u others b) (sym name)
             ∙ ap (λ w. with_module before m w others b) (sym unit),
       )
-  from_accepted u n reached a named free is o e text bad after (no_command v f unnamed wrong) =
+  from_accepted u n reached a named free is o e text bad after (no_command opts v f by unnamed wrong) =
       let unit : v ≡ u = cc in absurd (none-some n (sym unnamed ∙ ap name_of unit ∙ named))
-  from_accepted u n reached a named free is o e text bad after (faulty v c cause unnamed command wrong) =
+  from_accepted u n reached a named free is o e text bad after (faulty opts v c cause by unnamed command wrong) =
       let unit : v ≡ u = cc in absurd (none-some n (sym unnamed ∙ ap name_of unit ∙ named))
-  from_accepted u n reached a named free is o e text bad after (answered v c b block unnamed command m answer) =
+  from_accepted u n reached a named free is o e text bad after (answered opts v c b block by unnamed command m answer) =
       let unit : v ≡ u = cc in absurd (none-some n (sym unnamed ∙ ap name_of unit ∙ named))
+  from_accepted u n reached a named free is o e text bad after (passed max v by unnamed no_proof) = cc
+  from_accepted u n reached a named free is o e text bad after (judged max v w by unnamed proof told) = cc
 
   -- what a command gives that is answered
-  from_answered : (u : SeenUnit) (c : SeenCommand) (a : Accepted) (block : List ℕ) → name_of u ≡ None → command_of u ≡ Ok c → module_for before.modules c.module ≡ Some a
-      → IsAnswer a options c block
-      → (o : Outcome) → o ≡ Ok u → (text : List ℕ) (bad : Bool) (after : Loaded) → Gives options before o text bad after → (false ≡ bad) × (before ≡ after)
-  from_answered u c a block unnamed command m is o e text bad after (formless f) = cc
-  from_answered u c a block unnamed command m is o e text bad after (taken v n named is_taken) =
+  from_answered : (opts : Options) (u : SeenUnit) (c : SeenCommand) (a : Accepted) (block : List ℕ) → name_of u ≡ None → command_of u ≡ Ok c → module_for before.modules c.module ≡ Some a
+      → IsAnswer a opts c block
+      → (o : Outcome) → o ≡ Ok u → (text : List ℕ) (bad : Bool) (after : Loaded) → Gives (Run options) before o text bad after → (false ≡ bad) × (before ≡ after)
+  from_answered opts u c a block unnamed command m is o e text bad after (formless f) = cc
+  from_answered opts u c a block unnamed command m is o e text bad after (taken v n named is_taken) =
       let unit : v ≡ u = cc in absurd (none-some n (sym unnamed ∙ ap name_of (sym unit) ∙ named))
-  from_answered u c a block unnamed command m is o e text bad after (refused v n r named not_taken wrong) =
+  from_answered opts u c a block unnamed command m is o e text bad after (refused v n r named not_taken wrong) =
       let unit : v ≡ u = cc in absurd (none-some n (sym unnamed ∙ ap name_of (sym unit) ∙ named))
-  from_answered u c a block unnamed command m is o e text bad after (accepted v n reached b named not_taken module_is) =
+  from_answered opts u c a block unnamed command m is o e text bad after (accepted v n reached b named not_taken module_is) =
       let unit : v ≡ u = cc in absurd (none-some n (sym unnamed ∙ ap name_of (sym unit) ∙ named))
-  from_answered u c a block unnamed command m is o e text bad after (no_command v f other wrong) =
+  from_answered opts u c a block unnamed command m is o e text bad after (no_command o2 v f by other wrong) =
       let unit : v ≡ u = cc in
       let both : Ok c ≡ Err f = sym command ∙ ap command_of (sym unit) ∙ wrong in cc
-  from_answered u c a block unnamed command m is o e text bad after (faulty v d cause other asked wrong) =
+  from_answered opts u c a block unnamed command m is o e text bad after (faulty o2 v d cause by other asked wrong) =
       let unit : v ≡ u = cc in
       let both : Ok d ≡ Ok c = sym asked ∙ ap command_of unit ∙ command in
       let same : d ≡ c = cc in
-      absurd (command_holds a options block before.modules c cause m is (subst (λ k. CommandFault before.modules k cause) same wrong))
-  from_answered u c a block unnamed command m is o e text bad after (answered v d b other_block other asked at answer) = (refl, refl)
+      absurd (command_holds a opts block before.modules c cause m is (subst (λ k. CommandFault before.modules k cause) same wrong))
+  from_answered opts u c a block unnamed command m is o e text bad after (answered o2 v d b other_block by other asked at answer) = (refl, refl)
+  from_answered opts u c a block unnamed command m is o e text bad after (passed max v by other no_proof) = cc
+  from_answered opts u c a block unnamed command m is o e text bad after (judged max v w by other proof told) = cc
 
   -- a unit gives refusals alone or none, and the same modules after it
-  gives_one : (o : Outcome) (text other : List ℕ) (bad worse : Bool) (after later : Loaded) → Gives options before o text bad after → Gives options before o other worse later
+  gives_one : (o : Outcome) (text other : List ℕ) (bad worse : Bool) (after later : Loaded) → Gives (Run options) before o text bad after → Gives (Run options) before o other worse later
       → (bad ≡ worse) × (after ≡ later)
   gives_one o text other bad worse after later (accepted u n reached a named free is) q = from_accepted u n reached a named free is o refl other worse later q
-  gives_one o text other bad worse after later (answered u c a block unnamed command m is) q = from_answered u c a block unnamed command m is o refl other worse later q
+  gives_one o text other bad worse after later (answered opts u c a block by unnamed command m is) q = from_answered opts u c a block unnamed command m is o refl other worse later q
   gives_one o text other bad worse after later p (accepted u n reached a named free is) =
       let back = from_accepted u n reached a named free is o refl text bad after p in (sym back.0, sym back.1)
-  gives_one o text other bad worse after later p (answered u c a block unnamed command m is) =
-      let back = from_answered u c a block unnamed command m is o refl text bad after p in (sym back.0, sym back.1)
+  gives_one o text other bad worse after later p (answered opts u c a block by unnamed command m is) =
+      let back = from_answered opts u c a block unnamed command m is o refl text bad after p in (sym back.0, sym back.1)
+  gives_one o text other bad worse after later (passed max u by unnamed no_proof) q = cc
+  gives_one o text other bad worse after later (judged max u v by unnamed proof is) q = cc
+  gives_one o text other bad worse after later p (passed max u by unnamed no_proof) = cc
+  gives_one o text other bad worse after later p (judged max u v by unnamed proof is) = cc
   gives_one o text other bad worse after later p q = (refl, refl)
 
 -- the unit at a place, and the place of the next one, are determined
@@ -199,7 +210,7 @@ one_unit tokens at o other next behind p q =
 
 module _ (options : Options) (tokens : List Token) where
   -- no place within a unit is reached
-  none_within : (fuel p q : ℕ) (ms ns : Loaded) (t u : List ℕ) (bad worse : Bool) → Answered options tokens p ms t bad → Answered options tokens q ns u worse → p + q ≤ fuel → p < q
+  none_within : (fuel p q : ℕ) (ms ns : Loaded) (t u : List ℕ) (bad worse : Bool) → Answered (Run options) tokens p ms t bad → Answered (Run options) tokens q ns u worse → p + q ≤ fuel → p < q
       → (o : Outcome) (next : ℕ) → Reads false tokens p o next → next ≤ q
   none_within zero p q ms ns t u bad worse d e small less o next reads = absurd (omega (arith, small, less))
   none_within (suc fuel) p zero ms ns t u bad worse d nothing_yet small less o next reads = absurd (omega (arith, less))
@@ -214,13 +225,13 @@ module _ (options : Options) (tokens : List Token) where
       (cases_order at p)
 
   -- the units and the modules have the same names
-  names_held : (p : ℕ) (l : Loaded) (t : List ℕ) (bad : Bool) → Answered options tokens p l t bad → AreNamed l
+  names_held : (p : ℕ) (l : Loaded) (t : List ℕ) (bad : Bool) → Answered (Run options) tokens p l t bad → AreNamed l
   names_held p l t bad nothing_yet = refl
   names_held p l t bad (one_more at before text was d outcome next last flag after read gives) =
       names_kept options before (names_held at before text was d) outcome last flag after gives
 
   -- the modules at a place are determined, and whether something was refused
-  answered_one : (p q : ℕ) (ms ns : Loaded) (t u : List ℕ) (bad worse : Bool) → Answered options tokens p ms t bad → Answered options tokens q ns u worse → p ≡ q → (ms ≡ ns) × (bad ≡ worse)
+  answered_one : (p q : ℕ) (ms ns : Loaded) (t u : List ℕ) (bad worse : Bool) → Answered (Run options) tokens p ms t bad → Answered (Run options) tokens q ns u worse → p ≡ q → (ms ≡ ns) × (bad ≡ worse)
   answered_one p q ms ns t u bad worse nothing_yet nothing_yet e = (refl, refl)
   answered_one p q ms ns t u bad worse nothing_yet (one_more at before text was d outcome next last flag after read gives) e =
       let further = read.further in absurd (omega (arith, further, e))
@@ -232,7 +243,7 @@ module _ (options : Options) (tokens : List Token) where
       (λ same.
       let rest = answered_one at place before earlier text written was wrong d k same in
       let one = one_unit tokens place outcome out p q (subst (λ i. Reads false tokens i outcome p) same read) reads in
-      let first : Gives options earlier out last flag after = subst (λ x. Gives options earlier x last flag after) one.0 (subst (λ xs. Gives options xs outcome last flag after) rest.0 gives) in
+      let first : Gives (Run options) earlier out last flag after = subst (λ x. Gives (Run options) earlier x last flag after) one.0 (subst (λ xs. Gives (Run options) xs outcome last flag after) rest.0 gives) in
       let here = gives_one options earlier (names_held place earlier written wrong k) out last behind flag worst after later first given in
       (here.1, ap (λ b. b || flag) rest.1 ∙ ap (λ b. wrong || b) here.0))
       (λ apart. ⊎_elim
@@ -244,11 +255,11 @@ module _ (options : Options) (tokens : List Token) where
       (cases_order at place)
 
 -- outputs for the same bytes
-pub agree : (options : Options) (bytes text other : List ℕ) (bad worse : Bool) → IsOutput options bytes text bad → IsOutput options bytes other worse → bad ≡ worse
+pub agree : (options : Options) (bytes text other : List ℕ) (bad worse : Bool) → IsOutput (Run options) bytes text bad → IsOutput (Run options) bytes other worse → bad ≡ worse
 agree options bytes text other bad worse (unlexed f e) (unlexed g h) = refl
 agree options bytes text other bad worse (unlexed f e) (of_tokens tokens after t b h d) = cc
 agree options bytes text other bad worse (of_tokens tokens after t b h d) (unlexed f e) = cc
 agree options bytes text other bad worse (of_tokens tokens after t b h d) (of_tokens others later u c k e) =
     let both : Ok tokens ≡ Ok others = sym h ∙ k in
     let same : tokens ≡ others = cc in
-    (answered_one options others (length others) (length others) after later t u b c (subst (λ ts. Answered options ts (length ts) after t b) same d) e refl).1
+    (answered_one options others (length others) (length others) after later t u b c (subst (λ ts. Answered (Run options) ts (length ts) after t b) same d) e refl).1

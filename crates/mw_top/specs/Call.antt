@@ -6,8 +6,11 @@ use Rattle.mw_outside.specs.Causes.{Rose}
 use Rattle.mw_words.specs.Asked.{Asks}
 use Rattle.mw_words.specs.Texts.{help, version_line}
 use Rattle.mw_words.specs.declared.Options.{Options}
+use Rattle.mw_top.specs.Purposes.{AskFor}
+use Rattle.mw_top.specs.declared.purpose.Purpose.{Purpose}
+use Rattle.mw_top.specs.declared.purpose.Purpose.TheVariants as purposes
 use Rattle.mw_words.specs.declared.Asked.{Asked}
-use Rattle.mw_words.specs.declared.Asked.TheVariants.{Run, Help, Version}
+use Rattle.mw_words.specs.declared.Asked.TheVariants.{Help, Version}
 use Rattle.mw_block.specs.Blocks.{line}
 use Rattle.mw_top.specs.Moved.{Gave, Took}
 use Rattle.mw_top.specs.Outputs.{IsOutput, IsBegun, IsCut}
@@ -30,14 +33,14 @@ pub record ReadsWhole (old new : Option (List ℕ)) (bytes : List ℕ) : Type 0 
   pub end : IsAtEnd new
   pub short : length bytes ≤ 8388608
 
--- the words ask for a run, the source was read to its end, and a text with this property was written
-pub record Ran (words : List (List ℕ)) (left left_after held held_after : Option (List ℕ)) (P : Options → List ℕ → List ℕ → Type 0) : Type 0 where
-  pub options : Options
-  pub asked : Asks words (Run options)
+-- the words ask for a run or a check, the source was read to its end, and a text with this property was written
+pub record Ran (words : List (List ℕ)) (left left_after held held_after : Option (List ℕ)) (P : Purpose → List ℕ → List ℕ → Type 0) : Type 0 where
+  pub purpose : Purpose
+  pub asked : AskFor words purpose
   pub bytes : List ℕ
   pub read : ReadsWhole left left_after bytes
   pub text : List ℕ
-  pub written : P options bytes text
+  pub written : P purpose bytes text
   pub appended : Appends held held_after text
 
 -- nothing was read, and a text with this property was written
@@ -57,14 +60,14 @@ pub record Did (words : List (List ℕ)) (left left_after : Option (List ℕ)) (
   pub sink_kept : status ≢ 4 → sink_after ≡ sink
   -- no more than one byte above the limit is taken
   pub bounded : Gave left left_after (λ n. n ≤ 8388609)
-  -- 0: each unit was answered, and none of them refused; or the words ask for help or the version
-  pub answered : status ≡ 0 → Ran words left left_after held held_after (λ options bytes text. IsOutput options bytes text false) ⊎ Told left left_after held held_after (AskText words)
-  -- 1: each unit was answered or refused, and one at least was refused
-  pub refused : status ≡ 1 → Ran words left left_after held held_after (λ options bytes text. IsOutput options bytes text true)
+  -- 0: each unit was answered, none of them refused, and each proof with yes; or the words ask for help or the version
+  pub answered : status ≡ 0 → Ran words left left_after held held_after (λ purpose bytes text. IsOutput purpose bytes text false) ⊎ Told left left_after held held_after (AskText words)
+  -- 1: each unit was answered or refused, and one at least was refused, or one proof answered no
+  pub refused : status ≡ 1 → Ran words left left_after held held_after (λ purpose bytes text. IsOutput purpose bytes text true)
   -- 2: the words ask for nothing, nothing was read, and the usage line was written
   pub usage_told : status ≡ 2 → Told left left_after held held_after (λ text. AskNothing words × (text ≡ usage))
   -- 3: the source failed, after no more than the limit, and nothing was written
-  pub source_failed : status ≡ 3 → ((options : Options) × Asks words (Run options)) × Rose source source_after × Gave left left_after (λ n. n ≤ 8388608) × Keeps held held_after
+  pub source_failed : status ≡ 3 → ((purpose : Purpose) × AskFor words purpose) × Rose source source_after × Gave left left_after (λ n. n ≤ 8388608) × Keeps held held_after
   -- 4: the sink failed, and holds a proper prefix of what was to be written
   pub sink_failed : status ≡ 4 → Rose sink sink_after
   pub cut : status ≡ 4 → Ran words left left_after held held_after IsCut
@@ -72,24 +75,26 @@ pub record Did (words : List (List ℕ)) (left left_after : Option (List ℕ)) (
   -- 5: want of memory; the source was read to its end, and the sink holds the texts of the first units, of which one at least is undone; or nothing was written, and the source gave no more than the limit
   pub memory : status ≡ 5 → Ran words left left_after held held_after IsBegun ⊎ (Keeps held held_after × Gave left left_after (λ n. n ≤ 8388608))
   -- 6: the source gave more than the limit, and nothing was written
-  pub too_long : status ≡ 6 → ((options : Options) × Asks words (Run options)) × Gave left left_after (λ n. n ≡ 8388609) × Keeps held held_after
+  pub too_long : status ≡ 6 → ((purpose : Purpose) × AskFor words purpose) × Gave left left_after (λ n. n ≡ 8388609) × Keeps held held_after
 
 -- the bytes aren't too many, and have an output with a refusal, or one without
-abbrev pub HasOutput : Options → List ℕ → Bool → Type 0
-HasOutput options bytes refused = (length bytes ≤ 8388608) × ((text : List ℕ) × IsOutput options bytes text refused)
+abbrev pub HasOutput : Purpose → List ℕ → Bool → Type 0
+HasOutput purpose bytes refused = (length bytes ≤ 8388608) × ((text : List ℕ) × IsOutput purpose bytes text refused)
 
 -- What the status says of these bytes, where nothing failed and memory didn't run out.
-pub record IsExactFor (options : Options) (bytes : List ℕ) (status : ℕ) : Type 0 where
+pub record IsExactFor (purpose : Purpose) (bytes : List ℕ) (status : ℕ) : Type 0 where
   -- no other status comes
   pub known : (status ≡ 0) ⊎ (status ≡ 1) ⊎ (status ≡ 6)
-  -- 0: exactly where there is an output without a refusal
-  pub answered : (status ≡ 0) ↔ HasOutput options bytes false
-  -- 1: exactly where there is one with a refusal
-  pub refused : (status ≡ 1) ↔ HasOutput options bytes true
+  -- 0: only where there is an output without a refusal, and 1 only where there is one with a refusal
+  pub answered : status ≡ 0 → HasOutput purpose bytes false
+  pub refused : status ≡ 1 → HasOutput purpose bytes true
+  -- of commands: exactly there
+  pub answered_there : (options : Options) → purpose ≡ purposes.Run options → HasOutput purpose bytes false → status ≡ 0
+  pub refused_there : (options : Options) → purpose ≡ purposes.Run options → HasOutput purpose bytes true → status ≡ 1
   -- 6: exactly where the bytes are too many
   pub too_long : (status ≡ 6) ↔ (8388608 < length bytes)
 
--- Where the source's bytes are known, the words ask for a run and nothing failed, the status is exact for these bytes, or memory ran out.
+-- Where the source's bytes are known, the words ask for a run or a check and nothing failed, the status is exact for these bytes, or memory ran out.
 abbrev pub IsExact : List (List ℕ) → Option (List ℕ) → (source_rose sink_rose : Type 0) → ℕ → Type 0
-IsExact words left source_rose sink_rose status = (bytes : List ℕ) (options : Options) → left ≡ Some bytes → Asks words (Run options)
-    → (source_rose → ⊥) → (sink_rose → ⊥) → (status ≡ 5) ⊎ IsExactFor options bytes status
+IsExact words left source_rose sink_rose status = (bytes : List ℕ) (purpose : Purpose) → left ≡ Some bytes → AskFor words purpose
+    → (source_rose → ⊥) → (sink_rose → ⊥) → (status ≡ 5) ⊎ IsExactFor purpose bytes status

@@ -3,6 +3,8 @@ pub mod Moved
 pub mod Preludes
 pub mod Matches
 pub mod Commands
+pub mod Purposes
+pub mod Proofs
 pub mod Sources
 pub mod Outputs
 pub mod Call

@@ -36,7 +36,8 @@
 ghost use Rattle.std.specs.Prelude.{◌≡◌, ◌≢◌, ◌⊎◌, ◌≤◌, ℕ, List, length, true, false, IfSome, IsSome};
 ghost use Rattle.std.specs.Io.KnownBytes.{Appends, Keeps};
 ghost use Rattle.mw_outside.specs.Causes.{Rose};
-ghost use Rattle.mw_words.specs.Asked.{texts, Asks};
+ghost use Rattle.mw_words.specs.Asked.{texts};
+ghost use Rattle.mw_top.specs.Purposes.{AskFor, IsAllowed};
 ghost use Rattle.mw_top.specs.Sources.{told_refusal};
 ghost use Rattle.mw_top.specs.Moved.{Took, Wrote};
 ghost use Rattle.mw_top.specs.Call.{Did, IsExact};
@@ -44,6 +45,8 @@ ghost use Rattle.mw_top.specs.Outputs.{IsOutput, AgreeInRefusal, IsBegun, IsCut,
 
 mod matching;
 mod prelude;
+mod proving;
+mod purpose;
 mod reduction;
 mod replies;
 mod rewriting;
@@ -55,8 +58,9 @@ use mw_gate::Gate;
 use mw_lex::{LexError, LexFault, LexKind};
 use mw_module::{Fault, FaultKind};
 use mw_outside::{Sink, Source};
-use mw_words::{Asked, Options, WordsError, help_text, read_words, version_text};
+use mw_words::{Asked, WordsError, help_text, read_words, version_text};
 use prelude::source_tokens;
+use purpose::Purpose;
 use session::refused_by;
 use std::alloc::Global;
 use std::sync::Wait;
@@ -122,7 +126,8 @@ fn run<S: Source, K: Sink>(alloc: Global, words: &[String], source: &mut S, sink
     ensures { Did (texts words.now) (S.left source.old) (S.left source.new) (S.faults source.old) (S.faults source.new) (K.held sink.old) (K.held sink.new) (K.faults sink.old) (K.faults sink.new) result }
 {
     match read_words(alloc, words) {
-        Ok(Asked::Run(options)) => answer_source(alloc, options, source, sink),
+        Ok(Asked::Run(options)) => answer_source(alloc, Purpose::Run(options), source, sink),
+        Ok(Asked::Check { max }) => answer_source(alloc, Purpose::Check { max }, source, sink),
         Ok(Asked::Help) => tell(sink, help_text(), 0),
         Ok(Asked::Version) => tell(sink, version_text(), 0),
         Err(WordsError::Usage) => tell(sink, USAGE, 2),
@@ -149,15 +154,16 @@ fn tell<K: Sink>(sink: &mut K, text: &str, status: u8) -> u8
 /// Reads a source to its end, and answers its units.
 fn answer_source<S: Source, K: Sink>(
     alloc: Global,
-    options: Options,
+    purpose: Purpose,
     source: &mut S,
     sink: &mut K,
 ) -> u8
-    ensures { (words : List (List ℕ)) → Asks words (Asked.Run options)
+    requires { IsAllowed purpose }
+    ensures { (words : List (List ℕ)) → AskFor words purpose
         → Did words (S.left source.old) (S.left source.new) (S.faults source.old) (S.faults source.new) (K.held sink.old) (K.held sink.new) (K.faults sink.old) (K.faults sink.new) result }
 {
     match read_to_end(alloc, source) {
-        Ok(bytes) => answer_bytes(alloc, bytes.as_slice(), options, sink),
+        Ok(bytes) => answer_bytes(alloc, bytes.as_slice(), purpose, sink),
         Err(ReadError::Memory) => 5,
         Err(ReadError::Failed) => 3,
         Err(ReadError::TooLong) => 6,
@@ -165,32 +171,33 @@ fn answer_source<S: Source, K: Sink>(
 }
 
 /// Answers the units of these bytes.
-fn answer_bytes<K: Sink>(alloc: Global, bytes: &[u8], options: Options, sink: &mut K) -> u8
-    requires { length bytes.now ≤ 8388608 }
+fn answer_bytes<K: Sink>(alloc: Global, bytes: &[u8], purpose: Purpose, sink: &mut K) -> u8
+    requires short { length bytes.now ≤ 8388608 }
+    requires allowed { IsAllowed purpose }
     ensures known { (result ≤ 1) ⊎ ((result ≡ 4) ⊎ (result ≡ 5)) }
     ensures later { K.faults sink.old ≤ K.faults sink.new }
     ensures kept { result ≢ 4 → K.faults sink.new ≡ K.faults sink.old }
-    ensures answered { result ≡ 0 → Wrote (K.held sink.old) (K.held sink.new) (λ text. IsOutput options bytes.now text false) }
-    ensures refused { result ≡ 1 → Wrote (K.held sink.old) (K.held sink.new) (λ text. IsOutput options bytes.now text true) }
+    ensures answered { result ≡ 0 → Wrote (K.held sink.old) (K.held sink.new) (λ text. IsOutput purpose bytes.now text false) }
+    ensures refused { result ≡ 1 → Wrote (K.held sink.old) (K.held sink.new) (λ text. IsOutput purpose bytes.now text true) }
     ensures failed { result ≡ 4 → Rose (K.faults sink.old) (K.faults sink.new) }
-    ensures cut { result ≡ 4 → Wrote (K.held sink.old) (K.held sink.new) (IsCut options bytes.now) }
-    ensures memory { result ≡ 5 → Wrote (K.held sink.old) (K.held sink.new) (IsBegun options bytes.now) }
+    ensures cut { result ≡ 4 → Wrote (K.held sink.old) (K.held sink.new) (IsCut purpose bytes.now) }
+    ensures memory { result ≡ 5 → Wrote (K.held sink.old) (K.held sink.new) (IsBegun purpose bytes.now) }
 {
     match source_tokens(alloc, bytes) {
-        Ok(tokens) => answer_units(alloc, tokens.as_slice(), options, sink),
-        Err(LexError::Fault(fault)) => refuse_whole(alloc, fault, options, sink),
+        Ok(tokens) => answer_units(alloc, tokens.as_slice(), purpose, sink),
+        Err(LexError::Fault(fault)) => refuse_whole(alloc, fault, purpose, sink),
         Err(LexError::Memory) => 5,
     }
 }
 
 /// Writes the one line for a source that isn't made of tokens.
-fn refuse_whole<K: Sink>(alloc: Global, fault: LexFault, options: Options, sink: &mut K) -> u8
+fn refuse_whole<K: Sink>(alloc: Global, fault: LexFault, purpose: Purpose, sink: &mut K) -> u8
     ensures known { (result ≡ 1) ⊎ ((result ≡ 4) ⊎ (result ≡ 5)) }
     ensures later { K.faults sink.old ≤ K.faults sink.new }
     ensures kept { result ≢ 4 → K.faults sink.new ≡ K.faults sink.old }
-    ensures whole { result ≡ 1 → Appends (K.held sink.old) (K.held sink.new) (told_refusal options (lexing_refusal fault)) }
+    ensures whole { result ≡ 1 → Appends (K.held sink.old) (K.held sink.new) (told_refusal purpose (lexing_refusal fault)) }
     ensures failed { result ≡ 4 → Rose (K.faults sink.old) (K.faults sink.new) }
-    ensures part { result ≡ 4 → Took (K.held sink.old) (K.held sink.new) (told_refusal options (lexing_refusal fault)) }
+    ensures part { result ≡ 4 → Took (K.held sink.old) (K.held sink.new) (told_refusal purpose (lexing_refusal fault)) }
     ensures memory { result ≡ 5 → Keeps (K.held sink.old) (K.held sink.new) }
 {
     let kind = match fault.kind {
@@ -198,7 +205,7 @@ fn refuse_whole<K: Sink>(alloc: Global, fault: LexFault, options: Options, sink:
         LexKind::UnendedComment => FaultKind::UnendedComment,
     };
     let line = fault.line;
-    let Ok(answer) = refused_by(alloc, options, Fault { line, kind }) else {
+    let Ok(answer) = refused_by(alloc, purpose, Fault { line, kind }) else {
         return 5;
     };
     match write_whole(sink, answer.text.as_slice()) {

@@ -1,15 +1,21 @@
 // The modules that were accepted, and what a unit gives among them.
-ghost use Rattle.std.specs.Prelude.{◌≡◌, ◌↔◌, ◌++◌, ◌∷◌, ℕ, List, [], Some, None, Ok, IfOk, OnOk, option_map, true, IsTrue, MatchResult};
+ghost use Rattle.std.specs.Prelude.{◌≡◌, ◌≤◌, ◌↔◌, ◌++◌, ◌∷◌, ℕ, suc, List, [], Some, None, Ok, IfOk, OnOk, option_map, true, IsTrue, MatchResult};
 ghost use Rattle.mw_module.specs.Known.{AreKnown};
 ghost use Rattle.mw_module.specs.Units.{SeenUnit, seen_unit};
 ghost use Rattle.mw_command.specs.Commands.{command_of, seen_command};
 ghost use Rattle.mw_build.specs.Modules.{Accepted, IsAccepted, IsRefused};
 ghost use Rattle.mw_top.specs.Commands.{CommandFault, is_kept as is_kept_name, module_named, module_at, last_module, module_for};
+ghost use Rattle.mw_top.specs.Proofs.{IsJudged, is_no as is_no_of};
+ghost use Rattle.mw_top.specs.Purposes.{IsAllowed};
+ghost use Rattle.mw_top.specs.declared.purpose.Purpose.TheVariants.{Run as RunOf, Check as CheckOf};
 ghost use Rattle.mw_top.specs.Sources.{IsTaken, Gives, name_of, no_modules, told_refusal, with_module};
 
+use crate::proving::{judged, named_module};
+use crate::purpose::Purpose;
 use crate::replies::reply;
-use mw_block::{noted, refusal};
+use mw_block::{noted, refusal, verdict};
 use mw_build::{Built, Module, build};
+use mw_check::{Cause, Verdict};
 use mw_command::{Command, Word, read};
 use mw_import::Units;
 use mw_lex::Token;
@@ -27,23 +33,27 @@ pub struct Answer {
     pub refused: bool,
 }
 
-/// The modules that were accepted, in order, and the units that they are.
+/// The modules that were accepted, in order, and the units that they are; and how many proofs were answered.
 #[derive(Drop)]
 pub struct Session<'s> {
     units: Units<'s>,
     modules: Vec<Module>,
+    proofs: u64,
 }
 
 impl<'s> Model for Session<'s> {
     ghost use Rattle.std.specs.Coded.{codes};
     ghost use Rattle.mw_logic.specs.TermCode.{coded_term, coded_variable};
+    ghost use Rattle.mw_top.specs.Proofs.{IsJudged, is_no as is_no_of};
+    ghost use Rattle.mw_top.specs.Purposes.{IsAllowed};
+    ghost use Rattle.mw_top.specs.declared.purpose.Purpose.TheVariants.{Run as RunOf, Check as CheckOf};
     ghost use Rattle.mw_top.specs.Sources.{Loaded};
 
     ghost Value = { Loaded };
 
     ghost coded = { Prim.hlevel (codes, coded_term, coded_variable) };
 
-    ghost view = { λ s. record { units = s.units; modules = s.modules.items } };
+    ghost view = { λ s. record { units = s.units; modules = s.modules.items; proofs = s.proofs } };
 
     ghost use Rattle.mw_build.specs.Modules.{AreLoaded};
 
@@ -53,21 +63,21 @@ impl<'s> Model for Session<'s> {
 /// A refusal at a line.
 fn refused(
     alloc: Global,
-    options: Options,
+    purpose: Purpose,
     line: u32,
     kind: FaultKind,
 ) -> Result<Answer, AllocError>
-    ensures { IfOk result (λ a. (a.text.items ≡ told_refusal options (record { line = line; kind = kind })) × (a.refused ≡ true)) }
+    ensures { IfOk result (λ a. (a.text.items ≡ told_refusal purpose (record { line = line; kind = kind })) × (a.refused ≡ true)) }
 {
-    refused_by(alloc, options, Fault { line, kind })
+    refused_by(alloc, purpose, Fault { line, kind })
 }
 
 /// The refusal of a fault.
-pub fn refused_by(alloc: Global, options: Options, fault: Fault) -> Result<Answer, AllocError>
-    ensures { IfOk result (λ a. (a.text.items ≡ told_refusal options fault) × (a.refused ≡ true)) }
+pub fn refused_by(alloc: Global, purpose: Purpose, fault: Fault) -> Result<Answer, AllocError>
+    ensures { IfOk result (λ a. (a.text.items ≡ told_refusal purpose fault) × (a.refused ≡ true)) }
 {
     let line = refusal(alloc, &fault)?;
-    let text = noted(alloc, options.proof, line)?;
+    let text = noted(alloc, purpose.notes(), line)?;
     Ok(Answer {
         text,
         refused: true,
@@ -106,6 +116,7 @@ impl<'s> Session<'s> {
         Session {
             units: Units::new(alloc),
             modules: Vec::new(alloc),
+            proofs: 0,
         }
     }
 
@@ -174,16 +185,16 @@ impl<'s> Session<'s> {
         alloc: Global,
         unit: Unit<'s>,
         name: &Token,
-        options: Options,
+        purpose: Purpose,
     ) -> Result<Answer, AllocError>
         requires named { name_of (seen_unit unit) ≡ Some name.now.text }
         requires known { AreKnown (seen_unit unit).statements }
-        ensures { IfOk result (λ a. Gives options self.old (Ok (seen_unit unit.entry)) a.text.items a.refused self.new) }
+        ensures { IfOk result (λ a. Gives purpose self.old (Ok (seen_unit unit.entry)) a.text.items a.refused self.new) }
     {
         let text = name.text.as_slice();
         let name = copy_name(alloc, &name.text)?;
         if self.is_taken(text) {
-            return refused(alloc, options, unit.line, FaultKind::AlreadyDefined(name));
+            return refused(alloc, purpose, unit.line, FaultKind::AlreadyDefined(name));
         }
         match self.built(alloc, &unit, name)? {
             Ok(built) => {
@@ -193,7 +204,7 @@ impl<'s> Session<'s> {
                     refused: false,
                 })
             }
-            Err(fault) => refused_by(alloc, options, fault),
+            Err(fault) => refused_by(alloc, purpose, fault),
         }
     }
 
@@ -215,18 +226,25 @@ impl<'s> Session<'s> {
         self.modules.get(number)
     }
 
-    /// Has the index of the statements made of the module in which a command's term is to be reduced or rewritten.
+    /// Has the index of the statements of this module made.
+    fn prepare_number(&mut self, alloc: Global, number: usize) -> Result<(), AllocError>
+        ensures { self.new ≡ self.old }
+    {
+        match self.modules.get_mut(number) {
+            Some(module) => module.prepare(alloc),
+            None => Ok(()),
+        }
+    }
+
+    /// Has it made of the module in which a command's term is to be reduced or rewritten.
     fn prepare(&mut self, alloc: Global, command: &Command<'_>) -> Result<(), AllocError>
         ensures { self.new ≡ self.old }
     {
         if !matches!(command.word, Word::Reduce | Word::Rewrite) {
             return Ok(());
         }
-        let Some(number) = self.number_for(command) else {
-            return Ok(());
-        };
-        match self.modules.get_mut(number) {
-            Some(module) => module.prepare(alloc),
+        match self.number_for(command) {
+            Some(number) => self.prepare_number(alloc, number),
             None => Ok(()),
         }
     }
@@ -240,18 +258,92 @@ impl<'s> Session<'s> {
         options: Options,
     ) -> Result<Answer, AllocError>
         ensures { (u : SeenUnit) → u.line ≡ line → name_of u ≡ None → command_of u ≡ Ok (seen_command command.now)
-            → IfOk result (λ a. Gives options self.now (Ok u) a.text.items a.refused self.now) }
+            → IfOk result (λ a. Gives (RunOf options) self.now (Ok u) a.text.items a.refused self.now) }
     {
         let Some(module) = self.module_for(command) else {
-            return refused(alloc, options, line, missing(alloc, command)?);
+            return refused(alloc, Purpose::Run(options), line, missing(alloc, command)?);
         };
         match reply(alloc, module, command, options)? {
             Ok(text) => Ok(Answer {
                 text,
                 refused: false,
             }),
-            Err(kind) => refused(alloc, options, line, kind),
+            Err(kind) => refused(alloc, Purpose::Run(options), line, kind),
         }
+    }
+
+    /// What a command's unit gives.
+    fn answer_unit(
+        &mut self,
+        alloc: Global,
+        unit: &Unit<'s>,
+        options: Options,
+    ) -> Result<Answer, AllocError>
+        requires { name_of (seen_unit unit.now) ≡ None }
+        ensures { IfOk result (λ a. Gives (RunOf options) self.old (Ok (seen_unit unit.now)) a.text.items a.refused self.new) }
+    {
+        match read(unit) {
+            Ok(command) => {
+                self.prepare(alloc, &command)?;
+                self.answer_command(alloc, unit.line, &command, options)
+            }
+            Err(fault) => refused_by(alloc, Purpose::Run(options), fault),
+        }
+    }
+
+    /// The verdict on a proof text.
+    fn verdict(&mut self, alloc: Global, tokens: &[Token], max: u64) -> Result<Verdict, AllocError>
+        requires { 1 ≤ max }
+        ensures same { self.new ≡ self.old }
+        ensures judged { IfOk result (IsJudged self.old.modules max tokens.now) }
+    {
+        let Some(name) = named_module(tokens) else {
+            return Ok(Verdict::No {
+                step: 0,
+                cause: Cause::Text,
+            });
+        };
+        let Some(number) = self.units.number(name.text.as_slice()) else {
+            return Ok(Verdict::No {
+                step: 0,
+                cause: Cause::Module,
+            });
+        };
+        self.prepare_number(alloc, number)?;
+        match self.modules.get(number) {
+            Some(module) => judged(alloc, module, tokens, max),
+            None => Ok(Verdict::No {
+                step: 0,
+                cause: Cause::Module,
+            }),
+        }
+    }
+
+    /// What a proof's unit gives, or a command's, which is passed over.
+    fn answer_proof(
+        &mut self,
+        alloc: Global,
+        unit: &Unit<'s>,
+        max: u64,
+    ) -> Result<Answer, AllocError>
+        requires max { 1 ≤ max }
+        requires unnamed { name_of (seen_unit unit.now) ≡ None }
+        ensures { IfOk result (λ a. Gives (CheckOf max) self.old (Ok (seen_unit unit.now)) a.text.items a.refused self.new) }
+    {
+        if unit.word != "proof".as_bytes() {
+            return Ok(Answer {
+                text: Vec::new(alloc),
+                refused: false,
+            });
+        }
+        let found = self.verdict(alloc, unit.tokens, max)?;
+        let number = one_more(self.proofs)?;
+        self.proofs = number;
+        let text = verdict(alloc, number, &found)?;
+        Ok(Answer {
+            text,
+            refused: is_no(&found),
+        })
     }
 
     /// What a unit gives, where a command makes at most so many steps.
@@ -259,21 +351,40 @@ impl<'s> Session<'s> {
         &mut self,
         alloc: Global,
         unit: Unit<'s>,
-        options: Options,
+        purpose: Purpose,
     ) -> Result<Answer, AllocError>
-        requires { AreKnown (seen_unit unit).statements }
-        ensures { IfOk result (λ a. Gives options self.old (Ok (seen_unit unit.entry)) a.text.items a.refused self.new) }
+        requires known { AreKnown (seen_unit unit).statements }
+        requires allowed { IsAllowed purpose }
+        ensures { IfOk result (λ a. Gives purpose self.old (Ok (seen_unit unit.entry)) a.text.items a.refused self.new) }
     {
         if let Some(name) = unit.name {
-            return self.answer_module(alloc, unit, name, options);
+            return self.answer_module(alloc, unit, name, purpose);
         }
-        match read(&unit) {
-            Ok(command) => {
-                self.prepare(alloc, &command)?;
-                self.answer_command(alloc, unit.line, &command, options)
-            }
-            Err(fault) => refused_by(alloc, options, fault),
+        match purpose {
+            Purpose::Run(options) => self.answer_unit(alloc, &unit, options),
+            Purpose::Check { max } => self.answer_proof(alloc, &unit, max),
         }
+    }
+}
+
+/// The next number; of the last one there is none.
+fn one_more(number: u64) -> Result<u64, AllocError>
+    ensures { IfOk result (λ next. next ≡ suc number) }
+{
+    if number < u64::MAX {
+        Ok(number + 1)
+    } else {
+        Err(AllocError)
+    }
+}
+
+/// Whether a verdict is a no.
+fn is_no(verdict: &Verdict) -> bool
+    ensures { result ≡ is_no_of verdict.now }
+{
+    match verdict {
+        Verdict::Yes { .. } => false,
+        Verdict::No { .. } => true,
     }
 }
 

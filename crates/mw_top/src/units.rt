@@ -2,15 +2,16 @@
 ghost use Rattle.std.specs.Prelude.{◌≡◌, ◌≢◌, ◌<◌, ◌≤◌, ◌⊎◌, List, [], length, take, IfOk, true, false};
 ghost use Rattle.mw_outside.specs.Causes.{Rose};
 ghost use Rattle.mw_module.specs.Units.{Outcome, Reads};
+ghost use Rattle.mw_top.specs.Purposes.{IsAllowed, takes_proofs};
 ghost use Rattle.mw_top.specs.Sources.{Gives};
 ghost use Rattle.mw_top.specs.Outputs.{AreDone, AreBegun, AreCut};
 
+use crate::purpose::Purpose;
 use crate::session::{Answer, Session, refused_by};
 use crate::streams::write_whole;
 use mw_lex::Token;
 use mw_module::read_unit;
 use mw_outside::Sink;
-use mw_words::Options;
 use std::alloc::{AllocError, Global};
 
 /// Answers the unit that begins at this place, and tells where the next one does.
@@ -19,36 +20,38 @@ fn answer_next<'s>(
     session: &mut Session<'s>,
     tokens: &'s [Token],
     at: usize,
-    options: Options,
+    purpose: Purpose,
 ) -> Result<(Answer, usize), AllocError>
-    requires { at < length tokens.now }
-    ensures gives { IfOk result (λ r. (outcome : Outcome) × Reads false tokens.now at outcome r.1 × Gives options session.old outcome r.0.text.items r.0.refused session.new) }
+    requires place { at < length tokens.now }
+    requires allowed { IsAllowed purpose }
+    ensures gives { IfOk result (λ r. (outcome : Outcome) × Reads (takes_proofs purpose) tokens.now at outcome r.1 × Gives purpose session.old outcome r.0.text.items r.0.refused session.new) }
     ensures further { IfOk result (λ r. (at < r.1) × (r.1 ≤ length tokens.now)) }
 {
-    let (outcome, next) = read_unit(alloc, tokens, at, false)?;
+    let (outcome, next) = read_unit(alloc, tokens, at, purpose.takes_proofs())?;
     match outcome {
-        Ok(unit) => Ok((session.answer(alloc, unit, options)?, next)),
-        Err(fault) => Ok((refused_by(alloc, options, fault)?, next)),
+        Ok(unit) => Ok((session.answer(alloc, unit, purpose)?, next)),
+        Err(fault) => Ok((refused_by(alloc, purpose, fault)?, next)),
     }
 }
 
 /// Answers all units in order, and writes the text of each as it is done. It answers a status: 0 or 1 at the end,
 /// 4 where the sink failed, 5 for want of memory.
-pub fn answer_units<K: Sink>(alloc: Global, tokens: &[Token], options: Options, sink: &mut K) -> u8
+pub fn answer_units<K: Sink>(alloc: Global, tokens: &[Token], purpose: Purpose, sink: &mut K) -> u8
+    requires { IsAllowed purpose }
     ensures status { (result ≤ 1) ⊎ (result ≡ 4) ⊎ (result ≡ 5) }
     ensures later { K.faults sink.old ≤ K.faults sink.new }
     ensures kept { result ≢ 4 → K.faults sink.new ≡ K.faults sink.old }
-    ensures answered { result ≡ 0 → AreDone options tokens.now (K.held sink.old) (K.held sink.new) false }
-    ensures refused { result ≡ 1 → AreDone options tokens.now (K.held sink.old) (K.held sink.new) true }
+    ensures answered { result ≡ 0 → AreDone purpose tokens.now (K.held sink.old) (K.held sink.new) false }
+    ensures refused { result ≡ 1 → AreDone purpose tokens.now (K.held sink.old) (K.held sink.new) true }
     ensures failed { result ≡ 4 → Rose (K.faults sink.old) (K.faults sink.new) }
-    ensures cut { result ≡ 4 → AreCut options tokens.now (K.held sink.old) (K.held sink.new) }
-    ensures memory { result ≡ 5 → AreBegun options tokens.now (K.held sink.old) (K.held sink.new) }
+    ensures cut { result ≡ 4 → AreCut purpose tokens.now (K.held sink.old) (K.held sink.new) }
+    ensures memory { result ≡ 5 → AreBegun purpose tokens.now (K.held sink.old) (K.held sink.new) }
 {
     let mut session = Session::new(alloc);
     let mut at = 0;
     let mut refused = false;
     while at < tokens.len() {
-        let Ok((answer, next)) = answer_next(alloc, &mut session, tokens, at, options) else {
+        let Ok((answer, next)) = answer_next(alloc, &mut session, tokens, at, purpose) else {
             return 5;
         };
         match write_whole(sink, answer.text.as_slice()) {

@@ -8,7 +8,7 @@ use Rattle.clap.specs.Kinds.{IsAmong}
 use Rattle.clap.specs.declared.error.kind.ErrorKind.{ErrorKind}
 use Rattle.clap.specs.declared.error.kind.ErrorKind.TheVariants.{DisplayHelp, DisplayVersion, OutOfMemory}
 use Rattle.mw_words.specs.declared.Asked.{Asked}
-use Rattle.mw_words.specs.declared.Asked.TheVariants.{Run, Help, Version}
+use Rattle.mw_words.specs.declared.Asked.TheVariants.{Run, Check, Help, Version}
 use Rattle.mw_words.specs.declared.WordsError.{WordsError}
 use Rattle.mw_words.specs.Asked.{Asks, AreOptions, IsCommand, IsMax, IsProofAsked, IsValue}
 use Rattle.mw_words.specs.declared.Options.{Options}
@@ -19,11 +19,14 @@ one_value : (low high absent : ℕ) → high < 2 ^ 64 → (o : Option (List ℕ)
 one_value low high absent small None m n p q = p ∙ sym q
 one_value low high absent small (Some text) m n p q = decimal_injective m n (omega (arith, p.most)) (omega (arith, q.most)) (sym p.digits ∙ q.digits)
 
--- a subcommand has one list of rows
-one_rows : (words : List (List ℕ)) (name : List ℕ) (r s : List Row) → IsCommand words name r → IsCommand words name s → r ≡ s
-one_rows words name r s p q =
-    let pairs : (name, r) ≡ (name, s) = (cc (p.named, q.named)) in
-    ap (λ (pair : List ℕ × List Row). pair.1) pairs
+-- the words name one subcommand at most, with one list of rows
+one_command : (words : List (List ℕ)) (m n : List ℕ) (r s : List Row) → IsCommand words m r → IsCommand words n s → (m ≡ n) × (r ≡ s)
+one_command words m n r s p q =
+    let pairs : (m, r) ≡ (n, s) = (cc (p.named, q.named)) in
+    (ap (λ (pair : List ℕ × List Row). pair.0) pairs, ap (λ (pair : List ℕ × List Row). pair.1) pairs)
+
+run≢check : codes "run" ≢ codes "check"
+run≢check e = (cc)
 
 -- both say whether the flag was given
 one_flag : (rows : List Row) (a b : Bool) → IsProofAsked rows a → IsProofAsked rows b → a ≡ b
@@ -32,23 +35,35 @@ one_flag rows true false p q = sym (q.1 (p.0 refl))
 one_flag rows false true p q = p.1 (q.0 refl)
 one_flag rows false false p q = refl
 
+one_max : (rows : List Row) (m n : ℕ) → IsMax rows m → IsMax rows n → m ≡ n
+one_max rows m n p q = one_value 1 10000000 1000000 (omega arith) (first_of (codes "max") rows) m n p q
+
 one_options : (rows : List Row) (a b : Options) → AreOptions rows a → AreOptions rows b → a ≡ b
 one_options rows a b p q =
-    let most : a.max ≡ b.max = one_value 1 10000000 1000000 (omega arith) (first_of (codes "max") rows) a.max b.max p.max q.max in
+    let most : a.max ≡ b.max = one_max rows a.max b.max p.max q.max in
     let proof : a.proof ≡ b.proof = one_flag rows a.proof b.proof p.proof q.proof in
     let made : ℕ → Bool → Options = λ m p. record { max = m; proof = p } in
     ap (λ m. made m a.proof) most ∙ ap (λ p. made b.max p) proof
 
 pub one_answer : (words : List (List ℕ)) (a b : Asked) → Asks words a → Asks words b → b ≡ a
 one_answer words (Run m) (Run n) p q =
-    let same = one_rows words (codes "run") q.0 p.0 q.1 p.1 in
-    ap Run (one_options p.0 n m (subst (λ rows. AreOptions rows n) same q.2) p.2)
+    let same = one_command words (codes "run") (codes "run") q.0 p.0 q.1 p.1 in
+    ap Run (one_options p.0 n m (subst (λ rows. AreOptions rows n) same.1 q.2) p.2)
+one_answer words (Run m) (Check n) p q = absurd (run≢check (one_command words (codes "run") (codes "check") p.0 q.0 p.1 q.1).0)
 one_answer words (Run m) Help p q = (cc (p.1.taken, q))
 one_answer words (Run m) Version p q = (cc (p.1.taken, q))
+one_answer words (Check m) (Run n) p q = absurd (run≢check (one_command words (codes "run") (codes "check") q.0 p.0 q.1 p.1).0)
+one_answer words (Check m) (Check n) p q =
+    let same = one_command words (codes "check") (codes "check") q.0 p.0 q.1 p.1 in
+    ap Check (one_max p.0 n m (subst (λ rows. IsMax rows n) same.1 q.2) p.2)
+one_answer words (Check m) Help p q = (cc (p.1.taken, q))
+one_answer words (Check m) Version p q = (cc (p.1.taken, q))
 one_answer words Help (Run n) p q = (cc (p, q.1.taken))
+one_answer words Help (Check n) p q = (cc (p, q.1.taken))
 one_answer words Help Help p q = refl
 one_answer words Help Version p q = (cc (p, q))
 one_answer words Version (Run n) p q = (cc (p, q.1.taken))
+one_answer words Version (Check n) p q = (cc (p, q.1.taken))
 one_answer words Version Help p q = (cc (p, q))
 one_answer words Version Version p q = refl
 

@@ -8,7 +8,7 @@ use Rattle.clap.specs.Faults.{fault_of}
 use Rattle.clap.specs.declared.error.kind.ErrorKind.TheVariants.{DisplayHelp, DisplayVersion}
 use Rattle.mw_words.specs.declared.Options.{Options}
 use Rattle.mw_words.specs.declared.Asked.{Asked}
-use Rattle.mw_words.specs.declared.Asked.TheVariants.{Run, Help, Version}
+use Rattle.mw_words.specs.declared.Asked.TheVariants.{Run, Check, Help, Version}
 use Rattle.mw_words.specs.CommandLine.{mw_app}
 
 -- the words as bytes
@@ -48,5 +48,6 @@ pub record AreOptions (rows : List Row) (o : Options) : Type 0 where
 -- request for it
 abbrev pub Asks : List (List ℕ) → Asked → Type 0
 Asks words (Run o) = (rows : List Row) × IsCommand words (codes "run") rows × AreOptions rows o
+Asks words (Check max) = (rows : List Row) × IsCommand words (codes "check") rows × IsMax rows max
 Asks words Help = fault_of mw_app words ≡ DisplayHelp ∷ []
 Asks words Version = fault_of mw_app words ≡ DisplayVersion ∷ []

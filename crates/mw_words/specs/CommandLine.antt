@@ -12,9 +12,17 @@ option_rule name = record (new_rule name) { long = Some name; action = Some Set 
 abbrev pub flag_rule : List ℕ → Rule
 flag_rule name = record (new_rule name) { long = Some name; action = Some SetTrue }
 
+-- `--max N`, of each subcommand that has it
+abbrev pub max_rule : Rule
+max_rule = option_rule (codes "max")
+
 -- `run [--max N] [--proof]`
 abbrev pub run_app : App
-run_app = with_rule (with_rule (new_app (codes "run")) (option_rule (codes "max"))) (flag_rule (codes "proof"))
+run_app = with_rule (with_rule (new_app (codes "run")) max_rule) (flag_rule (codes "proof"))
+
+-- `check [--max N]`
+abbrev pub check_app : App
+check_app = with_rule (new_app (codes "check")) max_rule
 
 -- the program without its subcommands: it wants one, `help` is none, and it has a version
 abbrev pub program_app : App
@@ -22,4 +30,4 @@ program_app = on_top (λ s. record s { subcommand_required = true; disable_help_
 
 -- the whole command line
 abbrev pub mw_app : App
-mw_app = with_subcommand program_app run_app.top
+mw_app = with_subcommand (with_subcommand program_app run_app.top) check_app.top

@@ -11,7 +11,8 @@ version_line = line (codes "mw 0.1.0")
 -- the commands with their options
 abbrev pub help_commands : List ℕ
 help_commands = line (codes "mw run [--max N] [--proof]    answers the commands of the source on standard input")
-    ++ line (codes "mw --help, -h                 writes this text, as `mw run --help` does")
+    ++ line (codes "mw check [--max N]            reads modules and proof texts there, and answers each proof `yes` or `no`")
+    ++ line (codes "mw --help, -h                 writes this text, as `mw run --help` and `mw check --help` do")
     ++ line (codes "mw --version, -V              writes the version")
 
 -- the options with their ranges and defaults

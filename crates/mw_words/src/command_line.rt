@@ -7,7 +7,7 @@ ghost use Rattle.clap.specs.Kinds.{IsAmong};
 ghost use Rattle.clap.specs.Walk.{rule_of};
 ghost use Rattle.clap.specs.declared.builder.command.Command.TheViews.{out-Command as fields_of};
 ghost use Rattle.mw_words.specs.Asked.{texts};
-ghost use Rattle.mw_words.specs.CommandLine.{flag_rule, mw_app, option_rule, program_app, run_app};
+ghost use Rattle.mw_words.specs.CommandLine.{check_app, flag_rule, max_rule, mw_app, option_rule, program_app, run_app};
 
 use crate::texts::version_text;
 use clap::error::ErrorKind;
@@ -28,12 +28,27 @@ fn flag<'a>(alloc: Global, name: &'a str) -> Arg<'a>
     Arg::new(alloc, name).long(name).action(ArgAction::SetTrue)
 }
 
+/// `--max N`, of each subcommand that has it.
+fn max_option<'a>(alloc: Global) -> Arg<'a>
+    ensures rule { rule_of result ≡ max_rule }
+    ensures local { result.global ≡ false }
+{
+    option(alloc, "max")
+}
+
 fn run_command<'a>(alloc: Global) -> Result<Command<'a>, AllocError>
     ensures app { IfOk result (λ c. app_of c ≡ run_app) }
     ensures local { IfOk result (λ c. (fields_of c).has_globals ≡ false) }
 {
-    let command = Command::new(alloc, "run").arg(option(alloc, "max"))?;
+    let command = Command::new(alloc, "run").arg(max_option(alloc))?;
     command.arg(flag(alloc, "proof"))
+}
+
+fn check_command<'a>(alloc: Global) -> Result<Command<'a>, AllocError>
+    ensures app { IfOk result (λ c. app_of c ≡ check_app) }
+    ensures local { IfOk result (λ c. (fields_of c).has_globals ≡ false) }
+{
+    Command::new(alloc, "check").arg(max_option(alloc))
 }
 
 /// With a version, so that clap knows `--version`; what it would write for it is never shown.
@@ -49,7 +64,9 @@ fn program_command<'a>(alloc: Global) -> Command<'a>
 fn mw_command<'a>(alloc: Global) -> Result<Command<'a>, AllocError>
     ensures { IfOk result (λ c. app_of c ≡ mw_app) }
 {
-    program_command(alloc).subcommand(run_command(alloc)?)
+    let run = run_command(alloc)?;
+    let check = check_command(alloc)?;
+    program_command(alloc).subcommand(run)?.subcommand(check)
 }
 
 /// What clap makes of the words: the subcommand with its arguments, or the kind of its error.
@@ -59,7 +76,8 @@ pub(crate) fn matches_of<'a>(
 ) -> Result<ArgMatches<'a>, ErrorKind>
     ensures taken { OnOk result (fault_of mw_app (texts words.entry.now) ≡ []) }
     ensures rows { IfOk result (λ m. subcommand_rows_of m ≡ subcommand_of mw_app (texts words.entry.now)) }
-    ensures kind { IfErr result (λ k. (k ≡ ErrorKind.OutOfMemory) ⊎ IsAmong k (fault_of mw_app (texts words.entry.now))) }
+    ensures kind { IfErr result (λ k. (k ≡ ErrorKind.OutOfMemory)
+        ⊎ IsAmong k (fault_of mw_app (texts words.entry.now))) }
 {
     let Ok(command) = mw_command(alloc) else {
         return Err(ErrorKind::OutOfMemory);

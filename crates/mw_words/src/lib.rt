@@ -1,12 +1,13 @@
 //! The words of the command line, read by clap: what they ask for, and the texts that answer `--help` and `--version`.
 //!
-//! - The first word is the program's name, whatever it is. `run`, with `--max N` or `--max=N` and `--proof` each at most
-//!   once, is a run; N is a number from 1 to 10,000,000 in digits, with no sign and no zero in front, 1,000,000 without
-//!   the option.
-//! - `--help` and `-h`, of the program and of `run`, ask for help, `--version` and `-V` of the program for the version.
-//!   Clap reads from the left: words behind such a wish say nothing, a word in front that it refuses is refused. What N
-//!   is is looked at last: `mw run --max 007 --help` is help.
-//! - There is no subcommand `help`. `mw run --` is `mw run`. Other words ask for nothing (`Usage`).
+//! - The first word is the program's name, whatever it is. `run`, with `--max N` or `--max=N` and `--proof` each at
+//!   most once, is a run; `check`, with `--max N` or `--max=N` at most once, a check of proof texts. N is a number from
+//!   1 to 10,000,000 in digits, with no sign and no zero in front, 1,000,000 without the option.
+//! - `--help` and `-h`, of the program, of `run` and of `check`, ask for help, `--version` and `-V` of the program for
+//!   the version. Clap reads from the left: words behind such a wish say nothing, a word in front that it refuses is
+//!   refused. What N is is looked at last: `mw run --max 007 --help` is help.
+//! - There is no subcommand `help`. `mw run --` is `mw run`, and `mw check --` is `mw check`. Other words ask for
+//!   nothing (`Usage`).
 //!
 //! What words ask for is a definition made of clap's own meaning (specs/Asked, `Asks`; specs/CommandLine is what clap
 //! is told). Proved: `read_words` answers what the words ask for, they ask for nothing else, and `Usage` comes only
@@ -17,8 +18,10 @@
 //! that is meant. Trusted: that clap's definitions (`fault_of`, `subcommand_of`) are what its users know as its
 //! behaviour; its code is proved to meet them.
 //!
-//! A new option is a line in `run_command` and in `run_app` of specs/CommandLine, a field of `Run` and its clause in
-//! `Asks`; a new subcommand a function of `command_line`, an arm of `read_words`, and a line of `mw_app` and of `Asks`.
+//! A new option of `run` is a line in `run_command` and in `run_app` of specs/CommandLine, a field of `Options` and its
+//! clause in `AreOptions`; one that several subcommands have is a function of its own, as `max_option` and `read_max`.
+//! A new subcommand is a function of `command_line`, a variant of `Asked` with an arm of `read_words`, and a line of
+//! `mw_app` and of `Asks`.
 #![tactic(auto)]
 
 ghost use Rattle.std.specs.Prelude.{◌≡◌, ◌≢◌, ◌⊎◌, ◌↔◌, ℕ, Some, codes, IsTrue, IfOk, IsErrOf};
@@ -54,6 +57,11 @@ pub struct Options {
 pub enum Asked {
     /// `run`: to answer a source.
     Run(Options),
+    /// `check`: to answer the proof texts of a source.
+    Check {
+        /// What `--max` gives.
+        max: u64,
+    },
     /// `--help` or `-h`, of the program or of a command: to write the help text.
     Help,
     /// `--version` or `-V` of the program: to write its version.
@@ -79,8 +87,10 @@ impl From<AllocError> for WordsError {
 
 /// What is asked for where the parser of command lines ended with this error.
 fn asked_instead(kind: ErrorKind) -> Result<Asked, WordsError>
-    ensures asked { IfOk result (λ asked. ((asked ≡ Asked.Help) × (kind ≡ ErrorKind.DisplayHelp)) ⊎ ((asked ≡ Asked.Version) × (kind ≡ ErrorKind.DisplayVersion))) }
-    ensures usage { IsErrOf result WordsError.Usage → (kind ≢ ErrorKind.OutOfMemory) × (kind ≢ ErrorKind.DisplayHelp) × (kind ≢ ErrorKind.DisplayVersion) }
+    ensures asked { IfOk result (λ asked. ((asked ≡ Asked.Help) × (kind ≡ ErrorKind.DisplayHelp))
+        ⊎ ((asked ≡ Asked.Version) × (kind ≡ ErrorKind.DisplayVersion))) }
+    ensures usage { IsErrOf result WordsError.Usage
+        → (kind ≢ ErrorKind.OutOfMemory) × (kind ≢ ErrorKind.DisplayHelp) × (kind ≢ ErrorKind.DisplayVersion) }
 {
     match kind {
         ErrorKind::OutOfMemory => Err(WordsError::Memory),
@@ -101,24 +111,43 @@ fn is_given(matches: &ArgMatches<'_>, name: &str) -> bool
     }
 }
 
+/// What `--max` gives, of each subcommand that has it: its number, or 1,000,000 where it is absent.
+fn read_max(alloc: Global, matches: &ArgMatches<'_>) -> Result<u64, WordsError>
+    ensures max { IfOk result (IsMax (rows_of (found_of matches.now))) }
+    ensures usage { IsErrOf result WordsError.Usage → (max : ℕ) → IsMax (rows_of (found_of matches.now)) max → ⊥ }
+{
+    option_number(alloc, matches, "max", 1, 10_000_000, 1_000_000)?.ok_or(WordsError::Usage)
+}
+
 /// What `run` with these arguments asks for.
 fn read_run(alloc: Global, matches: &ArgMatches<'_>) -> Result<Asked, WordsError>
-    ensures asked { IfOk result (λ asked. (o : OptionsOf) × (asked ≡ Asked.Run o) × AreOptions (rows_of (found_of matches.now)) o) }
-    ensures usage { IsErrOf result WordsError.Usage → (o : OptionsOf) → AreOptions (rows_of (found_of matches.now)) o → ⊥ }
+    ensures asked { IfOk result (λ asked. (o : OptionsOf)
+        × (asked ≡ Asked.Run o) × AreOptions (rows_of (found_of matches.now)) o) }
+    ensures usage { IsErrOf result WordsError.Usage
+        → (o : OptionsOf) → AreOptions (rows_of (found_of matches.now)) o → ⊥ }
 {
+    let max = read_max(alloc, matches)?;
     let proof = is_given(matches, "proof");
-    match option_number(alloc, matches, "max", 1, 10_000_000, 1_000_000)? {
-        Some(max) => Ok(Asked::Run(Options { max, proof })),
-        None => Err(WordsError::Usage),
-    }
+    Ok(Asked::Run(Options { max, proof }))
+}
+
+/// What `check` with these arguments asks for.
+fn read_check(alloc: Global, matches: &ArgMatches<'_>) -> Result<Asked, WordsError>
+    ensures asked { IfOk result (λ asked. (max : ℕ)
+        × (asked ≡ Asked.Check max) × IsMax (rows_of (found_of matches.now)) max) }
+    ensures usage { IsErrOf result WordsError.Usage → (max : ℕ) → IsMax (rows_of (found_of matches.now)) max → ⊥ }
+{
+    let max = read_max(alloc, matches)?;
+    Ok(Asked::Check { max })
 }
 
 /// Reads the words of a command line, of which the first is the program's name.
 ///
-/// - `run`, with `--max N` or `--max=N` and `--proof` each at most once, asks for a run. N is a number from 1 to
-///   10,000,000 in digits, with no sign and no zero in front. Without it the run has 1,000,000.
-/// - `--help` and `-h` ask for help, `--version` and `-V` for the version. Clap reads from the left and ends there, so the
-///   words behind them say nothing, but a word in front that clap refuses is refused.
+/// - `run`, with `--max N` or `--max=N` and `--proof` each at most once, asks for a run, `check`, with `--max N` or
+///   `--max=N` at most once, for a check. N is a number from 1 to 10,000,000 in digits, with no sign and no zero in
+///   front. Without it it is 1,000,000.
+/// - `--help` and `-h` ask for help, `--version` and `-V` for the version. Clap reads from the left and ends there, so
+///   the words behind them say nothing, but a word in front that clap refuses is refused.
 ///
 /// Other words, or none, are `Usage`.
 pub fn read_words(alloc: Global, words: &[String]) -> Result<Asked, WordsError>
@@ -132,6 +161,7 @@ pub fn read_words(alloc: Global, words: &[String]) -> Result<Asked, WordsError>
     };
     match matches.subcommand() {
         Some(("run", arguments)) => read_run(alloc, arguments),
+        Some(("check", arguments)) => read_check(alloc, arguments),
         _ => Err(WordsError::Usage),
     }
 }

@@ -10,7 +10,9 @@ use std::alloc::{AllocError, Global};
 
 /// The number that a text is, in digits alone, where it is in the range.
 fn number_in(alloc: Global, text: &str, low: u64, high: u64) -> Result<Option<u64>, AllocError>
-    ensures { IfOk result (λ found. MatchOption found ((n : ℕ) → IsNumber low high text.now n → ⊥) (IsNumber low high text.now)) }
+    ensures { IfOk result (λ found. MatchOption found
+        ((n : ℕ) → IsNumber low high text.now n → ⊥)
+        (IsNumber low high text.now)) }
 {
     let Ok(number) = text.parse::<u64>() else {
         return Ok(None);

@@ -7,7 +7,8 @@ const VERSION: &str = "mw 0.1.0\n";
 
 const HELP: &str = "\
 mw run [--max N] [--proof]    answers the commands of the source on standard input
-mw --help, -h                 writes this text, as `mw run --help` does
+mw check [--max N]            reads modules and proof texts there, and answers each proof `yes` or `no`
+mw --help, -h                 writes this text, as `mw run --help` and `mw check --help` do
 mw --version, -V              writes the version
 --max N     the most rewrites of a command, 1 to 10000000 (default 1000000)
 --proof     writes behind each block of reduce and rewrite its proof, and `*** ` before each other line;

@@ -7,3 +7,6 @@ returns-in-Err-clause-asked c = asked_instead_asks _ c.in-Err.kind c.in-Err.ensu
 
 pub returns-in-Some-run-default-clause-only : goal.returns-in-Some-run-default-clause-only
 returns-in-Some-run-default-clause-only c = asked_only _ c.read_run.result (search rules)
+
+pub returns-in-Some-check-default-clause-only : goal.returns-in-Some-check-default-clause-only
+returns-in-Some-check-default-clause-only c = asked_only _ c.read_check.result (search rules)

@@ -12,5 +12,5 @@ returns-then-is_numeral c = λ K k d run here a.
     let args : List RawTerm = c.in_ok-copy.field-0 ∷ c.in_ok-copy-2.field-0 ∷ [] in
     let t : RawTerm = apply c.args.operator (cons c.args.first.now (cons c.args.second.now nil)) in
     let is : t ≡ apply c.args.operator (terms_of args) = rw (c.in_ok-copy.ensures, c.in_ok-copy-2.ensures) refl in
-    let g = rw c.in-Gives.is at (step_asked K M.signature run M here c.shows.ensures k d (Term t) a c.schemata.result.now c.schemata.ensures c.facts-facts.result.now c.facts-facts.ensures c.args.operator args c.in_ok-take.field-0 is c.in_ok-take.ensures) in
+    let g = rw c.in-Gives.is at (step_asked K M.signature run M here c.shows.ensures k d (Term t) a c.schemata.result.now c.schemata.ensures c.facts-facts.result.now c.facts-facts.ensures c.args.operator args c.in_ok-take.field-0 is c.in_ok-take.ensures.normal) in
     (whole_row_applies K.over run.accepted K.rank t c.in-Gives.take c.in-Gives.to (search rules) g, c.is_numeral.ensures c.if-is_numeral.true)

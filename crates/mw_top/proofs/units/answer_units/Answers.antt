@@ -9,7 +9,7 @@ pub loop-at-init : goal.loop-at-init
 loop-at-init g c = record {
   within = omega arith;
   same = refl;
-  done = ([], subst (λ ms. Answered c.args.options c.args.tokens.now 0 ms [] false) (sym c.new-session.ensures) nothing_yet, appends_none (g.K.Sink.held c.args.sink.now));
+  done = ([], subst (λ ms. Answered c.args.purpose c.args.tokens.now 0 ms [] false) (sym c.new-session.ensures) nothing_yet, appends_none (g.K.Sink.held c.args.sink.now));
 }
 
 pub returns-in-Err-clause-cut : goal.returns-in-Err-clause-cut

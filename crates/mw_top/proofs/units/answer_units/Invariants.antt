@@ -7,7 +7,7 @@ abbrev pub invariant-loop-at : goal.invariant-loop-at
 invariant-loop-at g l = record {
   within : l.at ≤ length l.tokens;
   same : g.K.Sink.faults l.sink ≡ g.K.Sink.faults l.fn.sink;
-  done : (text : List ℕ) × Answered l.options l.tokens l.at l.session text l.refused × Appends (g.K.Sink.held l.fn.sink) (g.K.Sink.held l.sink) text;
+  done : (text : List ℕ) × Answered l.purpose l.tokens l.at l.session text l.refused × Appends (g.K.Sink.held l.fn.sink) (g.K.Sink.held l.sink) text;
 }
 
 abbrev pub decreases-loop-at : goal.decreases-loop-at

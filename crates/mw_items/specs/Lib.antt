@@ -1,0 +1,2 @@
+-- What a proof text says.
+pub mod Entries

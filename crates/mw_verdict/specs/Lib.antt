@@ -1,0 +1,6 @@
+pub mod Checks
+pub mod Leads
+pub mod Proved
+pub mod Verdicts
+pub mod Exclusion
+pub mod Rows
