@@ -4,28 +4,31 @@
 //! `alone` is the call, on one thread; `top` is the same with what may wait. They read the source to its end, cut it
 //! into tokens and answer its units one after another; each unit's text is written whole before the next unit is read.
 //! The modules of the prelude that the source needs (mw_prelude) are read before it, as units like its own; accepted,
-//! they write nothing, and a command that names no module stands in the last one of the source.
+//! they write nothing, and a command that names no module stands in the last one of the source. Where the words ask for
+//! a check, a proof is a unit too, and a command is passed over.
 //!
 //! The clause `did`, over the record `Did` (specs/Call), says of each status what stands after it:
 //!
-//! - 0: the words ask for a run, the source was read to its end, and the texts of its units, in order, were written,
-//!   none of them a refusal (`IsOutput`); or they ask for help or the version, nothing was read, and that text was
-//!   written.
-//! - 1: the same with a refusal among the texts, or the one line for bytes that aren't tokens.
+//! - 0: the words ask for a run or a check, the source was read to its end, and the texts of its units, in order, were
+//!   written, none of them a refusal or a proof's `no` (`IsOutput`); or they ask for help or the version, nothing was
+//!   read, and that text was written.
+//! - 1: the same with a refusal or a `no` among the texts, or the one line for bytes that aren't tokens.
 //! - 2: the words ask for nothing; nothing was read; the usage line was written.
-//! - 3: the words ask for a run; the source's count of faults rose, after at most 8,388,608 bytes; nothing was written.
+//! - 3: the words ask for a run or a check; the source's count of faults rose, after at most 8,388,608 bytes; nothing
+//!   was written.
 //! - 4: the sink's count rose; it holds the texts of the first units and a proper prefix of the next one's, or a proper
 //!   prefix of the other texts.
 //! - 5: want of memory: the sink holds the texts of the first units, of which one at least is undone, or what it held.
-//! - 6: the words ask for a run; exactly 8,388,609 bytes were given; nothing was written.
+//! - 6: the words ask for a run or a check; exactly 8,388,609 bytes were given; nothing was written.
 //!
 //! A fault is never hidden: a count of the source that rose gives 3, one of the sink 4. The status is one of these, no
-//! count of faults falls, and at most 8,388,609 bytes are taken. What a unit gives is `Gives` (specs/Sources) and, of a
-//! command, `IsAnswer` (specs/Commands); after a refusal the accepted modules are as before. The clause `exact`
-//! (`IsExactFor`) adds, for bytes that are known, words that ask for a run, no failure and memory that didn't run out: 0
-//! exactly where the bytes have an output without a refusal, 1 exactly where they have one with a refusal, 6 exactly
-//! where they are too many, and never another status. The law `outputs_agree`: no two outputs of the same bytes, by the
-//! same limit, differ in whether something is refused.
+//! count of faults falls, and at most 8,388,609 bytes are taken. What a unit gives is `Gives` (specs/Sources), of a
+//! command `IsAnswer` (specs/Commands), of a proof `IsJudged` (specs/Proofs); after a refusal the accepted modules are
+//! as before. The clause `exact` (`IsExactFor`) adds, for bytes that are known, words that ask for a run or a check, no
+//! failure and memory that didn't run out: 0 only where the bytes have an output without a refusal, 1 only where they
+//! have one with a refusal, of a run exactly there; 6 exactly where they are too many, and never another status. The
+//! law `outputs_agree`: no two outputs of a run of the same bytes, by the same limit, differ in whether something is
+//! refused. Two of a check may: a test whether a term is normal may stop or not.
 //! docs/PROOFS.md says what it all comes to.
 //!
 //! No clause ties want of memory to a cause. Tested by mw_tests (runs over memory, one of each status but 5, with
@@ -76,8 +79,8 @@ const USAGE: &str = "usage: mw run, mw check, mw gen\n";
 ///
 /// | status | comes |
 /// |---|---|
-/// | 0 | each unit was answered; or the words ask for help or the version |
-/// | 1 | a unit, or the whole source, was refused |
+/// | 0 | each unit was answered, no proof with `no`; or the words ask for help or the version |
+/// | 1 | a unit, or the whole source, was refused, or a proof answered `no` |
 /// | 2 | the words ask for nothing, and the usage line was written; nothing was read |
 /// | 3 | the source failed; nothing was written |
 /// | 4 | the sink failed; it holds a proper prefix of what was to be written |
@@ -116,7 +119,7 @@ pub fn top<R: Threads + Wait + Sync, S: Source, K: Sink, G: Gate>(
     }
 }
 
-/// Of the same bytes, by the same limit, no two outputs differ in whether something was refused.
+/// Of the same bytes, by the same limit, no two outputs of a run differ in whether something was refused.
 pub fn outputs_agree()
     ensures { AgreeInRefusal }
 {}
