@@ -10,7 +10,7 @@ ghost use Rattle.mw_declare.specs.Faults.{unknown_among, mentioned_in, mentioned
 
 use mw_lex::Token;
 use mw_module::{Fault, FaultKind, Form, Stated, UnitError, WrittenSort};
-use mw_term::copy_name;
+use mw_term::Name;
 use mw_text::Names;
 use std::alloc::{AllocError, Global};
 
@@ -97,7 +97,7 @@ pub fn all_known(
 {
     for statement in statements {
         if let Some(token) = unknown_mentioned(sorts, statement.form) {
-            let kind = FaultKind::UnknownSort(copy_name(alloc, &token.text)?);
+            let kind = FaultKind::UnknownSort(Name::of(token.text.as_slice().to_vec(alloc)?));
             let line = statement.line;
             return Err(UnitError::Fault(Fault { line, kind }));
         }

@@ -21,7 +21,7 @@ use mw_import::Units;
 use mw_lex::Token;
 use mw_module::{Fault, FaultKind, Unit, UnitError};
 use mw_prelude::Predefined;
-use mw_term::{Name, copy_name};
+use mw_term::Name;
 use mw_words::Options;
 use std::alloc::{AllocError, Global};
 use std::marker::Model;
@@ -192,7 +192,7 @@ impl<'s> Session<'s> {
         ensures { IfOk result (λ a. Gives purpose self.old (Ok (seen_unit unit.entry)) a.text.items a.refused self.new) }
     {
         let text = name.text.as_slice();
-        let name = copy_name(alloc, &name.text)?;
+        let name = Name::of(text.to_vec(alloc)?);
         if self.is_taken(text) {
             return refused(alloc, purpose, unit.line, FaultKind::AlreadyDefined(name));
         }
@@ -393,7 +393,10 @@ fn missing(alloc: Global, command: &Command<'_>) -> Result<FaultKind, AllocError
     ensures { IfOk result (λ kind. (ms : List Accepted) → module_for ms (seen_command command.now).module ≡ None → CommandFault ms (seen_command command.now) kind) }
 {
     match &command.module {
-        Some(name) => Ok(FaultKind::UnknownModule(copy_name(alloc, &name.text)?)),
+        Some(name) => {
+            let name = Name::of(name.text.as_slice().to_vec(alloc)?);
+            Ok(FaultKind::UnknownModule(name))
+        }
         None => Ok(FaultKind::NoModule),
     }
 }
