@@ -5,6 +5,7 @@ pub mod AdmittedValues
 pub mod RightSides
 pub mod TextLaws
 pub mod TellLaws
+pub mod PassingLaws
 pub mod Wholes
 pub mod Telling
 pub mod ChainLaws

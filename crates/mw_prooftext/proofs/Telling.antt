@@ -19,9 +19,11 @@ use Rattle.mw_deduction.proofs.MoveStands.{becomes_is}
 use Rattle.mw_prooftext.specs.Items.{Spot, Item, step, built, Items, none, Groups, end, with_item, with_group}
 use Rattle.mw_prooftext.specs.Texts.{item_text, where_word, groups_text, step_text, built_text}
 use Rattle.mw_prooftext.specs.Tells.{IsStep, IsBuilt, Tells}
+use Rattle.mw_prooftext.specs.Passing.{TakesSome, a_statement, nothing}
 use Rattle.mw_prooftext.specs.Told.{ShowsSides, told_items, item_start, word_before, item_end, braced, IsTold}
 use Rattle.mw_prooftext.proofs.TextLaws.{told-with, groups-with, word_is}
 use Rattle.mw_prooftext.proofs.TellLaws.{tells_then, shows-with, no_groups, no_sides, sides_told}
+use Rattle.mw_prooftext.proofs.PassingLaws.{passes_then, row_passes, all_bound, applied_admitted, met_admitted}
 use Rattle.mw_prooftext.proofs.Wholes.{IsSameTold}
 
 -- three pieces behind a text
@@ -40,6 +42,7 @@ module _ (M : Module) where
     items = none;
     text_is = sym (by_kind outer);
     tells = (refl, refl);
+    passes = nothing;
     sides = end;
     groups_are = refl;
     shows = refl;
@@ -51,11 +54,12 @@ module _ (M : Module) where
 
   -- into arguments and out of them
   pub told_same : {head : List ℕ} {outer : Bool} {text groups : List ℕ} (S Q : Stand) → IsSameTold sig S Q → IsTold M head outer text groups S → IsTold M head outer text groups Q
-  told_same S Q (f, w, r, s) h = record {
+  told_same S Q (n, f, w, r, s) h = record {
     canonical = subst (IsCanonical sig) (sym f) h.canonical;
     items = h.items;
     text_is = h.text_is;
     tells = rw (f, w, r) h.tells;
+    passes = rw (n, f, w) h.passes;
     sides = h.sides;
     groups_are = h.groups_are;
     shows = rw s h.shows;
@@ -79,11 +83,11 @@ module _ (M : Module) where
 
   module _ (ok : IsAccepted M.signature) where
     -- a statement
-    pub step_told : {head : List ℕ} {outer : Bool} {text groups : List ℕ} {k : ℕ} {r : Bool} {s : Substitution} {vs : List RawTerm} (S : Stand) (p : Spot) (m : MayApply M k r s vs S)
-        → ReplacesAt sig r S.hand (becomes M k s S.hand) p.path p.take (whole sig S.opens S.hand) (whole sig S.opens (becomes M k s S.hand)) → IsTold M head outer text groups S
+    pub step_told : {head : List ℕ} {outer : Bool} {text groups : List ℕ} {k : ℕ} {r : Bool} {s : Substitution} {vs : List RawTerm} (S : Stand) (p : Spot) → IsStanding M S → (m : MayApply M k r s vs S)
+        → ReplacesAt sig r S.hand (becomes M k s S.hand) p.path p.take (whole sig S.opens S.hand) (whole sig S.opens (becomes M k s S.hand)) → TakesSome p (whole sig S.opens S.hand) → IsTold M head outer text groups S
         → IsTold M head outer (text ++ (item_start outer ++ (step_text sig m.statement.owise k p vs ++ item_end outer groups))) []
         (replacing sig (replacement k r s S.read.ready) (by_statement k s S.sides) (becomes M k s S.hand) S)
-    step_told {head} {outer} {text} {groups} {k} {r} {s} {vs} S p m there h =
+    step_told {head} {outer} {text} {groups} {k} {r} {s} {vs} S p stands m there takes h =
         let e : Statement = m.statement in
         let i : Item = step e.owise k p vs h.sides in
         let y : becomes M k s S.hand ≡ normal_form sig (instance s e.right) = becomes_is M ok k s S.hand e m.is_there in
@@ -105,6 +109,7 @@ module _ (M : Module) where
           items = with_item h.items i;
           text_is = text_with head text groups outer h.items i (step_text sig e.owise k p vs) h.text_is (ap (λ z. step_text sig e.owise k p vs ++ z) (words h.sides groups h.groups_are));
           tells = tells_then M h.items i S.from (whole sig S.opens S.hand) u S.run _ h.tells (x, S.sides, refl, sides_told M ok h.sides S.sides s (all_sides e.fragments) h.shows m.starts);
+          passes = passes_then M S.rank h.items i S.from (whole sig S.opens S.hand) u h.passes (a_statement x m.replaces.substitution (all_bound M m) takes) (applied_admitted M ok k r s vs S stands m);
           sides = end;
           groups_are = refl;
           shows = refl;
@@ -115,9 +120,9 @@ module _ (M : Module) where
 
     -- a row, with no groups before it
     pub row_told : {head : List ℕ} {outer : Bool} {text groups : List ℕ} {t : RawTerm} (S : Stand) (p : Spot) → IsStanding M S → (m : MayMeet M t S)
-        → ReplacesAt sig false S.hand t p.path p.take (whole sig S.opens S.hand) (whole sig S.opens t) → IsTold M head outer text groups S
+        → ReplacesAt sig false S.hand t p.path p.take (whole sig S.opens S.hand) (whole sig S.opens t) → TakesSome p (whole sig S.opens S.hand) → IsTold M head outer text groups S
         → IsTold M head outer (text ++ (item_start outer ++ (built_text p ++ item_end outer groups))) [] (replacing sig row by_row t S)
-    row_told {head} {outer} {text} {groups} {t} S p stands m there h =
+    row_told {head} {outer} {text} {groups} {t} S p stands m there takes h =
         let u : RawTerm = whole sig S.opens t in
         let none_shown : S.sides ≡ runs.end = no_sides M S stands m.nothing_waits in
         let none_wait : h.sides ≡ end = no_groups M h.sides (subst (ShowsSides M h.sides) none_shown h.shows) in
@@ -137,6 +142,7 @@ module _ (M : Module) where
           items = with_item h.items (built p);
           text_is = text_with head text groups outer h.items (built p) (built_text p) h.text_is (sym (append-nil (built_text p)) ∙ ap (λ g. built_text p ++ (word_before g ++ g)) (sym nothing));
           tells = tells_then M h.items (built p) S.from (whole sig S.opens S.hand) u S.run _ h.tells (x, refl);
+          passes = passes_then M S.rank h.items (built p) S.from (whole sig S.opens S.hand) u h.passes (row_passes M S t p (whole sig S.opens S.hand) u m a takes) (met_admitted M ok t S stands m);
           sides = end;
           groups_are = refl;
           shows = refl;
@@ -152,6 +158,7 @@ module _ (M : Module) where
         items = h.items;
         text_is = h.text_is;
         tells = h.tells;
+        passes = h.passes;
         sides = with_group h.sides s.items;
         groups_are = ap (λ g. g ++ braced side) h.groups_are ∙ ap (λ x. groups_text sig h.sides ++ braced x) s.text_is ∙ sym (groups-with sig h.sides s.items);
         shows = shows-with M h.sides Q.sides s.items S.from S.hand S.run h.shows s.canonical (subst (λ u. Tells M s.items S.from u S.run) w s.tells);

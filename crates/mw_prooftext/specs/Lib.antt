@@ -1,6 +1,7 @@
 pub mod Items
 pub mod Texts
 pub mod Tells
+pub mod Passing
 pub mod Grounds
 pub mod Applied
 pub mod Told

@@ -6,8 +6,8 @@
 //! term on, each at its place in the term that the one before it left (`ReplacesAt` of mw_redex).
 //!
 //! Proved: `write` answers a text that tells the run of the proof, from its first term to its last one, and the proof
-//! carries that run out, modulo the axioms (`Denotes` of mw_deduction). So the text denotes the proof. That is
-//! `IsTextOf` of specs/Denoting.
+//! carries that run out, modulo the axioms (`Denotes` of mw_deduction). So the text denotes the proof. Its items pass
+//! all tests but those of conditions (`Passes`, specs/Passing). That is `IsTextOf` of specs/Denoting.
 //!
 //! Conditions: none; a [`mw_proof::Proved`] keeps what is needed. Want of memory is the only error.
 //!

@@ -18,6 +18,11 @@ use Rattle.mw_spot.specs.Spots.{below, place, numbers, number_of}
 use Rattle.mw_spot.proofs.Picked.{chosen_behind, picked, picked_rise, picked_chosen, at_from, picked_each}
 use Rattle.mw_spot.proofs.Merged.{number-sorted, merged, AreBeyond, merged_rise, merged_chosen}
 
+-- so many numbers as terms
+pub numbers_length : (at : RawTerm → ℕ) (i : ℕ) (es : RawTerms) → length (numbers at i es) ≡ number_of_terms es
+numbers_length at i nil = refl
+numbers_length at i (cons e es) = ap suc (numbers_length at (suc i) es)
+
 none_beyond : (ds es : RawTerms) → AreBeyond 0 ds es
 none_beyond ds nil = tt
 none_beyond ds (cons e es) = (omega arith, none_beyond ds es)
@@ -95,10 +100,6 @@ module _ (sig : Signature) (o : Open) where
   numbers_at i zero (cons e es) = let z : place sig o e + i ≡ place sig o e + (0 + i) = omega arith in ap Some z
   numbers_at i (suc m) (cons e es) = let z : m + suc i ≡ suc m + i = omega arith in numbers_at (suc i) m es ∙ ap (λ n. option_map (λ e. place sig o e + n) (slice_get (list_of es) m)) z
 
-  numbers_length : (i : ℕ) (es : RawTerms) → length (numbers (place sig o) i es) ≡ number_of_terms es
-  numbers_length i nil = refl
-  numbers_length i (cons e es) = ap suc (numbers_length (suc i) es)
-
   one_by_one : (es : RawTerms) (j m : ℕ) (ks : List ℕ) → 1 ≤ j → Rise j m ks → map (number_of (place sig o) es) ks ≡ map (at_from 1 (numbers (place sig o) 1 es)) ks
   one_by_one es j m [] l h = refl
   one_by_one es j m (zero ∷ ks) l h = let k = h.0 in absurd (omega (arith, l, k))
@@ -112,7 +113,7 @@ module _ (sig : Signature) (o : Open) where
   -- those of some of the terms
   pub some_picked : (es : RawTerms) (ks : List ℕ) → Rise 1 (suc (number_of_terms es)) ks → map (number_of (place sig o) es) ks ≡ picked 1 ks (numbers (place sig o) 1 es)
   some_picked es ks h =
-      let n = numbers_length 1 es in
+      let n = numbers_length (place sig o) 1 es in
       one_by_one es 1 (suc (number_of_terms es)) ks (omega arith) h ∙ picked_each 1 (suc (number_of_terms es)) ks (numbers (place sig o) 1 es) (omega (arith, n)) h
 
   module _ (orderly : IsOrderly sig o) (es : RawTerms) (ordered : is_comm sig o.operator ≡ true → Climbs es) (ks : List ℕ) (rise : Rise 1 (suc (number_of_terms es)) ks) where

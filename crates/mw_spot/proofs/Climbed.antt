@@ -1,6 +1,6 @@
 -- A place in the innermost hole, as a place in the whole.
 use Rattle.std.specs.Prelude.{◌≡◌, ◌+◌, ℕ, suc, List, [], ◌∷◌, ◌++◌, take, drop, reverse, Bool, true, false, ◌||◌, Option, None, All, IsTrue, ⊤, refl}
-use Rattle.std.proofs.Common.{ap, sym, subst, ◌∙◌, inl, inr, ⊎_elim}
+use Rattle.std.proofs.Common.{ap, sym, subst, ◌∙◌, inl, inr, ⊎_elim, arith}
 use Rattle.std.proofs.lemmas.Bool.{or_left}
 use Rattle.std.proofs.lemmas.List.Elements.{All-head, All-tail}
 use Rattle.std.proofs.lemmas.List.{take-append-drop, reverse-append}
@@ -20,11 +20,10 @@ use Rattle.mw_deduction.specs.Places.{frame, context_of}
 use Rattle.mw_deduction.specs.Standing.{Open, filled, context_at, round, IsClear, AreClear}
 use Rattle.mw_deduction.specs.Stands.{IsStanding}
 use Rattle.mw_deduction.specs.Replay.{Stand, whole, MayReplace}
-use Rattle.mw_redex.specs.Replaced.{ReplacesAt}
 use Rattle.mw_spot.specs.Walks.{Walked, AreOrderly, IsAt}
-use Rattle.mw_spot.specs.Spots.{place, is_spread, raised_path, raised_take, AreOpenHoles, StandsIn, IsFree, passed}
+use Rattle.mw_spot.specs.Spots.{places, is_spread, raised_path, raised_take, AreOpenHoles, StandsIn, ReplacesPart, IsFree, passed}
 use Rattle.mw_spot.proofs.Held.{whole-append, stands_within, stands_beyond}
-use Rattle.mw_spot.proofs.Raised.{raises}
+use Rattle.mw_spot.proofs.Fewer.{rises_part}
 
 number-nested : (sig : Signature) (ts : RawTerms) → number_of_terms (all_nested sig ts) ≡ number_of_terms ts
 number-nested sig nil = refl
@@ -97,26 +96,27 @@ module _ (sig : Signature) (ok : IsAccepted sig) (r : Bool) where
 
   module _ (w x : RawTerm) (kx : IsCanonical sig x) where
     -- Through holes that are free a path goes on without a look at the term.
-    passes : (os : List Open) (t y : RawTerm) (path : List ℕ) (take : Option (List ℕ)) → AreFree sig os → StandsIn sig r os t → ReplacesAt sig r w x path take t y
-        → ReplacesAt sig r w x (passed os path) take (whole sig os t) (whole sig os y)
+    passes : (os : List Open) (t y : RawTerm) (path : List ℕ) (take : Option (List ℕ)) → AreFree sig os → StandsIn sig r os t → ReplacesPart sig r w x path take t y
+        → ReplacesPart sig r w x (passed os path) take (whole sig os t) (whole sig os y)
     passes [] t y path take free stands a = a
     passes (o ∷ os) t y path take free stands a =
         let p : is_assoc sig o.operator ≡ false = free.0.0 in
         let q : is_comm sig o.operator ≡ false = free.0.1 in
-        let one : raised_path (place sig o) (is_spread sig o t) t path ≡ (number_of_terms o.before + 1) ∷ path = rw (p, q) refl in
-        let two : raised_take (place sig o) (is_spread sig o t) t path take ≡ take = rw p refl in
+        let z : number_of_terms o.before + 0 + 1 ≡ number_of_terms o.before + 1 = omega arith in
+        let one : raised_path (places sig (o ∷ [])) (is_spread sig o t) t path ≡ (number_of_terms o.before + 1) ∷ path = rw (p, q) (ap (λ n. n ∷ path) z) in
+        let two : raised_take (places sig (o ∷ [])) (is_spread sig o t) t path take ≡ take = rw p refl in
         passes os (filled sig o t) (filled sig o y) ((number_of_terms o.before + 1) ∷ path) take free.1 (stands_beyond sig ok r (o ∷ []) os t stands)
-        (subst (λ is. ReplacesAt sig r w x is take (filled sig o t) (filled sig o y)) one
-        (subst (λ is. ReplacesAt sig r w x (raised_path (place sig o) (is_spread sig o t) t path) is (filled sig o t) (filled sig o y)) two
-        (raises sig ok r w x kx o stands.clear.0 stands.orderly.0 stands.open_holes.0 t y path take stands.canonical stands.seen a)))
+        (subst (λ is. ReplacesPart sig r w x is take (filled sig o t) (filled sig o y)) one
+        (subst (λ is. ReplacesPart sig r w x (raised_path (places sig (o ∷ [])) (is_spread sig o t) t path) is (filled sig o t) (filled sig o y)) two
+        (rises_part sig ok r w x kx o [] tt t y (stands_within sig ok r (o ∷ []) os t stands) path take a)))
 
 -- Where the innermost levels are climbed and the outermost passed, the place is that of the replacement.
 pub stands_there : (M : Module) (sig : Signature) → M.signature ≡ sig → IsAccepted sig → (W : Walked) (S : Stand) (r : Bool) (w v : RawTerm) → IsAt sig W S → IsStanding M S → MayReplace M r S.opens S.hand w v
     → (levels : List Open) (n : ℕ) → reverse levels ≡ W.opens → All (IsFree sig) (take n levels) → (start path ways : List ℕ) (begun found taken : Option (List ℕ)) → start ≡ [] → begun ≡ None
-    → (StandsIn sig r (reverse (drop n levels)) W.hand → IsCanonical sig (normal_form sig v) → ReplacesAt sig r S.hand (normal_form sig v) start begun W.hand (normal_form sig v)
-    → ReplacesAt sig r S.hand (normal_form sig v) path found (whole sig (reverse (drop n levels)) W.hand) (whole sig (reverse (drop n levels)) (normal_form sig v)))
+    → (StandsIn sig r (reverse (drop n levels)) W.hand → IsCanonical sig (normal_form sig v) → ReplacesPart sig r S.hand (normal_form sig v) start begun W.hand (normal_form sig v)
+    → ReplacesPart sig r S.hand (normal_form sig v) path found (whole sig (reverse (drop n levels)) W.hand) (whole sig (reverse (drop n levels)) (normal_form sig v)))
     → ways ≡ passed (reverse (take n levels)) path → taken ≡ found
-    → ReplacesAt sig r S.hand (normal_form sig v) ways taken (whole sig S.opens S.hand) (whole sig S.opens (normal_form sig v))
+    → ReplacesPart sig r S.hand (normal_form sig v) ways taken (whole sig S.opens S.hand) (whole sig S.opens (normal_form sig v))
 stands_there M sig is ok W S r w v here stands may levels n e free start path ways begun found taken s b climbed l m =
     let os : List Open = reverse (drop n levels) in
     let ps : List Open = reverse (take n levels) in
@@ -133,15 +133,18 @@ stands_there M sig is ok W S r w v here stands may levels n e free start path wa
       seen = may.seen;
     }) (subst (AreOrderly sig) (sym here.opens) here.orderly) in
     let both : StandsIn sig r (os ++ ps) t = subst (λ os. StandsIn sig r os t) parts held in
-    let begins : ReplacesAt sig r t x [] None t x = record { part = record { end = t; there = refl; taken = refl }; open_way = tt; becomes = refl } in
-    let starts : ReplacesAt sig r t x start begun W.hand x =
-    subst (λ path. ReplacesAt sig r t x path begun W.hand x) (sym s) (subst (λ take. ReplacesAt sig r t x [] take W.hand x) (sym b) (subst (λ u. ReplacesAt sig r t x [] None u x) here.hand begins)) in
-    let inner : ReplacesAt sig r t x path found (whole sig os t) (whole sig os x) =
-    subst (λ u. ReplacesAt sig r t x path found (whole sig os u) (whole sig os x)) (sym here.hand) (climbed (subst (StandsIn sig r os) here.hand (stands_within sig ok r os ps t both)) kx starts) in
-    let outer : ReplacesAt sig r t x (passed ps path) found (whole sig ps (whole sig os t)) (whole sig ps (whole sig os x)) =
+    let begins : ReplacesPart sig r t x [] None t x = record {
+      there = record { part = record { end = t; there = refl; taken = refl }; open_way = tt; becomes = refl };
+      part = λ ks f ts e g. cc;
+    } in
+    let starts : ReplacesPart sig r t x start begun W.hand x =
+    subst (λ path. ReplacesPart sig r t x path begun W.hand x) (sym s) (subst (λ take. ReplacesPart sig r t x [] take W.hand x) (sym b) (subst (λ u. ReplacesPart sig r t x [] None u x) here.hand begins)) in
+    let inner : ReplacesPart sig r t x path found (whole sig os t) (whole sig os x) =
+    subst (λ u. ReplacesPart sig r t x path found (whole sig os u) (whole sig os x)) (sym here.hand) (climbed (subst (StandsIn sig r os) here.hand (stands_within sig ok r os ps t both)) kx starts) in
+    let outer : ReplacesPart sig r t x (passed ps path) found (whole sig ps (whole sig os t)) (whole sig ps (whole sig os x)) =
     passes sig ok r t x kx ps (whole sig os t) (whole sig os x) path found (free_reversed sig (take n levels) free) (stands_beyond sig ok r os ps t both) inner in
     let from : whole sig ps (whole sig os t) ≡ whole sig S.opens t = sym (whole-append sig os ps t) ∙ ap (λ os. whole sig os t) (sym parts) in
     let to : whole sig ps (whole sig os x) ≡ whole sig S.opens x = sym (whole-append sig os ps x) ∙ ap (λ os. whole sig os x) (sym parts) in
-    subst (λ path. ReplacesAt sig r t x path taken (whole sig S.opens t) (whole sig S.opens x)) (sym l)
-    (subst (λ take. ReplacesAt sig r t x (passed ps path) take (whole sig S.opens t) (whole sig S.opens x)) (sym m)
-    (subst (λ u. ReplacesAt sig r t x (passed ps path) found u (whole sig S.opens x)) from (subst (ReplacesAt sig r t x (passed ps path) found (whole sig ps (whole sig os t))) to outer)))
+    subst (λ path. ReplacesPart sig r t x path taken (whole sig S.opens t) (whole sig S.opens x)) (sym l)
+    (subst (λ take. ReplacesPart sig r t x (passed ps path) take (whole sig S.opens t) (whole sig S.opens x)) (sym m)
+    (subst (λ u. ReplacesPart sig r t x (passed ps path) found u (whole sig S.opens x)) from (subst (ReplacesPart sig r t x (passed ps path) found (whole sig ps (whole sig os t))) to outer)))

@@ -9,12 +9,11 @@ use Rattle.mw_logic.specs.Accepted.{IsAccepted}
 use Rattle.mw_logic.proofs.Canonical.{IsCanonical}
 use Rattle.mw_deduction.specs.Standing.{Open, AreClear}
 use Rattle.mw_deduction.specs.Replay.{whole}
-use Rattle.mw_redex.specs.Replaced.{ReplacesAt}
 use Rattle.mw_spot.specs.Walks.{IsOrderly, AreOrderly}
-use Rattle.mw_spot.specs.Spots.{places, is_spread, raised_path, raised_take, IsAnother, AreMore, StandsIn}
+use Rattle.mw_spot.specs.Spots.{places, is_spread, raised_path, raised_take, IsAnother, AreMore, StandsIn, ReplacesPart}
 use Rattle.mw_spot.proofs.Held.{whole-append, stands_within, stands_beyond}
 use Rattle.mw_spot.proofs.Gathered.{more_reversed, cut_behind}
-use Rattle.mw_spot.proofs.Grouped.{rises}
+use Rattle.mw_spot.proofs.Fewer.{rises_part}
 
 orderly_last : (sig : Signature) (os : List Open) (o : Open) → AreOrderly sig (os ++ (o ∷ [])) → AreOrderly sig os × IsOrderly sig o
 orderly_last sig [] o h = (tt, h.0)
@@ -54,17 +53,17 @@ module _ (sig : Signature) (ok : IsAccepted sig) (levels : List Open) (o : Open)
     pub stands_on : StandsIn sig r outer (whole sig same t)
     stands_on = stands_beyond sig ok r same outer t both
 
-    pub turn : (w x : RawTerm) → IsCanonical sig x → (y : RawTerm) (path path' : List ℕ) (take take' : Option (List ℕ)) → ReplacesAt sig r w x path take t y
+    pub turn : (w x : RawTerm) → IsCanonical sig x → (y : RawTerm) (path path' : List ℕ) (take take' : Option (List ℕ)) → ReplacesPart sig r w x path take t y
         → (All (IsOrderly sig) (drop n levels) → path' ≡ raised_path (places sig same) (is_spread sig o t) t path)
         → (All (IsOrderly sig) (drop n levels) → take' ≡ raised_take (places sig same) (is_spread sig o t) t path take)
-        → ReplacesAt sig r w x path' take' (whole sig same t) (whole sig same y)
+        → ReplacesPart sig r w x path' take' (whole sig same t) (whole sig same y)
     turn w x kx y path path' take take' a p q =
         let here : StandsIn sig r same t = stands_within sig ok r same outer t both in
         let each : All (IsOrderly sig) (drop n levels) = orderly_each sig (drop n levels) here.orderly in
-        subst (λ path. ReplacesAt sig r w x path take' (whole sig same t) (whole sig same y)) (sym (p each))
-        (subst (λ take. ReplacesAt sig r w x (raised_path (places sig same) (is_spread sig o t) t path) take (whole sig same t) (whole sig same y)) (sym (q each))
-        (subst (λ os. ReplacesAt sig r w x (raised_path (places sig os) (is_spread sig o t) t path) (raised_take (places sig os) (is_spread sig o t) t path take) (whole sig os t) (whole sig os y)) (sym parts.0)
-        (rises sig ok r w x kx o more (subst (λ f. AreMore sig f more) (sym operator) together.1) t y path take (subst (λ os. StandsIn sig r os t) parts.0 here) a)))
+        subst (λ path. ReplacesPart sig r w x path take' (whole sig same t) (whole sig same y)) (sym (p each))
+        (subst (λ take. ReplacesPart sig r w x (raised_path (places sig same) (is_spread sig o t) t path) take (whole sig same t) (whole sig same y)) (sym (q each))
+        (subst (λ os. ReplacesPart sig r w x (raised_path (places sig os) (is_spread sig o t) t path) (raised_take (places sig os) (is_spread sig o t) t path take) (whole sig os t) (whole sig os y)) (sym parts.0)
+        (rises_part sig ok r w x kx o more (subst (λ f. AreMore sig f more) (sym operator) together.1) t y (subst (λ os. StandsIn sig r os t) parts.0 here) path take a)))
 
   pub whole_beyond : (t : RawTerm) → whole sig outer (whole sig same t) ≡ whole sig (reverse levels) t
   whole_beyond t = sym (ap (λ os. whole sig os t) parts.1 ∙ whole-append sig same outer t)

@@ -1,5 +1,5 @@
 -- A level with a term in its hole: its operator on all arguments, where the term is seen.
-use Rattle.std.specs.Prelude.{◌≡◌, ◌+◌, ◌^◌, ℕ, suc, max, Bool, true, false, ◌&&◌, nat_lt, Option, refl}
+use Rattle.std.specs.Prelude.{◌≡◌, ◌<◌, ◌+◌, ◌^◌, ℕ, suc, max, Bool, true, false, ◌&&◌, nat_lt, Option, refl}
 use Rattle.std.proofs.Common.{ap, sym, subst, ◌∙◌, arith}
 use Rattle.std.proofs.lemmas.Bool.{both_ways, eqb-true, and_parts, ltb-true}
 use Rattle.mw_logic.specs.Term.{RawTerm, numeral, quoted, variable, apply, RawTerms, nil, cons, join}
@@ -17,12 +17,17 @@ use Rattle.mw_logic.proofs.SortedLists.{Climbs, climbs}
 use Rattle.mw_logic.proofs.Successor.{is_successor-sound}
 use Rattle.mw_arguments.proofs.Arguments.{args_in_order}
 use Rattle.mw_deduction.specs.Standing.{Open, filled, IsClear, IsSeenBy}
+use Rattle.mw_redex.proofs.Middles.{number-join}
 use Rattle.mw_spot.specs.Spots.{stands_on, is_spread}
 use Rattle.mw_spot.proofs.Among.{with_all, number_all}
 
 pub long_several : (ts : RawTerms) → AreSeveral ts → IsLong ts
 long_several nil l = absurd l
 long_several (cons t ts) l = tt
+
+pub long_number : (ts : RawTerms) → IsLong ts → 0 < number_of_terms ts
+long_number nil l = absurd l
+long_number (cons t ts) l = omega arith
 
 pub long_middle : (b : RawTerms) (x : RawTerm) (a : RawTerms) → IsLong (join b (cons x a))
 long_middle nil x a = tt
@@ -138,13 +143,24 @@ module _ (sig : Signature) (ok : IsAccepted sig) where
         longer nil = long-join es o.after l
         longer (cons t b) = tt
 
+    -- where the term comes as several arguments, these are fewer than all
+    pub filled_several : (t : RawTerm) → IsCanonical sig t → IsSeenBy sig o t → is_spread sig o t ≡ true → (filled sig o t ≡ apply o.operator (with_all sig o (args_of t))) × AreSeveral (args_of t)
+    filled_several t k seen s =
+        let r = and_parts (is_assoc sig o.operator) (stands_on o.operator t) s in
+        let (e, l) = stands_on_its o.operator t r.0 k r.1 in
+        (ap (filled sig o) e ∙ filled_spread (args_of t) r.0 (subst (IsSeenBy sig o) e seen) l, l)
+
+    pub several_fewer : (t : RawTerm) → is_spread sig o t ≡ true → number_of_terms (args_of t) < number_of_terms (with_all sig o (args_of t))
+    several_fewer t s =
+        let r = and_parts (is_assoc sig o.operator) (stands_on o.operator t) s in
+        let beside = long_number (join o.before o.after) (clear.others r.0) in
+        omega (arith, beside, number-join o.before o.after, number_all sig o (args_of t))
+
     pub filled_seen : (p : Open) (t : RawTerm) → IsCanonical sig t → IsSeenBy sig o t → IsSeenBy sig p (filled sig o t)
     filled_seen p t k seen = by_spread (is_spread sig o t) refl
       where
         by_spread : (m : Bool) → is_spread sig o t ≡ m → IsSeenBy sig p (filled sig o t)
         by_spread false s = subst (IsSeenBy sig p) (sym (filled_one t s seen)) (on_some p o.operator (with_all sig o (cons t nil)) (long_all (cons t nil) tt))
         by_spread true s =
-            let r = and_parts (is_assoc sig o.operator) (stands_on o.operator t) s in
-            let (e, l) = stands_on_its o.operator t r.0 k r.1 in
-            let v : filled sig o t ≡ apply o.operator (with_all sig o (args_of t)) = ap (filled sig o) e ∙ filled_spread (args_of t) r.0 (subst (IsSeenBy sig o) e seen) l in
+            let (v, l) = filled_several t k seen s in
             subst (IsSeenBy sig p) (sym v) (on_some p o.operator (with_all sig o (args_of t)) (long_all (args_of t) (long_several (args_of t) l)))

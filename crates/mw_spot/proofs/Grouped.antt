@@ -20,7 +20,7 @@ use Rattle.mw_deduction.specs.Replay.{whole}
 use Rattle.mw_redex.specs.Paths.{at_path}
 use Rattle.mw_redex.specs.Replaced.{IsTaken, ReplacesAt}
 use Rattle.mw_spot.specs.Walks.{IsOrderly}
-use Rattle.mw_spot.specs.Spots.{place, places, numbers, number_of, stands_on, is_spread, spread_path, spread_take, raised_path, raised_take, AreMore, StandsIn}
+use Rattle.mw_spot.specs.Spots.{place, places, numbers, number_of, stands_on, is_spread, spread_path, spread_take, raised_path, raised_take, IsAnother, AreMore, StandsIn}
 use Rattle.mw_spot.proofs.Among.{with_all, some_rise, some_chosen}
 use Rattle.mw_spot.proofs.Filled.{stands_on_its, spread_order, filled_spread, filled_one, long_all, long_several}
 use Rattle.mw_spot.proofs.Held.{stands_beyond}
@@ -102,6 +102,12 @@ module _ (sig : Signature) (ok : IsAccepted sig) (o : Open) (orderly : IsOrderly
       ap Some (numbers_twice 1 ks (omega arith) (subst (λ ts. Rise 1 (suc (number_of_terms ts)) ks) same taken.rise))
   take_twice f u w (j ∷ path) take there taken = refl
 
+-- what the operator is comes to the next of the same as its arguments
+pub spread_in_next : (sig : Signature) (o p : Open) → IsAnother sig o.operator p → (t : RawTerm) (ts : RawTerms) → t ≡ apply o.operator ts → IsLong ts → is_spread sig p t ≡ true
+spread_in_next sig o p more t nil e l = absurd l
+spread_in_next sig o p more t (cons u us) e l =
+    and_from (is_assoc sig p.operator) (stands_on p.operator t) (ap (is_assoc sig) more.1 ∙ more.0) (ap (stands_on p.operator) e ∙ eq-eqb p.operator o.operator more.1)
+
 -- one hole
 one_place : (sig : Signature) (o : Open) → places sig (o ∷ []) ≡ place sig o
 one_place sig o = λ k e. more_nothing (place sig o e) k
@@ -134,16 +140,11 @@ module _ (sig : Signature) (ok : IsAccepted sig) (r : Bool) (w x : RawTerm) (kx 
       again : Further p os (filled sig o t) (filled sig o y) → (es : RawTerms) → IsLong es → filled sig o t ≡ apply o.operator (with_all sig o es) → (path' : List ℕ) (take' : Option (List ℕ)) → ReplacesAt sig r w x path' take' (filled sig o t) (filled sig o y)
           → ReplacesAt sig r w x (spread_path (places sig (p ∷ os)) (with_all sig o es) path') (spread_take (places sig (p ∷ os)) (with_all sig o es) path' take') (whole sig (o ∷ p ∷ os) t) (whole sig (o ∷ p ∷ os) y)
       again further es l v path' take' b =
-          let s : stands_on p.operator (filled sig o t) ≡ true = ap (stands_on p.operator) v ∙ on_top (with_all sig o es) (long_all sig ok o stands.clear.0 es l) in
-          let spread : is_spread sig p (filled sig o t) ≡ true = and_from (is_assoc sig p.operator) (stands_on p.operator (filled sig o t)) (ap (is_assoc sig) more.0.1 ∙ assoc) s in
+          let spread : is_spread sig p (filled sig o t) ≡ true = spread_in_next sig o p more.0 (filled sig o t) (with_all sig o es) v (long_all sig ok o stands.clear.0 es l) in
           let args : args_of (filled sig o t) ≡ with_all sig o es = ap args_of v in
           subst (λ ts. ReplacesAt sig r w x (spread_path (places sig (p ∷ os)) ts path') (spread_take (places sig (p ∷ os)) ts path' take') (whole sig (o ∷ p ∷ os) t) (whole sig (o ∷ p ∷ os) y)) args
           (subst (λ m. ReplacesAt sig r w x (raised_path (places sig (p ∷ os)) m (filled sig o t) path') (raised_take (places sig (p ∷ os)) m (filled sig o t) path' take') (whole sig (o ∷ p ∷ os) t) (whole sig (o ∷ p ∷ os) y)) spread
           (further path' take' b))
-        where
-          on_top : (ts : RawTerms) → IsLong ts → stands_on p.operator (apply o.operator ts) ≡ true
-          on_top nil l = absurd l
-          on_top (cons t ts) l = eq-eqb p.operator o.operator more.0.1
 
       by_spread : Further p os (filled sig o t) (filled sig o y) → (m : Bool) → is_spread sig o t ≡ m → ReplacesAt sig r w x (raised_path (place sig o) m t path) (raised_take (place sig o) m t path take) (filled sig o t) (filled sig o y)
           → ReplacesAt sig r w x (raised_path (places sig (o ∷ p ∷ os)) m t path) (raised_take (places sig (o ∷ p ∷ os)) m t path take) (whole sig (o ∷ p ∷ os) t) (whole sig (o ∷ p ∷ os) y)

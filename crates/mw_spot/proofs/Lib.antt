@@ -13,6 +13,7 @@ pub mod Closing
 pub mod Raised
 pub mod Held
 pub mod Grouped
+pub mod Fewer
 pub mod Gathered
 pub mod Climbing
 pub mod Climbed

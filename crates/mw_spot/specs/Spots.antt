@@ -1,6 +1,6 @@
 -- Numbers of arguments, and the place that they give: the levels of a walk, from the innermost on, tell where what stands in the hole is found in the
 -- canonical term that comes of them.
-use Rattle.std.specs.Prelude.{◌≡◌, ◌+◌, ℕ, suc, List, [], ◌∷◌, map, Bool, true, false, cond, ◌&&◌, nat_eq, Option, Some, None, option_map, unwrap_or, ⊤}
+use Rattle.std.specs.Prelude.{◌≡◌, ◌<◌, ◌+◌, ℕ, suc, List, [], ◌∷◌, length, map, Bool, true, false, cond, ◌&&◌, nat_eq, Option, Some, None, option_map, unwrap_or, ⊤}
 use Rattle.mw_logic.specs.Term.{RawTerm, numeral, quoted, variable, apply, RawTerms, nil, cons, join}
 use Rattle.mw_logic.specs.Terms.{list_of, args_of}
 use Rattle.mw_logic.specs.Signature.{Signature, at_number}
@@ -10,7 +10,18 @@ use Rattle.mw_logic.specs.NormalForm.{is_comm}
 use Rattle.mw_logic.specs.CanonicalPart.{IsOpen}
 use Rattle.mw_logic.proofs.Canonical.{IsCanonical}
 use Rattle.mw_deduction.specs.Standing.{Open, AreClear, IsSeen}
+use Rattle.mw_redex.specs.Paths.{at_path}
+use Rattle.mw_redex.specs.Replaced.{ReplacesAt}
 use Rattle.mw_spot.specs.Walks.{AreOrderly}
+
+-- Where arguments of the operator at the path are taken, they are not all of them.
+abbrev pub TakesPart : List ℕ → Option (List ℕ) → RawTerm → Type 0
+TakesPart path take t = (ks : List ℕ) (f : ℕ) (ts : RawTerms) → take ≡ Some ks → at_path t path ≡ Some (apply f ts) → length ks < number_of_terms ts
+
+-- w is replaced at such a place
+pub record ReplacesPart (sig : Signature) (by_rule : Bool) (w x : RawTerm) (path : List ℕ) (take : Option (List ℕ)) (v y : RawTerm) : Type 0 where
+  pub there : ReplacesAt sig by_rule w x path take v y
+  pub part : TakesPart path take v
 
 -- how many of the terms, from the first on, stand before t
 abbrev pub below : RawTerm → RawTerms → ℕ

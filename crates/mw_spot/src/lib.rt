@@ -20,7 +20,8 @@
 //!   mw_deduction, `new` begins, and `put` puts another term in hand.
 //! - `spot` answers a place of the whole term, of which it says: where the proof may replace the term in hand there, it
 //!   stands at that place, for rules in no frozen argument, and the whole term with the new one put there is the whole
-//!   that comes of the replacement (`ReplacesAt` of mw_redex).
+//!   that comes of the replacement (`ReplacesAt` of mw_redex). Where several arguments are taken, they are not all of
+//!   their operator's (`TakesPart`).
 //!
 //! Conditions: the term in hand is canonical and the move may be made (`MayGoIn`, `MayGoAmong`); for `leave` and `spot`
 //! the proof's stand is one that its moves lead to (`IsStanding`), and for `spot` the replacement may be made

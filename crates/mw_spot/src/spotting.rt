@@ -4,10 +4,9 @@ ghost use Rattle.mw_logic.specs.Term.{RawTerm};
 ghost use Rattle.mw_logic.specs.Terms.{terms_of};
 ghost use Rattle.mw_logic.proofs.Canonical.{IsCanonical};
 ghost use Rattle.mw_deduction.specs.Replay.{whole};
-ghost use Rattle.mw_redex.specs.Replaced.{ReplacesAt};
 ghost use Rattle.mw_spot.specs.Walks.{IsOrderly};
 ghost use Rattle.mw_spot.specs.Spots.{places as places_of, spread_path, spread_take, is_spread};
-ghost use Rattle.mw_spot.specs.Spots.{raised_path, raised_take, StandsIn, IsFree, passed};
+ghost use Rattle.mw_spot.specs.Spots.{raised_path, raised_take, StandsIn, ReplacesPart, IsFree, passed};
 
 use crate::gathering::{gathered, outside};
 use crate::level::Level;
@@ -108,8 +107,9 @@ fn raise(
 }
 
 /// A place in the term in the hole of the last of some levels, as a place in what all of them are with it: a
-/// replacement at the one is a replacement at the other. Levels of one associative operator, one in the other, are
-/// passed at once, and put together only where others stand round them.
+/// replacement at the one is a replacement at the other, and arguments that are taken are not all of their operator's.
+/// Levels of one associative operator, one in the other, are passed at once, and put together only where others stand
+/// round them.
 pub(crate) fn climb(
     alloc: Global,
     facts: &Facts,
@@ -119,8 +119,8 @@ pub(crate) fn climb(
 ) -> Result<(), AllocError>
     ensures { (by_rule : Bool) (w x y : RawTerm) → StandsIn facts.now by_rule (reverse levels.now) inner
         → IsCanonical facts.now x
-        → ReplacesAt facts.now by_rule w x (reverse spot.old.path.items) spot.old.take inner y
-        → OnOk result (ReplacesAt facts.now by_rule w x (reverse spot.new.path.items) spot.new.take
+        → ReplacesPart facts.now by_rule w x (reverse spot.old.path.items) spot.old.take inner y
+        → OnOk result (ReplacesPart facts.now by_rule w x (reverse spot.new.path.items) spot.new.take
         (whole facts.now (reverse levels.now) inner) (whole facts.now (reverse levels.now) y)) }
 {
     facts.shows();

@@ -10,6 +10,7 @@ ghost use Rattle.mw_redex.specs.Replaced.{ReplacesAt};
 ghost use Rattle.mw_logic.specs.Signature.{Signature};
 ghost use Rattle.mw_logic.specs.Accepted.{IsAccepted};
 ghost use Rattle.mw_logic.proofs.Canonical.{IsCanonical};
+ghost use Rattle.mw_spot.specs.Spots.{TakesPart};
 ghost use Rattle.mw_spot.specs.Walks.{IsAt};
 
 use crate::level::Level;
@@ -138,10 +139,13 @@ impl Walk {
     /// The place of the term in hand in the whole. Where a kept proof that stands here replaces the term, it does so
     /// there.
     pub fn spot(&self, alloc: Global, facts: &Facts) -> Result<Place, AllocError>
-        ensures { (M : Module) (S : Stand) (by_rule : Bool) (w v : RawTerm) → M.signature ≡ facts.now
+        ensures there { (M : Module) (S : Stand) (by_rule : Bool) (w v : RawTerm) → M.signature ≡ facts.now
             → IsAt facts.now self.now S → IsStanding M S → MayReplace M by_rule S.opens S.hand w v
             → IfOk result (λ place. ReplacesAt facts.now by_rule S.hand (normal_form facts.now v) place.path place.take
             (whole facts.now S.opens S.hand) (whole facts.now S.opens (normal_form facts.now v))) }
+        ensures part { (M : Module) (S : Stand) (by_rule : Bool) (w v : RawTerm) → M.signature ≡ facts.now
+            → IsAt facts.now self.now S → IsStanding M S → MayReplace M by_rule S.opens S.hand w v
+            → IfOk result (λ place. TakesPart place.path place.take (whole facts.now S.opens S.hand)) }
     {
         facts.shows();
         let levels = self.levels.as_slice();

@@ -22,7 +22,7 @@ use Rattle.mw_verdict.proofs.Same.{alike}
 use Rattle.mw_verdict.proofs.Leading.{rule_counted, same_led, only_end, found_led}
 use Rattle.mw_verdict.proofs.Excluding.{row_form, certain}
 
-no_group : {l : RawTerm} {g : Items} {gs : Groups} → HasGroup l g [] gs → ⊥
+pub no_group : {l : RawTerm} {g : Items} {gs : Groups} → HasGroup l g [] gs → ⊥
 no_group h = elim h [ ]
 
 module _ (M : Module) (one : HasOneRow M) where

@@ -12,7 +12,8 @@ use Rattle.mw_deduction.specs.Runs.{Done}
 use Rattle.mw_redex.specs.Replaced.{IsPartAt}
 use Rattle.mw_prooftext.specs.Items.{Spot, Item}
 use Rattle.mw_prooftext.specs.Tells.{Replaces}
-use Rattle.mw_verdict.specs.Checks.{IsFormOf, IsRow, ChecksOne, by_statement, by_row}
+use Rattle.mw_prooftext.specs.Passing.{IsRow}
+use Rattle.mw_verdict.specs.Checks.{IsFormOf, ChecksOne, by_statement, by_row}
 use Rattle.mw_verdict.specs.Verdicts.{Cause, past_limit, Refuses, statement_missing, row_missing, value_ill_sorted, part_missing, spot_missing, condition_fails, sides_not_normal, condition_stops, sides_stop, next_past_limit}
 use Rattle.mw_verdict.specs.Exclusion.{HasOneRow, IsCertain, IsEarly}
 use Rattle.mw_verdict.proofs.Same.{one_part, alike, same_one}
@@ -22,10 +23,10 @@ module _ (M : Module) where
   sig = M.signature
 
   -- the values are of their variables' sorts; the statement replaces there
-  abbrev Sorted : Statement → Substitution → Type 0
+  abbrev pub Sorted : Statement → Substitution → Type 0
   Sorted st s = IsSubstitution sig s
 
-  abbrev There : Spot → RawTerm → RawTerm → Statement → Substitution → Type 0
+  abbrev pub There : Spot → RawTerm → RawTerm → Statement → Substitution → Type 0
   There at t v st s = Replaces sig st.rule (instance s st.left) (instance s st.right) at t v
 
   -- a form of the part, which is one

@@ -12,12 +12,12 @@ use Rattle.mw_logic.specs.Judgements.{IsNormal}
 use Rattle.mw_deduction.specs.Runs.{Done, Dones}
 use Rattle.mw_redex.specs.Replaced.{replaced_at, ReplacesAt}
 use Rattle.mw_prooftext.specs.Items.{Spot, Item, step, Items, Groups}
-use Rattle.mw_prooftext.specs.Tells.{IsStep}
-use Rattle.mw_verdict.specs.Checks.{IsNamed, IsFormOf, IsRow, Checks, nothing, then, ChecksOne, by_statement, by_row}
+use Rattle.mw_prooftext.specs.Passing.{IsRow}
+use Rattle.mw_verdict.specs.Checks.{IsFormOf, Checks, nothing, then, ChecksOne, by_statement, by_row}
 use Rattle.mw_verdict.specs.Leads.{IsOneArgument, IsComputed, LeadsOne, a_step, a_row, Leads, nowhere, onward}
 use Rattle.mw_verdict.specs.Verdicts.{Splits, first, later}
 use Rattle.mw_verdict.specs.Exclusion.{HasOneRow, IsChecked, CheckedLead}
-use Rattle.mw_verdict.proofs.Same.{alike, one_part}
+use Rattle.mw_verdict.proofs.Same.{alike, named, one_part}
 use Rattle.mw_verdict.proofs.RowKinds.{Kind, test_name, Shape, of_numbers, of_test, of_choice, shape_of, one_kind}
 use Rattle.mw_verdict.proofs.OneRow.{elements_in, IsAlone, alone, both_equal, same_top, sides_raw, no_row}
 
@@ -60,9 +60,13 @@ module _ (M : Module) (ok : IsAccepted M.signature) where
   singly n r c (if_true p t) = if_true p t
   singly n r c (if_false p t) = if_false p t
 
+  -- and so is what an item computes
+  pub computed : {n : ℕ} {at : Spot} {t v : RawTerm} → IsRow M n at t v → IsComputed M at t v
+  computed {n} h = record { form = h.form; result = h.result; row = singly n h.raw h.clean h.row; raw = h.raw; clean = h.clean; replaces = h.replaces }
+
   checked_leads_one : {n r c : ℕ} {i : Item} {t v : RawTerm} {x : Done} → ChecksOne M n i t v r c x → LeadsOne M i t v
   checked_leads_one (by_statement h sorted bound there some plain shown) = a_step (record { statement = h.statement; is_there = h.is_there; kind = h.kind; subst = h.subst; values = h.values; replaces = there })
-  checked_leads_one {n} (by_row h some) = a_row (record { form = h.form; result = h.result; row = singly n h.raw h.clean h.row; raw = h.raw; clean = h.clean; replaces = h.replaces })
+  checked_leads_one (by_row h some) = a_row (computed h)
 
   pub checked_leads : {n r c : ℕ} {is : Items} {t u : RawTerm} {ds : Dones} → Checks M n is t u r c ds → Leads M is t u
   checked_leads nothing = nowhere
@@ -99,9 +103,6 @@ module _ (M : Module) (ok : IsAccepted M.signature) where
         let x : IsFormOf sig (normal_form sig h.form) h.form = record { raw = h.raw; clean = h.clean; is = refl } in
         let y : IsFormOf sig (normal_form sig h.form) e.form = record { raw = e.raw; clean = e.clean; is = p } in
         h.replaces.becomes ∙ ap (λ z. replaced_at sig at.path at.take z t) (row_made n x y h.row e.row) ∙ sym e.replaces.becomes
-
-    abbrev named : {owise : Bool} {k : ℕ} {at : Spot} {vs : List RawTerm} {t w : RawTerm} → IsStep M owise k at vs t w → IsNamed M owise k vs
-    named e = record { statement = e.statement; is_there = e.is_there; kind = e.kind; subst = e.subst; values = e.values }
 
     pub same_led : {n r c : ℕ} {i : Item} {t v w : RawTerm} {x : Done} → ChecksOne M n i t v r c x → LeadsOne M i t w → v ≡ w
     same_led {t = t} {v = v} (by_statement {at = at} h sorted bound there some plain shown) (a_step e) =

@@ -13,3 +13,6 @@ pub mod Excluding
 pub mod Answering
 pub mod Conditions
 pub mod Laws
+-- How texts are answered that were written of kept proofs.
+pub mod Passing
+pub mod Free

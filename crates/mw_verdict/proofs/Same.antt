@@ -12,7 +12,9 @@ use Rattle.mw_deduction.specs.Runs.{Done, Dones}
 use Rattle.mw_redex.specs.Replaced.{replaced_at, IsPartAt, IsOpenArgument, IsOpenWay, way_of_place, ReplacesAt}
 use Rattle.mw_redex.proofs.Standing.{one_place}
 use Rattle.mw_prooftext.specs.Items.{Spot, Item, Items}
-use Rattle.mw_verdict.specs.Checks.{IsNamed, IsFormOf, IsRow, Checks, nothing, then, ChecksOne, by_statement, by_row}
+use Rattle.mw_prooftext.specs.Tells.{IsStep}
+use Rattle.mw_prooftext.specs.Passing.{IsRow}
+use Rattle.mw_verdict.specs.Checks.{IsNamed, IsFormOf, Checks, nothing, then, ChecksOne, by_statement, by_row}
 use Rattle.mw_verdict.specs.Exclusion.{HasOneRow}
 
 -- equations may change what stands anywhere
@@ -43,6 +45,10 @@ module _ {M : Module} {owise : Bool} {k : ℕ} {vs : List RawTerm} (h e : IsName
 -- what is said of the statement that a line names, and of its values, is said of all that it names
 pub alike : {M : Module} {owise : Bool} {k : ℕ} {vs : List RawTerm} (h e : IsNamed M owise k vs) (P : Statement → Substitution → Type 0) → P h.statement h.subst → P e.statement e.subst
 alike h e P p = subst (λ s. P e.statement s) (same_subst h e) (subst (λ (st : Statement). P st h.subst) (same_statement h e) p)
+
+-- a line that tells a step names its statement
+abbrev pub named : {M : Module} {owise : Bool} {k : ℕ} {at : Spot} {vs : List RawTerm} {t w : RawTerm} → IsStep M owise k at vs t w → IsNamed M owise k vs
+named e = record { statement = e.statement; is_there = e.is_there; kind = e.kind; subst = e.subst; values = e.values }
 
 module _ (M : Module) (one : HasOneRow M) where
   abbrev sig : Signature

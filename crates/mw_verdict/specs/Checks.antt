@@ -1,20 +1,20 @@
 -- What a checker of proof texts sees of the items of a text, on flattened terms alone, by equations and normal forms. Each item passes tests in order: its
 -- statement, its values, its part, its condition, and the limits of the next term. Rank n allows n conditions inside one another.
-use Rattle.std.specs.Prelude.{◌≡◌, ◌<◌, ℕ, suc, ◌+◌, List, [], ◌∷◌, take, drop, length, Bool, true, false, cond, IsTrue, Some, ⊤}
-use Rattle.mw_logic.specs.Term.{RawTerm, RawTerms, apply}
+use Rattle.std.specs.Prelude.{◌≡◌, ℕ, suc, ◌+◌, List, [], ◌∷◌, take, drop, length, Bool, true, cond, IsTrue, ⊤}
+use Rattle.mw_logic.specs.Term.{RawTerm}
 use Rattle.mw_logic.specs.Signature.{Signature, IsRawTerm}
 use Rattle.mw_logic.specs.Axioms.{EqualModulo}
 use Rattle.mw_logic.specs.Substitution.{Substitution, instance, IsSubstitution}
-use Rattle.mw_logic.specs.Parts.{nested, number_of_terms, IsClean, IsAdmitted}
+use Rattle.mw_logic.specs.Parts.{nested, IsClean, IsAdmitted}
 use Rattle.mw_logic.specs.NormalForm.{normal_form}
-use Rattle.mw_logic.specs.Module.{Fragment, equal, matches, has_sort, is_true, Statement, Module, IsStatement, binds_statement, IsTruth, Row}
+use Rattle.mw_logic.specs.Module.{Fragment, equal, matches, has_sort, is_true, Statement, Module, IsStatement, binds_statement, IsTruth}
 use Rattle.mw_logic.specs.Judgements.{MeetsSort, IsNormal, IsPlain}
 use Rattle.mw_deduction.specs.Runs.{Done, Dones, run, Runs, another}
 use Rattle.mw_deduction.specs.Runs as runs
 use Rattle.mw_deduction.specs.Replay.{AreValuesOf, sides_of, all_sides}
-use Rattle.mw_redex.specs.Paths.{at_path}
 use Rattle.mw_prooftext.specs.Items.{Spot, Item, step, built, Items, none, more, Groups, end, group}
 use Rattle.mw_prooftext.specs.Tells.{Replaces}
+use Rattle.mw_prooftext.specs.Passing.{TakesSome, IsRow}
 
 -- The line names an executable statement, as `owise` exactly where it is one, with a canonical term for each of its variables.
 pub record IsNamed (M : Module) (owise : Bool) (k : ℕ) (vs : List RawTerm) : Type 0 where
@@ -24,24 +24,11 @@ pub record IsNamed (M : Module) (owise : Bool) (k : ℕ) (vs : List RawTerm) : T
   pub subst : Substitution
   pub values : AreValuesOf M.signature statement.variables vs subst
 
--- Where arguments of the operator at the path are taken, they are not all of them.
-abbrev pub TakesSome : Spot → RawTerm → Type 0
-TakesSome at t = (ks : List ℕ) (f : ℕ) (ts : RawTerms) → at.take ≡ Some ks → at_path t at.path ≡ Some (apply f ts) → length ks < number_of_terms ts
-
 -- a clean form of the canonical term w
 pub record IsFormOf (sig : Signature) (w form : RawTerm) : Type 0 where
   pub raw : IsRawTerm sig form
   pub clean : IsClean sig form
   pub is : normal_form sig form ≡ w
-
--- A row replaces there: it leads from a clean form of the part, and terms that it wants to be normal are normal at rank n.
-pub record IsRow (M : Module) (n : ℕ) (s : Spot) (t u : RawTerm) : Type 0 where
-  pub form : RawTerm
-  pub result : RawTerm
-  pub row : Row M.signature (IsNormal M n) form result
-  pub raw : IsRawTerm M.signature form
-  pub clean : IsClean M.signature form
-  pub replaces : Replaces M.signature false form result s t u
 
 -- The canonical ends of a fragment's sides meet it. Of a match the pattern's instance by the values of all variables is the end: nothing is searched.
 abbrev pub Meets : Signature → Substitution → Fragment → List RawTerm → Type 0

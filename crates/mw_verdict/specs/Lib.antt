@@ -3,4 +3,5 @@ pub mod Leads
 pub mod Proved
 pub mod Verdicts
 pub mod Exclusion
+pub mod Written
 pub mod Rows

@@ -16,7 +16,8 @@ use Rattle.mw_deduction.specs.Replay.{sides_of, all_sides}
 use Rattle.mw_redex.specs.Replaced.{IsPartAt}
 use Rattle.mw_prooftext.specs.Items.{Spot, Item, step, built, Items, none, more, Groups, end, group}
 use Rattle.mw_prooftext.specs.Tells.{Replaces}
-use Rattle.mw_verdict.specs.Checks.{IsNamed, TakesSome, IsFormOf, Meets, Checks, ChecksOne}
+use Rattle.mw_prooftext.specs.Passing.{TakesSome}
+use Rattle.mw_verdict.specs.Checks.{IsNamed, IsFormOf, Meets, Checks, ChecksOne}
 use Rattle.mw_verdict.specs.Leads.{LeadsOne, Leads}
 
 -- No module of that name, or no text of the form, which the caller tells; no such statement, a value that isn't of its variable's sort, no such part, arguments

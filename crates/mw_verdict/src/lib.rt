@@ -31,6 +31,9 @@
 //! - These two, and that checked items lead to no other term, want that rows make one term of a part (`HasOneRow`).
 //!   They do where each truth value is one constant and what computes of two numbers is commutative only where the
 //!   numbers may change places (`rows_are_one`): of a commutative `_quo_` a part has two results.
+//! - Texts that were written of kept proofs (`write` of mw_prooftext gives `Passes`) are answered no for a condition or
+//!   a stop alone (`passing_are_answered`); and yes, never no, where no item has a condition, is computed or is told as
+//!   `owise` (`free_are_answered`). Both want `HasOneRow`, as the others do.
 //! - A part that is a test of two terms which differ is at fault for its condition where one of them is reducible
 //!   (`reducible_sides`).
 //!
@@ -44,6 +47,7 @@
 ghost use Rattle.mw_verdict.specs.Exclusion.{CertainExclude, CheckedLead, ConfluentExclude, EarlyExclude};
 ghost use Rattle.mw_verdict.specs.Proved.{CheckedProves, ChecksTell};
 ghost use Rattle.mw_verdict.specs.Rows.{ReducibleSides, RowsAreOne};
+ghost use Rattle.mw_verdict.specs.Written.{FreeAnswered, PassingAnswered};
 
 /// Items that are checked tell what is done.
 pub fn checks_tell()
@@ -83,4 +87,14 @@ pub fn rows_are_one()
 /// A test of two terms that differ, of which one is reducible, is at fault for its condition.
 pub fn reducible_sides()
     ensures { ReducibleSides }
+{}
+
+/// Items that pass all tests but those of conditions are answered yes, or no for a condition or a stop.
+pub fn passing_are_answered()
+    ensures { PassingAnswered }
+{}
+
+/// Where they are by statements without conditions, they are answered yes.
+pub fn free_are_answered()
+    ensures { FreeAnswered }
 {}

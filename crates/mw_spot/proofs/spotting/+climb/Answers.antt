@@ -2,9 +2,8 @@ use Rattle.std.proofs.Common.{◌≡◌, ◌∙◌, ◌-◌, ap, sym, subst, tak
 use Rattle.std.proofs.Math.Seq.{take-length}
 use Rattle.std.proofs.lemmas.List.{length-drop}
 use Rattle.mw_deduction.specs.Replay.{whole}
-use Rattle.mw_redex.specs.Replaced.{ReplacesAt}
 use Rattle.mw_spot.specs.Walks.{IsOrderly}
-use Rattle.mw_spot.specs.Spots.{places, is_spread, raised_path, raised_take, StandsIn}
+use Rattle.mw_spot.specs.Spots.{places, is_spread, raised_path, raised_take, StandsIn, ReplacesPart}
 use Rattle.mw_spot.proofs.Calls.{on_ok}
 use Rattle.mw_spot.proofs.Climbing.{together, clear_here, stands_on, turn, whole_beyond, whole_here}
 use Rattle.mw_spot.proofs.spotting.+climb.Goals as goal
@@ -32,8 +31,8 @@ returns-then-outside-eq0 t c = λ r w x y stands kx a.
     (subst (λ ls. All (IsOrderly sig) ls → path2 ≡ raised_path (places sig (reverse ls)) (is_spread sig o inner) inner path) within c.in_ok-raise.ensures.path)
     (subst (λ ls. All (IsOrderly sig) ls → taken2 ≡ raised_take (places sig (reverse ls)) (is_spread sig o inner) inner path taken) within c.in_ok-raise.ensures.take) in
     let here = whole_here sig ok levels o n some last f operator bound more c.if-outside-eq0.true in
-    subst (λ v. ReplacesAt sig r w x path2 taken2 v (whole sig (reverse levels) y)) (here inner)
-    (subst (ReplacesAt sig r w x path2 taken2 (whole sig (reverse (drop n levels)) inner)) (here y) b)
+    subst (λ v. ReplacesPart sig r w x path2 taken2 v (whole sig (reverse levels) y)) (here inner)
+    (subst (ReplacesPart sig r w x path2 taken2 (whole sig (reverse (drop n levels)) inner)) (here y) b)
 
 pub returns : goal.returns
 returns t c = λ r w x y stands kx a.
@@ -67,7 +66,7 @@ returns t c = λ r w x y stands kx a.
     c.in_ok-outer.ensures o (reverse (drop n (take (length levels - 1) levels))) (ap reverse within ∙ same.0) operator same.1 (clear_here sig ok levels o n some last f operator bound more r inner stands) stands.canonical
     ∙ ap (λ os. whole sig os inner) (sym same.0) in
     let beyond = whole_beyond sig ok levels o n some last f operator bound more in
-    on_ok c.climb.result (ReplacesAt sig r w x path3 taken3 (whole sig os outer) (whole sig os (whole sig (reverse ls) y))) (ReplacesAt sig r w x path3 taken3 (whole sig (reverse levels) inner) (whole sig (reverse levels) y))
-    (λ q. subst (λ v. ReplacesAt sig r w x path3 taken3 v (whole sig (reverse levels) y)) (ap (whole sig os) made ∙ beyond inner) (subst (ReplacesAt sig r w x path3 taken3 (whole sig os outer)) (beyond y) q))
+    on_ok c.climb.result (ReplacesPart sig r w x path3 taken3 (whole sig os outer) (whole sig os (whole sig (reverse ls) y))) (ReplacesPart sig r w x path3 taken3 (whole sig (reverse levels) inner) (whole sig (reverse levels) y))
+    (λ q. subst (λ v. ReplacesPart sig r w x path3 taken3 v (whole sig (reverse levels) y)) (ap (whole sig os) made ∙ beyond inner) (subst (ReplacesPart sig r w x path3 taken3 (whole sig os outer)) (beyond y) q))
     (c.climb.ensures r w x (whole sig (reverse ls) y) (subst (StandsIn sig r os) (sym made) (stands_on sig ok levels o n some last f operator bound more r inner stands)) kx
-    (subst (λ v. ReplacesAt sig r w x path2 taken2 v (whole sig (reverse ls) y)) (sym made) b))
+    (subst (λ v. ReplacesPart sig r w x path2 taken2 v (whole sig (reverse ls) y)) (sym made) b))

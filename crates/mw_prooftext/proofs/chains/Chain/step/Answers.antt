@@ -12,6 +12,7 @@ use Rattle.mw_redex.specs.Replaced.{ReplacesAt}
 use Rattle.mw_deduction.specs.Runs.{by_statement}
 use Rattle.mw_deduction.specs.Replay.{whole, replacing, becomes}
 use Rattle.mw_deduction.proofs.MoveStands.{becomes_is}
+use Rattle.mw_spot.specs.Spots.{TakesPart}
 use Rattle.mw_spot.specs.Walks.{IsAt}
 use Rattle.mw_prooftext.specs.Grounds.{spot_of}
 use Rattle.mw_prooftext.specs.Texts.{step_text}
@@ -41,12 +42,14 @@ returns c = λ S r s stands may. (
       y ∙ ap (λ q. normal_form sig (instance q e.right)) may.values.are ∙ ap (λ (x : Statement). normal_form sig (instance (zip x.variables (map (nested sig) c.args.values.now)) x.right)) (sym same) ∙ sym c.in_ok-term.ensures in
       let f : c.facts.result.now ≡ sig = c.facts.ensures in
       let at_facts : IsAt c.facts.result.now chain.walk S = subst (λ g. IsAt g chain.walk S) (sym f) h.place in
-      let found = c.in_ok-place.ensures M S r (instance s e.left) (instance s e.right) (sym f) at_facts stands may.may in
+      let found = c.in_ok-place.ensures.there M S r (instance s e.left) (instance s e.right) (sym f) at_facts stands may.may in
       let there : ReplacesAt sig r S.hand (normal_form sig (instance s e.right)) place.path place.take (whole sig S.opens S.hand) (whole sig S.opens (normal_form sig (instance s e.right))) =
       subst (λ g. ReplacesAt g r S.hand (normal_form g (instance s e.right)) place.path place.take (whole g S.opens S.hand) (whole g S.opens (normal_form g (instance s e.right)))) f found in
       let spotted : ReplacesAt sig r S.hand t place.path place.take (whole sig S.opens S.hand) (whole sig S.opens t) =
       subst (λ x. ReplacesAt sig r S.hand x place.path place.take (whole sig S.opens S.hand) (whole sig S.opens x)) (sym y) there in
-      let told = step_told M ok S (spot_of place) may spotted h.told in
+      let takes : TakesPart place.path place.take (whole sig S.opens S.hand) =
+      subst (λ g. TakesPart place.path place.take (whole g S.opens S.hand)) f (c.in_ok-place.ensures.part M S r (instance s e.left) (instance s e.right) (sym f) at_facts stands may.may) in
+      let told = step_told M ok S (spot_of place) stands may spotted takes h.told in
       let owise : c.statement.inside.owise ≡ d.owise = ap (λ (x : Statement). x.owise) c.statement.view_is in
       let words : step_text c.signature-signature.result.now d.owise c.args.number (spot_of place) c.args.values.now ≡ step_text sig e.owise c.args.number (spot_of place) c.args.values.now =
       ap (λ g. step_text g d.owise c.args.number (spot_of place) c.args.values.now) c.signature-signature.ensures ∙ ap (λ (x : Statement). step_text sig x.owise c.args.number (spot_of place) c.args.values.now) same in
