@@ -151,18 +151,6 @@ module _ (M : Module) (most n : ℕ) (s : StepEntry) (t : RawTerm) where
           by_next None a x = let (d, z) = checks gs rs c x in (next_past_limit z a, λ e. cc)
           by_next (Some u) a x = (passes gs rs c k u x e a, l)
 
-      -- the next term is admitted
-      pub step_next : (x : Showing) → HasAdmittedNext sig (answer_of x next)
-      step_next x = by_next next h.next_is x
-        where
-          by_next : (next : Option RawTerm) → IsNext sig h.whole next → (x : Showing) → HasAdmittedNext sig (answer_of x next)
-          by_next None a showing.AtFault = tt
-          by_next None a (showing.Through None left) = tt
-          by_next None a (showing.Through (Some k) left) = tt
-          by_next (Some u) a showing.AtFault = tt
-          by_next (Some u) a (showing.Through None left) = subst (IsAdmittedTerm sig) (sym a.0) a.1
-          by_next (Some u) a (showing.Through (Some k) left) = subst (IsAdmittedTerm sig) (sym a.0) a.1
-
 -- What a step's place and values are found to be.
 module _ (M : Module) (most n : ℕ) (s : StepEntry) (t : RawTerm) (work : IsWorkable M) (st : Statement) (is : IsStatement M s.statement st × (s.owise ≡ st.owise)) (values : AreAdmittedTerms M.signature s.values)
     (p : Placed) (h : IsPlaced M st (spot_of s.place) s.values t p) where
@@ -194,16 +182,6 @@ module _ (M : Module) (most n : ℕ) (s : StepEntry) (t : RawTerm) (work : IsWor
         subst (λ a. IsAnswerBefore M most n (item_of s gs) behind t a left) (sym u)
         (subst (IsAnswerBefore M most n (item_of s gs) behind t (answer_of x next)) (sym v)
         (step_answered M most n s t work st is.0 is.1 values h.0 there.0 found next there.1 gs behind entries x (subst (λ D. IsCondition M most n D (meant M.signature found) gs behind x) q y)))
-
-    pub placed_next : (x : Showing) (a : Answer) → a ≡ answer_of x next → HasAdmittedNext M.signature a
-    placed_next x a u = subst (HasAdmittedNext M.signature) (sym u) (step_next M most n s t work st is.0 is.1 values h.0 there.0 found next there.1 x)
-
--- so is that of a row
-pub answer_admitted : (M : Module) (most n : ℕ) (i : Item) (t : RawTerm) (a : Answer) → IsAnswer M most n i t a → HasAdmittedNext M.signature a
-answer_admitted M most n i t (answer.Refused c) h = tt
-answer_admitted M most n i t (answer.Stopped None) h = tt
-answer_admitted M most n i t (answer.Stopped (Some u)) (f, v, x, (q, a)) = subst (IsAdmittedTerm M.signature) (sym q) a
-answer_admitted M most n i t (answer.Passed u k) h = h.admitted
 
 pub next_admitted : (S : Signature) (a : Answer) (v : RawTerm) (count : Option ℕ) → HasAdmittedNext S a → next_of a ≡ Some (v, count) → IsAdmittedTerm S v
 next_admitted S (answer.Refused c) v count h e = cc

@@ -1,5 +1,5 @@
 -- The sides of fragments whose variables have admitted values, and where they begin.
-use Rattle.std.specs.Prelude.{◌≡◌, List, [], ◌∷◌, true, ◌&&◌, Some, None, ⊤, refl}
+use Rattle.std.specs.Prelude.{◌≡◌, List, [], ◌∷◌, true, ◌&&◌, Some, None, refl}
 use Rattle.std.proofs.Common.{ap, sym, subst}
 use Rattle.std.proofs.lemmas.Bool.{and_parts}
 use Rattle.mw_logic.specs.Term.{RawTerm}
@@ -22,16 +22,10 @@ use Rattle.mw_canon.specs.Canonical.{IsAdmittedTerm, meant}
 use Rattle.mw_canon.specs.Causes.{HasCause}
 use Rattle.mw_canon.specs.declared.CanonError.{CanonError}
 use Rattle.mw_canon.specs.declared.CanonError.TheVariants.{Deep, Nat, Memory}
-use Rattle.mw_deduction.specs.Replay.{sides_of}
 use Rattle.mw_least.specs.Workable.{IsWorkable}
 use Rattle.mw_proof.proofs.Written.{instance_written, written_raw}
 use Rattle.mw_check.specs.Answers.{HasRawPattern}
 use Rattle.mw_check.specs.Groups.{AreValues, IsReadySide, AreReady, IsStart}
-
--- each is ready
-abbrev pub AreReadySides : Signature → Substitution → List RawTerm → Type 0
-AreReadySides sig s [] = ⊤
-AreReadySides sig s (l ∷ ls) = IsReadySide sig s l × AreReadySides sig s ls
 
 module _ (sig : Signature) (s : Substitution) where
   -- the first fragment and the others
@@ -42,17 +36,6 @@ module _ (sig : Signature) (s : Substitution) where
       let (a, b) = and_parts (binds s p && binds s t) _ h.bound in (record { raw = (h.raw.0, h.raw.1, tt); bound = ap (λ z. z && true) a }, record { raw = h.raw.2; bound = b })
   ready_first (has_sort t S) C h = let (a, b) = and_parts (binds s t) _ h.bound in (record { raw = (h.raw.0, h.raw.1, tt); bound = ap (λ z. z && true) a }, record { raw = h.raw.2; bound = b })
   ready_first (is_true t) C h = let (a, b) = and_parts (binds s t) _ h.bound in (record { raw = (h.raw.0, tt); bound = ap (λ z. z && true) a }, record { raw = h.raw.1; bound = b })
-
-  pub ready_sides : (f : Fragment) → AreReady sig s (f ∷ []) → AreReadySides sig s (sides_of f)
-  ready_sides (equal u v) h =
-      let (a, b) = and_parts (binds s u && binds s v) true h.bound in
-      let (c, d) = and_parts (binds s u) (binds s v) a in
-      (record { raw = h.raw.0; bound = c }, (record { raw = h.raw.1; bound = d }, tt))
-  ready_sides (matches p t) h =
-      let (a, b) = and_parts (binds s p && binds s t) true h.bound in
-      (record { raw = h.raw.1; bound = (and_parts (binds s p) (binds s t) a).1 }, tt)
-  ready_sides (has_sort t S) h = (record { raw = h.raw.0; bound = (and_parts (binds s t) true h.bound).0 }, tt)
-  ready_sides (is_true t) h = (record { raw = h.raw.0; bound = (and_parts (binds s t) true h.bound).0 }, tt)
 
   pub raw_pattern : IsAccepted sig → IsWellSorted sig → IsSubstitution sig s → (f : Fragment) → AreReady sig s (f ∷ []) → HasRawPattern sig s f
   raw_pattern ok sorted is (equal u v) h = tt

@@ -13,7 +13,7 @@ use Rattle.mw_items.specs.Entries.{entries_of, entries_of_groups}
 use Rattle.mw_items.specs.declared.Entry.{Entry}
 use Rattle.mw_items.specs.declared.Entry.TheVariants.{Step, Built, Open, Close}
 use Rattle.mw_verdict.specs.Checks.{unconditional}
-use Rattle.mw_verdict.specs.Verdicts.{HasGroup, the_first, a_later, behind, AtFault}
+use Rattle.mw_verdict.specs.Verdicts.{HasGroup, the_first, a_later, behind}
 use Rattle.mw_check.specs.declared.chains.Led.{Led}
 use Rattle.mw_check.specs.declared.chains.Led.TheVariants as led
 use Rattle.mw_check.specs.declared.chains.Evaluation.{Evaluation}
@@ -67,9 +67,6 @@ module _ (M : Module) (most n : ℕ) (l : RawTerm) (inside : List Entry) (gs : G
   module _ (t : RawTerm) (start : IsStart M l (Some t)) (e : Led) (told : (items : Items) (es : List Entry) → inside ≡ entries_of items ++ es → EndsItems es → IsChain M most n t items es e) where
     told_there : IsChain M most n t there.items (Close ∷ (entries_of_groups there.others ++ rest)) e
     told_there = told there.items (Close ∷ (entries_of_groups there.others ++ rest)) there.stand tt
-
-    pub first_fault : e ≡ led.AtFault → IsFirstEvaluation M most n l gs rest evaluation.AtFault
-    first_fault p = at_first evaluation.AtFault (subst (IsChain M most n t there.items (Close ∷ (entries_of_groups there.others ++ rest))) p told_there l (sym start.0))
 
     pub first_ended : (a : RawTerm) (count : Option ℕ) (left : Bor (List Entry)) → e ≡ led.To a count left → (x : Evaluation) → IsEnding M most n a count left.now x → IsFirstEvaluation M most n l gs rest x
     first_ended a count left p x h =
@@ -180,9 +177,6 @@ module _ (M : Module) (most n : ℕ) (s : Substitution) where
 
         abbrev goes : GoesOn M most n s C gs (f ∷ E) course.0 count
         goes = subst (λ B. GoesOn M most n s C gs B course.0 count) p course.2
-
-        pub course_fault : x ≡ showing.AtFault → AtFault M most (suc n) C s gs
-        course_fault q = goes.faults (subst (IsFragment M most n s f course.0 rest) q told_here E)
 
         pub course_on : (more total : Option ℕ) (after : Bor (List Entry)) → x ≡ showing.Through more after → total ≡ counted_both count more → IsCourse E after.now total
         course_on more total after q r =

@@ -16,7 +16,7 @@ pub mod RowSeveral
 pub mod RowShared
 pub mod RowTested
 pub mod RowComputed
-pub mod RowPlaced
+pub mod RowLed
 pub mod RowAnswers
 pub mod ChainEntries
 pub mod ChainSteps

@@ -25,10 +25,7 @@ use Rattle.mw_canon.specs.declared.CanonError.TheVariants.{Deep, Nat, Memory}
 use Rattle.mw_least.specs.Workable.{AreSides}
 use Rattle.mw_proof.proofs.Written.{instance_written}
 
--- each side is bound
-pub left_bound : (s : Substitution) (st : Statement) → IsTrue (binds_statement s st) → IsTrue (binds s st.left)
-left_bound s st h = (and_parts (binds s st.left) (binds s st.right) (and_parts (binds s st.left && binds s st.right) (binds_fragments s st.fragments) h).0).0
-
+-- the right side is bound
 pub right_bound : (s : Substitution) (st : Statement) → IsTrue (binds_statement s st) → IsTrue (binds s st.right)
 right_bound s st h = (and_parts (binds s st.left) (binds s st.right) (and_parts (binds s st.left && binds s st.right) (binds_fragments s st.fragments) h).0).1
 

@@ -7,23 +7,31 @@ use Rattle.mw_logic.specs.Signature.{Signature, HasKind, of_operator, IsRawTerm,
 use Rattle.mw_logic.specs.Accepted.{IsAccepted}
 use Rattle.mw_logic.specs.Axioms.{EqualModulo}
 use Rattle.mw_logic.specs.Parts.{nested, IsPart, IsAdmitted}
-use Rattle.mw_logic.specs.NormalForm.{normal_form, height, has_largest}
-use Rattle.mw_logic.specs.CanonicalPart.{ReplacesIn}
+use Rattle.mw_logic.specs.NormalForm.{is_comm, identity_of, normal_form, height, has_largest}
+use Rattle.mw_logic.specs.CanonicalPart.{IsPartOf, ReplacesIn}
+use Rattle.mw_logic.specs.CanonicalPart as parts
 use Rattle.mw_logic.proofs.Admitted.{admitted-iff}
 use Rattle.mw_logic.proofs.AxiomLaws.{sym as back}
+use Rattle.mw_logic.proofs.Canonical.{Each, IsCanonical, IsElement, each_canonical, assoc-true}
+use Rattle.mw_logic.proofs.CanonicalTerms.{fixed}
+use Rattle.mw_logic.proofs.EqualByNormalForm.{equal_by_normal_form}
 use Rattle.mw_logic.proofs.EqualTerms.{IsAdmitted-equal, ground_kept}
+use Rattle.mw_logic.proofs.Holes.{Each-parts, Each-unarranged}
 use Rattle.mw_logic.proofs.Inside.{raw_inside}
 use Rattle.mw_logic.proofs.Invariance.{normal_form-kept}
+use Rattle.mw_logic.proofs.PartsOfNormalForm.{part_from_replacing, part_found}
 use Rattle.mw_logic.proofs.RawKept.{raw_kept}
 use Rattle.mw_logic.proofs.ReplacingFound.{replacement_found}
-use Rattle.mw_logic.proofs.Soundness.{normal_form-sound}
+use Rattle.mw_logic.proofs.Soundness.{normal_form-sound, rebuilt-several}
+use Rattle.mw_arguments.proofs.Arguments.{rebuilt_again}
 use Rattle.mw_canon.specs.Canonical.{IsAdmittedTerm}
 use Rattle.mw_canon.specs.Causes.{IsLimit}
 use Rattle.mw_canon.specs.declared.CanonError.{CanonError}
 use Rattle.mw_canon.specs.declared.CanonError.TheVariants.{Deep, Nat, Memory}
 use Rattle.mw_position.proofs.Grounded.{ground_again}
+use Rattle.mw_solving.proofs.Admitted.{admitted_value}
 use Rattle.mw_solving.proofs.Grounds.{nested_ground}
-use Rattle.mw_redex.specs.Replaced.{IsOpenArgument, IsOpenWay, ReplacesAt}
+use Rattle.mw_redex.specs.Replaced.{replaced_at, IsPartAt, IsOpenArgument, IsOpenWay, way_of_place, ReplacesAt}
 use Rattle.mw_redex.proofs.Standing.{place_in_term}
 use Rattle.mw_deduction.proofs.NormalParts.{part_admitted}
 use Rattle.mw_search.specs.Lacking.{IsKnown}
@@ -41,7 +49,36 @@ pub open_way : (sig : Signature) (path : List ℕ) (t : RawTerm) → IsOpenWay s
 open_way sig [] t = tt
 open_way sig (i ∷ path) t = (open_argument sig t i, λ u e. open_way sig path u)
 
+-- what a term becomes at a part
+pub replaces_there : {sig : Signature} {t w : RawTerm} (x y : RawTerm) (path : List ℕ) (take : Option (List ℕ)) → IsPartAt sig path take t w → y ≡ replaced_at sig path take x t → ReplacesAt sig false w x path take t y
+replaces_there {sig} {t} x y path take p e = record { part = p; open_way = open_way sig (way_of_place path take) t; becomes = e }
+
 module _ (sig : Signature) (ok : IsAccepted sig) where
+  -- parts of a canonical term are canonical
+  part_canonical : {by_rule : Bool} {v w : RawTerm} → IsPartOf sig by_rule v w → IsCanonical sig v → IsCanonical sig w
+  part_canonical parts.whole k = k
+  part_canonical (parts.argument f before t after o p) k = part_canonical p (Each-parts (IsCanonical sig) before (cons t after) (each_canonical sig (join before (cons t after)) k.0)).1.0
+  part_canonical (parts.several {f} {ts} {us} A o s cut) k =
+      let h = assoc-true sig f A.operator A.is_there A.assoc in
+      let inside : (P : RawTerm → Type 0) → Each P ts → Each P us = λ P e. (Each-parts P us cut.after (Each-parts P cut.before (join us cut.after) (Each-unarranged P (is_comm sig f) (join cut.before (join us cut.after)) (subst (Each P) (sym cut.whole) e))).1).0 in
+      subst (IsCanonical sig) (rebuilt-several (identity_of sig f) f us s) (rebuilt_again sig ok f h us cut.in_order (inside (IsElement (identity_of sig f) f) (k.2 h)) (inside (IsCanonical sig) (each_canonical sig ts k.0)))
+
+  -- so a part that stands at a place of an admitted term is one
+  pub part_term : (path : List ℕ) (take : Option (List ℕ)) (t w : RawTerm) → IsAdmittedTerm sig t → IsPartAt sig path take t w → IsAdmittedTerm sig w
+  part_term path take t w a p =
+      let r : ReplacesIn sig false w w t (replaced_at sig path take w t) = place_in_term sig ok false w w t (replaced_at sig path take w t) path take a.canonical (replaces_there w (replaced_at sig path take w t) path take p refl) in
+      let q : IsPartOf sig false t w = part_from_replacing r in
+      let (C, o, is) = part_found sig ok w a.raw (subst (λ v. IsPartOf sig false v w) (sym a.canonical) q) in
+      record {
+        raw = raw_inside sig ok C (nested sig w) ((raw_kept sig ok is.equal).0 a.raw);
+        canonical = fixed sig ok w (part_canonical q (admitted_value sig ok t a).canonical);
+        admitted = part_admitted sig ok C (nested sig w) a.raw a.admitted is;
+      }
+
+  -- a raw term is admitted where its normal form is
+  pub form_admitted : (w form : RawTerm) → IsAdmittedTerm sig w → IsRawTerm sig form → normal_form sig form ≡ w → IsAdmitted sig form
+  form_admitted w form a raw is = IsAdmitted-equal sig ((equal_by_normal_form sig ok a.raw raw).1 (a.canonical ∙ sym is)) a.admitted
+
   -- a term of the same kinds in place of another keeps a term raw
   raw_among : (before : RawTerms) (w v : RawTerm) (after : RawTerms) {Ks : List ℕ} → IsRawTerm sig v → ((K : ℕ) → HasKind sig w K → HasKind sig v K) → AreRawTerms sig (join before (cons w after)) Ks
       → AreRawTerms sig (join before (cons v after)) Ks
@@ -80,10 +117,6 @@ module _ (sig : Signature) (ok : IsAccepted sig) where
 
     same : EqualModulo sig W (nested sig (normal_form sig W))
     same = normal_form-sound sig ok raw
-
-    -- the part is admitted
-    pub replaced_admitted : IsAdmitted sig W
-    replaced_admitted = IsAdmitted-equal sig (back same) (part_admitted sig ok here.place (nested sig (normal_form sig W)) h.raw h.admitted here.part)
 
     module _ (raw_next : IsRawTerm sig X) (kinds : (K : ℕ) → HasKind sig W K → HasKind sig X K) where
       abbrev whole : RawTerm

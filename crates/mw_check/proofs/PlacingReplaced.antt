@@ -18,7 +18,7 @@ use Rattle.mw_prooftext.specs.Items.{Spot}
 use Rattle.mw_check.specs.Parts.{StandsAt}
 use Rattle.mw_check.specs.Answers.{ReplacesBy, IsNext}
 use Rattle.mw_check.proofs.PlacingInstances.{kinds_of_sides}
-use Rattle.mw_check.proofs.PlacingParts.{replaced_admitted, put_in_admitted, whole_known}
+use Rattle.mw_check.proofs.PlacingParts.{part_term, form_admitted, put_in_admitted, whole_known}
 
 module _ (sig : Signature) (ok : IsAccepted sig) (sorted : IsWellSorted sig) (st : Statement) (sides : AreSides sig st) (s : Substitution) (is : IsSubstitution sig s)
     (at : Spot) (t : RawTerm) (h : IsAdmittedTerm sig t) where
@@ -39,7 +39,7 @@ module _ (sig : Signature) (ok : IsAccepted sig) (sorted : IsWellSorted sig) (st
 
   -- An instance that isn't admitted is no part of an admitted term.
   pub none_replaced : (IsAdmitted sig W → ⊥) → (v : RawTerm) → Becomes v → ⊥
-  none_replaced deny v r = deny (replaced_admitted sig ok st.rule W X t v at.path at.take h raw_left r.0)
+  none_replaced deny v r = deny (form_admitted sig ok (normal_form sig W) W (part_term sig ok at.path at.take t (normal_form sig W) h r.0.part) raw_left refl)
 
   -- the left side's instance is another part than that at the place
   pub other_part : (left : RawTerm) → left ≡ normal_form sig W → (StandsAt sig at t left → ⊥) → (v : RawTerm) → Becomes v → ⊥

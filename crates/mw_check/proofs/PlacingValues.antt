@@ -1,9 +1,9 @@
 -- Values of a statement's variables, in their order.
-use Rattle.std.specs.Prelude.{◌≡◌, ◌↔◌, ◌+◌, ◌<◌, ◌&&◌, ℕ, zero, suc, List, [], ◌∷◌, ◌++◌, length, map, take, get_or, Bool, true, false, ◌||◌, slice_get, IsTrue, IsFalse, refl}
+use Rattle.std.specs.Prelude.{◌≡◌, ◌↔◌, ◌&&◌, ℕ, zero, suc, List, [], ◌∷◌, length, map, Bool, true, false, ◌||◌, slice_get, IsTrue, IsFalse, refl}
 use Rattle.std.specs.List.{zip}
 use Rattle.std.proofs.Common.{sym, subst, ap, ◌∙◌, arith}
 use Rattle.std.proofs.lemmas.Bool.{and_from, or_left, or_right}
-use Rattle.std.proofs.lemmas.List.{length-map, map-append, take_more}
+use Rattle.std.proofs.lemmas.List.{length-map}
 use Rattle.std.proofs.lemmas.Option.{none-some, same_Some}
 use Rattle.mw_logic.specs.Term.{Variable, RawTerm, RawTerms, numeral, quoted, variable, apply, nil, cons}
 use Rattle.mw_logic.specs.Signature.{Signature}
@@ -12,27 +12,20 @@ use Rattle.mw_logic.specs.Substitution.{Substitution, is_bound, binds, binds_all
 use Rattle.mw_logic.specs.Parts.{nested}
 use Rattle.mw_logic.specs.Module.{Fragment, equal, matches, has_sort, is_true, Statement, Module, IsStatement, binds_fragments, binds_statement}
 use Rattle.mw_logic.specs.Confluence.{HasOnly}
-use Rattle.mw_logic.proofs.Canonical.{IsCanonical, canonical}
-use Rattle.mw_logic.proofs.CanonicalTerms.{fixed}
 use Rattle.mw_logic.proofs.SameConditions.{same_variable-refl}
-use Rattle.mw_canon.specs.Canonical.{IsAdmittedTerm, HasAdmittedValues}
+use Rattle.mw_canon.specs.Canonical.{HasAdmittedValues}
 use Rattle.mw_position.specs.Variables.{is_in, AreDistinct, sorts_of, bound_variables, bound_values}
 use Rattle.mw_position.proofs.Placing.{bound_zip}
 use Rattle.mw_solving.specs.Values.{IsValue, AreValues, AreOfSorts}
 use Rattle.mw_solving.proofs.Candidates.{variables_zipped, values_zipped}
-use Rattle.mw_solving.proofs.Grounds.{nested_ground}
+use Rattle.mw_solving.proofs.Admitted.{admitted_value}
 use Rattle.mw_solving.proofs.Positions.{meant_zip, zip_substitution, values_sorted}
-use Rattle.mw_search.specs.Lacking.{IsKnown, HaveTheirSorts, OneLacksItsSort}
+use Rattle.mw_search.specs.Lacking.{HaveTheirSorts, OneLacksItsSort}
+use Rattle.mw_match.proofs.Candidates.{known}
 use Rattle.mw_least.specs.Conditions.{mentioned, occurs_among}
 use Rattle.mw_least.specs.Workable.{IsWorkable}
 use Rattle.mw_least.proofs.Mentioned.{mentioned_distinct, is_mentioned}
 use Rattle.mw_check.specs.Answers.{AreAdmittedTerms, values_by_name}
-
--- one more sort
-pub sorts_more : (xs : List Variable) (i : ℕ) (x : Variable) (sorts more : List ℕ) → i < length xs → x ≡ get_or xs i x → more ≡ sorts ++ x.sort ∷ [] → sorts ≡ sorts_of (take i xs) → more ≡ sorts_of (take (i + 1) xs)
-sorts_more xs i x sorts more h g e n =
-    let front : take (i + 1) xs ≡ take i xs ++ x ∷ [] = take_more xs i x h ∙ ap (λ y. take i xs ++ y ∷ []) (sym g) in
-    e ∙ ap (λ ys. ys ++ x.sort ∷ []) n ∙ sym (map-append (λ (y : Variable). y.sort) (take i xs) (x ∷ [])) ∙ ap sorts_of (sym front)
 
 -- admitted terms, by name
 pub admitted_by_name : (sig : Signature) (xs : List Variable) (vs : List RawTerm) → AreAdmittedTerms sig vs → HasAdmittedValues sig (zip xs vs)
@@ -42,21 +35,15 @@ admitted_by_name sig (x ∷ xs) (v ∷ vs) h = (h.0, admitted_by_name sig xs vs 
 
 -- they are values of which the sorts can be told
 module _ (sig : Signature) (ok : IsAccepted sig) where
-  is_value : (v : RawTerm) → IsAdmittedTerm sig v → IsValue sig v
-  is_value v h = record { canonical = subst (IsCanonical sig) h.canonical (canonical sig ok (nested sig v)); raw = h.raw; ground = h.admitted.ground }
-
   are_values : (vs : List RawTerm) → AreAdmittedTerms sig vs → AreValues sig vs
   are_values [] h i u e = absurd (none-some u e)
-  are_values (v ∷ vs) h zero u e = subst (IsValue sig) (same_Some v u e) (is_value v h.0)
+  are_values (v ∷ vs) h zero u e = subst (IsValue sig) (same_Some v u e) (admitted_value sig ok v h.0)
   are_values (v ∷ vs) h (suc i) u e = are_values vs h.1 i u e
-
-  is_known : (u : RawTerm) → IsValue sig u → IsKnown sig u
-  is_known u v = record { canonical = fixed sig ok u v.canonical; raw = v.raw; ground = sym (nested_ground sig u) ∙ v.ground }
 
   module _ (xs : List Variable) (vs : List RawTerm) (size : length vs ≡ length xs) (all : AreAdmittedTerms sig vs) (sorts : List ℕ) (are : sorts ≡ sorts_of xs) where
     sorted_values : AreDistinct xs → HaveTheirSorts sig sorts 0 vs → IsSubstitution sig (values_by_name sig xs vs)
     sorted_values distinct h =
-        let of_sorts : AreOfSorts sig vs (sorts_of xs) = λ i u S e k. h i u (omega arith) e S (ap (λ Ss. slice_get Ss i) are ∙ k) (is_known u (are_values vs all i u e)) in
+        let of_sorts : AreOfSorts sig vs (sorts_of xs) = λ i u S e k. h i u (omega arith) e S (ap (λ Ss. slice_get Ss i) are ∙ k) (known sig ok u (are_values vs all i u e)) in
         subst (IsSubstitution sig) (meant_zip sig xs vs) (zip_substitution sig xs vs distinct size (are_values vs all) of_sorts)
 
     unsorted_values : OneLacksItsSort sig sorts 0 vs → IsSubstitution sig (values_by_name sig xs vs) → ⊥
@@ -65,7 +52,7 @@ module _ (sig : Signature) (ok : IsAccepted sig) where
         let of_sorts : AreOfSorts sig vs (sorts_of xs) =
         subst (λ ys. AreOfSorts sig vs (sorts_of ys)) (variables_zipped xs vs size) (subst (λ us. AreOfSorts sig us (sorts_of (bound_variables (zip xs vs)))) (values_zipped xs vs size) named) in
         let (S, there, lacks) = h.lacks in
-        lacks (is_known h.value (are_values vs all h.position h.value h.is)) (of_sorts h.position h.value S h.is (sym (ap (λ Ss. slice_get Ss h.position) are) ∙ there))
+        lacks (known sig ok h.value (are_values vs all h.position h.value h.is)) (of_sorts h.position h.value S h.is (sym (ap (λ Ss. slice_get Ss h.position) are) ∙ there))
 
     pub sorts_told : (b : Bool) → AreDistinct xs → (IsTrue b → HaveTheirSorts sig sorts 0 vs) → (IsFalse b → OneLacksItsSort sig sorts 0 vs) → (IsTrue b ↔ IsSubstitution sig (values_by_name sig xs vs))
     sorts_told true distinct fits lacks = (λ h. sorted_values distinct (fits h), λ is. refl)

@@ -1,20 +1,24 @@
 -- What comes of an item that is computed.
 use Rattle.std.specs.Prelude.{◌≡◌, ℕ, List, false, Option, Some, None, MatchOption, refl, ⊤}
-use Rattle.std.proofs.Common.{ap, sym, subst}
+use Rattle.std.proofs.Common.{ap, sym, subst, ◌∙◌}
 use Rattle.mw_logic.specs.Term.{RawTerm}
 use Rattle.mw_logic.specs.Signature.{Signature}
+use Rattle.mw_logic.specs.Axioms.{EqualModulo}
 use Rattle.mw_logic.specs.Parts.{nested}
 use Rattle.mw_logic.specs.NormalForm.{normal_form}
 use Rattle.mw_logic.specs.Module.{Module}
 use Rattle.mw_logic.specs.Judgements.{IsNormal}
+use Rattle.mw_logic.proofs.EqualTerms.{ground_kept}
+use Rattle.mw_logic.proofs.Soundness.{normal_form-sound}
 use Rattle.mw_canon.specs.Canonical.{IsAdmittedTerm}
 use Rattle.mw_deduction.specs.Runs as runs
 use Rattle.mw_least.specs.Workable.{IsWorkable}
 use Rattle.mw_redex.specs.Replaced.{replaced_at, IsPartAt}
-use Rattle.mw_builtin.specs.Steps.{IsGroundTerm}
+use Rattle.mw_search.specs.Lacking.{IsKnown}
 use Rattle.mw_prooftext.specs.Items.{Spot, built}
 use Rattle.mw_prooftext.specs.Tells.{Replaces}
-use Rattle.mw_verdict.specs.Checks.{IsRow, ChecksOne}
+use Rattle.mw_prooftext.specs.Passing.{IsRow}
+use Rattle.mw_verdict.specs.Checks.{ChecksOne}
 use Rattle.mw_verdict.specs.Leads.{a_row}
 use Rattle.mw_verdict.specs.Verdicts.{spot_missing, row_missing, sides_not_normal, sides_stop, next_past_limit}
 use Rattle.mw_check.specs.declared.answer.Cause.TheVariants as cause
@@ -22,7 +26,8 @@ use Rattle.mw_check.specs.declared.answer.Answer.TheVariants as answer
 use Rattle.mw_check.specs.declared.rows.Computed.TheVariants as computed
 use Rattle.mw_check.specs.Answers.{Gives, IsComputation, IsNext, IsAnswer}
 use Rattle.mw_check.specs.Parts.{StandsAt}
-use Rattle.mw_check.proofs.RowPlaced.{replaces_there, part_term, whole_ground}
+use Rattle.mw_check.proofs.PlacingParts.{replaces_there, part_term, whole_known}
+use Rattle.mw_check.proofs.RowLed.{row_led}
 
 -- what stands there, in a signature that is this one
 abbrev IsFoundPart : Signature → Spot → RawTerm → Option RawTerm → Type 0
@@ -35,11 +40,9 @@ pub none_found : (facts sig : Signature) → facts ≡ sig → (at : Spot) (t : 
 none_found facts sig is at t o h e = subst (IsFoundPart sig at t) e (subst (λ g. IsFoundPart g at t o) is h)
 
 -- the next term
-pub next_of : (facts sig : Signature) → facts ≡ sig → (path : List ℕ) (take : Option (List ℕ)) (to t : RawTerm) (o next : Option RawTerm) → IsNext facts (replaced_at facts path take to t) o → o ≡ next → IsNext sig (replaced_at sig path take to t) next
-next_of facts sig is path take to t o next h e = subst (IsNext sig (replaced_at sig path take to t)) e (subst (λ g. IsNext g (replaced_at g path take to t) o) is h)
-
-pub whole_of : (facts sig : Signature) → facts ≡ sig → (path : List ℕ) (take : Option (List ℕ)) (to t : RawTerm) → IsGroundTerm sig (replaced_at sig path take to t) → IsGroundTerm facts (replaced_at facts path take to t)
-whole_of facts sig is path take to t h = subst (λ g. IsGroundTerm g (replaced_at g path take to t)) (sym is) h
+pub next_of : (facts sig : Signature) → facts ≡ sig → (path : List ℕ) (take : Option (List ℕ)) (to t : RawTerm) (o next : Option RawTerm) → IsKnown sig (replaced_at sig path take to t)
+    → (IsKnown facts (replaced_at facts path take to t) → IsNext facts (replaced_at facts path take to t) o) → o ≡ next → IsNext sig (replaced_at sig path take to t) next
+next_of facts sig is path take to t o next known h e = subst (IsNext sig (replaced_at sig path take to t)) e (subst (λ g. IsKnown g (replaced_at g path take to t) → IsNext g (replaced_at g path take to t) o) is h known)
 
 module _ (M : Module) (work : IsWorkable M) (most n : ℕ) (at : Spot) (t : RawTerm) (a : IsAdmittedTerm M.signature t) where
   abbrev sig : Signature
@@ -60,16 +63,20 @@ module _ (M : Module) (work : IsWorkable M) (most n : ℕ) (at : Spot) (t : RawT
     answer_not_normal c = let ((form, result, is_form, row), deny) = c in (sides_not_normal h.part h.some is_form row deny, λ e. cc)
 
     module _ (N : RawTerm → Type 0) (to : RawTerm) (g : Gives sig N w to) where
-      abbrev pub next_term : RawTerm
+      abbrev next_term : RawTerm
       next_term = replaced_at sig at.path at.take to t
-
-      pub next_ground : IsGroundTerm sig next_term
-      next_ground = whole_ground M work at.path at.take t w g.form g.result to a h.part g.is_form g.row g.is g.admitted
 
       replaces : Replaces sig false g.form g.result at t next_term
       replaces =
           let p : IsPartAt sig at.path at.take t (normal_form sig g.form) = subst (IsPartAt sig at.path at.take t) (sym g.is_form.is) h.part in
           replaces_there (normal_form sig g.result) next_term at.path at.take p (ap (λ x. replaced_at sig at.path at.take x t) (sym g.is))
+
+      -- with what a row gives in the part's place a term is raw, canonical and ground
+      pub next_known : IsKnown sig next_term
+      next_known =
+          let (raw, kinds) = row_led M work g.row g.is_form.clean g.is_form.raw in
+          let same : EqualModulo sig g.result (nested sig to) = subst (λ z. EqualModulo sig g.result (nested sig z)) g.is (normal_form-sound sig work.signature.accepted raw) in
+          whole_known sig work.signature.accepted false g.form g.result t next_term at.path at.take a g.is_form.raw replaces raw kinds (ground_kept sig same ∙ g.admitted.admitted.ground)
 
     pub answer_stopped : (to : RawTerm) → IsComputation M most n w (computed.Stopped to) → (next : Option RawTerm) → IsNext sig (replaced_at sig at.path at.take to t) next → IsAnswer M most n (built at) t (answer.Stopped next)
     answer_stopped to c next is =

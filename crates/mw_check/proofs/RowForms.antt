@@ -12,13 +12,12 @@ use Rattle.mw_logic.specs.Parts.{is_assoc, nested, IsAdmitted}
 use Rattle.mw_logic.specs.NormalForm.{normal_form, own_arguments, is_identity, identity_of, height, has_largest}
 use Rattle.mw_logic.specs.Module.{Result, number, truth, nothing, too_big, result_of, Denotes, IsTruth, IsPolymorphic, Row, arithmetic, equal_terms, unequal_terms, not_different, different, if_true, if_false, MeetsRow, by_row, an_equality, an_inequality}
 use Rattle.mw_logic.proofs.Admitted.{admitted-iff}
-use Rattle.mw_logic.proofs.Canonical.{Each, IsCanonical, IsElement, canonical, each_canonical}
+use Rattle.mw_logic.proofs.Canonical.{Each, IsCanonical, IsElement, each_canonical}
 use Rattle.mw_logic.proofs.CanonicalTerms.{fixed, equal_or_not}
-use Rattle.mw_logic.proofs.EqualByNormalForm.{equal_by_normal_form}
-use Rattle.mw_logic.proofs.EqualTerms.{IsAdmitted-equal}
 use Rattle.mw_logic.proofs.Holes.{frame}
 use Rattle.mw_logic.proofs.Ranks.{row_within}
 use Rattle.mw_canon.specs.Canonical.{IsAdmittedTerm}
+use Rattle.mw_solving.proofs.Admitted.{admitted_value}
 use Rattle.mw_prooftext.proofs.AdmittedValues.{ground_term}
 use Rattle.mw_prooftext.proofs.Inside.{inside_admitted}
 use Rattle.mw_builtin.specs.Steps as steps
@@ -29,6 +28,7 @@ use Rattle.mw_verdict.specs.Leads.{IsOneArgument}
 use Rattle.mw_verdict.proofs.RowKinds.{Kind, test_name, Shape, shape_of}
 use Rattle.mw_verdict.proofs.OneRow.{top_kept}
 use Rattle.mw_check.specs.Answers.{Gives}
+use Rattle.mw_check.proofs.PlacingParts.{form_admitted}
 
 -- what a row leads from meets one
 pub meets_row : {sig : Signature} {N : RawTerm → Type 0} {t r : RawTerm} → Row sig N t r → MeetsRow sig t
@@ -118,12 +118,8 @@ module _ (sig : Signature) (ok : IsAccepted sig) where
   result_admitted (if_true {f} {c} {u} {v} p d) rt a rr = inside_admitted sig ok (frame f (cons c nil) (cons v nil) ∷ []) u rt a
   result_admitted (if_false {f} {c} {u} {v} p d) rt a rr = inside_admitted sig ok (frame f (cons c (cons u nil)) nil ∷ []) v rt a
 
-  -- a clean form of an admitted term is admitted
-  pub form_admitted : (w form : RawTerm) → IsAdmittedTerm sig w → IsFormOf sig w form → IsAdmitted sig form
-  form_admitted w form a h = IsAdmitted-equal sig ((equal_by_normal_form sig ok a.raw h.raw).1 (a.canonical ∙ sym h.is)) a.admitted
-
   pub canonical_term : (w : RawTerm) → IsAdmittedTerm sig w → IsCanonical sig w
-  canonical_term w a = subst (IsCanonical sig) a.canonical (canonical sig ok (nested sig w))
+  canonical_term w a = (admitted_value sig ok w a).canonical
 
   pub ground_of : (w : RawTerm) → IsAdmittedTerm sig w → IsGroundTerm sig w
   ground_of w a = record { raw = a.raw; canonical = a.canonical; ground = ground_term sig w a }
@@ -169,5 +165,5 @@ module _ (sig : Signature) (ok : IsAccepted sig) where
           row = row_within of g.meets;
           one = row_within (λ v side. side_alone g.form v h side) g.meets;
           is = g.term.canonical;
-          admitted = record { raw = g.term.raw; canonical = g.term.canonical; admitted = result_admitted g.meets h.raw (form_admitted w g.form a h) g.term.raw };
+          admitted = record { raw = g.term.raw; canonical = g.term.canonical; admitted = result_admitted g.meets h.raw (form_admitted sig ok w g.form a h.raw h.is) g.term.raw };
         }

@@ -13,7 +13,6 @@ use Rattle.mw_logic.proofs.Inside.{associative}
 use Rattle.mw_arguments.specs.Places.{chosen, Rise, Takes}
 use Rattle.mw_logic.proofs.Soundness.{IsLong}
 use Rattle.mw_redex.specs.Paths.{at_path}
-use Rattle.mw_prooftext.specs.Items.{Spot}
 use Rattle.mw_check.specs.Parts.{StandsAt, TakesSeveral, MayBeTaken}
 
 same_operator : {f g : ℕ} {ts us : RawTerms} → apply f ts ≡ apply g us → f ≡ g
@@ -135,17 +134,6 @@ at_place sig path ks t end (Some w) e h = record {
   part = record { end = end; there = e; taken = h.takes };
   some = λ ls f ts q p. subst (λ ls. length ls < number_of_terms ts) (same_list q) (h.some f ts (same_some (sym e ∙ p)));
 }
-
--- at the end of a path that leads somewhere stands its whole end
-pub whole_there : (sig : Signature) (path : List ℕ) (t end w : RawTerm) → at_path t path ≡ Some end → w ≡ end → StandsAt sig (record { path = path; take = None }) t w
-whole_there sig path t end w e q = record { part = record { end = end; there = e; taken = sym q }; some = λ ks f ts p. cc }
-
--- and nothing at that of one which leads nowhere
-pub nothing_there : (sig : Signature) (at : Spot) (t w : RawTerm) → at_path t at.path ≡ None → StandsAt sig at t w → ⊥
-nothing_there sig at t w e h = absurd (both (sym h.part.there ∙ e))
-  where
-    both : {x : RawTerm} → Some x ≡ None → ⊥
-    both e = cc
 
 pub if_ok : {T E : Type 0} (r : Result T E) (P Q : T → Type 0) → ((t : T) → P t → Q t) → IfOk r P → IfOk r Q
 if_ok (Ok t) P Q w h = w t h

@@ -15,7 +15,8 @@ use Rattle.mw_deduction.specs.Runs.{Done}
 use Rattle.mw_proof.specs.Counting.{capped}
 use Rattle.mw_prooftext.specs.Items.{Spot, Item}
 use Rattle.mw_prooftext.specs.Tells.{Replaces}
-use Rattle.mw_verdict.specs.Checks.{TakesSome, IsFormOf, ChecksOne}
+use Rattle.mw_prooftext.specs.Passing.{TakesSome}
+use Rattle.mw_verdict.specs.Checks.{IsFormOf, ChecksOne}
 use Rattle.mw_verdict.specs.Leads.{IsOneArgument, LeadsOne}
 use Rattle.mw_verdict.specs.Verdicts as verdicts
 use Rattle.mw_verdict.specs.Verdicts.{IsStopped, Refuses}

@@ -1,5 +1,6 @@
 // Items one after another, and the groups that show conditions.
-ghost use Rattle.std.specs.Prelude.{◌≡◌, ◌≤◌, ◌<◌, ◌↔◌, ◌∷◌, ◌++◌, [], List, length, map, suc, option_map, option_to_list, IsTrue, IfOk};
+ghost use Rattle.std.specs.Prelude.{◌≡◌, ◌≤◌, ◌<◌, ◌↔◌, ◌∷◌, ◌++◌, [], List, length, map, suc};
+ghost use Rattle.std.specs.Prelude.{option_map, option_to_list, IsTrue, IfOk};
 ghost use Rattle.mw_logic.specs.Substitution.{instance as instance_of};
 ghost use Rattle.mw_canon.specs.Canonical.{IsAdmittedTerm, HasAdmittedValues, meant};
 ghost use Rattle.mw_deduction.specs.Replay.{sides_of};
@@ -9,11 +10,13 @@ ghost use Rattle.mw_term.specs.Statements.{fragment_of};
 ghost use Rattle.mw_prooftext.specs.Items.{Item, Items, Groups};
 ghost use Rattle.mw_items.specs.Entries.{entries_of, entries_of_item, entries_of_groups};
 ghost use Rattle.mw_items.specs.declared.Entry.{Entry as EntryOf};
-ghost use Rattle.mw_verdict.specs.Checks.{Meets};
 ghost use Rattle.mw_check.specs.Answers.{AreAdmittedTerms, HasRawPattern};
-ghost use Rattle.mw_check.specs.Chains.{HaveAdmittedValues, OpensNoGroup, BeginsItem, EndsItems, IsRuleAt, NamesRule, item_of, HasAdmittedNext, AreLeft, IsAnswerBefore};
-ghost use Rattle.mw_check.specs.Groups.{counted_both, next_of, after_close, both_ends, AreValues, IsReadySide, AreReady, answer_of, left_of, IsPassedOver, IsStart, IsChain, IsFirstEvaluation, IsEnding, AreEnds, IsFragment, IsCondition};
-ghost use Rattle.mw_check.specs.Groups.{IsLedFrom, IsAdmittedEnd, AreAdmittedEnds, IsEvaluatedFrom, AreEndsFrom, IsShownFrom, MeetTheirs};
+ghost use Rattle.mw_check.specs.Chains.{HaveAdmittedValues, OpensNoGroup, BeginsItem, EndsItems, IsRuleAt, NamesRule};
+ghost use Rattle.mw_check.specs.Chains.{item_of, HasAdmittedNext, AreLeft, IsAnswerBefore};
+ghost use Rattle.mw_check.specs.Groups.{counted_both, next_of, answer_of, left_of, after_close, both_ends};
+ghost use Rattle.mw_check.specs.Groups.{AreValues, IsReadySide, AreReady, IsStart, IsPassedOver, IsChain};
+ghost use Rattle.mw_check.specs.Groups.{IsFirstEvaluation, IsEnding, AreEnds, MeetTheirs, IsFragment, IsCondition};
+ghost use Rattle.mw_check.specs.Groups.{IsLedFrom, AreAdmittedEnds, IsEvaluatedFrom, AreEndsFrom, IsShownFrom};
 
 use crate::answer::{Answer, Cause};
 use crate::items::built;
@@ -31,8 +34,8 @@ use std::alloc::{AllocError, Global};
 enum Led<'e> {
     /// One of them is at fault, or names a rule.
     AtFault,
-    /// They lead to this admitted term, these entries stand behind them, and they count as so many replacements, unless
-    /// a test of normality stopped.
+    /// They lead to this admitted term, as so many replacements, or none are counted where a test of normality stopped.
+    /// These entries stand behind them.
     To {
         end: Term,
         count: Option<u64>,
@@ -43,8 +46,9 @@ enum Led<'e> {
 /// What comes of the group of a side.
 #[derive(Drop)]
 enum Evaluation<'e> {
+    /// It is at fault.
     AtFault,
-    /// It leads to this end, if the side is admitted.
+    /// It leads to this end, if the side is admitted; counted as items are.
     Through {
         end: Option<Term>,
         count: Option<u64>,
@@ -55,8 +59,9 @@ enum Evaluation<'e> {
 /// What comes of the groups of a fragment's sides.
 #[derive(Drop)]
 enum Ends<'e> {
+    /// One of them is at fault.
     AtFault,
-    /// They lead to these ends, if each side is admitted.
+    /// They lead to these ends, if each side is admitted; counted as items are.
     Through {
         ends: Option<Seq<Term>>,
         count: Option<u64>,
@@ -67,8 +72,9 @@ enum Ends<'e> {
 /// What comes of the groups of fragments.
 #[derive(Drop)]
 enum Showing<'e> {
+    /// They are at fault for them.
     AtFault,
-    /// They show them, unless a test of normality stopped.
+    /// They show them, by so many replacements, unless a test of normality stopped.
     Through {
         count: Option<u64>,
         left: &'e [Entry],
@@ -200,9 +206,9 @@ fn started(
     values: &Subst,
 ) -> Result<Option<Term>, AllocError>
     requires values { AreValues context.now.signature values.now }
-    requires side { IsReadySide context.now.signature (meant context.now.signature values.now) (raw_term side.now) }
-    ensures { IfOk result (IsStart context.now (instance_of (meant context.now.signature values.now)
-        (raw_term side.now))) }
+    requires side { let sig = context.now.signature in IsReadySide sig (meant sig values.now) (raw_term side.now) }
+    ensures { IfOk result (IsStart context.now
+        (instance_of (meant context.now.signature values.now) (raw_term side.now))) }
 {
     context.shows();
     match instance(alloc, context.facts(), values, side) {
@@ -216,8 +222,8 @@ fn started(
 
 /// The sides of a fragment: one, or two.
 fn sides(fragment: &Fragment) -> (&Raw, Option<&Raw>)
-    ensures { sides_of (fragment_of fragment.now) ≡ raw_term result.0.now ∷ map (λ side. raw_term side.now)
-        (option_to_list result.1) }
+    ensures { sides_of (fragment_of fragment.now)
+        ≡ raw_term result.0.now ∷ map (λ side. raw_term side.now) (option_to_list result.1) }
 {
     match fragment {
         Fragment::Equal(first, second) => (first, Some(second)),
@@ -265,11 +271,11 @@ fn met(
     ends: &Option<Seq<Term>>,
 ) -> Result<bool, AllocError>
     requires values { HasAdmittedValues context.now.signature values.now }
-    requires pattern { HasRawPattern context.now.signature (meant context.now.signature values.now)
+    requires pattern { let sig = context.now.signature in HasRawPattern sig (meant sig values.now)
         (fragment_of fragment.now) }
     requires ends { AreAdmittedEnds context.now.signature ends.now }
-    ensures { IfOk result (λ b. IsTrue b ↔ MeetTheirs context.now.signature (meant context.now.signature values.now)
-        (fragment_of fragment.now) ends.now) }
+    ensures { let sig = context.now.signature in IfOk result (λ b. IsTrue b
+        ↔ MeetTheirs sig (meant sig values.now) (fragment_of fragment.now) ends.now) }
 {
     match ends {
         Some(ends) => meets(alloc, context, fragment, values, ends.as_slice()),
@@ -297,9 +303,9 @@ fn ended<'e>(
     let [first, left @ ..] = entries else {
         return Err(AllocError);
     };
-    if !matches!(first, Entry::Close) {
+    let Entry::Close = first else {
         return Err(AllocError);
-    }
+    };
     match test_normal(alloc, tester, &end, rank)? {
         Normal::No => Ok(Evaluation::AtFault),
         Normal::Stopped => Ok(Evaluation::Through {
@@ -366,11 +372,11 @@ fn group<'e>(
     requires most { 1 ≤ tester.now.most }
     requires index { IsIndexOf tester.now.context.now tester.now.index.now }
     requires values { AreValues tester.now.context.now.signature values.now }
-    requires side { IsReadySide tester.now.context.now.signature (meant tester.now.context.now.signature values.now)
+    requires side { let sig = tester.now.context.now.signature in IsReadySide sig (meant sig values.now)
         (raw_term side.now) }
     requires entries { HaveAdmittedValues tester.now.context.now.signature entries.now }
-    ensures is { (gs : Groups) (rest : List EntryOf) → entries.now ≡ entries_of_groups gs ++ rest → OpensNoGroup rest
-        → IfOk result (IsFirstEvaluation tester.now.context.now tester.now.most rank
+    ensures is { (gs : Groups) (rest : List EntryOf) → entries.now ≡ entries_of_groups gs ++ rest
+        → OpensNoGroup rest → IfOk result (IsFirstEvaluation tester.now.context.now tester.now.most rank
         (instance_of (meant tester.now.context.now.signature values.now) (raw_term side.now)) gs rest) }
     ensures left { IfOk result (IsEvaluatedFrom tester.now.context.now.signature entries.now) }
 {
@@ -403,11 +409,11 @@ fn side_ends<'e>(
     requires most { 1 ≤ tester.now.most }
     requires index { IsIndexOf tester.now.context.now tester.now.index.now }
     requires values { AreValues tester.now.context.now.signature values.now }
-    requires ready { AreReady tester.now.context.now.signature (meant tester.now.context.now.signature values.now)
+    requires ready { let sig = tester.now.context.now.signature in AreReady sig (meant sig values.now)
         (fragment_of fragment.now ∷ []) }
     requires entries { HaveAdmittedValues tester.now.context.now.signature entries.now }
-    ensures is { (gs : Groups) (rest : List EntryOf) → entries.now ≡ entries_of_groups gs ++ rest → OpensNoGroup rest
-        → IfOk result (AreEnds tester.now.context.now tester.now.most rank
+    ensures is { (gs : Groups) (rest : List EntryOf) → entries.now ≡ entries_of_groups gs ++ rest
+        → OpensNoGroup rest → IfOk result (AreEnds tester.now.context.now tester.now.most rank
         (meant tester.now.context.now.signature values.now) (sides_of (fragment_of fragment.now)) gs rest) }
     ensures left { IfOk result (AreEndsFrom tester.now.context.now.signature entries.now) }
 {
@@ -449,11 +455,11 @@ fn fragment<'e>(
     requires most { 1 ≤ tester.now.most }
     requires index { IsIndexOf tester.now.context.now tester.now.index.now }
     requires values { AreValues tester.now.context.now.signature values.now }
-    requires ready { AreReady tester.now.context.now.signature (meant tester.now.context.now.signature values.now)
+    requires ready { let sig = tester.now.context.now.signature in AreReady sig (meant sig values.now)
         (fragment_of fragment.now ∷ []) }
     requires entries { HaveAdmittedValues tester.now.context.now.signature entries.now }
-    ensures is { (gs : Groups) (rest : List EntryOf) → entries.now ≡ entries_of_groups gs ++ rest → OpensNoGroup rest
-        → IfOk result (IsFragment tester.now.context.now tester.now.most rank
+    ensures is { (gs : Groups) (rest : List EntryOf) → entries.now ≡ entries_of_groups gs ++ rest
+        → OpensNoGroup rest → IfOk result (IsFragment tester.now.context.now tester.now.most rank
         (meant tester.now.context.now.signature values.now) (fragment_of fragment.now) gs rest) }
     ensures left { IfOk result (IsShownFrom tester.now.context.now.signature entries.now) }
 {
@@ -485,12 +491,12 @@ fn fragments<'e>(
     requires most { 1 ≤ tester.now.most }
     requires index { IsIndexOf tester.now.context.now tester.now.index.now }
     requires values { AreValues tester.now.context.now.signature values.now }
-    requires ready { AreReady tester.now.context.now.signature (meant tester.now.context.now.signature values.now)
+    requires ready { let sig = tester.now.context.now.signature in AreReady sig (meant sig values.now)
         (map fragment_of fragments.now) }
     requires entries { HaveAdmittedValues tester.now.context.now.signature entries.now }
-    ensures is { (gs : Groups) (rest : List EntryOf) → entries.now ≡ entries_of_groups gs ++ rest → OpensNoGroup rest
-        → IfOk result (IsCondition tester.now.context.now tester.now.most (suc rank) (map fragment_of fragments.now)
-        (meant tester.now.context.now.signature values.now) gs rest) }
+    ensures is { (gs : Groups) (rest : List EntryOf) → entries.now ≡ entries_of_groups gs ++ rest
+        → OpensNoGroup rest → IfOk result (IsCondition tester.now.context.now tester.now.most (suc rank)
+        (map fragment_of fragments.now) (meant tester.now.context.now.signature values.now) gs rest) }
     ensures left { IfOk result (IsShownFrom tester.now.context.now.signature entries.now) }
 {
     let mut count = Some(0);
@@ -530,12 +536,12 @@ fn condition<'e>(
     requires most { 1 ≤ tester.now.most }
     requires index { IsIndexOf tester.now.context.now tester.now.index.now }
     requires values { AreValues tester.now.context.now.signature values.now }
-    requires ready { AreReady tester.now.context.now.signature (meant tester.now.context.now.signature values.now)
+    requires ready { let sig = tester.now.context.now.signature in AreReady sig (meant sig values.now)
         (map fragment_of conditions.now) }
     requires entries { HaveAdmittedValues tester.now.context.now.signature entries.now }
-    ensures is { (gs : Groups) (rest : List EntryOf) → entries.now ≡ entries_of_groups gs ++ rest → OpensNoGroup rest
-        → IfOk result (IsCondition tester.now.context.now tester.now.most rank (map fragment_of conditions.now)
-        (meant tester.now.context.now.signature values.now) gs rest) }
+    ensures is { (gs : Groups) (rest : List EntryOf) → entries.now ≡ entries_of_groups gs ++ rest
+        → OpensNoGroup rest → IfOk result (IsCondition tester.now.context.now tester.now.most rank
+        (map fragment_of conditions.now) (meant tester.now.context.now.signature values.now) gs rest) }
     ensures left { IfOk result (IsShownFrom tester.now.context.now.signature entries.now) }
 {
     if rank > 0 {
@@ -567,8 +573,7 @@ fn replaced<'e>(
     requires entries { HaveAdmittedValues tester.now.context.now.signature entries.now }
     requires term { IsAdmittedTerm tester.now.context.now.signature term.now }
     ensures is { (gs : Groups) (behind : List EntryOf) → entries.now ≡ entries_of_groups gs ++ behind
-        → OpensNoGroup behind
-        → IfOk result (λ r. IsAnswerBefore tester.now.context.now tester.now.most rank
+        → OpensNoGroup behind → IfOk result (λ r. IsAnswerBefore tester.now.context.now tester.now.most rank
         (item_of step.now gs) behind term.now r.0 r.1.now) }
     ensures left { IfOk result (λ r. AreLeft tester.now.context.now.signature entries.now r.1.now) }
     ensures next { IfOk result (λ r. HasAdmittedNext tester.now.context.now.signature r.0) }
@@ -604,8 +609,8 @@ pub fn item<'e>(
     requires entries { HaveAdmittedValues tester.now.context.now.signature entries.now }
     requires term { IsAdmittedTerm tester.now.context.now.signature term.now }
     ensures is { (i : Item) (behind : List EntryOf) → entries.now ≡ entries_of_item i ++ behind → OpensNoGroup behind
-        → IfOk result (λ r. IsAnswerBefore tester.now.context.now tester.now.most rank i behind term.now r.0
-        r.1.now) }
+        → IfOk result
+        (λ r. IsAnswerBefore tester.now.context.now tester.now.most rank i behind term.now r.0 r.1.now) }
     ensures values { IfOk result (λ r. HaveAdmittedValues tester.now.context.now.signature r.1.now) }
     ensures shorter { IfOk result (λ r. length r.1.now < length entries.now) }
     ensures next { IfOk result (λ r. HasAdmittedNext tester.now.context.now.signature r.0) }

@@ -1,19 +1,16 @@
 // Items that are computed.
 ghost use Rattle.std.specs.Prelude.{◌≤◌, IfOk};
 ghost use Rattle.mw_canon.specs.Canonical.{IsAdmittedTerm};
-ghost use Rattle.mw_builtin.specs.Steps.{IsGroundTerm};
 ghost use Rattle.mw_index.specs.Index.{IsIndexOf};
 ghost use Rattle.mw_prooftext.specs.Grounds.{spot_of};
 ghost use Rattle.mw_prooftext.specs.Items.{built as built_at};
-ghost use Rattle.mw_redex.specs.Replaced.{replaced_at};
-ghost use Rattle.mw_check.specs.Answers.{IsAnswer, IsNext};
+ghost use Rattle.mw_check.specs.Answers.{IsAnswer};
 
 use crate::answer::{Answer, Cause};
 use crate::normal::Tester;
-use crate::parts::part_at;
+use crate::parts::{part_at, replaced};
 use crate::rows::{Computed, compute};
-use mw_canon::{CanonError, Facts};
-use mw_redex::{Place, replace};
+use mw_redex::Place;
 use mw_term::Term;
 use std::alloc::{AllocError, Global};
 
@@ -41,34 +38,12 @@ pub fn built(
         Computed::NoRow => Ok(Answer::Refused(Cause::Statement)),
         Computed::NotNormal => Ok(Answer::Refused(Cause::Condition)),
         Computed::Stopped(to) => {
-            let next = next_term(alloc, facts, term, place, to)?;
+            let next = replaced(alloc, facts, term, place, to)?;
             Ok(Answer::Stopped(next))
         }
-        Computed::Gives(to) => match next_term(alloc, facts, term, place, to)? {
+        Computed::Gives(to) => match replaced(alloc, facts, term, place, to)? {
             Some(next) => Ok(Answer::Passed(next, 1)),
             None => Ok(Answer::Refused(Cause::Limit)),
         },
-    }
-}
-
-/// The term with another at a place, where it is admitted.
-fn next_term(
-    alloc: Global,
-    facts: &Facts,
-    term: &Term,
-    place: &Place,
-    with: Term,
-) -> Result<Option<Term>, AllocError>
-    requires term { IsAdmittedTerm facts.now term.now }
-    requires with { IsAdmittedTerm facts.now with }
-    requires whole { IsGroundTerm facts.now (replaced_at facts.now place.now.path place.now.take with term.now) }
-    ensures { IfOk result (IsNext facts.now (replaced_at facts.now place.now.path place.now.take with term.now)) }
-{
-    facts.shows();
-    match replace(alloc, facts, term, place, with) {
-        Ok(next) => Ok(Some(next)),
-        Err(CanonError::Deep) => Ok(None),
-        Err(CanonError::Nat) => Ok(None),
-        Err(CanonError::Memory) => Err(AllocError),
     }
 }

@@ -1,14 +1,18 @@
-// What stands at a place of a term.
+// What stands at a place of a term, and the term with another there.
 ghost use Rattle.std.specs.Prelude.{◌≡◌, ◌↔◌, suc, length, option_map, IsTrue, IfOk, MatchOption};
 ghost use Rattle.mw_arguments.specs.Places.{chosen, Rise, Follow};
 ghost use Rattle.mw_logic.specs.Term.{RawTerm};
 ghost use Rattle.mw_logic.specs.Terms.{terms_of};
-ghost use Rattle.mw_prooftext.specs.Grounds.{spot_of};
+ghost use Rattle.mw_canon.specs.Canonical.{IsAdmittedTerm};
 ghost use Rattle.mw_redex.specs.Paths.{at_path as at_path_of};
+ghost use Rattle.mw_redex.specs.Replaced.{replaced_at};
+ghost use Rattle.mw_search.specs.Lacking.{IsKnown};
+ghost use Rattle.mw_prooftext.specs.Grounds.{spot_of};
 ghost use Rattle.mw_check.specs.Parts.{StandsAt, TakesSeveral, MayBeTaken};
+ghost use Rattle.mw_check.specs.Answers.{IsNext};
 
-use mw_canon::{Axioms, Facts};
-use mw_redex::Place;
+use mw_canon::{Axioms, CanonError, Facts};
+use mw_redex::{Place, replace};
 use mw_term::{Term, View, copy, numbered};
 use std::alloc::{AllocError, Global};
 
@@ -30,6 +34,28 @@ pub fn part_at(
     match &place.take {
         None => Ok(Some(copy(end)?)),
         Some(numbers) => taken(alloc, facts, end, numbers.as_slice()),
+    }
+}
+
+/// The term with another at the place, where it is admitted.
+pub fn replaced(
+    alloc: Global,
+    facts: &Facts,
+    term: &Term,
+    place: &Place,
+    with: Term,
+) -> Result<Option<Term>, AllocError>
+    requires term { IsAdmittedTerm facts.now term.now }
+    requires with { IsAdmittedTerm facts.now with }
+    ensures { let whole = replaced_at facts.now place.now.path place.now.take with term.now in
+        IfOk result (λ next. IsKnown facts.now whole → IsNext facts.now whole next) }
+{
+    facts.shows();
+    match replace(alloc, facts, term, place, with) {
+        Ok(next) => Ok(Some(next)),
+        Err(CanonError::Deep) => Ok(None),
+        Err(CanonError::Nat) => Ok(None),
+        Err(CanonError::Memory) => Err(AllocError),
     }
 }
 

@@ -8,17 +8,16 @@ ghost use Rattle.mw_logic.specs.NormalForm.{normal_form};
 ghost use Rattle.mw_logic.specs.Module.{binds_statement};
 ghost use Rattle.mw_term.specs.Raws.{raw_term};
 ghost use Rattle.mw_canon.specs.Canonical.{IsAdmittedTerm, HasAdmittedValues, meant};
-ghost use Rattle.mw_redex.specs.Replaced.{replaced_at, IsOpenWay, way_of_place};
+ghost use Rattle.mw_redex.specs.Replaced.{IsOpenWay, way_of_place};
 ghost use Rattle.mw_least.specs.Workable.{AreSides};
-ghost use Rattle.mw_search.specs.Lacking.{IsKnown};
 ghost use Rattle.mw_prooftext.specs.Grounds.{spot_of};
 ghost use Rattle.mw_check.specs.Parts.{StandsAt};
 ghost use Rattle.mw_check.specs.Answers.{ReplacesBy, IsNext};
 
-use crate::parts::part_at;
+use crate::parts::{part_at, replaced};
 use mw_canon::{CanonError, Facts, instance};
 use mw_least::Ctx;
-use mw_redex::{Place, is_open, replace};
+use mw_redex::{Place, is_open};
 use mw_term::{Raw, Statement, Subst, Term, same};
 use std::alloc::{AllocError, Global};
 
@@ -139,27 +138,5 @@ fn is_open_at(
             way.push(1)?;
             Ok(is_open(facts, term, way.as_slice()))
         }
-    }
-}
-
-/// The term with another at the place, where it is admitted.
-fn replaced(
-    alloc: Global,
-    facts: &Facts,
-    term: &Term,
-    place: &Place,
-    with: Term,
-) -> Result<Option<Term>, AllocError>
-    requires term { IsAdmittedTerm facts.now term.now }
-    requires with { IsAdmittedTerm facts.now with }
-    ensures { let whole = replaced_at facts.now place.now.path place.now.take with term.now in
-        IfOk result (λ next. IsKnown facts.now whole → IsNext facts.now whole next) }
-{
-    facts.shows();
-    match replace(alloc, facts, term, place, with) {
-        Ok(next) => Ok(Some(next)),
-        Err(CanonError::Deep) => Ok(None),
-        Err(CanonError::Nat) => Ok(None),
-        Err(CanonError::Memory) => Err(AllocError),
     }
 }

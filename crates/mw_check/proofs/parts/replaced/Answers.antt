@@ -2,7 +2,7 @@ use Rattle.std.proofs.Common.{◌≡◌, ◌∙◌, sym}
 use Rattle.mw_canon.specs.declared.CanonError.TheVariants.{Deep, Nat, Memory}
 use Rattle.mw_redex.specs.Replaced.{replaced_at}
 use Rattle.mw_check.proofs.PlacingParts.{next_within, next_past}
-use Rattle.mw_check.proofs.replacing.replaced.Goals as goal
+use Rattle.mw_check.proofs.parts.replaced.Goals as goal
 
 pub returns-in-Ok : goal.returns-in-Ok
 returns-in-Ok c = λ known.
