@@ -511,26 +511,41 @@ def add_record(module, words):
             raise ValueError("no record")
 
 
-def main(words):
+def read_module(lines):
+    """The module that the lines of a flat file tell; or a ValueError with the one that is at fault."""
     module, number = Module(), 0
+    try:
+        for number, line in enumerate(lines, 1):
+            add_record(module, line.split())
+        if not module.is_whole():
+            raise ValueError("more records are needed")
+    except (Refused, ValueError, LookupError, AttributeError) as fault:
+        raise ValueError(f"line {number}: {fault!r}") from None
+    return module
+
+
+def answers(module, text):
+    """What is said of the proof texts in a text, in order."""
+    tokens = tokens_of(text)
+    ends = [at for at, token in enumerate(tokens, 1) if token == "endproof"]
+    texts = [tokens[start:end] for start, end in zip([0, *ends], [*ends, len(tokens)]) if start < end]
+    return [Checker(module).verdict(text) for text in texts]
+
+
+def main(words):
     try:
         [path] = words
         with open(path, encoding="latin-1") as file:
-            for number, line in enumerate(file, 1):
-                add_record(module, line.split())
-        if not module.is_whole():
-            raise ValueError("more records are needed")
-    except (OSError, Refused, ValueError, LookupError, AttributeError) as fault:
-        print(f"usage: tools/second_check.py MODULE.flat < TEXTS; at line {number}: {fault!r}", file=sys.stderr)
+            module = read_module(file)
+    except (OSError, ValueError) as fault:
+        print(f"usage: tools/second_check.py MODULE.flat < TEXTS; {fault}", file=sys.stderr)
         return 2
-    tokens = tokens_of(sys.stdin.buffer.read().decode("latin-1"))
-    ends = [at for at, token in enumerate(tokens, 1) if token == "endproof"]
-    texts = [tokens[start:end] for start, end in zip([0, *ends], [*ends, len(tokens)]) if start < end]
-    answers = [Checker(module).verdict(text) for text in texts]
-    for number, answer in enumerate(answers, 1):
+    found = answers(module, sys.stdin.buffer.read().decode("latin-1"))
+    for number, answer in enumerate(found, 1):
         print(f"proof {number}: {answer}")
-    return int(any(answer.startswith("no") for answer in answers))
+    return int(any(answer.startswith("no") for answer in found))
 
 
 sys.setrecursionlimit(100_000)
-sys.exit(main(sys.argv[1:]))
+if __name__ == "__main__":
+    sys.exit(main(sys.argv[1:]))
