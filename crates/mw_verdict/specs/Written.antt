@@ -1,12 +1,14 @@
 -- How texts are answered that were written of kept proofs: their items pass all tests but those of conditions.
-use Rattle.std.specs.Prelude.{◌≡◌, ℕ, false, ⊤}
-use Rattle.mw_logic.specs.Term.{RawTerm}
+use Rattle.std.specs.Prelude.{◌≡◌, ◌⊎◌, ℕ, [], false, ⊤, codes}
+use Rattle.mw_logic.specs.Term.{RawTerm, binary}
+use Rattle.mw_logic.specs.Axioms.{EqualModulo}
 use Rattle.mw_logic.specs.Accepted.{IsAccepted}
-use Rattle.mw_logic.specs.Module.{Module}
-use Rattle.mw_deduction.specs.Runs.{Dones}
-use Rattle.mw_prooftext.specs.Items.{step, built, Items, none, more, end}
-use Rattle.mw_prooftext.specs.Tells.{Tells}
+use Rattle.mw_logic.specs.Module.{Statement, Module, IsStatement, IsPolymorphic}
+use Rattle.mw_redex.specs.Replaced.{IsPartAt}
+use Rattle.mw_prooftext.specs.Items.{Item, step, built, Items, none, more, end}
 use Rattle.mw_prooftext.specs.Passing.{Passes}
+use Rattle.mw_verdict.specs.Checks.{IsFormOf}
+use Rattle.mw_verdict.specs.Leads.{LeadsOne}
 use Rattle.mw_verdict.specs.Verdicts.{Cause, IsYes, IsNo}
 use Rattle.mw_verdict.specs.Exclusion.{HasOneRow, IsCertain}
 
@@ -16,14 +18,21 @@ PassingAnswered =
     (M : Module) → IsAccepted M.signature → HasOneRow M → (most n : ℕ) → (items : Items) (from to : RawTerm) → Passes M n items from to
     → (j : ℕ) (c : Cause) → IsCertain c → ¬ IsNo M most from to items j c
 
--- items by statements alone, without groups, of which none is told to be an `owise` equation
-abbrev pub AreFree : Items → Type 0
-AreFree none = ⊤
-AreFree (more (step owise k at vs gs) is) = (owise ≡ false) × (gs ≡ end) × AreFree is
-AreFree (more (built at) is) = ⊥
+-- An item at t without evidence: by a statement without a condition, which isn't told to be an `owise` equation; or computed, where the part is no test of terms
+-- that differ, as whichever form it is taken.
+abbrev pub IsFree : Module → Item → RawTerm → Type 0
+IsFree M (step owise k at vs gs) t = (owise ≡ false) × (gs ≡ end) × ((st : Statement) → IsStatement M k st → st.fragments ≡ [])
+IsFree M (built at) t =
+    (f : ℕ) (w a b : RawTerm) → IsPartAt M.signature at.path at.take t w → IsFormOf M.signature w (binary f a b)
+    → IsPolymorphic M.signature f (codes "_==_") ⊎ IsPolymorphic M.signature f (codes "_=/=_") → EqualModulo M.signature a b
 
--- Such items, which tell a run, are answered yes; no is no answer to them.
+-- the same of items, each where those before it lead
+abbrev pub AreFree : Module → Items → RawTerm → Type 0
+AreFree M none t = ⊤
+AreFree M (more i is) t = IsFree M i t × ((v : RawTerm) → LeadsOne M i t v → AreFree M is v)
+
+-- Such items are answered yes; no is no answer to them.
 abbrev pub FreeAnswered : Type 0
 FreeAnswered =
-    (M : Module) → IsAccepted M.signature → HasOneRow M → (most n : ℕ) → (items : Items) (from to : RawTerm) (ds : Dones) → Tells M items from to ds → Passes M n items from to → AreFree items
+    (M : Module) → IsAccepted M.signature → HasOneRow M → (most n : ℕ) → (items : Items) (from to : RawTerm) → Passes M n items from to → AreFree M items from
     → ((count : ℕ) × IsYes M most from to items count) × ((j : ℕ) (c : Cause) → ¬ IsNo M most from to items j c)
