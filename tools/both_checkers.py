@@ -15,48 +15,37 @@ from collections import Counter
 from concurrent.futures import ProcessPoolExecutor
 from functools import partial
 import os
-import pathlib
 import random
 import re
 import subprocess
 import sys
 
+from cases import TOP, all_cases
 import second_check
 
-TOP = pathlib.Path(__file__).resolve().parent.parent
 SECONDS = 60
-LEAST_TEXTS = 15_000
+LEAST_TEXTS = 60_000
 LONGEST = 60_000                                        # characters of a text; longer ones are left out
+HEAD = 4                                                # tokens up to the module's name, which may be a bracket
 PER_KIND = 2                                            # errors of one kind in a text
 LEAST_ERRORS, MOST_LETTERS = 10, 40_000                 # errors in a long text; more, up to so many characters in all
 REWRITES = "200"                                        # of a command of examples/
 MOST = "1000"                                           # rewrites of each side of a condition where `mw check` tests
+SEARCH = 10_000                                         # tries of one search of the second checker
 PRELUDE = {"BOOL", "NAT", "QID", "CONFIGURATION"}
 # The second checker computes no test of three terms, which a module makes associative.
-LEFT_OUT = {"equality with axioms of the module itself"}
+LEFT_OUT = {"cases/truth.txt: equality with axioms of the module itself"}
 TOKEN = re.compile(r"[()\[\]{},]|(?:`[()\[\]{},]|[^\s()\[\]{},])+")
 WORDS = {"proof", "in", "from", "step", "at", "take", "with", "where", "to", "endproof"}
-BYTE = re.compile(r"\{byte (\d+)\}")
-REPEATED = re.compile(r"\{(\d+) x (\}|[^}]+)\}")
-
-
-def cases():
-    """Cases, each with its file's name, its title, its source and its words."""
-    for file in sorted((TOP / "cases").glob("*.txt")):
-        for case in re.split(r"^== case: ", file.read_text("latin-1"), flags=re.M)[1:]:
-            front = case.split("\n== prints")[0]
-            words = re.search(r"^== words: (.*)", front, re.M)
-            source = BYTE.sub(lambda mark: chr(int(mark[1])), re.split(r"\n== .*\n", front)[-1])
-            yield file.name, case.splitlines()[0], source, words[1] if words else "run"
 
 
 def sources():
-    """Sources, each with a title and with the words by which it is run. Of cases those that run without long texts."""
-    for name, title, source, words in cases():
-        if words.startswith("run") and not REPEATED.search(source) and title not in LEFT_OUT:
-            yield f"{name}: {title}", source, words if "--proof" in words else f"{words} --proof"
+    """Sources, each with a title and with the words by which it is run: of the cases that run, and the examples."""
+    for case in all_cases():
+        if case.words.startswith("run") and not case.aside and case.title not in LEFT_OUT:
+            yield case.title, case.source, case.words if "--proof" in case.words else f"{case.words} --proof"
     for file in sorted((TOP / "examples").glob("*.maude")):
-        yield file.name, file.read_text("latin-1"), f"run --proof --max {REWRITES}"
+        yield f"examples/{file.name}", file.read_text("latin-1"), f"run --proof --max {REWRITES}"
 
 
 def printed(words, text):
@@ -76,6 +65,8 @@ class Text:
         for place, token in enumerate(tokens):
             rule = token if token in WORDS else rule
             self.rules.append(rule)
+            if place < HEAD:
+                continue
             if token in ("step", "}", "to") and open_steps[-1] is not None:
                 self.spans["step"].append((open_steps.pop(), place))
                 open_steps.append(None)
@@ -307,6 +298,7 @@ def differences(program, flattener):
 
 
 if __name__ == "__main__":
+    second_check.WORK = SEARCH
     built = TOP / "crates" / "mw_flat" / "out" / "mw_flat"
     wrong, line = differences(os.environ.get("MW", str(TOP / "mw")), os.environ.get("FLAT", str(built)))
     print(*wrong, line, sep="")
