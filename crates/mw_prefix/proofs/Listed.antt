@@ -32,6 +32,3 @@ raws_number (t ∷ ts) = ap suc (raws_number ts)
 -- what an operator takes, by whether it is associative
 pub associative_takes : (sig : Signature) (o : Operator) (ts : List Raw) → o.assoc ≡ true → operator_takes sig (Some o) (raw_terms ts) ≡ (nat_le 2 (length ts) && are_of_kind sig o.result (raw_terms ts))
 associative_takes sig o ts h = rw (h, raws_number ts) refl
-
-pub other_takes : (sig : Signature) (o : Operator) (ts : List Raw) → o.assoc ≡ false → operator_takes sig (Some o) (raw_terms ts) ≡ are_of_kinds sig o.args (raw_terms ts)
-other_takes sig o ts h = rw h refl

@@ -1,6 +1,6 @@
 -- Why something isn't read, passed on.
-use Rattle.std.proofs.Common.{◌≡◌, ℕ, true, false, sym, subst}
-use Rattle.std.specs.Prelude.{Result, Ok, Err, IfOk, IfErr, IsErr, IsErrAnd}
+use Rattle.std.proofs.Common.{◌≡◌, ℕ, sym, subst}
+use Rattle.std.specs.Prelude.{Result, Ok, Err, IfOk, IfErr, IsErrAnd}
 use Rattle.mw_proofread.specs.declared.fault.Fault.{Fault}
 use Rattle.mw_proofread.specs.declared.fault.Fault.TheVariants.{Outside, Memory}
 use Rattle.mw_proofread.specs.declared.fault.ReadError.{ReadError}
@@ -14,10 +14,6 @@ on_outside P Q Memory g h = tt
 pub passed : {A : Type 0} (Q : Type 0) (r : Result A Fault) (f : Fault) → IsErrAnd r (λ e. e ≡ f) → OnOutside Q f → IfErr r (OnOutside Q)
 passed Q (Ok x) f h k = tt
 passed Q (Err e) f h k = subst (OnOutside Q) (sym h) k
-
-pub no_ok : {A E : Type 0} (P : A → Type 0) (r : Result A E) → IsErr r → IfOk r P
-no_ok P (Ok x) h = let e : false ≡ true = h in cc
-no_ok P (Err e) h = tt
 
 -- at a part of a whole text
 pub at_part : (P : ℕ → Type 0) (f : Fault) (n : ℕ) (e : ReadError) → IsAt f n e → OnOutside (P n) f → OutsideAt P e

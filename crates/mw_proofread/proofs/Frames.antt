@@ -10,7 +10,7 @@ use Rattle.mw_proofread.specs.declared.frame.Frame.{Frame}
 use Rattle.mw_proofread.specs.Reading.{IsCount, capped_item}
 use Rattle.mw_proofread.specs.Outside.{IsFollowed, HasItem}
 use Rattle.mw_proofread.specs.Parts.{NotFirst, EndsLine, Line, by_statement, by_row, line_tokens, entry_of, HasLine, NoLine, Completes, HasEntries, Awaits, Steps, Stops, IsUnderWay}
-use Rattle.mw_proofread.proofs.Completing.{line_ends, line_stops, line_opens, open_stops, no_line_stops, no_group_stops, too_many_stops, brace_ends, brace_stops, brace_opens}
+use Rattle.mw_proofread.proofs.Completing.{line_ends, line_stops, line_opens, open_stops, no_line_stops, brace_ends, brace_opens}
 
 reverse_last : (xs : List Frame) (x : Frame) → reverse (xs ++ x ∷ []) ≡ x ∷ reverse xs
 reverse_last xs x = reverse-append xs (x ∷ [])
@@ -28,15 +28,9 @@ line_shorter M (by_row s) rest = omega (arith, length-append (line_tokens M.sign
 
 module _ (M : Module) where
   -- behind a brace
-  pub closed_none : (before : List Frame) (rest : List (List ℕ)) → before ≡ [] → Stops M (reverse before) (codes "}" ∷ rest)
-  closed_none before rest e = subst (λ z. Stops M (reverse z) (codes "}" ∷ rest)) (sym e) (no_group_stops M rest)
-
   module _ (before popped : List Frame) (f : Frame) (is : before ≡ popped ++ f ∷ []) where
     at_top : (P : List Frame → Type 0) → P (f ∷ reverse popped) → P (reverse before)
     at_top P h = subst P (sym (ap reverse is ∙ reverse_last popped f)) h
-
-    pub closed_many : (rest : List (List ℕ)) → ((n : ℕ) → ¬ IsCount f.wanted (suc n)) → Stops M (reverse before) (codes "}" ∷ rest)
-    closed_many rest h = at_top (λ z. Stops M z (codes "}" ∷ rest)) (too_many_stops M f (reverse popped) rest h)
 
     pub closed_ends : (g : Frame) (rest : List (List ℕ)) (old new : List Entry) → AsMany f g → NotFirst (codes "{") rest → IsCount g.wanted 0 → length before ≤ 63 → new ≡ old ++ (Close ∷ []) → Steps M (reverse before) (reverse popped) (codes "}" ∷ rest) rest old new
     closed_ends g rest old new h n c deep p =
@@ -44,9 +38,6 @@ module _ (M : Module) where
         let k : length before ≡ length (popped ++ f ∷ []) = ap length is in
         let r = length-reverse popped in
         at_top (λ z. Steps M z (reverse popped) (codes "}" ∷ rest) rest old new) (brace_ends M f (reverse popped) rest old new n ((h 0).1 c) (omega (arith, l, k, r, deep)) p)
-
-    pub closed_stops : (g : Frame) (rest : List (List ℕ)) → AsMany f g → NotFirst (codes "{") rest → ¬ IsCount g.wanted 0 → Stops M (reverse before) (codes "}" ∷ rest)
-    closed_stops g rest h n c = at_top (λ z. Stops M z (codes "}" ∷ rest)) (brace_stops M f (reverse popped) rest n (λ k. c ((h 0).0 k)))
 
     pub closed_opens : (g : Frame) (after : List Frame) (ts rest : List (List ℕ)) (old mid new : List Entry) → AsMany f g → after ≡ popped ++ g ∷ [] → ts ≡ codes "{" ∷ rest → mid ≡ old ++ (Close ∷ []) → new ≡ mid ++ (Open ∷ [])
         → Steps M (reverse before) (reverse after) (codes "}" ∷ ts) rest old new

@@ -1,5 +1,5 @@
 -- Values and lines that are read, and tokens that have none.
-use Rattle.std.proofs.Common.{◌≡◌, ◌≢◌, ◌∙◌, ◌<◌, ℕ, List, [], ◌∷◌, ◌++◌, length, Some, false, refl, ap, sym, subst, arith, append_assoc, length-append}
+use Rattle.std.proofs.Common.{◌≡◌, ◌∙◌, ℕ, List, [], ◌∷◌, ◌++◌, length, Some, false, refl, ap, sym, subst, arith, append_assoc}
 use Rattle.std.specs.Prelude.{codes}
 use Rattle.mw_logic.specs.Term.{RawTerm}
 use Rattle.mw_logic.specs.Signature.{Signature}
@@ -11,10 +11,10 @@ use Rattle.mw_prooftext.specs.Items.{Spot}
 use Rattle.mw_proofread.specs.Numbers.{number_text, capped, saturated}
 use Rattle.mw_proofread.specs.TokenTexts.{form_tokens, values_tokens, with_tokens, spot_tokens}
 use Rattle.mw_proofread.specs.Reading.{IsWritten, AreWritten, IsCount, values_of, groups_of}
-use Rattle.mw_proofread.specs.Parts.{AreLow, IsHigh, NoForm, NoNumber, NotFirst, EndsLine, Line, by_statement, by_row, line_tokens, IsLine, HasPlace, HasValue, HasValues, HasWith, HasLine, NoPlace, NoValue, NoValues, NoWith, NoLine}
+use Rattle.mw_proofread.specs.Parts.{AreLow, IsHigh, NoForm, NoNumber, NotFirst, EndsLine, Line, by_statement, by_row, line_tokens, IsLine, HasPlace, HasValue, HasWith, HasLine, NoPlace, NoValue, NoValues, NoWith, NoLine}
 use Rattle.mw_proofread.proofs.Digits.{number_one}
 use Rattle.mw_proofread.proofs.Low.{form_low, low_one, ends_other, ends_spot}
-use Rattle.mw_proofread.proofs.Fronts.{first_is, rest_is, not_first, spot_one, value_apart, values_one, with_one, with_ends_spot, statement_apart, not_built}
+use Rattle.mw_proofread.proofs.Fronts.{first_is, rest_is, not_first, spot_one, value_apart, with_one, with_ends_spot, statement_apart, not_built}
 use Rattle.mw_proofread.proofs.Tails.{value_one}
 
 -- low tokens that are no form, in front of others
@@ -38,9 +38,6 @@ module _ (sig : Signature) where
     pub is : tokens ≡ values_tokens sig found ++ rest
     pub written : AreWritten sig found
     pub complete : (ts : List RawTerm) (last : List (List ℕ)) → AreWritten sig ts → NotFirst (codes "[") last → tokens ≡ values_tokens sig ts ++ last → (us : List RawTerm) × AreWritten sig us × (rest ≡ values_tokens sig us ++ last)
-
-  pub values_start : (tokens : List (List ℕ)) (found : List RawTerm) → found ≡ [] → AreValuesTo tokens found tokens
-  values_start tokens found e = subst (λ z. AreValuesTo tokens z tokens) (sym e) (record { is = refl; written = tt; complete = λ ts last w n k. (ts, w, k) })
 
   -- the first value
   record HasFirst (inner last : List (List ℕ)) : Type 0 where
@@ -79,17 +76,6 @@ module _ (sig : Signature) where
         complete = λ ts last w n k. let (us, a, m) = behind_first ts last w n k in (us, a, rest_is (sym b ∙ m));
       })
 
-      pub shorter_value : (next : List (List ℕ)) → behind ≡ codes "]" ∷ next → length next < length rest
-      shorter_value next b =
-          let a = ap length is in
-          let c = ap length v.is in
-          let d = length-append (form_tokens sig t) behind in
-          let f = ap length b in
-          omega (arith, a, c, d, f)
-
-  pub values_end : (tokens rest : List (List ℕ)) (found : List RawTerm) → AreValuesTo tokens found rest → NotFirst (codes "[") rest → HasValues sig tokens found rest
-  values_end tokens rest found to n = record { is = to.is; written = to.written; ends = n }
-
   -- with the word
   pub without : (tokens : List (List ℕ)) (found : List RawTerm) → found ≡ [] → NotFirst (codes "with") tokens → HasWith sig tokens found tokens
   without tokens found e n = subst (λ z. HasWith sig tokens z tokens) (sym e) (record { is = refl; written = tt; ends = λ k. absurd (k refl); no_more = λ k. n })
@@ -98,17 +84,6 @@ module _ (sig : Signature) where
     pub no_values : NoValues sig behind → NoWith sig tokens
     no_values m [] r w e k = not_first (codes "with") r behind (ends_other (codes "with") refl r e) (sym k ∙ is)
     no_values m (t ∷ ts) r w e k = m (t ∷ ts) r w (ends_other (codes "[") refl r e) (rest_is (sym is ∙ k))
-
-    pub none_with : (found : List RawTerm) (rest : List (List ℕ)) → HasValues sig behind found rest → found ≡ [] → NoWith sig tokens
-    none_with found rest h z [] r w e k = not_first (codes "with") r behind (ends_other (codes "with") refl r e) (sym k ∙ is)
-    none_with found rest h z (t ∷ ts) r w e k =
-        let (l, m) = values_one sig found (t ∷ ts) rest r h.written w h.ends (ends_other (codes "[") refl r e) (sym h.is ∙ rest_is (sym is ∙ k)) in
-        let n : length found ≡ 0 = ap length z in
-        omega (arith, l, n)
-
-    pub has_with : (found : List RawTerm) (rest : List (List ℕ)) → HasValues sig behind found rest → found ≢ [] → HasWith sig tokens found rest
-    has_with [] rest h n = absurd (n refl)
-    has_with (t ∷ ts) rest h n = record { is = is ∙ ap (λ z. codes "with" ∷ z) h.is; written = h.written; ends = λ k. h.ends; no_more = λ k. cc }
 
 module _ (M : Module) where
   -- a row

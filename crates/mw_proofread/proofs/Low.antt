@@ -80,10 +80,6 @@ pub high_no_number : (ws : List (List ℕ)) → IsHigh ws → NoNumber ws
 high_no_number [] h = tt
 high_no_number (w ∷ ws) h = λ n e. both (is_low w) h (ap is_low e ∙ number_low n)
 
--- what a word is not
-pub word_no_number : (w : List ℕ) (ws : List (List ℕ)) → is_low w ≡ false → NoNumber (w ∷ ws)
-word_no_number w ws h = high_no_number (w ∷ ws) h
-
 -- words behind a line
 is_word : (x w : List ℕ) → bytes_eq x w ≡ true → x ≡ w
 is_word x w h = (bytes_eq-Decides x w).0 h

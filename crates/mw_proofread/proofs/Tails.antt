@@ -1,5 +1,5 @@
 -- Heads, and what stands behind them.
-use Rattle.std.proofs.Common.{◌≡◌, ◌≢◌, ◌∙◌, ◌<◌, ◌≤◌, ℕ, zero, suc, List, [], ◌∷◌, ◌++◌, length, refl, ap, sym, subst, arith, append_assoc, append-nil, length-append}
+use Rattle.std.proofs.Common.{◌≡◌, ◌≢◌, ◌∙◌, ◌<◌, ℕ, zero, suc, List, [], ◌∷◌, ◌++◌, length, refl, ap, sym, subst, arith, append_assoc, append-nil, length-append}
 use Rattle.std.specs.Prelude.{codes}
 use Rattle.mw_logic.specs.Term.{RawTerm}
 use Rattle.mw_logic.specs.Signature.{Signature}
@@ -10,9 +10,9 @@ use Rattle.mw_items.specs.declared.Entry.{Entry}
 use Rattle.mw_proofread.specs.Numbers.{number_text}
 use Rattle.mw_proofread.specs.TokenTexts.{form_tokens, items_tokens, item_tokens, head_tokens, end_tokens}
 use Rattle.mw_proofread.specs.Reading.{IsWritten, IsText, capped_items}
-use Rattle.mw_proofread.specs.Outside.{IsFollowed, HasHead, HasItem, HasEnd, HasItems, IsOutside}
-use Rattle.mw_proofread.specs.Parts.{IsHigh, NotFirst, HasValue, NoValue, HasEntries}
-use Rattle.mw_proofread.specs.Whole.{title_tokens, HasTail, HasStop}
+use Rattle.mw_proofread.specs.Outside.{IsFollowed, HasHead, HasItem, HasEnd, HasItems}
+use Rattle.mw_proofread.specs.Parts.{IsHigh, NotFirst, HasValue, HasEntries}
+use Rattle.mw_proofread.specs.Whole.{title_tokens, HasTail}
 use Rattle.mw_proofread.proofs.Low.{form_low, low_one, next_ends, ends_high}
 use Rattle.mw_proofread.proofs.Fronts.{rest_is, not_first}
 use Rattle.mw_proofread.proofs.Completing.{item_first}
@@ -41,9 +41,6 @@ value_one sig ts t u r s v w h e = (low_one (form_tokens sig t) (form_tokens sig
 
 module _ (M : Module) where
   -- heads
-  pub no_from : (tokens mid : List (List ℕ)) (name : List ℕ) → tokens ≡ title_tokens name ++ mid → NotFirst (codes "from") mid → (rest : List (List ℕ)) → ¬ HasHead M tokens rest
-  no_from tokens mid name title n rest h = not_first (codes "from") mid _ n (behind_title name h.name mid (codes "from" ∷ (form_tokens M.signature h.from ++ rest)) (sym title ∙ h.is))
-
   module _ (tokens all mid : List (List ℕ)) (name : List ℕ) (title : tokens ≡ title_tokens name ++ all) (word : all ≡ codes "from" ∷ mid) where
     pub head_is : (from : RawTerm) (rest : List (List ℕ)) → HasValue M.signature mid from rest → IsFollowed rest → (h : HasHead M tokens rest) × (h.from ≡ from)
     head_is from rest v f = (record { name = name; from = from; is = title ∙ ap (λ z. title_tokens name ++ z) (word ∙ ap (λ z. codes "from" ∷ z) v.is); written = v.written; followed = f }, refl)
@@ -51,21 +48,12 @@ module _ (M : Module) where
     head_behind : (rest : List (List ℕ)) (h : HasHead M tokens rest) → mid ≡ form_tokens M.signature h.from ++ rest
     head_behind rest h = rest_is (sym word ∙ behind_title name h.name all (codes "from" ∷ (form_tokens M.signature h.from ++ rest)) (sym title ∙ h.is))
 
-    pub no_value_head : NoValue M.signature mid → (rest : List (List ℕ)) → ¬ HasHead M tokens rest
-    no_value_head n rest h = n h.from rest h.written (followed_high rest h.followed) (head_behind rest h)
-
     pub unfollowed_head : (from : RawTerm) (rest : List (List ℕ)) → HasValue M.signature mid from rest → ¬ IsFollowed rest → (last : List (List ℕ)) → ¬ HasHead M tokens last
     unfollowed_head from rest v n last h = n (subst IsFollowed (sym (value_one M.signature mid from h.from rest last v h.written (followed_high last h.followed) (head_behind last h))) h.followed)
-
-  pub untitled_head : (tokens : List (List ℕ)) → ((name : List ℕ) (rest : List (List ℕ)) → tokens ≢ title_tokens name ++ rest) → (rest : List (List ℕ)) → ¬ HasHead M tokens rest
-  untitled_head tokens n rest h = n h.name (codes "from" ∷ (form_tokens M.signature h.from ++ rest)) h.is
 
   -- ends
   pub end_is : (ts : List (List ℕ)) (to : RawTerm) (rest : List (List ℕ)) → HasValue M.signature ts to rest → rest ≡ [] → (h : HasEnd M (codes "to" ∷ ts)) × (h.to ≡ to)
   end_is ts to rest v e = (record { to = to; is = ap (λ z. codes "to" ∷ z) (v.is ∙ ap (λ z. form_tokens M.signature to ++ z) e ∙ append-nil (form_tokens M.signature to)); written = v.written }, refl)
-
-  pub no_value_end : (ts : List (List ℕ)) → NoValue M.signature ts → ¬ HasEnd M (codes "to" ∷ ts)
-  no_value_end ts n h = n h.to [] h.written tt (rest_is h.is ∙ sym (append-nil (form_tokens M.signature h.to)))
 
   pub other_end : (ts : List (List ℕ)) (to : RawTerm) (rest : List (List ℕ)) → HasValue M.signature ts to rest → rest ≢ [] → ¬ HasEnd M (codes "to" ∷ ts)
   other_end ts to rest v n h = n (value_one M.signature ts to h.to rest [] v h.written tt (rest_is h.is ∙ sym (append-nil (form_tokens M.signature h.to))))
@@ -107,16 +95,6 @@ module _ (M : Module) where
       let k : length ts ≡ length (codes "step" ∷ (ws ++ rest)) = ap length (h.is ∙ ap (λ z. z ++ rest) e) in
       omega (arith, k, length-append ws rest)
 
-  pub followed_some : (ts : List (List ℕ)) → IsFollowed ts → 1 ≤ length ts
-  followed_some [] h = absurd h
-  followed_some (w ∷ ws) h = omega arith
-
-  pub end_no_item : (ts ws : List (List ℕ)) → ts ≡ codes "to" ∷ ws → (rest : List (List ℕ)) → ¬ HasItem M ts rest
-  end_no_item ts ws e rest h = let (vs, k) = item_first M h.item h.has_form in let all : codes "to" ∷ ws ≡ codes "step" ∷ (vs ++ rest) = sym e ∙ h.is ∙ ap (λ z. z ++ rest) k in cc
-
-  pub item_no_end : (ts : List (List ℕ)) → NotFirst (codes "to") ts → ¬ HasEnd M ts
-  item_no_end ts n h = not_first (codes "to") ts _ n h.is
-
   -- the whole
   pub text_is : (tokens mid : List (List ℕ)) (from to : RawTerm) (old new : List Entry) (h : HasHead M tokens mid) → h.from ≡ from → old ≡ [] → HasTail M mid to old new
       → (items : Items) × IsText M tokens 1 from items to × (new ≡ entries_of (capped_items items))
@@ -133,6 +111,3 @@ module _ (M : Module) where
     },
     t.entries ∙ ap (λ z. z ++ entries_of (capped_items t.items)) o,
   )
-
-  pub stop_is : (tokens mid : List (List ℕ)) (j : ℕ) → HasHead M tokens mid → HasStop M mid j → IsOutside M tokens j
-  stop_is tokens mid j h s = subst (IsOutside M tokens) (sym s.is) (record { items = mid; rest = s.rest; head = h; before = s.before; no_end = s.no_end; no_item = s.no_item })
