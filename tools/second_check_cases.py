@@ -2,14 +2,20 @@
 """Runs tools/second_check.py on the texts of cases/second_check.txt, and tells each answer that isn't the one there.
 
 A part of that file begins with `## ` and its title. The first part is a flat file; each other one has an answer in a
-line of its own and a proof text behind it."""
+line of its own and a proof text behind it. The module stands before the parts, indented. It was flattened before there
+was mw_flat, which must print it so but for its frozen argument. $FLAT names that program; without it that is the one
+that the gate built."""
+import os
 import pathlib
+import re
 import subprocess
 import sys
 import tempfile
 
 TOP = pathlib.Path(__file__).resolve().parent.parent
+FLATTENER = os.environ.get("FLAT", str(TOP / "crates" / "mw_flat" / "out" / "mw_flat"))
 LEAST_TEXTS = 30
+MODULE = re.compile(r"^    mod .*?^    endm$", re.M | re.S)
 
 
 def parts_of(text):
@@ -29,8 +35,17 @@ def told(flat, texts):
     return done.stdout.splitlines(), done.returncode
 
 
+def is_printed(source, flat):
+    """Whether mw_flat prints the flat file for a source, but for what is frozen."""
+    done = subprocess.run([FLATTENER], input=source, stdout=subprocess.PIPE, text=True)
+    return done.stdout == re.sub(r"^  frozen .*\n", "", flat, flags=re.M)
+
+
 def main():
-    (_, flat), *cases = parts_of((TOP / "cases" / "second_check.txt").read_text("ascii"))
+    text = (TOP / "cases" / "second_check.txt").read_text("ascii")
+    (_, flat), *cases = parts_of(text)
+    if not is_printed(MODULE.search(text)[0], flat):
+        sys.exit("mw_flat prints another flat file than the one in cases/second_check.txt")
     answers, texts = zip(*(case.split("\n", 1) for _, case in cases))
     lines, status = told(flat, texts)
     wrong = 0
