@@ -293,8 +293,8 @@ def differences(program, flattener):
     amiss = [text for _, texts in found for text in texts]
     if counts.total() < LEAST_TEXTS:
         amiss.append(f"only {counts.total()} texts\n")
-    return amiss, (f"{counts.total()} texts: {counts['ye']} right, {counts['no']} wrong, {counts['unsure']} not told by "
-                   f"one of two checkers, {len(amiss)} amiss")
+    return amiss, (f"{counts.total()} texts: {counts['ye']} right, {counts['no']} wrong, {counts['unsure']} not told "
+                   f"by one of two checkers, {len(amiss)} amiss")
 
 
 if __name__ == "__main__":
