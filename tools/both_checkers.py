@@ -6,9 +6,10 @@ to which they don't give the same answer.
 
 The texts are those that `mw run --proof` writes for the sources of cases/ and examples/, and each of them with one
 error planted, of each kind that fits it. Some of these are right all the same, as where two steps that don't
-touch each other are exchanged. mw_flat writes the flattened modules that the second checker wants. `unsure` of the
-second and `stopped` of the first go with any answer, and the second may tell a fault behind a step of which it wasn't
-sure. The status is 1 where the two differ, where one of them doesn't answer, or where there are few texts.
+touch each other are exchanged. mw_flat writes the flattened modules that the second checker wants. `text` and `module`
+both must tell alike. With any other answer `unsure` of the second and `stopped` of the first go together, and the
+second may tell a fault behind a step of which it wasn't sure. The status is 1 where the two differ, where one of them
+doesn't answer, or where there are few texts.
 
 $MW and $FLAT name the programs; without them those are taken that the gate built."""
 from collections import Counter
@@ -254,11 +255,13 @@ def is_told(answer):
 
 
 def agree(one, other):
-    """Whether the answers of `mw check` and of the second checker go together: where both are told they are the same,
-    but that the second one may find a fault further on, behind a step of which it wasn't sure."""
+    """Whether the answers of `mw check` and of the second checker go together. Both are sure of the form and the module
+    of a text. Of the rest they are the same where both are told, but that the second one may find a fault further on,
+    behind a step of which it wasn't sure."""
+    of_form = any(answer.endswith((": module", ": text")) for answer in (one, other))
     both_told = is_told(one) and is_told(other)
     is_later = step_of(one) is not None and step_of(other) is not None and step_of(one) < step_of(other)
-    return not both_told or one == other or is_later
+    return one == other or not of_form and (not both_told or is_later)
 
 
 def compared(program, flattener, described):

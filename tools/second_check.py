@@ -263,8 +263,9 @@ class Reader:
     def steps(self, nested):
         """Steps in which so many conditions may stand inside one another."""
         steps = []
-        while self.takes("step"):
+        while self.tokens[-1] in ("step", "par", "owise"):
             self.begun += nested == NESTED
+            self.need(self.takes("step"))
             steps.append(self.step(nested))
         return steps
 
