@@ -261,7 +261,7 @@ class Reader:
         return start, steps, end
 
     def steps(self, nested):
-        """Steps in which so many conditions may stand inside one another."""
+        """Steps in which so many conditions may stand inside one another; `par` and `owise` begin ones of no form."""
         steps = []
         while self.tokens[-1] in ("step", "par", "owise"):
             self.begun += nested == NESTED
