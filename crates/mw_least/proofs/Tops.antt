@@ -1,33 +1,28 @@
 -- What ground terms have by their operators alone.
-use Rattle.std.specs.Prelude.{◌≡◌, ◌≤◌, ◌<◌, ◌-◌, ℕ, length, slice_index_or, zero, suc, List, [], ◌∷◌, Bool, true, false, ◌&&◌, IsTrue, Some, codes, refl, ⊤}
+use Rattle.std.specs.Prelude.{◌≡◌, ◌≤◌, ◌<◌, ◌-◌, ℕ, length, slice_index_or, zero, suc, List, [], ◌∷◌, Bool, true, false, IsTrue, Some, codes, refl, ⊤}
 use Rattle.std.proofs.Common.{◌∙◌, ◌+◌, ⊎_elim, add-one, slice_get, inl, inr, sym, subst, ap, arith, take, drop}
 use Rattle.std.proofs.lemmas.Bool.{both_ways, cases_lt}
 use Rattle.std.proofs.lemmas.List.{take_all}
 use Rattle.std.proofs.lemmas.Option.{same_Some, slice_get_within}
 use Rattle.mw_logic.specs.Term.{RawTerm, numeral, quoted, variable, apply, RawTerms, nil, cons, is_ground, are_ground}
-use Rattle.mw_logic.specs.Signature.{Signature, Sorted, sort, kind, Operator, IsOperator, IsSortNamed, Declaration, SameKind, same, up, down, HasKind, of_numeral, of_quoted, of_operator, IsRawTerm, a_numeral, an_operator, AreRawTerms, end, next, Member, at_number}
-use Rattle.mw_logic.specs.Axioms.{EqualModulo, done}
-use Rattle.mw_logic.specs.Sorts.{AtOrBelow, AreBelow, Takes, DeclaredSort, DeclaredSorts, HasSort}
+use Rattle.mw_logic.specs.Signature.{Signature, Sorted, sort, kind, Operator, IsOperator, IsSortNamed, Declaration, SameKind, same, up, down, HasKind, of_numeral, of_quoted, of_operator, IsRawTerm, a_numeral, an_operator, AreRawTerms, next, Member, at_number}
+use Rattle.mw_logic.specs.Axioms.{done}
+use Rattle.mw_logic.specs.Sorts.{AtOrBelow, DeclaredSort, HasSort}
 use Rattle.mw_logic.specs.Parts.{is_assoc, nested, all_nested, nest, chain}
 use Rattle.mw_logic.specs.NormalForm.{normal_form}
-use Rattle.mw_logic.specs.Accepted.{number_of_sort}
 use Rattle.mw_logic.specs.Preregular.{AreOfKinds, HasItsSorts}
 use Rattle.mw_logic.proofs.KindLaws.{SameKind-trans, SameKind-sym}
-use Rattle.mw_logic.proofs.Canonical.{IsCanonical, canonical, same_operator, assoc_operator}
-use Rattle.mw_logic.proofs.Soundness.{EqualArguments, none, at_head, at_tail, arguments-trans, under_all}
-use Rattle.mw_logic.proofs.RawKept.{raw_kept, kind_unique}
-use Rattle.mw_logic.proofs.SolutionLaws.{declared_kind}
+use Rattle.mw_logic.proofs.Canonical.{IsCanonical, canonical, assoc_operator}
 use Rattle.mw_logic.proofs.BelowLaws.{AtOrBelow-kind, IsBelow-trans}
 use Rattle.mw_poset.specs.Order.{IsKindOf}
 use Rattle.mw_poset.proofs.Reading.{kinds_same}
-use Rattle.mw_sorting.specs.ComputedSorts.{IsResultOn}
 use Rattle.mw_sorting.specs.PreregularModulo.{HasNaturals, IsPreregularModulo}
-use Rattle.mw_term.specs.OperatorSets.{AreApart, operators_in_all}
 use Rattle.mw_term.proofs.OperatorSets.{lacks_top, arguments_apart, first_apart, others_apart}
 use Rattle.mw_least.specs.declared.sure.Partial.{Partial}
 use Rattle.mw_least.specs.declared.sure.Sure.{Sure}
 use Rattle.mw_least.specs.Sure.{IsNone, IsApart, IsTop, AreTops, IsSupport, IsSupportedIn, IsSupported, AreSupported, AreTopped, AreConstantsTopped, AreResults, AreSure}
 use Rattle.mw_builtin.proofs.Forms.{not_alone}
+use Rattle.mw_least.proofs.Results.{raise, AreAllApart, grounds, AllHave, args_of, applied_sort}
 
 pub result_at : (pairs : List (ℕ × ℕ)) (tops : List ℕ) (os : List Operator) (Rs : List ℕ) (f : ℕ) (o : Operator) (R : ℕ) → AreResults pairs tops os Rs → at_number os f ≡ Some o → at_number Rs f ≡ Some R → 1 ≤ R → IsSupport pairs tops o R
 result_at pairs tops os Rs zero o R a e r p = absurd (cc)
@@ -105,7 +100,7 @@ pub supported_in : (sig : Signature) (tops : List ℕ) (o : Operator) (K : ℕ) 
 supported_in sig tops o K k s L l = subst (IsSupportedIn sig.pairs tops o) (kinds_same sig.pairs sig o.result o.result K L k l refl same) s
 
 -- a number's place in a list is one of its first ones
-at_within : {X : Type 0} (xs : List X) (S : ℕ) (x : X) → at_number xs S ≡ Some x → (1 ≤ S) × (S ≤ length xs)
+pub at_within : {X : Type 0} (xs : List X) (S : ℕ) (x : X) → at_number xs S ≡ Some x → (1 ≤ S) × (S ≤ length xs)
 at_within xs zero x e = cc
 at_within xs (suc i) x e = let w = slice_get_within xs i x e in (omega arith, omega (arith, w))
 
@@ -121,60 +116,13 @@ topped_more sig tops name n here all S l e = ⊎_elim
 pub topped_all : (sig : Signature) (tops name : List ℕ) (n : ℕ) → length sig.sorts ≤ n → ((S : ℕ) → S ≤ n → IsSortNamed sig S name → (T : ℕ) × IsTop sig.pairs tops T × AtOrBelow sig.pairs S T) → AreTopped sig tops name
 topped_all sig tops name n l all S e = let w = at_within sig.sorts S name e in all S (omega (arith, w.1, l)) e
 
--- what has a sort has those above it
-raise : (sig : Signature) (t : RawTerm) (R S : ℕ) → HasSort sig t (sort R) → AtOrBelow sig.pairs R S → HasSort sig t (sort S)
-raise sig t R S h b = record { form = h.form; equal = h.equal; declared = h.declared; is_declared = h.is_declared; below = IsBelow-trans sig h.declared (sort R) (sort S) h.below b }
-
 -- two tops of one kind are one
 one_top : (sig : Signature) (tops : List ℕ) (S T : ℕ) → IsTop sig.pairs tops S → IsTop sig.pairs tops T → SameKind sig S T → S ≡ T
 one_top sig tops S T a b k =
     let kinds : a.kind ≡ b.kind = kinds_same sig.pairs sig S T a.kind b.kind a.is_kind b.is_kind refl k in
     same_Some S T (sym a.top ∙ ap (λ K. slice_get tops K) kinds ∙ b.top)
 
--- none of the partial operators stands in the terms
-abbrev AreAllApart : Partial → RawTerms → Type 0
-AreAllApart partial ts = AreApart (operators_in_all ts) partial.declared × AreApart (operators_in_all ts) partial.built
-
-grounds : (a b : Bool) → IsTrue (a && b) → IsTrue a × IsTrue b
-grounds true b h = (refl, h)
-grounds false b h = absurd (both_ways _ refl h)
-
 module _ (sig : Signature) (ok : IsPreregularModulo sig) (numbers : HasItsSorts sig) (tops : List ℕ) (partial : Partial) (supported : AreSupported sig tops partial) (constants : AreConstantsTopped sig tops) where
-  -- the terms have these sorts, one by one
-  abbrev AllHave : RawTerms → List Sorted → Type 0
-  AllHave nil [] = ⊤
-  AllHave nil (S ∷ Ss) = ⊥
-  AllHave (cons t ts) [] = ⊥
-  AllHave (cons t ts) (S ∷ Ss) = HasSort sig t S × AllHave ts Ss
-
-  of_its_kind : {t u : RawTerm} {K : ℕ} {D : Sorted} → IsRawTerm sig t → HasKind sig t K → EqualModulo sig t u → DeclaredSort sig u D → SameKind sig (number_of_sort D) K
-  of_its_kind r k e d = let alike = raw_kept sig ok.accepted e in kind_unique sig ok.accepted (declared_kind sig ok.accepted ok.well_sorted (alike.0 r) d) (alike.1 _ k)
-
-  -- terms of these sorts are equal to terms with declared sorts at or below them
-  forms : {ts : RawTerms} {Ks : List ℕ} (Ss : List Sorted) → AreRawTerms sig ts Ks → AllHave ts Ss
-      → (us : RawTerms) × (Ds : List Sorted) × EqualArguments sig ts us × DeclaredSorts sig us Ds × AreBelow sig Ds Ss × AreOfKinds sig Ds Ks
-  forms [] end h = (nil, [], none, DeclaredSorts.end, tt, tt)
-  forms (S ∷ Ss) end h = absurd h
-  forms [] (next r k rest) h = absurd h
-  forms (S ∷ Ss) (next {t} {ts} r k rest) h =
-      let (us, Ds, e, ds, b, o) = forms Ss rest h.1 in
-      (cons h.0.form us, h.0.declared ∷ Ds, arguments-trans (at_head ts h.0.equal) (at_tail h.0.form e), DeclaredSorts.next h.0.is_declared ds, (h.0.below, b), (of_its_kind r k h.0.equal h.0.is_declared, o))
-
-  -- where an operator is declared to give R on the sorts of arguments, it has R on them
-  applied_sort : (f : ℕ) (ts : RawTerms) (o : Operator) (Ss : List Sorted) (R : ℕ) → IsOperator sig f o → AreRawTerms sig ts o.args → AllHave ts Ss → Member (record { args = Ss; result = sort R }) o.declarations → HasSort sig (apply f ts) (sort R)
-  applied_sort f ts o Ss R is args h d =
-      let (us, Ds, e, ds, b, k) = forms Ss args h in
-      let takes : Takes sig o Ds (sort R) = record { args = Ss; declares = inl d; fits = b } in
-      let (Q, q) = ok.results f o is Ds k in
-      by_result us Ds Q e ds takes q
-    where
-      by_result : (us : RawTerms) (Ds : List Sorted) (Q : Sorted) → EqualArguments sig ts us → DeclaredSorts sig us Ds → Takes sig o Ds (sort R) → IsResultOn sig o Ds Q → HasSort sig (apply f ts) (sort R)
-      by_result us Ds Q e ds takes (inl l) = record { form = apply f us; equal = under_all f e; declared = Q; is_declared = DeclaredSort.of_operator o is ds l.takes l.least; below = l.least (sort R) takes }
-      by_result us Ds Q e ds takes (inr n) = absurd (n.0 (sort R) takes)
-
-  args_of : {f : ℕ} {ts : RawTerms} (o : Operator) → IsOperator sig f o → IsRawTerm sig (apply f ts) → AreRawTerms sig ts o.args
-  args_of {f} {ts} o is (an_operator p there args) = subst (λ (x : Operator). AreRawTerms sig ts x.args) (same_operator sig f p o there is) args
-
   -- a sort below Nat has the top of its kind
   of_constant : (t : RawTerm) (S T N : ℕ) (D : ℕ) → DeclaredSort sig t (sort D) → AtOrBelow sig.pairs D N → IsTop sig.pairs tops S → SameKind sig N S → IsTop sig.pairs tops T → AtOrBelow sig.pairs N T → HasSort sig t (sort S)
   of_constant t S T N D d b top k other l =
@@ -205,7 +153,7 @@ module _ (sig : Signature) (ok : IsPreregularModulo sig) (numbers : HasItsSorts 
   AllTops nil = ⊤
   AllTops (cons t ts) = HasTops t × AllTops ts
 
-  all_have : (ts : RawTerms) (Ks : List ℕ) (Ss : List Sorted) → AllTops ts → AreRawTerms sig ts Ks → AreOfKinds sig Ss Ks → AreTops sig.pairs tops Ss → AllHave ts Ss
+  all_have : (ts : RawTerms) (Ks : List ℕ) (Ss : List Sorted) → AllTops ts → AreRawTerms sig ts Ks → AreOfKinds sig Ss Ks → AreTops sig.pairs tops Ss → AllHave sig ts Ss
   all_have nil [] [] h raw k a = tt
   all_have nil [] (S ∷ Ss) h raw k a = absurd k
   all_have ts (K ∷ Ks) [] h raw k a = absurd k
@@ -218,8 +166,8 @@ module _ (sig : Signature) (ok : IsPreregularModulo sig) (numbers : HasItsSorts 
   support_sort : (f : ℕ) (ts : RawTerms) (o : Operator) (R : ℕ) → IsOperator sig f o → IsRawTerm sig (apply f ts) → AllTops ts → IsSupport sig.pairs tops o R → HasSort sig (apply f ts) (sort R)
   support_sort f ts o R is raw h s =
       let d = numbers.declarations f o is (record { args = s.args; result = sort R }) s.declared in
-      let args = args_of o is raw in
-      applied_sort f ts o s.args R is args (all_have ts o.args s.args h args d.args s.are_tops) s.declared
+      let args = args_of sig o is raw in
+      applied_sort sig ok f ts o s.args R is args (all_have ts o.args s.args h args d.args s.are_tops) s.declared
 
   operator_tops : (f : ℕ) (ts : RawTerms) → IsNone partial f → AllTops ts → HasTops (apply f ts)
   operator_tops f ts lacks h S K raw (of_operator o is j) k top =
@@ -274,7 +222,7 @@ module _ (sig : Signature) (ok : IsPreregularModulo sig) (numbers : HasItsSorts 
   top_operator true f ts h raw = let (o, is, a) = assoc_operator sig f h in (o, is)
   top_operator false f ts h (an_operator o is args) = (o, is)
 
-positive : (R : ℕ) → (R ≡ 0 → ⊥) → 1 ≤ R
+pub positive : (R : ℕ) → (R ≡ 0 → ⊥) → 1 ≤ R
 positive zero h = absurd (h refl)
 positive (suc n) h = omega arith
 

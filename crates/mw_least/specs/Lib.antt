@@ -1,3 +1,4 @@
+pub mod Closed
 pub mod Conditions
 pub mod Contexts
 pub mod Giving

@@ -36,7 +36,7 @@ IsSupportedIn pairs tops o K = (S : ℕ) → slice_get tops K ≡ Some S → 1 �
 abbrev pub IsSupported : List (ℕ × ℕ) → List ℕ → Operator → Type 0
 IsSupported pairs tops o = (K : ℕ) → IsKindOf pairs o.result K → IsSupportedIn pairs tops o K
 
--- f is none of the partial operators
+-- f is none of the operators
 abbrev pub IsNone : Partial → ℕ → Type 0
 IsNone partial f = Lacks partial.declared f × Lacks partial.built f
 

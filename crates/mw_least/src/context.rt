@@ -10,10 +10,12 @@ ghost use Rattle.mw_sorts.specs.Diagrams.{AreTablesOf};
 ghost use Rattle.mw_builtin.specs.Schemata.{AreSchemataOf};
 ghost use Rattle.mw_poset.specs.SortOrder.{order_of};
 ghost use Rattle.mw_term.specs.Signatures.{sorted_of};
+ghost use Rattle.mw_least.specs.Closed.{Has, EachHas};
 ghost use Rattle.mw_least.specs.Giving.{OneGives, MayGive};
 ghost use Rattle.mw_least.specs.Sure.{AreSure};
 ghost use Rattle.mw_least.specs.Workable.{IsWorkable};
 
+use crate::closed::{Home, homes, is_closed_for};
 use crate::sure::{Sure, sure_sorts};
 use mw_builtin::Schemata;
 use mw_canon::Facts;
@@ -31,6 +33,7 @@ pub struct Ctx {
     order: Poset,
     tables: Tables,
     sure: Sure,
+    homes: Seq<Home>,
     schemata: Schemata,
     statements: Seq<Statement>,
 }
@@ -48,7 +51,7 @@ impl Model for Ctx {
 
     ghost use Rattle.mw_least.specs.Contexts.{IsContext};
 
-    ghost invariant = { λ c. IsContext (record { signature = c.facts; statements = c.statements }) c.order c.tables c.sure c.schemata };
+    ghost invariant = { λ c. IsContext (record { signature = c.facts; statements = c.statements }) c.order c.tables c.sure c.homes c.schemata };
 }
 
 impl Ctx {
@@ -66,12 +69,14 @@ impl Ctx {
         ensures { IfOk result (λ c. c.value ≡ record { signature = facts; statements = statements }) }
     {
         let sure = sure_sorts(alloc, facts.signature(), &order)?;
+        let homes = homes(alloc, facts.signature(), &order)?;
         let schemata = Schemata::of(alloc, facts.signature(), &order)?;
         let context = Ctx {
             facts,
             order,
             tables,
             sure,
+            homes,
             schemata,
             statements,
         };
@@ -168,6 +173,60 @@ impl Ctx {
         }
     }
 
+    /// Whether a sort is one that a term has since it is made of operators that give a sort on arguments of it.
+    #[inline(always)]
+    fn has_home(&self, term: &Term, sort: SortId) -> bool
+        ensures { IsTrue result → Has self.now.signature sort term.now }
+    {
+        let View::Op(operator, _) = term.view() else {
+            return false;
+        };
+        let Some(home) = numbered(self.homes.as_slice(), operator) else {
+            return false;
+        };
+        if home.closed.outside.may_stand_in(term) {
+            return false;
+        }
+        home.result != 0 && self.is_below(home.result, sort)
+    }
+
+    /// Whether a sort is one that each of the terms has by its operators.
+    fn all_have(&self, terms: &[Term], sort: SortId) -> bool
+        ensures { IsTrue result → EachHas self.now.signature sort terms.now }
+    {
+        let mut rest = terms;
+        while let [term, after @ ..] = rest {
+            if !self.is_sure(term, sort) && !self.has_home(term, sort) {
+                return false;
+            }
+            rest = after;
+        }
+        true
+    }
+
+    /// Whether a sort is one that a term has since the operator on top gives it on arguments of it, which have it by
+    /// their operators.
+    fn is_closed_over(&self, term: &Term, sort: SortId) -> bool
+        ensures { IsTrue result → Has self.now.signature sort term.now }
+    {
+        let View::Op(operator, args) = term.view() else {
+            return false;
+        };
+        match numbered(self.signature().operators.as_slice(), operator) {
+            Some(operator) => is_closed_for(&self.order, operator, sort)
+                && self.all_have(args, sort),
+            None => false,
+        }
+    }
+
+    /// Whether a sort is one that a term has by one look at its operators, or at each of its arguments'.
+    #[inline(never)]
+    fn has_by_operators(&self, term: &Term, sort: SortId) -> bool
+        ensures { IsTrue result → Has self.now.signature sort term.now }
+    {
+        self.has_home(term, sort) || self.is_closed_over(term, sort)
+    }
+
     /// Whether a sort or kind is at or below a sort.
     fn is_at_most(&self, sorted: Sorted, sort: SortId) -> bool
         ensures { IsTrue result ↔ IsBelow self.now.signature (sorted_of sorted) (sort_of sort) }
@@ -217,8 +276,9 @@ impl Ctx {
     }
 
     /// Whether a canonical ground term has a sort. It takes no memory. It is a look-up where the term's operators tell a yes, as they
-    /// do where each of them is total on its kind, and a look-up for each declaration of the operator on top where
-    /// they tell a no; else it takes the time of `least_sort`.
+    /// do where each of them is total on its kind, or closed for the sort, and a look-up for each declaration of the
+    /// operator on top where they tell a no; one for each argument where these are such terms; else it takes the time of
+    /// `least_sort`.
     #[inline(always)]
     pub fn has_sort(&self, term: &Term, sort: SortId) -> bool
         ensures { let sig = self.now.signature in normal_form sig (nested sig term.now) ≡ term.now → IsRawTerm sig (nested sig term.now) → IsTrue (is_ground term.now) → (IsTrue result ↔ HasSort sig (nested sig term.now) (sort_of sort)) }
@@ -226,6 +286,9 @@ impl Ctx {
         if self.is_sure(term, sort) {
             return true;
         }
-        self.may_have(term, sort) && self.is_at_most(self.least_sort(term), sort)
+        if !self.may_have(term, sort) {
+            return false;
+        }
+        self.has_by_operators(term, sort) || self.is_at_most(self.least_sort(term), sort)
     }
 }

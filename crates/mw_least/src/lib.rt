@@ -20,14 +20,26 @@
 //! below its kind's top on arguments that have theirs is partial. A ground term in which no partial operator stands
 //! has, by induction, the result that the operator on top has on tops, if numerals and quoted identifiers have the tops
 //! of their kinds; so one look-up tells, also in modules with
-//! partial operators, whose values mostly have none. Where no declaration of the operator on top has a result at or
-//! below the sort, the answer is no. Else the term is walked: where a partial operator stands in it (or one whose
-//! number has the same remainder by 64), or the result on tops isn't at or below the sort. Of a kind with several
-//! maximal sorts the top is one of them, so operators with results under the others count as partial.
+//! partial operators, whose values mostly have none. Of a kind with several maximal sorts the top is one of them, so
+//! operators with results under the others count as partial. Where no declaration of the operator on top has a result at
+//! or below the sort, the answer is no.
+//!
+//! What partial operators leave open, closed sorts tell (`homes`, specs/Closed). An operator is closed for a sort if it
+//! gives it on arguments of it, and the operators of the sort's kind that aren't are outside. A ground term of the kind
+//! in which none of these stands has the sort, by induction: each argument is such a term again. Numerals and quoted
+//! identifiers of the kind must have the sort. So a unary number is told by one look-up where `s_` takes N to N, with N
+//! below another sort. An operator that takes arguments of such a sort to a result gives that result on such terms: the
+//! two are its home. A term also has a sort for which the operator on top is closed if each of its arguments has it: so
+//! a list or multiset of such elements takes a look-up for each element. At most 16 closed sorts are kept, and none that
+//! is a top.
+//!
+//! Else the term is walked: where a partial operator and one that is outside stand in it (or ones whose numbers have the
+//! same remainders by 64), or the results aren't at or below the sort.
 //!
 //! Neither proved nor tested: time. docs/PERFORMANCE.md has what sorts cost.
 #![tactic(auto)]
 
+mod closed;
 mod context;
 mod sure;
 

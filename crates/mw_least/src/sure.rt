@@ -14,8 +14,9 @@ use mw_term::{
 };
 use std::alloc::{AllocError, Global};
 
-/// Operators that may take arguments with the tops of their kinds to a result without it. Those that each kind has from
-/// the start have the largest numbers and are sought apart, since most terms have none of them.
+/// Operators with which a term's operators tell nothing: those that may take arguments with the tops of their kinds to a
+/// result without it, or those that are outside for a closed sort. Those that each kind has from the start have the
+/// largest numbers and are sought apart, since most terms have none of them.
 #[derive(Clone, Copy, Drop)]
 pub struct Partial {
     declared: Sought,
@@ -23,7 +24,7 @@ pub struct Partial {
 }
 
 impl Partial {
-    fn none() -> Partial {
+    pub fn none() -> Partial {
         Partial {
             declared: Sought::none(),
             built: Sought::none(),
@@ -31,7 +32,7 @@ impl Partial {
     }
 
     /// These and one more.
-    fn with(self, operator: OpId, built: bool) -> Partial
+    pub fn with(self, operator: OpId, built: bool) -> Partial
         ensures more { (f : ℕ) → IsNone result f → IsNone self f }
         ensures last { IsNone result operator → ⊥ }
     {
@@ -66,21 +67,21 @@ pub struct Sure {
     pub results: Seq<SortId>,
 }
 
-fn is_there(order: &Poset, sort: SortId) -> bool
+pub fn is_there(order: &Poset, sort: SortId) -> bool
     ensures { IsTrue result → (1 ≤ sort) × (sort ≤ order.now.sorts) }
 {
     sort != 0 && sort <= order.sorts()
 }
 
 /// Whether a chain of subsort pairs leads from one sort up to another.
-fn reaches(order: &Poset, lower: SortId, upper: SortId) -> bool
+pub fn reaches(order: &Poset, lower: SortId, upper: SortId) -> bool
     ensures { IsTrue result → AtOrBelow order.now.pairs lower upper }
 {
     is_there(order, lower) && is_there(order, upper) && order.le(lower, upper)
 }
 
 /// Whether a sort is the top of its kind, where `tops` has that of kind K at place K.
-fn is_top(order: &Poset, tops: &[SortId], sort: Sorted) -> bool
+pub fn is_top(order: &Poset, tops: &[SortId], sort: Sorted) -> bool
     ensures { IsTrue result → IsTopOf order.now.pairs tops.now (sorted_of sort) }
 {
     let Sorted::Sort(sort) = sort else {
@@ -171,7 +172,7 @@ fn partial_operators(
 }
 
 /// Of each kind a sort with none above it, at the kind's number.
-fn greatest(alloc: Global, order: &Poset) -> Result<Vec<SortId>, AllocError> {
+pub fn greatest(alloc: Global, order: &Poset) -> Result<Vec<SortId>, AllocError> {
     let sorts = order.sorts();
     let mut tops = vec![in alloc; 0; sorts as usize + 1]?;
     for index in 0..sorts {
@@ -217,7 +218,7 @@ fn has_top(order: &Poset, tops: &[SortId], sort: SortId) -> bool
 }
 
 /// Whether a sort has this name.
-fn is_named(sorts: &[Name], sort: SortId, name: &[u8]) -> bool
+pub fn is_named(sorts: &[Name], sort: SortId, name: &[u8]) -> bool
     ensures { at_number sorts.now sort ≡ Some name.now → IsTrue result }
 {
     match numbered(sorts, sort) {

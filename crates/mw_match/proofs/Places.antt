@@ -1,8 +1,8 @@
 -- The places behind one, and the terms and patterns that are searched there.
-use Rattle.std.specs.Prelude.{◌≡◌, ◌≤◌, ◌<◌, ◌+◌, ◌-◌, ◌&&◌, ℕ, zero, suc, Bool, true, false, cond, List, [], ◌∷◌, ◌++◌, length, min, take, drop, Option, Some, None, MatchOption, nat_eq, nat_lt, refl}
+use Rattle.std.specs.Prelude.{◌≡◌, ◌≤◌, ◌<◌, ◌+◌, ◌-◌, ◌&&◌, ℕ, zero, suc, Bool, true, false, cond, List, [], ◌∷◌, ◌++◌, length, Option, Some, None, MatchOption, nat_eq, nat_lt, refl}
 use Rattle.std.proofs.Common.{sym, ap, subst, ◌∙◌, arith}
 use Rattle.mw_logic.specs.Term.{RawTerm, apply, RawTerms, nil, cons, join, variable}
-use Rattle.mw_logic.specs.Terms.{terms_of, args_of, skip}
+use Rattle.mw_logic.specs.Terms.{terms_of, args_of, front, skip}
 use Rattle.mw_logic.specs.Signature.{Signature, Identity, constant_of, numeral_of}
 use Rattle.mw_logic.specs.Kinds.{is_successor}
 use Rattle.mw_logic.specs.Parts.{is_assoc, number_of_terms}
@@ -16,7 +16,7 @@ use Rattle.mw_matching.specs.Patterns.{is_rigid}
 use Rattle.mw_solving.specs.Inside.{joins, with_rest}
 use Rattle.mw_search.specs.Goals.{top_of}
 use Rattle.mw_search.proofs.BagLists.{number_terms}
-use Rattle.mw_search.proofs.Lists.{rest_is}
+use Rattle.mw_search.proofs.Lists.{front_all, skip_number}
 use Rattle.mw_match.specs.Parts.{neighbours, places_behind, places_of, arguments_from, rest_pattern}
 use Rattle.mw_match.specs.declared.parts.Place.{Place}
 use Rattle.mw_match.specs.declared.parts.Place.TheVariants.{Left, End}
@@ -30,10 +30,12 @@ more_neighbours comm n i not_comm more =
     rw not_comm (ap (neighbours (suc i)) e ∙ ap (λ j. End j ∷ Left j ∷ neighbours (suc j) (n - (i + 1 + 2))) f)
 
 -- the arguments from an index on
-pub made_from : (t made : RawTerm) (f from start : ℕ) (args rest : List RawTerm) → t ≡ apply f (terms_of args) → start ≡ min from (length args) → rest ≡ take (length args - start) (drop start args) → made ≡ apply f (terms_of rest)
-    → made ≡ arguments_from from t
-made_from t made f from start args rest is low part done =
-    done ∙ ap (λ ts. apply f (terms_of ts)) part ∙ ap (apply f) (rest_is args from start low) ∙ ap (arguments_from from) (sym is)
+pub made_from : (t made : RawTerm) (f from : ℕ) (args : List RawTerm) → t ≡ apply f (terms_of args) → made ≡ apply f (front (length args) (skip from (args_of t))) → made ≡ arguments_from from t
+made_from t made f from args is done =
+    let same : args_of t ≡ terms_of args = ap args_of is in
+    let n : number_of_terms (terms_of args) ≡ length args = number_terms args in
+    let s : number_of_terms (skip from (terms_of args)) ≤ number_of_terms (terms_of args) = skip_number from (terms_of args) in
+    done ∙ ap (λ ts. apply f (front (length args) (skip from ts))) same ∙ ap (apply f) (front_all (length args) (skip from (terms_of args)) (omega (arith, n, s))) ∙ ap (arguments_from from) (sym is)
 
 -- the pattern with a rest behind it
 terms_pushed : (xs : List RawTerm) (y : RawTerm) → terms_of (xs ++ y ∷ []) ≡ join (terms_of xs) (cons y nil)

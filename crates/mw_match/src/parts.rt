@@ -94,9 +94,7 @@ fn arguments_from(alloc: Global, term: &Term, from: usize) -> Result<Term, Alloc
 {
     match term.view() {
         View::Op(operator, args) if from > 0 => {
-            let start = from.min(args.len());
-            let rest = copied(alloc, &args[start..])?;
-            let made = Term::apply(alloc, operator, rest)?;
+            let made = term.section(alloc, operator, from, args.len())?;
             Ok(made)
         }
         _ => copy(term),

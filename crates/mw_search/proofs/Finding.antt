@@ -27,7 +27,7 @@ somes-append [] b = refl
 somes-append (None ∷ a) b = somes-append a b
 somes-append (Some vs ∷ a) b = ap (λ l. vs ∷ l) (somes-append a b)
 
-somes-ticked : {X : Type 0} (F : X → Trace) (xs : List X) → somes (ticked F xs) ≡ flat_map (λ x. somes (F x)) xs
+pub somes-ticked : {X : Type 0} (F : X → Trace) (xs : List X) → somes (ticked F xs) ≡ flat_map (λ x. somes (F x)) xs
 somes-ticked F [] = refl
 somes-ticked F (x ∷ xs) = somes-append (F x) (ticked F xs) ∙ ap (λ l. somes (F x) ++ l) (somes-ticked F xs)
 

@@ -14,5 +14,9 @@ pub mod Clashing
 -- What steps do to what is still to come.
 pub mod Steps
 pub mod Passing
+-- Parts of multisets of which there are several.
+pub mod Cutting
+pub mod Dividing
+pub mod Serving
 -- Which terms are one element.
 pub mod Elements

@@ -80,3 +80,15 @@ part_is xs rest from count start end es er ee =
     let b : terms_of rest ≡ skip from (terms_of xs) =
     ap terms_of r ∙ skip_dropped start xs ∙ ap (λ i. skip i (terms_of xs)) (es ∙ ap (min from) (sym (number_terms xs))) ∙ skip_min from (terms_of xs) in
     ap (λ n. terms_of (take n rest)) ee ∙ ap terms_of (take_min rest count) ∙ front_taken count rest ∙ ap (front count) b
+
+-- so many as there are at least
+pub front_all : (n : ℕ) (zs : RawTerms) → number_of_terms zs ≤ n → front n zs ≡ zs
+front_all zero nil h = refl
+front_all zero (cons z zs) h = absurd (omega (arith, h))
+front_all (suc n) nil h = refl
+front_all (suc n) (cons z zs) h = ap (cons z) (front_all n zs (omega (arith, h)))
+
+pub skip_number : (n : ℕ) (zs : RawTerms) → number_of_terms (skip n zs) ≤ number_of_terms zs
+skip_number zero zs = omega arith
+skip_number (suc n) nil = omega arith
+skip_number (suc n) (cons z zs) = omega (arith, skip_number n zs)

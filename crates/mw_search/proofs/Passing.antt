@@ -1,5 +1,5 @@
 -- Many steps: what is still to come is the same, but for matches that lack a sort.
-use Rattle.std.proofs.Common.{◌≡◌, ◌∙◌, ◌<◌, true, cond, List, [], ◌∷◌, ◌++◌, length, ap, sym, subst, arith, append_assoc, length-append}
+use Rattle.std.proofs.Common.{◌≡◌, ◌∙◌, ◌<◌, true, cond, List, [], ◌∷◌, ◌++◌, length, ap, sym, subst, arith, append_assoc}
 use Rattle.std.proofs.lemmas.List.{append-nil}
 use Rattle.std.proofs.lemmas.Option.{slice_get_within}
 use Rattle.mw_logic.specs.Signature.{Signature}
@@ -12,7 +12,7 @@ use Rattle.mw_search.specs.declared.goals.Goal.{Goal}
 use Rattle.mw_search.specs.declared.machine.Choice.{Choice}
 use Rattle.mw_search.specs.declared.machine.Machine.{Machine}
 use Rattle.mw_search.proofs.Beginning.{each_append}
-use Rattle.mw_search.proofs.Finding.{somes-append, all_found}
+use Rattle.mw_search.proofs.Finding.{all_found}
 
 module _ (sig : Signature) (ps : Positions) where
   -- at the start all that is found is still to come
@@ -37,21 +37,17 @@ module _ (sig : Signature) (ps : Positions) where
 
   pub by_step : (start old new : Machine) → IsReached start old → Stepped sig ps old new → IsReached start new
   by_step start old new a s =
-      let lack : Each (IsLeftOut sig ps start) (somes s.dropped) = subst (λ g. Each (OneLacksItsSort sig ps.sorts g) (somes s.dropped)) a.given s.lack in
-      let one : to_come sig ps old ≡ somes s.dropped ++ to_come sig ps new = ap somes s.step ∙ somes-append s.dropped (machine_trace sig ps new) in
+      let lack : Each (IsLeftOut sig ps start) s.left = subst (λ g. Each (OneLacksItsSort sig ps.sorts g) s.left) a.given s.lack in
       record {
         ready = s.ready;
         given = s.given ∙ a.given;
         skips = record {
-          left = a.skips.left ++ somes s.dropped;
-          each = each_append (IsLeftOut sig ps start) a.skips.left (somes s.dropped) a.skips.each lack;
-          rest = a.skips.rest ∙ ap (λ l. a.skips.left ++ l) one ∙ sym (append_assoc a.skips.left (somes s.dropped) (to_come sig ps new));
+          left = a.skips.left ++ s.left;
+          each = each_append (IsLeftOut sig ps start) a.skips.left s.left a.skips.each lack;
+          rest = a.skips.rest ∙ ap (λ l. a.skips.left ++ l) s.step ∙ sym (append_assoc a.skips.left s.left (to_come sig ps new));
         };
       }
 
   -- each step leaves less to do
   pub falls : (old new : Machine) → Stepped sig ps old new → length (machine_trace sig ps new) < length (machine_trace sig ps old)
-  falls old new s =
-      let l = length-append s.dropped (machine_trace sig ps new) in
-      let e = ap length s.step in
-      omega (arith, l, e)
+  falls old new s = s.fewer

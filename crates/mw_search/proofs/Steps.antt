@@ -10,7 +10,7 @@ use Rattle.std.specs.List.{flat_map}
 use Rattle.mw_matching.specs.Found.{Values, found}
 use Rattle.mw_search.specs.Traces.{Trace, finish, ticked, somes}
 use Rattle.mw_search.specs.Clashes.{IsBarren}
-use Rattle.mw_search.specs.Goals.{Share, goal_trace, goal_found, share_trace, shares_left, hand_trace, outcome_trace, IsOutcome}
+use Rattle.mw_search.specs.Goals.{Share, goal_trace, goal_found, share_trace, shares_left, hand_trace, outcome_trace, Serves}
 use Rattle.mw_search.specs.Lacking.{HasItsSort, LacksItsSort, HaveTheirSorts, Each}
 use Rattle.mw_search.specs.Machines.{Rise, choice_trace, stack_trace, machine_trace, IsReady, IsLeftOut, Stepped, Applied}
 use Rattle.mw_search.specs.declared.positions.Positions.{Positions}
@@ -22,7 +22,7 @@ use Rattle.mw_search.specs.declared.goals.Outcome.TheVariants.{Binds, Becomes, F
 use Rattle.mw_search.specs.declared.machine.Choice.{Choice}
 use Rattle.mw_search.specs.declared.machine.Machine.{Machine}
 use Rattle.mw_arguments.proofs.Once.{flat_map-flat_map, flat_map-same}
-use Rattle.mw_search.proofs.Finding.{finds_goal}
+use Rattle.mw_search.proofs.Finding.{somes-append, finds_goal}
 use Rattle.mw_search.proofs.Beginning.{hand_all}
 use Rattle.mw_search.proofs.BagLists.{is_last_of}
 use Rattle.mw_search.proofs.Ends.{set_last, set_below, set_end, take_less, take_twice, got_taken, got_pushed, got_last}
@@ -91,8 +91,18 @@ module _ (sig : Signature) (ps : Positions) where
       → new.given ≡ old.given → IsReady sig ps new → Applied sig ps o old new
   all_applied o old new e g r = record { dropped = []; lack = tt; leads = sym e; given = g; ready = r }
 
+  one_step : (old new : Machine) (dropped : Trace) → Each (IsLeftOut sig ps old) (somes dropped) → machine_trace sig ps old ≡ None ∷ (dropped ++ machine_trace sig ps new) → new.given ≡ old.given → IsReady sig ps new → Stepped sig ps old new
+  one_step old new dropped n e g r = record {
+    left = somes dropped;
+    lack = n;
+    step = ap somes e ∙ somes-append dropped (machine_trace sig ps new);
+    fewer = (let l = ap length e in let m = length-append dropped (machine_trace sig ps new) in omega (arith, l, m));
+    given = g;
+    ready = r;
+  }
+
   all_stepped : (old new : Machine) → machine_trace sig ps old ≡ None ∷ machine_trace sig ps new → new.given ≡ old.given → IsReady sig ps new → Stepped sig ps old new
-  all_stepped old new e g r = record { dropped = []; lack = tt; step = e; given = g; ready = r }
+  all_stepped old new e g r = one_step old new [] tt e g r
 
   pub opened : (old new : Machine) (p : RawTerm) (s : Shares) (c d : Choice) → IsReady sig ps old → new.given ≡ old.given → new.running ≡ false → new.values.items ≡ old.values.items
       → new.stack.items ≡ set (old.stack.items ++ c ∷ []) (length old.stack.items) d → d.pattern ≡ p → d.shares ≡ s → d.goals.items ≡ take (length old.goals.items - 1) old.goals.items
@@ -169,17 +179,25 @@ module _ (sig : Signature) (ps : Positions) where
       (ap (λ gs. hand_trace sig ps.single.items gs old.values.items finish) (eg ∙ set_below old.goals.items g (Meet p t) h) ∙ hand_two (take (length old.goals.items - 1) old.goals.items) g (Meet p t) old.values.items finish)
 
   pub met : (old new : Machine) (o : Outcome) (g : Goal) → old.running ≡ true → 0 < length old.goals.items → g ≡ get_or old.goals.items (length old.goals.items - 1) g
-      → IsOutcome sig ps.single.items g old.values.items o → Applied sig ps o old new → Stepped sig ps old new
+      → Serves sig ps.single.items g old.values.items o → Applied sig ps o old new → Stepped sig ps old new
   met old new o g ot h eg io a =
       let gs : List Goal = take (length old.goals.items - 1) old.goals.items in
       let vs : Values = old.values.items in
+      let K : Values → Trace = λ us. hand_trace sig ps.single.items gs us finish in
+      let stack : Trace = stack_trace sig ps old.stack.items vs in
+      let asked : Trace = goal_trace sig ps.single.items g vs K in
+      let done : Trace = outcome_trace sig ps.single.items o vs K in
+      let before : machine_trace sig ps old ≡ asked ++ stack =
+      ap (λ b. cond b (hand_trace sig ps.single.items old.goals.items vs finish) [] ++ stack) ot
+      ∙ ap (λ hs. hand_trace sig ps.single.items hs vs finish ++ stack) (is_last_of old.goals.items g h eg)
+      ∙ ap (λ l. l ++ stack) (hand_push gs g vs finish) in
       record {
-        dropped = a.dropped;
+        left = somes a.dropped;
         lack = a.lack;
-        step = ap (λ b. cond b (hand_trace sig ps.single.items old.goals.items vs finish) [] ++ stack_trace sig ps old.stack.items vs) ot
-            ∙ ap (λ hs. hand_trace sig ps.single.items hs vs finish ++ stack_trace sig ps old.stack.items vs) (is_last_of old.goals.items g h eg)
-            ∙ ap (λ l. l ++ stack_trace sig ps old.stack.items vs) (hand_push gs g vs finish ∙ io (λ us. hand_trace sig ps.single.items gs us finish))
-            ∙ ap (λ l. None ∷ l) a.leads;
+        step = ap somes before ∙ somes-append asked stack ∙ ap (λ l. l ++ somes stack) (io K).matches ∙ sym (somes-append done stack)
+            ∙ ap somes a.leads ∙ somes-append a.dropped (machine_trace sig ps new);
+        fewer = (let i = (io K).fewer in let u = ap length before in let v = length-append asked stack in let w = length-append done stack in
+            let x = ap length a.leads in let y = length-append a.dropped (machine_trace sig ps new) in omega (arith, i, u, v, w, x, y));
         given = a.given;
         ready = a.ready;
       }
@@ -263,14 +281,11 @@ module _ (sig : Signature) (ps : Positions) where
       ∙ flat_map-same _ _ (found sig ps.single.items c.pattern t ws) (λ us. finds_goal sig ps.single.items g us K)
       ∙ sym (flat_map-flat_map (λ us. somes (K us)) (λ us. goal_found sig ps.single.items g us) (found sig ps.single.items c.pattern t ws))
       ∙ ap (flat_map (λ us. somes (K us))) nn in
-      record {
-        dropped = share_trace sig ps.single.items c.pattern ws K (t, g);
-        lack = subst (Each (IsLeftOut sig ps old)) (sym lost) tt;
-        step = ap (λ b. cond b (hand_trace sig ps.single.items old.goals.items vs finish) [] ++ stack_trace sig ps old.stack.items vs) ot
-            ∙ ap (λ ds. stack_trace sig ps ds vs) s ∙ stack_push cs c vs
-            ∙ ap (λ (hs : List Share). ticked (share_trace sig ps.single.items c.pattern ws K) hs ++ stack_trace sig ps cs vs) en
-            ∙ ap (λ l. None ∷ l) (append_assoc (share_trace sig ps.single.items c.pattern ws K (t, g)) (ticked (share_trace sig ps.single.items c.pattern ws K) ss) (stack_trace sig ps cs vs)
-            ∙ ap (λ l. share_trace sig ps.single.items c.pattern ws K (t, g) ++ l) (sym after));
-        given = gv;
-        ready = ready_by new old.given vs (cs ++ d ∷ []) gv ev s2 (rise_push old.given c.below (length vs) cs d r.0 (omega (arith, eb)) (let b = r.1 in omega (arith, b, eb))) m.sorted;
-      }
+      one_step old new (share_trace sig ps.single.items c.pattern ws K (t, g)) (subst (Each (IsLeftOut sig ps old)) (sym lost) tt)
+      (ap (λ b. cond b (hand_trace sig ps.single.items old.goals.items vs finish) [] ++ stack_trace sig ps old.stack.items vs) ot
+      ∙ ap (λ ds. stack_trace sig ps ds vs) s ∙ stack_push cs c vs
+      ∙ ap (λ (hs : List Share). ticked (share_trace sig ps.single.items c.pattern ws K) hs ++ stack_trace sig ps cs vs) en
+      ∙ ap (λ l. None ∷ l) (append_assoc (share_trace sig ps.single.items c.pattern ws K (t, g)) (ticked (share_trace sig ps.single.items c.pattern ws K) ss) (stack_trace sig ps cs vs)
+      ∙ ap (λ l. share_trace sig ps.single.items c.pattern ws K (t, g) ++ l) (sym after)))
+      gv
+      (ready_by new old.given vs (cs ++ d ∷ []) gv ev s2 (rise_push old.given c.below (length vs) cs d r.0 (omega (arith, eb)) (let b = r.1 in omega (arith, b, eb))) m.sorted)

@@ -1,11 +1,11 @@
 -- What is still to come of a multiset: its parts, by numbers of each different element.
-use Rattle.std.specs.Prelude.{◌≡◌, ℕ, List, [], ◌∷◌, refl, Option, Some, None, false}
+use Rattle.std.specs.Prelude.{◌≡◌, ℕ, ◌/◌, ◌%◌, List, [], ◌∷◌, map, refl, Option, Some, None, Bool, true, false, cond, nat_eq}
 use Rattle.std.specs.Coded.{Coded, coded_ℕ, coded_list, coded×, code_by}
 use Rattle.mw_logic.specs.Term.{RawTerm, RawTerms, nil, cons}
 use Rattle.mw_logic.specs.TermCode.{coded_terms}
 use Rattle.mw_split.specs.Splits.{Splits}
 use Rattle.mw_arguments.specs.Bags.{spread, runs, heads, numbers}
-use Rattle.mw_matching.specs.Multisets.{is_within, term_at, without}
+use Rattle.mw_matching.specs.Multisets.{is_within, term_at, without, part_of, rest_of}
 
 -- elements, and cuts of them
 pub record Cuts : Type 0 where
@@ -31,3 +31,18 @@ pub record AreRuns (ds : List RawTerm) (ns : List ℕ) : Type 0 where
 -- the element at an index stands among the others nowhere
 abbrev pub IsAlone : RawTerms → ℕ → Type 0
 IsAlone zs n = is_within (cons (term_at n zs) nil) (without n zs) ≡ false
+
+-- m divides each number
+abbrev pub are_divided : ℕ → List ℕ → Bool
+are_divided m [] = true
+are_divided m (n ∷ ns) = cond (nat_eq (n % m) 0) (are_divided m ns) false
+
+-- how often each different element stands, by m
+abbrev pub by_number : ℕ → RawTerms → List ℕ
+by_number m zs = map (λ n. n / m) (numbers (runs zs))
+
+-- the part of which zs are m equal ones, and what it leaves
+pub record AreDivided (m : ℕ) (zs part rest : RawTerms) : Type 0 where
+  pub divided : are_divided m (numbers (runs zs)) ≡ true
+  pub part_is : part ≡ part_of zs (by_number m zs)
+  pub rest_is : rest ≡ rest_of zs (by_number m zs)

@@ -1,14 +1,16 @@
 -- What is to be met, what becomes of it, and the shares that a choice goes through.
-use Rattle.std.specs.Prelude.{◌≡◌, ℕ, ◌+◌, ◌-◌, min, List, [], ◌∷◌, ◌++◌, drop, map, Option, Some, None, option_map}
-use Rattle.mw_logic.specs.Term.{RawTerm, numeral, quoted, variable, apply}
+use Rattle.std.specs.Prelude.{◌≡◌, ℕ, ◌+◌, ◌-◌, ◌<◌, min, List, [], ◌∷◌, ◌++◌, length, drop, map, cond, Option, Some, None, option_map}
+use Rattle.mw_logic.specs.Term.{RawTerm, RawTerms, Variable, numeral, quoted, variable, apply}
 use Rattle.mw_logic.specs.Terms.{args_of, front, skip}
-use Rattle.mw_logic.specs.Signature.{Signature}
+use Rattle.mw_logic.specs.Signature.{Signature, Identity}
 use Rattle.mw_logic.specs.Parts.{number_of_terms}
 use Rattle.mw_logic.specs.NormalForm.{rebuilt}
 use Rattle.mw_term.specs.Signatures.{identity_of as identity_named}
-use Rattle.mw_matching.specs.Multisets.{term_at, without, news, part_of, rest_of}
+use Rattle.mw_arguments.specs.Bags.{runs, numbers}
+use Rattle.mw_matching.specs.Multisets.{term_at, without, news, times, part_of, rest_of}
 use Rattle.mw_matching.specs.Found.{Values, first_term, numbers_from, found, found_all, found_row, found_bag}
-use Rattle.mw_search.specs.Traces.{Trace, ticked, trace, trace_all, trace_row, trace_bag}
+use Rattle.mw_search.specs.Bags.{are_divided, by_number}
+use Rattle.mw_search.specs.Traces.{Trace, somes, ticked, trace, trace_all, trace_row, trace_bag}
 use Rattle.mw_search.specs.declared.goals.Goal.{Goal}
 use Rattle.mw_search.specs.declared.goals.Goal.TheVariants.{Meet, Args, Row, Bag, Left}
 use Rattle.mw_search.specs.declared.goals.Outcome.{Outcome}
@@ -77,6 +79,24 @@ shares_left (OfHeads r) = heads_left r
 shares_left (OfParts r) = parts_left r
 shares_left (OfOrders r) = orders_left r
 
+-- A variable that gets the value of position n is all that is left of a pattern.
+pub record IsRepeated (q : RawTerm) (qs : RawTerms) (n : ℕ) : Type 0 where
+  pub first : Variable
+  pub is : q ≡ variable first
+  pub comes : first.sort ≡ n
+  pub all : times q qs ≡ number_of_terms qs
+
+-- the variable takes the part of which zs are m equal ones, and the others what it leaves
+abbrev pub divided_outcome : Option Identity → RawTerm → RawTerm → ℕ → ℕ → RawTerms → Outcome
+divided_outcome e p q i m zs =
+    cond (are_divided m (numbers (runs zs)))
+    (First q (rebuilt e (top_of p) (part_of zs (by_number m zs))) (Bag p i (apply (top_of p) (rest_of zs (by_number m zs))))) Fails
+
+-- a trace has the matches of another, and fewer steps
+pub record IsShorter (new old : Trace) : Type 0 where
+  pub matches : somes old ≡ somes new
+  pub fewer : length new < length old
+
 module _ (sig : Signature) (single : List (List ℕ)) where
   abbrev pub goal_trace : Goal → Values → (Values → Trace) → Trace
   goal_trace (Meet p t) vs k = trace sig single p t vs k
@@ -110,9 +130,13 @@ module _ (sig : Signature) (single : List (List ℕ)) where
   hand_trace [] vs k = k vs
   hand_trace (g ∷ gs) vs k = hand_trace gs vs (λ us. goal_trace g us k)
 
-  -- what an outcome is of a goal
+  -- what an outcome is of a goal, step by step
   abbrev pub IsOutcome : Goal → Values → Outcome → Type 0
   IsOutcome g vs o = (k : Values → Trace) → goal_trace g vs k ≡ None ∷ outcome_trace o vs k
+
+  -- or in fewer steps
+  abbrev pub Serves : Goal → Values → Outcome → Type 0
+  Serves g vs o = (k : Values → Trace) → IsShorter (outcome_trace o vs k) (goal_trace g vs k)
 
 -- the outcome is what is to be done, in any signature
 abbrev pub Gives : (Signature → List (List ℕ) → Values → (Values → Trace) → Trace) → Outcome → Type 0

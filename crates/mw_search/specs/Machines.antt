@@ -1,5 +1,5 @@
 -- The state of an enumeration, and what is still to come.
-use Rattle.std.specs.Prelude.{◌≡◌, ◌≤◌, ◌-◌, ℕ, List, [], ◌∷◌, ◌++◌, length, take, cond, None}
+use Rattle.std.specs.Prelude.{◌≡◌, ◌<◌, ◌≤◌, ◌-◌, ℕ, List, [], ◌∷◌, ◌++◌, length, take, cond}
 use Rattle.mw_logic.specs.Signature.{Signature}
 use Rattle.mw_matching.specs.Found.{Values}
 use Rattle.mw_search.specs.Traces.{Trace, somes, ticked, finish}
@@ -43,11 +43,12 @@ module _ (sig : Signature) (ps : Positions) where
   abbrev pub PassesTo : Machine → List Values → Type 0
   PassesTo m rest = Skips (IsLeftOut m) (to_come m) rest
 
-  -- one step, which may leave out matches that lack a sort
+  -- a step, or several at once, which may leave out matches that lack a sort
   pub record Stepped (old new : Machine) : Type 0 where
-    pub dropped : Trace
-    pub lack : Each (IsLeftOut old) (somes dropped)
-    pub step : machine_trace old ≡ None ∷ (dropped ++ machine_trace new)
+    pub left : List Values
+    pub lack : Each (IsLeftOut old) left
+    pub step : to_come old ≡ left ++ to_come new
+    pub fewer : length (machine_trace new) < length (machine_trace old)
     pub given : new.given ≡ old.given
     pub ready : IsReady new
 

@@ -5,7 +5,7 @@ ghost use Rattle.mw_logic.specs.Terms.{terms_of};
 ghost use Rattle.mw_logic.specs.Parts.{number_of_terms};
 ghost use Rattle.mw_arguments.specs.Bags.{same, copies, spread as spread_is, runs as runs_is, heads as heads_is, numbers as numbers_is};
 ghost use Rattle.mw_matching.specs.Multisets.{is_within, left_behind, term_at, without as without_is, is_new as is_new_is, news, is_variable as is_variable_is, times as times_is, part_of, rest_of, parts, numbers_without, behind_first};
-ghost use Rattle.mw_search.specs.Bags.{Cuts, cuts_left, AreRuns};
+ghost use Rattle.mw_search.specs.Bags.{Cuts, cuts_left, AreRuns, AreDivided, are_divided as are_divided_is};
 
 use crate::terms::{arguments, is_same};
 use mw_split::BagSplits;
@@ -247,6 +247,42 @@ fn is_last(terms: &[Term], term: &Term) -> bool
         return false;
     }
     is_same(term, &terms[terms.len() - 1])
+}
+
+/// The part of which the elements are so many equal ones, and what it leaves; none, where that number doesn't divide how
+/// often some element stands.
+pub fn divided(
+    alloc: Global,
+    elements: &[Term],
+    number: usize,
+) -> Result<Option<(Vec<Term>, Vec<Term>)>, AllocError>
+    requires { 0 < number }
+    ensures { let zs = terms_of elements.now in
+        IfOk result (λ o. MatchOption o (are_divided_is number (numbers_is (runs_is zs)) ≡ false)
+        (λ s. AreDivided number zs (terms_of s.0.items) (terms_of s.1.items))) }
+{
+    let (heads, numbers) = runs(alloc, elements)?;
+    if !are_divided(numbers.as_slice(), number) {
+        return Ok(None);
+    }
+    let taken = quotients(alloc, numbers.as_slice(), number)?;
+    let left = numbers_left(alloc, numbers.as_slice(), taken.as_slice())?;
+    let part = spread(alloc, heads.as_slice(), taken.as_slice())?;
+    let rest = spread(alloc, heads.as_slice(), left.as_slice())?;
+    Ok(Some((part, rest)))
+}
+
+/// Whether a divisor divides each number.
+fn are_divided(numbers: &[usize], divisor: usize) -> bool
+    requires { 0 < divisor }
+    ensures { result ≡ are_divided_is divisor numbers.now }
+{
+    for number in numbers {
+        if *number % divisor != 0 {
+            return false;
+        }
+    }
+    true
 }
 
 /// Each number by a divisor, rounded down.

@@ -24,13 +24,18 @@
 //! next argument takes of a list, which element or which part of a multiset, which order of two arguments. No choice is
 //! opened for an argument that is one element of a list, for the last one, which takes all, and for a variable that has
 //! its value. A state stands for its trace (specs/Traces): what is to come, with a mark for each step. A step takes the
-//! first mark off, and may take a share's matches off where there are none, so steps end, and the matches stay the same.
+//! first mark off, and may take a share's marks off where it has no matches, or more of them where that is known of
+//! many shares at once (`Serves`, specs/Goals). So steps end, and the matches stay the same.
 //!
 //! A share is passed over where it is seen at once that no match comes of it (`IsBarren`, specs/Clashes): where the
 //! pattern clashes with an element of a multiset, or the argument behind a piece of a list, which has to be one element,
 //! with the first element that is left. [`clashes`] tells that: they differ in an operator without axioms, a number, an
 //! identifier, or from the value of a variable. And where a variable that has to be one element stands twice, and the
 //! element once, which its neighbours tell where the elements stand in order (`Gathered`).
+//!
+//! Where one variable is all that is left of a multiset's patterns, m times, no choice is opened: its value has each
+//! element so many times less, or there is no match, where m doesn't divide how often one stands. All other parts would
+//! leave something (proofs/Dividing), and there are as many as the product of how often each may be taken.
 //!
 //! Cost: terms are copied by one count. A share of a list copies the elements of its piece, a part of a multiset all
 //! elements. One element of a multiset is met before the others are copied, so one that the pattern fails on costs no

@@ -1,20 +1,20 @@
 // What becomes of the patterns under an associative and commutative operator: each takes a share of the multiset.
-ghost use Rattle.std.specs.Prelude.{◌≡◌, IfOk, option_map};
+ghost use Rattle.std.specs.Prelude.{◌≡◌, ◌<◌, IfOk, IsTrue, option_map};
 ghost use Rattle.mw_logic.specs.NormalForm.{identity_of, elements as elements_of};
 ghost use Rattle.mw_logic.specs.Terms.{args_of, terms_of, skip};
 ghost use Rattle.mw_matching.specs.Found.{value_of};
 ghost use Rattle.mw_matching.specs.Multisets.{times as times_is};
-ghost use Rattle.mw_search.specs.Goals.{IsOutcome, Gives, top_of};
+ghost use Rattle.mw_search.specs.Goals.{Serves, Gives, IsRepeated, divided_outcome, top_of};
 ghost use Rattle.mw_search.specs.Traces.{taken_trace, heads_trace, parts_trace};
 ghost use Rattle.mw_search.specs.declared.goals.Goal.TheVariants.{Bag, Left};
 
-use crate::bags::{Parts, taken_away, times, without};
+use crate::bags::{Parts, divided, taken_away, times, without};
 use crate::gathered::Gathered;
 use crate::goals::{Goal, Outcome};
 use crate::positions::{Positions, identity};
 use crate::rows::whole;
 use crate::shares::{Pieces, Shares, Singles, is_variable_at};
-use crate::terms::{arguments, rest_of, row_of, top};
+use crate::terms::{arguments, rebuilt_of, rest_of, row_of, top};
 use mw_canon::Facts;
 use mw_term::{Term, View, copy};
 use std::alloc::{AllocError, Global};
@@ -29,7 +29,7 @@ pub fn bag_met(
     bag: &Term,
     values: &[Term],
 ) -> Result<Outcome, AllocError>
-    ensures { IfOk result (IsOutcome facts.now positions.now.single.items (Bag pattern.now at bag.now) values.now) }
+    ensures { IfOk result (Serves facts.now positions.now.single.items (Bag pattern.now at bag.now) values.now) }
 {
     let patterns = arguments(pattern);
     let elements = arguments(bag);
@@ -60,6 +60,10 @@ pub fn bag_met(
         return Ok(met);
     }
     let left = rest_of(patterns, at);
+    if !elements.is_empty() && is_repeated(first, left, values.len()) {
+        let met = divided_met(alloc, facts, pattern, first, at + 1, left.len(), elements)?;
+        return Ok(met);
+    }
     let met = parts_met(alloc, facts, pattern, left, first, at + 1, elements)?;
     Ok(met)
 }
@@ -76,7 +80,7 @@ pub fn left_met(
     values: &[Term],
 ) -> Result<Outcome, AllocError>
     ensures { let single = positions.now.single.items in
-        IfOk result (IsOutcome facts.now single (Left pattern.now at bag.now gone) values.now) }
+        IfOk result (Serves facts.now single (Left pattern.now at bag.now gone) values.now) }
 {
     let left = without(alloc, arguments(bag), gone)?;
     let left = Term::apply(alloc, top(pattern), left)?;
@@ -139,6 +143,46 @@ fn heads_met(pattern: &Term, first: &Term, then: usize, bag: &Term) -> Result<Ou
         next: 0,
     };
     Ok(Outcome::Opens(first, Shares::OfHeads(singles)))
+}
+
+/// Whether all patterns that are left are one variable, which gets the value of the next position. So many positions
+/// have values.
+fn is_repeated(first: &Term, left: &[Term], count: usize) -> bool
+    ensures { IsTrue result → IsRepeated first.now (terms_of left.now) count }
+{
+    let View::Var(x) = first.view() else {
+        return false;
+    };
+    if x.sort as usize != count {
+        return false;
+    }
+    times(first, left) == left.len()
+}
+
+/// A variable that is all that is left, so many times, takes the part of which the elements are so many equal ones, where
+/// there is one.
+fn divided_met(
+    alloc: Global,
+    facts: &Facts,
+    pattern: &Term,
+    first: &Term,
+    then: usize,
+    number: usize,
+    elements: &[Term],
+) -> Result<Outcome, AllocError>
+    requires { 0 < number }
+    ensures { let e = identity_of facts.now (top_of pattern.now) in
+        IfOk result (λ o. o ≡ divided_outcome e pattern.now first.now then number (terms_of elements.now)) }
+{
+    let Some((part, rest)) = divided(alloc, elements, number)? else {
+        return Ok(Outcome::Fails);
+    };
+    let operator = top(pattern);
+    let term = rebuilt_of(alloc, identity(facts, operator), operator, part.as_slice())?;
+    let rest = Term::apply(alloc, operator, rest)?;
+    let first = copy(first)?;
+    let pattern = copy(pattern)?;
+    Ok(Outcome::First(first, term, Goal::Bag(pattern, then, rest)))
 }
 
 /// Any other pattern takes a part, of which there are as many equal ones as the pattern stands among those that are

@@ -5,7 +5,7 @@ ghost use Rattle.mw_logic.specs.Term.{apply};
 ghost use Rattle.mw_logic.specs.Terms.{args_of, terms_of};
 ghost use Rattle.mw_arguments.specs.Splits.{orders};
 ghost use Rattle.mw_matching.specs.Found.{Values};
-ghost use Rattle.mw_search.specs.Goals.{IsOutcome, Gives, outcome_trace};
+ghost use Rattle.mw_search.specs.Goals.{IsOutcome, Serves, Gives, outcome_trace};
 ghost use Rattle.mw_search.specs.Traces.{Trace, at_position, operator_trace, arguments_trace, swapped_trace, before_trace};
 ghost use Rattle.mw_search.specs.declared.goals.Goal.TheVariants.{Meet, Args};
 
@@ -27,13 +27,13 @@ pub fn outcome(
     goal: &Goal,
     values: &[Term],
 ) -> Result<Outcome, AllocError>
-    ensures { IfOk result (IsOutcome facts.now positions.now.single.items goal.now values.now) }
+    ensures { IfOk result (Serves facts.now positions.now.single.items goal.now values.now) }
 {
     match goal {
-        Goal::Meet(pattern, term) => met(alloc, facts, positions, pattern, term, values),
-        Goal::Args(pattern, term, at) => args_met(pattern, term, *at),
+        Goal::Meet(pattern, term) => Ok(met(alloc, facts, positions, pattern, term, values)?),
+        Goal::Args(pattern, term, at) => Ok(args_met(pattern, term, *at)?),
         Goal::Row(pattern, at, row, from) => {
-            row_met(alloc, facts, positions, pattern, *at, row, *from)
+            Ok(row_met(alloc, facts, positions, pattern, *at, row, *from)?)
         }
         Goal::Bag(pattern, at, bag) => bag_met(alloc, facts, positions, pattern, *at, bag, values),
         Goal::Left(pattern, at, bag, gone) => {

@@ -12,7 +12,7 @@ ghost use Rattle.mw_search.specs.declared.goals.Goal.TheVariants.{Row};
 use crate::goals::{Goal, Outcome};
 use crate::positions::{Positions, identity};
 use crate::shares::{Fronts, Shares};
-use crate::terms::{arguments, rebuilt_of, rest_of, top};
+use crate::terms::{arguments, rebuilt_of, rebuilt_rest, rest_of, top};
 use mw_canon::Facts;
 use mw_term::{Identity, OpId, Term, copy};
 use std::alloc::{AllocError, Global};
@@ -49,6 +49,26 @@ pub fn whole(
     Ok(Outcome::Becomes(Goal::Meet(pattern, term)))
 }
 
+/// The last pattern meets all elements of a row from there on.
+fn last_met(
+    alloc: Global,
+    identity: Option<Identity>,
+    operator: OpId,
+    row: &Term,
+    from: usize,
+    pattern: &Term,
+) -> Result<Outcome, AllocError>
+    ensures { let e = option_map identity_named identity in
+        IfOk result (Gives (λ sig single. last_trace sig single e operator pattern.now (skip from (args_of row.now)))) }
+{
+    if !is_backed(identity, rest_of(arguments(row), from)) {
+        return Ok(Outcome::Fails);
+    }
+    let term = rebuilt_rest(alloc, identity, operator, row, from)?;
+    let pattern = copy(pattern)?;
+    Ok(Outcome::Becomes(Goal::Meet(pattern, term)))
+}
+
 /// The arguments of a pattern from this one on by the elements of a row from that one on.
 pub fn row_met(
     alloc: Global,
@@ -78,7 +98,7 @@ pub fn row_met(
         return Ok(met);
     }
     if at + 1 == patterns.len() {
-        let met = whole(alloc, identity, top(pattern), rest, first)?;
+        let met = last_met(alloc, identity, top(pattern), row, from, first)?;
         return Ok(met);
     }
     let next = if identity.is_some() { 0 } else { 1 };

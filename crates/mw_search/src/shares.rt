@@ -11,7 +11,7 @@ use crate::gathered::Gathered;
 use crate::goals::Goal;
 use crate::lookahead::clashes;
 use crate::positions::Positions;
-use crate::terms::{arguments, first_of, part, rebuilt_of, top};
+use crate::terms::{arguments, first_of, rebuilt_of, rebuilt_part, top};
 use mw_canon::Facts;
 use mw_term::{Identity, Term, View, copy};
 use std::alloc::{AllocError, Global};
@@ -72,8 +72,15 @@ impl Fronts {
         ensures { IfOk result (λ s. (s.0, s.1) ≡ front_share self.now self.now.next) }
     {
         let elements = arguments(&self.row);
-        let part = part(elements, self.from, self.next);
-        let term = rebuilt_of(alloc, self.identity, top(&self.pattern), part)?;
+        let operator = top(&self.pattern);
+        let term = rebuilt_part(
+            alloc,
+            self.identity,
+            operator,
+            &self.row,
+            self.from,
+            self.next,
+        )?;
         let from = self.from.saturating_add(self.next).min(elements.len());
         let goal = Goal::Row(copy(&self.pattern)?, self.then, copy(&self.row)?, from);
         Ok((term, goal))

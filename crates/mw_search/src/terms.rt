@@ -119,6 +119,43 @@ pub fn rebuilt_of(
     }
 }
 
+/// The same over some of a term's arguments: so many from a place on, as far as there are.
+pub fn rebuilt_part(
+    alloc: Global,
+    identity: Option<Identity>,
+    operator: OpId,
+    row: &Term,
+    from: usize,
+    count: usize,
+) -> Result<Term, AllocError>
+    ensures { let ts = front count (skip from (args_of row.now)) in
+        IfOk result (λ t. t ≡ rebuilt (option_map identity_named identity) operator ts) }
+{
+    match part(arguments(row), from, count) {
+        [] => nothing(alloc, identity, operator),
+        [only] => copy(only),
+        _ => {
+            let term = row.section(alloc, operator, from, count)?;
+            Ok(term)
+        }
+    }
+}
+
+/// The same over all of a term's arguments from a place on.
+pub fn rebuilt_rest(
+    alloc: Global,
+    identity: Option<Identity>,
+    operator: OpId,
+    row: &Term,
+    from: usize,
+) -> Result<Term, AllocError>
+    ensures { let ts = skip from (args_of row.now) in
+        IfOk result (λ t. t ≡ rebuilt (option_map identity_named identity) operator ts) }
+{
+    let term = rebuilt_part(alloc, identity, operator, row, from, arguments(row).len())?;
+    Ok(term)
+}
+
 /// What an associative operator is over no elements.
 fn nothing(alloc: Global, identity: Option<Identity>, operator: OpId) -> Result<Term, AllocError>
     ensures { IfOk result (λ t. t ≡ identity_or_empty (option_map identity_named identity) operator) }

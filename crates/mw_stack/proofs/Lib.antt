@@ -3,6 +3,10 @@ pub mod Cutting
 pub mod Searched
 -- What changes on the stack.
 pub mod Piles
+-- Runs that become one.
+pub mod Weaving
+-- A term that fits at a place.
+pub mod Fitting
 -- Operators and what stands under them.
 pub mod Under
 -- Arguments, and the term that they are of: into one of them and out of it; levels.

@@ -1,16 +1,16 @@
 -- What is kept of a list of terms, term by term.
-use Rattle.std.proofs.Common.{◌≡◌, ◌∙◌, ◌<◌, ◌≤◌, ◌+◌, ℕ, List, [], ◌∷◌, length, get_or, drop, drop-cons, drop_of_length-le, add-one, refl, ap, sym, arith}
-use Rattle.std.specs.Int.Bits.{or_zero_r}
+use Rattle.std.proofs.Common.{◌≡◌, ◌∙◌, ◌<◌, ◌≤◌, ◌+◌, ℕ, List, [], ◌∷◌, ◌++◌, length, get_or, drop, drop-cons, drop_of_length-le, add-one, refl, ap, sym, arith}
+use Rattle.std.specs.Int.Bits.{or_zero_l, or_zero_r}
 use Rattle.mw_logic.specs.Term.{RawTerm, RawTerms, cons}
 use Rattle.mw_logic.specs.Terms.{terms_of}
 use Rattle.mw_term.specs.Facts.{facts_of, facts_of_all, facts_joined}
 use Rattle.mw_term.specs.declared.facts.Facts.{Facts}
 use Rattle.mw_term.proofs.OperatorSets.{or_assoc}
 
-abbrev facts : ℕ → ℕ → ℕ → Facts
+abbrev pub facts : ℕ → ℕ → ℕ → Facts
 facts r l d = record { remainders = r; last = l; depth = d }
 
-same_facts : (r l d s m e : ℕ) → r ≡ s → l ≡ m → d ≡ e → facts r l d ≡ facts s m e
+pub same_facts : (r l d s m e : ℕ) → r ≡ s → l ≡ m → d ≡ e → facts r l d ≡ facts s m e
 same_facts r l d s m e p q h = rw (p, q, h) refl
 
 joined_first : (a : Facts) (t : RawTerm) (ts : RawTerms) → facts_joined (facts_joined a (facts_of t)) (facts_of_all ts) ≡ facts_joined a (facts_of_all (cons t ts))
@@ -28,3 +28,16 @@ pub all_in : (ts : List RawTerm) (i : ℕ) (all total : Facts) → length ts ≤
 all_in ts i all total h inv =
     let d : drop i ts ≡ [] = drop_of_length-le ts h in
     same_facts _ _ _ _ _ _ (sym (or_zero_r all.remainders)) (omega arith) (omega arith) ∙ sym (ap (λ (xs : List RawTerm). facts_joined all (facts_of_all (terms_of xs))) d) ∙ inv
+
+-- lists one behind another
+pub facts-append : (xs ys : List RawTerm) → facts_of_all (terms_of (xs ++ ys)) ≡ facts_joined (facts_of_all (terms_of xs)) (facts_of_all (terms_of ys))
+facts-append [] ys = same_facts _ _ _ _ _ _ (sym (or_zero_l _)) (omega arith) (omega arith)
+facts-append (x ∷ xs) ys =
+    first_of x (terms_of (xs ++ ys)) ∙ ap (facts_joined (facts_of x)) (facts-append xs ys) ∙ sym (joined_assoc (facts_of x) (facts_of_all (terms_of xs)) (facts_of_all (terms_of ys)))
+    ∙ ap (λ a. facts_joined a (facts_of_all (terms_of ys))) (sym (first_of x (terms_of xs)))
+  where
+    first_of : (t : RawTerm) (ts : RawTerms) → facts_of_all (cons t ts) ≡ facts_joined (facts_of t) (facts_of_all ts)
+    first_of t ts = same_facts _ _ _ _ _ _ refl refl (omega arith)
+
+    joined_assoc : (a b c : Facts) → facts_joined (facts_joined a b) c ≡ facts_joined a (facts_joined b c)
+    joined_assoc a b c = same_facts _ _ _ _ _ _ (or_assoc a.remainders b.remainders c.remainders) (omega arith) (omega arith)

@@ -4,3 +4,5 @@ pub mod RawLists
 pub mod Orders
 pub mod OperatorSets
 pub mod KeptFacts
+pub mod Parts
+pub mod Sections

@@ -7,7 +7,7 @@ use Rattle.mw_logic.specs.NormalForm.{height, highest}
 use Rattle.mw_term.specs.OperatorSets.{bounded, operator_bit, remainders_in, remainders_in_all, last_in, last_in_all}
 use Rattle.mw_term.specs.declared.facts.Facts.{Facts}
 use Rattle.mw_term.specs.declared.term.Shape.{Shape}
-use Rattle.mw_term.specs.declared.term.Shape.TheVariants.{Nat, Qid, Var, Constant, One, Two, Many}
+use Rattle.mw_term.specs.declared.term.Shape.TheVariants.{Nat, Qid, Var, Constant, One, Two, Many, Section}
 
 abbrev pub facts_of : RawTerm → Facts
 facts_of t = record { remainders = remainders_in t; last = last_in t; depth = min (height t) (2 ^ 16 - 1) }
@@ -35,3 +35,4 @@ facts_kept r (Constant l d f) = record { remainders = r; last = l; depth = d }
 facts_kept r (One l d f t) = record { remainders = r; last = l; depth = d }
 facts_kept r (Two l d f ts) = record { remainders = r; last = l; depth = d }
 facts_kept r (Many l d f ts) = record { remainders = r; last = l; depth = d }
+facts_kept r (Section l d f s from end) = record { remainders = r; last = l; depth = d }

@@ -3,22 +3,24 @@ use Rattle.std.specs.Prelude.{◌+◌, ◌*◌, ◌≤◌, List, [], ◌∷◌}
 use Rattle.std.proofs.Common.{arith}
 use denote.Param.Weighed.{most}
 use Rattle.mw_term.specs.declared.term.Shape.{Shape}
-use Rattle.mw_term.specs.declared.term.Shape.TheVariants.{Nat, Qid, Var, Constant, One, Two, Many}
+use Rattle.mw_term.specs.declared.term.Shape.TheVariants.{Nat, Qid, Var, Constant, One, Two, Many, Section}
 use Rattle.mw_term.specs.declared.term.Term.TheDeep.{deep-Shape}
 use Rattle.mw_logic.specs.Term.{RawTerm}
 use Rattle.mw_logic.specs.Terms.{terms_of}
 use Rattle.mw_logic.specs.NormalForm.{height, highest}
 use Rattle.mw_term.specs.Shapes.{shaped}
+use Rattle.mw_term.specs.Sections.{ShowsSection}
 
 pub terms_fall : (ts : List RawTerm) → most (λ t. 2 * height t + 1) ts ≤ 2 * highest (terms_of ts) + 1
 terms_fall [] = omega arith
 terms_fall (t ∷ ts) = omega (arith, terms_fall ts)
 
-pub shape_falls : (s : Shape) → deep-Shape s ≤ 2 * height (shaped s)
-shape_falls (Nat n) = omega arith
-shape_falls (Qid q) = omega arith
-shape_falls (Var x) = omega arith
-shape_falls (Constant l d f) = omega arith
-shape_falls (One l d f t) = omega arith
-shape_falls (Two l d f ts) = omega (arith, terms_fall ts)
-shape_falls (Many l d f ts) = omega (arith, terms_fall ts.value.items)
+pub shape_falls : (s : Shape) → ShowsSection s → deep-Shape s ≤ 2 * height (shaped s)
+shape_falls (Nat n) h = omega arith
+shape_falls (Qid q) h = omega arith
+shape_falls (Var x) h = omega arith
+shape_falls (Constant l d f) h = omega arith
+shape_falls (One l d f t) h = omega arith
+shape_falls (Two l d f ts) h = omega (arith, terms_fall ts)
+shape_falls (Many l d f ts) h = omega (arith, terms_fall ts.value.items)
+shape_falls (Section l d f s from end) h = omega (arith, terms_fall s.value.terms.items, h.3)

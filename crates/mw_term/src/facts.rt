@@ -1,5 +1,5 @@
 // What is known of a term without a walk.
-ghost use Rattle.std.specs.Prelude.{◌≡◌};
+ghost use Rattle.std.specs.Prelude.{◌≡◌, ◌↔◌, IsTrue};
 ghost use Rattle.mw_term.specs.Facts.{facts_above, facts_joined, facts_of_leaf, facts_of_nothing};
 
 use crate::OpId;
@@ -46,6 +46,13 @@ impl Facts {
             last: self.last.max(other.last),
             depth: self.depth.max(other.depth),
         }
+    }
+
+    /// Whether they are the same.
+    pub(crate) fn is(self, other: Facts) -> bool
+        ensures { IsTrue result ↔ (self ≡ other) }
+    {
+        self.depth == other.depth && self.last == other.last && self.remainders == other.remainders
     }
 
     /// Of an operator on the terms that these are of.

@@ -1,15 +1,17 @@
 // Terms that share their parts.
 ghost use Rattle.std.specs.Prelude.{◌≡◌, ◌+◌, ◌++◌, ◌-◌, ◌≤◌, ◌^◌, min};
 ghost use Rattle.std.specs.Prelude.{List, [], take, drop, length, option_to_list, IfOk, IfNone, OnSome};
-ghost use Rattle.mw_logic.specs.Term.{RawTerm, numeral, quoted, variable, apply as applied};
-ghost use Rattle.mw_logic.specs.Terms.{args_of, terms_of};
+ghost use Rattle.mw_logic.specs.Term.{RawTerm, numeral, quoted, variable, apply as applied, join};
+ghost use Rattle.mw_logic.specs.Terms.{args_of, terms_of, front, skip};
 ghost use Rattle.mw_logic.specs.NormalForm.{height};
 ghost use Rattle.mw_term.specs.OperatorSets.{operators_in};
-ghost use Rattle.mw_term.specs.Facts.{facts_kept, facts_of, facts_of_all};
-ghost use Rattle.mw_term.specs.Shapes.{shaped, viewed};
+ghost use Rattle.mw_term.specs.Facts.{facts_of, facts_of_all};
+ghost use Rattle.mw_term.specs.Shapes.{shaped, shown, viewed};
+ghost use Rattle.mw_term.specs.Sections.{IsKept, IsSection, IsTold, ShowsSection};
 
 use crate::facts::Facts;
 use crate::numeral::Numeral;
+use crate::shared::{LONG, Shared};
 use crate::{Name, OpId, Operators, VarId};
 use std::alloc::{AllocError, Global};
 use std::marker::Model;
@@ -33,8 +35,9 @@ struct Node {
     shape: Shape,
 }
 
-// What stands on top of a term, as its node keeps it: up to two arguments inside. Beside an operator stand the largest
-// number of an operator in the term and its depth, which take the room that is left beside the tag.
+// What stands on top of a term, as its node keeps it: up to two arguments inside, a few more in a list of its own, and
+// of a long list, which other nodes may share, the terms between two places. Beside an operator stand the largest number
+// of an operator in the term and its depth, which take the room that is left beside the tag.
 #[derive(Drop)]
 #[cycle(term)]
 enum Shape {
@@ -45,6 +48,7 @@ enum Shape {
     One(u8, u16, OpId, Term),
     Two(u8, u16, OpId, [Term; 2]),
     Many(u8, u16, OpId, Box<Vec<Term>>),
+    Section(u8, u16, OpId, Arc<Shared>, u32, u32),
 }
 
 /// What stands on top of a term.
@@ -70,24 +74,24 @@ impl Model for Term {
 
     ghost coded = { coded_term };
 
-    ghost use Rattle.mw_term.specs.Facts.{facts_kept, facts_of};
     ghost use Rattle.mw_term.specs.Shapes.{shaped};
+    ghost use Rattle.mw_term.specs.Sections.{IsKept};
 
     ghost view = { λ t. shaped t.node.value.shape };
 
-    ghost invariant = { λ t. facts_kept t.node.value.remainders t.node.value.shape ≡ facts_of (shaped t.node.value.shape) };
+    ghost invariant = { λ t. IsKept t.node.value.remainders t.node.value.shape };
 
     ghost size = { λ t. 2 * height t };
 
     ghost use Rattle.std.proofs.Common.{arith};
     ghost use Rattle.mw_term.specs.TermFalls.{shape_falls};
 
-    ghost size_decreases = { λ a h. Prim.omega (arith, shape_falls a.node.value.shape) };
+    ghost size_decreases = { λ a h. Prim.omega (arith, shape_falls a.node.value.shape h.1) };
 }
 
 #[inline(always)]
 fn made(alloc: Global, remainders: u64, shape: Shape) -> Result<Term, AllocError>
-    requires { facts_kept remainders shape ≡ facts_of (shaped shape) }
+    requires { IsKept remainders shape }
     ensures { IfOk result (λ t. t ≡ shaped shape) }
 {
     let node = Arc::new(alloc, Node { remainders, shape }).map_err(AllocError::from)?;
@@ -95,7 +99,7 @@ fn made(alloc: Global, remainders: u64, shape: Shape) -> Result<Term, AllocError
 }
 
 #[inline(always)]
-fn facts_in(args: &[Term]) -> Facts
+pub(crate) fn facts_in(args: &[Term]) -> Facts
     ensures { result ≡ facts_of_all (terms_of args.now) }
 {
     let mut all = Facts::of_nothing();
@@ -105,9 +109,24 @@ fn facts_in(args: &[Term]) -> Facts
     all
 }
 
-/// The operator on a list of arguments, which it keeps.
+/// The operator on a list of arguments, which it keeps. A long one is a list that other nodes may share.
 #[inline(never)]
 fn many(alloc: Global, operator: OpId, args: Vec<Term>) -> Result<Term, AllocError>
+    ensures { IfOk result (λ t. t ≡ applied operator (terms_of args.items)) }
+{
+    let count = args.len();
+    if count >= LONG && count <= u32::MAX as usize {
+        let list = Shared::of(args);
+        let list = Arc::new(alloc, list).map_err(AllocError::from)?;
+        let term = over(alloc, operator, list, 0, count as u32)?;
+        return Ok(term);
+    }
+    let term = few(alloc, operator, args)?;
+    Ok(term)
+}
+
+/// The operator on a list of arguments that no other node shares.
+fn few(alloc: Global, operator: OpId, args: Vec<Term>) -> Result<Term, AllocError>
     ensures { IfOk result (λ t. t ≡ applied operator (terms_of args.items)) }
 {
     let Facts {
@@ -118,6 +137,144 @@ fn many(alloc: Global, operator: OpId, args: Vec<Term>) -> Result<Term, AllocErr
     let list = Box::new(alloc, args).map_err(AllocError::from)?;
     let term = made(alloc, remainders, Shape::Many(last, depth, operator, list))?;
     Ok(term)
+}
+
+/// The operator on the terms of a list between two places, which tell all that the list tells.
+fn over(
+    alloc: Global,
+    operator: OpId,
+    list: Arc<Shared>,
+    from: u32,
+    end: u32,
+) -> Result<Term, AllocError>
+    requires section { IsSection list.value from end }
+    requires facts { facts_of_all (terms_of (shown list.value from end)) ≡ list.value.facts }
+    ensures { IfOk result (λ t. t ≡ applied operator (terms_of (shown list.value from end))) }
+{
+    let Facts {
+        remainders,
+        last,
+        depth,
+    } = list.facts.under(operator);
+    let shape = Shape::Section(last, depth, operator, list, from, end);
+    let term = made(alloc, remainders, shape)?;
+    Ok(term)
+}
+
+/// The operator on all terms of a list.
+fn whole(alloc: Global, operator: OpId, list: Shared) -> Result<Term, AllocError>
+    requires { IsTold list }
+    ensures { IfOk result (λ t. t ≡ applied operator (terms_of list.terms.items)) }
+{
+    let count = list.terms.len();
+    if count < LONG || count > u32::MAX as usize {
+        let Shared { terms, .. } = list;
+        let term = Term::apply(alloc, operator, terms)?;
+        return Ok(term);
+    }
+    let list = Arc::new(alloc, list).map_err(AllocError::from)?;
+    let term = over(alloc, operator, list, 0, count as u32)?;
+    Ok(term)
+}
+
+/// The arguments of a term, as a list with what they tell.
+fn listed(alloc: Global, term: Term) -> Result<Shared, AllocError>
+    ensures terms { IfOk result (λ s. terms_of s.terms.items ≡ args_of term) }
+    ensures told { IfOk result (λ s. IsTold s) }
+{
+    let Term { node } = term;
+    match Arc::try_unwrap(node) {
+        Ok(node) => {
+            let Node { shape, .. } = node;
+            let list = listed_shape(alloc, shape)?;
+            Ok(list)
+        }
+        Err(shared) => {
+            let args = copied(alloc, &shared.shape)?;
+            Ok(Shared::of(args))
+        }
+    }
+}
+
+fn listed_shape(alloc: Global, shape: Shape) -> Result<Shared, AllocError>
+    requires { ShowsSection shape }
+    ensures terms { IfOk result (λ s. terms_of s.terms.items ≡ args_of (shaped shape)) }
+    ensures told { IfOk result (λ s. IsTold s) }
+{
+    match shape {
+        Shape::Section(_, _, _, list, from, end) => {
+            let list = sole(alloc, list, from as usize, end as usize)?;
+            Ok(list)
+        }
+        shape => {
+            let args = taken(alloc, shape)?;
+            Ok(Shared::of(args))
+        }
+    }
+}
+
+/// The terms of a list between two places, as a list of their own: the list itself, where nobody else holds it and they
+/// are all of it.
+fn sole(alloc: Global, list: Arc<Shared>, from: usize, end: usize) -> Result<Shared, AllocError>
+    requires told { IsTold list.value }
+    requires ordered { from ≤ end }
+    requires inside { end ≤ length list.value.terms.items }
+    ensures terms { IfOk result (λ s. s.terms.items ≡ shown list.value from end) }
+    ensures told { IfOk result (λ s. IsTold s) }
+{
+    match Arc::try_unwrap(list) {
+        Ok(list) => {
+            if from == 0 && end == list.terms.len() {
+                return Ok(list);
+            }
+            let args = list.into_between(from, end)?;
+            Ok(Shared::of(args))
+        }
+        Err(shared) => {
+            let args = all_copied(alloc, shared.between(from, end))?;
+            Ok(Shared::of(args))
+        }
+    }
+}
+
+/// The operator on terms of a list: of those between two places so many from one on, as far as there are.
+fn cut(
+    alloc: Global,
+    operator: OpId,
+    list: &Arc<Shared>,
+    first: usize,
+    last: usize,
+    from: usize,
+    count: usize,
+) -> Result<Term, AllocError>
+    requires told { IsTold list.now.value }
+    requires ordered { first ≤ last }
+    requires inside { last ≤ length list.now.value.terms.items }
+    ensures { let ts = terms_of (shown list.now.value first last) in
+        IfOk result (λ t. t ≡ applied operator (front count (skip from ts))) }
+{
+    let start = from.min(last - first);
+    let size = count.min(last - first - start);
+    let from = first + start;
+    let end = from + size;
+    if end <= u32::MAX as usize && list.bears(from, end) {
+        let list = Arc::try_clone(list)?;
+        let term = over(alloc, operator, list, from as u32, end as u32)?;
+        return Ok(term);
+    }
+    let args = all_copied(alloc, list.between(from, end))?;
+    let term = Term::apply(alloc, operator, args)?;
+    Ok(term)
+}
+
+/// So many terms from a place on, as far as there are.
+fn part(terms: &[Term], from: usize, count: usize) -> &[Term]
+    ensures { terms_of result.now ≡ front count (skip from (terms_of terms.now)) }
+{
+    let start = from.min(terms.len());
+    let rest = &terms[start..];
+    let end = count.min(rest.len());
+    &rest[..end]
 }
 
 /// The terms from a place on. Beyond the end there are none.
@@ -215,6 +372,64 @@ impl Term {
         Ok(term)
     }
 
+    /// An operator on arguments of this term: so many from a place on, as far as there are. Where they are a long list
+    /// or the most of one, and tell as much as the whole, the new node shares it; else they are copied.
+    pub fn section(
+        &self,
+        alloc: Global,
+        operator: OpId,
+        from: usize,
+        count: usize,
+    ) -> Result<Term, AllocError>
+        ensures { IfOk result (λ t. t ≡ applied operator (front count (skip from (args_of self.now)))) }
+    {
+        if let Shape::Section(_, _, _, list, first, end) = &self.node.shape {
+            let term = cut(
+                alloc,
+                operator,
+                list,
+                *first as usize,
+                *end as usize,
+                from,
+                count,
+            )?;
+            return Ok(term);
+        }
+        let args = all_copied(alloc, part(self.arguments(), from, count))?;
+        let term = Term::apply(alloc, operator, args)?;
+        Ok(term)
+    }
+
+    /// The operator on the terms of a list from a place on, which are taken out of it, and behind them on the arguments of
+    /// another term. A long list of these that nobody else holds is no walk: it takes the others at its front.
+    pub fn apply_onto(
+        alloc: Global,
+        operator: OpId,
+        terms: &mut Vec<Term>,
+        from: usize,
+        last: Term,
+    ) -> Result<Term, AllocError>
+        requires { from ≤ length terms.old.items }
+        ensures is { IfOk result (λ t. t ≡ applied operator (join (terms_of (drop from terms.old.items)) (args_of last))) }
+        ensures taken { IfOk result (λ _. terms.new.items ≡ take from terms.old.items) }
+    {
+        let front = terms.split_off(from)?;
+        let list = listed(alloc, last)?;
+        let list = list.behind(front)?;
+        let term = whole(alloc, operator, list)?;
+        Ok(term)
+    }
+
+    /// The arguments of the operator on top.
+    fn arguments(&self) -> &[Term]
+        ensures { terms_of result.now ≡ args_of self.now }
+    {
+        match self.view() {
+            View::Op(_, args) => args,
+            _ => &[],
+        }
+    }
+
     /// What stands on top. It takes no memory.
     pub fn view(&self) -> View<'_>
         ensures { self.now ≡ viewed result }
@@ -227,10 +442,13 @@ impl Term {
             Shape::One(_, _, operator, only) => View::Op(*operator, slice::from_ref(only)),
             Shape::Two(_, _, operator, both) => View::Op(*operator, both.as_slice()),
             Shape::Many(_, _, operator, args) => View::Op(*operator, args.as_slice()),
+            Shape::Section(_, _, operator, list, from, end) => {
+                View::Op(*operator, list.between(*from as usize, *end as usize))
+            }
         }
     }
 
-    fn facts(&self) -> Facts
+    pub(crate) fn facts(&self) -> Facts
         ensures { result ≡ facts_of self.now }
     {
         match &self.node.shape {
@@ -238,7 +456,8 @@ impl Term {
             Shape::Constant(last, depth, _)
             | Shape::One(last, depth, _, _)
             | Shape::Two(last, depth, _, _)
-            | Shape::Many(last, depth, _, _) => Facts {
+            | Shape::Many(last, depth, _, _)
+            | Shape::Section(last, depth, _, _, _, _) => Facts {
                 remainders: self.node.remainders,
                 last: *last,
                 depth: *depth,
@@ -302,23 +521,32 @@ fn all_copied(alloc: Global, terms: &[Term]) -> Result<Vec<Term>, AllocError>
 }
 
 fn copied(alloc: Global, shape: &Shape) -> Result<Vec<Term>, AllocError>
+    requires { ShowsSection shape.now }
     ensures { IfOk result (λ ts. terms_of ts.items ≡ args_of (shaped shape.now)) }
 {
     match shape {
         Shape::One(_, _, _, only) => all_copied(alloc, slice::from_ref(only)),
         Shape::Two(_, _, _, both) => all_copied(alloc, both.as_slice()),
         Shape::Many(_, _, _, args) => all_copied(alloc, args.as_slice()),
+        Shape::Section(_, _, _, list, from, end) => {
+            all_copied(alloc, list.between(*from as usize, *end as usize))
+        }
         _ => Ok(Vec::new(alloc)),
     }
 }
 
 fn taken(alloc: Global, shape: Shape) -> Result<Vec<Term>, AllocError>
+    requires { ShowsSection shape }
     ensures { IfOk result (λ ts. terms_of ts.items ≡ args_of (shaped shape)) }
 {
     match shape {
         Shape::One(_, _, _, only) => Ok(vec![in alloc; only]?),
         Shape::Two(_, _, _, both) => Ok(Vec::from_array(alloc, both)?),
         Shape::Many(_, _, _, args) => Ok(Box::into_inner(args)),
+        Shape::Section(_, _, _, list, from, end) => match Arc::try_unwrap(list) {
+            Ok(list) => list.into_between(from as usize, end as usize),
+            Err(shared) => all_copied(alloc, shared.between(from as usize, end as usize)),
+        },
         _ => Ok(Vec::new(alloc)),
     }
 }

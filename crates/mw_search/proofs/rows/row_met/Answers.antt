@@ -4,7 +4,7 @@ use Rattle.mw_logic.specs.Signature.{Identity}
 use Rattle.mw_logic.specs.Parts.{number_of_terms}
 use Rattle.mw_logic.specs.NormalForm.{identity_of, rebuilt}
 use Rattle.mw_logic.specs.Term.{RawTerms}
-use Rattle.mw_logic.specs.Terms.{args_of, terms_of, skip}
+use Rattle.mw_logic.specs.Terms.{args_of, skip}
 use Rattle.mw_term.specs.Signatures.{identity_of as identity_named}
 use Rattle.mw_arguments.specs.Pieces.{is_backed}
 use Rattle.mw_matching.specs.Patterns.{is_rigid}
@@ -48,12 +48,11 @@ returns-then-at-patterns-2 c =
     let zs : RawTerms = skip c.args.from (args_of c.args.row.now) in
     let rigid : is_rigid sig (is_single single) f q ≡ false = ap (λ f. is_rigid sig (is_single single) f q) (sym c.top-2.ensures) ∙ sym c.if-is_rigid.ensures in
     let named : option_map identity_named c.identity-identity.result ≡ identity_of sig f = c.identity-identity.ensures ∙ ap (identity_of sig) c.top.ensures in
-    let rest : terms_of c.rest_of-rest.result.now ≡ zs = c.rest_of-rest.ensures ∙ ap (skip c.args.from) c.arguments.ensures in
     let Y : Option Identity → ℕ → RawTerms → Values → (Values → Trace) → Trace = λ e g ys vs k. cond (is_backed e ys) (trace sig single q (rebuilt e g ys) vs k) [] in
     λ vs k. row_way sig single c.args.pattern.now c.args.row.now q c.arguments-patterns.result.now c.args.at c.args.from false true c.arguments-patterns.ensures (omega arith) c.index-patterns-at.is rigid
     (row_last c.args.pattern.now c.arguments-patterns.result.now c.args.at c.arguments-patterns.ensures c.if-at-patterns-2.true) vs k
     ∙ ap (λ e. None ∷ Y e f zs vs k) (sym named) ∙ ap (λ g. None ∷ Y (option_map identity_named c.identity-identity.result) g zs vs k) (sym c.top-then-at-patterns-2.ensures)
-    ∙ ap (λ ys. None ∷ Y (option_map identity_named c.identity-identity.result) c.top-then-at-patterns-2.result ys vs k) (sym rest) ∙ ap (λ l. None ∷ l) (c.in_ok-met-2.ensures sig single vs k)
+    ∙ ap (λ l. None ∷ l) (c.in_ok-met-2.ensures sig single vs k)
 
 pub returns : goal.returns
 returns c =

@@ -1,7 +1,7 @@
 use Rattle.std.proofs.Common.{◌≡◌, ◌∙◌, ◌-◌, length, get_or, ap, arith, subst}
 use Rattle.mw_logic.specs.Signature.{Signature}
 use Rattle.mw_matching.specs.Found.{Values}
-use Rattle.mw_search.specs.Goals.{IsOutcome}
+use Rattle.mw_search.specs.Goals.{Serves}
 use Rattle.mw_search.specs.declared.machine.Machine.{Machine}
 use Rattle.mw_search.proofs.Steps.{met}
 use Rattle.mw_search.proofs.machine.Machine.meet.Goals as goal
@@ -13,7 +13,7 @@ returns-clause-ok c =
     let ps = c.args.positions.now in
     let g = c.index-goal.result.now in
     let at : g ≡ get_or old.goals.items (length old.goals.items - 1) g = c.index-goal.ensures ∙ ap (λ n. get_or old.goals.items n g) (omega arith) in
-    let is : IsOutcome sig ps.single.items g old.values.items c.in_ok-became.became =
-    subst (λ (s : Signature). IsOutcome s ps.single.items g old.values.items c.in_ok-became.became) c.facts.ensures
-    (subst (λ (vs : Values). IsOutcome c.facts.result.now ps.single.items g vs c.in_ok-became.became) c.as_slice.ensures.value c.in_ok-became.ensures) in
+    let is : Serves sig ps.single.items g old.values.items c.in_ok-became.became =
+    subst (λ (s : Signature). Serves s ps.single.items g old.values.items c.in_ok-became.became) c.facts.ensures
+    (subst (λ (vs : Values). Serves c.facts.result.now ps.single.items g vs c.in_ok-became.became) c.as_slice.ensures.value c.in_ok-became.ensures) in
     met sig ps old c.apply.new.self c.in_ok-became.became g c.requires.running c.requires.some at is c.in_ok-apply.ensures.ok

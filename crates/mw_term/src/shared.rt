@@ -1,0 +1,128 @@
+// Long lists of terms, which nodes share.
+ghost use Rattle.std.specs.Prelude.{◌≡◌, ◌<◌, ◌≤◌, ◌^◌, ◌-◌, ℕ, ◌++◌, drop, length, IfOk, IsTrue};
+ghost use Rattle.mw_logic.specs.Terms.{terms_of};
+ghost use Rattle.mw_term.specs.Facts.{facts_of_all};
+ghost use Rattle.mw_term.specs.Sections.{HasAll, IsTold};
+ghost use Rattle.mw_term.specs.Shapes.{shown};
+
+use crate::Term;
+use crate::facts::Facts;
+use crate::term::facts_in;
+use std::alloc::AllocError;
+
+/// Shorter lists aren't shared.
+pub(crate) const LONG: usize = 8;
+
+/// A list with what its terms tell. Those from a place on tell as much, up to one of the places.
+#[derive(Drop)]
+#[cycle(term)]
+pub(crate) struct Shared {
+    pub(crate) terms: Vec<Term>,
+    pub(crate) facts: Facts,
+    pub(crate) same: usize,
+}
+
+impl Shared {
+    pub(crate) fn of(terms: Vec<Term>) -> Shared
+        ensures terms { result.terms.items ≡ terms.items }
+        ensures told { IsTold result }
+    {
+        let facts = facts_in(terms.as_slice());
+        let same = last_telling(terms.as_slice(), facts);
+        Shared { terms, facts, same }
+    }
+
+    /// The list behind other terms. What its own tell is known.
+    pub(crate) fn behind(self, front: Vec<Term>) -> Result<Shared, AllocError>
+        requires { IsTold self }
+        ensures terms { IfOk result (λ s. s.terms.items ≡ front.items ++ self.terms.items) }
+        ensures told { IfOk result (λ s. IsTold s) }
+    {
+        let Shared { terms, facts, same } = self;
+        let mut terms = terms;
+        let mut front = front;
+        let count = front.len();
+        let all = facts_in(front.as_slice()).joined(facts);
+        terms.append(&mut front)?;
+        terms.rotate_right(count);
+        let same = if all.is(facts) {
+            same.saturating_add(count)
+        } else {
+            0
+        };
+        let facts = all;
+        Ok(Shared { terms, facts, same })
+    }
+
+    /// The terms between two places.
+    pub(crate) fn between(&self, from: usize, end: usize) -> &[Term]
+        requires ordered { from ≤ end }
+        requires inside { end ≤ length self.now.terms.items }
+        ensures { result.now ≡ shown self.now from end }
+    {
+        &self.terms.as_slice()[from..end]
+    }
+
+    /// The same, taken out.
+    pub(crate) fn into_between(self, from: usize, end: usize) -> Result<Vec<Term>, AllocError>
+        requires ordered { from ≤ end }
+        requires inside { end ≤ length self.terms.items }
+        ensures { IfOk result (λ ts. ts.items ≡ shown self from end) }
+    {
+        let Shared { mut terms, .. } = self;
+        terms.truncate(end);
+        if from == 0 {
+            return Ok(terms);
+        }
+        let terms = terms.split_off(from)?;
+        Ok(terms)
+    }
+
+    /// Whether a node may show the terms between two places. They are enough of the list, so that not many others are
+    /// held for their sake, and tell all that it tells: what a node keeps is right then, and no term of the list is
+    /// higher than the highest of them, which a term needs of all that its node holds. For that the depth is exact.
+    pub(crate) fn bears(&self, from: usize, end: usize) -> bool
+        requires told { IsTold self.now }
+        requires ordered { from ≤ end }
+        requires inside { end ≤ length self.now.terms.items }
+        ensures facts { IsTrue result → facts_of_all (terms_of (shown self.now from end)) ≡ self.now.facts }
+        ensures depth { IsTrue result → self.now.facts.depth < 2 ^ 16 - 1 }
+    {
+        let count = end - from;
+        if count < LONG || count < self.terms.len() / 4 || self.facts.depth == u16::MAX {
+            return false;
+        }
+        if end == self.terms.len() {
+            return from <= self.same;
+        }
+        has_all(self.between(from, end), self.facts)
+    }
+}
+
+/// A place from which on terms tell all that they tell together: the last one.
+fn last_telling(terms: &[Term], facts: Facts) -> usize
+    requires { facts_of_all (terms_of terms.now) ≡ facts }
+    ensures { (i : ℕ) → i ≤ result → facts_of_all (terms_of (drop i terms.now)) ≡ facts }
+{
+    let mut all = Facts::of_nothing();
+    let mut at = terms.len();
+    while at > 0 && !all.is(facts) {
+        at -= 1;
+        all = terms[at].facts().joined(all);
+    }
+    at
+}
+
+/// Whether terms tell all of this. It ends where those at the front do.
+fn has_all(terms: &[Term], facts: Facts) -> bool
+    ensures { IsTrue result → HasAll (terms_of terms.now) facts }
+{
+    let mut all = Facts::of_nothing();
+    for term in terms {
+        all = all.joined(term.facts());
+        if all.is(facts) {
+            return true;
+        }
+    }
+    false
+}
