@@ -6,3 +6,4 @@ pub mod OperatorSets
 pub mod KeptFacts
 pub mod Parts
 pub mod Sections
+pub mod Hashes

@@ -27,7 +27,7 @@ right_apart a b s h = same_from_bits (bit_and b s) 0
 pub lacks_top : (f : ℕ) (ts : RawTerms) (s : Sought) → AreApart (operators_in (apply f ts)) s → Lacks s f
 lacks_top f ts s (inl h) =
     let k = left_apart (operator_bit f) (remainders_in_all ts) s.remainders h in
-    let p = bit_at_and (operator_bit f) s.remainders (f % 64) in let q = bit_at-pow_same (f % 64) in let z = no_bit _ (f % 64) k in inl (omega (arith, p, q, z))
+    let p = bit_at_and (operator_bit f) s.remainders (f % 32) in let q = bit_at-pow_same (f % 32) in let z = no_bit _ (f % 32) k in inl (omega (arith, p, q, z))
 lacks_top f ts s (inr h) = inr (omega (arith, h))
 
 pub arguments_apart : (f : ℕ) (ts : RawTerms) (s : Sought) → AreApart (operators_in (apply f ts)) s → AreApart (operators_in_all ts) s
@@ -44,9 +44,9 @@ others_apart t ts s (inr h) = inr (omega (arith, h))
 
 -- one more that is sought
 pub lacks_before : (s : Sought) (f g : ℕ) → Lacks (with_operator s g) f → Lacks s f
-lacks_before s f g (inl h) = let p = bit_at_or s.remainders (operator_bit g) (f % 64) in inl (omega (arith, p, h))
+lacks_before s f g (inl h) = let p = bit_at_or s.remainders (operator_bit g) (f % 32) in inl (omega (arith, p, h))
 lacks_before s f g (inr h) = inr (omega (arith, h))
 
 pub has_last : (s : Sought) (f : ℕ) → Lacks (with_operator s f) f → ⊥
-has_last s f (inl h) = let p = bit_at_or s.remainders (operator_bit f) (f % 64) in let q = bit_at-pow_same (f % 64) in omega (arith, p, q, h)
+has_last s f (inl h) = let p = bit_at_or s.remainders (operator_bit f) (f % 32) in let q = bit_at-pow_same (f % 32) in omega (arith, p, q, h)
 has_last s f (inr h) = omega (arith, h)

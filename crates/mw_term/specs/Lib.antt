@@ -4,6 +4,7 @@ pub mod RawFalls
 pub mod OperatorSets
 pub mod Shapes
 pub mod Facts
+pub mod Hashes
 pub mod Sections
 pub mod TermFalls
 pub mod Signatures

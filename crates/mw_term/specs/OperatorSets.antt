@@ -1,4 +1,4 @@
--- The operators that stand in a term, as far as a node tells: the remainders of their numbers by 64, as a word with a bit for each, and the
+-- The operators that stand in a term, as far as a node tells: the remainders of their numbers by 32, as a word with a bit for each, and the
 -- largest of the numbers, which counts as 255 where it is more. Operators that are sought are known by their remainders and by the least of
 -- their numbers: a term has none of them if it has none of their remainders, or if its largest number is below the least of theirs.
 use Rattle.std.specs.Prelude.{◌≡◌, ◌<◌, ◌⊎◌, ◌%◌, ◌^◌, ℕ, min, max}
@@ -9,7 +9,7 @@ use Rattle.mw_term.specs.declared.operators.Operators.{Operators}
 use Rattle.mw_term.specs.declared.operators.Sought.{Sought}
 
 abbrev pub operator_bit : ℕ → ℕ
-operator_bit f = 2 ^ (f % 64)
+operator_bit f = 2 ^ (f % 32)
 
 abbrev pub bounded : ℕ → ℕ
 bounded f = min f 255
@@ -47,7 +47,7 @@ with_operator s f = record { remainders = bit_or s.remainders (operator_bit f); 
 
 -- f is none of those that are sought
 abbrev pub Lacks : Sought → ℕ → Type 0
-Lacks s f = (bit_at s.remainders (f % 64) ≡ 0) ⊎ (bounded f < s.least)
+Lacks s f = (bit_at s.remainders (f % 32) ≡ 0) ⊎ (bounded f < s.least)
 
 -- none of those that stand in a term is sought
 abbrev pub AreApart : Operators → Sought → Type 0

@@ -1,12 +1,13 @@
 -- Sections of long lists, which nodes show of lists that they share.
-use Rattle.std.specs.Prelude.{◌≡◌, ◌≤◌, ℕ, drop, length, ⊤}
+use Rattle.std.specs.Prelude.{◌≡◌, ◌≤◌, ℕ, List, drop, length, ⊤}
 use Rattle.mw_term.specs.declared.shared.Shared.{Shared}
 use Rattle.mw_term.specs.declared.term.Shape.{Shape}
 use Rattle.mw_term.specs.declared.term.Shape.TheVariants.{Nat, Qid, Var, Constant, One, Two, Many, Section}
-use Rattle.mw_logic.specs.Term.{RawTerms}
+use Rattle.mw_logic.specs.Term.{RawTerm, RawTerms}
 use Rattle.mw_logic.specs.Terms.{terms_of}
 use Rattle.mw_logic.specs.NormalForm.{highest}
 use Rattle.mw_term.specs.Facts.{facts_of, facts_of_all, facts_joined, facts_kept}
+use Rattle.mw_term.specs.Hashes.{AreSums, hash_of}
 use Rattle.mw_term.specs.declared.facts.Facts.{Facts}
 use Rattle.mw_term.specs.Shapes.{shaped, shown}
 
@@ -15,8 +16,12 @@ abbrev pub HasAll : RawTerms → Facts → Type 0
 HasAll ts a = (us : RawTerms) × (facts_joined a (facts_of_all us) ≡ facts_of_all ts)
 
 -- the facts of a list are those of its terms from each place on, up to one
+abbrev pub TellsTo : List RawTerm → ℕ → Facts → Type 0
+TellsTo ts same a = (i : ℕ) → i ≤ same → facts_of_all (terms_of (drop i ts)) ≡ a
+
+-- what is kept of a list is right
 abbrev pub IsTold : Shared → Type 0
-IsTold s = (i : ℕ) → i ≤ s.same → facts_of_all (terms_of (drop i s.terms.items)) ≡ s.facts
+IsTold s = TellsTo s.terms.items s.same s.facts × AreSums s.sums.items s.terms.items
 
 -- a node may show the terms between two places: none of the others is higher than they are
 abbrev pub IsSection : Shared → ℕ → ℕ → Type 0
@@ -34,5 +39,5 @@ ShowsSection (Many l d f ts) = ⊤
 ShowsSection (Section l d f s from end) = IsSection s.value from end
 
 -- what a node keeps is right
-abbrev pub IsKept : ℕ → Shape → Type 0
-IsKept r s = (facts_kept r s ≡ facts_of (shaped s)) × ShowsSection s
+abbrev pub IsKept : ℕ → ℕ → Shape → Type 0
+IsKept r h s = (facts_kept r s ≡ facts_of (shaped s)) × (h ≡ hash_of (shaped s)) × ShowsSection s

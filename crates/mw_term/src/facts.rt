@@ -9,7 +9,7 @@ use crate::operators::{bounded, remainder_bit};
 /// the same, with the depth of the deepest.
 #[derive(Clone, Copy, Drop)]
 pub(crate) struct Facts {
-    pub(crate) remainders: u64,
+    pub(crate) remainders: u32,
     pub(crate) last: u8,
     pub(crate) depth: u16,
 }

@@ -41,6 +41,7 @@ ghost use Rattle.std.specs.Prelude.{◌≡◌, ◌+◌, IfOk, option_map};
 ghost use Rattle.mw_logic.specs.Signature.{at_number};
 
 mod facts;
+mod hash;
 mod numeral;
 mod operators;
 mod order;

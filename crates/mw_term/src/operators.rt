@@ -4,27 +4,27 @@ ghost use Rattle.mw_term.specs.OperatorSets.{AreApart, with_operator};
 
 use crate::OpId;
 
-/// The operators of a term, as far as a node has room to tell: a bit for each remainder of their numbers by 64, and
+/// The operators of a term, as far as a node has room to tell: a bit for each remainder of their numbers by 32, and
 /// the largest of the numbers, or 255 where that is more.
 #[derive(Clone, Copy, Drop)]
 pub struct Operators {
-    pub(crate) remainders: u64,
+    pub(crate) remainders: u32,
     pub(crate) last: u8,
 }
 
-/// Operators that are looked for in terms: a bit for each remainder of their numbers by 64, and the least of the
+/// Operators that are looked for in terms: a bit for each remainder of their numbers by 32, and the least of the
 /// numbers, or 255 where that is more.
 #[derive(Clone, Copy, Drop)]
 pub struct Sought {
-    remainders: u64,
+    remainders: u32,
     least: u8,
 }
 
 /// The bit of an operator.
-pub(crate) fn remainder_bit(operator: OpId) -> u64
-    ensures { result ≡ 2 ^ (operator % 64) }
+pub(crate) fn remainder_bit(operator: OpId) -> u32
+    ensures { result ≡ 2 ^ (operator % 32) }
 {
-    1 << (operator % 64)
+    1 << (operator % 32)
 }
 
 /// The number of an operator, or 255 where that is more.

@@ -17,10 +17,13 @@ pub fn compare(a: &Term, b: &Term) -> Ordering
     ordered(a, b)
 }
 
-/// Whether two terms are equal.
+/// Whether two terms are equal. Where their hashes differ, this is no walk.
 pub fn same(a: &Term, b: &Term) -> bool
     ensures { IsTrue result ↔ (a.now ≡ b.now) }
 {
+    if a.hash() != b.hash() {
+        return false;
+    }
     compare(a, b).is_eq()
 }
 

@@ -1,35 +1,45 @@
 // Long lists of terms, which nodes share.
-ghost use Rattle.std.specs.Prelude.{◌≡◌, ◌<◌, ◌≤◌, ◌^◌, ◌-◌, ℕ, ◌++◌, drop, length, IfOk, IsTrue};
+ghost use Rattle.std.specs.Prelude.{◌≡◌, ◌<◌, ◌≤◌, ◌^◌, ◌-◌, ℕ, ◌++◌, drop, length, IfOk, OnOk, IsTrue};
 ghost use Rattle.mw_logic.specs.Terms.{terms_of};
 ghost use Rattle.mw_term.specs.Facts.{facts_of_all};
+ghost use Rattle.mw_term.specs.Hashes.{AreSums, hash_sum as sum_of};
 ghost use Rattle.mw_term.specs.Sections.{HasAll, IsTold};
 ghost use Rattle.mw_term.specs.Shapes.{shown};
 
 use crate::Term;
 use crate::facts::Facts;
+use crate::hash::with_first;
 use crate::term::facts_in;
-use std::alloc::AllocError;
+use std::alloc::{AllocError, Global};
 
 /// Shorter lists aren't shared.
 pub(crate) const LONG: usize = 8;
 
-/// A list with what its terms tell. Those from a place on tell as much, up to one of the places.
+/// A list with what its terms tell, and the sums of hashes over its last terms: none, one, and so on. Those from a place
+/// on tell as much as all, up to one of the places.
 #[derive(Drop)]
 #[cycle(term)]
 pub(crate) struct Shared {
     pub(crate) terms: Vec<Term>,
+    pub(crate) sums: Vec<u32>,
     pub(crate) facts: Facts,
     pub(crate) same: usize,
 }
 
 impl Shared {
-    pub(crate) fn of(terms: Vec<Term>) -> Shared
-        ensures terms { result.terms.items ≡ terms.items }
-        ensures told { IsTold result }
+    pub(crate) fn of(alloc: Global, terms: Vec<Term>) -> Result<Shared, AllocError>
+        ensures terms { IfOk result (λ s. s.terms.items ≡ terms.items) }
+        ensures told { IfOk result (λ s. IsTold s) }
     {
         let facts = facts_in(terms.as_slice());
         let same = last_telling(terms.as_slice(), facts);
-        Shared { terms, facts, same }
+        let sums = sums_of(alloc, terms.as_slice())?;
+        Ok(Shared {
+            terms,
+            sums,
+            facts,
+            same,
+        })
     }
 
     /// The list behind other terms. What its own tell is known.
@@ -38,10 +48,15 @@ impl Shared {
         ensures terms { IfOk result (λ s. s.terms.items ≡ front.items ++ self.terms.items) }
         ensures told { IfOk result (λ s. IsTold s) }
     {
-        let Shared { terms, facts, same } = self;
-        let mut terms = terms;
+        let Shared {
+            mut terms,
+            mut sums,
+            facts,
+            same,
+        } = self;
         let mut front = front;
         let count = front.len();
+        add_before(&mut sums, front.as_slice(), terms.as_slice())?;
         let all = facts_in(front.as_slice()).joined(facts);
         terms.append(&mut front)?;
         terms.rotate_right(count);
@@ -51,7 +66,12 @@ impl Shared {
             0
         };
         let facts = all;
-        Ok(Shared { terms, facts, same })
+        Ok(Shared {
+            terms,
+            sums,
+            facts,
+            same,
+        })
     }
 
     /// The terms between two places.
@@ -61,6 +81,19 @@ impl Shared {
         ensures { result.now ≡ shown self.now from end }
     {
         &self.terms.as_slice()[from..end]
+    }
+
+    /// The sum of hashes over them.
+    #[inline(always)]
+    pub(crate) fn sum_between(&self, from: usize, end: usize) -> u32
+        requires told { IsTold self.now }
+        requires ordered { from ≤ end }
+        requires inside { end ≤ length self.now.terms.items }
+        ensures { result ≡ sum_of (terms_of (shown self.now from end)) }
+    {
+        let count = self.terms.len();
+        let sums = self.sums.as_slice();
+        sums[count - from].wrapping_sub(sums[count - end])
     }
 
     /// The same, taken out.
@@ -97,6 +130,31 @@ impl Shared {
         }
         has_all(self.between(from, end), self.facts)
     }
+}
+
+/// The sums of hashes over the last terms of a list: over none, one, and so on.
+fn sums_of(alloc: Global, terms: &[Term]) -> Result<Vec<u32>, AllocError>
+    ensures { IfOk result (λ sums. AreSums sums.items terms.now) }
+{
+    let mut sums = Vec::with_capacity(alloc, terms.len().saturating_add(1))?;
+    sums.push(0)?;
+    add_before(&mut sums, terms, &[])?;
+    Ok(sums)
+}
+
+/// The sums over a list are those over other terms in front of it too.
+fn add_before(sums: &mut Vec<u32>, front: &[Term], terms: &[Term]) -> Result<(), AllocError>
+    requires { AreSums sums.old.items terms.now }
+    ensures { OnOk result (AreSums sums.new.items (front.now ++ terms.now)) }
+{
+    let mut sum = sums.last().copied().unwrap_or(0);
+    let mut at = front.len();
+    while at > 0 {
+        at -= 1;
+        sum = with_first(&front[at], sum);
+        sums.push(sum)?;
+    }
+    Ok(())
 }
 
 /// A place from which on terms tell all that they tell together: the last one.

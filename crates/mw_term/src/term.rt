@@ -6,10 +6,12 @@ ghost use Rattle.mw_logic.specs.Terms.{args_of, terms_of, front, skip};
 ghost use Rattle.mw_logic.specs.NormalForm.{height};
 ghost use Rattle.mw_term.specs.OperatorSets.{operators_in};
 ghost use Rattle.mw_term.specs.Facts.{facts_of, facts_of_all};
+ghost use Rattle.mw_term.specs.Hashes.{hash_above as hash_over, hash_of, hash_sum as sum_of};
 ghost use Rattle.mw_term.specs.Shapes.{shaped, shown, viewed};
 ghost use Rattle.mw_term.specs.Sections.{IsKept, IsSection, IsTold, ShowsSection};
 
 use crate::facts::Facts;
+use crate::hash::{hash_above, hash_of_bytes, hash_sum};
 use crate::numeral::Numeral;
 use crate::shared::{LONG, Shared};
 use crate::{Name, OpId, Operators, VarId};
@@ -27,11 +29,13 @@ pub struct Term {
     node: Arc<Node>,
 }
 
-// What stands on top, and which remainders the operators' numbers have by 64. With its count a node takes 40 bytes.
+// What stands on top, which remainders the operators' numbers have by 32, and the term's hash. With its count a node
+// takes 40 bytes.
 #[derive(Drop)]
 #[cycle(term)]
 struct Node {
-    remainders: u64,
+    remainders: u32,
+    hash: u32,
     shape: Shape,
 }
 
@@ -79,22 +83,27 @@ impl Model for Term {
 
     ghost view = { λ t. shaped t.node.value.shape };
 
-    ghost invariant = { λ t. IsKept t.node.value.remainders t.node.value.shape };
+    ghost invariant = { λ t. IsKept t.node.value.remainders t.node.value.hash t.node.value.shape };
 
     ghost size = { λ t. 2 * height t };
 
     ghost use Rattle.std.proofs.Common.{arith};
     ghost use Rattle.mw_term.specs.TermFalls.{shape_falls};
 
-    ghost size_decreases = { λ a h. Prim.omega (arith, shape_falls a.node.value.shape h.1) };
+    ghost size_decreases = { λ a h. Prim.omega (arith, shape_falls a.node.value.shape h.2) };
 }
 
 #[inline(always)]
-fn made(alloc: Global, remainders: u64, shape: Shape) -> Result<Term, AllocError>
-    requires { IsKept remainders shape }
+fn made(alloc: Global, remainders: u32, hash: u32, shape: Shape) -> Result<Term, AllocError>
+    requires { IsKept remainders hash shape }
     ensures { IfOk result (λ t. t ≡ shaped shape) }
 {
-    let node = Arc::new(alloc, Node { remainders, shape }).map_err(AllocError::from)?;
+    let node = Node {
+        remainders,
+        hash,
+        shape,
+    };
+    let node = Arc::new(alloc, node).map_err(AllocError::from)?;
     Ok(Term { node })
 }
 
@@ -116,7 +125,7 @@ fn many(alloc: Global, operator: OpId, args: Vec<Term>) -> Result<Term, AllocErr
 {
     let count = args.len();
     if count >= LONG && count <= u32::MAX as usize {
-        let list = Shared::of(args);
+        let list = Shared::of(alloc, args)?;
         let list = Arc::new(alloc, list).map_err(AllocError::from)?;
         let term = over(alloc, operator, list, 0, count as u32)?;
         return Ok(term);
@@ -134,8 +143,10 @@ fn few(alloc: Global, operator: OpId, args: Vec<Term>) -> Result<Term, AllocErro
         last,
         depth,
     } = facts_in(args.as_slice()).under(operator);
+    let hash = hash_above(operator, hash_sum(args.as_slice()));
     let list = Box::new(alloc, args).map_err(AllocError::from)?;
-    let term = made(alloc, remainders, Shape::Many(last, depth, operator, list))?;
+    let shape = Shape::Many(last, depth, operator, list);
+    let term = made(alloc, remainders, hash, shape)?;
     Ok(term)
 }
 
@@ -156,8 +167,9 @@ fn over(
         last,
         depth,
     } = list.facts.under(operator);
+    let hash = hash_above(operator, list.sum_between(from as usize, end as usize));
     let shape = Shape::Section(last, depth, operator, list, from, end);
-    let term = made(alloc, remainders, shape)?;
+    let term = made(alloc, remainders, hash, shape)?;
     Ok(term)
 }
 
@@ -191,7 +203,8 @@ fn listed(alloc: Global, term: Term) -> Result<Shared, AllocError>
         }
         Err(shared) => {
             let args = copied(alloc, &shared.shape)?;
-            Ok(Shared::of(args))
+            let list = Shared::of(alloc, args)?;
+            Ok(list)
         }
     }
 }
@@ -208,7 +221,8 @@ fn listed_shape(alloc: Global, shape: Shape) -> Result<Shared, AllocError>
         }
         shape => {
             let args = taken(alloc, shape)?;
-            Ok(Shared::of(args))
+            let list = Shared::of(alloc, args)?;
+            Ok(list)
         }
     }
 }
@@ -228,11 +242,13 @@ fn sole(alloc: Global, list: Arc<Shared>, from: usize, end: usize) -> Result<Sha
                 return Ok(list);
             }
             let args = list.into_between(from, end)?;
-            Ok(Shared::of(args))
+            let list = Shared::of(alloc, args)?;
+            Ok(list)
         }
         Err(shared) => {
             let args = all_copied(alloc, shared.between(from, end))?;
-            Ok(Shared::of(args))
+            let list = Shared::of(alloc, args)?;
+            Ok(list)
         }
     }
 }
@@ -307,23 +323,26 @@ impl Term {
     pub fn numeral(alloc: Global, number: u128) -> Result<Term, AllocError>
         ensures { IfOk result (λ t. t ≡ numeral number) }
     {
-        made(alloc, 0, Shape::Nat(Numeral::of(number)))
+        let hash = (number % (1 << 32)) as u32;
+        made(alloc, 0, hash, Shape::Nat(Numeral::of(number)))
     }
 
     /// A quoted identifier, by its bytes, the quote among them.
     pub fn quoted(alloc: Global, name: Name) -> Result<Term, AllocError>
         ensures { IfOk result (λ t. t ≡ quoted name) }
     {
+        let hash = hash_of_bytes(name.as_slice());
         let name = Box::new(alloc, name).map_err(AllocError::from)?;
-        made(alloc, 0, Shape::Qid(name))
+        made(alloc, 0, hash, Shape::Qid(name))
     }
 
     /// A variable.
     pub fn variable(alloc: Global, name: VarId) -> Result<Term, AllocError>
         ensures { IfOk result (λ t. t ≡ variable name) }
     {
+        let hash = hash_of_bytes(name.name.as_slice()).wrapping_add(name.sort);
         let name = Box::new(alloc, name).map_err(AllocError::from)?;
-        made(alloc, 0, Shape::Var(name))
+        made(alloc, 0, hash, Shape::Var(name))
     }
 
     /// The operator on these arguments. One or two of them take no allocation of their own.
@@ -361,6 +380,7 @@ impl Term {
             last,
             depth,
         } = facts_in(behind(terms.as_slice(), from)).under(operator);
+        let hash = hash_above(operator, hash_sum(behind(terms.as_slice(), from)));
         let shape = match pop_behind(terms, from) {
             None => Shape::Constant(last, depth, operator),
             Some(second) => match pop_behind(terms, from) {
@@ -368,7 +388,7 @@ impl Term {
                 Some(first) => Shape::Two(last, depth, operator, [first, second]),
             },
         };
-        let term = made(alloc, remainders, shape)?;
+        let term = made(alloc, remainders, hash, shape)?;
         Ok(term)
     }
 
@@ -463,6 +483,13 @@ impl Term {
                 depth: *depth,
             },
         }
+    }
+
+    /// A number that equal terms share (`hash_of`, specs/Hashes). It is kept, so this is no walk.
+    pub fn hash(&self) -> u32
+        ensures { result ≡ hash_of self.now }
+    {
+        self.node.hash
     }
 
     /// The operators that stand in it. They are kept, so this is no walk.
