@@ -1,9 +1,9 @@
 -- What is kept of a list of terms, term by term.
 use Rattle.std.proofs.Common.{◌≡◌, ◌∙◌, ◌<◌, ◌≤◌, ◌+◌, ℕ, List, [], ◌∷◌, ◌++◌, length, get_or, drop, drop-cons, drop_of_length-le, add-one, refl, ap, sym, arith}
 use Rattle.std.specs.Int.Bits.{or_zero_l, or_zero_r}
-use Rattle.mw_logic.specs.Term.{RawTerm, RawTerms, cons}
+use Rattle.mw_logic.specs.Term.{RawTerm, RawTerms, apply, nil, cons}
 use Rattle.mw_logic.specs.Terms.{terms_of}
-use Rattle.mw_term.specs.Facts.{facts_of, facts_of_all, facts_joined}
+use Rattle.mw_term.specs.Facts.{facts_above, facts_of, facts_of_all, facts_joined}
 use Rattle.mw_term.specs.declared.facts.Facts.{Facts}
 use Rattle.mw_term.proofs.OperatorSets.{or_assoc}
 
@@ -28,6 +28,16 @@ pub all_in : (ts : List RawTerm) (i : ℕ) (all total : Facts) → length ts ≤
 all_in ts i all total h inv =
     let d : drop i ts ≡ [] = drop_of_length-le ts h in
     same_facts _ _ _ _ _ _ (sym (or_zero_r all.remainders)) (omega arith) (omega arith) ∙ sym (ap (λ (xs : List RawTerm). facts_joined all (facts_of_all (terms_of xs))) d) ∙ inv
+
+-- of an operator on no term, on one, on two
+pub facts_above-is : (f : ℕ) (ts : RawTerms) → facts_above f (facts_of_all ts) ≡ facts_of (apply f ts)
+facts_above-is f ts = same_facts _ _ _ _ _ _ refl refl (omega arith)
+
+pub facts_of_one : (t : RawTerm) → facts_of t ≡ facts_of_all (cons t nil)
+facts_of_one t = same_facts _ _ _ _ _ _ (sym (or_zero_r _)) (omega arith) (omega arith)
+
+pub facts_of_two : (t u : RawTerm) → facts_joined (facts_of t) (facts_of u) ≡ facts_of_all (cons t (cons u nil))
+facts_of_two t u = ap (facts_joined (facts_of t)) (facts_of_one u) ∙ same_facts _ _ _ _ _ _ refl refl (omega arith)
 
 -- lists one behind another
 pub facts-append : (xs ys : List RawTerm) → facts_of_all (terms_of (xs ++ ys)) ≡ facts_joined (facts_of_all (terms_of xs)) (facts_of_all (terms_of ys))

@@ -1,7 +1,7 @@
 // Terms that share their parts.
 ghost use Rattle.std.specs.Prelude.{◌≡◌, ◌+◌, ◌++◌, ◌-◌, ◌≤◌, ◌^◌, min};
 ghost use Rattle.std.specs.Prelude.{List, [], take, drop, length, option_to_list, IfOk, IfNone, OnSome};
-ghost use Rattle.mw_logic.specs.Term.{RawTerm, numeral, quoted, variable, apply as applied, join};
+ghost use Rattle.mw_logic.specs.Term.{RawTerm, numeral, quoted, variable, apply as applied, join, nil, cons};
 ghost use Rattle.mw_logic.specs.Terms.{args_of, terms_of, front, skip};
 ghost use Rattle.mw_logic.specs.NormalForm.{height};
 ghost use Rattle.mw_term.specs.OperatorSets.{operators_in};
@@ -11,7 +11,7 @@ ghost use Rattle.mw_term.specs.Shapes.{shaped, shown, viewed};
 ghost use Rattle.mw_term.specs.Sections.{IsKept, IsSection, IsTold, ShowsSection};
 
 use crate::facts::Facts;
-use crate::hash::{hash_above, hash_of_bytes, hash_sum};
+use crate::hash::{hash_above, hash_of_bytes, hash_sum, with_first};
 use crate::numeral::Numeral;
 use crate::shared::{LONG, Shared};
 use crate::{Name, OpId, Operators, VarId};
@@ -148,6 +148,59 @@ fn few(alloc: Global, operator: OpId, args: Vec<Term>) -> Result<Term, AllocErro
     let shape = Shape::Many(last, depth, operator, list);
     let term = made(alloc, remainders, hash, shape)?;
     Ok(term)
+}
+
+/// The operator on no arguments.
+#[inline(always)]
+fn over_none(alloc: Global, operator: OpId) -> Result<Term, AllocError>
+    ensures { IfOk result (λ t. t ≡ applied operator nil) }
+{
+    let Facts {
+        remainders,
+        last,
+        depth,
+    } = Facts::of_nothing().under(operator);
+    let hash = hash_above(operator, 0);
+    made(
+        alloc,
+        remainders,
+        hash,
+        Shape::Constant(last, depth, operator),
+    )
+}
+
+/// The operator on one argument.
+#[inline(always)]
+fn over_one(alloc: Global, operator: OpId, only: Term) -> Result<Term, AllocError>
+    ensures { IfOk result (λ t. t ≡ applied operator (cons only nil)) }
+{
+    let Facts {
+        remainders,
+        last,
+        depth,
+    } = only.facts().under(operator);
+    let hash = hash_above(operator, with_first(&only, 0));
+    made(
+        alloc,
+        remainders,
+        hash,
+        Shape::One(last, depth, operator, only),
+    )
+}
+
+/// The operator on two arguments.
+#[inline(always)]
+fn over_two(alloc: Global, operator: OpId, first: Term, second: Term) -> Result<Term, AllocError>
+    ensures { IfOk result (λ t. t ≡ applied operator (cons first (cons second nil))) }
+{
+    let Facts {
+        remainders,
+        last,
+        depth,
+    } = first.facts().joined(second.facts()).under(operator);
+    let hash = hash_above(operator, with_first(&first, with_first(&second, 0)));
+    let shape = Shape::Two(last, depth, operator, [first, second]);
+    made(alloc, remainders, hash, shape)
 }
 
 /// The operator on the terms of a list between two places, which tell all that the list tells.
@@ -360,7 +413,7 @@ impl Term {
 
     /// The operator on the terms of a list that stand from a place on, which are taken out of it. Up to two take no
     /// list of their own, more take one of exactly that many. For want of memory the list may have lost them.
-    #[inline(always)]
+    #[inline(never)]
     pub fn apply_behind(
         alloc: Global,
         operator: OpId,
@@ -375,21 +428,13 @@ impl Term {
             let term = many(alloc, operator, args)?;
             return Ok(term);
         }
-        let Facts {
-            remainders,
-            last,
-            depth,
-        } = facts_in(behind(terms.as_slice(), from)).under(operator);
-        let hash = hash_above(operator, hash_sum(behind(terms.as_slice(), from)));
-        let shape = match pop_behind(terms, from) {
-            None => Shape::Constant(last, depth, operator),
+        match pop_behind(terms, from) {
+            None => over_none(alloc, operator),
             Some(second) => match pop_behind(terms, from) {
-                None => Shape::One(last, depth, operator, second),
-                Some(first) => Shape::Two(last, depth, operator, [first, second]),
+                None => over_one(alloc, operator, second),
+                Some(first) => over_two(alloc, operator, first, second),
             },
-        };
-        let term = made(alloc, remainders, hash, shape)?;
-        Ok(term)
+        }
     }
 
     /// An operator on arguments of this term: so many from a place on, as far as there are. Where they are a long list
