@@ -1,5 +1,5 @@
--- What is known of a term without a walk: the operators that stand in it, and its depth, or 65,535 where that is more. A node keeps it where
--- an operator is on top.
+-- What is known of a term without a walk: the operators that stand in it, and its depth, or 65,535 where that is more. A node
+-- keeps it.
 use Rattle.std.specs.Prelude.{◌^◌, ◌-◌, ◌+◌, ℕ, min, max}
 use Rattle.std.specs.Int.Bits.{bit_or}
 use Rattle.mw_logic.specs.Term.{RawTerm, RawTerms}
@@ -28,9 +28,9 @@ abbrev pub facts_of_leaf : Facts
 facts_of_leaf = record { remainders = 0; last = 0; depth = 1 }
 
 abbrev pub facts_kept : ℕ → Shape → Facts
-facts_kept r (Nat n) = facts_of_leaf
-facts_kept r (Qid q) = facts_of_leaf
-facts_kept r (Var x) = facts_of_leaf
+facts_kept r (Nat l d n) = record { remainders = r; last = l; depth = d }
+facts_kept r (Qid l d q) = record { remainders = r; last = l; depth = d }
+facts_kept r (Var l d x) = record { remainders = r; last = l; depth = d }
 facts_kept r (Constant l d f) = record { remainders = r; last = l; depth = d }
 facts_kept r (One l d f t) = record { remainders = r; last = l; depth = d }
 facts_kept r (Two l d f ts) = record { remainders = r; last = l; depth = d }

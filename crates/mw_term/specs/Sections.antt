@@ -29,9 +29,9 @@ IsSection s from end =
     IsTold s × (from ≤ end) × (end ≤ length s.terms.items) × (highest (terms_of s.terms.items) ≤ highest (terms_of (shown s from end)))
 
 abbrev pub ShowsSection : Shape → Type 0
-ShowsSection (Nat n) = ⊤
-ShowsSection (Qid q) = ⊤
-ShowsSection (Var x) = ⊤
+ShowsSection (Nat l d n) = ⊤
+ShowsSection (Qid l d q) = ⊤
+ShowsSection (Var l d x) = ⊤
 ShowsSection (Constant l d f) = ⊤
 ShowsSection (One l d f t) = ⊤
 ShowsSection (Two l d f ts) = ⊤

@@ -17,9 +17,9 @@ abbrev pub shown : Shared → ℕ → ℕ → List RawTerm
 shown s from end = slice_range s.terms.items from end
 
 abbrev pub shaped : Shape → RawTerm
-shaped (Nat n) = numeral (number_of n)
-shaped (Qid q) = quoted q.value
-shaped (Var x) = variable x.value
+shaped (Nat l d n) = numeral (number_of n)
+shaped (Qid l d q) = quoted q.value
+shaped (Var l d x) = variable x.value
 shaped (Constant l d f) = apply f nil
 shaped (One l d f t) = apply f (terms_of (t ∷ []))
 shaped (Two l d f ts) = apply f (terms_of ts)

@@ -16,9 +16,9 @@ terms_fall [] = omega arith
 terms_fall (t ∷ ts) = omega (arith, terms_fall ts)
 
 pub shape_falls : (s : Shape) → ShowsSection s → deep-Shape s ≤ 2 * height (shaped s)
-shape_falls (Nat n) h = omega arith
-shape_falls (Qid q) h = omega arith
-shape_falls (Var x) h = omega arith
+shape_falls (Nat l d n) h = omega arith
+shape_falls (Qid l d q) h = omega arith
+shape_falls (Var l d x) h = omega arith
 shape_falls (Constant l d f) h = omega arith
 shape_falls (One l d f t) h = omega arith
 shape_falls (Two l d f ts) h = omega (arith, terms_fall ts)

@@ -40,14 +40,15 @@ struct Node {
 }
 
 // What stands on top of a term, as its node keeps it: up to two arguments inside, a few more in a list of its own, and
-// of a long list, which other nodes may share, the terms between two places. Beside an operator stand the largest number
-// of an operator in the term and its depth, which take the room that is left beside the tag.
+// of a long list, which other nodes may share, the terms between two places. First stand the largest number of an
+// operator in the term and its depth, which take the room that is left beside the tag, and stand at one place in all
+// shapes, so that they are read without a look at the tag.
 #[derive(Drop)]
 #[cycle(term)]
 enum Shape {
-    Nat(Numeral),
-    Qid(Box<Name>),
-    Var(Box<VarId>),
+    Nat(u8, u16, Numeral),
+    Qid(u8, u16, Box<Name>),
+    Var(u8, u16, Box<VarId>),
     Constant(u8, u16, OpId),
     One(u8, u16, OpId, Term),
     Two(u8, u16, OpId, [Term; 2]),
@@ -377,7 +378,13 @@ impl Term {
         ensures { IfOk result (λ t. t ≡ numeral number) }
     {
         let hash = (number % (1 << 32)) as u32;
-        made(alloc, 0, hash, Shape::Nat(Numeral::of(number)))
+        let Facts {
+            remainders,
+            last,
+            depth,
+        } = Facts::of_leaf();
+        let shape = Shape::Nat(last, depth, Numeral::of(number));
+        made(alloc, remainders, hash, shape)
     }
 
     /// A quoted identifier, by its bytes, the quote among them.
@@ -386,7 +393,13 @@ impl Term {
     {
         let hash = hash_of_bytes(name.as_slice());
         let name = Box::new(alloc, name).map_err(AllocError::from)?;
-        made(alloc, 0, hash, Shape::Qid(name))
+        let Facts {
+            remainders,
+            last,
+            depth,
+        } = Facts::of_leaf();
+        let shape = Shape::Qid(last, depth, name);
+        made(alloc, remainders, hash, shape)
     }
 
     /// A variable.
@@ -395,7 +408,13 @@ impl Term {
     {
         let hash = hash_of_bytes(name.name.as_slice()).wrapping_add(name.sort);
         let name = Box::new(alloc, name).map_err(AllocError::from)?;
-        made(alloc, 0, hash, Shape::Var(name))
+        let Facts {
+            remainders,
+            last,
+            depth,
+        } = Facts::of_leaf();
+        let shape = Shape::Var(last, depth, name);
+        made(alloc, remainders, hash, shape)
     }
 
     /// The operator on these arguments. One or two of them take no allocation of their own.
@@ -500,9 +519,9 @@ impl Term {
         ensures { self.now ≡ viewed result }
     {
         match &self.node.shape {
-            Shape::Nat(number) => View::Nat(number.get()),
-            Shape::Qid(name) => View::Qid(&**name),
-            Shape::Var(variable) => View::Var(&**variable),
+            Shape::Nat(_, _, number) => View::Nat(number.get()),
+            Shape::Qid(_, _, name) => View::Qid(&**name),
+            Shape::Var(_, _, variable) => View::Var(&**variable),
             Shape::Constant(_, _, operator) => View::Op(*operator, &[]),
             Shape::One(_, _, operator, only) => View::Op(*operator, slice::from_ref(only)),
             Shape::Two(_, _, operator, both) => View::Op(*operator, both.as_slice()),
@@ -513,12 +532,15 @@ impl Term {
         }
     }
 
+    #[inline(always)]
     pub(crate) fn facts(&self) -> Facts
         ensures { result ≡ facts_of self.now }
     {
         match &self.node.shape {
-            Shape::Nat(_) | Shape::Qid(_) | Shape::Var(_) => Facts::of_leaf(),
-            Shape::Constant(last, depth, _)
+            Shape::Nat(last, depth, _)
+            | Shape::Qid(last, depth, _)
+            | Shape::Var(last, depth, _)
+            | Shape::Constant(last, depth, _)
             | Shape::One(last, depth, _, _)
             | Shape::Two(last, depth, _, _)
             | Shape::Many(last, depth, _, _)
