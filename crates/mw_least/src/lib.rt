@@ -34,7 +34,7 @@
 //! is a top.
 //!
 //! Else the term is walked: where a partial operator and one that is outside stand in it (or ones whose numbers have the
-//! same remainders by 64), or the results aren't at or below the sort.
+//! same remainders by 32), or the results aren't at or below the sort.
 //!
 //! Neither proved nor tested: time. docs/PERFORMANCE.md has what sorts cost.
 #![tactic(auto)]

@@ -56,8 +56,7 @@
 //! Conditions of `new`, `inside` and `anywhere`: the compiled pattern has as many sorts as variables, and theirs. They
 //! may be asked of any terms; what they say of solutions is said where the subject and the given values are canonical
 //! terms that mean ground raw terms, the latter of their variables' sorts, each variable once. What `have_sorts` says
-//! holds where the signature is simple (`simple`), or of values that are canonical terms and mean ground raw terms
-//! (`fits`, `lacks`).
+//! holds of values that are canonical terms and mean ground raw terms (`fits`, `lacks`).
 //!
 //! Cost: `matches` costs what is compared, a value one count, and a successor that meets a numeral a new numeral. `Solutions` costs what its searches do, and for each
 //! solution a copy of the variables' names, a count for each value and a number for each argument that it takes. For

@@ -9,32 +9,39 @@
 //! memory. Names and lists are kept in `Seq`, which contracts see without its capacity.
 //!
 //! A list of 8 terms or more is counted itself, with what is known of it, and nodes show sections of it
-//! ([`Term::section`]): what is left of a list is one node then, and no list. A section that shows less than a quarter of
-//! its list, or whose terms tell less than the list does (its operators, its depth), is copied, so at most four times the
-//! terms are held that are shown. So recursion down a list takes one node for each term, and copies what is left where
-//! that tells less.
+//! ([`Term::section`]): what is left of a list is one node then, and no list. A section that shows less than a quarter
+//! of its list, or whose terms tell less than the list does (its operators, its depth), is copied, so at most four
+//! times the terms are held that are shown. So recursion down a list takes one node for each term, and copies what is
+//! left where that tells less.
 //!
-//! Each node keeps its depth, and which operators stand in it ([`Operators`]), in eleven of its bytes: a bit for each
-//! remainder of their numbers by 64, and the largest of the numbers, up to 255. Operators that are looked for
+//! Each node keeps its depth, and which operators stand in it ([`Operators`]), in seven of its bytes: a bit for each
+//! remainder of their numbers by 32, and the largest of the numbers, up to 255. Operators that are looked for
 //! ([`Sought`]) are known by their remainders and by the least of their numbers. That one of them stands in a term is
 //! said wrongly where an operator there has the remainder of one of them, and the largest number there isn't below the
-//! least of theirs; that none does never is said wrongly. So up to 63 operators are told from each other, and from
+//! least of theirs; that none does never is said wrongly. So up to 31 operators are told from each other, and from
 //! all of them those that each kind has from the start, whose numbers come last.
 //!
-//! Proved, over the logic's terms and lists: `copy`, `copy_name`, `same`, `number_at`, `numbered` and `is_ground`
-//! give what their names say; `view` shows the term (`viewed`, specs/Shapes), `into_args` gives its arguments, and
+//! Four more bytes are the term's hash ([`Term::hash`]): a number that depends on the term alone, so terms with
+//! different hashes differ. Of an operator's arguments only the sum of their scattered hashes counts. So a stretch of a
+//! list has its hash by one difference, and two terms whose arguments stand in another order have one hash.
+//!
+//! Proved, over the logic's terms and lists: `copy`, `copy_name`, `same`, `number_at`, `numbered` and `is_ground` give
+//! what their names say; `view` shows the term (`viewed`, specs/Shapes), `into_args` gives its arguments, and
 //! `apply_behind` takes those of a term that comes out of the end of a list; `section` is an operator on so many of a
-//! term's arguments from a place on; `behind` is what stands in a list from a place on; `depth` is the term's height, or
-//! 65,535 where that is more; `operators` is `operators_in` of specs/OperatorSets, and `may_have` is false exactly where
-//! the remainders or the numbers are apart (`AreApart`), so that none that is sought stands in the term
+//! term's arguments from a place on, and `apply_onto` one on the end of a list and behind it a term's arguments;
+//! `hash` is `hash_of` of specs/Hashes; `behind` is what stands in a list from a place on; `depth` is the term's
+//! height, or 65,535 where that is more; `operators` is `operators_in` of specs/OperatorSets, and `may_have` is false
+//! exactly where the remainders or the numbers are apart (`AreApart`), so that none that is sought stands in the term
 //! (proofs/OperatorSets); `compare` is the order of terms of mw_logic (`compare_terms`): numerals by value, quoted
 //! identifiers by bytes, operators by number, by how many arguments they have and by these from the left, variables by
 //! name and sort.
 //!
-//! Cost: `copy`, `depth` and `operators` are no walks, nor is `section` to the end of a list that it shares; other
-//! sections are looked at as far as it takes to see that they tell as much. `compare` and `same` end at the first
-//! difference; `into_args` moves the arguments of a node that nobody else holds, where no other shows the list, and
-//! counts those of another. Want of memory is the only error.
+//! Cost: `copy`, `depth`, `hash` and `operators` are no walks, nor is `section` to the end of a list that it shares;
+//! other sections are looked at as far as it takes to see that they tell as much. `apply_onto` moves the pointers of a
+//! long list that nobody else holds, and looks only at the terms in front of it. `compare` ends at the first
+//! difference, and so does `same`, which ends at once where the hashes differ; two equal terms are walked whole by
+//! both; `into_args` moves the arguments of a node that nobody else holds, where no other shows the list, and counts
+//! those of another. Want of memory is the only error.
 #![tactic(auto)]
 
 ghost use Rattle.std.specs.Prelude.{◌≡◌, ◌+◌, IfOk, option_map};

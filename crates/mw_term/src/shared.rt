@@ -15,8 +15,8 @@ use std::alloc::{AllocError, Global};
 /// Shorter lists aren't shared.
 pub(crate) const LONG: usize = 8;
 
-/// A list with what its terms tell, and the sums of hashes over its last terms: none, one, and so on. Those from a place
-/// on tell as much as all, up to one of the places.
+/// A list with what its terms tell, and the sums of hashes over its last terms: over none, over one, and so on. Those
+/// from a place on tell as much as all, up to one of the places.
 #[derive(Drop)]
 #[cycle(term)]
 pub(crate) struct Shared {

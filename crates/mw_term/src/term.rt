@@ -504,8 +504,8 @@ impl Term {
         Ok(term)
     }
 
-    /// The arguments of the operator on top.
-    fn arguments(&self) -> &[Term]
+    /// The arguments of the operator on top, none of a term without one.
+    pub fn arguments(&self) -> &[Term]
         ensures { terms_of result.now ≡ args_of self.now }
     {
         match self.view() {

@@ -8,8 +8,7 @@ use Rattle.mw_term.proofs.term.over_two.Goals as goal
 pub made-requires : goal.made-requires
 made-requires c =
     let both : c.joined.result ≡ facts_joined (facts_of c.args.first) (facts_of c.args.second) =
-    c.joined.ensures ∙ ap (λ a. facts_joined a c.facts-2.result) c.facts.ensures ∙ ap (facts_joined (facts_of c.args.first)) c.facts-2.ensures in
-    (
+    c.joined.ensures ∙ ap (λ a. facts_joined a c.facts-2.result) c.facts.ensures ∙ ap (facts_joined (facts_of c.args.first)) c.facts-2.ensures in (
       c.under-remainders.ensures ∙ ap (facts_above c.args.operator) (both ∙ facts_of_two c.args.first c.args.second) ∙ facts_above-is c.args.operator (cons c.args.first (cons c.args.second nil)),
       c.hash_above-hash.ensures ∙ ap (hash_over c.args.operator) (c.with_first-2.ensures ∙ ap (λ n. (scattered (hash_of c.args.first) + n) % 2 ^ 32) c.with_first.ensures),
       tt,
