@@ -11,6 +11,7 @@ ghost use Rattle.mw_tests.specs.Numbers.{s_of_numbers, f_of_bags, g_of_numbers, 
 use mw_canon::{Axioms, CanonError, Facts, canon, parts, rebuild};
 use mw_poset::Poset;
 use mw_sorts::{Tables, least_sort};
+use mw_stack::put_near;
 use mw_term::{
     Declaration, Identity, KindId, Name, OpId, Operator, Raw, Raws, Seq, Signature, SortId, Sorted,
     Term, VarId, copy_name, same,
@@ -515,6 +516,34 @@ fn operators_have_parts_and_are_rebuilt(rt: HostRuntime) -> Result<(), Fail> {
     }
     for row in &REBUILT {
         assert!(rt; is_rebuilt(rt.alloc(), &facts, *row)?, "{}", row.1);
+    }
+    Ok(())
+}
+
+/// A place, a term, and what stands there in order once it has come to 9 and, from the second on, 1, 3 and 5.
+type Near = (usize, &'static str, &'static [&'static str]);
+
+static NEAR: [Near; 6] = [
+    (1, "2", &["9", "1", "2", "3", "5"]),
+    (0, "2", &["9", "1", "2", "3", "5"]),
+    (3, "7", &["9", "1", "3", "5", "7"]),
+    (9, "4", &["9", "1", "3", "4", "5"]),
+    (2, "0", &["9", "1", "3", "5"]),
+    (1, "2 4 f/2", &["9", "1", "2", "3", "4", "5"]),
+];
+
+fn is_put(alloc: Global, facts: &Facts, row: Near) -> Result<bool, Fail> {
+    let (near, came, wanted) = row;
+    let mut done = terms(alloc, &["9", "1", "3", "5"])?;
+    put_near(alloc, facts, F, &mut done, 1, near, term(alloc, came)?)?;
+    Ok(are_same(done.as_slice(), terms(alloc, wanted)?.as_slice()))
+}
+
+#[test]
+fn terms_are_put_near_places(rt: HostRuntime) -> Result<(), Fail> {
+    let facts = facts(rt.alloc())?;
+    for row in &NEAR {
+        assert!(rt; is_put(rt.alloc(), &facts, *row)?, "{row:?}");
     }
     Ok(())
 }
