@@ -17,15 +17,16 @@ help_commands = line (codes "mw run [--max N] [--proof]    answers the commands 
 
 -- the options with their ranges and defaults
 abbrev pub help_options : List ℕ
-help_options = line (codes "--max N     the most rewrites of a command, 1 to 10000000 (default 1000000)")
+help_options = line (codes "--max N     the most rewrites of each chain by itself, a command's own or that of a side of a condition, and the")
+    ++ line (codes "            most solutions of a match, 1 to 10000000 (default 1000000)")
     ++ line (codes "--proof     writes behind each block of reduce and rewrite its proof, and `*** ` before each other line;")
     ++ line (codes "            a proof is held in memory whole, and spells out the values of each step")
 
 -- the statuses
 abbrev pub help_statuses : List ℕ
 help_statuses = line (codes "Exit status:")
-    ++ line (codes "  0  all was answered")
-    ++ line (codes "  1  a part of the source was refused")
+    ++ line (codes "  0  all was answered, also where a limit stopped a command")
+    ++ line (codes "  1  a part of the source was refused, or a proof was answered `no`")
     ++ line (codes "  2  the words are no command; nothing was read")
     ++ line (codes "  3  the source failed; nothing was written")
     ++ line (codes "  4  the output failed")

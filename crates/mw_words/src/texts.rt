@@ -10,12 +10,13 @@ mw run [--max N] [--proof]    answers the commands of the source on standard inp
 mw check [--max N]            reads modules and proof texts there, and answers each proof `yes` or `no`
 mw --help, -h                 writes this text, as `mw run --help` and `mw check --help` do
 mw --version, -V              writes the version
---max N     the most rewrites of a command, 1 to 10000000 (default 1000000)
+--max N     the most rewrites of each chain by itself, a command's own or that of a side of a condition, and the
+            most solutions of a match, 1 to 10000000 (default 1000000)
 --proof     writes behind each block of reduce and rewrite its proof, and `*** ` before each other line;
             a proof is held in memory whole, and spells out the values of each step
 Exit status:
-  0  all was answered
-  1  a part of the source was refused
+  0  all was answered, also where a limit stopped a command
+  1  a part of the source was refused, or a proof was answered `no`
   2  the words are no command; nothing was read
   3  the source failed; nothing was written
   4  the output failed
