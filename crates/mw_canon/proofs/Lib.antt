@@ -1,5 +1,4 @@
 -- Laws of canonical terms.
-pub mod Free
 pub mod Largest
 pub mod Limits
 pub mod Listing
