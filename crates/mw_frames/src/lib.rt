@@ -38,8 +38,9 @@
 //! Conditions (`IsRun`): the module is well-formed, its signature accepted and well sorted. Want of memory is the only
 //! error of a machine, and nothing is said of it after that.
 //!
-//! Cost: where `fire`, `meet` or `halt` comes to several arguments of a term, the arguments of a node that no other term
-//! shares are moved, those of others copied, by one count each.
+//! Cost: where `fire`, `meet` or `halt` comes to several arguments of a term, the arguments of a node that no other
+//! term shares are moved, those of others copied, by one count each. What comes of them is looked for first where they
+//! were taken out, which is told once.
 //!
 //! Neither proved nor tested: time and memory, in which order arguments are reduced, and that calls answer with memory
 //! at hand.

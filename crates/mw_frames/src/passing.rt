@@ -16,11 +16,11 @@ ghost use Rattle.mw_frames.specs.declared.job.Job.{Job as JobOf};
 ghost use Rattle.mw_frames.specs.declared.job.Frame.{Frame as FrameOf};
 
 use crate::job::{Frame, Hand, Job};
-use crate::machine::Machine;
+use crate::machine::{Machine, taken_near};
 use crate::waiting::term_at;
 use crate::whole::pop_behind;
 use mw_canon::{Axioms, Facts};
-use mw_stack::{close, place_of, put};
+use mw_stack::{close, place_of, put, put_near};
 use mw_term::{OpId, Term};
 use std::alloc::{AllocError, Global};
 
@@ -182,6 +182,15 @@ pub(crate) fn leave(
     ensures same { OnOk result ((machine.new.frames.items ≡ machine.old.frames.items) × (machine.new.jobs.items ≡ machine.old.jobs.items) × (machine.new.kept.values ≡ machine.old.kept.values)) }
 {
     machine.kept.leave()?;
-    put(alloc, facts, top.op, &mut machine.done, top.from, term)?;
+    let near = taken_near(&mut machine.near, top.from);
+    put_near(
+        alloc,
+        facts,
+        top.op,
+        &mut machine.done,
+        top.from,
+        near,
+        term,
+    )?;
     Ok(())
 }
