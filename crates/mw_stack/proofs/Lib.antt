@@ -9,6 +9,7 @@ pub mod Weaving
 pub mod Fitting
 -- Operators and what stands under them.
 pub mod Under
+pub mod LongLists
 -- Arguments, and the term that they are of: into one of them and out of it; levels.
 pub mod Moving
 pub mod Levels
