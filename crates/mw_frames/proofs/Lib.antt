@@ -2,6 +2,7 @@ pub mod Arguments
 pub mod Normals
 pub mod Levels
 pub mod Turning
+pub mod LastArguments
 pub mod PlacedTerms
 pub mod RightSides
 pub mod KnownValues

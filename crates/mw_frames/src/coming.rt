@@ -21,11 +21,11 @@ ghost use Rattle.mw_frames.specs.Arrivals.{StandsFor, StandForAll, spread_all, J
 
 use crate::instances::{evaluate, value};
 use crate::job::{Frame, Job};
-use crate::machine::Machine;
+use crate::machine::{Machine, taken_near};
 use crate::waiting::{wait_job, wait_terms};
 use mw_canon::{Axioms, Facts, parts};
 use mw_pattern::{Pattern, Patterns};
-use mw_stack::put;
+use mw_stack::put_near;
 use mw_term::{OpId, Term, View, behind, copy};
 use std::alloc::{AllocError, Global};
 
@@ -278,7 +278,16 @@ fn settle_value<'m>(
         ≤ weights facts.now vs machine.old.jobs.items + sizes (spread facts.now frame.op value)) }
 {
     if is_sure(top, &value) || pieces(facts, frame.op, &value).is_some() {
-        return put(alloc, facts, frame.op, &mut machine.done, frame.from, value);
+        let near = taken_near(&mut machine.near, frame.from);
+        return put_near(
+            alloc,
+            facts,
+            frame.op,
+            &mut machine.done,
+            frame.from,
+            near,
+            value,
+        );
     }
     wait_job(true, &mut machine.jobs, frame.waits, Job::Try(value))
 }

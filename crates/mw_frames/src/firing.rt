@@ -166,6 +166,12 @@ pub(crate) fn leave_out(
     Ok(taken)
 }
 
+/// Where the first argument stood that has one of these numbers, counted from a place on.
+fn place_before(from: usize, numbers: &[u32]) -> usize {
+    let first = numbers.first().copied().unwrap_or(1);
+    from.saturating_add(first as usize).saturating_sub(1)
+}
+
 /// Several arguments of the term in hand, whose numbers these are, are gone into: the others come to a new frame of the
 /// same operator, in whose hole they stand. They are moved where no other term shares them.
 pub(crate) fn take_out(
@@ -188,6 +194,7 @@ pub(crate) fn take_out(
     machine.kept.among(numbers)?;
     let args = subject.into_args(alloc)?;
     let taken = leave_out(alloc, is_comm(facts, frame.op), machine, args, numbers)?;
+    machine.near = place_before(frame.from, numbers);
     machine.frames.push(frame)?;
     Ok(taken)
 }

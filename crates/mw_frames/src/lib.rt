@@ -38,8 +38,10 @@
 //! Conditions (`IsRun`): the module is well-formed, its signature accepted and well sorted. Want of memory is the only
 //! error of a machine, and nothing is said of it after that.
 //!
-//! Cost: where `fire`, `meet` or `halt` comes to several arguments of a term, the arguments of a node that no other term
-//! shares are moved, those of others copied, by one count each.
+//! Cost: where `fire`, `meet` or `halt` comes to several arguments of a term, the arguments of a node that no other
+//! term shares are moved, those of others copied, by one count each. What comes of them is looked for first where they
+//! were taken out, which is told once. Where a long list of elements ends those of an associative operator that keeps
+//! the order, `step` makes the whole at once: what stands before comes in front by one move, and the list isn't walked.
 //!
 //! Neither proved nor tested: time and memory, in which order arguments are reduced, and that calls answer with memory
 //! at hand.

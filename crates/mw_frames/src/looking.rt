@@ -14,7 +14,7 @@ ghost use Rattle.mw_frames.specs.declared.job.Frame.{Frame as FrameOf};
 
 use crate::job::{Frame, Hand};
 use crate::machine::Machine;
-use crate::passing::leave;
+use crate::passing::go_out;
 use mw_canon::Facts;
 use mw_stack::hides;
 use mw_term::Term;
@@ -70,8 +70,8 @@ pub(crate) fn settle<'m>(
     match machine.frames.pop() {
         None => Ok(Step::Ended(term)),
         Some(top) => {
-            leave(alloc, facts, machine, top, term)?;
-            Ok(Step::Goes(Hand::Over(top)))
+            let hand = go_out(alloc, facts, machine, top, term)?;
+            Ok(Step::Goes(hand))
         }
     }
 }

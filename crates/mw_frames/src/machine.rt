@@ -8,15 +8,18 @@ use crate::job::{Frame, Job};
 use mw_term::Term;
 use mw_trail::Trail;
 use std::alloc::Global;
+use std::mem::replace;
 
 /// Frames with something in the hole, the innermost last; the terms that are done in all frames, what waits in all of
-/// them, and the proof so far.
+/// them, and the proof so far. `near` tells where among the terms that are done the last ones were taken out, as a hint
+/// where to look first for what comes of them.
 #[derive(Drop)]
 pub struct Machine<'m> {
     pub frames: Vec<Frame>,
     pub done: Vec<Term>,
     pub jobs: Vec<Job<'m>>,
     pub kept: Trail,
+    pub near: usize,
 }
 
 impl<'m> Machine<'m> {
@@ -29,6 +32,7 @@ impl<'m> Machine<'m> {
             done: Vec::new(alloc),
             jobs: Vec::new(alloc),
             kept: Trail::new(alloc),
+            near: usize::MAX,
         }
     }
 
@@ -40,4 +44,13 @@ impl<'m> Machine<'m> {
         self.done.clear();
         self.jobs.clear();
     }
+}
+
+/// Where among the own arguments of a frame, which begin at a place, the last terms were taken out. It is told once,
+/// since what comes next mostly belongs at the end; and not to a frame that is further in.
+pub(crate) fn taken_near(near: &mut usize, from: usize) -> usize {
+    if *near < from {
+        return usize::MAX;
+    }
+    replace(near, usize::MAX) - from
 }

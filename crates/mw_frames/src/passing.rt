@@ -10,19 +10,22 @@ ghost use Rattle.mw_deduction.specs.Replay.{into};
 ghost use Rattle.mw_trail.specs.Tracks.{moves};
 ghost use Rattle.mw_stack.specs.Own.{own, spread, IsOrdered};
 ghost use Rattle.mw_frames.specs.Jobs.{term_of, work};
-ghost use Rattle.mw_frames.specs.State.{Run, IsRun, InHand, Settled, Holds, IsDone, IsAtHand};
+ghost use Rattle.mw_frames.specs.State.{Run, IsRun, InHand, Settled, Holds, IsDone, IsAtHand, work_of};
 ghost use Rattle.mw_frames.specs.Machines.{data_of, with_job, FallsFrom, StaysFrom, IsCutAt};
 ghost use Rattle.mw_frames.specs.declared.job.Job.{Job as JobOf};
 ghost use Rattle.mw_frames.specs.declared.job.Frame.{Frame as FrameOf};
 
 use crate::job::{Frame, Hand, Job};
-use crate::machine::Machine;
+use crate::machine::{Machine, taken_near};
 use crate::waiting::term_at;
 use crate::whole::pop_behind;
 use mw_canon::{Axioms, Facts};
-use mw_stack::{close, place_of, put};
-use mw_term::{OpId, Term};
+use mw_stack::{close, close_before, place_of, put, put_near};
+use mw_term::{OpId, Term, View};
 use std::alloc::{AllocError, Global};
+
+/// A list of so many elements that ends the arguments of a frame isn't taken apart.
+const LONG: usize = 8;
 
 #[inline(always)]
 pub(crate) fn is_assoc(facts: &Facts, operator: OpId) -> bool
@@ -169,7 +172,7 @@ pub(crate) fn pass<'m>(
 
 /// A term leaves the hole of a frame, where it is done.
 #[inline(always)]
-pub(crate) fn leave(
+fn leave(
     alloc: Global,
     facts: &Facts,
     machine: &mut Machine<'_>,
@@ -182,6 +185,92 @@ pub(crate) fn leave(
     ensures same { OnOk result ((machine.new.frames.items ≡ machine.old.frames.items) × (machine.new.jobs.items ≡ machine.old.jobs.items) × (machine.new.kept.values ≡ machine.old.kept.values)) }
 {
     machine.kept.leave()?;
-    put(alloc, facts, top.op, &mut machine.done, top.from, term)?;
+    let near = taken_near(&mut machine.near, top.from);
+    put_near(
+        alloc,
+        facts,
+        top.op,
+        &mut machine.done,
+        top.from,
+        near,
+        term,
+    )?;
     Ok(())
+}
+
+/// The last argument of a frame leaves its hole: the term that the frame is.
+#[inline(never)]
+fn leave_last<'m>(
+    alloc: Global,
+    facts: &Facts,
+    machine: &mut Machine<'m>,
+    top: Frame,
+    term: Term,
+) -> Result<Hand<'m>, AllocError>
+    ensures means { (K : Run) (k : ℕ) (fs : List FrameOf) (x : JobOf) → IsRun K facts.now
+        → length machine.old.jobs.items ≤ top.waits → reverse machine.old.frames.items ≡ fs
+        → term_of K.over.signature machine.old.kept.values x ≡ term
+        → InHand K k (record (data_of K.over machine.old) { frames = top ∷ fs }) x
+        → Each (IsDone K.over K.rank top.op) (spread K.over.signature top.op term)
+        → IfOk result (Holds K k (data_of K.over machine.new)) }
+    ensures falls { (M : Module) → IfOk result (FallsFrom M top (data_of M machine.old) machine.new) }
+{
+    machine.kept.leave()?;
+    let whole = close_before(alloc, facts, top.op, &mut machine.done, top.from, term)?;
+    Ok(Hand::One(Job::Try(whole)))
+}
+
+/// Whether a term that leaves the hole of a frame is a long list under the frame's operator, before which others stand,
+/// and no argument waits.
+#[inline(always)]
+fn ends_list(facts: &Facts, machine: &Machine<'_>, top: Frame, term: &Term) -> bool
+    ensures { IsTrue result → length machine.now.jobs.items ≤ top.waits }
+{
+    if machine.jobs.len() > top.waits || machine.done.len() <= top.from {
+        return false;
+    }
+    is_long_list(facts, top.op, term)
+}
+
+/// Whether a term is a long list of elements of an operator that is associative and keeps the order.
+#[inline(always)]
+fn is_long_list(facts: &Facts, operator: OpId, term: &Term) -> bool {
+    match term.view() {
+        View::Op(f, args) if f == operator && args.len() >= LONG => keeps_order(facts, operator),
+        _ => false,
+    }
+}
+
+/// Whether an operator is associative and keeps the order.
+fn keeps_order(facts: &Facts, operator: OpId) -> bool {
+    match facts.axioms(operator) {
+        Axioms::Associative { comm, .. } => !comm,
+        _ => false,
+    }
+}
+
+/// A term leaves the hole of a frame. What a long list ends is one term at once.
+#[inline(always)]
+pub(crate) fn go_out<'m>(
+    alloc: Global,
+    facts: &Facts,
+    machine: &mut Machine<'m>,
+    top: Frame,
+    term: Term,
+) -> Result<Hand<'m>, AllocError>
+    ensures means { (K : Run) (k : ℕ) (fs : List FrameOf) (x : JobOf) → IsRun K facts.now
+        → reverse machine.old.frames.items ≡ fs → term_of K.over.signature machine.old.kept.values x ≡ term
+        → InHand K k (record (data_of K.over machine.old) { frames = top ∷ fs }) x
+        → Each (IsDone K.over K.rank top.op) (spread K.over.signature top.op term)
+        → IfOk result (Holds K k (data_of K.over machine.new)) }
+    ensures falls { (M : Module) → IfOk result (λ h. work_of M.signature (data_of M machine.new) h
+        ≤ suc (work M.signature machine.old.kept.values
+        (top ∷ reverse machine.old.frames.items) machine.old.jobs.items)) }
+{
+    if ends_list(facts, machine, top, &term) {
+        let hand = leave_last(alloc, facts, machine, top, term)?;
+        return Ok(hand);
+    }
+    leave(alloc, facts, machine, top, term)?;
+    Ok(Hand::Over(top))
 }

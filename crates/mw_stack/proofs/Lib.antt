@@ -9,3 +9,4 @@ pub mod Weaving
 pub mod Fitting
 -- Operators and what stands under them.
 pub mod Under
+pub mod LongLists

@@ -1,6 +1,6 @@
 -- The arguments of an operator that are done: they stand in a list of terms from a place on.
 use Rattle.std.specs.Prelude.{◌≡◌, ℕ, List, drop, Bool, true, false}
-use Rattle.mw_logic.specs.Term.{RawTerm, apply, RawTerms, nil, cons}
+use Rattle.mw_logic.specs.Term.{RawTerm, apply, RawTerms, nil, cons, join}
 use Rattle.mw_logic.specs.Terms.{terms_of}
 use Rattle.mw_logic.specs.Signature.{Signature, IsRawTerm}
 use Rattle.mw_logic.specs.Parts.{is_assoc, all_nested}
@@ -17,6 +17,10 @@ spread sig f t = by_assoc (is_assoc sig f)
     by_assoc : Bool → RawTerms
     by_assoc true = elements (identity_of sig f) f t
     by_assoc false = cons t nil
+
+-- f's own from a place on with what t is under it behind them, or, where it is commutative, in order among them
+abbrev pub own_with : Signature → ℕ → ℕ → List RawTerm → RawTerm → RawTerms
+own_with sig f from ds t = arranged (is_comm sig f) (join (own from ds) (spread sig f t))
 
 -- they are in order under f
 abbrev pub IsOrdered : Signature → ℕ → RawTerms → Type 0

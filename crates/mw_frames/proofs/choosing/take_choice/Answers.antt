@@ -31,7 +31,7 @@ returns c = λ K k sig run h e z.
     let done : c.truncate.new.self.items ≡ take f.from m.done.items = search rules in
     let left : c.take_branch.new.jobs.items ≡ take f.waits m.jobs.items = c.in-Some.ensures.left _ _ _ wait in
     let taken : c.in-Some.job ≡ x = same_some (c.in-Some.ensures.taken _ _ _ wait) in
-    let n : Data = data_of M (record { frames = m.frames; done = c.truncate.new.self; jobs = c.take_branch.new.jobs; kept = c.row.new.self }) in
+    let n : Data = data_of M (record { frames = m.frames; done = c.truncate.new.self; jobs = c.take_branch.new.jobs; kept = c.row.new.self; near = m.near }) in
     let i : HasInHand K (suc k) n t = meets_so K sig run k inside n w t may refl done left c.in_ok-row.ensures.values (c.in_ok-row.ensures.moves M) in
     let vs = m.kept.values ++ t ∷ [] in
     let known = branch_job K sig run k d f c.args.truth h in

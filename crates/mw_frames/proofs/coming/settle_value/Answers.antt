@@ -14,7 +14,7 @@ pub returns-then-is_sure-clause-comes : goal.returns-then-is_sure-clause-comes
 returns-then-is_sure-clause-comes c = λ vs comm.
     let f = c.args.frame in
     let t : RawTerm = c.args.value in
-    term_settles c.put.result c.args.facts.now vs f t (λ M n. IsKnown M n c.args.top t) c.args.machine.now.done.items c.put.new.done.items c.args.machine.now.jobs.items comm c.put.ensures.below c.put.ensures.own
+    term_settles c.put_near.result c.args.facts.now vs f t (λ M n. IsKnown M n c.args.top t) c.args.machine.now.done.items c.put_near.new.done.items c.args.machine.now.jobs.items comm c.put_near.ensures.below c.put_near.ensures.own
     (λ M n over k. (
       elim c.then-is_sure.branch [
         | then-is_sure-via-then-is_sure w ↦ sure_done M n over.accepted over.sorted c.args.top t k f.op (sym w.if-is_sure.ensures)

@@ -12,7 +12,7 @@ use Rattle.mw_frames.proofs.firing.apply_whole.Goals as goal
 pub returns-clause-means : goal.returns-clause-means
 returns-clause-means c = λ K b k sig right w run h.
     let m = c.args.machine.now in
-    let n : Machine = record { frames = m.frames; done = m.done; jobs = m.jobs; kept = c.apply.new.self } in
+    let n : Machine = record { frames = m.frames; done = m.done; jobs = m.jobs; kept = c.apply.new.self; near = m.near } in
     let (es, kept) = c.in_ok-show.ensures.values in
     let vs : List RawTerm = c.args.values.now.items in
     let x : Move = applies c.args.number (is_rule K.over c.args.number) (meant K.over.signature (zip (variables_of K.over c.args.number) vs)) vs in

@@ -43,5 +43,5 @@ returns-clause-asked c = λ K k w run h new on part.
     let l = subst P args (subst Q (sym q) left) in
     let same = c.in_ok-taken.ensures.kept in
     let frames = ap reverse (c.in_ok-push.ensures.items ∙ ap (λ xs. xs ++ f ∷ []) c.in_ok-taken.ensures.frames) ∙ reverse-append c.args.machine.now.frames.items (f ∷ []) in
-    part_asked K c.args.facts.now run k (data_of M c.args.machine.now) (data_of M (record { frames = c.push.new.self; done = taken.done; jobs = taken.jobs; kept = taken.kept })) f c.args.subject w ns os ys
+    part_asked K c.args.facts.now run k (data_of M c.args.machine.now) (data_of M (record { frames = c.push.new.self; done = taken.done; jobs = taken.jobs; kept = taken.kept; near = taken.near })) f c.args.subject w ns os ys
     h new m e part'.proper l frames d j (ap (λ t. t.values) same ∙ c.in_ok-among.ensures.values) (ap (moves M) same ∙ c.in_ok-among.ensures.moves M)

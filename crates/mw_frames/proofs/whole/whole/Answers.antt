@@ -12,7 +12,7 @@ loop-frame-preserved c = λ K k run h.
     let new = c.put_together.new.machine in
     let top = c.in-Some.frame in
     let (i, same) = c.loop-frame.invariant K k run h in
-    let (j, more) = goes_out_so K c.args.facts.now run k (data_of K.over old) (data_of K.over (record { frames = new.frames; done = new.done; jobs = new.jobs; kept = c.leave.new.self })) top (reverse c.pop.new.self.items) c.loop-frame.term c.in_ok-term.term
+    let (j, more) = goes_out_so K c.args.facts.now run k (data_of K.over old) (data_of K.over (record { frames = new.frames; done = new.done; jobs = new.jobs; kept = c.leave.new.self; near = new.near })) top (reverse c.pop.new.self.items) c.loop-frame.term c.in_ok-term.term
     i (ap reverse c.in-Some.ensures.items ∙ reverse-append c.pop.new.self.items (top ∷ []))
     (ap reverse c.in_ok-term.ensures.frames) c.in_ok-term.ensures.done c.in_ok-term.ensures.jobs
     (c.in_ok-leave.ensures.values ∙ ap (λ t. t.values) c.in_ok-term.ensures.kept)
