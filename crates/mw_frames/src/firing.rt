@@ -158,18 +158,13 @@ pub(crate) fn leave_out(
     let at = (first as usize).saturating_sub(1).min(args.len());
     let behind = args.split_off(at)?;
     machine.done.append(&mut args)?;
+    machine.near = machine.done.len();
     if comm {
         let taken = set_apart(alloc, first, numbers, behind, &mut machine.done)?;
         return Ok(taken);
     }
     let taken = wait_others(alloc, first, numbers, behind, &mut machine.jobs)?;
     Ok(taken)
-}
-
-/// Where the first argument stood that has one of these numbers, counted from a place on.
-fn place_before(from: usize, numbers: &[u32]) -> usize {
-    let first = numbers.first().copied().unwrap_or(1);
-    from.saturating_add(first as usize).saturating_sub(1)
 }
 
 /// Several arguments of the term in hand, whose numbers these are, are gone into: the others come to a new frame of the
@@ -194,7 +189,6 @@ pub(crate) fn take_out(
     machine.kept.among(numbers)?;
     let args = subject.into_args(alloc)?;
     let taken = leave_out(alloc, is_comm(facts, frame.op), machine, args, numbers)?;
-    machine.near = place_before(frame.from, numbers);
     machine.frames.push(frame)?;
     Ok(taken)
 }
