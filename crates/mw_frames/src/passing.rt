@@ -184,6 +184,24 @@ fn leave(
         → IfOk result (λ _. Settled K k (data_of K.over machine.new) top) }
     ensures same { OnOk result ((machine.new.frames.items ≡ machine.old.frames.items) × (machine.new.jobs.items ≡ machine.old.jobs.items) × (machine.new.kept.values ≡ machine.old.kept.values)) }
 {
+    put(alloc, facts, top.op, &mut machine.done, top.from, term)?;
+    machine.kept.leave()?;
+    Ok(())
+}
+
+/// The same. It is looked for first where arguments were taken out.
+fn leave_near(
+    alloc: Global,
+    facts: &Facts,
+    machine: &mut Machine<'_>,
+    top: Frame,
+    term: Term,
+) -> Result<(), AllocError>
+    ensures means { (K : Run) (k : ℕ) (fs : List FrameOf) (x : JobOf) → IsRun K facts.now → reverse machine.old.frames.items ≡ fs → term_of K.over.signature machine.old.kept.values x ≡ term
+        → InHand K k (record (data_of K.over machine.old) { frames = top ∷ fs }) x → Each (IsDone K.over K.rank top.op) (spread K.over.signature top.op term)
+        → IfOk result (λ _. Settled K k (data_of K.over machine.new) top) }
+    ensures same { OnOk result ((machine.new.frames.items ≡ machine.old.frames.items) × (machine.new.jobs.items ≡ machine.old.jobs.items) × (machine.new.kept.values ≡ machine.old.kept.values)) }
+{
     machine.kept.leave()?;
     let near = taken_near(&mut machine.near, top.from);
     put_near(
@@ -222,7 +240,6 @@ fn leave_last<'m>(
 
 /// Whether a term that leaves the hole of a frame is a long list under the frame's operator, before which others stand,
 /// and no argument waits.
-#[inline(always)]
 fn ends_list(facts: &Facts, machine: &Machine<'_>, top: Frame, term: &Term) -> bool
     ensures { IsTrue result → length machine.now.jobs.items ≤ top.waits }
 {
@@ -233,7 +250,6 @@ fn ends_list(facts: &Facts, machine: &Machine<'_>, top: Frame, term: &Term) -> b
 }
 
 /// Whether a term is a long list of elements of an operator that is associative and keeps the order.
-#[inline(always)]
 fn is_long_list(facts: &Facts, operator: OpId, term: &Term) -> bool {
     match term.view() {
         View::Op(f, args) if f == operator && args.len() >= LONG => keeps_order(facts, operator),
@@ -250,8 +266,8 @@ fn keeps_order(facts: &Facts, operator: OpId) -> bool {
 }
 
 /// A term leaves the hole of a frame. What a long list ends is one term at once.
-#[inline(always)]
-pub(crate) fn go_out<'m>(
+#[inline(never)]
+fn go_out_among<'m>(
     alloc: Global,
     facts: &Facts,
     machine: &mut Machine<'m>,
@@ -271,6 +287,36 @@ pub(crate) fn go_out<'m>(
         let hand = leave_last(alloc, facts, machine, top, term)?;
         return Ok(hand);
     }
-    leave(alloc, facts, machine, top, term)?;
+    leave_near(alloc, facts, machine, top, term)?;
     Ok(Hand::Over(top))
+}
+
+/// A term leaves the hole of a frame. Where the operator has no axioms, nothing is looked for.
+#[inline(always)]
+pub(crate) fn go_out<'m>(
+    alloc: Global,
+    facts: &Facts,
+    machine: &mut Machine<'m>,
+    top: Frame,
+    term: Term,
+) -> Result<Hand<'m>, AllocError>
+    ensures means { (K : Run) (k : ℕ) (fs : List FrameOf) (x : JobOf) → IsRun K facts.now
+        → reverse machine.old.frames.items ≡ fs → term_of K.over.signature machine.old.kept.values x ≡ term
+        → InHand K k (record (data_of K.over machine.old) { frames = top ∷ fs }) x
+        → Each (IsDone K.over K.rank top.op) (spread K.over.signature top.op term)
+        → IfOk result (Holds K k (data_of K.over machine.new)) }
+    ensures falls { (M : Module) → IfOk result (λ h. work_of M.signature (data_of M machine.new) h
+        ≤ suc (work M.signature machine.old.kept.values
+        (top ∷ reverse machine.old.frames.items) machine.old.jobs.items)) }
+{
+    match facts.axioms(top.op) {
+        Axioms::Plain | Axioms::Successor => {
+            leave(alloc, facts, machine, top, term)?;
+            Ok(Hand::Over(top))
+        }
+        _ => {
+            let hand = go_out_among(alloc, facts, machine, top, term)?;
+            Ok(hand)
+        }
+    }
 }
