@@ -14,8 +14,8 @@ ghost use Rattle.mw_frames.specs.declared.job.Frame.{Frame as FrameOf};
 
 use crate::job::{Frame, Hand};
 use crate::machine::Machine;
-use crate::passing::go_out;
-use mw_canon::Facts;
+use crate::passing::{go_out, leave};
+use mw_canon::{Axioms, Facts};
 use mw_stack::hides;
 use mw_term::Term;
 use std::alloc::{AllocError, Global};
@@ -69,10 +69,16 @@ pub(crate) fn settle<'m>(
 {
     match machine.frames.pop() {
         None => Ok(Step::Ended(term)),
-        Some(top) => {
-            let hand = go_out(alloc, facts, machine, top, term)?;
-            Ok(Step::Goes(hand))
-        }
+        Some(top) => match facts.axioms(top.op) {
+            Axioms::Plain | Axioms::Successor => {
+                leave(alloc, facts, machine, top, term)?;
+                Ok(Step::Goes(Hand::Over(top)))
+            }
+            _ => {
+                let hand = go_out(alloc, facts, machine, top, term)?;
+                Ok(Step::Goes(hand))
+            }
+        },
     }
 }
 

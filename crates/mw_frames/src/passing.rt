@@ -172,7 +172,7 @@ pub(crate) fn pass<'m>(
 
 /// A term leaves the hole of a frame, where it is done.
 #[inline(always)]
-fn leave(
+pub(crate) fn leave(
     alloc: Global,
     facts: &Facts,
     machine: &mut Machine<'_>,
@@ -267,7 +267,7 @@ fn keeps_order(facts: &Facts, operator: OpId) -> bool {
 
 /// A term leaves the hole of a frame. What a long list ends is one term at once.
 #[inline(never)]
-fn go_out_among<'m>(
+pub(crate) fn go_out<'m>(
     alloc: Global,
     facts: &Facts,
     machine: &mut Machine<'m>,
@@ -289,34 +289,4 @@ fn go_out_among<'m>(
     }
     leave_near(alloc, facts, machine, top, term)?;
     Ok(Hand::Over(top))
-}
-
-/// A term leaves the hole of a frame. Where the operator has no axioms, nothing is looked for.
-#[inline(always)]
-pub(crate) fn go_out<'m>(
-    alloc: Global,
-    facts: &Facts,
-    machine: &mut Machine<'m>,
-    top: Frame,
-    term: Term,
-) -> Result<Hand<'m>, AllocError>
-    ensures means { (K : Run) (k : ℕ) (fs : List FrameOf) (x : JobOf) → IsRun K facts.now
-        → reverse machine.old.frames.items ≡ fs → term_of K.over.signature machine.old.kept.values x ≡ term
-        → InHand K k (record (data_of K.over machine.old) { frames = top ∷ fs }) x
-        → Each (IsDone K.over K.rank top.op) (spread K.over.signature top.op term)
-        → IfOk result (Holds K k (data_of K.over machine.new)) }
-    ensures falls { (M : Module) → IfOk result (λ h. work_of M.signature (data_of M machine.new) h
-        ≤ suc (work M.signature machine.old.kept.values
-        (top ∷ reverse machine.old.frames.items) machine.old.jobs.items)) }
-{
-    match facts.axioms(top.op) {
-        Axioms::Plain | Axioms::Successor => {
-            leave(alloc, facts, machine, top, term)?;
-            Ok(Hand::Over(top))
-        }
-        _ => {
-            let hand = go_out_among(alloc, facts, machine, top, term)?;
-            Ok(hand)
-        }
-    }
 }

@@ -1,4 +1,5 @@
+use Rattle.std.proofs.Common.{rules}
 use Rattle.mw_frames.proofs.passing.go_out.Goals as goal
 
-pub returns-in_ok-hand-in_default-clause-means : goal.returns-in_ok-hand-in_default-clause-means
-returns-in_ok-hand-in_default-clause-means c = λ K k fs x run q e h d. c.in_ok-hand-in_default.ensures.means K k fs x run q e h d
+pub returns-then-ends_list-clause-means : goal.returns-then-ends_list-clause-means
+returns-then-ends_list-clause-means c = λ K k fs x run q e h d. c.in_ok-hand.ensures.means K k fs x run (c.ends_list.ensures (search rules)) q e h d

@@ -1,5 +1,0 @@
-use Rattle.std.proofs.Common.{rules}
-use Rattle.mw_frames.proofs.passing.go_out_among.Goals as goal
-
-pub returns-then-ends_list-clause-means : goal.returns-then-ends_list-clause-means
-returns-then-ends_list-clause-means c = λ K k fs x run q e h d. c.in_ok-hand.ensures.means K k fs x run (c.ends_list.ensures (search rules)) q e h d
