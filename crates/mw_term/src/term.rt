@@ -441,7 +441,7 @@ impl Term {
     }
 
     /// The arguments of the operator on top.
-    fn arguments(&self) -> &[Term]
+    pub fn arguments(&self) -> &[Term]
         ensures { terms_of result.now ≡ args_of self.now }
     {
         match self.view() {
