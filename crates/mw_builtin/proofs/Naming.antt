@@ -15,7 +15,8 @@ use Rattle.mw_poset.specs.SortOrder.{SortOrder, order_of}
 use Rattle.mw_poset.specs.Order.{IsKindOf}
 use Rattle.mw_poset.proofs.Reading.{kinds_agree, kinds_same}
 use Rattle.mw_canon.proofs.Reading.{sort_there}
-use Rattle.mw_builtin.specs.Kinds.{IsKindNamed, HasSorts}
+use Rattle.mw_canon.specs.Axioms.{IsKindNamed}
+use Rattle.mw_builtin.specs.Kinds.{HasSorts}
 use Rattle.mw_builtin.specs.Schemata.{Computes, IsSchemaOf, AreSchemas}
 use Rattle.mw_builtin.specs.Spellings.{IsSpelled}
 use Rattle.mw_builtin.specs.declared.schema.Schema.{Schema}

@@ -6,12 +6,14 @@ ghost use Rattle.mw_logic.specs.Preregular.{HasItsSorts};
 ghost use Rattle.mw_logic.specs.Signature.{Signature as SignatureOf, IsOperator, Member};
 ghost use Rattle.mw_poset.specs.Order.{IsSort};
 ghost use Rattle.mw_poset.specs.SortOrder.{order_of};
-ghost use Rattle.mw_builtin.specs.Kinds.{IsKindNamed, AreKindsFor, HasSorts};
+ghost use Rattle.mw_canon.specs.Axioms.{IsKindNamed};
+ghost use Rattle.mw_builtin.specs.Kinds.{AreKindsFor, HasSorts};
 ghost use Rattle.mw_builtin.specs.Schemata.{AreSchemas, IsSchemaOf, Computes, on_numbers as on_numbers_of};
 ghost use Rattle.mw_builtin.specs.Spellings.{IsSpelled};
 
 use crate::schema::{BuiltIn, Schema};
 use crate::spelling::spelled;
+use mw_canon::kind_named;
 use mw_poset::Poset;
 use mw_term::{KindId, Operator, Signature};
 use std::alloc::{AllocError, Global};
@@ -44,20 +46,6 @@ pub(crate) fn rows(
         rows.push(schema(signature, order, kinds, index))?;
     }
     Ok(rows)
-}
-
-/// The kind of the sort of this name.
-fn kind_named(signature: &Signature, order: &Poset, name: &[u8]) -> Option<KindId>
-    requires { order.now ≡ order_of signature.now }
-    ensures { IsKindNamed signature.now name.now result }
-{
-    let names = signature.sorts.as_slice();
-    for index in 0..order.sorts() {
-        if names[index as usize].as_slice() == name {
-            return Some(order.kind_of(index + 1));
-        }
-    }
-    None
 }
 
 /// The schema of the operator at an index.

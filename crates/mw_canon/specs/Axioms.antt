@@ -24,6 +24,11 @@ HasRow sig rows f = HasAxioms sig f (unwrap_or (at_number rows f) Plain)
 abbrev pub AreRowsOf : Signature → List Axioms → Type 0
 AreRowsOf sig rows = (f : ℕ) → HasRow sig rows f
 
+-- the kind of the sort of this name, or none where no sort has it
+abbrev pub IsKindNamed : Signature → List ℕ → Option ℕ → Type 0
+IsKindNamed sig name None = (S : ℕ) → IsSortNamed sig S name → ⊥
+IsKindNamed sig name (Some K) = (S : ℕ) × IsSortNamed sig S name × IsKindOf sig.pairs S K
+
 -- the kind of numbers, or none where the signature has no numbers
 abbrev pub IsKindOfNumbers : Signature → Option ℕ → Type 0
 IsKindOfNumbers sig None = IsTrue sig.nat → (S : ℕ) → IsSortNamed sig S (codes "Nat") → ⊥

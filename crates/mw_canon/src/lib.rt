@@ -24,6 +24,7 @@
 //!   memory. `push_elements` puts them behind others. `rebuild` is the operator, with its axioms, on the arguments.
 //! - For arguments that are in order already: `over_elements` is an associative operator over elements of it, and
 //!   `counted` the successor. Neither compares nor looks for elements (proofs/Ordered: that is what `rebuild` gives).
+//! - `kind_named` is the kind of the sort of a name, none where no sort has it.
 //! - For those who build terms by `rebuild`: `is_largest` says whether the largest numeral stands alone among arguments,
 //!   so that a successor on them counts past it, and `limited` lets a term pass that has at most 1,000 levels and no such
 //!   successor, as a flag tells.
@@ -54,6 +55,7 @@ pub use applying::{counted, is_largest, over_elements, rebuild};
 pub use axioms::{Axioms, Facts};
 pub use building::{canon, instance, limited};
 pub use elements::{parts, push_elements};
+pub use rows::kind_named;
 use std::alloc::{AllocError, AllocFailed};
 pub use values::Values;
 

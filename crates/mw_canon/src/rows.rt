@@ -4,7 +4,7 @@ ghost use Rattle.mw_logic.specs.Accepted.{IsAccepted};
 ghost use Rattle.mw_logic.specs.Kinds.{is_successor as is_successor_of};
 ghost use Rattle.mw_logic.specs.Preregular.{HasItsSorts};
 ghost use Rattle.mw_poset.specs.SortOrder.{order_of};
-ghost use Rattle.mw_canon.specs.Axioms.{HasAxioms, AreRowsOf, IsKindOfNumbers};
+ghost use Rattle.mw_canon.specs.Axioms.{HasAxioms, AreRowsOf, IsKindNamed, IsKindOfNumbers};
 
 use crate::axioms::Axioms;
 use mw_poset::Poset;
@@ -39,9 +39,17 @@ fn kind_of_numbers(signature: &Signature, order: &Poset) -> Option<KindId>
     if !signature.nat {
         return None;
     }
+    kind_named(signature, order, b"Nat".as_slice())
+}
+
+/// The kind of the sort of this name, none where no sort has it.
+pub fn kind_named(signature: &Signature, order: &Poset, name: &[u8]) -> Option<KindId>
+    requires { order.now ≡ order_of signature.now }
+    ensures { IsKindNamed signature.now name.now result }
+{
     let names = signature.sorts.as_slice();
     for index in 0..order.sorts() {
-        if names[index as usize].as_slice() == b"Nat".as_slice() {
+        if names[index as usize].as_slice() == name {
             return Some(order.kind_of(index + 1));
         }
     }

@@ -3,7 +3,7 @@ ghost use Rattle.std.specs.Prelude.{◌≡◌};
 ghost use Rattle.mw_poset.specs.SortOrder.{order_of};
 ghost use Rattle.mw_prefix.specs.Leaves.{IsKindNamed};
 
-use mw_canon::Facts;
+use mw_canon::{Facts, kind_named};
 use mw_poset::Poset;
 use mw_term::{KindId, Signature};
 
@@ -24,25 +24,19 @@ impl LeafKinds {
     {
         let signature = facts.signature();
         LeafKinds {
-            numerals: kind_named(signature, order, signature.nat, b"Nat".as_slice()),
-            identifiers: kind_named(signature, order, signature.qid, b"Qid".as_slice()),
+            numerals: kind_there(signature, order, signature.nat, b"Nat".as_slice()),
+            identifiers: kind_there(signature, order, signature.qid, b"Qid".as_slice()),
         }
     }
 }
 
 /// The kind of the sort of this name, where it is there and has terms.
-fn kind_named(signature: &Signature, order: &Poset, there: bool, name: &[u8]) -> Option<KindId>
+fn kind_there(signature: &Signature, order: &Poset, there: bool, name: &[u8]) -> Option<KindId>
     requires { order.now ≡ order_of signature.now }
     ensures { IsKindNamed signature.now there name.now result }
 {
     if !there {
         return None;
     }
-    let names = signature.sorts.as_slice();
-    for index in 0..order.sorts() {
-        if names[index as usize].as_slice() == name {
-            return Some(order.kind_of(index + 1));
-        }
-    }
-    None
+    kind_named(signature, order, name)
 }

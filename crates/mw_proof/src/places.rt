@@ -11,7 +11,7 @@ ghost use Rattle.mw_trail.specs.Tracks.{moves};
 ghost use Rattle.mw_proof.specs.Ways.{numbers_in, spread, way};
 
 use mw_canon::{Axioms, Facts, parts};
-use mw_term::{OpId, Term, View, compare, number_at};
+use mw_term::{OpId, Term, compare, number_at};
 use mw_trail::Trail;
 use std::alloc::{AllocError, Global};
 
@@ -91,15 +91,6 @@ fn spread_under<'t>(facts: &Facts, operator: OpId, term: &'t Term) -> &'t [Term]
     parts(facts, operator, term)
 }
 
-fn arguments(term: &Term) -> &[Term]
-    ensures { terms_of result.now ≡ args_of term.now }
-{
-    match term.view() {
-        View::Op(_, args) => args,
-        _ => &[],
-    }
-}
-
 /// The numbers that a term, or its elements, have among the arguments of the operator on it and others, of which so
 /// many are given before it.
 fn numbers(
@@ -115,7 +106,7 @@ fn numbers(
 {
     let some = spread_under(facts, operator, part);
     if is_commutative(facts, operator) {
-        let found = in_order(alloc, some, arguments(whole))?;
+        let found = in_order(alloc, some, whole.arguments())?;
         return Ok(found);
     }
     let found = neighbours(alloc, before, some)?;

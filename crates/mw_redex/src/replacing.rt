@@ -9,7 +9,6 @@ ghost use Rattle.mw_redex.specs.Replaced.{put_in, replaced_here, replaced_at};
 ghost use Rattle.mw_redex.specs.Largest.{counts_past as counts_past_of};
 
 use crate::exchanging::exchange;
-use crate::walking::arguments;
 use mw_canon::{Axioms, CanonError, Facts, is_largest, limited, rebuild};
 use mw_term::{OpId, Seq, Term, View, copy, numbered};
 use std::alloc::{AllocError, Global};
@@ -68,7 +67,7 @@ fn replaced(
         let term = replaced_whole(alloc, facts, term, take, with, large)?;
         return Ok(term);
     };
-    let Some(argument) = numbered(arguments(term), *number) else {
+    let Some(argument) = numbered(term.arguments(), *number) else {
         let term = copy(term)?;
         return Ok(term);
     };

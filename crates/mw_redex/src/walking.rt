@@ -1,10 +1,9 @@
 // The paths of a term, one by one.
 ghost use Rattle.std.specs.Prelude.{◌≡◌, ◌∷◌, ◌++◌, [], map, IfOk, OnErr, MatchOption};
-ghost use Rattle.mw_logic.specs.Terms.{args_of, list_of};
 ghost use Rattle.mw_redex.specs.Paths.{paths};
 ghost use Rattle.mw_redex.specs.Waiting.{way_of, ways_on, to_come};
 
-use mw_term::{Seq, Term, View, number_at};
+use mw_term::{Seq, Term, number_at};
 use std::alloc::{AllocError, Global};
 use std::collections::VecDeque;
 use std::marker::Model;
@@ -83,7 +82,7 @@ fn take_first(
 fn spots_on<'t>(alloc: Global, spot: &Spot<'t>) -> Result<VecDeque<Spot<'t>>, AllocError>
     ensures { IfOk result (λ found. map way_of found.items ≡ ways_on (way_of spot.now)) }
 {
-    let args = arguments(spot.term);
+    let args = spot.term.arguments();
     let mut found = VecDeque::with_capacity(alloc, args.len())?;
     for (i, term) in args.iter().enumerate() {
         let number = number_at(i)?;
@@ -101,14 +100,4 @@ fn longer(alloc: Global, path: &[u32], number: u32) -> Result<Seq<u32>, AllocErr
     numbers.extend_from_slice(path)?;
     numbers.push(number)?;
     Ok(Seq::of(numbers))
-}
-
-/// The arguments of the operator on top, none of a term without one.
-pub(crate) fn arguments(term: &Term) -> &[Term]
-    ensures { result.now ≡ list_of (args_of term.now) }
-{
-    match term.view() {
-        View::Op(_, args) => args,
-        _ => &[],
-    }
 }

@@ -7,7 +7,7 @@ ghost use Rattle.mw_arguments.specs.Bags.{same, copies, spread as spread_is, run
 ghost use Rattle.mw_matching.specs.Multisets.{is_within, left_behind, term_at, without as without_is, is_new as is_new_is, news, is_variable as is_variable_is, times as times_is, part_of, rest_of, parts, numbers_without, behind_first};
 ghost use Rattle.mw_search.specs.Bags.{Cuts, cuts_left, AreRuns, AreDivided, are_divided as are_divided_is};
 
-use crate::terms::{arguments, is_same};
+use crate::terms::is_same;
 use mw_split::BagSplits;
 use mw_term::{Term, View, copy};
 use std::alloc::{AllocError, Global};

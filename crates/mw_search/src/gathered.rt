@@ -7,7 +7,7 @@ ghost use Rattle.mw_arguments.specs.Bags.{same};
 ghost use Rattle.mw_matching.specs.Multisets.{is_new, term_at};
 ghost use Rattle.mw_search.specs.Bags.{IsAlone};
 
-use crate::terms::{arguments, is_same};
+use crate::terms::is_same;
 use mw_term::{Term, compare, copy};
 use std::alloc::AllocError;
 use std::marker::Model;
@@ -41,14 +41,14 @@ impl Gathered {
     pub fn of(term: Term, ask: bool) -> Gathered
         ensures { result ≡ term }
     {
-        let in_order = ask && climb(arguments(&term));
+        let in_order = ask && climb(term.arguments());
         Gathered { term, in_order }
     }
 
     pub fn elements(&self) -> &[Term]
         ensures { terms_of result.now ≡ args_of self.now }
     {
-        arguments(&self.term)
+        self.term.arguments()
     }
 
     pub fn copied(&self) -> Result<Term, AllocError>
@@ -63,7 +63,7 @@ impl Gathered {
         requires new { is_new (args_of self.now) at ≡ true }
         ensures { IsTrue result → IsAlone (args_of self.now) at }
     {
-        self.in_order && !has_equal_behind(arguments(&self.term), at)
+        self.in_order && !has_equal_behind(self.term.arguments(), at)
     }
 }
 

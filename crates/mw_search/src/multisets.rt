@@ -14,7 +14,7 @@ use crate::goals::{Goal, Outcome};
 use crate::positions::{Positions, identity};
 use crate::rows::whole;
 use crate::shares::{Pieces, Shares, Singles, is_variable_at};
-use crate::terms::{arguments, rebuilt_of, rest_of, row_of, top};
+use crate::terms::{rebuilt_of, rest_of, row_of, top};
 use mw_canon::Facts;
 use mw_term::{Term, View, copy};
 use std::alloc::{AllocError, Global};
@@ -31,8 +31,8 @@ pub fn bag_met(
 ) -> Result<Outcome, AllocError>
     ensures { IfOk result (Serves facts.now positions.now.single.items (Bag pattern.now at bag.now) values.now) }
 {
-    let patterns = arguments(pattern);
-    let elements = arguments(bag);
+    let patterns = pattern.arguments();
+    let elements = bag.arguments();
     if at >= patterns.len() {
         return Ok(if elements.is_empty() {
             Outcome::Holds
@@ -82,7 +82,7 @@ pub fn left_met(
     ensures { let single = positions.now.single.items in
         IfOk result (Serves facts.now single (Left pattern.now at bag.now gone) values.now) }
 {
-    let left = without(alloc, arguments(bag), gone)?;
+    let left = without(alloc, bag.arguments(), gone)?;
     let left = Term::apply(alloc, top(pattern), left)?;
     let met = bag_met(alloc, facts, positions, pattern, at, &left, values)?;
     Ok(met)
@@ -114,7 +114,7 @@ fn given_met(
 {
     let operator = top(pattern);
     let taken = row_of(alloc, facts, operator, value)?;
-    match taken_away(alloc, arguments(&taken), elements)? {
+    match taken_away(alloc, taken.arguments(), elements)? {
         Some(left) => {
             let left = Term::apply(alloc, operator, left)?;
             let pattern = copy(pattern)?;

@@ -14,7 +14,7 @@ use crate::multisets::{bag_met, left_met};
 use crate::positions::Positions;
 use crate::rows::row_met;
 use crate::shares::{Orders, Shares};
-use crate::terms::{arguments, is_same, row_of};
+use crate::terms::{is_same, row_of};
 use mw_canon::{Axioms, Facts};
 use mw_term::{OpId, Term, View, copy};
 use std::alloc::{AllocError, Global};
@@ -141,8 +141,8 @@ fn args_met(pattern: &Term, term: &Term, at: usize) -> Result<Outcome, AllocErro
     ensures { IfOk result (λ o. (sig : Signature) (single : List (List ℕ)) (vs : Values) →
         IsOutcome sig single (Args pattern.now term.now at) vs o) }
 {
-    let patterns = arguments(pattern);
-    let terms = arguments(term);
+    let patterns = pattern.arguments();
+    let terms = term.arguments();
     if at >= patterns.len() {
         return Ok(if at >= terms.len() {
             Outcome::Holds
@@ -169,7 +169,7 @@ fn swapped(
 ) -> Result<Outcome, AllocError>
     ensures { IfOk result (Gives (λ sig single. swapped_trace sig single operator (args_of pattern.now) term.now)) }
 {
-    let patterns = arguments(pattern);
+    let patterns = pattern.arguments();
     match term.view() {
         View::Op(top, args) if operator == top => {
             if patterns.is_empty() {

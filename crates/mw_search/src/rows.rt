@@ -12,7 +12,7 @@ ghost use Rattle.mw_search.specs.declared.goals.Goal.TheVariants.{Row};
 use crate::goals::{Goal, Outcome};
 use crate::positions::{Positions, identity};
 use crate::shares::{Fronts, Shares};
-use crate::terms::{arguments, rebuilt_of, rebuilt_rest, rest_of, top};
+use crate::terms::{rebuilt_of, rebuilt_rest, rest_of, top};
 use mw_canon::Facts;
 use mw_term::{Identity, OpId, Term, copy};
 use std::alloc::{AllocError, Global};
@@ -61,7 +61,7 @@ fn last_met(
     ensures { let e = option_map identity_named identity in
         IfOk result (Gives (λ sig single. last_trace sig single e operator pattern.now (skip from (args_of row.now)))) }
 {
-    if !is_backed(identity, rest_of(arguments(row), from)) {
+    if !is_backed(identity, rest_of(row.arguments(), from)) {
         return Ok(Outcome::Fails);
     }
     let term = rebuilt_rest(alloc, identity, operator, row, from)?;
@@ -82,8 +82,8 @@ pub fn row_met(
     ensures { IfOk result (λ o. (vs : Values) →
         IsOutcome facts.now positions.now.single.items (Row pattern.now at row.now from) vs o) }
 {
-    let patterns = arguments(pattern);
-    let rest = rest_of(arguments(row), from);
+    let patterns = pattern.arguments();
+    let rest = rest_of(row.arguments(), from);
     if at >= patterns.len() {
         return Ok(if rest.is_empty() {
             Outcome::Holds
@@ -131,7 +131,7 @@ fn one_met(
         let zs = skip from (args_of row.now) in
         IfOk result (Gives (λ sig single. first_trace sig single (top_of pattern.now) first.now qs zs)) }
 {
-    let elements = arguments(row);
+    let elements = row.arguments();
     if from >= elements.len() {
         return Ok(Outcome::Fails);
     }

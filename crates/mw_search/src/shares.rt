@@ -11,7 +11,7 @@ use crate::gathered::Gathered;
 use crate::goals::Goal;
 use crate::lookahead::clashes;
 use crate::positions::Positions;
-use crate::terms::{arguments, first_of, rebuilt_of, rebuilt_part, top};
+use crate::terms::{first_of, rebuilt_of, rebuilt_part, top};
 use mw_canon::Facts;
 use mw_term::{Identity, Term, View, copy};
 use std::alloc::{AllocError, Global};
@@ -71,7 +71,7 @@ impl Fronts {
     fn share(&self, alloc: Global) -> Result<(Term, Goal), AllocError>
         ensures { IfOk result (λ s. (s.0, s.1) ≡ front_share self.now self.now.next) }
     {
-        let elements = arguments(&self.row);
+        let elements = self.row.arguments();
         let operator = top(&self.pattern);
         let term = rebuilt_part(
             alloc,
@@ -95,10 +95,10 @@ impl Fronts {
         if self.next >= self.end {
             return false;
         }
-        let Some(behind) = arguments(&self.pattern).get(self.then) else {
+        let Some(behind) = self.pattern.arguments().get(self.then) else {
             return false;
         };
-        let elements = arguments(&self.row);
+        let elements = self.row.arguments();
         let left = self.from.saturating_add(self.next).min(elements.len());
         let Some(first) = elements.get(left) else {
             return false;
@@ -287,7 +287,7 @@ pub fn is_variable_at(pattern: &Term, at: usize, position: u32) -> bool
     ensures { let qs = skip at (args_of pattern.now) in
         IsTrue result → (x : Variable) × (ps : RawTerms) × (qs ≡ cons (a_variable x) ps) × (x.sort ≡ position) }
 {
-    let Some(argument) = arguments(pattern).get(at) else {
+    let Some(argument) = pattern.arguments().get(at) else {
         return false;
     };
     match argument.view() {

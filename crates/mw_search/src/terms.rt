@@ -28,21 +28,11 @@ pub fn top(term: &Term) -> OpId
     }
 }
 
-/// The arguments on top.
-pub fn arguments(term: &Term) -> &[Term]
-    ensures { terms_of result.now ≡ args_of term.now }
-{
-    match term.view() {
-        View::Op(_, args) => args,
-        _ => &[],
-    }
-}
-
 /// The first argument, or 0.
 pub fn first_of(alloc: Global, list: &Term) -> Result<Term, AllocError>
     ensures { IfOk result (λ t. t ≡ first_term (args_of list.now)) }
 {
-    match arguments(list) {
+    match list.arguments() {
         [first, ..] => {
             let term = copy(first)?;
             Ok(term)
@@ -131,7 +121,7 @@ pub fn rebuilt_part(
     ensures { let ts = front count (skip from (args_of row.now)) in
         IfOk result (λ t. t ≡ rebuilt (option_map identity_named identity) operator ts) }
 {
-    match part(arguments(row), from, count) {
+    match part(row.arguments(), from, count) {
         [] => nothing(alloc, identity, operator),
         [only] => copy(only),
         _ => {
@@ -152,7 +142,7 @@ pub fn rebuilt_rest(
     ensures { let ts = skip from (args_of row.now) in
         IfOk result (λ t. t ≡ rebuilt (option_map identity_named identity) operator ts) }
 {
-    let term = rebuilt_part(alloc, identity, operator, row, from, arguments(row).len())?;
+    let term = rebuilt_part(alloc, identity, operator, row, from, row.arguments().len())?;
     Ok(term)
 }
 

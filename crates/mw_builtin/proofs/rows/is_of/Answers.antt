@@ -1,5 +1,5 @@
 use Rattle.std.proofs.Common.{subst}
-use Rattle.mw_builtin.specs.Kinds.{IsKindNamed}
+use Rattle.mw_canon.specs.Axioms.{IsKindNamed}
 use Rattle.mw_builtin.proofs.Naming.{of_kind}
 use Rattle.mw_builtin.proofs.rows.is_of.Goals as goal
 

@@ -1,32 +1,14 @@
-use Rattle.std.proofs.Common.{◌≡◌, ◌∙◌, ◌+◌, ◌≤◌, ap, sym, subst}
-use Rattle.std.specs.Prelude.{codes}
-use Rattle.std.proofs.lemmas.Bool.{both_ways}
-use Rattle.std.proofs.lemmas.Slice.Eq.{bytes_eq-Decides}
-use Rattle.mw_logic.specs.Signature.{Signature, IsSortNamed}
-use Rattle.mw_poset.specs.SortOrder.{SortOrder}
-use Rattle.mw_poset.specs.Order.{IsKindOf}
-use Rattle.mw_canon.proofs.Reading.{sort_at, sort_behind, no_sort_past}
+use Rattle.std.proofs.Common.{ℕ, ◌∙◌, ap, sym, subst}
+use Rattle.std.specs.Prelude.{Option, Some, None, IsTrue, codes}
+use Rattle.mw_logic.specs.Signature.{Signature}
+use Rattle.mw_canon.specs.Axioms.{IsKindNamed, IsKindOfNumbers}
 use Rattle.mw_canon.proofs.rows.kind_of_numbers.Goals as goal
 
-pub returns-then-eq : goal.returns-then-eq
-returns-then-eq c =
-    let is : IsSortNamed c.args.signature.now (c.loop-index.index + 1) c.index-names-index.result =
-    sort_at c.args.signature.now c.as_slice-names.result.now c.sorts-index-end.result c.loop-index.index c.index-names-index.result (c.as_slice-names.ensures ∙ ap (λ (s : Signature). s.sorts) c.signature.view_is)
-    (c.sorts-index-end.ensures.sorts ∙ ap (λ (o : SortOrder). o.sorts) c.requires) c.loop-index-test.true c.index-names-index.is in
-    let name : c.index-names-index.result ≡ codes "Nat" = sym c.as_slice.ensures ∙ (bytes_eq-Decides _ _).0 (sym c.eq.ensures ∙ c.if-eq.true) ∙ c.as_slice-in-loop-index.ensures in (
-      ap (λ (s : Signature). s.nat) (sym c.signature.view_is) ∙ c.if-not-signature.false,
-      c.loop-index.index + 1,
-      subst (IsSortNamed c.args.signature.now (c.loop-index.index + 1)) name is,
-      subst (λ ps. IsKindOf ps (c.loop-index.index + 1) c.kind_of.result) (ap (λ (o : SortOrder). o.pairs) c.requires) c.kind_of.ensures,
-    )
-
-pub loop-index-preserved : goal.loop-index-preserved
-loop-index-preserved c =
-    let is : IsSortNamed c.args.signature.now (c.loop-index.index + 1) c.index-names-index.result =
-    sort_at c.args.signature.now c.as_slice-names.result.now c.sorts-index-end.result c.loop-index.index c.index-names-index.result (c.as_slice-names.ensures ∙ ap (λ (s : Signature). s.sorts) c.signature.view_is)
-    (c.sorts-index-end.ensures.sorts ∙ ap (λ (o : SortOrder). o.sorts) c.requires) c.loop-index-test.true c.index-names-index.is in
-    sort_behind c.args.signature.now c.loop-index.index c.index-names-index.result (codes "Nat") is
-    (λ e. both_ways _ (sym c.eq.ensures ∙ c.if-eq.false) ((bytes_eq-Decides _ _).1 (c.as_slice.ensures ∙ e ∙ sym c.as_slice-in-loop-index.ensures))) c.loop-index.invariant
+with_numbers : (sig : Signature) (found : Option ℕ) → IsTrue sig.nat → IsKindNamed sig (codes "Nat") found → IsKindOfNumbers sig found
+with_numbers sig None nat h = λ _. h
+with_numbers sig (Some K) nat h = (nat, h.0, h.1, h.2)
 
 pub returns : goal.returns
-returns c nat = no_sort_past c.args.signature.now c.loop-index.index (codes "Nat") (subst (λ n. n ≤ c.loop-index.index) (c.sorts-index-end.ensures.sorts ∙ ap (λ (o : SortOrder). o.sorts) c.requires) c.loop-index-test.false) c.loop-index.invariant
+returns c =
+    let named : IsKindNamed c.args.signature.now (codes "Nat") c.kind_named.result = subst (λ name. IsKindNamed c.args.signature.now name c.kind_named.result) c.as_slice.ensures c.kind_named.ensures in
+    with_numbers c.args.signature.now c.kind_named.result (ap (λ (s : Signature). s.nat) (sym c.signature.view_is) ∙ c.if-not-signature.false) named

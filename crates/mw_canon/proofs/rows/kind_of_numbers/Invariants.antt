@@ -1,7 +1,0 @@
-use Rattle.std.proofs.Common.{ℕ, ◌<◌}
-use Rattle.std.specs.Prelude.{codes}
-use Rattle.mw_logic.specs.Signature.{IsSortNamed}
-use Rattle.mw_canon.proofs.rows.kind_of_numbers.Given as goal
-
-abbrev pub invariant-loop-index : goal.invariant-loop-index
-invariant-loop-index l = (S : ℕ) → IsSortNamed l.signature S (codes "Nat") → l.index < S

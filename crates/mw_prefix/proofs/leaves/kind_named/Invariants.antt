@@ -1,6 +1,0 @@
-use Rattle.std.proofs.Common.{ℕ, ◌<◌}
-use Rattle.mw_logic.specs.Signature.{IsSortNamed}
-use Rattle.mw_prefix.proofs.leaves.kind_named.Given as goal
-
-abbrev pub invariant-loop-index : goal.invariant-loop-index
-invariant-loop-index l = (S : ℕ) → IsSortNamed l.signature S l.name → l.index < S
