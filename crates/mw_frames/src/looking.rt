@@ -71,13 +71,10 @@ pub(crate) fn settle<'m>(
         None => Ok(Step::Ended(term)),
         Some(top) => match facts.axioms(top.op) {
             Axioms::Plain | Axioms::Successor => {
-                leave(alloc, facts, machine, top, term)?;
+                leave(machine, top, term)?;
                 Ok(Step::Goes(Hand::Over(top)))
             }
-            _ => {
-                let hand = go_out(alloc, facts, machine, top, term)?;
-                Ok(Step::Goes(hand))
-            }
+            _ => go_out(alloc, facts, machine, top, term),
         },
     }
 }

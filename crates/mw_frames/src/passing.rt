@@ -1,5 +1,5 @@
 // From argument to argument of a frame, and from a hole into its frame.
-ghost use Rattle.std.specs.Prelude.{◌≡◌, ◌⊎◌, ◌≤◌, ◌<◌, ◌+◌, ◌++◌, ℕ, List, suc, [], ◌∷◌, IfOk, OnOk, IsTrue, IsFalse, true, length, drop, MatchOption, reverse};
+ghost use Rattle.std.specs.Prelude.{◌≡◌, ◌⊎◌, ◌≤◌, ◌<◌, ◌+◌, ◌++◌, ℕ, List, suc, [], ◌∷◌, IfOk, OnOk, IsTrue, IsFalse, true, false, length, drop, MatchOption, reverse};
 ghost use Rattle.mw_logic.specs.Signature.{Signature};
 ghost use Rattle.mw_logic.specs.Term.{RawTerm};
 ghost use Rattle.mw_logic.specs.Module.{Module};
@@ -10,12 +10,14 @@ ghost use Rattle.mw_deduction.specs.Replay.{into};
 ghost use Rattle.mw_trail.specs.Tracks.{moves};
 ghost use Rattle.mw_stack.specs.Own.{own, spread, IsOrdered};
 ghost use Rattle.mw_frames.specs.Jobs.{term_of, work};
-ghost use Rattle.mw_frames.specs.State.{Run, IsRun, InHand, Settled, Holds, IsDone, IsAtHand, work_of};
+ghost use Rattle.mw_frames.specs.State.{Run, IsRun, InHand, Settled, Holds, IsDone, IsAtHand};
+ghost use Rattle.mw_frames.specs.Steps.{Answers, FallsBelow};
 ghost use Rattle.mw_frames.specs.Machines.{data_of, with_job, FallsFrom, StaysFrom, IsCutAt};
 ghost use Rattle.mw_frames.specs.declared.job.Job.{Job as JobOf};
 ghost use Rattle.mw_frames.specs.declared.job.Frame.{Frame as FrameOf};
 
 use crate::job::{Frame, Hand, Job};
+use crate::looking::Step;
 use crate::machine::{Machine, taken_near};
 use crate::waiting::term_at;
 use crate::whole::pop_behind;
@@ -170,26 +172,23 @@ pub(crate) fn pass<'m>(
     Ok(None)
 }
 
-/// A term leaves the hole of a frame, where it is done.
+/// A term leaves the hole of a frame, where it is done. The operator is neither associative nor commutative.
 #[inline(always)]
-pub(crate) fn leave(
-    alloc: Global,
-    facts: &Facts,
-    machine: &mut Machine<'_>,
-    top: Frame,
-    term: Term,
-) -> Result<(), AllocError>
-    ensures means { (K : Run) (k : ℕ) (fs : List FrameOf) (x : JobOf) → IsRun K facts.now → reverse machine.old.frames.items ≡ fs → term_of K.over.signature machine.old.kept.values x ≡ term
-        → InHand K k (record (data_of K.over machine.old) { frames = top ∷ fs }) x → Each (IsDone K.over K.rank top.op) (spread K.over.signature top.op term)
-        → IfOk result (λ _. Settled K k (data_of K.over machine.new) top) }
+pub(crate) fn leave(machine: &mut Machine<'_>, top: Frame, term: Term) -> Result<(), AllocError>
+    ensures means { (K : Run) (k : ℕ) (sig : Signature) (fs : List FrameOf) (x : JobOf) → IsRun K sig
+        → assoc_of sig top.op ≡ false → comm_of sig top.op ≡ false → reverse machine.old.frames.items ≡ fs
+        → term_of K.over.signature machine.old.kept.values x ≡ term
+        → InHand K k (record (data_of K.over machine.old) { frames = top ∷ fs }) x
+        → Each (IsDone K.over K.rank top.op) (spread K.over.signature top.op term)
+        → OnOk result (Settled K k (data_of K.over machine.new) top) }
     ensures same { OnOk result ((machine.new.frames.items ≡ machine.old.frames.items) × (machine.new.jobs.items ≡ machine.old.jobs.items) × (machine.new.kept.values ≡ machine.old.kept.values)) }
 {
-    put(alloc, facts, top.op, &mut machine.done, top.from, term)?;
+    machine.done.push(term)?;
     machine.kept.leave()?;
     Ok(())
 }
 
-/// The same. It is looked for first where arguments were taken out.
+/// A term leaves the hole of a frame, where it is done. It is looked for first where arguments were taken out.
 fn leave_near(
     alloc: Global,
     facts: &Facts,
@@ -273,20 +272,19 @@ pub(crate) fn go_out<'m>(
     machine: &mut Machine<'m>,
     top: Frame,
     term: Term,
-) -> Result<Hand<'m>, AllocError>
+) -> Result<Step<'m>, AllocError>
     ensures means { (K : Run) (k : ℕ) (fs : List FrameOf) (x : JobOf) → IsRun K facts.now
         → reverse machine.old.frames.items ≡ fs → term_of K.over.signature machine.old.kept.values x ≡ term
         → InHand K k (record (data_of K.over machine.old) { frames = top ∷ fs }) x
         → Each (IsDone K.over K.rank top.op) (spread K.over.signature top.op term)
-        → IfOk result (Holds K k (data_of K.over machine.new)) }
-    ensures falls { (M : Module) → IfOk result (λ h. work_of M.signature (data_of M machine.new) h
-        ≤ suc (work M.signature machine.old.kept.values
-        (top ∷ reverse machine.old.frames.items) machine.old.jobs.items)) }
+        → IfOk result (Answers K k (data_of K.over machine.new)) }
+    ensures falls { (M : Module) (w : ℕ) → 2 ≤ w → IfOk result (FallsBelow M (w + work M.signature machine.old.kept.values
+        (top ∷ reverse machine.old.frames.items) machine.old.jobs.items) machine.new) }
 {
     if ends_list(facts, machine, top, &term) {
         let hand = leave_last(alloc, facts, machine, top, term)?;
-        return Ok(hand);
+        return Ok(Step::Goes(hand));
     }
     leave_near(alloc, facts, machine, top, term)?;
-    Ok(Hand::Over(top))
+    Ok(Step::Goes(Hand::Over(top)))
 }
