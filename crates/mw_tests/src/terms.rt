@@ -75,77 +75,108 @@ fn counted(alloc: Global, operator: OpId, first: u128, end: u128) -> Result<Term
 /// A place and a count, and the first number of the arguments there and the one behind the last.
 type Stretch = (usize, usize, u128, u128);
 
+static STRETCHES: [Stretch; 7] = [
+    (0, 40, 0, 40),
+    (0, 39, 0, 39),
+    (1, 39, 1, 40),
+    (38, 9, 38, 40),
+    (5, 2, 5, 7),
+    (7, 0, 7, 7),
+    (50, 3, 40, 40),
+];
+
+fn is_stretch(alloc: Global, term: &Term, row: Stretch) -> Result<bool, AllocError> {
+    let (from, count, first, end) = row;
+    let stretch = term.section(alloc, 8, from, count)?;
+    let wanted = counted(alloc, 8, first, end)?;
+    Ok(same(&stretch, &wanted) && stretch.hash() == wanted.hash())
+}
+
 #[test]
 fn stretches_of_arguments_are_terms(rt: HostRuntime) -> Result<(), Fail> {
-    let alloc = rt.alloc();
-    let rows: [Stretch; 7] = [
-        (0, 40, 0, 40),
-        (0, 39, 0, 39),
-        (1, 39, 1, 40),
-        (38, 9, 38, 40),
-        (5, 2, 5, 7),
-        (7, 0, 7, 7),
-        (50, 3, 40, 40),
-    ];
-    let term = counted(alloc, 7, 0, 40)?;
-    for (from, count, first, end) in rows {
-        let stretch = term.section(alloc, 8, from, count)?;
-        let wanted = counted(alloc, 8, first, end)?;
-        assert!(rt; same(&stretch, &wanted), "{from}, {count}");
-        assert_eq!(rt; stretch.hash(), wanted.hash(), "{from}, {count}");
+    let term = counted(rt.alloc(), 7, 0, 40)?;
+    for row in &STRETCHES {
+        assert!(rt; is_stretch(rt.alloc(), &term, *row)?, "{row:?}");
     }
     Ok(())
+}
+
+/// The last two of four numerals with operator 7 before the arguments of a term.
+fn put_before(alloc: Global, last: Term) -> Result<Term, AllocError> {
+    let mut terms = counted(alloc, 9, 0, 4)?.into_args(alloc)?;
+    let from = terms.len().min(2);
+    Term::apply_onto(alloc, 7, &mut terms, from, last)
+}
+
+fn is_put_before(alloc: Global, last: Term, end: u128) -> Result<bool, AllocError> {
+    let term = put_before(alloc, last)?;
+    Ok(same(&term, &counted(alloc, 7, 2, end)?))
+}
+
+/// The same where something else holds the arguments too.
+fn is_put_before_held(alloc: Global, end: u128) -> Result<bool, AllocError> {
+    let last = counted(alloc, 9, 4, end)?;
+    is_put_before(alloc, copy(&last)?, end)
 }
 
 #[test]
 fn terms_come_before_arguments(rt: HostRuntime) -> Result<(), Fail> {
     let alloc = rt.alloc();
     for end in [4, 7, 50] {
-        let mut front = counted(alloc, 9, 0, 4)?.into_args(alloc)?;
-        assert_eq!(rt; front.len(), 4);
-        let held = counted(alloc, 9, 4, end)?;
-        let term = Term::apply_onto(alloc, 7, &mut front, 2, copy(&held)?)?;
-        assert!(rt; same(&term, &counted(alloc, 7, 2, end)?), "{end}");
-        assert_eq!(rt;
-            numbers(alloc, front.as_slice())?.as_slice(),
-            [0, 1].as_slice()
+        assert!(rt;
+            is_put_before(alloc, counted(alloc, 9, 4, end)?, end)?,
+            "{end}"
         );
-        let term = Term::apply_onto(alloc, 7, &mut front, 0, held)?;
-        assert_eq!(rt; depth(&term), 2);
-        assert!(rt; front.is_empty());
+        assert!(rt; is_put_before_held(alloc, end)?, "{end}");
     }
     Ok(())
+}
+
+fn hash(made: Result<Term, AllocError>) -> Result<u32, AllocError> {
+    Ok(made?.hash())
 }
 
 #[test]
 fn hashes_are_those_of_the_definition(rt: HostRuntime) -> Result<(), Fail> {
     let alloc = rt.alloc();
-    let name = Name::of(vec![in alloc; b'X']?);
-    assert_eq!(rt; Term::numeral(alloc, (1 << 32) + 5)?.hash(), 5);
-    assert_eq!(rt; Term::variable(alloc, VarId { name, sort: 3 })?.hash(), 91);
-    assert_eq!(rt;
-        Term::quoted(alloc, Name::of(b"'q".to_vec(alloc)?))?.hash(),
-        113 * 31 + 39
-    );
-    assert_eq!(rt; Term::apply(alloc, 2, Vec::new(alloc))?.hash(), 198677742);
+    assert_eq!(rt; hash(Term::numeral(alloc, 4294967301))?, 5);
+    let name = Name::of(vec![in alloc; 39, 113]?);
+    assert_eq!(rt; hash(Term::quoted(alloc, name))?, 113 * 31 + 39);
+    let name = Name::of(vec![in alloc; 88]?);
+    assert_eq!(rt; hash(Term::variable(alloc, VarId { name, sort: 3 }))?, 91);
+    assert_eq!(rt; hash(Term::apply(alloc, 2, Vec::new(alloc)))?, 198677742);
     Ok(())
+}
+
+/// The paths of a term in order, as one list, each behind a 0. Past the last one there is none, however often it is
+/// asked.
+fn all_paths(alloc: Global, term: &Term) -> Result<Vec<u32>, AllocError> {
+    let mut places = Places::new(alloc, term)?;
+    let mut seen = Vec::new(alloc);
+    for _ in 0..7 {
+        if let Some(path) = places.next()? {
+            seen.push(0)?;
+            seen.extend_from_slice(path.as_slice())?;
+        }
+    }
+    Ok(seen)
+}
+
+/// Operator 7 on operator 8 on 0 and 1, and on 2.
+fn nested(alloc: Global) -> Result<Term, AllocError> {
+    let mut args = Vec::new(alloc);
+    args.push(counted(alloc, 8, 0, 2)?)?;
+    args.push(Term::numeral(alloc, 2)?)?;
+    Term::apply(alloc, 7, args)
 }
 
 #[test]
 fn paths_are_told_breadth_first(rt: HostRuntime) -> Result<(), Fail> {
-    let alloc = rt.alloc();
-    let inner = counted(alloc, 8, 0, 2)?;
-    let term = Term::apply(alloc, 7, vec![in alloc; inner, Term::numeral(alloc, 2)?]?)?;
-    let paths: [&[u32]; 5] = [&[], &[1], &[2], &[1, 1], &[1, 2]];
-    let mut places = Places::new(alloc, &term)?;
-    for path in paths {
-        let found = places.next()?;
-        assert!(rt;
-            matches!(found, Some(found) if found.as_slice() == path),
-            "{path:?}"
-        );
-    }
-    assert!(rt; places.next()?.is_none());
-    assert!(rt; places.next()?.is_none());
+    let term = nested(rt.alloc())?;
+    let paths = all_paths(rt.alloc(), &term)?;
+    assert_eq!(rt;
+        paths.as_slice(),
+        [0, 0, 1, 0, 2, 0, 1, 1, 0, 1, 2].as_slice()
+    );
     Ok(())
 }
