@@ -20,9 +20,9 @@ use Rattle.mw_term.proofs.OperatorSets.{lacks_top, arguments_apart, first_apart,
 use Rattle.mw_least.specs.declared.sure.Partial.{Partial}
 use Rattle.mw_least.specs.declared.closed.Closed.{Closed}
 use Rattle.mw_least.specs.declared.closed.Home.{Home}
-use Rattle.mw_least.specs.Sure.{IsNone, IsApart}
+use Rattle.mw_least.specs.Sure.{AreAllApart, IsNone, IsApart}
 use Rattle.mw_least.specs.Closed.{AreAbove, TakesTo, IsClosedFor, AreClosedFor, IsClosed, IsHome, AreHomes, AreWithin, Has, EachHas}
-use Rattle.mw_least.proofs.Results.{raise, AreAllApart, grounds, AllHave, args_of, applied_sort}
+use Rattle.mw_least.proofs.Results.{raise, grounds, AllHave, args_of, applied_sort}
 use Rattle.mw_least.proofs.Tops.{at_within, first_member}
 use Rattle.mw_builtin.proofs.Forms.{not_alone}
 
@@ -59,30 +59,41 @@ module _ (sig : Signature) (ok : IsPreregularModulo sig) (numbers : HasItsSorts 
   closed_sort : (f : ℕ) (ts : RawTerms) (o : Operator) (S : ℕ) → IsOperator sig f o → IsRawTerm sig (apply f ts) → AllOf sig S ts → IsClosedFor sig.pairs o S → HasSort sig (apply f ts) (sort S)
   closed_sort f ts o S is raw h s = raise sig (apply f ts) s.0 S (taken_sort f ts o S s.0 is raw h s.1) s.2
 
+  -- Terms that have a sort if they are of its kind.
+  module _ (S : ℕ) where
+    abbrev IsIn : RawTerm → Type 0
+    IsIn t = (K : ℕ) → IsRawTerm sig t → HasKind sig t K → SameKind sig K S → HasSort sig t (sort S)
+
+    abbrev AreIn : RawTerms → Type 0
+    AreIn nil = ⊤
+    AreIn (cons t ts) = IsIn t × AreIn ts
+
+    -- arguments of sorts at or above it are of its kind
+    all_in : (ts : RawTerms) (Ks : List ℕ) (Ss : List Sorted) → AreIn ts → AreRawTerms sig ts Ks → AreOfKinds sig Ss Ks → AreAbove sig.pairs S Ss → AllOf sig S ts
+    all_in nil [] [] h raw k a = tt
+    all_in nil [] (T ∷ Ss) h raw k a = absurd k
+    all_in ts (K ∷ Ks) [] h raw k a = absurd k
+    all_in (cons t ts) [] Ss h raw k a = elim raw [ ]
+    all_in nil (K ∷ Ks) (T ∷ Ss) h raw k a = elim raw [ ]
+    all_in (cons t ts) (K ∷ Ks) (kind L ∷ Ss) h raw k a = absurd a.0
+    all_in (cons t ts) (K ∷ Ks) (sort T ∷ Ss) h (next r i rest) k a = (h.0 K r i (SameKind-trans (SameKind-sym k.0) (SameKind-sym (AtOrBelow-kind a.0))), all_in ts Ks Ss h.1 rest k.1 a.1)
+
+    taken_in : (f : ℕ) (ts : RawTerms) (o : Operator) (R : ℕ) → IsOperator sig f o → IsRawTerm sig (apply f ts) → AreIn ts → TakesTo sig.pairs o S R → HasSort sig (apply f ts) (sort R)
+    taken_in f ts o R is raw h s =
+        let d = numbers.declarations f o is (record { args = s.args; result = sort R }) s.declared in
+        taken_sort f ts o S R is raw (all_in ts o.args s.args h (args_of sig o is raw) d.args s.are_above) s
+
   -- Terms of a closed sort's kind in which no operator stands that is outside.
   module _ (c : Closed) (closed : IsClosed sig c) where
     -- the term has the sort, and so has each of a list
     abbrev IsOfIt : RawTerm → Type 0
-    IsOfIt t = (K : ℕ) → IsRawTerm sig t → HasKind sig t K → SameKind sig K c.sort → HasSort sig t (sort c.sort)
+    IsOfIt = IsIn c.sort
 
     abbrev AllOfIt : RawTerms → Type 0
-    AllOfIt nil = ⊤
-    AllOfIt (cons t ts) = IsOfIt t × AllOfIt ts
-
-    -- arguments of sorts at or above it are of its kind
-    all_of : (ts : RawTerms) (Ks : List ℕ) (Ss : List Sorted) → AllOfIt ts → AreRawTerms sig ts Ks → AreOfKinds sig Ss Ks → AreAbove sig.pairs c.sort Ss → AllOf sig c.sort ts
-    all_of nil [] [] h raw k a = tt
-    all_of nil [] (T ∷ Ss) h raw k a = absurd k
-    all_of ts (K ∷ Ks) [] h raw k a = absurd k
-    all_of (cons t ts) [] Ss h raw k a = elim raw [ ]
-    all_of nil (K ∷ Ks) (T ∷ Ss) h raw k a = elim raw [ ]
-    all_of (cons t ts) (K ∷ Ks) (kind L ∷ Ss) h raw k a = absurd a.0
-    all_of (cons t ts) (K ∷ Ks) (sort T ∷ Ss) h (next r i rest) k a = (h.0 K r i (SameKind-trans (SameKind-sym k.0) (SameKind-sym (AtOrBelow-kind a.0))), all_of ts Ks Ss h.1 rest k.1 a.1)
+    AllOfIt = AreIn c.sort
 
     taken_of : (f : ℕ) (ts : RawTerms) (o : Operator) (R : ℕ) → IsOperator sig f o → IsRawTerm sig (apply f ts) → AllOfIt ts → TakesTo sig.pairs o c.sort R → HasSort sig (apply f ts) (sort R)
-    taken_of f ts o R is raw h s =
-        let d = numbers.declarations f o is (record { args = s.args; result = sort R }) s.declared in
-        taken_sort f ts o c.sort R is raw (all_of ts o.args s.args h (args_of sig o is raw) d.args s.are_above) s
+    taken_of = taken_in c.sort
 
     operator_of_it : (f : ℕ) (ts : RawTerms) → IsNone c.outside f → AllOfIt ts → IsOfIt (apply f ts)
     operator_of_it f ts lacks h K raw (of_operator o is j) k =
@@ -160,6 +171,46 @@ module _ (sig : Signature) (ok : IsPreregularModulo sig) (numbers : HasItsSorts 
         has_result (is_assoc sig f) f ts o R is refl (subst (IsCanonical sig) fixed (canonical sig ok.accepted (nested sig (apply f ts)))) raw ground
         (lacks_top f ts c.outside.declared apart.0, lacks_top f ts c.outside.built apart.1) (arguments_apart f ts c.outside.declared apart.0, arguments_apart f ts c.outside.built apart.1) s
 
+    -- Terms of the sorts above it, on arguments in which no operator outside stands.
+    module _ (S : ℕ) (below : AtOrBelow sig.pairs c.sort S) where
+      made_in : (t : RawTerm) → IsTrue (is_ground t) → IsApart c.outside t → IsIn S (nested sig t)
+      made_in t g p K r i k = raise sig (nested sig t) c.sort S (each_of_it t g p K r i (SameKind-trans k (SameKind-sym (AtOrBelow-kind below)))) below
+
+      first_made : (t : RawTerm) (ts : RawTerms) → IsTrue (are_ground (cons t ts)) → AreAllApart c.outside (cons t ts) → IsIn S (nested sig t)
+      first_made t ts g p = made_in t (grounds (is_ground t) (are_ground ts) g).0 (first_apart t ts c.outside.declared p.0, first_apart t ts c.outside.built p.1)
+
+      others_ground : (t : RawTerm) (ts : RawTerms) → IsTrue (are_ground (cons t ts)) → IsTrue (are_ground ts)
+      others_ground t ts g = (grounds (is_ground t) (are_ground ts) g).1
+
+      others_all_apart : (t : RawTerm) (ts : RawTerms) → AreAllApart c.outside (cons t ts) → AreAllApart c.outside ts
+      others_all_apart t ts p = (others_apart t ts c.outside.declared p.0, others_apart t ts c.outside.built p.1)
+
+      all_made : (ts : RawTerms) → IsTrue (are_ground ts) → AreAllApart c.outside ts → AreIn S (all_nested sig ts)
+      all_made nil g p = tt
+      all_made (cons t ts) g p = (first_made t ts g p, all_made ts (others_ground t ts g) (others_all_apart t ts p))
+
+      module _ (f : ℕ) (o : Operator) (is : IsOperator sig f o) (gives : IsClosedFor sig.pairs o S) where
+        has_in : (ts : RawTerms) → IsRawTerm sig (apply f ts) → AreIn S ts → HasSort sig (apply f ts) (sort S)
+        has_in ts raw h = raise sig (apply f ts) gives.0 S (taken_in S f ts o gives.0 is raw h gives.1) gives.2
+
+        chain_in : (t : RawTerm) (ts : RawTerms) → IsTrue (are_ground (cons t ts)) → AreAllApart c.outside (cons t ts) → IsIn S (chain f (nested sig t) (all_nested sig ts))
+        chain_in t nil g p = first_made t nil g p
+        chain_in t (cons u us) g p = λ K raw i k.
+            has_in (cons (nested sig t) (cons (chain f (nested sig u) (all_nested sig us)) nil)) raw
+            (first_made t (cons u us) g p, (chain_in u us (others_ground t (cons u us) g) (others_all_apart t (cons u us) p), tt))
+
+        nest_in : (b : Bool) (ts : RawTerms) → is_assoc sig f ≡ b → IsCanonical sig (apply f ts) → IsRawTerm sig (nest b f (all_nested sig ts)) → IsTrue (are_ground ts) → AreAllApart c.outside ts → HasSort sig (nest b f (all_nested sig ts)) (sort S)
+        nest_in false ts e k raw g p = has_in (all_nested sig ts) raw (all_made ts g p)
+        nest_in true nil e k raw g p = has_in nil raw tt
+        nest_in true (cons t nil) e k raw g p = absurd (not_alone sig f t e k)
+        nest_in true (cons t (cons u us)) e k raw g p =
+            has_in (cons (nested sig t) (cons (chain f (nested sig u) (all_nested sig us)) nil)) raw
+            (first_made t (cons u us) g p, (chain_in u us (others_ground t (cons u us) g) (others_all_apart t (cons u us) p), tt))
+
+        -- an operator that gives a sort on arguments of it has it on arguments that are made so
+        pub closed_on_made : (ts : RawTerms) → AreAllApart c.outside ts → Has sig S (apply f ts)
+        closed_on_made ts p fixed raw g = nest_in (is_assoc sig f) ts refl (subst (IsCanonical sig) fixed (canonical sig ok.accepted (nested sig (apply f ts)))) raw g p
+
   -- Terms whose arguments have a sort for which the operator on top is closed.
   module _ (S : ℕ) where
     one_has : (t : RawTerm) → IsCanonical sig t → IsRawTerm sig (nested sig t) → IsTrue (is_ground t) → Has sig S t → HasSort sig (nested sig t) (sort S)
@@ -209,6 +260,14 @@ operator_there sig f ts raw = by_test (is_assoc sig f) refl raw
     by_test : (b : Bool) → is_assoc sig f ≡ b → IsRawTerm sig (nest b f (all_nested sig ts)) → (o : Operator) × IsOperator sig f o
     by_test true h raw = let (o, is, a) = assoc_operator sig f h in (o, is)
     by_test false h (an_operator o is args) = (o, is)
+
+-- the home at a place is of a closed sort
+pub home_closed : (sig : Signature) (os : List Operator) (hs : List Home) (f : ℕ) (h : Home) → AreHomes sig os hs → at_number hs f ≡ Some h → 1 ≤ h.result → IsClosed sig h.closed
+home_closed sig os hs zero h a r l = absurd (cc)
+home_closed sig os [] (suc i) h a r l = absurd (cc)
+home_closed sig [] (g ∷ gs) (suc i) h a r l = absurd a
+home_closed sig (q ∷ os) (g ∷ gs) (suc zero) h a r l = (subst (λ x. IsHome sig q x) (same_Some g h r) a.0 l).0
+home_closed sig (q ∷ os) (g ∷ gs) (suc (suc i)) h a r l = home_closed sig os gs (suc i) h a.1 r l
 
 -- what the home of an operator tells of each canonical ground term with it on top
 pub at_home : (sig : Signature) → IsPreregularModulo sig → HasItsSorts sig → (homes : List Home) → AreHomes sig sig.operators homes → (f : ℕ) (ts : RawTerms) (h : Home) (S : ℕ) → at_number homes f ≡ Some h → 1 ≤ h.result → IsApart h.closed.outside (apply f ts) → AtOrBelow sig.pairs h.result S → Has sig S (apply f ts)

@@ -15,16 +15,10 @@ use Rattle.mw_logic.proofs.SolutionLaws.{declared_kind}
 use Rattle.mw_logic.proofs.BelowLaws.{IsBelow-trans}
 use Rattle.mw_sorting.specs.ComputedSorts.{IsResultOn}
 use Rattle.mw_sorting.specs.PreregularModulo.{IsPreregularModulo}
-use Rattle.mw_term.specs.OperatorSets.{AreApart, operators_in_all}
-use Rattle.mw_least.specs.declared.sure.Partial.{Partial}
 
 -- what has a sort has those above it
 pub raise : (sig : Signature) (t : RawTerm) (R S : ℕ) → HasSort sig t (sort R) → AtOrBelow sig.pairs R S → HasSort sig t (sort S)
 raise sig t R S h b = record { form = h.form; equal = h.equal; declared = h.declared; is_declared = h.is_declared; below = IsBelow-trans sig h.declared (sort R) (sort S) h.below b }
-
--- none of the partial operators stands in the terms
-abbrev pub AreAllApart : Partial → RawTerms → Type 0
-AreAllApart partial ts = AreApart (operators_in_all ts) partial.declared × AreApart (operators_in_all ts) partial.built
 
 pub grounds : (a b : Bool) → IsTrue (a && b) → IsTrue a × IsTrue b
 grounds true b h = (refl, h)

@@ -20,9 +20,9 @@ use Rattle.mw_sorting.specs.PreregularModulo.{HasNaturals, IsPreregularModulo}
 use Rattle.mw_term.proofs.OperatorSets.{lacks_top, arguments_apart, first_apart, others_apart}
 use Rattle.mw_least.specs.declared.sure.Partial.{Partial}
 use Rattle.mw_least.specs.declared.sure.Sure.{Sure}
-use Rattle.mw_least.specs.Sure.{IsNone, IsApart, IsTop, AreTops, IsSupport, IsSupportedIn, IsSupported, AreSupported, AreTopped, AreConstantsTopped, AreResults, AreSure}
+use Rattle.mw_least.specs.Sure.{AreAllApart, IsNone, IsApart, IsTop, AreTops, IsSupport, IsSupportedIn, IsSupported, AreSupported, AreTopped, AreConstantsTopped, AreResults, AreSure}
 use Rattle.mw_builtin.proofs.Forms.{not_alone}
-use Rattle.mw_least.proofs.Results.{raise, AreAllApart, grounds, AllHave, args_of, applied_sort}
+use Rattle.mw_least.proofs.Results.{raise, grounds, AllHave, args_of, applied_sort}
 
 pub result_at : (pairs : List (ℕ × ℕ)) (tops : List ℕ) (os : List Operator) (Rs : List ℕ) (f : ℕ) (o : Operator) (R : ℕ) → AreResults pairs tops os Rs → at_number os f ≡ Some o → at_number Rs f ≡ Some R → 1 ≤ R → IsSupport pairs tops o R
 result_at pairs tops os Rs zero o R a e r p = absurd (cc)

@@ -2,13 +2,13 @@
 use Rattle.std.specs.Prelude.{ℕ, ◌≡◌, ◌≤◌, List, [], ◌∷◌, ⊤, IsTrue, codes}
 use Rattle.mw_logic.specs.Signature.{Signature, Sorted, sort, kind, Operator, IsOperator, IsSortNamed, SameKind, IsRawTerm, Member}
 use Rattle.mw_logic.specs.Sorts.{AtOrBelow, HasSort}
-use Rattle.mw_logic.specs.Term.{RawTerm, is_ground}
+use Rattle.mw_logic.specs.Term.{RawTerm, RawTerms, is_ground}
 use Rattle.mw_logic.specs.Parts.{nested}
 use Rattle.mw_logic.specs.NormalForm.{normal_form}
 use Rattle.mw_least.specs.declared.closed.Closed.{Closed}
 use Rattle.mw_least.specs.declared.closed.Home.{Home}
 use Rattle.mw_least.specs.declared.sure.Partial.{Partial}
-use Rattle.mw_least.specs.Sure.{IsNone}
+use Rattle.mw_least.specs.Sure.{IsNone, AreAllApart}
 
 -- a sort at or above S
 abbrev pub IsAbove : List (ℕ × ℕ) → ℕ → Sorted → Type 0
@@ -57,6 +57,10 @@ abbrev pub AreHomes : Signature → List Operator → List Home → Type 0
 AreHomes sig os [] = ⊤
 AreHomes sig [] (h ∷ hs) = ⊥
 AreHomes sig (o ∷ os) (h ∷ hs) = IsHome sig o h × AreHomes sig os hs
+
+-- the terms are made of operators that a closed sort at or below S doesn't have outside
+abbrev pub AreMade : Signature → ℕ → RawTerms → Type 0
+AreMade sig S ts = (c : Closed) × IsClosed sig c × AtOrBelow sig.pairs c.sort S × AreAllApart c.outside ts
 
 -- the term, if it is canonical, raw and ground, has sort S
 abbrev pub Has : Signature → ℕ → RawTerm → Type 0

@@ -3,8 +3,8 @@ use Rattle.std.specs.Prelude.{ℕ, ◌≡◌, ◌≤◌, List, [], ◌∷◌, �
 use Rattle.mw_logic.specs.Signature.{Signature, Sorted, sort, kind, Operator, IsOperator, IsSortNamed, Member, at_number}
 use Rattle.mw_logic.specs.Sorts.{AtOrBelow}
 use Rattle.mw_poset.specs.Order.{IsKindOf}
-use Rattle.mw_logic.specs.Term.{RawTerm}
-use Rattle.mw_term.specs.OperatorSets.{Lacks, AreApart, operators_in}
+use Rattle.mw_logic.specs.Term.{RawTerm, RawTerms}
+use Rattle.mw_term.specs.OperatorSets.{Lacks, AreApart, operators_in, operators_in_all}
 use Rattle.mw_least.specs.declared.sure.Sure.{Sure}
 use Rattle.mw_least.specs.declared.sure.Partial.{Partial}
 
@@ -43,6 +43,10 @@ IsNone partial f = Lacks partial.declared f × Lacks partial.built f
 -- none of them stands in the term
 abbrev pub IsApart : Partial → RawTerm → Type 0
 IsApart partial t = AreApart (operators_in t) partial.declared × AreApart (operators_in t) partial.built
+
+-- none of them stands in one of the terms
+abbrev pub AreAllApart : Partial → RawTerms → Type 0
+AreAllApart partial ts = AreApart (operators_in_all ts) partial.declared × AreApart (operators_in_all ts) partial.built
 
 -- so is each operator that is none of the partial ones
 abbrev pub AreSupported : Signature → List ℕ → Partial → Type 0

@@ -10,7 +10,8 @@ ghost use Rattle.mw_sorts.specs.Diagrams.{AreTablesOf};
 ghost use Rattle.mw_builtin.specs.Schemata.{AreSchemataOf};
 ghost use Rattle.mw_poset.specs.SortOrder.{order_of};
 ghost use Rattle.mw_term.specs.Signatures.{sorted_of};
-ghost use Rattle.mw_least.specs.Closed.{Has, EachHas};
+ghost use Rattle.mw_logic.specs.Terms.{args_of};
+ghost use Rattle.mw_least.specs.Closed.{Has, EachHas, AreMade};
 ghost use Rattle.mw_least.specs.Giving.{OneGives, MayGive};
 ghost use Rattle.mw_least.specs.Sure.{AreSure};
 ghost use Rattle.mw_least.specs.Workable.{IsWorkable};
@@ -204,6 +205,26 @@ impl Ctx {
         true
     }
 
+    /// Whether the arguments of a term are made of operators that give a sort at or below another on arguments of it.
+    /// The first of them tells which sort may serve.
+    fn are_made(&self, term: &Term, sort: SortId) -> bool
+        ensures { IsTrue result → AreMade self.now.signature sort (args_of term.now) }
+    {
+        let [first, ..] = term.arguments() else {
+            return false;
+        };
+        let View::Op(operator, _) = first.view() else {
+            return false;
+        };
+        let Some(home) = numbered(self.homes.as_slice(), operator) else {
+            return false;
+        };
+        if home.closed.outside.may_stand_inside(term) {
+            return false;
+        }
+        home.result != 0 && self.is_below(home.closed.sort, sort)
+    }
+
     /// Whether a sort is one that a term has since the operator on top gives it on arguments of it, which have it by
     /// their operators.
     fn is_closed_over(&self, term: &Term, sort: SortId) -> bool
@@ -213,9 +234,10 @@ impl Ctx {
             return false;
         };
         match numbered(self.signature().operators.as_slice(), operator) {
-            Some(operator) => is_closed_for(&self.order, operator, sort)
-                && self.all_have(args, sort),
-            None => false,
+            Some(operator) if is_closed_for(&self.order, operator, sort) => {
+                self.are_made(term, sort) || self.all_have(args, sort)
+            }
+            _ => false,
         }
     }
 

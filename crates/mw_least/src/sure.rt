@@ -1,11 +1,12 @@
 // Sorts that ground terms have by their operators alone, whatever their arguments are.
 ghost use Rattle.std.specs.Prelude.{◌≡◌, ◌≤◌, ℕ, map, Some, IfOk, IsFalse, IsTrue};
 ghost use Rattle.mw_logic.specs.Preregular.{HasItsSorts};
+ghost use Rattle.mw_logic.specs.Terms.{args_of};
 ghost use Rattle.mw_logic.specs.Signature.{sort as sort_of, at_number};
 ghost use Rattle.mw_logic.specs.Sorts.{AtOrBelow};
 ghost use Rattle.mw_poset.specs.SortOrder.{order_of};
 ghost use Rattle.mw_term.specs.Signatures.{sorted_of};
-ghost use Rattle.mw_least.specs.Sure.{IsNone, IsApart, IsTop, IsTopOf, AreTops, IsSupport, IsSupportedIn, AreSupported, AreTopped, AreConstantsTopped, AreResults, AreSure};
+ghost use Rattle.mw_least.specs.Sure.{IsNone, AreAllApart, IsApart, IsTop, IsTopOf, AreTops, IsSupport, IsSupportedIn, AreSupported, AreTopped, AreConstantsTopped, AreResults, AreSure};
 
 use mw_poset::Poset;
 use mw_term::{
@@ -54,6 +55,14 @@ impl Partial {
         ensures { IsFalse result → IsApart self term.now }
     {
         let operators = term.operators();
+        operators.may_have(self.declared) || operators.may_have(self.built)
+    }
+
+    /// Whether one of them may stand in an argument of a term. A no is certain.
+    pub fn may_stand_inside(self, term: &Term) -> bool
+        ensures { IsFalse result → AreAllApart self (args_of term.now) }
+    {
+        let operators = term.operators_inside();
         operators.may_have(self.declared) || operators.may_have(self.built)
     }
 }

@@ -53,10 +53,13 @@ sums_push sums t ts us n u s e = subst (AreSums (sums ++ n ∷ [])) (sym u) (mor
     ]
 
 -- the list from the place before on
-pub from_before : (xs ts : List RawTerm) (i : ℕ) (t : RawTerm) → 0 < i → i ≤ length xs → t ≡ get_or xs (i - 1) t → drop (i - 1) xs ++ ts ≡ t ∷ (drop i xs ++ ts)
-from_before xs ts i t p h e =
+pub dropped_before : (xs : List RawTerm) (i : ℕ) (t : RawTerm) → 0 < i → i ≤ length xs → t ≡ get_or xs (i - 1) t → drop (i - 1) xs ≡ t ∷ drop i xs
+dropped_before xs i t p h e =
     let k : suc (i - 1) ≡ i = omega (arith, p) in
-    ap (λ (ys : List RawTerm). ys ++ ts) (drop-cons xs (i - 1) t (omega (arith, p, h)) ∙ ap (λ j. get_or xs (i - 1) t ∷ drop j xs) k ∙ ap (λ u. u ∷ drop i xs) (sym e))
+    drop-cons xs (i - 1) t (omega (arith, p, h)) ∙ ap (λ j. get_or xs (i - 1) t ∷ drop j xs) k ∙ ap (λ u. u ∷ drop i xs) (sym e)
+
+pub from_before : (xs ts : List RawTerm) (i : ℕ) (t : RawTerm) → 0 < i → i ≤ length xs → t ≡ get_or xs (i - 1) t → drop (i - 1) xs ++ ts ≡ t ∷ (drop i xs ++ ts)
+from_before xs ts i t p h e = ap (λ (ys : List RawTerm). ys ++ ts) (dropped_before xs i t p h e)
 
 -- between two places
 pub sum_between : (ts : List RawTerm) (sums : List ℕ) (from end a b : ℕ) → AreSums sums ts → from ≤ end → end ≤ length ts

@@ -39,15 +39,15 @@ facts_of_one t = same_facts _ _ _ _ _ _ (sym (or_zero_r _)) (omega arith) (omega
 pub facts_of_two : (t u : RawTerm) → facts_joined (facts_of t) (facts_of u) ≡ facts_of_all (cons t (cons u nil))
 facts_of_two t u = ap (facts_joined (facts_of t)) (facts_of_one u) ∙ same_facts _ _ _ _ _ _ refl refl (omega arith)
 
+pub facts_of_more : (t : RawTerm) (ts : RawTerms) → facts_of_all (cons t ts) ≡ facts_joined (facts_of t) (facts_of_all ts)
+facts_of_more t ts = same_facts _ _ _ _ _ _ refl refl (omega arith)
+
 -- lists one behind another
 pub facts-append : (xs ys : List RawTerm) → facts_of_all (terms_of (xs ++ ys)) ≡ facts_joined (facts_of_all (terms_of xs)) (facts_of_all (terms_of ys))
 facts-append [] ys = same_facts _ _ _ _ _ _ (sym (or_zero_l _)) (omega arith) (omega arith)
 facts-append (x ∷ xs) ys =
-    first_of x (terms_of (xs ++ ys)) ∙ ap (facts_joined (facts_of x)) (facts-append xs ys) ∙ sym (joined_assoc (facts_of x) (facts_of_all (terms_of xs)) (facts_of_all (terms_of ys)))
-    ∙ ap (λ a. facts_joined a (facts_of_all (terms_of ys))) (sym (first_of x (terms_of xs)))
+    facts_of_more x (terms_of (xs ++ ys)) ∙ ap (facts_joined (facts_of x)) (facts-append xs ys) ∙ sym (joined_assoc (facts_of x) (facts_of_all (terms_of xs)) (facts_of_all (terms_of ys)))
+    ∙ ap (λ a. facts_joined a (facts_of_all (terms_of ys))) (sym (facts_of_more x (terms_of xs)))
   where
-    first_of : (t : RawTerm) (ts : RawTerms) → facts_of_all (cons t ts) ≡ facts_joined (facts_of t) (facts_of_all ts)
-    first_of t ts = same_facts _ _ _ _ _ _ refl refl (omega arith)
-
     joined_assoc : (a b c : Facts) → facts_joined (facts_joined a b) c ≡ facts_joined a (facts_joined b c)
     joined_assoc a b c = same_facts _ _ _ _ _ _ (or_assoc a.remainders b.remainders c.remainders) (omega arith) (omega arith)

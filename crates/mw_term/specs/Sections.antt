@@ -23,10 +23,11 @@ TellsTo ts same a = (i : ℕ) → i ≤ same → facts_of_all (terms_of (drop i 
 abbrev pub IsTold : Shared → Type 0
 IsTold s = TellsTo s.terms.items s.same s.facts × AreSums s.sums.items s.terms.items
 
--- a node may show the terms between two places: none of the others is higher than they are
+-- a node may show the terms between two places: none of the others is higher than they are, and they tell all that the list tells
 abbrev pub IsSection : Shared → ℕ → ℕ → Type 0
 IsSection s from end =
     IsTold s × (from ≤ end) × (end ≤ length s.terms.items) × (highest (terms_of s.terms.items) ≤ highest (terms_of (shown s from end)))
+    × (facts_of_all (terms_of (shown s from end)) ≡ s.facts)
 
 abbrev pub ShowsSection : Shape → Type 0
 ShowsSection (Nat l d n) = ⊤

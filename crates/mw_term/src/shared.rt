@@ -31,9 +31,24 @@ impl Shared {
         ensures terms { IfOk result (λ s. s.terms.items ≡ terms.items) }
         ensures told { IfOk result (λ s. IsTold s) }
     {
-        let facts = facts_in(terms.as_slice());
-        let same = last_telling(terms.as_slice(), facts);
-        let sums = sums_of(alloc, terms.as_slice())?;
+        let mut sums = Vec::with_capacity(alloc, terms.len().saturating_add(1))?;
+        sums.push(0)?;
+        let own = terms.as_slice();
+        let mut sum = 0;
+        let mut facts = Facts::of_nothing();
+        let mut at = own.len();
+        let mut same = at;
+        while at > 0 {
+            at -= 1;
+            let term = &own[at];
+            sum = with_first(term, sum);
+            sums.push(sum)?;
+            let all = term.facts().joined(facts);
+            if !all.is(facts) {
+                facts = all;
+                same = at;
+            }
+        }
         Ok(Shared {
             terms,
             sums,
@@ -132,16 +147,6 @@ impl Shared {
     }
 }
 
-/// The sums of hashes over the last terms of a list: over none, one, and so on.
-fn sums_of(alloc: Global, terms: &[Term]) -> Result<Vec<u32>, AllocError>
-    ensures { IfOk result (λ sums. AreSums sums.items terms.now) }
-{
-    let mut sums = Vec::with_capacity(alloc, terms.len().saturating_add(1))?;
-    sums.push(0)?;
-    add_before(&mut sums, terms, &[])?;
-    Ok(sums)
-}
-
 /// The sums over a list are those over other terms in front of it too.
 fn add_before(sums: &mut Vec<u32>, front: &[Term], terms: &[Term]) -> Result<(), AllocError>
     requires { AreSums sums.old.items terms.now }
@@ -155,20 +160,6 @@ fn add_before(sums: &mut Vec<u32>, front: &[Term], terms: &[Term]) -> Result<(),
         sums.push(sum)?;
     }
     Ok(())
-}
-
-/// A place from which on terms tell all that they tell together: the last one.
-fn last_telling(terms: &[Term], facts: Facts) -> usize
-    requires { facts_of_all (terms_of terms.now) ≡ facts }
-    ensures { (i : ℕ) → i ≤ result → facts_of_all (terms_of (drop i terms.now)) ≡ facts }
-{
-    let mut all = Facts::of_nothing();
-    let mut at = terms.len();
-    while at > 0 && !all.is(facts) {
-        at -= 1;
-        all = terms[at].facts().joined(all);
-    }
-    at
 }
 
 /// Whether terms tell all of this. It ends where those at the front do.

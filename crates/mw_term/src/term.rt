@@ -1,10 +1,10 @@
 // Terms that share their parts.
-ghost use Rattle.std.specs.Prelude.{◌≡◌, ◌+◌, ◌++◌, ◌-◌, ◌≤◌, ◌^◌, min};
+ghost use Rattle.std.specs.Prelude.{◌≡◌, ◌+◌, ◌++◌, ◌-◌, ◌<◌, ◌≤◌, ◌^◌, min};
 ghost use Rattle.std.specs.Prelude.{List, [], take, drop, length, option_to_list, IfOk, IfNone, OnSome};
 ghost use Rattle.mw_logic.specs.Term.{RawTerm, numeral, quoted, variable, apply as applied, join, nil, cons};
 ghost use Rattle.mw_logic.specs.Terms.{args_of, terms_of, front, skip};
 ghost use Rattle.mw_logic.specs.NormalForm.{height};
-ghost use Rattle.mw_term.specs.OperatorSets.{operators_in};
+ghost use Rattle.mw_term.specs.OperatorSets.{operators_in, operators_in_all};
 ghost use Rattle.mw_term.specs.Facts.{facts_of, facts_of_all};
 ghost use Rattle.mw_term.specs.Hashes.{hash_above as hash_over, hash_of, hash_sum as sum_of};
 ghost use Rattle.mw_term.specs.Shapes.{shaped, shown, viewed};
@@ -127,8 +127,7 @@ fn many(alloc: Global, operator: OpId, args: Vec<Term>) -> Result<Term, AllocErr
     let count = args.len();
     if count >= LONG && count <= u32::MAX as usize {
         let list = Shared::of(alloc, args)?;
-        let list = Arc::new(alloc, list).map_err(AllocError::from)?;
-        let term = over(alloc, operator, list, 0, count as u32)?;
+        let term = all_over(alloc, operator, list)?;
         return Ok(term);
     }
     let term = few(alloc, operator, args)?;
@@ -212,8 +211,7 @@ fn over(
     from: u32,
     end: u32,
 ) -> Result<Term, AllocError>
-    requires section { IsSection list.value from end }
-    requires facts { facts_of_all (terms_of (shown list.value from end)) ≡ list.value.facts }
+    requires { IsSection list.value from end }
     ensures { IfOk result (λ t. t ≡ applied operator (terms_of (shown list.value from end))) }
 {
     let Facts {
@@ -238,6 +236,17 @@ fn whole(alloc: Global, operator: OpId, list: Shared) -> Result<Term, AllocError
         let term = Term::apply(alloc, operator, terms)?;
         return Ok(term);
     }
+    let term = all_over(alloc, operator, list)?;
+    Ok(term)
+}
+
+/// The operator on all terms of a list that the node shares.
+fn all_over(alloc: Global, operator: OpId, list: Shared) -> Result<Term, AllocError>
+    requires told { IsTold list }
+    requires size { length list.terms.items < 2 ^ 32 }
+    ensures { IfOk result (λ t. t ≡ applied operator (terms_of list.terms.items)) }
+{
+    let count = list.terms.len();
     let list = Arc::new(alloc, list).map_err(AllocError::from)?;
     let term = over(alloc, operator, list, 0, count as u32)?;
     Ok(term)
@@ -568,6 +577,21 @@ impl Term {
             last,
             ..
         } = self.facts();
+        Operators { remainders, last }
+    }
+
+    /// The operators that stand in the arguments of the one on top. For a long list this is no walk.
+    pub fn operators_inside(&self) -> Operators
+        ensures { result ≡ operators_in_all (args_of self.now) }
+    {
+        let Facts {
+            remainders,
+            last,
+            ..
+        } = match &self.node.shape {
+            Shape::Section(_, _, _, list, _, _) => list.facts,
+            _ => facts_in(self.arguments()),
+        };
         Operators { remainders, last }
     }
 
