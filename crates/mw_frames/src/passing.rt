@@ -17,6 +17,7 @@ ghost use Rattle.mw_frames.specs.declared.job.Job.{Job as JobOf};
 ghost use Rattle.mw_frames.specs.declared.job.Frame.{Frame as FrameOf};
 
 use crate::job::{Frame, Hand, Job};
+use crate::limits::cut;
 use crate::looking::Step;
 use crate::machine::{Machine, taken_near};
 use crate::waiting::term_at;
@@ -237,6 +238,32 @@ fn leave_last<'m>(
     Ok(Hand::One(Job::Try(whole)))
 }
 
+/// The first argument of a frame leaves its hole, a long list, and the last one waits: the term that the frame is.
+#[inline(never)]
+fn leave_first<'m>(
+    alloc: Global,
+    facts: &Facts,
+    machine: &mut Machine<'m>,
+    top: Frame,
+    first: Term,
+) -> Result<Hand<'m>, AllocError>
+    requires done { length machine.old.done.items ≡ top.from }
+    ensures means { (K : Run) (k : ℕ) (fs : List FrameOf) (x : JobOf) → IsRun K facts.now
+        → EndsNormal machine.old.jobs.items top.waits → IsLongList facts.now top.op first
+        → reverse machine.old.frames.items ≡ fs → term_of K.over.signature machine.old.kept.values x ≡ first
+        → InHand K k (record (data_of K.over machine.old) { frames = top ∷ fs }) x
+        → Each (IsDone K.over K.rank top.op) (spread K.over.signature top.op first)
+        → IfOk result (Holds K k (data_of K.over machine.new)) }
+    ensures falls { (M : Module) → IfOk result (FallsFrom M top (data_of M machine.old) machine.new) }
+{
+    machine.kept.leave()?;
+    if let Some(Job::Normal(last)) = machine.jobs.pop() {
+        put(alloc, facts, top.op, &mut machine.done, top.from, last)?;
+    }
+    let whole = Term::apply_after(alloc, top.op, first, &mut machine.done, top.from)?;
+    Ok(Hand::One(Job::Try(whole)))
+}
+
 /// Whether a term that leaves the hole of a frame is a long list under the frame's operator, before which others stand,
 /// and no argument waits.
 fn ends_list(facts: &Facts, machine: &Machine<'_>, top: Frame, term: &Term) -> bool
@@ -248,8 +275,33 @@ fn ends_list(facts: &Facts, machine: &Machine<'_>, top: Frame, term: &Term) -> b
     is_long_list(facts, top.op, term)
 }
 
+/// Whether a term that leaves the hole of a frame is a long list under the frame's operator, before which none stands,
+/// and one argument waits, which is known to be normal.
+fn begins_list(facts: &Facts, machine: &Machine<'_>, top: Frame, term: &Term) -> bool
+    ensures done { IsTrue result → length machine.now.done.items ≡ top.from }
+    ensures jobs { IsTrue result → EndsNormal machine.now.jobs.items top.waits }
+    ensures list { IsTrue result → IsLongList facts.now top.op term.now }
+{
+    if machine.done.len() != top.from || !ends_normal(machine.jobs.as_slice(), top.waits) {
+        return false;
+    }
+    is_long_list(facts, top.op, term)
+}
+
+/// Whether one argument waits behind a place, and is known to be normal.
+fn ends_normal(jobs: &[Job<'_>], waits: usize) -> bool
+    ensures { IsTrue result → EndsNormal jobs.now waits }
+{
+    match cut(jobs, waits).1 {
+        [Job::Normal(_)] => true,
+        _ => false,
+    }
+}
+
 /// Whether a term is a long list of elements of an operator that is associative and keeps the order.
-fn is_long_list(facts: &Facts, operator: OpId, term: &Term) -> bool {
+fn is_long_list(facts: &Facts, operator: OpId, term: &Term) -> bool
+    ensures { IsTrue result → IsLongList facts.now operator term.now }
+{
     match term.view() {
         View::Op(f, args) if f == operator && args.len() >= LONG => keeps_order(facts, operator),
         _ => false,
@@ -257,14 +309,16 @@ fn is_long_list(facts: &Facts, operator: OpId, term: &Term) -> bool {
 }
 
 /// Whether an operator is associative and keeps the order.
-fn keeps_order(facts: &Facts, operator: OpId) -> bool {
+fn keeps_order(facts: &Facts, operator: OpId) -> bool
+    ensures { IsTrue result → (assoc_of facts.now operator ≡ true) × (comm_of facts.now operator ≡ false) }
+{
     match facts.axioms(operator) {
         Axioms::Associative { comm, .. } => !comm,
         _ => false,
     }
 }
 
-/// A term leaves the hole of a frame. What a long list ends is one term at once.
+/// A term leaves the hole of a frame. What a long list ends, or begins before one argument, is one term at once.
 #[inline(never)]
 pub(crate) fn go_out<'m>(
     alloc: Global,
@@ -283,6 +337,10 @@ pub(crate) fn go_out<'m>(
 {
     if ends_list(facts, machine, top, &term) {
         let hand = leave_last(alloc, facts, machine, top, term)?;
+        return Ok(Step::Goes(hand));
+    }
+    if begins_list(facts, machine, top, &term) {
+        let hand = leave_first(alloc, facts, machine, top, term)?;
         return Ok(Step::Goes(hand));
     }
     leave_near(alloc, facts, machine, top, term)?;

@@ -1,8 +1,9 @@
 -- What is kept of a list of terms, term by term.
-use Rattle.std.proofs.Common.{◌≡◌, ◌∙◌, ◌<◌, ◌≤◌, ◌+◌, ℕ, List, [], ◌∷◌, ◌++◌, length, get_or, drop, drop-cons, drop_of_length-le, add-one, refl, ap, sym, arith}
+use Rattle.std.proofs.Common.{◌≡◌, ◌∙◌, ◌<◌, ◌≤◌, ◌+◌, ℕ, suc, List, [], ◌∷◌, ◌++◌, length, get_or, drop, drop-cons, drop_of_length-le, add-one, refl, ap, sym, arith}
 use Rattle.std.specs.Int.Bits.{or_zero_l, or_zero_r}
 use Rattle.mw_logic.specs.Term.{RawTerm, RawTerms, apply, nil, cons}
 use Rattle.mw_logic.specs.Terms.{terms_of}
+use Rattle.mw_logic.specs.Parts.{number_of_terms}
 use Rattle.mw_term.specs.Facts.{facts_above, facts_of, facts_of_all, facts_joined}
 use Rattle.mw_term.specs.declared.facts.Facts.{Facts}
 use Rattle.mw_term.proofs.OperatorSets.{or_assoc}
@@ -29,9 +30,13 @@ all_in ts i all total h inv =
     let d : drop i ts ≡ [] = drop_of_length-le ts h in
     same_facts _ _ _ _ _ _ (sym (or_zero_r all.remainders)) (omega arith) (omega arith) ∙ sym (ap (λ (xs : List RawTerm). facts_joined all (facts_of_all (terms_of xs))) d) ∙ inv
 
--- of an operator on no term, on one, on two
-pub facts_above-is : (f : ℕ) (ts : RawTerms) → facts_above f (facts_of_all ts) ≡ facts_of (apply f ts)
-facts_above-is f ts = same_facts _ _ _ _ _ _ refl refl (omega arith)
+-- of an operator on terms
+pub facts_above-is : (f n : ℕ) (ts : RawTerms) → n ≡ number_of_terms ts → facts_above f n (facts_of_all ts) ≡ facts_of (apply f ts)
+facts_above-is f n ts e = ap (λ m. facts_above f m (facts_of_all ts)) e ∙ same_facts _ _ _ _ _ _ refl refl (omega arith)
+
+pub number_listed : (ts : List RawTerm) → number_of_terms (terms_of ts) ≡ length ts
+number_listed [] = refl
+number_listed (t ∷ ts) = ap suc (number_listed ts)
 
 pub facts_of_one : (t : RawTerm) → facts_of t ≡ facts_of_all (cons t nil)
 facts_of_one t = same_facts _ _ _ _ _ _ (sym (or_zero_r _)) (omega arith) (omega arith)
@@ -43,11 +48,11 @@ pub facts_of_more : (t : RawTerm) (ts : RawTerms) → facts_of_all (cons t ts) �
 facts_of_more t ts = same_facts _ _ _ _ _ _ refl refl (omega arith)
 
 -- lists one behind another
+pub joined_assoc : (a b c : Facts) → facts_joined (facts_joined a b) c ≡ facts_joined a (facts_joined b c)
+joined_assoc a b c = same_facts _ _ _ _ _ _ (or_assoc a.remainders b.remainders c.remainders) (omega arith) (omega arith)
+
 pub facts-append : (xs ys : List RawTerm) → facts_of_all (terms_of (xs ++ ys)) ≡ facts_joined (facts_of_all (terms_of xs)) (facts_of_all (terms_of ys))
 facts-append [] ys = same_facts _ _ _ _ _ _ (sym (or_zero_l _)) (omega arith) (omega arith)
 facts-append (x ∷ xs) ys =
     facts_of_more x (terms_of (xs ++ ys)) ∙ ap (facts_joined (facts_of x)) (facts-append xs ys) ∙ sym (joined_assoc (facts_of x) (facts_of_all (terms_of xs)) (facts_of_all (terms_of ys)))
     ∙ ap (λ a. facts_joined a (facts_of_all (terms_of ys))) (sym (facts_of_more x (terms_of xs)))
-  where
-    joined_assoc : (a b c : Facts) → facts_joined (facts_joined a b) c ≡ facts_joined a (facts_joined b c)
-    joined_assoc a b c = same_facts _ _ _ _ _ _ (or_assoc a.remainders b.remainders c.remainders) (omega arith) (omega arith)

@@ -5,5 +5,6 @@ pub mod Orders
 pub mod OperatorSets
 pub mod KeptFacts
 pub mod Parts
-pub mod Sections
 pub mod Hashes
+pub mod LastTold
+pub mod Sections

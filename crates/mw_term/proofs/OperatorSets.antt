@@ -4,7 +4,8 @@ use Rattle.std.specs.Int.Bits.{bit_and, bit_or}
 use Rattle.std.specs.Int.{bit_at}
 use Rattle.std.proofs.lemmas.Nat.Bits.{bit_at_and, bit_at_or, bit_at-zero, bit_at-pow_same, same_from_bits}
 use Rattle.mw_logic.specs.Term.{RawTerm, RawTerms, apply, cons}
-use Rattle.mw_term.specs.OperatorSets.{AreApart, Lacks, operator_bit, operators_in, operators_in_all, remainders_in, remainders_in_all, with_operator}
+use Rattle.mw_logic.specs.Parts.{number_of_terms}
+use Rattle.mw_term.specs.OperatorSets.{AreApart, Lacks, bits_above, long_bit, operator_bit, operators_in, operators_in_all, remainders_in, remainders_in_all, with_operator}
 use Rattle.mw_term.specs.declared.operators.Sought.{Sought}
 
 pub or_assoc : (a b c : ℕ) → bit_or (bit_or a b) c ≡ bit_or a (bit_or b c)
@@ -26,12 +27,13 @@ right_apart a b s h = same_from_bits (bit_and b s) 0
 -- where none of a term's operators is sought, neither is the one on top, nor one of the arguments'
 pub lacks_top : (f : ℕ) (ts : RawTerms) (s : Sought) → AreApart (operators_in (apply f ts)) s → Lacks s f
 lacks_top f ts s (inl h) =
-    let k = left_apart (operator_bit f) (remainders_in_all ts) s.remainders h in
+    let both = left_apart (bits_above f (number_of_terms ts)) (remainders_in_all ts) s.remainders h in
+    let k = left_apart (operator_bit f) (long_bit (number_of_terms ts)) s.remainders both in
     let p = bit_at_and (operator_bit f) s.remainders (f % 32) in let q = bit_at-pow_same (f % 32) in let z = no_bit _ (f % 32) k in inl (omega (arith, p, q, z))
 lacks_top f ts s (inr h) = inr (omega (arith, h))
 
 pub arguments_apart : (f : ℕ) (ts : RawTerms) (s : Sought) → AreApart (operators_in (apply f ts)) s → AreApart (operators_in_all ts) s
-arguments_apart f ts s (inl h) = inl (right_apart (operator_bit f) (remainders_in_all ts) s.remainders h)
+arguments_apart f ts s (inl h) = inl (right_apart (bits_above f (number_of_terms ts)) (remainders_in_all ts) s.remainders h)
 arguments_apart f ts s (inr h) = inr (omega (arith, h))
 
 pub first_apart : (t : RawTerm) (ts : RawTerms) (s : Sought) → AreApart (operators_in_all (cons t ts)) s → AreApart (operators_in t) s

@@ -1,20 +1,21 @@
 -- What is known of sections of a list.
-use Rattle.std.proofs.Common.{◌≡◌, ◌∙◌, ◌<◌, ◌≤◌, ◌-◌, ◌^◌, ℕ, List, [], ◌++◌, ◌+◌, length, take, drop, ap, sym, arith}
+use Rattle.std.proofs.Common.{◌≡◌, ◌∙◌, ◌<◌, ◌≤◌, ◌-◌, ◌^◌, ℕ, List, [], ◌++◌, ◌+◌, length, drop, ap, sym, arith}
 use Rattle.std.specs.Prelude.{slice_range, max}
 use Rattle.std.specs.Int.Bits.{bit_or}
 use Rattle.std.specs.Int.{bit_at}
-use Rattle.std.proofs.lemmas.Nat.{or_comm}
 use Rattle.std.proofs.lemmas.Nat.Bits.{bit_at_or, same_from_bits}
-use Rattle.std.proofs.lemmas.List.{append-nil, take-append-drop}
-use Rattle.std.proofs.Math.Seq.{drop-append-add}
+use Rattle.std.proofs.lemmas.List.{length-drop, length-take}
 use Rattle.std.proofs.lemmas.List.Folds.{drop_split}
 use Rattle.mw_logic.specs.Term.{RawTerm, RawTerms}
 use Rattle.mw_logic.specs.Terms.{terms_of}
 use Rattle.mw_logic.specs.NormalForm.{highest}
+use Rattle.mw_logic.specs.Parts.{number_of_terms}
 use Rattle.mw_term.specs.Facts.{facts_of_all, facts_joined}
+use Rattle.mw_term.specs.OperatorSets.{remainders_in_all}
 use Rattle.mw_term.specs.Sections.{HasAll}
+use Rattle.mw_term.specs.Weights.{added_by, added_flat, added_deep, heaviest, heaviest_flat, heaviest_within}
 use Rattle.mw_term.specs.declared.facts.Facts.{Facts}
-use Rattle.mw_term.proofs.KeptFacts.{same_facts, facts-append}
+use Rattle.mw_term.proofs.KeptFacts.{number_listed, same_facts, facts-append}
 
 or_enclosed : (a s b t u : ℕ) → t ≡ bit_or a (bit_or s b) → bit_or t u ≡ s → s ≡ t
 or_enclosed a s b t u h k = same_from_bits s t of
@@ -34,41 +35,34 @@ enclosed a s b t u h k = same_facts _ _ _ _ _ _
     (max_enclosed a.last s.last b.last t.last u.last (ap (λ (x : Facts). x.last) h) (ap (λ (x : Facts). x.last) k))
     (max_enclosed a.depth s.depth b.depth t.depth u.depth (ap (λ (x : Facts). x.depth) h) (ap (λ (x : Facts). x.depth) k))
 
--- terms of a list that tell all that the list does tell no more
-pub told_between : (ts : List RawTerm) (from end : ℕ) (a : Facts) → from ≤ end → facts_of_all (terms_of ts) ≡ a → HasAll (terms_of (slice_range ts from end)) a
+-- terms that tell all that they and those behind them tell
+pub told_between : (ts : List RawTerm) (from end : ℕ) (a : Facts) → from ≤ end → facts_of_all (terms_of (drop from ts)) ≡ a → HasAll (terms_of (slice_range ts from end)) a
     → facts_of_all (terms_of (slice_range ts from end)) ≡ a
 told_between ts from end a h e (us, k) =
     let all : List RawTerm → Facts = λ xs. facts_of_all (terms_of xs) in
-    let front : List RawTerm = take from ts in
     let mid : List RawTerm = slice_range ts from end in
-    let back : List RawTerm = drop end ts in
-    let split : ts ≡ front ++ (mid ++ back) = sym (take-append-drop from ts) ∙ ap (λ (xs : List RawTerm). front ++ xs) (drop_split ts from end h) in
-    let sum : a ≡ facts_joined (all front) (facts_joined (all mid) (all back)) =
-    sym e ∙ ap all split ∙ facts-append front (mid ++ back) ∙ ap (facts_joined (all front)) (facts-append mid back) in
-    enclosed (all front) (all mid) (all back) a (facts_of_all us) sum k
+    let sum : a ≡ facts_joined (all []) (facts_joined (all mid) (all (drop end ts))) =
+    sym e ∙ ap all (drop_split ts from end h) ∙ facts-append [] (mid ++ drop end ts) ∙ ap (facts_joined (all [])) (facts-append mid (drop end ts)) in
+    enclosed (all []) (all mid) (all (drop end ts)) a (facts_of_all us) sum k
 
--- of two lists of one depth, none is higher
-pub none_higher : (ts us : RawTerms) (a : Facts) → facts_of_all ts ≡ a → facts_of_all us ≡ a → a.depth < 2 ^ 16 - 1 → highest ts ≤ highest us
-none_higher ts us a p q h =
-    let x = ap (λ (f : Facts). f.depth) p in let y = ap (λ (f : Facts). f.depth) q in omega (arith, x, y, h)
+-- an operator on eight terms or more outweighs those of a list
+pub outweighed : (ts us : RawTerms) (told list : Facts) → facts_of_all ts ≡ told → facts_of_all us ≡ list → 8 ≤ number_of_terms ts → list.depth < 2 ^ 16 - 1
+    → bit_at told.remainders 31 ≡ 0 → bit_at list.remainders 31 ≡ 0 → list.depth ≤ number_of_terms ts + told.depth → heaviest us ≤ highest ts + added_by ts
+outweighed ts us told list p q l d flat none h =
+    let x = ap (λ (f : Facts). f.depth) p in let y = ap (λ (f : Facts). f.depth) q in
+    let b : bit_at (remainders_in_all ts) 31 ≡ 0 = ap (λ (f : Facts). bit_at f.remainders 31) p ∙ flat in
+    let c : bit_at (remainders_in_all us) 31 ≡ 0 = ap (λ (f : Facts). bit_at f.remainders 31) q ∙ none in
+    let w = added_flat (bit_at (remainders_in_all ts) 31) (number_of_terms ts) b l in
+    let z = heaviest_flat us c in omega (arith, x, y, d, h, w, z)
 
--- where the terms from a place on tell all that a list does, so do those from each place before on
-pub told_before : (ts : List RawTerm) (at i : ℕ) (a : Facts) → facts_of_all (terms_of ts) ≡ a → facts_of_all (terms_of (drop at ts)) ≡ a → i ≤ at → facts_of_all (terms_of (drop i ts)) ≡ a
-told_before ts at i a e k h =
-    let all : List RawTerm → Facts = λ xs. facts_of_all (terms_of xs) in
-    let between : List RawTerm = slice_range ts i at in
-    let sum : facts_joined a (all between) ≡ all (drop i ts) =
-    joined_comm a (all between) ∙ ap (facts_joined (all between)) (sym k) ∙ sym (facts-append between (drop at ts)) ∙ ap all (sym (drop_split ts i at h)) in
-    let front : a ≡ facts_joined (all (take i ts)) (facts_joined (all (drop i ts)) (all [])) =
-    sym e ∙ ap all (sym (take-append-drop i ts)) ∙ facts-append (take i ts) (drop i ts) ∙ ap (facts_joined (all (take i ts))) (ap all (sym (append-nil (drop i ts))) ∙ facts-append (drop i ts) []) in
-    enclosed (all (take i ts)) (all (drop i ts)) (all []) a (all between) front sum
-  where
-    joined_comm : (a b : Facts) → facts_joined a b ≡ facts_joined b a
-    joined_comm a b = same_facts _ _ _ _ _ _ (or_comm a.remainders b.remainders) (omega arith) (omega arith)
+pub outweighed_deep : (ts us : RawTerms) (told list : Facts) → facts_of_all ts ≡ told → facts_of_all us ≡ list → list.depth < 2 ^ 16 - 1 → bit_at told.remainders 31 ≡ 1 → list.depth ≤ told.depth
+    → heaviest us ≤ highest ts + added_by ts
+outweighed_deep ts us told list p q d deep h =
+    let x = ap (λ (f : Facts). f.depth) p in let y = ap (λ (f : Facts). f.depth) q in
+    let b : bit_at (remainders_in_all ts) 31 ≡ 1 = ap (λ (f : Facts). bit_at f.remainders 31) p ∙ deep in
+    let w = added_deep (bit_at (remainders_in_all ts) 31) (number_of_terms ts) b in
+    let z = heaviest_within us in omega (arith, x, y, d, h, w, z)
 
--- what a list tells behind other terms
-pub told_of : (xs ts : List RawTerm) (x a all : Facts) → x ≡ facts_of_all (terms_of xs) → facts_of_all (terms_of ts) ≡ a → all ≡ facts_joined x a → facts_of_all (terms_of (xs ++ ts)) ≡ all
-told_of xs ts x a all p q r = facts-append xs ts ∙ ap (λ f. facts_joined f (facts_of_all (terms_of ts))) (sym p) ∙ ap (facts_joined x) q ∙ sym r
-
-pub told_behind : (xs ts : List RawTerm) (same : ℕ) (a : Facts) → facts_of_all (terms_of (drop same ts)) ≡ a → facts_of_all (terms_of (drop (length xs + same) (xs ++ ts))) ≡ a
-told_behind xs ts same a h = ap (λ (ys : List RawTerm). facts_of_all (terms_of ys)) (drop-append-add xs ts same) ∙ h
+-- how many stand between two places
+pub number_shown : (ts : List RawTerm) (from end : ℕ) → from ≤ end → end ≤ length ts → number_of_terms (terms_of (slice_range ts from end)) ≡ end - from
+number_shown ts from end h k = number_listed (slice_range ts from end) ∙ length-take (end - from) (drop from ts) ∙ omega (arith, length-drop from ts, h, k)

@@ -4,7 +4,7 @@ use Rattle.std.specs.Prelude.{◌^◌, ◌-◌, ◌+◌, ℕ, min, max}
 use Rattle.std.specs.Int.Bits.{bit_or}
 use Rattle.mw_logic.specs.Term.{RawTerm, RawTerms}
 use Rattle.mw_logic.specs.NormalForm.{height, highest}
-use Rattle.mw_term.specs.OperatorSets.{bounded, operator_bit, remainders_in, remainders_in_all, last_in, last_in_all}
+use Rattle.mw_term.specs.OperatorSets.{bounded, bits_above, remainders_in, remainders_in_all, last_in, last_in_all}
 use Rattle.mw_term.specs.declared.facts.Facts.{Facts}
 use Rattle.mw_term.specs.declared.term.Shape.{Shape}
 use Rattle.mw_term.specs.declared.term.Shape.TheVariants.{Nat, Qid, Var, Constant, One, Two, Many, Section}
@@ -21,8 +21,9 @@ facts_of_nothing = record { remainders = 0; last = 0; depth = 0 }
 abbrev pub facts_joined : Facts → Facts → Facts
 facts_joined a b = record { remainders = bit_or a.remainders b.remainders; last = max a.last b.last; depth = max a.depth b.depth }
 
-abbrev pub facts_above : ℕ → Facts → Facts
-facts_above f a = record { remainders = bit_or (operator_bit f) a.remainders; last = max (bounded f) a.last; depth = min (a.depth + 1) (2 ^ 16 - 1) }
+-- of an operator on so many arguments
+abbrev pub facts_above : ℕ → ℕ → Facts → Facts
+facts_above f n a = record { remainders = bit_or (bits_above f n) a.remainders; last = max (bounded f) a.last; depth = min (a.depth + 1) (2 ^ 16 - 1) }
 
 abbrev pub facts_of_leaf : Facts
 facts_of_leaf = record { remainders = 0; last = 0; depth = 1 }

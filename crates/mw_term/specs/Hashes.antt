@@ -1,8 +1,7 @@
 -- The hash of a term: a number below 2 ^ 32, so that terms whose hashes differ are different. The hash of an operator on arguments depends on
 -- the sum that the arguments' hashes give, each of them scattered: so the hash of a part of a list is known by a difference.
-use Rattle.std.specs.Prelude.{◌≡◌, ◌≤◌, ◌+◌, ◌-◌, ◌*◌, ◌/◌, ◌%◌, ◌^◌, ℕ, List, [], ◌∷◌, drop, length, get_or}
+use Rattle.std.specs.Prelude.{◌+◌, ◌*◌, ◌/◌, ◌%◌, ◌^◌, ℕ, List, [], ◌∷◌}
 use Rattle.mw_logic.specs.Term.{RawTerm, numeral, quoted, variable, apply, RawTerms, nil, cons}
-use Rattle.mw_logic.specs.Terms.{terms_of}
 
 -- the upper half of a word below the lower one
 abbrev pub turned : ℕ → ℕ
@@ -33,7 +32,3 @@ abbrev mutual
   pub hash_sum : RawTerms → ℕ
   hash_sum nil = 0
   hash_sum (cons t ts) = (scattered (hash_of t) + hash_sum ts) % 2 ^ 32
-
--- the sums over the last terms of a list: over none, over one, and so on
-abbrev pub AreSums : List ℕ → List RawTerm → Type 0
-AreSums sums ts = (length sums ≡ length ts + 1) × ((k : ℕ) → k ≤ length ts → get_or sums k 0 ≡ hash_sum (terms_of (drop (length ts - k) ts)))

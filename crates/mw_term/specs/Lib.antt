@@ -6,6 +6,7 @@ pub mod Shapes
 pub mod Facts
 pub mod Hashes
 pub mod Sections
+pub mod Weights
 pub mod TermFalls
 pub mod Signatures
 pub mod Statements

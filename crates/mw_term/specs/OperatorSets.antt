@@ -1,15 +1,25 @@
 -- The operators that stand in a term, as far as a node tells: the remainders of their numbers by 32, as a word with a bit for each, and the
--- largest of the numbers, which counts as 255 where it is more. Operators that are sought are known by their remainders and by the least of
--- their numbers: a term has none of them if it has none of their remainders, or if its largest number is below the least of theirs.
-use Rattle.std.specs.Prelude.{◌≡◌, ◌<◌, ◌⊎◌, ◌%◌, ◌^◌, ℕ, min, max}
+-- largest of the numbers, which counts as 255 where it is more. The last bit also says that an operator stands on a long list of arguments.
+-- Operators that are sought are known by their remainders and by the least of their numbers: a term has none of them if it has none of their
+-- remainders, or if its largest number is below the least of theirs.
+use Rattle.std.specs.Prelude.{◌≡◌, ◌<◌, ◌⊎◌, ◌%◌, ◌^◌, ℕ, min, max, cond, leb}
 use Rattle.std.specs.Int.Bits.{bit_and, bit_or}
 use Rattle.std.specs.Int.{bit_at}
 use Rattle.mw_logic.specs.Term.{RawTerm, numeral, quoted, variable, apply, RawTerms, nil, cons}
+use Rattle.mw_logic.specs.Parts.{number_of_terms}
 use Rattle.mw_term.specs.declared.operators.Operators.{Operators}
 use Rattle.mw_term.specs.declared.operators.Sought.{Sought}
 
 abbrev pub operator_bit : ℕ → ℕ
 operator_bit f = 2 ^ (f % 32)
+
+-- eight arguments or more
+abbrev pub long_bit : ℕ → ℕ
+long_bit n = cond (leb 8 n) (2 ^ 31) 0
+
+-- what an operator on so many arguments adds
+abbrev pub bits_above : ℕ → ℕ → ℕ
+bits_above f n = bit_or (operator_bit f) (long_bit n)
 
 abbrev pub bounded : ℕ → ℕ
 bounded f = min f 255
@@ -19,7 +29,7 @@ abbrev mutual
   remainders_in (numeral n) = 0
   remainders_in (quoted q) = 0
   remainders_in (variable x) = 0
-  remainders_in (apply f ts) = bit_or (operator_bit f) (remainders_in_all ts)
+  remainders_in (apply f ts) = bit_or (bits_above f (number_of_terms ts)) (remainders_in_all ts)
 
   pub remainders_in_all : RawTerms → ℕ
   remainders_in_all nil = 0

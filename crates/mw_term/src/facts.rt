@@ -1,9 +1,10 @@
 // What is known of a term without a walk.
-ghost use Rattle.std.specs.Prelude.{◌≡◌, ◌↔◌, IsTrue};
+ghost use Rattle.std.specs.Prelude.{◌≡◌, ◌↔◌, IsTrue, IsFalse};
+ghost use Rattle.std.specs.Int.{bit_at};
 ghost use Rattle.mw_term.specs.Facts.{facts_above, facts_joined, facts_of_leaf, facts_of_nothing};
 
 use crate::OpId;
-use crate::operators::{bounded, remainder_bit};
+use crate::operators::{LONG_BIT, bits_above, bounded};
 
 /// The operators of a term, as `Operators` has them, and its depth, or 65,535 where that is more; of a list of terms
 /// the same, with the depth of the deepest.
@@ -55,12 +56,21 @@ impl Facts {
         self.depth == other.depth && self.last == other.last && self.remainders == other.remainders
     }
 
-    /// Of an operator on the terms that these are of.
-    pub(crate) fn under(self, operator: OpId) -> Facts
-        ensures { result ≡ facts_above operator self }
+    /// Whether no long list stands in the terms. A yes is certain.
+    pub(crate) fn is_flat(self) -> bool
+        ensures yes { IsTrue result → bit_at self.remainders 31 ≡ 0 }
+        ensures no { IsFalse result → bit_at self.remainders 31 ≡ 1 }
+    {
+        self.remainders < LONG_BIT
+    }
+
+    /// Of an operator on the terms that these are of, so many.
+    #[inline(always)]
+    pub(crate) fn under(self, operator: OpId, count: usize) -> Facts
+        ensures { result ≡ facts_above operator count self }
     {
         Facts {
-            remainders: remainder_bit(operator) | self.remainders,
+            remainders: bits_above(operator, count) | self.remainders,
             last: bounded(operator).max(self.last),
             depth: self.depth.saturating_add(1),
         }

@@ -8,14 +8,16 @@
 //! it, longer lists, names and variables in boxes of their own. [`Term::view`] shows what stands on top, and takes no
 //! memory. Names and lists are kept in `Seq`, which contracts see without its capacity.
 //!
-//! A list of 8 terms or more is counted itself, with what is known of it, and nodes show sections of it
-//! ([`Term::section`]): what is left of a list is one node then, and no list. A section that shows less than a quarter
-//! of its list, or whose terms tell less than the list does (its operators, its depth), is copied, so at most four
-//! times the terms are held that are shown. So recursion down a list takes one node for each term, and copies what is
-//! left where that tells less.
+//! A list of 8 terms or more is counted itself, with the hashes, the operators and the depth of its last terms, and
+//! nodes show sections of it ([`Term::section`]): what is left of a list is one node then, and no list. A section is
+//! copied in three cases. It shows less than a quarter of its list; or a term that it doesn't show is deeper than those
+//! that it shows, by more than their number, or holds a long list where these hold none; or it ends before its list,
+//! and lacks an operator or the depth of what follows. So at most four times the terms are held that are shown.
+//! Recursion down a list takes one node for each term, and copies the list a few times.
 //!
 //! Each node keeps its depth, and which operators stand in it ([`Operators`]), in seven of its bytes: a bit for each
-//! remainder of their numbers by 32, and the largest of the numbers, up to 255. Operators that are looked for
+//! remainder of their numbers by 32, the last of them also for 8 arguments or more, and the largest of the numbers, up
+//! to 255. Operators that are looked for
 //! ([`Sought`]) are known by their remainders and by the least of their numbers. That one of them stands in a term is
 //! said wrongly where an operator there has the remainder of one of them, and the largest number there isn't below the
 //! least of theirs; that none does never is said wrongly. So up to 31 operators are told from each other, and from
@@ -28,7 +30,8 @@
 //! Proved, over the logic's terms and lists: `copy`, `copy_name`, `same`, `number_at`, `numbered` and `is_ground` give
 //! what their names say; `view` shows the term (`viewed`, specs/Shapes), `into_args` gives its arguments, and
 //! `apply_behind` takes those of a term that comes out of the end of a list; `section` is an operator on so many of a
-//! term's arguments from a place on, and `apply_onto` one on the end of a list and behind it a term's arguments;
+//! term's arguments from a place on, `apply_onto` one on the end of a list and behind it a term's arguments, and
+//! `apply_after` one on a term's arguments and behind them the end of a list;
 //! `hash` is `hash_of` of specs/Hashes; `behind` is what stands in a list from a place on; `depth` is the term's
 //! height, or 65,535 where that is more; `operators` is `operators_in` of specs/OperatorSets, and `may_have` is false
 //! exactly where the remainders or the numbers are apart (`AreApart`), so that none that is sought stands in the term
@@ -38,7 +41,8 @@
 //!
 //! Cost: `copy`, `depth`, `hash` and `operators` are no walks, nor is `section` to the end of a list that it shares;
 //! other sections are looked at as far as it takes to see that they tell as much. `apply_onto` moves the pointers of a
-//! long list that nobody else holds, and looks only at the terms in front of it. `compare` ends at the first
+//! long list that nobody else holds, and looks only at the terms in front of it. `apply_after` moves a few bytes for
+//! each term of such a list where one more comes behind it, and looks at no other term. `compare` ends at the first
 //! difference, and so does `same`, which ends at once where the hashes differ; two equal terms are walked whole by
 //! both; `into_args` moves the arguments of a node that nobody else holds, where no other shows the list, and counts
 //! those of another. Want of memory is the only error.
@@ -59,6 +63,7 @@ mod signature;
 mod statement;
 mod subst;
 mod term;
+mod told;
 
 pub use operators::{Operators, Sought};
 pub use order::{compare, same};

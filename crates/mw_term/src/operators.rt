@@ -1,11 +1,16 @@
 // Which operators stand in a term.
 ghost use Rattle.std.specs.Prelude.{◌≡◌, ◌↔◌, ◌%◌, ◌^◌, min, IsFalse};
-ghost use Rattle.mw_term.specs.OperatorSets.{AreApart, with_operator};
+ghost use Rattle.mw_term.specs.OperatorSets.{AreApart, bits_above as above, with_operator};
 
 use crate::OpId;
+use crate::shared::LONG;
+
+/// The bit that also says that an operator stands on a long list of arguments.
+pub(crate) const LONG_BIT: u32 = 1 << 31;
 
 /// The operators of a term, as far as a node has room to tell: a bit for each remainder of their numbers by 32, and
-/// the largest of the numbers, or 255 where that is more.
+/// the largest of the numbers, or 255 where that is more. The last bit also says that one of them stands on eight
+/// arguments or more.
 #[derive(Clone, Copy, Drop)]
 pub struct Operators {
     pub(crate) remainders: u32,
@@ -25,6 +30,18 @@ pub(crate) fn remainder_bit(operator: OpId) -> u32
     ensures { result ≡ 2 ^ (operator % 32) }
 {
     1 << (operator % 32)
+}
+
+/// The bits of an operator on so many arguments.
+#[inline(always)]
+pub(crate) fn bits_above(operator: OpId, count: usize) -> u32
+    ensures { result ≡ above operator count }
+{
+    if count >= LONG {
+        remainder_bit(operator) | LONG_BIT
+    } else {
+        remainder_bit(operator)
+    }
 }
 
 /// The number of an operator, or 255 where that is more.

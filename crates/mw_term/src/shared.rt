@@ -1,29 +1,29 @@
 // Long lists of terms, which nodes share.
-ghost use Rattle.std.specs.Prelude.{◌≡◌, ◌<◌, ◌≤◌, ◌^◌, ◌-◌, ℕ, ◌++◌, drop, length, IfOk, OnOk, IsTrue};
+ghost use Rattle.std.specs.Prelude.{◌≡◌, ◌≤◌, ◌+◌, ◌++◌, ℕ, drop, length, IfOk, IsTrue};
+ghost use Rattle.mw_logic.specs.Term.{RawTerms};
 ghost use Rattle.mw_logic.specs.Terms.{terms_of};
+ghost use Rattle.mw_logic.specs.NormalForm.{highest};
+ghost use Rattle.mw_logic.specs.Parts.{number_of_terms};
 ghost use Rattle.mw_term.specs.Facts.{facts_of_all};
-ghost use Rattle.mw_term.specs.Hashes.{AreSums, hash_sum as sum_of};
-ghost use Rattle.mw_term.specs.Sections.{HasAll, IsTold};
+ghost use Rattle.mw_term.specs.Hashes.{hash_sum as sum_of};
+ghost use Rattle.mw_term.specs.Sections.{AreTold, HasAll, IsLight, IsTold, TellsRest, told_by};
 ghost use Rattle.mw_term.specs.Shapes.{shown};
+ghost use Rattle.mw_term.specs.Weights.{added_by, heaviest};
 
 use crate::Term;
 use crate::facts::Facts;
-use crate::hash::with_first;
-use crate::term::facts_in;
+use crate::told::{Told, add_front, add_last, all_told};
 use std::alloc::{AllocError, Global};
 
 /// Shorter lists aren't shared.
 pub(crate) const LONG: usize = 8;
 
-/// A list with what its terms tell, and the sums of hashes over its last terms: over none, over one, and so on. Those
-/// from a place on tell as much as all, up to one of the places.
+/// A list with what its last terms tell: none of them, one, and so on.
 #[derive(Drop)]
 #[cycle(term)]
 pub(crate) struct Shared {
     pub(crate) terms: Vec<Term>,
-    pub(crate) sums: Vec<u32>,
-    pub(crate) facts: Facts,
-    pub(crate) same: usize,
+    pub(crate) told: Vec<Told>,
 }
 
 impl Shared {
@@ -31,33 +31,11 @@ impl Shared {
         ensures terms { IfOk result (λ s. s.terms.items ≡ terms.items) }
         ensures told { IfOk result (λ s. IsTold s) }
     {
-        let mut sums = Vec::with_capacity(alloc, terms.len().saturating_add(1))?;
-        sums.push(0)?;
-        let own = terms.as_slice();
-        let mut sum = 0;
-        let mut facts = Facts::of_nothing();
-        let mut at = own.len();
-        let mut same = at;
-        while at > 0 {
-            at -= 1;
-            let term = &own[at];
-            sum = with_first(term, sum);
-            sums.push(sum)?;
-            let all = term.facts().joined(facts);
-            if !all.is(facts) {
-                facts = all;
-                same = at;
-            }
-        }
-        Ok(Shared {
-            terms,
-            sums,
-            facts,
-            same,
-        })
+        let told = all_told(alloc, terms.as_slice())?;
+        Ok(Shared { terms, told })
     }
 
-    /// The list behind other terms. What its own tell is known.
+    /// The list behind other terms.
     pub(crate) fn behind(self, front: Vec<Term>) -> Result<Shared, AllocError>
         requires { IsTold self }
         ensures terms { IfOk result (λ s. s.terms.items ≡ front.items ++ self.terms.items) }
@@ -65,28 +43,45 @@ impl Shared {
     {
         let Shared {
             mut terms,
-            mut sums,
-            facts,
-            same,
+            mut told,
         } = self;
         let mut front = front;
         let count = front.len();
-        add_before(&mut sums, front.as_slice(), terms.as_slice())?;
-        let all = facts_in(front.as_slice()).joined(facts);
+        add_front(&mut told, front.as_slice(), terms.as_slice())?;
         terms.append(&mut front)?;
         terms.rotate_right(count);
-        let same = if all.is(facts) {
-            same.saturating_add(count)
-        } else {
-            0
-        };
-        let facts = all;
-        Ok(Shared {
-            terms,
-            sums,
-            facts,
-            same,
-        })
+        Ok(Shared { terms, told })
+    }
+
+    /// The list before other terms.
+    pub(crate) fn before(self, alloc: Global, back: Vec<Term>) -> Result<Shared, AllocError>
+        requires { IsTold self }
+        ensures terms { IfOk result (λ s. s.terms.items ≡ self.terms.items ++ back.items) }
+        ensures told { IfOk result (λ s. IsTold s) }
+    {
+        let Shared {
+            mut terms,
+            mut told,
+        } = self;
+        let mut back = back;
+        if let [last] = back.as_slice() {
+            add_last(&mut told, terms.as_slice(), last)?;
+            terms.append(&mut back)?;
+            return Ok(Shared { terms, told });
+        }
+        terms.append(&mut back)?;
+        let list = Shared::of(alloc, terms)?;
+        Ok(list)
+    }
+
+    /// What the terms from a place on tell.
+    #[inline(always)]
+    pub(crate) fn told_from(&self, from: usize) -> Told
+        requires told { IsTold self.now }
+        requires inside { from ≤ length self.now.terms.items }
+        ensures { (b : ℕ) → AreTold b self.now.told.items self.now.terms.items → result ≡ told_by b (drop from self.now.terms.items) }
+    {
+        self.told.as_slice()[self.terms.len() - from]
     }
 
     /// The terms between two places.
@@ -106,9 +101,8 @@ impl Shared {
         requires inside { end ≤ length self.now.terms.items }
         ensures { result ≡ sum_of (terms_of (shown self.now from end)) }
     {
-        let count = self.terms.len();
-        let sums = self.sums.as_slice();
-        sums[count - from].wrapping_sub(sums[count - end])
+        let rest = self.told_from(from).sum;
+        rest.wrapping_sub(self.told_from(end).sum)
     }
 
     /// The same, taken out.
@@ -127,39 +121,49 @@ impl Shared {
     }
 
     /// Whether a node may show the terms between two places. They are enough of the list, so that not many others are
-    /// held for their sake, and tell all that it tells: what a node keeps is right then, and no term of the list is
-    /// higher than the highest of them, which a term needs of all that its node holds. For that the depth is exact.
+    /// held for their sake; they tell all that those from the first place on tell, which is kept; and they outweigh each
+    /// term of the list, which a term needs of all that its node holds.
     pub(crate) fn bears(&self, from: usize, end: usize) -> bool
         requires told { IsTold self.now }
         requires ordered { from ≤ end }
         requires inside { end ≤ length self.now.terms.items }
-        ensures facts { IsTrue result → facts_of_all (terms_of (shown self.now from end)) ≡ self.now.facts }
-        ensures depth { IsTrue result → self.now.facts.depth < 2 ^ 16 - 1 }
+        ensures facts { IsTrue result → TellsRest self.now from end }
+        ensures light { IsTrue result → IsLight self.now from end }
     {
         let count = end - from;
-        if count < LONG || count < self.terms.len() / 4 || self.facts.depth == u16::MAX {
+        if count < LONG || count < self.terms.len() / 4 {
             return false;
         }
-        if end == self.terms.len() {
-            return from <= self.same;
-        }
-        has_all(self.between(from, end), self.facts)
+        let told = self.told_from(from).facts;
+        outweigh(told, count, self.told_from(0).facts) && self.are_rest(from, end, told)
+    }
+
+    /// Whether the terms between two places tell all that those from the first place on tell.
+    fn are_rest(&self, from: usize, end: usize, told: Facts) -> bool
+        requires ordered { from ≤ end }
+        requires inside { end ≤ length self.now.terms.items }
+        requires told { told ≡ facts_of_all (terms_of (drop from self.now.terms.items)) }
+        ensures { IsTrue result → TellsRest self.now from end }
+    {
+        end == self.terms.len() || has_all(self.between(from, end), told)
     }
 }
 
-/// The sums over a list are those over other terms in front of it too.
-fn add_before(sums: &mut Vec<u32>, front: &[Term], terms: &[Term]) -> Result<(), AllocError>
-    requires { AreSums sums.old.items terms.now }
-    ensures { OnOk result (AreSums sums.new.items (front.now ++ terms.now)) }
+/// Whether an operator on terms of which this is told, so many, is heavier than each term of a list, by what the list
+/// tells. For that its depth is exact.
+fn outweigh(told: Facts, count: usize, list: Facts) -> bool
+    requires { 8 ≤ count }
+    ensures { IsTrue result → (ts us : RawTerms) → facts_of_all ts ≡ told → number_of_terms ts ≡ count → facts_of_all us ≡ list
+        → heaviest us ≤ highest ts + added_by ts }
 {
-    let mut sum = sums.last().copied().unwrap_or(0);
-    let mut at = front.len();
-    while at > 0 {
-        at -= 1;
-        sum = with_first(&front[at], sum);
-        sums.push(sum)?;
+    if list.depth == u16::MAX {
+        return false;
     }
-    Ok(())
+    if told.is_flat() {
+        list.is_flat() && (list.depth as usize) <= count.saturating_add(told.depth as usize)
+    } else {
+        list.depth <= told.depth
+    }
 }
 
 /// Whether terms tell all of this. It ends where those at the front do.

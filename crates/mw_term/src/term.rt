@@ -73,7 +73,7 @@ impl Model for Term {
     ghost use Rattle.std.specs.Prelude.{◌≡◌, ◌*◌};
     ghost use Rattle.mw_logic.specs.Term.{RawTerm};
     ghost use Rattle.mw_logic.specs.TermCode.{coded_term};
-    ghost use Rattle.mw_logic.specs.NormalForm.{height};
+    ghost use Rattle.mw_term.specs.Weights.{weight};
 
     ghost Value = { RawTerm };
 
@@ -86,7 +86,7 @@ impl Model for Term {
 
     ghost invariant = { λ t. IsKept t.node.value.remainders t.node.value.hash t.node.value.shape };
 
-    ghost size = { λ t. 2 * height t };
+    ghost size = { λ t. 2 * weight t };
 
     ghost use Rattle.std.proofs.Common.{arith};
     ghost use Rattle.mw_term.specs.TermFalls.{shape_falls};
@@ -142,7 +142,7 @@ fn few(alloc: Global, operator: OpId, args: Vec<Term>) -> Result<Term, AllocErro
         remainders,
         last,
         depth,
-    } = facts_in(args.as_slice()).under(operator);
+    } = facts_in(args.as_slice()).under(operator, args.len());
     let hash = hash_above(operator, hash_sum(args.as_slice()));
     let list = Box::new(alloc, args).map_err(AllocError::from)?;
     let shape = Shape::Many(last, depth, operator, list);
@@ -159,7 +159,7 @@ fn over_none(alloc: Global, operator: OpId) -> Result<Term, AllocError>
         remainders,
         last,
         depth,
-    } = Facts::of_nothing().under(operator);
+    } = Facts::of_nothing().under(operator, 0);
     let hash = hash_above(operator, 0);
     made(
         alloc,
@@ -178,7 +178,7 @@ fn over_one(alloc: Global, operator: OpId, only: Term) -> Result<Term, AllocErro
         remainders,
         last,
         depth,
-    } = only.facts().under(operator);
+    } = only.facts().under(operator, 1);
     let hash = hash_above(operator, with_first(&only, 0));
     made(
         alloc,
@@ -197,13 +197,13 @@ fn over_two(alloc: Global, operator: OpId, first: Term, second: Term) -> Result<
         remainders,
         last,
         depth,
-    } = first.facts().joined(second.facts()).under(operator);
+    } = first.facts().joined(second.facts()).under(operator, 2);
     let hash = hash_above(operator, with_first(&first, with_first(&second, 0)));
     let shape = Shape::Two(last, depth, operator, [first, second]);
     made(alloc, remainders, hash, shape)
 }
 
-/// The operator on the terms of a list between two places, which tell all that the list tells.
+/// The operator on the terms of a list between two places.
 fn over(
     alloc: Global,
     operator: OpId,
@@ -214,11 +214,12 @@ fn over(
     requires { IsSection list.value from end }
     ensures { IfOk result (λ t. t ≡ applied operator (terms_of (shown list.value from end))) }
 {
+    let told = list.told_from(from as usize).facts;
     let Facts {
         remainders,
         last,
         depth,
-    } = list.facts.under(operator);
+    } = told.under(operator, (end - from) as usize);
     let hash = hash_above(operator, list.sum_between(from as usize, end as usize));
     let shape = Shape::Section(last, depth, operator, list, from, end);
     let term = made(alloc, remainders, hash, shape)?;
@@ -513,6 +514,26 @@ impl Term {
         Ok(term)
     }
 
+    /// The operator on the arguments of a term, and behind them on the terms of a list from a place on, which are taken
+    /// out of it. A long list of arguments that nobody else holds takes the others at its end.
+    pub fn apply_after(
+        alloc: Global,
+        operator: OpId,
+        first: Term,
+        terms: &mut Vec<Term>,
+        from: usize,
+    ) -> Result<Term, AllocError>
+        requires { from ≤ length terms.old.items }
+        ensures is { IfOk result (λ t. t ≡ applied operator (join (args_of first) (terms_of (drop from terms.old.items)))) }
+        ensures taken { IfOk result (λ _. terms.new.items ≡ take from terms.old.items) }
+    {
+        let back = terms.split_off(from)?;
+        let list = listed(alloc, first)?;
+        let list = list.before(alloc, back)?;
+        let term = whole(alloc, operator, list)?;
+        Ok(term)
+    }
+
     /// The arguments of the operator on top, none of a term without one.
     pub fn arguments(&self) -> &[Term]
         ensures { terms_of result.now ≡ args_of self.now }
@@ -589,7 +610,7 @@ impl Term {
             last,
             ..
         } = match &self.node.shape {
-            Shape::Section(_, _, _, list, _, _) => list.facts,
+            Shape::Section(_, _, _, list, from, _) => list.told_from(*from as usize).facts,
             _ => facts_in(self.arguments()),
         };
         Operators { remainders, last }
