@@ -25,14 +25,14 @@ terms_of-list_of nil = refl
 terms_of-list_of (cons t ts) = ap (cons t) (terms_of-list_of ts)
 
 -- other terms in place of those from a place on
-abbrev with_own : ℕ → List RawTerm → RawTerms → List RawTerm
+abbrev pub with_own : ℕ → List RawTerm → RawTerms → List RawTerm
 with_own from ds es = take from ds ++ list_of es
 
-with_own-below : (from : ℕ) (ds : List RawTerm) (es : RawTerms) → from ≤ length ds → take from (with_own from ds es) ≡ take from ds
+pub with_own-below : (from : ℕ) (ds : List RawTerm) (es : RawTerms) → from ≤ length ds → take from (with_own from ds es) ≡ take from ds
 with_own-below from ds es l =
     let n = length-take from ds in take-append-le from (take from ds) (list_of es) (omega (arith, l, n)) ∙ take_all from (take from ds) (omega (arith, l, n))
 
-with_own-behind : (from : ℕ) (ds : List RawTerm) (es : RawTerms) → from ≤ length ds → terms_of (drop from (with_own from ds es)) ≡ es
+pub with_own-behind : (from : ℕ) (ds : List RawTerm) (es : RawTerms) → from ≤ length ds → terms_of (drop from (with_own from ds es)) ≡ es
 with_own-behind from ds es l =
     let n = length-take from ds in
     ap terms_of (drop-append-le from (take from ds) (list_of es) (omega (arith, l, n)) ∙ ap (λ xs. xs ++ list_of es) (drop_all from (take from ds) (omega (arith, l, n)))) ∙ terms_of-list_of es

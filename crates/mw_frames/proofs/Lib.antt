@@ -3,6 +3,7 @@ pub mod Normals
 pub mod Levels
 pub mod Turning
 pub mod LastArguments
+pub mod FirstArguments
 pub mod PlacedTerms
 pub mod RightSides
 pub mod KnownValues

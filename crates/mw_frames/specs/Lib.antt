@@ -16,6 +16,7 @@ pub mod Several
 -- Several arguments are taken.
 pub mod Taking
 pub mod Arrivals
+pub mod Lists
 -- What comes where a statement is applied.
 pub mod Fires
 -- Into an argument of a normal term.

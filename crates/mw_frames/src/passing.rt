@@ -1,19 +1,21 @@
 // From argument to argument of a frame, and from a hole into its frame.
-ghost use Rattle.std.specs.Prelude.{◌≡◌, ◌⊎◌, ◌≤◌, ◌<◌, ◌+◌, ◌++◌, ℕ, List, suc, [], ◌∷◌, IfOk, OnOk, IsTrue, IsFalse, true, false, length, drop, MatchOption, reverse};
+ghost use Rattle.std.specs.Prelude.{◌≡◌, ◌⊎◌, ◌≤◌, ◌<◌, ◌+◌, ◌++◌, ℕ, List, suc, [], ◌∷◌, IfOk, OnOk, IsTrue, IsFalse, Some, true, false, length, drop, take, MatchOption, reverse};
 ghost use Rattle.mw_logic.specs.Signature.{Signature};
-ghost use Rattle.mw_logic.specs.Term.{RawTerm};
+ghost use Rattle.mw_logic.specs.Term.{RawTerm, join};
 ghost use Rattle.mw_logic.specs.Module.{Module};
 ghost use Rattle.mw_logic.specs.Parts.{is_assoc as assoc_of};
-ghost use Rattle.mw_logic.specs.NormalForm.{is_comm as comm_of};
+ghost use Rattle.mw_logic.specs.NormalForm.{arranged, is_comm as comm_of};
 ghost use Rattle.mw_logic.proofs.Canonical.{Each};
 ghost use Rattle.mw_deduction.specs.Replay.{into};
 ghost use Rattle.mw_trail.specs.Tracks.{moves};
 ghost use Rattle.mw_stack.specs.Own.{own, spread, IsOrdered};
 ghost use Rattle.mw_frames.specs.Jobs.{term_of, work};
 ghost use Rattle.mw_frames.specs.State.{Run, IsRun, InHand, Settled, Holds, IsDone, IsAtHand};
+ghost use Rattle.mw_frames.specs.Lists.{EndsNormal, IsLongList};
 ghost use Rattle.mw_frames.specs.Steps.{Answers, FallsBelow};
 ghost use Rattle.mw_frames.specs.Machines.{data_of, with_job, FallsFrom, StaysFrom, IsCutAt};
 ghost use Rattle.mw_frames.specs.declared.job.Job.{Job as JobOf};
+ghost use Rattle.mw_frames.specs.declared.job.Job.TheVariants.{Normal as NormalOf};
 ghost use Rattle.mw_frames.specs.declared.job.Frame.{Frame as FrameOf};
 
 use crate::job::{Frame, Hand, Job};
@@ -238,6 +240,26 @@ fn leave_last<'m>(
     Ok(Hand::One(Job::Try(whole)))
 }
 
+/// A job that is known to be normal is done.
+fn put_normal(
+    alloc: Global,
+    facts: &Facts,
+    done: &mut Vec<Term>,
+    top: Frame,
+    job: Option<Job<'_>>,
+) -> Result<(), AllocError>
+    ensures below { top.from ≤ length done.old.items → OnOk result (take top.from done.new.items ≡ take top.from done.old.items) }
+    ensures own { (t : RawTerm) → job.entry ≡ Some (NormalOf t) → top.from ≤ length done.old.items
+        → IsOrdered facts.now top.op (own top.from done.old.items) → IsOrdered facts.now top.op (spread facts.now top.op t)
+        → OnOk result (own top.from done.new.items ≡ arranged (comm_of facts.now top.op) (join (own top.from done.old.items) (spread facts.now top.op t))) }
+{
+    match job {
+        None => Ok(()),
+        Some(Job::Normal(term)) => put(alloc, facts, top.op, done, top.from, term),
+        Some(_other) => Ok(()),
+    }
+}
+
 /// The first argument of a frame leaves its hole, a long list, and the last one waits: the term that the frame is.
 #[inline(never)]
 fn leave_first<'m>(
@@ -257,9 +279,8 @@ fn leave_first<'m>(
     ensures falls { (M : Module) → IfOk result (FallsFrom M top (data_of M machine.old) machine.new) }
 {
     machine.kept.leave()?;
-    if let Some(Job::Normal(last)) = machine.jobs.pop() {
-        put(alloc, facts, top.op, &mut machine.done, top.from, last)?;
-    }
+    let last = pop_behind(&mut machine.jobs, top.waits);
+    put_normal(alloc, facts, &mut machine.done, top, last)?;
     let whole = Term::apply_after(alloc, top.op, first, &mut machine.done, top.from)?;
     Ok(Hand::One(Job::Try(whole)))
 }
