@@ -10,7 +10,7 @@ use Rattle.mw_logic.specs.Module.{Module, Statement, IsStatement, Fragment, bind
 use Rattle.mw_logic.specs.Proof.{Proofs}
 use Rattle.mw_logic.specs.Proof as proof
 use Rattle.mw_logic.specs.Accepted.{IsAccepted}
-use Rattle.mw_logic.specs.Judgements.{admitted_judgements}
+use Rattle.mw_logic.specs.Judgements.{admitted_judgements, judgements_with}
 use Rattle.mw_logic.proofs.Canonical.{IsCanonical, canonical}
 use Rattle.mw_canon.specs.Canonical.{IsAdmittedTerm}
 use Rattle.mw_canon.proofs.Making.{instance_none}
@@ -68,3 +68,30 @@ mutual
       by_test : (b : Bool) → is_ground t ≡ b → IsTrue (b && are_ground ts) → binds_all s (cons t ts) ≡ true
       by_test true e g = rw (ground_bound s t (subst IsTrue (sym e) tt), all_bound s ts g) refl
       by_test false e g = absurd g
+
+-- a bare statement may replace, without values and without evidence
+module _ (M : Module) (k : ℕ) (e : Statement) (is : at_number M.statements k ≡ Some e) (bare : IsBare e) (left : IsAdmittedTerm M.signature (normal_form M.signature e.left)) (right : IsAdmittedTerm M.signature (normal_form M.signature e.right)) where
+  bound : binds_statement [] e ≡ true
+  bound = rw (ground_bound [] e.left bare.left, ground_bound [] e.right bare.right, bare.fragments) refl
+
+  held : (admitted_judgements M 0).Held e.fragments [] proof.nil []
+  unfolding judgements_with
+  held = subst (λ C. (admitted_judgements M 0).Held C [] proof.nil []) (sym bare.fragments) (refl, refl)
+
+  of_none : MayApply M 0 k [] []
+  of_none = rw bare.variables (record {
+    statement = e;
+    is_there = record { is_there = is; executable = bare.executable };
+    values = tt;
+    substitution = tt;
+    bound = subst IsTrue (sym bound) tt;
+    below = tt;
+    starts = rw bare.fragments refl;
+    condition = held;
+    plain = λ o. absurd (true≢false (sym o ∙ bare.ordinary));
+    begins = subst (λ t. IsAdmittedTerm M.signature (normal_form M.signature t)) (sym (instance_none e.left)) left;
+    ends = subst (λ t. IsAdmittedTerm M.signature (normal_form M.signature t)) (sym (instance_none e.right)) right;
+  })
+
+  pub may_apply : (s : Substitution) (ds : List Deduction) → s ≡ [] → ds ≡ [] → MayApply M 0 k s ds
+  may_apply s ds a b = rw (a, b) of_none

@@ -1,6 +1,7 @@
 // Proofs, replacements, rules and conditions: the public calls that the program doesn't make.
 ghost use Rattle.std.specs.Prelude.{◌≡◌, IfOk, IsTrue};
-ghost use Rattle.mw_logic.specs.Term.{cons, nil, is_ground};
+ghost use Rattle.mw_logic.specs.Term.{is_ground};
+ghost use Rattle.mw_logic.specs.Terms.{terms_of};
 ghost use Rattle.mw_logic.specs.Signature.{IsRawTerm};
 ghost use Rattle.mw_logic.specs.NormalForm.{applied_in, normal_form};
 ghost use Rattle.mw_canon.specs.Canonical.{IsAdmittedTerm};
@@ -70,17 +71,16 @@ fn proofs_follow_one_another(rt: HostRuntime) -> Result<(), Fail> {
     Ok(())
 }
 
-/// Whether an operator on two terms is a whole.
+/// Whether a whole is an operator on these terms.
 fn is_made_of(
     alloc: Global,
     context: &Ctx,
     operator: OpId,
-    (first, second): (&Term, &Term),
+    args: Vec<Term>,
     whole: &Term,
 ) -> Result<bool, Fail>
-    ensures { IfOk result (λ b. IsTrue b → whole.now ≡ applied_in context.now.signature operator (cons first.now (cons second.now nil))) }
+    ensures { IfOk result (λ b. IsTrue b → whole.now ≡ applied_in context.now.signature operator (terms_of args.items)) }
 {
-    let args = vec![in alloc; copy(first)?, copy(second)?]?;
     let made = rebuild(alloc, context.facts(), operator, args)?;
     Ok(same(&made, whole))
 }
@@ -104,7 +104,8 @@ fn rests_under<'m>(
     let Axioms::Plain = context.facts().axioms(operator) else {
         return Err(Fail::from("an axiom"));
     };
-    if !is_made_of(alloc, context, operator, (first, second), whole)? {
+    let args = vec![in alloc; copy(first)?, copy(second)?]?;
+    if !is_made_of(alloc, context, operator, args, whole)? {
         return Err(Fail::from("other arguments"));
     }
     let inner = refl(alloc, context, first)?;
@@ -131,7 +132,8 @@ fn rests_beside<'m>(
     let Axioms::Associative { .. } = context.facts().axioms(operator) else {
         return Err(Fail::from("not associative"));
     };
-    if !is_made_of(alloc, context, operator, (first, second), whole)? {
+    let args = vec![in alloc; copy(first)?, copy(second)?]?;
+    if !is_made_of(alloc, context, operator, args, whole)? {
         return Err(Fail::from("other arguments"));
     }
     let inner = refl(alloc, context, first)?;
@@ -192,7 +194,9 @@ fn by_last<'m>(alloc: Global, context: &'m Ctx) -> Result<Proved<'m>, Fail> {
     if !is_bare(statement) {
         return Err(Fail::from("another statement"));
     }
-    if !is_within(alloc, context, &statement.left)? || !is_within(alloc, context, &statement.right)? {
+    if !is_within(alloc, context, &statement.left)?
+        || !is_within(alloc, context, &statement.right)?
+    {
         return Err(Fail::from("a deep side"));
     }
     let pairs = Seq::of(Vec::new(alloc));
@@ -267,22 +271,25 @@ fn all_steps(proofs: &[Proved<'_>]) -> u64 {
     steps
 }
 
-fn tries<'m>(
-    alloc: Global,
-    context: &'m Ctx,
-    index: &'m Index,
-    term: &Term,
-) -> Result<Tries, Fail>
+fn tries<'m>(alloc: Global, context: &'m Ctx, index: &'m Index, term: &Term) -> Result<Tries, Fail>
     requires index { IsIndexOf context.now index.now }
     requires admitted { IsAdmittedTerm context.now.signature term.now }
 {
     let mut failures: Vec<Failing<'m>> = Vec::new(alloc);
-    for _ in 0..9 {
+    'rules: for _ in 0..9 {
         let Some(redex) = find(alloc, context, index, term, failures.as_slice())? else {
             return Ok(None);
         };
         let Redex { by, subst, .. } = redex;
-        match conditions(alloc, context, index, by.number, &by.condition, subst, BUDGET)? {
+        match conditions(
+            alloc,
+            context,
+            index,
+            by.number,
+            &by.condition,
+            subst,
+            BUDGET,
+        )? {
             Tried::Held(_, proofs) => {
                 let steps = all_steps(proofs.as_slice());
                 return Ok(Some((failures.len(), proofs.len(), steps)));
