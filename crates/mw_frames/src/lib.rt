@@ -41,7 +41,8 @@
 //! Cost: where `fire`, `meet` or `halt` comes to several arguments of a term, the arguments of a node that no other
 //! term shares are moved, those of others copied, by one count each. What comes of them is looked for first where they
 //! were taken out, which is told once. Where a long list of elements ends those of an associative operator that keeps
-//! the order, `step` makes the whole at once: what stands before comes in front by one move, and the list isn't walked.
+//! the order, or begins them before one argument that is known to be normal, `step` makes the whole at once: the others
+//! come in front by one move, or behind it, and the list isn't walked.
 //!
 //! Neither proved nor tested: time and memory, in which order arguments are reduced, and that calls answer with memory
 //! at hand.

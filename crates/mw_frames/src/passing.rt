@@ -29,7 +29,7 @@ use mw_stack::{close, close_before, place_of, put, put_near};
 use mw_term::{OpId, Term, View};
 use std::alloc::{AllocError, Global};
 
-/// A list of so many elements that ends the arguments of a frame isn't taken apart.
+/// A list of so many elements that ends the arguments of a frame, or begins them, isn't taken apart.
 const LONG: usize = 8;
 
 #[inline(always)]
@@ -240,7 +240,7 @@ fn leave_last<'m>(
     Ok(Hand::One(Job::Try(whole)))
 }
 
-/// A job that is known to be normal is done.
+/// A job that waited is done, where it is known to be normal.
 fn put_normal(
     alloc: Global,
     facts: &Facts,
