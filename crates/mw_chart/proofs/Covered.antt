@@ -33,6 +33,15 @@ grows_then P Q R F a b = record {
   sound = λ k u r. elim (b.sound k u r) [ inl q ↦ a.sound k u q | inr f ↦ inr f ];
 }
 
+pub grows_adds : {K : Type 0} → (P Q F G : K → Tree → Type 0) → Adds P Q G → ((k : K) (u : Tree) → G k u → F k u) → Grows P Q F
+grows_adds P Q F G a to = record {
+  kept = a.kept;
+  sound = λ k u q. elim (a.sound k u q) [ inl p ↦ inl p | inr x ↦ inr (to k u x) ];
+}
+
+pub adds_grows : {K : Type 0} → (P Q F : K → Tree → Type 0) → Grows P Q F → ((k : K) (u : Tree) → F k u → Has (Q k) u) → Adds P Q F
+adds_grows P Q F a has = record { kept = a.kept; sound = a.sound; has = has }
+
 pub within_same : (constituents : List Constituent) (n a b : ℕ) → a ≡ b → IsWithin constituents (n - a) n → IsWithin constituents (n - b) n
 within_same constituents n a b same all = λ j r got. let w = all j r got in (let low = w.0 in omega (arith, low, same), w.1)
 

@@ -36,6 +36,17 @@ bare_push n rows new (len, none) bare = (
   λ k row got. elim (get_back rows new k row got) [ inl h ↦ none k row h | inr e ↦ ap (λ (r : ChartRow). r.constituents.items) (sym e) ∙ bare ],
 )
 
+-- the last cell, and those before it
+pub last_cell : (g : Table) (text : List Terminal) (i done : ℕ) (front : List (Vec ChartItem Global)) (cell : Vec ChartItem Global) (e : ℕ) → length front + e ≡ length text
+    → IsCells g text i done (front ++ cell ∷ []) → IsCell g text i done e cell.items
+last_cell g text i done front cell e n all =
+    subst (λ (c : List ChartItem). IsCell g text i done e c) (inner_last front cell) (all (length front) e n (rw (length-append front (cell ∷ [])) (omega arith)))
+
+pub front_cells : (g : Table) (text : List Terminal) (i done : ℕ) (front : List (Vec ChartItem Global)) (cell : Vec ChartItem Global)
+    → IsCells g text i done (front ++ cell ∷ []) → IsCells g text i done front
+front_cells g text i done front cell all = λ j e n low.
+    subst (λ (c : List ChartItem). IsCell g text i done e c) (inner_front front cell j low) (all j e n (rw (length-append front (cell ∷ [])) (omega (arith, low))))
+
 -- no whole text ends where it begins
 pub no_row : (g : Table) (text : List Terminal) (i : ℕ) → IsTable g → IsRow g text i i ([])
 no_row g text i wf = record {

@@ -56,6 +56,14 @@ joins_set old grown n x was now same low is put =
     (inner_same grown n now low ∙ put ∙ ap (λ l. l ++ x ∷ []) (sym (inner_is grown n was low is) ∙ same n))
     (λ i other. inner_other grown i n now other ∙ same i)
 
+-- the same, where the numbers are told otherwise
+pub joins_as : {A : Type 0} → (F G : ℕ → Type 0) (x : A) (old new : List (Vec A Global)) → ((i : ℕ) → F i → G i) → ((i : ℕ) → G i → F i) → Joins F x old new → Joins G x old new
+joins_as F G x old new to back j = record {
+  kept = j.kept;
+  put = λ i g. j.put i (back i g);
+  only = λ i y l. elim (j.only i y l) [ inl was ↦ inl was | inr f ↦ inr (to i f.0, f.1) ];
+}
+
 -- where it has no number, nothing is put
 pub joins_none : {A : Type 0} → (G : ℕ → Type 0) (x : A) (lists : List (Vec A Global)) → ((i : ℕ) → G i → ⊥) → Joins G x lists lists
 joins_none G x lists never = record {

@@ -121,6 +121,21 @@ goes_on g text i at done row cell more c0 c1 c2 j e s0 s v0 v wf h d1 is here op
           all)
     ]
 
+-- what arrives by a step from here, or did so before
+pub by_arrival : (g : Table) (text : List Terminal) (i at done e s : ℕ) (v : Tree) (C : Type 0)
+    → (Arrives g text i done s v e → C) → ((s0 : ℕ) (v0 : Tree) → IsItem g text s0 v0 i at → GoesOn g text at s0 v0 s v e → C)
+    → at ≡ done + 1 → Arrives g text i at s v e → C
+by_arrival g text i at done e s v C before here d1 (by_token s2 op x next st step got) = before (by_token s2 op x next st step got)
+by_arrival g text i at done e s v C before here d1 (by_leaf s2 x l) = before (by_leaf s2 x l)
+by_arrival g text i at done e s v C before here d1 (by_group w kind precedence m s2 t o r wh c gr) = before (by_group w kind precedence m s2 t o r wh c gr)
+by_arrival g text i at done e s v C before here d1 (by_step s2 k next e2 v2 u low high d go) =
+    elim (le_or k at) [
+      | inl f ↦ before (by_step s2 k next e2 v2 u low (omega (arith, f, d1)) d go)
+      | inr f ↦
+          let same : k ≡ at = omega (arith, f, high) in
+          here s2 v2 (subst (λ (m : ℕ). IsItem g text s2 v2 i m) same d) (subst (λ (m : ℕ). GoesOn g text m s2 v2 next u e2) same go)
+    ]
+
 pub turn_complete : (g : Table) (text : List Terminal) (i at done : ℕ) (row : List Constituent) (cell more : List ChartItem) (c0 c1 c2 : List (Vec ChartItem Global)) (j e s : ℕ) (v : Tree)
     → IsTable g → i < at → at ≡ done + 1
     → IsRow g text at (length text) row → IsCell g text i done at cell → Adds Nothing (Holds more) (Predicts g text at cell)

@@ -112,6 +112,33 @@ module _ (sorting : Sorting) (ok : IsOrderSorted sorting.signature) (o : Operato
               stands = sym (ap (λ (xs : List ℕ). get_or xs (get_or q.columns.items j 0) 0) el ∙ ap (λ (x : ℕ). get_or cells x 0) ec ∙ read-is cells c 0 _ there);
             }
 
+        pub square-is : IsSquareOf sorting o entries q
+        square-is = record {
+          wide = rows.size;
+          square = record {
+            size = columns.size ∙ sym rows.size;
+            rows = λ i l. (read_at i i (there i l) (there i l)).row;
+            columns = λ i j l m. (read_at i j (there i l) (there j m)).column;
+            within = λ i j l m.
+                let r = read_at i j (there i l) (there j m) in
+                subst (λ (x : ℕ). x < width q) r.stands (subst (λ (n : ℕ). place r.R < n) (sym rows.size) (place_within r.R (of_kind r.S r.T r.R r.gives)));
+          };
+          products = λ S T R s t r. stands S T R s t r;
+        }
+          where
+            there : (i : ℕ) → i < width q → i < length entries
+            there i l = subst (λ (n : ℕ). i < n) rows.size l
+
+            stands : (S T R : Sorted) → IsOfKind sig o.result S → IsOfKind sig o.result T → IsResultOn sig o (S ∷ T ∷ []) R → place R ≡ product q (place S) (place T)
+            stands S T R s t r =
+                let w = read_at (place S) (place T) (place_within S s) (place_within T t) in
+                let a = same_place S w.S s (h.of_kind (place S) w.S w.first) (sym (h.at_place (place S) w.S w.first)) in
+                let b = same_place T w.T t (h.of_kind (place T) w.T w.second) (sym (h.at_place (place T) w.T w.second)) in
+                alike_place R w.R (
+                  result_monotone sig ok.fitting f o is (S ∷ T ∷ []) (w.S ∷ w.T ∷ []) R w.R w.gives (a.0, (b.0, tt)) r,
+                  result_monotone sig ok.fitting f o is (w.S ∷ w.T ∷ []) (S ∷ T ∷ []) w.R R r (a.1, (b.1, tt)) w.gives,
+                ) ∙ w.stands
+
       module _ (square : IsSquareOf sorting o entries q) where
         stands : (S T R : Sorted) → IsOfKind sig o.result S → IsOfKind sig o.result T → IsResultOn sig o (S ∷ T ∷ []) R → place R ≡ product q (place S) (place T)
         stands S T R s t r = square.products S T R s t r

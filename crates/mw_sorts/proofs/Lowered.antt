@@ -72,6 +72,15 @@ module _ (sig : Signature) (ok : IsOrderSorted sig) (f : ℕ) (o : Operator) (is
         let (A, B, args, a, b) = ok.accepted.assoc f o is (ok.accepted.identity f o i is named).0 in
         found sig o A B (subst (λ (ps : List ℕ). IsDiagram sig ps o d) (sym e) diagram) args (SameKind-trans s (SameKind-sym a)) (SameKind-trans t (SameKind-sym b))
 
+    -- the same of sorts that are alike
+    pub low-alike : (E D S T : Sorted) → IsIdentitySort sig o E → IsIdentitySort sig o D → IsBelow sig E D → IsOfKind sig o.result T → AreAlike sig S T → StaysLow sig o E T → StaysLow sig o D S
+    low-alike E D S T e named l t (up, down) low R (inl r) =
+        let w = beside e.0 e.1 E T (identity-kind E e) t in
+        IsBelow-trans sig S T R up (IsBelow-trans sig T (_) R (low (_) (inl w.is)) (result_monotone sig ok.fitting f o is (E ∷ T ∷ []) (D ∷ S ∷ []) (_) R r (l, (down, tt)) w.is))
+    low-alike E D S T e named l t (up, down) low R (inr r) =
+        let w = beside e.0 e.1 T E t (identity-kind E e) in
+        IsBelow-trans sig S T R up (IsBelow-trans sig T (_) R (low (_) (inr w.is)) (result_monotone sig ok.fitting f o is (T ∷ E ∷ []) (S ∷ D ∷ []) (_) R r (down, (l, tt)) w.is))
+
 -- all entries of the operator's kind, or those before one
 module _ (sorting : Sorting) (ok : IsOrderSorted sorting.signature) (naturals : IsTrue sorting.signature.nat → HasNaturals sorting.signature) (o : Operator) (entries : List Held) (h : AreEntriesOf sorting o.result (map sorted_of entries)) (f : ℕ)
     (is : IsOperator sorting.signature f o) (d : Diagram) (diagram : IsDiagram sorting.signature sorting.places o d) (E : Sorted) (e : IsIdentitySort sorting.signature o E) where
@@ -106,6 +115,19 @@ constant-args sig c (an_operator q there args) p is = operator_of sig c (λ (o :
 
 pub no-kinds : (sig : Signature) (Ks : List ℕ) → AreRawTerms sig nil Ks → AreOfKinds sig [] Ks
 no-kinds sig Ks end = tt
+
+-- its sort is its result on none
+pub constant-sort : (sig : Signature) → IsAccepted sig → (c : ℕ) → IsRawTerm sig (constant c) → (p : Operator) → IsOperator sig c p → (R : Sorted) → IsResultOn sig p [] R → ComputedSort sig (constant c) R
+constant-sort sig ok c raw p is R r = by_test (is_assoc sig c) refl
+  where
+    none : {K L : ℕ} → AreRawTerms sig nil (K ∷ L ∷ []) → ⊥
+    none a = elim a [ ]
+
+    by_test : (b : Bool) → is_assoc sig c ≡ b → ComputedSort sig (constant c) R
+    by_test false h = plain_sort p is h no_sorts r
+    by_test true h =
+        let (K, L, args, k, l) = ok.assoc c p is (is_associative sig ok c p is h) in
+        absurd (none (subst (AreRawTerms sig nil) args (constant-args sig c raw p is)))
 
 -- where an identity is a constant, its diagram gives its sort
 pub constant-found : (sig : Signature) → IsAccepted sig → (places : List ℕ) (diagrams : List Diagram) → HaveDiagrams sig places diagrams → (f : ℕ) (o : Operator) → IsOperator sig f o → (c : ℕ) → o.identity ≡ Some (constant_of c) → (d : Diagram)

@@ -17,6 +17,9 @@ pub record AreMatched {X Y : Type 0} (R : X → Y → Type 0) (n : ℕ) (xs : Li
   pub size : length ys ≡ n
   pub each : (p : ℕ) (x : X) → p < n → slice_get xs p ≡ Some x → (y : Y) × (slice_get ys p ≡ Some y) × R x y
 
+pub matched-none : {X Y : Type 0} (R : X → Y → Type 0) (xs : List X) (ys : List Y) → ys ≡ [] → AreMatched R 0 xs ys
+matched-none R xs ys e = record { size = ap (λ zs. length zs) e; each = λ p x l g. absurd (omega arith) }
+
 pub matched-more : {X Y : Type 0} (R : X → Y → Type 0) (n : ℕ) (xs : List X) (ys new : List Y) (x : X) (y : Y) → AreMatched R n xs ys → slice_get xs n ≡ Some x → R x y → new ≡ ys ++ y ∷ [] → AreMatched R (n + 1) xs new
 matched-more R n xs ys new x y h at r e = subst (AreMatched R (n + 1) xs) (sym e) (record {
   size = let a = length-append ys (y ∷ []) in let s = h.size in omega arith;
@@ -29,6 +32,9 @@ matched-more R n xs ys new x y h at r e = subst (AreMatched R (n + 1) xs) (sym e
     )
   ];
 })
+
+pub matched-map : {X Y : Type 0} (R S : X → Y → Type 0) (n : ℕ) (xs : List X) (ys : List Y) → ((x : X) (y : Y) → R x y → S x y) → AreMatched R n xs ys → AreMatched S n xs ys
+matched-map R S n xs ys f h = record { size = h.size; each = λ p x l g. let (y, k, r) = h.each p x l g in (y, k, f x y r) }
 
 -- y is the row to which S leads, if it leads to one
 abbrev pub IsRowFor : List ℕ → Diagram → Sorted → ℕ → Type 0

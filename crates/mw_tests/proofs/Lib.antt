@@ -1,3 +1,3 @@
 -- What the tests need to meet what the engine's calls require, and the signature with numbers.
-mod Calls
+mod Premises
 mod Numbers
