@@ -254,6 +254,7 @@ class Reader:
             raise Refused("module")
         self.need(version == "1" and self.takes("from"))
         start, steps = self.form(), self.steps(NESTED)
+        self.begun += self.tokens[-1] == "endproof"
         self.need(self.takes("to"))
         self.begun += 1
         end = self.form()

@@ -14,7 +14,7 @@ use Rattle.mw_proofread.specs.Parts.{NotFirst, EndsLine, ends_line, Line, by_sta
 use Rattle.mw_proofread.proofs.Low.{next_ends, next_other}
 use Rattle.mw_proofread.proofs.Fronts.{rest_is, not_first, line_one}
 
-abbrev item_of : Line → Groups → Item
+abbrev pub item_of : Line → Groups → Item
 item_of (by_statement k s vs) gs = step false k s vs gs
 item_of (by_row s) gs = built s
 
@@ -233,7 +233,7 @@ module _ (M : Module) where
         behind = s.behind;
         others = s.others;
         is = r;
-        count = subst (λ c. IsCount c (number_of_groups s.groups)) (sym w) s.count;
+        count = subst (λ c. IsCount c (number_of_groups s.groups)) (sym (ap (wanted_groups M) w)) s.count;
         have = s.have;
         nested = s.nested;
         completes = s.completes;

@@ -1,14 +1,15 @@
 -- A list of tokens begins with one line at most.
-use Rattle.std.proofs.Common.{◌≡◌, ◌≢◌, ◌∙◌, ℕ, suc, List, [], ◌∷◌, ◌++◌, length, get_or, true, false, Option, Some, None, refl, ap, sym, arith, append_assoc}
+use Rattle.std.proofs.Common.{◌≡◌, ◌≢◌, ◌∙◌, ℕ, List, [], ◌∷◌, ◌++◌, get_or, true, false, Option, Some, None, refl, ap, sym, arith, append_assoc}
 use Rattle.std.specs.Prelude.{codes}
 use Rattle.mw_logic.specs.Term.{RawTerm}
 use Rattle.mw_logic.specs.Signature.{Signature}
 use Rattle.mw_logic.specs.Module.{Module}
 use Rattle.mw_prooftext.specs.Items.{Spot}
+use Rattle.mw_print.proofs.PrefixTold.{prefix_told}
 use Rattle.mw_proofread.specs.Numbers.{number_text}
 use Rattle.mw_proofread.specs.TokenTexts.{numbers_tokens, take_tokens, spot_tokens, form_tokens, values_tokens, with_tokens}
 use Rattle.mw_proofread.specs.Reading.{AreWritten}
-use Rattle.mw_proofread.specs.Parts.{is_low, NoNumber, NotFirst, EndsLine, EndsSpot, Line, by_statement, by_row, line_tokens, IsLine, wanted_groups}
+use Rattle.mw_proofread.specs.Parts.{is_low, NoNumber, NotFirst, EndsLine, EndsSpot, Line, by_statement, by_row, line_tokens, IsLine}
 use Rattle.mw_proofread.proofs.Digits.{number_low, number_one}
 use Rattle.mw_proofread.proofs.Low.{form_low, low_one, numbers_one, high_no_number, ends_other, ends_spot}
 
@@ -36,17 +37,18 @@ take_no_number (Some ns) r h = high_no_number (codes "take" ∷ (numbers_tokens 
 pub spot_apart : (s : Spot) (r : List (List ℕ)) → spot_tokens s ++ r ≡ codes "at" ∷ (numbers_tokens s.path ++ (take_tokens s.take ++ r))
 spot_apart s r = ap (λ z. codes "at" ∷ z) (append_assoc (numbers_tokens s.path) (take_tokens s.take) r)
 
-pub spot_one : (a b : Spot) (r s : List (List ℕ)) → NoNumber r → (a.take ≡ None → NotFirst (codes "take") r) → EndsSpot s → spot_tokens a ++ r ≡ spot_tokens b ++ s → r ≡ s
+pub spot_one : (a b : Spot) (r s : List (List ℕ)) → NoNumber r → (a.take ≡ None → NotFirst (codes "take") r) → EndsSpot s → spot_tokens a ++ r ≡ spot_tokens b ++ s → (a ≡ b) × (r ≡ s)
 spot_one a b r s h n k e =
     let same = rest_is (sym (spot_apart a r) ∙ e ∙ spot_apart b s) in
     let (i, j) = numbers_one a.path b.path (take_tokens a.take ++ r) (take_tokens b.take ++ s) (take_no_number a.take r h) (take_no_number b.take s k.0) same in
-    (take_one a.take b.take r s h n k j).1
+    let (l, m) = take_one a.take b.take r s h n k j in
+    ((λ x. record { path = i x; take = l x }), m)
 
 module _ (sig : Signature) where
   pub value_apart : (t : RawTerm) (ts : List RawTerm) (r : List (List ℕ)) → values_tokens sig (t ∷ ts) ++ r ≡ codes "[" ∷ (form_tokens sig t ++ (codes "]" ∷ (values_tokens sig ts ++ r)))
   value_apart t ts r = ap (λ z. codes "[" ∷ z) (append_assoc (form_tokens sig t) (codes "]" ∷ values_tokens sig ts) r)
 
-  pub values_one : (ts us : List RawTerm) (r s : List (List ℕ)) → AreWritten sig ts → AreWritten sig us → NotFirst (codes "[") r → NotFirst (codes "[") s → values_tokens sig ts ++ r ≡ values_tokens sig us ++ s → (length ts ≡ length us) × (r ≡ s)
+  pub values_one : (ts us : List RawTerm) (r s : List (List ℕ)) → AreWritten sig ts → AreWritten sig us → NotFirst (codes "[") r → NotFirst (codes "[") s → values_tokens sig ts ++ r ≡ values_tokens sig us ++ s → (ts ≡ us) × (r ≡ s)
   values_one [] [] r s a b h k e = (refl, e)
   values_one [] (u ∷ us) r s a b h k e = absurd (not_first (codes "[") r _ h (e ∙ value_apart u us s))
   values_one (t ∷ ts) [] r s a b h k e = absurd (not_first (codes "[") s _ k (sym e ∙ value_apart t ts r))
@@ -54,10 +56,11 @@ module _ (sig : Signature) where
       let same = rest_is (sym (value_apart t ts r) ∙ e ∙ value_apart u us s) in
       let (i, j) = low_one (form_tokens sig t) (form_tokens sig u) (codes "]" ∷ (values_tokens sig ts ++ r)) (codes "]" ∷ (values_tokens sig us ++ s)) (form_low sig t a.0.told) (form_low sig u b.0.told) refl refl same in
       let (m, n) = values_one ts us r s a.1 b.1 h k (rest_is j) in
-      (ap suc m, n)
+      let p : t ≡ u = prefix_told sig t u a.0.told b.0.told i in
+      ((λ x. p x ∷ m x), n)
 
   pub with_one : (ts us : List RawTerm) (r s : List (List ℕ)) → AreWritten sig ts → AreWritten sig us → (ts ≢ [] → NotFirst (codes "[") r) → (ts ≡ [] → NotFirst (codes "with") r) → EndsLine s
-      → with_tokens sig ts ++ r ≡ with_tokens sig us ++ s → (length ts ≡ length us) × (r ≡ s)
+      → with_tokens sig ts ++ r ≡ with_tokens sig us ++ s → (ts ≡ us) × (r ≡ s)
   with_one [] [] r s a b h n k e = (refl, e)
   with_one [] (u ∷ us) r s a b h n k e = absurd (not_first (codes "with") r _ (n refl) e)
   with_one (t ∷ ts) [] r s a b h n k e = absurd (not_first (codes "with") s _ (ends_other (codes "with") refl s k) (sym e))
@@ -76,14 +79,16 @@ pub not_built : (k : ℕ) → number_text k ≢ codes "built"
 not_built k e = let h : false ≡ true = sym (ap is_low e) ∙ number_low k in cc
 
 module _ (M : Module) where
-  pub line_one : (l m : Line) (r s : List (List ℕ)) → IsLine M l → IsLine M m → EndsLine r → EndsLine s → line_tokens M.signature l ++ r ≡ line_tokens M.signature m ++ s → (wanted_groups M l ≡ wanted_groups M m) × (r ≡ s)
-  line_one (by_row a) (by_row b) r s f g h k e = (refl, spot_one a b r s (ends_spot r h).0 (λ n. (ends_spot r h).1) (ends_spot s k) (rest_is (rest_is e)))
+  pub line_one : (l m : Line) (r s : List (List ℕ)) → IsLine M l → IsLine M m → EndsLine r → EndsLine s → line_tokens M.signature l ++ r ≡ line_tokens M.signature m ++ s → (l ≡ m) × (r ≡ s)
+  line_one (by_row a) (by_row b) r s f g h k e =
+      let (i, j) = spot_one a b r s (ends_spot r h).0 (λ n. (ends_spot r h).1) (ends_spot s k) (rest_is (rest_is e)) in
+      (ap by_row i, j)
   line_one (by_row a) (by_statement j b us) r s f g h k e = absurd (not_built j (sym (first_is (rest_is e))))
   line_one (by_statement i a ts) (by_row b) r s f g h k e = absurd (not_built i (first_is (rest_is e)))
   line_one (by_statement i a ts) (by_statement j b us) r s f g h k e =
       let same = rest_is (sym (statement_apart M.signature i a ts r) ∙ e ∙ statement_apart M.signature j b us s) in
       let number : i ≡ j = number_one i j (first_is same) in
       let ends = with_ends_spot M.signature ts r h in
-      let behind = spot_one a b (with_tokens M.signature ts ++ r) (with_tokens M.signature us ++ s) ends.0 (λ n. ends.1) (with_ends_spot M.signature us s k) (rest_is same) in
+      let (spot, behind) = spot_one a b (with_tokens M.signature ts ++ r) (with_tokens M.signature us ++ s) ends.0 (λ n. ends.1) (with_ends_spot M.signature us s k) (rest_is same) in
       let (c, d) = with_one M.signature ts us r s f.1 g.1 (λ n. ends_other (codes "[") refl r h) (λ n. ends_other (codes "with") refl r h) k behind in
-      (ap (λ (n : ℕ). wanted_groups M (by_statement n a ts)) number, d)
+      ((λ x. by_statement (number x) (spot x) (c x)), d)

@@ -21,3 +21,5 @@ pub mod Outside
 -- Terms that may stand in a text, and their forms.
 pub mod Sameness
 pub mod Written
+-- What is written of items, cut into tokens.
+pub mod TextLexed

@@ -98,7 +98,7 @@ module _ (M : Module) where
   }
     where
       one_row : (other : Line) (last : List (List ℕ)) → IsLine M other → EndsLine last → codes "step" ∷ codes "built" ∷ tokens ≡ line_tokens M.signature other ++ last → rest ≡ last
-      one_row (by_row s) last g e k = spot_one h.spot s rest last h.ends h.no_more (ends_spot last e) (sym h.is ∙ rest_is (rest_is k))
+      one_row (by_row s) last g e k = (spot_one h.spot s rest last h.ends h.no_more (ends_spot last e) (sym h.is ∙ rest_is (rest_is k))).1
       one_row (by_statement i s vs) last g e k = absurd (not_built i (sym (first_is (rest_is k))))
 
   pub row_not : (tokens : List (List ℕ)) → NoPlace tokens → NoLine M (codes "step" ∷ codes "built" ∷ tokens)
@@ -138,7 +138,7 @@ module _ (M : Module) where
 
     module _ (place : Place) (mid : List (List ℕ)) (h : HasPlace behind place mid) where
       mid_is : (k : ℕ) (s : Spot) (vs : List RawTerm) (r : List (List ℕ)) → EndsLine r → IsOther k s vs r → mid ≡ with_tokens M.signature vs ++ r
-      mid_is k s vs r e o = spot_one h.spot s mid (with_tokens M.signature vs ++ r) h.ends h.no_more (with_ends_spot M.signature vs r e) (sym h.is ∙ o.rest)
+      mid_is k s vs r e o = (spot_one h.spot s mid (with_tokens M.signature vs ++ r) h.ends h.no_more (with_ends_spot M.signature vs r e) (sym h.is ∙ o.rest)).1
 
       pub with_not_there : NoWith M.signature mid → NoLine M (codes "step" ∷ tokens)
       with_not_there m (by_row s) r g e k = no_row s r k
@@ -154,7 +154,7 @@ module _ (M : Module) where
         count_not m (by_statement i s vs) r g e k =
             let o = other_is i s vs r k in
             let (l, b) = with_one M.signature values vs rest r w.written g.1 w.ends w.no_more e (sym w.is ∙ mid_is i s vs r e o) in
-            m (subst (λ z. IsCount (values_of M z) (length values)) (sym o.number) (subst (IsCount (values_of M i)) (sym l) g.2))
+            m (subst (λ z. IsCount (values_of M z) (length values)) (sym o.number) (subst (IsCount (values_of M i)) (sym (ap length l)) g.2))
 
         pub statement_is : (cap found : ℕ) (old new : List Entry) → cap ≡ capped found → found ≡ saturated n → IsCount (values_of M n) (length values)
             → new ≡ old ++ (Step (record { owise = false; statement = cap; place = place; values = values }) ∷ []) → HasLine M (codes "step" ∷ tokens) rest (groups_of M n) old new

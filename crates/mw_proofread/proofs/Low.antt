@@ -115,15 +115,15 @@ pub next_not : (v w : List ℕ) → is_next v ≡ false → is_next w ≡ true �
 next_not v w h k e = both (is_next v) h (ap is_next (sym e) ∙ k)
 
 pub ends_high : (ws : List (List ℕ)) → EndsLine ws → IsHigh ws
-ends_high [] h = absurd h
+ends_high [] h = tt
 ends_high (w ∷ ws) h = ends_cases (λ v. is_low v ≡ false) refl refl refl refl refl refl w h
 
 pub ends_other : (v : List ℕ) → ends_line v ≡ false → (ws : List (List ℕ)) → EndsLine ws → NotFirst v ws
-ends_other v h [] k = absurd k
+ends_other v h [] k = tt
 ends_other v h (w ∷ ws) k = ends_not v w h k
 
 pub next_other : (v : List ℕ) → is_next v ≡ false → (ws : List (List ℕ)) → IsFollowed ws → NotFirst v ws
-next_other v h [] k = absurd k
+next_other v h [] k = tt
 next_other v h (w ∷ ws) k = next_not v w h k
 
 pub next_ends : (ws : List (List ℕ)) → IsFollowed ws → EndsLine ws

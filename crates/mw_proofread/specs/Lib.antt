@@ -11,3 +11,5 @@ pub mod Faults
 pub mod Whole
 -- Whether two terms are one.
 pub mod Same
+-- What is written of items, cut into tokens.
+pub mod Lexing

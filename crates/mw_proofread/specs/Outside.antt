@@ -1,5 +1,5 @@
 -- Where tokens are no proof text: of what part they leave the form, counted from the head on.
-use Rattle.std.specs.Prelude.{◌≡◌, ◌≤◌, ◌||◌, ℕ, zero, suc, List, [], ◌∷◌, ◌++◌, Bool, IsTrue, codes}
+use Rattle.std.specs.Prelude.{◌≡◌, ◌≤◌, ◌||◌, ℕ, zero, suc, List, [], ◌∷◌, ◌++◌, Bool, IsTrue, codes, ⊤}
 use Rattle.std.specs.Str.{bytes_eq}
 use Rattle.mw_logic.specs.Term.{RawTerm}
 use Rattle.mw_logic.specs.Module.{Module}
@@ -7,12 +7,12 @@ use Rattle.mw_prooftext.specs.Items.{Item, Items}
 use Rattle.mw_proofread.specs.TokenTexts.{head_tokens, item_tokens, end_tokens}
 use Rattle.mw_proofread.specs.Reading.{IsWritten, HasForm, wheres, IsText}
 
--- a word that may come next behind a head or an item, in some version
+-- a word that may come next behind a head or an item, in some version; or the tokens end there, so what is due is missing
 abbrev pub is_next : List ℕ → Bool
 is_next w = bytes_eq w (codes "step") || bytes_eq w (codes "owise") || bytes_eq w (codes "par") || bytes_eq w (codes "to")
 
 abbrev pub IsFollowed : List (List ℕ) → Type 0
-IsFollowed [] = ⊥
+IsFollowed [] = ⊤
 IsFollowed (w ∷ ws) = IsTrue (is_next w)
 
 -- The tokens begin with a head, behind which these stand, with such a word.
@@ -63,3 +63,9 @@ OutsideIsNoText = (M : Module) (tokens : List (List ℕ)) (j : ℕ) → IsOutsid
 -- They leave it in one part alone.
 abbrev pub OutsideIsOne : Type 0
 OutsideIsOne = (M : Module) (tokens : List (List ℕ)) (i j : ℕ) → IsOutside M tokens i → IsOutside M tokens j → i ≡ j
+
+-- Tokens are the text of one list of items alone, from one term to one other.
+abbrev pub TextsTell : Type 0
+TextsTell =
+    (M : Module) (tokens : List (List ℕ)) (version other : ℕ) (from first : RawTerm) (items others : Items) (to last : RawTerm) → IsText M tokens version from items to
+    → IsText M tokens other first others last → (from ≡ first) × (items ≡ others) × (to ≡ last)

@@ -39,12 +39,12 @@ abbrev pub NotFirst : List ℕ → List (List ℕ) → Type 0
 NotFirst word [] = ⊤
 NotFirst word (w ∷ ws) = w ≢ word
 
--- a word that may stand behind a line
+-- a word that may stand behind a line, or nothing more
 abbrev pub ends_line : List ℕ → Bool
 ends_line w = is_next w || bytes_eq w (codes "where") || bytes_eq w (codes "}")
 
 abbrev pub EndsLine : List (List ℕ) → Type 0
-EndsLine [] = ⊥
+EndsLine [] = ⊤
 EndsLine (w ∷ ws) = IsTrue (ends_line w)
 
 -- what may stand behind a place: no number, and no `take`

@@ -21,9 +21,12 @@
 //!   is there, executable or not, has as many values as variables and as many groups as its fragments have sides; at
 //!   most 63 `where` stand inside one another. The entries are those of the items, with numbers as entries have them.
 //! - `ReadError::Outside` comes only where the tokens leave the form (`IsOutside` of specs/Outside), and tells the
-//!   part in which they do: 0 is the head, then come the items, and the end is one more than the last of them.
+//!   part in which they do: 0 is the head, then come the items, and the end is one more than the last of them. Tokens
+//!   that end where an item or the end is due leave the form in that part.
 //! - The law `outside_is_no_text`: such tokens are no text. The law `outside_is_one`: they leave the form in one part
-//!   alone. The law `numbers_are_decimal`: numbers stand in a text as they are printed.
+//!   alone. The law `texts_tell`: tokens are the text of one list of items alone, from one term to one other. The law
+//!   `numbers_are_decimal`: numbers stand in a text as they are printed. The law `text_lexes`: what mw_prooftext writes
+//!   of items is cut into their tokens, where numbers are below 2^128 and terms have forms that tell them.
 //!
 //! Errors: `Memory` may come at any call; a term of more than 8,388,608 tokens counts as want of memory.
 //!
@@ -46,5 +49,5 @@ mod values;
 mod words;
 
 pub use fault::ReadError;
-pub use laws::{numbers_are_decimal, outside_is_no_text, outside_is_one};
+pub use laws::{numbers_are_decimal, outside_is_no_text, outside_is_one, text_lexes, texts_tell};
 pub use reading::read;

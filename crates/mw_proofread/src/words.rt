@@ -55,22 +55,22 @@ fn ends_line_word(word: &[u8]) -> bool
     is_next_word(word) || word == b"where".as_slice() || word == b"}".as_slice()
 }
 
-/// Whether an item, or an end, may begin at the front, in some version.
+/// Whether an item, or an end, may begin at the front, in some version, or the tokens end.
 pub fn is_followed(tokens: &[Token]) -> bool
     ensures { IsTrue result ↔ IsFollowed (token_texts tokens.now) }
 {
     match tokens {
         [token, ..] => is_next_word(token.text.as_slice()),
-        [] => false,
+        [] => true,
     }
 }
 
-/// Whether a line may end in front of these.
+/// Whether a line may end in front of these, which may be none.
 pub fn ends_line(tokens: &[Token]) -> bool
     ensures { IsTrue result ↔ parts.EndsLine (token_texts tokens.now) }
 {
     match tokens {
         [token, ..] => ends_line_word(token.text.as_slice()),
-        [] => false,
+        [] => true,
     }
 }

@@ -2,6 +2,7 @@
 pub mod Telling
 pub mod Steps
 pub mod Proving
+pub mod Counted
 -- Rows make one term.
 pub mod RowKinds
 pub mod OneRow

@@ -22,6 +22,8 @@
 //! - What is checked is what the text means (`checks_tell`: `Tells` of mw_prooftext). In a well-formed module there is
 //!   a proof of it (`checked_proves`): it leads from the first term to the last one, which is canonical and admitted,
 //!   in that rank, the run that was checked denotes it, and it counts what was counted.
+//! - Two proofs that one run denotes, in a module in which both prove something, have as many steps and rules, and
+//!   count as many replacements (`denoted_counts`).
 //! - Items that are checked lead to their last term, and to no other (`checked_lead`).
 //! - A missing statement or row, an ill-sorted value and a missing part exclude each other cause
 //!   (`early_causes_exclude`). They, the limits and another last term exclude one another and what is checked; so the
@@ -45,6 +47,7 @@
 //! version of the format: no item is refused for them.
 #![tactic(auto)]
 
+ghost use Rattle.mw_verdict.specs.Counts.{DenotedCounts};
 ghost use Rattle.mw_verdict.specs.Exclusion.{CertainExclude, CheckedLead, ConfluentExclude, EarlyExclude};
 ghost use Rattle.mw_verdict.specs.Proved.{CheckedProves, ChecksTell};
 ghost use Rattle.mw_verdict.specs.Rows.{ReducibleSides, RowsAreOne};
@@ -58,6 +61,11 @@ pub fn checks_tell()
 /// In a well-formed module there is a proof of what is checked.
 pub fn checked_proves()
     ensures { CheckedProves }
+{}
+
+/// What a run denotes is counted in one way.
+pub fn denoted_counts()
+    ensures { DenotedCounts }
 {}
 
 /// Items that are checked lead to their last term, and to no other.
