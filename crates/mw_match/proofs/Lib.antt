@@ -4,6 +4,7 @@ pub mod Pairs
 pub mod Sorting
 pub mod Orders
 pub mod Picking
+pub mod Valued
 pub mod Taking
 pub mod Places
 pub mod Entries

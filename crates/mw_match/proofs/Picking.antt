@@ -69,7 +69,7 @@ module _ (c : Coming) where
   pub picked_none : {cs mid rest rs : List Solution} → Picks c cs rs mid → Skips (Lacks c) mid rest → Picks c cs rs rest
   picked_none {cs = cs} {rest = rest} {rs = rs} p s = subst (λ rs. Picks c cs rs rest) (append_none rs) (picks_more p (skips s stop))
 
-  picked_from : {cs rs left : List Solution} → Picks c cs rs left → (r : Solution) → Member r rs → Member r cs × FitsSorts c r
+  pub picked_from : {cs rs left : List Solution} → Picks c cs rs left → (r : Solution) → Member r rs → Member r cs × FitsSorts c r
   picked_from stop r m = absurd m
   picked_from (take s p) r m = ⊎_elim (λ e. (inl e, subst (FitsSorts c) e s)) (λ n. let (k, h) = picked_from p r n in (inr k, h)) m
   picked_from (pass l p) r m = let (k, h) = picked_from p r m in (inr k, h)

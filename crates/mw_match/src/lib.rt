@@ -23,7 +23,7 @@
 //!   mw_solving). These are two or more arguments of its associative operator and not all of them: neighbours, or where
 //!   the operator is commutative too each part of the multiset of arguments once, and of equal arguments those with
 //!   the least numbers. `take` of a solution says which arguments it is of.
-//! - `anywhere`: the same with no given values, and with the variables' names (`AreNamed`).
+//! - `anywhere`: the same with no given values.
 //! - `values_of` has the values of a substitution, and `bound` makes one of variables and values in order.
 //! - `next` passes over candidates that lack a sort and answers the first other one, which fits, or None where all that
 //!   were left lack a sort, and for ever after. For want of memory it has passed over such candidates alone, and the
@@ -31,7 +31,8 @@
 //! - `listed` gives the solutions that come, or the first so many, in the order in which they are shown: each with its
 //!   variables by name (`IsByName`), by the arguments that they take and then by their values. Of solutions that are
 //!   all (`IsAllSolutions`) each one listed is a solution, none comes twice, and where they are fewer than asked for
-//!   they are all (`AreListed`, specs/Listing). It holds them all, since the last one found may come first.
+//!   they are all (`AreListed`, specs/Listing). Their values are canonical where those of all candidates are
+//!   (`HaveCanonicalValues`). It holds them all, since the last one found may come first.
 //!
 //! How `inside` works: the whole subject is searched first. Behind it come searches for a pattern with a rest behind
 //! its elements (`rest_pattern`, specs/Parts), which takes what is left of the arguments: from the first one on, and

@@ -246,11 +246,16 @@ impl<'c> Solutions<'c> {
         given: &Subst,
     ) -> Result<Solutions<'c>, AllocError>
         requires { compiled.now.positions.sorts ≡ sorts_of compiled.now.variables }
-        ensures { let sig = context.now.signature in
+        ensures all { let sig = context.now.signature in
             (p : RawTerm) → IsRawTerm sig p → IsCompiled sig (normal_form sig p) (bound_variables given.now) compiled.now
             → IsValue sig subject.now
             → IsSubstitution sig (meant sig given.now) → AreValues sig (bound_values given.now)
             → IfOk result (IsAllSolutions sig true p subject.now (meant sig given.now)) }
+        ensures named { let sig = context.now.signature in
+            (p : RawTerm) → IsRawTerm sig p → IsCompiled sig (normal_form sig p) (bound_variables given.now) compiled.now
+            → IsValue sig subject.now
+            → IsSubstitution sig (meant sig given.now) → AreValues sig (bound_values given.now)
+            → IfOk result (AreNamed sig compiled.now.variables) }
     {
         let values = values_of(alloc, given)?;
         let solutions = in_parts(alloc, context, compiled, subject, values.as_slice())?;

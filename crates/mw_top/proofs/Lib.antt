@@ -6,6 +6,7 @@ pub mod Sessions
 pub mod Giving
 pub mod Bytes
 pub mod OneOutput
+pub mod CheckTells
 pub mod Doing
 pub mod Asking
 pub mod Judging

@@ -5,7 +5,7 @@ use Rattle.std.specs.Io.KnownBytes.{Appends}
 use Rattle.mw_words.specs.declared.Options.{Options}
 use Rattle.mw_top.specs.Purposes.{takes_proofs}
 use Rattle.mw_top.specs.declared.purpose.Purpose.{Purpose}
-use Rattle.mw_top.specs.declared.purpose.Purpose.TheVariants.{Run}
+use Rattle.mw_top.specs.declared.purpose.Purpose.TheVariants.{Run, Check}
 use Rattle.mw_lex.specs.declared.token.LexFault.{LexFault}
 use Rattle.mw_lex.specs.declared.token.LexKind.{LexKind}
 use Rattle.mw_lex.specs.declared.token.LexKind.TheVariants.{BadByte, UnendedComment}
@@ -68,6 +68,11 @@ pub data IsOutput (purpose : Purpose) (bytes : List ℕ) : List ℕ → Bool →
 -- Where commands are answered, of the same bytes, by the same options, no two outputs differ in whether something was refused.
 abbrev pub AgreeInRefusal : Type 0
 AgreeInRefusal = (options : Options) (bytes text other : List ℕ) (bad worse : Bool) → IsOutput (Run options) bytes text bad → IsOutput (Run options) bytes other worse → bad ≡ worse
+
+-- Where proofs are checked, what is written tells whether something was refused or answered no: no two outputs of one text differ in it, whatever their bytes
+-- and limits.
+abbrev pub AgreeInStatus : Type 0
+AgreeInStatus = (max most : ℕ) (bytes others text : List ℕ) (bad worse : Bool) → IsOutput (Check max) bytes text bad → IsOutput (Check most) others text worse → bad ≡ worse
 
 -- the texts of the first units, of which one at least is undone, or nothing
 pub data IsBegun (purpose : Purpose) (bytes : List ℕ) : List ℕ → Type 0 where

@@ -28,7 +28,8 @@
 //! failure and memory that didn't run out: 0 only where the bytes have an output without a refusal, 1 only where they
 //! have one with a refusal, of a run exactly there; 6 exactly where they are too many, and never another status. The
 //! law `outputs_agree`: no two outputs of a run of the same bytes, by the same limit, differ in whether something is
-//! refused. Two of a check may: a test whether a term is normal may stop or not.
+//! refused. Two of a check may: a test whether a term is normal may stop or not. But what is written tells it: by the
+//! law `check_outputs_agree` no two outputs that are one text differ in it, so its status is that of its lines.
 //! docs/PROOFS.md says what it all comes to.
 //!
 //! No clause ties want of memory to a cause. Tested by mw_tests (runs over memory, one of each status but 5, with
@@ -44,7 +45,7 @@ ghost use Rattle.mw_top.specs.Purposes.{AskFor, IsAllowed};
 ghost use Rattle.mw_top.specs.Sources.{told_refusal};
 ghost use Rattle.mw_top.specs.Moved.{Took, Wrote};
 ghost use Rattle.mw_top.specs.Call.{Did, IsExact};
-ghost use Rattle.mw_top.specs.Outputs.{IsOutput, AgreeInRefusal, IsBegun, IsCut, lexing_refusal};
+ghost use Rattle.mw_top.specs.Outputs.{IsOutput, AgreeInRefusal, AgreeInStatus, IsBegun, IsCut, lexing_refusal};
 
 mod matching;
 mod prelude;
@@ -122,6 +123,11 @@ pub fn top<R: Threads + Wait + Sync, S: Source, K: Sink, G: Gate>(
 /// Of the same bytes, by the same limit, no two outputs of a run differ in whether something was refused.
 pub fn outputs_agree()
     ensures { AgreeInRefusal }
+{}
+
+/// No two outputs of checks that are one text differ in whether something was refused or answered no.
+pub fn check_outputs_agree()
+    ensures { AgreeInStatus }
 {}
 
 /// What `alone` does, with the status as a number.
