@@ -249,6 +249,11 @@ fronts_begin f next end h =
     let s : suc next ≡ next + 1 = omega arith in
     ap (λ m. map f (numbers_from next m)) e ∙ ap (λ n. f next ∷ map f (numbers_from n (end - (next + 1)))) s
 
+pub fronts_next : {Y : Type 0} (f : ℕ → Y) (next end : ℕ) (y : Y) → next < end → y ≡ f next → IsNext (Some y) (map f (numbers_from next (end - next)))
+fronts_next f next end y h e =
+    let m : end - next ≡ suc (end - (next + 1)) = omega (arith, h) in
+    subst (λ n. IsNext (Some y) (map f (numbers_from next n))) (sym m) (ap Some e)
+
 pub fronts_pass : {Y : Type 0} (f : ℕ → Y) (next end : ℕ) → next < end → map f (numbers_from (next + 1) (end - (next + 1))) ≡ behind_first (map f (numbers_from next (end - next)))
 fronts_pass f next end h =
     let e : end - next ≡ suc (end - (next + 1)) = omega (arith, h) in
