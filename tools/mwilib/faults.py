@@ -3,7 +3,7 @@ import os
 
 from . import forms, names, pages, readings, terms
 from .asking import Copy, Unsure, base_of, is_better
-from .findings import Finding
+from .findings import Finding, shown
 from .sources import ENDS
 from .terms import Terms, parts_of, text_in
 
@@ -100,11 +100,14 @@ def with_statement(fault, finding, words):
 
 
 def without_each(fault, places):
-    """Of statements of a module, or tokens of them, those without which the fault isn't told: the first such."""
+    """Of these statements of a module, or words of them, those without which the fault isn't told. A place is the
+    statement's number, and for words where they begin and end."""
     copy, copies = Copy.of(fault.unit), []
-    for number, at in places:
-        lines = [(other, [word for place, word in enumerate(words) if place != at])
-                 if other == number else (other, words) for other, words in copy.lines if at is not None or other != number]
+    for number, first, last in places:
+        lines = [(other, words) for other, words in copy.lines if other != number]
+        if first is not None:
+            lines = [(other, [*words[:first], "ctor", *words[last:]] if other == number else words)
+                     for other, words in copy.lines]
         copies.append(copy.with_lines(lines))
     told = fault.asker.copies(base_of(fault.unit, fault.accepted), copies) if copies else []
     return [place for place, found in zip(places, told) if found is None or found[1:] != (fault.kind, fault.detail)]
@@ -112,13 +115,13 @@ def without_each(fault, places):
 
 def sort_cycle(fault):
     """The `subsort` statements without one of which the cycle isn't there."""
-    numbers = [(at, None) for at, words in enumerate(fault.unit.statements) if words[0].text.startswith("subsort")]
+    numbers = [(at, None, None) for at, words in enumerate(fault.unit.statements) if words[0].text.startswith("subsort")]
     cutting = without_each(fault, numbers)
     if not cutting:
         return Finding()
     statement = fault.unit.statements[cutting[-1][0]]
     finding = Finding(first_with(statement, "<"), ["the cycle isn't there without this statement"])
-    finding.also += [(fault.unit.statements[at][0], "or without this one") for at, _ in cutting[:-1]]
+    finding.also += [(fault.unit.statements[at][0], "or without this one") for at, _, _ in cutting[:-1]]
     return finding
 
 
@@ -130,26 +133,31 @@ def of_operator(fault):
         scope = names.Scope()
         scope.add_statement(words, False)
         found += [at] if any(declared.spelling == spelling for declared in scope.operators) else []
-    places = [place for at in found for place in attribute_places(fault.unit.statements[at], at)]
-    places += [(at, None) for at in found]
+    places = [place for at in reversed(found) for place in attribute_places(fault.unit.statements[at], at)]
+    places += [(at, None, None) for at in reversed(found)]
     mending = without_each(fault, places)
     if not mending:
         statement = fault.unit.statements[found[-1]] if found else None
         return Finding(statement[1] if statement else None)
-    number, at = mending[-1] if mending[-1][1] is None else mending[0]
-    return at_place(fault, number, at, found)
+    return at_place(fault, mending[0], found)
 
 
 def attribute_places(statement, number):
-    """The places of axioms that are words by themselves."""
-    return [(number, at) for at, token in enumerate(statement) if token.text in ("assoc", "comm")]
+    """The places of attributes that say something."""
+    for at, token in enumerate(statement):
+        if token.text in ("assoc", "comm"):
+            yield number, at, at + 1
+        elif token.text in ("id:", "prec"):
+            yield number, at, at + 2
+        elif token.text == "gather":
+            yield number, at, next((last for last in range(at, len(statement)) if statement[last].text == ")"), at) + 1
 
 
-def at_place(fault, number, at, declared):
+def at_place(fault, place, declared):
+    number, first, last = place
     statement = fault.unit.statements[number]
-    name_at = next((place for place, token in enumerate(statement) if token.text == ":"), 2) - 1
-    what = f"`{statement[at].text}`" if at is not None else "this declaration"
-    finding = Finding(statement[at if at is not None else name_at], [f"without {what} `mw` doesn't refuse this"])
+    what = f"`{shown(statement[first:last])}`" if first is not None else "this declaration"
+    finding = Finding(statement[1 if first is None else first], [f"without {what} `mw` doesn't refuse this"])
     finding.also += [(fault.unit.statements[other][1], "it is declared here too") for other in declared if other != number]
     return finding
 
@@ -185,6 +193,8 @@ def at_next_unit(fault, end):
 
 def unended_command(fault):
     last = fault.unit.tokens[-1]
+    if fault.unit.word in ENDS.values():
+        return Finding(fault.unit.first, ["no module is open here"]).mend("an end without a beginning")
     if last.text.endswith(".") and len(last.text) > 1:
         finding = Finding(last, [f"`{last.text}` is one token: it ends nothing"])
         finding.edits.append(f"`{last.text[:-1]} .`")

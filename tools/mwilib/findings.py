@@ -53,11 +53,21 @@ def quoted(texts):
 
 
 def shown(tokens, most=12):
-    """Tokens as one text, shortened at its beginning where it is long."""
-    words = [getattr(token, "text", token) for token in tokens]
-    text = " ".join(words[-most:])
-    for mark in ",)]}":
-        text = text.replace(f" {mark}", mark)
-    for mark in "([{":
-        text = text.replace(f"{mark} ", mark)
-    return f".. {text}" if len(words) > most else text
+    """Tokens as one text, as they are written where they stand in a file; shortened at its beginning if it is long."""
+    kept = tokens[-most:]
+    words = [getattr(token, "text", token) for token in kept]
+    text = joined(words)
+    if kept and all(hasattr(token, "file") and token.file is kept[0].file for token in kept):
+        written = kept[0].file.text[kept[0].at:kept[-1].at + len(words[-1])]
+        text = " ".join(written.split()) if "***" not in written and "---" not in written else text
+    return f".. {text}" if len(tokens) > most else text
+
+
+def joined(words):
+    """Words as one text, with brackets as prefix forms have them."""
+    text = ""
+    for word in words:
+        is_close = word in (",", ")", "]", "}") or text[-1:] in ("(", "[", "{") or not text
+        is_call = word == "(" and text[-1:] not in (",", " ") and text[-1:].isalnum()
+        text += word if is_close or is_call else f" {word}"
+    return text

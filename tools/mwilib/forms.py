@@ -107,7 +107,7 @@ def missing_stop(fault, tokens):
     for split, has_form in zip(splits, have):
         if has_form:
             finding = at_missing_stop(tokens, *split)
-            finding.tried.append(f"`{shown(first_part(tokens, *split), 8)} .`")
+            finding.tried.append(f"`{shown(first_part(tokens, *split), 16)} .`")
             return finding
     return None
 
@@ -138,7 +138,7 @@ def near_words(fault, tokens, most):
 def with_near_word(fault, tokens, changes):
     """The finding for the last token at which such a word mends it."""
     at = changes[-1][0]
-    found = [name for place, name in changes if place == at]
+    found = list(dict.fromkeys(name for place, name in changes if place == at))
     finding = Finding(tokens[at], near=found).mend("a misspelt word")
     finding.tried.append(f"`{found[0]}` in place of `{tokens[at].text}`")
     return finding
@@ -151,10 +151,24 @@ def of_statement(fault):
     if word in ENDS.values() or word in ENDS:
         return wrong_end(fault)
     is_ended = tokens[-1].text == "."
-    finding = missing_stop(fault, tokens[:-1] if is_ended else tokens)
-    if finding:
-        return finding
-    return at_first_fault(fault, tokens, is_ended)
+    body = tokens[:-1] if is_ended else tokens
+    finding = missing_stop(fault, body) or of_attribute(fault, body)
+    return finding or at_first_fault(fault, tokens, is_ended)
+
+
+def of_attribute(fault, tokens):
+    """A word in brackets at the end of an equation or rule in whose place `nonexec` can stand."""
+    words = [token.text for token in tokens]
+    if words[0] not in ("eq", "ceq", "cq", "rl", "crl") or words[-1] != "]":
+        return None
+    start = max(at for at, word in enumerate(words) if word == "[") if "[" in words else len(words)
+    places = range(start + 1, len(words) - 1)
+    have = fault.asker.have_forms(fault.unit.word, [[*words[:at], "nonexec", *words[at + 1:], "."] for at in places])
+    for at, has_form in zip(places, have):
+        if has_form:
+            finding = Finding(tokens[at], near=names.near(words[at], names.OF_STATEMENTS))
+            return finding.mend(words[at] if words[at] in pages.mistakes() else "an attribute that isn't read")
+    return None
 
 
 def at_first_fault(fault, tokens, is_ended):
@@ -162,13 +176,15 @@ def at_first_fault(fault, tokens, is_ended):
     words = [token.text for token in tokens]
     body = words[:-1] if is_ended else words
     count, end = longest_beginning(fault, body)
+    if count < len(body) and count and words[count] in pages.mistakes():
+        return at_token_behind(fault, tokens, count, end)
     changes = near_words(fault, tokens, min(count + 1, len(body))) if is_ended else []
     at_token = [change for change in changes if change[0] == min(count, len(body) - 1)]
     if at_token or changes and count == len(body):
         return with_near_word(fault, tokens, at_token or changes)
     if count < len(body):
         return at_token_behind(fault, tokens, count, end)
-    return at_end(fault, tokens, is_ended, end)
+    return with_mark(fault, tokens[:len(body)], end) or at_end(fault, tokens, is_ended, end)
 
 
 def at_token_behind(fault, tokens, count, end):
@@ -184,10 +200,38 @@ def at_token_behind(fault, tokens, count, end):
     more = of_operator(tokens, count) if word in ("op", "ops") else None
     if more:
         finding.notes.append(more)
-        finding.mend("holes and sorts")
-    elif fault.kind == "bad statement":
+        return finding.mend("holes and sorts")
+    if word in ("op", "ops") and in_brackets(fault, tokens, count, finding):
+        return finding
+    if fault.kind == "bad statement":
         of_form(finding, word)
     finding.near = names.near(token.text, words_for([other.text for other in tokens], count))
+    return finding
+
+
+def in_brackets(fault, tokens, count, finding):
+    """Whether what is behind a declaration is of its form in brackets."""
+    words = [token.text for token in tokens if token.text != "." or token is not tokens[-1]]
+    changed = [*words[:count], "[", *words[count:], "]", "."]
+    if not fault.asker.have_forms(fault.unit.word, [changed])[0]:
+        return False
+    finding.mend("attributes without brackets").tried.append(f"`[{' '.join(words[count:])}]`")
+    return True
+
+
+def with_mark(fault, tokens, end):
+    """The finding where one mark is missing, at the one place where it makes a statement of the tokens."""
+    words = [token.text for token in tokens]
+    mark = next(iter(end), None)
+    if mark not in names.MARKS:
+        return None
+    places = range(1, len(words))
+    have = fault.asker.have_forms(fault.unit.word, [[*words[:at], mark, *words[at:], "."] for at in places])
+    good = [at for at, has_form in zip(places, have) if has_form]
+    if len(good) != 1:
+        return None
+    finding = of_form(Finding(tokens[good[0]], [f"`{mark}` is missing"]), words[0])
+    finding.tried.append(f"`{mark}` in front of `{words[good[0]]}`")
     return finding
 
 
@@ -196,7 +240,7 @@ def at_end(fault, tokens, is_ended, end):
     if not is_ended:
         behind = fault.unit.tokens[-1]
         finding = Finding(behind, [f"`{shown(tokens)}` has no full stop"]).mend("a missing full stop")
-        finding.tried += [] if end else [f"`{shown(tokens, 8)} .`"]
+        finding.tried += [] if end else [f"`{shown(tokens, 16)} .`"]
         return finding
     finding = Finding(tokens[-1], [f"`{shown(tokens[:-1])}` can't end here; it can go on with `{' '.join(end)} .`"])
     return of_form(finding, tokens[0].text)
@@ -259,7 +303,7 @@ def of_head(fault):
     tokens = fault.unit.tokens[:4]
     texts = [token.text for token in tokens]
     if "{" in texts:
-        return Finding(tokens[texts.index("{")]).mend("parameters")
+        return Finding(tokens[texts.index("{")]).mend("{")
     at = min(2, len(tokens) - 1)
     finding = Finding(tokens[at], [f"a module begins with `{fault.unit.word}`, one name, and `is`"])
     return finding.mend("the head of a module")

@@ -5,7 +5,7 @@ import pathlib
 import subprocess
 import sys
 
-from .program import program_path
+from .program import is_built, program_path
 from .running import Options, Session
 from .sources import read_file, read_source
 from .texts import File
@@ -13,6 +13,9 @@ from .texts import File
 ABOUT = """Runs FILE.. in order as one text by `mw`, and shows what `mw` answers; without FILE it is a prompt, or reads
 standard input where that is no terminal. Nothing of mwi is proved; what it shows as an answer is what `mw` printed.
 $MW names the program `mw`, $FLAT the program mw_flat. docs/MWI.md has more."""
+
+NOT_BUILT = """mwi: there is no program `mw`. `./mw --version` proves and builds it, which takes hours. Or build it unproved in
+three minutes, and name it: tools/quick-build . /tmp/mw; export MW=/tmp/mw"""
 
 
 def parser():
@@ -66,12 +69,12 @@ def main(words):
     except BrokenPipeError:
         os.dup2(os.open(os.devnull, os.O_WRONLY), sys.stdout.fileno())
         return 4
-    except FileNotFoundError as fault:
-        print(f"mwi: {fault.filename}: there is no such program; $MW names `mw`", file=sys.stderr)
-        return 2
 
 
 def answered(given):
+    if not is_built():
+        print(NOT_BUILT, file=sys.stderr)
+        return 2
     options = options_of(given)
     if given.watch and given.files:
         from .watching import watch

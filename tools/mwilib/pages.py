@@ -30,13 +30,20 @@ def rows_below(name, heading):
 
 @cache
 def refusals():
-    """Of each kind of refusal what it means, and how to mend it: of the first row of docs/ERRORS.md for it."""
+    """Of each kind of refusal what it means, and how to mend it, by the rows of docs/ERRORS.md that it has."""
     found = {}
     for line in page("ERRORS.md"):
         cells = cells_of(line)
         if line.startswith("| `") and len(cells) == 4:
-            found.setdefault(cells[0].strip("`").split(":")[0], (cells[1], cells[3]))
+            found.setdefault(cells[0].strip("`").split(":")[0], []).append((cells[1], cells[3]))
     return found
+
+
+def refusal(kind, in_module):
+    """What a refusal means, and how to mend it; of a kind that commands and modules have by its row for these."""
+    rows = refusals().get(kind, [(None, None)])
+    is_import = kind == "unknown module" and in_module and len(rows) > 1
+    return rows[1 if is_import else 0]
 
 
 @cache

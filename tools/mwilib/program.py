@@ -3,6 +3,7 @@ from dataclasses import dataclass, field
 import os
 import pathlib
 import re
+import shutil
 import signal
 import subprocess
 
@@ -16,6 +17,12 @@ COMMENT = "*** "
 def program_path():
     """`mw` by $MW, or the one that stands beside this folder."""
     return os.environ.get("MW") or str(TOP / "mw")
+
+
+def is_built():
+    """Whether a program is there: without $MW the one that ./mw runs, which would else be proved first, for hours."""
+    path = os.environ.get("MW") or str(TOP / "crates" / "mw_cli" / "out" / "mw_cli")
+    return os.access(path, os.X_OK) or bool(shutil.which(path))
 
 
 def flat_path():
@@ -114,13 +121,18 @@ class Run:
 
     def stop(self):
         """Ends the program where it is still running."""
-        if self.process.poll() is None:
-            try:
-                os.killpg(self.process.pid, signal.SIGKILL)
-            except ProcessLookupError:
-                pass
-            self.process.wait()
+        for how in (signal.SIGTERM, signal.SIGKILL):
+            if self.process.poll() is None:
+                os.killpg(self.process.pid, how)
+                wait_for(self.process)
         self.process.stdout.close()
+
+
+def wait_for(process):
+    try:
+        process.wait(1)
+    except subprocess.TimeoutExpired:
+        pass
 
 
 def printed(words, text, seconds=None):

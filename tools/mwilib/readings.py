@@ -3,8 +3,9 @@ import re
 
 from .findings import Finding, shown
 from .terms import READ, Terms, parts_of, text_in
+from .texts import File, spelled
 
-MOST_SPANS = 400
+MOST_SPANS, MOST_KINDS = 400, 12
 NUMBERS = re.compile(r"(?<![^\s(,])\d+@")
 FROM = "from "
 
@@ -31,9 +32,8 @@ def with_parentheses(words, span):
 
 def readings_of(terms, words):
     """Numbered prefix forms of the text's readings, each with the words that have this reading alone."""
-    texts = [with_parentheses(words, span) for span in spans_of(len(words))] + kept_apart(terms, words)
-    answers = terms.answers(texts)
-    alone = [text for text, answer in zip(texts, answers) if answer.refusal is None]
+    texts = [with_parentheses(words, span) for span in spans_of(len(words))]
+    alone = [text for text, answer in zip(texts, terms.answers(texts)) if answer.refusal is None]
     found = {}
     for text, answer in zip(alone, terms.asker.reductions(terms.base, [terms.command(text, "reduce") for text in alone])):
         form = prefix_of(answer)
@@ -42,13 +42,36 @@ def readings_of(terms, words):
     return found
 
 
-def kept_apart(terms, words):
-    """The text as a term of each kind: a choice with a term of the kind in the other branch."""
-    constants = {}
-    for declared in terms.scope.operators:
-        if not declared.arguments and not declared.has_holes:
-            constants.setdefault(terms.scope.kinds().get(declared.value), declared.spelling)
-    return [["if", "true", "then", *words, "else", constant, "fi"] for constant in constants.values()]
+def constants_module(terms):
+    """A module over that of a text, which has a constant of each kind; with a sort of each of these kinds."""
+    sorts = list(dict.fromkeys(terms.scope.kinds().values()))[:MOST_KINDS]
+    lines = "".join(f"op asked-{at} : -> {sort} . " for at, sort in enumerate(sorts))
+    return f"fmod asking is pr {terms.name} . {lines}endfm\n", sorts
+
+
+def read_in(terms, module, texts):
+    commands = [f"parse in asking : {spelled(text)} ." for text in texts]
+    answers = terms.asker.commands(terms.base + module, commands)
+    return [(answer.refusal or (0, None))[1] in READ for answer in answers]
+
+
+def kinds_of(terms, words):
+    """A sort of each kind of which the text spells a term: it is read as a branch beside a constant of the kind."""
+    module, sorts = constants_module(terms)
+    texts = [["if", "true", "then", *words, "else", f"asked-{at}", "fi"] for at in range(len(sorts))]
+    return [sort for sort, is_read in zip(sorts, read_in(terms, module, texts)) if is_read]
+
+
+def kinds_of_constants(terms, words):
+    """The first token with several kinds of which each may be meant there, and a sort of each of these kinds."""
+    module, sorts = constants_module(terms)
+    for at, word in enumerate(words):
+        if len({declared.value for declared in terms.scope.named(word) if not declared.arguments}) > 1:
+            texts = [[*words[:at], f"asked-{number}", *words[at + 1:]] for number in range(len(sorts))]
+            found = [sort for sort, is_read in zip(sorts, read_in(terms, module, texts)) if is_read]
+            if len(found) > 1:
+                return at, found
+    return None, []
 
 
 def ambiguous(fault):
@@ -79,8 +102,20 @@ def of_part(terms, part, words):
         good = [text for form, text in found.items() if without_numbers(form) in both]
         finding.tried += [f"`{shown(text, 40)}`" for text in good[:2]]
         finding.token = operator_between(part, good[0])
-    elif len(found) > 1:
-        finding.notes.append(f"its operators are declared for several kinds: {' and '.join(list(found)[:2])}")
+        return finding
+    return of_kinds(terms, part, words, finding)
+
+
+def of_kinds(terms, part, words, finding):
+    """The finding where a text, or a constant in it, has several kinds."""
+    at, sorts = kinds_of_constants(terms, words)
+    if at is None:
+        at, sorts = 0, kinds_of(terms, words)
+    if len(sorts) > 1:
+        finding.token = part[at]
+        text = words[at] if len(words) == 1 or at else shown(part)
+        finding.notes += [f"one reading has `{text}` in the kind [{sorts[0]}]", f"another one in the kind [{sorts[1]}]"]
+        finding.mend("one name in several kinds")
     return finding
 
 
@@ -105,12 +140,11 @@ def of_result(asker, base, module, text, scope):
     """The numbered prefix forms of readings of a printed term that has several."""
     found = Terms.__new__(Terms)
     found.asker, found.base, found.name, found.scope = asker, base, module, scope
-    words = text.split(" ")
-    return readings_of(found, split_words(text)) if len(words) < 400 else {}
+    words = split_words(text)
+    return readings_of(found, words) if len(words) < 400 else {}
 
 
 def split_words(text):
-    from .texts import File
     return [token.text for token in File("", text.encode("latin-1")).tokens]
 
 

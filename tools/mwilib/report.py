@@ -41,7 +41,7 @@ class Reporter:
 
     def refusal(self, fault, finding):
         """A refusal with its token, its meaning, and its mendings."""
-        meaning, mend = pages.refusals().get(fault.kind, (None, None))
+        meaning, mend = pages.refusal(fault.kind, bool(fault.unit and fault.unit.is_module))
         text = f"{fault.kind}: {fault.detail}" if fault.detail else fault.kind
         self.told(finding.token or fault.tokens[0], "error", text, finding.token is not None)
         for line in [meaning] if meaning else []:
@@ -57,7 +57,7 @@ class Reporter:
         for change in finding.edits:
             self.say(f"  such as: {change}")
         for change in finding.tried:
-            self.say(f"  asked: with {change} `mw` doesn't refuse this")
+            self.say(f"  asked: {change}: `mw` doesn't refuse that")
 
     def warning(self, token, text, notes=(), sort="warning"):
         self.told(token, sort, text, False)

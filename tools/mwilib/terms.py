@@ -262,7 +262,7 @@ def glued_or_missing(fault):
     for split, told in zip(splits, fault.asker.copies(base, copies) if copies else []):
         if is_better(told, fault.told) and (told is None or told[0] > fault.number):
             finding = at_missing_stop(tokens, *split)
-            finding.tried.append(f"`{shown(first_part(tokens, *split), 8)} .`")
+            finding.tried.append(f"`{shown(first_part(tokens, *split), 16)} .`")
             return finding
     return None
 
@@ -289,7 +289,8 @@ def at_test(fault, terms):
         sort = fault.tokens[at + 1] if at + 1 < len(fault.tokens) else None
         if token.text == ":" and sort and sort.text not in terms.scope.sorts and sort.text != "[":
             near = names.near(sort.text, terms.scope.sorts)
-            return Finding(sort, [f"{sort.text} is no sort of {terms.name}"], near).mend("a misspelt name")
+            finding = Finding(sort, [f"`{sort.text}` is no sort of {terms.name}"], near)
+            return finding.mend("a misspelt name" if near else "a sort that isn't declared")
     return Finding(None, ["each text is a term, but a condition is no truth value, or a test has another kind"])
 
 
@@ -301,13 +302,26 @@ def of_text(fault, terms, tokens):
     count, end = terms.longest_beginning(words)
     finding = mended(Text(fault, terms, tokens, count))
     if count == len(words):
-        behind = fault.tokens[fault.tokens.index(tokens[-1]) + 1]
-        missing = [word for word in end if not word.startswith("W:")]
-        finding.token = finding.token or behind
-        finding.notes.insert(0, f"`{shown(tokens)}` isn't whole" + (f": {quoted(missing)} is missing" if missing else ""))
-        return finding
+        finding.token = finding.token or fault.tokens[fault.tokens.index(tokens[-1]) + 1]
+        missing = " ".join(".." if word.startswith("W:") else word for word in end)
+        what = {"": "", "..": ": a term is missing behind it"}.get(missing, f": it can go on with `{missing}`")
+        finding.notes.insert(0, f"`{shown(tokens)}` isn't whole{what}")
+        return finding if finding.mends else finding.mend("a text that isn't whole")
     finding.token = finding.token or tokens[count]
     finding.notes[:0] = notes_at(terms, tokens, count)
+    return finding if finding.mends else of_kind(terms, tokens, count, end, finding)
+
+
+def of_kind(terms, tokens, count, end, finding):
+    """What is said where a term stands that isn't of the kind which is wanted there."""
+    words = [token.text for token in tokens[count:]]
+    answers = terms.answers([words[:length] for length in range(1, len(words) + 1)])
+    found = next(((length, answer.value("sort")) for length, answer in enumerate(answers, 1)
+                  if answer.refusal is None), None)
+    if found and end and end[0].startswith("W:"):
+        text, wanted = shown(tokens[count:count + found[0]]), terms.scope.kinds().get(end[0][2:])
+        finding.notes.append(f"`{text}` has the sort {found[1]}; here the kind [{wanted}] is wanted")
+        finding.mend("an argument of another kind")
     return finding
 
 
@@ -457,13 +471,31 @@ def of_unknown(text, finding):
     if None not in kept:
         texts = [[wildcard if other == word else other for other in text.words] for wildcard in wildcards]
         sorts = [wildcard[2:] for wildcard, is_read in zip(wildcards, text.terms.are_read(texts)) if is_read]
-    imported = of_prelude(text, word)
+    imported = of_prelude(text, word) or of_swallowed(text)
     if imported:
         return imported
     if sorts and text.fault.unit.is_module and word[0].isupper():
         finding.tried.append(f"`var {word} : {sorts[0]} .`")
         return finding.mend("a variable that isn't declared")
     return finding.mend("a name that isn't declared")
+
+
+def of_swallowed(text):
+    """A statement in front of which a full stop is missing, so that its words are sorts or variables."""
+    unit = text.terms.module
+    found = next(iter(swallowed(unit)), None)
+    if found is None or text.fault.unit is unit:
+        return None
+    finding = Finding(None, [f"`{found.text}` isn't read as the beginning of a statement there: it is a name"])
+    finding.also.append((found, "a full stop is missing in front of it"))
+    return finding.mend("a missing full stop")
+
+
+def swallowed(unit):
+    """Words that begin a statement, but stand as names of sorts or variables at the beginning of a line."""
+    for statement in unit.statements if unit.is_module else []:
+        if statement[0].text in ("sort", "sorts", "var", "vars", "subsort", "subsorts"):
+            yield from (token for token in statement[1:] if token.text in names.STATEMENTS and token.is_first_of_line)
 
 
 def of_prelude(text, word):
