@@ -52,6 +52,10 @@ def quoted(texts):
     return " ".join(f"`{text}`" for text in texts)
 
 
+def counted(count, noun):
+    return f"{count} {noun}" if count == 1 else f"{count} {noun}s"
+
+
 def shown(tokens, most=12):
     """Tokens as one text, as they are written where they stand in a file; shortened at its beginning if it is long."""
     kept = tokens[-most:]

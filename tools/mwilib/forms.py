@@ -1,7 +1,7 @@
 """Finds the token of a statement that isn't of its form, by asking `mw` about the statement's beginnings."""
 from . import names, pages
 from .asking import longest
-from .findings import Finding, shown
+from .findings import Finding, counted, shown
 from .sources import ENDS, MODULES
 
 CLOSING = {"(": ")", "[": "]", "{": "}"}
@@ -228,7 +228,7 @@ def with_mark(fault, tokens, end):
     places = range(1, len(words))
     have = fault.asker.have_forms(fault.unit.word, [[*words[:at], mark, *words[at:], "."] for at in places])
     good = [at for at, has_form in zip(places, have) if has_form]
-    if len(good) != 1:
+    if len(good) != 1 and (mark != ":" or not good):
         return None
     finding = of_form(Finding(tokens[good[0]], [f"`{mark}` is missing"]), words[0])
     finding.tried.append(f"`{mark}` in front of `{words[good[0]]}`")
@@ -266,10 +266,6 @@ def of_operator(tokens, count):
         if holes and holes != sorts:
             return f"`{shown(name)}` has {counted(holes, 'hole')}, and {counted(sorts, 'sort')} in front of the arrow"
     return None
-
-
-def counted(count, noun):
-    return f"{count} {noun}" if count == 1 else f"{count} {noun}s"
 
 
 def of_first_word(fault, finding):

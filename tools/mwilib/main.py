@@ -54,11 +54,6 @@ def files_of(names):
     return found
 
 
-def run_files(names, options):
-    files = files_of(names)
-    return 3 if files is None else Session(options).run(read_source(files))
-
-
 def main(words):
     given = parser().parse_args(words)
     try:
@@ -79,12 +74,15 @@ def answered(given):
     if given.watch and given.files:
         from .watching import watch
         return watch(given.files, options, given.check)
-    if given.check and given.files:
-        from .checking import check_files
-        return check_files(given.files, options)
-    if given.files:
-        return run_files(given.files, options)
-    if sys.stdin.isatty():
+    if not given.files and sys.stdin.isatty():
         from .prompt import Prompt
         return Prompt(options).run()
-    return Session(options).run(read_source([File("<stdin>", sys.stdin.buffer.read())]))
+    files = files_of(given.files) if given.files else [File("<stdin>", sys.stdin.buffer.read())]
+    return 3 if files is None else run_source(read_source(files), options, given.check)
+
+
+def run_source(source, options, check):
+    if check:
+        from .checking import check_source
+        return check_source(source, options)
+    return Session(options).run(source)

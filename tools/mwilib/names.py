@@ -47,10 +47,6 @@ class Declared:
             before = piece
         return text
 
-    @property
-    def shown(self):
-        return " ".join(token.text for token in self.statement)
-
 
 @dataclass
 class Scope:
@@ -81,18 +77,18 @@ class Scope:
                 if declared.spelling == text or not declared.has_holes and declared.pieces == [text]]
 
     def kinds(self):
-        """One sort of each kind, the first that is declared; and for each sort that of its kind."""
-        kind = {sort: sort for sort in self.sorts}
+        """For each sort the first one of its kind that is below no other."""
+        kind, low = {sort: sort for sort in self.sorts}, {low for low, _ in self.pairs}
 
         def first(sort):
             while kind[sort] != sort:
                 kind[sort] = sort = kind[kind[sort]]
             return sort
 
-        order = {sort: at for at, sort in enumerate(self.sorts)}
-        for low, high in self.pairs:
-            if low in kind and high in kind:
-                one, other = sorted((first(low), first(high)), key=order.get)
+        order = {sort: (sort in low, at) for at, sort in enumerate(self.sorts)}
+        for one, other in self.pairs:
+            if one in kind and other in kind:
+                one, other = sorted((first(one), first(other)), key=order.get)
                 kind[other] = one
         return {sort: first(sort) for sort in self.sorts}
 

@@ -9,11 +9,12 @@ from .findings import Fault, Finding
 from .program import Run, program_path
 from .report import Reporter
 from .sources import ENDS
-from .terms import name_in
+from .terms import name_in, swallowed
 
 MOST_SECONDS = 5.0                                      # for all questions about refusals of one run
 MOST_RESULTS = 500                                      # that are read again
 LONGEST = 4_000                                         # letters of a result that is read again
+SWALLOWED = "this is a name here, since no full stop stands in front of it; Maude doesn't read it so"
 BLANK_BLOCK = "`*** (` hides this line only; Maude takes it for a block comment, up to the matching `)`"
 
 
@@ -88,22 +89,26 @@ class Session:
         self.options, self.reporter = options or Options(), reporter or Reporter()
         self.known, self.program = known or Known(), program_path()
         self.results, self.left, self.blocks, self.is_behind = [], MOST_SECONDS, [], False
+        self.with_proofs = self.options.proof
 
     def run(self, source, front=""):
         """Runs a source behind the text of known modules, and answers the status."""
         self.results, self.left, self.blocks = [], MOST_SECONDS, []
         self.tell_notes(source)
         shift = front.count("\n")
-        with_proofs = self.options.proof
-        words = [self.program, "run", *self.options.words, *(["--proof"] if with_proofs else [])]
-        walk, run = Walk(source, self.known), Run(words, front + source.text, with_proofs)
+        words = [self.program, "run", *self.options.words, *(["--proof"] if self.with_proofs else [])]
+        walk, run = Walk(source, self.known), Run(words, front + source.text, self.with_proofs)
         for answer in run:
             self.show(answer, walk, source, shift)
+        self.ended()
         if run.status in (0, 1):
             walk.end()
             self.tell_readings()
         self.reporter.status(run.status)
         return run.status or int(any(note.is_error for note in source.notes))
+
+    def ended(self):
+        """Called when `mw` has ended."""
 
     def tell_notes(self, source):
         for note in source.notes:
@@ -111,6 +116,9 @@ class Session:
         for file in dict.fromkeys(source.files):
             for token in file.blank_blocks:
                 self.reporter.warning(token, BLANK_BLOCK)
+        for unit in source.units:
+            for token in swallowed(unit):
+                self.reporter.warning(token, SWALLOWED)
 
     def show(self, answer, walk, source, shift):
         if answer.refusal:
@@ -158,7 +166,7 @@ class Session:
     def block(self, answer, unit):
         self.blocks.append((answer, unit))
         self.is_behind = False
-        self.reporter.answer(answer.lines + answer.proof)
+        self.reporter.answer(answer.lines + (answer.proof if self.options.proof else []))
         if unit:
             self.warn_of_module(answer, unit)
             self.warn_of_result(answer, unit)

@@ -4,8 +4,8 @@ from itertools import islice, product
 
 from . import names
 from .asking import Copy, Unsure, base_of, is_better, longest
-from .findings import Finding, quoted, shown
-from .forms import at_missing_stop, closers, counted, first_part, stop_splits
+from .findings import Finding, counted, quoted, shown
+from .forms import at_missing_stop, closers, first_part, stop_splits
 from .sources import Unit
 from .texts import spelled
 
@@ -346,7 +346,7 @@ def arity_notes(terms, tokens, count):
         name = words[count]
     for declared in terms.scope.named(name)[:2] if name else []:
         wanted = counted(len(declared.arguments), "argument")
-        yield f"`{name}` has {wanted}: `{declared.shown}`{place_of(declared.statement[0])}"
+        yield f"`{name}` has {wanted}: `{shown(declared.statement, 40)}`{place_of(declared.statement[0])}"
 
 
 def place_of(token):
