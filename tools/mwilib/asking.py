@@ -1,14 +1,16 @@
 """Asks `mw` about changed texts, within a time: what is told of a token is what `mw` says of such texts."""
 from dataclasses import dataclass, field
+import os
 import subprocess
 import time
 
 from .names import reached
 from .pages import prelude
 from .program import answers_of, printed
+from .sources import EQUATIONS
 from .texts import spelled
 
-SECONDS = 0.5
+SECONDS = float(os.environ.get("MWI_SECONDS", "0.5"))           # for the questions about one refusal
 AT_ONCE = 24                                            # prefixes of one length each that one run is asked about
 # The kinds of faults in the order in which they are told: of equal numbers by the place.
 STAGES = {kind: stage for stage, kinds in enumerate([
@@ -30,8 +32,10 @@ class Copy:
     lines: list = field(default_factory=list)
 
     @staticmethod
-    def of(unit):
-        return Copy(unit.word, [(at, [token.text for token in words]) for at, words in enumerate(unit.statements)])
+    def of(unit, number=-1):
+        """A copy without equations and rules, but for the statement of this number."""
+        return Copy(unit.word, [(at, [token.text for token in words]) for at, words in enumerate(unit.statements)
+                                if at == number or words[0].text not in EQUATIONS])
 
     def with_lines(self, lines):
         return Copy(self.word, lines)
@@ -124,7 +128,7 @@ def is_better(told, before):
 
 
 def base_of(unit, units, with_it=False):
-    """The text of the modules that a unit reaches, of those that are accepted; with the unit itself if it is."""
+    """The signatures of the modules that a unit reaches, of those that are accepted; with its own if it is."""
     names = prelude()
-    return "".join(other.text for other in reached(unit, units)
+    return "".join(other.signature for other in reached(unit, units)
                    if names.get(other.name) is not other and (with_it or other is not unit))

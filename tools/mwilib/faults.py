@@ -77,12 +77,11 @@ def unknown_sort(fault):
 
 def with_copies(fault, finding, others):
     """Says which of these words in the place of the detail mend the statement."""
-    copy = Copy.of(fault.unit) if others else None
+    copy = Copy.of(fault.unit, fault.number) if others else None
     copies = []
     for other in others:
-        change = [[other if word == fault.detail else word for word in words] if at == fault.number else words
-                  for at, words in copy.lines]
-        copies.append(copy.with_lines(list(enumerate(change))))
+        copies.append(copy.with_lines([(at, [other if word == fault.detail and at == fault.number else word
+                                             for word in words]) for at, words in copy.lines]))
     told = fault.asker.copies(base_of(fault.unit, fault.accepted), copies) if copies else []
     finding.tried += [f"`{other}` in place of `{fault.detail}`" for other, found in zip(others, told)
                       if is_better(found, fault.told)]
@@ -225,7 +224,7 @@ def unbound_variable(fault):
 
 def with_variables(fault, finding, token):
     """Says which variable of the left side mends the statement."""
-    copy = Copy.of(fault.unit)
+    copy = Copy.of(fault.unit, fault.number)
     place = next(at for at, other in enumerate(fault.tokens) if other is token)
     copies = [copy.with_lines([(at, [*words[:place], name, *words[place + 1:]] if at == fault.number else words)
                                for at, words in copy.lines]) for name in finding.near]

@@ -1,4 +1,5 @@
 """Runs a source by `mw`, and shows its answers, each with what is to be said about it."""
+from collections import Counter
 from dataclasses import dataclass, field
 import time
 
@@ -89,7 +90,7 @@ class Session:
         self.options, self.reporter = options or Options(), reporter or Reporter()
         self.known, self.program = known or Known(), program_path()
         self.results, self.left, self.blocks, self.is_behind = [], MOST_SECONDS, [], False
-        self.with_proofs = self.options.proof
+        self.with_proofs, self.scopes = self.options.proof, {}
 
     def run(self, source, front=""):
         """Runs a source behind the text of known modules, and answers the status."""
@@ -140,7 +141,11 @@ class Session:
             return None
         started = time.monotonic()
         fault.asker = Asker(self.program, max(0.0, min(SECONDS, self.left)))
-        self.reporter.refusal(fault, finding_of(fault))
+        finding = finding_of(fault)
+        refused = self.known.last_refused
+        if refused and not unit.is_module and name_in([token.text for token in unit.tokens]) is None:
+            finding.also.append((refused.first, "the last module was refused; the command went to the one before it"))
+        self.reporter.refusal(fault, finding)
         self.left -= time.monotonic() - started
         return None
 
@@ -189,7 +194,7 @@ class Session:
         if answer.result and answer.result[0].startswith("["):
             text = f"the result has no sort, only the kind {answer.result[0]}: it is an error, or no equation applied"
             self.reporter.warning(unit.first, text)
-        if answer.result and " " in answer.result[1] and len(answer.result[1]) < LONGEST:
+        if answer.result and len(answer.result[1]) < LONGEST:
             self.results.append((unit, answer.head[1], answer.result[1]))
 
     def tell_readings(self):
@@ -197,18 +202,35 @@ class Session:
         try:
             asker = Asker(self.program)
             known = {unit.name: unit for unit in self.known.accepted}
-            asked = [result for result in self.results[:MOST_RESULTS] if result[1] in known]
+            asked = [result for result in self.results[:MOST_RESULTS]
+                     if result[1] in known and self.may_be_ambiguous(known[result[1]], result[2])]
             commands = [f"parse in {module} : {text} ." for _, module, text in asked]
-            base = "".join(unit.text for unit in self.known.accepted) if commands else ""
+            base = "".join(unit.signature for unit in self.known.accepted) if commands else ""
             for result, answer in zip(asked, asker.commands(base, commands)):
                 if readings.is_ambiguous(answer):
                     self.tell_reading(asker, known[result[1]], result)
         except Unsure:
             pass
 
+    def may_be_ambiguous(self, module, text):
+        """Whether a text has pieces of two mixfix forms, or a name of several operators: else it isn't asked for."""
+        pieces, several = self.scope(module)[1:]
+        words = readings.split_words(text)
+        return sum(word in pieces for word in words) > 1 or any(word in several for word in words)
+
+    def scope(self, module):
+        """A module's scope, the pieces of its names with holes, and names that several operators have."""
+        if module not in self.scopes:
+            scope = names.scope_of(module, self.known.accepted)
+            counts = Counter((declared.spelling, declared.value, *declared.arguments) for declared in scope.operators)
+            several = Counter(spelling for spelling, *_ in counts)
+            pieces = {piece for declared in scope.operators if declared.has_holes for piece in declared.pieces}
+            self.scopes[module] = scope, pieces - {"_"}, {name for name, count in several.items() if count > 1}
+        return self.scopes[module]
+
     def tell_reading(self, asker, module, result):
         unit, name, text = result
-        scope = names.scope_of(module, self.known.accepted)
+        scope = self.scope(module)[0]
         base = base_of(module, self.known.accepted, True)
         try:
             found = readings.of_result(asker, base, name, text, scope)

@@ -10,6 +10,7 @@ ENDS = {"fmod": "endfm", "mod": "endm", "omod": "endom", "fth": "endfth", "th": 
         "view": "endv", "smod": "endsm"}
 MODULES = ("fmod", "mod")
 IMPORTS = ("protecting", "pr", "extending", "ex", "including", "inc")
+EQUATIONS = ("eq", "ceq", "cq", "rl", "crl")
 LOADS = ("load", "in")
 PASSED = ("set", "show")
 LAST = {"eof": "the rest of this file isn't read, as in Maude", "quit": "what is behind it isn't read, as in Maude"}
@@ -59,7 +60,16 @@ class Unit:
 
     @cached_property
     def text(self):
-        return "\n".join(spelled([token.text for token in tokens]) for tokens in self.lines if tokens) + "\n"
+        return text_of(self.lines)
+
+    @cached_property
+    def signature(self):
+        """The text without equations and rules: it reads the same terms, and sooner."""
+        return text_of(tokens for tokens in self.lines if tokens and tokens[0].text not in EQUATIONS)
+
+
+def text_of(lines):
+    return "\n".join(spelled([token.text for token in tokens]) for tokens in lines if tokens) + "\n"
 
 
 def cut_at_stops(tokens):

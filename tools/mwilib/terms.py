@@ -3,14 +3,13 @@ from dataclasses import dataclass
 from itertools import islice, product
 
 from . import names
-from .asking import Copy, Unsure, base_of, is_better, longest
+from .asking import Copy, Unsure, base_of, longest
 from .findings import Finding, counted, quoted, shown
 from .forms import at_missing_stop, closers, first_part, stop_splits
 from .sources import Unit
 from .texts import spelled
 
 READ = (None, "ambiguous", "open term", "too deep", "number too large")
-STATEMENTS = ("eq", "ceq", "cq", "rl", "crl")
 CHOICE = {"if": ["then", "W", "else", "W", "fi"], "then": ["else", "W", "fi"], "else": ["fi"]}
 MOST_KINDS, MOST_LEVELS, MOST_ENDS, MOST_RESTS = 6, 6, 120, 12
 BRACKETS = {"(": ")", "[": "]", "{": "}"}
@@ -155,10 +154,7 @@ def text_in(tokens):
 def declarations(unit, as_constants):
     """A module without its equations and rules, and with constants for its variables if that is wanted."""
     copy = Copy.of(unit)
-    lines = [(at, words) for at, words in copy.lines if words[0] not in STATEMENTS]
-    if as_constants:
-        lines = [(at, constants_for(words)) for at, words in lines]
-    return copy.with_lines(lines)
+    return copy.with_lines([(at, constants_for(words)) for at, words in copy.lines]) if as_constants else copy
 
 
 def constants_for(words):
@@ -250,17 +246,16 @@ def glued_or_missing(fault):
     tokens = fault.tokens[:-1]
     splits = list(stop_splits(tokens)) + [(at, True) for at in range(1, len(tokens))
                                           if len(tokens[at - 1].text) > 1 and tokens[at - 1].text.endswith(".")]
-    copy = Copy.of(fault.unit)
-    copies = []
+    copy, copies = Copy.of(fault.unit, fault.number), []
     for at, is_glued in splits:
         front = [*first_part(tokens, at, is_glued), "."]
         rest = [token.text for token in fault.tokens[at:]]
-        lines = [(number, front) if number == fault.number else (number, words) for number, words in copy.lines]
-        behind = [(fault.number, rest)] if len(rest) > 1 else []
-        copies.append(copy.with_lines(lines[:fault.number + 1] + behind + lines[fault.number + 1:]))
+        changed = [(fault.number, front), *([(fault.number + 1, rest)] if len(rest) > 1 else [])]
+        copies.append(copy.with_lines([line for number, words in copy.lines
+                                       for line in (changed if number == fault.number else [(number, words)])]))
     base = base_of(fault.unit, fault.accepted)
     for split, told in zip(splits, fault.asker.copies(base, copies) if copies else []):
-        if is_better(told, fault.told) and (told is None or told[0] > fault.number):
+        if told is None or told[0] > fault.number:
             finding = at_missing_stop(tokens, *split)
             finding.tried.append(f"`{shown(first_part(tokens, *split), 16)} .`")
             return finding
