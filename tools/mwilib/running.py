@@ -15,6 +15,7 @@ from .terms import name_in, swallowed
 MOST_SECONDS = 5.0                                      # for all questions about refusals of one run
 MOST_RESULTS = 500                                      # that are read again
 LONGEST = 4_000                                         # letters of a result that is read again
+OF_TERMS = ("no parse", "ambiguous", "open term")
 SWALLOWED = "this is a name here, since no full stop stands in front of it; Maude doesn't read it so"
 BLANK_BLOCK = "`*** (` hides this line only; Maude takes it for a block comment, up to the matching `)`"
 
@@ -142,7 +143,7 @@ class Session:
         started = time.monotonic()
         fault.asker = Asker(self.program, max(0.0, min(SECONDS, self.left)))
         finding = finding_of(fault)
-        refused = self.known.last_refused
+        refused = self.known.last_refused if kind in OF_TERMS else None
         if refused and not unit.is_module and name_in([token.text for token in unit.tokens]) is None:
             finding.also.append((refused.first, "the last module was refused; the command went to the one before it"))
         self.reporter.refusal(fault, finding)
