@@ -129,6 +129,14 @@ def is_better(told, before):
 
 def base_of(unit, units, with_it=False):
     """The signatures of the modules that a unit reaches, of those that are accepted; with its own if it is."""
+    return "".join(other.signature for other in own_modules(unit, units) if with_it or other is not unit)
+
+
+def text_of(unit, units):
+    """The text of an accepted module behind those that it reaches."""
+    return "".join(other.text for other in own_modules(unit, units))
+
+
+def own_modules(unit, units):
     names = prelude()
-    return "".join(other.signature for other in reached(unit, units)
-                   if names.get(other.name) is not other and (with_it or other is not unit))
+    return [other for other in reached(unit, units) if names.get(other.name) is not other]

@@ -194,7 +194,7 @@ def near(text, names):
     ranked = sorted((distance(text, name, most), at, name) for at, name in enumerate(dict.fromkeys(names))
                     if name != text)
     folded = [name for _, _, name in ranked if name.lower() == text.lower()]
-    close = [name for far, _, name in ranked if far <= most and far < len(name) and far < len(text)]
+    close = [name for far, _, name in ranked if far <= most and far < max(len(name), len(text))]
     return list(dict.fromkeys([*folded, *close]))[:MOST_NEAR]
 
 

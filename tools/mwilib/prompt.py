@@ -6,10 +6,11 @@ import readline
 import time
 
 from . import names, pages
+from .asking import text_of
 from .program import flat_path
 from .report import Reporter
 from .running import MOST_SECONDS, Known, Session
-from .sources import ENDS, LAST, LOADS, PASSED, Source, found_path, read_file, read_source
+from .sources import ENDS, LAST, LOADS, PASSED, Source, found_path, named_from, read_file, read_source
 from .texts import PARENTHESIS, PIECE, File, spelled
 
 HELP = """Modules and commands are given to `mw` as in files; a command ends with ` .`. Ctrl-C ends a command alone,
@@ -134,7 +135,11 @@ class Prompt:
             return text is not None and self.answer(text)
         except KeyboardInterrupt:
             self.reporter.say("\nmwi: stopped")
-            return True
+        except Exception as fault:                      # the prompt and its modules stay; tests want to see this
+            if os.environ.get("MWI_DEBUG"):
+                raise
+            self.reporter.say(f"mwi: this went wrong: {fault!r}")
+        return True
 
     def answer(self, text):
         words = text.split()
@@ -177,11 +182,11 @@ class Prompt:
         path = found_path(name, None)
         if path is None:
             self.reporter.say(f"mwi: {name or ':load'}: there is no such file")
-        elif (path, name) in self.entries:
+        elif (path, named_from(None, name, path)) in self.entries:
             self.reload()
         else:
-            self.entries.append((path, name))
-            self.give(read_source([read_file(path, name)]), False)
+            self.entries.append((path, named_from(None, name, path)))
+            self.give(read_source([read_file(*self.entries[-1])]), False)
 
     def reload(self):
         """Reads all files and typed modules again."""
@@ -232,7 +237,6 @@ class Prompt:
 
     def tell_proof(self):
         """The proof of the last `reduce` or `rewrite`: the command is run again, with `--proof`."""
-        from .names import reached
         from .proofs import proof_of, shown_proof
         unit = self.module(self.last[0].head[1]) if self.last else None
         if flat_path() is None:
@@ -240,8 +244,7 @@ class Prompt:
         elif unit is None:
             self.reporter.say("mwi: no `reduce` or `rewrite` was answered yet")
         else:
-            modules = [other for other in reached(unit, self.known.accepted) if other in self.known.accepted]
-            base = "".join(other.text for other in modules)
+            base = text_of(unit, self.known.accepted)
             command = spelled([token.text for token in self.last[1].tokens]) + "\n"
             answers = proof_of(self.session.program, self.options.words, base, command)
             if answers and answers[-1].proof:

@@ -1,5 +1,5 @@
 """Shows the numbers of operators and statements, and the steps of a proof as terms."""
-from .asking import Asker, Unsure, base_of
+from .asking import Asker, Unsure, base_of, text_of
 from .checking import checkers, flat_module
 from .findings import shown
 from .names import reached
@@ -23,8 +23,7 @@ def shown_statement(words):
 
 def numbers(unit, units):
     """Lines with the operators and statements of a module, each with its number."""
-    text = base_of(unit, units, True)
-    module, flat = flat_module(text, unit.name)
+    module, flat = flat_module(text_of(unit, units), unit.name)
     records = [line.split() for line in flat.splitlines()]
     sorts = {words[1]: words[2] for words in records if words[0] == "sort"}
     yield "operators"
@@ -93,10 +92,9 @@ def where(step):
 
 def shown_proof(program, unit, units, proof):
     """Lines for a proof text: each step by its statement, its place and its values, and the term that it leaves."""
-    base = base_of(unit, units, True)
-    module, _ = flat_module(base, unit.name)
+    module, _ = flat_module(text_of(unit, units), unit.name)
     steps = Steps(module, "\n".join(proof))
-    texts = mixfix(program, base, unit.name, steps.forms())
+    texts = mixfix(program, base_of(unit, units, True), unit.name, steps.forms())
     terms, values = texts[:len(steps.terms)], iter(texts[len(steps.terms):])
     written = statements_of(unit, units)
     yield f"from  {terms[0]}"

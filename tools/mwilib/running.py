@@ -215,18 +215,22 @@ class Session:
 
     def may_be_ambiguous(self, module, text):
         """Whether a text has pieces of two mixfix forms, or a name of several operators: else it isn't asked for."""
-        pieces, several = self.scope(module)[1:]
+        _, pieces, several, has_holes_alone = self.scope(module)
         words = readings.split_words(text)
-        return sum(word in pieces for word in words) > 1 or any(word in several for word in words)
+        is_grouped = sum(word in pieces for word in words) > 1 or has_holes_alone and len(words) > 2
+        return is_grouped or any(word in several for word in words)
 
     def scope(self, module):
-        """A module's scope, the pieces of its names with holes, and names that several operators have."""
+        """A module's scope, the pieces of its names with holes, names that several operators have or that may be a
+        numeral or an identifier too, and whether a name is of holes alone."""
         if module not in self.scopes:
             scope = names.scope_of(module, self.known.accepted)
             counts = Counter((declared.spelling, declared.value, *declared.arguments) for declared in scope.operators)
             several = Counter(spelling for spelling, *_ in counts)
-            pieces = {piece for declared in scope.operators if declared.has_holes for piece in declared.pieces}
-            self.scopes[module] = scope, pieces - {"_"}, {name for name, count in several.items() if count > 1}
+            names_of = {name for name, count in several.items() if count > 1 or name.isdigit() or name[0] == "'"}
+            mixfix = [declared.pieces for declared in scope.operators if declared.has_holes]
+            pieces = {piece for found in mixfix for piece in found} - {"_"}
+            self.scopes[module] = scope, pieces, names_of, any(set(found) == {"_"} for found in mixfix)
         return self.scopes[module]
 
     def tell_reading(self, asker, module, result):

@@ -241,7 +241,7 @@ def found_path(name, beside):
 
 def named_from(file, name, path):
     """How a file that another one names is named to people: from the present folder, as they would open it."""
-    base = pathlib.Path(file.name).parent if file.path else pathlib.Path()
+    base = pathlib.Path(file.name).parent if file and file.path else pathlib.Path()
     short = base / (name if str(path).endswith(pathlib.Path(name).name) else f"{name}.maude")
     return str(short)
 

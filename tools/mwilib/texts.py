@@ -70,34 +70,32 @@ class File:
         """The first byte that is of no token, or the opening of a comment that has no end."""
         return self.cut[1]
 
-    @cached_property
-    def cut(self):
-        found, at = [], 0
-        while at < len(self.text):
-            piece = PIECE.match(self.text, at)
-            at = piece.end()
-            if piece["token"]:
-                found.append(Token(piece["token"], self, piece.start()))
-            elif piece["block"]:
-                at = end_of_block(self.text, at)
-            if at is None or piece["bad"]:
-                return found, Token(piece[0], self, piece.start())
-        return found, None
+    @property
+    def blank_blocks(self):
+        """Comments of one line that Maude takes for block comments and that hide something there."""
+        return self.cut[2]
 
     @cached_property
-    def blank_blocks(self):
-        """Places of comments of one line that Maude takes for block comments and that hide something there."""
-        found, at = [], 0
-        while at < len(self.text):
-            piece = PIECE.match(self.text, at)
-            at = piece.end()
-            at = end_of_block(self.text, at) if piece["block"] else at
-            if at is None:
-                break
-            opening = piece["line"] and BLANK_BLOCK.match(piece["line"])
-            if opening and not closes_at_end(piece["line"][opening.end():]):
-                found.append(Token(opening[0], self, piece.start()))
-        return found
+    def cut(self):
+        found, blocks, at, bad = [], [], 0, None
+        while at is not None:
+            at, bad = self.cut_from(at, found, blocks)
+        return found, bad, blocks
+
+    def cut_from(self, at, found, blocks):
+        """Adds the tokens from a place on, up to the next block comment: where it ends, and what refuses the source."""
+        for piece in PIECE.finditer(self.text, at):
+            kind = piece.lastgroup
+            if kind == "token":
+                found.append(Token(piece[0], self, piece.start()))
+            elif kind == "line" and hides(piece[0]):
+                blocks.append(Token(BLANK_BLOCK.match(piece[0])[0], self, piece.start()))
+            elif kind == "block":
+                end = end_of_block(self.text, piece.end())
+                return end, None if end else Token(piece[0], self, piece.start())
+            elif kind == "bad":
+                return None, Token(piece[0], self, piece.start())
+        return None, None
 
 
 def end_of_block(text, at):
@@ -108,6 +106,12 @@ def end_of_block(text, at):
         if depth == 0:
             return found.end()
     return None
+
+
+def hides(line):
+    """Whether Maude takes a comment of one line for a block comment that ends elsewhere."""
+    opening = BLANK_BLOCK.match(line)
+    return opening and not closes_at_end(line[opening.end():])
 
 
 def closes_at_end(line):

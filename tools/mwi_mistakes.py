@@ -1,0 +1,210 @@
+"""Mistakes as people make them, each with the token that must be shown and the change that must mend it."""
+from dataclasses import dataclass
+
+
+@dataclass
+class Mistake:
+    """A source in which « and » stand round the token, the refusal, what must be shown besides, and a change of the
+    source, old and new text, that a reader makes who follows the message: then nothing may be refused."""
+
+    title: str
+    marked: str
+    refusal: str
+    shows: tuple
+    change: tuple
+
+    @property
+    def source(self):
+        return self.marked.replace("«", "", 1).replace("»", "", 1)
+
+    @property
+    def place(self):
+        """Line and column of the token, and how long it is."""
+        before, rest = self.marked.split("«", 1)
+        line = before.rsplit("\n", 1)[-1]
+        return before.count("\n") + 1, len(line) + 1, len(rest.split("»", 1)[0])
+
+    @property
+    def mended(self):
+        return self.source.replace(*self.change, 1)
+
+
+PEANO = """fmod P is
+  sort N .
+  op z : -> N .
+  op s : N -> N .
+  op plus : N N -> N .
+  vars X Y : N .
+"""
+FOUND = [
+    Mistake("no full stop behind a statement",
+            "fmod A is\n  sort S .\n  op a : -> S\n  «op» b : -> S .\nendfm\nred b .\n", "bad statement",
+            ("mend: end each statement and each command with ` .`", "`op a : -> S .`"), ("S\n  op b", "S .\n  op b")),
+    Mistake("no full stop behind an equation",
+            PEANO + "  eq plus(z, Y) = Y\n  «eq» plus(s(X), Y) = s(plus(X, Y)) .\nendfm\n", "no parse",
+            ("mend: end each statement and each command with ` .`", "`eq plus(z, Y) = Y .`"), ("= Y\n", "= Y .\n")),
+    Mistake("a full stop glued to a name",
+            PEANO + "  eq plus(z, Y) = «Y.»\n  eq plus(s(X), Y) = s(plus(X, Y)) .\nendfm\n", "no parse",
+            ("mend: put a blank in front of the full stop",), ("Y.", "Y .")),
+    Mistake("no full stop behind the last statement",
+            "fmod A is\n  sort S .\n  op a : -> S\n«endfm»\nred a .\n", "bad statement",
+            ("mend: end each statement and each command with ` .`",), ("S\nendfm", "S .\nendfm")),
+    Mistake("no full stop behind a command",
+            PEANO + "endfm\nred s(z)\n«red» z .\n", "no parse",
+            ("mend: end each statement and each command with ` .`", "`.` in front of `red`"), ("s(z)\n", "s(z) .\n")),
+    Mistake("a command whose full stop is glued to it",
+            "fmod A is\n  sort S .\n  op b : -> S .\nendfm\nred «b.»\n", "unended command",
+            ("mend: put a blank in front of the full stop", "`b .`"), ("b.", "b .")),
+    Mistake("a misspelt word of a statement",
+            "fmod A is\n  «sorst» S .\n  op a : -> S .\nendfm\n", "not in this profile",
+            ("near: `sort`, `sorts`", "mend: write the word that is near"), ("sorst", "sort")),
+    Mistake("a misspelt word of a command",
+            "fmod A is\n  sort S .\n  op a : -> S .\nendfm\n«reduec» a .\n", "not in this profile",
+            ("near: `reduce`", "mend: write the word that is near"), ("reduec", "reduce")),
+    Mistake("a misspelt word of a module",
+            "«fmodd» A is\n  sort S .\nendfm\nred true .\n", "not in this profile",
+            ("near: `fmod`", "mend: write the word that is near"), ("fmodd", "fmod")),
+    Mistake("a misspelt operator in an equation",
+            PEANO + "  eq plus(s(X), Y) = s(«pluss»(X, Y)) .\nendfm\n", "no parse",
+            ("`pluss` is no name of P", "near: `plus`", "asked: `plus` in place of `pluss`"), ("pluss", "plus")),
+    Mistake("a misspelt operator in a command",
+            PEANO + "endfm\nred plus(z, «Z») .\n", "no parse",
+            ("`Z` is no name of P", "near: `z`", "asked: `z` in place of `Z`"), ("Z)", "z)")),
+    Mistake("a misspelt attribute",
+            "fmod A is\n  sort S .\n  op f : S S -> S [«asoc» comm] .\nendfm\n", "not in this profile",
+            ("near: `assoc`", "asked: `assoc` in place of `asoc`"), ("asoc", "assoc")),
+    Mistake("an attribute without brackets",
+            "fmod A is\n  sort S .\n  op f : S S -> S «assoc» .\nendfm\n", "bad statement",
+            ("mend: put the attributes into brackets", "`[assoc]`"), ("assoc", "[assoc]")),
+    Mistake("an argument too many",
+            PEANO + "endfm\nred s(z«,» z) .\n", "no parse",
+            ("`s` has 1 argument: `op s : N -> N .`", "without `, z`"), ("z, z", "z")),
+    Mistake("an argument too few",
+            PEANO + "endfm\nred plus(s(z)«)» .\n", "no parse",
+            ("`plus` has 2 arguments: `op plus : N N -> N .`", "one more argument in front of `)`"), ("s(z)", "s(z), z")),
+    Mistake("an argument of another kind",
+            "fmod A is\n  protecting NAT .\n  sort S .\n  op a : -> S .\nendfm\nred 1 + «a» .\n", "no parse",
+            ("`a` has the sort S; here the kind [Nat] is wanted",), ("+ a", "+ 1")),
+    Mistake("no comma between arguments",
+            PEANO + "endfm\nred plus(z «z») .\n", "no parse",
+            ("mend: put a comma between the arguments", "`,` in front of `z`"), ("z z", "z, z")),
+    Mistake("a rule in a functional module",
+            "fmod A is\n  sort S .\n  ops a b : -> S .\n  «rl» a => b .\nendfm\n", "bad statement",
+            ("`rl` stands in system modules only", "mend: write the module as `mod .. endm`"),
+            ("rl a => b", "eq a = b")),
+    Mistake("a parenthesis too few",
+            PEANO + "endfm\nred plus(s(z), s(z) «.»\n", "no parse",
+            ("mend: close each bracket", "`)` at the end"), ("s(z) .", "s(z)) .")),
+    Mistake("a parenthesis too many",
+            PEANO + "endfm\nred plus(s(z), s(z))«)» .\n", "no parse",
+            ("mend: take the bracket out", "without `)`"), (")))", "))")),
+    Mistake("a system module that ends with endfm",
+            "mod A is\n  sort S .\n  op a : -> S .\n«endfm»\nmod B is\n  sort S .\nendm\n", "not in this profile",
+            ("it ends with `endm`", "mend: end `fmod` by `endfm`, and `mod` by `endm`"), ("endfm", "endm")),
+    Mistake("a wrong end of the last module",
+            "mod A is\n  sort S .\n  op a : -> S .\n«endfm»\n", "unended module",
+            ("ends with `endm`", "mend: end `fmod` by `endfm`, and `mod` by `endm`"), ("endfm", "endm")),
+    Mistake("no end of a module",
+            "fmod A is\n  sort S .\n\n«fmod» B is\n  sort S .\nendfm\n", "not in this profile",
+            ("it ends with `endfm`", "mend: end the module in front of the next unit"), ("\nfmod B", "endfm\nfmod B")),
+    Mistake("an import of a misspelt module",
+            "fmod NATS is\n  sort S .\nendfm\nfmod A is\n  protecting «NATZ» .\nendfm\n", "unknown module: NATZ",
+            ("near: `NATS`, `NAT`", "asked: `NATS` in place of `NATZ`"), ("NATZ", "NATS")),
+    Mistake("an import of itself",
+            "fmod A is\n  protecting «A» .\n  sort S .\nendfm\n", "circular import: A",
+            ("mend: take the import out",), ("  protecting A .\n", "")),
+    Mistake("a command in a misspelt module",
+            "fmod LISTS is\n  sort S .\n  op a : -> S .\nendfm\nred in «LIST» : a .\n", "unknown module: LIST",
+            ("near: `LISTS`", "asked: `LISTS` in place of `LIST`"), ("in LIST ", "in LISTS ")),
+    Mistake("an unbound variable",
+            PEANO + "  eq plus(z, X) = «Y» .\nendfm\n", "unbound variable: Y",
+            ("`Y` isn't in the left side", "near: `X`", "asked: `X` in place of `Y`"), ("= Y", "= X")),
+    Mistake("a variable that isn't declared",
+            "fmod A is\n  sort S .\n  op a : -> S .\n  op f : S -> S .\n  eq f(«X») = a .\nendfm\n", "no parse",
+            ("`X` is no name of A", "mend: declare it by `var`", "asked: `var X : S .`"),
+            ("  eq f", "  var X : S .\n  eq f")),
+    Mistake("a misspelt sort",
+            "fmod A is\n  sort List .\n  op nil : -> «Lst» .\nendfm\n", "unknown sort: Lst",
+            ("near: `List`", "asked: `List` in place of `Lst`"), ("Lst", "List")),
+    Mistake("a sort of a module that isn't imported",
+            "fmod A is\n  sort List .\n  op length : List -> «Nat» .\nendfm\n", "unknown sort: Nat",
+            ("`Nat` is a sort of the prelude's NAT", "asked: `protecting NAT .` in A"),
+            ("  sort List", "  protecting NAT .\n  sort List")),
+    Mistake("a number in a module without numbers",
+            "fmod A is\n  sort S .\n  op f : S -> S .\n  op g : Bool -> Bool .\n  eq g(true) = 1 == «1» .\nendfm\n",
+            "no parse", ("a name of the prelude's NAT", "mend: import the module that has it"),
+            ("  sort S", "  protecting NAT .\n  sort S")),
+    Mistake("a variable that is declared twice",
+            "fmod A is\n  sorts S T .\n  var X : S .\n  var «X» : T .\nendfm\n", "already defined: X",
+            (":3:7: note: it is declared here", "mend: take another name"), ("var X : T", "var Y : T")),
+    Mistake("a module's name that is taken",
+            "fmod A is\n  sort S .\nendfm\nfmod «A» is\n  sort T .\nendfm\n", "already defined: A",
+            (":1:6: note: it is defined here", "mend: take another name"), ("fmod A is\n  sort T", "fmod B is\n  sort T")),
+    Mistake("a name of the prelude",
+            "fmod «NAT» is\n  sort Nat .\nendfm\n", "already defined: NAT",
+            ("NAT is a module of the prelude", "mend: take another name"), ("NAT", "MY-NAT")),
+    Mistake("a text with two readings",
+            "fmod A is\n  sort S .\n  ops a b : -> S .\n  op _-_ : S S -> S .\nendfm\nred a - b «-» a .\n", "ambiguous",
+            ("_-_(_-_(a, b), a)", "_-_(a, _-_(b, a))", "asked: `(a - b) - a`"), ("a - b - a", "(a - b) - a")),
+    Mistake("a variable in a command",
+            PEANO + "endfm\nred plus(«X», z) .\n", "open term",
+            ("`X` is a variable", "mend: put a constant in its place"), ("(X", "(z")),
+    Mistake("search", "mod A is\n  sort S .\n  ops a b : -> S .\n  rl a => b .\nendm\n«search» a =>* b .\n",
+            "not in this profile", ("mend: follow one path by `rewrite`, with a bound",),
+            ("search a =>* b", "rewrite [5] a")),
+    Mistake("owise", PEANO + "  eq plus(z, Y) = Y .\n  eq plus(X, Y) = X [«owise»] .\nendfm\n", "not in this profile",
+            ("mend: write left sides that exclude each other",), ("plus(X, Y) = X [owise]", "plus(s(X), Y) = X")),
+    Mistake("sides of different kinds",
+            "fmod A is\n  protecting NAT .\n  sort T .\n  op t : -> T .\n  op size : T -> Nat .\n"
+            "  eq size(t) «=» t .\nendfm\n", "no parse",
+            ("`size(t)` has the sort Nat, and `t` T", "mend: give both sides one kind"), ("= t", "= 1")),
+    Mistake("an operator without a colon",
+            "fmod A is\n  sort S .\n  op f «S» -> S .\nendfm\n", "bad statement",
+            ("`:` is missing", "the form is `op NAME : S T -> U .`", "`:` in front of `S`"), ("f S", "f : S")),
+    Mistake("an operator with an equals sign",
+            "fmod A is\n  sort S .\n  op f : S «=>» S .\nendfm\n", "bad statement",
+            ("near: `->`", "asked: `->` in place of `=>`"), ("=>", "->")),
+    Mistake("holes and sorts",
+            "fmod A is\n  sort S .\n  op _+_ : S «->» S .\nendfm\n", "bad statement",
+            ("`_+_` has 2 holes, and 1 sort in front of the arrow",), (": S ->", ": S S ->")),
+    Mistake("a conditional equation without a condition",
+            "fmod A is\n  sort S .\n  ops a b : -> S .\n  «ceq» a = b .\nendfm\n", "bad statement",
+            ("near: `eq`", "asked: `eq` in place of `ceq`"), ("ceq", "eq")),
+    Mistake("an equation whose left side is a variable",
+            "fmod A is\n  sort S .\n  op a : -> S .\n  op f : S -> S .\n  var X : S .\n  eq «X» = a .\nendfm\n",
+            "lone variable", ("mend: put an operator on top",), ("eq X", "eq f(X)")),
+    Mistake("an operator without a least sort",
+            "fmod A is\n  sorts S T U .\n  subsort S < T U .\n  op a : -> T .\n  op «a» : -> U .\nendfm\n",
+            "not preregular: a", (":4:6: note: it is declared here too", "mend: declare it at these sorts"),
+            ("op a : -> U .", "op a : -> U .\n  op a : -> S .")),
+    Mistake("a circle of sorts",
+            "fmod A is\n  sorts S T .\n  subsort S < T .\n  subsort T «<» S .\nendfm\n",
+            "sort cycle: S", ("the cycle isn't there without this statement", "mend: take one `<` of the cycle out"),
+            ("  subsort T < S .\n", "")),
+    Mistake("assoc on one argument",
+            "fmod A is\n  sort S .\n  op f : S -> S [«assoc»] .\nendfm\n", "bad axioms: f",
+            ("without `assoc` `mw` doesn't refuse this", "mend: give `assoc` and `comm` to an operator on two arguments"),
+            (" [assoc]", "")),
+    Mistake("an identity that isn't there",
+            "fmod A is\n  sort S .\n  op f : S S -> S [assoc «id:» e] .\nendfm\n", "bad axioms: f",
+            ("without `id: e` `mw` doesn't refuse this",), ("  op f", "  op e : -> S .\n  op f")),
+    Mistake("two precedences",
+            "fmod A is\n  sort S .\n  op _+_ : S S -> S [prec 31] .\n  op _+_ : S S -> S [«prec» 33] .\nendfm\n",
+            "attributes disagree: _+_", (":3:6: note: it is declared here too", "mend: say it once"), ("prec 33", "ditto")),
+    Mistake("a letter that isn't ASCII",
+            "fmod A is\n  sort S .\n  op «\u00e9» : -> S .\nendfm\n", "bad byte",
+            ("names are ASCII", "mend: take it out"), ("\u00e9", "e")),
+    Mistake("a comment without an end",
+            "fmod A is\n  sort S . «***(» here\n  op a : -> S .\nendfm\n", "unended comment", ("mend: close it",),
+            ("here", "here )")),
+    Mistake("a bound that is no number",
+            "fmod A is\n  sort S .\n  op a : -> S .\nendfm\nrewrite «[»0] a .\n", "bad bound",
+            ("mend: take it out, or write the number",), ("[0]", "[1]")),
+    Mistake("a parameter", "fmod L«{»X :: TRIV} is\n  sort S .\nendfm\n", "not in this profile",
+            ("mend: write the module for the one sort",), ("L{X :: TRIV}", "L")),
+    Mistake("a head without is", "fmod A\n  «sort» S .\nendfm\n", "bad statement",
+            ("mend: write `fmod NAME is`",), ("A\n", "A is\n")),
+    Mistake("a statement outside of a module", "«op» a : -> Bool .\nred true .\n", "not in this profile",
+            ("no module", "mend: put the statement between `fmod NAME is` and `endfm`"),
+            ("op a : -> Bool .", "fmod A is op a : -> Bool . endfm")),
+]
