@@ -131,7 +131,7 @@ FOUND = [
             ("`Nat` is a sort of the prelude's NAT", "asked: `protecting NAT .` in A"),
             ("  sort List", "  protecting NAT .\n  sort List")),
     Mistake("a number in a module without numbers",
-            "fmod A is\n  sort S .\n  op f : S -> S .\n  op g : Bool -> Bool .\n  eq g(true) = 1 == «1» .\nendfm\n",
+            "fmod A is\n  sort S .\n  op f : S -> S .\n  op g : Bool -> Bool .\n  eq g(true) = «1» == 1 .\nendfm\n",
             "no parse", ("a name of the prelude's NAT", "mend: import the module that has it"),
             ("  sort S", "  protecting NAT .\n  sort S")),
     Mistake("a variable that is declared twice",

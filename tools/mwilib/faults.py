@@ -4,7 +4,7 @@ import os
 from . import forms, names, pages, readings, terms
 from .asking import Copy, Unsure, base_of, is_better
 from .findings import Finding, shown
-from .sources import ENDS
+from .sources import ENDS, IMPORTS
 from .terms import Terms, parts_of, text_in
 
 
@@ -41,7 +41,7 @@ def already_defined(fault):
 def unknown_module(fault):
     at = 1 if fault.unit.is_module else 2
     finding = Finding(first_with(fault.tokens, fault.detail, at))
-    known = [*pages.prelude(), *(unit.name for unit in fault.accepted)]
+    known = [*(unit.name for unit in fault.accepted), *pages.prelude()]
     finding.near = names.near(fault.detail, known)
     refused = fault.refused.get(fault.detail)
     if refused:
@@ -117,7 +117,7 @@ def sort_cycle(fault):
     numbers = [(at, None, None) for at, words in enumerate(fault.unit.statements) if words[0].text.startswith("subsort")]
     cutting = without_each(fault, numbers)
     if not cutting:
-        return Finding()
+        return of_what_joins(fault)
     statement = fault.unit.statements[cutting[-1][0]]
     finding = Finding(first_with(statement, "<"), ["the cycle isn't there without this statement"])
     finding.also += [(fault.unit.statements[at][0], "or without this one") for at, _, _ in cutting[:-1]]
@@ -136,9 +136,24 @@ def of_operator(fault):
     places += [(at, None, None) for at in reversed(found)]
     mending = without_each(fault, places)
     if not mending:
-        statement = fault.unit.statements[found[-1]] if found else None
-        return Finding(statement[1] if statement else None)
+        return of_what_joins(fault)
     return at_place(fault, mending[0], found)
+
+
+def of_what_joins(fault):
+    """A fault of several modules, or of sorts that are joined: the `subsort` statement, or the import, without which it
+    isn't told."""
+    words = (*IMPORTS, "subsort", "subsorts")
+    places = [(at, None, None) for at, statement in enumerate(fault.unit.statements) if statement[0].text in words]
+    mending = without_each(fault, places)
+    if not mending:
+        return Finding()
+    statement = fault.unit.statements[mending[-1][0]]
+    finding = Finding(statement[min(1, len(statement) - 1)], ["without this statement `mw` doesn't refuse this"])
+    finding.also += [(fault.unit.statements[at][0], "or without this one") for at, _, _ in mending[:-1]]
+    rows = pages.refusals()[fault.kind]
+    finding.mends += [rows[1][1]] if len(rows) > 1 else []
+    return finding
 
 
 def attribute_places(statement, number):

@@ -17,7 +17,7 @@ MOST_RESULTS = 500                                      # that are read again
 LONGEST = 4_000                                         # letters of a result that is read again
 OF_TERMS = ("no parse", "ambiguous", "open term")
 SWALLOWED = "this is a name here, since no full stop stands in front of it; Maude doesn't read it so"
-BLANK_BLOCK = "`*** (` hides this line only; Maude takes it for a block comment, up to the matching `)`"
+BLANK_BLOCK = "`{}` hides this line only; Maude takes it for a block comment, up to the matching `)`"
 
 
 @dataclass
@@ -91,7 +91,7 @@ class Session:
         self.options, self.reporter = options or Options(), reporter or Reporter()
         self.known, self.program = known or Known(), program_path()
         self.results, self.left, self.blocks, self.is_behind = [], MOST_SECONDS, [], False
-        self.with_proofs, self.scopes = self.options.proof, {}
+        self.with_proofs, self.scopes = self.options.proof, {}  # scopes of accepted modules stay as they are
 
     def run(self, source, front=""):
         """Runs a source behind the text of known modules, and answers the status."""
@@ -117,7 +117,7 @@ class Session:
             self.reporter.warning(note.token, note.text, sort="error" if note.is_error else "note")
         for file in dict.fromkeys(source.files):
             for token in file.blank_blocks:
-                self.reporter.warning(token, BLANK_BLOCK)
+                self.reporter.warning(token, BLANK_BLOCK.format(token.text))
         for unit in source.units:
             for token in swallowed(unit):
                 self.reporter.warning(token, SWALLOWED)
