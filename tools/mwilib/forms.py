@@ -152,6 +152,8 @@ def of_statement(fault):
         return wrong_end(fault)
     is_ended = tokens[-1].text == "."
     body = tokens[:-1] if is_ended else tokens
+    if not body:
+        return Finding(tokens[0], ["no statement stands in front of it"]).mend("a full stop too many")
     finding = missing_stop(fault, body) or of_attribute(fault, body)
     return finding or at_first_fault(fault, tokens, is_ended)
 

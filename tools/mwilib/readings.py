@@ -82,6 +82,10 @@ def ambiguous(fault):
         words = [token.text for token in part]
         if words and (terms.answers([words])[0].refusal or (0, None))[1] == "ambiguous":
             return of_part(terms, part, words)
+    for token in (token for part in parts for token in part):
+        if token.text in terms.scope.variables and terms.scope.named(token.text):
+            finding = Finding(token, [f"`{token.text}` is a variable, and an operator too"])
+            return finding.mend("a variable with an operator's name")
     return Finding(None, ["each text has one reading by itself, but together they have several"])
 
 

@@ -56,7 +56,8 @@ class Unit:
         """The text of each line that `mw` gets, with the tokens whose first begins it."""
         if not self.is_module:
             return [self.tokens]
-        return [self.tokens[:3], *self.statements, *([self.tokens[-1:]] if self.is_ended else [])]
+        end = len(self.tokens) - self.is_ended
+        return [self.tokens[:min(3, end)], *self.statements, self.tokens[end:]]
 
     @cached_property
     def text(self):

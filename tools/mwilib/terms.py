@@ -166,19 +166,25 @@ def constants_for(words):
 def parts_of(tokens):
     """The texts of an equation or a rule: both sides, and of each fragment of the condition; with each the mark that
     joins it to the one in front of it."""
+    body, fragments = sides_and_fragments(tokens)
+    sides = names.divided(body, "=>" if tokens[0].text in ("rl", "crl") else "=")
+    found = [(sides[0], None), (sides[2], sides[1])] if sides else [(body, None)]
+    return found + [part for fragment in fragments for part in fragment_parts(fragment)]
+
+
+def sides_and_fragments(tokens):
+    """The tokens of both sides, and the fragments of the condition."""
     word, body = tokens[0].text, tokens[1:-1] if tokens[-1].text == "." else tokens[1:]
     if body[:1] and body[0].text == "[" and len(body) > 3 and body[2].text == "]" and body[3].text == ":":
         body = body[4:]
-    body, condition = without_attributes(body), []
+    body, condition, fragments = without_attributes(body), [], []
     if word in ("ceq", "cq", "crl"):
         body, condition = cut_at_if(body)
-    sides = names.divided(body, "=>" if word in ("rl", "crl") else "=")
-    found = [(sides[0], None), (sides[2], sides[1])] if sides else [(body, None)]
     while condition:
         cut = names.divided(condition, "/\\")
         fragment, condition = (cut[0], cut[2]) if cut else (condition, [])
-        found += fragment_parts(fragment)
-    return found
+        fragments.append(fragment)
+    return body, fragments
 
 
 def fragment_parts(fragment):
@@ -286,7 +292,20 @@ def at_test(fault, terms):
             near = names.near(sort.text, terms.scope.sorts)
             finding = Finding(sort, [f"`{sort.text}` is no sort of {terms.name}"], near)
             return finding.mend("a misspelt name" if near else "a sort that isn't declared")
-    return Finding(None, ["each text is a term, but a condition is no truth value, or a test has another kind"])
+    return of_truth(fault, terms)
+
+
+def of_truth(fault, terms):
+    """A fragment of a condition that is a term, but no truth value."""
+    fragments = [fragment for fragment in sides_and_fragments(fault.tokens)[1] if len(fragment_parts(fragment)) == 1]
+    texts = [[token.text for token in fragment] for fragment in fragments]
+    are_true = terms.are_read([["(", *words, ")", "==", "true"] for words in texts])
+    for fragment, words, is_truth in zip(fragments, texts, are_true):
+        if not is_truth:
+            sort = terms.answers([words])[0].value("sort")
+            said = f"`{shown(fragment)}` has the sort {sort}, and " if sort else ""
+            return Finding(fragment[0], [f"{said}a condition is of the sort Bool"]).mend("a condition that is no truth value")
+    return Finding(None, ["each text is a term, but a test asks for a sort of another kind"])
 
 
 def of_text(fault, terms, tokens):
