@@ -11,7 +11,7 @@ from .sources import EQUATIONS
 from .texts import spelled
 
 SECONDS = float(os.environ.get("MWI_SECONDS", "0.5"))           # for the questions about one refusal
-AT_ONCE = 24                                            # prefixes of one length each that one run is asked about
+AT_ONCE, LONG = 24, 100                                 # beginnings that one run is asked about; less of a long text
 # The kinds of faults in the order in which they are told: of equal numbers by the place.
 STAGES = {kind: stage for stage, kinds in enumerate([
     ["unended module", "unended command"], ["not in this profile", "bad statement"], ["already defined"],
@@ -108,8 +108,8 @@ def longest(count, are_viable):
     can't be read doesn't become so by more tokens."""
     low, high = 0, count + 1
     while high - low > 1:
-        step = max(1, (high - low) // AT_ONCE)
-        lengths = list(range(low + step, high, step))[:2 * AT_ONCE]
+        step = max(1, (high - low) // (AT_ONCE if count < LONG else AT_ONCE // 4))
+        lengths = list(range(low + step, high, step))
         viable = are_viable(lengths)
         good = [length for length, is_viable in zip(lengths, viable) if is_viable]
         bad = [length for length, is_viable in zip(lengths, viable) if not is_viable]

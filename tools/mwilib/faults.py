@@ -7,6 +7,8 @@ from .findings import Finding, shown
 from .sources import ENDS, IMPORTS
 from .terms import Terms, parts_of, text_in
 
+SUBSORTS = ("subsort", "subsorts")
+
 
 def first_with(tokens, text, start=0):
     return next((token for token in tokens[start:] if token.text == text), None)
@@ -114,7 +116,7 @@ def without_each(fault, places):
 
 def sort_cycle(fault):
     """The `subsort` statements without one of which the cycle isn't there."""
-    numbers = [(at, None, None) for at, words in enumerate(fault.unit.statements) if words[0].text.startswith("subsort")]
+    numbers = [(at, None, None) for at, words in enumerate(fault.unit.statements) if words[0].text in SUBSORTS]
     cutting = without_each(fault, numbers)
     if not cutting:
         return of_what_joins(fault)
@@ -143,7 +145,7 @@ def of_operator(fault):
 def of_what_joins(fault):
     """A fault of several modules, or of sorts that are joined: the `subsort` statement, or the import, without which it
     isn't told."""
-    words = (*IMPORTS, "subsort", "subsorts")
+    words = (*IMPORTS, *SUBSORTS)
     places = [(at, None, None) for at, statement in enumerate(fault.unit.statements) if statement[0].text in words]
     mending = without_each(fault, places)
     if not mending:
@@ -172,7 +174,8 @@ def at_place(fault, place, declared):
     statement = fault.unit.statements[number]
     what = f"`{shown(statement[first:last])}`" if first is not None else "this declaration"
     finding = Finding(statement[1 if first is None else first], [f"without {what} `mw` doesn't refuse this"])
-    finding.also += [(fault.unit.statements[other][1], "it is declared here too") for other in declared if other != number]
+    others = [fault.unit.statements[other][1] for other in declared if other != number]
+    finding.also += [(token, "it is declared here too") for token in others]
     return finding
 
 

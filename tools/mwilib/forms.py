@@ -33,8 +33,8 @@ def tails_of_operator():
     sorts = ["S " * count for count in range(MOST_SORTS)]
     values = [f"{some}-> S" for some in sorts]
     ends = ["", "S", "S ]", "]", *ATTRIBUTES]
-    return [*ends, *values, *(f"{value[1:]}" for value in values if value[0] == "S"), *(f": {value}" for value in values),
-            "S ] -> S", "] -> S", "x : -> S", ") : -> S", *(f") : {value}" for value in values)]
+    named = [f": {value}" for value in values]
+    return [*ends, *values, *named, *(f") {value}" for value in named), "S ] -> S", "] -> S", "x : -> S"]
 
 
 def closers(words):

@@ -14,8 +14,8 @@ ABOUT = """Runs FILE.. in order as one text by `mw`, and shows what `mw` answers
 standard input where that is no terminal. Nothing of mwi is proved; what it shows as an answer is what `mw` printed.
 $MW names the program `mw`, $FLAT the program mw_flat. docs/MWI.md has more."""
 
-NOT_BUILT = """mwi: there is no program `mw`. `./mw --version` proves and builds it, which takes hours. Or build it unproved in
-three minutes, and name it: tools/quick-build . /tmp/mw; export MW=/tmp/mw"""
+NOT_BUILT = """mwi: there is no program `mw`. `./mw --version` proves and builds it, which takes hours. Or build it
+unproved in three minutes, and name it: tools/quick-build . /tmp/mw; export MW=/tmp/mw"""
 
 
 def parser():

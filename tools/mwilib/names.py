@@ -1,5 +1,6 @@
 """The names that a module has, and which of them are near to another name."""
 from dataclasses import dataclass, field
+from functools import cached_property
 import re
 
 from . import pages
@@ -10,8 +11,8 @@ STATEMENTS = ["sort", "sorts", "subsort", "subsorts", "op", "ops", "var", "vars"
               *IMPORTS]
 UNITS = ["fmod", "mod", "endfm", "endm"]
 COMMANDS = ["reduce", "red", "rewrite", "rew", "parse", "match", "xmatch"]
-ATTRIBUTES = ["assoc", "comm", "id:", "prec", "gather", "ctor", "ditto", "memo", "config", "object", "message", "format",
-              "metadata"]
+ATTRIBUTES = ["assoc", "comm", "id:", "prec", "gather", "ctor", "ditto", "memo", "config", "object", "message",
+              "format", "metadata"]
 OF_STATEMENTS = ["nonexec", "label", "metadata"]
 MARKS = [":", "->", "~>", "=", "=>", ":=", "/\\", "<", "if", "<=?"]
 MOST_NEAR = 3
@@ -28,15 +29,15 @@ class Declared:
     attributes: list
     statement: list
 
-    @property
+    @cached_property
     def pieces(self):
         return [piece for token in self.tokens for piece in PIECE.findall(token.text)]
 
-    @property
+    @cached_property
     def has_holes(self):
         return "_" in self.pieces
 
-    @property
+    @cached_property
     def spelling(self):
         """The name as one token (docs/LANGUAGE.md, "Names of operators")."""
         text, before = "", "_"
@@ -50,7 +51,8 @@ class Declared:
 
 @dataclass
 class Scope:
-    """What a module has, with its imports: sorts, declared operators, and the variables of its own."""
+    """What a module has, with its imports: sorts, declared operators, and the variables of its own. All is added before
+    anything is asked of it."""
 
     sorts: dict = field(default_factory=dict)
     pairs: list = field(default_factory=list)
@@ -58,7 +60,7 @@ class Scope:
     variables: dict = field(default_factory=dict)
     modules: set = field(default_factory=set)
 
-    @property
+    @cached_property
     def pieces(self):
         """All tokens of terms: pieces of operators' names, their spellings, and variables."""
         found = {piece for declared in self.operators for piece in declared.pieces}
@@ -73,9 +75,23 @@ class Scope:
 
     def named(self, text):
         """The declarations of operators with this name in prefix forms."""
-        return [declared for declared in self.operators
-                if declared.spelling == text or not declared.has_holes and declared.pieces == [text]]
+        return self.by_name.get(text, [])
 
+    @cached_property
+    def by_name(self):
+        """The operators by their spellings, which for a name of one piece without holes is this piece."""
+        found = {}
+        for declared in self.operators:
+            found.setdefault(declared.spelling, []).append(declared)
+        return found
+
+    @cached_property
+    def mixfix(self):
+        """The operators whose names have holes and pieces, one of each name and sorts."""
+        found = {(declared.spelling, *declared.arguments): declared for declared in self.operators}
+        return [declared for declared in found.values() if declared.has_holes and set(declared.pieces) != {"_"}]
+
+    @cached_property
     def kinds(self):
         """For each sort the first one of its kind that is below no other."""
         kind, low = {sort: sort for sort in self.sorts}, {low for low, _ in self.pairs}

@@ -34,8 +34,8 @@ def readings_of(terms, words):
     """Numbered prefix forms of the text's readings, each with the words that have this reading alone."""
     texts = [with_parentheses(words, span) for span in spans_of(len(words))]
     alone = [text for text, answer in zip(texts, terms.answers(texts)) if answer.refusal is None]
-    found = {}
-    for text, answer in zip(alone, terms.asker.reductions(terms.base, [terms.command(text, "reduce") for text in alone])):
+    found, commands = {}, [terms.command(text, "reduce") for text in alone]
+    for text, answer in zip(alone, terms.asker.reductions(terms.base, commands)):
         form = prefix_of(answer)
         if form:
             found.setdefault(form, text)
@@ -44,7 +44,7 @@ def readings_of(terms, words):
 
 def constants_module(terms):
     """A module over that of a text, which has a constant of each kind; with a sort of each of these kinds."""
-    sorts = list(dict.fromkeys(terms.scope.kinds().values()))[:MOST_KINDS]
+    sorts = list(dict.fromkeys(terms.scope.kinds.values()))[:MOST_KINDS]
     lines = "".join(f"op asked-{at} : -> {sort} . " for at, sort in enumerate(sorts))
     return f"fmod asking is pr {terms.name} . {lines}endfm\n", sorts
 

@@ -12,7 +12,7 @@ from .report import Reporter
 from .sources import ENDS
 from .terms import name_in, swallowed
 
-MOST_SECONDS = 5.0                                      # for all questions about refusals of one run
+MOST_SECONDS = 10 * SECONDS                                      # for all questions about refusals of one run
 MOST_RESULTS = 500                                      # that are read again
 LONGEST = 4_000                                         # letters of a result that is read again
 OF_TERMS = ("no parse", "ambiguous", "open term")
@@ -163,7 +163,8 @@ class Session:
         finding = Finding(source.bad)
         if source.bad and kind == "bad byte":
             letter = source.bad.file.text[source.bad.at:source.bad.at + 4].encode("latin-1").decode("utf-8", "ignore")
-            finding.notes.append(f"it begins the letter `{letter[:1]}`; names are ASCII" if letter else "it is no letter")
+            said = f"it begins the letter `{letter[:1]}`; names are ASCII" if letter else "it is no letter"
+            finding.notes.append(said)
         if source.bad:
             self.reporter.refusal(fault, finding)
         else:

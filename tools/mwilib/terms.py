@@ -65,7 +65,7 @@ class Terms:
 
     def wildcards(self):
         """A variable of each kind."""
-        kinds = dict.fromkeys(self.scope.kinds().values())
+        kinds = dict.fromkeys(self.scope.kinds.values())
         return [f"W:{sort}" for sort in kinds][:MOST_KINDS]
 
     def ends_of_level(self, level, wildcard):
@@ -82,13 +82,10 @@ class Terms:
 
     def rests(self, words, wildcard):
         """What may come behind the last piece of a mixfix form that is open in these words."""
-        found = []
-        for declared in self.scope.operators:
+        found, here = [], set(words) - {"_"}
+        for declared in self.scope.mixfix:
             pieces = declared.pieces
-            inner = [at for at, piece in enumerate(pieces) if piece != "_"]
-            if not declared.has_holes or not inner:
-                continue
-            last = next((at for at in reversed(inner) if pieces[at] in words), None)
+            last = next((at for at in range(len(pieces) - 1, -1, -1) if pieces[at] in here), None)
             rest = pieces[last + 1:] if last is not None else []
             sorts = declared.arguments[pieces[:last].count("_"):] if rest else []
             for behind in ([rest, rest[1:]] if rest[:1] == ["_"] else [rest]):
@@ -304,7 +301,8 @@ def of_truth(fault, terms):
         if not is_truth:
             sort = terms.answers([words])[0].value("sort")
             said = f"`{shown(fragment)}` has the sort {sort}, and " if sort else ""
-            return Finding(fragment[0], [f"{said}a condition is of the sort Bool"]).mend("a condition that is no truth value")
+            finding = Finding(fragment[0], [f"{said}a condition is of the sort Bool"])
+            return finding.mend("a condition that is no truth value")
     return Finding(None, ["each text is a term, but a test asks for a sort of another kind"])
 
 
@@ -333,7 +331,7 @@ def of_kind(terms, tokens, count, end, finding):
     found = next(((length, answer.value("sort")) for length, answer in enumerate(answers, 1)
                   if answer.refusal is None), None)
     if found and end and end[0].startswith("W:"):
-        text, wanted = shown(tokens[count:count + found[0]]), terms.scope.kinds().get(end[0][2:])
+        text, wanted = shown(tokens[count:count + found[0]]), terms.scope.kinds.get(end[0][2:])
         finding.notes.append(f"`{text}` has the sort {found[1]}; here the kind [{wanted}] is wanted")
         finding.mend("an argument of another kind")
     return finding
