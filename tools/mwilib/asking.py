@@ -17,6 +17,7 @@ STAGES = {kind: stage for stage, kinds in enumerate([
     ["unended module", "unended command"], ["not in this profile", "bad statement"], ["already defined"],
     ["circular import", "unknown module"], ["unknown sort"], ["sort cycle", "bad axioms", "attributes disagree"],
     ["not preregular", "not associative", "low identity"]]) for kind in kinds}
+LAST_STAGE = 7
 OF_FORMS = ("not in this profile", "bad statement")
 
 
@@ -122,7 +123,7 @@ def is_better(told, before):
     """Whether a changed module is accepted, or its first fault comes behind the one that was told before."""
     if told is None:
         return True
-    stage, old_stage = STAGES.get(told[1], 9), STAGES.get(before[1], 9)
+    stage, old_stage = STAGES.get(told[1], LAST_STAGE), STAGES.get(before[1], LAST_STAGE)
     return (stage, told[0]) > (old_stage, before[0]) or stage == old_stage and told[1:] != before[1:] \
         and told[0] >= before[0]
 

@@ -2,7 +2,7 @@
 import os
 
 from . import forms, names, pages, readings, terms
-from .asking import Copy, Unsure, base_of, is_better
+from .asking import LAST_STAGE, STAGES, Copy, Unsure, base_of, is_better
 from .findings import Finding, shown
 from .sources import ENDS, IMPORTS
 from .terms import Terms, parts_of, text_in
@@ -111,7 +111,9 @@ def without_each(fault, places):
                      for other, words in copy.lines]
         copies.append(copy.with_lines(lines))
     told = fault.asker.copies(base_of(fault.unit, fault.accepted), copies) if copies else []
-    return [place for place, found in zip(places, told) if found is None or found[1:] != (fault.kind, fault.detail)]
+    stage = STAGES[fault.kind]
+    return [place for place, found in zip(places, told)
+            if found is None or STAGES.get(found[1], LAST_STAGE) >= stage and found[1:] != (fault.kind, fault.detail)]
 
 
 def sort_cycle(fault):

@@ -7,7 +7,7 @@ from .sources import ENDS, MODULES
 CLOSING = {"(": ")", "[": "]", "{": "}"}
 MOST_SORTS = 6
 SIDES = ["x", "= x", "x = x", "l ] : x = x", "] : x = x", ": x = x", "nonexec ]", "]", 'l ]', '"" ]']
-ATTRIBUTES = ["]", "ctor ]", "3 ]", "x ]", "( e ) ]", "e ) ]", ") ]", '"" ]', "( d ) ]"]
+ATTRIBUTES = ["]", "ctor ]", "3 ]", "x ]", '"" ]']
 
 
 def tails_of(tokens):
@@ -32,7 +32,8 @@ def tails_of(tokens):
 def tails_of_operator():
     sorts = ["S " * count for count in range(MOST_SORTS)]
     values = [f"{some}-> S" for some in sorts]
-    ends = ["", "S", "S ]", "]", *ATTRIBUTES]
+    marks = ["e " * count + ") ]" for count in range(MOST_SORTS)]
+    ends = ["", "S", "S ]", *ATTRIBUTES, *marks, *(f"( {mark}" for mark in marks)]
     named = [f": {value}" for value in values]
     return [*ends, *values, *named, *(f") {value}" for value in named), "S ] -> S", "] -> S", "x : -> S"]
 
@@ -195,8 +196,8 @@ def at_token_behind(fault, tokens, count, end):
     finding = Finding(token)
     if count == 0:
         return of_first_word(fault, finding)
-    finding.notes.append(f"`{shown(tokens[:count])}` can't go on with `{token.text}`"
-                         + (f"; it can with `{' '.join(end)} .`" if end else "; it can end there"))
+    how = f"it can with `{' '.join(end)} .`" if end else "it can end there"
+    finding.notes.append(f"`{shown(tokens[:count])}` doesn't go on with `{token.text}` in any form; {how}")
     if token.text in pages.mistakes():
         return finding.mend(token.text)
     more = of_operator(tokens, count) if word in ("op", "ops") else None

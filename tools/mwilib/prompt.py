@@ -135,6 +135,8 @@ class Prompt:
             return text is not None and self.answer(text)
         except KeyboardInterrupt:
             self.reporter.say("\nmwi: stopped")
+        except OSError as fault:
+            self.reporter.say(f"mwi: {fault.filename}: {fault.strerror}")
         except Exception as fault:                      # the prompt and its modules stay; tests want to see this
             if os.environ.get("MWI_DEBUG"):
                 raise

@@ -73,7 +73,8 @@ class Walk:
 
     def command(self):
         """The next command."""
-        unit = next((unit for unit in self.source.units[self.at:self.at + 100_000] if unit.word not in ENDS), None)
+        units = self.source.units
+        unit = next((units[at] for at in range(self.at, len(units)) if units[at].word not in ENDS), None)
         if unit:
             self.pass_to(unit)
         return unit

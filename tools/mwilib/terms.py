@@ -338,14 +338,17 @@ def of_kind(terms, tokens, count, end, finding):
 
 
 def notes_at(terms, tokens, count):
-    """What is said of the first token that can't be read."""
+    """What is said of the first token that can't be read, and whether the others are known."""
     token = tokens[count]
+    unknown = [other.text for other in tokens if not terms.scope.is_known(other.text) and other.text != token.text]
     if not terms.scope.is_known(token.text):
         yield f"`{token.text}` is no name of {terms.name}"
     elif count:
-        yield f"`{shown(tokens[:count])}` can be read; `{token.text}` can't follow it"
+        yield f"`{shown(tokens[:count])}` can be read; no way to go on with `{token.text}` was found"
     else:
-        yield f"no term begins with `{token.text}` here"
+        yield f"no term was found that begins with `{token.text}`"
+    if unknown:
+        yield f"not known in {terms.name} either: {quoted(dict.fromkeys(unknown))}"
     yield from arity_notes(terms, tokens, count)
 
 

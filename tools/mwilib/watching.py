@@ -1,4 +1,5 @@
 """Runs files again at each change of them, and of what they put in."""
+import pathlib
 import time
 
 from .checking import check_blocks
@@ -38,7 +39,7 @@ def run_once(names, options, check):
 def watch(names, options, check):
     """Goes on until it is interrupted."""
     while True:
-        paths = run_once(names, options, check)
+        paths = {*map(pathlib.Path, names), *run_once(names, options, check)}
         seen = changes_of(paths)
         print(f"mwi: {time.strftime('%H:%M:%S')}: waiting for a change; Ctrl-C ends it", flush=True)
         while changes_of(paths) == seen:
