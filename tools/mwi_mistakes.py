@@ -187,7 +187,7 @@ FOUND = [
     Mistake("assoc on one argument",
             "fmod A is\n  sort S .\n  op f : S -> S [«assoc»] .\nendfm\n", "bad axioms: f",
             ("without `assoc` `mw` doesn't refuse this",
-             "mend: give `assoc` and `comm` to an operator on two arguments"),
+             "mend: give `assoc` and `comm` to operators on two arguments"),
             (" [assoc]", "")),
     Mistake("an identity that isn't there",
             "fmod A is\n  sort S .\n  op f : S S -> S [assoc «id:» e] .\nendfm\n", "bad axioms: f",

@@ -3,7 +3,7 @@ from functools import cache
 import re
 
 from .program import TOP
-from .sources import Unit, cut_at_stops, ENDS
+from .sources import ENDS, Unit
 from .texts import File
 
 PRELUDE = TOP / "crates" / "mw_prelude" / "src" / "modules.rt"

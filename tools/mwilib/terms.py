@@ -6,7 +6,6 @@ from . import names
 from .asking import Copy, Unsure, base_of, longest
 from .findings import Finding, counted, quoted, shown
 from .forms import at_missing_stop, closers, first_part, stop_splits
-from .sources import Unit
 from .texts import spelled
 
 READ = (None, "ambiguous", "open term", "too deep", "number too large")
