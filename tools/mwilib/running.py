@@ -92,11 +92,12 @@ class Session:
         self.options, self.reporter = options or Options(), reporter or Reporter()
         self.known, self.program = known or Known(), program_path()
         self.results, self.left, self.blocks, self.is_behind = [], MOST_SECONDS, [], False
+        self.is_whole_refused = False
         self.with_proofs, self.scopes = self.options.proof, {}  # scopes of accepted modules stay as they are
 
     def run(self, source, front=""):
         """Runs a source behind the text of known modules, and answers the status."""
-        self.results, self.left, self.blocks = [], MOST_SECONDS, []
+        self.results, self.left, self.blocks, self.is_whole_refused = [], MOST_SECONDS, [], False
         self.tell_notes(source)
         shift = front.count("\n")
         words = [self.program, "run", *self.options.words, *(["--proof"] if self.with_proofs else [])]
@@ -104,7 +105,7 @@ class Session:
         for answer in run:
             self.show(answer, walk, source, shift)
         self.ended()
-        if run.status in (0, 1):
+        if run.status in (0, 1) and not self.is_whole_refused:
             walk.end()
             self.tell_readings()
         self.reporter.status(run.status)
@@ -159,7 +160,8 @@ class Session:
         return was_behind and is_outside and is_part
 
     def of_whole(self, kind, source):
-        """A refusal of the whole source, by a byte or a comment."""
+        """A refusal of the whole source, by a byte or a comment: no module of it is accepted."""
+        self.is_whole_refused = True
         fault = Fault(kind, None, None, [source.bad], [], {}, None)
         finding = Finding(source.bad)
         if source.bad and kind == "bad byte":
@@ -193,7 +195,8 @@ class Session:
         status = answer.value("status") or ""
         if status.startswith("limit"):
             sort = "note" if status == "limit rules" else "warning"
-            self.reporter.warning(unit.first, f"it stopped: {status}", [f"mend: {pages.stops()[status]}"], sort)
+            mends = [f"mend: {pages.stops()[status]}"] if status in pages.stops() else []
+            self.reporter.warning(unit.first, f"it stopped: {status}", mends, sort)
         if answer.result and answer.result[0].startswith("["):
             text = f"the result has no sort, only the kind {answer.result[0]}: it is an error, or no equation applied"
             self.reporter.warning(unit.first, text)
