@@ -2,7 +2,7 @@
 from .asking import Asker, Unsure, base_of, text_of
 from .checking import checkers, flat_module
 from .findings import shown
-from .names import reached
+from .names import reached, scope_of
 from .program import Lines, printed
 
 MOST_STEPS = 200
@@ -26,13 +26,14 @@ def numbers(unit, units):
     module, flat = flat_module(text_of(unit, units), unit.name)
     records = [line.split() for line in flat.splitlines()]
     sorts = {words[1]: words[2] for words in records if words[0] == "sort"}
+    tops = scope_of(unit, units).kinds
     yield "operators"
     number = spelling = kinds = None
     for words in records:
         if words[0] == "op":
             number, spelling, kinds = words[1], words[2], words[3:]
         elif words[0] == "declared":
-            names = [word if word == "->" else f"[{sorts[kind]}]" if word == "0" else sorts[word]
+            names = [word if word == "->" else f"[{tops[sorts[kind]]}]" if word == "0" else sorts[word]
                      for word, kind in zip(words[1:], kinds)]
             yield f"{number:>6}  op {spelling} : {' '.join(names)}"
     yield "statements"
