@@ -7,7 +7,7 @@ from typing import NamedTuple
 BLANKS = r"[\t-\r ]"
 PIECE = re.compile(
     rf"{BLANKS}+|(?P<line>(?:\*\*\*|---)(?!\()[^\n]*)|(?P<block>(?:\*\*\*|---)\()"
-    r"""|(?P<token>[()\[\]{},]|"[ -~]*?(?<!\\)"|(?:`[()\[\]{},]|[!-'*+\--Z\\^-z|~])+)|(?P<bad>.)""", re.S)
+    r"""|(?P<token>[()\[\]{},]|"[ -~]*?(?<!\\)"|(?:[!-'*+\--Z\\^_a-z|~]+|`[()\[\]{},]?)+)|(?P<bad>.)""", re.S)
 STRING = re.compile(r'"[ -~]*?(?<!\\)"')
 PARENTHESIS = re.compile(r"[()]")
 # A line comment that Maude takes for a block comment.
