@@ -12,7 +12,6 @@ STRING = re.compile(r'"[ -~]*?(?<!\\)"')
 PARENTHESIS = re.compile(r"[()]")
 # A line comment that Maude takes for a block comment.
 BLANK_BLOCK = re.compile(r"(?:\*\*\*|---)[\t ]+(\()")
-OPENING, CLOSING = "([{", ")]}"
 
 
 class Token(NamedTuple):
