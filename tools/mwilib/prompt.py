@@ -3,6 +3,7 @@ import os
 import pathlib
 import re
 import readline
+import signal
 import time
 
 from . import names, pages
@@ -120,6 +121,7 @@ class Prompt:
         return 0
 
     def begin(self, history):
+        signal.signal(signal.SIGINT, signal.default_int_handler)    # also where Ctrl-C was ignored at the start
         try:
             readline.read_history_file(history)
         except OSError:
