@@ -30,7 +30,10 @@ class Token(NamedTuple):
 
     @property
     def is_first_of_line(self):
-        return not self.file.text[self.file.start_of(self.line):self.at].strip()
+        before = self.at
+        while before and self.file.text[before - 1] in " \t\r\v\f":
+            before -= 1
+        return before == 0 or self.file.text[before - 1] == "\n"
 
 
 class File:
