@@ -3,7 +3,7 @@ use Rattle.std.specs.Prelude.{◌≡◌, ℕ, zero, suc, ◌+◌, ◌-◌, ◌*�
 use Rattle.std.specs.Ordering.{is_eq}
 use Rattle.std.proofs.Common.{inl, inr, ap, sym, subst, ◌∙◌, arith, mul-le-mul_left, mul-le-mul_right, le-div_iff_mul-le, div-mul-le_self}
 use Rattle.std.proofs.lemmas.Bool.{both_ways, lt-ltb}
-use Rattle.std.proofs.lemmas.List.{length-take-le, length-map}
+use Rattle.std.proofs.lemmas.List.{length-take-le, length-map, length_push}
 use Rattle.mw_logic.specs.Term.{RawTerm, RawTerms, nil, cons, join}
 use Rattle.mw_logic.specs.Parts.{number_of_terms}
 use Rattle.mw_logic.specs.TermOrder.{compare_terms, sorted_terms}
@@ -11,7 +11,7 @@ use Rattle.mw_logic.proofs.SortLaws.{join-nil}
 use Rattle.mw_logic.proofs.SortedLists.{occurrences, sorted_terms-counts, Climbs, sorted_terms-climbing}
 use Rattle.mw_split.specs.Lists.{Member, AllOnce}
 use Rattle.mw_split.specs.Cuts.{bag_cuts, first, after}
-use Rattle.mw_split.proofs.Next.{cuts-first, reached-short, length_push}
+use Rattle.mw_split.proofs.Next.{cuts-first, reached-short}
 use Rattle.mw_split.proofs.Whole.{bag_cuts_once}
 use Rattle.mw_arguments.specs.Pieces.{ArePieces}
 use Rattle.mw_arguments.specs.Bags.{spread, runs, heads, numbers, bag_pieces, Rises}
