@@ -47,15 +47,6 @@ zeros (suc n) (suc i) = zeros n i
 no_place : (n j : ℕ) → HasPlace (replicate n 0) j → ⊥
 no_place n j h = let z : bit_at (slice_index (replicate n 0) (j / 64)) (j % 64) ≡ 0 = ap (λ (w : ℕ). bit_at w (j % 64)) (zeros n (j / 64)) ∙ bit_at-zero (j % 64) in omega (arith, z, h)
 
-pub row_begun : (mark : ℕ) (marks members words : List ℕ) → words ≡ replicate (length members / 64 + 1) 0 → RowSoFar mark 0 marks members words
-row_begun mark marks members words e = subst (λ (ws : List ℕ). RowSoFar mark 0 marks members ws) (sym e) none
-  where
-    none : RowSoFar mark 0 marks members (replicate (length members / 64 + 1) 0)
-    none = record {
-      room = omega (arith, length-replicate {A = ℕ} (length members / 64 + 1) 0);
-      exact = λ j. ((λ h. absurd (no_place (length members / 64 + 1) j h)), (λ p. let l = p.0 in absurd (omega arith)));
-    }
-
 -- the next member has the mark
 pub row_added : (mark i : ℕ) (marks members old new : List ℕ) → RowSoFar mark i marks members old → slice_index marks (slice_index members i - 1) ≡ mark → length new ≡ length old
     → ((j : ℕ) → HasPlace new j ↔ (HasPlace old j ⊎ (j ≡ i))) → RowSoFar mark (i + 1) marks members new
@@ -88,10 +79,4 @@ row_passed mark i marks members words h m = record {
       | inr d ↦ (h.exact j).1 (let l = p.0 in omega arith, p.1)
     ]),
   );
-}
-
-pub row_done : (mark i : ℕ) (marks members words : List ℕ) → RowSoFar mark i marks members words → length members ≤ i → MarkedPlaces mark marks members words
-row_done mark i marks members words h n = record {
-  room = h.room;
-  exact = λ j l. ((λ p. ((h.exact j).0 p).1), (λ m. (h.exact j).1 (omega arith, m)));
 }

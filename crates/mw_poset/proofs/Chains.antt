@@ -6,7 +6,8 @@ use Rattle.mw_logic.specs.Sorts.{AtOrBelow}
 use Rattle.mw_logic.proofs.BelowLaws.{AtOrBelow-trans}
 use Rattle.mw_poset.specs.Order.{IsSort, ArePairsOf, IsKindOf}
 use Rattle.mw_poset.specs.Tables.{turned_too, IsSymmetric, IsLeastReached}
-use Rattle.mw_poset.proofs.Members.{member-left, member-right, member-append, member-all}
+use Rattle.mw_logic.proofs.Members.{member-left, member-right, member-append}
+use Rattle.mw_poset.proofs.Members.{member-all}
 
 pub AtOrBelow-then : {ps : List (ℕ × ℕ)} {S T U : ℕ} → AtOrBelow ps S T → Member (T, U) ps → AtOrBelow ps S U
 AtOrBelow-then p m = AtOrBelow-trans p (AtOrBelow.above m AtOrBelow.same)

@@ -25,20 +25,6 @@ increasing-push xs y h below k l =
           omega arith
     ]
 
--- no sort has been put anywhere
-pub groups_begun : (kinds : List ℕ) (members : List (List ℕ)) (places : List ℕ) → length members ≡ length kinds → All (λ l. l ≡ []) members → places ≡ [] → AreGroups 0 kinds members places
-groups_begun kinds members places n e p = record {
-  lists = n;
-  size = ap (λ (xs : List ℕ). length xs) p;
-  placed = λ k l. absurd (omega arith);
-  there = λ k l. absurd (omega arith);
-  listed = λ K S s m. absurd (subst (λ (xs : List ℕ). Member S xs) (none K s) m);
-  in_order = λ K s. subst (λ (xs : List ℕ). IsStrictlyIncreasing xs) (sym (none K s)) (λ k l. absurd (omega arith));
-}
-  where
-    none : (K : ℕ) → IsSort (length kinds) K → group_of members K ≡ []
-    none K s = let low = s.0 in let high = s.1 in e (K - 1) [] (omega arith)
-
 -- the list of a kind with one more, and those of the other kinds
 group_same : (members : List (List ℕ)) (K : ℕ) (old new : List ℕ) (S : ℕ) → IsSort (length members) K → old ≡ get_or members (K - 1) old → new ≡ old ++ S ∷ [] → group_of (set members (K - 1) new) K ≡ group_of members K ++ S ∷ []
 group_same members K old new S s e n =

@@ -9,7 +9,8 @@ use Rattle.mw_poset.specs.SortOrder.{SortOrder}
 use Rattle.mw_poset.specs.Tables.{supersorts}
 use Rattle.mw_poset.specs.Order.{IsSort}
 use Rattle.mw_poset.specs.Search.{IsMarked, IsWrittenOver, Marks, AreMarked, unmarked}
-use Rattle.mw_poset.proofs.Members.{member-left, member-last, member-push, supersorts-member, member-supersorts}
+use Rattle.mw_logic.proofs.Members.{member-left}
+use Rattle.mw_poset.proofs.Members.{member-last, member-push, supersorts-member, member-supersorts}
 use Rattle.mw_poset.proofs.Chains.{AtOrBelow-then, passed_on}
 
 -- no place past the end has a mark

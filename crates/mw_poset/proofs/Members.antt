@@ -4,21 +4,8 @@ use Rattle.std.proofs.Common.{◌≡◌, ◌⊎◌, ℕ, zero, suc, ◌<◌, Lis
 use Rattle.std.proofs.lemmas.List.{take_all, take-append-le}
 use Rattle.std.proofs.lemmas.Bool.{eqb-true, eq-eqb}
 use Rattle.mw_logic.specs.Signature.{Member}
+pub use Rattle.mw_logic.proofs.Members.{member-left, member-right, member-append}
 use Rattle.mw_poset.specs.Tables.{supersorts}
-
-pub member-left : {X : Type 0} (x : X) (xs ys : List X) → Member x xs → Member x (xs ++ ys)
-member-left x [] ys m = absurd m
-member-left x (y ∷ xs) ys (inl e) = inl e
-member-left x (y ∷ xs) ys (inr m) = inr (member-left x xs ys m)
-
-pub member-right : {X : Type 0} (x : X) (xs ys : List X) → Member x ys → Member x (xs ++ ys)
-member-right x [] ys m = m
-member-right x (y ∷ xs) ys m = inr (member-right x xs ys m)
-
-pub member-append : {X : Type 0} (x : X) (xs ys : List X) → Member x (xs ++ ys) → Member x xs ⊎ Member x ys
-member-append x [] ys m = inr m
-member-append x (y ∷ xs) ys (inl e) = inl (inl e)
-member-append x (y ∷ xs) ys (inr m) = elim (member-append x xs ys m) [ inl k ↦ inl (inr k) | inr k ↦ inr k ]
 
 pub no_items : {X : Type 0} (xs : List X) → length xs ≡ 0 → xs ≡ []
 no_items [] e = refl

@@ -11,7 +11,8 @@ use Rattle.mw_poset.specs.SortOrder.{SortOrder}
 use Rattle.mw_poset.specs.Order.{IsSort, ArePairsOf, IsOnCycle, IsKindOf, IsMaximalIn}
 use Rattle.mw_poset.specs.Search.{AreMarked}
 use Rattle.mw_poset.specs.Tables.{IsSymmetric, IsLeastReached, AreLeastReached, AreOfOneKind, supersorts}
-use Rattle.mw_poset.proofs.Members.{member-all, member-left, member-last, member-push, supersorts-member, member-supersorts}
+use Rattle.mw_logic.proofs.Members.{member-left}
+use Rattle.mw_poset.proofs.Members.{member-all, member-last, member-push, supersorts-member, member-supersorts}
 use Rattle.mw_logic.proofs.BelowLaws.{AtOrBelow-trans}
 use Rattle.mw_poset.proofs.Chains.{AtOrBelow-turned, SameKind-connected, passed_on, turned_too-member, within-pair}
 use Rattle.mw_poset.proofs.Grouping.{increasing-push}

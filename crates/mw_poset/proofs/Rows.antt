@@ -22,15 +22,6 @@ pub record MarksSoFar (sorts k : ℕ) (marks : List ℕ) : Type 0 where
   pub size : length marks ≡ sorts
   pub low : (j : ℕ) → slice_index marks j ≤ k
 
-pub no_marks : (sorts : ℕ) (marks : List ℕ) → marks ≡ replicate sorts 0 → MarksSoFar sorts 0 marks
-no_marks sorts marks e = record {
-  size = ap (λ (xs : List ℕ). length xs) e ∙ length-replicate sorts 0;
-  low = λ j. let z = ap (λ (xs : List ℕ). get_or xs j 0) e ∙ zeros sorts j in omega (arith, z);
-}
-
-pub next_mark : (sorts k : ℕ) (marks : List ℕ) → MarksSoFar sorts k marks → All (λ m. m ≢ k + 1) marks
-next_mark sorts k marks h j d l e = let b = h.low j in let q = get_or_default marks j d 0 l in omega arith
-
 pub marks_more : (order : SortOrder) (k : ℕ) (old new : List ℕ) → MarksSoFar order.sorts k old → AreMarked order (k + 1) old new → length new ≡ length old → MarksSoFar order.sorts (k + 1) new
 marks_more order k old new h m n = record {
   size = n ∙ h.size;
