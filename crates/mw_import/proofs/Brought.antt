@@ -4,7 +4,8 @@ use Rattle.mw_logic.specs.Signature.{Member}
 use Rattle.mw_module.specs.Units.{SeenLined}
 use Rattle.mw_import.specs.Flat.{FlatUnit, reached_by, brought_by, first_unit, firsts, IsFlat, AreAccepted}
 use Rattle.mw_import.specs.Gathering.{gathered, IsClosed}
-use Rattle.mw_import.proofs.Lists.{member-left, member-append, member-flat_map, flat_map-member}
+use Rattle.mw_logic.proofs.Members.{member-left, member-append}
+use Rattle.mw_import.proofs.Lists.{member-flat_map, flat_map-member}
 use Rattle.mw_import.proofs.Gathered.{member_gathered, gathered_member, gathered-there, firsts_member, member_firsts}
 
 -- what a unit brings is itself, and what it reaches

@@ -4,7 +4,8 @@ use Rattle.std.proofs.lemmas.Option.{slice_get_within}
 use Rattle.mw_logic.specs.Signature.{Member}
 use Rattle.mw_module.specs.Units.{SeenLined, IsWithin}
 use Rattle.mw_import.specs.Flat.{FlatUnit, reached_by, brought_by, IsFlat, AreAccepted, statements_at, statements_of, told_at, all_statements}
-use Rattle.mw_import.proofs.Lists.{member-left, member-append, member-flat_map, flat_map-member, member-map, map-member}
+use Rattle.mw_logic.proofs.Members.{member-left, member-append}
+use Rattle.mw_import.proofs.Lists.{member-flat_map, flat_map-member, member-map, map-member}
 use Rattle.mw_import.specs.Laws.{FlattenedWithin}
 use Rattle.mw_import.proofs.Brought.{reached_brought, flat_closed}
 use Rattle.mw_import.proofs.Reaching.{reaches, reaches_kept}

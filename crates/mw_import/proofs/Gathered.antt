@@ -4,7 +4,8 @@ use Rattle.std.proofs.lemmas.List.{append-nil}
 use Rattle.mw_logic.specs.Signature.{Member}
 use Rattle.mw_import.specs.Flat.{is_among, firsts_behind, firsts}
 use Rattle.mw_import.specs.Gathering.{gathered_with, gathered}
-use Rattle.mw_import.proofs.Lists.{member-left, member-right, member-append, by_test, among_member, member_among, among-push}
+use Rattle.mw_logic.proofs.Members.{member-left, member-right, member-append}
+use Rattle.mw_import.proofs.Lists.{by_test, among_member, member_among, among-push}
 
 pub gathered-append : (there xs ys : List ℕ) → gathered there (xs ++ ys) ≡ gathered (gathered there xs) ys
 gathered-append there [] ys = refl

@@ -11,7 +11,8 @@ use Rattle.mw_module.specs.Units.{SeenLined}
 use Rattle.mw_import.specs.declared.units.Kept.{Kept}
 use Rattle.mw_import.specs.Flat.{FlatUnit, ImportOf, number_named, imports_of, brought_by, first_unit, IsFlat, AreAccepted}
 use Rattle.mw_import.specs.Seen.{flat_unit, flat_units}
-use Rattle.mw_import.proofs.Lists.{member-append, flat_map-member, pushed_at, none_named}
+use Rattle.mw_logic.proofs.Members.{member-append}
+use Rattle.mw_import.proofs.Lists.{flat_map-member, pushed_at, none_named}
 use Rattle.mw_import.proofs.Gathered.{member_firsts}
 use Rattle.mw_import.proofs.Brought.{member_brought, flat_closed}
 use Rattle.mw_import.proofs.Flattened.{brought_kept}

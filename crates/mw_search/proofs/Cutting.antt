@@ -4,11 +4,11 @@ use Rattle.std.specs.Prelude.{◌⊎◌, ⊤, Bool, true, false, cond, refl}
 use Rattle.std.proofs.Common.{◌≡◌, ◌∙◌, ℕ, zero, suc, ◌+◌, ◌-◌, ◌*◌, ◌<◌, ◌≤◌, List, [], ◌∷◌, ◌++◌, length, inl, inr, ap, sym, subst, arith, append_assoc, length-append}
 use Rattle.std.specs.List.{flat_map}
 use Rattle.std.proofs.lemmas.Bool.{lt-ltb}
-use Rattle.std.proofs.lemmas.List.{append-nil}
+use Rattle.std.proofs.lemmas.List.{append-nil, length_push}
 use Rattle.mw_split.specs.Lists.{Member, Distinct}
 use Rattle.mw_split.specs.Cuts.{bag_cuts, cuts, Adds, AllZero, first, after}
 use Rattle.mw_split.proofs.Every.{cuts-sound, cuts-complete, cuts-distinct}
-use Rattle.mw_split.proofs.Next.{cuts-first, reached-short, length_push}
+use Rattle.mw_split.proofs.Next.{cuts-first, reached-short}
 use Rattle.mw_matching.specs.Multisets.{behind_first}
 
 -- entry by entry at most
