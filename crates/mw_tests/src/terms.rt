@@ -132,6 +132,37 @@ fn terms_come_before_arguments(rt: HostRuntime) -> Result<(), Fail> {
     Ok(())
 }
 
+/// The arguments of a term with operator 7, and behind them numerals from one up to another.
+fn put_behind(alloc: Global, first: Term, start: u128, end: u128) -> Result<Term, AllocError> {
+    let mut terms = counted(alloc, 9, start, end)?.into_args(alloc)?;
+    Term::apply_after(alloc, 7, first, &mut terms, 0)
+}
+
+fn is_put_behind(alloc: Global, first: Term, start: u128, end: u128) -> Result<bool, AllocError> {
+    let term = put_behind(alloc, first, start, end)?;
+    Ok(same(&term, &counted(alloc, 7, 0, end)?))
+}
+
+/// The same where something else holds the arguments too.
+fn is_put_behind_held(alloc: Global, start: u128, end: u128) -> Result<bool, AllocError> {
+    let first = counted(alloc, 9, 0, start)?;
+    is_put_behind(alloc, copy(&first)?, start, end)
+}
+
+#[test]
+fn terms_come_behind_arguments(rt: HostRuntime) -> Result<(), Fail> {
+    let alloc = rt.alloc();
+    assert!(rt; is_put_behind_held(alloc, 3, 4)?);
+    for end in [21, 40] {
+        assert!(rt;
+            is_put_behind(alloc, counted(alloc, 9, 0, 20)?, 20, end)?,
+            "{end}"
+        );
+        assert!(rt; is_put_behind_held(alloc, 20, end)?, "{end}");
+    }
+    Ok(())
+}
+
 fn hash(made: Result<Term, AllocError>) -> Result<u32, AllocError> {
     Ok(made?.hash())
 }
