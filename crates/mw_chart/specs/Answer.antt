@@ -4,11 +4,9 @@ use Rattle.mw_chart.specs.Tree.{Tree}
 use Rattle.mw_chart.specs.Spelling.{Spells}
 use Rattle.mw_chart.specs.declared.table.Table.{Table}
 use Rattle.mw_chart.specs.declared.terminal.Terminal.{Terminal}
-use Rattle.mw_chart.specs.declared.fault.NoReading.{NoReading}
-use Rattle.mw_chart.specs.declared.fault.NoReading.TheVariants.{NoParse, Ambiguous, TooLong, Memory}
+use Rattle.mw_chart.specs.declared.fault.Unread.{Unread}
+use Rattle.mw_chart.specs.declared.fault.Unread.TheVariants.{NoParse, Ambiguous, TooLong, Memory}
 use Rattle.mw_chart.specs.declared.fault.TreePair.{TreePair}
-use Rattle.mw_chart.specs.declared.fault.NoPair.{NoPair}
-use Rattle.mw_chart.specs.declared.fault.NoPair.TheVariants as no_pair
 
 -- the whole text spells the tree, as one of the kind
 abbrev pub IsOf : Table → List Terminal → ℕ → Tree → Type 0
@@ -30,7 +28,7 @@ pub record Reads (g : Table) (wanted : Option ℕ) (text : List Terminal) (t : T
   pub only : (u : Tree) → IsSpelled g wanted text u → u ≡ t
 
 -- why a text has no one tree
-abbrev pub HasNoReading : Table → Option ℕ → List Terminal → NoReading → Type 0
+abbrev pub HasNoReading : Table → Option ℕ → List Terminal → Unread Tree → Type 0
 HasNoReading g wanted text NoParse = (length text ≤ 1024) × ((u : Tree) → IsSpelled g wanted text u → ⊥)
 HasNoReading g wanted text (Ambiguous a b) = (length text ≤ 1024) × IsSpelled g wanted text a × IsSpelled g wanted text b × (a ≢ b)
 HasNoReading g wanted text TooLong = 1024 < length text
@@ -51,8 +49,8 @@ pub record ReadsPair (g : Table) (left right : List Terminal) (p : TreePair) : T
   pub only : (a b : Tree) → IsPair g left right a b → (a ≡ p.left) × (b ≡ p.right)
 
 -- why two texts have no one pair
-abbrev pub HasNoPair : Table → List Terminal → List Terminal → NoPair → Type 0
-HasNoPair g left right no_pair.NoParse = AreShort left right × ((a b : Tree) → IsPair g left right a b → ⊥)
-HasNoPair g left right (no_pair.Ambiguous p q) = AreShort left right × IsPair g left right p.left p.right × IsPair g left right q.left q.right × (p ≢ q)
-HasNoPair g left right no_pair.TooLong = (1024 < length left) ⊎ (1024 < length right)
-HasNoPair g left right no_pair.Memory = ⊤
+abbrev pub HasNoPair : Table → List Terminal → List Terminal → Unread TreePair → Type 0
+HasNoPair g left right NoParse = AreShort left right × ((a b : Tree) → IsPair g left right a b → ⊥)
+HasNoPair g left right (Ambiguous p q) = AreShort left right × IsPair g left right p.left p.right × IsPair g left right q.left q.right × (p ≢ q)
+HasNoPair g left right TooLong = (1024 < length left) ⊎ (1024 < length right)
+HasNoPair g left right Memory = ⊤

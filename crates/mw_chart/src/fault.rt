@@ -6,24 +6,26 @@ use std::alloc::AllocError;
 /// The most tokens of a text.
 pub const LIMIT: usize = 1024;
 
-/// Why a text has no one tree.
+/// Why texts have no one reading.
 #[derive(Drop)]
-pub enum NoReading {
-    NoParse,
-    /// Two different trees.
-    Ambiguous { first: Tree, second: Tree },
+pub enum Unread<T> {
+    /// One of the texts has more than 1,024 tokens. This is looked at first.
     TooLong,
+    /// Nothing is spelled.
+    NoParse,
+    /// Two different readings are spelled, and these are two of them.
+    Ambiguous { first: T, second: T },
     Memory,
 }
 
-impl From<AllocError> for NoReading {
+impl<T> From<AllocError> for Unread<T> {
     ghost use Rattle.std.specs.Prelude.{◌≡◌};
-    ghost use Rattle.mw_chart.specs.declared.fault.NoReading.TheVariants.{Memory};
+    ghost use Rattle.mw_chart.specs.declared.fault.Unread.TheVariants.{Memory};
 
     ghost from_gives = { λ _ e. e ≡ Memory };
 
     fn from(_: AllocError) -> Self {
-        NoReading::Memory
+        Unread::Memory
     }
 }
 
@@ -32,25 +34,4 @@ impl From<AllocError> for NoReading {
 pub struct TreePair {
     pub left: Tree,
     pub right: Tree,
-}
-
-/// Why two texts have no one pair of trees of one kind.
-#[derive(Drop)]
-pub enum NoPair {
-    NoParse,
-    /// Two different pairs.
-    Ambiguous { first: TreePair, second: TreePair },
-    TooLong,
-    Memory,
-}
-
-impl From<AllocError> for NoPair {
-    ghost use Rattle.std.specs.Prelude.{◌≡◌};
-    ghost use Rattle.mw_chart.specs.declared.fault.NoPair.TheVariants.{Memory};
-
-    ghost from_gives = { λ _ e. e ≡ Memory };
-
-    fn from(_: AllocError) -> Self {
-        NoPair::Memory
-    }
 }

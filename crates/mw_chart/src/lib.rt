@@ -53,7 +53,7 @@ mod table;
 mod terminal;
 mod tree;
 
-pub use fault::{LIMIT, NoPair, NoReading, TreePair};
+pub use fault::{LIMIT, TreePair, Unread};
 pub use node::{Node, TreeTop};
 pub use parsing::{parse, parse_pair};
 pub use reading::{Reading, readings};

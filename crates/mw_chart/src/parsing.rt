@@ -7,7 +7,7 @@ ghost use Rattle.mw_chart.specs.Readings.{IsAt, ArePlaces};
 ghost use Rattle.mw_chart.specs.declared.parsing.Places.{Places};
 ghost use Rattle.mw_chart.specs.declared.reading.Reading.{Reading};
 
-use crate::fault::{LIMIT, NoPair, NoReading, TreePair};
+use crate::fault::{LIMIT, TreePair, Unread};
 use crate::reading::{Reading, readings};
 use crate::table::Table;
 use crate::terminal::Terminal;
@@ -56,24 +56,24 @@ pub fn parse(
     table: &Table,
     text: &[Terminal],
     wanted: Option<u32>,
-) -> Result<Tree, NoReading>
+) -> Result<Tree, Unread<Tree>>
     requires { IsTable table.now }
     ensures one { IfOk result (Reads table.now wanted text.now) }
     ensures fault { IfErr result (HasNoReading table.now wanted text.now) }
 {
     if text.len() > LIMIT {
-        return Err(NoReading::TooLong);
+        return Err(Unread::TooLong);
     }
     let listed = readings(alloc, table, text)?;
     match first_of(&listed, wanted) {
-        None => Err(NoReading::NoParse),
+        None => Err(Unread::NoParse),
         Some(k) => {
             let first = listed[k].tree.again()?;
             match other_of(&listed, wanted, &first) {
                 None => Ok(first),
                 Some(j) => {
                     let second = listed[j].tree.again()?;
-                    Err(NoReading::Ambiguous { first, second })
+                    Err(Unread::Ambiguous { first, second })
                 }
             }
         }
@@ -143,25 +143,25 @@ pub fn parse_pair(
     table: &Table,
     left: &[Terminal],
     right: &[Terminal],
-) -> Result<TreePair, NoPair>
+) -> Result<TreePair, Unread<TreePair>>
     requires { IsTable table.now }
     ensures one { IfOk result (ReadsPair table.now left.now right.now) }
     ensures fault { IfErr result (HasNoPair table.now left.now right.now) }
 {
     if left.len() > LIMIT || right.len() > LIMIT {
-        return Err(NoPair::TooLong);
+        return Err(Unread::TooLong);
     }
     let lefts = readings(alloc, table, left)?;
     let rights = readings(alloc, table, right)?;
     match first_pair(&lefts, &rights) {
-        None => Err(NoPair::NoParse),
+        None => Err(Unread::NoParse),
         Some(found) => {
             let first = pair_at(&lefts, &rights, found)?;
             match other_pair(&lefts, &rights, &first) {
                 None => Ok(first),
                 Some(other) => {
                     let second = pair_at(&lefts, &rights, other)?;
-                    Err(NoPair::Ambiguous { first, second })
+                    Err(Unread::Ambiguous { first, second })
                 }
             }
         }
