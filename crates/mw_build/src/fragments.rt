@@ -20,7 +20,7 @@ ghost use Rattle.mw_build.specs.Fragments.{Asks, asked_for, IsTest, IsNoTest, Te
 use mw_grammar::Grammar;
 use mw_lex::Token;
 use mw_module::{FaultKind, WrittenFragment, is_word};
-use mw_parse::{PairError, ParseError, parse, parse_pair};
+use mw_parse::{Unread, parse, parse_pair};
 use mw_term::{Fragment, Raw, SortId, Sorted};
 use std::alloc::{AllocError, Global};
 
@@ -138,28 +138,28 @@ fn test_in<'s>(grammar: &Grammar, tokens: &'s [Token]) -> Result<Option<Test<'s>
 }
 
 /// What is wrong with a text that isn't read.
-fn text_fault(error: &ParseError) -> Result<FaultKind, AllocError>
+fn text_fault(error: &Unread<Raw>) -> Result<FaultKind, AllocError>
     ensures { (sig : SignatureOf) (variables : List Variable) (wanted : Option ℕ) (text : List (List ℕ)) → HasCause sig variables wanted text error.now
         → IfOk result (TextFault sig variables wanted text) }
 {
     match error {
-        ParseError::TooLong => Ok(FaultKind::TermTooLong),
-        ParseError::NoParse => Ok(FaultKind::NoParse),
-        ParseError::Ambiguous { .. } => Ok(FaultKind::Ambiguous),
-        ParseError::Memory => Err(AllocError),
+        Unread::TooLong => Ok(FaultKind::TermTooLong),
+        Unread::NoParse => Ok(FaultKind::NoParse),
+        Unread::Ambiguous { .. } => Ok(FaultKind::Ambiguous),
+        Unread::Memory => Err(AllocError),
     }
 }
 
 /// What is wrong with two texts that aren't read.
-fn pair_fault(error: &PairError) -> Result<FaultKind, AllocError>
+fn pair_fault(error: &Unread<(Raw, Raw)>) -> Result<FaultKind, AllocError>
     ensures { (sig : SignatureOf) (variables : List Variable) (left right : List (List ℕ)) → HasPairCause sig variables left right error.now
         → IfOk result (PairFault sig variables left right) }
 {
     match error {
-        PairError::TooLong => Ok(FaultKind::TermTooLong),
-        PairError::NoParse => Ok(FaultKind::NoParse),
-        PairError::Ambiguous { .. } => Ok(FaultKind::Ambiguous),
-        PairError::Memory => Err(AllocError),
+        Unread::TooLong => Ok(FaultKind::TermTooLong),
+        Unread::NoParse => Ok(FaultKind::NoParse),
+        Unread::Ambiguous { .. } => Ok(FaultKind::Ambiguous),
+        Unread::Memory => Err(AllocError),
     }
 }
 

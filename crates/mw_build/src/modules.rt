@@ -38,7 +38,7 @@ use mw_index::Index;
 use mw_least::Ctx;
 use mw_lex::Token;
 use mw_module::{Lined, Unit, UnitError};
-use mw_parse::{PairError, ParseError, parse, parse_pair};
+use mw_parse::{Unread, parse, parse_pair};
 use mw_poset::Poset;
 use mw_sorts::Tables;
 use mw_term::{Name, Raw, Seq, Statement, VarId};
@@ -124,7 +124,7 @@ impl Module {
     }
 
     /// The one term that the tokens spell, in which the module's variables may stand. It is a term of the signature.
-    pub fn term(&self, alloc: Global, tokens: &[Token]) -> Result<Raw, ParseError>
+    pub fn term(&self, alloc: Global, tokens: &[Token]) -> Result<Raw, Unread<Raw>>
         ensures read { IfOk result (λ t. Reads self.now.module.signature self.now.variables None (texts tokens.now) (raw_term t)) }
         ensures raw { IfOk result (λ t. IsRawTerm self.now.module.signature (raw_term t)) }
         ensures cause { IfErr result (HasReadingCause self.now.module.signature self.now.variables None (texts tokens.now)) }
@@ -140,7 +140,7 @@ impl Module {
         alloc: Global,
         left: &[Token],
         right: &[Token],
-    ) -> Result<(Raw, Raw), PairError>
+    ) -> Result<(Raw, Raw), Unread<(Raw, Raw)>>
         ensures read { IfOk result (λ p. ReadsPair self.now.module.signature self.now.variables (texts left.now) (texts right.now) (raw_term p.0, raw_term p.1)) }
         ensures raw { IfOk result (λ p. IsRawTerm self.now.module.signature (raw_term p.0) × IsRawTerm self.now.module.signature (raw_term p.1)) }
         ensures cause { IfErr result (HasPairCause self.now.module.signature self.now.variables (texts left.now) (texts right.now)) }

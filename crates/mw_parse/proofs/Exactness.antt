@@ -12,9 +12,9 @@ use Rattle.mw_chart.specs.Tree.{Tree, app}
 use Rattle.mw_chart.specs.Answer as chart
 use Rattle.mw_chart.specs.declared.table.Table.{Table}
 use Rattle.mw_chart.specs.declared.terminal.Terminal.{Terminal}
-use Rattle.mw_chart.specs.declared.fault.NoReading.{NoReading}
 use Rattle.mw_chart.specs.declared.fault.TreePair.{TreePair}
-use Rattle.mw_chart.specs.declared.fault.NoPair.{NoPair}
+use Rattle.mw_chart.specs.declared.fault.Unread.{Unread}
+use Rattle.mw_chart.specs.declared.fault.Unread.TheVariants.{TooLong, NoParse, Ambiguous, Memory}
 use Rattle.mw_grammar.specs.Readable.{kind_in}
 use Rattle.mw_grammar.specs.Meaning.{term_of, with_last}
 use Rattle.mw_grammar.specs.Grammars.{IsGrammarOf, IsWordsOf, texts}
@@ -24,10 +24,6 @@ use Rattle.mw_grammar.proofs.Exactly.{exactly}
 use Rattle.mw_grammar.specs.declared.grammar.Grammar.{Grammar}
 use Rattle.mw_parse.specs.Answers.{HasCause, HasPairCause}
 use Rattle.mw_parse.specs.Tops.{IsTop, IsTold, IsPairTold}
-use Rattle.mw_parse.specs.declared.fault.ParseError.{ParseError}
-use Rattle.mw_parse.specs.declared.fault.ParseError.TheVariants as error
-use Rattle.mw_parse.specs.declared.fault.PairError.{PairError}
-use Rattle.mw_parse.specs.declared.fault.PairError.TheVariants as pair_error
 use Rattle.mw_parse.specs.declared.terms.Top.{Top}
 use Rattle.mw_parse.specs.declared.terms.Top.TheVariants.{Operator, Leaf}
 use Rattle.mw_grammar.specs.declared.alone.Alone.TheVariants.{Number, Identifier, Variable as VariableToken}
@@ -62,16 +58,16 @@ module _ (sig : Signature) (variables : List Variable) (kind : ℕ → ℕ) (g :
     exact.differ wanted a b (tree wanted a h) (tree wanted b k) apart,
   )
 
-  pub cause : (wanted : Option ℕ) (f : NoReading) (e : ParseError) → chart.HasNoReading g (option_map kind wanted) words f → IsTold leaves f e → HasCause sig variables wanted tokens e
-  cause wanted f error.TooLong h e = let k = subst (chart.HasNoReading g (option_map kind wanted) words) e h in subst (λ n. 1024 < n) count k
-  cause wanted f error.NoParse h e = let k = subst (chart.HasNoReading g (option_map kind wanted) words) e h in (subst (λ n. n ≤ 1024) count k.0, none wanted k.1)
-  cause wanted f (error.Ambiguous t u) h (a, b, e, first, second) =
+  pub cause : (wanted : Option ℕ) (f : Unread Tree) (e : Unread Raw) → chart.HasNoReading g (option_map kind wanted) words f → IsTold leaves f e → HasCause sig variables wanted tokens e
+  cause wanted f TooLong h e = let k = subst (chart.HasNoReading g (option_map kind wanted) words) e h in subst (λ n. 1024 < n) count k
+  cause wanted f NoParse h e = let k = subst (chart.HasNoReading g (option_map kind wanted) words) e h in (subst (λ n. n ≤ 1024) count k.0, none wanted k.1)
+  cause wanted f (Ambiguous t u) h (a, b, e, first, second) =
       let k = subst (chart.HasNoReading g (option_map kind wanted) words) e h in (
         subst (λ n. n ≤ 1024) count k.0,
         subst (λ m. BothHave (mixfix.IsSpelled sig variables wanted tokens) m (raw_term u)) (sym first)
             (subst (λ m. BothHave (mixfix.IsSpelled sig variables wanted tokens) (term_of leaves a) m) (sym second) (two wanted a b k.1 k.2 k.3)),
       )
-  cause wanted f error.Memory h e = tt
+  cause wanted f Memory h e = tt
 
   -- a tree of a kind is a term of that kind, and a term of a kind is a tree of it
   pub of_kind : (K : ℕ) (t : Tree) → K ≤ g.kinds → chart.IsOf g words K t → mixfix.IsSpelled sig variables (Some K) tokens (term_of leaves t)
@@ -149,13 +145,13 @@ module _ (sig : Signature) (variables : List Variable) (kind : ℕ → ℕ) (g :
     λ e. apart_pairs p q h k differ (ap (λ x. x.0) e) (ap (λ x. x.1) e),
   )
 
-  pub pair_cause : (f : NoPair) (e : PairError) → chart.HasNoPair g lw rw f → IsPairTold ls rs f e → HasPairCause sig variables left right e
-  pair_cause f pair_error.TooLong h e =
+  pub pair_cause : (f : Unread TreePair) (e : Unread (Raw × Raw)) → chart.HasNoPair g lw rw f → IsPairTold ls rs f e → HasPairCause sig variables left right e
+  pair_cause f TooLong h e =
       let k = subst (chart.HasNoPair g lw rw) e h in ⊎_elim (λ a. inl (subst (λ n. 1024 < n) lc a)) (λ a. inr (subst (λ n. 1024 < n) rc a)) k
-  pair_cause f pair_error.NoParse h e =
+  pair_cause f NoParse h e =
       let k = subst (chart.HasNoPair g lw rw) e h in
       (subst (λ n. n ≤ 1024) lc k.0.0, subst (λ n. n ≤ 1024) rc k.0.1, none_pair sig variables kind g terms ls left lw lc le rs right rw rc re k.1)
-  pair_cause f (pair_error.Ambiguous t u) h (p, q, e, first, second) =
+  pair_cause f (Ambiguous t u) h (p, q, e, first, second) =
       let k = subst (chart.HasNoPair g lw rw) e h in
       let same = same_pair (raw_term t.0, raw_term t.1) (term_of ls p.left, term_of rs p.right) first.0 first.1 in
       let other = same_pair (raw_term u.0, raw_term u.1) (term_of ls q.left, term_of rs q.right) second.0 second.1 in (
@@ -164,7 +160,7 @@ module _ (sig : Signature) (variables : List Variable) (kind : ℕ → ℕ) (g :
         subst (λ m. BothHave (ArePair sig variables left right) m (raw_term u.0, raw_term u.1)) (sym same)
             (subst (λ m. BothHave (ArePair sig variables left right) (term_of ls p.left, term_of rs p.right) m) (sym other) (apart p q k.1 k.2 k.3)),
       )
-  pair_cause f pair_error.Memory h e = tt
+  pair_cause f Memory h e = tt
 
 raws_push : (rs : List Raw) (r : Raw) → raw_terms (rs ++ r ∷ []) ≡ join (raw_terms rs) (cons (raw_term r) nil)
 raws_push [] r = refl

@@ -7,14 +7,8 @@ use Rattle.mw_chart.specs.Tree.{Tree}
 use Rattle.mw_chart.specs.declared.fault.TreePair.{TreePair}
 use Rattle.mw_grammar.specs.AloneTerms.{alone_term}
 use Rattle.mw_grammar.specs.Meaning.{term_of}
-use Rattle.mw_chart.specs.declared.fault.NoReading.{NoReading}
-use Rattle.mw_chart.specs.declared.fault.NoReading.TheVariants as fault
-use Rattle.mw_chart.specs.declared.fault.NoPair.{NoPair}
-use Rattle.mw_chart.specs.declared.fault.NoPair.TheVariants as pair_fault
-use Rattle.mw_parse.specs.declared.fault.ParseError.{ParseError}
-use Rattle.mw_parse.specs.declared.fault.ParseError.TheVariants as error
-use Rattle.mw_parse.specs.declared.fault.PairError.{PairError}
-use Rattle.mw_parse.specs.declared.fault.PairError.TheVariants as pair_error
+use Rattle.mw_chart.specs.declared.fault.Unread.{Unread}
+use Rattle.mw_chart.specs.declared.fault.Unread.TheVariants.{TooLong, NoParse, Ambiguous, Memory}
 use Rattle.mw_parse.specs.declared.terms.Top.{Top}
 use Rattle.mw_parse.specs.declared.terms.Top.TheVariants.{Operator, Leaf}
 
@@ -24,18 +18,18 @@ IsTop (Operator f) args t = t ≡ apply f (raw_terms args)
 IsTop (Leaf a) args t = t ≡ alone_term a
 
 -- the error tells the chart's fault: two trees by their terms. Want of memory may come in place of each.
-abbrev pub IsTold : List RawTerm → NoReading → ParseError → Type 0
-IsTold leaves f error.TooLong = f ≡ fault.TooLong
-IsTold leaves f error.NoParse = f ≡ fault.NoParse
-IsTold leaves f (error.Ambiguous t u) = (a : Tree) × (b : Tree) × (f ≡ fault.Ambiguous a b) × (raw_term t ≡ term_of leaves a) × (raw_term u ≡ term_of leaves b)
-IsTold leaves f error.Memory = Unit {0}
+abbrev pub IsTold : List RawTerm → Unread Tree → Unread Raw → Type 0
+IsTold leaves f TooLong = f ≡ TooLong
+IsTold leaves f NoParse = f ≡ NoParse
+IsTold leaves f (Ambiguous t u) = (a : Tree) × (b : Tree) × (f ≡ Ambiguous a b) × (raw_term t ≡ term_of leaves a) × (raw_term u ≡ term_of leaves b)
+IsTold leaves f Memory = Unit {0}
 
 -- the terms are those of a pair of trees
 abbrev pub ArePairOf : List RawTerm → List RawTerm → TreePair → Raw × Raw → Type 0
 ArePairOf lefts rights p t = (raw_term t.0 ≡ term_of lefts p.left) × (raw_term t.1 ≡ term_of rights p.right)
 
-abbrev pub IsPairTold : List RawTerm → List RawTerm → NoPair → PairError → Type 0
-IsPairTold lefts rights f pair_error.TooLong = f ≡ pair_fault.TooLong
-IsPairTold lefts rights f pair_error.NoParse = f ≡ pair_fault.NoParse
-IsPairTold lefts rights f (pair_error.Ambiguous t u) = (p : TreePair) × (q : TreePair) × (f ≡ pair_fault.Ambiguous p q) × ArePairOf lefts rights p t × ArePairOf lefts rights q u
-IsPairTold lefts rights f pair_error.Memory = Unit {0}
+abbrev pub IsPairTold : List RawTerm → List RawTerm → Unread TreePair → Unread (Raw × Raw) → Type 0
+IsPairTold lefts rights f TooLong = f ≡ TooLong
+IsPairTold lefts rights f NoParse = f ≡ NoParse
+IsPairTold lefts rights f (Ambiguous t u) = (p : TreePair) × (q : TreePair) × (f ≡ Ambiguous p q) × ArePairOf lefts rights p t × ArePairOf lefts rights q u
+IsPairTold lefts rights f Memory = Unit {0}

@@ -13,11 +13,10 @@
 //! cases/: that calls answer with memory at hand.
 #![tactic(auto)]
 
-mod fault;
 mod pair;
 mod single;
 mod terms;
 
-pub use fault::{PairError, ParseError};
+pub use mw_chart::Unread;
 pub use pair::parse_pair;
 pub use single::parse;

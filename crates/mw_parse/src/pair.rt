@@ -8,9 +8,8 @@ ghost use Rattle.mw_grammar.specs.Grammars.{IsGrammarOf, IsReading, texts};
 ghost use Rattle.mw_parse.specs.Answers.{HasPairCause};
 ghost use Rattle.mw_parse.specs.Tops.{ArePairOf, IsPairTold};
 
-use crate::fault::PairError;
 use crate::terms::raw;
-use mw_chart::{LIMIT, NoPair, TreePair};
+use mw_chart::{LIMIT, TreePair, Unread};
 use mw_grammar::{Grammar, Leaves};
 use mw_lex::Token;
 use mw_term::Raw;
@@ -33,20 +32,20 @@ fn terms(
 /// What the chart's fault tells.
 fn told(
     alloc: Global,
-    fault: &NoPair,
+    fault: &Unread<TreePair>,
     lefts: &Leaves,
     rights: &Leaves,
-) -> Result<PairError, AllocError>
+) -> Result<Unread<(Raw, Raw)>, AllocError>
     ensures { IfOk result (IsPairTold lefts.now rights.now fault.now) }
 {
     match fault {
-        NoPair::NoParse => Ok(PairError::NoParse),
-        NoPair::TooLong => Ok(PairError::TooLong),
-        NoPair::Memory => Ok(PairError::Memory),
-        NoPair::Ambiguous { first, second } => {
+        Unread::NoParse => Ok(Unread::NoParse),
+        Unread::TooLong => Ok(Unread::TooLong),
+        Unread::Memory => Ok(Unread::Memory),
+        Unread::Ambiguous { first, second } => {
             let first = terms(alloc, first, lefts, rights)?;
             let second = terms(alloc, second, lefts, rights)?;
-            Ok(PairError::Ambiguous { first, second })
+            Ok(Unread::Ambiguous { first, second })
         }
     }
 }
@@ -57,7 +56,7 @@ pub fn parse_pair(
     grammar: &Grammar,
     left: &[Token],
     right: &[Token],
-) -> Result<(Raw, Raw), PairError>
+) -> Result<(Raw, Raw), Unread<(Raw, Raw)>>
     requires { IsReading grammar.now }
     ensures read { (sig : SignatureOf) (variables : List Variable) → IsGrammarOf sig variables grammar.now
         → IfOk result (λ p. ReadsPair sig variables (texts left.now) (texts right.now) (raw_term p.0, raw_term p.1)) }
@@ -65,7 +64,7 @@ pub fn parse_pair(
         → IfErr result (HasPairCause sig variables (texts left.now) (texts right.now)) }
 {
     if left.len() > LIMIT || right.len() > LIMIT {
-        return Err(PairError::TooLong);
+        return Err(Unread::TooLong);
     }
     let lefts = grammar.words(alloc, left)?;
     let rights = grammar.words(alloc, right)?;

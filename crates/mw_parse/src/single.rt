@@ -9,26 +9,25 @@ ghost use Rattle.mw_grammar.specs.Grammars.{IsGrammarOf, IsReading, texts};
 ghost use Rattle.mw_parse.specs.Answers.{HasCause};
 ghost use Rattle.mw_parse.specs.Tops.{IsTold};
 
-use crate::fault::ParseError;
 use crate::terms::raw;
-use mw_chart::{LIMIT, NoReading};
+use mw_chart::{LIMIT, Tree, Unread};
 use mw_grammar::{Grammar, Leaves};
 use mw_lex::Token;
 use mw_term::{KindId, Raw, SortId};
 use std::alloc::{AllocError, Global};
 
 /// What the chart's fault tells.
-fn told(alloc: Global, fault: &NoReading, leaves: &Leaves) -> Result<ParseError, AllocError>
+fn told(alloc: Global, fault: &Unread<Tree>, leaves: &Leaves) -> Result<Unread<Raw>, AllocError>
     ensures { IfOk result (IsTold leaves.now fault.now) }
 {
     match fault {
-        NoReading::NoParse => Ok(ParseError::NoParse),
-        NoReading::TooLong => Ok(ParseError::TooLong),
-        NoReading::Memory => Ok(ParseError::Memory),
-        NoReading::Ambiguous { first, second } => {
+        Unread::NoParse => Ok(Unread::NoParse),
+        Unread::TooLong => Ok(Unread::TooLong),
+        Unread::Memory => Ok(Unread::Memory),
+        Unread::Ambiguous { first, second } => {
             let first = raw(alloc, first.node(), leaves)?;
             let second = raw(alloc, second.node(), leaves)?;
-            Ok(ParseError::Ambiguous { first, second })
+            Ok(Unread::Ambiguous { first, second })
         }
     }
 }
@@ -46,7 +45,7 @@ pub fn parse(
     grammar: &Grammar,
     tokens: &[Token],
     wanted: Option<SortId>,
-) -> Result<Raw, ParseError>
+) -> Result<Raw, Unread<Raw>>
     requires { IsReading grammar.now }
     ensures read { (sig : SignatureOf) (variables : List Variable) → IsGrammarOf sig variables grammar.now
         → IfOk result (λ t. Reads sig variables wanted (texts tokens.now) (raw_term t)) }
@@ -54,7 +53,7 @@ pub fn parse(
         → IfErr result (HasCause sig variables wanted (texts tokens.now)) }
 {
     if tokens.len() > LIMIT {
-        return Err(ParseError::TooLong);
+        return Err(Unread::TooLong);
     }
     let words = grammar.words(alloc, tokens)?;
     let kind = wanted_kind(grammar, wanted);

@@ -24,7 +24,7 @@ use mw_least::Ctx;
 use mw_lex::Token;
 use mw_match::{Solution, Solutions, listed};
 use mw_module::FaultKind;
-use mw_parse::PairError;
+use mw_parse::Unread;
 use mw_term::{Raw, Seq, Subst, Term};
 use mw_words::Options;
 use std::alloc::{AllocError, Global};
@@ -37,15 +37,15 @@ pub struct Sides {
 }
 
 /// What is wrong with texts that aren't read.
-fn unread(error: &PairError) -> Result<FaultKind, AllocError>
+fn unread(error: &Unread<(Raw, Raw)>) -> Result<FaultKind, AllocError>
     ensures { (a : Accepted) (pattern subject : List (List ℕ)) → HasPairCause a.module.signature a.variables pattern subject error.now
         → IfOk result (SidesFault a pattern subject) }
 {
     match error {
-        PairError::TooLong => Ok(FaultKind::TermTooLong),
-        PairError::NoParse => Ok(FaultKind::NoParse),
-        PairError::Ambiguous { .. } => Ok(FaultKind::Ambiguous),
-        PairError::Memory => Err(AllocError),
+        Unread::TooLong => Ok(FaultKind::TermTooLong),
+        Unread::NoParse => Ok(FaultKind::NoParse),
+        Unread::Ambiguous { .. } => Ok(FaultKind::Ambiguous),
+        Unread::Memory => Err(AllocError),
     }
 }
 

@@ -24,7 +24,7 @@ use mw_build::{Module, canonical};
 use mw_index::Index;
 use mw_lex::Token;
 use mw_module::FaultKind;
-use mw_parse::ParseError;
+use mw_parse::Unread;
 use mw_proof::Proved;
 use mw_prooftext::write;
 use mw_reduce::{Budget, Outcome, reduce};
@@ -33,16 +33,16 @@ use mw_words::Options;
 use std::alloc::{AllocError, Global};
 
 /// What is wrong with a text that isn't read.
-fn unread(error: &ParseError) -> Result<Result<Term, FaultKind>, AllocError>
+fn unread(error: &Unread<Raw>) -> Result<Result<Term, FaultKind>, AllocError>
     ensures { (a : Accepted) (words : List (List ℕ)) → HasReadingCause a.module.signature a.variables None words error.now → IfOk result (λ r. MatchResult r
         (λ t. IsCanonicalTerm a words t)
         (λ kind. TermFault a words kind)) }
 {
     match error {
-        ParseError::TooLong => Ok(Err(FaultKind::TermTooLong)),
-        ParseError::NoParse => Ok(Err(FaultKind::NoParse)),
-        ParseError::Ambiguous { .. } => Ok(Err(FaultKind::Ambiguous)),
-        ParseError::Memory => Err(AllocError),
+        Unread::TooLong => Ok(Err(FaultKind::TermTooLong)),
+        Unread::NoParse => Ok(Err(FaultKind::NoParse)),
+        Unread::Ambiguous { .. } => Ok(Err(FaultKind::Ambiguous)),
+        Unread::Memory => Err(AllocError),
     }
 }
 
