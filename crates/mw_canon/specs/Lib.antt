@@ -4,3 +4,4 @@ pub mod Canonical
 pub mod Causes
 pub mod Made
 pub mod Tables
+pub mod Free

@@ -13,7 +13,7 @@ use Rattle.mw_deduction.specs.Replay.{Move}
 use Rattle.mw_frames.specs.declared.applying.Applied.{Applied}
 use Rattle.mw_frames.specs.declared.job.Job.TheVariants.{Walk}
 use Rattle.mw_frames.specs.declared.limits.Fit.{Fit}
-use Rattle.mw_frames.specs.Free.{IsFree}
+use Rattle.mw_canon.specs.Free.{IsFree}
 use Rattle.mw_frames.specs.Jobs.{AreOpened}
 use Rattle.mw_frames.specs.Larger.{AreSmall, IsFit}
 use Rattle.mw_frames.specs.State.{Run, Data, IsRun, InHand}

@@ -13,7 +13,7 @@ use Rattle.mw_canon.proofs.Ordered.{uncounted}
 use Rattle.mw_position.specs.Positions.{fill, fill_all}
 use Rattle.mw_matching.specs.Matches.{evaluated, evaluated_all}
 use Rattle.mw_frames.specs.declared.job.Frame.{Frame}
-use Rattle.mw_frames.specs.Free.{IsFree, AreFree}
+use Rattle.mw_canon.specs.Free.{IsFree, AreFree}
 use Rattle.mw_frames.specs.Redex.{hole_level}
 
 -- an operator without axioms stands on its arguments

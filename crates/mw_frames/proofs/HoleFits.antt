@@ -24,7 +24,7 @@ use Rattle.mw_deduction.proofs.Clear.{IsBranch}
 use Rattle.mw_frames.specs.declared.job.Job.{Job}
 use Rattle.mw_frames.specs.declared.job.Frame.{Frame}
 use Rattle.mw_frames.specs.declared.limits.Fit.TheVariants.{Fits, TooLarge}
-use Rattle.mw_frames.specs.Free.{IsFree}
+use Rattle.mw_canon.specs.Free.{IsFree}
 use Rattle.mw_frames.specs.Jobs.{term_of, rest, AreOpened}
 use Rattle.mw_frames.specs.Redex.{hole_level}
 use Rattle.mw_frames.specs.Larger.{grows, AreSmall, StaysBranch, IsUnfolded, IsFit}

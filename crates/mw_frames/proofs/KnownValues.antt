@@ -36,7 +36,7 @@ use Rattle.mw_deduction.specs.Tops.{IsTop, IsNormalTerm}
 use Rattle.mw_deduction.specs.Tops as top
 use Rattle.mw_deduction.proofs.NormalBuilt.{value_normal}
 use Rattle.mw_deduction.proofs.ValuesInside.{IsLeaf, of_identity, of_numeral, value_found}
-use Rattle.mw_frames.specs.Free.{IsFree, AreFree}
+use Rattle.mw_canon.specs.Free.{IsFree, AreFree}
 use Rattle.mw_frames.specs.Jobs.{is_sure, value_at}
 use Rattle.mw_frames.specs.State.{IsKnown, IsNormalHere, HasNormalArguments, IsKnownIn, AreKnownIn}
 use Rattle.mw_deduction.specs.Replay.{Move}

@@ -17,7 +17,7 @@ use Rattle.mw_position.specs.Variables.{is_in}
 use Rattle.mw_position.specs.Positions.{position}
 use Rattle.mw_matching.specs.Matches.{evaluated, evaluated_all}
 use Rattle.mw_deduction.proofs.Largest.{largest_applied}
-use Rattle.mw_frames.specs.Free.{IsFree, AreFree}
+use Rattle.mw_canon.specs.Free.{IsFree, AreFree}
 use Rattle.mw_deduction.specs.Replay.{Move}
 use Rattle.mw_frames.specs.State.{IsNormalHere}
 use Rattle.mw_frames.specs.Redex.{IsBare, value_in, IsRedex}

@@ -18,7 +18,7 @@ use Rattle.mw_deduction.specs.Replay.{Move, Stand, whole}
 use Rattle.mw_frames.specs.declared.applying.Fired.{Fired}
 use Rattle.mw_frames.specs.declared.applying.Fired.TheVariants.{Goes, TooDeep, TooLarge}
 use Rattle.mw_frames.specs.declared.applying.Applied.{Applied}
-use Rattle.mw_frames.specs.Free.{IsFree}
+use Rattle.mw_canon.specs.Free.{IsFree}
 use Rattle.mw_frames.specs.Redex.{value_in, IsRedex}
 use Rattle.mw_frames.specs.State.{Run, after_one, Data, Leads, IsNormalHere, Holds}
 

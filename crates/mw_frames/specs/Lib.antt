@@ -7,8 +7,6 @@ pub mod Steps
 pub mod Redex
 -- Whether what comes may stand where it comes.
 pub mod Larger
--- Terms in which no operator has an axiom.
-pub mod Free
 -- A choice as a term.
 pub mod Choosing
 -- Several arguments, and not all.

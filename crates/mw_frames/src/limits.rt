@@ -12,7 +12,7 @@ ghost use Rattle.mw_deduction.proofs.Clear.{IsBranch};
 ghost use Rattle.mw_position.specs.Positions.{fill};
 ghost use Rattle.mw_matching.specs.Matches.{evaluated};
 ghost use Rattle.mw_pattern.specs.Clean.{clean};
-ghost use Rattle.mw_frames.specs.Free.{IsFree};
+ghost use Rattle.mw_canon.specs.Free.{IsFree};
 ghost use Rattle.mw_frames.specs.Jobs.{term_of, rest, AreOpened};
 ghost use Rattle.mw_frames.specs.Larger.{grows as grows_of, AreSmall, StaysBranch, IsUnfolded, IsFit};
 ghost use Rattle.mw_frames.specs.Redex.{hole_level};

@@ -16,7 +16,7 @@ use Rattle.mw_pattern.specs.declared.pattern.Pattern.{Pattern}
 use Rattle.mw_term.specs.Raws.{raw_term, raw_terms}
 use Rattle.mw_term.specs.declared.raw.Raw.{Raw}
 use Rattle.mw_match.specs.Straight.{IsStraight, AreStraight}
-use Rattle.mw_index.specs.Free.{IsFree, AreFree}
+use Rattle.mw_canon.specs.Free.{IsFree, AreFree}
 
 -- a term more behind those that are made, of those that are to be
 made_more : (made made' : List RawTerm) (q t : RawTerm) (rest whole : RawTerms) → made' ≡ made ++ q ∷ [] → q ≡ t → join (terms_of made) (cons t rest) ≡ whole → join (terms_of made') rest ≡ whole

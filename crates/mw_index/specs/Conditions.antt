@@ -10,7 +10,7 @@ use Rattle.mw_pattern.specs.Clean.{clean}
 use Rattle.mw_term.specs.Signatures.{sorted_of}
 use Rattle.mw_compile.specs.Compiled.{IsCompiled, AreAmong}
 use Rattle.mw_least.specs.Conditions.{occurs_among, AreRawFragments}
-use Rattle.mw_index.specs.Free.{IsFree}
+use Rattle.mw_canon.specs.Free.{IsFree}
 use Rattle.mw_index.specs.declared.conditions.Side.{Side}
 use Rattle.mw_index.specs.declared.conditions.Matched.{Matched}
 use Rattle.mw_index.specs.declared.conditions.Test.{Test}

@@ -1,23 +1,12 @@
--- Terms in which no operator has an axiom or is the successor of numbers.
-use Rattle.std.specs.Prelude.{ℕ, ◌≡◌, List, length, ⊤}
-use Rattle.mw_logic.specs.Term.{Variable, RawTerm, numeral, quoted, variable, apply, RawTerms, nil, cons}
+-- Left sides whose arguments are compared one by one.
+use Rattle.std.specs.Prelude.{ℕ, ◌≡◌, List, length}
+use Rattle.mw_logic.specs.Term.{Variable, RawTerm, apply, RawTerms}
 use Rattle.mw_logic.specs.Signature.{Signature}
 use Rattle.mw_position.specs.Positions.{AreNumbered, counted_all}
 use Rattle.mw_position.specs.Variables.{placed}
 use Rattle.mw_canon.specs.Axioms.{HasAxioms}
 use Rattle.mw_canon.specs.declared.axioms.Axioms.TheVariants.{Plain}
 use Rattle.mw_match.specs.Straight.{AreStraight}
-
-abbrev mutual
-  pub IsFree : Signature → RawTerm → Type 0
-  IsFree sig (numeral n) = ⊤
-  IsFree sig (quoted q) = ⊤
-  IsFree sig (variable x) = ⊤
-  IsFree sig (apply f ts) = HasAxioms sig f Plain × AreFree sig ts
-
-  pub AreFree : Signature → RawTerms → Type 0
-  AreFree sig nil = ⊤
-  AreFree sig (cons t ts) = IsFree sig t × AreFree sig ts
 
 -- With positions for the variables xs the term is an operator without axioms on these patterns, in which no operator has one but the successor of
 -- numbers. The variables are met in that order.

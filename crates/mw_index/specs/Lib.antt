@@ -1,4 +1,4 @@
--- Terms in which no operator has an axiom.
+-- Left sides whose arguments are compared.
 pub mod Free
 -- Conditions as they are tested.
 pub mod Conditions

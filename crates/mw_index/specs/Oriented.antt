@@ -11,7 +11,7 @@ use Rattle.mw_compile.specs.Compiled.{IsCompiled}
 use Rattle.mw_canon.specs.Axioms.{HasAxioms}
 use Rattle.mw_canon.specs.declared.axioms.Axioms.TheVariants as axioms
 use Rattle.mw_match.specs.Straight.{AreStraight}
-use Rattle.mw_index.specs.Free.{IsFree, AreFree}
+use Rattle.mw_canon.specs.Free.{IsFree, AreFree}
 use Rattle.mw_index.specs.Conditions.{IsConditionOf}
 use Rattle.mw_index.specs.declared.oriented.Oriented.{Oriented}
 use Rattle.mw_index.specs.declared.oriented.Searched.{Searched}

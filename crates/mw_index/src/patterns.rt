@@ -10,7 +10,8 @@ ghost use Rattle.mw_position.specs.Positions.{IsNumbered, AreNumbered, counted, 
 ghost use Rattle.mw_position.specs.Variables.{placed, all_placed};
 ghost use Rattle.mw_pattern.specs.Clean.{clean};
 ghost use Rattle.mw_match.specs.Straight.{IsStraight, AreStraight};
-ghost use Rattle.mw_index.specs.Free.{IsFree, AreFree, ArePlainArguments};
+ghost use Rattle.mw_canon.specs.Free.{IsFree, AreFree};
+ghost use Rattle.mw_index.specs.Free.{ArePlainArguments};
 
 use mw_canon::{Axioms, Facts};
 use mw_pattern::{Pattern, Patterns, Places};

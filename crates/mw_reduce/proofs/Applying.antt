@@ -39,11 +39,10 @@ use Rattle.mw_index.proofs.Sides.{lefts_distinct, in_lefts, left_raw, variables_
 use Rattle.mw_index.proofs.Trying.{one_statement}
 use Rattle.mw_index.specs.Oriented.{IsLeft, HasFreeLeft}
 use Rattle.mw_index.specs.Index.{operator_of}
-use Rattle.mw_index.specs.Free as index
+use Rattle.mw_canon.specs.Free.{IsFree}
 use Rattle.mw_index.specs.declared.choices.Choice.{Choice}
 use Rattle.mw_index.specs.declared.oriented.Left.{Left}
 use Rattle.mw_index.specs.declared.oriented.Left.TheVariants.{Plain, Searched}
-use Rattle.mw_frames.specs.Free as frames
 use Rattle.mw_frames.specs.Redex.{AreShowing, IsRedex, IsRowOf}
 use Rattle.mw_deduction.specs.Replay.{Move, all_sides, begun_sides}
 use Rattle.mw_frames.specs.Fires.{IsPartTaken, IsApplied, IsSure}
@@ -71,17 +70,6 @@ pub in_their_order : {vs us : List RawTerm} (ws : List RawTerm) (o : Option (Lis
 in_their_order ws None a b = a ∙ b
 in_their_order ws (Some ns) a b = a ∙ b
 
-mutual
-  free_same : (sig : Signature) (t : RawTerm) → index.IsFree sig t → frames.IsFree sig t
-  free_same sig (numeral n) h = tt
-  free_same sig (quoted q) h = tt
-  free_same sig (variable x) h = tt
-  free_same sig (apply f ts) h = (h.0, free_same_all sig ts h.1)
-
-  free_same_all : (sig : Signature) (ts : RawTerms) → index.AreFree sig ts → frames.AreFree sig ts
-  free_same_all sig term.nil h = tt
-  free_same_all sig (cons t ts) h = (free_same sig t h.0, free_same_all sig ts h.1)
-
 taken_same : (sig : Signature) (o : Option (List ℕ)) (t w : RawTerm) → IsTaken sig o t w → IsPartTaken sig o t w
 taken_same sig None t w h = h
 taken_same sig (Some ks) t w h = record { takes = h.takes; proper = h.proper }
@@ -91,9 +79,9 @@ length_sorts [] = refl
 length_sorts (x ∷ xs) = ap suc (length_sorts xs)
 
 free_left : (sig : Signature) (top : Option ℕ) (e : Statement) (l : Left) → IsLeft sig top e l → HasFreeLeft sig l
-    → (f : ℕ) × (ps : RawTerms) × (apply f ps ≡ placed (met [] e.left) (normal_form sig e.left)) × frames.IsFree sig (apply f ps)
+    → (f : ℕ) × (ps : RawTerms) × (apply f ps ≡ placed (met [] e.left) (normal_form sig e.left)) × IsFree sig (apply f ps)
 free_left sig None e (Plain ps) h k = absurd h
-free_left sig (Some f) e (Plain ps) h k = (f, ps, h.pattern, free_same sig (apply f ps) (h.plain, k))
+free_left sig (Some f) e (Plain ps) h k = (f, ps, h.pattern, (h.plain, k))
 free_left sig top e (Searched s) h k = absurd k
 
 -- a condition that fails in the rank above that of its sides
@@ -210,7 +198,7 @@ module _ (M : Module) (work : IsWorkable M) (t : RawTerm) (c : Choice) (h : IsTr
           found = λ x i k. absurd (left_alone sig e ordinary none x i k);
           right = h.choice.is.right;
         };
-        free = λ k. free_same sig (clean c.by.now.right) (h.choice.is.free k);
+        free = h.choice.is.free;
         levels = h.choice.is.levels;
         sure = λ k no.
             let (f, ps, left, free) = free_left sig (operator_of t) e c.by.now.left h.choice.is.left (h.choice.is.sure k) in
@@ -255,7 +243,7 @@ module _ (M : Module) (work : IsWorkable M) (t : RawTerm) (c : Choice) (h : IsTr
         taken = subst (λ o. IsPartTaken sig o t w) (sym taking) (taken_same sig c.take t w h.choice.taken);
         redex = redex';
         rule = ap (λ (st : Statement). st.rule) same ∙ sym h.choice.is.rule ∙ ap (λ q. q.now.rule) (sym by);
-        free = λ k. subst (λ q. IsTrue q.now.free → frames.IsFree sig (clean q.now.right)) (sym by) (λ k. free_same sig (clean c.by.now.right) (h.choice.is.free k)) k;
+        free = λ k. subst (λ q. IsTrue q.now.free → IsFree sig (clean q.now.right)) (sym by) h.choice.is.free k;
         levels = subst (λ q. q.now.levels ≡ min (height (fill [] (clean q.now.right))) (2 ^ 16 - 1)) (sym by) h.choice.is.levels;
         sure = λ k none. absurd (none_first tests x some (sym (ap (λ q. q.now.condition.tests) by) ∙ none));
       }
@@ -332,7 +320,7 @@ applied_so M n t c sides made a is =
     record {
       redex = redex;
       rule = ap (λ (st : Statement). st.rule) same ∙ made.rule ∙ sym is.rule;
-      free = λ k. subst (λ p. frames.IsFree M.signature (clean p)) (sym is.right) (made.free (sym is.free ∙ k));
+      free = λ k. subst (λ p. IsFree M.signature (clean p)) (sym is.right) (made.free (sym is.free ∙ k));
       levels = is.levels ∙ made.levels ∙ ap (λ p. min (height (fill [] (clean p))) (2 ^ 16 - 1)) (sym is.right);
       sure = λ k. let (z, none) = is.sure k in subst (λ st. IsSure M n st vs) (sym same) (made.sure z none);
     }

@@ -21,7 +21,7 @@ use Rattle.mw_index.specs.declared.choices.Choices.{Choices}
 use Rattle.mw_frames.specs.State.{Run, Data}
 use Rattle.mw_frames.specs.Steps.{IsAskedFor, asked_term, IsEnd, IsDecided}
 use Rattle.mw_frames.specs.Machines.{all_moves}
-use Rattle.mw_frames.specs.Free.{IsFree}
+use Rattle.mw_canon.specs.Free.{IsFree}
 use Rattle.mw_frames.specs.Redex.{IsRedex}
 use Rattle.mw_frames.specs.Fires.{IsPartTaken, IsSure}
 use Rattle.mw_frames.specs.declared.applying.Applied.{Applied}

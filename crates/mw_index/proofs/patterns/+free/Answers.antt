@@ -3,7 +3,7 @@ use Rattle.mw_logic.specs.NormalForm.{highest}
 use Rattle.mw_match.proofs.Matching.{pattern_height}
 use Rattle.mw_pattern.specs.Clean.{clean_all}
 use Rattle.mw_match.specs.Straight.{AreStraight}
-use Rattle.mw_index.specs.Free.{AreFree}
+use Rattle.mw_canon.specs.Free.{AreFree}
 use Rattle.mw_index.proofs.Walking.{free_more, free_end, straight_more, straight_end}
 use Rattle.mw_index.proofs.patterns.+free.Goals as goal
 

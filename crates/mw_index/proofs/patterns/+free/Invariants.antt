@@ -2,7 +2,7 @@ use Rattle.std.proofs.Common.{◌≡◌, false, ◌+◌, ◌*◌, drop}
 use Rattle.mw_logic.specs.NormalForm.{height, highest}
 use Rattle.mw_pattern.specs.Clean.{clean, clean_all}
 use Rattle.mw_match.specs.Straight.{AreStraight}
-use Rattle.mw_index.specs.Free.{AreFree}
+use Rattle.mw_canon.specs.Free.{AreFree}
 use Rattle.mw_index.proofs.patterns.+free.Given as goal
 
 abbrev pub decreases-is_free : goal.decreases-is_free
