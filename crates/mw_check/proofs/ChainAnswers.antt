@@ -15,7 +15,7 @@ use Rattle.mw_deduction.specs.Runs.{Done, Runs}
 use Rattle.mw_deduction.specs.Replay.{AreAllCanonical}
 use Rattle.mw_proof.specs.Counting.{capped}
 use Rattle.mw_prooftext.specs.Grounds.{spot_of}
-use Rattle.mw_prooftext.specs.Items.{Item, Items, more, Groups}
+use Rattle.mw_items.specs.Items.{Item, Items, more, Groups}
 use Rattle.mw_items.specs.declared.Step.{Step as StepEntry}
 use Rattle.mw_items.specs.declared.Entry.{Entry}
 use Rattle.mw_verdict.specs.Checks.{IsNamed, ChecksOne, by_statement, Shown}

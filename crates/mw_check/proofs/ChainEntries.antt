@@ -7,7 +7,7 @@ use Rattle.mw_logic.specs.Signature.{Signature}
 use Rattle.mw_logic.specs.Module.{Module}
 use Rattle.mw_redex.specs.declared.replacing.Place.{Place}
 use Rattle.mw_prooftext.specs.Grounds.{spot_of}
-use Rattle.mw_prooftext.specs.Items.{Spot, Item, step, built, Items, none, more, Groups}
+use Rattle.mw_items.specs.Items.{Spot, Item, step, built, Items, none, more, Groups}
 use Rattle.mw_items.specs.Entries.{entries_of, entries_of_item, entries_of_groups}
 use Rattle.mw_items.specs.declared.Step.{Step as StepEntry}
 use Rattle.mw_items.specs.declared.Entry.{Entry}

@@ -11,7 +11,7 @@ use Rattle.mw_canon.specs.Canonical.{IsAdmittedTerm}
 use Rattle.mw_deduction.specs.Runs.{Done, Dones}
 use Rattle.mw_deduction.specs.Runs as runs
 use Rattle.mw_proof.specs.Counting.{capped}
-use Rattle.mw_prooftext.specs.Items.{Item, Items, none, more}
+use Rattle.mw_items.specs.Items.{Item, Items, none, more}
 use Rattle.mw_verdict.specs.Checks.{Checks, nothing, then, ChecksOne, by_statement, by_row}
 use Rattle.mw_verdict.specs.Leads.{LeadsOne, Leads, nowhere, onward}
 use Rattle.mw_verdict.proofs.Leading.{checked_lead}

@@ -1,7 +1,7 @@
 -- Which groups stand as entries, and what stands behind one.
 use Rattle.std.specs.Prelude.{◌≡◌, ℕ, suc, List, ◌∷◌, ◌++◌, Some, refl}
 use Rattle.std.proofs.Common.{ap, sym, subst, ◌∙◌, append_assoc}
-use Rattle.mw_prooftext.specs.Items.{Item, step, built, Items, none, more, Groups, end, group}
+use Rattle.mw_items.specs.Items.{Item, step, built, Items, none, more, Groups, end, group}
 use Rattle.mw_items.specs.Entries.{entries_of, entries_of_item, entries_of_groups}
 use Rattle.mw_items.specs.declared.Entry.{Entry}
 use Rattle.mw_items.specs.declared.Entry.TheVariants.{Open, Close}

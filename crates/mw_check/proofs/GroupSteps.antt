@@ -13,7 +13,7 @@ use Rattle.mw_deduction.specs.Runs.{Done, Dones, Runs}
 use Rattle.mw_deduction.specs.Runs as runs
 use Rattle.mw_deduction.specs.Replay.{sides_of, all_sides}
 use Rattle.mw_proof.specs.Counting.{capped}
-use Rattle.mw_prooftext.specs.Items.{Items, Groups, end, group}
+use Rattle.mw_items.specs.Items.{Items, Groups, end, group}
 use Rattle.mw_verdict.specs.Checks as checks
 use Rattle.mw_verdict.specs.Checks.{Meets, AreMet, Evaluated, evaluated, AreEvaluated, Shown, unconditional, conditional}
 use Rattle.mw_verdict.specs.Leads.{Leads}

@@ -8,7 +8,7 @@ use Rattle.mw_logic.specs.Substitution.{Substitution, instance}
 use Rattle.mw_logic.specs.Module.{Fragment, Module}
 use Rattle.mw_deduction.specs.Runs as runs
 use Rattle.mw_deduction.specs.Replay.{sides_of}
-use Rattle.mw_prooftext.specs.Items.{Items, Groups, end, group}
+use Rattle.mw_items.specs.Items.{Items, Groups, end, group}
 use Rattle.mw_items.specs.Entries.{entries_of, entries_of_groups}
 use Rattle.mw_items.specs.declared.Entry.{Entry}
 use Rattle.mw_items.specs.declared.Entry.TheVariants.{Step, Built, Open, Close}

@@ -10,7 +10,7 @@ use Rattle.mw_canon.specs.Canonical.{HasAdmittedValues, meant}
 use Rattle.mw_position.specs.Variables.{AreDistinct}
 use Rattle.mw_solving.proofs.Positions.{meant_zip}
 use Rattle.mw_least.specs.Workable.{IsWorkable}
-use Rattle.mw_prooftext.specs.Items.{Spot}
+use Rattle.mw_items.specs.Items.{Spot}
 use Rattle.mw_check.specs.Answers.{AreAdmittedTerms, values_by_name, ReplacesBy, IsNext, IsPlaced}
 use Rattle.mw_check.specs.declared.placing.Placed.TheVariants as placed
 use Rattle.mw_check.proofs.PlacingValues.{admitted_by_name, distinct, all_bound}

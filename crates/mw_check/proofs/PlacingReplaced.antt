@@ -14,7 +14,7 @@ use Rattle.mw_canon.specs.Canonical.{IsAdmittedTerm}
 use Rattle.mw_redex.specs.Replaced.{replaced_at, IsOpenWay, way_of_place}
 use Rattle.mw_search.specs.Lacking.{IsKnown}
 use Rattle.mw_least.specs.Workable.{AreSides}
-use Rattle.mw_prooftext.specs.Items.{Spot}
+use Rattle.mw_items.specs.Items.{Spot}
 use Rattle.mw_check.specs.Parts.{StandsAt}
 use Rattle.mw_check.specs.Answers.{ReplacesBy, IsNext}
 use Rattle.mw_check.proofs.PlacingInstances.{kinds_of_sides}

@@ -15,7 +15,7 @@ use Rattle.mw_deduction.specs.Runs as runs
 use Rattle.mw_least.specs.Workable.{IsWorkable}
 use Rattle.mw_redex.specs.Replaced.{replaced_at, IsPartAt}
 use Rattle.mw_search.specs.Lacking.{IsKnown}
-use Rattle.mw_prooftext.specs.Items.{Spot, built}
+use Rattle.mw_items.specs.Items.{Spot, built}
 use Rattle.mw_prooftext.specs.Tells.{Replaces}
 use Rattle.mw_prooftext.specs.Passing.{IsRow}
 use Rattle.mw_verdict.specs.Checks.{ChecksOne}

@@ -11,7 +11,7 @@ use Rattle.mw_canon.specs.Canonical.{IsAdmittedTerm}
 use Rattle.mw_deduction.specs.Runs.{Done, Dones, both, one}
 use Rattle.mw_deduction.specs.Runs as runs
 use Rattle.mw_proof.specs.Counting.{capped}
-use Rattle.mw_prooftext.specs.Items.{Item, step, built, Items, none, more, with_item}
+use Rattle.mw_items.specs.Items.{Item, step, built, Items, none, more, with_item}
 use Rattle.mw_items.specs.Entries.{entries_of, entries_of_item}
 use Rattle.mw_items.specs.declared.Entry.{Entry}
 use Rattle.mw_verdict.specs.Checks.{Checks, nothing, then, ChecksOne}

@@ -13,7 +13,7 @@ use Rattle.mw_logic.specs.Confluence.{IsReducible}
 use Rattle.mw_canon.specs.Canonical.{IsAdmittedTerm, HasAdmittedValues, meant}
 use Rattle.mw_deduction.specs.Runs.{Done}
 use Rattle.mw_proof.specs.Counting.{capped}
-use Rattle.mw_prooftext.specs.Items.{Spot, Item}
+use Rattle.mw_items.specs.Items.{Spot, Item}
 use Rattle.mw_prooftext.specs.Tells.{Replaces}
 use Rattle.mw_prooftext.specs.Passing.{TakesSome}
 use Rattle.mw_verdict.specs.Checks.{IsFormOf, ChecksOne}

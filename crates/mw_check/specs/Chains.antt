@@ -5,7 +5,7 @@ use Rattle.mw_logic.specs.Signature.{Signature}
 use Rattle.mw_logic.specs.Module.{Module, Statement, IsStatement}
 use Rattle.mw_canon.specs.Canonical.{IsAdmittedTerm}
 use Rattle.mw_prooftext.specs.Grounds.{spot_of}
-use Rattle.mw_prooftext.specs.Items.{Item, step, Groups}
+use Rattle.mw_items.specs.Items.{Item, step, Groups}
 use Rattle.mw_items.specs.declared.Entry.{Entry}
 use Rattle.mw_items.specs.declared.Step.{Step as StepEntry}
 use Rattle.mw_items.specs.declared.Entry.TheVariants.{Step, Built, Open, Close}

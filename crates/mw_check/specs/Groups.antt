@@ -14,7 +14,7 @@ use Rattle.mw_canon.specs.Canonical.{IsAdmittedTerm, HasAdmittedValues, meant}
 use Rattle.mw_deduction.specs.Runs.{Dones, Runs}
 use Rattle.mw_deduction.specs.Replay.{all_sides}
 use Rattle.mw_proof.specs.Counting.{capped}
-use Rattle.mw_prooftext.specs.Items.{Item, Items, Groups, end, group}
+use Rattle.mw_items.specs.Items.{Item, Items, Groups, end, group}
 use Rattle.mw_items.specs.Entries.{entries_of_groups}
 use Rattle.mw_items.specs.declared.Entry.{Entry}
 use Rattle.mw_items.specs.declared.Entry.TheVariants.{Step, Built, Open, Close}

@@ -5,7 +5,7 @@ use Rattle.mw_logic.specs.Signature.{Signature}
 use Rattle.mw_logic.specs.Parts.{number_of_terms}
 use Rattle.mw_arguments.specs.Places.{Takes, Rise, Follow}
 use Rattle.mw_redex.specs.Replaced.{IsPartAt}
-use Rattle.mw_prooftext.specs.Items.{Spot}
+use Rattle.mw_items.specs.Items.{Spot}
 use Rattle.mw_prooftext.specs.Passing.{TakesSome}
 
 -- the part of t at the place, of which not all arguments are taken

@@ -4,7 +4,7 @@ use Rattle.mw_logic.specs.Term.{RawTerm}
 use Rattle.mw_logic.specs.Module.{Module}
 use Rattle.mw_deduction.specs.Runs.{Dones}
 use Rattle.mw_proof.specs.Counting.{capped}
-use Rattle.mw_prooftext.specs.Items.{Items}
+use Rattle.mw_items.specs.Items.{Items}
 use Rattle.mw_verdict.specs.Checks.{Checks}
 use Rattle.mw_verdict.specs.Proved.{HasProof}
 use Rattle.mw_verdict.specs.Verdicts.{IsNo}

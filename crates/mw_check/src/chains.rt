@@ -7,7 +7,7 @@ ghost use Rattle.mw_deduction.specs.Replay.{sides_of};
 ghost use Rattle.mw_index.specs.Index.{IsIndexOf};
 ghost use Rattle.mw_term.specs.Raws.{raw_term};
 ghost use Rattle.mw_term.specs.Statements.{fragment_of};
-ghost use Rattle.mw_prooftext.specs.Items.{Item, Items, Groups};
+ghost use Rattle.mw_items.specs.Items.{Item, Items, Groups};
 ghost use Rattle.mw_items.specs.Entries.{entries_of, entries_of_item, entries_of_groups};
 ghost use Rattle.mw_items.specs.declared.Entry.{Entry as EntryOf};
 ghost use Rattle.mw_check.specs.Answers.{AreAdmittedTerms, HasRawPattern};

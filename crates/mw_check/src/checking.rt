@@ -6,7 +6,7 @@ ghost use Rattle.mw_canon.specs.Canonical.{IsAdmittedTerm};
 ghost use Rattle.mw_deduction.specs.Runs.{Dones};
 ghost use Rattle.mw_index.specs.Index.{IsIndexOf};
 ghost use Rattle.mw_proof.specs.Counting.{capped};
-ghost use Rattle.mw_prooftext.specs.Items.{Items};
+ghost use Rattle.mw_items.specs.Items.{Items};
 ghost use Rattle.mw_items.specs.Entries.{entries_of};
 ghost use Rattle.mw_verdict.specs.Checks.{Checks};
 ghost use Rattle.mw_verdict.specs.Verdicts.{number_of};

@@ -3,7 +3,7 @@ ghost use Rattle.std.specs.Prelude.{◌≤◌, IfOk};
 ghost use Rattle.mw_canon.specs.Canonical.{IsAdmittedTerm};
 ghost use Rattle.mw_index.specs.Index.{IsIndexOf};
 ghost use Rattle.mw_prooftext.specs.Grounds.{spot_of};
-ghost use Rattle.mw_prooftext.specs.Items.{built as built_at};
+ghost use Rattle.mw_items.specs.Items.{built as built_at};
 ghost use Rattle.mw_check.specs.Answers.{IsAnswer};
 
 use crate::answer::{Answer, Cause};

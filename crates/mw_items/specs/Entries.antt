@@ -1,7 +1,7 @@
 -- The items of a proof text, one entry after another: what stands in a group stands between the entries that open and close it.
 use Rattle.std.specs.Prelude.{List, [], ◌∷◌, ◌++◌}
 use Rattle.mw_redex.specs.declared.replacing.Place.{Place}
-use Rattle.mw_prooftext.specs.Items.{Spot, Item, step, built, Items, none, more, Groups, end, group}
+use Rattle.mw_items.specs.Items.{Spot, Item, step, built, Items, none, more, Groups, end, group}
 use Rattle.mw_items.specs.declared.Entry.{Entry}
 use Rattle.mw_items.specs.declared.Entry.TheVariants.{Step, Built, Open, Close}
 

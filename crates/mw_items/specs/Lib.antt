@@ -1,2 +1,3 @@
+pub mod Items
 -- What a proof text says.
 pub mod Entries

@@ -1,7 +1,7 @@
 //! What a proof text says, as it is read and checked: a flat list, so that a text of a million lines is dropped by a
 //! loop.
 //!
-//! The items of a text (specs/Items of mw_prooftext) stand one entry after another (`entries_of`, specs/Entries). The
+//! The items of a text (specs/Items) stand one entry after another (`entries_of`, specs/Entries). The
 //! groups of a step's condition follow it, each between an entry that opens it and one that closes it. It has no code.
 #![tactic(auto)]
 

@@ -2,7 +2,7 @@
 use Rattle.std.proofs.Common.{◌≡◌, ◌≢◌, ◌∙◌, ◌+◌, ◌<◌, ◌≤◌, ◌↔◌, ◌⊎◌, inl, inr, ℕ, suc, max, List, [], ◌∷◌, ◌++◌, length, get_or, true, false, refl, ap, sym, subst, arith, append_assoc, append-nil}
 use Rattle.std.specs.Prelude.{codes}
 use Rattle.mw_logic.specs.Module.{Module}
-use Rattle.mw_prooftext.specs.Items.{Item, step, built, Items, none, more, Groups, end, group}
+use Rattle.mw_items.specs.Items.{Item, step, built, Items, none, more, Groups, end, group}
 use Rattle.mw_items.specs.Entries.{entries_of, entries_of_item, entries_of_groups}
 use Rattle.mw_items.specs.declared.Entry.{Entry}
 use Rattle.mw_items.specs.declared.Entry.TheVariants.{Open, Close}

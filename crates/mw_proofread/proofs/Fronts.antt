@@ -4,8 +4,8 @@ use Rattle.std.specs.Prelude.{codes}
 use Rattle.mw_logic.specs.Term.{RawTerm}
 use Rattle.mw_logic.specs.Signature.{Signature}
 use Rattle.mw_logic.specs.Module.{Module}
-use Rattle.mw_prooftext.specs.Items.{Spot}
 use Rattle.mw_print.proofs.PrefixTold.{prefix_told}
+use Rattle.mw_items.specs.Items.{Spot}
 use Rattle.mw_proofread.specs.Numbers.{number_text}
 use Rattle.mw_proofread.specs.TokenTexts.{numbers_tokens, take_tokens, spot_tokens, form_tokens, values_tokens, with_tokens}
 use Rattle.mw_proofread.specs.Reading.{AreWritten}

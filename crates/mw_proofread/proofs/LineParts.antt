@@ -7,7 +7,7 @@ use Rattle.mw_logic.specs.Module.{Module}
 use Rattle.mw_redex.specs.declared.replacing.Place.{Place}
 use Rattle.mw_items.specs.declared.Entry.{Entry}
 use Rattle.mw_items.specs.declared.Entry.TheVariants.{Step, Built}
-use Rattle.mw_prooftext.specs.Items.{Spot}
+use Rattle.mw_items.specs.Items.{Spot}
 use Rattle.mw_proofread.specs.Numbers.{number_text, capped, saturated}
 use Rattle.mw_proofread.specs.TokenTexts.{form_tokens, values_tokens, with_tokens, spot_tokens}
 use Rattle.mw_proofread.specs.Reading.{IsWritten, AreWritten, IsCount, values_of, groups_of}

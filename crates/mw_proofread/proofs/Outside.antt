@@ -4,7 +4,7 @@ use Rattle.std.specs.Prelude.{codes}
 use Rattle.mw_logic.specs.Term.{RawTerm}
 use Rattle.mw_logic.specs.Module.{Module}
 use Rattle.mw_print.proofs.PrefixTold.{prefix_told}
-use Rattle.mw_prooftext.specs.Items.{Item, step, built, Items, none, more, Groups, end, group}
+use Rattle.mw_items.specs.Items.{Item, step, built, Items, none, more, Groups, end, group}
 use Rattle.mw_proofread.specs.TokenTexts.{where_word, form_tokens, item_tokens, items_tokens, groups_tokens, head_tokens, end_tokens}
 use Rattle.mw_proofread.specs.Reading.{HasForm, HaveForm, GroupsHaveForm, most_wheres, IsWritten, IsText}
 use Rattle.mw_proofread.specs.Outside.{IsFollowed, HasHead, HasItem, HasEnd, HasItems, IsOutside, OutsideIsNoText, OutsideIsOne, TextsTell}

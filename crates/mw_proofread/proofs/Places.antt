@@ -2,7 +2,7 @@
 use Rattle.std.proofs.Common.{◌≡◌, ◌∙◌, ◌≤◌, ℕ, List, [], ◌∷◌, ◌++◌, map, length, Option, Some, None, refl, ap, sym, subst, arith, append_assoc, length-append}
 use Rattle.std.specs.Prelude.{codes}
 use Rattle.std.proofs.lemmas.List.{map-append, length-map}
-use Rattle.mw_prooftext.specs.Items.{Spot}
+use Rattle.mw_items.specs.Items.{Spot}
 use Rattle.mw_proofread.specs.Numbers.{number_text, capped, saturated, IsTake}
 use Rattle.mw_proofread.specs.TokenTexts.{numbers_tokens, take_tokens}
 use Rattle.mw_proofread.specs.Parts.{NotFirst, HasNumbers, HasTake, HasPlace, NoTake, NoPlace}

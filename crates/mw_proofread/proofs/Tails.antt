@@ -4,7 +4,7 @@ use Rattle.std.specs.Prelude.{codes}
 use Rattle.mw_logic.specs.Term.{RawTerm}
 use Rattle.mw_logic.specs.Signature.{Signature}
 use Rattle.mw_logic.specs.Module.{Module}
-use Rattle.mw_prooftext.specs.Items.{Items, none, more}
+use Rattle.mw_items.specs.Items.{Items, none, more}
 use Rattle.mw_items.specs.Entries.{entries_of}
 use Rattle.mw_items.specs.declared.Entry.{Entry}
 use Rattle.mw_proofread.specs.Numbers.{number_text}

@@ -3,7 +3,7 @@ use Rattle.std.specs.Prelude.{◌≡◌, ◌≤◌, ◌||◌, ℕ, zero, suc, Li
 use Rattle.std.specs.Str.{bytes_eq}
 use Rattle.mw_logic.specs.Term.{RawTerm}
 use Rattle.mw_logic.specs.Module.{Module}
-use Rattle.mw_prooftext.specs.Items.{Item, Items}
+use Rattle.mw_items.specs.Items.{Item, Items}
 use Rattle.mw_proofread.specs.TokenTexts.{head_tokens, item_tokens, end_tokens}
 use Rattle.mw_proofread.specs.Reading.{IsWritten, HasForm, wheres, IsText}
 

@@ -4,7 +4,7 @@ use Rattle.std.specs.Str.{bytes_eq}
 use Rattle.mw_logic.specs.Term.{RawTerm}
 use Rattle.mw_logic.specs.Signature.{Signature}
 use Rattle.mw_logic.specs.Module.{Module}
-use Rattle.mw_prooftext.specs.Items.{Spot, Item, Items, Groups}
+use Rattle.mw_items.specs.Items.{Spot, Item, Items, Groups}
 use Rattle.mw_redex.specs.declared.replacing.Place.{Place}
 use Rattle.mw_items.specs.Entries.{place_of, entries_of, entries_of_item, entries_of_groups}
 use Rattle.mw_items.specs.declared.Entry.{Entry}

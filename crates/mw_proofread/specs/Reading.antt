@@ -6,7 +6,7 @@ use Rattle.mw_logic.specs.Module.{Module, Statement}
 use Rattle.mw_deduction.specs.Replay.{all_sides}
 use Rattle.mw_canon.specs.Canonical.{IsAdmittedTerm}
 use Rattle.mw_print.specs.PrefixLaws.{IsTold, most_open}
-use Rattle.mw_prooftext.specs.Items.{Spot, Item, step, built, Items, none, more, Groups, end, group}
+use Rattle.mw_items.specs.Items.{Spot, Item, step, built, Items, none, more, Groups, end, group}
 use Rattle.mw_proofread.specs.Numbers.{IsTake, capped}
 use Rattle.mw_proofread.specs.TokenTexts.{form_tokens, text_tokens}
 

@@ -5,7 +5,7 @@ use Rattle.mw_logic.specs.Term.{RawTerm}
 use Rattle.mw_logic.specs.Signature.{Signature}
 use Rattle.mw_print.specs.Tokens.{texts}
 use Rattle.mw_print.specs.Prefix.{prefixed}
-use Rattle.mw_prooftext.specs.Items.{Spot, Item, step, built, Items, none, more, Groups, end, group}
+use Rattle.mw_items.specs.Items.{Spot, Item, step, built, Items, none, more, Groups, end, group}
 use Rattle.mw_proofread.specs.Numbers.{number_text}
 
 -- the texts of tokens

@@ -1,6 +1,6 @@
 // Whole texts.
 ghost use Rattle.std.specs.Prelude.{◌≡◌, ◌≢◌, ◌++◌, ◌∷◌, ℕ, List, IfOk, IfErr, MatchOption, codes};
-ghost use Rattle.mw_prooftext.specs.Items.{Items};
+ghost use Rattle.mw_items.specs.Items.{Items};
 ghost use Rattle.mw_items.specs.Entries.{entries_of};
 ghost use Rattle.mw_proofread.specs.TokenTexts.{token_texts};
 ghost use Rattle.mw_proofread.specs.Reading.{IsText, capped_items};

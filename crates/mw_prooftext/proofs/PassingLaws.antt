@@ -14,7 +14,7 @@ use Rattle.mw_logic.proofs.Ranks.{normal, row_within, admitted_within}
 use Rattle.mw_deduction.specs.Replay.{applies, meets, Stand, whole, becomes, MayApply, MayMeet}
 use Rattle.mw_deduction.specs.Stands.{IsStanding}
 use Rattle.mw_deduction.proofs.MoveStands.{whole_is, move_stands}
-use Rattle.mw_prooftext.specs.Items.{Spot, Item, built, Items, none, more, with_item}
+use Rattle.mw_items.specs.Items.{Spot, Item, built, Items, none, more, with_item}
 use Rattle.mw_prooftext.specs.Tells.{Replaces}
 use Rattle.mw_prooftext.specs.Passing.{TakesSome, PassesOne, a_row, Passes, nothing, then}
 

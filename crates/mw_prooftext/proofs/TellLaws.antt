@@ -14,7 +14,7 @@ use Rattle.mw_deduction.specs.Runs.{Done, Dones, both, one, Run, run, Runs, anot
 use Rattle.mw_deduction.specs.Runs as runs
 use Rattle.mw_deduction.specs.Replay.{Stand, put_behind, beginnings, begun_sides}
 use Rattle.mw_deduction.specs.Stands.{IsStanding}
-use Rattle.mw_prooftext.specs.Items.{Item, Items, none, more, Groups, end, group, with_item, with_group}
+use Rattle.mw_items.specs.Items.{Item, Items, none, more, Groups, end, group, with_item, with_group}
 use Rattle.mw_prooftext.specs.Tells.{Tells, TellsOne, TellsSides}
 use Rattle.mw_prooftext.specs.Told.{ShowsSides}
 

@@ -16,7 +16,7 @@ use Rattle.mw_deduction.specs.Runs as runs
 use Rattle.mw_deduction.specs.Replay.{Stand, begun, whole, replacing, becomes, showing, all_sides, MayApply, MayMeet, MayEnd}
 use Rattle.mw_deduction.specs.Stands.{IsStanding}
 use Rattle.mw_deduction.proofs.MoveStands.{becomes_is}
-use Rattle.mw_prooftext.specs.Items.{Spot, Item, step, built, Items, none, Groups, end, with_item, with_group}
+use Rattle.mw_items.specs.Items.{Spot, Item, step, built, Items, none, Groups, end, with_item, with_group}
 use Rattle.mw_prooftext.specs.Texts.{item_text, where_word, groups_text, step_text, built_text}
 use Rattle.mw_prooftext.specs.Tells.{IsStep, IsBuilt, Tells}
 use Rattle.mw_prooftext.specs.Passing.{TakesSome, a_statement, nothing}

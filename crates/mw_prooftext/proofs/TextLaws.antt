@@ -2,7 +2,7 @@
 use Rattle.std.specs.Prelude.{◌≡◌, [], ◌∷◌, ◌++◌, Bool, true, false, cond, codes, refl}
 use Rattle.std.proofs.Common.{ap, sym, ◌∙◌, append_assoc, append-nil}
 use Rattle.mw_logic.specs.Signature.{Signature}
-use Rattle.mw_prooftext.specs.Items.{Item, Items, none, more, Groups, end, group, with_item, with_group}
+use Rattle.mw_items.specs.Items.{Item, Items, none, more, Groups, end, group, with_item, with_group}
 use Rattle.mw_prooftext.specs.Texts.{line, item_text, where_word, groups_text, items_text, lines_text}
 use Rattle.mw_prooftext.specs.Told.{told_items, item_start, word_before, braced}
 

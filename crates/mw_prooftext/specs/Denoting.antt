@@ -3,7 +3,7 @@ use Rattle.std.specs.Prelude.{◌≡◌, ℕ, List, ◌++◌}
 use Rattle.mw_logic.specs.Parts.{nested}
 use Rattle.mw_deduction.specs.Runs.{run, Denotes}
 use Rattle.mw_proof.specs.Deductions.{Deduction}
-use Rattle.mw_prooftext.specs.Items.{Items}
+use Rattle.mw_items.specs.Items.{Items}
 use Rattle.mw_prooftext.specs.Texts.{lines_text, text_of}
 use Rattle.mw_prooftext.specs.Tells.{Tells}
 use Rattle.mw_prooftext.specs.Passing.{Passes}

@@ -2,7 +2,7 @@
 use Rattle.std.specs.Prelude.{List, [], ◌∷◌, IsTrue, ⊤}
 use Rattle.mw_logic.specs.Term.{RawTerm, is_ground}
 use Rattle.mw_redex.specs.declared.replacing.Place.{Place}
-use Rattle.mw_prooftext.specs.Items.{Spot}
+use Rattle.mw_items.specs.Items.{Spot}
 
 abbrev pub AreGround : List RawTerm → Type 0
 AreGround [] = ⊤

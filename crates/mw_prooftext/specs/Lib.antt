@@ -1,4 +1,3 @@
-pub mod Items
 pub mod Texts
 pub mod Tells
 pub mod Passing

@@ -8,7 +8,7 @@ use Rattle.mw_logic.specs.Parts.{nested, IsClean, IsAdmitted}
 use Rattle.mw_logic.specs.Module.{Module, binds_statement, Row}
 use Rattle.mw_logic.specs.Judgements.{IsNormal}
 use Rattle.mw_spot.specs.Spots.{TakesPart}
-use Rattle.mw_prooftext.specs.Items.{Spot, Item, step, built, Items, none, more, Groups}
+use Rattle.mw_items.specs.Items.{Spot, Item, step, built, Items, none, more, Groups}
 use Rattle.mw_prooftext.specs.Tells.{Replaces, IsStep}
 
 -- where arguments are taken, they are not all that there are

@@ -10,7 +10,7 @@ use Rattle.mw_deduction.specs.Runs.{Done, by_statement, by_row, Dones, run, Runs
 use Rattle.mw_deduction.specs.Runs as runs
 use Rattle.mw_deduction.specs.Replay.{AreValuesOf, all_sides}
 use Rattle.mw_redex.specs.Replaced.{ReplacesAt}
-use Rattle.mw_prooftext.specs.Items.{Spot, Item, step, built, Items, none, more, Groups, end, group}
+use Rattle.mw_items.specs.Items.{Spot, Item, step, built, Items, none, more, Groups, end, group}
 
 -- The part of t at the place is the canonical form of w, and u is t with that of v in its stead. For a rule no argument on the way is frozen.
 abbrev pub Replaces : Signature → Bool → RawTerm → RawTerm → Spot → RawTerm → RawTerm → Type 0

@@ -8,7 +8,7 @@ use Rattle.mw_logic.proofs.Canonical.{IsCanonical}
 use Rattle.mw_deduction.specs.Runs.{Dones, Runs, run, another}
 use Rattle.mw_deduction.specs.Runs as runs
 use Rattle.mw_deduction.specs.Replay.{Stand, whole}
-use Rattle.mw_prooftext.specs.Items.{Items, Groups, end, group}
+use Rattle.mw_items.specs.Items.{Items, Groups, end, group}
 use Rattle.mw_prooftext.specs.Texts.{items_text, lines_text, groups_text}
 use Rattle.mw_prooftext.specs.Tells.{Tells}
 use Rattle.mw_prooftext.specs.Passing.{Passes}

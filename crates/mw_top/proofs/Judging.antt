@@ -9,7 +9,7 @@ use Rattle.mw_block.specs.Verdicts.{verdict_line}
 use Rattle.mw_logic.specs.Term.{RawTerm}
 use Rattle.mw_logic.specs.Signature.{Signature}
 use Rattle.mw_logic.specs.Module.{Module}
-use Rattle.mw_prooftext.specs.Items.{Item, step, built, Items, none, more, Groups, end, group}
+use Rattle.mw_items.specs.Items.{Item, step, built, Items, none, more, Groups, end, group}
 use Rattle.mw_items.specs.Entries.{entries_of, entries_of_item, entries_of_groups}
 use Rattle.mw_items.specs.declared.Entry.{Entry}
 use Rattle.mw_items.specs.declared.Entry.TheVariants.{Step, Built, Open, Close}

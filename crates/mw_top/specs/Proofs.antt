@@ -6,7 +6,7 @@ use Rattle.mw_canon.specs.Canonical.{IsAdmittedTerm}
 use Rattle.mw_lex.specs.declared.token.Token.{Token}
 use Rattle.mw_module.specs.Words.{texts}
 use Rattle.mw_build.specs.Modules.{Accepted}
-use Rattle.mw_prooftext.specs.Items.{Items}
+use Rattle.mw_items.specs.Items.{Items}
 use Rattle.mw_proofread.specs.Reading.{IsText, capped_items}
 use Rattle.mw_proofread.specs.Outside.{IsOutside}
 use Rattle.mw_items.specs.declared.ProofText.{ProofText}

@@ -2,7 +2,7 @@
 ghost use Rattle.std.specs.Prelude.{◌≡◌, ◌≤◌, ℕ, List, IfOk, MatchOption, Some};
 ghost use Rattle.mw_module.specs.Words.{texts};
 ghost use Rattle.mw_build.specs.Modules.{Accepted};
-ghost use Rattle.mw_prooftext.specs.Items.{Items};
+ghost use Rattle.mw_items.specs.Items.{Items};
 ghost use Rattle.mw_items.specs.Entries.{entries_of};
 ghost use Rattle.mw_check.specs.Whole.{IsVerdict};
 ghost use Rattle.mw_top.specs.Commands.{module_named};

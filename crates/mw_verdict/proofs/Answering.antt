@@ -5,7 +5,7 @@ use Rattle.mw_logic.specs.Term.{RawTerm}
 use Rattle.mw_logic.specs.Module.{Module}
 use Rattle.mw_logic.specs.Parts.{nested, IsAdmitted}
 use Rattle.mw_deduction.specs.Runs.{Done, Dones}
-use Rattle.mw_prooftext.specs.Items.{Item, Items}
+use Rattle.mw_items.specs.Items.{Item, Items}
 use Rattle.mw_verdict.specs.Checks.{Checks, nothing, then, ChecksOne}
 use Rattle.mw_verdict.specs.Verdicts.{Cause, Splits, first, later, number_of, Refuses, IsYes, IsNo, in_item, at_end}
 use Rattle.mw_verdict.specs.Exclusion.{HasOneRow, IsChecked, OneCauseOf, NoneChecked, OneAnswerOf}

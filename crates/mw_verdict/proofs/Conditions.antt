@@ -14,7 +14,7 @@ use Rattle.mw_logic.proofs.Clash.{normal_stands}
 use Rattle.mw_logic.proofs.Ranks.{row_within}
 use Rattle.mw_deduction.specs.Runs.{Done, Dones, Runs}
 use Rattle.mw_deduction.specs.Replay.{sides_of, all_sides}
-use Rattle.mw_prooftext.specs.Items.{Item, Items, Groups}
+use Rattle.mw_items.specs.Items.{Item, Items, Groups}
 use Rattle.mw_verdict.specs.Checks.{Meets, ChecksOne, by_statement, by_row, Evaluated, evaluated, AreEvaluated, a_side, Shown, unconditional, conditional}
 use Rattle.mw_verdict.specs.Verdicts.{Cause, stopped, past_limit, HasGroup, the_first, a_later, behind, AreLed, no_more, one_more, Refuses, statement_missing, row_missing, value_ill_sorted, part_missing, spot_missing, condition_fails, sides_not_normal, condition_stops, sides_stop, next_past_limit, AtFault, a_chain, the_ends, behind_them, ChainAtFault, at_item, past_limits, by_a_rule, not_normal}
 use Rattle.mw_verdict.specs.Exclusion.{HasOneRow}

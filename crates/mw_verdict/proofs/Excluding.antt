@@ -10,7 +10,7 @@ use Rattle.mw_logic.specs.Module.{Module, Statement}
 use Rattle.mw_logic.proofs.Ranks.{row_within}
 use Rattle.mw_deduction.specs.Runs.{Done}
 use Rattle.mw_redex.specs.Replaced.{IsPartAt}
-use Rattle.mw_prooftext.specs.Items.{Spot, Item}
+use Rattle.mw_items.specs.Items.{Spot, Item}
 use Rattle.mw_prooftext.specs.Tells.{Replaces}
 use Rattle.mw_prooftext.specs.Passing.{IsRow}
 use Rattle.mw_verdict.specs.Checks.{IsFormOf, ChecksOne, by_statement, by_row}

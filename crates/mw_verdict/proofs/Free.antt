@@ -10,7 +10,7 @@ use Rattle.mw_logic.specs.NormalForm.{normal_form}
 use Rattle.mw_logic.specs.Judgements.{IsNormal}
 use Rattle.mw_logic.specs.Module.{Module, IsPolymorphic, Row, arithmetic, equal_terms, unequal_terms, not_different, different, if_true, if_false}
 use Rattle.mw_deduction.specs.Runs as runs
-use Rattle.mw_prooftext.specs.Items.{Item, Items, Groups, end}
+use Rattle.mw_items.specs.Items.{Item, Items, Groups, end}
 use Rattle.mw_prooftext.specs.Passing.{Passes}
 use Rattle.mw_prooftext.specs.Passing as passing
 use Rattle.mw_verdict.specs.Checks.{IsFormOf, nothing, then, by_statement, by_row, Shown, unconditional}

@@ -7,7 +7,7 @@ use Rattle.mw_logic.specs.Ends.{Confluent}
 use Rattle.mw_logic.specs.WellFormed.{IsWellFormed}
 use Rattle.mw_logic.specs.Confluence.{IsTame}
 use Rattle.mw_deduction.specs.Runs.{Done}
-use Rattle.mw_prooftext.specs.Items.{Item}
+use Rattle.mw_items.specs.Items.{Item}
 use Rattle.mw_verdict.specs.Checks.{ChecksOne}
 use Rattle.mw_verdict.specs.Verdicts.{Cause, no_condition, stopped, past_limit, Refuses, next_past_limit}
 use Rattle.mw_verdict.specs.Exclusion.{HasOneRow, IsCertain, OneCauseOf, NoneChecked, CertainExclude, ConfluentExclude}

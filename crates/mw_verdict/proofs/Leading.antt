@@ -11,7 +11,7 @@ use Rattle.mw_logic.specs.Module.{Module, Statement, IsStatement, IsPolymorphic,
 use Rattle.mw_logic.specs.Judgements.{IsNormal}
 use Rattle.mw_deduction.specs.Runs.{Done, Dones}
 use Rattle.mw_redex.specs.Replaced.{replaced_at, ReplacesAt}
-use Rattle.mw_prooftext.specs.Items.{Spot, Item, step, Items, Groups}
+use Rattle.mw_items.specs.Items.{Spot, Item, step, Items, Groups}
 use Rattle.mw_prooftext.specs.Passing.{IsRow}
 use Rattle.mw_verdict.specs.Checks.{IsFormOf, Checks, nothing, then, ChecksOne, by_statement, by_row}
 use Rattle.mw_verdict.specs.Leads.{IsOneArgument, IsComputed, LeadsOne, a_step, a_row, Leads, nowhere, onward}

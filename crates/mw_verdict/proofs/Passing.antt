@@ -9,7 +9,7 @@ use Rattle.mw_logic.specs.NormalForm.{normal_form}
 use Rattle.mw_logic.specs.Module.{Module}
 use Rattle.mw_logic.proofs.Ranks.{row_within}
 use Rattle.mw_deduction.specs.Runs.{Dones}
-use Rattle.mw_prooftext.specs.Items.{Item, Items}
+use Rattle.mw_items.specs.Items.{Item, Items}
 use Rattle.mw_prooftext.specs.Passing.{PassesOne, Passes}
 use Rattle.mw_prooftext.specs.Passing as passing
 use Rattle.mw_verdict.specs.Checks.{Checks, nothing, then}

@@ -28,7 +28,7 @@ use Rattle.mw_deduction.specs.Runs.{Done, Dones, none, more, one, Runs, end, ano
 use Rattle.mw_deduction.specs.Runs as runs
 use Rattle.mw_deduction.specs.Replay.{all_sides}
 use Rattle.mw_deduction.proofs.Carrying.{same_itself, at_place_carries}
-use Rattle.mw_prooftext.specs.Items.{Item, Items, Groups}
+use Rattle.mw_items.specs.Items.{Item, Items, Groups}
 use Rattle.mw_verdict.specs.Checks.{AreMet, Checks, nothing, then, ChecksOne, by_statement, by_row, Evaluated, evaluated, AreEvaluated, no_side, a_side, Shown, unconditional, conditional}
 use Rattle.mw_verdict.specs.Proved.{HasProof}
 use Rattle.mw_verdict.proofs.Steps.{Stepped, stepped}

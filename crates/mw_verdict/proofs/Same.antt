@@ -11,7 +11,7 @@ use Rattle.mw_logic.specs.Module.{Module, Statement}
 use Rattle.mw_deduction.specs.Runs.{Done, Dones}
 use Rattle.mw_redex.specs.Replaced.{replaced_at, IsPartAt, IsOpenArgument, IsOpenWay, way_of_place, ReplacesAt}
 use Rattle.mw_redex.proofs.Standing.{one_place}
-use Rattle.mw_prooftext.specs.Items.{Spot, Item, Items}
+use Rattle.mw_items.specs.Items.{Spot, Item, Items}
 use Rattle.mw_prooftext.specs.Tells.{IsStep}
 use Rattle.mw_prooftext.specs.Passing.{IsRow}
 use Rattle.mw_verdict.specs.Checks.{IsNamed, IsFormOf, Checks, nothing, then, ChecksOne, by_statement, by_row}

@@ -6,7 +6,7 @@ use Rattle.mw_logic.specs.Module.{Fragment, Module}
 use Rattle.mw_logic.proofs.Ranks.{row_within}
 use Rattle.mw_deduction.specs.Runs.{Done, Dones, Runs}
 use Rattle.mw_deduction.specs.Replay.{all_sides}
-use Rattle.mw_prooftext.specs.Items.{Item, Items, Groups}
+use Rattle.mw_items.specs.Items.{Item, Items, Groups}
 use Rattle.mw_prooftext.specs.Tells.{Tells, TellsOne, TellsSides}
 use Rattle.mw_verdict.specs.Checks.{Checks, nothing, then, ChecksOne, by_statement, by_row, evaluated, AreEvaluated, no_side, a_side, Shown, unconditional, conditional}
 

@@ -12,7 +12,7 @@ use Rattle.mw_logic.specs.Judgements.{MeetsSort, IsNormal, IsPlain}
 use Rattle.mw_deduction.specs.Runs.{Done, Dones, run, Runs, another}
 use Rattle.mw_deduction.specs.Runs as runs
 use Rattle.mw_deduction.specs.Replay.{AreValuesOf, sides_of, all_sides}
-use Rattle.mw_prooftext.specs.Items.{Spot, Item, step, built, Items, none, more, Groups, end, group}
+use Rattle.mw_items.specs.Items.{Spot, Item, step, built, Items, none, more, Groups, end, group}
 use Rattle.mw_prooftext.specs.Tells.{Replaces}
 use Rattle.mw_prooftext.specs.Passing.{TakesSome, IsRow}
 

@@ -10,7 +10,7 @@ use Rattle.mw_logic.specs.Ends.{Confluent}
 use Rattle.mw_logic.specs.WellFormed.{IsWellFormed}
 use Rattle.mw_logic.specs.Confluence.{IsTame}
 use Rattle.mw_deduction.specs.Runs.{Done, Dones}
-use Rattle.mw_prooftext.specs.Items.{Item, Items}
+use Rattle.mw_items.specs.Items.{Item, Items}
 use Rattle.mw_verdict.specs.Checks.{IsFormOf, Checks, ChecksOne}
 use Rattle.mw_verdict.specs.Leads.{Leads}
 use Rattle.mw_verdict.specs.Verdicts.{Cause, no_condition, stopped, past_limit, Refuses, IsYes, IsNo}

@@ -6,7 +6,7 @@ use Rattle.mw_logic.specs.Signature.{Signature, IsRawTerm}
 use Rattle.mw_logic.specs.Parts.{is_assoc, IsClean}
 use Rattle.mw_logic.specs.NormalForm.{normal_form, own_arguments}
 use Rattle.mw_logic.specs.Module.{Module, Row}
-use Rattle.mw_prooftext.specs.Items.{Spot, Item, step, built, Items, none, more, Groups}
+use Rattle.mw_items.specs.Items.{Spot, Item, step, built, Items, none, more, Groups}
 use Rattle.mw_prooftext.specs.Tells.{Replaces, IsStep}
 
 -- v is one argument of the operator on top of t, and not several, where that is associative.

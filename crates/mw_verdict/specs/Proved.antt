@@ -8,7 +8,7 @@ use Rattle.mw_logic.specs.Judgements.{Proves}
 use Rattle.mw_logic.specs.WellFormed.{IsWellFormed}
 use Rattle.mw_canon.specs.Canonical.{IsAdmittedTerm}
 use Rattle.mw_deduction.specs.Runs.{Dones, run, Denotes}
-use Rattle.mw_prooftext.specs.Items.{Items}
+use Rattle.mw_items.specs.Items.{Items}
 use Rattle.mw_prooftext.specs.Tells.{Tells}
 use Rattle.mw_verdict.specs.Checks.{Checks}
 

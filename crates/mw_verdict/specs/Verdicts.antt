@@ -14,7 +14,7 @@ use Rattle.mw_logic.specs.Confluence.{IsReducible}
 use Rattle.mw_deduction.specs.Runs.{Done, Dones}
 use Rattle.mw_deduction.specs.Replay.{sides_of, all_sides}
 use Rattle.mw_redex.specs.Replaced.{IsPartAt}
-use Rattle.mw_prooftext.specs.Items.{Spot, Item, step, built, Items, none, more, Groups, end, group}
+use Rattle.mw_items.specs.Items.{Spot, Item, step, built, Items, none, more, Groups, end, group}
 use Rattle.mw_prooftext.specs.Tells.{Replaces}
 use Rattle.mw_prooftext.specs.Passing.{TakesSome}
 use Rattle.mw_verdict.specs.Checks.{IsNamed, IsFormOf, Meets, Checks, ChecksOne}

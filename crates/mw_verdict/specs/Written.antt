@@ -5,7 +5,7 @@ use Rattle.mw_logic.specs.Axioms.{EqualModulo}
 use Rattle.mw_logic.specs.Accepted.{IsAccepted}
 use Rattle.mw_logic.specs.Module.{Statement, Module, IsStatement, IsPolymorphic}
 use Rattle.mw_redex.specs.Replaced.{IsPartAt}
-use Rattle.mw_prooftext.specs.Items.{Item, step, built, Items, none, more, end}
+use Rattle.mw_items.specs.Items.{Item, step, built, Items, none, more, end}
 use Rattle.mw_prooftext.specs.Passing.{Passes}
 use Rattle.mw_verdict.specs.Checks.{IsFormOf}
 use Rattle.mw_verdict.specs.Leads.{LeadsOne}

@@ -2,7 +2,7 @@ use Rattle.std.proofs.Common.{◌≡◌, ◌+◌, ◌*◌, List, length, map}
 use Rattle.std.specs.Prelude.{◌++◌}
 use Rattle.mw_canon.specs.Canonical.{IsAdmittedTerm, meant}
 use Rattle.mw_term.specs.Statements.{fragment_of}
-use Rattle.mw_prooftext.specs.Items.{Items, Groups}
+use Rattle.mw_items.specs.Items.{Items, Groups}
 use Rattle.mw_items.specs.declared.Entry.{Entry}
 use Rattle.mw_items.specs.Entries.{entries_of, entries_of_groups}
 use Rattle.mw_check.specs.Chains.{EndsItems, OpensNoGroup, AreLeft}

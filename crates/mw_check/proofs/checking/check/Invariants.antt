@@ -1,6 +1,6 @@
 use Rattle.std.proofs.Common.{◌≡◌, ◌≤◌, ◌+◌, length}
 use Rattle.mw_canon.specs.Canonical.{IsAdmittedTerm}
-use Rattle.mw_prooftext.specs.Items.{Items}
+use Rattle.mw_items.specs.Items.{Items}
 use Rattle.mw_items.specs.Entries.{entries_of}
 use Rattle.mw_check.specs.Chains.{HaveAdmittedValues}
 use Rattle.mw_check.proofs.Whole.{IsUnderway}

@@ -1,7 +1,7 @@
 use Rattle.std.proofs.Common.{◌≡◌, ap, sym, subst}
 use Rattle.mw_logic.specs.Module.{Module}
 use Rattle.mw_module.specs.Words.{texts}
-use Rattle.mw_prooftext.specs.Items.{Items}
+use Rattle.mw_items.specs.Items.{Items}
 use Rattle.mw_proofread.specs.Faults.{OutsideAt}
 use Rattle.mw_proofread.specs.Outside.{IsOutside}
 use Rattle.mw_proofread.specs.Reading.{IsText, capped_items}
