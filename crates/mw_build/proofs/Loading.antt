@@ -11,7 +11,8 @@ use Rattle.mw_carry.specs.Carried.{IsPart}
 use Rattle.mw_import.specs.Flat.{FlatUnit, AreAccepted, IsFlat, statements_at, statements_of, told_at, all_statements}
 use Rattle.mw_import.proofs.Flattened.{kept_at, flattened_within}
 use Rattle.mw_import.proofs.Reaching.{reached_stays}
-use Rattle.mw_import.proofs.Lists.{member-right, pushed_at}
+use Rattle.mw_logic.proofs.Members.{member-right}
+use Rattle.mw_import.proofs.Lists.{pushed_at}
 use Rattle.mw_import.proofs.Tables.{flat_within}
 use Rattle.mw_declare.specs.declared.declarations.Declarations.{Declarations}
 use Rattle.mw_declare.specs.declared.built.Reached.{Reached}

@@ -7,7 +7,8 @@ use Rattle.mw_logic.specs.Signature.{Declaration, Member}
 use Rattle.mw_module.specs.Attributes.{Attributes}
 use Rattle.mw_module.specs.Forms.{Shape, Sorts, Subsorts, Operators, Variables, Statement, Import}
 use Rattle.mw_module.specs.Units.{SeenLined}
-use Rattle.mw_poset.proofs.Members.{member-left, member-last, member-all}
+use Rattle.mw_logic.proofs.Members.{member-left}
+use Rattle.mw_poset.proofs.Members.{member-last, member-all}
 use Rattle.mw_declare.specs.declared.built.Truth.{Truth}
 use Rattle.mw_declare.specs.Meaning.{Name}
 use Rattle.mw_declare.specs.Hierarchy.{Hierarchy, hierarchy_of}

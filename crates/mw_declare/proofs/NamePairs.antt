@@ -3,7 +3,7 @@ use Rattle.std.proofs.Common.{◌≡◌, ◌∙◌, ℕ, List, [], ◌∷◌, �
 use Rattle.std.proofs.lemmas.List.{map-append}
 use Rattle.mw_lex.specs.declared.token.Token.{Token}
 use Rattle.mw_logic.specs.Signature.{Member}
-use Rattle.mw_poset.proofs.Members.{member-left, member-right, member-append}
+use Rattle.mw_logic.proofs.Members.{member-left, member-right, member-append}
 use Rattle.mw_module.specs.Forms.{Shape, Sorts, Subsorts, Operators, Variables, Statement, Import}
 use Rattle.mw_module.specs.Units.{SeenLined, IsWithin}
 use Rattle.mw_declare.specs.Meaning.{Name, texts, number_of, numbers_of}

@@ -5,6 +5,7 @@ use Rattle.std.proofs.lemmas.Bool.{both_ways}
 use Rattle.std.proofs.lemmas.Option.{same_Some, slice_get_within}
 use Rattle.mw_logic.specs.Signature.{Member}
 use Rattle.mw_logic.specs.Term.{RawTerm, RawTerms}
+use Rattle.mw_logic.proofs.Members.{member-left, member-right, member-append}
 use Rattle.mw_logic.specs.Module.{Module, Statement, IsStatement}
 use Rattle.mw_match.proofs.Picking.{at_index, member_at}
 use Rattle.mw_solving.specs.Values.{IsValue}
@@ -46,19 +47,6 @@ pub sized_choice : (st : Oriented) (o : Option Choice) → IsSized st o → IfSo
 sized_choice st None h = tt
 sized_choice st (Some q) (e, n) = n ∙ ap (λ (st : Oriented). length st.sorts) (sym e)
 
--- members of two lists, one behind the other
-member_front : (x : Oriented) (xs ys : List Oriented) → Member x xs → Member x (xs ++ ys)
-member_front x [] ys h = absurd h
-member_front x (z ∷ xs) ys h = ⊎_elim (λ e. inl e) (λ k. inr (member_front x xs ys k)) h
-
-member_behind : (x : Oriented) (xs ys : List Oriented) → Member x ys → Member x (xs ++ ys)
-member_behind x [] ys h = h
-member_behind x (z ∷ xs) ys h = inr (member_behind x xs ys h)
-
-member_either : (x : Oriented) (xs ys : List Oriented) → Member x (xs ++ ys) → Member x xs ⊎ Member x ys
-member_either x [] ys h = inr h
-member_either x (z ∷ xs) ys h = ⊎_elim (λ e. inl (inl e)) (λ k. ⊎_elim (λ a. inl (inr a)) (λ b. inr b) (member_either x xs ys k)) h
-
 -- what is asked is an executable equation
 asked_is : (m : Index) (top : Option ℕ) → asked m top ≡ own_asked m top ++ others_asked m top
 asked_is m None = refl
@@ -67,9 +55,9 @@ asked_is m (Some f) = refl
 pub asked_of : (M : Module) (m : Index) (top : Option ℕ) (i j : ℕ) (st : Oriented) (own : Bool) → IsIndexOf M m
     → IsNextOf (slice_get (own_asked m top) i) (slice_get (others_asked m top) j) st own → IsEquationOf M top st
 asked_of M m top i j st true h e =
-    h.sound top st (subst (Member st) (sym (asked_is m top)) (member_front st (own_asked m top) (others_asked m top) (member_at st (own_asked m top) i e.0)))
+    h.sound top st (subst (Member st) (sym (asked_is m top)) (member-left st (own_asked m top) (others_asked m top) (member_at st (own_asked m top) i e.0)))
 asked_of M m top i j st false h e =
-    h.sound top st (subst (Member st) (sym (asked_is m top)) (member_behind st (own_asked m top) (others_asked m top) (member_at st (others_asked m top) j e.0)))
+    h.sound top st (subst (Member st) (sym (asked_is m top)) (member-right st (own_asked m top) (others_asked m top) (member_at st (others_asked m top) j e.0)))
 
 no_value : {B : Type 0} (o : Option B) (P : B → Type 0) → o ≡ None → MatchOption o ⊤ P
 no_value None P e = tt
@@ -88,15 +76,6 @@ split_below zero zero l = inr refl
 split_below zero (suc n) l = inl (omega arith)
 split_below (suc i) zero l = absurd (omega (arith, l))
 split_below (suc i) (suc n) l = ⊎_elim (λ a. inl (omega (arith, a))) (λ a. inr (ap suc a)) (split_below i n (omega (arith, l)))
-
--- at the beginning
-pub nothing_passed : (M : Module) (m : Index) (t : RawTerm) (c : Choices) → c.own ≡ 0 → c.others ≡ 0 → c.given ≡ false → c.search ≡ None → c.subject ≡ None → Covers M m t [] c
-nothing_passed M m t c n o g s u = record {
-  subject = subst (IsKept t) (sym u) tt;
-  passed = λ i st e l. absurd (omega (arith, l, n));
-  passed_others = λ i st e l. absurd (omega (arith, l, o));
-  under_way = λ st b e. not_begun M t [] st c g s;
-}
 
 -- the next one of two lists is one alone
 next_alone : (a b : Option Oriented) (st st' : Oriented) (own own' : Bool) → IsNextOf a b st own → IsNextOf a b st' own' → st ≡ st'
@@ -174,7 +153,7 @@ module _ (M : Module) (m : Index) (t : RawTerm) (tried : List Tried) where
       let tried_it : AreTried M.signature t tried st.number e = ⊎_elim
       (λ a. let (i, at) = at_index st mine a in let b = slice_get_within mine i st at in h.passed i st e (omega (arith, b, l)) at statement)
       (λ a. let (i, at) = at_index st other a in let b = slice_get_within other i st at in h.passed_others i st e (omega (arith, b, k)) at statement)
-      (member_either st mine other (subst (Member st) (asked_is m (operator_of t)) member)) in
+      (member-append st mine other (subst (Member st) (asked_is m (operator_of t)) member)) in
       let (x, y, q, same) = tried_it w top s sol in (x, y, q ∙ number, same)
 
 -- fewer are left when one was passed

@@ -207,9 +207,6 @@ module _ (M : Module) (ok : IsWorkable M) (k : ℕ) (e : Statement) (is : IsStat
       (or_cases (b x || occurs x e.right) (occurs_among x e.fragments) (sym (in_variables M ok k e is x) ∙ a)))
 
   module _ (ts : List Test) (tests : AreTests sig lefts e.fragments ts) where
-    pub bound_front : HasFront lefts (all_bound lefts ts)
-    bound_front = all_front sig lefts e.fragments ts tests
-
     pub bound_distinct : AreDistinct (all_bound lefts ts)
     bound_distinct = all_distinct sig lefts e.fragments ts tests (lefts_distinct e)
 

@@ -46,9 +46,6 @@ module _ (sig : Signature) (sorts : List ℕ) (ps ts : RawTerms) (old found : Li
   long : (us : List RawTerm) → length us ≡ length sorts → counted_all (length old) ps ≤ length us
   long us l = let e : counted_all (length old) ps ≡ counted_all 0 ps = ap (λ (vs : List RawTerm). counted_all (length vs) ps) none in omega (arith, e, count, l)
 
-  pub not_fitting : Decides false (counted_all (length old) ps) old found (λ us. evaluated_all sig us ps ≡ ts) → AreFitting sig sorts ps ts found false
-  not_fitting d us l e = absurd (d us (begins us) (long us l) e)
-
   pub fitting : (b : Bool) → Decides true (counted_all (length old) ps) old found (λ us. evaluated_all sig us ps ≡ ts) → length found ≡ counted_all (length old) ps
       → (IsTrue b → HaveTheirSorts sig sorts 0 found) → (IsFalse b → OneLacksItsSort sig sorts 0 found) → AreFitting sig sorts ps ts found b
   fitting b d n fits lacks = by_answer b fits lacks

@@ -10,7 +10,8 @@ use Rattle.mw_logic.specs.NormalForm.{normal_form}
 use Rattle.mw_logic.specs.Parts.{nested}
 use Rattle.mw_logic.specs.Substitution.{Substitution, IsSolution}
 use Rattle.mw_pattern.proofs.Lists.{got}
-use Rattle.mw_poset.proofs.Members.{member-left, member-last, member-push}
+use Rattle.mw_logic.proofs.Members.{member-left}
+use Rattle.mw_poset.proofs.Members.{member-last, member-push}
 use Rattle.mw_index.proofs.Listed.{more, get_last, old_or_last, one_more}
 use Rattle.mw_least.specs.Workable.{IsWorkable}
 use Rattle.mw_solving.specs.Values.{IsValue}

@@ -3,7 +3,8 @@ use Rattle.std.specs.Prelude.{◌≡◌, ◌≢◌, ◌⊎◌, ℕ, List, [], �
 use Rattle.std.proofs.Common.{sym, ap, subst, inl, inr, ⊎_elim}
 use Rattle.mw_logic.specs.Signature.{Member}
 use Rattle.mw_index.proofs.Listed.{same_or_not}
-use Rattle.mw_poset.proofs.Members.{member-left, member-right, member-append, member-last, member-push}
+use Rattle.mw_logic.proofs.Members.{member-left, member-right, member-append}
+use Rattle.mw_poset.proofs.Members.{member-last, member-push}
 use Rattle.mw_index.specs.Index.{Asks, listed, asked}
 use Rattle.mw_index.specs.Sections.{Puts}
 use Rattle.mw_index.specs.declared.oriented.Oriented.{Oriented}

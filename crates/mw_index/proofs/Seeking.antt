@@ -17,7 +17,8 @@ use Rattle.mw_position.proofs.Placing.{values_of}
 use Rattle.mw_position.proofs.Placing.{is_bound_in, same_length}
 use Rattle.mw_match.specs.Solutions.{Coming, FitsSorts, Lacks, PassesTo}
 use Rattle.mw_match.specs.declared.solutions.Solution.{Solution}
-use Rattle.mw_poset.proofs.Members.{member-append, member-right, member-last}
+use Rattle.mw_logic.proofs.Members.{member-append, member-right}
+use Rattle.mw_poset.proofs.Members.{member-last}
 use Rattle.mw_search.specs.Lacking.{Each}
 use Rattle.mw_solving.specs.Values.{IsValue, AreValues}
 use Rattle.mw_solving.specs.Inside.{IsSolutionOf}

@@ -92,10 +92,6 @@ module _ (M : Module) (ok : IsWorkable M) (k : ℕ) (e : Statement) (is : IsStat
       let r : occurs x e.right ≡ true = sym (form_occurs M.signature ok.signature.accepted e.right right_raw x) ∙ o in
       in_variables x ∙ or_left (occurs x e.left || occurs x e.right) (occurs_among x e.fragments) (or_right (occurs x e.left) (occurs x e.right) r)
 
-  -- the left side's variables stand at the same places among all
-  pub left_placed : placed e.variables (normal_form M.signature e.left) ≡ placed (met [] e.left) (normal_form M.signature e.left)
-  left_placed = ap (λ xs. placed xs (normal_form M.signature e.left)) variables_front.1 ∙ placed_front (met [] e.left) variables_front.0 (normal_form M.signature e.left) left_among
-
   module _ (c : Compiled) (h : IsCompiled M.signature (normal_form M.signature e.left) [] c) where
     pub compiled_distinct : AreDistinct c.variables
     compiled_distinct = subst AreDistinct (sym h.variables) (AreDistinct-met [] h.q tt)

@@ -9,7 +9,8 @@ use Rattle.mw_logic.specs.Module.{Module, Statement, IsStatement}
 use Rattle.mw_logic.specs.Substitution.{Substitution, IsSolution, SameSolution}
 use Rattle.mw_least.specs.Workable.{IsWorkable}
 use Rattle.mw_match.specs.Solutions.{Coming, AreNamed, IsAllSolutions}
-use Rattle.mw_poset.proofs.Members.{member-left, member-last}
+use Rattle.mw_logic.proofs.Members.{member-left}
+use Rattle.mw_poset.proofs.Members.{member-last}
 use Rattle.mw_solving.specs.Values.{IsValue, AreValues}
 use Rattle.mw_index.specs.Oriented.{IsOriented}
 use Rattle.mw_index.specs.Choices.{Tried, tried_of, solution_of, IsTried, AreTried, AreComing, ComesFor, IsSearch, IsChoice, IsTaken, IsPlainOne, AreFitting}

@@ -15,13 +15,6 @@ use Rattle.mw_match.specs.Choices.{is_again, free, firsts, put}
 use Rattle.mw_match.specs.Levels.{is_on, taken_by, choices_from, choices_at, ClashesAt, IsPassedBy, IsPlainTop}
 use Rattle.mw_match.proofs.Hands.{skips_none}
 
--- levels by index
-pub on_next : (i k : ℕ) (ls : List Level) (l : Level) → k < length ls → l ≡ get_or ls k l → is_on i (drop k ls) ≡ (nat_eq l.at i || is_on i (drop (k + 1) ls))
-on_next i k ls l h e = ap (is_on i) (drop_at ls k l h e)
-
-pub taken_next : (ks : List ℕ) (k : ℕ) (ls : List Level) (l : Level) → k < length ls → l ≡ get_or ls k l → taken_by ks (drop k ls) ≡ taken_by (put (suc l.at) ks) (drop (k + 1) ls)
-taken_next ks k ls l h e = ap (taken_by ks) (drop_at ls k l h e)
-
 -- a number is among those that levels take where one stands there
 or_swap : (a b c : Bool) → (a || (b || c)) ≡ (b || (a || c))
 or_swap true true c = refl

@@ -31,9 +31,6 @@ pub record IsReached (p : Parts) (old new : Hand) : Type 0 where
   pub same : coming_of p new ≡ record (coming_of p old) { candidates = (coming_of p new).candidates }
   pub kept : IsKept p new
 
-pub reached_first : (p : Parts) (h : Hand) → IsKept p h → IsReached p h h
-reached_first p h k = record { passes = skips_none (Lacks (coming_of p h)) (coming_of p h).candidates (coming_of p h).candidates refl; same = refl; kept = k }
-
 reached_more : (p : Parts) (old now new : Hand) → IsReached p old now → IsReached p now new → IsReached p old new
 reached_more p old now new h k =
     let same : coming_of p new ≡ record (coming_of p old) { candidates = (coming_of p new).candidates } = k.same ∙ ap (λ (c : Coming). record c { candidates = (coming_of p new).candidates }) h.same in
@@ -93,9 +90,6 @@ module _ (p : Parts) (old h : Hand) (r : IsReached p old h) (o : Option Solution
       handed_sorted p h.place (coming_of p h) r.kept.sorts h.found r.kept.sorted in
       let one : Each (FitsSorts (coming_of p h)) (s ∷ []) = subst (Each (FitsSorts (coming_of p h))) (sym solution ∙ ap option_to_list some) each in
       (skips, subst (λ (c : Coming). FitsSorts c s) r.same one.0)
-
-  pub handed_same : coming_of p handed ≡ record (coming_of p old) { candidates = (coming_of p handed).candidates }
-  handed_same = ap (λ (c : Coming). record c { candidates = (coming_of p handed).candidates }) r.same
 
   pub handed_answer : is_some o ≡ true → (new : Hand) → new ≡ handed → IsNext (coming_of p old) (coming_of p new) o
   handed_answer some new is = subst (λ k. IsNext (coming_of p old) (coming_of p k) o) (sym is) (here o refl)

@@ -8,6 +8,7 @@ use Rattle.mw_logic.specs.Terms.{args_of, skip}
 use Rattle.mw_logic.specs.Signature.{Signature, Member}
 use Rattle.mw_logic.specs.Parts.{is_assoc, number_of_terms}
 use Rattle.mw_logic.specs.NormalForm.{is_comm, identity_of, elements}
+use Rattle.mw_logic.proofs.Members.{member-left, member-right}
 use Rattle.mw_matching.specs.Found.{Values, found}
 use Rattle.mw_search.specs.Goals.{top_of}
 use Rattle.mw_solving.specs.Inside.{Entry, whole_entry, end_entry, left_entry, left_numbers, joins, with_rest, left_entries, end_entries, entries_from, proper_entries, whole_entries, entries}
@@ -20,15 +21,6 @@ use Rattle.mw_match.specs.declared.parts.Parts.{Parts}
 -- each entry has so many values
 abbrev pub Sized : ℕ → List Entry → Type 0
 Sized m es = (e : Entry) → Member e es → length e.1 ≡ m
-
-pub in_left : {X : Type 0} (x : X) (xs ys : List X) → Member x xs → Member x (xs ++ ys)
-in_left x [] ys m = absurd m
-in_left x (y ∷ xs) ys (inl e) = inl e
-in_left x (y ∷ xs) ys (inr m) = inr (in_left x xs ys m)
-
-in_right : {X : Type 0} (x : X) (xs ys : List X) → Member x ys → Member x (xs ++ ys)
-in_right x [] ys m = m
-in_right x (y ∷ xs) ys m = inr (in_right x xs ys m)
 
 flat_singles : {X Y : Type 0} (f : X → Y) (xs : List X) → flat_map (λ x. f x ∷ []) xs ≡ map f xs
 flat_singles f [] = refl
@@ -83,8 +75,8 @@ module _ (p : Parts) (f : ℕ) (args : RawTerms) (subject : p.subject ≡ apply 
   all_left : (i : ℕ) (uss : List Values) → Sized m (flat_map (left_entry sig f args i) uss) → flat_map (entries_at p (Left i)) uss ≡ flat_map (left_entry sig f args i) uss
   all_left i [] h = refl
   all_left i (us ∷ uss) h =
-      both_lists (left_at i us (λ e l. h e (in_left e (left_entry sig f args i us) (flat_map (left_entry sig f args i) uss) l)))
-      (all_left i uss (λ e l. h e (in_right e (left_entry sig f args i us) (flat_map (left_entry sig f args i) uss) l)))
+      both_lists (left_at i us (λ e l. h e (member-left e (left_entry sig f args i us) (flat_map (left_entry sig f args i) uss) l)))
+      (all_left i uss (λ e l. h e (member-right e (left_entry sig f args i us) (flat_map (left_entry sig f args i) uss) l)))
 
   all_end : (i : ℕ) (uss : List Values) → flat_map (entries_at p (End i)) uss ≡ map (end_entry sig f args i) uss
   all_end i uss = flat_singles (end_entry sig (top_of p.subject) (args_of p.subject) i) uss ∙ ap (λ t. map (end_entry sig (top_of t) (args_of t) i) uss) subject
@@ -115,17 +107,17 @@ module _ (p : Parts) (f : ℕ) (args : RawTerms) (subject : p.subject ≡ apply 
     at_neighbours : (i count : ℕ) → Sized m (from i count) → entries_of p (searches_at p (Some r) (neighbours i count)) ≡ from i count
     at_neighbours i zero h = refl
     at_neighbours i (suc count) h =
-        let here : Sized m (ends i ++ lefts i) = λ e l. h e (in_left e (ends i ++ lefts i) (from (suc i) count) l) in
-        let later : Sized m (from (suc i) count) = λ e l. h e (in_right e (ends i ++ lefts i) (from (suc i) count) l) in
-        both_lists (at_end i) (both_lists (at_left i (λ e l. here e (in_right e (ends i) (lefts i) l))) (at_neighbours (suc i) count later))
+        let here : Sized m (ends i ++ lefts i) = λ e l. h e (member-left e (ends i ++ lefts i) (from (suc i) count) l) in
+        let later : Sized m (from (suc i) count) = λ e l. h e (member-right e (ends i ++ lefts i) (from (suc i) count) l) in
+        both_lists (at_end i) (both_lists (at_left i (λ e l. here e (member-right e (ends i) (lefts i) l))) (at_neighbours (suc i) count later))
         ∙ sym (append_assoc (ends i) (lefts i) (from (suc i) count))
 
     behind_left : (comm : Bool) → Sized m (lefts 0 ++ cond comm [] (from 1 (number_of_terms args - 2)))
         → entries_of p (searches_at p (Some r) (places_behind comm (number_of_terms args) Whole)) ≡ lefts 0 ++ cond comm [] (from 1 (number_of_terms args - 2))
-    behind_left true h = both_lists (at_left 0 (λ e l. h e (in_left e (lefts 0) [] l))) refl
+    behind_left true h = both_lists (at_left 0 (λ e l. h e (member-left e (lefts 0) [] l))) refl
     behind_left false h =
         let more : List Entry = from 1 (number_of_terms args - 2) in
-        both_lists (at_left 0 (λ e l. h e (in_left e (lefts 0) more l))) (at_neighbours 1 (number_of_terms args - 2) (λ e l. h e (in_right e (lefts 0) more l)))
+        both_lists (at_left 0 (λ e l. h e (member-left e (lefts 0) more l))) (at_neighbours 1 (number_of_terms args - 2) (λ e l. h e (member-right e (lefts 0) more l)))
 
 -- the searches behind the whole give all proper parts
 module _ (p : Parts) (vs : Values) where
@@ -192,4 +184,4 @@ module _ (p : Parts) (vs : Values) where
       behind : (inside : Bool) → p.rest ≡ cond inside (rest_of vs (own_rest t)) None → Sized (length p.compiled.now.variables) (of_whole t ++ cond inside (own_entries t) [])
           → entries_of p (searches_behind p Whole) ≡ cond inside (own_entries t) []
       behind false rest h = no_rest rest Whole
-      behind true rest h = all_proper t subject rest (λ e l. h e (in_right e (of_whole t) (own_entries t) l))
+      behind true rest h = all_proper t subject rest (λ e l. h e (member-right e (of_whole t) (own_entries t) l))

@@ -26,7 +26,8 @@ use Rattle.mw_match.specs.Hands.{first_entries, picked_entries}
 use Rattle.mw_match.specs.Picks.{MayPick}
 use Rattle.mw_match.specs.declared.parts.Parts.{Parts}
 use Rattle.mw_match.proofs.PickedLaw.{picks_are_lefts}
-use Rattle.mw_match.proofs.Inside.{Sized, in_left, both_lists, own_rest, own_entries, all_entries}
+use Rattle.mw_logic.proofs.Members.{member-left}
+use Rattle.mw_match.proofs.Inside.{Sized, both_lists, own_rest, own_entries, all_entries}
 
 -- what stands on several arguments becomes several elements under its operator
 joined : (sig : Signature) (single : List (List ℕ)) (f : ℕ) (qs : RawTerms) → AreSeveral qs → joins sig single f (apply f qs) ≡ true
@@ -84,7 +85,7 @@ all_taken p vs inside false t subject h proper sized = append-nil (first_entries
 all_taken p vs false true t subject h proper sized = absurd h
 all_taken p vs true true t subject h proper sized =
     let whole : List Entry = whole_entries p.context.now.signature p.compiled.now.positions.single.items p.compiled.now.pattern (length p.compiled.now.variables) vs t in
-    let alone : Sized (length p.compiled.now.variables) (whole ++ []) = λ e l. sized e (in_left e whole (own_entries p vs t) (subst (Member e) (append-nil whole) l)) in
+    let alone : Sized (length p.compiled.now.variables) (whole ++ []) = λ e l. sized e (member-left e whole (own_entries p vs t) (subst (Member e) (append-nil whole) l)) in
     both_lists (all_entries p vs false t subject h.0 alone ∙ append-nil whole) (proper refl)
 
 -- as it is found out

@@ -107,9 +107,6 @@ pub record AreReached (old new : Levels) : Type 0 where
   pub same : new ≡ record old { stack = new.stack; found = new.found }
   pub kept : AreKept new
 
-pub levels_first : (s : Levels) → AreKept s → AreReached s s
-levels_first s k = record { passes = skips_none (Misses s) (picks_in (still_to_come s)) (picks_in (still_to_come s)) refl; same = refl; kept = k }
-
 module _ (old now new : Levels) (r : AreReached old now) where
   same_more : new ≡ record now { stack = new.stack; found = new.found } → new ≡ record old { stack = new.stack; found = new.found }
   same_more same = same ∙ ap (λ (s : Levels). record s { stack = new.stack; found = new.found }) r.same

@@ -54,9 +54,6 @@ module _ (p : Parts) (n : ℕ) where
   then_failed : (es new fs later : List Entry) → PassesTo (with es) [] → all new ≡ [] → PassesTo (with fs) (all later) → PassesTo (with (es ++ fs)) (all (new ++ later))
   then_failed es new fs later h e k = then_passes es fs (all (new ++ later)) h (subst (PassesTo (with fs)) (sym (then_left new later e)) k)
 
-  pub none_next : IsNext (with []) (with []) None
-  none_next = (skips_none Lacking [] [] refl, refl)
-
   -- solutions, from one call to the next
   module _ (old : Coming) (hand new : Option Hand) (picks : Option Levels) (is : with (entries_left p hand picks) ≡ old) where
     pub failed_first : PassesTo (with (hand_entries p hand)) (all (hand_entries p new)) → PassesTo old (all (entries_left p new picks))

@@ -4,7 +4,7 @@ use Rattle.std.proofs.Common.{◌≡◌, ◌⊎◌, ℕ, zero, suc, ◌<◌, Lis
 use Rattle.std.proofs.lemmas.List.{take_all, take-append-le}
 use Rattle.std.proofs.lemmas.Bool.{eqb-true, eq-eqb}
 use Rattle.mw_logic.specs.Signature.{Member}
-pub use Rattle.mw_logic.proofs.Members.{member-left, member-right, member-append}
+use Rattle.mw_logic.proofs.Members.{member-right, member-append}
 use Rattle.mw_poset.specs.Tables.{supersorts}
 
 pub no_items : {X : Type 0} (xs : List X) → length xs ≡ 0 → xs ≡ []

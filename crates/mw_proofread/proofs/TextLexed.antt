@@ -17,7 +17,7 @@ use Rattle.mw_print.proofs.Digits.{decimal_proper}
 use Rattle.mw_print.proofs.Lexed.{Finds, token_found}
 use Rattle.mw_print.proofs.Runs.{Stops}
 use Rattle.mw_print.proofs.Before.{prefix_lexed_before}
-use Rattle.mw_prooftext.specs.Items.{Spot, Item, step, built, Items, none, more, Groups, end, group}
+use Rattle.mw_items.specs.Items.{Spot, Item, step, built, Items, none, more, Groups, end, group}
 use Rattle.mw_prooftext.specs.Texts as text
 use Rattle.mw_proofread.specs.Numbers.{number_text}
 use Rattle.mw_proofread.specs.TokenTexts as tokens

@@ -5,7 +5,7 @@ use Rattle.mw_logic.specs.Term.{RawTerm}
 use Rattle.mw_logic.specs.Signature.{Signature}
 use Rattle.mw_print.specs.Laws.{HasTokens}
 use Rattle.mw_print.specs.PrefixLaws.{IsTold, HasWholeSpellings}
-use Rattle.mw_prooftext.specs.Items.{Spot, Item, step, built, Items, none, more, Groups, end, group}
+use Rattle.mw_items.specs.Items.{Spot, Item, step, built, Items, none, more, Groups, end, group}
 use Rattle.mw_prooftext.specs.Texts.{text_of}
 use Rattle.mw_proofread.specs.TokenTexts.{text_tokens}
 

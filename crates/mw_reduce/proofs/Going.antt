@@ -14,6 +14,7 @@ use Rattle.mw_logic.specs.Module.{Fragment, matches, Module, Statement, IsStatem
 use Rattle.mw_logic.specs.Proof.{Proof, Proofs, nil, cons, equality, transitivity}
 use Rattle.mw_logic.specs.Judgements.{AdmittedStep, HoldsAbove, FailsAbove, admitted_judgements}
 use Rattle.mw_logic.specs.Ends.{IsSide}
+use Rattle.mw_logic.proofs.Members.{member-right}
 use Rattle.mw_logic.proofs.SameSolutions.{same_solution-sym}
 use Rattle.mw_canon.specs.Canonical.{meant}
 use Rattle.mw_least.specs.Workable.{IsWorkable}
@@ -62,10 +63,6 @@ first_fragment sig xs (f ∷ C) t ts h = (f, C, refl, h.0, h.1)
 in_skipped : {X : Type 0} (P : X → Type 0) (left new : List X) (x : X) → Each P left → Member x (left ++ new) → P x ⊎ Member x new
 in_skipped P [] new x e m = inr m
 in_skipped P (y ∷ left) new x e m = ⊎_elim (λ k. inl (subst P k e.0)) (λ k. in_skipped P left new x e.1 k) m
-
-behind_skipped : {X : Type 0} (left new : List X) (x : X) → Member x new → Member x (left ++ new)
-behind_skipped [] new x m = m
-behind_skipped (y ∷ left) new x m = inr (behind_skipped left new x m)
 
 module _ (M : Module) (n : ℕ) (e : Statement) (tests : List Test) where
   abbrev sig : Signature
@@ -251,10 +248,10 @@ module _ (M : Module) (n : ℕ) (e : Statement) (tests : List Test) where
         cs = o'.solutions.value.candidates
 
         here : Member first o.solutions.value.candidates
-        here = subst (Member first) (sym passes.rest) (behind_skipped passes.left (first ∷ cs) first (inl refl))
+        here = subst (Member first) (sym passes.rest) (member-right first passes.left (first ∷ cs) (inl refl))
 
         older : (q : Solution) → Member q cs → Member q o.solutions.value.candidates
-        older q m = subst (Member q) (sym passes.rest) (behind_skipped passes.left (first ∷ cs) q (inr m))
+        older q m = subst (Member q) (sym passes.rest) (member-right q passes.left (first ∷ cs) (inr m))
 
         fits_too : (q : Solution) → FitsSorts o'.solutions.value q → FitsSorts o.solutions.value q
         fits_too q f = subst (λ (c : Coming). HaveTheirSorts c.signature c.sorts c.given (values q)) rest f

@@ -7,7 +7,8 @@ use Rattle.mw_logic.specs.Term.{RawTerm, RawTerms, numeral, quoted, variable, ap
 use Rattle.mw_logic.specs.Terms.{args_of, list_of}
 use Rattle.mw_logic.specs.Signature.{Signature, Member, at_number}
 use Rattle.mw_logic.specs.CanonicalPart.{IsOpen}
-use Rattle.mw_poset.proofs.Members.{member-left, member-last}
+use Rattle.mw_logic.proofs.Members.{member-left}
+use Rattle.mw_poset.proofs.Members.{member-last}
 use Rattle.mw_term.specs.OperatorSets.{AreApart, operators_in, operators_in_all}
 use Rattle.mw_term.proofs.OperatorSets.{lacks_top, arguments_apart, first_apart, others_apart}
 use Rattle.mw_term.specs.declared.operators.Sought.{Sought}

@@ -14,7 +14,8 @@ use Rattle.mw_logic.specs.Module.{Module, Statement, IsStatement}
 use Rattle.mw_logic.proofs.AxiomLaws.{trans}
 use Rattle.mw_logic.proofs.CanonicalTerms.{canonical_unique}
 use Rattle.mw_logic.proofs.InstanceLaws.{instance_same}
-use Rattle.mw_poset.proofs.Members.{member-left, member-last, member-push, member-at}
+use Rattle.mw_logic.proofs.Members.{member-left}
+use Rattle.mw_poset.proofs.Members.{member-last, member-push, member-at}
 use Rattle.mw_arguments.specs.Places.{chosen, Rise}
 use Rattle.mw_solving.specs.Values.{IsValue}
 use Rattle.mw_solving.specs.Inside.{IsProperPart}

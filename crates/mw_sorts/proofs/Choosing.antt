@@ -7,7 +7,8 @@ use Rattle.mw_logic.specs.Sorts.{IsBelow}
 use Rattle.mw_logic.specs.Accepted.{number_of_sort}
 use Rattle.mw_logic.specs.Preregular.{IsSortOf}
 use Rattle.mw_logic.proofs.KindLaws.{SameKind-trans, SameKind-sym}
-use Rattle.mw_poset.proofs.Members.{member-left, member-last, member-push, member-at}
+use Rattle.mw_logic.proofs.Members.{member-left}
+use Rattle.mw_poset.proofs.Members.{member-last, member-push, member-at}
 use Rattle.mw_sorts.specs.States.{ways, IsOperatorOf, AreNumbersOf, TakesAt, Narrows, IsResultAmong, IsLeastAmong, IsEndOf}
 use Rattle.mw_sorts.proofs.Getting.{get-member, get-same}
 use Rattle.mw_logic.proofs.BelowLaws.{IsBelow-refl, IsBelow-trans}

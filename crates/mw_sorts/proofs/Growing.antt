@@ -3,7 +3,8 @@ use Rattle.std.proofs.Common.{◌≡◌, ◌∙◌, ◌⊎◌, ◌↔◌, ℕ, �
 use Rattle.std.specs.Prelude.{slice_get, Option, Some}
 use Rattle.std.proofs.lemmas.Bool.{cases_eq}
 use Rattle.mw_logic.specs.Signature.{Signature, Sorted, Declaration, Operator, Member}
-use Rattle.mw_poset.proofs.Members.{member-left, member-last, member-push}
+use Rattle.mw_logic.proofs.Members.{member-left}
+use Rattle.mw_poset.proofs.Members.{member-last, member-push}
 use Rattle.mw_sorts.specs.Diagrams.{Row, Level}
 use Rattle.mw_sorts.specs.States.{ways, AreNumbersOf, AreStatesOf, AreKept, Narrows, IsRowOf, IsLevelOf, ComeFrom, IsStart, IsEndOf, AreEndsOf}
 use Rattle.mw_sorts.proofs.Getting.{get-none, get-left, get-last, get-within, get-there, get-same}

@@ -73,17 +73,6 @@ pub record AreHeadsSoFar (rows columns : List ℕ) (n : ℕ) (seen : List (List 
       → (m : ℕ) × (i : ℕ) × (slice_get heads m ≡ Some i) × (i ≤ p) × (get_or rows i 0 ≡ get_or rows p 0) × (get_or columns i 0 ≡ get_or columns p 0)
   pub met : (s : ℕ) (list : List ℕ) → slice_get seen s ≡ Some list → (p : ℕ) × (p < n) × (list ≡ get_or rows p 0 ∷ get_or columns p 0 ∷ [])
 
-pub heads-none : (rows columns : List ℕ) (seen : List (List ℕ)) (heads : List ℕ) → seen ≡ [] → heads ≡ [] → AreHeadsSoFar rows columns 0 seen heads
-heads-none rows columns seen heads e f = record {
-  rising = λ m l i j b g. absurd (nothing m i g);
-  within = λ m i g. absurd (nothing m i g);
-  all = λ p l. absurd (omega arith);
-  met = λ s list g. absurd (get-none (subst (λ (ls : List (List ℕ)). slice_get ls s ≡ Some list) e g));
-}
-  where
-    nothing : (m i : ℕ) → slice_get heads m ≡ Some i → ⊥
-    nothing m i g = get-none (subst (λ (is : List ℕ). slice_get is m ≡ Some i) f g)
-
 -- what is seen behind one place more
 abbrev pub Seen : List ℕ → List ℕ → ℕ → List (List ℕ) → Type 0
 Seen rows columns n seen = (s : ℕ) (list : List ℕ) → slice_get seen s ≡ Some list → (p : ℕ) × (p < n + 1) × (list ≡ get_or rows p 0 ∷ get_or columns p 0 ∷ [])

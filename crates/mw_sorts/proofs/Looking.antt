@@ -43,9 +43,6 @@ module _ (sig : Signature) (places : List ℕ) (levels : List Level) (ends : Lis
     pub of_next : slice_get row (place_in places (length row) S) ≡ Some next
     pub led : IsLed (sorted ++ S ∷ []) (suc i) next
 
-  pub led-start : LeadsTo sig places levels 0 o.args (EndsIn sig o ends) → IsLed [] 0 0
-  led-start h = h
-
   pub led-more : (sorted : List Sorted) (i q K : ℕ) (S : Sorted) → slice_get o.args i ≡ Some K → SameKind sig (number_of_sort S) K → IsLed sorted i q → (next : ℕ) × IsNext sorted i q S next
   led-more sorted i q K S e k h = of (drop i levels) refl (subst (λ Ks. LeadsTo sig places (drop i levels) q Ks (λ Ss r. EndsIn sig o ends (sorted ++ Ss) r)) (drop-get o.args i K e) h)
     where

@@ -5,7 +5,7 @@ use Rattle.mw_logic.specs.Signature.{Signature, Sorted, Declaration, Operator, S
 use Rattle.mw_logic.specs.Sorts.{swapped, Declares}
 use Rattle.mw_logic.specs.Preregular.{AreOfKinds, IsDeclarationOf}
 use Rattle.mw_logic.proofs.KindLaws.{SameKind-trans, SameKind-sym}
-use Rattle.mw_poset.proofs.Members.{member-left, member-right, member-append}
+use Rattle.mw_logic.proofs.Members.{member-left, member-right, member-append}
 use Rattle.mw_sorts.specs.States.{IsOperatorOf, turned, ways}
 use Rattle.mw_sorts.proofs.Getting.{get-left, get-map}
 

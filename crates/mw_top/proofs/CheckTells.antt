@@ -13,7 +13,7 @@ use Rattle.mw_block.specs.Verdicts.{verdict_text, verdict_line}
 use Rattle.mw_build.specs.Modules.{Accepted}
 use Rattle.mw_logic.specs.Term.{RawTerm}
 use Rattle.mw_logic.specs.Module.{Module}
-use Rattle.mw_prooftext.specs.Items.{Items}
+use Rattle.mw_items.specs.Items.{Items}
 use Rattle.mw_proofread.specs.Reading.{capped_items}
 use Rattle.mw_check.specs.Whole.{IsVerdict}
 use Rattle.mw_check.specs.declared.answer.Cause.{Cause}
