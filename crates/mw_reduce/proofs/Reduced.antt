@@ -1,6 +1,6 @@
 -- Where a run begins, and the deduction that it leaves.
 use Rattle.std.specs.Prelude.{◌≡◌, ◌≤◌, ◌+◌, ℕ, [], ◌∷◌, refl}
-use Rattle.std.proofs.Common.{sym, subst, ap, ◌∙◌, arith}
+use Rattle.std.proofs.Common.{sym, subst, ap, ◌∙◌, arith, inl, inr}
 use Rattle.mw_logic.specs.Term.{RawTerm}
 use Rattle.mw_logic.specs.Parts.{nested}
 use Rattle.mw_logic.specs.Module.{Module}
@@ -21,15 +21,25 @@ use Rattle.mw_frames.specs.declared.machine.Machine.{Machine}
 use Rattle.mw_frames.specs.Machines.{data_of}
 use Rattle.mw_frames.specs.State.{Run, with_rules, Data, IsRun, InHand, Holds}
 use Rattle.mw_frames.specs.Fires.{IsWhole}
-use Rattle.mw_reduce.specs.Driven.{IsDriven}
-use Rattle.mw_reduce.specs.Reductions.{IsOutcome, IsReductionOf}
+use Rattle.mw_reduce.specs.Driven.{EndsAt, EndsBy, IsDriven}
+use Rattle.mw_reduce.specs.Reductions.{IsOutcome, IsNormalWhere, IsReductionOf}
 use Rattle.mw_reduce.specs.Evaluations.{run_of, nothing}
 use Rattle.mw_reduce.proofs.Ends.{whole_by, outcome_by}
 use Rattle.mw_reduce.specs.Limits.{limits_within}
 use Rattle.mw_reduce.specs.declared.drive.Driven.{Driven}
 use Rattle.mw_reduce.specs.declared.drive.End.{End}
 use Rattle.mw_reduce.specs.declared.drive.Outcome.{Outcome}
+use Rattle.mw_reduce.specs.declared.drive.Outcome.TheVariants.{Done, Stopped}
 use Rattle.mw_reduce.specs.declared.reducing.Budget.{Budget}
+
+-- a whole that is done is normal
+pub normal_where : (K : Run) (limit side count : ℕ) (d : Data) (e : End) → EndsBy K limit side count d e → IsNormalWhere K.over K.rank e.term e.outcome
+normal_where K limit side count d e (inl (l, z)) = by_outcome e.outcome z
+  where
+    by_outcome : (o : Outcome) → EndsAt K count side d e.term o → IsNormalWhere K.over K.rank e.term o
+    by_outcome Done z = z.normal
+    by_outcome (Stopped why) z = tt
+normal_where K limit side count d e (inr (c, stops, whole)) = subst (IsNormalWhere K.over K.rank e.term) (sym stops) tt
 
 module _ (M : Module) (w : IsWorkable M) (n : ℕ) (t : RawTerm) (a : IsAdmittedTerm M.signature t) where
   pub starts : Rattle.mw_deduction.specs.Stands.IsStanding M (begun n t)
@@ -84,14 +94,15 @@ module _ (M : Module) (w : IsWorkable M) (n : ℕ) (low : n ≤ 63) (t : RawTerm
     rules_counted = let r = e.leads.rules in omega (arith, r)
 
     whole_reduced : ruled ≡ 0 → (most side : ℕ) (o : Outcome) → ((p : Proof) → Proves M n p (nested M.signature t) (nested M.signature u) → steps p ≡ count → IsOutcome M n (limits_within most side) (nested M.signature t) p (nested M.signature u) o)
-        → IsReductionOf M t (record { steps = most; side = side; nest = n }) (deduced M n t u k) o
-    whole_reduced none most side o ends = record {
+        → IsNormalWhere M n u o → IsReductionOf M t (record { steps = most; side = side; nest = n }) (deduced M n t u k) o
+    whole_reduced none most side o ends normal = record {
       over = refl;
       rank = refl;
       from = refl;
       equational = ap rules its_proof ∙ rules_counted ∙ none;
       proves = subst (λ p. Proves M n p (nested M.signature t) (nested M.signature u)) (sym its_proof) proves_it;
       ends = subst (λ p. IsOutcome M n (limits_within most side) (nested M.signature t) p (nested M.signature u) o) (sym its_proof) (ends (concluded e.stand) proves_it counted);
+      handed = normal;
     }
 
   module _ (k : Track) (d : Data) (r : Driven) (side : ℕ) (is : d.moves ≡ moves M k) (most : ℕ) where
@@ -99,7 +110,7 @@ module _ (M : Module) (w : IsWorkable M) (n : ℕ) (low : n ≤ 63) (t : RawTerm
     driven_reduced (count, left, by) =
         let e : End = r.end in
         let f = whole_by (run_of M n t) most side count d e by in
-        (whole_kept 0 k count d e.term is f, whole_reduced 0 k count d e.term is f refl most side e.outcome (outcome_by (run_of M n t) (limits_within most side) count d e by (nested M.signature t)))
+        (whole_kept 0 k count d e.term is f, whole_reduced 0 k count d e.term is f refl most side e.outcome (outcome_by (run_of M n t) (limits_within most side) count d e by (nested M.signature t)) (normal_where (run_of M n t) most side count d e by))
 
 -- from a beginning without replacements
 pub from_none : (K : Run) (limit side : ℕ) (d : Data) (r : Driven) → IsDriven K (0 + limit) side d r → IsDriven K limit side d r

@@ -4,7 +4,8 @@
 //!
 //! - the `Proved` is a deduction over the context's module, from the given term, by no rule, and proves what it
 //!   says at the rank that is the budget's `nest`;
-//! - `Done`: it took fewer steps than the limit, and ends at a term that is normal modulo the axioms;
+//! - `Done`: it took fewer steps than the limit, and ends at a term that is normal modulo the axioms, also where
+//!   conditions are evaluated through admitted terms alone (`IsNormalWhere`), as who applies a rule to it wants it;
 //! - `Stopped`: it stops there for the reason that is answered: it took as many steps as the limit; or fewer, and a
 //!   next step by an equation or a row leads to a term that is deeper than 1,000, or that is not and has `s_` on the
 //!   largest numeral; or a part of it is a sum or product of 2^128 or more; or a side of the condition of an equation

@@ -6,6 +6,7 @@ use Rattle.mw_logic.specs.Parts.{nested}
 use Rattle.mw_logic.specs.Judgements.{IsNormal, IsNormalBy, Fails, admitted_judgements}
 use Rattle.mw_logic.specs.Ends.{IsFinal}
 use Rattle.mw_logic.proofs.Ranks.{admitted_within, normal}
+use Rattle.mw_deduction.specs.Tops.{IsNormalTerm}
 use Rattle.mw_proof.specs.declared.reason.Reason.{Reason}
 use Rattle.mw_proof.specs.declared.reason.Reason.TheVariants as reason
 use Rattle.mw_frames.specs.State.{Run, Data}
@@ -26,7 +27,7 @@ module _ (K : Run) (rank : K.rank ≡ 63) (count side : ℕ) where
 
   -- it ends there as it stands
   ends_there : (d : Data) (t : RawTerm) → IsEnd K count d t → (o : Outcome) → EndsThere K count side d t o → EndsByRules K count side d (record { term = t; outcome = o })
-  ends_there d t e o h = record { whole = record { stand = e.stand; leads = e.leads; closed = e.closed; hand = e.hand }; normal = normal_whole d t e; there = h }
+  ends_there d t e o h = record { whole = record { stand = e.stand; leads = e.leads; closed = e.closed; hand = e.hand }; normal = normal_whole d t e; held = e.normal; there = h }
 
   -- no rule applies
   pub ends_final : (d : Data) (t : RawTerm) → IsEnd K count d t → IsFinal K.over (nested K.over.signature t) → EndsByRules K count side d (record { term = t; outcome = Done })
@@ -49,8 +50,11 @@ module _ (K : Run) (rank : K.rank ≡ 63) (count side : ℕ) where
     still_normal : IsNormal K.over 63 (nested K.over.signature u)
     still_normal = subst (λ x. IsNormal K.over 63 (nested K.over.signature x)) (sym same) (normal_whole old t e)
 
+    still_held : IsNormalTerm K.over (admitted_judgements K.over K.rank).Fails u
+    still_held = subst (IsNormalTerm K.over (admitted_judgements K.over K.rank).Fails) (sym same) e.normal
+
     pub ends_deep : WouldBeTooDeep K.over K.rank true (nested K.over.signature u) → EndsByRules K count side new (record { term = u; outcome = Stopped reason.Depth })
-    ends_deep h = record { whole = whole; normal = still_normal; there = h }
+    ends_deep h = record { whole = whole; normal = still_normal; held = still_held; there = h }
 
     pub ends_large : WouldBeTooLarge K.over K.rank true (nested K.over.signature u) → EndsByRules K count side new (record { term = u; outcome = Stopped reason.Nat })
-    ends_large h = record { whole = whole; normal = still_normal; there = h }
+    ends_large h = record { whole = whole; normal = still_normal; held = still_held; there = h }

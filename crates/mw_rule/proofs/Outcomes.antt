@@ -1,6 +1,6 @@
 -- What the end of a rewriting says of its proof.
 use Rattle.std.specs.Prelude.{◌≡◌, ◌≢◌, ◌<◌, ◌≤◌, ℕ, zero, suc, true, Some, refl}
-use Rattle.std.proofs.Common.{sym, subst, ap, ◌∙◌}
+use Rattle.std.proofs.Common.{sym, subst, ap, ◌∙◌, inl, inr}
 use Rattle.mw_logic.specs.Term.{RawTerm}
 use Rattle.mw_logic.specs.Parts.{nested}
 use Rattle.mw_logic.specs.Module.{Module}
@@ -17,13 +17,14 @@ use Rattle.mw_trail.specs.Tracks.{Track, moves}
 use Rattle.mw_frames.specs.State.{Run, with_rules, Data}
 use Rattle.mw_frames.specs.Fires.{IsWhole}
 use Rattle.mw_reduce.specs.Evaluations.{run_of}
-use Rattle.mw_reduce.specs.Reductions.{IsOutcome}
+use Rattle.mw_reduce.specs.Driven.{EndsBy}
+use Rattle.mw_reduce.specs.Reductions.{IsOutcome, IsNormalWhere}
 use Rattle.mw_reduce.proofs.Ends.{MayTry, normal_at, whole_by, outcome_by, stops_by_depth, stops_by_large, stops_by_nest, stops_by_side}
-use Rattle.mw_reduce.proofs.Reduced.{whole_kept, its_proof, proves_it, counted, rules_counted}
+use Rattle.mw_reduce.proofs.Reduced.{normal_where, whole_kept, its_proof, proves_it, counted, rules_counted}
 use Rattle.mw_reduce.specs.declared.drive.End.{End}
 use Rattle.mw_reduce.specs.declared.drive.Outcome.{Outcome}
 use Rattle.mw_reduce.specs.declared.drive.Outcome.TheVariants.{Done, Stopped}
-use Rattle.mw_rule.specs.Rewritings.{limits_of, IsRewritten, IsRewritingOf}
+use Rattle.mw_rule.specs.Rewritings.{limits_of, IsRewritten, IsWithin, IsRewritingOf}
 use Rattle.mw_rule.specs.Stepped.{EndsRewriting, by_equations, by_bound, by_rules, EndsThere, IsRewrittenBy}
 use Rattle.mw_rule.specs.declared.rewriting.Bounds.{Bounds}
 
@@ -81,22 +82,50 @@ module _ (K : Run) (rank : K.rank ≡ 63) (b : Bounds) (count : ℕ) (d : Data) 
       subst (IsRewritten M limits t0 p u) (sym o) (stops_by_bound M 63 limits t0 p u proves (below l) (ap Some ruled ∙ s) k)
   rewritten_by (by_rules l s h) = by_rule l s h.normal e.outcome h.there
 
+-- no more steps than the limit
+few_steps : (K : Run) (b : Bounds) (count : ℕ) (d : Data) (e : End) → EndsRewriting K b count d e → count ≤ b.steps
+few_steps K b count d e (by_equations h n) = by_either h
+  where
+    by_either : EndsBy K b.steps b.side count d e → count ≤ b.steps
+    by_either (inl (l, z)) = omega (Rattle.std.proofs.Common.arith, l)
+    by_either (inr (z, stops, w)) = omega (Rattle.std.proofs.Common.arith, z)
+few_steps K b count d e (by_bound h l s o) = omega (Rattle.std.proofs.Common.arith, l)
+few_steps K b count d e (by_rules l s h) = omega (Rattle.std.proofs.Common.arith, l)
+
+-- a whole that is done is normal
+normal_when_done : (K : Run) (b : Bounds) (count : ℕ) (d : Data) (e : End) → EndsRewriting K b count d e → IsNormalWhere K.over K.rank e.term e.outcome
+normal_when_done K b count d e (by_equations h n) = normal_where K b.steps b.side count d e h
+normal_when_done K b count d e (by_bound h l s o) = subst (IsNormalWhere K.over K.rank e.term) (sym o) tt
+normal_when_done K b count d e (by_rules l s h) = by_outcome e.outcome
+  where
+    by_outcome : (o : Outcome) → IsNormalWhere K.over K.rank e.term o
+    by_outcome Done = h.held
+    by_outcome (Stopped why) = tt
+
 -- the deduction that a rewriting leaves
 pub rewriting_from : (M : Module) → IsWorkable M → (b : Bounds) → (t : RawTerm) → IsAdmittedTerm M.signature t → (k : Track) (d : Data) (e : End) → d.moves ≡ moves M k → IsRewrittenBy (run_of M 63 t) b d e
     → IsKept M 63 t e.term k × IsRewritingOf M t b (deduced M 63 t e.term k) e.outcome
-rewriting_from M w b t a k d e is (r, count, h) =
+rewriting_from M w b t a k d e is (r, count, within, h) =
     let K : Run = with_rules r (run_of M 63 t) in
     let low : 63 ≤ 63 = omega Rattle.std.proofs.Common.arith in
     let f : IsWhole K count d e.term = whole_at_end K b count d e h in
     let tree = its_proof M w 63 low t a r k count d e.term is f in
-    let proves = proves_it M w 63 low t a r k count d e.term is f in (
+    let proves = proves_it M w 63 low t a r k count d e.term is f in
+    let size : steps (concluded f.stand) ≡ count = counted M w 63 low t a r k count d e.term is f in
+    let ruled : rules (concluded f.stand) ≡ r = rules_counted M w 63 low t a r k count d e.term is f in
+    let kept : IsWithin b.rules b.steps (concluded f.stand) = record {
+      no_more_steps = subst (λ n. n ≤ b.steps) (sym size) (few_steps K b count d e h);
+      no_more_rules = λ n is_bound. subst (λ m. m ≤ n) (sym ruled) (within n is_bound);
+    } in (
       whole_kept M w 63 low t a r k count d e.term is f,
       record {
         over = refl;
         rank = refl;
         from = refl;
         proves = subst (λ p. Proves M 63 p (nested M.signature t) (nested M.signature e.term)) (sym tree) proves;
+        within = subst (IsWithin b.rules b.steps) (sym tree) kept;
         ends = subst (λ p. IsRewritten M (limits_of b) (nested M.signature t) p (nested M.signature e.term) e.outcome) (sym tree)
-            (rewritten_by K refl b count d e (nested M.signature t) (concluded f.stand) proves (counted M w 63 low t a r k count d e.term is f) (rules_counted M w 63 low t a r k count d e.term is f) h);
+            (rewritten_by K refl b count d e (nested M.signature t) (concluded f.stand) proves size ruled h);
+        handed = normal_when_done K b count d e h;
       },
     )

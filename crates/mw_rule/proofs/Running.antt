@@ -1,5 +1,5 @@
 -- From one rule to the next: how a rewriting ends, and what it leaves.
-use Rattle.std.specs.Prelude.{◌≡◌, ◌≢◌, ◌<◌, ◌+◌, ◌-◌, ℕ, zero, suc, Bool, true, false, Option, None, Some, option_map, unwrap_or, refl}
+use Rattle.std.specs.Prelude.{◌≡◌, ◌≢◌, ◌<◌, ◌≤◌, ◌+◌, ◌-◌, ℕ, zero, suc, Bool, true, false, Option, None, Some, option_map, unwrap_or, refl}
 use Rattle.std.proofs.Common.{sym, subst, ap, ◌∙◌, arith, true≢false, inl, inr}
 use Rattle.mw_logic.specs.Term.{RawTerm}
 use Rattle.mw_logic.specs.Signature.{Signature}
@@ -23,7 +23,7 @@ use Rattle.mw_reduce.specs.declared.drive.Outcome.{Outcome}
 use Rattle.mw_reduce.specs.declared.drive.Outcome.TheVariants.{Done, Stopped}
 use Rattle.mw_reduce.proofs.Reduced.{is_run, begins_run}
 use Rattle.mw_rule.specs.Rewritings.{IsRewritingOf}
-use Rattle.mw_rule.specs.Stepped.{EndsByRules, by_equations, by_bound, by_rules, IsRewrittenBy}
+use Rattle.mw_rule.specs.Stepped.{EndsByRules, by_equations, by_bound, by_rules, IsWithinBound, IsRewrittenBy}
 use Rattle.mw_rule.specs.declared.rewriting.Bounds.{Bounds}
 use Rattle.mw_rule.proofs.Outcomes.{rewriting_from}
 
@@ -67,18 +67,25 @@ not_reached (Some (suc k)) r most e n f =
     let z : r ≡ suc k + r = ap (λ o. unwrap_or o 0) (f ∙ sym e) in
     omega (arith, z)
 
+-- so many were applied, and so many are left of the bound: no more than it says
+pub keeps_bound : (bound : Option ℕ) (r : ℕ) (most : Option ℕ) → option_map (λ n. n + r) bound ≡ most → (n : ℕ) → most ≡ Some n → r ≤ n
+keeps_bound None r most e n f = absurd (true≢false (ap is_some (sym f ∙ sym e)))
+keeps_bound (Some k) r most e n f =
+    let z : k + r ≡ n = ap (λ o. unwrap_or o 0) (e ∙ f) in
+    omega (arith, z)
+
 -- it is a run whatever it counts
 pub run_with : (K : Run) (sig : Signature) (r : ℕ) → IsRun K sig → IsRun (with_rules r K) sig
 run_with K sig r x = record { signature = x.signature; accepted = x.accepted; sorted = x.sorted; well = x.well; start = x.start }
 
 -- Where r rules and so many steps were made, a reduction was driven on.
-module _ (K : Run) (b : Bounds) (r count left : ℕ) (d : Data) (x : Driven) (sum : count + left ≡ b.steps) (h : IsDriven (with_rules r K) (count + left) b.side d x) where
+module _ (K : Run) (b : Bounds) (r count left : ℕ) (within : IsWithinBound r b) (d : Data) (x : Driven) (sum : count + left ≡ b.steps) (h : IsDriven (with_rules r K) (count + left) b.side d x) where
   so : EndsBy (with_rules r K) b.steps b.side h.0 d x.end
   so = subst (λ m. EndsBy (with_rules r K) m b.side h.0 d x.end) sum h.2
 
   -- it stops there
   pub ends_before : (x.end.outcome ≡ Done → ⊥) → IsRewrittenBy K b d x.end
-  ends_before n = (r, h.0, by_equations so n)
+  ends_before n = (r, h.0, within, by_equations so n)
 
   -- or the whole is normal
   pub at_end : x.end.outcome ≡ Done → (h.0 < b.steps) × IsEnd (with_rules r K) h.0 d x.end.term
@@ -90,11 +97,11 @@ module _ (K : Run) (b : Bounds) (r count left : ℕ) (d : Data) (x : Driven) (su
 
   -- and the bound is reached
   pub ends_at_bound : x.end.outcome ≡ Done → Some r ≡ b.rules → IsRewrittenBy K b d (record { term = x.end.term; outcome = Stopped reason.Rules })
-  ends_at_bound is full = (r, h.0, by_bound (at_end is).1 (at_end is).0 full refl)
+  ends_at_bound is full = (r, h.0, within, by_bound (at_end is).1 (at_end is).0 full refl)
 
   -- or rules end it
   pub ends_by_rules : x.end.outcome ≡ Done → Some r ≢ b.rules → (now : Data) (e : End) → EndsByRules (with_rules r K) h.0 b.side now e → IsRewrittenBy K b now e
-  ends_by_rules is n now e z = (r, h.0, by_rules (at_end is).0 n z)
+  ends_by_rules is n now e z = (r, h.0, within, by_rules (at_end is).0 n z)
 
   -- or one was applied, and a step less is left
   pub one_more : x.end.outcome ≡ Done → (suc h.0) + (x.left - 1) ≡ b.steps

@@ -21,7 +21,8 @@ use Rattle.mw_reduce.specs.Attempts.{IsMade}
 use Rattle.mw_rule.specs.declared.one_step.OneStep.{OneStep}
 use Rattle.mw_rule.specs.declared.one_step.OneStep.TheVariants.{Made, Deep, Nat}
 
--- A rule applies, by these values, to the part of the normal t that stands at a place which rules may change: these trails show its condition.
+-- A rule applies, by these values, to the part of the normal t that stands at a place which rules may change: these trails show its condition. That t is normal
+-- is what `reduce` and `rewrite_alone` hand out of a term that they are done with (`IsNormalWhere` of mw_reduce).
 pub record IsApplicable (M : Module) (t : RawTerm) (path : List ℕ) (c : Choice) (sides : List Track) : Type 0 where
   pub normal : IsNormalTerm M (admitted_judgements M 63).Fails t
   pub end : RawTerm

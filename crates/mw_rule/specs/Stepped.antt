@@ -1,11 +1,12 @@
 -- What rules leave of a normal whole.
-use Rattle.std.specs.Prelude.{◌≡◌, ◌≢◌, ◌<◌, ℕ, suc, true, List, Some, slice_get}
+use Rattle.std.specs.Prelude.{◌≡◌, ◌≢◌, ◌<◌, ◌≤◌, ℕ, suc, true, List, Some, slice_get}
 use Rattle.mw_logic.specs.Term.{RawTerm, RawTerms, apply, Context}
 use Rattle.mw_logic.specs.CanonicalPart.{IsOpen}
 use Rattle.mw_logic.specs.Signature.{Signature}
 use Rattle.mw_logic.specs.Parts.{nested, IsPart, IsFrozen}
-use Rattle.mw_logic.specs.Judgements.{IsNormal}
+use Rattle.mw_logic.specs.Judgements.{IsNormal, admitted_judgements}
 use Rattle.mw_logic.specs.Ends.{IsFinal}
+use Rattle.mw_deduction.specs.Tops.{IsNormalTerm}
 use Rattle.mw_trail.specs.Tracks.{Track}
 use Rattle.mw_proof.specs.declared.reason.Reason.{Reason}
 use Rattle.mw_proof.specs.declared.reason.Reason.TheVariants as reason
@@ -87,6 +88,7 @@ EndsThere K count side d t (Stopped reason.Condition) = IsUntoldIn K side t reas
 pub record EndsByRules (K : Run) (count side : ℕ) (d : Data) (e : End) : Type 0 where
   pub whole : IsWhole K count d e.term
   pub normal : IsNormal K.over 63 (nested K.over.signature e.term)
+  pub held : IsNormalTerm K.over (admitted_judgements K.over K.rank).Fails e.term
   pub there : EndsThere K count side d e.term e.outcome
 
 -- a rule was applied, or the end
@@ -100,6 +102,10 @@ pub data EndsRewriting (K : Run) (b : Bounds) (count : ℕ) (d : Data) (e : End)
   by_bound : IsEnd K count d e.term → count < b.steps → Some K.rules ≡ b.rules → e.outcome ≡ Stopped reason.Rules → EndsRewriting K b count d e
   by_rules : count < b.steps → Some K.rules ≢ b.rules → EndsByRules K count b.side d e → EndsRewriting K b count d e
 
--- so it ends, with as many rules as were applied by then
+-- the bound, if there is one, is so many at least
+abbrev pub IsWithinBound : ℕ → Bounds → Type 0
+IsWithinBound r b = (n : ℕ) → b.rules ≡ Some n → r ≤ n
+
+-- so it ends, with as many rules as were applied by then, and no more than the bound
 abbrev pub IsRewrittenBy : Run → Bounds → Data → End → Type 0
-IsRewrittenBy K b d e = (r : ℕ) × (count : ℕ) × EndsRewriting (with_rules r K) b count d e
+IsRewrittenBy K b d e = (r : ℕ) × (count : ℕ) × IsWithinBound r b × EndsRewriting (with_rules r K) b count d e

@@ -3,9 +3,11 @@
 //! `rewrite_alone` reduces a term, applies the first rule that applies somewhere, reduces what comes, and so on. It
 //! answers a `Proved` of mw_proof and an [`Outcome`]. Proved, over `IsRewritingOf` (specs/Rewritings):
 //!
-//! - the `Proved` is a deduction over the context's module, from the given term, and proves what it says at rank 63;
+//! - the `Proved` is a deduction over the context's module, from the given term, and proves what it says at rank 63; it
+//!   has no more rules than the bound, where there is one, and no more steps than the limit (`IsWithin`);
 //! - `Done`: it took fewer steps than the limit, and its rules aren't as many as the bound; it ends at a final term:
 //!   one that is normal, where at each part that rules may change each rule's every solution has a condition that fails;
+//!   that it is normal is handed out as `apply` wants it (`IsNormalWhere` of mw_reduce);
 //! - `Stopped`: it stops there for the reason that is answered: it took as many steps as the limit; or fewer, and as many
 //!   rules as the bound, at a normal term; or a next step by an equation, a row, or at a normal term a rule, leads to a
 //!   term that is too deep, or that is not and has a number that is too large; or a side of a condition that is tried
