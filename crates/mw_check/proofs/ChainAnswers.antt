@@ -18,7 +18,7 @@ use Rattle.mw_prooftext.specs.Grounds.{spot_of}
 use Rattle.mw_items.specs.Items.{Item, Items, more, Groups}
 use Rattle.mw_items.specs.declared.Step.{Step as StepEntry}
 use Rattle.mw_items.specs.declared.Entry.{Entry}
-use Rattle.mw_verdict.specs.Checks.{IsNamed, ChecksOne, by_statement, Shown}
+use Rattle.mw_verdict.specs.Checks.{NamesStatement, ChecksOne, by_statement, Shown}
 use Rattle.mw_verdict.specs.Leads.{LeadsOne, a_step}
 use Rattle.mw_verdict.specs.Verdicts as verdicts
 use Rattle.mw_verdict.specs.Verdicts.{Refuses, statement_missing, value_ill_sorted, part_missing, condition_fails, condition_stops, next_past_limit, AtFault, StopsIn}
@@ -96,7 +96,7 @@ module _ (M : Module) (most n : ℕ) (s : StepEntry) (t : RawTerm) where
     abbrev by_name : Substitution
     by_name = values_by_name sig st.variables s.values
 
-    abbrev named : IsNamed M s.owise s.statement s.values
+    abbrev named : NamesStatement M s.owise s.statement s.values
     named = record {
       statement = st;
       is_there = is;

@@ -13,7 +13,7 @@ use Rattle.mw_deduction.specs.Runs as runs
 use Rattle.mw_proof.specs.Counting.{capped}
 use Rattle.mw_items.specs.Items.{Item, Items, none, more}
 use Rattle.mw_verdict.specs.Checks.{Checks, nothing, then, ChecksOne, by_statement, by_row}
-use Rattle.mw_verdict.specs.Leads.{LeadsOne, Leads, nowhere, onward}
+use Rattle.mw_verdict.specs.Leads.{LeadsOne, ItemsLead, nowhere, onward}
 use Rattle.mw_verdict.proofs.Leading.{checked_lead}
 use Rattle.mw_verdict.specs.Verdicts.{Cause, first, later, Refuses, ChainAtFault, at_item, past_limits, by_a_rule, not_normal, stopped}
 use Rattle.mw_check.specs.Groups.{counted_both, StopsInItem, AreAtFault, AreCounted, AreCountedSoFar, LeadsOn}
@@ -31,11 +31,11 @@ module _ (M : Module) (most n : ℕ) where
   module _ (i : Item) (is : Items) (t v : RawTerm) (x : LeadsOne M i t v) (v_is : IsAdmittedTerm sig v) where
     fault_behind : (m : RawTerm) → normal_form sig m ≡ v → ChainAtFault M most n m is → (l : RawTerm) → normal_form sig l ≡ t → ChainAtFault M most n l (more i is)
     fault_behind m e (at_item {v = u} {before = before} s y f z) l h =
-        at_item (later s) (subst (λ w. Leads M (more i before) w u) (sym h) (onward x (subst (λ w. Leads M before w u) e y))) f z
+        at_item (later s) (subst (λ w. ItemsLead M (more i before) w u) (sym h) (onward x (subst (λ w. ItemsLead M before w u) e y))) f z
     fault_behind m e (past_limits {v = u} {before = before} s y o a) l h =
-        past_limits (later s) (subst (λ w. Leads M (more i before) w u) (sym h) (onward x (subst (λ w. Leads M before w u) e y))) o a
+        past_limits (later s) (subst (λ w. ItemsLead M (more i before) w u) (sym h) (onward x (subst (λ w. ItemsLead M before w u) e y))) o a
     fault_behind m e (by_a_rule s there rule) l h = by_a_rule (later s) there rule
-    fault_behind m e (not_normal {a = a} y r) l h = not_normal (subst (λ w. Leads M (more i is) w a) (sym h) (onward x (subst (λ w. Leads M is w a) e y))) r
+    fault_behind m e (not_normal {a = a} y r) l h = not_normal (subst (λ w. ItemsLead M (more i is) w a) (sym h) (onward x (subst (λ w. ItemsLead M is w a) e y))) r
 
     behind_fault : AreAtFault M most n v is → AreAtFault M most n t (more i is)
     behind_fault f l h = fault_behind (nested sig v) v_is.canonical (f (nested sig v) v_is.canonical) l h
@@ -89,7 +89,7 @@ module _ (M : Module) (most n : ℕ) where
       )
 
   -- at the end
-  pub led_over : (t u : RawTerm) (items : Items) (count : Option ℕ) → LeadsOn M most n t items u none count → Leads M items t u × AreCounted M most n t items u count
+  pub led_over : (t u : RawTerm) (items : Items) (count : Option ℕ) → LeadsOn M most n t items u none count → ItemsLead M items t u × AreCounted M most n t items u count
   led_over t u items count x = (x.leads u nowhere, by_count count x.counted)
     where
       by_count : (count : Option ℕ) → AreCountedSoFar M most n t items u none count → AreCounted M most n t items u count
@@ -98,10 +98,10 @@ module _ (M : Module) (most n : ℕ) where
 
   -- an item at fault
   pub fault_first : (i : Item) (is : Items) (t : RawTerm) (c : Cause) → Refuses M most n i t c → c ≢ stopped → AreAtFault M most n t (more i is)
-  fault_first i is t c f z l e = at_item first (subst (λ w. Leads M none w t) (sym e) nowhere) f z
+  fault_first i is t c f z l e = at_item first (subst (λ w. ItemsLead M none w t) (sym e) nowhere) f z
 
   pub limit_first : (i : Item) (is : Items) (t v : RawTerm) → LeadsOne M i t v → ¬ IsAdmitted sig (nested sig v) → AreAtFault M most n t (more i is)
-  limit_first i is t v x a l e = past_limits first (subst (λ w. Leads M none w t) (sym e) nowhere) x a
+  limit_first i is t v x a l e = past_limits first (subst (λ w. ItemsLead M none w t) (sym e) nowhere) x a
 
   -- an item that isn't a rule's counts none
   pub no_rule_counts : {r c : ℕ} {i : Item} {t v : RawTerm} {d : Done} → ChecksOne M n i t v r c d → IsNoRule M i → r ≡ 0
@@ -116,5 +116,5 @@ module _ (M : Module) (most n : ℕ) where
 pub leads_one : (M : Module) → IsAccepted M.signature → {n r c : ℕ} {i : Item} {t v : RawTerm} {d : Done} → ChecksOne M n i t v r c d → IsAdmittedTerm M.signature v → LeadsOne M i t v
 leads_one M ok {n} {r} {c} {i} {t} {v} {d} x a = first_led ((checked_lead M ok n (more i none) t v (r + 0) (c + 0) (runs.more d runs.none) (then x a.admitted nothing)).0)
   where
-    first_led : Leads M (more i none) t v → LeadsOne M i t v
+    first_led : ItemsLead M (more i none) t v → LeadsOne M i t v
     first_led (onward y nowhere) = y

@@ -12,7 +12,7 @@ use Rattle.mw_items.specs.Entries.{entries_of, entries_of_item}
 use Rattle.mw_items.specs.declared.Step.{Step as StepEntry}
 use Rattle.mw_items.specs.declared.Entry.{Entry}
 use Rattle.mw_items.specs.declared.Entry.TheVariants.{Step, Built}
-use Rattle.mw_verdict.specs.Leads.{Leads}
+use Rattle.mw_verdict.specs.Leads.{ItemsLead}
 use Rattle.mw_verdict.specs.Verdicts as verdicts
 use Rattle.mw_verdict.specs.Verdicts.{ChainAtFault, by_a_rule}
 use Rattle.mw_check.specs.declared.answer.Answer.{Answer}
@@ -55,7 +55,7 @@ module _ (M : Module) (most n : ℕ) (t : RawTerm) (items : Items) (rest : List 
   way_begins v entries p e = (items, e, subst (λ u. LeadsOn M most n t items u items (Some 0)) (sym p) (begun M most n t items))
 
   module _ (v : RawTerm) (left : List Entry) (count : Option ℕ) (way : IsWay v left count) (over : EndsItems rest) where
-    pub way_over : (BeginsItem left → ⊥) → Leads M items t v × AreCounted M most n t items v count × (left ≡ rest)
+    pub way_over : (BeginsItem left → ⊥) → ItemsLead M items t v × AreCounted M most n t items v count × (left ≡ rest)
     way_over off =
         let (e, l) = none_left left way.0 rest way.1 off in
         let (x, y) = led_over M most n t v items count (subst (λ is. LeadsOn M most n t items v is count) e way.2) in

@@ -16,7 +16,7 @@ use Rattle.mw_proof.specs.Counting.{capped}
 use Rattle.mw_items.specs.Items.{Items, Groups, end, group}
 use Rattle.mw_verdict.specs.Checks as checks
 use Rattle.mw_verdict.specs.Checks.{Meets, AreMet, Evaluated, evaluated, AreEvaluated, Shown, unconditional, conditional}
-use Rattle.mw_verdict.specs.Leads.{Leads}
+use Rattle.mw_verdict.specs.Leads.{ItemsLead}
 use Rattle.mw_verdict.specs.Verdicts as verdicts
 use Rattle.mw_verdict.specs.Verdicts.{HasGroup, the_first, a_later, behind, AreLed, no_more, one_more, AtFault, a_chain, the_ends, behind_them, ChainAtFault, not_normal, StopsIn, an_item, an_end, IsStopped}
 use Rattle.mw_check.specs.Groups.{counted_both, both_ends, GroupStops, at_side, in_item, at_end, StopsAtOne, AreCounted, IsEndOf, IsEndCounted, AreFirst, no_side, a_side, AreEndsOf, FaultAtOne, AreShownSoFar, GoesOn, IsShownBy, MeetTheirs}
@@ -109,7 +109,7 @@ module _ (M : Module) (most n : ℕ) (s : Substitution) where
 
   -- what comes of a fragment
   pub fragment_fault : (f : Fragment) (gs : Groups) → FaultAtOne M most n s (sides_of f) gs → (C : List Fragment) → AtFault M most (suc n) (f ∷ C) s gs
-  fragment_fault f gs h C = a_chain (has_left (all_sides C) h.has) h.fault
+  fragment_fault f gs h C = a_chain (has_left (all_sides C) h.has) h.admitted h.fault
 
   pub fragment_passed : (f : Fragment) (gs : Groups) (ends : Option (List RawTerm)) (count : Option ℕ) → AreEndsOf M most n s (sides_of f) gs ends count → MeetTheirs sig s f ends → (C : List Fragment) → GoesOn M most n s (f ∷ C) gs C (behind (sides_of f) gs) count
   fragment_passed f gs ends count h m C = record {
@@ -134,8 +134,8 @@ module _ (M : Module) (most n : ℕ) (s : Substitution) where
       → AreEndsOf M most n s (l ∷ []) (group g gs) (option_map (λ a. a ∷ []) a) count
   one_side l g gs None None h = record { side = l; items = g; has = the_first; stops = h }
   one_side l g gs None (Some k) h = absurd h
-  one_side l g gs (Some a) None h = (one_more h.0 no_more, record { side = l; items = g; has = the_first; stops = h.1 })
-  one_side l g gs (Some a) (Some k) (y, c, ds, e, p) = (one_more y no_more, c + 0, a_side e no_side, p ∙ ap capped (sym (zero_more c)))
+  one_side l g gs (Some a) None h = (one_more h.0 h.1 no_more, record { side = l; items = g; has = the_first; stops = h.2 })
+  one_side l g gs (Some a) (Some k) (b, y, c, ds, e, p) = (one_more b y no_more, c + 0, a_side e no_side, p ∙ ap capped (sym (zero_more c)))
     where
       zero_more : (c : ℕ) → c + 0 ≡ c
       zero_more c = omega arith
@@ -153,15 +153,15 @@ module _ (M : Module) (most n : ℕ) (s : Substitution) where
     pub two_sides : (a b : Option RawTerm) (j k : Option ℕ) → IsEndOf M most n (instance s l) g a j → IsEndOf M most n (instance s m) h b k → AreEndsOf M most n s (l ∷ m ∷ []) both (both_ends a b) (counted_both j k)
     two_sides None b None k x y = first_stops x
     two_sides None b (Some j) k x y = absurd x
-    two_sides (Some a) None None None x y = first_stops x.1
+    two_sides (Some a) None None None x y = first_stops x.2
     two_sides (Some a) None None (Some k) x y = absurd y
     two_sides (Some a) None (Some j) None x y = second_stops y
     two_sides (Some a) None (Some j) (Some k) x y = absurd y
-    two_sides (Some a) (Some b) None None x y = (one_more x.0 (one_more y.0 no_more), first_stops x.1)
-    two_sides (Some a) (Some b) None (Some k) x y = (one_more x.0 (one_more y.0 no_more), first_stops x.1)
-    two_sides (Some a) (Some b) (Some j) None x y = (one_more x.0 (one_more y.0 no_more), second_stops y.1)
-    two_sides (Some a) (Some b) (Some j) (Some k) (x, c, ds, e, p) (y, d, es, f, q) = (
-      one_more x (one_more y no_more),
+    two_sides (Some a) (Some b) None None x y = (one_more x.0 x.1 (one_more y.0 y.1 no_more), first_stops x.2)
+    two_sides (Some a) (Some b) None (Some k) x y = (one_more x.0 x.1 (one_more y.0 y.1 no_more), first_stops x.2)
+    two_sides (Some a) (Some b) (Some j) None x y = (one_more x.0 x.1 (one_more y.0 y.1 no_more), second_stops y.2)
+    two_sides (Some a) (Some b) (Some j) (Some k) (v, x, c, ds, e, p) (w, y, d, es, f, q) = (
+      one_more v x (one_more w y no_more),
       c + (d + 0),
       a_side e (a_side f no_side),
       capped_sum j k c (d + 0) p (q ∙ ap capped (sym (zero_more d))),
@@ -172,12 +172,12 @@ module _ (M : Module) (most n : ℕ) (s : Substitution) where
 
 -- The end of the items of a group is tested.
 module _ (M : Module) (most n : ℕ) (l t : RawTerm) (g : Items) (is : t ≡ normal_form M.signature l) where
-  pub end_reducible : (a : RawTerm) → Leads M g t a → IsReducible M n (nested M.signature a) → ChainAtFault M most n l g
-  end_reducible a x r = not_normal (subst (λ v. Leads M g v a) is x) r
+  pub end_reducible : (a : RawTerm) → ItemsLead M g t a → IsReducible M n (nested M.signature a) → ChainAtFault M most n l g
+  end_reducible a x r = not_normal (subst (λ v. ItemsLead M g v a) is x) r
 
-  pub end_tested : IsRawTerm M.signature l → IsAdmitted M.signature l → (a : RawTerm) (count told : Option ℕ) → Leads M g t a → AreCounted M most n t g a count → IsEndCounted M most n a count told → IsEndOf M most n l g (Some a) told
-  end_tested raw admitted a count None x y (inl e) = (subst (λ v. Leads M g v a) is x, in_item (subst (λ v. AreCounted M most n v g a None) is (subst (AreCounted M most n t g a) e y)))
-  end_tested raw admitted a count None x y (inr z) = let w = subst (λ v. Leads M g v a) is x in (w, at_end w z)
+  pub end_tested : IsRawTerm M.signature l → IsAdmitted M.signature l → (a : RawTerm) (count told : Option ℕ) → ItemsLead M g t a → AreCounted M most n t g a count → IsEndCounted M most n a count told → IsEndOf M most n l g (Some a) told
+  end_tested raw admitted a count None x y (inl e) = (admitted, subst (λ v. ItemsLead M g v a) is x, in_item (subst (λ v. AreCounted M most n v g a None) is (subst (AreCounted M most n t g a) e y)))
+  end_tested raw admitted a count None x y (inr z) = let w = subst (λ v. ItemsLead M g v a) is x in (admitted, w, at_end w z)
   end_tested raw admitted a count (Some k) x y (e, normal) =
       let (c, ds, z, p) = subst (λ v. AreCounted M most n v g a (Some k)) is (subst (AreCounted M most n t g a) e y) in
-      (subst (λ v. Leads M g v a) is x, c, ds, evaluated raw admitted z normal, p)
+      (admitted, subst (λ v. ItemsLead M g v a) is x, c, ds, evaluated raw admitted z normal, p)

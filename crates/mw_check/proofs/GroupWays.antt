@@ -68,6 +68,11 @@ module _ (M : Module) (most n : ℕ) (l : RawTerm) (inside : List Entry) (gs : G
     told_there : IsChain M most n t there.items (Close ∷ (entries_of_groups there.others ++ rest)) e
     told_there = told there.items (Close ∷ (entries_of_groups there.others ++ rest)) there.stand tt
 
+    pub first_faulty : e ≡ led.AtFault → IsFirstEvaluation M most n l gs rest evaluation.AtFault
+    first_faulty p =
+        let k : IsChain M most n t there.items (Close ∷ (entries_of_groups there.others ++ rest)) led.AtFault = subst (IsChain M most n t there.items (Close ∷ (entries_of_groups there.others ++ rest))) p told_there in
+        at_first evaluation.AtFault (start.2, k l (sym start.0))
+
     pub first_ended : (a : RawTerm) (count : Option ℕ) (left : Bor (List Entry)) → e ≡ led.To a count left → (x : Evaluation) → IsEnding M most n a count left.now x → IsFirstEvaluation M most n l gs rest x
     first_ended a count left p x h =
         let k : IsChain M most n t there.items (Close ∷ (entries_of_groups there.others ++ rest)) (led.To a count left) = subst (IsChain M most n t there.items (Close ∷ (entries_of_groups there.others ++ rest))) p told_there in
@@ -77,7 +82,7 @@ module _ (M : Module) (most n : ℕ) (l : RawTerm) (inside : List Entry) (gs : G
         same_behind q = cc
 
         by_answer : (x : Evaluation) → IsEnding M most n a count left.now x → IsChain M most n t there.items (Close ∷ (entries_of_groups there.others ++ rest)) (led.To a count left) → IsEvaluation M most n l there.items (entries_of_groups there.others ++ rest) x
-        by_answer evaluation.AtFault h k = end_reducible M most n l t there.items start.0 a k.0 h
+        by_answer evaluation.AtFault h k = (start.2, end_reducible M most n l t there.items start.0 a k.0 h)
         by_answer (evaluation.Through b told after) (q, r, z) k = (
           subst (λ c. IsEndOf M most n l there.items c told) (sym q) (end_tested M most n l t there.items start.0 start.1 start.2 a count told k.0 k.1 z),
           same_behind (sym r ∙ k.2),
@@ -99,7 +104,7 @@ module _ (M : Module) (most n : ℕ) (s : Substitution) where
       where
         by_groups : (gs : Groups) → IsFirstEvaluation M most n (instance s l) gs rest evaluation.AtFault → FaultAtOne M most n s ks gs
         by_groups end h = absurd h
-        by_groups (group g gs) h = record { side = l; items = g; has = subst (λ ls. HasGroup l g ls (group g gs)) (sym p) the_first; fault = h }
+        by_groups (group g gs) h = record { side = l; items = g; has = subst (λ ls. HasGroup l g ls (group g gs)) (sym p) the_first; admitted = h.0; fault = h.1 }
 
     pub first_end : (a : Option RawTerm) (count : Option ℕ) (left : Bor (List Entry)) → e ≡ evaluation.Through a count left → IsFirstEnd l gs rest a count left.now
     first_end a count left q = by_groups gs (subst (IsFirstEvaluation M most n (instance s l) gs rest) q told)
@@ -127,6 +132,7 @@ module _ (M : Module) (most n : ℕ) (s : Substitution) where
           side = f.side;
           items = f.items;
           has = subst (λ ls. HasGroup f.side f.items ls gs) (sym p) (subst (HasGroup f.side f.items (l ∷ m ∷ [])) (sym h.is) (a_later f.has));
+          admitted = f.admitted;
           fault = f.fault;
         }
 

@@ -16,7 +16,7 @@ use Rattle.mw_least.specs.Workable.{IsWorkable}
 use Rattle.mw_redex.specs.Replaced.{replaced_at, IsPartAt}
 use Rattle.mw_search.specs.Lacking.{IsKnown}
 use Rattle.mw_items.specs.Items.{Spot, built}
-use Rattle.mw_prooftext.specs.Tells.{Replaces}
+use Rattle.mw_prooftext.specs.Tells.{ReplacesSpot}
 use Rattle.mw_prooftext.specs.Passing.{IsRow}
 use Rattle.mw_verdict.specs.Checks.{ChecksOne}
 use Rattle.mw_verdict.specs.Leads.{a_row}
@@ -66,7 +66,7 @@ module _ (M : Module) (work : IsWorkable M) (most n : ℕ) (at : Spot) (t : RawT
       abbrev next_term : RawTerm
       next_term = replaced_at sig at.path at.take to t
 
-      replaces : Replaces sig false g.form g.result at t next_term
+      replaces : ReplacesSpot sig false g.form g.result at t next_term
       replaces =
           let p : IsPartAt sig at.path at.take t (normal_form sig g.form) = subst (IsPartAt sig at.path at.take t) (sym g.is_form.is) h.part in
           replaces_there (normal_form sig g.result) next_term at.path at.take p (ap (λ x. replaced_at sig at.path at.take x t) (sym g.is))

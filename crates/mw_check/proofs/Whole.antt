@@ -23,7 +23,7 @@ use Rattle.mw_check.specs.declared.answer.Answer.{Answer}
 use Rattle.mw_check.specs.declared.answer.Answer.TheVariants as answer
 use Rattle.mw_check.specs.Answers.{cause_of}
 use Rattle.mw_check.specs.Chains.{OpensNoGroup, IsAnswerBefore}
-use Rattle.mw_check.specs.Whole.{IsDeduction}
+use Rattle.mw_check.specs.Whole.{IsDeductionOf}
 
 -- items, and others behind them
 abbrev pub joined : Items → Items → Items
@@ -169,7 +169,7 @@ module _ (M : Module) (from : RawTerm) (items : Items) where
           counted a b = omega arith
 
 -- A deduction: a well-formed module has a proof of what is checked.
-pub deduced : (M : Module) → IsWellFormed M → (from to : RawTerm) (items : Items) (r c count : ℕ) (run : Dones) → IsAdmittedTerm M.signature from → Checks M 63 items from to r c run → count ≡ capped c → IsDeduction M from to items count
+pub deduced : (M : Module) → IsWellFormed M → (from to : RawTerm) (items : Items) (r c count : ℕ) (run : Dones) → IsAdmittedTerm M.signature from → Checks M 63 items from to r c run → count ≡ capped c → IsDeductionOf M from to items count
 deduced M wf from to items r c count run a h e = record {
   rules = r;
   replacements = c;

@@ -14,7 +14,7 @@ use Rattle.mw_canon.specs.Canonical.{IsAdmittedTerm, HasAdmittedValues, meant}
 use Rattle.mw_deduction.specs.Runs.{Done}
 use Rattle.mw_proof.specs.Counting.{capped}
 use Rattle.mw_items.specs.Items.{Spot, Item}
-use Rattle.mw_prooftext.specs.Tells.{Replaces}
+use Rattle.mw_prooftext.specs.Tells.{ReplacesSpot}
 use Rattle.mw_prooftext.specs.Passing.{TakesSome}
 use Rattle.mw_verdict.specs.Checks.{IsFormOf, ChecksOne}
 use Rattle.mw_verdict.specs.Leads.{IsOneArgument, LeadsOne}
@@ -83,7 +83,7 @@ IsNext sig v (Some u) = (u ≡ v) × IsAdmittedTerm sig v
 
 -- The statement replaces at the place, by the values, in the canonical t.
 abbrev pub ReplacesBy : Signature → Statement → Substitution → Spot → RawTerm → RawTerm → Type 0
-ReplacesBy sig st s at t v = Replaces sig st.rule (instance s st.left) (instance s st.right) at t v × TakesSome at t
+ReplacesBy sig st s at t v = ReplacesSpot sig st.rule (instance s st.left) (instance s st.right) at t v × TakesSome at t
 
 -- By values of its variables the statement replaces, and this is next. The values are as many as the variables.
 pub record IsReplacement (sig : Signature) (st : Statement) (s : Substitution) (at : Spot) (t : RawTerm) (values : Substitution) (next : Option RawTerm) : Type 0 where

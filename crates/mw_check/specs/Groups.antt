@@ -19,7 +19,7 @@ use Rattle.mw_items.specs.Entries.{entries_of_groups}
 use Rattle.mw_items.specs.declared.Entry.{Entry}
 use Rattle.mw_items.specs.declared.Entry.TheVariants.{Step, Built, Open, Close}
 use Rattle.mw_verdict.specs.Checks.{Meets, Checks, Evaluated, AreEvaluated, AreMet, Shown}
-use Rattle.mw_verdict.specs.Leads.{Leads}
+use Rattle.mw_verdict.specs.Leads.{ItemsLead}
 use Rattle.mw_verdict.specs.Verdicts.{Splits, HasGroup, behind, AreLed, IsStopped, Refuses, AtFault, ChainAtFault, StopsIn, stopped}
 use Rattle.mw_check.specs.declared.answer.Cause.TheVariants as cause
 use Rattle.mw_check.specs.declared.answer.Answer.{Answer}
@@ -140,14 +140,14 @@ module _ (M : Module) (most : ℕ) where
     pub item : Item
     pub at : RawTerm
     pub splits : Splits before item rest items
-    pub leads : Leads M before t at
+    pub leads : ItemsLead M before t at
     pub stops : Refuses M most n item at stopped
 
   -- a test stops in the group of a side whose instance is l: at the side, in an item, or at the end
   pub data GroupStops (n : ℕ) (l : RawTerm) (g : Items) : Type 0 where
     at_side : (why : Reason) → StopsAtOnce M l why → GroupStops n l g
     in_item : StopsInItem n (normal_form M.signature l) g → GroupStops n l g
-    at_end : {a : RawTerm} → Leads M g (normal_form M.signature l) a → IsStopped M most n (nested M.signature a) → GroupStops n l g
+    at_end : {a : RawTerm} → ItemsLead M g (normal_form M.signature l) a → IsStopped M most n (nested M.signature a) → GroupStops n l g
 
   -- one of the sides has such a group
   pub record StopsAtOne (n : ℕ) (s : Substitution) (ls : List RawTerm) (gs : Groups) : Type 0 where
@@ -168,7 +168,7 @@ module _ (M : Module) (most : ℕ) where
   -- What comes of items, behind which these entries stand.
   abbrev pub IsChain : ℕ → RawTerm → Items → List Entry → Led → Type 0
   IsChain n t items rest led.AtFault = AreAtFault n t items
-  IsChain n t items rest (led.To u count left) = Leads M items t u × AreCounted n t items u count × (left.now ≡ rest)
+  IsChain n t items rest (led.To u count left) = ItemsLead M items t u × AreCounted n t items u count × (left.now ≡ rest)
 
   -- What comes of items in the middle of a chain, whose term is v: what comes of the items left comes of all.
   abbrev pub AreCountedSoFar : ℕ → RawTerm → Items → RawTerm → Items → Option ℕ → Type 0
@@ -177,20 +177,20 @@ module _ (M : Module) (most : ℕ) where
 
   pub record LeadsOn (n : ℕ) (t : RawTerm) (items : Items) (v : RawTerm) (is : Items) (count : Option ℕ) : Type 0 where
     pub faults : AreAtFault n v is → AreAtFault n t items
-    pub leads : (u : RawTerm) → Leads M is v u → Leads M items t u
+    pub leads : (u : RawTerm) → ItemsLead M is v u → ItemsLead M items t u
     pub stops : StopsInItem n v is → StopsInItem n t items
     pub counted : AreCountedSoFar n t items v is count
 
-  -- The end of a group, if its side begins, and what is counted.
+  -- The end of a group, if its side begins, as an admitted one does, and what is counted.
   abbrev pub IsEndOf : ℕ → RawTerm → Items → Option RawTerm → Option ℕ → Type 0
   IsEndOf n l g None None = GroupStops n l g
   IsEndOf n l g None (Some k) = ⊥
-  IsEndOf n l g (Some a) None = Leads M g (normal_form sig l) a × GroupStops n l g
-  IsEndOf n l g (Some a) (Some k) = Leads M g (normal_form sig l) a × (c : ℕ) × (ds : Dones) × Evaluated M n l g a c ds × (k ≡ capped c)
+  IsEndOf n l g (Some a) None = IsAdmitted sig l × ItemsLead M g (normal_form sig l) a × GroupStops n l g
+  IsEndOf n l g (Some a) (Some k) = IsAdmitted sig l × ItemsLead M g (normal_form sig l) a × (c : ℕ) × (ds : Dones) × Evaluated M n l g a c ds × (k ≡ capped c)
 
   -- What comes of the group of a side whose instance is l.
   abbrev pub IsEvaluation : ℕ → RawTerm → Items → List Entry → Evaluation → Type 0
-  IsEvaluation n l g rest evaluation.AtFault = ChainAtFault M most n l g
+  IsEvaluation n l g rest evaluation.AtFault = IsAdmitted sig l × ChainAtFault M most n l g
   IsEvaluation n l g rest (evaluation.Through a count left) = IsEndOf n l g a count × (left.now ≡ rest)
 
   -- the same of the first of these groups
@@ -219,11 +219,12 @@ module _ (M : Module) (most : ℕ) where
   AreEndsOf n s ls gs (Some xs) None = AreLed M s ls gs xs × StopsAtOne n s ls gs
   AreEndsOf n s ls gs (Some xs) (Some k) = AreLed M s ls gs xs × (d : ℕ) × AreFirst n s ls gs xs d × (k ≡ capped d)
 
-  -- one of the sides has a group that is at fault
+  -- one of the sides is admitted and has a group that is at fault
   pub record FaultAtOne (n : ℕ) (s : Substitution) (ls : List RawTerm) (gs : Groups) : Type 0 where
     pub side : RawTerm
     pub items : Items
     pub has : HasGroup side items ls gs
+    pub admitted : IsAdmitted sig (instance s side)
     pub fault : ChainAtFault M most n (instance s side) items
 
   -- What comes of the groups of these sides, which come first.

@@ -13,7 +13,7 @@ use Rattle.mw_check.specs.declared.checking.Verdict.{Verdict}
 use Rattle.mw_check.specs.declared.checking.Verdict.TheVariants as verdict
 
 -- The items are checked from the one term to the other, so there is a proof of what they do, and it counts so many replacements.
-pub record IsDeduction (M : Module) (from to : RawTerm) (items : Items) (count : ℕ) : Type 0 where
+pub record IsDeductionOf (M : Module) (from to : RawTerm) (items : Items) (count : ℕ) : Type 0 where
   pub rules : ℕ
   pub replacements : ℕ
   pub run : Dones
@@ -22,6 +22,6 @@ pub record IsDeduction (M : Module) (from to : RawTerm) (items : Items) (count :
   pub count_is : count ≡ capped replacements
 
 -- Yes, of these terms, where the items are a deduction; or no, exactly by its cause.
-abbrev pub IsVerdict : Module → ℕ → RawTerm → RawTerm → Items → Verdict → Type 0
-IsVerdict M most from to items (verdict.Yes f t count) = (f ≡ from) × (t ≡ to) × IsDeduction M from to items count
-IsVerdict M most from to items (verdict.No step c) = IsNo M most from to items step (cause_of c)
+abbrev pub IsVerdictOf : Module → ℕ → RawTerm → RawTerm → Items → Verdict → Type 0
+IsVerdictOf M most from to items (verdict.Yes f t count) = (f ≡ from) × (t ≡ to) × IsDeductionOf M from to items count
+IsVerdictOf M most from to items (verdict.No step c) = IsNo M most from to items step (cause_of c)

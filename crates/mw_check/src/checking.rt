@@ -11,7 +11,7 @@ ghost use Rattle.mw_items.specs.Entries.{entries_of};
 ghost use Rattle.mw_verdict.specs.Checks.{Checks};
 ghost use Rattle.mw_verdict.specs.Verdicts.{number_of};
 ghost use Rattle.mw_check.specs.Chains.{HaveAdmittedValues};
-ghost use Rattle.mw_check.specs.Whole.{IsVerdict};
+ghost use Rattle.mw_check.specs.Whole.{IsVerdictOf};
 
 use crate::answer::{Answer, Cause};
 use crate::chains::item;
@@ -50,7 +50,7 @@ pub fn check(
     requires to { IsAdmittedTerm context.now.signature text.now.to }
     requires values { HaveAdmittedValues context.now.signature text.now.entries }
     ensures { (items : Items) → text.now.entries ≡ entries_of items
-        → IfOk result (IsVerdict context.now most text.now.from text.now.to items) }
+        → IfOk result (IsVerdictOf context.now most text.now.from text.now.to items) }
 {
     context.shows();
     let tester = Tester {
@@ -88,7 +88,7 @@ fn at_end(text: &ProofText, term: &Term, step: u64, count: u64) -> Result<Verdic
     ensures { (M : Module) (most r c : ℕ) (items : Items) (run : Dones) → IsWellFormed M
         → IsAdmittedTerm M.signature text.now.from → Checks M 63 items text.now.from term.now r c run
         → step ≡ suc (number_of items) → count ≡ capped c
-        → IfOk result (IsVerdict M most text.now.from text.now.to items) }
+        → IfOk result (IsVerdictOf M most text.now.from text.now.to items) }
 {
     if !same(term, &text.to) {
         return Ok(Verdict::No {

@@ -11,7 +11,7 @@
 //! Proved:
 //!
 //! - `check`: `Verdict::Yes` only where the items are a deduction from the text's one term to the other
-//!   (`IsDeduction`, specs/Whole): they are checked in rank 63 (`Checks` of mw_verdict), a proof of them leads from the
+//!   (`IsDeductionOf`, specs/Whole): they are checked in rank 63 (`Checks` of mw_verdict), a proof of them leads from the
 //!   first term to the last, carries their run out, and counts what the verdict says (`HasProof`). `Verdict::No` with
 //!   the number of an item where those before it are checked and it is at fault for this cause, the first one in the
 //!   order of the tests; or one more than the last where they lead to another term (`IsNo`). mw_verdict has the laws

@@ -8,7 +8,7 @@ use Rattle.mw_items.specs.declared.Entry.{Entry}
 use Rattle.mw_items.specs.declared.Entry.TheVariants.{Open, Close}
 use Rattle.mw_proofread.specs.declared.frame.Frame.{Frame}
 use Rattle.mw_proofread.specs.TokenTexts.{where_word, built_tokens, item_tokens, items_tokens, groups_tokens}
-use Rattle.mw_proofread.specs.Reading.{IsCount, number_of_groups, HasForm, HaveForm, GroupsHaveForm, wheres, most_wheres, wheres_in, capped_item, capped_items, capped_groups}
+use Rattle.mw_proofread.specs.Reading.{IsCount, number_of_groups, HasForm, HaveForm, GroupsHaveForm, wheres, most_wheres, wheres_in, entry_item, entry_items, entry_groups}
 use Rattle.mw_proofread.specs.Outside.{IsFollowed}
 use Rattle.mw_proofread.specs.Parts.{NotFirst, EndsLine, ends_line, Line, by_statement, by_row, line_tokens, IsLine, wanted_groups, entry_of, Completes, Awaits, Steps, Stops, NoLine}
 use Rattle.mw_proofread.proofs.Low.{next_ends, next_other}
@@ -48,7 +48,7 @@ module _ (M : Module) where
   item_wheres (by_row s) end c = refl
   item_wheres (by_row s) (group g gs) c = absurd (omega (arith, c))
 
-  item_entries : (l : Line) (gs : Groups) → IsCount (wanted_groups M l) (number_of_groups gs) → entries_of_item (capped_item (item_of l gs)) ≡ entry_of l ∷ entries_of_groups (capped_groups gs)
+  item_entries : (l : Line) (gs : Groups) → IsCount (wanted_groups M l) (number_of_groups gs) → entries_of_item (entry_item (item_of l gs)) ≡ entry_of l ∷ entries_of_groups (entry_groups gs)
   item_entries (by_statement k s vs) gs c = refl
   item_entries (by_row s) end c = refl
   item_entries (by_row s) (group g gs) c = absurd (omega (arith, c))
@@ -94,22 +94,22 @@ module _ (M : Module) where
 
   -- one more item
   pub add_item : (fs : List Frame) (i : Item) (behind last : List (List ℕ)) (es : List Entry) → HasForm M i → wheres i + length fs ≤ 63 → Completes M fs behind last es
-      → Awaits M fs (item_tokens M.signature i ++ behind) last (entries_of_item (capped_item i) ++ es)
+      → Awaits M fs (item_tokens M.signature i ++ behind) last (entries_of_item (entry_item i) ++ es)
   add_item [] i behind last es f n (e, h, k) = record {
     item = i;
     is = ap (λ z. item_tokens M.signature i ++ z) e;
     has_form = f;
     nested = omega (arith, n);
     followed = h;
-    entries = ap (λ z. entries_of_item (capped_item i) ++ z) k ∙ append-nil (entries_of_item (capped_item i));
+    entries = ap (λ z. entries_of_item (entry_item i) ++ z) k ∙ append-nil (entries_of_item (entry_item i));
   }
   add_item (g ∷ fs) i behind last es f n (b, o, r, c) =
       let x : List (List ℕ) = item_tokens M.signature i in
       let y : List (List ℕ) = items_tokens M.signature r.items in
       let z : List (List ℕ) = codes "}" ∷ (groups_tokens M.signature r.groups ++ b) in
-      let u : List Entry = entries_of_item (capped_item i) in
-      let v : List Entry = entries_of (capped_items r.items) in
-      let w : List Entry = Close ∷ (entries_of_groups (capped_groups r.groups) ++ o) in
+      let u : List Entry = entries_of_item (entry_item i) in
+      let v : List Entry = entries_of (entry_items r.items) in
+      let w : List Entry = Close ∷ (entries_of_groups (entry_groups r.groups) ++ o) in
       let deep = r.items_nested in (
         b,
         o,
@@ -148,7 +148,7 @@ module _ (M : Module) where
       record {
         item = i;
         behind = y ++ z;
-        others = entries_of (capped_items is) ++ (Close ∷ (entries_of_groups (capped_groups gs) ++ others));
+        others = entries_of (entry_items is) ++ (Close ∷ (entries_of_groups (entry_groups gs) ++ others));
         is = e ∙ append_assoc x y z;
         form = a.0;
         nested = omega (arith, m);
@@ -261,7 +261,7 @@ module _ (M : Module) where
         let a = add_item fs i rest last es (item_form l end f c tt) (let z = item_wheres l end c in omega (arith, z, deep)) k in (
           entry_of l ∷ es,
           ap (λ z. z ++ es) p ∙ append_assoc old (entry_of l ∷ []) es,
-          subst (λ z. Awaits M fs tokens last z) (ap (λ z. z ++ es) (item_entries l end c)) (subst (λ z. Awaits M fs z last (entries_of_item (capped_item i) ++ es)) (sym text) a),
+          subst (λ z. Awaits M fs tokens last z) (ap (λ z. z ++ es) (item_entries l end c)) (subst (λ z. Awaits M fs z last (entries_of_item (entry_item i) ++ es)) (sym text) a),
         );
     complete = λ last es a. (line_alone l fs rest last w (at_line l fs tokens rest last es e f h n a)).1;
     shorter = s;
@@ -291,7 +291,7 @@ module _ (M : Module) where
             behind = x ++ (y ++ a.behind);
             is = rest_is e ∙ ap (λ z. codes "{" ∷ z) (append_assoc x y a.behind);
             deep = omega (arith, n);
-            entries = entries_of (capped_items g) ++ (Close ∷ (entries_of_groups (capped_groups gs) ++ a.others));
+            entries = entries_of (entry_items g) ++ (Close ∷ (entries_of_groups (entry_groups gs) ++ a.others));
             completes = (
               a.behind,
               a.others,
@@ -318,8 +318,8 @@ module _ (M : Module) where
         let i : Item = item_of l gs in
         let x : List (List ℕ) = items_tokens M.signature r.items in
         let y : List (List ℕ) = codes "}" ∷ groups_tokens M.signature r.groups in
-        let u : List Entry = entries_of (capped_items r.items) in
-        let v : List Entry = Close ∷ entries_of_groups (capped_groups r.groups) in
+        let u : List Entry = entries_of (entry_items r.items) in
+        let v : List Entry = Close ∷ entries_of_groups (entry_groups r.groups) in
         let m = r.items_nested in
         let d = r.groups_nested in
         let z = item_wheres l gs r.count in
@@ -327,11 +327,11 @@ module _ (M : Module) where
         let text : tokens ≡ item_tokens M.signature i ++ b
         = e ∙ ap (λ q. line_tokens M.signature l ++ (codes "where" ∷ codes "{" ∷ q)) (r.is ∙ sym (append_assoc x y b))
         ∙ sym (append_assoc (line_tokens M.signature l) (codes "where" ∷ codes "{" ∷ (x ++ y)) b) ∙ ap (λ q. q ++ b) (sym (item_text l gs r.count)) in
-        let told : entries_of_item (capped_item i) ++ o ≡ entry_of l ∷ Open ∷ es
+        let told : entries_of_item (entry_item i) ++ o ≡ entry_of l ∷ Open ∷ es
         = ap (λ q. q ++ o) (item_entries l gs r.count) ∙ ap (λ q. entry_of l ∷ Open ∷ q) (append_assoc u v o ∙ sym r.entries) in (
           entry_of l ∷ Open ∷ es,
           ap (λ q. q ++ es) p ∙ append_assoc old (entry_of l ∷ Open ∷ []) es,
-          subst (λ q. Awaits M fs tokens last q) told (subst (λ q. Awaits M fs q last (entries_of_item (capped_item i) ++ o)) (sym text) a),
+          subst (λ q. Awaits M fs tokens last q) told (subst (λ q. Awaits M fs q last (entries_of_item (entry_item i) ++ o)) (sym text) a),
         );
     complete = λ last es a.
         let k = line_open l fs (codes "{" ∷ rest) last (at_line l fs tokens (codes "where" ∷ codes "{" ∷ rest) last es e f refl n a) in
@@ -414,8 +414,8 @@ module _ (M : Module) where
     sound = λ last es (b, o, r, c).
         let x : List (List ℕ) = items_tokens M.signature r.items in
         let y : List (List ℕ) = codes "}" ∷ groups_tokens M.signature r.groups in
-        let u : List Entry = entries_of (capped_items r.items) in
-        let v : List Entry = Close ∷ entries_of_groups (capped_groups r.groups) in
+        let u : List Entry = entries_of (entry_items r.items) in
+        let v : List Entry = Close ∷ entries_of_groups (entry_groups r.groups) in
         let m = r.items_nested in
         let d = r.groups_nested in (
           Close ∷ Open ∷ es,
@@ -449,7 +449,7 @@ module _ (M : Module) where
           by (group i gs) e c k n =
               let x : List (List ℕ) = items_tokens M.signature i in
               let y : List (List ℕ) = codes "}" ∷ groups_tokens M.signature gs in (
-                entries_of (capped_items i) ++ (Close ∷ (entries_of_groups (capped_groups gs) ++ a.others)),
+                entries_of (entry_items i) ++ (Close ∷ (entries_of_groups (entry_groups gs) ++ a.others)),
                 (
                   a.behind,
                   a.others,

@@ -7,7 +7,7 @@ use Rattle.mw_items.specs.declared.Entry.{Entry}
 use Rattle.mw_items.specs.Entries.{entries_of_item}
 use Rattle.mw_items.specs.declared.Entry.TheVariants.{Open, Close}
 use Rattle.mw_proofread.specs.declared.frame.Frame.{Frame}
-use Rattle.mw_proofread.specs.Reading.{IsCount, capped_item}
+use Rattle.mw_proofread.specs.Reading.{IsCount, entry_item}
 use Rattle.mw_proofread.specs.Outside.{IsFollowed, HasItem}
 use Rattle.mw_proofread.specs.Parts.{NotFirst, EndsLine, Line, by_statement, by_row, line_tokens, entry_of, HasLine, NoLine, Completes, HasEntries, Awaits, Steps, Stops, IsUnderWay}
 use Rattle.mw_proofread.proofs.Completing.{line_ends, line_stops, line_opens, open_stops, no_line_stops, brace_ends, brace_opens}
@@ -113,7 +113,7 @@ module _ (M : Module) where
         let (fs, i, h) = u.sound rest gs b in
         (fs, h, sym (append-nil new) ∙ e ∙ i)
 
-    has_entries : (last : List (List ℕ)) (h : HasItem M tokens last) → HasEntries M tokens last (entries_of_item (capped_item h.item))
+    has_entries : (last : List (List ℕ)) (h : HasItem M tokens last) → HasEntries M tokens last (entries_of_item (entry_item h.item))
     has_entries last h = record { item = h.item; is = h.is; has_form = h.has_form; nested = h.nested; followed = h.followed; entries = refl }
 
     pub item_stops : Stops M (reverse before) at → (last : List (List ℕ)) → ¬ HasItem M tokens last

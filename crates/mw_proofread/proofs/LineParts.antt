@@ -8,12 +8,13 @@ use Rattle.mw_redex.specs.declared.replacing.Place.{Place}
 use Rattle.mw_items.specs.declared.Entry.{Entry}
 use Rattle.mw_items.specs.declared.Entry.TheVariants.{Step, Built}
 use Rattle.mw_items.specs.Items.{Spot}
-use Rattle.mw_proofread.specs.Numbers.{number_text, capped, saturated}
+use Rattle.mw_proofread.specs.Numbers.{number_text, entry_number, saturated}
 use Rattle.mw_proofread.specs.TokenTexts.{form_tokens, values_tokens, with_tokens, spot_tokens}
 use Rattle.mw_proofread.specs.Reading.{IsWritten, AreWritten, IsCount, values_of, groups_of}
 use Rattle.mw_proofread.specs.Parts.{AreLow, IsHigh, NoForm, NoNumber, NotFirst, EndsLine, Line, by_statement, by_row, line_tokens, IsLine, HasPlace, HasValue, HasWith, HasLine, NoPlace, NoValue, NoValues, NoWith, NoLine}
 use Rattle.mw_proofread.proofs.Digits.{number_one}
 use Rattle.mw_proofread.proofs.Low.{form_low, low_one, ends_other, ends_spot}
+use Rattle.mw_proofread.proofs.Places.{entry_saturated}
 use Rattle.mw_proofread.proofs.Fronts.{first_is, rest_is, not_first, spot_one, value_apart, with_one, with_ends_spot, statement_apart, not_built}
 use Rattle.mw_proofread.proofs.Tails.{value_one}
 
@@ -156,10 +157,10 @@ module _ (M : Module) where
             let (l, b) = with_one M.signature values vs rest r w.written g.1 w.ends w.no_more e (sym w.is ∙ mid_is i s vs r e o) in
             m (subst (λ z. IsCount (values_of M z) (length values)) (sym o.number) (subst (IsCount (values_of M i)) (sym (ap length l)) g.2))
 
-        pub statement_is : (cap found : ℕ) (old new : List Entry) → cap ≡ capped found → found ≡ saturated n → IsCount (values_of M n) (length values)
+        pub statement_is : (cap found : ℕ) (old new : List Entry) → cap ≡ entry_number found → found ≡ saturated n → IsCount (values_of M n) (length values)
             → new ≡ old ++ (Step (record { owise = false; statement = cap; place = place; values = values }) ∷ []) → HasLine M (codes "step" ∷ tokens) rest (groups_of M n) old new
         statement_is cap found old new m f c p =
-            let number : cap ≡ capped n = omega (arith, f, m) in
+            let number : cap ≡ entry_number n = m ∙ entry_saturated n found f in
             record {
               line = by_statement n h.spot values;
               is = ap (λ z. codes "step" ∷ z) (is ∙ ap (λ z. number_text n ∷ z) (h.is ∙ ap (λ z. spot_tokens h.spot ++ z) w.is)) ∙ sym (statement_apart M.signature n h.spot values rest);

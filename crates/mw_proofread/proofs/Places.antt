@@ -1,9 +1,10 @@
 -- Places that are read, and tokens that have none.
-use Rattle.std.proofs.Common.{◌≡◌, ◌∙◌, ◌≤◌, ℕ, List, [], ◌∷◌, ◌++◌, map, length, Option, Some, None, refl, ap, sym, subst, arith, append_assoc, length-append}
-use Rattle.std.specs.Prelude.{codes}
+use Rattle.std.proofs.Common.{◌≡◌, ◌∙◌, ◌≤◌, ◌<◌, ◌⊎◌, inl, inr, ℕ, Bool, false, cond, List, [], ◌∷◌, ◌++◌, map, length, Option, Some, None, refl, ap, sym, subst, arith, append_assoc, length-append, ◌^◌}
+use Rattle.std.specs.Prelude.{codes, nat_lt}
+use Rattle.std.proofs.lemmas.Bool.{cases_lt, le-ltb}
 use Rattle.std.proofs.lemmas.List.{map-append, length-map}
 use Rattle.mw_items.specs.Items.{Spot}
-use Rattle.mw_proofread.specs.Numbers.{number_text, capped, saturated, IsTake}
+use Rattle.mw_proofread.specs.Numbers.{number_text, entry_number, saturated, IsTake}
 use Rattle.mw_proofread.specs.TokenTexts.{numbers_tokens, take_tokens}
 use Rattle.mw_proofread.specs.Parts.{NotFirst, HasNumbers, HasTake, HasPlace, NoTake, NoPlace}
 use Rattle.mw_proofread.proofs.Low.{numbers_one}
@@ -14,14 +15,29 @@ pub numbers_more : (ns : List ℕ) (n : ℕ) (ts mid rest : List (List ℕ)) →
 numbers_more ns n ts mid rest e f =
     e ∙ ap (λ z. numbers_tokens ns ++ z) f ∙ sym (append_assoc (numbers_tokens ns) (number_text n ∷ []) rest) ∙ ap (λ z. z ++ rest) (sym (map-append number_text ns (n ∷ [])))
 
-pub capped_more : (ns : List ℕ) (n v c : ℕ) (old new : List ℕ) → new ≡ old ++ c ∷ [] → old ≡ map capped ns → c ≡ capped v → v ≡ saturated n → new ≡ map capped (ns ++ n ∷ [])
-capped_more ns n v c old new e f g h =
-    let i : c ≡ capped n = omega (arith, g, h) in
-    e ∙ ap (λ z. z ++ c ∷ []) f ∙ ap (λ z. map capped ns ++ z ∷ []) i ∙ sym (map-append capped ns (n ∷ []))
+-- an entry tells a number as it is found
+pub entry_saturated : (n v : ℕ) → v ≡ saturated n → entry_number v ≡ entry_number n
+entry_saturated n v e = by_size (cases_lt n (2 ^ 32))
+  where
+    told : (m : ℕ) (b : Bool) → nat_lt m (2 ^ 32) ≡ b → entry_number m ≡ cond b m 0
+    told m b h = ap (λ c. cond c m 0) h
+
+    by_size : (n < 2 ^ 32) ⊎ (2 ^ 32 ≤ n) → entry_number v ≡ entry_number n
+    by_size (inl h) =
+        let same : v ≡ n = omega (arith, e, h) in
+        ap entry_number same
+    by_size (inr h) =
+        let large : 2 ^ 32 ≤ v = omega (arith, e, h) in
+        told v false (le-ltb v (2 ^ 32) large) ∙ sym (told n false (le-ltb n (2 ^ 32) h))
+
+pub entry_more : (ns : List ℕ) (n v c : ℕ) (old new : List ℕ) → new ≡ old ++ c ∷ [] → old ≡ map entry_number ns → c ≡ entry_number v → v ≡ saturated n → new ≡ map entry_number (ns ++ n ∷ [])
+entry_more ns n v c old new e f g h =
+    let i : c ≡ entry_number n = g ∙ entry_saturated n v h in
+    e ∙ ap (λ z. z ++ c ∷ []) f ∙ ap (λ z. map entry_number ns ++ z ∷ []) i ∙ sym (map-append entry_number ns (n ∷ []))
 
 -- as many as are found
 pub found_count : (ts : List (List ℕ)) (found : List ℕ) (rest : List (List ℕ)) (h : HasNumbers ts found rest) → length h.numbers ≡ length found
-found_count ts found rest h = sym (ap length h.are ∙ length-map h.numbers capped)
+found_count ts found rest h = sym (ap length h.are ∙ length-map h.numbers entry_number)
 
 pub found_within : (ts : List (List ℕ)) (found : List ℕ) (rest : List (List ℕ)) → HasNumbers ts found rest → length found ≤ length ts
 found_within ts found rest h =

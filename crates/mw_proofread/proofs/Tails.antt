@@ -9,7 +9,7 @@ use Rattle.mw_items.specs.Entries.{entries_of}
 use Rattle.mw_items.specs.declared.Entry.{Entry}
 use Rattle.mw_proofread.specs.Numbers.{number_text}
 use Rattle.mw_proofread.specs.TokenTexts.{form_tokens, items_tokens, item_tokens, head_tokens, end_tokens}
-use Rattle.mw_proofread.specs.Reading.{IsWritten, IsText, capped_items}
+use Rattle.mw_proofread.specs.Reading.{IsWritten, IsText, entry_items}
 use Rattle.mw_proofread.specs.Outside.{IsFollowed, HasHead, HasItem, HasEnd, HasItems}
 use Rattle.mw_proofread.specs.Parts.{IsHigh, NotFirst, HasValue, HasEntries}
 use Rattle.mw_proofread.specs.Whole.{title_tokens, HasTail}
@@ -79,7 +79,7 @@ module _ (M : Module) where
         have_form = (h.has_form, t.have_form);
         nested = omega (arith, a, b);
         ends = t.ends;
-        entries = t.entries ∙ ap (λ z. z ++ entries_of (capped_items t.items)) (p ∙ ap (λ z. old ++ z) h.entries) ∙ append_assoc old _ (entries_of (capped_items t.items));
+        entries = t.entries ∙ ap (λ z. z ++ entries_of (entry_items t.items)) (p ∙ ap (λ z. old ++ z) h.entries) ∙ append_assoc old _ (entries_of (entry_items t.items));
       }
 
   has_item : (ts rest : List (List ℕ)) (es : List Entry) → HasEntries M ts rest es → HasItem M ts rest
@@ -97,7 +97,7 @@ module _ (M : Module) where
 
   -- the whole
   pub text_is : (tokens mid : List (List ℕ)) (from to : RawTerm) (old new : List Entry) (h : HasHead M tokens mid) → h.from ≡ from → old ≡ [] → HasTail M mid to old new
-      → (items : Items) × IsText M tokens 1 from items to × (new ≡ entries_of (capped_items items))
+      → (items : Items) × IsText M tokens 1 from items to × (new ≡ entries_of (entry_items items))
   text_is tokens mid from to old new h f o t = (
     t.items,
     record {
@@ -109,5 +109,5 @@ module _ (M : Module) where
       nested = t.nested;
       ends = t.ends;
     },
-    t.entries ∙ ap (λ z. z ++ entries_of (capped_items t.items)) o,
+    t.entries ∙ ap (λ z. z ++ entries_of (entry_items t.items)) o,
   )

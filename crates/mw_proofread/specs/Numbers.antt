@@ -1,5 +1,5 @@
 -- Numbers as tokens, and as entries have them.
-use Rattle.std.specs.Prelude.{◌≡◌, ◌≢◌, ◌<◌, ◌≤◌, ◌+◌, ◌-◌, ◌*◌, ◌^◌, ◌&&◌, ℕ, zero, suc, min, nat_le, Bool, if◌then◌else◌, List, [], ◌∷◌, map, length, Option, Some, None, codes, ⊤}
+use Rattle.std.specs.Prelude.{◌≡◌, ◌≢◌, ◌<◌, ◌≤◌, ◌+◌, ◌-◌, ◌*◌, ◌^◌, ◌&&◌, ℕ, zero, suc, min, nat_le, nat_lt, cond, Bool, if◌then◌else◌, List, [], ◌∷◌, map, length, Option, Some, None, codes, ⊤}
 use Rattle.std.specs.Fmt.{decimal}
 use Rattle.std.specs.Int.Digits.{digits_of}
 
@@ -8,9 +8,9 @@ unfoldable pub number_text : ℕ → List ℕ
 number_text zero = codes "0"
 number_text (suc n) = map (λ d. 48 + d) (digits_of 10 (suc n))
 
--- the most that an entry tells; no statement and no argument has this number
-abbrev pub capped : ℕ → ℕ
-capped n = min n (2 ^ 32 - 1)
+-- A number as an entry tells it: one of 2^32 or more as 0, which no statement and no argument has.
+abbrev pub entry_number : ℕ → ℕ
+entry_number n = cond (nat_lt n (2 ^ 32)) n 0
 
 -- each is above the one before it
 abbrev pub Rises : List ℕ → Type 0

@@ -43,7 +43,7 @@ HasItems M zero tokens rest = tokens ≡ rest
 HasItems M (suc n) tokens rest = (behind : List (List ℕ)) × HasItem M tokens behind × HasItems M n behind rest
 
 -- Behind a head and so many items stands neither an end nor another item.
-pub record IsStopped (M : Module) (n : ℕ) (tokens : List (List ℕ)) : Type 0 where
+pub record StopsBehind (M : Module) (n : ℕ) (tokens : List (List ℕ)) : Type 0 where
   pub items : List (List ℕ)
   pub rest : List (List ℕ)
   pub head : HasHead M tokens items
@@ -54,7 +54,7 @@ pub record IsStopped (M : Module) (n : ℕ) (tokens : List (List ℕ)) : Type 0 
 -- The tokens leave the form in this part: 0 is the head, then come the items, from 1, and the end, one more than the last of them.
 abbrev pub IsOutside : Module → List (List ℕ) → ℕ → Type 0
 IsOutside M tokens zero = (rest : List (List ℕ)) → ¬ HasHead M tokens rest
-IsOutside M tokens (suc n) = IsStopped M n tokens
+IsOutside M tokens (suc n) = StopsBehind M n tokens
 
 -- Tokens that leave it are no text.
 abbrev pub OutsideIsNoText : Type 0

@@ -9,9 +9,9 @@ use Rattle.mw_redex.specs.declared.replacing.Place.{Place}
 use Rattle.mw_items.specs.Entries.{place_of, entries_of, entries_of_item, entries_of_groups}
 use Rattle.mw_items.specs.declared.Entry.{Entry}
 use Rattle.mw_items.specs.declared.Entry.TheVariants.{Step, Built, Close}
-use Rattle.mw_proofread.specs.Numbers.{number_text, capped, IsTake}
+use Rattle.mw_proofread.specs.Numbers.{number_text, entry_number, IsTake}
 use Rattle.mw_proofread.specs.TokenTexts.{numbers_tokens, take_tokens, spot_tokens, form_tokens, values_tokens, with_tokens, built_tokens, step_tokens, item_tokens, items_tokens, groups_tokens}
-use Rattle.mw_proofread.specs.Reading.{IsWritten, AreWritten, IsCount, values_of, groups_of, number_of_groups, HasForm, HaveForm, GroupsHaveForm, wheres, most_wheres, wheres_in, capped_spot, capped_item, capped_items, capped_groups}
+use Rattle.mw_proofread.specs.Reading.{IsWritten, AreWritten, IsCount, values_of, groups_of, number_of_groups, HasForm, HaveForm, GroupsHaveForm, wheres, most_wheres, wheres_in, entry_spot, entry_item, entry_items, entry_groups}
 use Rattle.mw_proofread.specs.Outside.{is_next, IsFollowed}
 use Rattle.mw_proofread.specs.declared.frame.Frame.{Frame}
 
@@ -70,8 +70,8 @@ wanted_groups M (by_statement k s vs) = groups_of M k
 wanted_groups M (by_row s) = Some 0
 
 abbrev pub entry_of : Line → Entry
-entry_of (by_statement k s vs) = Step (record { owise = false; statement = capped k; place = place_of (capped_spot s); values = vs })
-entry_of (by_row s) = Built (place_of (capped_spot s))
+entry_of (by_statement k s vs) = Step (record { owise = false; statement = entry_number k; place = place_of (entry_spot s); values = vs })
+entry_of (by_row s) = Built (place_of (entry_spot s))
 
 -- The rest of a group and of those beside it, then these tokens; and their entries. The item that has them stands in so many groups less one.
 pub record HasRest (M : Module) (wanted : Option ℕ) (depth : ℕ) (rest behind : List (List ℕ)) (es others : List Entry) : Type 0 where
@@ -83,7 +83,7 @@ pub record HasRest (M : Module) (wanted : Option ℕ) (depth : ℕ) (rest behind
   pub items_nested : most_wheres items + depth ≤ 63
   pub groups_nested : wheres_in groups + depth ≤ 63
   pub count : IsCount wanted (suc (number_of_groups groups))
-  pub entries : es ≡ entries_of (capped_items items) ++ (Close ∷ (entries_of_groups (capped_groups groups) ++ others))
+  pub entries : es ≡ entries_of (entry_items items) ++ (Close ∷ (entries_of_groups (entry_groups groups) ++ others))
 
 -- Where these groups are open, the innermost first, the tokens complete an item, behind which the last ones stand.
 abbrev pub Completes : Module → List Frame → List (List ℕ) → List (List ℕ) → List Entry → Type 0
@@ -97,7 +97,7 @@ pub record HasEntries (M : Module) (tokens rest : List (List ℕ)) (es : List En
   pub has_form : HasForm M item
   pub nested : wheres item ≤ 63
   pub followed : IsFollowed rest
-  pub entries : es ≡ entries_of_item (capped_item item)
+  pub entries : es ≡ entries_of_item (entry_item item)
 
 -- The same where an item may begin: without open groups they are an item.
 abbrev pub Awaits : Module → List Frame → List (List ℕ) → List (List ℕ) → List Entry → Type 0
@@ -109,7 +109,7 @@ pub record HasNumbers (tokens : List (List ℕ)) (found : List ℕ) (rest : List
   pub numbers : List ℕ
   pub is : tokens ≡ numbers_tokens numbers ++ rest
   pub ends : NoNumber rest
-  pub are : found ≡ map capped numbers
+  pub are : found ≡ map entry_number numbers
 
 pub record HasTake (tokens : List (List ℕ)) (found : Option (List ℕ)) (rest : List (List ℕ)) : Type 0 where
   pub take : Option (List ℕ)
@@ -117,7 +117,7 @@ pub record HasTake (tokens : List (List ℕ)) (found : Option (List ℕ)) (rest 
   pub good : IsTake take
   pub ends : NoNumber tokens → NoNumber rest
   pub no_more : take ≡ None → NotFirst (codes "take") rest
-  pub are : found ≡ option_map (map capped) take
+  pub are : found ≡ option_map (map entry_number) take
 
 pub record HasPlace (tokens : List (List ℕ)) (found : Place) (rest : List (List ℕ)) : Type 0 where
   pub spot : Spot
@@ -125,7 +125,7 @@ pub record HasPlace (tokens : List (List ℕ)) (found : Place) (rest : List (Lis
   pub good : IsTake spot.take
   pub ends : NoNumber rest
   pub no_more : spot.take ≡ None → NotFirst (codes "take") rest
-  pub place : found ≡ place_of (capped_spot spot)
+  pub place : found ≡ place_of (entry_spot spot)
 
 pub record HasValue (sig : Signature) (tokens : List (List ℕ)) (found : RawTerm) (rest : List (List ℕ)) : Type 0 where
   pub is : tokens ≡ form_tokens sig found ++ rest

@@ -7,7 +7,7 @@ use Rattle.mw_deduction.specs.Replay.{all_sides}
 use Rattle.mw_canon.specs.Canonical.{IsAdmittedTerm}
 use Rattle.mw_print.specs.PrefixLaws.{IsTold, most_open}
 use Rattle.mw_items.specs.Items.{Spot, Item, step, built, Items, none, more, Groups, end, group}
-use Rattle.mw_proofread.specs.Numbers.{IsTake, capped}
+use Rattle.mw_proofread.specs.Numbers.{IsTake, entry_number}
 use Rattle.mw_proofread.specs.TokenTexts.{form_tokens, text_tokens}
 
 -- The term may stand in a text: it is a canonical term that is admitted, has a form that tells it, and there at most 999 parentheses are open at once.
@@ -77,18 +77,18 @@ pub record IsText (M : Module) (tokens : List (List ℕ)) (version : ℕ) (from 
   pub ends : IsWritten M.signature to
 
 -- items with numbers as entries have them
-abbrev pub capped_spot : Spot → Spot
-capped_spot s = record { path = map capped s.path; take = option_map (map capped) s.take }
+abbrev pub entry_spot : Spot → Spot
+entry_spot s = record { path = map entry_number s.path; take = option_map (map entry_number) s.take }
 
 abbrev mutual
-  pub capped_item : Item → Item
-  capped_item (step owise k s vs gs) = step owise (capped k) (capped_spot s) vs (capped_groups gs)
-  capped_item (built s) = built (capped_spot s)
+  pub entry_item : Item → Item
+  entry_item (step owise k s vs gs) = step owise (entry_number k) (entry_spot s) vs (entry_groups gs)
+  entry_item (built s) = built (entry_spot s)
 
-  pub capped_items : Items → Items
-  capped_items none = none
-  capped_items (more i is) = more (capped_item i) (capped_items is)
+  pub entry_items : Items → Items
+  entry_items none = none
+  entry_items (more i is) = more (entry_item i) (entry_items is)
 
-  pub capped_groups : Groups → Groups
-  capped_groups end = end
-  capped_groups (group g gs) = group (capped_items g) (capped_groups gs)
+  pub entry_groups : Groups → Groups
+  entry_groups end = end
+  entry_groups (group g gs) = group (entry_items g) (entry_groups gs)

@@ -7,7 +7,7 @@ use Rattle.mw_items.specs.Entries.{entries_of}
 use Rattle.mw_items.specs.declared.Entry.{Entry}
 use Rattle.mw_proofread.specs.Numbers.{number_text}
 use Rattle.mw_proofread.specs.TokenTexts.{items_tokens, end_tokens}
-use Rattle.mw_proofread.specs.Reading.{IsWritten, HaveForm, most_wheres, capped_items}
+use Rattle.mw_proofread.specs.Reading.{IsWritten, HaveForm, most_wheres, entry_items}
 use Rattle.mw_proofread.specs.Outside.{HasItem, HasEnd, HasItems}
 
 -- the words in front of `from`
@@ -21,7 +21,7 @@ pub record HasTail (M : Module) (tokens : List (List ℕ)) (to : RawTerm) (old n
   pub have_form : HaveForm M items
   pub nested : most_wheres items ≤ 63
   pub ends : IsWritten M.signature to
-  pub entries : new ≡ old ++ entries_of (capped_items items)
+  pub entries : new ≡ old ++ entries_of (entry_items items)
 
 -- Behind so many items less one stands neither an end nor another item.
 pub record HasStop (M : Module) (tokens : List (List ℕ)) (step : ℕ) : Type 0 where

@@ -11,8 +11,8 @@
 //! canonical form, and compared with this one: the tokens are the form of a canonical term alone.
 //!
 //! Numbers may have any number of digits, without leading zeros (`number_text` of specs/Numbers). Those of a `take` are
-//! compared by their digits. In an entry a number of 2^32 or more is 2^32 - 1, which no statement and no argument has
-//! (`capped_items`).
+//! compared by their digits. In an entry a number of 2^32 or more is 0, which no statement and no argument has
+//! (`entry_items`).
 //!
 //! Proved, over any module that a context shows:
 //!

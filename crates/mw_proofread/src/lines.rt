@@ -9,7 +9,7 @@ ghost use Rattle.mw_prefix.specs.Leaves.{AreLeafKinds};
 
 use crate::counts::counts_of;
 use crate::fault::Fault;
-use crate::numbers::{capped, first_number, place};
+use crate::numbers::{entry_number, first_number, place};
 use crate::reader::Reader;
 use crate::values::with;
 use crate::words::{after, ends_line};
@@ -80,7 +80,7 @@ fn by_statement<'t>(
     }
     let step = Step {
         owise: false,
-        statement: capped(number),
+        statement: entry_number(number),
         place,
         values,
     };

@@ -74,11 +74,11 @@ pub fn first_number<'t>(tokens: &'t [Token]) -> Option<(u64, &'t [Token])>
     Some((number, behind))
 }
 
-/// A number as entries have it.
-pub fn capped(number: u64) -> u32
-    ensures { result ≡ numbers_of.capped number }
+/// A number as entries have it: no statement and no argument has one of 2^32 or more, as none has 0.
+pub fn entry_number(number: u64) -> u32
+    ensures { result ≡ numbers_of.entry_number number }
 {
-    number.min(u32::MAX as u64) as u32
+    if number < 1 << 32 { number as u32 } else { 0 }
 }
 
 /// The numbers at the front.
@@ -88,7 +88,7 @@ fn numbers<'t>(alloc: Global, tokens: &'t [Token]) -> Result<(Seq<u32>, &'t [Tok
     let mut found = Vec::new(alloc);
     let mut rest = tokens;
     while let Some((number, behind)) = first_number(rest) {
-        found.push(capped(number))?;
+        found.push(entry_number(number))?;
         rest = behind;
     }
     Ok((Seq::of(found), rest))

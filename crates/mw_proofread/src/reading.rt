@@ -3,7 +3,7 @@ ghost use Rattle.std.specs.Prelude.{◌≡◌, ◌≢◌, ◌++◌, ◌∷◌, �
 ghost use Rattle.mw_items.specs.Items.{Items};
 ghost use Rattle.mw_items.specs.Entries.{entries_of};
 ghost use Rattle.mw_proofread.specs.TokenTexts.{token_texts};
-ghost use Rattle.mw_proofread.specs.Reading.{IsText, capped_items};
+ghost use Rattle.mw_proofread.specs.Reading.{IsText, entry_items};
 ghost use Rattle.mw_proofread.specs.Outside as outside;
 ghost use Rattle.mw_proofread.specs.Whole.{title_tokens, HasTail, HasStop};
 ghost use Rattle.mw_proofread.specs.Faults.{OnOutside, OutsideAt};
@@ -109,7 +109,7 @@ fn tail(
 /// The proof text that the tokens are, from `proof` on, without the `endproof` that ends it, over the module that the context is of.
 pub fn read(alloc: Global, ctx: &Ctx, tokens: &[Token]) -> Result<ProofText, ReadError>
     ensures read { IfOk result (λ t. (items : Items) × IsText ctx.now
-        (token_texts tokens.now) t.version t.from items t.to × (t.entries ≡ entries_of (capped_items items))) }
+        (token_texts tokens.now) t.version t.from items t.to × (t.entries ≡ entries_of (entry_items items))) }
     ensures outside { IfErr result (OutsideAt (outside.IsOutside ctx.now (token_texts tokens.now))) }
 {
     let kinds = LeafKinds::of(ctx.facts(), ctx.order());

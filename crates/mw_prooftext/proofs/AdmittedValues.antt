@@ -46,7 +46,7 @@ ground_term sig t a = sym (nested_ground sig t) ∙ a.admitted.ground
 
 module _ (sig : Signature) (ok : IsAccepted sig) where
   -- a value in an instance that is equal, modulo the axioms, to an admitted term
-  value_admitted : IsWellSorted sig → (s : Substitution) → IsSubstitution sig s → (p T : RawTerm) → IsRawTerm sig p → IsAdmitted sig T → EqualModulo sig (instance s p) T → (x : Variable) (u : RawTerm) → IsTrue (occurs x p) → value s x ≡ Some u → IsAdmitted sig u
+  pub value_admitted : IsWellSorted sig → (s : Substitution) → IsSubstitution sig s → (p T : RawTerm) → IsRawTerm sig p → IsAdmitted sig T → EqualModulo sig (instance s p) T → (x : Variable) (u : RawTerm) → IsTrue (occurs x p) → value s x ≡ Some u → IsAdmitted sig u
   value_admitted sorted s is p T raw a e x u o h =
       let ri : IsRawTerm sig (instance s p) = instance_raw sig ok sorted s is raw in
       let rt : IsRawTerm sig T = (raw_kept sig ok e).0 ri in

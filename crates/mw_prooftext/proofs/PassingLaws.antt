@@ -15,7 +15,7 @@ use Rattle.mw_deduction.specs.Replay.{applies, meets, Stand, whole, becomes, May
 use Rattle.mw_deduction.specs.Stands.{IsStanding}
 use Rattle.mw_deduction.proofs.MoveStands.{whole_is, move_stands}
 use Rattle.mw_items.specs.Items.{Spot, Item, built, Items, none, more, with_item}
-use Rattle.mw_prooftext.specs.Tells.{Replaces}
+use Rattle.mw_prooftext.specs.Tells.{ReplacesSpot}
 use Rattle.mw_prooftext.specs.Passing.{TakesSome, PassesOne, a_row, Passes, nothing, then}
 
 -- normal, by conditions that fail at a rank
@@ -35,7 +35,7 @@ module _ (M : Module) where
   passes_then n (more j is) i t u v (then q b r) p a = then q b (passes_then n is i _ u v r p a)
 
   -- a row that may be met
-  pub row_passes : (S : Stand) (t : RawTerm) (p : Spot) (x y : RawTerm) (m : MayMeet M t S) → Replaces M.signature false m.form m.result p x y → TakesSome p x → PassesOne M S.rank (built p) x y
+  pub row_passes : (S : Stand) (t : RawTerm) (p : Spot) (x y : RawTerm) (m : MayMeet M t S) → ReplacesSpot M.signature false m.form m.result p x y → TakesSome p x → PassesOne M S.rank (built p) x y
   row_passes S t p x y m there takes = a_row (record {
     form = m.form;
     result = m.result;

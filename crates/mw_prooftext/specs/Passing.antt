@@ -9,7 +9,7 @@ use Rattle.mw_logic.specs.Module.{Module, binds_statement, Row}
 use Rattle.mw_logic.specs.Judgements.{IsNormal}
 use Rattle.mw_spot.specs.Spots.{TakesPart}
 use Rattle.mw_items.specs.Items.{Spot, Item, step, built, Items, none, more, Groups}
-use Rattle.mw_prooftext.specs.Tells.{Replaces, IsStep}
+use Rattle.mw_prooftext.specs.Tells.{ReplacesSpot, IsStep}
 
 -- where arguments are taken, they are not all that there are
 abbrev pub TakesSome : Spot → RawTerm → Type 0
@@ -22,7 +22,7 @@ pub record IsRow (M : Module) (n : ℕ) (s : Spot) (t u : RawTerm) : Type 0 wher
   pub row : Row M.signature (IsNormal M n) form result
   pub raw : IsRawTerm M.signature form
   pub clean : IsClean M.signature form
-  pub replaces : Replaces M.signature false form result s t u
+  pub replaces : ReplacesSpot M.signature false form result s t u
 
 module _ (M : Module) where
   -- One item: its statement is executable and there, the values are of their variables' sorts, and its part stands at the place. Of its groups nothing is said.

@@ -13,8 +13,8 @@ use Rattle.mw_redex.specs.Replaced.{ReplacesAt}
 use Rattle.mw_items.specs.Items.{Spot, Item, step, built, Items, none, more, Groups, end, group}
 
 -- The part of t at the place is the canonical form of w, and u is t with that of v in its stead. For a rule no argument on the way is frozen.
-abbrev pub Replaces : Signature → Bool → RawTerm → RawTerm → Spot → RawTerm → RawTerm → Type 0
-Replaces sig by_rule w v s t u = ReplacesAt sig by_rule (normal_form sig w) (normal_form sig v) s.path s.take t u
+abbrev pub ReplacesSpot : Signature → Bool → RawTerm → RawTerm → Spot → RawTerm → RawTerm → Type 0
+ReplacesSpot sig by_rule w v s t u = ReplacesAt sig by_rule (normal_form sig w) (normal_form sig v) s.path s.take t u
 
 -- Statement k replaces there, by these values: it is executable, and the values are canonical.
 pub record IsStep (M : Module) (owise : Bool) (k : ℕ) (s : Spot) (vs : List RawTerm) (t u : RawTerm) : Type 0 where
@@ -23,7 +23,7 @@ pub record IsStep (M : Module) (owise : Bool) (k : ℕ) (s : Spot) (vs : List Ra
   pub kind : owise ≡ statement.owise
   pub subst : Substitution
   pub values : AreValuesOf M.signature statement.variables vs subst
-  pub replaces : Replaces M.signature statement.rule (instance subst statement.left) (instance subst statement.right) s t u
+  pub replaces : ReplacesSpot M.signature statement.rule (instance subst statement.left) (instance subst statement.right) s t u
 
 -- a row does, with any terms taken as normal
 pub record IsBuilt (M : Module) (s : Spot) (t u : RawTerm) : Type 0 where
@@ -31,7 +31,7 @@ pub record IsBuilt (M : Module) (s : Spot) (t u : RawTerm) : Type 0 where
   pub result : RawTerm
   pub row : Row M.signature (λ v. ⊤) form result
   pub clean : IsClean M.signature form
-  pub replaces : Replaces M.signature false form result s t u
+  pub replaces : ReplacesSpot M.signature false form result s t u
 
 -- Items tell what is carried out from the canonical t to u: each replaces at its place, in the term that the one before it left. A group tells it of its
 -- side, from the canonical instance on.

@@ -32,7 +32,7 @@ use Rattle.mw_module.specs.declared.faults.FaultKind.{FaultKind}
 use Rattle.mw_build.specs.Statements.{FitsIn, Oversized}
 use Rattle.mw_build.specs.Modules.{Accepted}
 use Rattle.mw_build.proofs.PrintedVariables.{named_there}
-use Rattle.mw_rule.specs.Rewritings.{IsRewritten as EndsSo, IsRewritingOf}
+use Rattle.mw_rule.specs.Rewritings.{IsRewritten as EndsSo, IsWithin, IsRewritingOf}
 use Rattle.mw_rule.specs.declared.rewriting.Bounds.{Bounds}
 use Rattle.mw_block.specs.Notes.{noted}
 use Rattle.mw_block.specs.Blocks.{Word, reduced, final, command_text, block, parsed_block}
@@ -45,10 +45,10 @@ true_word M most t p u Done r x = (r, x.0, x.1)
 true_word M most t p u (Stopped reason) r x = (r, x)
 
 -- and of a rewriting
-true_of_rewriting : (M : Module) (bound : Option ℕ) (most : ℕ) (t : RawTerm) (p : Proof) (u : RawTerm) (o : Outcome) → EndsSo M (limits_with_rules bound most) t p u o
+true_of_rewriting : (M : Module) (bound : Option ℕ) (most : ℕ) (t : RawTerm) (p : Proof) (u : RawTerm) (o : Outcome) → IsWithin bound most p → EndsSo M (limits_with_rules bound most) t p u o
     → IsTrueOfRewriting M bound most t p u (word_of final o)
-true_of_rewriting M bound most t p u Done x = x
-true_of_rewriting M bound most t p u (Stopped reason) x = x
+true_of_rewriting M bound most t p u Done within x = (within, x.0, x.1, x.2)
+true_of_rewriting M bound most t p u (Stopped reason) within x = (within, x)
 
 module _ (sig : Signature) (ok : IsAccepted sig) (numbers : HasItsSorts sig) where
   there_along : {S T : ℕ} → IsSortOf sig S → SameKind sig S T → IsSortOf sig T
@@ -145,7 +145,7 @@ rewritten_by a bound options w t b d o text canonical is r proved S least word s
       word = word;
       least_sort = least;
       true_word = subst (IsTrueOfRewriting a.module bound options.max (nested sig d.from) d.proof (nested sig d.to)) (sym so)
-          (true_of_rewriting a.module bound options.max (nested sig d.from) d.proof (nested sig d.to) o (rw is at r.ends));
+          (true_of_rewriting a.module bound options.max (nested sig d.from) d.proof (nested sig d.to) o (rw is at r.within) (rw is at r.ends));
       proof = proof;
       proof_is = proof_is;
       written = written;

@@ -14,12 +14,10 @@ use Rattle.mw_build.specs.Modules.{Accepted}
 use Rattle.mw_logic.specs.Term.{RawTerm}
 use Rattle.mw_logic.specs.Module.{Module}
 use Rattle.mw_items.specs.Items.{Items}
-use Rattle.mw_proofread.specs.Reading.{capped_items}
-use Rattle.mw_check.specs.Whole.{IsVerdict}
 use Rattle.mw_check.specs.declared.answer.Cause.{Cause}
 use Rattle.mw_check.specs.declared.checking.Verdict.{Verdict}
 use Rattle.mw_check.specs.declared.checking.Verdict.TheVariants.{Yes, No}
-use Rattle.mw_top.specs.Proofs.{IsJudged, nameless, nowhere, formless as outside, checked, is_no}
+use Rattle.mw_top.specs.Proofs.{IsVerdictOn, IsProofAnswer, nameless, nowhere, formless as outside, checked, is_no}
 use Rattle.mw_top.specs.declared.purpose.Purpose.TheVariants.{Check}
 use Rattle.mw_top.specs.Sources.{Loaded, no_modules, Gives, formless, taken, refused, accepted, no_command, faulty, answered, passed, judged, Answered, nothing_yet, one_more}
 use Rattle.mw_top.specs.Outputs.{IsOutput, unlexed, answered as of_tokens, lexing_refusal, AgreeInStatus}
@@ -146,15 +144,15 @@ abbrev IsSmall : Verdict → Type 0
 IsSmall (Yes from to count) = count < 2 ^ 128
 IsSmall (No step why) = ⊤
 
-small_on : (M : Module) (max : ℕ) (from to : RawTerm) (items : Items) (v : Verdict) → IsVerdict M max from to items v → IsSmall v
+small_on : (M : Module) (max : ℕ) (from to : RawTerm) (items : Items) (v : Verdict) → IsVerdictOn M max from to items v → IsSmall v
 small_on M max from to items (Yes f t count) h = let e = h.2.count_is in omega (arith, e)
 small_on M max from to items (No step why) h = tt
 
-small : (ms : List Accepted) (max : ℕ) (tokens : List Token) (v : Verdict) → IsJudged ms max tokens v → IsSmall v
+small : (ms : List Accepted) (max : ℕ) (tokens : List Token) (v : Verdict) → IsProofAnswer ms max tokens v → IsSmall v
 small ms max tokens v (nameless n) = tt
 small ms max tokens v (nowhere name h n) = tt
 small ms max tokens v (outside name a part h m o) = tt
-small ms max tokens v (checked name a from to items w h m is verdict) = small_on a.module max from to (capped_items items) w verdict
+small ms max tokens v (checked name a from to items w h m is verdict) = small_on a.module max from to items w verdict
 
 module _ (max : ℕ) where
   -- one unit more, where all were good

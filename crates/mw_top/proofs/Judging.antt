@@ -14,11 +14,11 @@ use Rattle.mw_items.specs.Entries.{entries_of, entries_of_item, entries_of_group
 use Rattle.mw_items.specs.declared.Entry.{Entry}
 use Rattle.mw_items.specs.declared.Entry.TheVariants.{Step, Built, Open, Close}
 use Rattle.mw_items.specs.declared.ProofText.{ProofText}
-use Rattle.mw_proofread.specs.Reading.{AreWritten, HasForm, HaveForm, GroupsHaveForm, IsText, capped_item, capped_items, capped_groups}
+use Rattle.mw_proofread.specs.Reading.{AreWritten, HasForm, HaveForm, GroupsHaveForm, IsText, entry_item, entry_items, entry_groups}
 use Rattle.mw_check.specs.Answers.{AreAdmittedTerms}
 use Rattle.mw_check.specs.Chains.{HaveAdmittedValues}
 use Rattle.mw_check.specs.declared.checking.Verdict.{Verdict}
-use Rattle.mw_top.specs.Proofs.{HasAdmittedTerms, HasName, IsJudged, is_no}
+use Rattle.mw_top.specs.Proofs.{HasAdmittedTerms, HasName, IsProofAnswer, is_no}
 use Rattle.mw_top.specs.Sources.{Loaded, with_proof, name_of, IsProof, Gives, judged}
 use Rattle.mw_top.specs.declared.purpose.Purpose.TheVariants.{Check}
 
@@ -35,20 +35,20 @@ behind sig (Close ∷ es) fs h k = behind sig es fs h k
 
 module _ (M : Module) where
   mutual
-    values_admitted : (is : Items) → HaveForm M is → HaveAdmittedValues M.signature (entries_of (capped_items is))
+    values_admitted : (is : Items) → HaveForm M is → HaveAdmittedValues M.signature (entries_of (entry_items is))
     values_admitted none h = tt
-    values_admitted (more i is) h = behind M.signature (entries_of_item (capped_item i)) (entries_of (capped_items is)) (item_admitted i h.0) (values_admitted is h.1)
+    values_admitted (more i is) h = behind M.signature (entries_of_item (entry_item i)) (entries_of (entry_items is)) (item_admitted i h.0) (values_admitted is h.1)
 
-    item_admitted : (i : Item) → HasForm M i → HaveAdmittedValues M.signature (entries_of_item (capped_item i))
+    item_admitted : (i : Item) → HasForm M i → HaveAdmittedValues M.signature (entries_of_item (entry_item i))
     item_admitted (step owise k s vs gs) (o, take, written, values, groups, rest) = (admitted_terms M.signature vs written, groups_admitted gs rest)
     item_admitted (built s) h = tt
 
-    groups_admitted : (gs : Groups) → GroupsHaveForm M gs → HaveAdmittedValues M.signature (entries_of_groups (capped_groups gs))
+    groups_admitted : (gs : Groups) → GroupsHaveForm M gs → HaveAdmittedValues M.signature (entries_of_groups (entry_groups gs))
     groups_admitted end h = tt
     groups_admitted (group g gs) h =
-        behind M.signature (entries_of (capped_items g)) (Close ∷ entries_of_groups (capped_groups gs)) (values_admitted g h.0) (groups_admitted gs h.1)
+        behind M.signature (entries_of (entry_items g)) (Close ∷ entries_of_groups (entry_groups gs)) (values_admitted g h.0) (groups_admitted gs h.1)
 
-  pub text_admitted : (tokens : List (List ℕ)) (version : ℕ) (text : ProofText) (items : Items) → IsText M tokens version text.from items text.to → text.entries ≡ entries_of (capped_items items)
+  pub text_admitted : (tokens : List (List ℕ)) (version : ℕ) (text : ProofText) (items : Items) → IsText M tokens version text.from items text.to → text.entries ≡ entries_of (entry_items items)
       → HasAdmittedTerms M.signature text
   text_admitted tokens version text items is e = record {
     from = is.begins.admitted;
@@ -75,7 +75,7 @@ equal_words a b e = (bytes_eq-Decides a b).0 (of (bytes_eq a b) e)
 
 -- what a proof's unit gives
 pub judged_gives : (max : ℕ) (before inside : Loaded) (u : SeenUnit) (v : Verdict) (number : ℕ) (text : List ℕ) (bad : Bool) → name_of u ≡ None → IsProof u → inside ≡ before → number ≡ suc inside.proofs
-    → text ≡ verdict_line number v → bad ≡ is_no v → IsJudged before.modules max u.tokens v
+    → text ≡ verdict_line number v → bad ≡ is_no v → IsProofAnswer before.modules max u.tokens v
     → Gives (Check max) before (Ok u) text bad (record { units = inside.units; modules = inside.modules; proofs = number })
 judged_gives max before inside u v number text bad unnamed proof same n t b is =
     let m : number ≡ suc before.proofs = n ∙ ap (λ (l : Loaded). suc l.proofs) same in

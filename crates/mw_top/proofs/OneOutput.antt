@@ -20,9 +20,9 @@ use Rattle.mw_build.proofs.OneModule.{not_big, one_module, not_refused}
 use Rattle.mw_build.proofs.Pairwise.{there}
 use Rattle.mw_command.specs.declared.commands.Word.{Word}
 use Rattle.mw_top.specs.Commands.{IsTerm, IsAnswer, reduction, rewriting, parsing, matching, inside_of, TermFault, long, unread, unclear, opened, big, AnswerFault, in_term, undivided, in_sides, CommandFault, nowhere, unknown, unanswered, module_for}
-use Rattle.mw_top.specs.Matches.{AreSides, AreOversized, deep, large as too_large, SidesFault, long as sides_long, unread as sides_unread, unclear as sides_unclear, opened as sides_opened, big as sides_big}
+use Rattle.mw_top.specs.Matches.{AreMatchSides, AreOversized, deep, large as too_large, SidesFault, long as sides_long, unread as sides_unread, unclear as sides_unclear, opened as sides_opened, big as sides_big}
 use Rattle.mw_top.specs.declared.purpose.Purpose.TheVariants.{Run}
-use Rattle.mw_top.specs.Sources.{Loaded, with_module, IsTaken, name_of, Gives, formless, taken, refused, accepted, no_command, faulty, answered, passed, judged, Answered, nothing_yet, one_more}
+use Rattle.mw_top.specs.Sources.{Loaded, with_module, IsNameTaken, name_of, Gives, formless, taken, refused, accepted, no_command, faulty, answered, passed, judged, Answered, nothing_yet, one_more}
 use Rattle.mw_top.specs.Outputs.{IsOutput, unlexed, answered as of_tokens}
 
 -- a term that is read has no fault
@@ -35,11 +35,11 @@ term_holds a words term is cause (big t why read g h) =
     not_big a.module.signature term why is.fits (subst (λ u. Oversized a.module.signature u why) (is.read.only t read.spelled) h)
 
 -- nor have a pattern and a subject
-none_oversized : (a : Accepted) (left right : List (List ℕ)) (p t : RawTerm) → AreSides a left right p t → (cause : FaultKind) → AreOversized a p t cause → ⊥
+none_oversized : (a : Accepted) (left right : List (List ℕ)) (p t : RawTerm) → AreMatchSides a left right p t → (cause : FaultKind) → AreOversized a p t cause → ⊥
 none_oversized a left right p t are cause (deep h) = ⊎_elim are.pattern_fits.not_deep are.subject_fits.not_deep h
 none_oversized a left right p t are cause (too_large f g h) = ⊎_elim are.pattern_fits.not_large are.subject_fits.not_large h
 
-sides_hold : (a : Accepted) (left right : List (List ℕ)) (p t : RawTerm) → AreSides a left right p t → (cause : FaultKind) → SidesFault a left right cause → ⊥
+sides_hold : (a : Accepted) (left right : List (List ℕ)) (p t : RawTerm) → AreMatchSides a left right p t → (cause : FaultKind) → SidesFault a left right cause → ⊥
 sides_hold a left right p t are cause (sides_long h) = ⊎_elim (λ k. omega (arith, k, are.read.short_left)) (λ k. omega (arith, k, are.read.short_right)) h
 sides_hold a left right p t are cause (sides_unread f g none) = none (p, t) are.read.only.0
 sides_hold a left right p t are cause (sides_unclear f g (x, y, (of_x, of_y, differ))) = differ (are.read.only.1 x of_x ∙ sym (are.read.only.1 y of_y))
@@ -112,7 +112,7 @@ not_found us n unnamed = of (number_named us n) refl
     of (Some k) e = absurd (unnamed (found k e))
 
 -- nor is one that isn't taken
-not_there : (l : Loaded) → AreNamed l → (n : List ℕ) → (IsTaken l.modules n → ⊥) → number_named l.units n ≡ None
+not_there : (l : Loaded) → AreNamed l → (n : List ℕ) → (IsNameTaken l.modules n → ⊥) → number_named l.units n ≡ None
 not_there l named n free = not_found l.units n (λ m. free (subst (Member n) (sym named) m))
 
 module _ (options : Options) (before : Loaded) (alike : AreNamed before) where
@@ -130,14 +130,14 @@ module _ (options : Options) (before : Loaded) (alike : AreNamed before) where
   names_kept o text bad after (judged max u v by unnamed proof is) = cc
 
   -- what a module gives that is accepted
-  from_accepted : (u : SeenUnit) (n reached : List ℕ) (a : Accepted) → name_of u ≡ Some n → (IsTaken before.modules n → ⊥)
+  from_accepted : (u : SeenUnit) (n reached : List ℕ) (a : Accepted) → name_of u ≡ Some n → (IsNameTaken before.modules n → ⊥)
       → IsAccepted before.units before.modules u n reached a → (o : Outcome) → o ≡ Ok u → (text : List ℕ) (bad : Bool) (after : Loaded) → Gives (Run options) before o text bad after
       → (false ≡ bad) × (with_module before n u reached a ≡ after)
   from_accepted u n reached a named free is o e text bad after (formless f) = cc
   from_accepted u n reached a named free is o e text bad after (taken v m other is_taken) =
       let unit : v ≡ u = cc in
       let name : m ≡ n = same_Some m n (sym other ∙ ap name_of unit ∙ named) in
-      absurd (free (subst (IsTaken before.modules) name is_taken))
+      absurd (free (subst (IsNameTaken before.modules) name is_taken))
   from_accepted u n reached a named free is o e text bad after (refused v m r other not_taken wrong) =
       let unit : v ≡ u = cc in
       let name : m ≡ n = same_Some m n (sym other ∙ ap name_of unit ∙ named) in

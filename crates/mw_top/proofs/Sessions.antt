@@ -14,7 +14,7 @@ use Rattle.mw_import.proofs.Tables.{number_within}
 use Rattle.mw_build.specs.Modules.{Accepted}
 use Rattle.mw_build.proofs.Pairwise.{there}
 use Rattle.mw_top.specs.Commands.{module_named, module_at, is_kept, last_module}
-use Rattle.mw_top.specs.Sources.{IsTaken}
+use Rattle.mw_top.specs.Sources.{IsNameTaken}
 use Rattle.std.specs.Option.{option_or}
 
 abbrev pub names_of : List Accepted → List (List ℕ)
@@ -135,21 +135,21 @@ named_found (m ∷ ms) n h k =
     (λ b. ⊎_elim (λ e. let t : bytes_eq n m.name ≡ true = (bytes_eq-Decides n m.name).1 (sym e) in let wrong : true ≡ false = sym t ∙ b in cc)
     (λ k'. named_found ms n (ap (λ c. cond c (Some m) (module_named ms n)) (sym b) ∙ h) k') k)
 
-pub taken_by : (ms : List Accepted) (n : List ℕ) (o : Option Accepted) → module_named ms n ≡ o → (IsTrue (is_some o) → IsTaken ms n) × (IsTaken ms n → IsTrue (is_some o))
+pub taken_by : (ms : List Accepted) (n : List ℕ) (o : Option Accepted) → module_named ms n ≡ o → (IsTrue (is_some o) → IsNameTaken ms n) × (IsNameTaken ms n → IsTrue (is_some o))
 taken_by ms n (Some a) e = (λ h. found_named ms n a e, λ h. refl)
 taken_by ms n None e = (λ h. let wrong : false ≡ true = h in cc, λ h. absurd (named_found ms n e h))
 
 -- what isn't taken is no module's name
-pub untaken_none : (ms : List Accepted) (n : List ℕ) (o : Option Accepted) → module_named ms n ≡ o → (IsTaken ms n → ⊥) → module_named ms n ≡ None
+pub untaken_none : (ms : List Accepted) (n : List ℕ) (o : Option Accepted) → module_named ms n ≡ o → (IsNameTaken ms n → ⊥) → module_named ms n ≡ None
 untaken_none ms n None e free = e
 untaken_none ms n (Some a) e free = absurd (free (found_named ms n a e))
 
 pub taken_as : {A : Type 0} (ms : List Accepted) (n : List ℕ) (b : Bool) (f : A → Accepted) (r : Option A) → option_map f r ≡ module_named ms n → b ≡ is_some r
-    → (IsTrue b → IsTaken ms n) × (IsTaken ms n → IsTrue b)
+    → (IsTrue b → IsNameTaken ms n) × (IsNameTaken ms n → IsTrue b)
 taken_as ms n b f None e is = rw is (taken_by ms n None (sym e))
 taken_as ms n b f (Some x) e is = rw is (taken_by ms n (Some (f x)) (sym e))
 
-pub is_untaken : (ms : List Accepted) (n : List ℕ) → (IsTaken ms n → ⊥) → module_named ms n ≡ None
+pub is_untaken : (ms : List Accepted) (n : List ℕ) → (IsNameTaken ms n → ⊥) → module_named ms n ≡ None
 is_untaken ms n free = untaken_none ms n (module_named ms n) refl free
 
 at_seam : (ms : List Accepted) (a : Accepted) (more : List Accepted) → slice_get (ms ++ a ∷ more) (length ms) ≡ Some a

@@ -51,5 +51,6 @@ sides_so a work left right p t read raw_p raw_t ground (Ok s) (f, g, is_p, is_t)
       pattern_is = is_p;
       subject_is = is_t;
       value = admitted_value a.module.signature ok s.subject admitted;
+      admitted = admitted;
     }
 sides_so a work left right p t read raw_p raw_t ground (Err kind) h = big p t kind read ground h

@@ -30,7 +30,8 @@ use Rattle.mw_proof.specs.Deductions.{Deduction, IsDeduction}
 use Rattle.mw_block.specs.Blocks.{Word, reduced, final, limit, command_text, block, parsed_block}
 use Rattle.mw_block.specs.Notes.{noted}
 use Rattle.mw_prooftext.specs.Denoting.{IsTextOf}
-use Rattle.mw_top.specs.Matches.{AreSides, IsMatched, SidesFault}
+use Rattle.mw_rule.specs.Rewritings.{IsWithin}
+use Rattle.mw_top.specs.Matches.{AreMatchSides, IsMatched, SidesFault}
 
 -- What the status word of `reduce` says of the proof from one term to another. `reduced`: it is by equations alone, has fewer steps than the limit, and
 -- its end is normal. `limit`: it is by equations alone, and stops there for the reason that is told: it has as many steps as the limit, or a next
@@ -44,13 +45,14 @@ IsTrueWord M most from p to (limit reason) = (rules p ≡ 0) × Stops M 63 (limi
 abbrev pub limits_with_rules : Option ℕ → ℕ → Limits
 limits_with_rules bound most = record { rules_too = true; bound = bound; most = most; most_of_sides = most }
 
--- What the status word of `rewrite` says of the proof from one term to another. `final`: it has fewer steps than the limit, its rules aren't as many as the
+-- What the status word of `rewrite` says of the proof from one term to another. Whatever the word, the proof has no more steps than the limit, and no more
+-- rules than the bound, where there is one. `final`: it has fewer steps than the limit, its rules aren't as many as the
 -- bound, and its end is final. `limit`: it stops there for the reason that is told: it has as many rules as the bound, at a normal term, or as many steps as
 -- the limit, or a next step exists whose term is too deep, and so on. No other word is true.
 abbrev pub IsTrueOfRewriting : Module → Option ℕ → ℕ → RawTerm → Proof → RawTerm → Word → Type 0
 IsTrueOfRewriting M bound most from p to reduced = ⊥
-IsTrueOfRewriting M bound most from p to final = (steps p < most) × (Some (rules p) ≢ bound) × IsFinal M to
-IsTrueOfRewriting M bound most from p to (limit reason) = Stops M 63 (limits_with_rules bound most) from p to reason
+IsTrueOfRewriting M bound most from p to final = IsWithin bound most p × (steps p < most) × (Some (rules p) ≢ bound) × IsFinal M to
+IsTrueOfRewriting M bound most from p to (limit reason) = IsWithin bound most p × Stops M 63 (limits_with_rules bound most) from p to reason
 
 -- The term is the one that a command's words spell. It has no variable, and fits in.
 pub record IsTerm (a : Accepted) (words : List (List ℕ)) (t : RawTerm) : Type 0 where
@@ -118,7 +120,7 @@ pub data IsAnswer (a : Accepted) (options : Options) (c : SeenCommand) : List �
   rewriting : (from : RawTerm) (text : List ℕ) → c.word ≡ Rewrite → IsTerm a (texts c.term) from → IsRewritten a c.bound options from text → IsAnswer a options c text
   parsing : (term : RawTerm) (text : List ℕ) → c.word ≡ Parse → IsTerm a (texts c.term) term → IsParsed a options.proof term text → IsAnswer a options c text
   matching : (inside : Bool) (behind : List Token) (p t : RawTerm) (text : List ℕ) → inside_of c.word ≡ Some inside → c.subject ≡ Some behind
-      → AreSides a (texts c.term) (texts behind) p t → IsMatched a inside options p t text → IsAnswer a options c text
+      → AreMatchSides a (texts c.term) (texts behind) p t → IsMatched a inside options p t text → IsAnswer a options c text
 
 -- the module of a name
 abbrev pub module_named : List Accepted → List ℕ → Option Accepted

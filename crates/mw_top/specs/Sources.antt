@@ -15,7 +15,7 @@ use Rattle.mw_block.specs.Notes.{noted}
 use Rattle.mw_block.specs.Refused.{refusal_line}
 use Rattle.mw_block.specs.Verdicts.{verdict_line}
 use Rattle.mw_top.specs.Commands.{IsAnswer, CommandFault, module_for}
-use Rattle.mw_top.specs.Proofs.{IsJudged, is_no}
+use Rattle.mw_top.specs.Proofs.{IsProofAnswer, is_no}
 use Rattle.mw_top.specs.Purposes.{is_noted, takes_proofs}
 use Rattle.mw_top.specs.declared.purpose.Purpose.{Purpose}
 use Rattle.mw_top.specs.declared.purpose.Purpose.TheVariants.{Run, Check}
@@ -42,8 +42,8 @@ abbrev pub with_proof : Loaded → Loaded
 with_proof before = record { units = before.units; modules = before.modules; proofs = suc before.proofs }
 
 -- a module has this name
-abbrev pub IsTaken : List Accepted → List ℕ → Type 0
-IsTaken ms n = Member n (map (λ (a : Accepted). a.name) ms)
+abbrev pub IsNameTaken : List Accepted → List ℕ → Type 0
+IsNameTaken ms n = Member n (map (λ (a : Accepted). a.name) ms)
 
 abbrev pub name_of : SeenUnit → Option (List ℕ)
 name_of u = option_map (λ (t : Token). t.text) u.name
@@ -61,11 +61,11 @@ pub data Gives (purpose : Purpose) (before : Loaded) : Outcome → List ℕ → 
   -- what isn't a unit by its form
   formless : (f : Fault) → Gives purpose before (Err f) (told_refusal purpose f) true before
   -- a module: its name is taken, it has a fault, or it is accepted
-  taken : (u : SeenUnit) (n : List ℕ) → name_of u ≡ Some n → IsTaken before.modules n
+  taken : (u : SeenUnit) (n : List ℕ) → name_of u ≡ Some n → IsNameTaken before.modules n
       → Gives purpose before (Ok u) (told_refusal purpose (record { line = u.line; kind = AlreadyDefined n })) true before
-  refused : (u : SeenUnit) (n : List ℕ) (r : Fault) → name_of u ≡ Some n → (IsTaken before.modules n → ⊥) → IsRefused before.units before.modules u n r
+  refused : (u : SeenUnit) (n : List ℕ) (r : Fault) → name_of u ≡ Some n → (IsNameTaken before.modules n → ⊥) → IsRefused before.units before.modules u n r
       → Gives purpose before (Ok u) (told_refusal purpose r) true before
-  accepted : (u : SeenUnit) (n reached : List ℕ) (a : Accepted) → name_of u ≡ Some n → (IsTaken before.modules n → ⊥)
+  accepted : (u : SeenUnit) (n reached : List ℕ) (a : Accepted) → name_of u ≡ Some n → (IsNameTaken before.modules n → ⊥)
       → IsAccepted before.units before.modules u n reached a → Gives purpose before (Ok u) [] false (with_module before n u reached a)
   -- a command that is to be answered: it isn't of its form, it has a fault, or it is answered
   no_command : (options : Options) (u : SeenUnit) (f : Fault) → purpose ≡ Run options → name_of u ≡ None → command_of u ≡ Err f → Gives purpose before (Ok u) (told_refusal purpose f) true before
@@ -75,7 +75,7 @@ pub data Gives (purpose : Purpose) (before : Loaded) : Outcome → List ℕ → 
       → IsAnswer a options c text → Gives purpose before (Ok u) text false before
   -- one that is passed over, where proofs are checked; and a proof there
   passed : (max : ℕ) (u : SeenUnit) → purpose ≡ Check max → name_of u ≡ None → ¬ IsProof u → Gives purpose before (Ok u) [] false before
-  judged : (max : ℕ) (u : SeenUnit) (v : Verdict) → purpose ≡ Check max → name_of u ≡ None → IsProof u → IsJudged before.modules max u.tokens v
+  judged : (max : ℕ) (u : SeenUnit) (v : Verdict) → purpose ≡ Check max → name_of u ≡ None → IsProof u → IsProofAnswer before.modules max u.tokens v
       → Gives purpose before (Ok u) (verdict_line (suc before.proofs) v) (is_no v) (with_proof before)
 
 -- The units of these tokens up to a place are answered, in order: their texts, whether one of them was refused, and the modules that were accepted.

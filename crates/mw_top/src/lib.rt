@@ -23,7 +23,7 @@
 //!
 //! A fault is never hidden: a count of the source that rose gives 3, one of the sink 4. The status is one of these, no
 //! count of faults falls, and at most 8,388,609 bytes are taken. What a unit gives is `Gives` (specs/Sources), of a
-//! command `IsAnswer` (specs/Commands), of a proof `IsJudged` (specs/Proofs); after a refusal the accepted modules are
+//! command `IsAnswer` (specs/Commands), of a proof `IsProofAnswer` (specs/Proofs); after a refusal the accepted modules are
 //! as before. The clause `exact` (`IsExactFor`) adds, for bytes that are known, words that ask for a run or a check, no
 //! failure and memory that didn't run out: 0 only where the bytes have an output without a refusal, 1 only where they
 //! have one with a refusal, of a run exactly there; 6 exactly where they are too many, and never another status. The

@@ -8,14 +8,15 @@ ghost use Rattle.mw_text.specs.Readings.{ReadsPair};
 ghost use Rattle.mw_module.specs.Words.{texts};
 ghost use Rattle.mw_module.specs.declared.faults.FaultKind.TheVariants.{TooDeep};
 ghost use Rattle.mw_parse.specs.Answers.{HasPairCause};
+ghost use Rattle.mw_canon.specs.Canonical.{IsAdmittedTerm};
 ghost use Rattle.mw_solving.specs.Values.{IsValue};
 ghost use Rattle.mw_position.specs.Variables.{sorts_of};
 ghost use Rattle.mw_compile.specs.Compiled.{IsCompiled};
-ghost use Rattle.mw_match.specs.Solutions.{IsAllSolutions};
-ghost use Rattle.mw_match.specs.Listing.{AreListed};
+ghost use Rattle.mw_match.specs.Solutions.{AreNamed, IsAllSolutions};
+ghost use Rattle.mw_match.specs.Listing.{AreListed, HaveCanonicalValues};
 ghost use Rattle.mw_build.specs.Statements.{Oversized, FitsIn};
 ghost use Rattle.mw_build.specs.Modules.{Accepted};
-ghost use Rattle.mw_top.specs.Matches.{AreSides, AreCanonicalSides, AreOversized, IsMatched, SidesFault, match_word};
+ghost use Rattle.mw_top.specs.Matches.{AreMatchSides, AreCanonicalSides, AreOversized, IsMatched, SidesFault, match_word};
 
 use mw_block::{Matched, matches, noted};
 use mw_build::{Module, canonical};
@@ -162,9 +163,12 @@ fn search<'c>(
 ) -> Result<Solutions<'c>, AllocError>
     requires compiled { compiled.now.positions.sorts ≡ sorts_of compiled.now.variables }
     requires subject { IsValue context.now.signature subject.now }
-    ensures { let sig = context.now.signature in
+    ensures all { let sig = context.now.signature in
         (p : RawTerm) → IsRawTerm sig p → IsCompiled sig (normal_form sig p) [] compiled.now
         → IfOk result (IsAllSolutions sig inside p subject.now []) }
+    ensures named { let sig = context.now.signature in
+        (p : RawTerm) → IsRawTerm sig p → IsCompiled sig (normal_form sig p) [] compiled.now
+        → IfOk result (AreNamed sig compiled.now.variables) }
 {
     let none = nothing(alloc);
     if inside {
@@ -193,9 +197,12 @@ fn solutions(
     most: u64,
 ) -> Result<Vec<Solution>, AllocError>
     requires { IsValue context.now.signature sides.now.subject }
-    ensures { let sig = context.now.signature in
+    ensures all { let sig = context.now.signature in
         (p : RawTerm) → IsRawTerm sig p → sides.now.pattern ≡ normal_form sig p
         → IfOk result (λ found. AreListed sig inside p sides.now.subject [] most found.items) }
+    ensures values { let sig = context.now.signature in
+        (p : RawTerm) → IsRawTerm sig p → sides.now.pattern ≡ normal_form sig p
+        → IfOk result (λ found. HaveCanonicalValues sig found.items) }
 {
     let compiled = compile(alloc, context, &sides.pattern, &nothing(alloc))?;
     let mut solutions = search(alloc, context, &compiled, &sides.subject, inside)?;
@@ -220,9 +227,11 @@ fn matched(
     requires { IsValue accepted.now.module.signature sides.now.subject }
     ensures { let sig = accepted.now.module.signature in
         (p t : RawTerm) → IsRawTerm sig p → sides.now.pattern ≡ normal_form sig p → sides.now.subject ≡ normal_form sig t
+        → IsAdmittedTerm sig sides.now.subject
         → IfOk result (λ text. IsMatched accepted.now inside options p t text.items) }
 {
     let context = accepted.context();
+    context.shows();
     let found = solutions(alloc, context, sides, inside, options.max)?;
     let limited = found.len() as u64 == options.max;
     let told = Matched {
@@ -247,7 +256,7 @@ pub fn matches_of(
     ensures { let left = texts pattern.now in
         let right = texts subject.now in
         IfOk result (λ r. MatchResult r
-        (λ text. (p : RawTerm) × (t : RawTerm) × AreSides accepted.now left right p t × IsMatched accepted.now inside options p t text.items)
+        (λ text. (p : RawTerm) × (t : RawTerm) × AreMatchSides accepted.now left right p t × IsMatched accepted.now inside options p t text.items)
         (SidesFault accepted.now left right)) }
 {
     match read_sides(alloc, accepted, pattern, subject)? {

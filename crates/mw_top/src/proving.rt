@@ -4,9 +4,9 @@ ghost use Rattle.mw_module.specs.Words.{texts};
 ghost use Rattle.mw_build.specs.Modules.{Accepted};
 ghost use Rattle.mw_items.specs.Items.{Items};
 ghost use Rattle.mw_items.specs.Entries.{entries_of};
-ghost use Rattle.mw_check.specs.Whole.{IsVerdict};
+ghost use Rattle.mw_check.specs.Whole.{IsVerdictOf};
 ghost use Rattle.mw_top.specs.Commands.{module_named};
-ghost use Rattle.mw_top.specs.Proofs.{HasAdmittedTerms, HasName, IsJudged};
+ghost use Rattle.mw_top.specs.Proofs.{HasAdmittedTerms, HasName, IsProofAnswer};
 
 use mw_build::Module;
 use mw_check::{Cause, Verdict, check};
@@ -41,7 +41,7 @@ fn checked(
     requires max { 1 ≤ max }
     requires text { HasAdmittedTerms accepted.now.module.signature text.now }
     ensures { (items : Items) → text.now.entries ≡ entries_of items → IfOk result
-        (IsVerdict accepted.now.module max text.now.from text.now.to items) }
+        (IsVerdictOf accepted.now.module max text.now.from text.now.to items) }
 {
     let context = accepted.context();
     if let Some(index) = accepted.index() {
@@ -60,7 +60,7 @@ pub fn judged(
 ) -> Result<Verdict, AllocError>
     requires { 1 ≤ max }
     ensures { (ms : List Accepted) (name : List ℕ) → HasName (texts tokens.now) name → module_named ms name
-        ≡ Some accepted.now → IfOk result (IsJudged ms max tokens.now) }
+        ≡ Some accepted.now → IfOk result (IsProofAnswer ms max tokens.now) }
 {
     match read(alloc, accepted.context(), tokens) {
         Ok(text) => checked(alloc, accepted, &text, max),

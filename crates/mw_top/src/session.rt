@@ -5,10 +5,10 @@ ghost use Rattle.mw_module.specs.Units.{SeenUnit, seen_unit};
 ghost use Rattle.mw_command.specs.Commands.{command_of, seen_command};
 ghost use Rattle.mw_build.specs.Modules.{Accepted, IsAccepted, IsRefused};
 ghost use Rattle.mw_top.specs.Commands.{CommandFault, is_kept as is_kept_name, module_named, module_at, last_module, module_for};
-ghost use Rattle.mw_top.specs.Proofs.{IsJudged, is_no as is_no_of};
+ghost use Rattle.mw_top.specs.Proofs.{IsProofAnswer, is_no as is_no_of};
 ghost use Rattle.mw_top.specs.Purposes.{IsAllowed};
 ghost use Rattle.mw_top.specs.declared.purpose.Purpose.TheVariants.{Run as RunOf, Check as CheckOf};
-ghost use Rattle.mw_top.specs.Sources.{IsTaken, Gives, name_of, no_modules, told_refusal, with_module};
+ghost use Rattle.mw_top.specs.Sources.{IsNameTaken, Gives, name_of, no_modules, told_refusal, with_module};
 
 use crate::proving::{judged, named_module};
 use crate::purpose::Purpose;
@@ -44,7 +44,7 @@ pub struct Session<'s> {
 impl<'s> Model for Session<'s> {
     ghost use Rattle.std.specs.Coded.{codes};
     ghost use Rattle.mw_logic.specs.TermCode.{coded_term, coded_variable};
-    ghost use Rattle.mw_top.specs.Proofs.{IsJudged, is_no as is_no_of};
+    ghost use Rattle.mw_top.specs.Proofs.{IsProofAnswer, is_no as is_no_of};
     ghost use Rattle.mw_top.specs.Purposes.{IsAllowed};
     ghost use Rattle.mw_top.specs.declared.purpose.Purpose.TheVariants.{Run as RunOf, Check as CheckOf};
     ghost use Rattle.mw_top.specs.Sources.{Loaded};
@@ -130,7 +130,7 @@ impl<'s> Session<'s> {
 
     /// Whether a name is a module's.
     fn is_taken(&self, name: &[u8]) -> bool
-        ensures { IsTrue result ↔ IsTaken self.now.modules name.now }
+        ensures { IsTrue result ↔ IsNameTaken self.now.modules name.now }
     {
         self.named(name).is_some()
     }
@@ -295,7 +295,7 @@ impl<'s> Session<'s> {
     fn verdict(&mut self, alloc: Global, tokens: &[Token], max: u64) -> Result<Verdict, AllocError>
         requires { 1 ≤ max }
         ensures same { self.new ≡ self.old }
-        ensures judged { IfOk result (IsJudged self.old.modules max tokens.now) }
+        ensures judged { IfOk result (IsProofAnswer self.old.modules max tokens.now) }
     {
         let Some(name) = named_module(tokens) else {
             return Ok(Verdict::No {

@@ -44,7 +44,7 @@ module _ (M : Module) (one : HasOneRow M) where
     -- the ends of the first sides
     first_ends : {n : ℕ} {s : Substitution} (ms : List RawTerm) {ls xs ys : List RawTerm} {gs : Groups} {rs : Runs} {c : ℕ} → AreLed M s ls gs ys → AreEvaluated M n s (ls ++ ms) gs xs rs c → ys ≡ take (length ls) xs
     first_ends ms no_more x = refl
-    first_ends ms (one_more {xs = ys} y led) (a_side {a = a} (evaluated raw admitted leads normal) rest) =
+    first_ends ms (one_more {xs = ys} b y led) (a_side {a = a} (evaluated raw admitted leads normal) rest) =
         ap (λ b. b ∷ ys) (sym (only_end M wf.accepted one leads y)) ∙ ap (λ ys. a ∷ ys) (first_ends ms led rest)
 
     stands : (n : ℕ) → n ≤ 63 → (a : RawTerm) → IsNormal M n a → ¬ IsReducible M n a
@@ -65,8 +65,8 @@ module _ (M : Module) (one : HasOneRow M) where
       refused l z (next_past_limit x f) y a = certain M most one ((λ e. cc), z) (next_past_limit x f) y a
 
       at_fault : {n c : ℕ} {C : List Fragment} {s : Substitution} {gs : Groups} {rs : Runs} → n ≤ 63 → AtFault M most n C s gs → Shown M n C s gs rs c → ⊥
-      at_fault l (a_chain g fault) unconditional = no_group g
-      at_fault l (a_chain g fault) (conditional x m) = let (a, d, ds, e) = side_of g x in chain_at_fault (omega (arith, l)) fault e
+      at_fault l (a_chain g b fault) unconditional = no_group g
+      at_fault l (a_chain g b fault) (conditional x m) = let (a, d, ds, e) = side_of g x in chain_at_fault (omega (arith, l)) fault e
       at_fault l (the_ends {f = f} {C = C} {s = s} led h) (conditional x m) = h (subst (Meets sig s f) (sym (first_ends (all_sides C) led x)) m.0)
       at_fault l (behind_them {f = f} {C = C} fault) (conditional x m) = let (qs, d, y) = others (sides_of f) (all_sides C) x in at_fault l fault (conditional y m.1)
 

@@ -11,7 +11,7 @@ use Rattle.mw_logic.proofs.Ranks.{row_within}
 use Rattle.mw_deduction.specs.Runs.{Done}
 use Rattle.mw_redex.specs.Replaced.{IsPartAt}
 use Rattle.mw_items.specs.Items.{Spot, Item}
-use Rattle.mw_prooftext.specs.Tells.{Replaces}
+use Rattle.mw_prooftext.specs.Tells.{ReplacesSpot}
 use Rattle.mw_prooftext.specs.Passing.{IsRow}
 use Rattle.mw_verdict.specs.Checks.{IsFormOf, ChecksOne, by_statement, by_row}
 use Rattle.mw_verdict.specs.Verdicts.{Cause, past_limit, Refuses, statement_missing, row_missing, value_ill_sorted, part_missing, spot_missing, condition_fails, sides_not_normal, condition_stops, sides_stop, next_past_limit}
@@ -27,7 +27,7 @@ module _ (M : Module) where
   Sorted st s = IsSubstitution sig s
 
   abbrev pub There : Spot → RawTerm → RawTerm → Statement → Substitution → Type 0
-  There at t v st s = Replaces sig st.rule (instance s st.left) (instance s st.right) at t v
+  There at t v st s = ReplacesSpot sig st.rule (instance s st.left) (instance s st.right) at t v
 
   -- a form of the part, which is one
   pub row_form : {n : ℕ} {at : Spot} {t v w : RawTerm} → IsPartAt sig at.path at.take t w → (h : IsRow M n at t v) → IsFormOf sig w h.form

@@ -14,7 +14,7 @@ use Rattle.mw_items.specs.Items.{Item, Items, Groups, end}
 use Rattle.mw_prooftext.specs.Passing.{Passes}
 use Rattle.mw_prooftext.specs.Passing as passing
 use Rattle.mw_verdict.specs.Checks.{IsFormOf, nothing, then, by_statement, by_row, Shown, unconditional}
-use Rattle.mw_verdict.specs.Leads.{a_step, a_row, Leads, nowhere, onward}
+use Rattle.mw_verdict.specs.Leads.{a_step, a_row, ItemsLead, nowhere, onward}
 use Rattle.mw_verdict.specs.Verdicts.{Cause, Splits, first, later, Refuses, condition_fails, sides_not_normal, condition_stops, sides_stop, AtFault, a_chain, StopsIn, a_side, an_item, an_end, IsYes, IsNo, in_item, at_end}
 use Rattle.mw_verdict.specs.Exclusion.{IsCertain}
 use Rattle.mw_verdict.specs.Written.{IsFree, AreFree, FreeAnswered}
@@ -42,14 +42,14 @@ module _ (M : Module) where
   sig = M.signature
 
   -- an item is where those before it lead
-  found_free : {before rest items : Items} {i : Item} {t v : RawTerm} → Splits before i rest items → Leads M before t v → AreFree M items t → IsFree M i v
+  found_free : {before rest items : Items} {i : Item} {t v : RawTerm} → Splits before i rest items → ItemsLead M before t v → AreFree M items t → IsFree M i v
   found_free first nowhere free = free.0
   found_free (later s) (onward one rest) free = found_free s rest (free.1 _ one)
 
   module _ (most : ℕ) where
     -- what has no condition is at fault for none, and no test stops in it
     none_at_fault : {n : ℕ} {s : Substitution} {gs : Groups} → AtFault M most n [] s gs → ⊥
-    none_at_fault (a_chain g fault) = no_group g
+    none_at_fault (a_chain g admitted fault) = no_group g
 
     none_stops : {n : ℕ} {s : Substitution} {gs : Groups} → StopsIn M most n [] s gs → ⊥
     none_stops (a_side g why stops) = no_group g

@@ -14,7 +14,7 @@ use Rattle.mw_redex.specs.Replaced.{replaced_at, ReplacesAt}
 use Rattle.mw_items.specs.Items.{Spot, Item, step, Items, Groups}
 use Rattle.mw_prooftext.specs.Passing.{IsRow}
 use Rattle.mw_verdict.specs.Checks.{IsFormOf, Checks, nothing, then, ChecksOne, by_statement, by_row}
-use Rattle.mw_verdict.specs.Leads.{IsOneArgument, IsComputed, LeadsOne, a_step, a_row, Leads, nowhere, onward}
+use Rattle.mw_verdict.specs.Leads.{IsOneArgument, IsComputed, LeadsOne, a_step, a_row, ItemsLead, nowhere, onward}
 use Rattle.mw_verdict.specs.Verdicts.{Splits, first, later}
 use Rattle.mw_verdict.specs.Exclusion.{HasOneRow, IsChecked, CheckedLead}
 use Rattle.mw_verdict.proofs.Same.{alike, named, one_part}
@@ -68,7 +68,7 @@ module _ (M : Module) (ok : IsAccepted M.signature) where
   checked_leads_one (by_statement h sorted bound there some plain shown) = a_step (record { statement = h.statement; is_there = h.is_there; kind = h.kind; subst = h.subst; values = h.values; replaces = there })
   checked_leads_one (by_row h some) = a_row (computed h)
 
-  pub checked_leads : {n r c : ℕ} {is : Items} {t u : RawTerm} {ds : Dones} → Checks M n is t u r c ds → Leads M is t u
+  pub checked_leads : {n r c : ℕ} {is : Items} {t u : RawTerm} {ds : Dones} → Checks M n is t u r c ds → ItemsLead M is t u
   checked_leads nothing = nowhere
   checked_leads (then x a rest) = onward (checked_leads_one x) (checked_leads rest)
 
@@ -109,14 +109,14 @@ module _ (M : Module) (ok : IsAccepted M.signature) where
         (alike h (named e) (λ st s. ReplacesAt sig st.rule (normal_form sig (instance s st.left)) (normal_form sig (instance s st.right)) at.path at.take t v) there).becomes ∙ sym e.replaces.becomes
     same_led (by_row h some) (a_row e) = same_computed h e
 
-    pub only_end : {n r c : ℕ} {is : Items} {t u w : RawTerm} {ds : Dones} → Checks M n is t u r c ds → Leads M is t w → u ≡ w
+    pub only_end : {n r c : ℕ} {is : Items} {t u w : RawTerm} {ds : Dones} → Checks M n is t u r c ds → ItemsLead M is t w → u ≡ w
     only_end nothing nowhere = refl
-    only_end {w = w} (then {is = is} x a rest) (onward e more) = only_end rest (subst (λ v. Leads M is v w) (sym (same_led x e)) more)
+    only_end {w = w} (then {is = is} x a rest) (onward e more) = only_end rest (subst (λ v. ItemsLead M is v w) (sym (same_led x e)) more)
 
     -- of items that are checked each is, at the term to which those before it lead
-    pub found_led : {n : ℕ} {before rest items : Items} {i : Item} {t u v : RawTerm} {r c : ℕ} {ds : Dones} → Splits before i rest items → Checks M n items t u r c ds → Leads M before t v → IsChecked M n i v
+    pub found_led : {n : ℕ} {before rest items : Items} {i : Item} {t u v : RawTerm} {r c : ℕ} {ds : Dones} → Splits before i rest items → Checks M n items t u r c ds → ItemsLead M before t v → IsChecked M n i v
     found_led first (then {q = r} {c = c} {v = w} {x = x} y a rest) nowhere = record { next = w; rules = r; count = c; done = x; checks = y; admitted = a }
-    found_led {v = w} (later {before = before} s) (then x a rest) (onward e more) = found_led s rest (subst (λ v. Leads M before v w) (sym (same_led x e)) more)
+    found_led {v = w} (later {before = before} s) (then x a rest) (onward e more) = found_led s rest (subst (λ v. ItemsLead M before v w) (sym (same_led x e)) more)
 
 pub checked_lead : CheckedLead
 checked_lead M ok n is t u r c ds x = (checked_leads M ok x, λ one v e. only_end M ok one x e)

@@ -13,7 +13,7 @@ use Rattle.mw_items.specs.Items.{Item, Items}
 use Rattle.mw_prooftext.specs.Passing.{PassesOne, Passes}
 use Rattle.mw_prooftext.specs.Passing as passing
 use Rattle.mw_verdict.specs.Checks.{Checks, nothing, then}
-use Rattle.mw_verdict.specs.Leads.{LeadsOne, a_step, a_row, Leads, nowhere, onward}
+use Rattle.mw_verdict.specs.Leads.{LeadsOne, a_step, a_row, ItemsLead, nowhere, onward}
 use Rattle.mw_verdict.specs.Verdicts.{Cause, Splits, first, later, Refuses, statement_missing, row_missing, value_ill_sorted, part_missing, spot_missing, condition_fails, sides_not_normal, condition_stops, sides_stop, next_past_limit, IsNo, in_item, at_end}
 use Rattle.mw_verdict.specs.Exclusion.{HasOneRow, IsCertain}
 use Rattle.mw_verdict.specs.Written.{PassingAnswered}
@@ -30,7 +30,7 @@ module _ (M : Module) (ok : IsAccepted M.signature) where
   passing_leads_one (passing.a_statement h sorted bound some) = a_step h
   passing_leads_one (passing.a_row h some) = a_row (computed M ok h)
 
-  passing_leads : {n : ℕ} {is : Items} {t u : RawTerm} → Passes M n is t u → Leads M is t u
+  passing_leads : {n : ℕ} {is : Items} {t u : RawTerm} → Passes M n is t u → ItemsLead M is t u
   passing_leads passing.nothing = nowhere
   passing_leads (passing.then x a rest) = onward (passing_leads_one x) (passing_leads rest)
 

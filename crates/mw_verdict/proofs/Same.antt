@@ -14,7 +14,7 @@ use Rattle.mw_redex.proofs.Standing.{one_place}
 use Rattle.mw_items.specs.Items.{Spot, Item, Items}
 use Rattle.mw_prooftext.specs.Tells.{IsStep}
 use Rattle.mw_prooftext.specs.Passing.{IsRow}
-use Rattle.mw_verdict.specs.Checks.{IsNamed, IsFormOf, Checks, nothing, then, ChecksOne, by_statement, by_row}
+use Rattle.mw_verdict.specs.Checks.{NamesStatement, IsFormOf, Checks, nothing, then, ChecksOne, by_statement, by_row}
 use Rattle.mw_verdict.specs.Exclusion.{HasOneRow}
 
 -- equations may change what stands anywhere
@@ -35,7 +35,7 @@ one_part sig path take t w u p q = (one_place sig false w u w t _ _ path take (a
     at : (v : RawTerm) → IsPartAt sig path take t v → ReplacesAt sig false v w path take t (replaced_at sig path take w t)
     at v p = record { part = p; open_way = open_way sig (way_of_place path take) t; becomes = refl }
 
-module _ {M : Module} {owise : Bool} {k : ℕ} {vs : List RawTerm} (h e : IsNamed M owise k vs) where
+module _ {M : Module} {owise : Bool} {k : ℕ} {vs : List RawTerm} (h e : NamesStatement M owise k vs) where
   same_statement : h.statement ≡ e.statement
   same_statement = let a = h.is_there.is_there in let b = e.is_there.is_there in cc
 
@@ -43,11 +43,11 @@ module _ {M : Module} {owise : Bool} {k : ℕ} {vs : List RawTerm} (h e : IsName
   same_subst = h.values.are ∙ ap (λ (st : Statement). zip st.variables (map (nested M.signature) vs)) same_statement ∙ sym e.values.are
 
 -- what is said of the statement that a line names, and of its values, is said of all that it names
-pub alike : {M : Module} {owise : Bool} {k : ℕ} {vs : List RawTerm} (h e : IsNamed M owise k vs) (P : Statement → Substitution → Type 0) → P h.statement h.subst → P e.statement e.subst
+pub alike : {M : Module} {owise : Bool} {k : ℕ} {vs : List RawTerm} (h e : NamesStatement M owise k vs) (P : Statement → Substitution → Type 0) → P h.statement h.subst → P e.statement e.subst
 alike h e P p = subst (λ s. P e.statement s) (same_subst h e) (subst (λ (st : Statement). P st h.subst) (same_statement h e) p)
 
 -- a line that tells a step names its statement
-abbrev pub named : {M : Module} {owise : Bool} {k : ℕ} {at : Spot} {vs : List RawTerm} {t w : RawTerm} → IsStep M owise k at vs t w → IsNamed M owise k vs
+abbrev pub named : {M : Module} {owise : Bool} {k : ℕ} {at : Spot} {vs : List RawTerm} {t w : RawTerm} → IsStep M owise k at vs t w → NamesStatement M owise k vs
 named e = record { statement = e.statement; is_there = e.is_there; kind = e.kind; subst = e.subst; values = e.values }
 
 module _ (M : Module) (one : HasOneRow M) where

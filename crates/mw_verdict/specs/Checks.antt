@@ -13,11 +13,11 @@ use Rattle.mw_deduction.specs.Runs.{Done, Dones, run, Runs, another}
 use Rattle.mw_deduction.specs.Runs as runs
 use Rattle.mw_deduction.specs.Replay.{AreValuesOf, sides_of, all_sides}
 use Rattle.mw_items.specs.Items.{Spot, Item, step, built, Items, none, more, Groups, end, group}
-use Rattle.mw_prooftext.specs.Tells.{Replaces}
+use Rattle.mw_prooftext.specs.Tells.{ReplacesSpot}
 use Rattle.mw_prooftext.specs.Passing.{TakesSome, IsRow}
 
 -- The line names an executable statement, as `owise` exactly where it is one, with a canonical term for each of its variables.
-pub record IsNamed (M : Module) (owise : Bool) (k : ℕ) (vs : List RawTerm) : Type 0 where
+pub record NamesStatement (M : Module) (owise : Bool) (k : ℕ) (vs : List RawTerm) : Type 0 where
   pub statement : Statement
   pub is_there : IsStatement M k statement
   pub kind : owise ≡ statement.owise
@@ -56,9 +56,9 @@ module _ (M : Module) where
 
     -- one item does, which passes all tests but that of the limits
     pub data ChecksOne : ℕ → Item → RawTerm → RawTerm → ℕ → ℕ → Done → Type 0 where
-      by_statement : {n k c : ℕ} {owise : Bool} {at : Spot} {vs : List RawTerm} {gs : Groups} {t v : RawTerm} {rs : Runs} (h : IsNamed M owise k vs)
+      by_statement : {n k c : ℕ} {owise : Bool} {at : Spot} {vs : List RawTerm} {gs : Groups} {t v : RawTerm} {rs : Runs} (h : NamesStatement M owise k vs)
           → IsSubstitution sig h.subst → IsTrue (binds_statement h.subst h.statement)
-          → Replaces sig h.statement.rule (instance h.subst h.statement.left) (instance h.subst h.statement.right) at t v → TakesSome at t
+          → ReplacesSpot sig h.statement.rule (instance h.subst h.statement.left) (instance h.subst h.statement.right) at t v → TakesSome at t
           → (IsTrue h.statement.owise → IsPlain M n (instance h.subst h.statement.left)) → Shown n h.statement.fragments h.subst gs rs c
           → ChecksOne n (step owise k at vs gs) t v (cond h.statement.rule 1 0) (suc c) (runs.by_statement k h.subst rs (nested sig t) (nested sig v))
       by_row : {n : ℕ} {at : Spot} {t v : RawTerm} → IsRow M n at t v → TakesSome at t → ChecksOne n (built at) t v 0 1 (runs.by_row (nested sig t) (nested sig v))

@@ -12,7 +12,7 @@ use Rattle.mw_logic.specs.Confluence.{IsTame}
 use Rattle.mw_deduction.specs.Runs.{Done, Dones}
 use Rattle.mw_items.specs.Items.{Item, Items}
 use Rattle.mw_verdict.specs.Checks.{IsFormOf, Checks, ChecksOne}
-use Rattle.mw_verdict.specs.Leads.{Leads}
+use Rattle.mw_verdict.specs.Leads.{ItemsLead}
 use Rattle.mw_verdict.specs.Verdicts.{Cause, no_condition, stopped, past_limit, Refuses, IsYes, IsNo}
 
 -- Of one part rows make one term, whichever clean form of it they replace.
@@ -25,7 +25,7 @@ HasOneRow M =
 abbrev pub CheckedLead : Type 0
 CheckedLead =
     (M : Module) → IsAccepted M.signature → (n : ℕ) (items : Items) (t u : RawTerm) (r c : ℕ) (ds : Dones) → Checks M n items t u r c ds
-    → Leads M items t u × (HasOneRow M → (v : RawTerm) → Leads M items t v → u ≡ v)
+    → ItemsLead M items t u × (HasOneRow M → (v : RawTerm) → ItemsLead M items t v → u ≡ v)
 
 -- in rank n the item passes all tests at t
 pub record IsChecked (M : Module) (n : ℕ) (i : Item) (t : RawTerm) : Type 0 where

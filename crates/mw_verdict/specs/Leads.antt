@@ -7,7 +7,7 @@ use Rattle.mw_logic.specs.Parts.{is_assoc, IsClean}
 use Rattle.mw_logic.specs.NormalForm.{normal_form, own_arguments}
 use Rattle.mw_logic.specs.Module.{Module, Row}
 use Rattle.mw_items.specs.Items.{Spot, Item, step, built, Items, none, more, Groups}
-use Rattle.mw_prooftext.specs.Tells.{Replaces, IsStep}
+use Rattle.mw_prooftext.specs.Tells.{ReplacesSpot, IsStep}
 
 -- v is one argument of the operator on top of t, and not several, where that is associative.
 abbrev pub IsOneArgument : Signature → RawTerm → RawTerm → Type 0
@@ -21,7 +21,7 @@ pub record IsComputed (M : Module) (s : Spot) (t u : RawTerm) : Type 0 where
   pub row : Row M.signature (IsOneArgument M.signature form) form result
   pub raw : IsRawTerm M.signature form
   pub clean : IsClean M.signature form
-  pub replaces : Replaces M.signature false form result s t u
+  pub replaces : ReplacesSpot M.signature false form result s t u
 
 module _ (M : Module) where
   pub data LeadsOne : Item → RawTerm → RawTerm → Type 0 where
@@ -29,6 +29,6 @@ module _ (M : Module) where
     a_row : {at : Spot} {t u : RawTerm} → IsComputed M at t u → LeadsOne (built at) t u
 
   -- from the canonical t the items lead to u
-  pub data Leads : Items → RawTerm → RawTerm → Type 0 where
-    nowhere : {t : RawTerm} → Leads none t t
-    onward : {i : Item} {is : Items} {t v u : RawTerm} → LeadsOne i t v → Leads is v u → Leads (more i is) t u
+  pub data ItemsLead : Items → RawTerm → RawTerm → Type 0 where
+    nowhere : {t : RawTerm} → ItemsLead none t t
+    onward : {i : Item} {is : Items} {t v u : RawTerm} → LeadsOne i t v → ItemsLead is v u → ItemsLead (more i is) t u

@@ -16,7 +16,7 @@ use Rattle.mw_check.proofs.ChainEntries.{front_and}
 use Rattle.mw_check.proofs.ChainAnswers.{unnamed, placed_ill, placed_nowhere, placed_values, placed_ready, placed_answered, answered_before, next_admitted}
 use Rattle.mw_check.proofs.ChainWays.{begin_so, values_there, others_within, step_there, built_there, left_on, way_begins, way_rule, way_fault, way_on, way_over}
 use Rattle.mw_check.proofs.GroupReady.{raw_pattern, ready_first}
-use Rattle.mw_check.proofs.GroupWays.{passed_left, evaluated_on, first_skipped, first_ended, side_fault, first_end, one_told, second_fault, two_told, fragment_faulty, fragment_on, fragment_off, course_begins, course_on, course_over, none_shown}
+use Rattle.mw_check.proofs.GroupWays.{passed_left, evaluated_on, first_skipped, first_faulty, first_ended, side_fault, first_end, one_told, second_fault, two_told, fragment_faulty, fragment_on, fragment_off, course_begins, course_on, course_over, none_shown}
 use Rattle.mw_check.proofs.chains.+checked.Goals as goal
 
 -- Items one after another.
@@ -169,6 +169,14 @@ group-returns-in_default-2-clause-left t c =
     let fewer = others_within c.args.entries.now c.first-item.result c.in-len1-up.len_at_least c.first-item.is in
     let values = values_there c.args.entries.now c.first-item.result c.in-len1-up.len_at_least c.first-item.is sig c.requires.entries in
     IfOk-weaker c.passed_over.result _ _ (λ x h. evaluated_on sig c.args.entries.now inside fewer x (passed_left sig inside x h values)) c.passed_over.ensures
+
+pub group-returns-in-AtFault-clause-is : goal.group-returns-in-AtFault-clause-is
+group-returns-in-AtFault-clause-is t c = λ gs rest e o.
+    let M = c.args.tester.now.context.now in
+    let l = instance_of (meant M.signature c.args.values.now) (raw_term c.args.side.now) in
+    let inside = take (length c.args.entries.now - 1) (drop 1 c.args.entries.now) in
+    let is = sym (begin_so c.args.entries.now c.first-item.result c.in-len1-up.len_at_least c.first-item.is Open c.in-Open.is) ∙ e in
+    first_faulty M c.args.tester.now.most c.args.rank l inside gs rest is o c.in-Some.term (subst (IsStart M l) c.in-Some.is c.in_ok-term.ensures) c.in_ok-chain.field-0 c.in_ok-chain.ensures.is c.in-AtFault.is
 
 pub group-returns-in-To-clause-is : goal.group-returns-in-To-clause-is
 group-returns-in-To-clause-is t c = λ gs rest e o.

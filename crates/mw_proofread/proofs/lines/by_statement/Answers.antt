@@ -36,4 +36,4 @@ returns-clause-ok c =
     = subst (λ z. IsCount (values_of c.args.reader.now.ctx.now n) (length z)) c.as_slice.ensures
     (subst (λ o. IsCount o (length c.as_slice.result.now)) (c.counts_of-counts.ensures.values n v) (c.is_count.ensures.0 c.if-not-is_count.false)) in
     subst (λ o. HasLine c.args.reader.now.ctx.now (codes "step" ∷ token_texts c.args.tokens.now) (token_texts c.in_ok-values.rest.now) o c.args.entries.now.items c.push.new.self.items) (sym (c.counts_of-counts.ensures.groups n v))
-    (statement_is c.args.reader.now.ctx.now _ _ n is c.in_ok-place.place _ c.in_ok-place.ensures.ok c.in_ok-values.values _ c.in_ok-values.ensures.ok c.capped.result c.in-Some.number _ _ c.capped.ensures v count c.in_ok-push.ensures.items)
+    (statement_is c.args.reader.now.ctx.now _ _ n is c.in_ok-place.place _ c.in_ok-place.ensures.ok c.in_ok-values.values _ c.in_ok-values.ensures.ok c.entry_number.result c.in-Some.number _ _ c.entry_number.ensures v count c.in_ok-push.ensures.items)

@@ -1,5 +1,5 @@
 use Rattle.std.proofs.Common.{◌∙◌, ◌∷◌, ◌++◌, [], length, ap, refl, arith}
-use Rattle.mw_proofread.proofs.Places.{numbers_more, capped_more}
+use Rattle.mw_proofread.proofs.Places.{numbers_more, entry_more}
 use Rattle.mw_proofread.proofs.numbers.numbers.Goals as goal
 
 pub loop-number-init : goal.loop-number-init
@@ -12,7 +12,7 @@ pub loop-number-preserved : goal.loop-number-preserved
 loop-number-preserved c =
     let (ns, e, f) = c.loop-number.invariant in
     let (n, d, v) = c.in-Some.ensures in
-    (ns ++ n ∷ [], numbers_more ns n _ _ _ e d, capped_more ns n c.in-Some.number c.capped.result _ _ c.in_ok-push.ensures.items f c.capped.ensures v)
+    (ns ++ n ∷ [], numbers_more ns n _ _ _ e d, entry_more ns n c.in-Some.number c.entry_number.result _ _ c.in_ok-push.ensures.items f c.entry_number.ensures v)
 
 pub returns : goal.returns
 returns c = let (ns, e, f) = c.loop-number.invariant in record { numbers = ns; is = e; ends = c.in_default.ensures; are = c.of.ensures ∙ f }

@@ -4,27 +4,33 @@ use Rattle.mw_logic.specs.Term.{RawTerm}
 use Rattle.mw_logic.specs.Signature.{Signature, IsRawTerm}
 use Rattle.mw_logic.specs.NormalForm.{normal_form}
 use Rattle.mw_logic.specs.Module.{Module}
-use Rattle.mw_match.specs.Listing.{AreListed}
+use Rattle.mw_least.specs.Workable.{IsWorkable}
+use Rattle.mw_match.specs.Listing.{AreListed, HaveCanonicalValues}
 use Rattle.mw_block.specs.Matches.{match_block}
 use Rattle.mw_block.specs.Notes.{noted}
 use Rattle.mw_top.specs.Matches.{match_word}
 use Rattle.mw_top.proofs.Answering.{if_ok}
+use Rattle.mw_top.proofs.Valued.{all_admitted}
 use Rattle.mw_top.proofs.matching.matched.Goals as goal
 
 pub returns : goal.returns
-returns c = λ p t raw pattern subject.
+returns c = λ p t raw pattern subject admitted.
     let a = c.args.accepted.now in
     let sig : Signature = a.module.signature in
     let found = c.in_ok-found.found.items in
     let limited : Bool = nat_eq c.len.result c.args.options.max in
     let here : c.context-context.result.now.signature ≡ sig = ap (λ (M : Module). M.signature) c.context-context.ensures in
-    let listed = c.in_ok-found.ensures p (subst (λ (s : Signature). IsRawTerm s p) (sym here) raw) (pattern ∙ ap (λ (s : Signature). normal_form s p) (sym here)) in
+    let work : IsWorkable a.module = subst IsWorkable c.context-context.ensures c.shows.ensures in
+    let listed = c.in_ok-found.ensures.all p (subst (λ (s : Signature). IsRawTerm s p) (sym here) raw) (pattern ∙ ap (λ (s : Signature). normal_form s p) (sym here)) in
+    let values = c.in_ok-found.ensures.values p (subst (λ (s : Signature). IsRawTerm s p) (sym here) raw) (pattern ∙ ap (λ (s : Signature). normal_form s p) (sym here)) in
+    let listed_here : AreListed sig c.args.inside p c.args.sides.now.subject [] c.args.options.max found = subst (λ (s : Signature). AreListed s c.args.inside p c.args.sides.now.subject [] c.args.options.max found) here listed in
+    let valued : HaveCanonicalValues sig found = subst (λ (s : Signature). HaveCanonicalValues s found) here values in
     let size : length found ≡ c.len.result = search rules in
     if_ok c.noted.result c.noted.ensures
     (λ text is. record {
       solutions = found;
-      listed = subst (λ u. AreListed sig c.args.inside p u [] c.args.options.max found) subject
-          (subst (λ (s : Signature). AreListed s c.args.inside p c.args.sides.now.subject [] c.args.options.max found) here listed);
+      listed = subst (λ u. AreListed sig c.args.inside p u [] c.args.options.max found) subject listed_here;
+      values = all_admitted sig work.signature.accepted work.signature.well_sorted c.args.inside p c.args.sides.now.subject c.args.options.max found raw admitted listed_here valued;
       limited = limited;
       reached = (λ h. size ∙ eqb-true c.len.result c.args.options.max h, λ e. eq-eqb c.len.result c.args.options.max (sym size ∙ e));
       written = is ∙ ap (noted c.args.options.proof) (c.in_ok-block.ensures

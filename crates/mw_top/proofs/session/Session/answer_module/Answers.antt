@@ -3,7 +3,7 @@ use Rattle.std.proofs.lemmas.Bool.{both_ways}
 use Rattle.mw_module.specs.declared.faults.FaultKind.TheVariants.{AlreadyDefined}
 use Rattle.mw_module.specs.Units.{seen_unit}
 use Rattle.mw_build.specs.Modules.{IsAccepted, IsRefused}
-use Rattle.mw_top.specs.Sources.{IsTaken, Gives, taken, refused, accepted, with_module}
+use Rattle.mw_top.specs.Sources.{IsNameTaken, Gives, taken, refused, accepted, with_module}
 use Rattle.mw_top.proofs.Answering.{if_ok}
 use Rattle.mw_top.proofs.Giving.{refused_gives, match_ok, match_err}
 use Rattle.mw_top.proofs.Sessions.{is_untaken}
@@ -14,7 +14,7 @@ returns-then-is_taken c =
     let u = seen_unit c.args.unit in
     let text : c.as_slice-text.result.now ≡ c.of-name.result = sym (c.of-name.ensures ∙ c.in_ok-to_vec.ensures.items_if_clones_equal (λ x y e. e)) in
     let named = c.requires.named ∙ ap Some (sym c.as_slice-text.ensures ∙ text) in
-    let is = subst (IsTaken c.args.self.now.modules) text (c.is_taken.ensures.0 c.if-is_taken.true) in
+    let is = subst (IsNameTaken c.args.self.now.modules) text (c.is_taken.ensures.0 c.if-is_taken.true) in
     if_ok c.refused.result c.refused.ensures
     (λ a h. refused_gives c.args.purpose c.args.self.now (Ok u) (record { line = u.line; kind = AlreadyDefined c.of-name.result }) a.text.items a.refused
     (taken u c.of-name.result named is) h)
@@ -29,7 +29,7 @@ returns-in_ok-accept-in-Ok c =
     let before = c.args.self.now in
     let text : c.as_slice-text.result.now ≡ c.of-name.result = sym (c.of-name.ensures ∙ c.in_ok-to_vec.ensures.items_if_clones_equal (λ x y e. e)) in
     let named = c.requires.named ∙ ap Some (sym c.as_slice-text.ensures ∙ text) in
-    let free : IsTaken before.modules c.of-name.result → ⊥ = λ k. both_ways _ c.if-is_taken.false (c.is_taken.ensures.1 (subst (IsTaken before.modules) (sym text) k)) in
+    let free : IsNameTaken before.modules c.of-name.result → ⊥ = λ k. both_ways _ c.if-is_taken.false (c.is_taken.ensures.1 (subst (IsNameTaken before.modules) (sym text) k)) in
     let flat = c.in-Ok.built.flat in
     let made = c.in-Ok.built.module in
     let is : IsAccepted before.units before.modules u c.of-name.result flat made = match_ok _ _ c.in_ok-built.field-0 c.in_ok-built.ensures c.in-Ok.built c.in-Ok.is in
@@ -43,7 +43,7 @@ returns-in-Err c =
     let before = c.args.self.now in
     let text : c.as_slice-text.result.now ≡ c.of-name.result = sym (c.of-name.ensures ∙ c.in_ok-to_vec.ensures.items_if_clones_equal (λ x y e. e)) in
     let named = c.requires.named ∙ ap Some (sym c.as_slice-text.ensures ∙ text) in
-    let free : IsTaken before.modules c.of-name.result → ⊥ = λ k. both_ways _ c.if-is_taken.false (c.is_taken.ensures.1 (subst (IsTaken before.modules) (sym text) k)) in
+    let free : IsNameTaken before.modules c.of-name.result → ⊥ = λ k. both_ways _ c.if-is_taken.false (c.is_taken.ensures.1 (subst (IsNameTaken before.modules) (sym text) k)) in
     let is : IsRefused before.units before.modules u c.of-name.result c.in-Err.fault = match_err _ _ c.in_ok-built.field-0 c.in_ok-built.ensures c.in-Err.fault c.in-Err.is in
     if_ok c.refused_by.result c.refused_by.ensures
     (λ a h. refused_gives c.args.purpose before (Ok u) c.in-Err.fault a.text.items a.refused (refused u c.of-name.result c.in-Err.fault named free is) h)

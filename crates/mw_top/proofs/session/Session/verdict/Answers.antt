@@ -4,7 +4,7 @@ use Rattle.mw_import.specs.Flat.{number_named}
 use Rattle.mw_build.specs.Modules.{Accepted}
 use Rattle.mw_top.specs.Commands.{module_named}
 use Rattle.mw_top.specs.Sources.{Loaded}
-use Rattle.mw_top.specs.Proofs.{IsJudged, nameless, nowhere}
+use Rattle.mw_top.specs.Proofs.{IsProofAnswer, nameless, nowhere}
 use Rattle.mw_top.proofs.Sessions.{item_is, number_found, number_none}
 use Rattle.mw_top.proofs.session.Session.verdict.Goals as goal
 use Rattle.mw_top.proofs.session.Session.verdict.Goals.{in-Some-get, in-None}
@@ -32,8 +32,8 @@ returns-clause-judged c =
     item_is c.deref.result.now number c.get.result c.get.ensures.lookup ∙ ap (λ (xs : List Accepted). slice_get xs number) c.deref.ensures.value
     ∙ ap (λ (l : Loaded). slice_get l.modules number) (c.self-2.view_is ∙ c.in_ok-prepare_number.ensures) ∙ at in
     elim c.match-get.branch [
-      | in-Some-get w ↦ subst (λ r. IfOk r (IsJudged c.args.self.now.modules c.args.max c.args.tokens.now)) (sym w.result-is)
+      | in-Some-get w ↦ subst (λ r. IfOk r (IsProofAnswer c.args.self.now.modules c.args.max c.args.tokens.now)) (sym w.result-is)
           (w.judged.ensures c.args.self.now.modules name c.in-Some.ensures (sym got ∙ ap (option_map (λ (m : Bor Accepted). m.now)) w.in-Some-get.is))
-      | in-None w ↦ subst (λ r. IfOk r (IsJudged c.args.self.now.modules c.args.max c.args.tokens.now)) (sym w.result-is)
+      | in-None w ↦ subst (λ r. IfOk r (IsProofAnswer c.args.self.now.modules c.args.max c.args.tokens.now)) (sym w.result-is)
           (nowhere name c.in-Some.ensures (sym got ∙ ap (option_map (λ (m : Bor Accepted). m.now)) w.in-None.is))
     ]
