@@ -1,2 +1,3 @@
 -- A signature with numbers, and what its terms are.
 pub mod Numbers
+pub mod Bare
