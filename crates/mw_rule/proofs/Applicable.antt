@@ -47,16 +47,16 @@ use Rattle.mw_frames.proofs.SmallValues.{redex_small}
 use Rattle.mw_reduce.specs.Evaluations.{AreBoundTo, AreAsked, run_of, nothing}
 use Rattle.mw_reduce.proofs.Reduced.{is_run, whole_kept, its_proof, proves_it, counted, rules_counted}
 use Rattle.mw_reduce.proofs.SideRuns.{side_begins}
-use Rattle.mw_rule.specs.Spots.{IsSpot}
-use Rattle.mw_rule.specs.Stepped.{AreWays, IsMadeAt}
+use Rattle.mw_redexes.specs.Spots.{IsSpot, AreWays}
+use Rattle.mw_rule.specs.Stepped.{IsMadeAt}
 use Rattle.mw_rule.specs.Applications.{IsApplicable, IsPast, IsOneStep, IsStepTo, IsStepBy, with_right}
 use Rattle.mw_rule.specs.declared.one_step.OneStep.{OneStep}
 use Rattle.mw_rule.specs.declared.one_step.OneStep.TheVariants.{Deep, Nat}
-use Rattle.mw_rule.specs.declared.spots.Spot.{Spot}
-use Rattle.mw_rule.proofs.Everywhere.{value_reached}
+use Rattle.mw_redexes.specs.declared.spots.Spot.{Spot}
+use Rattle.mw_redexes.proofs.Everywhere.{value_reached}
 use Rattle.mw_rule.proofs.Limits.{put_within}
-use Rattle.mw_rule.proofs.Reaching.{part_reached, open_top}
-use Rattle.mw_rule.proofs.Ways.{way_last}
+use Rattle.mw_redexes.proofs.Reaching.{part_reached, open_top}
+use Rattle.mw_redexes.proofs.Ways.{way_last}
 
 -- what is taken at the end of a place
 taken_at_end : (sig : Signature) (take : Option (List ℕ)) (u w : RawTerm) → IsPartTaken sig take u w → IsTaken sig take u w
@@ -136,7 +136,7 @@ module _ (M : Module) (work : IsWorkable M) (t : RawTerm) (path : List ℕ) (c :
 
   value_taken : IsValue sig w
   value_taken =
-      let (v, reached, top) = part_reached sig t t w Rattle.mw_rule.specs.Spots.IsReached.itself part_taken in
+      let (v, reached, top) = part_reached sig t t w Rattle.mw_redexes.specs.Spots.IsReached.itself part_taken in
       top_value sig ok v w (open_top sig v w top) (value_reached sig ok t v (admitted_value sig ok t admitted_whole) reached)
 
   small_taken : has_largest sig w ≡ false

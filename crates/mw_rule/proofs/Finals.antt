@@ -22,11 +22,11 @@ use Rattle.mw_index.specs.Choices.{Tried, solution_of}
 use Rattle.mw_index.specs.declared.index.Rule.{Rule}
 use Rattle.mw_reduce.specs.Turns.{AreFailed}
 use Rattle.mw_reduce.proofs.Ends.{normal_at}
-use Rattle.mw_rule.specs.Spots.{IsReached, AreWanted, AreAllSpots}
-use Rattle.mw_rule.specs.Redexes.{AreAllAsked}
-use Rattle.mw_rule.specs.declared.spots.Wanted.{Wanted}
-use Rattle.mw_rule.specs.declared.spots.Spot.{Spot}
-use Rattle.mw_rule.proofs.Everywhere.{value_reached, tried_everywhere}
+use Rattle.mw_redexes.specs.Spots.{IsReached, AreWanted, AreAllSpots}
+use Rattle.mw_redexes.specs.Redexes.{AreAllAsked}
+use Rattle.mw_redexes.specs.declared.spots.Wanted.{Wanted}
+use Rattle.mw_redexes.specs.declared.spots.Spot.{Spot}
+use Rattle.mw_redexes.proofs.Everywhere.{value_reached, tried_everywhere}
 
 module _ (M : Module) (work : IsWorkable M) (t : RawTerm) (n : IsNormalTerm M (admitted_judgements M 63).Fails t) where
   abbrev ok : IsAccepted M.signature

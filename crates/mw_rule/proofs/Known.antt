@@ -43,17 +43,16 @@ use Rattle.mw_index.proofs.Sides.{left_zipped}
 use Rattle.mw_reduce.specs.Attempts.{IsTriable}
 use Rattle.mw_reduce.specs.Evaluations.{AreBoundTo}
 use Rattle.mw_reduce.proofs.Applying.{left_bound}
-use Rattle.mw_rule.specs.Spots.{AreWanted, AreAllSpots}
-use Rattle.mw_rule.specs.Redexes.{AreAllAsked, IsFoundIn}
-use Rattle.mw_rule.specs.Stepped.{AreWays}
+use Rattle.mw_redexes.specs.Spots.{AreWanted, AreAllSpots, AreWays}
+use Rattle.mw_redexes.specs.Redexes.{AreAllAsked, IsFoundIn}
 use Rattle.mw_rule.specs.Finding.{IsFailureOf, IsAmong, IsRedexOf, IsKnown, AreAllKnown, IsTriedAmong, AreTriedAmong}
-use Rattle.mw_rule.specs.declared.spots.Wanted.{Wanted}
-use Rattle.mw_rule.specs.declared.spots.Spot.{Spot}
-use Rattle.mw_rule.specs.declared.redexes.Found.{Found}
+use Rattle.mw_redexes.specs.declared.spots.Wanted.{Wanted}
+use Rattle.mw_redexes.specs.declared.spots.Spot.{Spot}
+use Rattle.mw_redexes.specs.declared.redexes.Found.{Found}
 use Rattle.mw_rule.proofs.Alike.{same_values, same_meant, same_agrees, fails_alike}
-use Rattle.mw_rule.proofs.Everywhere.{tried_everywhere}
-use Rattle.mw_rule.proofs.Looking.{part_there, admitted_there}
-use Rattle.mw_rule.proofs.Ways.{way_more}
+use Rattle.mw_redexes.proofs.Everywhere.{tried_everywhere}
+use Rattle.mw_redexes.proofs.Standing.{part_there, admitted_there}
+use Rattle.mw_redexes.proofs.Ways.{way_more}
 
 -- one more that was tried
 one_more_among : (M : Module) (fs : List Failure) (tried : List Tried) (c : Tried) → AreTriedAmong M fs tried → ((e : Statement) → IsStatement M c.number e → IsTriedAmong M fs c e) → AreTriedAmong M fs (tried ++ c ∷ [])

@@ -22,54 +22,18 @@ use Rattle.mw_solving.specs.Values.{IsValue}
 use Rattle.mw_solving.proofs.Admitted.{admitted_value}
 use Rattle.mw_index.proofs.Staying.{top_value}
 use Rattle.mw_reduce.specs.Attempts.{IsTriable, IsMade}
-use Rattle.mw_rule.specs.Spots.{IsReached, IsSpot, IsOpenTop, AreAllSpots}
+use Rattle.mw_redexes.specs.Spots.{IsReached, IsSpot, IsOpenTop, AreAllSpots}
 use Rattle.mw_rule.specs.Stepped.{IsMadeAt, IsMadeOf}
-use Rattle.mw_rule.specs.Redexes.{AreValuesAt, IsFoundIn}
-use Rattle.mw_rule.specs.declared.spots.Spot.{Spot}
-use Rattle.mw_rule.specs.declared.spots.Wanted.{Wanted}
-use Rattle.mw_rule.specs.declared.redexes.Found.{Found}
-use Rattle.mw_rule.proofs.Everywhere.{value_reached}
-use Rattle.mw_rule.proofs.Passed.{member_place}
-use Rattle.mw_rule.proofs.Reaching.{reached_part, open_part_of, open_top}
-use Rattle.mw_rule.proofs.Untold.{open_taken}
+use Rattle.mw_redexes.specs.Redexes.{AreValuesAt, IsFoundIn}
+use Rattle.mw_redexes.specs.declared.spots.Spot.{Spot}
+use Rattle.mw_redexes.specs.declared.spots.Wanted.{Wanted}
+use Rattle.mw_redexes.specs.declared.redexes.Found.{Found}
+use Rattle.mw_redexes.proofs.Everywhere.{value_reached}
+use Rattle.mw_redexes.proofs.Passed.{member_place}
+use Rattle.mw_redexes.proofs.Reaching.{reached_part, open_part_of, open_top}
+use Rattle.mw_redexes.proofs.Standing.{values_listed, admitted_there}
 
--- the parts of a value
-pub values_listed : (M : Module) → IsAccepted M.signature → (t : RawTerm) → IsValue M.signature t → (wanted : Wanted) (spots : List Spot) → AreAllSpots M.signature wanted t spots → AreValuesAt M spots
-values_listed M ok t v wanted spots listed s m = let (i, l, e) = member_place spots s m in value_reached M.signature ok t s.term.now v (listed.sound i s e).reached
-
--- a choice at a part of an admitted term: the part that it takes is one that rules may change
-module _ (M : Module) (work : IsWorkable M) (t : RawTerm) (a : IsAdmittedTerm M.signature t) (wanted : Wanted) (spots : List Spot) (listed : AreAllSpots M.signature wanted t spots) (x : Found) (h : IsFoundIn M spots x) where
-  abbrev sig : Signature
-  sig = M.signature
-
-  abbrev ok : IsAccepted sig
-  ok = work.signature.accepted
-
-  abbrev u : RawTerm
-  u = h.spot.term.now
-
-  abbrev w : RawTerm
-  w = h.found.choice.part
-
-  reached : IsReached sig t u
-  reached = (listed.sound x.at h.spot h.there).reached
-
-  value_there : IsValue sig u
-  value_there = value_reached sig ok t u (admitted_value sig ok t a) reached
-
-  place_there : IsOpenTop sig u w
-  place_there = open_taken sig ok x.choice.take u w value_there h.found.choice.taken h.found.free
-
-  pub part_there : (C : Context) × IsOpenContext sig true C × IsPart sig (nested sig t) C (nested sig w)
-  part_there = part_found sig ok {by_rule = true} {t = nested sig t} w a.raw (subst (λ y. IsPartOf sig true y w) (sym a.canonical) (reached_part sig t u w reached (open_part_of sig u w place_there)))
-
-  pub admitted_there : IsAdmittedTerm sig w
-  admitted_there =
-      let (C, free, part) = part_there in
-      let v = top_value sig ok u w (open_top sig u w place_there) value_there in
-      record { raw = v.raw; canonical = fixed sig ok w v.canonical; admitted = part_admitted sig ok C (nested sig w) a.raw a.admitted part }
-
--- the same of a normal term
+-- the parts of a normal term, and the choices of rules at them
 module _ (M : Module) (work : IsWorkable M) (t : RawTerm) (n : IsNormalTerm M (admitted_judgements M 63).Fails t) (wanted : Wanted) (spots : List Spot) (listed : AreAllSpots M.signature wanted t spots) where
   admitted_term : IsAdmittedTerm M.signature t
   admitted_term = record { raw = n.raw; canonical = n.canonical; admitted = n.normal.admitted }

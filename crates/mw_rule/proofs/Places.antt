@@ -15,8 +15,9 @@ use Rattle.mw_frames.specs.Entered.{IsEntered}
 use Rattle.mw_frames.proofs.FiringHere.{at_term}
 use Rattle.mw_frames.proofs.Normals.{normal_has}
 use Rattle.mw_frames.proofs.Turning.{same_head}
-use Rattle.mw_rule.specs.Stepped.{IsAt, IsAtPart, AreWays}
-use Rattle.mw_rule.specs.declared.spots.Spot.{Spot}
+use Rattle.mw_redexes.specs.Spots.{AreWays}
+use Rattle.mw_rule.specs.Stepped.{IsAt, IsAtPart}
+use Rattle.mw_redexes.specs.declared.spots.Spot.{Spot}
 
 -- a run that made these moves stands at one place
 pub one_stand : (K : Run) (count : ℕ) (ms : List Move) (S T : Stand) → Leads K count ms S → Leads K count ms T → S ≡ T

@@ -19,10 +19,11 @@ use Rattle.mw_frames.specs.State.{Run, IsRun}
 use Rattle.mw_frames.specs.Fires.{IsPartTaken}
 use Rattle.mw_index.specs.declared.choices.Choice.{Choice}
 use Rattle.mw_reduce.specs.Attempts.{IsHaltingAt}
-use Rattle.mw_rule.specs.Spots.{IsReached, IsOpenTop, whole, several}
-use Rattle.mw_rule.specs.Redexes.{IsFoundAt}
+use Rattle.mw_redexes.specs.Spots.{IsReached, IsOpenTop, whole, several}
+use Rattle.mw_redexes.specs.Redexes.{IsFoundAt}
 use Rattle.mw_rule.specs.Stepped.{IsUntoldIn}
-use Rattle.mw_rule.proofs.Reaching.{reached_part, open_part_of}
+use Rattle.mw_redexes.proofs.Reaching.{reached_part, open_part_of}
+use Rattle.mw_redexes.proofs.Standing.{open_taken}
 
 -- the numbers tell what is taken
 pub one_taken_part : (sig : Signature) (take : Option (List ℕ)) (u w v : RawTerm) → IsTaken sig take u w → IsPartTaken sig take u v → v ≡ w
@@ -35,16 +36,6 @@ one_taken_part sig (Some ks) u w v a b =
   where
     same : {f g : ℕ} {ts us : RawTerms} → apply f ts ≡ apply g us → (f ≡ g) × (ts ≡ us)
     same e = (let z : _ ≡ _ = cc in z, cc)
-
-module _ (sig : Signature) (ok : IsAccepted sig) where
-  pub open_taken : (take : Option (List ℕ)) (u w : RawTerm) → IsValue sig u → IsTaken sig take u w
-      → ((ks : List ℕ) (f : ℕ) (ts : RawTerms) → take ≡ Some ks → u ≡ apply f ts → IsOpen sig true f 1) → IsOpenTop sig u w
-  open_taken None u w v taken clear = subst (IsOpenTop sig u) (sym taken) whole
-  open_taken (Some ks) u w v taken clear = by_top u w (taken_top sig ok (Some ks) u w v taken) (λ f ts. clear ks f ts refl)
-    where
-      by_top : (u w : RawTerm) → IsTop sig u w → ((f : ℕ) (ts : RawTerms) → u ≡ apply f ts → IsOpen sig true f 1) → IsOpenTop sig u w
-      by_top u w top.whole o = whole
-      by_top u w (top.several {f} {ts} {us} A m c) o = several A (o f ts refl) m c
 
 pub untold : (K : Run) (sig : Signature) → IsRun K sig → (side : ℕ) (t u : RawTerm) → IsNormalTerm K.over (admitted_judgements K.over K.rank).Fails t → IsReached K.over.signature t u → IsValue K.over.signature u
     → (c : Choice) → IsFoundAt K.over u c → (why : Reason) → IsHaltingAt K.over true K.rank side u c.take why → IsUntoldIn K side t why

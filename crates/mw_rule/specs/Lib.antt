@@ -1,7 +1,3 @@
--- The parts of a term at which rules are asked.
-pub mod Spots
--- How far rules are asked.
-pub mod Redexes
 -- What a rewriting gives.
 pub mod Rewritings
 -- What a step by a rule leaves.

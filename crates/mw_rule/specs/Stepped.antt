@@ -21,9 +21,9 @@ use Rattle.mw_reduce.specs.declared.drive.End.{End}
 use Rattle.mw_reduce.specs.declared.drive.Outcome.{Outcome}
 use Rattle.mw_reduce.specs.declared.drive.Outcome.TheVariants.{Done, Stopped}
 use Rattle.mw_index.specs.declared.choices.Choice.{Choice}
-use Rattle.mw_rule.specs.Spots.{IsSpot}
-use Rattle.mw_rule.specs.declared.spots.Spot.{Spot}
-use Rattle.mw_rule.specs.declared.redexes.Found.{Found}
+use Rattle.mw_redexes.specs.Spots.{AreWays}
+use Rattle.mw_redexes.specs.declared.spots.Spot.{Spot}
+use Rattle.mw_redexes.specs.declared.redexes.Found.{Found}
 use Rattle.mw_rule.specs.declared.rewriting.Bounds.{Bounds}
 use Rattle.mw_rule.specs.declared.rewriting.Looked.{Looked}
 use Rattle.mw_rule.specs.declared.rewriting.Looked.TheVariants.{Nothing, Fires, Halts, Takes}
@@ -40,9 +40,6 @@ pub record IsAt (K : Run) (count : ℕ) (d : Data) (t v : RawTerm) : Type 0 wher
 -- the same of the part of this number
 abbrev pub IsAtPart : Run → ℕ → Data → List Spot → ℕ → RawTerm → Type 0
 IsAtPart K count d spots at v = (s : Spot) × (slice_get spots at ≡ Some s) × IsAt K count d s.term.now v
-
-abbrev pub AreWays : Signature → RawTerm → List Spot → Type 0
-AreWays sig root spots = (j : ℕ) (s : Spot) → slice_get spots j ≡ Some s → IsSpot sig root spots j s
 
 -- A rule applies, by its values, at a part of t, or to several of its arguments that rules may change: these trails show the condition.
 pub record IsMadeAt (K : Run) (spots : List Spot) (t : RawTerm) (x : Found) (sides : List Track) : Type 0 where

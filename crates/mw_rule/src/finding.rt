@@ -1,29 +1,20 @@
 // A rule that applies at a part of a term, but for those that are known to fail there.
-ghost use Rattle.std.specs.Prelude.{◌≡◌, ◌↔◌, List, Some, true, map, slice_get, IfOk, IsTrue, MatchOption};
-ghost use Rattle.mw_logic.specs.Term.{RawTerm, Variable};
-ghost use Rattle.mw_logic.specs.Signature.{Signature, Member};
-ghost use Rattle.mw_logic.specs.Module.{Statement, IsStatement};
+ghost use Rattle.std.specs.Prelude.{◌≡◌, ◌↔◌, map, IfOk, IsTrue, MatchOption};
+ghost use Rattle.mw_logic.specs.Signature.{Member};
 ghost use Rattle.mw_logic.specs.Substitution.{Extends};
-ghost use Rattle.std.specs.List.{zip};
 ghost use Rattle.mw_canon.specs.Canonical.{IsAdmittedTerm};
 ghost use Rattle.mw_canon.specs.Tables.{pair_of};
-ghost use Rattle.mw_redex.specs.Replaced.{IsOpenWay};
-ghost use Rattle.mw_redex.specs.Paths.{at_path};
 ghost use Rattle.mw_proof.specs.Failures.{Failure, IsFailure};
 ghost use Rattle.mw_index.specs.Index.{IsIndexOf};
-ghost use Rattle.mw_rule.specs.Stepped.{AreWays};
 ghost use Rattle.mw_rule.specs.Finding.{Keeps, IsFailureOf, IsAmong, IsRedexOf, AreAllKnown};
-ghost use Rattle.mw_rule.specs.declared.spots.Spot.{Spot as SpotOf};
 
-use crate::redexes::{Found, Redexes};
-use crate::spots::{Spot, spots_of, wanted_by};
 use mw_canon::Values;
 use mw_index::{Choice, Index, Oriented};
 use mw_least::Ctx;
-use mw_match::bound;
 use mw_proof::Failing;
 use mw_redex::Place;
-use mw_term::{Binding, Seq, Subst, Term, VarId, same};
+use mw_redexes::{Found, Redexes, spots_of, substitution, wanted_by, way_to};
+use mw_term::{Binding, Subst, Term, VarId, same};
 use std::alloc::{AllocError, Global};
 
 /// A rule with a solution of its left side for a part of a term. Its condition isn't asked of.
@@ -103,38 +94,6 @@ fn is_among(
     Ok(false)
 }
 
-/// The way from the whole to the part of this number.
-fn way_to(alloc: Global, spots: &[Spot<'_>], at: usize) -> Result<Seq<u32>, AllocError>
-    ensures { (sig : Signature) (root : RawTerm) (s : SpotOf) → AreWays sig root spots.now → slice_get spots.now at ≡ Some s
-        → IfOk result (λ path. (at_path root path ≡ Some s.term.now) × IsOpenWay sig true path root) }
-{
-    let mut path = Vec::new(alloc);
-    let mut place = at;
-    while place > 0 {
-        let spot = match spots.get(place) {
-            Some(spot) => spot,
-            None => return Err(AllocError),
-        };
-        if spot.parent >= place {
-            return Err(AllocError);
-        }
-        path.push(spot.number)?;
-        place = spot.parent;
-    }
-    path.reverse();
-    Ok(Seq::of(path))
-}
-
-/// Values of the variables of a rule's left side.
-fn named(alloc: Global, context: &Ctx, number: usize, values: &[Term]) -> Result<Subst, AllocError>
-    requires { (e : Statement) × IsStatement context.now number e }
-    ensures { (e : Statement) → IsStatement context.now number e → IfOk result (λ s. s ≡ zip e.variables values.now) }
-{
-    let statement = &context.statements()[number - 1];
-    let subst = bound(alloc, statement.variables.as_slice(), values)?;
-    Ok(subst)
-}
-
 /// The first rule in the order of the module that has a solution for a part that rules may change, outermost first and
 /// from the left, but for those that are among the failures with the same solution. None where there is none.
 /// Conditions aren't asked of.
@@ -162,7 +121,7 @@ pub fn find<'m>(
             return Ok(None);
         };
         let number = found.choice.by.number;
-        let subst = named(alloc, context, number, found.choice.values.as_slice())?;
+        let subst = substitution(alloc, context, number, found.choice.values.as_slice())?;
         if !is_among(alloc, failures, number, &subst)? {
             let Found { at, choice } = found;
             let path = way_to(alloc, spots.as_slice(), at)?;

@@ -3,11 +3,12 @@ ghost use Rattle.std.specs.Prelude.{ℕ, OnOk};
 ghost use Rattle.mw_logic.specs.Term.{RawTerm};
 ghost use Rattle.mw_frames.specs.State.{Run, IsRun};
 ghost use Rattle.mw_frames.specs.Machines.{data_of};
-ghost use Rattle.mw_rule.specs.Stepped.{IsAt, IsAtPart, AreWays};
+ghost use Rattle.mw_redexes.specs.Spots.{AreWays};
+ghost use Rattle.mw_rule.specs.Stepped.{IsAt, IsAtPart};
 
-use crate::spots::Spot;
 use mw_canon::Facts;
 use mw_frames::{Machine, enter};
+use mw_redexes::Spot;
 use std::alloc::{AllocError, Global};
 
 /// From the whole, which is in hand and normal, into the part of this number: that is in hand then, and the arguments

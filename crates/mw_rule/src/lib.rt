@@ -36,9 +36,8 @@
 //! arguments, the whole is given away (`fire_whole`): what isn't taken is moved, without a count. `apply` goes the same
 //! way, and makes what the rule leaves beside it too, which it compares.
 //!
-//! The parts of a term are listed breadth first (`spots_of`): of arguments in which no operator is that a rule has on
-//! top, none. Rules are asked in the order of the module, each at each part in turn (`Redexes`), and its solutions there
-//! one after another. What fails isn't asked again before something changed.
+//! Which parts are looked at, and in which order rules are asked, mw_redexes says. A rule that fails isn't asked again
+//! before something changed.
 //!
 //! Conditions: the index is one of the context's module, the term is canonical and admitted; of `find` that the
 //! failures are of the context's module; of `apply` that the term is normal and the rule applies there
@@ -51,9 +50,7 @@
 mod finding;
 mod going;
 mod one_step;
-mod redexes;
 mod rewriting;
-mod spots;
 
 pub use finding::{Redex, find};
 pub use one_step::{OneStep, apply};

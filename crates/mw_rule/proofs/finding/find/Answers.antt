@@ -3,12 +3,12 @@ use Rattle.std.proofs.lemmas.Bool.{both_ways}
 use Rattle.mw_logic.specs.Module.{Module}
 use Rattle.mw_index.specs.Choices.{tried_of}
 use Rattle.mw_solving.proofs.Admitted.{admitted_value}
-use Rattle.mw_rule.specs.Spots.{AreAllSpots}
-use Rattle.mw_rule.specs.Redexes.{IsFoundIn, AreAsked}
-use Rattle.mw_rule.specs.declared.redexes.Found.{Found}
-use Rattle.mw_rule.specs.declared.spots.Spot.{Spot}
+use Rattle.mw_redexes.specs.Spots.{AreAllSpots}
+use Rattle.mw_redexes.specs.Redexes.{IsFoundIn, AreAsked}
+use Rattle.mw_redexes.specs.declared.redexes.Found.{Found}
+use Rattle.mw_redexes.specs.declared.spots.Spot.{Spot}
 use Rattle.mw_rule.proofs.Known.{all_known, more_among, redex_found}
-use Rattle.mw_rule.proofs.Looking.{values_listed}
+use Rattle.mw_redexes.proofs.Standing.{values_listed}
 use Rattle.mw_rule.proofs.finding.find.Goals as goal
 
 pub loop-rounds-init : goal.loop-rounds-init

@@ -1,6 +1,6 @@
 use Rattle.std.proofs.Common.{List}
 use Rattle.mw_index.specs.Choices.{Tried}
-use Rattle.mw_rule.specs.Redexes.{AreAsked}
+use Rattle.mw_redexes.specs.Redexes.{AreAsked}
 use Rattle.mw_rule.specs.Finding.{AreTriedAmong}
 use Rattle.mw_rule.proofs.finding.find.Given as goal
 

@@ -4,7 +4,7 @@ use Rattle.std.proofs.lemmas.Bool.{cases_lt, both_ways}
 use Rattle.std.proofs.lemmas.Option.{same_Some}
 use Rattle.mw_proof.specs.Failures.{Failure}
 use Rattle.mw_rule.specs.Finding.{IsFailureOf}
-use Rattle.mw_rule.proofs.Passed.{member_at, member_place, got_at}
+use Rattle.mw_redexes.proofs.Passed.{member_at, member_place, got_at}
 use Rattle.mw_rule.proofs.finding.is_among.Goals as goal
 
 pub returns-then-branch-clause-yes : goal.returns-then-branch-clause-yes

@@ -2,10 +2,11 @@ use Rattle.std.specs.Prelude.{slice_get}
 use Rattle.std.proofs.Common.{get_or, arith, ap, sym, subst, ◌∙◌, ◌≡◌, ◌<◌, Some}
 use Rattle.std.proofs.lemmas.Option.{same_Some}
 use Rattle.mw_frames.specs.Machines.{data_of}
-use Rattle.mw_rule.specs.Stepped.{IsAt, IsAtPart, AreWays}
-use Rattle.mw_rule.specs.declared.spots.Spot.{Spot}
-use Rattle.mw_rule.proofs.Listed.{got_below}
-use Rattle.mw_rule.proofs.Passed.{got_at}
+use Rattle.mw_redexes.specs.Spots.{AreWays}
+use Rattle.mw_rule.specs.Stepped.{IsAt, IsAtPart}
+use Rattle.mw_redexes.specs.declared.spots.Spot.{Spot}
+use Rattle.mw_redexes.proofs.Listed.{got_below}
+use Rattle.mw_redexes.proofs.Passed.{got_at}
 use Rattle.mw_rule.proofs.Places.{first_part, next_part}
 use Rattle.mw_rule.proofs.going.+go_to.Goals as goal
 use Rattle.mw_rule.proofs.going.+go_to.Goals.{in-Some-2, in-None-2}

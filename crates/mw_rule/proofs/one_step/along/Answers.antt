@@ -5,9 +5,9 @@ use Rattle.std.proofs.lemmas.Option.{same_Some}
 use Rattle.mw_logic.specs.Signature.{at_number}
 use Rattle.mw_redex.specs.Paths.{argument, at_path}
 use Rattle.mw_redex.specs.Replaced.{IsOpenArgument, IsOpenWay}
-use Rattle.mw_rule.specs.Stepped.{AreWays}
-use Rattle.mw_rule.specs.declared.spots.Spot.{Spot}
-use Rattle.mw_rule.proofs.Ways.{way_first, ways_more, root_way}
+use Rattle.mw_redexes.specs.Spots.{AreWays}
+use Rattle.mw_redexes.specs.declared.spots.Spot.{Spot}
+use Rattle.mw_redexes.proofs.Ways.{way_first, ways_more, root_way}
 use Rattle.mw_rule.proofs.one_step.along.Goals as goal
 
 pub loop-i-init : goal.loop-i-init

@@ -4,8 +4,8 @@ use Rattle.mw_logic.specs.Term.{RawTerm}
 use Rattle.mw_logic.specs.Signature.{Signature}
 use Rattle.mw_redex.specs.Paths.{at_path}
 use Rattle.mw_redex.specs.Replaced.{IsOpenWay}
-use Rattle.mw_rule.specs.Stepped.{AreWays}
-use Rattle.mw_rule.specs.declared.spots.Spot.{Spot}
+use Rattle.mw_redexes.specs.Spots.{AreWays}
+use Rattle.mw_redexes.specs.declared.spots.Spot.{Spot}
 use Rattle.mw_rule.proofs.one_step.along.Given as goal
 
 -- so far the way was gone, and this is left of it

@@ -4,9 +4,10 @@ use Rattle.std.proofs.lemmas.Option.{same_Some}
 use Rattle.mw_logic.specs.Term.{RawTerm}
 use Rattle.mw_frames.specs.State.{IsRun}
 use Rattle.mw_frames.specs.Machines.{data_of}
-use Rattle.mw_rule.specs.Stepped.{IsAt, IsMadeOf, AreWays}
-use Rattle.mw_rule.specs.declared.spots.Spot.{Spot}
-use Rattle.mw_rule.proofs.Passed.{got_at}
+use Rattle.mw_redexes.specs.Spots.{AreWays}
+use Rattle.mw_rule.specs.Stepped.{IsAt, IsMadeOf}
+use Rattle.mw_redexes.specs.declared.spots.Spot.{Spot}
+use Rattle.mw_redexes.proofs.Passed.{got_at}
 use Rattle.mw_rule.proofs.Places.{at_end}
 use Rattle.mw_rule.proofs.rewriting.fire_at.Goals as goal
 

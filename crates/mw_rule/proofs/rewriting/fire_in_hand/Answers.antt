@@ -7,7 +7,7 @@ use Rattle.mw_frames.specs.Steps.{IsAsked}
 use Rattle.mw_frames.specs.Fires.{IsPartTaken, IsApplied, IsOpenTo, IsFired}
 use Rattle.mw_reduce.proofs.Applying.{applied_so}
 use Rattle.mw_rule.proofs.Places.{asked_there}
-use Rattle.mw_rule.proofs.Reaching.{first_free}
+use Rattle.mw_redexes.proofs.Reaching.{first_free}
 use Rattle.mw_rule.proofs.rewriting.fire_in_hand.Goals as goal
 
 pub returns : goal.returns

@@ -11,10 +11,10 @@ use Rattle.mw_frames.specs.Steps.{IsEnd}
 use Rattle.mw_solving.specs.Values.{IsValue}
 use Rattle.mw_reduce.specs.Attempts.{IsAttempt, IsMade, IsHaltingAt}
 use Rattle.mw_reduce.proofs.Asks.{none_failed, failed_more}
-use Rattle.mw_rule.specs.Spots.{IsReached, AreAllSpots}
-use Rattle.mw_rule.specs.Redexes.{IsFoundAt, IsFoundIn, AreAsked}
+use Rattle.mw_redexes.specs.Spots.{IsReached, AreAllSpots}
+use Rattle.mw_redexes.specs.Redexes.{IsFoundAt, IsFoundIn, AreAsked}
 use Rattle.mw_rule.specs.Stepped.{IsMadeAt}
-use Rattle.mw_rule.specs.declared.redexes.Found.{Found}
+use Rattle.mw_redexes.specs.declared.redexes.Found.{Found}
 use Rattle.mw_rule.proofs.Finals.{all_fail, reached_value}
 use Rattle.mw_rule.proofs.Looking.{spots_values, triable, made_in, made_first}
 use Rattle.mw_rule.proofs.Untold.{untold}

@@ -3,7 +3,7 @@ use Rattle.mw_logic.specs.Judgements.{admitted_judgements}
 use Rattle.mw_deduction.specs.Tops.{IsNormalTerm}
 use Rattle.mw_index.specs.Choices.{Tried}
 use Rattle.mw_reduce.specs.Turns.{AreFailed}
-use Rattle.mw_rule.specs.Redexes.{AreAsked}
+use Rattle.mw_redexes.specs.Redexes.{AreAsked}
 use Rattle.mw_rule.proofs.rewriting.look.Given as goal
 
 -- what was answered has conditions that fail
