@@ -1,5 +1,5 @@
 // Where a choice of a rule stands, and what its values are named.
-ghost use Rattle.std.specs.Prelude.{◌≡◌, Some, true, slice_get, IfOk};
+ghost use Rattle.std.specs.Prelude.{◌≡◌, ◌<◌, Some, true, length, slice_get, IfOk};
 ghost use Rattle.std.specs.List.{zip};
 ghost use Rattle.mw_logic.specs.Term.{RawTerm};
 ghost use Rattle.mw_logic.specs.Signature.{Signature};
@@ -17,19 +17,15 @@ use std::alloc::{AllocError, Global};
 
 /// The way from the whole to the part of this number.
 pub fn way_to(alloc: Global, spots: &[Spot<'_>], at: usize) -> Result<Seq<u32>, AllocError>
+    requires ways { (sig : Signature) × (root : RawTerm) × AreWays sig root spots.now }
+    requires there { at < length spots.now }
     ensures { (sig : Signature) (root : RawTerm) (s : SpotOf) → AreWays sig root spots.now → slice_get spots.now at ≡ Some s
         → IfOk result (λ path. (at_path root path ≡ Some s.term.now) × IsOpenWay sig true path root) }
 {
     let mut path = Vec::new(alloc);
     let mut place = at;
     while place > 0 {
-        let spot = match spots.get(place) {
-            Some(spot) => spot,
-            None => return Err(AllocError),
-        };
-        if spot.parent >= place {
-            return Err(AllocError);
-        }
+        let spot = &spots[place];
         path.push(spot.number)?;
         place = spot.parent;
     }

@@ -1,5 +1,5 @@
 -- What comes of a choice: its condition holds, fails, or a side of it stops.
-use Rattle.std.specs.Prelude.{◌≡◌, ◌≢◌, ◌-◌, ◌^◌, min, ℕ, suc, List, [], length, Bool, false, Option, IsTrue, ⊤}
+use Rattle.std.specs.Prelude.{◌≡◌, ◌≢◌, ◌-◌, ◌^◌, min, ℕ, suc, List, [], length, Bool, false, Option, IsTrue}
 use Rattle.mw_logic.specs.Term.{RawTerm}
 use Rattle.mw_logic.specs.Signature.{IsRawTerm}
 use Rattle.mw_logic.specs.Substitution.{Substitution, IsSolution}
@@ -14,26 +14,20 @@ use Rattle.mw_trail.specs.Tracks.{Track}
 use Rattle.mw_proof.specs.declared.reason.Reason.{Reason}
 use Rattle.mw_proof.specs.declared.reason.Reason.TheVariants.{Rules, Rewrites, Depth, Nat, Nest, Condition}
 use Rattle.mw_index.specs.Choices.{IsChoice, tried_of}
-use Rattle.mw_index.specs.declared.index.Index.{Index}
 use Rattle.mw_index.specs.declared.oriented.Oriented.{Oriented}
 use Rattle.mw_index.specs.declared.choices.Choice.{Choice}
-use Rattle.mw_index.specs.declared.choices.Choices.{Choices}
 use Rattle.mw_frames.specs.State.{Run, Data}
-use Rattle.mw_frames.specs.Steps.{IsAskedFor, asked_term, IsEnd, IsDecided}
+use Rattle.mw_frames.specs.Steps.{IsAskedFor, asked_term}
 use Rattle.mw_frames.specs.Machines.{all_moves}
 use Rattle.mw_canon.specs.Free.{IsFree}
 use Rattle.mw_frames.specs.Redex.{IsRedex}
 use Rattle.mw_frames.specs.Fires.{IsPartTaken, IsSure}
 use Rattle.mw_frames.specs.declared.applying.Applied.{Applied}
 use Rattle.mw_frames.specs.declared.looking.Asked.{Asked}
-use Rattle.mw_reduce.specs.Turns.{IsFailed, IsTurn, IsMetAt, IsBigAt, TurnOf}
+use Rattle.mw_reduce.specs.Turns.{IsFailed}
 use Rattle.mw_reduce.specs.Evaluations.{IsStoppedInside}
 use Rattle.mw_reduce.specs.declared.attempts.Attempt.{Attempt}
 use Rattle.mw_reduce.specs.declared.attempts.Attempt.TheVariants.{Made, Fails, Halts}
-use Rattle.mw_reduce.specs.declared.attempts.Settled.{Settled}
-use Rattle.mw_reduce.specs.declared.attempts.Settled.TheVariants.{Turns, Pauses}
-use Rattle.mw_reduce.specs.declared.drive.Pause.{Pause}
-use Rattle.mw_reduce.specs.declared.drive.Pause.TheVariants as pause
 
 -- the statement, as it is applied: what is sure isn't where there is a condition
 pub record IsAppliedAs (e : Oriented) (a : Applied) : Type 0 where
@@ -104,20 +98,3 @@ pub record IsReady (K : Run) (count : ℕ) (d : Data) (a : Asked) (c : Choice) (
 pub record IsHaltedAt (K : Run) (count side : ℕ) (d : Data) (a : Asked) (take : Option (List ℕ)) (why : Reason) : Type 0 where
   pub asked : IsAskedFor K count d a
   pub halting : IsHaltingAt K.over false K.rank side (asked_term d a) take why
-
--- What turns come to.
-abbrev pub IsPause : Run → ℕ → ℕ → Data → Pause → Type 0
-IsPause K count side d (pause.Ended t) = IsEnd K count d t
-IsPause K count side d (pause.Found a c sides) = IsReady K count d a c sides.items
-IsPause K count side d (pause.Met a take to) = IsMetAt K count d a take to
-IsPause K count side d (pause.Big a take) = IsBigAt K count d a take
-IsPause K count side d (pause.Decides f b) = IsDecided K count d f b
-IsPause K count side d (pause.Halts a take why) = IsHaltedAt K count side d a take why
-
-abbrev pub IsSettled : Run → ℕ → ℕ → Index → Data → Choices → Settled → Type 0
-IsSettled K count side m d rest (Turns t) = IsTurn K count m d rest t
-IsSettled K count side m d rest (Pauses p) = IsPause K count side d p
-
-abbrev pub SettledOf : Module → Settled → Type 0
-SettledOf M (Turns t) = TurnOf M t
-SettledOf M (Pauses p) = ⊤

@@ -1,4 +1,4 @@
--- What comes of a turn.
+-- What is found at what was asked for.
 pub mod Turns
 -- The limits of a run.
 pub mod Limits
@@ -6,6 +6,8 @@ pub mod Limits
 pub mod Evaluations
 -- What comes of a choice.
 pub mod Attempts
+-- What a run comes to between two replacements.
+pub mod Events
 -- How a run ends.
 pub mod Driven
 -- What a reduction gives.

@@ -1,5 +1,5 @@
--- What comes of a turn: of a step of the machine, and of equations where they are asked for.
-use Rattle.std.specs.Prelude.{◌≡◌, ℕ, List, [], ◌∷◌, ◌++◌, length, false, Option, ⊤}
+-- What is found at what was asked for: an equation, a row, or a sum that is too big.
+use Rattle.std.specs.Prelude.{◌≡◌, ℕ, List, [], ◌∷◌, ◌++◌, length, false, Option}
 use Rattle.mw_logic.specs.Term.{RawTerm}
 use Rattle.mw_logic.specs.Signature.{Member}
 use Rattle.mw_logic.specs.Substitution.{IsSubstitution}
@@ -12,12 +12,9 @@ use Rattle.mw_index.specs.declared.oriented.Oriented.{Oriented}
 use Rattle.mw_index.specs.declared.index.Index.{Index}
 use Rattle.mw_index.specs.declared.choices.Choice.{Choice}
 use Rattle.mw_index.specs.declared.choices.Choices.{Choices}
-use Rattle.mw_frames.specs.State.{Run, Data, Holds}
-use Rattle.mw_frames.specs.Steps.{IsAskedFor, IsDecided, asked_term, IsEnd, FallsTo}
+use Rattle.mw_frames.specs.State.{Run, Data}
+use Rattle.mw_frames.specs.Steps.{IsAskedFor, asked_term}
 use Rattle.mw_frames.specs.declared.looking.Asked.{Asked}
-use Rattle.mw_frames.specs.declared.machine.Machine.{Machine}
-use Rattle.mw_reduce.specs.declared.turning.Turn.{Turn}
-use Rattle.mw_reduce.specs.declared.turning.Turn.TheVariants.{Goes, Ended, Found, Met, Big, Decides}
 
 -- the equation with these values has a condition that fails
 pub record IsFailed (M : Module) (n : ℕ) (c : Tried) (e : Statement) : Type 0 where
@@ -50,32 +47,6 @@ pub record IsBigAt (K : Run) (count : ℕ) (d : Data) (a : Asked) (take : Option
   pub asked : IsAskedFor K count d a
   pub big : IsTooBigAt K.over.signature (asked_term d a) take
 
-abbrev pub IsTurn : Run → ℕ → Index → Data → Choices → Turn → Type 0
-IsTurn K count m d rest (Goes h) = Holds K count d h
-IsTurn K count m d rest (Ended t) = IsEnd K count d t
-IsTurn K count m d rest (Found a c) = IsFound K count m d rest a c
-IsTurn K count m d rest (Met a take to) = IsMetAt K count d a take to
-IsTurn K count m d rest (Big a take) = IsBigAt K count d a take
-IsTurn K count m d rest (Decides f b) = IsDecided K count d f b
-
--- less is left, where it goes on
-abbrev pub TurnFalls : Module → ℕ → Machine → Turn → Type 0
-TurnFalls M w m (Goes h) = FallsTo M w m h
-TurnFalls M w m (Ended t) = ⊤
-TurnFalls M w m (Found a c) = ⊤
-TurnFalls M w m (Met a take to) = ⊤
-TurnFalls M w m (Big a take) = ⊤
-TurnFalls M w m (Decides f b) = ⊤
-
 -- a statement of the module, as the index has it
 abbrev pub HasOriented : Module → Oriented → Type 0
 HasOriented M st = (top : Option ℕ) × IsOf M top st
-
--- what is found is one
-abbrev pub TurnOf : Module → Turn → Type 0
-TurnOf M (Goes h) = ⊤
-TurnOf M (Ended t) = ⊤
-TurnOf M (Found a c) = HasOriented M c.by.now
-TurnOf M (Met a take to) = ⊤
-TurnOf M (Big a take) = ⊤
-TurnOf M (Decides f b) = ⊤

@@ -6,11 +6,11 @@ ghost use Rattle.mw_frames.specs.State.{Run, IsRun};
 ghost use Rattle.mw_frames.specs.Machines.{data_of};
 ghost use Rattle.mw_frames.specs.Steps.{asked_term};
 ghost use Rattle.mw_reduce.specs.Turns.{IsFound};
-ghost use Rattle.mw_reduce.specs.Attempts.{IsAttempt, IsSettled, SettledOf};
+ghost use Rattle.mw_reduce.specs.Attempts.{IsAttempt};
+ghost use Rattle.mw_reduce.specs.Events.{IsEvent, EventOf};
 ghost use Rattle.mw_index.specs.declared.choices.Choice.{Choice as ChoiceOf};
 
-use crate::drive::Pause;
-use crate::turning::{Turn, next_choice};
+use crate::turning::{Event, next_choice};
 use mw_frames::{Asked, Machine};
 use mw_index::{Choice, Choices, Condition, Index};
 use mw_least::Ctx;
@@ -27,13 +27,6 @@ pub enum Attempt {
     Fails,
     /// It can't be told whether its condition holds.
     Halts(Reason),
-}
-
-/// How it goes on behind a choice.
-#[derive(Drop)]
-pub enum Settled<'m> {
-    Turns(Turn<'m>),
-    Pauses(Pause<'m>),
 }
 
 /// The terms at these places, as far as there are such.
@@ -80,24 +73,24 @@ pub fn settle<'m>(
     asked: Asked,
     choice: Choice<'m>,
     attempt: Attempt,
-) -> Result<Settled<'m>, AllocError>
+) -> Result<Event<'m>, AllocError>
     requires { IsIndexOf context.now index.now }
-    ensures of { IfOk result (SettledOf context.now) }
+    ensures of { IfOk result (EventOf context.now) }
     ensures means { (K : Run) (k side : ℕ) (old : ChoiceOf) → IsRun K context.now.signature → K.over ≡ context.now
         → IsFound K k index.now (data_of K.over machine.old) choices.old asked old
         → choice.entry ≡ record old { values = choice.entry.values }
         → IsAttempt K.over K.rank side (asked_term (data_of K.over machine.old) asked) old choice.entry attempt
-        → IfOk result (IsSettled K k side index.now (data_of K.over machine.new) choices.new) }
+        → IfOk result (IsEvent K k side index.now (data_of K.over machine.new) choices.new) }
 {
     match attempt {
-        Attempt::Made(sides) => Ok(Settled::Pauses(Pause::Found(asked, choice, sides))),
+        Attempt::Made(sides) => Ok(Event::Applies(asked, choice, sides)),
         Attempt::Halts(reason) => {
             let Choice { take, .. } = choice;
-            Ok(Settled::Pauses(Pause::Halts(asked, take, reason)))
+            Ok(Event::Halts(asked, take, reason))
         }
         Attempt::Fails => {
-            let turn = next_choice(alloc, context, index, machine, choices, asked)?;
-            Ok(Settled::Turns(turn))
+            let event = next_choice(alloc, context, index, machine, choices, asked)?;
+            Ok(event)
         }
     }
 }

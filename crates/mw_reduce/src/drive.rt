@@ -1,4 +1,4 @@
-// What comes of a pause, from one replacement to the next.
+// What comes of an event, from one replacement to the next.
 ghost use Rattle.std.specs.Prelude.{◌≡◌, ◌<◌, ◌≤◌, ◌+◌, ℕ, false, IfOk, MatchOption};
 ghost use Rattle.mw_logic.specs.Module.{Module};
 ghost use Rattle.mw_least.specs.Workable.{IsWorkable};
@@ -7,14 +7,15 @@ ghost use Rattle.mw_frames.specs.State.{Run, Data, IsRun};
 ghost use Rattle.mw_frames.specs.Machines.{data_of};
 ghost use Rattle.mw_frames.specs.Steps.{IsAsked, IsAskedFor};
 ghost use Rattle.mw_frames.specs.Fires.{IsFired};
-ghost use Rattle.mw_reduce.specs.Turns.{IsMetAt, IsBigAt, IsTurn, TurnOf};
-ghost use Rattle.mw_reduce.specs.Attempts.{IsAppliedAs, IsReady, IsHaltedAt, IsPause};
+ghost use Rattle.mw_reduce.specs.Turns.{IsMetAt, IsBigAt};
+ghost use Rattle.mw_reduce.specs.Attempts.{IsAppliedAs, IsReady, IsHaltedAt};
+ghost use Rattle.mw_reduce.specs.Events.{IsEvent, EventOf, Stands, Rests};
 ghost use Rattle.mw_reduce.specs.Driven.{EndsAt, IsNext};
 
 use crate::pairs::join_pairs;
-use crate::turning::{Turn, take_turn};
+use crate::turning::{Event, take_turn};
 use mw_canon::Facts;
-use mw_frames::{Applied, Asked, Fired, Frame, Hand, Job, Machine, decide, fire, halt, meet};
+use mw_frames::{Applied, Asked, Fired, Hand, Job, Machine, decide, fire, halt, meet};
 use mw_index::{Choice, Choices, Index, Oriented};
 use mw_least::Ctx;
 use mw_proof::Reason;
@@ -45,19 +46,7 @@ pub struct Driven {
     pub left: u64,
 }
 
-/// What turns come to: the whole is normal, an equation applies, with what shows its condition, a row is met, a sum or
-/// product is too big, a choice is decided, or it isn't told whether a condition holds.
-#[derive(Drop)]
-pub enum Pause<'m> {
-    Ended(Term),
-    Found(Asked, Choice<'m>, Vec<Trail>),
-    Met(Asked, Option<Seq<u32>>, Term),
-    Big(Asked, Option<Seq<u32>>),
-    Decides(Frame, bool),
-    Halts(Asked, Option<Seq<u32>>, Reason),
-}
-
-/// What comes of a pause.
+/// How a run goes on behind an event.
 #[derive(Drop)]
 pub enum Next<'m> {
     /// It goes on after so many steps.
@@ -73,20 +62,21 @@ pub fn advance<'m>(
     index: &'m Index,
     machine: &mut Machine<'m>,
     choices: &mut Choices<'m>,
-    turn: Turn<'m>,
-) -> Result<Turn<'m>, AllocError>
+    event: Event<'m>,
+) -> Result<Event<'m>, AllocError>
     requires index { IsIndexOf context.now index.now }
-    requires of { TurnOf context.now turn }
-    ensures of { IfOk result (TurnOf context.now) }
-    ensures means { (K : Run) (k : ℕ) → IsRun K context.now.signature → K.over ≡ context.now
-        → IsTurn K k index.now (data_of K.over machine.old) choices.old turn.entry
-        → IfOk result (IsTurn K k index.now (data_of K.over machine.new) choices.new) }
+    requires of { EventOf context.now event }
+    ensures of { IfOk result (EventOf context.now) }
+    ensures stands { IfOk result Stands }
+    ensures means { (K : Run) (k side : ℕ) → IsRun K context.now.signature → K.over ≡ context.now
+        → IsEvent K k side index.now (data_of K.over machine.old) choices.old event.entry
+        → IfOk result (IsEvent K k side index.now (data_of K.over machine.new) choices.new) }
 {
-    let mut turn = turn;
+    let mut event = event;
     loop {
-        match turn {
-            Turn::Goes(hand) => {
-                turn = take_turn(alloc, context, index, machine, choices, hand)?;
+        match event {
+            Event::Goes(hand) => {
+                event = take_turn(alloc, context, index, machine, choices, hand)?;
             }
             other => return Ok(other),
         }
@@ -255,7 +245,7 @@ fn after<'m>(fired: Fired<'m>) -> Next<'m>
     }
 }
 
-/// What comes of a pause: an equation is applied, rows are met, as many as are left to the limit, or it ends.
+/// What comes of an event: an equation is applied, rows are met, as many as are left to the limit, or it ends.
 #[inline(always)]
 pub fn go_on<'m>(
     alloc: Global,
@@ -263,40 +253,42 @@ pub fn go_on<'m>(
     index: &'m Index,
     machine: &mut Machine<'m>,
     choices: &mut Choices<'m>,
-    pause: Pause<'m>,
+    event: Event<'m>,
     left: u64,
 ) -> Result<Next<'m>, AllocError>
-    requires { IsIndexOf context.now index.now }
+    requires index { IsIndexOf context.now index.now }
+    requires rests { Rests event }
     ensures { (K : Run) (k side : ℕ) → IsRun K context.now.signature → K.over ≡ context.now → 0 < left
-        → IsPause K k side (data_of K.over machine.old) pause.entry
+        → IsEvent K k side index.now (data_of K.over machine.old) choices.old event.entry
         → IfOk result (IsNext K k side left (data_of K.over machine.new)) }
 {
     context.shows();
     let facts = context.facts();
-    match pause {
-        Pause::Ended(term) => Ok(Next::Ends(End {
+    match event {
+        Event::Goes(_) | Event::Found(..) => unreachable!(),
+        Event::Ended(term) => Ok(Next::Ends(End {
             term,
             outcome: Outcome::Done,
         })),
-        Pause::Found(asked, choice, sides) => {
+        Event::Applies(asked, choice, sides) => {
             let fired = apply(alloc, facts, machine, choices, asked, choice, sides)?;
             Ok(after(fired))
         }
-        Pause::Met(asked, take, to) => {
+        Event::Met(asked, take, to) => {
             let next = meet_rows(
                 alloc, context, index, machine, choices, asked, to, &take, left,
             )?;
             Ok(next)
         }
-        Pause::Decides(frame, truth) => {
+        Event::Decides(frame, truth) => {
             let fired = decide(alloc, facts, machine, frame, truth)?;
             Ok(after(fired))
         }
-        Pause::Big(asked, take) => {
+        Event::Big(asked, take) => {
             let end = end_at_big(alloc, facts, machine, asked, &take)?;
             Ok(Next::Ends(end))
         }
-        Pause::Halts(asked, take, reason) => {
+        Event::Halts(asked, take, reason) => {
             let end = halt_there(alloc, facts, machine, asked, &take, reason)?;
             Ok(Next::Ends(end))
         }

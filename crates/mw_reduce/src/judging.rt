@@ -7,16 +7,18 @@ ghost use Rattle.mw_canon.specs.Canonical.{IsAdmittedTerm, meant};
 ghost use Rattle.mw_least.specs.Workable.{IsWorkable};
 ghost use Rattle.mw_index.specs.Index.{IsIndexOf};
 ghost use Rattle.mw_frames.specs.State.{Data};
-ghost use Rattle.mw_reduce.specs.Attempts.{IsPause};
+ghost use Rattle.mw_reduce.specs.Events.{IsEvent, Rests};
+ghost use Rattle.mw_index.specs.declared.index.Index.{Index as IndexOf};
+ghost use Rattle.mw_index.specs.declared.choices.Choices.{Choices as ChoicesOf};
 ghost use Rattle.mw_reduce.specs.Evaluations.{run_of, AreKept, deduction_of, IsHeldBy};
 ghost use Rattle.mw_reduce.specs.Judgements.{IsAskedOf, IsTriedOf, IsJudged};
 
 use crate::attempts::put_in_order;
-use crate::drive::Pause;
 use crate::evaluation::Verdict;
 use crate::reducing::Budget;
 use crate::running::{evaluate, find};
 use crate::sides::Reduced;
+use crate::turning::Event;
 use mw_frames::{Hand, Job, Machine};
 use mw_index::{Choices, Condition, Index};
 use mw_least::Ctx;
@@ -122,17 +124,19 @@ pub fn conditions<'m>(
 }
 
 /// What it says of the term that a run begins at, that it comes to this first.
-fn judged(pause: &Pause<'_>) -> Normality
-    ensures { (M : Module) (n side : ℕ) (t : RawTerm) (d : Data) → IsWorkable M → IsAdmittedTerm M.signature t
-        → IsPause (run_of M n t) 0 side d pause.now → IsJudged M n side t result }
+fn judged(event: &Event<'_>) -> Normality
+    requires { Rests event.now }
+    ensures { (M : Module) (n side : ℕ) (t : RawTerm) (d : Data) (m : IndexOf) (rest : ChoicesOf) → IsWorkable M → IsAdmittedTerm M.signature t
+        → IsEvent (run_of M n t) 0 side m d rest event.now → IsJudged M n side t result }
 {
-    match pause {
-        Pause::Ended(_) => Normality::Yes,
-        Pause::Found(..) => Normality::No,
-        Pause::Met(..) => Normality::No,
-        Pause::Decides(..) => Normality::No,
-        Pause::Big(..) => Normality::Stopped(Reason::Nat),
-        Pause::Halts(_, _, reason) => Normality::Stopped(*reason),
+    match event {
+        Event::Goes(_) | Event::Found(..) => unreachable!(),
+        Event::Ended(_) => Normality::Yes,
+        Event::Applies(..) => Normality::No,
+        Event::Met(..) => Normality::No,
+        Event::Decides(..) => Normality::No,
+        Event::Big(..) => Normality::Stopped(Reason::Nat),
+        Event::Halts(_, _, reason) => Normality::Stopped(*reason),
     }
 }
 
@@ -153,7 +157,7 @@ pub fn is_normal<'m>(
     let hand = Hand::One(Job::Walk(copy(term)?));
     let mut machine = Machine::new(alloc);
     let mut choices = Choices::new(alloc);
-    let pause = find(
+    let event = find(
         alloc,
         context,
         index,
@@ -163,5 +167,5 @@ pub fn is_normal<'m>(
         budget.side,
         budget.nest,
     )?;
-    Ok(judged(&pause))
+    Ok(judged(&event))
 }

@@ -13,14 +13,15 @@ ghost use Rattle.mw_frames.specs.Machines.{data_of};
 ghost use Rattle.mw_reduce.specs.Turns.{HasOriented};
 ghost use Rattle.mw_reduce.specs.Driven.{IsDriven};
 ghost use Rattle.mw_reduce.specs.declared.drive.Outcome.TheVariants.{Done as DoneOf};
-ghost use Rattle.mw_reduce.specs.Attempts.{IsTriable, IsAttempt, IsPause};
+ghost use Rattle.mw_reduce.specs.Attempts.{IsTriable, IsAttempt};
+ghost use Rattle.mw_reduce.specs.Events.{IsEvent, Rests};
 ghost use Rattle.mw_reduce.specs.Evaluations.{AreBoundTo, bound_to, AreAsked, IsSomeTest, AreSomeTests, IsSideShown, IsTested, IsVerdict};
 
-use crate::attempts::{Attempt, Settled, put_in_order, settle};
-use crate::drive::{Driven, End, Next, Outcome, Pause, advance, go_on};
+use crate::attempts::{Attempt, put_in_order, settle};
+use crate::drive::{Driven, End, Next, Outcome, advance, go_on};
 use crate::evaluation::{Progress, Tested, Verdict, after_test, compared, held, opened, sorted};
 use crate::sides::{Begun, Running, Shown, all_enclosed, begin_side, end_side};
-use crate::turning::Turn;
+use crate::turning::Event;
 use mw_frames::{Hand, Job, Machine, stop};
 use mw_index::{Choice, Choices, Condition, Index, Side, Test};
 use mw_least::Ctx;
@@ -50,8 +51,8 @@ pub fn run_on<'m>(
     let mut hand = hand;
     let mut left = limit;
     while left > 0 {
-        let pause = find(alloc, context, index, machine, choices, hand, side, nest)?;
-        match go_on(alloc, context, index, machine, choices, pause, left)? {
+        let event = find(alloc, context, index, machine, choices, hand, side, nest)?;
+        match go_on(alloc, context, index, machine, choices, event, left)? {
             Next::Goes(next, count) => {
                 hand = next;
                 left = left.saturating_sub(count.max(1));
@@ -81,44 +82,24 @@ pub fn find<'m>(
     hand: Hand<'m>,
     side: u64,
     nest: u8,
-) -> Result<Pause<'m>, AllocError>
+) -> Result<Event<'m>, AllocError>
     requires { IsIndexOf context.now index.now }
-    ensures { (K : Run) (k : ℕ) → IsRun K context.now.signature → K.over ≡ context.now → K.rank ≡ nest → Holds K k (data_of K.over machine.old) hand.entry
-        → IfOk result (IsPause K k side (data_of K.over machine.new)) }
+    ensures rests { IfOk result Rests }
+    ensures is { (K : Run) (k : ℕ) → IsRun K context.now.signature → K.over ≡ context.now → K.rank ≡ nest → Holds K k (data_of K.over machine.old) hand.entry
+        → IfOk result (IsEvent K k side index.now (data_of K.over machine.new) choices.new) }
 {
-    let mut turn = Turn::Goes(hand);
+    let mut event = Event::Goes(hand);
     let mut rounds = u64::MAX;
     while rounds > 0 {
         rounds -= 1;
-        match advance(alloc, context, index, machine, choices, turn)? {
-            Turn::Goes(next) => {
-                turn = Turn::Goes(next);
-            }
-            Turn::Found(asked, mut choice) => {
+        match advance(alloc, context, index, machine, choices, event)? {
+            Event::Found(asked, mut choice) => {
                 let attempt = try_choice(alloc, context, index, &mut choice, side, nest)?;
-                match settle(
+                event = settle(
                     alloc, context, index, machine, choices, asked, choice, attempt,
-                )? {
-                    Settled::Turns(next) => {
-                        turn = next;
-                    }
-                    Settled::Pauses(pause) => {
-                        return Ok(pause);
-                    }
-                }
+                )?;
             }
-            Turn::Ended(term) => {
-                return Ok(Pause::Ended(term));
-            }
-            Turn::Met(asked, take, to) => {
-                return Ok(Pause::Met(asked, take, to));
-            }
-            Turn::Big(asked, take) => {
-                return Ok(Pause::Big(asked, take));
-            }
-            Turn::Decides(frame, truth) => {
-                return Ok(Pause::Decides(frame, truth));
-            }
+            other => return Ok(other),
         }
     }
     Err(AllocError)

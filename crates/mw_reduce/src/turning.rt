@@ -10,30 +10,37 @@ ghost use Rattle.mw_frames.specs.Machines.{data_of};
 ghost use Rattle.mw_frames.specs.Steps.{IsAskedFor, asked_term, FallsTo};
 ghost use Rattle.mw_frames.specs.declared.job.Job.TheVariants.{Normal as NormalOf};
 ghost use Rattle.mw_frames.specs.declared.job.Hand.TheVariants.{One as OneOf};
-ghost use Rattle.mw_reduce.specs.Turns.{AreFailed, IsTurn, TurnOf, TurnFalls};
+ghost use Rattle.mw_reduce.specs.Turns.{AreFailed};
+ghost use Rattle.mw_reduce.specs.Events.{IsEvent, EventOf, EventFalls};
 
 use mw_builtin::Met;
 use mw_frames::{Asked, Frame, Hand, Machine, Step, rest, step};
 use mw_index::{Choice, Choices, Index, Subject};
 use mw_least::Ctx;
+use mw_proof::Reason;
 use mw_term::{Seq, Term, View, behind};
+use mw_trail::Trail;
 use std::alloc::{AllocError, Global};
 
-/// What comes of one turn.
+/// What a run comes to between two replacements.
 #[derive(Drop)]
-pub enum Turn<'m> {
+pub enum Event<'m> {
     /// It goes on.
     Goes(Hand<'m>),
     /// The whole is this term, which is normal.
     Ended(Term),
     /// An equation has a solution for what was asked for, or for several of its arguments. Its condition isn't looked at.
     Found(Asked, Choice<'m>),
+    /// An equation applies: these trails show the sides of its condition.
+    Applies(Asked, Choice<'m>, Vec<Trail>),
     /// A row of the schemata is met at what was asked for, or at several of its arguments, and this comes of it.
     Met(Asked, Option<Seq<u32>>, Term),
     /// What was asked for, or several of its arguments, are a sum or product that is too big.
     Big(Asked, Option<Seq<u32>>),
     /// The condition of a choice is this truth value.
     Decides(Frame, bool),
+    /// It isn't told whether the condition of an equation holds, at what was asked for or at several of its arguments.
+    Halts(Asked, Option<Seq<u32>>, Reason),
 }
 
 #[inline(always)]
@@ -87,21 +94,21 @@ pub fn next_choice<'m>(
     machine: &mut Machine<'m>,
     choices: &mut Choices<'m>,
     asked: Asked,
-) -> Result<Turn<'m>, AllocError>
+) -> Result<Event<'m>, AllocError>
     requires { IsIndexOf context.now index.now }
-    ensures of { IfOk result (TurnOf context.now) }
-    ensures means { (K : Run) (k : ℕ) (tried : List Tried) → IsRun K context.now.signature → K.over ≡ context.now → IsAskedFor K k (data_of K.over machine.old) asked
+    ensures of { IfOk result (EventOf context.now) }
+    ensures means { (K : Run) (k side : ℕ) (tried : List Tried) → IsRun K context.now.signature → K.over ≡ context.now → IsAskedFor K k (data_of K.over machine.old) asked
         → HasNoRow K.over.signature (asked_term (data_of K.over machine.old) asked) → AreFailed K.over K.rank tried
         → Covers K.over index.now (asked_term (data_of K.over machine.old) asked) tried choices.old
-        → IfOk result (IsTurn K k index.now (data_of K.over machine.new) choices.new) }
-    ensures falls { (M : Module) (w : ℕ) → FallsTo M w machine.old (OneOf (NormalOf (asked_term (data_of M machine.old) asked))) → IfOk result (TurnFalls M w machine.new) }
+        → IfOk result (IsEvent K k side index.now (data_of K.over machine.new) choices.new) }
+    ensures falls { (M : Module) (w : ℕ) → FallsTo M w machine.old (OneOf (NormalOf (asked_term (data_of M machine.old) asked))) → IfOk result (EventFalls M w machine.new) }
 {
     let subject = subject_at(machine, &asked);
     match choices.next(alloc, context, index, subject)? {
-        Some(choice) => Ok(Turn::Found(asked, choice)),
+        Some(choice) => Ok(Event::Found(asked, choice)),
         None => {
             let hand = rest(alloc, context.facts(), machine, asked)?;
-            Ok(Turn::Goes(hand))
+            Ok(Event::Goes(hand))
         }
     }
 }
@@ -115,20 +122,20 @@ fn ask<'m>(
     machine: &mut Machine<'m>,
     choices: &mut Choices<'m>,
     asked: Asked,
-) -> Result<Turn<'m>, AllocError>
+) -> Result<Event<'m>, AllocError>
     requires { IsIndexOf context.now index.now }
-    ensures of { IfOk result (TurnOf context.now) }
-    ensures means { (K : Run) (k : ℕ) → IsRun K context.now.signature → K.over ≡ context.now → IsAskedFor K k (data_of K.over machine.old) asked
-        → IfOk result (IsTurn K k index.now (data_of K.over machine.new) choices.new) }
-    ensures falls { (M : Module) (w : ℕ) → FallsTo M w machine.old (OneOf (NormalOf (asked_term (data_of M machine.old) asked))) → IfOk result (TurnFalls M w machine.new) }
+    ensures of { IfOk result (EventOf context.now) }
+    ensures means { (K : Run) (k side : ℕ) → IsRun K context.now.signature → K.over ≡ context.now → IsAskedFor K k (data_of K.over machine.old) asked
+        → IfOk result (IsEvent K k side index.now (data_of K.over machine.new) choices.new) }
+    ensures falls { (M : Module) (w : ℕ) → FallsTo M w machine.old (OneOf (NormalOf (asked_term (data_of M machine.old) asked))) → IfOk result (EventFalls M w machine.new) }
 {
     match met_at(alloc, context, machine, &asked)? {
-        Met::Gives { take, to } => Ok(Turn::Met(asked, take, to)),
-        Met::TooBig { take } => Ok(Turn::Big(asked, take)),
+        Met::Gives { take, to } => Ok(Event::Met(asked, take, to)),
+        Met::TooBig { take } => Ok(Event::Big(asked, take)),
         Met::Nothing => {
             choices.again();
-            let turn = next_choice(alloc, context, index, machine, choices, asked)?;
-            Ok(turn)
+            let event = next_choice(alloc, context, index, machine, choices, asked)?;
+            Ok(event)
         }
     }
 }
@@ -142,20 +149,20 @@ pub fn take_turn<'m>(
     machine: &mut Machine<'m>,
     choices: &mut Choices<'m>,
     hand: Hand<'m>,
-) -> Result<Turn<'m>, AllocError>
+) -> Result<Event<'m>, AllocError>
     requires { IsIndexOf context.now index.now }
-    ensures of { IfOk result (TurnOf context.now) }
-    ensures means { (K : Run) (k : ℕ) → IsRun K context.now.signature → K.over ≡ context.now → Holds K k (data_of K.over machine.old) hand.entry
-        → IfOk result (IsTurn K k index.now (data_of K.over machine.new) choices.new) }
-    ensures falls { (M : Module) → M.signature ≡ context.now.signature → IfOk result (TurnFalls M (work_of M.signature (data_of M machine.old) hand.entry) machine.new) }
+    ensures of { IfOk result (EventOf context.now) }
+    ensures means { (K : Run) (k side : ℕ) → IsRun K context.now.signature → K.over ≡ context.now → Holds K k (data_of K.over machine.old) hand.entry
+        → IfOk result (IsEvent K k side index.now (data_of K.over machine.new) choices.new) }
+    ensures falls { (M : Module) → M.signature ≡ context.now.signature → IfOk result (EventFalls M (work_of M.signature (data_of M machine.old) hand.entry) machine.new) }
 {
     match step(alloc, context.facts(), context.schemata(), machine, hand)? {
-        Step::Goes(next) => Ok(Turn::Goes(next)),
-        Step::Ended(term) => Ok(Turn::Ended(term)),
-        Step::Decides(frame, truth) => Ok(Turn::Decides(frame, truth)),
+        Step::Goes(next) => Ok(Event::Goes(next)),
+        Step::Ended(term) => Ok(Event::Ended(term)),
+        Step::Decides(frame, truth) => Ok(Event::Decides(frame, truth)),
         Step::Asks(asked) => {
-            let turn = ask(alloc, context, index, machine, choices, asked)?;
-            Ok(turn)
+            let event = ask(alloc, context, index, machine, choices, asked)?;
+            Ok(event)
         }
     }
 }

@@ -10,7 +10,7 @@ use Rattle.mw_reduce.proofs.attempts.settle.Goals as goal
 
 pub returns-clause-means : goal.returns-clause-means
 returns-clause-means c = λ K k side old run here found is h.
-    c.in_ok-turn-in-Fails.ensures.means K k (found.tried ++ tried_of old ∷ []) run here found.asked found.rows
+    c.in_ok-event-in-Fails.ensures.means K k side (found.tried ++ tried_of old ∷ []) run here found.asked found.rows
     (failed_more K.over K.rank found.tried (tried_of old) found.failed (rw c.in-Fails.is at h)) found.others
 
 pub returns-in-Made-clause-means : goal.returns-in-Made-clause-means

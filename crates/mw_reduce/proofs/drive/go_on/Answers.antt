@@ -1,10 +1,10 @@
 use Rattle.mw_frames.specs.Machines.{data_of}
 use Rattle.mw_reduce.proofs.drive.go_on.Goals as goal
 
-pub returns-in_ok-fired-in-Found : goal.returns-in_ok-fired-in-Found
-returns-in_ok-fired-in-Found c = λ K k side run here some h.
-    let f = rw c.in-Found.is at h in
-    c.after.ensures K k side c.args.left (data_of K.over c.apply.new.machine) some (c.in_ok-fired-in-Found.ensures K k (rw c.facts-facts.ensures run) f)
+pub returns-in_ok-fired-in-Applies : goal.returns-in_ok-fired-in-Applies
+returns-in_ok-fired-in-Applies c = λ K k side run here some h.
+    let f = rw c.in-Applies.is at h in
+    c.after.ensures K k side c.args.left (data_of K.over c.apply.new.machine) some (c.in_ok-fired-in-Applies.ensures K k (rw c.facts-facts.ensures run) f)
 
 pub returns-in_ok-next-in-Met : goal.returns-in_ok-next-in-Met
 returns-in_ok-next-in-Met c = λ K k side run here some h. c.in_ok-next-in-Met.ensures K k run here some (rw c.in-Met.is at h) side

@@ -16,4 +16,4 @@ returns c =
     let t = c.args.term.now in
     let hand : Holds (run_of M n t) 0 (data_of M c.new-machine.result) (One (Walk c.in_ok-copy.field-0)) =
     subst (λ u. Holds (run_of M n t) 0 (data_of M c.new-machine.result) (One (Walk u))) (sym c.in_ok-copy.ensures) (begins_run M work n t c.requires.admitted c.new-machine.result (λ N. c.new-machine.ensures N)) in
-    c.judged.ensures M n c.args.budget.side t (data_of M c.find.new.machine) work c.requires.admitted (c.in_ok-pause.ensures (run_of M n t) 0 (is_run M work n t c.requires.admitted) refl refl hand)
+    c.judged.ensures M n c.args.budget.side t (data_of M c.find.new.machine) c.args.index.now c.find.new.choices work c.requires.admitted (c.in_ok-event.ensures.is (run_of M n t) 0 (is_run M work n t c.requires.admitted) refl refl hand)

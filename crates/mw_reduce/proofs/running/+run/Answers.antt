@@ -40,7 +40,7 @@ run_on-loop-left-preserved m c = (
   let a = c.loop-left.invariant.0 in let e = c.saturating_sub-left.ensures in omega (arith, a, e),
   λ K k run here rank h.
       let n : ℕ = k + (c.args.limit - c.loop-left.left) in
-      let p = c.in_ok-pause.ensures K n run here rank (c.loop-left.invariant.1 K k run here rank h) in
+      let p = c.in_ok-event.ensures.is K n run here rank (c.loop-left.invariant.1 K k run here rank h) in
       let (some, few, z) = rw c.in-Goes.is at (c.in_ok-next.ensures K n c.args.side run here (search rules) p) in
       let more = made_less c.args.limit c.loop-left.left c.in-Goes.count c.saturating_sub-left.result c.max.result c.loop-left.invariant.0 few some c.max.ensures c.saturating_sub-left.ensures in
       subst (λ i. Holds K i (data_of K.over c.go_on.new.machine) c.in-Goes.next) (omega (arith, more)) z,
@@ -52,7 +52,7 @@ run_on-returns-in-Ends-clause-left m c = (c.loop-left.invariant.0, λ e. (search
 pub run_on-returns-in-Ends-clause-is : goal.run_on-returns-in-Ends-clause-is
 run_on-returns-in-Ends-clause-is m c = λ K k run here rank h.
     let n : ℕ = k + (c.args.limit - c.loop-left.left) in
-    let p = c.in_ok-pause.ensures K n run here rank (c.loop-left.invariant.1 K k run here rank h) in
+    let p = c.in_ok-event.ensures.is K n run here rank (c.loop-left.invariant.1 K k run here rank h) in
     let z = rw c.in-Ends.is at (c.in_ok-next.ensures K n c.args.side run here (search rules) p) in
     let low : c.args.limit - c.loop-left.left < c.args.limit = (search rules) in
     let a = c.loop-left.invariant.0 in (n, omega (arith, a), inl (omega (arith, low), z))
@@ -66,47 +66,20 @@ run_on-returns-clause-is m c = λ K k run here rank h.
     let all : c.args.limit - c.loop-left.left ≡ c.args.limit = (search rules) in
     (n, omega (arith, all), inr (omega (arith, all), refl, c.in_ok-term.ensures K n (rw c.facts.ensures run) (c.loop-left.invariant.1 K k run here rank h)))
 
-pub find-loop-rounds-preserved-in-Goes : goal.find-loop-rounds-preserved-in-Goes
-find-loop-rounds-preserved-in-Goes m c = (tt, λ K k run here rank h. rw c.in-Goes.is at (c.in_ok-next.ensures.means K k run here (c.loop-rounds.invariant.1 K k run here rank h)))
-
 pub find-loop-rounds-preserved : goal.find-loop-rounds-preserved
 find-loop-rounds-preserved m c = (
-  rw c.in-Turns.is at c.in_ok-next-in-Found.ensures.of,
+  c.in_ok-event-in-Found.ensures.of,
   λ K k run here rank h.
       let d = data_of K.over c.advance.new.machine in
       let q : Choice = c.in-Found.choice in
-      let f : IsFound K k c.args.index.now d c.advance.new.choices c.in-Found.asked q = rw c.in-Found.is at (c.in_ok-next.ensures.means K k run here (c.loop-rounds.invariant.1 K k run here rank h)) in
+      let f : IsFound K k c.args.index.now d c.advance.new.choices c.in-Found.asked q = rw c.in-Found.is at (c.in_ok-event.ensures.means K k c.args.side run here (c.loop-rounds.invariant.1 K k run here rank h)) in
       let t : RawTerm = asked_term d c.in-Found.asked in
       let may : IsTriable K.over t q = found_triable K c.args.context.now.signature run k c.args.index.now d c.advance.new.choices c.in-Found.asked q f in
       let told : IsAttempt K.over K.rank c.args.side t q c.try_choice.new.choice c.in_ok-attempt-in-Found.attempt =
       subst (λ r. IsAttempt K.over r c.args.side t q c.try_choice.new.choice c.in_ok-attempt-in-Found.attempt) (sym rank)
       (subst (λ (M : Module). IsAttempt M c.args.nest c.args.side t q c.try_choice.new.choice c.in_ok-attempt-in-Found.attempt) (sym here) (c.in_ok-attempt-in-Found.ensures.means t (subst (λ (M : Module). IsTriable M t q) here may))) in
-      rw c.in-Turns.is at (c.in_ok-next-in-Found.ensures.means K k c.args.side q run here f c.in_ok-attempt-in-Found.ensures.same told),
+      c.in_ok-event-in-Found.ensures.means K k c.args.side q run here f c.in_ok-attempt-in-Found.ensures.same told,
 )
-
-pub find-returns-in-Pauses : goal.find-returns-in-Pauses
-find-returns-in-Pauses m c = λ K k run here rank h.
-    let d = data_of K.over c.advance.new.machine in
-    let q : Choice = c.in-Found.choice in
-    let f : IsFound K k c.args.index.now d c.advance.new.choices c.in-Found.asked q = rw c.in-Found.is at (c.in_ok-next.ensures.means K k run here (c.loop-rounds.invariant.1 K k run here rank h)) in
-    let t : RawTerm = asked_term d c.in-Found.asked in
-    let may : IsTriable K.over t q = found_triable K c.args.context.now.signature run k c.args.index.now d c.advance.new.choices c.in-Found.asked q f in
-    let told : IsAttempt K.over K.rank c.args.side t q c.try_choice.new.choice c.in_ok-attempt-in-Found.attempt =
-    subst (λ r. IsAttempt K.over r c.args.side t q c.try_choice.new.choice c.in_ok-attempt-in-Found.attempt) (sym rank)
-    (subst (λ (M : Module). IsAttempt M c.args.nest c.args.side t q c.try_choice.new.choice c.in_ok-attempt-in-Found.attempt) (sym here) (c.in_ok-attempt-in-Found.ensures.means t (subst (λ (M : Module). IsTriable M t q) here may))) in
-    rw c.in-Pauses.is at (c.in_ok-next-in-Found.ensures.means K k c.args.side q run here f c.in_ok-attempt-in-Found.ensures.same told)
-
-pub find-returns-in-Ended : goal.find-returns-in-Ended
-find-returns-in-Ended m c = λ K k run here rank h. rw c.in-Ended.is at (c.in_ok-next.ensures.means K k run here (c.loop-rounds.invariant.1 K k run here rank h))
-
-pub find-returns-in-Met : goal.find-returns-in-Met
-find-returns-in-Met m c = λ K k run here rank h. rw c.in-Met.is at (c.in_ok-next.ensures.means K k run here (c.loop-rounds.invariant.1 K k run here rank h))
-
-pub find-returns-in-Big : goal.find-returns-in-Big
-find-returns-in-Big m c = λ K k run here rank h. rw c.in-Big.is at (c.in_ok-next.ensures.means K k run here (c.loop-rounds.invariant.1 K k run here rank h))
-
-pub find-returns-in-Decides : goal.find-returns-in-Decides
-find-returns-in-Decides m c = λ K k run here rank h. rw c.in-Decides.is at (c.in_ok-next.ensures.means K k run here (c.loop-rounds.invariant.1 K k run here rank h))
 
 pub evaluate-loop-rounds-init : goal.evaluate-loop-rounds-init
 evaluate-loop-rounds-init m c = λ n number e nest there condition bound.

@@ -4,7 +4,7 @@ use Rattle.mw_position.specs.Variables.{met}
 use Rattle.mw_index.specs.Conditions.{IsConditionOf}
 use Rattle.mw_frames.specs.State.{Run, IsRun, Holds}
 use Rattle.mw_frames.specs.Machines.{data_of}
-use Rattle.mw_reduce.specs.Turns.{IsTurn, TurnOf}
+use Rattle.mw_reduce.specs.Events.{IsEvent, EventOf}
 use Rattle.mw_reduce.specs.Evaluations.{AreBoundTo, bound_to, IsTrial}
 use Rattle.mw_reduce.proofs.running.+run.Given as goal
 
@@ -35,8 +35,8 @@ decreases-run_on-loop-left l = l.left
 
 abbrev pub invariant-find-loop-rounds : goal.invariant-find-loop-rounds
 invariant-find-loop-rounds l =
-    TurnOf l.context l.turn
-    × ((K : Run) (k : ℕ) → IsRun K l.context.signature → K.over ≡ l.context → K.rank ≡ l.nest → Holds K k (data_of K.over l.fn.machine) l.fn.hand → IsTurn K k l.index (data_of K.over l.machine) l.choices l.turn)
+    EventOf l.context l.event
+    × ((K : Run) (k : ℕ) → IsRun K l.context.signature → K.over ≡ l.context → K.rank ≡ l.nest → Holds K k (data_of K.over l.fn.machine) l.fn.hand → IsEvent K k l.side l.index (data_of K.over l.machine) l.choices l.event)
 
 abbrev pub decreases-find-loop-rounds : goal.decreases-find-loop-rounds
 decreases-find-loop-rounds l = l.rounds

@@ -10,7 +10,7 @@ use Rattle.mw_reduce.proofs.Asks.{nothing_applies}
 use Rattle.mw_reduce.proofs.turning.next_choice.Goals as goal
 
 pub returns-in-Some-clause-means : goal.returns-in-Some-clause-means
-returns-in-Some-clause-means c = λ K k tried run here a rows failed covers.
+returns-in-Some-clause-means c = λ K k side tried run here a rows failed covers.
     let M : Module = c.args.context.now in
     let d = data_of K.over c.args.machine.now in
     let t : RawTerm = asked_term d c.args.asked in
@@ -32,7 +32,7 @@ returns-in-Some-clause-means c = λ K k tried run here a rows failed covers.
     }
 
 pub returns-in_ok-hand-in-None-clause-means : goal.returns-in_ok-hand-in-None-clause-means
-returns-in_ok-hand-in-None-clause-means c = λ K k tried run here a rows failed covers.
+returns-in_ok-hand-in-None-clause-means c = λ K k side tried run here a rows failed covers.
     let M : Module = c.args.context.now in
     let d = data_of K.over c.args.machine.now in
     let t : RawTerm = asked_term d c.args.asked in
