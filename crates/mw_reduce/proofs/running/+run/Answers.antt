@@ -72,7 +72,7 @@ find-loop-rounds-preserved m c = (
   λ K k run here rank h.
       let d = data_of K.over c.advance.new.machine in
       let q : Choice = c.in-Found.choice in
-      let f : IsFound K k c.args.index.now d c.advance.new.choices c.in-Found.asked q = rw c.in-Found.is at (c.in_ok-event.ensures.means K k c.args.side run here (c.loop-rounds.invariant.1 K k run here rank h)) in
+      let f : IsFound K k c.args.index.now d c.advance.new.choices c.in-Found.asked q = rw c.in-Found.is at (c.in_ok-other.ensures.means K k c.args.side run here (c.loop-rounds.invariant.1 K k run here rank h)) in
       let t : RawTerm = asked_term d c.in-Found.asked in
       let may : IsTriable K.over t q = found_triable K c.args.context.now.signature run k c.args.index.now d c.advance.new.choices c.in-Found.asked q f in
       let told : IsAttempt K.over K.rank c.args.side t q c.try_choice.new.choice c.in_ok-attempt-in-Found.attempt =
@@ -80,6 +80,12 @@ find-loop-rounds-preserved m c = (
       (subst (λ (M : Module). IsAttempt M c.args.nest c.args.side t q c.try_choice.new.choice c.in_ok-attempt-in-Found.attempt) (sym here) (c.in_ok-attempt-in-Found.ensures.means t (subst (λ (M : Module). IsTriable M t q) here may))) in
       c.in_ok-event-in-Found.ensures.means K k c.args.side q run here f c.in_ok-attempt-in-Found.ensures.same told,
 )
+
+pub find-returns-in_default : goal.find-returns-in_default
+find-returns-in_default m c = record {
+  rests = (c.in_ok-other.ensures.stands, c.in_default.not-Found);
+  is = λ K k run here rank h. c.in_ok-other.ensures.means K k c.args.side run here (c.loop-rounds.invariant.1 K k run here rank h);
+}
 
 pub evaluate-loop-rounds-init : goal.evaluate-loop-rounds-init
 evaluate-loop-rounds-init m c = λ n number e nest there condition bound.
