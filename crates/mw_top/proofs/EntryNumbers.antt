@@ -32,13 +32,14 @@ nothing_at xs k x e z = none-some x (sym (ap (at_number xs) z) ∙ e)
 
 path_kept : (path : List ℕ) (t u : RawTerm) → at_path t (map entry_number path) ≡ Some u → map entry_number path ≡ path
 path_kept [] t u e = refl
-path_kept (k ∷ path) t u e = by_argument (argument t (entry_number k)) refl e
+path_kept (k ∷ path) t u e = by_argument (λ v. path_kept path v u) (argument t (entry_number k)) refl e
   where
-    by_argument : (o : Option RawTerm) → argument t (entry_number k) ≡ o → option_and_then (λ v. at_path v (map entry_number path)) o ≡ Some u → entry_number k ∷ map entry_number path ≡ k ∷ path
-    by_argument None a b = absurd (none-some u b)
-    by_argument (Some v) a b =
+    by_argument : ((v : RawTerm) → at_path v (map entry_number path) ≡ Some u → map entry_number path ≡ path) → (o : Option RawTerm) → argument t (entry_number k) ≡ o
+        → option_and_then (λ v. at_path v (map entry_number path)) o ≡ Some u → entry_number k ∷ map entry_number path ≡ k ∷ path
+    by_argument further None a b = absurd (none-some u b)
+    by_argument further (Some v) a b =
         let first : entry_number k ≡ k = number_kept k (nothing_at _ (entry_number k) v a) in
-        let rest : map entry_number path ≡ path = path_kept path v u b in
+        let rest : map entry_number path ≡ path = further v b in
         λ x. first x ∷ rest x
 
 numbers_kept : (i n : ℕ) (ks : List ℕ) → 1 ≤ i → Rise i n (map entry_number ks) → map entry_number ks ≡ ks
@@ -98,4 +99,4 @@ module _ (M : Module) where
 -- so what is said of items as entries tell them is said of those of the text, where it is yes
 pub verdict_on : (M : Module) (max : ℕ) (from to : RawTerm) (items : Items) (v : Verdict) → IsVerdictOf M max from to (entry_items items) v → IsVerdictOn M max from to items v
 verdict_on M max from to items (Yes f t count) h = (h.0, h.1, subst (λ is. IsDeductionOf M from to is count) (items_kept M 63 items from to _ _ _ h.2.checks) h.2)
-verdict_on M max from to items (No step why) h = h
+verdict_on M max from to items (No at why) h = h
