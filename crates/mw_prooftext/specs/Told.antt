@@ -12,6 +12,7 @@ use Rattle.mw_items.specs.Items.{Items, Groups, end, group}
 use Rattle.mw_prooftext.specs.Texts.{items_text, lines_text, groups_text}
 use Rattle.mw_prooftext.specs.Tells.{Tells}
 use Rattle.mw_prooftext.specs.Passing.{Passes}
+use Rattle.mw_prooftext.specs.Narrow.{AreNarrowItems, AreNarrowGroups}
 
 -- groups tell these sides, each from some canonical term on
 abbrev pub ShowsSides : Module → Groups → Runs → Type 0
@@ -45,6 +46,8 @@ pub record IsTold (M : Module) (head : List ℕ) (outer : Bool) (text groups : L
   pub text_is : text ≡ head ++ told_items M.signature outer items
   pub tells : Tells M items S.from (whole M.signature S.opens S.hand) S.run
   pub passes : Passes M S.rank items S.from (whole M.signature S.opens S.hand)
+  pub narrow : AreNarrowItems items
   pub sides : Groups
   pub groups_are : groups ≡ groups_text M.signature sides
   pub shows : ShowsSides M sides S.sides
+  pub narrow_sides : AreNarrowGroups sides
