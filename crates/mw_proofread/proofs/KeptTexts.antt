@@ -1,11 +1,11 @@
 -- The items that are written of a kept deduction have the form of a text: numbers that are taken are two or more and rise, values are as many as variables and
 -- groups as sides, and evidence stands in the ranks below.
-use Rattle.std.specs.Prelude.{◌≡◌, ◌≤◌, ◌<◌, ◌+◌, ◌^◌, max, nat_eq, ℕ, zero, suc, List, [], ◌∷◌, ◌++◌, map, length, codes, Bool, true, false, ◌||◌, cond, Option, Some, None, option_map, IsTrue, IsFalse, refl}
+use Rattle.std.specs.Prelude.{◌≡◌, ◌≤◌, ◌+◌, ◌^◌, max, nat_eq, ℕ, zero, suc, List, [], ◌∷◌, ◌++◌, map, length, codes, Bool, true, false, cond, Option, Some, None, option_map, IsTrue, refl}
 use Rattle.std.specs.List.{zip}
 use Rattle.std.proofs.Common.{sym, subst, ap, ◌∙◌, arith}
 use Rattle.std.proofs.lemmas.Bool.{both_ways, or_left, or_right}
 use Rattle.mw_logic.specs.Term.{Variable, RawTerm, RawTerms, nil, cons}
-use Rattle.mw_logic.specs.Signature.{Signature, at_number, IsRawTerm}
+use Rattle.mw_logic.specs.Signature.{Signature, IsRawTerm}
 use Rattle.mw_logic.specs.Accepted.{IsAccepted}
 use Rattle.mw_logic.specs.Substitution.{Substitution, value, instance, same_variable}
 use Rattle.mw_logic.specs.Parts.{nested}
@@ -22,25 +22,20 @@ use Rattle.mw_redex.specs.Replaced.{IsTaken}
 use Rattle.mw_least.specs.Conditions.{mentioned}
 use Rattle.mw_least.specs.Workable.{IsWorkable}
 use Rattle.mw_least.proofs.Mentioned.{mentioned_distinct, is_mentioned}
-use Rattle.mw_canon.specs.Canonical.{IsAdmittedTerm}
-use Rattle.mw_deduction.specs.Runs.{Done, Dones, by_statement, by_row, Runs}
-use Rattle.mw_deduction.specs.Runs as runs
+use Rattle.mw_deduction.specs.Runs.{Done, Dones, Runs}
 use Rattle.mw_deduction.specs.Replay.{AreAllCanonical, all_sides}
-use Rattle.mw_text.specs.Proper.{HasIdentifiers}
 use Rattle.mw_print.specs.Laws.{HasTokens}
 use Rattle.mw_print.specs.PrefixLaws.{IsTold}
 use Rattle.mw_print.proofs.CanonicalTold.{canonical_told}
 use Rattle.mw_print.proofs.PrefixOpen.{prefix_shallow}
-use Rattle.mw_proof.specs.Deductions.{Deduction, IsDeduction}
 use Rattle.mw_items.specs.Items.{Spot, Item, step, built, Items, none, more, Groups, end, group}
 use Rattle.mw_prooftext.specs.Tells.{IsStep, Tells, TellsOne, TellsSides}
 use Rattle.mw_prooftext.specs.Narrow.{AreNarrow, IsNarrowTake, IsNarrowSpot, IsNarrowItem, AreNarrowItems, AreNarrowGroups}
-use Rattle.mw_prooftext.specs.Denoting.{IsTextOf}
 use Rattle.mw_proofread.specs.Numbers.{Rises, IsTake}
 use Rattle.mw_proofread.specs.TokenTexts.{text_tokens}
-use Rattle.mw_proofread.specs.Reading.{IsWritten, AreWritten, IsCount, values_of, groups_of, number_of_groups, HasForm, HaveForm, GroupsHaveForm, wheres, most_wheres, wheres_in, IsText}
+use Rattle.mw_proofread.specs.Reading.{IsWritten, AreWritten, IsCount, values_of, groups_of, number_of_groups, HasForm, HaveForm, GroupsHaveForm, wheres, most_wheres, wheres_in}
 use Rattle.mw_proofread.specs.Lexing.{AreSmall, IsSmallTake, IsSmallSpot, AreAllTold, IsSmallItem, AreSmallItems, AreSmallGroups}
-use Rattle.mw_proofread.specs.Kept.{IsWritable, ReadsAsText, WrittenAreTexts}
+use Rattle.mw_proofread.specs.Kept.{IsWritable, WrittenAreTexts}
 use Rattle.mw_proofread.proofs.Known.{IsKnown, IsKnownAt, AreValuesKnown, IsDoneKnown, AreDonesKnown, AreRunsKnown, same_dones, proof_known}
 use Rattle.mw_proofread.proofs.TextLexed.{text_lexed}
 

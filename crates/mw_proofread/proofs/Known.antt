@@ -1,14 +1,14 @@
 -- The values that a proof uses, where it leads through admitted terms: they are admitted, and their quoted identifiers are tokens; and evidence stands in the
 -- ranks below.
 use Rattle.std.specs.Prelude.{◌≡◌, ℕ, zero, suc, List, [], ◌∷◌, Bool, true, false, ◌||◌, Some, IsTrue, refl, ⊤}
-use Rattle.std.proofs.Common.{sym, subst, ap, ◌∙◌, ⊎_elim}
+use Rattle.std.proofs.Common.{sym, subst, ◌∙◌, ⊎_elim}
 use Rattle.std.proofs.lemmas.Bool.{true≢false, or_cases, or_right}
 use Rattle.std.proofs.lemmas.Option.{same_Some}
 use Rattle.mw_logic.specs.Term.{Variable, RawTerm, apply, RawTerms, nil, cons, join, Frame, Context, plug}
 use Rattle.mw_logic.specs.Signature.{Signature, HasKind, of_operator, IsRawTerm, an_operator, AreRawTerms, next}
 use Rattle.mw_logic.specs.Accepted.{IsAccepted, IsWellSorted}
 use Rattle.mw_logic.specs.Axioms.{EqualModulo, done}
-use Rattle.mw_logic.specs.Substitution.{Substitution, value, instance, occurs, is_bound, Extends, IsSubstitution, IsSolution, SameSolution}
+use Rattle.mw_logic.specs.Substitution.{Substitution, value, instance, occurs, is_bound, Extends, IsSubstitution}
 use Rattle.mw_logic.specs.Parts.{IsAdmitted}
 use Rattle.mw_logic.specs.Module.{Fragment, equal, matches, has_sort, is_true, Statement, Module, IsStatement}
 use Rattle.mw_logic.specs.Proof.{Proof, reflexivity, equality, congruence, transitivity, replacement, row, Proofs}
