@@ -1,5 +1,5 @@
 -- What was written of a kept proof is answered yes, or no for a condition or a stop alone.
-use Rattle.std.specs.Prelude.{◌≡◌, ◌<◌, ◌^◌, ℕ, cond, List, [], ◌∷◌, map, length, codes, All, Bool, false, Option, Some, None, option_map, refl}
+use Rattle.std.specs.Prelude.{◌≡◌, ◌<◌, ◌^◌, ◌++◌, ℕ, cond, List, [], ◌∷◌, map, length, codes, All, Bool, false, Option, Some, None, option_map, refl}
 use Rattle.std.proofs.Common.{sym, subst, ap, ◌∙◌, inl, inr}
 use Rattle.std.proofs.lemmas.Bool.{lt-ltb}
 use Rattle.std.proofs.lemmas.Option.{none-some, same_Some}
@@ -31,7 +31,7 @@ use Rattle.mw_items.specs.Items.{Spot, Item, step, built, Items, none, more, Gro
 use Rattle.mw_prooftext.specs.Passing.{Passes}
 use Rattle.mw_prooftext.specs.Narrow.{AreNarrow, IsNarrowTake, IsNarrowSpot, IsNarrowItem, AreNarrowItems, AreNarrowGroups}
 use Rattle.mw_proofread.specs.Numbers.{number_text, entry_number}
-use Rattle.mw_proofread.specs.TokenTexts.{text_tokens}
+use Rattle.mw_proofread.specs.TokenTexts.{form_tokens, items_tokens, end_tokens, text_tokens}
 use Rattle.mw_proofread.specs.Reading.{IsText, entry_spot, entry_item, entry_items, entry_groups}
 use Rattle.mw_proofread.specs.Outside.{IsOutside}
 use Rattle.mw_proofread.specs.Kept.{HaveFragmentsIdentifiers, IsWritable, ReadsAsText}
@@ -103,7 +103,7 @@ mutual
   groups_same (group g gs) h = ap (λ f. group f (entry_groups gs)) (items_same g h.0) ∙ ap (group g) (groups_same gs h.1)
 
 -- the fourth token is the module's name
-fourth : List (List ℕ) → List ℕ
+abbrev fourth : List (List ℕ) → List ℕ
 fourth (x ∷ y ∷ z ∷ w ∷ ws) = w
 fourth xs = []
 
@@ -151,9 +151,6 @@ module _ (sources : List (List ℕ)) (a : Accepted) (of : IsOfTexts sources a) w
     read work proper few = written_are_texts d a.name text (subst IsWritable (sym k.over) (writable work few)) proper begins k.deduction k.text_is
 
     module _ (r : ReadsAsText d a.name text) where
-      tokens_here : List (List ℕ)
-      tokens_here = text_tokens sig 1 a.name d.from r.items d.to
-
       passes : Passes M d.rank r.items d.from d.to
       passes = subst (λ (X : Module). Passes X d.rank r.items d.from d.to) k.over r.passes
 
@@ -173,14 +170,14 @@ module _ (sources : List (List ℕ)) (a : Accepted) (of : IsOfTexts sources a) w
         whole_text = subst (λ ts. IsText M ts 1 d.from r.items d.to) (sym e) is_text
 
         by_answer : {v : Verdict} → IsProofAnswer ms max tokens v → P v
-        by_answer (nameless f) = absurd (f a.name (record { version = number_text 1; rest = _; is = e }))
-        by_answer (nowhere name h none) = absurd (none-some a (sym none ∙ ap (module_named ms) (found name h) ∙ here))
+        by_answer (nameless f) = absurd (f a.name (record { version = number_text 1; rest = codes "from" ∷ (form_tokens sig d.from ++ (items_tokens sig r.items ++ end_tokens sig d.to)); is = e }))
+        by_answer (nowhere name h missing) = absurd (none-some a (sym missing ∙ ap (module_named ms) (found name h) ∙ here))
         by_answer (formless name b part h m out) =
             absurd (outside_no_text M (texts tokens) part (subst (λ (x : Accepted). IsOutside x.module (texts tokens) part) (there name b h m) out) 1 d.from r.items d.to whole_text)
         by_answer (checked name b from to items v h m is verdict) =
             let same : b ≡ a = there name b h m in
             let one = text_tells M (texts tokens) 1 1 from d.from items r.items to d.to (subst (λ (x : Accepted). IsText x.module (texts tokens) 1 from items to) same is) whole_text in
-            told v (subst (λ t. IsVerdictOn M max d.from t r.items v) one.2 (subst (λ is. IsVerdictOn M max d.from to is v) one.1 (subst (λ t. IsVerdictOn M max t to items v) one.0
+            told v (subst (λ t. IsVerdictOn M max d.from t r.items v) one.2 (subst (λ js. IsVerdictOn M max d.from to js v) one.1 (subst (λ t. IsVerdictOn M max t to items v) one.0
             (subst (λ (x : Accepted). IsVerdictOn x.module max from to items v) same verdict))))
 
       module _ (one : HasOneRow M) (max : ℕ) where
