@@ -1,6 +1,6 @@
 -- The items that are written of a kept deduction have the form of a text: numbers that are taken are two or more and rise, values are as many as variables and
 -- groups as sides, and evidence stands in the ranks below.
-use Rattle.std.specs.Prelude.{◌≡◌, ◌≤◌, ◌+◌, ◌^◌, max, nat_eq, ℕ, zero, suc, List, [], ◌∷◌, ◌++◌, map, length, codes, Bool, true, false, cond, Option, Some, None, option_map, IsTrue, refl}
+use Rattle.std.specs.Prelude.{◌≡◌, ◌≤◌, max, nat_eq, ℕ, zero, suc, List, [], ◌∷◌, ◌++◌, map, length, codes, Bool, true, false, cond, Option, Some, None, option_map, IsTrue, refl}
 use Rattle.std.specs.List.{zip}
 use Rattle.std.proofs.Common.{sym, subst, ap, ◌∙◌, arith}
 use Rattle.std.proofs.lemmas.Bool.{both_ways, or_left, or_right}
