@@ -1,5 +1,5 @@
 -- What is told stays told, and one more move is told behind it.
-use Rattle.std.specs.Prelude.{◌≡◌, ◌<◌, ◌^◌, ℕ, List, [], ◌∷◌, ◌++◌, Bool, true, false, cond, IsTrue, Some, refl}
+use Rattle.std.specs.Prelude.{◌≡◌, ◌<◌, ◌^◌, ℕ, suc, List, [], ◌∷◌, ◌++◌, Bool, true, false, cond, IsTrue, Some, refl}
 use Rattle.std.proofs.Common.{ap, sym, subst, ◌∙◌, append_assoc, append-nil}
 use Rattle.mw_logic.specs.Term.{RawTerm}
 use Rattle.mw_logic.specs.Signature.{Signature, at_number}
@@ -19,7 +19,7 @@ use Rattle.mw_deduction.proofs.MoveStands.{becomes_is}
 use Rattle.mw_items.specs.Items.{Spot, Item, step, built, Items, none, Groups, end, with_item, with_group}
 use Rattle.mw_prooftext.specs.Texts.{item_text, where_word, groups_text, step_text, built_text}
 use Rattle.mw_prooftext.specs.Tells.{IsStep, IsBuilt, Tells}
-use Rattle.mw_prooftext.specs.Passing.{TakesSome, a_statement, nothing}
+use Rattle.mw_prooftext.specs.Passing.{TakesSome, a_statement, Passes, nothing}
 use Rattle.mw_prooftext.specs.Narrow.{IsNarrowSpot}
 use Rattle.mw_prooftext.specs.Told.{ShowsSides, told_items, item_start, word_before, item_end, braced, IsTold}
 use Rattle.mw_prooftext.proofs.TextLaws.{told-with, groups-with, word_is}
@@ -67,7 +67,7 @@ module _ (M : Module) where
     narrow = h.narrow;
     sides = h.sides;
     groups_are = h.groups_are;
-    shows = rw s h.shows;
+    shows = rw (n, s) h.shows;
     narrow_sides = h.narrow_sides;
   }
 
@@ -102,6 +102,7 @@ module _ (M : Module) where
         subst (λ b. ReplacesAt sig b (normal_form sig (instance s e.left)) (normal_form sig (instance s e.right)) p.path p.take (whole sig S.opens S.hand) u) (sym m.rule)
         (subst (λ w. ReplacesAt sig r w (normal_form sig (instance s e.right)) p.path p.take (whole sig S.opens S.hand) u) (sym m.may.is_part)
         (subst (λ x. ReplacesAt sig r S.hand x p.path p.take (whole sig S.opens S.hand) u) y there)) in
+        let (told_sides, passing_sides) = sides_told M ok S.rank h.sides S.sides s (all_sides e.fragments) h.shows m.starts in
         let x : IsStep M e.owise k p vs (whole sig S.opens S.hand) u = record {
           statement = e;
           is_there = same_statement m.replaces.is_there m.is_there;
@@ -114,8 +115,8 @@ module _ (M : Module) where
           canonical = h.canonical;
           items = with_item h.items i;
           text_is = text_with head text groups outer h.items i (step_text sig e.owise k p vs) h.text_is (ap (λ z. step_text sig e.owise k p vs ++ z) (words h.sides groups h.groups_are));
-          tells = tells_then M h.items i S.from (whole sig S.opens S.hand) u S.run _ h.tells (x, S.sides, refl, sides_told M ok h.sides S.sides s (all_sides e.fragments) h.shows m.starts);
-          passes = passes_then M S.rank h.items i S.from (whole sig S.opens S.hand) u h.passes (a_statement x m.replaces.substitution (all_bound M m) takes) (applied_admitted M ok k r s vs S stands m);
+          tells = tells_then M h.items i S.from (whole sig S.opens S.hand) u S.run _ h.tells (x, S.sides, refl, told_sides);
+          passes = passes_then M S.rank h.items i S.from (whole sig S.opens S.hand) u h.passes (a_statement x m.replaces.substitution (all_bound M m) takes passing_sides) (applied_admitted M ok k r s vs S stands m);
           narrow = narrow-with h.items i h.narrow (few, short, h.narrow_sides);
           sides = end;
           groups_are = refl;
@@ -133,7 +134,7 @@ module _ (M : Module) where
     row_told {head} {outer} {text} {groups} {t} S p short stands m there takes h =
         let u : RawTerm = whole sig S.opens t in
         let none_shown : S.sides ≡ runs.end = no_sides M S stands m.nothing_waits in
-        let none_wait : h.sides ≡ end = no_groups M h.sides (subst (ShowsSides M h.sides) none_shown h.shows) in
+        let none_wait : h.sides ≡ end = no_groups M S.rank h.sides (subst (ShowsSides M S.rank h.sides) none_shown h.shows) in
         let nothing : groups ≡ [] = h.groups_are ∙ ap (groups_text sig) none_wait in
         let a : ReplacesAt sig false (normal_form sig m.form) (normal_form sig m.result) p.path p.take (whole sig S.opens S.hand) u =
         subst (λ w. ReplacesAt sig false w (normal_form sig m.result) p.path p.take (whole sig S.opens S.hand) u) (sym m.may.is_part)
@@ -159,9 +160,9 @@ module _ (M : Module) where
         }
 
   -- a side that ends becomes one more group
-  pub side_told : {head : List ℕ} {outer : Bool} {text groups side waiting : List ℕ} (S Q : Stand) → MayEnd S → IsTold M [] false side waiting S
+  pub side_told : {head : List ℕ} {outer : Bool} {text groups side waiting : List ℕ} (S Q : Stand) → MayEnd S → Q.rank ≡ suc S.rank → IsTold M [] false side waiting S
       → IsTold M head outer text groups Q → IsTold M head outer text (groups ++ braced side) (showing sig S Q)
-  side_told {groups = groups} {side = side} S Q m s h =
+  side_told {groups = groups} {side = side} S Q m below s h =
       let w : whole sig S.opens S.hand ≡ S.hand = ap (λ os. whole sig os S.hand) m.outside in
       record {
         canonical = h.canonical;
@@ -172,6 +173,6 @@ module _ (M : Module) where
         narrow = h.narrow;
         sides = with_group h.sides s.items;
         groups_are = ap (λ g. g ++ braced side) h.groups_are ∙ ap (λ x. groups_text sig h.sides ++ braced x) s.text_is ∙ sym (groups-with sig h.sides s.items);
-        shows = shows-with M h.sides Q.sides s.items S.from S.hand S.run h.shows s.canonical (subst (λ u. Tells M s.items S.from u S.run) w s.tells);
+        shows = shows-with M Q.rank S.rank h.sides Q.sides s.items S.from S.hand S.run below h.shows s.canonical (subst (λ u. Tells M s.items S.from u S.run) w s.tells) (subst (Passes M S.rank s.items S.from) w s.passes);
         narrow_sides = narrow-group h.sides s.items h.narrow_sides s.narrow;
       }

@@ -123,8 +123,7 @@ module _ (M : Module) (ok : IsAccepted M.signature) where
     where
       one_chain : (cs : List Chain) → AreChains M head (c ∷ cs) (h.last ∷ []) → (c.outer ≡ true) × IsChain M head c h.last
       one_chain [] a = a
-      one_chain (d ∷ []) (o, i, a) = absurd a
-      one_chain (d ∷ e ∷ cs) (o, i, a) = absurd a
+      one_chain (d ∷ cs) a = absurd a
 
   -- at the end, with each term and number as it was taken
   pub ended_here : (d : Deduction) (head : List ℕ) (c : Chain) (all chains : List Chain) (left items : List Item) (first values : List RawTerm) (numbers rest : List ℕ) (k : Track) → IsKept M d.rank d.from d.to k → d ≡ deduced M d.rank d.from d.to k
