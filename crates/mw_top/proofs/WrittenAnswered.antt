@@ -15,7 +15,6 @@ use Rattle.mw_logic.specs.Module.{Module, Fragment, equal, matches, has_sort, is
 use Rattle.mw_logic.proofs.KindLaws.{SameKind-trans, SameKind-sym}
 use Rattle.mw_logic.proofs.Soundness.{normal_form-sound}
 use Rattle.mw_poset.proofs.Members.{member-all}
-use Rattle.mw_least.specs.Workable.{IsWorkable}
 use Rattle.mw_text.specs.Proper.{HasIdentifiers}
 use Rattle.mw_text.proofs.Identifiers.{spelled_identifiers}
 use Rattle.mw_text.proofs.RawTerms.{spelled_raw}
@@ -26,6 +25,7 @@ use Rattle.mw_build.specs.Modules.{Accepted, flattened, reached_of}
 use Rattle.mw_build.specs.Statements.{terms_of}
 use Rattle.mw_build.specs.Printing.{IsOfTexts, IsPrintableTerm}
 use Rattle.mw_build.proofs.Printing.{spellings_are_whole, statements_are_printable}
+use Rattle.mw_build.proofs.Working.{accepted_workable}
 use Rattle.mw_proof.specs.Deductions.{Deduction}
 use Rattle.mw_items.specs.Items.{Spot, Item, step, built, Items, none, more, Groups, end, group}
 use Rattle.mw_prooftext.specs.Passing.{Passes}
@@ -131,9 +131,9 @@ module _ (sources : List (List ℕ)) (a : Accepted) (of : IsOfTexts sources a) w
   fragments_have (has_sort u S ∷ C) h = ((h u (inl refl)).identifiers, fragments_have C (λ t m. h t (inr m)))
   fragments_have (is_true b ∷ C) h = ((h b (inl refl)).identifiers, fragments_have C (λ t m. h t (inr m)))
 
-  writable : IsWorkable M → length sig.operators < 2 ^ 128 → IsWritable M
-  writable work few = record {
-    workable = work;
+  writable : length sig.operators < 2 ^ 128 → IsWritable M
+  writable few = record {
+    workable = accepted_workable of.units of.modules of.unit a.name of.reached a of.accepted;
     few = few;
     whole = spellings_are_whole sources a of;
     identifiers = λ k st e. let (left, right, condition) = statements_are_printable sources a k st of e in (left.identifiers, right.identifiers, fragments_have st.fragments condition);
@@ -147,8 +147,8 @@ module _ (sources : List (List ℕ)) (a : Accepted) (of : IsOfTexts sources a) w
         let has : HasIdentifiers (nested sig (normal_form sig k.written)) = (equal_alike sig same).0 (spelled_identifiers sig a.variables spelled (member-all IsTokenText words all)) in
         subst (λ (X : Module). HasIdentifiers (nested X.signature d.from)) (sym k.over) (subst (λ t. HasIdentifiers (nested sig t)) (sym k.begins) has)
 
-    read : IsWorkable M → IsProper a.name → length sig.operators < 2 ^ 128 → ReadsAsText d a.name text
-    read work proper few = written_are_texts d a.name text (subst IsWritable (sym k.over) (writable work few)) proper begins k.deduction k.text_is
+    read : IsProper a.name → length sig.operators < 2 ^ 128 → ReadsAsText d a.name text
+    read proper few = written_are_texts d a.name text (subst IsWritable (sym k.over) (writable few)) proper begins k.deduction k.text_is
 
     module _ (r : ReadsAsText d a.name text) where
       passes : Passes M d.rank r.items d.from d.to
@@ -211,8 +211,8 @@ pub rows_of_accepted : RowsOfAccepted
 rows_of_accepted sources a of symmetric = one_row sources a of symmetric
 
 pub written_answered : WrittenAnswered
-written_answered sources a of work proper few symmetric words d text all k =
-    let r : ReadsAsText d a.name text = read sources a of words d text all k work proper few in
+written_answered sources a of proper few symmetric words d text all k =
+    let r : ReadsAsText d a.name text = read sources a of words d text all k proper few in
     let one : HasOneRow a.module = one_row sources a of symmetric in
     record {
       read = r;

@@ -4,7 +4,6 @@ use Rattle.mw_lex.specs.declared.token.Token.{Token}
 use Rattle.mw_lex.specs.Texts.{IsProper, IsTokenText}
 use Rattle.mw_logic.specs.Term.{RawTerm}
 use Rattle.mw_logic.specs.NormalForm.{normal_form}
-use Rattle.mw_least.specs.Workable.{IsWorkable}
 use Rattle.mw_module.specs.Words.{texts}
 use Rattle.mw_build.specs.Modules.{Accepted}
 use Rattle.mw_build.specs.Printing.{IsOfTexts}
@@ -52,9 +51,9 @@ pub record IsAnsweredFairly (a : Accepted) (d : Deduction) (text : List ℕ) : T
       → texts tokens ≡ text_tokens a.module.signature 1 a.name d.from read.items d.to → AreFree a.module read.items d.from → IsProofAnswer ms max tokens v
       → is_no v ≡ false
 
--- So is the proof text of a deduction that is kept, in a module of these texts that a context holds, whose name is one token, which has fewer than 2^128
--- operators, and whose commutative operators on numbers are symmetric.
+-- So is the proof text of a deduction that is kept, in a module of these texts whose name is one token, which has fewer than 2^128 operators, and whose
+-- commutative operators on numbers are symmetric.
 abbrev pub WrittenAnswered : Type 0
 WrittenAnswered =
-    (sources : List (List ℕ)) (a : Accepted) → IsOfTexts sources a → IsWorkable a.module → IsProper a.name → length a.module.signature.operators < 2 ^ 128 → AreSymmetric a.module.signature
+    (sources : List (List ℕ)) (a : Accepted) → IsOfTexts sources a → IsProper a.name → length a.module.signature.operators < 2 ^ 128 → AreSymmetric a.module.signature
     → (words : List (List ℕ)) (d : Deduction) (text : List ℕ) → All IsTokenText words → IsKeptText a words d text → IsAnsweredFairly a d text
