@@ -16,4 +16,5 @@ pub mod Naming
 pub mod PrintedVariables
 pub mod SidesOfTokens
 pub mod Printing
+pub mod Working
 pub mod OneModule

@@ -4,6 +4,7 @@ use Rattle.std.proofs.lemmas.Bool.{or_left, or_right, or_cases}
 use Rattle.std.proofs.lemmas.Option.{slice_get_within, none-some}
 use Rattle.std.proofs.lemmas.List.Elements.{All-nil, All-append, All-map}
 use Rattle.mw_lex.specs.declared.token.Token.{Token}
+use Rattle.mw_lex.specs.Pieces.{run_len}
 use Rattle.mw_lex.specs.Texts.{IsProper, IsTokenText, AreTokens}
 use Rattle.mw_lex.proofs.Texts.{lexed_are_tokens}
 use Rattle.mw_logic.specs.Term.{Variable, RawTerm, RawTerms}
@@ -12,7 +13,7 @@ use Rattle.mw_logic.proofs.SameConditions.{same_variable-is, same_variable-refl}
 use Rattle.mw_logic.specs.Signature.{Signature, IsSortNamed, Member, at_number}
 use Rattle.mw_logic.specs.Module.{Fragment, Statement}
 use Rattle.mw_poset.proofs.Members.{member-all}
-use Rattle.mw_text.specs.Proper.{AreProperNames}
+use Rattle.mw_text.specs.Proper.{IsProperName, AreProperNames}
 use Rattle.mw_text.specs.Mixfix.{Spells, IsVariableName}
 use Rattle.mw_text.specs.Proper.{HasIdentifiers, HaveIdentifiers}
 use Rattle.mw_text.proofs.Identifiers.{spelled_identifiers}
@@ -33,12 +34,14 @@ use Rattle.mw_import.specs.Flat.{FlatUnit}
 use Rattle.mw_declare.specs.Proper.{IsProperVariable, AreProper}
 use Rattle.mw_declare.proofs.Proper.{all_at, declarations_are_proper}
 use Rattle.mw_print.specs.Laws.{AreBinary, ArePrintable, IsPrintable}
+use Rattle.mw_print.specs.PrefixLaws.{HasWholeSpellings}
 use Rattle.mw_print.proofs.ReadBack.{printed_reads_back}
+use Rattle.mw_print.proofs.WholeNames.{names_whole}
 use Rattle.mw_build.specs.Fragments.{ending, IsFragment, an_equation, a_match, a_test, a_truth}
 use Rattle.mw_build.specs.Statements.{IsReadAs, terms_of}
 use Rattle.mw_build.specs.Imported.{Accepted, Origin, origins_in, origins_of}
 use Rattle.mw_build.specs.Modules.{IsAccepted, flattened, reached_of}
-use Rattle.mw_build.specs.Printing.{AreCut, no_text, one_text, AreOfTokens, none_yet, one_more, IsOfTexts, IsPrintableTerm, IsPrintableStatement, TextsReadBack, StatementsArePrintable}
+use Rattle.mw_build.specs.Printing.{AreCut, no_text, one_text, AreOfTokens, none_yet, one_more, IsOfTexts, IsPrintableTerm, IsPrintableStatement, TextsReadBack, SpellingsAreWhole, StatementsArePrintable}
 use Rattle.mw_build.proofs.Pairwise.{there, either, all_related}
 use Rattle.mw_build.proofs.Terms.{each_term, one_term, two_terms}
 use Rattle.mw_build.proofs.Loading.{flattened_all, own_within}
@@ -69,6 +72,12 @@ module _ (us : List FlatUnit) (ms : List Accepted) (proper : (k : ℕ) (v : Flat
 
   each_token : (ts : List Token) → AreTokens ts → Each IsTokenText (texts ts)
   each_token ts tokens = member-all IsTokenText (texts ts) (All-map IsTokenText (λ (t : Token). t.text) ts tokens)
+
+  -- and is one token
+  whole : HasWholeSpellings a.module.signature
+  whole = subst HasWholeSpellings (sym signature_is) (λ f o is.
+      let (ts, e) = declared_proper.spelled f o is in
+      subst (λ name. run_len name ≡ length name) (sym e) (names_whole ts (subst IsProperName e (declared_proper.operators f o is))))
 
   -- the variables and the quoted identifiers of what tokens spell
   text_printable : (text : List (List ℕ)) (t : RawTerm) (p : ℕ) → Each IsTokenText text → Spells d.signature d.variables t p text → IsPrintableTerm d.signature t
@@ -246,6 +255,9 @@ texts_read_back texts a t of raw printable identifiers =
     let own = (made texts a of).statements in
     printed_reads_back a.module.signature a.variables t (binary us ms proper of.unit own a.name of.reached a of.accepted) (names us ms proper of.unit own a.name of.reached a of.accepted)
     raw printable identifiers
+
+pub spellings_are_whole : SpellingsAreWhole
+spellings_are_whole texts a of = whole of.units of.modules (before texts a of).proper of.unit (made texts a of).statements a.name of.reached a of.accepted
 
 pub statements_are_printable : StatementsArePrintable
 statements_are_printable texts a k st of is =

@@ -7,4 +7,5 @@ pub mod Statements
 pub mod Imported
 pub mod Modules
 pub mod Printing
+pub mod Working
 pub mod SignatureFaults

@@ -9,6 +9,7 @@ use Rattle.mw_module.specs.Units.{SeenUnit, Reads}
 use Rattle.mw_import.specs.Flat.{FlatUnit}
 use Rattle.mw_print.specs.Printing.{mixfix_text}
 use Rattle.mw_print.specs.Laws.{ArePrintable, ReadsBack}
+use Rattle.mw_print.specs.PrefixLaws.{HasWholeSpellings}
 use Rattle.mw_text.specs.Proper.{HasIdentifiers}
 use Rattle.mw_build.specs.Statements.{terms_of}
 use Rattle.mw_build.specs.Modules.{Accepted, IsAccepted}
@@ -44,6 +45,10 @@ pub record IsOfTexts (texts : List (List ℕ)) (a : Accepted) : Type 0 where
 abbrev pub TextsReadBack : Type 0
 TextsReadBack = (texts : List (List ℕ)) (a : Accepted) (t : RawTerm) → IsOfTexts texts a → IsRawTerm a.module.signature t → ArePrintable a.module.signature t → HasIdentifiers t
     → ReadsBack a.module.signature a.variables t (mixfix_text a.module.signature t)
+
+-- Each operator of an accepted module is spelled as one token.
+abbrev pub SpellingsAreWhole : Type 0
+SpellingsAreWhole = (texts : List (List ℕ)) (a : Accepted) → IsOfTexts texts a → HasWholeSpellings a.module.signature
 
 -- the variables of a term can be printed, and its quoted identifiers
 pub record IsPrintableTerm (sig : Signature) (t : RawTerm) : Type 0 where

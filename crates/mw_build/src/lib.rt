@@ -49,7 +49,8 @@
 //! - The law `texts_read_back`: the text of each raw term of a module that a source's unit is, cut into tokens, spells
 //!   this term in the module, where the term's variables can be printed and its quoted identifiers are tokens
 //!   (specs/Printing). By `statements_are_printable` so it is for the sides and the fragments' terms of the
-//!   module's statements.
+//!   module's statements. By `spellings_are_whole` each operator is spelled as one token. By `accepted_are_workable` what
+//!   a unit is accepted as is workable, by the definitions alone.
 //! - `Module::term`: the one term that the tokens spell, a term of the signature; no term only above 1,024 tokens,
 //!   where they spell none, or two. `Module::pair`: the one pair of terms of one kind, likewise.
 //! - `canonical`: the canonical form of a term that was read, or what keeps the term out.
@@ -69,6 +70,8 @@ mod sizes;
 mod statements;
 mod variables;
 
-pub use laws::{statements_are_printable, texts_read_back};
+pub use laws::{
+    accepted_are_workable, spellings_are_whole, statements_are_printable, texts_read_back,
+};
 pub use modules::{Built, Module, build};
 pub use sizes::canonical;

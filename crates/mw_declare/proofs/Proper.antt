@@ -65,37 +65,79 @@ sorts_proper : (ns : List Name) (ss : List SeenLined) → All IsRun ns → All I
 sorts_proper ns [] all p = all
 sorts_proper ns (s ∷ ss) all p = sorts_proper (with_sorts ns s.shape) ss (sorts_with ns s.shape all (All-head IsProperLined s ss p)) (All-tail IsProperLined s ss p)
 
--- names of operators
-abbrev IsProperDeclared : Declared → Type 0
-IsProperDeclared o = IsProperName o.profile.spelling
+-- What names have, the spellings of operators have.
+module _ (P : List ℕ → Type 0) where
+  abbrev HasSpelling : Declared → Type 0
+  HasSpelling o = P o.profile.spelling
 
-abbrev IsNamed : List Token → Type 0
-IsNamed name = IsProperName (name_of_tokens (texts name))
+  abbrev IsNamedSo : List Token → Type 0
+  IsNamedSo name = P (name_of_tokens (texts name))
 
-proper_again : (o : Declared) (p : Profile) (d : Declaration) (said : Attributes) → same_profile p o.profile ≡ true → IsProperDeclared o → IsProperDeclared (declared_once p d said)
-    → IsProperDeclared (declared_again o d said)
-proper_again o p d said e this one = this
+  spelled_again : (o : Declared) (p : Profile) (d : Declaration) (said : Attributes) → same_profile p o.profile ≡ true → HasSpelling o → HasSpelling (declared_once p d said)
+      → HasSpelling (declared_again o d said)
+  spelled_again o p d said e this one = this
 
-module _ (h : Hierarchy) where
-  abbrev AreNamed : Shape → Type 0
-  AreNamed s = HasEach IsProperDeclared proper_again h s
+  -- where the names of a statement do
+  abbrev AreNamesSo : Shape → Type 0
+  AreNamesSo (Sorts names) = ⊤
+  AreNamesSo (Subsorts groups) = ⊤
+  AreNamesSo (Operators names args result said) = All IsNamedSo names
+  AreNamesSo (Variables names S) = ⊤
+  AreNamesSo (Statement rule left right fragments executable) = ⊤
+  AreNamesSo (Import m) = ⊤
 
-  names_proper : (names : List (List Token)) (args : List WrittenSort) (result : WrittenSort) (said : Attributes) → All IsNamed names → AreNamed (Operators names args result said)
-  names_proper [] args result said all = All-nil (HasNamed IsProperDeclared proper_again (rank_of h args result) said)
-  names_proper (name ∷ names) args result said all =
-      All-cons (HasNamed IsProperDeclared proper_again (rank_of h args result) said) name names (All-head IsNamed name names all) (names_proper names args result said (All-tail IsNamed name names all))
+  abbrev AreNamesOf : SeenLined → Type 0
+  AreNamesOf s = AreNamesSo s.shape
 
-  shape_proper : (s : Shape) → HasProperParts s → AreNamed s
-  shape_proper (Sorts names) p = tt
-  shape_proper (Subsorts groups) p = tt
-  shape_proper (Operators names args result said) p = names_proper names args result said p
-  shape_proper (Variables names S) p = tt
-  shape_proper (Statement rule left right fragments executable) p = tt
-  shape_proper (Import m) p = tt
+  module _ (h : Hierarchy) where
+    names_spelled : (names : List (List Token)) (args : List WrittenSort) (result : WrittenSort) (said : Attributes) → All IsNamedSo names → HasEach HasSpelling spelled_again h (Operators names args result said)
+    names_spelled [] args result said all = All-nil (HasNamed HasSpelling spelled_again (rank_of h args result) said)
+    names_spelled (name ∷ names) args result said all =
+        All-cons (HasNamed HasSpelling spelled_again (rank_of h args result) said) name names (All-head IsNamedSo name names all) (names_spelled names args result said (All-tail IsNamedSo name names all))
 
-  lined_proper : (ss : List SeenLined) → All IsProperLined ss → All (HasEachLined IsProperDeclared proper_again h) ss
-  lined_proper [] p = All-nil (HasEachLined IsProperDeclared proper_again h)
-  lined_proper (s ∷ ss) p = All-cons (HasEachLined IsProperDeclared proper_again h) s ss (shape_proper s.shape (All-head IsProperLined s ss p)) (lined_proper ss (All-tail IsProperLined s ss p))
+    shape_spelled : (s : Shape) → AreNamesSo s → HasEach HasSpelling spelled_again h s
+    shape_spelled (Sorts names) p = tt
+    shape_spelled (Subsorts groups) p = tt
+    shape_spelled (Operators names args result said) p = names_spelled names args result said p
+    shape_spelled (Variables names S) p = tt
+    shape_spelled (Statement rule left right fragments executable) p = tt
+    shape_spelled (Import m) p = tt
+
+    lined_spelled : (ss : List SeenLined) → All AreNamesOf ss → All (HasEachLined HasSpelling spelled_again h) ss
+    lined_spelled [] p = All-nil (HasEachLined HasSpelling spelled_again h)
+    lined_spelled (s ∷ ss) p = All-cons (HasEachLined HasSpelling spelled_again h) s ss (shape_spelled s.shape (All-head AreNamesOf s ss p)) (lined_spelled ss (All-tail AreNamesOf s ss p))
+
+  operators_spelled : (ss : List SeenLined) → All AreNamesOf ss → P (codes "if_then_else_fi") → P (codes "_==_") → P (codes "_=/=_") → All HasSpelling (operators_of ss)
+  operators_spelled ss all choice equal different = all_operators HasSpelling spelled_again ss (lined_spelled (hierarchy_of ss) ss all) (λ t e K n. (choice, equal, different))
+
+-- names of operators are proper
+shape_proper : (s : Shape) → HasProperParts s → AreNamesSo IsProperName s
+shape_proper (Sorts names) p = tt
+shape_proper (Subsorts groups) p = tt
+shape_proper (Operators names args result said) p = p
+shape_proper (Variables names S) p = tt
+shape_proper (Statement rule left right fragments executable) p = tt
+shape_proper (Import m) p = tt
+
+-- and what tokens spell
+abbrev IsSpelledByTokens : List ℕ → Type 0
+IsSpelledByTokens name = (ts : List (List ℕ)) × (name ≡ name_of_tokens ts)
+
+all_spelled : (names : List (List Token)) → All (IsNamedSo IsSpelledByTokens) names
+all_spelled [] = All-nil (IsNamedSo IsSpelledByTokens)
+all_spelled (name ∷ names) = All-cons (IsNamedSo IsSpelledByTokens) name names (texts name, refl) (all_spelled names)
+
+shape_names : (s : Shape) → AreNamesSo IsSpelledByTokens s
+shape_names (Sorts names) = tt
+shape_names (Subsorts groups) = tt
+shape_names (Operators names args result said) = all_spelled names
+shape_names (Variables names S) = tt
+shape_names (Statement rule left right fragments executable) = tt
+shape_names (Import m) = tt
+
+lined_names : (ss : List SeenLined) → All (AreNamesOf IsSpelledByTokens) ss
+lined_names [] = All-nil (AreNamesOf IsSpelledByTokens)
+lined_names (s ∷ ss) = All-cons (AreNamesOf IsSpelledByTokens) s ss (shape_names s.shape) (lined_names ss)
 
 -- those that each kind has
 proper_choice : IsProperName (codes "if_then_else_fi")
@@ -112,9 +154,15 @@ proper_equal = (All-cons IsProper (codes "==") [] (inr (refl, λ e. cc, refl)) (
 proper_different : IsProperName (codes "_=/=_")
 proper_different = (All-cons IsProper (codes "=/=") [] (inr (refl, λ e. cc, refl)) (All-nil IsProper), λ e. inr (refl, λ e. cc, refl))
 
+abbrev IsProperDeclared : Declared → Type 0
+IsProperDeclared o = IsProperName o.profile.spelling
+
 operators_proper : (ss : List SeenLined) → All IsProperLined ss → All IsProperDeclared (operators_of ss)
 operators_proper ss p =
-    all_operators IsProperDeclared proper_again ss (lined_proper (hierarchy_of ss) ss p) (λ t e K n. (proper_choice, proper_equal, proper_different))
+    operators_spelled IsProperName ss (All-weaker IsProperLined (AreNamesOf IsProperName) (λ s. shape_proper s.shape) ss p) proper_choice proper_equal proper_different
+
+operators_by_tokens : (ss : List SeenLined) → All (HasSpelling IsSpelledByTokens) (operators_of ss)
+operators_by_tokens ss = operators_spelled IsSpelledByTokens ss (lined_names ss) (codes "if_then_else_fi" ∷ [], refl) (codes "_==_" ∷ [], refl) (codes "_=/=_" ∷ [], refl)
 
 -- Variables: what each variable has that a statement declares, all have.
 module _ (Q : Name × Name → Type 0) where
@@ -242,8 +290,10 @@ declarations_are_proper r own ss typing d within runs typed proper h =
     let sig = signature_of r ss in
     let os = operators_of ss in
     let names = All-map (λ (o : Operator). IsProperName o.spelling) (operator_of (built_in r (hierarchy_of ss) ss) os) os (operators_proper ss proper) in
+    let spelled = All-map (λ (o : Operator). IsSpelledByTokens o.spelling) (operator_of (built_in r (hierarchy_of ss) ss) os) os (operators_by_tokens ss) in
     subst AreProper (sym h.declared) (record {
       operators = all_at (λ (o : Operator). IsProperName o.spelling) sig.operators names;
+      spelled = all_at (λ (o : Operator). IsSpelledByTokens o.spelling) sig.operators spelled;
       sorts = sorts_proper [] ss (All-nil IsRun) proper;
       variables = proper_variables sig typing (typing_has RunNamed own typing typed (variables_run own runs)) (sorts_there own ss within typing typed r d h);
     })

@@ -1,9 +1,10 @@
 -- What a module declares can be printed as tokens.
-use Rattle.std.specs.Prelude.{◌≡◌, List, All, Ok}
+use Rattle.std.specs.Prelude.{◌≡◌, ℕ, List, All, Ok}
 use Rattle.mw_lex.specs.Texts.{IsRun}
 use Rattle.mw_logic.specs.Term.{Variable}
-use Rattle.mw_logic.specs.Signature.{Signature}
+use Rattle.mw_logic.specs.Signature.{Signature, Operator, IsOperator}
 use Rattle.mw_logic.specs.Preregular.{IsSortOf}
+use Rattle.mw_text.specs.Names.{name_of_tokens}
 use Rattle.mw_text.specs.Proper.{AreProperNames}
 use Rattle.mw_module.specs.Units.{SeenLined, IsWithin}
 use Rattle.mw_module.specs.Tokens.{AreProperStatements}
@@ -16,9 +17,14 @@ use Rattle.mw_declare.specs.Declarations.{Declares}
 abbrev pub IsProperVariable : Signature → Variable → Type 0
 IsProperVariable sig x = IsRun x.name × IsSortOf sig x.sort
 
--- Names of operators are proper, those of sorts are runs, and variables have names and sorts that are there.
+-- Each operator is spelled as its name's tokens are.
+abbrev pub AreSpelledByTokens : Signature → Type 0
+AreSpelledByTokens sig = (f : ℕ) (o : Operator) → IsOperator sig f o → (ts : List (List ℕ)) × (o.spelling ≡ name_of_tokens ts)
+
+-- Names of operators are proper and spelled so, those of sorts are runs, and variables have names and sorts that are there.
 pub record AreProper (d : Declarations) : Type 0 where
   pub operators : AreProperNames d.signature
+  pub spelled : AreSpelledByTokens d.signature
   pub sorts : All IsRun d.signature.sorts
   pub variables : All (IsProperVariable d.signature) d.variables
 

@@ -23,3 +23,7 @@ pub mod Sameness
 pub mod Written
 -- What is written of items, cut into tokens.
 pub mod TextLexed
+-- What is written of kept deductions.
+pub mod Identifiers
+pub mod Known
+pub mod KeptTexts

@@ -13,3 +13,5 @@ pub mod Whole
 pub mod Same
 -- What is written of items, cut into tokens.
 pub mod Lexing
+-- What is written of kept deductions.
+pub mod Kept

@@ -1,4 +1,5 @@
-// Where tokens are no proof text, and how numbers are spelled.
+// Where tokens are no proof text, how numbers are spelled, and that what is written is read.
+ghost use Rattle.mw_proofread.specs.Kept.{WrittenAreTexts};
 ghost use Rattle.mw_proofread.specs.Lexing.{TextLexes};
 ghost use Rattle.mw_proofread.specs.Numbers.{NumbersAreDecimal};
 ghost use Rattle.mw_proofread.specs.Outside.{OutsideIsNoText, OutsideIsOne, TextsTell};
@@ -26,4 +27,9 @@ pub fn text_lexes()
 /// The law that numbers stand in a text as they are printed, as far as printing goes: up to 64 digits.
 pub fn numbers_are_decimal()
     ensures { NumbersAreDecimal }
+{}
+
+/// The law that what is written of a kept deduction is a proof text.
+pub fn written_are_texts()
+    ensures { WrittenAreTexts }
 {}

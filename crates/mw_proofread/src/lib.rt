@@ -27,6 +27,9 @@
 //!   alone. The law `texts_tell`: tokens are the text of one list of items alone, from one term to one other. The law
 //!   `numbers_are_decimal`: numbers stand in a text as they are printed. The law `text_lexes`: what mw_prooftext writes
 //!   of items is cut into their tokens, where numbers are below 2^128 and terms have forms that tell them.
+//! - The law `written_are_texts`: what mw_prooftext writes of a kept deduction is cut into the tokens of a proof text of
+//!   its items. The module's terms can be written (`IsWritable` of specs/Kept), its name is one token, and so are the
+//!   quoted identifiers of the first term. That evidence stands at most 63 deep is the deduction's rank (proofs/Known).
 //!
 //! Errors: `Memory` may come at any call; a term of more than 8,388,608 tokens counts as want of memory.
 //!
@@ -49,5 +52,8 @@ mod values;
 mod words;
 
 pub use fault::ReadError;
-pub use laws::{numbers_are_decimal, outside_is_no_text, outside_is_one, text_lexes, texts_tell};
+pub use laws::{
+    numbers_are_decimal, outside_is_no_text, outside_is_one, text_lexes, texts_tell,
+    written_are_texts,
+};
 pub use reading::read;

@@ -6,6 +6,7 @@ pub mod RightSides
 pub mod TextLaws
 pub mod TellLaws
 pub mod PassingLaws
+pub mod NarrowLaws
 pub mod Wholes
 pub mod Telling
 pub mod ChainLaws

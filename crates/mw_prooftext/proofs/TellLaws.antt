@@ -1,5 +1,5 @@
 -- What one more item tells, and one more group.
-use Rattle.std.specs.Prelude.{◌≡◌, List, [], ◌∷◌, refl}
+use Rattle.std.specs.Prelude.{◌≡◌, ℕ, suc, List, [], ◌∷◌, refl}
 use Rattle.std.proofs.Common.{ap, sym, subst, ◌∙◌}
 use Rattle.mw_logic.specs.Term.{RawTerm}
 use Rattle.mw_logic.specs.Accepted.{IsAccepted}
@@ -16,6 +16,7 @@ use Rattle.mw_deduction.specs.Replay.{Stand, put_behind, beginnings, begun_sides
 use Rattle.mw_deduction.specs.Stands.{IsStanding}
 use Rattle.mw_items.specs.Items.{Item, Items, none, more, Groups, end, group, with_item, with_group}
 use Rattle.mw_prooftext.specs.Tells.{Tells, TellsOne, TellsSides}
+use Rattle.mw_prooftext.specs.Passing.{Passes, GroupsPass, no_side, a_side}
 use Rattle.mw_prooftext.specs.Told.{ShowsSides}
 
 module _ (M : Module) where
@@ -23,17 +24,17 @@ module _ (M : Module) where
   tells_then none i t u v ds d (e, n) h = (v, d, runs.none, ap (λ x. both x (one d)) n, subst (λ x. TellsOne M i x v d) (sym e) h, (refl, refl))
   tells_then (more j is) i t u v ds d (w, c, es, e, a, b) h = (w, c, both es (one d), ap (λ x. both x (one d)) e, a, tells_then is i w u v es d b h)
 
-  pub shows-with : (gs : Groups) (rs : Runs) (g : Items) (t u : RawTerm) (ds : Dones) → ShowsSides M gs rs → IsCanonical M.signature t → Tells M g t u ds
-      → ShowsSides M (with_group gs g) (put_behind rs (run (nested M.signature t) (nested M.signature u) ds))
-  shows-with end rs g t u ds h k l = (t, u, ds, runs.end, ap (λ q. put_behind q (run (nested M.signature t) (nested M.signature u) ds)) h, k, l, refl)
-  shows-with (group f gs) rs g t u ds (v, w, es, qs, e, a, b, c) k l =
+  pub shows-with : (n m : ℕ) (gs : Groups) (rs : Runs) (g : Items) (t u : RawTerm) (ds : Dones) → n ≡ suc m → ShowsSides M n gs rs → IsCanonical M.signature t → Tells M g t u ds → Passes M m g t u
+      → ShowsSides M n (with_group gs g) (put_behind rs (run (nested M.signature t) (nested M.signature u) ds))
+  shows-with n m end rs g t u ds i h k l p = (t, u, ds, runs.end, m, ap (λ q. put_behind q (run (nested M.signature t) (nested M.signature u) ds)) h, i, k, l, p, refl)
+  shows-with n m (group f gs) rs g t u ds i (v, w, es, qs, j, e, x, a, b, y, c) k l p =
       let r : Run = run (nested M.signature t) (nested M.signature u) ds in
-      (v, w, es, put_behind qs r, ap (λ q. put_behind q r) e, a, b, shows-with gs qs g t u ds c k l)
+      (v, w, es, put_behind qs r, j, ap (λ q. put_behind q r) e, x, a, b, y, shows-with n m gs qs g t u ds i c k l p)
 
   -- where no side was shown, no group waits
-  pub no_groups : (gs : Groups) → ShowsSides M gs runs.end → gs ≡ end
-  no_groups end h = refl
-  no_groups (group g gs) (t, u, ds, qs, e, k, a, b) = absurd (apart e)
+  pub no_groups : (n : ℕ) (gs : Groups) → ShowsSides M n gs runs.end → gs ≡ end
+  no_groups n end h = refl
+  no_groups n (group g gs) (t, u, ds, qs, m, e, i, k, a, p, b) = absurd (apart e)
     where
       apart : {r : Run} {qs : Runs} → runs.end ≡ another r qs → ⊥
       apart e = cc
@@ -51,20 +52,24 @@ module _ (M : Module) where
   no_sides S h e = none_same S.sides h.sides h.same_sides (rw e at h.shown)
 
   -- groups of sides that begin at the instances of these terms
-  pub sides_told : IsAccepted M.signature → (gs : Groups) (rs : Runs) (s : Substitution) (ls : List RawTerm) → ShowsSides M gs rs → beginnings rs ≡ begun_sides M.signature s ls → TellsSides M gs s ls rs
-  sides_told ok end rs s [] h e = h
-  sides_told ok end rs s (l ∷ ls) h e = absurd (apart (sym (ap beginnings h) ∙ e))
+  pub sides_told : IsAccepted M.signature → (n : ℕ) (gs : Groups) (rs : Runs) (s : Substitution) (ls : List RawTerm) → ShowsSides M n gs rs → beginnings rs ≡ begun_sides M.signature s ls
+      → TellsSides M gs s ls rs × GroupsPass M n gs s ls
+  sides_told ok n end rs s [] h e = (h, no_side)
+  sides_told ok n end rs s (l ∷ ls) h e = absurd (apart (sym (ap beginnings h) ∙ e))
     where
       apart : {x : RawTerm} {xs : List RawTerm} → [] ≡ x ∷ xs → ⊥
       apart e = cc
-  sides_told ok (group g gs) rs s [] (t, u, ds, qs, is, k, a, b) e = absurd (apart (sym (ap beginnings is) ∙ e))
+  sides_told ok n (group g gs) rs s [] (t, u, ds, qs, m, is, i, k, a, p, b) e = absurd (apart (sym (ap beginnings is) ∙ e))
     where
       apart : {x : RawTerm} {xs : List RawTerm} → x ∷ xs ≡ [] → ⊥
       apart e = cc
-  sides_told ok (group g gs) rs s (l ∷ ls) (t, u, ds, qs, is, k, a, b) e =
-      let n : RawTerm = normal_form M.signature (instance s l) in
-      let f : nested M.signature t ∷ beginnings qs ≡ nested M.signature n ∷ begun_sides M.signature s ls = sym (ap beginnings is) ∙ e in
-      let p : nested M.signature t ≡ nested M.signature n = cc f in
-      let q : beginnings qs ≡ begun_sides M.signature s ls = cc f in
-      let same : t ≡ n = nested_inj M.signature ok t n k (canonical M.signature ok (instance s l)) p in
-      (u, ds, qs, is ∙ ap (λ x. another (run x (nested M.signature u) ds) qs) p, subst (λ x. Tells M g x u ds) same a, sides_told ok gs qs s ls b q)
+  sides_told ok n (group g gs) rs s (l ∷ ls) (t, u, ds, qs, m, is, i, k, a, p, b) e =
+      let w : RawTerm = normal_form M.signature (instance s l) in
+      let f : nested M.signature t ∷ beginnings qs ≡ nested M.signature w ∷ begun_sides M.signature s ls = sym (ap beginnings is) ∙ e in
+      let begins : nested M.signature t ≡ nested M.signature w = cc f in
+      let others : beginnings qs ≡ begun_sides M.signature s ls = cc f in
+      let same : t ≡ w = nested_inj M.signature ok t w k (canonical M.signature ok (instance s l)) begins in
+      let (tell, pass) = sides_told ok n gs qs s ls b others in (
+        (u, ds, qs, is ∙ ap (λ x. another (run x (nested M.signature u) ds) qs) begins, subst (λ x. Tells M g x u ds) same a, tell),
+        subst (λ r. GroupsPass M r (group g gs) s (l ∷ ls)) (sym i) (a_side (subst (λ x. Passes M m g x u) same p) (subst (λ r. GroupsPass M r gs s ls) i pass)),
+      )

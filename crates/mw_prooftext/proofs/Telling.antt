@@ -1,5 +1,5 @@
 -- What is told stays told, and one more move is told behind it.
-use Rattle.std.specs.Prelude.{◌≡◌, ℕ, List, [], ◌∷◌, ◌++◌, Bool, true, false, cond, IsTrue, Some, refl}
+use Rattle.std.specs.Prelude.{◌≡◌, ◌<◌, ◌^◌, ℕ, suc, List, [], ◌∷◌, ◌++◌, Bool, true, false, cond, IsTrue, Some, refl}
 use Rattle.std.proofs.Common.{ap, sym, subst, ◌∙◌, append_assoc, append-nil}
 use Rattle.mw_logic.specs.Term.{RawTerm}
 use Rattle.mw_logic.specs.Signature.{Signature, at_number}
@@ -19,11 +19,13 @@ use Rattle.mw_deduction.proofs.MoveStands.{becomes_is}
 use Rattle.mw_items.specs.Items.{Spot, Item, step, built, Items, none, Groups, end, with_item, with_group}
 use Rattle.mw_prooftext.specs.Texts.{item_text, where_word, groups_text, step_text, built_text}
 use Rattle.mw_prooftext.specs.Tells.{IsStep, IsBuilt, Tells}
-use Rattle.mw_prooftext.specs.Passing.{TakesSome, a_statement, nothing}
+use Rattle.mw_prooftext.specs.Passing.{TakesSome, a_statement, Passes, nothing}
+use Rattle.mw_prooftext.specs.Narrow.{IsNarrowSpot}
 use Rattle.mw_prooftext.specs.Told.{ShowsSides, told_items, item_start, word_before, item_end, braced, IsTold}
 use Rattle.mw_prooftext.proofs.TextLaws.{told-with, groups-with, word_is}
 use Rattle.mw_prooftext.proofs.TellLaws.{tells_then, shows-with, no_groups, no_sides, sides_told}
 use Rattle.mw_prooftext.proofs.PassingLaws.{passes_then, row_passes, all_bound, applied_admitted, met_admitted}
+use Rattle.mw_prooftext.proofs.NarrowLaws.{narrow-with, narrow-group}
 use Rattle.mw_prooftext.proofs.Wholes.{IsSameTold}
 
 -- three pieces behind a text
@@ -43,9 +45,11 @@ module _ (M : Module) where
     text_is = sym (by_kind outer);
     tells = (refl, refl);
     passes = nothing;
+    narrow = tt;
     sides = end;
     groups_are = refl;
     shows = refl;
+    narrow_sides = tt;
   }
     where
       by_kind : (outer : Bool) → head ++ told_items sig outer none ≡ head
@@ -60,9 +64,11 @@ module _ (M : Module) where
     text_is = h.text_is;
     tells = rw (f, w, r) h.tells;
     passes = rw (n, f, w) h.passes;
+    narrow = h.narrow;
     sides = h.sides;
     groups_are = h.groups_are;
-    shows = rw s h.shows;
+    shows = rw (n, s) h.shows;
+    narrow_sides = h.narrow_sides;
   }
 
   -- the same text, and the same groups
@@ -83,11 +89,11 @@ module _ (M : Module) where
 
   module _ (ok : IsAccepted M.signature) where
     -- a statement
-    pub step_told : {head : List ℕ} {outer : Bool} {text groups : List ℕ} {k : ℕ} {r : Bool} {s : Substitution} {vs : List RawTerm} (S : Stand) (p : Spot) → IsStanding M S → (m : MayApply M k r s vs S)
+    pub step_told : {head : List ℕ} {outer : Bool} {text groups : List ℕ} {k : ℕ} {r : Bool} {s : Substitution} {vs : List RawTerm} (S : Stand) (p : Spot) → k < 2 ^ 32 → IsNarrowSpot p → IsStanding M S → (m : MayApply M k r s vs S)
         → ReplacesAt sig r S.hand (becomes M k s S.hand) p.path p.take (whole sig S.opens S.hand) (whole sig S.opens (becomes M k s S.hand)) → TakesSome p (whole sig S.opens S.hand) → IsTold M head outer text groups S
         → IsTold M head outer (text ++ (item_start outer ++ (step_text sig m.statement.owise k p vs ++ item_end outer groups))) []
         (replacing sig (replacement k r s S.read.ready) (by_statement k s S.sides) (becomes M k s S.hand) S)
-    step_told {head} {outer} {text} {groups} {k} {r} {s} {vs} S p stands m there takes h =
+    step_told {head} {outer} {text} {groups} {k} {r} {s} {vs} S p few short stands m there takes h =
         let e : Statement = m.statement in
         let i : Item = step e.owise k p vs h.sides in
         let y : becomes M k s S.hand ≡ normal_form sig (instance s e.right) = becomes_is M ok k s S.hand e m.is_there in
@@ -96,6 +102,7 @@ module _ (M : Module) where
         subst (λ b. ReplacesAt sig b (normal_form sig (instance s e.left)) (normal_form sig (instance s e.right)) p.path p.take (whole sig S.opens S.hand) u) (sym m.rule)
         (subst (λ w. ReplacesAt sig r w (normal_form sig (instance s e.right)) p.path p.take (whole sig S.opens S.hand) u) (sym m.may.is_part)
         (subst (λ x. ReplacesAt sig r S.hand x p.path p.take (whole sig S.opens S.hand) u) y there)) in
+        let (told_sides, passing_sides) = sides_told M ok S.rank h.sides S.sides s (all_sides e.fragments) h.shows m.starts in
         let x : IsStep M e.owise k p vs (whole sig S.opens S.hand) u = record {
           statement = e;
           is_there = same_statement m.replaces.is_there m.is_there;
@@ -108,24 +115,26 @@ module _ (M : Module) where
           canonical = h.canonical;
           items = with_item h.items i;
           text_is = text_with head text groups outer h.items i (step_text sig e.owise k p vs) h.text_is (ap (λ z. step_text sig e.owise k p vs ++ z) (words h.sides groups h.groups_are));
-          tells = tells_then M h.items i S.from (whole sig S.opens S.hand) u S.run _ h.tells (x, S.sides, refl, sides_told M ok h.sides S.sides s (all_sides e.fragments) h.shows m.starts);
-          passes = passes_then M S.rank h.items i S.from (whole sig S.opens S.hand) u h.passes (a_statement x m.replaces.substitution (all_bound M m) takes) (applied_admitted M ok k r s vs S stands m);
+          tells = tells_then M h.items i S.from (whole sig S.opens S.hand) u S.run _ h.tells (x, S.sides, refl, told_sides);
+          passes = passes_then M S.rank h.items i S.from (whole sig S.opens S.hand) u h.passes (a_statement x m.replaces.substitution (all_bound M m) takes passing_sides) (applied_admitted M ok k r s vs S stands m);
+          narrow = narrow-with h.items i h.narrow (few, short, h.narrow_sides);
           sides = end;
           groups_are = refl;
           shows = refl;
+          narrow_sides = tt;
         }
       where
         words : (gs : Groups) (groups : List ℕ) → groups ≡ groups_text sig gs → where_word gs ++ groups_text sig gs ≡ word_before groups ++ groups
         words gs groups f = ap (λ w. w ++ groups_text sig gs) (sym (word_is sig gs)) ∙ ap (λ g. word_before g ++ g) (sym f)
 
     -- a row, with no groups before it
-    pub row_told : {head : List ℕ} {outer : Bool} {text groups : List ℕ} {t : RawTerm} (S : Stand) (p : Spot) → IsStanding M S → (m : MayMeet M t S)
+    pub row_told : {head : List ℕ} {outer : Bool} {text groups : List ℕ} {t : RawTerm} (S : Stand) (p : Spot) → IsNarrowSpot p → IsStanding M S → (m : MayMeet M t S)
         → ReplacesAt sig false S.hand t p.path p.take (whole sig S.opens S.hand) (whole sig S.opens t) → TakesSome p (whole sig S.opens S.hand) → IsTold M head outer text groups S
         → IsTold M head outer (text ++ (item_start outer ++ (built_text p ++ item_end outer groups))) [] (replacing sig row by_row t S)
-    row_told {head} {outer} {text} {groups} {t} S p stands m there takes h =
+    row_told {head} {outer} {text} {groups} {t} S p short stands m there takes h =
         let u : RawTerm = whole sig S.opens t in
         let none_shown : S.sides ≡ runs.end = no_sides M S stands m.nothing_waits in
-        let none_wait : h.sides ≡ end = no_groups M h.sides (subst (ShowsSides M h.sides) none_shown h.shows) in
+        let none_wait : h.sides ≡ end = no_groups M S.rank h.sides (subst (ShowsSides M S.rank h.sides) none_shown h.shows) in
         let nothing : groups ≡ [] = h.groups_are ∙ ap (groups_text sig) none_wait in
         let a : ReplacesAt sig false (normal_form sig m.form) (normal_form sig m.result) p.path p.take (whole sig S.opens S.hand) u =
         subst (λ w. ReplacesAt sig false w (normal_form sig m.result) p.path p.take (whole sig S.opens S.hand) u) (sym m.may.is_part)
@@ -143,15 +152,17 @@ module _ (M : Module) where
           text_is = text_with head text groups outer h.items (built p) (built_text p) h.text_is (sym (append-nil (built_text p)) ∙ ap (λ g. built_text p ++ (word_before g ++ g)) (sym nothing));
           tells = tells_then M h.items (built p) S.from (whole sig S.opens S.hand) u S.run _ h.tells (x, refl);
           passes = passes_then M S.rank h.items (built p) S.from (whole sig S.opens S.hand) u h.passes (row_passes M S t p (whole sig S.opens S.hand) u m a takes) (met_admitted M ok t S stands m);
+          narrow = narrow-with h.items (built p) h.narrow short;
           sides = end;
           groups_are = refl;
           shows = refl;
+          narrow_sides = tt;
         }
 
   -- a side that ends becomes one more group
-  pub side_told : {head : List ℕ} {outer : Bool} {text groups side waiting : List ℕ} (S Q : Stand) → MayEnd S → IsTold M [] false side waiting S
+  pub side_told : {head : List ℕ} {outer : Bool} {text groups side waiting : List ℕ} (S Q : Stand) → MayEnd S → Q.rank ≡ suc S.rank → IsTold M [] false side waiting S
       → IsTold M head outer text groups Q → IsTold M head outer text (groups ++ braced side) (showing sig S Q)
-  side_told {groups = groups} {side = side} S Q m s h =
+  side_told {groups = groups} {side = side} S Q m below s h =
       let w : whole sig S.opens S.hand ≡ S.hand = ap (λ os. whole sig os S.hand) m.outside in
       record {
         canonical = h.canonical;
@@ -159,7 +170,9 @@ module _ (M : Module) where
         text_is = h.text_is;
         tells = h.tells;
         passes = h.passes;
+        narrow = h.narrow;
         sides = with_group h.sides s.items;
         groups_are = ap (λ g. g ++ braced side) h.groups_are ∙ ap (λ x. groups_text sig h.sides ++ braced x) s.text_is ∙ sym (groups-with sig h.sides s.items);
-        shows = shows-with M h.sides Q.sides s.items S.from S.hand S.run h.shows s.canonical (subst (λ u. Tells M s.items S.from u S.run) w s.tells);
+        shows = shows-with M Q.rank S.rank h.sides Q.sides s.items S.from S.hand S.run below h.shows s.canonical (subst (λ u. Tells M s.items S.from u S.run) w s.tells) (subst (Passes M S.rank s.items S.from) w s.passes);
+        narrow_sides = narrow-group h.sides s.items h.narrow_sides s.narrow;
       }

@@ -118,12 +118,12 @@ module _ (M : Module) (ok : IsAccepted M.signature) where
         text_is = told.text_is ∙ ap (λ o. head ++ told_items M.signature o told.items) outer;
         tells = subst (λ x. Tells M told.items x u (end_of M n t k).run) f (subst (λ y. Tells M told.items h.last.from y (end_of M n t k).run) z (subst (Tells M told.items h.last.from (whole M.signature h.last.opens h.last.hand)) q told.tells));
         passes = subst (λ m. Passes M m told.items t u) r (subst (λ x. Passes M h.last.rank told.items x u) f (subst (Passes M h.last.rank told.items h.last.from) z told.passes));
+        narrow = told.narrow;
       }
     where
       one_chain : (cs : List Chain) → AreChains M head (c ∷ cs) (h.last ∷ []) → (c.outer ≡ true) × IsChain M head c h.last
       one_chain [] a = a
-      one_chain (d ∷ []) (o, i, a) = absurd a
-      one_chain (d ∷ e ∷ cs) (o, i, a) = absurd a
+      one_chain (d ∷ cs) a = absurd a
 
   -- at the end, with each term and number as it was taken
   pub ended_here : (d : Deduction) (head : List ℕ) (c : Chain) (all chains : List Chain) (left items : List Item) (first values : List RawTerm) (numbers rest : List ℕ) (k : Track) → IsKept M d.rank d.from d.to k → d ≡ deduced M d.rank d.from d.to k
@@ -148,5 +148,6 @@ text_written d version name head text all sig from to h s f t begins w ends =
       is = ends ∙ ap (λ x. text ++ x) last ∙ ap (λ x. x ++ end_text g d.to) w.text_is ∙ append_assoc head (lines_text g w.items) (end_text g d.to) ∙ ap (λ x. x ++ (lines_text g w.items ++ end_text g d.to)) first;
       tells = w.tells;
       passes = w.passes;
+      narrow = w.narrow;
       denotes = h.denotes;
     }

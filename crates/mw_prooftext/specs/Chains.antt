@@ -1,5 +1,5 @@
 -- The proofs under way, one on another, each with what is told of it.
-use Rattle.std.specs.Prelude.{◌≡◌, ℕ, List, [], ◌∷◌, Bool, true, false}
+use Rattle.std.specs.Prelude.{◌≡◌, ℕ, suc, List, [], ◌∷◌, Bool, true, false}
 use Rattle.mw_logic.specs.Term.{RawTerm}
 use Rattle.mw_logic.specs.Substitution.{Substitution}
 use Rattle.mw_logic.specs.Module.{Module}
@@ -17,14 +17,15 @@ pub record IsChain (M : Module) (head : List ℕ) (c : Chain) (S : Stand) : Type
   pub place : IsAt M.signature c.walk S
   pub told : IsTold M head c.outer c.text.items c.groups.items S
 
--- those of the proofs under way, one on another: the outermost is told on lines behind the head, the sides without a head
+-- those of the proofs under way, one on another, each in the rank below: the outermost is told on lines behind the head, the sides without a head
 abbrev pub AreChains : Module → List ℕ → List Chain → List Stand → Type 0
 AreChains M head [] B = ⊥
 AreChains M head (c ∷ []) [] = ⊥
 AreChains M head (c ∷ []) (S ∷ []) = (c.outer ≡ true) × IsChain M head c S
 AreChains M head (c ∷ []) (S ∷ Q ∷ B) = ⊥
 AreChains M head (c ∷ d ∷ cs) [] = ⊥
-AreChains M head (c ∷ d ∷ cs) (S ∷ B) = (c.outer ≡ false) × IsChain M [] c S × AreChains M head (d ∷ cs) B
+AreChains M head (c ∷ d ∷ cs) (S ∷ []) = ⊥
+AreChains M head (c ∷ d ∷ cs) (S ∷ Q ∷ B) = (c.outer ≡ false) × (Q.rank ≡ suc S.rank) × IsChain M [] c S × AreChains M head (d ∷ cs) (Q ∷ B)
 
 -- d is what becomes of c where the proof goes from one stand to another
 abbrev pub Goes : Module → Stand → Stand → Chain → Chain → Type 0

@@ -3,6 +3,7 @@ pub mod Tells
 pub mod Passing
 pub mod Grounds
 pub mod Applied
+pub mod Narrow
 pub mod Told
 pub mod Chains
 pub mod Denoting

@@ -1,5 +1,5 @@
 -- A text under way: of a proof under way the items that are told of it, and the groups of sides that wait for their statement.
-use Rattle.std.specs.Prelude.{◌≡◌, ℕ, List, [], ◌∷◌, ◌++◌, Bool, cond, codes}
+use Rattle.std.specs.Prelude.{◌≡◌, ℕ, suc, List, [], ◌∷◌, ◌++◌, Bool, cond, codes}
 use Rattle.mw_logic.specs.Term.{RawTerm}
 use Rattle.mw_logic.specs.Signature.{Signature}
 use Rattle.mw_logic.specs.Parts.{nested}
@@ -12,12 +12,14 @@ use Rattle.mw_items.specs.Items.{Items, Groups, end, group}
 use Rattle.mw_prooftext.specs.Texts.{items_text, lines_text, groups_text}
 use Rattle.mw_prooftext.specs.Tells.{Tells}
 use Rattle.mw_prooftext.specs.Passing.{Passes}
+use Rattle.mw_prooftext.specs.Narrow.{AreNarrowItems, AreNarrowGroups}
 
--- groups tell these sides, each from some canonical term on
-abbrev pub ShowsSides : Module → Groups → Runs → Type 0
-ShowsSides M end rs = rs ≡ runs.end
-ShowsSides M (group g gs) rs =
-    (t : RawTerm) × (u : RawTerm) × (ds : Dones) × (qs : Runs) × (rs ≡ another (run (nested M.signature t) (nested M.signature u) ds) qs) × IsCanonical M.signature t × Tells M g t u ds × ShowsSides M gs qs
+-- groups tell these sides, each from some canonical term on, and pass in the rank below
+abbrev pub ShowsSides : Module → ℕ → Groups → Runs → Type 0
+ShowsSides M n end rs = rs ≡ runs.end
+ShowsSides M n (group g gs) rs =
+    (t : RawTerm) × (u : RawTerm) × (ds : Dones) × (qs : Runs) × (m : ℕ) × (rs ≡ another (run (nested M.signature t) (nested M.signature u) ds) qs) × (n ≡ suc m) × IsCanonical M.signature t
+    × Tells M g t u ds × Passes M m g t u × ShowsSides M n gs qs
 
 -- items as they stand in the text: on lines, or in braces
 abbrev pub told_items : Signature → Bool → Items → List ℕ
@@ -45,6 +47,8 @@ pub record IsTold (M : Module) (head : List ℕ) (outer : Bool) (text groups : L
   pub text_is : text ≡ head ++ told_items M.signature outer items
   pub tells : Tells M items S.from (whole M.signature S.opens S.hand) S.run
   pub passes : Passes M S.rank items S.from (whole M.signature S.opens S.hand)
+  pub narrow : AreNarrowItems items
   pub sides : Groups
   pub groups_are : groups ≡ groups_text M.signature sides
-  pub shows : ShowsSides M sides S.sides
+  pub shows : ShowsSides M S.rank sides S.sides
+  pub narrow_sides : AreNarrowGroups sides

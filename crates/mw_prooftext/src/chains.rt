@@ -1,5 +1,5 @@
 // A text under way, move by move.
-ghost use Rattle.std.specs.Prelude.{◌≡◌, ◌++◌, ◌≤◌, ℕ, List, [], ◌∷◌, Bool, false, IfOk, OnOk, length, reverse};
+ghost use Rattle.std.specs.Prelude.{◌≡◌, ◌++◌, ◌≤◌, ℕ, suc, List, [], ◌∷◌, Bool, false, IfOk, OnOk, length, reverse};
 ghost use Rattle.mw_logic.specs.Accepted.{IsAccepted};
 ghost use Rattle.mw_logic.specs.Module.{Module};
 ghost use Rattle.mw_logic.specs.Substitution.{Substitution};
@@ -168,7 +168,8 @@ impl Chain {
 
     /// The side of a condition was told.
     fn with_side(self, side: Chain) -> Result<Chain, AllocError>
-        ensures { (M : Module) (S Q : Stand) → MayEnd S → side.outer ≡ false → IsChain M [] side S
+        ensures { (M : Module) (S Q : Stand) → MayEnd S → Q.rank ≡ suc S.rank → side.outer ≡ false
+            → IsChain M [] side S
             → IfOk result (Goes M Q (showing M.signature S Q) self) }
     {
         let mut chain = self;

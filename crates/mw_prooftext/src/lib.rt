@@ -7,7 +7,9 @@
 //!
 //! Proved: `write` answers a text that tells the run of the proof, from its first term to its last one, and the proof
 //! carries that run out, modulo the axioms (`Denotes` of mw_deduction). So the text denotes the proof. Its items pass
-//! all tests but those of conditions (`Passes`, specs/Passing). That is `IsTextOf` of specs/Denoting.
+//! all tests but those of conditions (`Passes`, specs/Passing), those in groups in the rank below, and their numbers are
+//! of 32 bits (specs/Narrow). That is `IsTextOf` of specs/Denoting. Not said: that a group ends in a normal term, and that
+//! these ends meet the condition.
 //!
 //! Conditions: none; a [`mw_proof::Proved`] keeps what is needed. Want of memory is the only error.
 //!

@@ -3,6 +3,7 @@ ghost use Rattle.std.specs.Prelude.{◌≡◌, ◌++◌, IfOk, OnOk, IsTrue};
 ghost use Rattle.mw_logic.specs.Term.{is_ground};
 ghost use Rattle.mw_prooftext.specs.Texts as texts;
 ghost use Rattle.mw_prooftext.specs.Grounds.{AreGround, spot_of};
+ghost use Rattle.mw_prooftext.specs.Narrow.{AreNarrow, IsNarrowSpot};
 
 use mw_print::{prefix, push_decimal};
 use mw_redex::Place;
@@ -11,7 +12,8 @@ use std::alloc::{AllocError, Global};
 
 /// Numbers, each behind a space.
 fn write_numbers(numbers: &[u32], text: &mut Vec<u8>) -> Result<(), AllocError>
-    ensures { OnOk result (text.new.items ≡ text.old.items ++ texts.numbers_text numbers.now) }
+    ensures written { OnOk result (text.new.items ≡ text.old.items ++ texts.numbers_text numbers.now) }
+    ensures narrow { OnOk result (AreNarrow numbers.now) }
 {
     let mut rest = numbers;
     while let [number, behind @ ..] = rest {
@@ -24,7 +26,8 @@ fn write_numbers(numbers: &[u32], text: &mut Vec<u8>) -> Result<(), AllocError>
 
 /// A place.
 fn write_place(place: &Place, text: &mut Vec<u8>) -> Result<(), AllocError>
-    ensures { OnOk result (text.new.items ≡ text.old.items ++ texts.spot_text (spot_of place.now)) }
+    ensures written { OnOk result (text.new.items ≡ text.old.items ++ texts.spot_text (spot_of place.now)) }
+    ensures narrow { OnOk result (IsNarrowSpot (spot_of place.now)) }
 {
     text.extend_from_slice(b" at")?;
     write_numbers(place.path.as_slice(), text)?;
@@ -97,9 +100,10 @@ pub(crate) fn write_step(
     text: &mut Vec<u8>,
 ) -> Result<(), AllocError>
     requires ground { AreGround values.now }
-    ensures { OnOk result
+    ensures written { OnOk result
         (text.new.items ≡ text.old.items
         ++ texts.step_text signature.now owise number (spot_of place.now) values.now) }
+    ensures narrow { OnOk result (IsNarrowSpot (spot_of place.now)) }
 {
     let word: &[u8] = if owise { b"owise " } else { b"step " };
     text.extend_from_slice(word)?;
@@ -110,7 +114,8 @@ pub(crate) fn write_step(
 
 /// The step by a row of the built-in schemata.
 pub(crate) fn write_built(place: &Place, text: &mut Vec<u8>) -> Result<(), AllocError>
-    ensures { OnOk result (text.new.items ≡ text.old.items ++ texts.built_text (spot_of place.now)) }
+    ensures written { OnOk result (text.new.items ≡ text.old.items ++ texts.built_text (spot_of place.now)) }
+    ensures narrow { OnOk result (IsNarrowSpot (spot_of place.now)) }
 {
     text.extend_from_slice(b"step built")?;
     write_place(place, text)

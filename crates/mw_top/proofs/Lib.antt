@@ -12,3 +12,4 @@ pub mod Doing
 pub mod Asking
 pub mod Judging
 mod EntryNumbers
+pub mod WrittenAnswered

@@ -8,4 +8,5 @@ pub mod Proofs
 pub mod Sources
 pub mod Outputs
 pub mod Call
+pub mod Written
 pub mod Seen

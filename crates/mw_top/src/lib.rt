@@ -29,7 +29,9 @@
 //! have one with a refusal, of a run exactly there; 6 exactly where they are too many, and never another status. The
 //! law `outputs_agree`: no two outputs of a run of the same bytes, by the same limit, differ in whether something is
 //! refused. Two of a check may: a test whether a term is normal may stop or not. But what is written tells it: by the
-//! law `check_outputs_agree` no two outputs that are one text differ in it, so its status is that of its lines.
+//! law `check_outputs_agree` no two outputs that are one text differ in it, so its status is that of its lines. What is
+//! written of a kept proof is a proof text, and a check answers it by yes, or by no for a condition or a stop alone: the
+//! law `written_answered` (specs/Written). By `rows_of_accepted` rows of accepted modules make one term of a part.
 //! docs/PROOFS.md says what it all comes to.
 //!
 //! No clause ties want of memory to a cause. Tested by mw_tests (runs over memory, one of each status but 5, with
@@ -45,6 +47,7 @@ ghost use Rattle.mw_top.specs.Purposes.{AskFor, IsAllowed};
 ghost use Rattle.mw_top.specs.Sources.{told_refusal};
 ghost use Rattle.mw_top.specs.Moved.{Took, Wrote};
 ghost use Rattle.mw_top.specs.Call.{Did, IsExact};
+ghost use Rattle.mw_top.specs.Written.{RowsOfAccepted, WrittenAnswered};
 ghost use Rattle.mw_top.specs.Outputs.{IsOutput, AgreeInRefusal, AgreeInStatus, IsBegun, IsCut, lexing_refusal};
 
 mod matching;
@@ -128,6 +131,17 @@ pub fn outputs_agree()
 /// No two outputs of checks that are one text differ in whether something was refused or answered no.
 pub fn check_outputs_agree()
     ensures { AgreeInStatus }
+{}
+
+/// In accepted modules each truth value is one constant, so rows make one term of a part where operators on numbers are
+/// commutative only if the numbers may change places.
+pub fn rows_of_accepted()
+    ensures { RowsOfAccepted }
+{}
+
+/// What is written of a kept proof is a proof text, answered by yes, or by no for a condition or a stop alone.
+pub fn written_answered()
+    ensures { WrittenAnswered }
 {}
 
 /// What `alone` does, with the status as a number.

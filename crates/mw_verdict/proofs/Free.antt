@@ -76,7 +76,7 @@ module _ (M : Module) where
           any_row (λ f a b e test. free f (normal_form sig h.form) a b h.replaces.part (subst (IsFormOf sig (normal_form sig h.form)) e form) test) h.row
           in
           (_, record { rules = _; run = _; checks = then (by_row (record { form = h.form; result = h.result; row = row; raw = h.raw; clean = h.clean; replaces = h.replaces }) some) a R.checks })
-      yes (passing.then (passing.a_statement {gs = gs} h sorted bound some) a rest) ((ordinary, ended, without), on) =
+      yes (passing.then (passing.a_statement {gs = gs} h sorted bound some groups) a rest) ((ordinary, ended, without), on) =
           let (k, R) = yes rest (on _ (a_step h)) in
           let kind = h.kind in
           let plain : ¬ IsTrue h.statement.owise = λ o. cc in

@@ -27,7 +27,7 @@ module _ (M : Module) (ok : IsAccepted M.signature) where
 
   -- items that pass lead to their last term
   passing_leads_one : {n : ℕ} {i : Item} {t v : RawTerm} → PassesOne M n i t v → LeadsOne M i t v
-  passing_leads_one (passing.a_statement h sorted bound some) = a_step h
+  passing_leads_one (passing.a_statement h sorted bound some groups) = a_step h
   passing_leads_one (passing.a_row h some) = a_row (computed M ok h)
 
   passing_leads : {n : ℕ} {is : Items} {t u : RawTerm} → Passes M n is t u → ItemsLead M is t u
@@ -48,10 +48,10 @@ module _ (M : Module) (ok : IsAccepted M.signature) where
 
     -- an item that passes is not at fault for such a cause
     certain_passing : {most n m : ℕ} {i : Item} {t v : RawTerm} {c : Cause} → IsCertain c → Refuses M most m i t c → PassesOne M n i t v → IsAdmitted sig (nested sig v) → ⊥
-    certain_passing z (statement_missing f) (passing.a_statement h s b m) a = f h.statement h.is_there h.kind
+    certain_passing z (statement_missing f) (passing.a_statement h s b m g) a = f h.statement h.is_there h.kind
     certain_passing z (row_missing p m f) (passing.a_row h l) a = f h.form h.result (row_form M p h) (row_within (λ v n. tt) h.row)
-    certain_passing z (value_ill_sorted e f) (passing.a_statement h s b m) a = f (alike (named h) e (Sorted M) s)
-    certain_passing z (part_missing {at = at} {t = t} e r f) (passing.a_statement {v = v} h s b m) a = f v (alike (named h) e (There M at t v) h.replaces, m)
+    certain_passing z (value_ill_sorted e f) (passing.a_statement h s b m g) a = f (alike (named h) e (Sorted M) s)
+    certain_passing z (part_missing {at = at} {t = t} e r f) (passing.a_statement {v = v} h s b m g) a = f v (alike (named h) e (There M at t v) h.replaces, m)
     certain_passing z (spot_missing f) (passing.a_row h l) a = f (normal_form sig h.form) (h.replaces.part, l)
     certain_passing z (condition_fails e r p m f) y a = z.0 refl
     certain_passing z (sides_not_normal q m h r g) y a = z.0 refl

@@ -33,6 +33,7 @@
 //! - These two, and that checked items lead to no other term, want that rows make one term of a part (`HasOneRow`).
 //!   They do where each truth value is one constant and what computes of two numbers is commutative only where the
 //!   numbers may change places (`rows_are_one`): of a commutative `_quo_` a part has two results.
+//!   In accepted modules each truth value is one constant (`rows_of_accepted` of mw_top).
 //! - Items that pass all tests but those of conditions (`Passes`; `write` of mw_prooftext tells such ones of a kept
 //!   proof) are answered no for a condition or a stop alone (`passing_are_answered`); and yes, never no, where no item's
 //!   statement has a condition or is told as `owise`, and none is a test of terms that differ (`free_are_answered`).

@@ -21,7 +21,7 @@ returns-in_ok-push-in-End c = λ head B s.
     let e : old ≡ rest ++ chain ∷ [] = c.pop.ensures.items ∙ ap (λ o. rest ++ option_to_list o) c.in-Some.is in
     let f : rest ≡ low ++ below ∷ [] = c.pop-in-End.ensures.items ∙ ap (λ o. low ++ option_to_list o) c.in-Some-pop.is in
     subst (λ (i : Item). IsMove M (move_of M i c.args.values.now c.args.numbers.now) B → AreChains M head (reverse old) B → AreChains M head (reverse new) (play M (move_of M i c.args.values.now c.args.numbers.now) B)) (sym c.in-End.is)
-    (λ i h. told_ended M head chain below c.in_ok-below-in-End.below old rest low new B i (λ S Q may outer side. c.in_ok-below-in-End.ensures M S Q may outer side) e f c.in_ok-push-in-End.ensures.items h)
+    (λ i h. told_ended M head chain below c.in_ok-below-in-End.below old rest low new B i (λ S Q may below_it outer side. c.in_ok-below-in-End.ensures M S Q may below_it outer side) e f c.in_ok-push-in-End.ensures.items h)
 
 pub returns-in_ok-push-in-Into : goal.returns-in_ok-push-in-Into
 returns-in_ok-push-in-Into c = λ head B s i h.

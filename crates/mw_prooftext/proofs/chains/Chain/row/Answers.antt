@@ -33,9 +33,9 @@ returns c = λ S stands may. (
       subst (λ x. ReplacesAt sig false S.hand x place.path place.take (whole sig S.opens S.hand) (whole sig S.opens x)) may.is there in
       let takes : TakesPart place.path place.take (whole sig S.opens S.hand) =
       subst (λ g. TakesPart place.path place.take (whole g S.opens S.hand)) f (c.in_ok-place.ensures.part M S false may.form may.result (sym f) at_facts stands may.may) in
-      let told = row_told M c.shows.ensures.signature.accepted S (spot_of place) stands may spotted takes h.told in
+      let told = row_told M c.shows.ensures.signature.accepted S (spot_of place) c.in_ok-write_built.ensures.narrow stands may spotted takes h.told in
       record {
         place = c.put.ensures sig S (replacing sig row by_row t S) h.place refl (sym c.in_ok-copy.ensures);
-        told = told_as M c.end_item.new.text.items _ c.end_item.new.groups.items _ (three_behind chain.text.items (item_start chain.outer) (built_text (spot_of place)) (item_end chain.outer chain.groups.items) _ _ _ c.in_ok-begin_item.ensures c.in_ok-write_built.ensures c.in_ok-end_item.ensures.text) c.in_ok-end_item.ensures.groups told;
+        told = told_as M c.end_item.new.text.items _ c.end_item.new.groups.items _ (three_behind chain.text.items (item_start chain.outer) (built_text (spot_of place)) (item_end chain.outer chain.groups.items) _ _ _ c.in_ok-begin_item.ensures c.in_ok-write_built.ensures.written c.in_ok-end_item.ensures.text) c.in_ok-end_item.ensures.groups told;
       },
 )

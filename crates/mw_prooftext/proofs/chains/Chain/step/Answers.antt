@@ -1,4 +1,4 @@
-use Rattle.std.proofs.Common.{◌≡◌, ◌++◌, sym, subst, refl, ap, ◌∙◌, map}
+use Rattle.std.proofs.Common.{◌≡◌, ◌<◌, ◌^◌, ◌++◌, sym, subst, refl, ap, ◌∙◌, map, arith}
 use Rattle.std.proofs.lemmas.Option.{same_Some}
 use Rattle.std.specs.List.{zip}
 use Rattle.mw_logic.specs.Term.{RawTerm}
@@ -49,11 +49,12 @@ returns c = λ S r s stands may. (
       subst (λ x. ReplacesAt sig r S.hand x place.path place.take (whole sig S.opens S.hand) (whole sig S.opens x)) (sym y) there in
       let takes : TakesPart place.path place.take (whole sig S.opens S.hand) =
       subst (λ g. TakesPart place.path place.take (whole g S.opens S.hand)) f (c.in_ok-place.ensures.part M S r (instance s e.left) (instance s e.right) (sym f) at_facts stands may.may) in
-      let told = step_told M ok S (spot_of place) stands may spotted takes h.told in
+      let few : c.args.number < 2 ^ 32 = omega arith in
+      let told = step_told M ok S (spot_of place) few c.in_ok-write_step.ensures.narrow stands may spotted takes h.told in
       let owise : c.statement.inside.owise ≡ d.owise = ap (λ (x : Statement). x.owise) c.statement.view_is in
       let words : step_text c.signature-signature.result.now d.owise c.args.number (spot_of place) c.args.values.now ≡ step_text sig e.owise c.args.number (spot_of place) c.args.values.now =
       ap (λ g. step_text g d.owise c.args.number (spot_of place) c.args.values.now) c.signature-signature.ensures ∙ ap (λ (x : Statement). step_text sig x.owise c.args.number (spot_of place) c.args.values.now) same in
-      let written : c.write_step.new.text.items ≡ c.begin_item.new.text.items ++ step_text c.signature-signature.result.now c.statement.inside.owise c.args.number (spot_of place) c.args.values.now = c.in_ok-write_step.ensures in
+      let written : c.write_step.new.text.items ≡ c.begin_item.new.text.items ++ step_text c.signature-signature.result.now c.statement.inside.owise c.args.number (spot_of place) c.args.values.now = c.in_ok-write_step.ensures.written in
       let placed : c.write_step.new.text.items ≡ c.begin_item.new.text.items ++ step_text sig e.owise c.args.number (spot_of place) c.args.values.now =
       written ∙ ap (λ o. c.begin_item.new.text.items ++ step_text c.signature-signature.result.now o c.args.number (spot_of place) c.args.values.now) owise ∙ ap (λ w. c.begin_item.new.text.items ++ w) words in
       record {
