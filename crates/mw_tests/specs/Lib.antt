@@ -1,3 +1,2 @@
 -- A signature with numbers, and what its terms are.
 pub mod Numbers
-pub mod Bare

@@ -3,10 +3,6 @@
 #![tactic(auto)]
 
 #[cfg(test)]
-mod calls;
-#[cfg(test)]
-mod engine;
-#[cfg(test)]
 mod numerals;
 #[cfg(test)]
 mod parts;
