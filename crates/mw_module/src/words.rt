@@ -96,8 +96,12 @@ fn is_digit(byte: &u8) -> bool
 }
 
 // Whether the text is decimal digits, one at least.
+#[tactic(auto, using(crate::proofs::Slices::some_digits))]
 pub fn are_digits(text: &[u8]) -> bool
     ensures { result ≡ are_digits_of text.now }
 {
-    !text.is_empty() && text.iter().all(is_digit)
+    match text {
+        [] => false,
+        _ => text.iter().all(is_digit),
+    }
 }
