@@ -9,6 +9,6 @@
 //! reason for no answer. Cost: linear in the statements.
 #![tactic(auto)]
 
-mod declare;
+mod spreading;
 
-pub use declare::declare;
+pub use spreading::declare;
