@@ -1,5 +1,6 @@
 -- Numbers of frozen arguments.
-use Rattle.std.proofs.Common.{◌≡◌, ◌<◌, ◌+◌, ◌-◌, ◌∙◌, ℕ, zero, suc, not, nat_eq, List, ◌∷◌, refl, ap, arith}
+use Rattle.std.proofs.Common.{◌≡◌, ◌<◌, ◌+◌, ◌-◌, ◌∙◌, ℕ, zero, suc, not, nat_eq, List, ◌∷◌, refl, sym, ap, arith}
+use Rattle.std.proofs.lemmas.Bool.{ne_eqb}
 use Rattle.mw_logic.specs.Accepted.{agree, is_member}
 use Rattle.mw_declare.specs.Freezing.{counted}
 
@@ -7,7 +8,7 @@ use Rattle.mw_declare.specs.Freezing.{counted}
 pub all_are_alike : (arity : ℕ) → agree (is_member 1 (counted arity 1)) (is_member 2 (counted arity 1)) ≡ not (nat_eq arity 1)
 all_are_alike zero = refl
 all_are_alike (suc zero) = refl
-all_are_alike (suc (suc n)) = refl
+all_are_alike (suc (suc n)) = ap not (sym (ne_eqb (suc (suc n)) 1 (λ e. omega (arith, e))))
 
 -- one number, and the others
 pub counted_from : (last place : ℕ) → place < last → counted (last - place) (place + 1) ≡ (place + 1) ∷ counted (last - (place + 1)) (place + 1 + 1)
