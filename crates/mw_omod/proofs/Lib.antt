@@ -1,0 +1,2 @@
+-- Laws of object modules.
+pub mod Declaring

@@ -1,0 +1,2 @@
+-- Object modules.
+pub mod Declaring
