@@ -6,3 +6,7 @@ mod Moving
 mod Sets
 -- The elements of a side that are kept.
 mod Listing
+-- Arguments of terms as they are written.
+mod Arguments
+-- The variables of completed sides.
+mod Standing

@@ -38,6 +38,8 @@ mutual
 
   all_elements_raw : (sig : Signature) (f : ℕ) (ts : RawTerms) (Ks : List ℕ) → AreRawTerms sig ts Ks → AreRaw sig (all_flat_arguments f ts)
   all_elements_raw sig f nil [] end = tt
+  all_elements_raw sig f nil (K ∷ Ks) h = elim h [ ]
+  all_elements_raw sig f (cons t ts) [] h = elim h [ ]
   all_elements_raw sig f (cons t ts) (K ∷ Ks) (next r h rest) = raw_append sig (flat_arguments f t) (all_flat_arguments f ts) (elements_raw sig f t r) (all_elements_raw sig f ts Ks rest)
 
 at_seen : (es : List Element) (i : ℕ) (t : RawTerm) → slice_get (terms_seen es) i ≡ Some t → (e : Element) × (slice_get es i ≡ Some e) × (raw_term e.term.now ≡ t)
@@ -176,10 +178,10 @@ module _ (sig : Signature) (ok : IsAccepted sig) (K : Classes) where
     pub changes : OneHas (λ v. OneHas (IsOfOtherClass v) rs) ls → ChangesClass sig K left right
     changes h =
         let (i, o, is, k) = has_one (λ v. OneHas (IsOfOtherClass v) rs) ls h in
-        let (j, p, also, same, differ) = has_one (IsOfOtherClass o) rs k in
+        let (j, p, also, other) = has_one (IsOfOtherClass o) rs k in
         let v = holds of_left i o is in
         let w = holds of_right j p also in
-        record { i = suc i; j = suc j; before = seen_object o; after = seen_object p; before_is = v.has; after_is = w.has; one_name = one_name v.kept w.kept (sym same); differ = λ e. differ (sym e) }
+        record { i = suc i; j = suc j; before = seen_object o; after = seen_object p; before_is = v.has; after_is = w.has; one_name = one_name v.kept w.kept (sym other.0); differ = λ e. other.1 (sym e) }
 
     pub changed : ChangesClass sig K left right → OneHas (λ v. OneHas (IsOfOtherClass v) rs) ls
     changed h =

@@ -1,6 +1,7 @@
 -- A term is a set of attributes in one way, and an object in one way.
-use Rattle.std.proofs.Common.{◌≡◌, ◌∙◌, ℕ, List, [], ◌∷◌, ◌++◌, Bool, true, false, cond, nat_eq, Option, Some, None, eq-eqb, refl, sym, ap, subst}
+use Rattle.std.proofs.Common.{◌≡◌, ◌∙◌, ◌≤◌, ℕ, List, [], ◌∷◌, ◌++◌, Bool, true, false, cond, nat_eq, Option, Some, None, arith, eq-eqb, refl, sym, ap, subst}
 use Rattle.mw_logic.specs.Term.{RawTerm, numeral, quoted, variable, apply, RawTerms, nil, cons, constant}
+use Rattle.mw_logic.specs.Parts.{number_of_terms}
 use Rattle.mw_omod.specs.declared.classes.Classes.{Classes}
 use Rattle.mw_omod.specs.declared.classes.Role.{Role}
 use Rattle.mw_omod.specs.declared.classes.Role.TheVariants as role
@@ -56,4 +57,40 @@ module _ (K : Classes) where
       let set : h.set ≡ k.set = cc in
       let sort : v.sort ≡ w.sort = class_injective v.sort w.sort (sym h.class ∙ ap (role_of K) class ∙ k.class) in
       let attributes : v.attributes ≡ w.attributes = set_once h.attributes (subst (λ s. IsSetOf K s w.attributes) (sym set) k.attributes) in
-      cc
+      ap (λ n. record { name = n; class = v.class; sort = v.sort; attributes = v.attributes }) name
+      ∙ ap (λ c. record { name = w.name; class = c; sort = v.sort; attributes = v.attributes }) class
+      ∙ ap (λ S. record { name = w.name; class = w.class; sort = S; attributes = v.attributes }) sort
+      ∙ ap (λ xs. record { name = w.name; class = w.class; sort = w.sort; attributes = xs }) attributes
+
+  -- what a set of two terms is of
+  pub record IsJoinedOf (s t : RawTerm) : Type 0 where
+    pub first : List Attribute
+    pub second : List Attribute
+    pub first_is : IsSetOf K s first
+    pub second_is : IsSetOf K t second
+
+  pub set_parts : {u : RawTerm} {xs : List Attribute} → IsSetOf K u xs → (f : ℕ) (s t : RawTerm) → u ≡ apply f (cons s (cons t nil)) → IsJoinedOf s t
+  set_parts no_attribute f s t e = cc
+  set_parts (an_attribute a r) f s t e = cc
+  set_parts (joined_attributes x y xs ys h k) f s t e =
+      let a : x ≡ s = cc in
+      let b : y ≡ t = cc in
+      record { first = xs; second = ys; first_is = subst (λ z. IsSetOf K z xs) a h; second_is = subst (λ z. IsSetOf K z ys) b k }
+
+  -- a set has at most two arguments
+  pub few_arguments : {u : RawTerm} {xs : List Attribute} → IsSetOf K u xs → (f : ℕ) (ts : RawTerms) → u ≡ apply f ts → number_of_terms ts ≤ 2
+  few_arguments no_attribute f ts e = let a : nil ≡ ts = cc in subst (λ us. number_of_terms us ≤ 2) a (omega arith)
+  few_arguments (an_attribute x r) f ts e = let a : cons x.value nil ≡ ts = cc in subst (λ us. number_of_terms us ≤ 2) a (omega arith)
+  few_arguments (joined_attributes s t xs ys h k) f ts e = let a : cons s (cons t nil) ≡ ts = cc in subst (λ us. number_of_terms us ≤ 2) a (omega arith)
+
+  -- sets of no term, of one and of two
+  pub empty_set : (u : RawTerm) (f : ℕ) (ts : RawTerms) → u ≡ apply f ts → ts ≡ nil → f ≡ K.none → IsSetOf K u []
+  empty_set u f ts e h k = subst (λ z. IsSetOf K z []) (ap constant (sym k) ∙ ap (apply f) (sym h) ∙ sym e) no_attribute
+
+  pub one_set : (u : RawTerm) (f : ℕ) (ts : RawTerms) (a : Attribute) (v : RawTerm) → u ≡ apply f ts → ts ≡ cons v nil → a.operator ≡ f → a.value ≡ v → role_of K f ≡ role.Attribute a.sort → IsSetOf K u (a ∷ [])
+  one_set u f ts a v e h o i r =
+      subst (λ z. IsSetOf K z (a ∷ [])) (ap (λ n. apply n (cons a.value nil)) o ∙ ap (λ n. apply f (cons n nil)) i ∙ ap (apply f) (sym h) ∙ sym e) (an_attribute a (ap (role_of K) o ∙ r))
+
+  pub two_set : (u : RawTerm) (f : ℕ) (ts : RawTerms) (s t : RawTerm) (xs ys : List Attribute) → u ≡ apply f ts → ts ≡ cons s (cons t nil) → f ≡ K.comma → IsSetOf K s xs → IsSetOf K t ys → IsSetOf K u (xs ++ ys)
+  two_set u f ts s t xs ys e h k i j =
+      subst (λ z. IsSetOf K z (xs ++ ys)) (ap (λ n. apply n (cons s (cons t nil))) (sym k) ∙ ap (apply f) (sym h) ∙ sym e) (joined_attributes s t xs ys i j)

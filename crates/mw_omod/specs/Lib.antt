@@ -8,3 +8,5 @@ pub mod Seen
 pub mod Workable
 -- Causes of errors.
 pub mod Causes
+-- What completion keeps of a statement.
+pub mod Laws

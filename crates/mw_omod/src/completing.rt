@@ -119,22 +119,29 @@ fn changed_attributes<'r>(
     Ok(found)
 }
 
-/// The object of a name with these attributes, of which it says no more than element of this number is said to be.
+/// What a completed object is about: the element of the left side whose variables it has, its name, and its class's
+/// sort.
+#[derive(Clone, Copy)]
+struct Head<'r> {
+    number: u32,
+    name: &'r Raw,
+    sort: SortId,
+}
+
+/// A completed object with these attributes.
 fn completed(
     alloc: Global,
     classes: &Classes,
-    number: u32,
-    object: (&Raw, SortId),
+    head: &Head<'_>,
     attributes: Vec<Raw>,
 ) -> Result<Raw, AllocError>
     ensures { (xs : List AttributeOf) → map raw_term attributes.items ≡ map attribute_term xs
-        → IfOk result (λ t. raw_term t ≡ completed_object classes.now number (raw_term object.0.now) object.1 xs) }
+        → IfOk result (λ t. raw_term t ≡ completed_object classes.now head.now.number (raw_term head.now.name.now) head.now.sort xs) }
 {
-    let (name, sort) = object;
-    let rest = rest_variable(alloc, classes, number)?;
+    let rest = rest_variable(alloc, classes, head.number)?;
     let set = joined(alloc, classes.comma, attributes, rest)?;
-    let class = class_variable(alloc, number, sort)?;
-    let name = copied(alloc, name)?;
+    let class = class_variable(alloc, head.number, head.sort)?;
+    let name = copied(alloc, head.name)?;
     let args = vec![in alloc; name, class, set]?;
     Ok(Raw::Op(classes.object, Raws::of(args)))
 }
@@ -153,14 +160,19 @@ fn left_element(
     let Some(object) = &element.object else {
         return copied(alloc, element.term);
     };
+    let head = Head {
+        number,
+        name: object.name,
+        sort: object.sort,
+    };
     match named(rights, &object.form) {
         Some(found) => {
             let attributes = kept_attributes(alloc, number, object, found.object)?;
-            completed(alloc, classes, number, (object.name, object.sort), attributes)
+            completed(alloc, classes, &head, attributes)
         }
         None => {
             let attributes = copies(alloc, object.attributes.as_slice())?;
-            completed(alloc, classes, number, (object.name, object.sort), attributes)
+            completed(alloc, classes, &head, attributes)
         }
     }
 }
@@ -181,9 +193,13 @@ fn right_element(
     let Some(Found { index, object: other }) = named(lefts, &object.form) else {
         return copied(alloc, element.term);
     };
-    let number = number_at(index)?;
+    let head = Head {
+        number: number_at(index)?,
+        name: object.name,
+        sort: other.sort,
+    };
     let attributes = changed_attributes(alloc, object, other)?;
-    completed(alloc, classes, number, (object.name, other.sort), attributes)
+    completed(alloc, classes, &head, attributes)
 }
 
 /// What the elements of the left side become.

@@ -59,7 +59,8 @@ fn parts_of<'r>(classes: &Classes, term: &'r Raw) -> Option<Parts<'r>>
     if *operator != classes.object {
         return None;
     }
-    match args.as_slice() {
+    let args = args.as_slice();
+    match args {
         [name, class, set] => Some(Parts { name, class, set }),
         _ => None,
     }

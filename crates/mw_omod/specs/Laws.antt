@@ -1,0 +1,24 @@
+-- What completion keeps of a statement.
+use Rattle.std.specs.Prelude.{◌||◌}
+use Rattle.mw_logic.specs.Signature.{Signature}
+use Rattle.mw_logic.specs.Accepted.{IsAccepted}
+use Rattle.mw_logic.specs.Substitution.{occurs}
+use Rattle.mw_logic.specs.Module.{Statement}
+use Rattle.mw_logic.specs.Confluence.{HasOnly, AreBound}
+use Rattle.mw_least.specs.Conditions.{binds_among}
+use Rattle.mw_least.specs.Workable.{AreSides}
+use Rattle.mw_omod.specs.declared.classes.Classes.{Classes}
+use Rattle.mw_omod.specs.Completion.{IsCompletion}
+use Rattle.mw_omod.specs.Workable.{AreClasses}
+
+-- Its sides are raw terms of one kind, and the sorts of its variables are there.
+abbrev pub SidesStay : Type 0
+SidesStay = (sig : Signature) (K : Classes) (e e' : Statement) → IsAccepted sig → AreClasses sig K → IsCompletion sig K e e' → AreSides sig e → AreSides sig e'
+
+-- Each variable of the right side and of what is evaluated in the condition is bound: by the left side, or by a match.
+pub record AreAllBound (e : Statement) : Type 0 where
+  pub right : HasOnly (binds_among (λ y. occurs y e.left) e.fragments) e.right
+  pub in_turn : AreBound (λ y. occurs y e.left) e.fragments
+
+abbrev pub VariablesStayBound : Type 0
+VariablesStayBound = (sig : Signature) (K : Classes) (e e' : Statement) → IsCompletion sig K e e' → AreAllBound e → AreAllBound e'
