@@ -58,6 +58,7 @@
 mod built;
 mod declarations;
 mod each_kind;
+mod freezing;
 mod grouping;
 mod hierarchy;
 mod judging;

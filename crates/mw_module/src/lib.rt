@@ -51,6 +51,7 @@
 #![tactic(auto)]
 
 mod attribute;
+mod classes;
 mod conditions;
 mod faults;
 mod forms;
@@ -63,9 +64,11 @@ mod sortings;
 mod statements;
 mod table;
 mod units;
+mod word;
 mod words;
 
 pub use attribute::Attributes;
+pub use classes::ClassAttribute;
 pub use conditions::WrittenFragment;
 pub use faults::{Fault, FaultKind, UnitError};
 pub use forms::Form;
@@ -73,4 +76,5 @@ pub use machine::parts_ascend;
 pub use operators::operators_are_written;
 pub use sortings::WrittenSort;
 pub use units::{Lined, Stated, Unit, read_unit, units_are_proper};
+pub use word::Word;
 pub use words::{count_before, is_word, tokens_from};

@@ -1,6 +1,8 @@
 // What single tokens say.
 ghost use Rattle.std.specs.Prelude.{◌≡◌, ◌≤◌, ◌+◌, length, drop, ℕ, List, ◌∷◌, []};
+ghost use Rattle.std.specs.Char.{is_ascii_digit};
 ghost use Rattle.std.specs.Str.{bytes_eq};
+ghost use Rattle.mw_text.specs.Numerals.{are_digits as are_digits_of};
 ghost use Rattle.mw_module.specs.Words as words;
 
 use mw_lex::Token;
@@ -85,4 +87,17 @@ pub fn is_whole_string(text: &[u8]) -> bool
 {
     let len = text.len();
     len >= 2 && text[0] == b'"' && text[len - 1] == b'"' && text[len - 2] != b'\\'
+}
+
+fn is_digit(byte: &u8) -> bool
+    ensures { result ≡ is_ascii_digit byte.now }
+{
+    byte.is_ascii_digit()
+}
+
+// Whether the text is decimal digits, one at least.
+pub fn are_digits(text: &[u8]) -> bool
+    ensures { result ≡ are_digits_of text.now }
+{
+    !text.is_empty() && text.iter().all(is_digit)
 }

@@ -10,3 +10,5 @@ mod Listing
 mod Arguments
 -- The variables of completed sides.
 mod Standing
+-- Laws of object modules.
+pub mod Declaring

@@ -10,3 +10,5 @@ pub mod Workable
 pub mod Causes
 -- What completion keeps of a statement.
 pub mod Laws
+-- Object modules.
+pub mod Declaring

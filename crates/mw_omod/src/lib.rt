@@ -1,4 +1,8 @@
-//! Rules of object modules, completed.
+//! Object modules: what their classes declare, and their rules, completed.
+//!
+//! [`declare`] makes of the unit of an object module the unit that declares the same in forms that each module may
+//! have: an import of CONFIGURATION in front, and in front of each class the forms that it stands for. Nothing is
+//! written as text and read again. A unit of any other kind stays as it is.
 //!
 //! A rule names of each object a class and those attributes that it is about. Such an object, written `< O : C | as >`
 //! with a class constant C and with nothing but attribute operators in `as`, stands for each object of C's subclasses
@@ -15,6 +19,8 @@
 //!
 //! Proved:
 //!
+//! - `declare`: the unit is exactly that (`declared_unit` of specs/Declaring); what is known of its statements is known
+//!   of those of the new one, and they are made of tokens where its own are (proofs/Declaring).
 //! - `complete`: the statement with both sides completed, its variables listed anew, and nothing else changed
 //!   (`IsCompletion`); `BadObject` only where two written objects of a side have one name, an object has an attribute
 //!   twice, or objects of one name have different class constants on the two sides (`IsBad`), and always there, but for
@@ -26,7 +32,7 @@
 //! Conditions: the sides are terms of the signature, and the classes are of it (`AreClasses`). They may be of any size:
 //! what is too deep or has too large a number is told of the completed sides.
 //!
-//! Cost: a walk over the sides, a canonical form for the name of each written object, and a comparison for each pair of
+//! Cost: `declare` is linear in the statements. `complete` takes a walk over the sides, a canonical form for the name of each written object, and a comparison for each pair of
 //! objects and each pair of their attributes; a text has at most 1,024 tokens. Want of memory may come at any call.
 #![tactic(auto)]
 
@@ -36,6 +42,7 @@ ghost use Rattle.mw_omod.specs.declared.CompletionError.TheVariants.{Memory};
 mod classes;
 mod completing;
 mod copying;
+mod declare;
 mod elements;
 mod faults;
 mod forms;
@@ -46,6 +53,7 @@ mod objects;
 
 pub use classes::{Classes, Role};
 pub use completing::complete;
+pub use declare::declare;
 pub use mentions::{meet_all, mentioned, variables_of};
 use std::alloc::AllocError;
 

@@ -20,6 +20,7 @@ use mw_command::{Command, Word, read};
 use mw_import::Units;
 use mw_lex::Token;
 use mw_module::{Fault, FaultKind, Unit, UnitError};
+use mw_omod::declare;
 use mw_prelude::Predefined;
 use mw_term::Name;
 use mw_words::Options;
@@ -192,10 +193,12 @@ impl<'s> Session<'s> {
         ensures { IfOk result (λ a. Gives purpose self.old (Ok (seen_unit unit.entry)) a.text.items a.refused self.new) }
     {
         let text = name.text.as_slice();
-        let name = Name::of(text.to_vec(alloc)?);
         if self.is_taken(text) {
+            let name = Name::of(text.to_vec(alloc)?);
             return refused(alloc, purpose, unit.line, FaultKind::AlreadyDefined(name));
         }
+        let unit = declare(alloc, unit)?;
+        let name = Name::of(text.to_vec(alloc)?);
         match self.built(alloc, &unit, name)? {
             Ok(built) => {
                 self.accept(alloc, text, unit, built)?;
