@@ -61,6 +61,7 @@
 #![tactic(auto)]
 
 mod carrying;
+mod classes;
 mod fragments;
 mod laws;
 mod modules;
