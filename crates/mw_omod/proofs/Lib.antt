@@ -10,3 +10,5 @@ mod Listing
 mod Arguments
 -- The variables of completed sides.
 mod Standing
+-- What elements become.
+mod Becoming
