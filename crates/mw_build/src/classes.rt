@@ -43,7 +43,7 @@ fn operator(
     target: &Target<'_>,
     spelling: Vec<u8>,
     args: &[SortId],
-    result: SortId,
+    value: SortId,
 ) -> Result<Option<OpId>, AllocError> {
     let mut kinds = Vec::with_capacity(alloc, args.len())?;
     for sort in args {
@@ -52,7 +52,7 @@ fn operator(
     let profile = Profile {
         spelling,
         args: kinds,
-        result: target.kind_of(result),
+        result: target.kind_of(value),
     };
     Ok(target.operator(&profile))
 }

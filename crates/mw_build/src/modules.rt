@@ -399,7 +399,7 @@ fn classes(
     requires order { declarations.now.order ≡ order_of declarations.now.signature }
     ensures { IfOk result (AreObjectsOf (seen_unit unit.now).word declarations.now.signature (flattened units.now (seen_unit unit.now) flat.now)) }
 {
-    if unit.word != b"omod" {
+    if unit.word != b"omod".as_slice() {
         return Ok(None);
     }
     let statements = units.statements(alloc, unit.line, flat, unit.statements.as_slice())?;

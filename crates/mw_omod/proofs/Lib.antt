@@ -12,3 +12,5 @@ mod Arguments
 mod Standing
 -- Laws of object modules.
 pub mod Declaring
+-- What elements become.
+mod Becoming

@@ -94,7 +94,7 @@ found_twice (e ∷ es) (suc i) (suc j) o p less is also same =
     inr (found_twice es i j o p (omega (arith, less)) (record { element = is.element; is_there = is.is_there; object = is.object }) (record { element = also.element; is_there = also.is_there; object = also.object }) same)
 
 module _ (sig : Signature) (ok : IsAccepted sig) (K : Classes) where
-  kept_at : (es : List Element) → AreKept sig K es → (i : ℕ) (e : Element) → slice_get es i ≡ Some e → IsKept sig K e
+  pub kept_at : (es : List Element) → AreKept sig K es → (i : ℕ) (e : Element) → slice_get es i ≡ Some e → IsKept sig K e
   kept_at [] h i e k = let n : None ≡ Some e = k in cc
   kept_at (d ∷ es) (h, hs) zero e k = subst (IsKept sig K) (some_injective k) h
   kept_at (d ∷ es) (h, hs) (suc i) e k = kept_at es hs i e k

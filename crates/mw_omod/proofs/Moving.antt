@@ -1,11 +1,14 @@
 -- Lists that are gone through.
-use Rattle.std.proofs.Common.{◌≡◌, ◌∙◌, List, [], ◌∷◌, ◌++◌, map, refl, sym, ap, append_assoc}
-use Rattle.mw_logic.specs.Term.{RawTerm, RawTerms, nil, cons}
+use Rattle.std.proofs.Common.{◌≡◌, ◌∙◌, ◌<◌, ◌+◌, ℕ, length, get_or, drop, drop-cons, add-one, List, [], ◌∷◌, ◌++◌, map, refl, sym, ap, append_assoc}
+use Rattle.std.specs.Prelude.{Some, slice_get}
+use Rattle.std.proofs.lemmas.Option.{slice_get-get_or}
+use Rattle.mw_logic.specs.Term.{RawTerm, RawTerms, nil, cons, binary}
 use Rattle.mw_logic.specs.Signature.{Signature}
 use Rattle.mw_logic.specs.Terms.{terms_of}
 use Rattle.mw_logic.specs.NormalForm.{normal_form, normal_forms}
 use Rattle.mw_term.specs.declared.raw.Raw.{Raw}
 use Rattle.mw_term.specs.Raws.{raw_term, raw_terms}
+use Rattle.mw_omod.specs.Objects.{joined_before}
 use Rattle.mw_omod.specs.Seen.{forms_of}
 
 pub map-append : {X Y : Type 0} (f : X → Y) (xs ys : List X) → map f (xs ++ ys) ≡ map f xs ++ map f ys
@@ -28,3 +31,17 @@ same_terms (t ∷ ts) (u ∷ us) e = let a : raw_term t ≡ raw_term u = cc in l
 pub forms_told : (sig : Signature) (ts : List Raw) → terms_of (forms_of sig ts) ≡ normal_forms sig (raw_terms ts)
 forms_told sig [] = refl
 forms_told sig (t ∷ ts) = ap (cons (normal_form sig (raw_term t))) (forms_told sig ts)
+
+-- terms without the last one, which is joined
+joined_push : (f : ℕ) (ts : List RawTerm) (t u : RawTerm) → joined_before f (ts ++ t ∷ []) u ≡ joined_before f ts (binary f t u)
+joined_push f [] t u = refl
+joined_push f (x ∷ ts) t u = ap (binary f x) (joined_push f ts t u)
+
+pub popped : (f : ℕ) (ts us : List Raw) (t : Raw) (u : RawTerm) → ts ≡ us ++ t ∷ [] → joined_before f (map raw_term ts) u ≡ joined_before f (map raw_term us) (binary f (raw_term t) u)
+popped f ts us t u e = ap (λ xs. joined_before f xs u) (ap (map raw_term) e ∙ map-append raw_term us (t ∷ [])) ∙ joined_push f (map raw_term us) (raw_term t) u
+
+pub drop_at : {A : Type 0} (xs : List A) (i : ℕ) (x : A) → i < length xs → x ≡ get_or xs i x → drop i xs ≡ x ∷ drop (i + 1) xs
+drop_at xs i x h e = drop-cons xs i x h ∙ rw (← e, add-one) refl
+
+pub got : {A : Type 0} (xs : List A) (k : ℕ) (x : A) → k < length xs → x ≡ get_or xs k x → slice_get xs k ≡ Some x
+got xs k x h e = slice_get-get_or xs k x h ∙ ap Some (sym e)

@@ -1,5 +1,5 @@
 // Completed rules.
-ghost use Rattle.std.specs.Prelude.{◌≡◌, ◌++◌, ◌∷◌, [], ◌<◌, List, length, map, IfOk, IfErr, OnOk};
+ghost use Rattle.std.specs.Prelude.{◌≡◌, ◌++◌, ◌∷◌, [], ◌<◌, ◌+◌, List, length, map, IfOk, IfErr, OnOk};
 ghost use Rattle.mw_logic.specs.Term.{RawTerm};
 ghost use Rattle.mw_logic.specs.Signature.{Signature as SignatureOf, IsRawTerm};
 ghost use Rattle.mw_logic.specs.Accepted.{IsAccepted};
@@ -146,6 +146,65 @@ fn completed(
     Ok(Raw::Op(classes.object, Raws::of(args)))
 }
 
+/// An object of the left side that the right side has too, completed for the element of this number.
+fn kept_object(
+    alloc: Global,
+    classes: &Classes,
+    number: u32,
+    object: &Object<'_>,
+    other: &Object<'_>,
+) -> Result<Raw, AllocError>
+    ensures { IfOk result (λ t. raw_term t ≡ completed_object classes.now number (raw_term object.now.name.now) object.now.sort (kept_attributes number (seen_object object.now) (seen_object other.now))) }
+{
+    let head = Head {
+        number,
+        name: object.name,
+        sort: object.sort,
+    };
+    let attributes = kept_attributes(alloc, number, object, other)?;
+    completed(alloc, classes, &head, attributes)
+}
+
+/// An object that only the left side has, completed for the element of this number.
+fn removed_object(
+    alloc: Global,
+    classes: &Classes,
+    number: u32,
+    object: &Object<'_>,
+) -> Result<Raw, AllocError>
+    ensures { IfOk result (λ t. raw_term t ≡ completed_object classes.now number (raw_term object.now.name.now) object.now.sort (seen_object object.now).attributes) }
+{
+    let head = Head {
+        number,
+        name: object.name,
+        sort: object.sort,
+    };
+    let attributes = copies(alloc, object.attributes.as_slice())?;
+    completed(alloc, classes, &head, attributes)
+}
+
+/// An object of the right side, completed by the one of its name on the left.
+fn changed_object(
+    alloc: Global,
+    classes: &Classes,
+    object: &Object<'_>,
+    found: Found<'_, '_>,
+) -> Result<Raw, AllocError>
+    ensures { IfOk result (λ t. raw_term t ≡ completed_object classes.now (found.index + 1) (raw_term object.now.name.now) found.object.now.sort (changed_attributes (seen_object object.now) (seen_object found.object.now))) }
+{
+    let Found {
+        index,
+        object: other,
+    } = found;
+    let head = Head {
+        number: number_at(index)?,
+        name: object.name,
+        sort: other.sort,
+    };
+    let attributes = changed_attributes(alloc, object, other)?;
+    completed(alloc, classes, &head, attributes)
+}
+
 /// What the left side's element of this number becomes.
 fn left_element(
     alloc: Global,
@@ -157,23 +216,12 @@ fn left_element(
     ensures { (sig : SignatureOf) (right : RawTerm) → IsAccepted sig → IsKept sig classes.now element.now → AreOfSide sig classes.now right rights.now
         → IfOk result (λ t. LeftBecomes sig classes.now right number (raw_term element.now.term.now) (raw_term t)) }
 {
-    let Some(object) = &element.object else {
-        return copied(alloc, element.term);
-    };
-    let head = Head {
-        number,
-        name: object.name,
-        sort: object.sort,
-    };
-    match named(rights, &object.form) {
-        Some(found) => {
-            let attributes = kept_attributes(alloc, number, object, found.object)?;
-            completed(alloc, classes, &head, attributes)
-        }
-        None => {
-            let attributes = copies(alloc, object.attributes.as_slice())?;
-            completed(alloc, classes, &head, attributes)
-        }
+    match &element.object {
+        Some(object) => match named(rights, &object.form) {
+            Some(found) => kept_object(alloc, classes, number, object, found.object),
+            None => removed_object(alloc, classes, number, object),
+        },
+        None => copied(alloc, element.term),
     }
 }
 
@@ -187,19 +235,13 @@ fn right_element(
     ensures { (sig : SignatureOf) (left : RawTerm) → IsAccepted sig → IsKept sig classes.now element.now → AreOfSide sig classes.now left lefts.now
         → IfOk result (λ t. RightBecomes sig classes.now left (raw_term element.now.term.now) (raw_term t)) }
 {
-    let Some(object) = &element.object else {
-        return copied(alloc, element.term);
-    };
-    let Some(Found { index, object: other }) = named(lefts, &object.form) else {
-        return copied(alloc, element.term);
-    };
-    let head = Head {
-        number: number_at(index)?,
-        name: object.name,
-        sort: other.sort,
-    };
-    let attributes = changed_attributes(alloc, object, other)?;
-    completed(alloc, classes, &head, attributes)
+    match &element.object {
+        Some(object) => match named(lefts, &object.form) {
+            Some(found) => changed_object(alloc, classes, object, found),
+            None => copied(alloc, element.term),
+        },
+        None => copied(alloc, element.term),
+    }
 }
 
 /// What the elements of the left side become.
@@ -213,12 +255,10 @@ fn left_elements(
         → IfOk result (λ v. AreCompleted (LeftBecomes sig classes.now right) 1 (terms_seen lefts.now) (map raw_term v.items)) }
 {
     let mut made = Vec::with_capacity(alloc, lefts.len())?;
-    let mut rest = lefts;
-    while let [element, after @ ..] = rest {
+    for element in lefts {
         let number = number_at(made.len())?;
         let term = left_element(alloc, classes, number, element, rights)?;
         made.push(term)?;
-        rest = after;
     }
     Ok(made)
 }
@@ -234,11 +274,9 @@ fn right_elements(
         → IfOk result (λ v. AreCompleted (λ i. RightBecomes sig classes.now left) 1 (terms_seen rights.now) (map raw_term v.items)) }
 {
     let mut made = Vec::with_capacity(alloc, rights.len())?;
-    let mut rest = rights;
-    while let [element, after @ ..] = rest {
+    for element in rights {
         let term = right_element(alloc, classes, element, lefts)?;
         made.push(term)?;
-        rest = after;
     }
     Ok(made)
 }

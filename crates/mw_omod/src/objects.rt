@@ -188,14 +188,12 @@ pub fn side<'r>(
 {
     let terms = elements(alloc, classes.union, term)?;
     let mut found = Vec::with_capacity(alloc, terms.len())?;
-    let mut rest = terms.as_slice();
-    while let [term, after @ ..] = rest {
+    for term in terms.as_slice() {
         let object = object_in(alloc, facts, classes, *term)?;
         found.push(Element {
             term: *term,
             object,
         })?;
-        rest = after;
     }
     Ok(found)
 }

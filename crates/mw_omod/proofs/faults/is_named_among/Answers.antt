@@ -1,4 +1,4 @@
-use Rattle.std.proofs.Common.{refl}
+use Rattle.std.proofs.Common.{◌≡◌, refl}
 use Rattle.mw_omod.proofs.Listing.{one_has}
 use Rattle.mw_omod.proofs.faults.is_named_among.Goals as goal
 

@@ -1,4 +1,4 @@
-use Rattle.std.proofs.Common.{◌≡◌, ◌∙◌, ◌++◌, [], ◌∷◌, append_assoc, append_nil, arith, refl, sym, ap}
+use Rattle.std.proofs.Common.{◌≡◌, ◌∙◌, ◌++◌, [], ◌∷◌, append_assoc, append-nil, arith, refl, sym, ap}
 use Rattle.std.proofs.lemmas.Bool.{eqb-true, eqb-false}
 use Rattle.mw_logic.specs.Term.{apply}
 use Rattle.mw_term.specs.Raws.{raw_term}
@@ -11,7 +11,7 @@ pub returns-in-empty-clause-all : goal.returns-in-empty-clause-all
 returns-in-empty-clause-all t c = λ e. (
   [],
   empty_set c.args.classes.now (raw_term c.args.set.now) c.in-Op.operator c.in-Op.args (ap raw_term c.in-Op.is) (sym c.as_slice.ensures ∙ no_argument c.as_slice.result.now c.in-empty.len_below) (eqb-true _ _ e),
-  sym (append_nil (seen_attributes c.args.found.now.items)),
+  sym (append-nil (seen_attributes c.args.found.now.items)),
 )
 
 pub returns-in-len1-clause-all : goal.returns-in-len1-clause-all
