@@ -25,7 +25,9 @@ use Rattle.mw_sorts.proofs.Getting.{get-member, member-get}
 use Rattle.mw_carry.specs.Carried.{IsSameSort, IsCarried, AreCarried, a_numeral, a_quoted, a_variable, an_operator, end, next, AreCarriedFragments, none, more}
 use Rattle.mw_carry.specs.Carried as carried
 use Rattle.mw_import.proofs.Lists.{flat_map-member, map-member, pushed_at}
-use Rattle.mw_module.proofs.Sources.{units_are_of_tokens}
+use Rattle.mw_module.proofs.Sources.{units_are_known, units_are_of_tokens}
+use Rattle.mw_omod.specs.Declaring.{declared_unit}
+use Rattle.mw_omod.proofs.Declaring.{declared_of_tokens}
 use Rattle.mw_build.specs.Sides.{Sides, sides_of}
 use Rattle.mw_build.proofs.SidesOfTokens.{AreSides, all_sides_proper}
 use Rattle.mw_declare.specs.declared.declarations.Declarations.{Declarations}
@@ -183,10 +185,11 @@ module _ (tokens : List Token) (of_tokens : AreTokens tokens) where
   fine us ms none_yet = record { proper = λ k v e. absurd (none-some v e); own = λ k m e. absurd (none-some m e) }
   fine us ms (one_more vs ns at further u name reached a before read is) =
       let rest = fine vs ns before in
-      let made : IsOfTokens u = units_are_of_tokens false tokens at further u of_tokens read in
-      let new : FlatUnit = record { name = name; statements = u.statements; reached = reached } in
+      let d = declared_unit u in
+      let made : IsOfTokens d = declared_of_tokens u (units_are_known false tokens at further u read) (units_are_of_tokens false tokens at further u of_tokens read) in
+      let new : FlatUnit = record { name = name; statements = d.statements; reached = reached } in
       let printable : (i : ℕ) (st : Statement) → slice_get a.own i ≡ Some st → IsPrintableStatement a.module.signature st =
-      λ i st e. subst (λ S. IsPrintableStatement S st) (sym (signature_is vs ns rest.proper u made.statements name reached a is)) (own_printable vs ns rest.proper u made.statements name reached a is i st e) in
+      λ i st e. subst (λ S. IsPrintableStatement S st) (sym (signature_is vs ns rest.proper d made.statements name reached a is)) (own_printable vs ns rest.proper d made.statements name reached a is i st e) in
       record {
         proper = λ k v e. ⊎_elim (λ h. rest.proper k v h) (λ h. subst (λ (w : FlatUnit). AreProperStatements w.statements) h.1 made.statements) (pushed_at vs new v k e);
         own = λ k m e. ⊎_elim (λ h. rest.own k m h) (λ h. subst (λ (b : Accepted). (i : ℕ) (st : Statement) → slice_get b.own i ≡ Some st → IsPrintableStatement b.module.signature st) h.1 printable) (pushed_at ns a m k e);
@@ -214,8 +217,8 @@ module _ (texts : List (List ℕ)) (a : Accepted) (of : IsOfTexts texts a) where
   before : AreFine of.units of.modules
   before = fine of.tokens of_tokens of.units of.modules of.before
 
-  made : IsOfTokens of.unit
-  made = units_are_of_tokens false of.tokens of.at of.next of.unit of_tokens of.read
+  made : IsOfTokens (declared_unit of.unit)
+  made = declared_of_tokens of.unit (units_are_known false of.tokens of.at of.next of.unit of.read) (units_are_of_tokens false of.tokens of.at of.next of.unit of_tokens of.read)
 
   imported_printable : (i : ℕ) (st : Statement) → slice_get of.accepted.holds.imported i ≡ Some st → IsPrintableStatement of.accepted.declarations.signature st
   imported_printable i st at =
@@ -235,7 +238,7 @@ module _ (texts : List (List ℕ)) (a : Accepted) (of : IsOfTexts texts a) where
   statements_printable zero st is = cc
   statements_printable (suc i) st is = elim (either of.accepted.holds.imported a.own i st (subst (λ sts. slice_get sts i ≡ Some st) of.accepted.holds.statements is)) [
     | inl h ↦ imported_printable i st h
-    | inr h ↦ own_printable of.units of.modules before.proper of.unit made.statements a.name of.reached a of.accepted h.0 st h.1
+    | inr h ↦ own_printable of.units of.modules before.proper (declared_unit of.unit) made.statements a.name of.reached a of.accepted h.0 st h.1
   ]
 
 pub texts_read_back : TextsReadBack
@@ -244,7 +247,7 @@ texts_read_back texts a t of raw printable identifiers =
     let ms = of.modules in
     let proper = (before texts a of).proper in
     let own = (made texts a of).statements in
-    printed_reads_back a.module.signature a.variables t (binary us ms proper of.unit own a.name of.reached a of.accepted) (names us ms proper of.unit own a.name of.reached a of.accepted)
+    printed_reads_back a.module.signature a.variables t (binary us ms proper (declared_unit of.unit) own a.name of.reached a of.accepted) (names us ms proper (declared_unit of.unit) own a.name of.reached a of.accepted)
     raw printable identifiers
 
 pub statements_are_printable : StatementsArePrintable

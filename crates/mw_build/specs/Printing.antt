@@ -6,6 +6,7 @@ use Rattle.mw_logic.specs.Term.{RawTerm}
 use Rattle.mw_logic.specs.Signature.{Signature, at_number, IsRawTerm, Member}
 use Rattle.mw_logic.specs.Module.{Statement}
 use Rattle.mw_module.specs.Units.{SeenUnit, Reads}
+use Rattle.mw_omod.specs.Declaring.{declared_unit}
 use Rattle.mw_import.specs.Flat.{FlatUnit}
 use Rattle.mw_print.specs.Printing.{mixfix_text}
 use Rattle.mw_print.specs.Laws.{ArePrintable, ReadsBack}
@@ -13,12 +14,12 @@ use Rattle.mw_text.specs.Proper.{HasIdentifiers}
 use Rattle.mw_build.specs.Statements.{terms_of}
 use Rattle.mw_build.specs.Modules.{Accepted, IsAccepted}
 
--- These modules are of units of these tokens, each accepted where those before it were.
+-- These modules are of units of these tokens, by what these declare, each accepted where those before it were.
 pub data AreOfTokens (tokens : List Token) : List FlatUnit → List Accepted → Type 0 where
   none_yet : AreOfTokens tokens [] []
   one_more : (us : List FlatUnit) (ms : List Accepted) (at next : ℕ) (u : SeenUnit) (name reached : List ℕ) (a : Accepted) → AreOfTokens tokens us ms
-      → Reads false tokens at (Ok u) next → IsAccepted us ms u name reached a
-      → AreOfTokens tokens (us ++ record { name = name; statements = u.statements; reached = reached } ∷ []) (ms ++ a ∷ [])
+      → Reads false tokens at (Ok u) next → IsAccepted us ms (declared_unit u) name reached a
+      → AreOfTokens tokens (us ++ record { name = name; statements = (declared_unit u).statements; reached = reached } ∷ []) (ms ++ a ∷ [])
 
 -- the tokens of texts, one text after another
 pub data AreCut : List (List ℕ) → List Token → Type 0 where
@@ -37,7 +38,7 @@ pub record IsOfTexts (texts : List (List ℕ)) (a : Accepted) : Type 0 where
   pub unit : SeenUnit
   pub read : Reads false tokens at (Ok unit) next
   pub reached : List ℕ
-  pub accepted : IsAccepted units modules unit a.name reached a
+  pub accepted : IsAccepted units modules (declared_unit unit) a.name reached a
 
 -- The text of each raw term of an accepted module, cut into tokens, spells this term in the module; where the term's variables can be printed, and its quoted
 -- identifiers are tokens. So it is for each ground term that a text spells.

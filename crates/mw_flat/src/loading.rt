@@ -76,7 +76,10 @@ fn records_of(alloc: Global, tokens: &[Token], prelude: usize) -> Result<Vec<u8>
     while at < tokens.len() {
         let (outcome, next) = read_unit(alloc, tokens, at, true)?;
         let accepted = match outcome {
-            Ok(unit) => accept(alloc, &mut units, &mut modules, declare(alloc, unit)?)?,
+            Ok(unit) => {
+                let declared = declare(alloc, unit)?;
+                accept(alloc, &mut units, &mut modules, declared)?
+            }
             Err(_) => false,
         };
         if accepted

@@ -36,7 +36,7 @@ seen_attributes a = record {
   gather = a.gather;
   config = a.config;
   all_frozen = a.all_frozen;
-  frozen = a.frozen;
+  frozen = a.frozen.items;
   clash = a.clash;
 }
 

@@ -1,5 +1,5 @@
 // What attributes of operators say.
-ghost use Rattle.std.specs.Prelude.{◌≡◌, ◌++◌, nat_eq, IfOk, OnOk};
+ghost use Rattle.std.specs.Prelude.{◌≡◌, nat_eq, IfOk, OnOk};
 ghost use Rattle.std.specs.Char.{is_ascii_digit};
 ghost use Rattle.std.specs.List.{list_all};
 ghost use Rattle.std.specs.Option.{option_or};
@@ -11,7 +11,7 @@ ghost use Rattle.mw_module.specs.Attributes.{differ, same_texts};
 
 use crate::machine::{Part, behind_part, part_tokens};
 use crate::table::Role;
-use crate::word::{Word, first_word, words_of, words_together};
+use crate::word::{Word, add_again, add_words, first_word, words_again, words_of};
 use crate::words::{count_before, is_word};
 use mw_lex::Token;
 use mw_term::Seq;
@@ -32,7 +32,7 @@ pub struct Attributes<'s> {
     /// Whether all arguments are frozen.
     pub all_frozen: bool,
     /// The numbers of frozen arguments, as they are written.
-    pub frozen: Seq<Word<'s>>,
+    pub frozen: Vec<Word<'s>>,
     /// Whether there are two different identities, precedences or gathers.
     pub clash: bool,
 }
@@ -152,24 +152,8 @@ fn add_gather<'s>(
     if first.is_none()
         && let Some(marks) = second
     {
-        *first = Some(words_together(alloc, marks.as_slice(), &[])?);
+        *first = Some(words_again(alloc, marks.as_slice())?);
     }
-    Ok(())
-}
-
-// The numbers, and others behind them.
-fn add_numbers<'s>(
-    alloc: Global,
-    numbers: &mut Seq<Word<'s>>,
-    others: &[Word<'s>],
-) -> Result<(), AllocError>
-    ensures { OnOk result (numbers.new ≡ numbers.old ++ others.now) }
-{
-    if others.is_empty() {
-        return Ok(());
-    }
-    let both = words_together(alloc, numbers.as_slice(), others)?;
-    *numbers = both;
     Ok(())
 }
 
@@ -186,7 +170,7 @@ impl<'s> Attributes<'s> {
             gather: None,
             config: false,
             all_frozen: false,
-            frozen: Seq::of(Vec::new(alloc)),
+            frozen: Vec::new(alloc),
             clash: false,
         }
     }
@@ -210,7 +194,7 @@ impl<'s> Attributes<'s> {
         self.add_plain(other);
         add_identity(alloc, &mut self.identity, &other.identity)?;
         add_gather(alloc, &mut self.gather, &other.gather)?;
-        add_numbers(alloc, &mut self.frozen, other.frozen.as_slice())
+        add_again(alloc, &mut self.frozen, other.frozen.as_slice())
     }
 
     /// The same again.
@@ -285,7 +269,7 @@ fn frozen_by<'s>(alloc: Global, behind: &'s [Token]) -> Result<Attributes<'s>, A
     match behind {
         [open, rest @ ..] if is_word(open, b"(") => {
             let numbers = &rest[..count_before(rest, b")")];
-            says.frozen = words_of(alloc, numbers)?;
+            add_words(&mut says.frozen, numbers)?;
         }
         _ => says.all_frozen = true,
     }

@@ -60,7 +60,7 @@ fn are_named(attributes: &[ClassAttribute<'_>]) -> bool
 
 // A class of this name with these attributes, where they can be operators' names.
 fn class_of<'s>(name: Word<'s>, attributes: Seq<ClassAttribute<'s>>) -> Result<Form<'s>, Wrong>
-    ensures { forms.seen_shaped result ≡ spec.class_of name attributes }
+    ensures { forms.seen_shaped result ≡ spec.class_of name.entry attributes.entry }
 {
     if is_plain_name(name.as_slice()) && are_named(attributes.as_slice()) {
         Ok(Form::Class { name, attributes })

@@ -67,14 +67,22 @@ impl<'s> Word<'s> {
     }
 }
 
+/// Adds the words that tokens are behind others.
+pub fn add_words<'s>(words: &mut Vec<Word<'s>>, tokens: &'s [Token]) -> Result<(), AllocError>
+    ensures { OnOk result (words.new.items ≡ words.old.items ++ texts tokens.now) }
+{
+    for token in tokens {
+        words.push(Word::lent(token.text.as_slice()))?;
+    }
+    Ok(())
+}
+
 /// The words that tokens are.
 pub fn words_of<'s>(alloc: Global, tokens: &'s [Token]) -> Result<Seq<Word<'s>>, AllocError>
     ensures { IfOk result (λ words. words ≡ texts tokens.now) }
 {
     let mut words = Vec::with_capacity(alloc, tokens.len())?;
-    for token in tokens {
-        words.push(Word::lent(token.text.as_slice()))?;
-    }
+    add_words(&mut words, tokens)?;
     Ok(Seq::of(words))
 }
 
@@ -102,8 +110,8 @@ pub fn first_word<'s>(tokens: &'s [Token]) -> Option<Word<'s>>
     }
 }
 
-// Adds words behind others.
-fn add_again<'s>(
+/// Adds words once more behind others.
+pub fn add_again<'s>(
     alloc: Global,
     words: &mut Vec<Word<'s>>,
     others: &[Word<'s>],
@@ -116,16 +124,11 @@ fn add_again<'s>(
     Ok(())
 }
 
-/// The first words and then the second, once more.
-pub fn words_together<'s>(
-    alloc: Global,
-    first: &[Word<'s>],
-    second: &[Word<'s>],
-) -> Result<Seq<Word<'s>>, AllocError>
-    ensures { IfOk result (λ words. words ≡ first.now ++ second.now) }
+/// The words once more.
+pub fn words_again<'s>(alloc: Global, words: &[Word<'s>]) -> Result<Seq<Word<'s>>, AllocError>
+    ensures { IfOk result (λ again. again ≡ words.now) }
 {
-    let mut words = Vec::new(alloc);
-    add_again(alloc, &mut words, first)?;
-    add_again(alloc, &mut words, second)?;
-    Ok(Seq::of(words))
+    let mut again = Vec::with_capacity(alloc, words.len())?;
+    add_again(alloc, &mut again, words)?;
+    Ok(Seq::of(again))
 }

@@ -23,7 +23,7 @@ fn one_name<'s>(
     alloc: Global,
     name: Seq<Word<'s>>,
 ) -> Result<Seq<Seq<Word<'s>>>, AllocError>
-    ensures { IfOk result (λ names. names ≡ name ∷ []) }
+    ensures { IfOk result (λ names. names ≡ name.entry ∷ []) }
 {
     Ok(Seq::of(vec![in alloc; name]?))
 }
@@ -130,7 +130,7 @@ fn add_spread<'s>(
     statement: Lined<'s>,
 ) -> Result<(), AllocError>
     ensures { OnOk result (seen_statements all.new.items
-        ≡ seen_statements all.old.items ++ spec.spread_one (seen_lined statement)) }
+        ≡ seen_statements all.old.items ++ spec.spread_one (seen_lined statement.entry)) }
 {
     if let Form::Class { name, attributes } = &statement.form {
         add_class(alloc, all, statement.line, name, attributes.as_slice())?;
@@ -146,7 +146,7 @@ fn declared<'s>(
     statements: Vec<Lined<'s>>,
 ) -> Result<Vec<Lined<'s>>, AllocError>
     ensures { IfOk result (λ v. seen_statements v.items
-        ≡ spec.object_statements line (seen_statements statements.items)) }
+        ≡ spec.object_statements line (seen_statements statements.entry.items)) }
 {
     let form = Form::Import {
         module: Word::lent(b"CONFIGURATION"),

@@ -193,15 +193,14 @@ impl<'s> Session<'s> {
         ensures { IfOk result (λ a. Gives purpose self.old (Ok (seen_unit unit.entry)) a.text.items a.refused self.new) }
     {
         let text = name.text.as_slice();
+        let name = Name::of(text.to_vec(alloc)?);
         if self.is_taken(text) {
-            let name = Name::of(text.to_vec(alloc)?);
             return refused(alloc, purpose, unit.line, FaultKind::AlreadyDefined(name));
         }
-        let unit = declare(alloc, unit)?;
-        let name = Name::of(text.to_vec(alloc)?);
-        match self.built(alloc, &unit, name)? {
+        let declared = declare(alloc, unit)?;
+        match self.built(alloc, &declared, name)? {
             Ok(built) => {
-                self.accept(alloc, text, unit, built)?;
+                self.accept(alloc, text, declared, built)?;
                 Ok(Answer {
                     text: Vec::new(alloc),
                     refused: false,
