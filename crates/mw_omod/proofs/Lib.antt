@@ -12,3 +12,7 @@ mod Arguments
 mod Standing
 -- What elements become.
 mod Becoming
+-- The kinds of completed sides.
+mod RawSides
+-- What completion keeps of a statement.
+mod Kept

@@ -12,15 +12,15 @@ use Rattle.mw_omod.specs.Objects.{Attribute, Written, attribute_term, class_vari
 use Rattle.mw_omod.specs.Completion.{has_attribute, lacking, AreCompleted, no_element, element, elements, HasObject, IsCompleted, LeftBecomes, other_left, kept_object, removed_object, RightBecomes, other_right, changed_object, new_object}
 use Rattle.mw_omod.proofs.Sets.{written_once}
 
-or_left : (a b : Bool) → IsTrue a → IsTrue (a || b)
+pub or_left : (a b : Bool) → IsTrue a → IsTrue (a || b)
 or_left true b h = refl
 or_left false b h = cc
 
-or_right : (a b : Bool) → IsTrue b → IsTrue (a || b)
+pub or_right : (a b : Bool) → IsTrue b → IsTrue (a || b)
 or_right true b h = refl
 or_right false b h = h
 
-or_elim : (a b : Bool) {P : Type 0} → (IsTrue a → P) → (IsTrue b → P) → IsTrue (a || b) → P
+pub or_elim : (a b : Bool) {P : Type 0} → (IsTrue a → P) → (IsTrue b → P) → IsTrue (a || b) → P
 or_elim true b f g h = f refl
 or_elim false b f g h = g h
 
