@@ -1,9 +1,9 @@
 -- What elements become, by the elements that are kept.
-use Rattle.std.proofs.Common.{◌≡◌, ◌∙◌, ◌<◌, ◌≤◌, ◌+◌, ℕ, suc, List, [], ◌∷◌, ◌++◌, map, length, get_or, drop, Bool, true, false, cond, nat_eq, Option, Some, None, arith, length-append, append-nil, refl, sym, ap, subst}
+use Rattle.std.proofs.Common.{◌≡◌, ◌∙◌, ◌<◌, ◌≤◌, ◌+◌, ℕ, suc, List, [], ◌∷◌, ◌++◌, map, length, get_or, drop, Bool, true, false, cond, nat_eq, Some, None, arith, length-append, append-nil, refl, sym, ap, subst}
 use Rattle.std.proofs.lemmas.List.{drop_all}
 use Rattle.std.proofs.lemmas.Bool.{eqb-true}
 use Rattle.mw_logic.specs.Term.{RawTerm, numeral, quoted, variable, apply, RawTerms, nil, cons}
-use Rattle.mw_logic.specs.Signature.{Signature, Operator, IsOperator, IsRawTerm, an_operator, AreRawTerms, end, next}
+use Rattle.mw_logic.specs.Signature.{Signature, Operator, IsOperator, IsRawTerm, an_operator, AreRawTerms, next}
 use Rattle.mw_logic.specs.Elements.{flat_arguments, all_flat_arguments}
 use Rattle.mw_logic.proofs.Canonical.{same_operator}
 use Rattle.mw_logic.specs.Accepted.{IsAccepted}
@@ -13,8 +13,8 @@ use Rattle.mw_omod.specs.declared.classes.Classes.{Classes}
 use Rattle.mw_omod.specs.declared.objects.Object.{Object}
 use Rattle.mw_omod.specs.declared.objects.Element.{Element}
 use Rattle.mw_omod.specs.Objects.{Written, IsOther, completed_object}
-use Rattle.mw_omod.specs.Completion.{HasObject, AreOfOneName, AreCompleted, no_element, element, LeftBecomes, other_left, kept_object, removed_object, RightBecomes, other_right, changed_object, new_object}
-use Rattle.mw_omod.specs.Seen.{seen_object, IsKeptObject, IsObjectOf, IsKept, AreKept, terms_seen, AreOfSide, HasAt, OneHas, kept_attributes, changed_attributes}
+use Rattle.mw_omod.specs.Completion.{HasObject, AreOfOneName, AreCompleted, no_element, element, LeftBecomes, kept_object, removed_object, RightBecomes, changed_object, new_object}
+use Rattle.mw_omod.specs.Seen.{seen_object, IsKeptObject, IsObjectOf, IsKept, terms_seen, AreOfSide, HasAt, OneHas, kept_attributes, changed_attributes}
 use Rattle.mw_omod.specs.Workable.{AreClasses}
 use Rattle.mw_omod.proofs.Moving.{moved, drop_at}
 use Rattle.mw_omod.proofs.Listing.{holds, held, one_has, one_name, one_form}

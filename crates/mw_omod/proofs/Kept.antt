@@ -1,19 +1,13 @@
 -- What completion keeps of a statement.
-use Rattle.std.proofs.Common.{◌≡◌, ◌⊎◌, inl, inr, ℕ, List, [], ◌∷◌, Bool, true, false, ◌||◌, refl, sym, ap, subst}
-use Rattle.std.specs.Prelude.{⊤, IsTrue}
+use Rattle.std.proofs.Common.{List, [], ◌∷◌, Bool, ◌||◌, sym, subst}
+use Rattle.std.specs.Prelude.{IsTrue}
 use Rattle.mw_logic.specs.Term.{Variable, RawTerm}
-use Rattle.mw_logic.specs.Signature.{Signature}
-use Rattle.mw_logic.specs.Accepted.{IsAccepted}
 use Rattle.mw_logic.specs.Preregular.{IsSortOf}
 use Rattle.mw_logic.specs.Substitution.{occurs}
-use Rattle.mw_logic.specs.Module.{Fragment, equal, matches, has_sort, is_true, Statement}
+use Rattle.mw_logic.specs.Module.{Fragment, equal, matches, has_sort, is_true}
 use Rattle.mw_logic.specs.Confluence.{HasOnly, AreBound}
 use Rattle.mw_least.specs.Conditions.{binds_among, occurs_among, AreRawFragments}
-use Rattle.mw_least.specs.Workable.{AreSides}
-use Rattle.mw_omod.specs.declared.classes.Classes.{Classes}
-use Rattle.mw_omod.specs.Completion.{IsCompletion}
-use Rattle.mw_omod.specs.Workable.{AreClasses}
-use Rattle.mw_omod.specs.Laws.{SidesStay, AreAllBound, VariablesStayBound}
+use Rattle.mw_omod.specs.Laws.{SidesStay, VariablesStayBound}
 use Rattle.mw_omod.proofs.RawSides.{left_stays_raw, right_stays_raw}
 use Rattle.mw_omod.proofs.Standing.{or_left, or_right, or_elim, left_kept, right_kept, left_completed}
 

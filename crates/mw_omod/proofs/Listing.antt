@@ -1,19 +1,17 @@
 -- The elements of a side that are kept are its elements, and the objects among them its objects.
-use Rattle.std.proofs.Common.{◌≡◌, ◌∙◌, ◌<◌, ◌≤◌, ◌+◌, ◌↔◌, ◌⊎◌, inl, inr, ℕ, zero, suc, List, [], ◌∷◌, ◌++◌, Bool, true, false, cond, nat_eq, Option, Some, None, MatchOption, slice_get, length, get_or, drop, arith, refl, sym, ap, subst}
-use Rattle.std.specs.Prelude.{⊤, IsTrue}
+use Rattle.std.proofs.Common.{◌≡◌, ◌∙◌, ◌<◌, ◌+◌, ◌⊎◌, inl, inr, ℕ, zero, suc, List, [], ◌∷◌, ◌++◌, Bool, true, false, cond, nat_eq, Option, Some, None, slice_get, length, get_or, drop, arith, refl, sym, ap, subst}
+use Rattle.std.specs.Prelude.{IsTrue}
 use Rattle.mw_logic.specs.Term.{RawTerm, numeral, quoted, variable, apply, RawTerms, nil, cons}
-use Rattle.mw_logic.specs.Signature.{Signature, IsRawTerm, an_operator, AreRawTerms, end, next, at_number}
+use Rattle.mw_logic.specs.Signature.{Signature, IsRawTerm, an_operator, AreRawTerms, end, next}
 use Rattle.mw_logic.specs.Accepted.{IsAccepted}
-use Rattle.mw_logic.specs.Axioms.{EqualModulo}
-use Rattle.mw_logic.specs.NormalForm.{normal_form}
 use Rattle.mw_logic.specs.Elements.{flat_arguments, all_flat_arguments}
 use Rattle.mw_logic.proofs.EqualByNormalForm.{equal_by_normal_form}
 use Rattle.mw_term.specs.Raws.{raw_term}
 use Rattle.mw_omod.specs.declared.classes.Classes.{Classes}
 use Rattle.mw_omod.specs.declared.objects.Object.{Object}
 use Rattle.mw_omod.specs.declared.objects.Element.{Element}
-use Rattle.mw_omod.specs.Objects.{Written, IsWritten, IsOther}
-use Rattle.mw_omod.specs.Completion.{elements, HasObject, repeats, AreOfOneName, HasTwice, HasRepetition, ChangesClass, IsBad, twice_left, twice_right, repetition_left, repetition_right, other_class}
+use Rattle.mw_omod.specs.Objects.{Written, IsWritten}
+use Rattle.mw_omod.specs.Completion.{HasObject, repeats, AreOfOneName, HasTwice, HasRepetition, ChangesClass, IsBad, twice_left, twice_right, repetition_left, repetition_right, other_class}
 use Rattle.mw_omod.specs.Seen.{seen_object, IsKeptObject, IsObjectOf, IsKept, AreKept, AreRaw, terms_seen, AreOfSide, HasAt, OfObject, OneHas, IsNamedTwice, Repeats, IsOfOtherClass, all_seen}
 use denote.Ref.{Bor}
 use Rattle.mw_term.specs.declared.raw.Raw.{Raw}
@@ -223,7 +221,7 @@ pub one_kept : (sig : Signature) (K : Classes) (ts : List (Bor Raw)) (i : ℕ) (
 one_kept sig K ts i r found found' e all h is p same kept terms keeps raw =
     let first : drop i ts ≡ r ∷ drop (i + 1) ts = drop_at ts i r h is in (
       ap (λ es. terms_seen es ++ all_seen (drop (i + 1) ts)) p
-      ∙ moved (λ (x : Element). raw_term x.term.now) found e (raw_term r.now) (all_seen (drop (i + 1) ts)) all same (ap (λ rs. terms_seen found ++ all_seen rs) (sym first) ∙ terms),
+          ∙ moved (λ (x : Element). raw_term x.term.now) found e (raw_term r.now) (all_seen (drop (i + 1) ts)) all same (ap (λ rs. terms_seen found ++ all_seen rs) (sym first) ∙ terms),
       subst (AreKept sig K) (sym p) (kept_push sig K found e keeps kept),
       (subst (λ rs. AreRaw sig (all_seen rs)) first raw).1,
     )

@@ -1,5 +1,5 @@
 -- Completed sides are raw terms, of the kinds of the sides.
-use Rattle.std.proofs.Common.{◌≡◌, ◌∙◌, ℕ, zero, suc, List, [], ◌∷◌, ◌++◌, Bool, true, false, cond, nat_eq, Option, Some, None, slice_get, refl, sym, ap, subst}
+use Rattle.std.proofs.Common.{◌≡◌, ◌∙◌, ℕ, zero, suc, List, [], ◌∷◌, ◌++◌, Bool, true, false, cond, nat_eq, Some, None, slice_get, refl, sym, ap, subst}
 use Rattle.std.specs.Prelude.{⊤}
 use Rattle.std.proofs.lemmas.Bool.{eqb-true}
 use Rattle.mw_logic.specs.Term.{RawTerm, numeral, quoted, variable, apply, RawTerms, nil, cons, binary, constant}
@@ -12,7 +12,7 @@ use Rattle.mw_logic.proofs.RawKept.{raw_pair, pair_raw}
 use Rattle.mw_logic.proofs.Soundness.{HasKind-same}
 use Rattle.mw_omod.specs.declared.classes.Classes.{Classes}
 use Rattle.mw_omod.specs.declared.classes.Role.TheVariants as role
-use Rattle.mw_omod.specs.Objects.{Attribute, Written, attribute_term, class_variable, value_variable, fresh, joined_before, role_of, IsSetOf, no_attribute, an_attribute, joined_attributes, object_of, IsWritten, rest_variable, set_with, completed_object}
+use Rattle.mw_omod.specs.Objects.{Attribute, Written, attribute_term, value_variable, fresh, joined_before, role_of, IsSetOf, no_attribute, an_attribute, joined_attributes, object_of, IsWritten, rest_variable, set_with, completed_object}
 use Rattle.mw_omod.specs.Completion.{has_attribute, lacking, AreCompleted, no_element, element, elements, HasObject, IsCompleted, LeftBecomes, other_left, kept_object, removed_object, RightBecomes, other_right, changed_object, new_object}
 use Rattle.mw_omod.specs.Seen.{AreRaw}
 use Rattle.mw_omod.specs.Workable.{AreClasses}
@@ -55,8 +55,7 @@ module _ (sig : Signature) (ok : IsAccepted sig) (K : Classes) (classes : AreCla
   comma_raw : (s t : RawTerm) → IsRawTerm sig s → HasKind sig s K.set → IsRawTerm sig t → HasKind sig t K.set → IsRawTerm sig (binary K.comma s t) × HasKind sig (binary K.comma s t) K.set
   comma_raw s t r h q k =
       let (A, B, e, first, second) = ok.assoc K.comma Comma classes.comma.is_there classes.comma.assoc in
-      let up : SameKind sig K.set Comma.result = SameKind-sym classes.comma_kind in
-      (
+      let up : SameKind sig K.set Comma.result = SameKind-sym classes.comma_kind in (
         pair_raw sig ok K.comma Comma A B s t classes.comma.is_there e r (HasKind-same h (SameKind-trans up (SameKind-sym first))) q (HasKind-same k (SameKind-trans up (SameKind-sym second))),
         of_operator Comma classes.comma.is_there classes.comma_kind,
       )
@@ -191,8 +190,7 @@ module _ (sig : Signature) (ok : IsAccepted sig) (K : Classes) (classes : AreCla
   joined_raw [] last (r, h, k) = (r, h)
   joined_raw (t ∷ ts) last (r, h, k) =
       let (q, l) = joined_raw ts last k in
-      let (A, B, e, first, second) = ok.assoc K.union Union classes.union.is_there classes.union.assoc in
-      (
+      let (A, B, e, first, second) = ok.assoc K.union Union classes.union.is_there classes.union.assoc in (
         pair_raw sig ok K.union Union A B t (joined_before K.union ts last) classes.union.is_there e r (HasKind-same h (SameKind-sym first)) q (HasKind-same l (SameKind-sym second)),
         of_operator Union classes.union.is_there same,
       )

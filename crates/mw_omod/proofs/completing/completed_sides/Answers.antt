@@ -1,6 +1,5 @@
-use Rattle.std.proofs.Common.{◌∙◌, List, [], ◌∷◌, ◌++◌, map, subst, sym}
+use Rattle.std.proofs.Common.{map, subst, sym}
 use Rattle.std.proofs.lemmas.Bool.{both_ways}
-use Rattle.mw_logic.specs.Term.{RawTerm}
 use Rattle.mw_term.specs.Raws.{raw_term}
 use Rattle.mw_omod.specs.Completion.{elements, LeftBecomes, RightBecomes, AreCompleted}
 use Rattle.mw_omod.specs.Seen.{AreOfSide}

@@ -17,6 +17,6 @@ loop-term-init c =
 pub loop-term-preserved : goal.loop-term-preserved
 loop-term-preserved c =
     let (terms, kept, raw) = one_kept c.args.facts.now c.args.classes.now c.as_slice-terms.result.now c.loop-term.term-index c.term-item.result c.loop-term.found.items _
-        (record { term = c.term-item.result; object = c.in_ok-object.object }) (elements c.args.classes.now (raw_term c.args.term.now)) c.loop-term-test.true c.term-item.is c.in_ok-push.ensures.items refl
-        c.in_ok-object.ensures c.loop-term.invariant.terms c.loop-term.invariant.kept c.loop-term.invariant.raw in
+    (record { term = c.term-item.result; object = c.in_ok-object.object }) (elements c.args.classes.now (raw_term c.args.term.now)) c.loop-term-test.true c.term-item.is c.in_ok-push.ensures.items refl
+    c.in_ok-object.ensures c.loop-term.invariant.terms c.loop-term.invariant.kept c.loop-term.invariant.raw in
     record { terms = terms; kept = kept; raw = raw }
