@@ -1,5 +1,5 @@
 -- Arguments of terms as they are written.
-use Rattle.std.proofs.Common.{◌≡◌, ◌∙◌, ◌≤◌, ◌<◌, ℕ, List, [], ◌∷◌, ◌++◌, map, length, get_or, Bool, true, false, Result, Ok, Err, IfOk, arith, refl, sym, ap, subst}
+use Rattle.std.proofs.Common.{◌≡◌, ◌∙◌, ◌≤◌, ◌<◌, ℕ, List, [], ◌∷◌, length, get_or, Result, Ok, Err, IfOk, arith, refl, sym, ap, subst}
 use Rattle.mw_logic.specs.Term.{RawTerm, apply, RawTerms, nil, cons}
 use Rattle.mw_logic.specs.Signature.{Signature, IsRawTerm, an_operator, next}
 use Rattle.mw_logic.specs.NormalForm.{normal_form}

@@ -1,8 +1,11 @@
 -- What elements become, by the elements that are kept.
-use Rattle.std.proofs.Common.{◌≡◌, ◌∙◌, ◌<◌, ◌≤◌, ◌+◌, ℕ, suc, List, [], ◌∷◌, ◌++◌, map, length, get_or, drop, Option, Some, None, arith, length-append, append-nil, refl, sym, ap, subst}
+use Rattle.std.proofs.Common.{◌≡◌, ◌∙◌, ◌<◌, ◌≤◌, ◌+◌, ℕ, suc, List, [], ◌∷◌, ◌++◌, map, length, get_or, drop, Bool, true, false, cond, nat_eq, Some, None, arith, length-append, append-nil, refl, sym, ap, subst}
 use Rattle.std.proofs.lemmas.List.{drop_all}
-use Rattle.mw_logic.specs.Term.{RawTerm, apply, RawTerms, nil, cons}
-use Rattle.mw_logic.specs.Signature.{Signature, IsRawTerm, an_operator, AreRawTerms, end, next}
+use Rattle.std.proofs.lemmas.Bool.{eqb-true}
+use Rattle.mw_logic.specs.Term.{RawTerm, numeral, quoted, variable, apply, RawTerms, nil, cons}
+use Rattle.mw_logic.specs.Signature.{Signature, Operator, IsOperator, IsRawTerm, an_operator, AreRawTerms, next}
+use Rattle.mw_logic.specs.Elements.{flat_arguments, all_flat_arguments}
+use Rattle.mw_logic.proofs.Canonical.{same_operator}
 use Rattle.mw_logic.specs.Accepted.{IsAccepted}
 use Rattle.mw_term.specs.declared.raw.Raw.{Raw}
 use Rattle.mw_term.specs.Raws.{raw_term}
@@ -10,8 +13,9 @@ use Rattle.mw_omod.specs.declared.classes.Classes.{Classes}
 use Rattle.mw_omod.specs.declared.objects.Object.{Object}
 use Rattle.mw_omod.specs.declared.objects.Element.{Element}
 use Rattle.mw_omod.specs.Objects.{Written, IsOther, completed_object}
-use Rattle.mw_omod.specs.Completion.{HasObject, AreOfOneName, AreCompleted, no_element, element, LeftBecomes, other_left, kept_object, removed_object, RightBecomes, other_right, changed_object, new_object}
-use Rattle.mw_omod.specs.Seen.{seen_object, IsKeptObject, IsObjectOf, IsKept, AreKept, terms_seen, AreOfSide, HasAt, OneHas, kept_attributes, changed_attributes}
+use Rattle.mw_omod.specs.Completion.{HasObject, AreOfOneName, AreCompleted, no_element, element, LeftBecomes, kept_object, removed_object, RightBecomes, changed_object, new_object}
+use Rattle.mw_omod.specs.Seen.{seen_object, IsKeptObject, IsObjectOf, IsKept, terms_seen, AreOfSide, HasAt, OneHas, kept_attributes, changed_attributes}
+use Rattle.mw_omod.specs.Workable.{AreClasses}
 use Rattle.mw_omod.proofs.Moving.{moved, drop_at}
 use Rattle.mw_omod.proofs.Listing.{holds, held, one_has, one_name, one_form}
 
@@ -69,3 +73,38 @@ module _ (B : ℕ → RawTerm → RawTerm → Type 0) (es : List Element) where
   pub all_done : (i : ℕ) (made : List Raw) → length es ≤ i → IsDone i made → AreCompleted B 1 (terms_seen es) (map raw_term made)
   all_done i made h done =
       subst (AreCompleted B 1 (terms_seen es)) (append-nil (map raw_term made)) (done [] (subst (λ zs. AreCompleted B (suc (length made)) (terms_seen zs) []) (sym (drop_all i es h)) (no_element (suc (length made)))))
+
+-- as many elements are completed
+made_some : (B : ℕ → RawTerm → RawTerm → Type 0) {i : ℕ} {ts us : List RawTerm} → AreCompleted B i ts us → 0 < length ts → 0 < length us
+made_some B (no_element i) l = l
+made_some B (element i t u ts us b rest) l = omega arith
+
+map_length : (us : List Raw) → length (map raw_term us) ≡ length us
+map_length [] = refl
+map_length (u ∷ us) = let h = map_length us in omega (arith, h)
+
+pub completed_some : (B : ℕ → RawTerm → RawTerm → Type 0) (i : ℕ) (ts : List RawTerm) (us : List Raw) → AreCompleted B i ts (map raw_term us) → 0 < length ts → 0 < length us
+completed_some B i ts us h l = let a = made_some B h l in let b = map_length us in omega (arith, a, b)
+
+module _ (sig : Signature) (ok : IsAccepted sig) (K : Classes) (classes : AreClasses sig K) where
+  -- a side has elements
+  mutual
+    pub elements_some : (t : RawTerm) → IsRawTerm sig t → 0 < length (flat_arguments K.union t)
+    elements_some (numeral n) r = omega arith
+    elements_some (quoted q) r = omega arith
+    elements_some (variable x) r = omega arith
+    elements_some (apply g ts) (an_operator o is args) = by_test (λ A Ks h. first_some ts A Ks h) (nat_eq K.union g) refl
+      where
+        by_test : ((A : ℕ) (Ks : List ℕ) → AreRawTerms sig ts (A ∷ Ks) → 0 < length (all_flat_arguments K.union ts)) → (b : Bool) → nat_eq K.union g ≡ b → 0 < length (cond b (all_flat_arguments K.union ts) (apply g ts ∷ []))
+        by_test some false q = omega arith
+        by_test some true q =
+            let (A, B, e, first, second) = ok.assoc K.union classes.union.operator classes.union.is_there classes.union.assoc in
+            let there : IsOperator sig K.union o = subst (λ f. IsOperator sig f o) (sym (eqb-true K.union g q)) is in
+            some A (B ∷ []) (subst (AreRawTerms sig ts) (ap (λ (x : Operator). x.args) (same_operator sig K.union o classes.union.operator there classes.union.is_there) ∙ e) args)
+
+    first_some : (ts : RawTerms) (A : ℕ) (Ks : List ℕ) → AreRawTerms sig ts (A ∷ Ks) → 0 < length (all_flat_arguments K.union ts)
+    first_some nil A Ks h = elim h [ ]
+    first_some (cons t ts) A Ks (next r h rest) =
+        let a = elements_some t r in
+        let b = length-append (flat_arguments K.union t) (all_flat_arguments K.union ts) in
+        omega (arith, a, b)

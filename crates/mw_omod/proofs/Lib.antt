@@ -14,3 +14,7 @@ mod Standing
 pub mod Declaring
 -- What elements become.
 mod Becoming
+-- The kinds of completed sides.
+mod RawSides
+-- What completion keeps of a statement.
+mod Kept

@@ -1,20 +1,21 @@
 -- The elements of a side that are kept are its elements, and the objects among them its objects.
-use Rattle.std.proofs.Common.{◌≡◌, ◌∙◌, ◌<◌, ◌≤◌, ◌+◌, ◌↔◌, ◌⊎◌, inl, inr, ℕ, zero, suc, List, [], ◌∷◌, ◌++◌, Bool, true, false, cond, nat_eq, Option, Some, None, MatchOption, slice_get, arith, refl, sym, ap, subst}
-use Rattle.std.specs.Prelude.{⊤, IsTrue}
+use Rattle.std.proofs.Common.{◌≡◌, ◌∙◌, ◌<◌, ◌+◌, ◌⊎◌, inl, inr, ℕ, zero, suc, List, [], ◌∷◌, ◌++◌, Bool, true, false, cond, nat_eq, Option, Some, None, slice_get, length, get_or, drop, arith, refl, sym, ap, subst}
+use Rattle.std.specs.Prelude.{IsTrue}
 use Rattle.mw_logic.specs.Term.{RawTerm, numeral, quoted, variable, apply, RawTerms, nil, cons}
-use Rattle.mw_logic.specs.Signature.{Signature, IsRawTerm, an_operator, AreRawTerms, end, next, at_number}
+use Rattle.mw_logic.specs.Signature.{Signature, IsRawTerm, an_operator, AreRawTerms, end, next}
 use Rattle.mw_logic.specs.Accepted.{IsAccepted}
-use Rattle.mw_logic.specs.Axioms.{EqualModulo}
-use Rattle.mw_logic.specs.NormalForm.{normal_form}
 use Rattle.mw_logic.specs.Elements.{flat_arguments, all_flat_arguments}
 use Rattle.mw_logic.proofs.EqualByNormalForm.{equal_by_normal_form}
 use Rattle.mw_term.specs.Raws.{raw_term}
 use Rattle.mw_omod.specs.declared.classes.Classes.{Classes}
 use Rattle.mw_omod.specs.declared.objects.Object.{Object}
 use Rattle.mw_omod.specs.declared.objects.Element.{Element}
-use Rattle.mw_omod.specs.Objects.{Written, IsWritten, IsOther}
-use Rattle.mw_omod.specs.Completion.{elements, HasObject, repeats, AreOfOneName, HasTwice, HasRepetition, ChangesClass, IsBad, twice_left, twice_right, repetition_left, repetition_right, other_class}
-use Rattle.mw_omod.specs.Seen.{seen_object, IsKeptObject, IsObjectOf, IsKept, AreKept, AreRaw, terms_seen, AreOfSide, HasAt, OfObject, OneHas, IsNamedTwice, Repeats, IsOfOtherClass}
+use Rattle.mw_omod.specs.Objects.{Written, IsWritten}
+use Rattle.mw_omod.specs.Completion.{HasObject, repeats, AreOfOneName, HasTwice, HasRepetition, ChangesClass, IsBad, twice_left, twice_right, repetition_left, repetition_right, other_class}
+use Rattle.mw_omod.specs.Seen.{seen_object, IsKeptObject, IsObjectOf, IsKept, AreKept, AreRaw, terms_seen, AreOfSide, HasAt, OfObject, OneHas, IsNamedTwice, Repeats, IsOfOtherClass, all_seen}
+use denote.Ref.{Bor}
+use Rattle.mw_term.specs.declared.raw.Raw.{Raw}
+use Rattle.mw_omod.proofs.Moving.{moved, drop_at}
 use Rattle.mw_omod.proofs.Sets.{written_once}
 
 some_injective : {X : Type 0} {x y : X} → Some x ≡ Some y → x ≡ y
@@ -208,3 +209,19 @@ module _ (sig : Signature) (ok : IsAccepted sig) (K : Classes) where
     are_bad (repetition_left h) = inr (inr (inl (repetition_has left ls of_left h)))
     are_bad (repetition_right h) = inr (inr (inr (inl (repetition_has right rs of_right h))))
     are_bad (other_class h) = inr (inr (inr (inr (changed h))))
+
+-- one element more is kept
+kept_push : (sig : Signature) (K : Classes) (es : List Element) (e : Element) → AreKept sig K es → IsKept sig K e → AreKept sig K (es ++ e ∷ [])
+kept_push sig K [] e h k = (k, tt)
+kept_push sig K (d ∷ es) e (h, hs) k = (h, kept_push sig K es e hs k)
+
+pub one_kept : (sig : Signature) (K : Classes) (ts : List (Bor Raw)) (i : ℕ) (r : Bor Raw) (found found' : List Element) (e : Element) (all : List RawTerm) → i < length ts → r ≡ get_or ts i r → found' ≡ found ++ e ∷ []
+    → raw_term e.term.now ≡ raw_term r.now → IsKept sig K e → terms_seen found ++ all_seen (drop i ts) ≡ all → AreKept sig K found → AreRaw sig (all_seen (drop i ts))
+    → (terms_seen found' ++ all_seen (drop (i + 1) ts) ≡ all) × AreKept sig K found' × AreRaw sig (all_seen (drop (i + 1) ts))
+one_kept sig K ts i r found found' e all h is p same kept terms keeps raw =
+    let first : drop i ts ≡ r ∷ drop (i + 1) ts = drop_at ts i r h is in (
+      ap (λ es. terms_seen es ++ all_seen (drop (i + 1) ts)) p
+          ∙ moved (λ (x : Element). raw_term x.term.now) found e (raw_term r.now) (all_seen (drop (i + 1) ts)) all same (ap (λ rs. terms_seen found ++ all_seen rs) (sym first) ∙ terms),
+      subst (AreKept sig K) (sym p) (kept_push sig K found e keeps kept),
+      (subst (λ rs. AreRaw sig (all_seen rs)) first raw).1,
+    )

@@ -1,5 +1,5 @@
 -- A term is a set of attributes in one way, and an object in one way.
-use Rattle.std.proofs.Common.{◌≡◌, ◌∙◌, ◌≤◌, ℕ, List, [], ◌∷◌, ◌++◌, Bool, true, false, cond, nat_eq, Option, Some, None, arith, eq-eqb, refl, sym, ap, subst}
+use Rattle.std.proofs.Common.{◌≡◌, ◌∙◌, ◌≤◌, ℕ, List, [], ◌∷◌, ◌++◌, cond, nat_eq, Option, Some, None, arith, eq-eqb, refl, sym, ap, subst}
 use Rattle.mw_logic.specs.Term.{RawTerm, numeral, quoted, variable, apply, RawTerms, nil, cons, constant}
 use Rattle.mw_logic.specs.Parts.{number_of_terms}
 use Rattle.mw_omod.specs.declared.classes.Classes.{Classes}

@@ -1,10 +1,10 @@
 -- The variables of completed sides.
-use Rattle.std.proofs.Common.{◌≡◌, ◌∙◌, ◌+◌, ◌⊎◌, inl, inr, ℕ, zero, suc, List, [], ◌∷◌, ◌++◌, map, Bool, true, false, ◌||◌, cond, nat_eq, Option, Some, None, slice_get, arith, refl, sym, ap, subst}
+use Rattle.std.proofs.Common.{◌≡◌, ◌+◌, ℕ, zero, suc, List, [], ◌∷◌, ◌++◌, Bool, true, false, ◌||◌, cond, nat_eq, Some, None, slice_get, arith, refl, sym, ap, subst}
 use Rattle.std.specs.Prelude.{⊤, IsTrue}
-use Rattle.mw_logic.specs.Term.{Variable, RawTerm, numeral, quoted, variable, apply, RawTerms, nil, cons, binary, unary, constant}
+use Rattle.mw_logic.specs.Term.{Variable, RawTerm, numeral, quoted, variable, apply, RawTerms, nil, cons, constant}
 use Rattle.mw_logic.specs.Signature.{Signature}
 use Rattle.mw_logic.specs.Elements.{flat_arguments, all_flat_arguments}
-use Rattle.mw_logic.specs.Substitution.{same_variable, occurs, occurs_in}
+use Rattle.mw_logic.specs.Substitution.{occurs, occurs_in}
 use Rattle.mw_logic.proofs.SameConditions.{same_variable-refl, same_variable-is}
 use Rattle.mw_omod.specs.declared.classes.Classes.{Classes}
 use Rattle.mw_omod.specs.declared.classes.Role.TheVariants as role
@@ -12,15 +12,15 @@ use Rattle.mw_omod.specs.Objects.{Attribute, Written, attribute_term, class_vari
 use Rattle.mw_omod.specs.Completion.{has_attribute, lacking, AreCompleted, no_element, element, elements, HasObject, IsCompleted, LeftBecomes, other_left, kept_object, removed_object, RightBecomes, other_right, changed_object, new_object}
 use Rattle.mw_omod.proofs.Sets.{written_once}
 
-or_left : (a b : Bool) → IsTrue a → IsTrue (a || b)
+pub or_left : (a b : Bool) → IsTrue a → IsTrue (a || b)
 or_left true b h = refl
 or_left false b h = cc
 
-or_right : (a b : Bool) → IsTrue b → IsTrue (a || b)
+pub or_right : (a b : Bool) → IsTrue b → IsTrue (a || b)
 or_right true b h = refl
 or_right false b h = h
 
-or_elim : (a b : Bool) {P : Type 0} → (IsTrue a → P) → (IsTrue b → P) → IsTrue (a || b) → P
+pub or_elim : (a b : Bool) {P : Type 0} → (IsTrue a → P) → (IsTrue b → P) → IsTrue (a || b) → P
 or_elim true b f g h = f refl
 or_elim false b f g h = g h
 

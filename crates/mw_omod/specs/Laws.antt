@@ -1,5 +1,4 @@
 -- What completion keeps of a statement.
-use Rattle.std.specs.Prelude.{◌||◌}
 use Rattle.mw_logic.specs.Signature.{Signature}
 use Rattle.mw_logic.specs.Accepted.{IsAccepted}
 use Rattle.mw_logic.specs.Substitution.{occurs}

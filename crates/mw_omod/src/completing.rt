@@ -188,20 +188,16 @@ fn changed_object(
     alloc: Global,
     classes: &Classes,
     object: &Object<'_>,
-    found: Found<'_, '_>,
+    found: &Found<'_, '_>,
 ) -> Result<Raw, AllocError>
-    ensures { IfOk result (λ t. raw_term t ≡ completed_object classes.now (found.index + 1) (raw_term object.now.name.now) found.object.now.sort (changed_attributes (seen_object object.now) (seen_object found.object.now))) }
+    ensures { IfOk result (λ t. raw_term t ≡ completed_object classes.now (found.now.index + 1) (raw_term object.now.name.now) found.now.object.now.sort (changed_attributes (seen_object object.now) (seen_object found.now.object.now))) }
 {
-    let Found {
-        index,
-        object: other,
-    } = found;
     let head = Head {
-        number: number_at(index)?,
+        number: number_at(found.index)?,
         name: object.name,
-        sort: other.sort,
+        sort: found.object.sort,
     };
-    let attributes = changed_attributes(alloc, object, other)?;
+    let attributes = changed_attributes(alloc, object, found.object)?;
     completed(alloc, classes, &head, attributes)
 }
 
@@ -237,7 +233,7 @@ fn right_element(
 {
     match &element.object {
         Some(object) => match named(lefts, &object.form) {
-            Some(found) => changed_object(alloc, classes, object, found),
+            Some(found) => changed_object(alloc, classes, object, &found),
             None => copied(alloc, element.term),
         },
         None => copied(alloc, element.term),

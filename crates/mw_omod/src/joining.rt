@@ -24,12 +24,7 @@ fn binary(alloc: Global, operator: OpId, first: Raw, second: Raw) -> Result<Raw,
 }
 
 /// Terms and the last one, joined from the right.
-pub fn joined(
-    alloc: Global,
-    operator: OpId,
-    parts: Vec<Raw>,
-    last: Raw,
-) -> Result<Raw, AllocError>
+pub fn joined(alloc: Global, operator: OpId, parts: Vec<Raw>, last: Raw) -> Result<Raw, AllocError>
     ensures { IfOk result (λ t. raw_term t ≡ joined_before operator (map raw_term parts.items) (raw_term last)) }
 {
     let mut parts = parts;

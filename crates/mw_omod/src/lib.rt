@@ -27,13 +27,16 @@
 //!   want of memory.
 //! - Fresh variables have a blank in their names, which no token has (specs/Objects).
 //! - A completed statement is what a statement must be: its sides are terms of the signature of one kind, with sorts
-//!   that are there, and variables that are bound stay bound (`completed_sides`, `completed_bound`).
+//!   that are there, and variables that are bound stay bound (the laws [`sides_stay`] and [`variables_stay_bound`]).
 //!
 //! Conditions: the sides are terms of the signature, and the classes are of it (`AreClasses`). They may be of any size:
 //! what is too deep or has too large a number is told of the completed sides.
 //!
-//! Cost: `declare` is linear in the statements. `complete` takes a walk over the sides, a canonical form for the name of each written object, and a comparison for each pair of
-//! objects and each pair of their attributes; a text has at most 1,024 tokens. Want of memory may come at any call.
+//! Besides, `meet_all`, `mentioned` and `variables_of` meet the variables of terms and statements, in order of mention.
+//!
+//! Cost: `declare` is linear in the statements. `complete` takes a walk over the sides, a canonical form for the name
+//! of each written object, and a comparison for each pair of objects and for each pair of attributes of two objects; a
+//! text has at most 1,024 tokens. Want of memory may come at any call.
 #![tactic(auto)]
 
 ghost use Rattle.std.specs.Prelude.{◌≡◌};
@@ -47,6 +50,7 @@ mod elements;
 mod faults;
 mod forms;
 mod joining;
+mod laws;
 mod mentions;
 mod names;
 mod objects;
@@ -54,6 +58,7 @@ mod objects;
 pub use classes::{Classes, Role};
 pub use completing::complete;
 pub use declare::declare;
+pub use laws::{sides_stay, variables_stay_bound};
 pub use mentions::{meet_all, mentioned, variables_of};
 use std::alloc::AllocError;
 

@@ -186,9 +186,10 @@ pub fn side<'r>(
     requires { IsRawTerm facts.now (raw_term term.now) }
     ensures { IfOk result (λ v. AreOfSide facts.now classes.now (raw_term term.now) v.items) }
 {
-    let terms = elements(alloc, classes.union, term)?;
+    let listed = elements(alloc, classes.union, term)?;
+    let terms = listed.as_slice();
     let mut found = Vec::with_capacity(alloc, terms.len())?;
-    for term in terms.as_slice() {
+    for term in terms {
         let object = object_in(alloc, facts, classes, *term)?;
         found.push(Element {
             term: *term,

@@ -1,5 +1,4 @@
-use Rattle.std.proofs.Common.{◌≡◌, suc, length, arith, refl, subst, sym}
-use Rattle.mw_term.specs.Raws.{raw_term}
+use Rattle.std.proofs.Common.{arith}
 use Rattle.mw_omod.specs.Completion.{LeftBecomes}
 use Rattle.mw_omod.proofs.Becoming.{one_more, all_done}
 use Rattle.mw_omod.proofs.Listing.{kept_at}

@@ -1,4 +1,4 @@
-use Rattle.std.proofs.Common.{◌↔◌, ◌≡◌, length}
+use Rattle.std.proofs.Common.{◌↔◌, length}
 use Rattle.mw_omod.specs.Seen.{IsNamedTwice}
 use Rattle.mw_omod.proofs.faults.is_named_twice.Given as goal
 

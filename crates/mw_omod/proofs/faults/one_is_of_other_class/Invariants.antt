@@ -1,4 +1,4 @@
-use Rattle.std.proofs.Common.{◌↔◌, ◌≡◌, length}
+use Rattle.std.proofs.Common.{◌↔◌, length}
 use Rattle.mw_omod.specs.Seen.{OneHas, IsOfOtherClass}
 use Rattle.mw_omod.proofs.faults.one_is_of_other_class.Given as goal
 

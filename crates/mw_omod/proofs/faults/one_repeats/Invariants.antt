@@ -1,4 +1,4 @@
-use Rattle.std.proofs.Common.{◌↔◌, ◌≡◌, length}
+use Rattle.std.proofs.Common.{◌↔◌, length}
 use Rattle.mw_omod.specs.Seen.{OneHas, Repeats}
 use Rattle.mw_omod.proofs.faults.one_repeats.Given as goal
 

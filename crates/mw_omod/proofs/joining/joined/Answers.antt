@@ -1,6 +1,4 @@
-use Rattle.std.proofs.Common.{◌≡◌, ◌∙◌, ◌++◌, [], ◌∷◌, List, map, ap, sym}
-use Rattle.mw_logic.specs.Term.{RawTerm}
-use Rattle.mw_term.specs.declared.raw.Raw.{Raw}
+use Rattle.std.proofs.Common.{◌∙◌, map, ap, sym}
 use Rattle.mw_term.specs.Raws.{raw_term}
 use Rattle.mw_omod.specs.Objects.{joined_before}
 use Rattle.mw_omod.proofs.Moving.{popped}

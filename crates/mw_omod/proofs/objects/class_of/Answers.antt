@@ -7,4 +7,4 @@ use Rattle.mw_omod.proofs.objects.class_of.Goals as goal
 pub returns-then-not-is_empty : goal.returns-then-not-is_empty
 returns-then-not-is_empty c = λ k S e r.
     let none = as_many c.as_slice.result.now _ (c.as_slice.ensures ∙ same_arguments (ap raw_term (sym c.in-Op.is) ∙ e)) in
-    let k = c.if-not-is_empty.true in both_ways _ (c.is_empty.ensures ∙ ap (λ n. n == 0) none) k
+    both_ways _ c.if-not-is_empty.true (c.is_empty.ensures ∙ ap (λ n. n == 0) none)

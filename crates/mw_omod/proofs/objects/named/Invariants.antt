@@ -1,4 +1,4 @@
-use Rattle.std.proofs.Common.{◌↔◌, ◌≡◌, ◌+◌, length, drop}
+use Rattle.std.proofs.Common.{◌≡◌, ◌+◌, length, drop}
 use Rattle.mw_omod.specs.Seen.{OneHas}
 use Rattle.mw_omod.proofs.objects.named.Given as goal
 

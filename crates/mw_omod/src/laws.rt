@@ -1,0 +1,12 @@
+// What completion keeps of a statement.
+ghost use Rattle.mw_omod.specs.Laws.{SidesStay, VariablesStayBound};
+
+/// The law that the sides of a completed statement are terms of the signature of one kind, with sorts that are there.
+pub fn sides_stay()
+    ensures { SidesStay }
+{}
+
+/// The law that the variables of a statement stay bound where it is completed.
+pub fn variables_stay_bound()
+    ensures { VariablesStayBound }
+{}
