@@ -1,5 +1,5 @@
 -- What the operators of a flattened module are to objects, by the classes that its statements declare. (Maude Manual, chapter 8, "Object-oriented modules".)
-use Rattle.std.specs.Prelude.{◌≡◌, ◌≢◌, ◌↔◌, ℕ, List, [], ◌∷◌, ◌++◌, Option, Some, None, codes}
+use Rattle.std.specs.Prelude.{◌≡◌, ◌≢◌, ◌↔◌, ℕ, List, [], ◌∷◌, ◌++◌, length, Option, Some, None, codes}
 use Rattle.mw_logic.specs.Signature.{Signature, Operator, IsOperator, IsSortNamed, SameKind, IsAssociative, Member}
 use Rattle.mw_text.specs.Names.{name_of_tokens}
 use Rattle.mw_module.specs.declared.classes.ClassAttribute.{ClassAttribute}
@@ -86,6 +86,7 @@ module _ (sig : Signature) where
 
   -- These are the classes of a module with these statements.
   pub record AreClassesOf (ss : List SeenLined) (K : Classes) : Type 0 where
+    pub counted : length K.roles ≡ length sig.operators
     pub operators : AreObjectOperators K.none K.comma K.object K.union K.set
     pub constants : (f S : ℕ) → role_of K f ≡ role.Class S ↔ IsClassConstant (classes_of ss) f S
     pub values : (f S : ℕ) → role_of K f ≡ role.Attribute S ↔ IsAttributeOperator (classes_of ss) f S

@@ -1,5 +1,5 @@
 -- Variables that are met.
-mod Meeting
+pub mod Meeting
 -- Lists that are gone through.
 mod Moving
 -- Sets of attributes and objects, each in one way.
@@ -15,6 +15,8 @@ pub mod Declaring
 -- What elements become.
 mod Becoming
 -- The kinds of completed sides.
-mod RawSides
+pub mod RawSides
 -- What completion keeps of a statement.
-mod Kept
+pub mod Kept
+-- A rule is completed in one way.
+pub mod Once

@@ -1,4 +1,5 @@
 -- What completion keeps of a statement.
+use Rattle.std.specs.Prelude.{◌≡◌}
 use Rattle.mw_logic.specs.Signature.{Signature}
 use Rattle.mw_logic.specs.Accepted.{IsAccepted}
 use Rattle.mw_logic.specs.Substitution.{occurs}
@@ -21,3 +22,7 @@ pub record AreAllBound (e : Statement) : Type 0 where
 
 abbrev pub VariablesStayBound : Type 0
 VariablesStayBound = (sig : Signature) (K : Classes) (e e' : Statement) → IsCompletion sig K e e' → AreAllBound e → AreAllBound e'
+
+-- A statement has one completion.
+abbrev pub CompletedOnce : Type 0
+CompletedOnce = (sig : Signature) (K : Classes) (e a b : Statement) → IsCompletion sig K e a → IsCompletion sig K e b → a ≡ b

@@ -1,5 +1,5 @@
 // What completion keeps of a statement.
-ghost use Rattle.mw_omod.specs.Laws.{SidesStay, VariablesStayBound};
+ghost use Rattle.mw_omod.specs.Laws.{CompletedOnce, SidesStay, VariablesStayBound};
 
 /// The law that the sides of a completed statement are terms of the signature of one kind, with sorts that are there.
 pub fn sides_stay()
@@ -9,4 +9,9 @@ pub fn sides_stay()
 /// The law that the variables of a statement stay bound where it is completed.
 pub fn variables_stay_bound()
     ensures { VariablesStayBound }
+{}
+
+/// The law that a statement has one completion.
+pub fn completed_once()
+    ensures { CompletedOnce }
 {}

@@ -28,6 +28,7 @@
 //! - Fresh variables have a blank in their names, which no token has (specs/Objects).
 //! - A completed statement is what a statement must be: its sides are terms of the signature of one kind, with sorts
 //!   that are there, and variables that are bound stay bound (the laws [`sides_stay`] and [`variables_stay_bound`]).
+//!   It is the only one ([`completed_once`]).
 //!
 //! Conditions: the sides are terms of the signature, and the classes are of it (`AreClasses`). They may be of any size:
 //! what is too deep or has too large a number is told of the completed sides.
@@ -58,7 +59,7 @@ mod objects;
 pub use classes::{Classes, Role};
 pub use completing::complete;
 pub use declare::declare;
-pub use laws::{sides_stay, variables_stay_bound};
+pub use laws::{completed_once, sides_stay, variables_stay_bound};
 pub use mentions::{meet_all, mentioned, variables_of};
 use std::alloc::AllocError;
 
