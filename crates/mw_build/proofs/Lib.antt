@@ -17,5 +17,6 @@ pub mod Naming
 pub mod PrintedVariables
 pub mod SidesOfTokens
 pub mod Printing
+pub mod ClassesThere
 pub mod OneClasses
 pub mod OneModule

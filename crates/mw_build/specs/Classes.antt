@@ -71,7 +71,8 @@ module _ (sig : Signature) where
     pub sort : IsSortNamed sig S attribute.sort
     pub first : (a : ClassAttribute) → Member a before → IsOperatorOf f a → ⊥
 
-  -- CONFIGURATION's operators are these, and its sort of sets of attributes
+  -- CONFIGURATION's operators are these, and its sort of sets of attributes, in whose kind attributes are; what joins attributes, and what joins elements, is
+  -- associative
   pub record AreObjectOperators (none comma object union set : ℕ) : Type 0 where
     pub none_is : IsOperatorOn none (codes "none") [] (codes "AttributeSet")
     pub comma_is : IsOperatorOn comma (codes "_`,_") (codes "AttributeSet" ∷ codes "AttributeSet" ∷ []) (codes "AttributeSet")
@@ -80,6 +81,9 @@ module _ (sig : Signature) where
     pub union_joins : IsAssociative sig union
     pub union_is : IsOperatorOn union (codes "__") (codes "Configuration" ∷ codes "Configuration" ∷ []) (codes "Configuration")
     pub set_is : IsSortNamed sig set (codes "AttributeSet")
+    pub attribute : ℕ
+    pub attribute_is : IsSortNamed sig attribute (codes "Attribute")
+    pub of_sets : SameKind sig attribute set
 
   abbrev pub IsConfiguration : Type 0
   IsConfiguration = (none comma object union set : ℕ) × AreObjectOperators none comma object union set

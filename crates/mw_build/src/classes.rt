@@ -207,7 +207,8 @@ pub fn classes_of(
         object,
         union,
     } = operators;
-    if !is_associative(signature, comma) || !is_associative(signature, union) {
+    let of_sets = order.kind_of(sorts.attribute) == order.kind_of(sorts.set);
+    if !of_sets || !is_associative(signature, comma) || !is_associative(signature, union) {
         return Ok(None);
     }
     let roles = roles(alloc, &target, sorts, signature, statements)?;
