@@ -14,6 +14,7 @@ use Rattle.mw_declare.specs.declared.built.Truth.{Truth}
 use Rattle.mw_declare.specs.declared.built.Built.{Built}
 use Rattle.mw_declare.specs.Built.{truth_of, built_in, kinds_from}
 use Rattle.mw_declare.specs.Hierarchy.{Hierarchy, hierarchy_of}
+use Rattle.mw_declare.specs.Meaning.{Name}
 use Rattle.mw_declare.specs.Operators.{Rank, rank_of, Profile, same_profile, Declared, declared_again, with_operator, profile_of, with_named, with_operators, operators_from, Single, with_singles, built_for, with_kinds, with_built, operators_of, operator_of, signature_of}
 use Rattle.mw_declare.proofs.Folding.{declared_once, all_with}
 use Rattle.mw_declare.proofs.Proper.{all_at}

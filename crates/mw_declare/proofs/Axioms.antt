@@ -5,7 +5,7 @@ use Rattle.std.proofs.lemmas.Bool.{both_ways, eqb-true, eq-eqb, ne_eqb}
 use Rattle.std.proofs.lemmas.List.Elements.{All-head, All-tail}
 use Rattle.std.proofs.lemmas.Option.{same_Some, slice_get-map}
 use Rattle.mw_logic.specs.Signature.{Signature, Identity, constant_of, numeral_of, at_number, SameKind}
-use Rattle.mw_logic.specs.Accepted.{are_two, is_same_kind, is_constant_of_kind, is_identity_of_kind, is_accepted_identity, is_accepted_operator}
+use Rattle.mw_logic.specs.Accepted.{are_two, agree, is_member, is_same_kind, is_constant_of_kind, is_identity_of_kind, is_accepted_identity, is_accepted_operator}
 use Rattle.mw_logic.specs.Kinds.{kind_number, some_sort}
 use Rattle.mw_logic.proofs.Successor.{some_sort-from, some_sort-true}
 use Rattle.mw_logic.proofs.KindLaws.{SameKind-trans, SameKind-sym, kind_number-same, kind_number-sound}
@@ -19,6 +19,7 @@ use Rattle.mw_declare.specs.Meaning.{Name}
 use Rattle.mw_declare.specs.Faults.{wrong_with}
 use Rattle.mw_declare.specs.declared.built.Built.{Built}
 use Rattle.mw_declare.specs.Hierarchy.{Hierarchy, kind_of, IsLeastKind}
+use Rattle.mw_declare.specs.Freezing.{frozen_arguments, are_in_range}
 use Rattle.mw_declare.specs.Operators.{Profile, same_profile, Declared, constant_profile, operator_number, numeral_or_none, numeral_for, identity_at, identity_in, is_numeric, operator_of, IsOfLeastKinds, IsNumbered, signature_with}
 use Rattle.mw_declare.proofs.LeastKinds.{kind_same, kind_least}
 use Rattle.mw_declare.proofs.Named.{one_number}

@@ -10,6 +10,7 @@ use Rattle.mw_declare.specs.declared.built.Truth.{Truth}
 use Rattle.mw_declare.specs.Built.{truth_of, kinds_from}
 use Rattle.mw_declare.specs.Hierarchy.{Hierarchy, hierarchy_of}
 use Rattle.mw_declare.proofs.KindNames.{NamesKind, kinds_named}
+use Rattle.mw_declare.specs.Meaning.{Name}
 use Rattle.mw_declare.specs.Operators.{Rank, rank_of, Profile, same_profile, Declared, declared_again, with_operator, profile_of, with_named, with_operators, operators_from, Single, with_singles, choice_of, test_of, built_for, with_kinds, with_built, operators_of}
 
 -- an operator of one declaration

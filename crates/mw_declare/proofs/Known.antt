@@ -19,6 +19,7 @@ use Rattle.mw_declare.specs.declared.built.Truth.{Truth}
 use Rattle.mw_declare.specs.Built.{built_in}
 use Rattle.mw_declare.specs.Hierarchy.{Hierarchy, hierarchy_of, kind_in}
 use Rattle.mw_declare.specs.Grouping.{begins_open, ends_open, gather_behind, is_infix, default_gather, default_precedence, gather_of_mark, precedence_of, gather_of}
+use Rattle.mw_declare.specs.Meaning.{Name}
 use Rattle.mw_declare.specs.Operators.{rank_of, Profile, same_profile, Declared, declared_again, choice_of, test_of, operators_of, operator_of, signature_of}
 use Rattle.mw_declare.specs.Declarations.{unknown_in_all}
 use Rattle.mw_declare.proofs.Folding.{declared_once, HasNamed, HasEach, HasEachLined, all_operators}

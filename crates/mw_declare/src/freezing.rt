@@ -1,6 +1,5 @@
 // Frozen arguments of operators.
-ghost use Rattle.std.specs.Prelude.{◌≡◌, ◌<◌, ◌^◌, not, length, IfOk};
-ghost use Rattle.std.specs.List.{list_any};
+ghost use Rattle.std.specs.Prelude.{◌≡◌, ◌||◌, not, length, IfOk};
 ghost use Rattle.mw_logic.specs.Accepted.{agree, is_member};
 ghost use Rattle.mw_module.specs.Attributes.{seen_attributes};
 ghost use Rattle.mw_declare.specs.Freezing as freezing;
@@ -57,12 +56,19 @@ fn is_frozen(arity: u32, place: u32, said: &Attributes<'_>) -> bool
     }
 }
 
+/// Whether both hold or neither does.
+fn are_alike(first: bool, second: bool) -> bool
+    ensures { result ≡ agree first second }
+{
+    if first { second } else { !second }
+}
+
 /// Whether the first two arguments are both frozen or both not, where `alike` asks for it.
 pub fn freezes_alike(alike: bool, arity: u32, said: &Attributes<'_>) -> bool
     ensures { let numbers = freezing.frozen_arguments arity (seen_attributes said.now) in
         result ≡ not alike || agree (is_member 1 numbers) (is_member 2 numbers) }
 {
-    !alike || is_frozen(arity, 1, said) == is_frozen(arity, 2, said)
+    !alike || are_alike(is_frozen(arity, 1, said), is_frozen(arity, 2, said))
 }
 
 /// The numbers from 1 up to this one.

@@ -134,7 +134,8 @@ impl<'u> DeclaredOperators<'u> {
     {
         let table = &mut *self.table;
         if let Some(known) = table.get_mut(&profile) {
-            return declare_again(alloc, known, declaration, attributes);
+            declare_again(alloc, known, declaration, attributes)?;
+            return Ok(());
         }
         let said = declared_once(alloc, declaration, attributes)?;
         table.insert(profile, said)?;

@@ -1,7 +1,7 @@
 -- What is known of the statements of an object module is known of those that its unit declares.
 use Rattle.std.proofs.Common.{◌≡◌, ◌++◌, ◌&&◌, ◌==◌, ◌≢◌, ◌⊎◌, inl, inr, ℕ, Bool, true, false, List, [], ◌∷◌, map, length, All, Some, bytes_eq, if◌then◌else◌, codes, refl, sym, ap, ◌∙◌}
 use Rattle.std.specs.List.{list_all}
-use Rattle.std.proofs.lemmas.List.{append_nil}
+use Rattle.std.proofs.lemmas.List.{append-nil}
 use Rattle.std.proofs.lemmas.List.Folds.{list_all-append}
 use Rattle.std.proofs.lemmas.Bool.{and_parts, eqb-true}
 use Rattle.std.proofs.lemmas.List.Elements.{All-nil, All-cons, All-head, All-tail, All-append}
@@ -48,11 +48,14 @@ module _ (P : Shape → Type 0)
       let first = All-head Has s ss all in
       All-append Has (spread_one s) (spread ss) (All-append Has (forms_of s.line s.shape) (s ∷ []) (forms_have s.line s.shape first) (All-cons Has s [] first (All-nil Has))) (spread_has ss (All-tail Has s ss all))
 
+  pub objects_have : (line : ℕ) (ss : List SeenLined) → All Has ss → All Has (object_statements line ss)
+  objects_have line ss all = All-cons Has (at_line line (Import (codes "CONFIGURATION"))) (spread ss) imports (spread_has ss all)
+
   pub declared_has : (u : SeenUnit) → All Has u.statements → All Has (declared_unit u).statements
   declared_has u all = of (bytes_eq u.word (codes "omod"))
     where
       of : (b : Bool) → All Has (if b then object_statements u.line u.statements else u.statements)
-      of true = All-cons Has (at_line u.line (Import (codes "CONFIGURATION"))) (spread u.statements) imports (spread_has u.statements all)
+      of true = objects_have u.line u.statements all
       of false = all
 
 -- names without holes
@@ -72,7 +75,7 @@ named (hole ∷ (i ∷ items)) e = (λ (h : hole ∷ (i ∷ items) ≡ []). cc, 
 
 constant_name : (c : List ℕ) → IsPlainName c → IsNameFor 0 (c ∷ [])
 constant_name c h =
-    let items : items_of_tokens (c ∷ []) ≡ items_of c = append_nil (items_of c) in
+    let items : items_of_tokens (c ∷ []) ≡ items_of c = append-nil (items_of c) in
     let n = named (items_of c) (and_parts (is_name (items_of c)) (count_holes (items_of c) == 0) h.named).0 in
     record {
       some = λ e. n.0 (sym items ∙ e);
@@ -123,6 +126,9 @@ attributes_known a h = record {
   attributes = record { precedence = tt; gather = (refl, All-cons IsMark (codes "&") [] (inr (inr refl)) (All-nil IsMark)) };
 }
 
+pub objects_known : (line : ℕ) (ss : List SeenLined) → AreKnown ss → AreKnown (object_statements line ss)
+objects_known line ss known = objects_have IsKnown tt (λ c as_ h. tt) (λ c as_ h. tt) constants_known IsPlainAttribute (λ c as_ h. h.1) attributes_known line ss known
+
 pub declared_known : (u : SeenUnit) → AreKnown u.statements → AreKnown (declared_unit u).statements
 declared_known u known = declared_has IsKnown tt (λ c as_ h. tt) (λ c as_ h. tt) constants_known IsPlainAttribute (λ c as_ h. h.1) attributes_known u known
 
@@ -138,14 +144,14 @@ both_all P Q [] p q = All-nil (λ x. P x × Q x)
 both_all P Q (x ∷ xs) p q = All-cons (λ x. P x × Q x) x xs (All-head P x xs p, All-head Q x xs q) (both_all P Q xs (All-tail P x xs p) (All-tail Q x xs q))
 
 colon_run : IsRun (codes ":")
-colon_run = (refl, (λ e. cc, refl))
+colon_run = (refl, λ e. cc, refl)
 
 hole_run : IsRun (codes "_")
-hole_run = (refl, (λ e. cc, refl))
+hole_run = (refl, λ e. cc, refl)
 
 constants_made : (c : List ℕ) (as_ : List ClassAttribute) → IsMade (Class c as_) → IsMade (constant_shape c)
 constants_made c as_ h =
-    let fine : list_all is_fine (items_of_tokens (c ∷ [])) ≡ true = ap (list_all is_fine) (append_nil (items_of c)) ∙ plain_fine c h.1.0 in
+    let fine : list_all is_fine (items_of_tokens (c ∷ [])) ≡ true = ap (list_all is_fine) (append-nil (items_of c)) ∙ plain_fine c h.1.0 in
     (All-cons IsProperlyNamed (c ∷ []) [] (words_proper names_are_proper (c ∷ []) (All-cons IsTokenText c [] (inl (inr h.0.0)) (All-nil IsTokenText)) fine) (All-nil IsProperlyNamed),
     constants_known c as_ h.1)
 

@@ -46,7 +46,6 @@ ghost use Rattle.mw_omod.specs.declared.CompletionError.TheVariants.{Memory};
 mod classes;
 mod completing;
 mod copying;
-mod declare;
 mod elements;
 mod faults;
 mod forms;
@@ -55,12 +54,13 @@ mod laws;
 mod mentions;
 mod names;
 mod objects;
+mod spreading;
 
 pub use classes::{Classes, Role};
 pub use completing::complete;
-pub use declare::declare;
 pub use laws::{completed_once, sides_stay, variables_stay_bound};
 pub use mentions::{meet_all, mentioned, variables_of};
+pub use spreading::declare;
 use std::alloc::AllocError;
 
 /// Why a rule isn't completed.

@@ -123,6 +123,28 @@ fn add_class<'s>(
     Ok(())
 }
 
+/// Adds the forms that a statement stands for behind others, where it is a class.
+fn add_forms<'s>(
+    alloc: Global,
+    all: &mut Vec<Lined<'s>>,
+    statement: &Lined<'s>,
+) -> Result<(), AllocError>
+    ensures { let s = seen_lined statement.now in
+        OnOk result (seen_statements all.new.items ≡ seen_statements all.old.items ++ spec.forms_of s.line s.shape) }
+{
+    match &statement.form {
+        Form::Class { name, attributes } => {
+            add_class(alloc, all, statement.line, name, attributes.as_slice())
+        }
+        Form::Sorts { .. }
+        | Form::Subsorts { .. }
+        | Form::Operators { .. }
+        | Form::Variables { .. }
+        | Form::Statement { .. }
+        | Form::Import { .. } => Ok(()),
+    }
+}
+
 /// Adds a statement behind others, and before it, where it is a class, the forms that it stands for.
 fn add_spread<'s>(
     alloc: Global,
@@ -132,9 +154,7 @@ fn add_spread<'s>(
     ensures { OnOk result (seen_statements all.new.items
         ≡ seen_statements all.old.items ++ spec.spread_one (seen_lined statement.entry)) }
 {
-    if let Form::Class { name, attributes } = &statement.form {
-        add_class(alloc, all, statement.line, name, attributes.as_slice())?;
-    }
+    add_forms(alloc, all, &statement)?;
     all.push(statement)?;
     Ok(())
 }
