@@ -30,11 +30,11 @@ none_made B i (v ∷ vs) h = elim h [ ]
 
 same_lists : (B : ℕ → RawTerm → RawTerm → Type 0) → ((i : ℕ) (t u v : RawTerm) → B i t u → B i t v → u ≡ v) → {i : ℕ} {ts us : List RawTerm} → AreCompleted B i ts us → (vs : List RawTerm) → AreCompleted B i ts vs → us ≡ vs
 same_lists B one (no_element i) vs h = none_made B i vs h
-same_lists B one (element i t u ts us b rest) vs h = of vs h
+same_lists B one (element i t u ts us b rest) vs h = of (λ ws k. same_lists B one rest ws k) vs h
   where
-    of : (vs : List RawTerm) → AreCompleted B i (t ∷ ts) vs → u ∷ us ≡ vs
-    of [] h = elim h [ ]
-    of (v ∷ vs) (element j x y xs ys c more) = ap (λ z. z ∷ us) (one i t u v b c) ∙ ap (λ zs. v ∷ zs) (same_lists B one rest vs more)
+    of : ((ws : List RawTerm) → AreCompleted B (suc i) ts ws → us ≡ ws) → (vs : List RawTerm) → AreCompleted B i (t ∷ ts) vs → u ∷ us ≡ vs
+    of others [] h = elim h [ ]
+    of others (v ∷ vs) (element j x y xs ys c more) = ap (λ z. z ∷ us) (one i t u v b c) ∙ ap (λ zs. v ∷ zs) (others vs more)
 
 same_joined : (f : ℕ) (xs ys : List RawTerm) (a b : RawTerm) → xs ++ a ∷ [] ≡ ys ++ b ∷ [] → joined_before f xs a ≡ joined_before f ys b
 same_joined f [] [] a b e = cc
