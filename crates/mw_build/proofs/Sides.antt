@@ -138,13 +138,13 @@ module _ (sig : Signature) (ok : IsPreregularModulo sig) (variables : List Varia
       let second = is.read.only.0.second.spells in
       let C = is.condition in
       let sides : AreSides sig (statement_of is.left is.right C e.rule e.executable) = record {
-          left = spelled_raw sig ok.accepted variables first;
-          right = spelled_raw sig ok.accepted variables second;
-          kinds = (is.read.only.0.kind, is.read.only.0.of_first, is.read.only.0.of_second);
-          fragments = fragments_raw sig ok.accepted variables e.fragments C is.fragments;
-          sorts = all_sorts is.left is.right C (sorts_there first) (sorts_there second)
-              (sorts_all sig C (all_read (IsFragment sig variables) (λ f. HaveSortsAmong sig (f ∷ [])) fragment_sorts e.fragments C is.fragments));
-        } in
+        left = spelled_raw sig ok.accepted variables first;
+        right = spelled_raw sig ok.accepted variables second;
+        kinds = (is.read.only.0.kind, is.read.only.0.of_first, is.read.only.0.of_second);
+        fragments = fragments_raw sig ok.accepted variables e.fragments C is.fragments;
+        sorts = all_sorts is.left is.right C (sorts_there first) (sorts_there second)
+            (sorts_all sig C (all_read (IsFragment sig variables) (λ f. HaveSortsAmong sig (f ∷ [])) fragment_sorts e.fragments C is.fragments));
+      } in
       own_stands sig ok.accepted objects classes (statement_of is.left is.right C e.rule e.executable) st is.holds sides refl refl
     where
       all_sorts : (left right : RawTerm) (C : List Fragment) → HasSortsOf sig left → HasSortsOf sig right → HaveSortsAmong sig C

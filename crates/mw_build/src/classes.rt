@@ -82,7 +82,11 @@ fn note_attribute(
     let Some(sort) = target.sort(attribute.sort.as_slice()) else {
         return Ok(());
     };
-    let name = vec![in alloc; attribute.name.again(alloc)?, Word::lent(b":"), Word::lent(b"_")]?;
+    let name = vec![in alloc;
+        attribute.name.again(alloc)?,
+        Word::lent(b":"),
+        Word::lent(b"_"),
+    ]?;
     let spelling = spelling_of(alloc, name.as_slice())?;
     let operator = operator(alloc, target, spelling, &[sort], sorts.attribute)?;
     note(roles, operator, Role::Attribute(sort));
@@ -164,7 +168,13 @@ fn object_operators(
     } = sorts;
     let none = operator(alloc, target, b"none".to_vec(alloc)?, &[], set)?;
     let comma = operator(alloc, target, b"_`,_".to_vec(alloc)?, &[set, set], set)?;
-    let made = operator(alloc, target, b"<_:_|_>".to_vec(alloc)?, &[name, class, set], object)?;
+    let made = operator(
+        alloc,
+        target,
+        b"<_:_|_>".to_vec(alloc)?,
+        &[name, class, set],
+        object,
+    )?;
     let union = operator(
         alloc,
         target,

@@ -404,7 +404,9 @@ fn classes(
     }
     let statements = units.statements(alloc, unit.line, flat, unit.statements.as_slice())?;
     let Declarations {
-        signature, order, ..
+        signature,
+        order,
+        ..
     } = declarations;
     classes_of(alloc, signature, order, statements.as_slice())
 }
