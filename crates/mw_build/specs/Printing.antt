@@ -1,5 +1,5 @@
 -- What is printed of an accepted module's terms reads back.
-use Rattle.std.specs.Prelude.{◌≡◌, ◌⊎◌, ℕ, false, List, [], ◌∷◌, ◌++◌, Ok, Some, IsTrue, codes}
+use Rattle.std.specs.Prelude.{◌≡◌, ◌⊎◌, ℕ, false, List, [], ◌∷◌, ◌++◌, Ok, Some, IsTrue}
 use Rattle.mw_lex.specs.declared.token.Token.{Token}
 use Rattle.mw_lex.specs.Lexing.{tokens_of}
 use Rattle.mw_logic.specs.Term.{Variable, RawTerm}
@@ -12,6 +12,7 @@ use Rattle.mw_import.specs.Flat.{FlatUnit}
 use Rattle.mw_print.specs.Printing.{mixfix_text}
 use Rattle.mw_print.specs.Laws.{IsPrintable, ArePrintable, ReadsBack}
 use Rattle.mw_text.specs.Proper.{HasIdentifiers}
+use Rattle.mw_omod.specs.Objects.{IsAdded}
 use Rattle.mw_build.specs.Statements.{terms_of}
 use Rattle.mw_build.specs.Modules.{Accepted, IsAccepted}
 
@@ -46,10 +47,6 @@ pub record IsOfTexts (texts : List (List ℕ)) (a : Accepted) : Type 0 where
 abbrev pub TextsReadBack : Type 0
 TextsReadBack = (texts : List (List ℕ)) (a : Accepted) (t : RawTerm) → IsOfTexts texts a → IsRawTerm a.module.signature t → ArePrintable a.module.signature t → HasIdentifiers t
     → ReadsBack a.module.signature a.variables t (mixfix_text a.module.signature t)
-
--- A variable that a completed rule has besides its own ones: its name begins with a blank, so no text has it.
-abbrev pub IsAdded : Variable → Type 0
-IsAdded x = (name : List ℕ) × (x.name ≡ codes " " ++ name)
 
 -- the variables of a term can be printed, but for those that completion added, and so can its quoted identifiers
 pub record IsPrintableTerm (sig : Signature) (t : RawTerm) : Type 0 where

@@ -1,13 +1,14 @@
 -- What completion keeps of a statement.
-use Rattle.std.proofs.Common.{List, [], ◌∷◌, Bool, ◌||◌, sym, subst}
-use Rattle.std.specs.Prelude.{IsTrue}
+use Rattle.std.proofs.Common.{◌++◌, ◌≡◌, ◌⊎◌, inl, inr, refl, ℕ, List, [], ◌∷◌, Bool, ◌||◌, sym, subst}
+use Rattle.std.specs.Prelude.{codes, decimal, IsTrue}
 use Rattle.mw_logic.specs.Term.{Variable, RawTerm}
 use Rattle.mw_logic.specs.Preregular.{IsSortOf}
 use Rattle.mw_logic.specs.Substitution.{occurs}
 use Rattle.mw_logic.specs.Module.{Fragment, equal, matches, has_sort, is_true}
 use Rattle.mw_logic.specs.Confluence.{HasOnly, AreBound}
 use Rattle.mw_least.specs.Conditions.{binds_among, occurs_among, AreRawFragments}
-use Rattle.mw_omod.specs.Laws.{SidesStay, VariablesStayBound}
+use Rattle.mw_omod.specs.Objects.{IsAdded}
+use Rattle.mw_omod.specs.Laws.{OnlyAdded, SidesStay, VariablesStayBound}
 use Rattle.mw_omod.proofs.RawSides.{left_stays_raw, right_stays_raw}
 use Rattle.mw_omod.proofs.Standing.{or_left, or_right, or_elim, left_kept, right_kept, left_completed}
 
@@ -80,3 +81,14 @@ variables_stay_bound sig K e e' is bound = record {
 
     kept : (x : Variable) → IsTrue (occurs x e.left) → IsTrue (occurs x e'.left)
     kept = left_kept (λ x. IsTrue (occurs x e'.left)) K sig e.left e.right e'.left is.sides.left_is (λ x o. o)
+
+pub only_added : OnlyAdded
+only_added sig K e a x is o =
+    or_elim (occurs x a.left) (occurs x a.right) {P = Told x} (left_told x) (right_kept Told K sig e.left e.right a.left a.right is.sides.left_is is.sides.right_is left_told (λ y h. inl (or_right (occurs y e.left) (occurs y e.right) h)) x) o
+  where
+    Told : Variable → Type 0
+    Told y = IsTrue (occurs y e.left || occurs y e.right) ⊎ IsAdded y
+
+    left_told : (y : Variable) → IsTrue (occurs y a.left) → Told y
+    left_told = left_completed Told K sig (λ t v i w. inr (codes "V" ++ decimal i, refl)) (λ i. inr (codes "W" ++ decimal i, refl)) (λ f S i r. inr (codes "X" ++ decimal i ++ codes " " ++ decimal f, refl))
+        e.left e.right a.left is.sides.left_is (λ y h. inl (or_left (occurs y e.left) (occurs y e.right) h))

@@ -20,3 +20,5 @@ pub mod RawSides
 pub mod Kept
 -- A rule is completed in one way.
 pub mod Once
+-- The quoted identifiers of completed sides.
+pub mod Identifiers

@@ -32,6 +32,10 @@ class_variable i S = record { name = codes " V" ++ decimal i; sort = S }
 abbrev pub value_variable : ℕ → Attribute → Variable
 value_variable i a = record { name = codes " X" ++ decimal i ++ codes " " ++ decimal a.operator; sort = a.sort }
 
+-- a variable whose name begins with a blank
+abbrev pub IsAdded : Variable → Type 0
+IsAdded x = (name : List ℕ) × (x.name ≡ codes " " ++ name)
+
 -- the same attributes with fresh variables
 abbrev pub fresh_value : ℕ → Attribute → Attribute
 fresh_value i a = record { operator = a.operator; sort = a.sort; value = variable (value_variable i a) }

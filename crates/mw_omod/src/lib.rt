@@ -25,7 +25,8 @@
 //!   (`IsCompletion`); `BadObject` only where two written objects of a side have one name, an object has an attribute
 //!   twice, or objects of one name have different class constants on the two sides (`IsBad`), and always there, but for
 //!   want of memory.
-//! - Fresh variables have a blank in their names, which no token has (specs/Objects).
+//! - Fresh variables have a blank in front of their names, which no token has (specs/Objects), and no other variables
+//!   are added ([`only_added`]). Quoted identifiers stay tokens ([`identifiers_stay`]).
 //! - A completed statement is what a statement must be: its sides are terms of the signature of one kind, with sorts
 //!   that are there, and variables that are bound stay bound (the laws [`sides_stay`] and [`variables_stay_bound`]).
 //!   It is the only one ([`completed_once`]).
@@ -58,7 +59,7 @@ mod spreading;
 
 pub use classes::{Classes, Role};
 pub use completing::complete;
-pub use laws::{completed_once, sides_stay, variables_stay_bound};
+pub use laws::{completed_once, identifiers_stay, only_added, sides_stay, variables_stay_bound};
 pub use mentions::{meet_all, mentioned, variables_of};
 pub use spreading::declare;
 use std::alloc::AllocError;
