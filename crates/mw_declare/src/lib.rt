@@ -71,4 +71,5 @@ mod variables;
 pub use built::Reached;
 pub use declarations::{Declarations, declare};
 pub use laws::{declared_apart, parts_are_there};
+pub use spelling::spelling_of;
 pub use variables::{Typing, all_typed};
