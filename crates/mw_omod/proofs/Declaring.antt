@@ -151,16 +151,18 @@ hole_run = (refl, λ e. cc, refl)
 
 constants_made : (c : List ℕ) (as_ : List ClassAttribute) → IsMade (Class c as_) → IsMade (constant_shape c)
 constants_made c as_ h =
-    let fine : list_all is_fine (items_of_tokens (c ∷ [])) ≡ true = ap (list_all is_fine) (append-nil (items_of c)) ∙ plain_fine c h.1.0 in
-    (All-cons IsProperlyNamed (c ∷ []) [] (words_proper names_are_proper (c ∷ []) (All-cons IsTokenText c [] (inl (inr h.0.0)) (All-nil IsTokenText)) fine) (All-nil IsProperlyNamed),
-    constants_known c as_ h.1)
+    let fine : list_all is_fine (items_of_tokens (c ∷ [])) ≡ true = ap (list_all is_fine) (append-nil (items_of c)) ∙ plain_fine c h.1.0 in (
+      All-cons IsProperlyNamed (c ∷ []) [] (words_proper names_are_proper (c ∷ []) (All-cons IsTokenText c [] (inl (inr h.0.0)) (All-nil IsTokenText)) fine) (All-nil IsProperlyNamed),
+      constants_known c as_ h.1,
+    )
 
 attributes_made : (a : ClassAttribute) → IsMadeAttribute a → IsMade (attribute_shape a)
 attributes_made a h =
     let texts : All IsTokenText (attribute_name a.name) = All-cons IsTokenText a.name (codes ":" ∷ (codes "_" ∷ [])) h.0
-        (All-cons IsTokenText (codes ":") (codes "_" ∷ []) (inl (inr colon_run)) (All-cons IsTokenText (codes "_") [] (inl (inr hole_run)) (All-nil IsTokenText))) in
-    (All-cons IsProperlyNamed (attribute_name a.name) [] (words_proper names_are_proper (attribute_name a.name) texts (behind_fine (items_of a.name) (plain_fine a.name h.1))) (All-nil IsProperlyNamed),
-    attributes_known a h.1)
+    (All-cons IsTokenText (codes ":") (codes "_" ∷ []) (inl (inr colon_run)) (All-cons IsTokenText (codes "_") [] (inl (inr hole_run)) (All-nil IsTokenText))) in (
+      All-cons IsProperlyNamed (attribute_name a.name) [] (words_proper names_are_proper (attribute_name a.name) texts (behind_fine (items_of a.name) (plain_fine a.name h.1))) (All-nil IsProperlyNamed),
+      attributes_known a h.1,
+    )
 
 made : (ss : List SeenLined) → AreProperStatements ss → AreKnown ss → All (λ (s : SeenLined). IsMade s.shape) ss
 made ss proper known = both_all (λ (s : SeenLined). HasProperParts s.shape) (λ (s : SeenLined). IsKnown s.shape) ss proper known

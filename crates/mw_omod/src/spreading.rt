@@ -19,10 +19,7 @@ fn one<'s>(alloc: Global, word: &Word<'s>) -> Result<Seq<Word<'s>>, AllocError>
 }
 
 /// One name alone.
-fn one_name<'s>(
-    alloc: Global,
-    name: Seq<Word<'s>>,
-) -> Result<Seq<Seq<Word<'s>>>, AllocError>
+fn one_name<'s>(alloc: Global, name: Seq<Word<'s>>) -> Result<Seq<Seq<Word<'s>>>, AllocError>
     ensures { IfOk result (λ names. names ≡ name.entry ∷ []) }
 {
     Ok(Seq::of(vec![in alloc; name]?))
@@ -65,9 +62,7 @@ fn attribute_name<'s>(alloc: Global, name: &Word<'s>) -> Result<Seq<Word<'s>>, A
     ensures { IfOk result (λ words. words ≡ spec.attribute_name name.now) }
 {
     let name = name.again(alloc)?;
-    Ok(Seq::of(
-        vec![in alloc; name, Word::lent(b":"), Word::lent(b"_")]?,
-    ))
+    Ok(Seq::of(vec![in alloc; name, Word::lent(b":"), Word::lent(b"_")]?))
 }
 
 /// The attributes of an operator whose one hole takes any precedence.
@@ -80,10 +75,7 @@ fn any_gather<'s>(alloc: Global) -> Result<Attributes<'s>, AllocError>
 }
 
 /// The operator of an attribute of a class.
-fn attribute_form<'s>(
-    alloc: Global,
-    attribute: &ClassAttribute<'s>,
-) -> Result<Form<'s>, AllocError>
+fn attribute_form<'s>(alloc: Global, attribute: &ClassAttribute<'s>) -> Result<Form<'s>, AllocError>
     ensures { IfOk result (λ f. shape_of f ≡ spec.attribute_shape attribute.now) }
 {
     let names = one_name(alloc, attribute_name(alloc, &attribute.name)?)?;
