@@ -95,11 +95,7 @@ fn all_numbers(alloc: Global, last: u32) -> Result<Vec<u32>, AllocError>
 }
 
 /// The arguments, of so many, whose numbers these words are.
-fn listed_numbers(
-    alloc: Global,
-    arity: u32,
-    words: &[Word<'_>],
-) -> Result<Vec<u32>, AllocError>
+fn listed_numbers(alloc: Global, arity: u32, words: &[Word<'_>]) -> Result<Vec<u32>, AllocError>
     ensures { IfOk result (λ v. v.items ≡ freezing.places_in arity words.now) }
 {
     let mut numbers = Vec::new(alloc);

@@ -123,9 +123,7 @@ pub fn gather(
         (λ marks. map mark_of marks ≡ grouping.gather_of said.now assoc (items_of spelling.now)) }
 {
     match said {
-        Some(said) if holes(spelling) != 0 => {
-            Ok(Seq::of(said_gather(alloc, said.as_slice())?))
-        }
+        Some(said) if holes(spelling) != 0 => { Ok(Seq::of(said_gather(alloc, said.as_slice())?)) }
         Some(_) => Ok(Seq::of(Vec::new(alloc))),
         None => Ok(Seq::of(default_gather(alloc, assoc, spelling)?)),
     }

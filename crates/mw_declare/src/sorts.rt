@@ -36,10 +36,7 @@ pub fn all_sorts(alloc: Global, statements: &[Stated<'_, '_>]) -> Result<Names, 
 }
 
 /// The first sort of these groups that isn't declared.
-fn unknown_grouped<'f, 's>(
-    sorts: &Names,
-    groups: &'f [Seq<Word<'s>>],
-) -> Option<&'f Word<'s>>
+fn unknown_grouped<'f, 's>(sorts: &Names, groups: &'f [Seq<Word<'s>>]) -> Option<&'f Word<'s>>
     ensures { option_map (λ w. w.now) result ≡ unknown_among sorts.now (mentioned_in groups.now) }
 {
     for group in groups {

@@ -177,7 +177,8 @@ impl<'s> Attributes<'s> {
 
     // What is said of yes or no, and precedences.
     fn add_plain(&mut self, other: &Attributes<'s>)
-        ensures { seen_attributes self.new ≡ attributes.joined_plainly (seen_attributes self.old) (seen_attributes other.now) }
+        ensures { let says = seen_attributes other.now in
+            seen_attributes self.new ≡ attributes.joined_plainly (seen_attributes self.old) says }
     {
         self.clash = self.clash | other.clash | disagree(self, other);
         self.assoc |= other.assoc;
@@ -189,7 +190,8 @@ impl<'s> Attributes<'s> {
 
     /// Adds what others say: of two values that differ the first stays, and they clash.
     pub fn add(&mut self, alloc: Global, other: &Attributes<'s>) -> Result<(), AllocError>
-        ensures { OnOk result (seen_attributes self.new ≡ attributes.joined (seen_attributes self.old) (seen_attributes other.now)) }
+        ensures { let says = seen_attributes other.now in
+            OnOk result (seen_attributes self.new ≡ attributes.joined (seen_attributes self.old) says) }
     {
         self.add_plain(other);
         add_identity(alloc, &mut self.identity, &other.identity)?;
@@ -296,12 +298,8 @@ fn said_as<'s>(
         Role::Config => says.config = true,
         Role::Precedence => says.precedence = precedence_in(tokens),
         Role::Gather => says.gather = Some(words_of(alloc, tokens)?),
-        Role::Frozen
-        | Role::Words
-        | Role::Sort(_)
-        | Role::Silent
-        | Role::Nonexec
-        | Role::Owise => {}
+        Role::Frozen | Role::Words | Role::Sort(_) | Role::Silent | Role::Nonexec | Role::Owise =>
+            {}
     }
     Ok(says)
 }

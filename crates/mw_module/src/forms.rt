@@ -3,8 +3,8 @@ ghost use Rattle.std.specs.Prelude.{◌≡◌, IfOk};
 ghost use Rattle.mw_module.specs.Forms as forms;
 
 use crate::attribute::Attributes;
-use crate::conditions::WrittenFragment;
 use crate::classes::{ClassAttribute, class_form};
+use crate::conditions::WrittenFragment;
 use crate::faults::FaultKind;
 use crate::kinds::Kind;
 use crate::machine::{first_token, lists_of, read};

@@ -30,11 +30,7 @@ struct Profile<'s> {
 }
 
 // What attributes say: a list with one attribute at least, if there is one.
-fn said_behind<'s>(
-    alloc: Global,
-    tokens: &'s [Token],
-    parts: &[Part],
-) -> Read<Attributes<'s>>
+fn said_behind<'s>(alloc: Global, tokens: &'s [Token], parts: &[Part]) -> Read<Attributes<'s>>
     ensures { IfOk result (λ r. forms.seen_said r ≡ forms.said_behind tokens.now parts.now) }
 {
     match parts {
@@ -45,12 +41,7 @@ fn said_behind<'s>(
 }
 
 // A value's part, and attributes.
-fn valued<'s>(
-    alloc: Global,
-    kinds: bool,
-    tokens: &'s [Token],
-    parts: &[Part],
-) -> Read<Value<'s>>
+fn valued<'s>(alloc: Global, kinds: bool, tokens: &'s [Token], parts: &[Part]) -> Read<Value<'s>>
     ensures { IfOk result (λ r. forms.seen_valued r ≡ forms.valued kinds tokens.now parts.now) }
 {
     let [value, behind @ ..] = parts else {

@@ -35,7 +35,7 @@ returns-in_ok-accept-in-Ok c =
     let made = c.in-Ok.built.module in
     let same = c.in_ok-declared.ensures.declared in
     let is : IsAccepted before.units before.modules (declared_unit u) c.of-name.result flat made =
-        subst (λ w. IsAccepted before.units before.modules w c.of-name.result flat made) same (match_ok _ _ c.in_ok-built.field-0 c.in_ok-built.ensures c.in-Ok.built c.in-Ok.is) in
+    subst (λ w. IsAccepted before.units before.modules w c.of-name.result flat made) same (match_ok _ _ c.in_ok-built.field-0 c.in_ok-built.ensures c.in-Ok.built c.in-Ok.is) in
     subst (Gives c.args.purpose before (Ok u) c.new.result.items false)
     (sym (c.in_ok-accept-in-Ok.ensures ∙ ap (λ n. with_module before n (seen_unit c.in_ok-declared.declared) flat made) text ∙ ap (λ w. with_module before c.of-name.result w flat made) same))
     (subst (λ t. Gives c.args.purpose before (Ok u) t false (with_module before c.of-name.result (declared_unit u) flat made)) (sym c.new.ensures.items)
@@ -49,7 +49,7 @@ returns-in-Err c =
     let named = c.requires.named ∙ ap Some (sym c.as_slice-text.ensures ∙ text) in
     let free : IsNameTaken before.modules c.of-name.result → ⊥ = λ k. both_ways _ c.if-is_taken.false (c.is_taken.ensures.1 (subst (IsNameTaken before.modules) (sym text) k)) in
     let is : IsRefused before.units before.modules (declared_unit u) c.of-name.result c.in-Err.fault =
-        subst (λ w. IsRefused before.units before.modules w c.of-name.result c.in-Err.fault) c.in_ok-declared.ensures.declared
-        (match_err _ _ c.in_ok-built.field-0 c.in_ok-built.ensures c.in-Err.fault c.in-Err.is) in
+    subst (λ w. IsRefused before.units before.modules w c.of-name.result c.in-Err.fault) c.in_ok-declared.ensures.declared
+    (match_err _ _ c.in_ok-built.field-0 c.in_ok-built.ensures c.in-Err.fault c.in-Err.is) in
     if_ok c.refused_by.result c.refused_by.ensures
     (λ a h. refused_gives c.args.purpose before (Ok u) c.in-Err.fault a.text.items a.refused (refused u c.of-name.result c.in-Err.fault named free is) h)
