@@ -45,17 +45,6 @@ fn is_listed(arity: u32, place: u32, words: &[Word<'_>]) -> bool
     false
 }
 
-/// Whether this argument, of so many, is frozen.
-fn is_frozen(arity: u32, place: u32, said: &Attributes<'_>) -> bool
-    ensures { result ≡ is_member place (freezing.frozen_arguments arity (seen_attributes said.now)) }
-{
-    if said.all_frozen {
-        1 <= place && place <= arity
-    } else {
-        is_listed(arity, place, said.frozen.as_slice())
-    }
-}
-
 /// Whether both hold or neither does.
 fn are_alike(first: bool, second: bool) -> bool
     ensures { result ≡ agree first second }
@@ -63,12 +52,35 @@ fn are_alike(first: bool, second: bool) -> bool
     if first { second } else { !second }
 }
 
+/// Whether the first two arguments are both frozen or both not, where all of so many are.
+#[tactic(auto, using(crate::proofs::Frozen::all_are_alike))]
+fn all_are_alike(arity: u32) -> bool
+    ensures { let numbers = freezing.counted arity 1 in result ≡ agree (is_member 1 numbers) (is_member 2 numbers) }
+{
+    arity != 1
+}
+
+/// The same where those of so many are whose numbers these words are.
+fn listed_are_alike(arity: u32, words: &[Word<'_>]) -> bool
+    ensures { let numbers = freezing.places_in arity words.now in
+        result ≡ agree (is_member 1 numbers) (is_member 2 numbers) }
+{
+    are_alike(is_listed(arity, 1, words), is_listed(arity, 2, words))
+}
+
 /// Whether the first two arguments are both frozen or both not, where `alike` asks for it.
 pub fn freezes_alike(alike: bool, arity: u32, said: &Attributes<'_>) -> bool
     ensures { let numbers = freezing.frozen_arguments arity (seen_attributes said.now) in
-        result ≡ not alike || agree (is_member 1 numbers) (is_member 2 numbers) }
+        result ≡ (not alike || agree (is_member 1 numbers) (is_member 2 numbers)) }
 {
-    !alike || are_alike(is_frozen(arity, 1, said), is_frozen(arity, 2, said))
+    if !alike {
+        return true;
+    }
+    if said.all_frozen {
+        all_are_alike(arity)
+    } else {
+        listed_are_alike(arity, said.frozen.as_slice())
+    }
 }
 
 /// The numbers from 1 up to this one.

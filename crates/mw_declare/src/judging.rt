@@ -83,7 +83,7 @@ fn has_kept_axioms(
     let kept = fits_assoc(assoc, args, profile.result)
         & (fits_comm(comm, args)
             & (fits_identity(built.nat, assoc, profile.result, identity)
-                & freezes_alike(assoc || comm, arity, &said.attributes)));
+                & freezes_alike(assoc | comm, arity, &said.attributes)));
     kept & are_in_range(arity, &said.attributes)
 }
 

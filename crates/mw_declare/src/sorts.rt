@@ -43,7 +43,8 @@ fn unknown_grouped<'f, 's>(
     ensures { option_map (λ w. w.now) result ≡ unknown_among sorts.now (mentioned_in groups.now) }
 {
     for group in groups {
-        for word in group.as_slice() {
+        let words = group.as_slice();
+        for word in words {
             if !sorts.has(word.as_slice()) {
                 return Some(word);
             }

@@ -7,4 +7,4 @@ invariant-loop-group l = unknown_among l.sorts (mentioned_in (drop l.group-index
 
 abbrev pub invariant-loop-word : goal.invariant-loop-word
 invariant-loop-word l =
-    unknown_among l.sorts (drop l.word-index l.group.now ++ mentioned_in (drop (l.group-index + 1) l.groups)) ≡ unknown_among l.sorts (mentioned_in l.groups)
+    unknown_among l.sorts (drop l.word-index l.words ++ mentioned_in (drop (l.group-index + 1) l.groups)) ≡ unknown_among l.sorts (mentioned_in l.groups)
