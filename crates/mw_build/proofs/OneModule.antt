@@ -31,7 +31,7 @@ use Rattle.mw_build.specs.SignatureFaults.{SignatureFault, no_least, groupings, 
 use Rattle.mw_build.specs.Pairwise.{AreRelated, IsFirstWrong}
 use Rattle.mw_build.specs.Sides.{Sides, sides_of}
 use Rattle.mw_build.specs.Fragments.{IsTest, TextFault, long_text, unread_text, unclear_text, PairFault, long_pair, unread_pair, unclear_pair, IsFragment, an_equation, a_match, a_test, a_truth, FragmentFault, bad_equation, bad_match, bad_test, bad_truth, no_truths, AreFragments}
-use Rattle.mw_build.specs.Statements.{FitsIn, Oversized, deep, large, FirstOversized, here, behind, statement_of, all_terms, IsApplicable, ApplicationFault, lone, open_term, IsStatementOf, TermsFault, big_term, inapplicable, IsReadAs, StatementFault, bad_sides, bad_fragment, bad_terms, HasFault, AreFine, IsObjectRule, ObjectRuleFault, bad_completed, bad_written, bad_object, IsOwn, a_rule, an_equation, no_object, OwnFault, of_rule, of_equation, of_statement}
+use Rattle.mw_build.specs.Statements.{FitsIn, Oversized, deep, large, FirstOversized, here, behind, statement_of, all_terms, IsApplicable, ApplicationFault, lone, open_term, IsStatementOf, TermsFault, big_term, inapplicable, IsReadAs, StatementFault, bad_sides, bad_fragment, bad_terms, HasFault, AreFine, IsObjectRule, ObjectRuleFault, bad_completed, bad_written, bad_object, IsOwn, own_rule, own_equation, own_statement, OwnFault, of_rule, of_equation, of_statement}
 use Rattle.mw_build.specs.Imported.{Accepted, Origin, origins_of, IsImported, ImportedFault, HasFaultAt}
 use Rattle.mw_omod.specs.declared.classes.Classes.{Classes}
 use Rattle.mw_omod.proofs.Once.{completed_once}
@@ -91,11 +91,11 @@ module _ (sig : Signature) where
 
   -- an own statement is one
   one_own : (o : Option Classes) (e a b : Statement) → IsOwn sig o e a → IsOwn sig o e b → a ≡ b
-  one_own o e a b (no_object d f) (no_object c g) = refl
-  one_own o e a b (an_equation K d r f) (an_equation L c s g) = refl
-  one_own o e a b (an_equation K d r f) (a_rule L c x s g) = absurd (both_ways _ r s)
-  one_own o e a b (a_rule K d x r f) (an_equation L c s g) = absurd (both_ways _ s r)
-  one_own o e a b (a_rule K d x r f) (a_rule L c y s g) = completed_once sig K d a b f.completed g.completed
+  one_own o e a b (own_statement d f) (own_statement c g) = refl
+  one_own o e a b (own_equation K d r f) (own_equation L c s g) = refl
+  one_own o e a b (own_equation K d r f) (own_rule L c x s g) = absurd (both_ways _ r s)
+  one_own o e a b (own_rule K d x r f) (own_equation L c s g) = absurd (both_ways _ s r)
+  one_own o e a b (own_rule K d x r f) (own_rule L c y s g) = completed_once sig K d a b f.completed g.completed
 
   rule_holds : (K : Classes) (e a : Statement) (cause : FaultKind) → IsObjectRule sig K e a → ObjectRuleFault sig K e cause → ⊥
   rule_holds K e a cause h (bad_completed b why is fault) =
@@ -105,11 +105,11 @@ module _ (sig : Signature) where
   rule_holds K e a cause h (bad_object bad fine) = h.completed.sides.fine bad
 
   own_holds : (o : Option Classes) (e a : Statement) (cause : FaultKind) → IsOwn sig o e a → OwnFault sig o e cause → ⊥
-  own_holds o e a cause (no_object d f) (of_statement c why fault) = fine_holds d.left d.right d.fragments d.executable cause f fault
-  own_holds o e a cause (an_equation K d r f) (of_equation L c why s fault) = fine_holds d.left d.right d.fragments d.executable cause f fault
-  own_holds o e a cause (an_equation K d r f) (of_rule L c why s fault) = both_ways _ r s
-  own_holds o e a cause (a_rule K d x r f) (of_equation L c why s fault) = both_ways _ s r
-  own_holds o e a cause (a_rule K d x r f) (of_rule L c why s fault) = rule_holds K d x cause f fault
+  own_holds o e a cause (own_statement d f) (of_statement c why fault) = fine_holds d.left d.right d.fragments d.executable cause f fault
+  own_holds o e a cause (own_equation K d r f) (of_equation L c why s fault) = fine_holds d.left d.right d.fragments d.executable cause f fault
+  own_holds o e a cause (own_equation K d r f) (of_rule L c why s fault) = both_ways _ r s
+  own_holds o e a cause (own_rule K d x r f) (of_equation L c why s fault) = both_ways _ s r
+  own_holds o e a cause (own_rule K d x r f) (of_rule L c why s fault) = rule_holds K d x cause f fault
 
   module _ (ok : IsAcceptedSignature sig) (variables : List Variable) (objects : Option Classes) where
     -- texts that are read have no fault

@@ -11,7 +11,7 @@ use Rattle.mw_omod.specs.declared.classes.Classes.{Classes}
 use Rattle.mw_omod.specs.Workable.{AreClasses}
 use Rattle.mw_omod.proofs.Kept.{sides_stay}
 use Rattle.mw_build.specs.Imported.{IsNotOwise}
-use Rattle.mw_build.specs.Statements.{IsFine, IsApplicable, IsOwn, a_rule, an_equation, no_object}
+use Rattle.mw_build.specs.Statements.{IsFine, IsApplicable, IsOwn, own_rule, own_equation, own_statement}
 use Rattle.mw_build.proofs.Bound.{right_bound, fragments_bound}
 
 -- what can stand in a context
@@ -33,15 +33,15 @@ fine_ordinary sig e fine variables owise h =
 
 module _ (sig : Signature) (ok : IsAccepted sig) where
   pub own_stands : (objects : Option Classes) → IfSome objects (AreClasses sig) → (e st : Statement) → IsOwn sig objects e st → AreSides sig e → e.variables ≡ mentioned e → e.owise ≡ false → CanStand sig st
-  own_stands objects classes e st (no_object d fine) sides variables owise = record { sides = sides; ordinary = fine_ordinary sig d fine variables owise }
-  own_stands objects classes e st (an_equation K d equation fine) sides variables owise = record { sides = sides; ordinary = fine_ordinary sig d fine variables owise }
-  own_stands objects classes e st (a_rule K d c rule is) sides variables owise = record {
+  own_stands objects classes e st (own_statement d fine) sides variables owise = record { sides = sides; ordinary = fine_ordinary sig d fine variables owise }
+  own_stands objects classes e st (own_equation K d equation fine) sides variables owise = record { sides = sides; ordinary = fine_ordinary sig d fine variables owise }
+  own_stands objects classes e st (own_rule K d c rule is) sides variables owise = record {
     sides = sides_stay sig K d c ok classes is.completed sides;
     ordinary = fine_ordinary sig c is.fine is.completed.variables (is.completed.owise ∙ owise);
   }
 
 -- none of them is `owise`
 pub own_not_owise : (sig : Signature) (objects : Option Classes) (e st : Statement) → IsOwn sig objects e st → e.owise ≡ false → IsNotOwise st
-own_not_owise sig objects e st (no_object d fine) owise = owise
-own_not_owise sig objects e st (an_equation K d equation fine) owise = owise
-own_not_owise sig objects e st (a_rule K d c rule is) owise = is.completed.owise ∙ owise
+own_not_owise sig objects e st (own_statement d fine) owise = owise
+own_not_owise sig objects e st (own_equation K d equation fine) owise = owise
+own_not_owise sig objects e st (own_rule K d c rule is) owise = is.completed.owise ∙ owise

@@ -1,5 +1,5 @@
 -- What is printed of an accepted module's terms reads back.
-use Rattle.std.proofs.Common.{length, ◌≡◌, ◌∙◌, ◌++◌, ℕ, zero, suc, List, [], ◌∷◌, false, Option, Some, None, IsTrue, slice_get, codes, sym, ap, subst, refl, arith, inl, inr, ⊎_elim}
+use Rattle.std.proofs.Common.{length, ◌≡◌, ◌∙◌, ◌⊎◌, ◌||◌, ◌++◌, ℕ, zero, suc, List, [], ◌∷◌, false, Option, Some, None, IsTrue, slice_get, codes, sym, ap, subst, refl, arith, inl, inr, ⊎_elim}
 use Rattle.std.proofs.lemmas.Bool.{or_left, or_right, or_cases}
 use Rattle.std.proofs.lemmas.Option.{slice_get_within, none-some}
 use Rattle.std.proofs.lemmas.List.Elements.{All-nil, All-append, All-map}
@@ -40,7 +40,11 @@ use Rattle.mw_print.specs.PrefixLaws.{HasWholeSpellings}
 use Rattle.mw_print.proofs.ReadBack.{printed_reads_back}
 use Rattle.mw_print.proofs.WholeNames.{names_whole}
 use Rattle.mw_build.specs.Fragments.{ending, IsFragment, an_equation, a_match, a_test, a_truth}
-use Rattle.mw_build.specs.Statements.{IsReadAs, terms_of}
+use Rattle.mw_omod.specs.declared.classes.Classes.{Classes}
+use Rattle.mw_omod.specs.Objects.{IsAdded}
+use Rattle.mw_omod.proofs.Kept.{only_added}
+use Rattle.mw_omod.proofs.Identifiers.{identifiers_stay}
+use Rattle.mw_build.specs.Statements.{IsReadAs, IsOwn, own_rule, own_equation, own_statement, statement_of, terms_of}
 use Rattle.mw_build.specs.Imported.{Accepted, Origin, origins_in, origins_of}
 use Rattle.mw_build.specs.Modules.{IsAccepted, flattened, reached_of}
 use Rattle.mw_build.specs.Printing.{AreCut, no_text, one_text, AreOfTokens, none_yet, one_more, IsOfTexts, IsPrintableTerm, IsPrintableStatement, TextsReadBack, SpellingsAreWhole, StatementsArePrintable}
@@ -49,6 +53,10 @@ use Rattle.mw_build.proofs.Terms.{each_term, one_term, two_terms}
 use Rattle.mw_build.proofs.Loading.{flattened_all, own_within}
 use Rattle.mw_declare.proofs.Accepting.{accepted_declared}
 use Rattle.mw_build.proofs.PrintedVariables.{with_sort_printable, declared_printable}
+
+-- it can be printed, or completion added it
+abbrev IsTold : Signature → Variable → Type 0
+IsTold sig x = IsAdded x ⊎ IsPrintable sig x
 
 -- a module of a unit that is made of tokens, where the units that were accepted have proper statements
 module _ (us : List FlatUnit) (ms : List Accepted) (proper : (k : ℕ) (v : FlatUnit) → slice_get us k ≡ Some v → AreProperStatements v.statements)
@@ -84,9 +92,9 @@ module _ (us : List FlatUnit) (ms : List Accepted) (proper : (k : ℕ) (v : Flat
   -- the variables and the quoted identifiers of what tokens spell
   text_printable : (text : List (List ℕ)) (t : RawTerm) (p : ℕ) → Each IsTokenText text → Spells d.signature d.variables t p text → IsPrintableTerm d.signature t
   text_printable text t p each s = record {
-    variables = λ x o. spelled_variables d.signature d.variables (IsPrintable d.signature) IsTokenText
+    variables = λ x o. inr (spelled_variables d.signature d.variables (IsPrintable d.signature) IsTokenText
         (λ y m. declared_printable d.signature declared_proper.sorts y (member-all (IsProperVariable d.signature) d.variables declared_proper.variables y m))
-        (with_sort_printable d.signature) s each x o;
+        (with_sort_printable d.signature) s each x o);
     identifiers = spelled_identifiers d.signature d.variables s each;
   }
 
@@ -105,13 +113,30 @@ module _ (us : List FlatUnit) (ms : List Accepted) (proper : (k : ℕ) (v : Flat
       one_term (IsPrintableTerm d.signature) t (text_printable term t _ each r.spelled.spells)
   fragment_printable w f tokens (a_truth ts B b not is r) = one_term (IsPrintableTerm d.signature) b (side_printable ts b _ tokens r.spelled.spells)
 
-  statement_printable : (e : Sides) (st : Statement) → AreSides e → IsReadAs d.signature d.variables e st → IsPrintableStatement d.signature st
+  -- what is printed of a statement is printed of the completed one
+  own_printable_statement : (objects : Option Classes) (e st : Statement) → IsOwn d.signature objects e st → IsPrintableStatement d.signature e → IsPrintableStatement d.signature st
+  own_printable_statement objects e st (own_statement c fine) p = p
+  own_printable_statement objects e st (own_equation K c equation fine) p = p
+  own_printable_statement objects e st (own_rule K c x rule is) (left, right, fragments) =
+      let (l, m) = identifiers_stay d.signature K c x is.completed left.identifiers right.identifiers in (
+        record { variables = λ y o. told y (or_left (occurs y x.left) (occurs y x.right) o); identifiers = l },
+        record { variables = λ y o. told y (or_right (occurs y x.left) (occurs y x.right) o); identifiers = m },
+        λ t h. fragments t (subst (λ C. Member t (terms_of C)) is.completed.fragments h),
+      )
+    where
+      told : (y : Variable) → IsTrue (occurs y x.left || occurs y x.right) → IsTold d.signature y
+      told y o = elim (only_added d.signature K c x y is.completed o) [
+        | inl h ↦ elim (or_cases (occurs y c.left) (occurs y c.right) h) [ inl k ↦ left.variables y k | inr k ↦ right.variables y k ]
+        | inr h ↦ inl h
+      ]
+
+  statement_printable : (e : Sides) (st : Statement) → AreSides e → IsReadAs d.signature d.variables is.objects e st → IsPrintableStatement d.signature st
   statement_printable e st tokens is_read =
       let left = side_printable e.left is_read.left _ tokens.0 is_read.read.only.0.first.spells in
       let right = side_printable e.right is_read.right _ tokens.1 is_read.read.only.0.second.spells in
       let each = all_related (IsFragment d.signature d.variables) HasProperTexts (λ f. (t : RawTerm) → Member t (terms_of (f ∷ [])) → IsPrintableTerm d.signature t) fragment_printable
       e.fragments is_read.condition tokens.2 is_read.fragments in
-      subst (IsPrintableStatement d.signature) (sym is_read.holds.statement) (left, right, each_term (IsPrintableTerm d.signature) is_read.condition each)
+      own_printable_statement is.objects (statement_of is_read.left is_read.right is_read.condition e.rule e.executable) st is_read.holds (left, right, each_term (IsPrintableTerm d.signature) is_read.condition each)
 
   own_printable : (i : ℕ) (st : Statement) → slice_get a.own i ≡ Some st → IsPrintableStatement d.signature st
   own_printable i st at =
@@ -135,15 +160,20 @@ variable_carried sig to x y n s p =
     one_name : (sig : Signature) (S : ℕ) (m n : List ℕ) → IsSortNamed sig S m → IsSortNamed sig S n → m ≡ n
     one_name sig S m n e f = cc
 
+-- and so have those that completion added
+told_carried : (sig to : Signature) (x y : Variable) → x.name ≡ y.name → IsSameSort sig to x.sort y.sort → IsTold sig x → IsTold to y
+told_carried sig to x y n s (inl (name, e)) = inl (name, sym n ∙ e)
+told_carried sig to x y n s (inr p) = inr (variable_carried sig to x y n s p)
+
 mutual
-  carried_printable : (sig to : Signature) (t u : RawTerm) → IsCarried sig to t u → ArePrintable sig t → ArePrintable to u
+  carried_printable : (sig to : Signature) (t u : RawTerm) → IsCarried sig to t u → ((x : Variable) → IsTrue (occurs x t) → IsTold sig x) → (x : Variable) → IsTrue (occurs x u) → IsTold to x
   carried_printable sig to t u (a_numeral n) p x h = cc
   carried_printable sig to t u (a_quoted q) p x h = cc
-  carried_printable sig to t u (a_variable y z n s) p x h = subst (IsPrintable to) (same_variable-is z x h) (variable_carried sig to y z n s (p y (same_variable-refl y)))
+  carried_printable sig to t u (a_variable y z n s) p x h = subst (IsTold to) (same_variable-is z x h) (told_carried sig to y z n s (p y (same_variable-refl y)))
   carried_printable sig to t u (an_operator f g ts us is args) p x h = all_printable sig to ts us args p x h
 
-  all_printable : (sig to : Signature) (ts us : RawTerms) → AreCarried sig to ts us → ((x : Variable) → IsTrue (occurs_in x ts) → IsPrintable sig x)
-      → (x : Variable) → IsTrue (occurs_in x us) → IsPrintable to x
+  all_printable : (sig to : Signature) (ts us : RawTerms) → AreCarried sig to ts us → ((x : Variable) → IsTrue (occurs_in x ts) → IsTold sig x)
+      → (x : Variable) → IsTrue (occurs_in x us) → IsTold to x
   all_printable sig to ts us end p x h = cc
   all_printable sig to ts us (next t u vs ws c cs) p x h = elim (or_cases (occurs x u) (occurs_in x ws) h) [
     | inl k ↦ carried_printable sig to t u c (λ y o. p y (or_left (occurs y t) (occurs_in y vs) o)) x k

@@ -141,9 +141,9 @@ pub data ObjectRuleFault (sig : Signature) (K : Classes) (e : Statement) : Fault
 
 -- An own statement of a module, of an object module with these classes: a rule of such a module is completed, any other statement is as it is written.
 pub data IsOwn (sig : Signature) : Option Classes → Statement → Statement → Type 0 where
-  a_rule : (K : Classes) (e e' : Statement) → e.rule ≡ true → IsObjectRule sig K e e' → IsOwn sig (Some K) e e'
-  an_equation : (K : Classes) (e : Statement) → e.rule ≡ false → IsFine sig e → IsOwn sig (Some K) e e
-  no_object : (e : Statement) → IsFine sig e → IsOwn sig None e e
+  own_rule : (K : Classes) (e e' : Statement) → e.rule ≡ true → IsObjectRule sig K e e' → IsOwn sig (Some K) e e'
+  own_equation : (K : Classes) (e : Statement) → e.rule ≡ false → IsFine sig e → IsOwn sig (Some K) e e
+  own_statement : (e : Statement) → IsFine sig e → IsOwn sig None e e
 
 pub data OwnFault (sig : Signature) : Option Classes → Statement → FaultKind → Type 0 where
   of_rule : (K : Classes) (e : Statement) (cause : FaultKind) → e.rule ≡ true → ObjectRuleFault sig K e cause → OwnFault sig (Some K) e cause
