@@ -3,8 +3,7 @@
 
 A part of that file begins with `## ` and its title. The first part is a flat file; each other one has an answer in a
 line of its own and a proof text behind it. The module stands before the parts, indented. It was flattened before there
-was mw_flat, which must print it so but for its frozen argument. $FLAT names that program; without it that is the one
-that the gate built."""
+was mw_flat, which must print it so. $FLAT names that program; without it that is the one that the gate built."""
 import os
 import pathlib
 import re
@@ -36,9 +35,9 @@ def told(flat, texts):
 
 
 def is_printed(source, flat):
-    """Whether mw_flat prints the flat file for a source, but for what is frozen."""
+    """Whether mw_flat prints the flat file for a source."""
     done = subprocess.run([FLATTENER], input=source, stdout=subprocess.PIPE, text=True)
-    return done.stdout == re.sub(r"^  frozen .*\n", "", flat, flags=re.M)
+    return done.stdout == flat
 
 
 def main():

@@ -11,7 +11,7 @@ use Rattle.mw_position.proofs.Meeting.{is_in-met}
 use Rattle.mw_least.specs.Conditions.{binds_among}
 use Rattle.mw_text.specs.Mentions.{is_met, missing_in}
 use Rattle.mw_build.specs.Statements.{bound_by, or_else, loose, unbound}
-use Rattle.mw_build.proofs.Mentioned.{is_met-is}
+use Rattle.mw_omod.proofs.Meeting.{is_met-is}
 
 -- where none is missing, each is bound
 none_missing : (bound xs : List Variable) → missing_in bound xs ≡ None → (x : Variable) → is_in x xs ≡ true → is_met bound x ≡ true

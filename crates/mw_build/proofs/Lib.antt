@@ -1,11 +1,12 @@
 -- Laws of modules that are accepted.
 pub mod Readable
-pub mod Mentioned
 pub mod Pairwise
 pub mod Asking
 pub mod Bound
 pub mod FragmentTerms
 pub mod Terms
+-- Own statements, as they are written or completed.
+pub mod Owned
 pub mod Sides
 pub mod Imported
 pub mod Origins
@@ -16,5 +17,7 @@ pub mod Naming
 pub mod PrintedVariables
 pub mod SidesOfTokens
 pub mod Printing
+pub mod ClassesThere
+pub mod OneClasses
 pub mod Working
 pub mod OneModule

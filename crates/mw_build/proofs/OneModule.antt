@@ -31,8 +31,12 @@ use Rattle.mw_build.specs.SignatureFaults.{SignatureFault, no_least, groupings, 
 use Rattle.mw_build.specs.Pairwise.{AreRelated, IsFirstWrong}
 use Rattle.mw_build.specs.Sides.{Sides, sides_of}
 use Rattle.mw_build.specs.Fragments.{IsTest, TextFault, long_text, unread_text, unclear_text, PairFault, long_pair, unread_pair, unclear_pair, IsFragment, an_equation, a_match, a_test, a_truth, FragmentFault, bad_equation, bad_match, bad_test, bad_truth, no_truths, AreFragments}
-use Rattle.mw_build.specs.Statements.{FitsIn, Oversized, deep, large, FirstOversized, here, behind, statement_of, all_terms, IsApplicable, ApplicationFault, lone, open_term, IsStatementOf, TermsFault, big_term, inapplicable, IsReadAs, StatementFault, bad_sides, bad_fragment, bad_terms, HasFault}
+use Rattle.mw_build.specs.Statements.{FitsIn, Oversized, deep, large, FirstOversized, here, behind, statement_of, all_terms, IsApplicable, ApplicationFault, lone, open_term, IsStatementOf, TermsFault, big_term, inapplicable, IsReadAs, StatementFault, bad_sides, bad_fragment, bad_terms, HasFault, AreFine, IsObjectRule, ObjectRuleFault, bad_completed, bad_written, bad_object, IsOwn, own_rule, own_equation, own_statement, OwnFault, of_rule, of_equation, of_statement}
 use Rattle.mw_build.specs.Imported.{Accepted, Origin, origins_of, IsImported, ImportedFault, HasFaultAt}
+use Rattle.mw_omod.specs.declared.classes.Classes.{Classes}
+use Rattle.mw_omod.proofs.Once.{completed_once}
+use Rattle.mw_build.specs.Classes.{AreObjectsOf}
+use Rattle.mw_build.proofs.OneClasses.{one_objects}
 use Rattle.mw_build.specs.Modules.{IsFlattened, flattened, reached_of, IsDeclaredModule, StatementsFault, by_signature, by_imported, by_own, IsAccepted, IsRefused, by_variables, by_imports, by_declarations, by_statements}
 use Rattle.mw_build.proofs.Asking.{test_one}
 use Rattle.mw_build.proofs.Pairwise.{there}
@@ -81,7 +85,33 @@ module _ (sig : Signature) where
   terms_hold left right C rule executable st cause s (big_term big) = none_big sig cause (all_terms left right C) s.holds.fit big
   terms_hold left right C rule executable st cause s (inapplicable fit is fault) = application_holds left right C cause (s.holds.applicable is) fault
 
-  module _ (ok : IsAcceptedSignature sig) (variables : List Variable) where
+  fine_holds : (left right : RawTerm) (C : List Fragment) (executable : Bool) (cause : FaultKind) → AreFine sig left right C executable → TermsFault sig left right C executable cause → ⊥
+  fine_holds left right C executable cause s (big_term big) = none_big sig cause (all_terms left right C) s.fit big
+  fine_holds left right C executable cause s (inapplicable fit is fault) = application_holds left right C cause (s.applicable is) fault
+
+  -- an own statement is one
+  one_own : (o : Option Classes) (e a b : Statement) → IsOwn sig o e a → IsOwn sig o e b → a ≡ b
+  one_own o e a b (own_statement d f) (own_statement c g) = refl
+  one_own o e a b (own_equation K d r f) (own_equation L c s g) = refl
+  one_own o e a b (own_equation K d r f) (own_rule L c x s g) = absurd (both_ways _ r s)
+  one_own o e a b (own_rule K d x r f) (own_equation L c s g) = absurd (both_ways _ s r)
+  one_own o e a b (own_rule K d x r f) (own_rule L c y s g) = completed_once sig K d a b f.completed g.completed
+
+  rule_holds : (K : Classes) (e a : Statement) (cause : FaultKind) → IsObjectRule sig K e a → ObjectRuleFault sig K e cause → ⊥
+  rule_holds K e a cause h (bad_completed b why is fault) =
+      fine_holds a.left a.right a.fragments a.executable cause h.fine
+      (subst (λ (s : Statement). TermsFault sig s.left s.right s.fragments s.executable cause) (completed_once sig K e b a is h.completed) fault)
+  rule_holds K e a cause h (bad_written why bad fault) = h.completed.sides.fine bad
+  rule_holds K e a cause h (bad_object bad fine) = h.completed.sides.fine bad
+
+  own_holds : (o : Option Classes) (e a : Statement) (cause : FaultKind) → IsOwn sig o e a → OwnFault sig o e cause → ⊥
+  own_holds o e a cause (own_statement d f) (of_statement c why fault) = fine_holds d.left d.right d.fragments d.executable cause f fault
+  own_holds o e a cause (own_equation K d r f) (of_equation L c why s fault) = fine_holds d.left d.right d.fragments d.executable cause f fault
+  own_holds o e a cause (own_equation K d r f) (of_rule L c why s fault) = both_ways _ r s
+  own_holds o e a cause (own_rule K d x r f) (of_equation L c why s fault) = both_ways _ s r
+  own_holds o e a cause (own_rule K d x r f) (of_rule L c why s fault) = rule_holds K d x cause f fault
+
+  module _ (ok : IsAcceptedSignature sig) (variables : List Variable) (objects : Option Classes) where
     -- texts that are read have no fault
     text_holds : (wanted : Option ℕ) (text : List (List ℕ)) (t : RawTerm) (cause : FaultKind) → Reads sig variables wanted text t → TextFault sig variables wanted text cause → ⊥
     text_holds wanted text t cause r (long_text h) = let s = r.short in omega (arith, h, s)
@@ -136,21 +166,23 @@ module _ (sig : Signature) where
     one_condition = one_related (IsFragment sig variables) one_fragment
 
     -- what is written is one statement
-    one_statement : (e : Sides) (st other : Statement) → IsReadAs sig variables e st → IsReadAs sig variables e other → st ≡ other
+    one_statement : (e : Sides) (st other : Statement) → IsReadAs sig variables objects e st → IsReadAs sig variables objects e other → st ≡ other
     one_statement e st other p q =
         let pair : ◌≡◌ {A = RawTerm × RawTerm} (p.left, p.right) (q.left, q.right) = one_pair (texts e.left) (texts e.right) (p.left, p.right) (q.left, q.right) p.read q.read in
-        p.holds.statement ∙ ap (λ (s : RawTerm × RawTerm). statement_of s.0 s.1 p.condition e.rule e.executable) pair
-        ∙ ap (λ C. statement_of q.left q.right C e.rule e.executable) (one_condition e.fragments p.condition q.condition p.fragments q.fragments) ∙ sym q.holds.statement
+        let same : statement_of p.left p.right p.condition e.rule e.executable ≡ statement_of q.left q.right q.condition e.rule e.executable =
+        ap (λ (s : RawTerm × RawTerm). statement_of s.0 s.1 p.condition e.rule e.executable) pair
+        ∙ ap (λ C. statement_of q.left q.right C e.rule e.executable) (one_condition e.fragments p.condition q.condition p.fragments q.fragments) in
+        one_own objects (statement_of q.left q.right q.condition e.rule e.executable) st other (subst (λ s. IsOwn sig objects s st) same p.holds) q.holds
 
-    statement_holds : (e : Sides) (st : Statement) (cause : FaultKind) → IsReadAs sig variables e st → StatementFault sig variables e cause → ⊥
+    statement_holds : (e : Sides) (st : Statement) (cause : FaultKind) → IsReadAs sig variables objects e st → StatementFault sig variables objects e cause → ⊥
     statement_holds e st cause p (bad_sides h) = pair_holds (texts e.left) (texts e.right) (p.left, p.right) cause p.read h
     statement_holds e st cause p (bad_fragment left right read h) =
         none_wrong (IsFragment sig variables) (λ w. FragmentFault sig variables w cause) (λ w f is k. fragment_holds w f cause is k) e.fragments p.condition p.fragments h
     statement_holds e st cause p (bad_terms left right C read are fault) =
         let pair : ◌≡◌ {A = RawTerm × RawTerm} (left, right) (p.left, p.right) = one_pair (texts e.left) (texts e.right) (left, right) (p.left, p.right) read p.read in
-        terms_hold p.left p.right p.condition e.rule e.executable st cause p.holds
-        (subst (λ D. TermsFault sig p.left p.right D e.executable cause) (one_condition e.fragments C p.condition are p.fragments)
-        (subst (λ (s : RawTerm × RawTerm). TermsFault sig s.0 s.1 C e.executable cause) pair fault))
+        own_holds objects (statement_of p.left p.right p.condition e.rule e.executable) st cause p.holds
+        (subst (λ D. OwnFault sig objects (statement_of p.left p.right D e.rule e.executable) cause) (one_condition e.fragments C p.condition are p.fragments)
+        (subst (λ (s : RawTerm × RawTerm). OwnFault sig objects (statement_of s.0 s.1 C e.rule e.executable) cause) pair fault))
 
 module _ (sig : Signature) (ok : IsAcceptedSignature sig) (apart : OperatorsApart sig) where
   -- a statement of another signature is one statement here
@@ -216,24 +248,24 @@ same_module : (a b : Accepted) → a.name ≡ b.name → a.module.signature ≡ 
 same_module a b n s e v o = λ i. record { name = n i; «module» = record { signature = s i; statements = e i }; variables = v i; own = o i }
 
 -- what declarations and statements are
-module _ (name : List ℕ) (d : Declarations) (apart : OperatorsApart d.signature) (origins : List Origin) (written : List Sides) (a : Accepted)
-    (p : IsDeclaredModule name d origins written a) where
-  one_declared : (b : Accepted) → IsDeclaredModule name d origins written b → a ≡ b
+module _ (name : List ℕ) (d : Declarations) (objects : Option Classes) (apart : OperatorsApart d.signature) (origins : List Origin) (written : List Sides) (a : Accepted)
+    (p : IsDeclaredModule name d objects origins written a) where
+  one_declared : (b : Accepted) → IsDeclaredModule name d objects origins written b → a ≡ b
   one_declared b q =
       let imported : p.imported ≡ q.imported =
       one_related (IsImported d.signature) (one_imported d.signature p.preregular.accepted apart) origins p.imported q.imported p.imported_are q.imported_are in
       let own : a.own ≡ b.own =
-      one_related (IsReadAs d.signature d.variables) (one_statement d.signature p.preregular.accepted d.variables) written a.own b.own p.own_are q.own_are in
+      one_related (IsReadAs d.signature d.variables objects) (one_statement d.signature p.preregular.accepted d.variables objects) written a.own b.own p.own_are q.own_are in
       let statements : a.module.statements ≡ b.module.statements =
       p.statements ∙ ap (λ xs. xs ++ a.own) imported ∙ ap (λ xs. q.imported ++ xs) own ∙ sym q.statements in
       same_module a b (p.named ∙ sym q.named) (p.signature ∙ sym q.signature) statements (p.variables ∙ sym q.variables) own
 
-  statements_hold : (line : ℕ) (r : Fault) → StatementsFault line d origins written r → ⊥
+  statements_hold : (line : ℕ) (r : Fault) → StatementsFault line d objects origins written r → ⊥
   statements_hold line r (by_signature f) = signature_holds line d.signature r p.preregular f
   statements_hold line r (by_imported preregular f) = none_wrong (IsImported d.signature) (HasFaultAt d.signature line r)
       (λ e st is w. imported_holds d.signature p.preregular.accepted apart e st r.kind is w.0) origins p.imported p.imported_are f
-  statements_hold line r (by_own imported preregular are f) = none_wrong (IsReadAs d.signature d.variables) (HasFault d.signature d.variables r)
-      (λ e st is w. statement_holds d.signature p.preregular.accepted d.variables e st r.kind is w.0) written a.own p.own_are f
+  statements_hold line r (by_own imported preregular are f) = none_wrong (IsReadAs d.signature d.variables objects) (HasFault d.signature d.variables objects r)
+      (λ e st is w. statement_holds d.signature p.preregular.accepted d.variables objects e st r.kind is w.0) written a.own p.own_are f
 
 -- numbers that are all there are told by the list
 same_numbers : (js ks : List ℕ) → map Some js ≡ map Some ks → js ≡ ks
@@ -287,15 +319,24 @@ module _ (us : List FlatUnit) (ms : List Accepted) (u : SeenUnit) (n r : List �
   apart : OperatorsApart p.declarations.signature
   apart = apart_declared (reached_of us n r) p.typing (flattened us u r) p.declarations p.declared
 
+  -- the classes of its flattened module
+  same_objects : (t : Typing) (s : List ℕ) (d : Declarations) (o : Option Classes) → IsFlattened us u t s → Declares (reached_of us n s) t (flattened us u s) d → AreObjectsOf u.word d.signature (flattened us u s) o
+      → o ≡ p.objects
+  same_objects t s d o flat e is =
+      one_objects p.declarations.signature p.holds.preregular.accepted apart u.word (flattened us u r) o p.objects
+      (subst (λ k. AreObjectsOf u.word k.signature (flattened us u r) o) (same_declarations t s d flat e) (subst (λ ks. AreObjectsOf u.word d.signature (flattened us u ks) o) (same_reached t s flat) is)) p.classes
+
   -- a unit is one module
   one_more : (s : List ℕ) (b : Accepted) → IsAccepted us ms u n s b → (r ≡ s) × (a ≡ b)
   one_more s b q =
       let reached : s ≡ r = same_reached q.typing s q.flat in
       let d : q.declarations ≡ p.declarations = same_declarations q.typing s q.declarations q.flat q.declared in
-      let holds : IsDeclaredModule n p.declarations (origins_of ms r) (sides_of u.statements) b =
-      subst (λ k. IsDeclaredModule n k (origins_of ms r) (sides_of u.statements) b) d
-      (subst (λ ks. IsDeclaredModule n q.declarations (origins_of ms ks) (sides_of u.statements) b) reached q.holds) in
-      (sym reached, one_declared n p.declarations apart (origins_of ms r) (sides_of u.statements) a p.holds b holds)
+      let o : q.objects ≡ p.objects = same_objects q.typing s q.declarations q.objects q.flat q.declared q.classes in
+      let holds : IsDeclaredModule n p.declarations p.objects (origins_of ms r) (sides_of u.statements) b =
+      subst (λ x. IsDeclaredModule n p.declarations x (origins_of ms r) (sides_of u.statements) b) o
+      (subst (λ k. IsDeclaredModule n k q.objects (origins_of ms r) (sides_of u.statements) b) d
+      (subst (λ ks. IsDeclaredModule n q.declarations q.objects (origins_of ms ks) (sides_of u.statements) b) reached q.holds)) in
+      (sym reached, one_declared n p.declarations p.objects apart (origins_of ms r) (sides_of u.statements) a p.holds b holds)
 
   -- and then it isn't refused
   none_refused : number_named us n ≡ None → (f : Fault) → IsRefused us ms u n f → ⊥
@@ -303,10 +344,11 @@ module _ (us : List FlatUnit) (ms : List Accepted) (u : SeenUnit) (n r : List �
   none_refused new f (by_imports t e fault) = imports_hold us n new u.statements r f p.flat.flat fault
   none_refused new f (by_declarations t s flat fault) = none_at_fault (reached_of us n r) u.line (flattened us u r) p.typing p.declarations f p.declared
       (subst (λ ks. DeclarationFault (reached_of us n ks) u.line (flattened us u ks) f) (same_reached t s flat) fault)
-  none_refused new f (by_statements t s d flat e fault) =
-      statements_hold n p.declarations apart (origins_of ms r) (sides_of u.statements) a p.holds u.line f
-      (subst (λ k. StatementsFault u.line k (origins_of ms r) (sides_of u.statements) f) (same_declarations t s d flat e)
-      (subst (λ ks. StatementsFault u.line d (origins_of ms ks) (sides_of u.statements) f) (same_reached t s flat) fault))
+  none_refused new f (by_statements t s d o flat e classes fault) =
+      statements_hold n p.declarations p.objects apart (origins_of ms r) (sides_of u.statements) a p.holds u.line f
+      (subst (λ x. StatementsFault u.line p.declarations x (origins_of ms r) (sides_of u.statements) f) (same_objects t s d o flat e classes)
+      (subst (λ k. StatementsFault u.line k o (origins_of ms r) (sides_of u.statements) f) (same_declarations t s d flat e)
+      (subst (λ ks. StatementsFault u.line d o (origins_of ms ks) (sides_of u.statements) f) (same_reached t s flat) fault)))
 
 pub one_module : (us : List FlatUnit) (ms : List Accepted) (u : SeenUnit) (n r s : List ℕ) (a b : Accepted) → IsAccepted us ms u n r a → IsAccepted us ms u n s b → (r ≡ s) × (a ≡ b)
 one_module us ms u n r s a b p q = one_more us ms u n r a p s b q

@@ -1,5 +1,5 @@
 -- What is printed of an accepted module's terms reads back.
-use Rattle.std.proofs.Common.{length, ◌≡◌, ◌∙◌, ◌++◌, ℕ, zero, suc, List, [], ◌∷◌, false, Option, Some, None, IsTrue, slice_get, codes, sym, ap, subst, refl, arith, inl, inr, ⊎_elim}
+use Rattle.std.proofs.Common.{length, ◌≡◌, ◌∙◌, ◌⊎◌, ◌||◌, ◌++◌, ℕ, zero, suc, List, [], ◌∷◌, false, Option, Some, None, IsTrue, slice_get, codes, sym, ap, subst, refl, arith, inl, inr, ⊎_elim}
 use Rattle.std.proofs.lemmas.Bool.{or_left, or_right, or_cases}
 use Rattle.std.proofs.lemmas.Option.{slice_get_within, none-some}
 use Rattle.std.proofs.lemmas.List.Elements.{All-nil, All-append, All-map}
@@ -26,7 +26,9 @@ use Rattle.mw_sorts.proofs.Getting.{get-member, member-get}
 use Rattle.mw_carry.specs.Carried.{IsSameSort, IsCarried, AreCarried, a_numeral, a_quoted, a_variable, an_operator, end, next, AreCarriedFragments, none, more}
 use Rattle.mw_carry.specs.Carried as carried
 use Rattle.mw_import.proofs.Lists.{flat_map-member, map-member, pushed_at}
-use Rattle.mw_module.proofs.Sources.{units_are_of_tokens}
+use Rattle.mw_module.proofs.Sources.{units_are_known, units_are_of_tokens}
+use Rattle.mw_omod.specs.Declaring.{declared_unit}
+use Rattle.mw_omod.proofs.Declaring.{declared_of_tokens}
 use Rattle.mw_build.specs.Sides.{Sides, sides_of}
 use Rattle.mw_build.proofs.SidesOfTokens.{AreSides, all_sides_proper}
 use Rattle.mw_declare.specs.declared.declarations.Declarations.{Declarations}
@@ -38,7 +40,11 @@ use Rattle.mw_print.specs.PrefixLaws.{HasWholeSpellings}
 use Rattle.mw_print.proofs.ReadBack.{printed_reads_back}
 use Rattle.mw_print.proofs.WholeNames.{names_whole}
 use Rattle.mw_build.specs.Fragments.{ending, IsFragment, an_equation, a_match, a_test, a_truth}
-use Rattle.mw_build.specs.Statements.{IsReadAs, terms_of}
+use Rattle.mw_omod.specs.declared.classes.Classes.{Classes}
+use Rattle.mw_omod.specs.Objects.{IsAdded}
+use Rattle.mw_omod.proofs.Kept.{only_added}
+use Rattle.mw_omod.proofs.Identifiers.{identifiers_stay}
+use Rattle.mw_build.specs.Statements.{IsReadAs, IsOwn, own_rule, own_equation, own_statement, statement_of, terms_of}
 use Rattle.mw_build.specs.Imported.{Accepted, Origin, origins_in, origins_of}
 use Rattle.mw_build.specs.Modules.{IsAccepted, flattened, reached_of}
 use Rattle.mw_build.specs.Printing.{AreCut, no_text, one_text, AreOfTokens, none_yet, one_more, IsOfTexts, IsPrintableTerm, IsPrintableStatement, TextsReadBack, SpellingsAreWhole, StatementsArePrintable}
@@ -47,6 +53,10 @@ use Rattle.mw_build.proofs.Terms.{each_term, one_term, two_terms}
 use Rattle.mw_build.proofs.Loading.{flattened_all, own_within}
 use Rattle.mw_declare.proofs.Accepting.{accepted_declared}
 use Rattle.mw_build.proofs.PrintedVariables.{with_sort_printable, declared_printable}
+
+-- it can be printed, or completion added it
+abbrev IsTold : Signature → Variable → Type 0
+IsTold sig x = IsAdded x ⊎ IsPrintable sig x
 
 -- a module of a unit that is made of tokens, where the units that were accepted have proper statements
 module _ (us : List FlatUnit) (ms : List Accepted) (proper : (k : ℕ) (v : FlatUnit) → slice_get us k ≡ Some v → AreProperStatements v.statements)
@@ -82,9 +92,9 @@ module _ (us : List FlatUnit) (ms : List Accepted) (proper : (k : ℕ) (v : Flat
   -- the variables and the quoted identifiers of what tokens spell
   text_printable : (text : List (List ℕ)) (t : RawTerm) (p : ℕ) → Each IsTokenText text → Spells d.signature d.variables t p text → IsPrintableTerm d.signature t
   text_printable text t p each s = record {
-    variables = λ x o. spelled_variables d.signature d.variables (IsPrintable d.signature) IsTokenText
+    variables = λ x o. inr (spelled_variables d.signature d.variables (IsPrintable d.signature) IsTokenText
         (λ y m. declared_printable d.signature declared_proper.sorts y (member-all (IsProperVariable d.signature) d.variables declared_proper.variables y m))
-        (with_sort_printable d.signature) s each x o;
+        (with_sort_printable d.signature) s each x o);
     identifiers = spelled_identifiers d.signature d.variables s each;
   }
 
@@ -103,13 +113,30 @@ module _ (us : List FlatUnit) (ms : List Accepted) (proper : (k : ℕ) (v : Flat
       one_term (IsPrintableTerm d.signature) t (text_printable term t _ each r.spelled.spells)
   fragment_printable w f tokens (a_truth ts B b not is r) = one_term (IsPrintableTerm d.signature) b (side_printable ts b _ tokens r.spelled.spells)
 
-  statement_printable : (e : Sides) (st : Statement) → AreSides e → IsReadAs d.signature d.variables e st → IsPrintableStatement d.signature st
+  -- what is printed of a statement is printed of the completed one
+  own_printable_statement : (objects : Option Classes) (e st : Statement) → IsOwn d.signature objects e st → IsPrintableStatement d.signature e → IsPrintableStatement d.signature st
+  own_printable_statement objects e st (own_statement c fine) p = p
+  own_printable_statement objects e st (own_equation K c equation fine) p = p
+  own_printable_statement objects e st (own_rule K c x rule is) (left, right, fragments) =
+      let (l, m) = identifiers_stay d.signature K c x is.completed left.identifiers right.identifiers in (
+        record { variables = λ y o. told y (or_left (occurs y x.left) (occurs y x.right) o); identifiers = l },
+        record { variables = λ y o. told y (or_right (occurs y x.left) (occurs y x.right) o); identifiers = m },
+        λ t h. fragments t (subst (λ C. Member t (terms_of C)) is.completed.fragments h),
+      )
+    where
+      told : (y : Variable) → IsTrue (occurs y x.left || occurs y x.right) → IsTold d.signature y
+      told y o = elim (only_added d.signature K c x y is.completed o) [
+        | inl h ↦ elim (or_cases (occurs y c.left) (occurs y c.right) h) [ inl k ↦ left.variables y k | inr k ↦ right.variables y k ]
+        | inr h ↦ inl h
+      ]
+
+  statement_printable : (e : Sides) (st : Statement) → AreSides e → IsReadAs d.signature d.variables is.objects e st → IsPrintableStatement d.signature st
   statement_printable e st tokens is_read =
       let left = side_printable e.left is_read.left _ tokens.0 is_read.read.only.0.first.spells in
       let right = side_printable e.right is_read.right _ tokens.1 is_read.read.only.0.second.spells in
       let each = all_related (IsFragment d.signature d.variables) HasProperTexts (λ f. (t : RawTerm) → Member t (terms_of (f ∷ [])) → IsPrintableTerm d.signature t) fragment_printable
       e.fragments is_read.condition tokens.2 is_read.fragments in
-      subst (IsPrintableStatement d.signature) (sym is_read.holds.statement) (left, right, each_term (IsPrintableTerm d.signature) is_read.condition each)
+      own_printable_statement is.objects (statement_of is_read.left is_read.right is_read.condition e.rule e.executable) st is_read.holds (left, right, each_term (IsPrintableTerm d.signature) is_read.condition each)
 
   own_printable : (i : ℕ) (st : Statement) → slice_get a.own i ≡ Some st → IsPrintableStatement d.signature st
   own_printable i st at =
@@ -133,15 +160,20 @@ variable_carried sig to x y n s p =
     one_name : (sig : Signature) (S : ℕ) (m n : List ℕ) → IsSortNamed sig S m → IsSortNamed sig S n → m ≡ n
     one_name sig S m n e f = cc
 
+-- and so have those that completion added
+told_carried : (sig to : Signature) (x y : Variable) → x.name ≡ y.name → IsSameSort sig to x.sort y.sort → IsTold sig x → IsTold to y
+told_carried sig to x y n s (inl (name, e)) = inl (name, sym n ∙ e)
+told_carried sig to x y n s (inr p) = inr (variable_carried sig to x y n s p)
+
 mutual
-  carried_printable : (sig to : Signature) (t u : RawTerm) → IsCarried sig to t u → ArePrintable sig t → ArePrintable to u
+  carried_printable : (sig to : Signature) (t u : RawTerm) → IsCarried sig to t u → ((x : Variable) → IsTrue (occurs x t) → IsTold sig x) → (x : Variable) → IsTrue (occurs x u) → IsTold to x
   carried_printable sig to t u (a_numeral n) p x h = cc
   carried_printable sig to t u (a_quoted q) p x h = cc
-  carried_printable sig to t u (a_variable y z n s) p x h = subst (IsPrintable to) (same_variable-is z x h) (variable_carried sig to y z n s (p y (same_variable-refl y)))
+  carried_printable sig to t u (a_variable y z n s) p x h = subst (IsTold to) (same_variable-is z x h) (told_carried sig to y z n s (p y (same_variable-refl y)))
   carried_printable sig to t u (an_operator f g ts us is args) p x h = all_printable sig to ts us args p x h
 
-  all_printable : (sig to : Signature) (ts us : RawTerms) → AreCarried sig to ts us → ((x : Variable) → IsTrue (occurs_in x ts) → IsPrintable sig x)
-      → (x : Variable) → IsTrue (occurs_in x us) → IsPrintable to x
+  all_printable : (sig to : Signature) (ts us : RawTerms) → AreCarried sig to ts us → ((x : Variable) → IsTrue (occurs_in x ts) → IsTold sig x)
+      → (x : Variable) → IsTrue (occurs_in x us) → IsTold to x
   all_printable sig to ts us end p x h = cc
   all_printable sig to ts us (next t u vs ws c cs) p x h = elim (or_cases (occurs x u) (occurs_in x ws) h) [
     | inl k ↦ carried_printable sig to t u c (λ y o. p y (or_left (occurs y t) (occurs_in y vs) o)) x k
@@ -192,10 +224,11 @@ module _ (tokens : List Token) (of_tokens : AreTokens tokens) where
   fine us ms none_yet = record { proper = λ k v e. absurd (none-some v e); own = λ k m e. absurd (none-some m e) }
   fine us ms (one_more vs ns at further u name reached a before read is) =
       let rest = fine vs ns before in
-      let made : IsOfTokens u = units_are_of_tokens false tokens at further u of_tokens read in
-      let new : FlatUnit = record { name = name; statements = u.statements; reached = reached } in
+      let d = declared_unit u in
+      let made : IsOfTokens d = declared_of_tokens u (units_are_known false tokens at further u read) (units_are_of_tokens false tokens at further u of_tokens read) in
+      let new : FlatUnit = record { name = name; statements = d.statements; reached = reached } in
       let printable : (i : ℕ) (st : Statement) → slice_get a.own i ≡ Some st → IsPrintableStatement a.module.signature st =
-      λ i st e. subst (λ S. IsPrintableStatement S st) (sym (signature_is vs ns rest.proper u made.statements name reached a is)) (own_printable vs ns rest.proper u made.statements name reached a is i st e) in
+      λ i st e. subst (λ S. IsPrintableStatement S st) (sym (signature_is vs ns rest.proper d made.statements name reached a is)) (own_printable vs ns rest.proper d made.statements name reached a is i st e) in
       record {
         proper = λ k v e. ⊎_elim (λ h. rest.proper k v h) (λ h. subst (λ (w : FlatUnit). AreProperStatements w.statements) h.1 made.statements) (pushed_at vs new v k e);
         own = λ k m e. ⊎_elim (λ h. rest.own k m h) (λ h. subst (λ (b : Accepted). (i : ℕ) (st : Statement) → slice_get b.own i ≡ Some st → IsPrintableStatement b.module.signature st) h.1 printable) (pushed_at ns a m k e);
@@ -223,8 +256,8 @@ module _ (texts : List (List ℕ)) (a : Accepted) (of : IsOfTexts texts a) where
   before : AreFine of.units of.modules
   before = fine of.tokens of_tokens of.units of.modules of.before
 
-  made : IsOfTokens of.unit
-  made = units_are_of_tokens false of.tokens of.at of.next of.unit of_tokens of.read
+  made : IsOfTokens (declared_unit of.unit)
+  made = declared_of_tokens of.unit (units_are_known false of.tokens of.at of.next of.unit of.read) (units_are_of_tokens false of.tokens of.at of.next of.unit of_tokens of.read)
 
   imported_printable : (i : ℕ) (st : Statement) → slice_get of.accepted.holds.imported i ≡ Some st → IsPrintableStatement of.accepted.declarations.signature st
   imported_printable i st at =
@@ -244,7 +277,7 @@ module _ (texts : List (List ℕ)) (a : Accepted) (of : IsOfTexts texts a) where
   statements_printable zero st is = cc
   statements_printable (suc i) st is = elim (either of.accepted.holds.imported a.own i st (subst (λ sts. slice_get sts i ≡ Some st) of.accepted.holds.statements is)) [
     | inl h ↦ imported_printable i st h
-    | inr h ↦ own_printable of.units of.modules before.proper of.unit made.statements a.name of.reached a of.accepted h.0 st h.1
+    | inr h ↦ own_printable of.units of.modules before.proper (declared_unit of.unit) made.statements a.name of.reached a of.accepted h.0 st h.1
   ]
 
 pub texts_read_back : TextsReadBack
@@ -253,7 +286,7 @@ texts_read_back texts a t of raw printable identifiers =
     let ms = of.modules in
     let proper = (before texts a of).proper in
     let own = (made texts a of).statements in
-    printed_reads_back a.module.signature a.variables t (binary us ms proper of.unit own a.name of.reached a of.accepted) (names us ms proper of.unit own a.name of.reached a of.accepted)
+    printed_reads_back a.module.signature a.variables t (binary us ms proper (declared_unit of.unit) own a.name of.reached a of.accepted) (names us ms proper (declared_unit of.unit) own a.name of.reached a of.accepted)
     raw printable identifiers
 
 pub spellings_are_whole : SpellingsAreWhole

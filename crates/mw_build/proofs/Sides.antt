@@ -29,6 +29,10 @@ use Rattle.mw_text.specs.Readings.{ReadsPair}
 use Rattle.mw_text.proofs.RawTerms.{spelled_raw}
 use Rattle.mw_text.proofs.SpelledVariables.{spelled_variables}
 use Rattle.mw_carry.specs.Laws.{HasSortsOf}
+use Rattle.std.specs.Prelude.{IfSome}
+use Rattle.mw_omod.specs.declared.classes.Classes.{Classes}
+use Rattle.mw_omod.specs.Workable.{AreClasses}
+use Rattle.mw_build.proofs.Owned.{CanStand, own_stands}
 use Rattle.mw_build.specs.Sides.{Sides}
 use Rattle.mw_build.specs.Fragments.{IsFragment, an_equation, a_match, a_test, a_truth}
 use Rattle.mw_build.specs.Imported.{HaveSortsAmong, IsNotOwise}
@@ -116,11 +120,6 @@ ordinary_statement sig left right C rule executable st is h = subst (IsOrdinary 
 pub not_owise : (sig : Signature) (left right : RawTerm) (C : List Fragment) (rule executable : Bool) (st : Statement) → IsStatementOf sig left right C rule executable st → IsNotOwise st
 not_owise sig left right C rule executable st is = ap (λ (s : Statement). s.owise) is.statement
 
--- what can stand in a context
-pub record CanStand (sig : Signature) (st : Statement) : Type 0 where
-  pub sides : AreSides sig st
-  pub ordinary : IsTrue st.executable → IsOrdinary sig st
-
 module _ (sig : Signature) (ok : IsPreregularModulo sig) (variables : List Variable) (sorted : (x : Variable) → Member x variables → IsSortOf sig x.sort) where
   -- the sorts of what tokens spell are there
   sorts_there : {t : RawTerm} {p : ℕ} {text : List (List ℕ)} → Spells sig variables t p text → HasSortsOf sig t
@@ -133,22 +132,20 @@ module _ (sig : Signature) (ok : IsPreregularModulo sig) (variables : List Varia
   fragment_sorts w f (a_truth ts B b not is r) = one_sorted sig b (sorts_there r.spelled.spells)
 
   -- the sides and fragments of a statement are those that its texts spell
-  pub read_stands : (e : Sides) (st : Statement) → IsReadAs sig variables e st → CanStand sig st
-  read_stands e st is =
+  pub read_stands : (objects : Option Classes) → IfSome objects (AreClasses sig) → (e : Sides) (st : Statement) → IsReadAs sig variables objects e st → CanStand sig st
+  read_stands objects classes e st is =
       let first = is.read.only.0.first.spells in
       let second = is.read.only.0.second.spells in
       let C = is.condition in
-      record {
-        sides = subst (AreSides sig) (sym is.holds.statement) (record {
-          left = spelled_raw sig ok.accepted variables first;
-          right = spelled_raw sig ok.accepted variables second;
-          kinds = (is.read.only.0.kind, is.read.only.0.of_first, is.read.only.0.of_second);
-          fragments = fragments_raw sig ok.accepted variables e.fragments C is.fragments;
-          sorts = all_sorts is.left is.right C (sorts_there first) (sorts_there second)
-              (sorts_all sig C (all_read (IsFragment sig variables) (λ f. HaveSortsAmong sig (f ∷ [])) fragment_sorts e.fragments C is.fragments));
-        });
-        ordinary = ordinary_statement sig is.left is.right C e.rule e.executable st is.holds;
-      }
+      let sides : AreSides sig (statement_of is.left is.right C e.rule e.executable) = record {
+        left = spelled_raw sig ok.accepted variables first;
+        right = spelled_raw sig ok.accepted variables second;
+        kinds = (is.read.only.0.kind, is.read.only.0.of_first, is.read.only.0.of_second);
+        fragments = fragments_raw sig ok.accepted variables e.fragments C is.fragments;
+        sorts = all_sorts is.left is.right C (sorts_there first) (sorts_there second)
+            (sorts_all sig C (all_read (IsFragment sig variables) (λ f. HaveSortsAmong sig (f ∷ [])) fragment_sorts e.fragments C is.fragments));
+      } in
+      own_stands sig ok.accepted objects classes (statement_of is.left is.right C e.rule e.executable) st is.holds sides refl refl
     where
       all_sorts : (left right : RawTerm) (C : List Fragment) → HasSortsOf sig left → HasSortsOf sig right → HaveSortsAmong sig C
           → (x : Variable) → IsTrue ((occurs x left || occurs x right) || occurs_among x C) → IsSortOf sig x.sort

@@ -2,7 +2,7 @@
 use Rattle.std.proofs.Common.{ℕ, List, [], ◌∷◌, All}
 use Rattle.std.proofs.lemmas.List.Elements.{All-nil, All-cons, All-head, All-tail, All-append}
 use Rattle.mw_lex.specs.Texts.{AreTokens}
-use Rattle.mw_module.specs.Forms.{Shape, Sorts, Subsorts, Operators, Variables, Statement, Import}
+use Rattle.mw_module.specs.Forms.{Shape, Sorts, Subsorts, Operators, Variables, Statement, Import, Class}
 use Rattle.mw_module.specs.Tokens.{HasProperTexts, HasProperParts, AreProperStatements}
 use Rattle.mw_module.specs.Units.{SeenLined}
 use Rattle.mw_build.specs.Sides.{Sides, sides_in, sides_of}
@@ -21,6 +21,7 @@ sides_proper line (Variables names S) p = All-nil AreSides
 sides_proper line (Statement rule left right fragments executable) p =
     All-cons AreSides (record { line = line; rule = rule; left = left; right = right; fragments = fragments; executable = executable }) [] p (All-nil AreSides)
 sides_proper line (Import m) p = All-nil AreSides
+sides_proper line (Class c as_) p = All-nil AreSides
 
 pub all_sides_proper : (ss : List SeenLined) → AreProperStatements ss → All AreSides (sides_of ss)
 all_sides_proper [] p = All-nil AreSides

@@ -1,6 +1,7 @@
 -- Modules that were accepted, and why others are refused.
 pub mod Pairwise
 pub mod Sides
+pub mod Classes
 pub mod Fragments
 pub mod Endings
 pub mod Statements

@@ -19,6 +19,8 @@ use Rattle.mw_declare.specs.declared.built.Reached.{Reached}
 use Rattle.mw_declare.specs.Faults.{Typing, typing_of}
 use Rattle.mw_declare.specs.Declarations.{Declares, DeclarationFault}
 use Rattle.mw_build.specs.Sides.{Sides, sides_of}
+use Rattle.mw_omod.specs.declared.classes.Classes.{Classes}
+use Rattle.mw_build.specs.Classes.{AreObjectsOf}
 use Rattle.mw_build.specs.Statements.{AreReadAs, FirstFault}
 use Rattle.mw_build.specs.Imported.{Origin, IsNotOwise, origins_of, AreImported, FirstImportedFault}
 use Rattle.mw_build.specs.SignatureFaults.{SignatureFault}
@@ -38,23 +40,23 @@ reached_of us name reached = record { nat = is_reached us reached name (codes "N
 
 -- The module has this name, the signature and the variables that are declared, and for its statements these, that stand for those of the modules that it
 -- reaches, and then its own equations and rules.
-pub record IsDeclaredModule (name : List ℕ) (d : Declarations) (origins : List Origin) (written : List Sides) (a : Accepted) : Type 0 where
+pub record IsDeclaredModule (name : List ℕ) (d : Declarations) (objects : Option Classes) (origins : List Origin) (written : List Sides) (a : Accepted) : Type 0 where
   pub preregular : IsPreregularModulo d.signature
   pub named : a.name ≡ name
   pub signature : a.module.signature ≡ d.signature
   pub variables : a.variables ≡ d.variables
   pub imported : List Statement
   pub imported_are : AreImported d.signature origins imported
-  pub own_are : AreReadAs d.signature d.variables written a.own
+  pub own_are : AreReadAs d.signature d.variables objects written a.own
   pub statements : a.module.statements ≡ imported ++ a.own
 
 -- Why there is none, told at this line or that of a statement: the signature isn't preregular modulo its axioms, or else a statement that is imported has a
 -- fault, or else an own one has.
-pub data StatementsFault (line : ℕ) (d : Declarations) (origins : List Origin) (written : List Sides) (r : Fault) : Type 0 where
-  by_signature : SignatureFault line d.signature r → StatementsFault line d origins written r
-  by_imported : IsPreregularModulo d.signature → FirstImportedFault d.signature line origins r → StatementsFault line d origins written r
+pub data StatementsFault (line : ℕ) (d : Declarations) (objects : Option Classes) (origins : List Origin) (written : List Sides) (r : Fault) : Type 0 where
+  by_signature : SignatureFault line d.signature r → StatementsFault line d objects origins written r
+  by_imported : IsPreregularModulo d.signature → FirstImportedFault d.signature line origins r → StatementsFault line d objects origins written r
   by_own : (imported : List Statement) → IsPreregularModulo d.signature → AreImported d.signature origins imported
-      → FirstFault d.signature d.variables written r → StatementsFault line d origins written r
+      → FirstFault d.signature d.variables objects written r → StatementsFault line d objects origins written r
 
 -- The unit is this module, where these units were accepted as these modules: flattened it declares it.
 pub record IsAccepted (us : List FlatUnit) (ms : List Accepted) (u : SeenUnit) (name : List ℕ) (reached : List ℕ) (a : Accepted) : Type 0 where
@@ -62,7 +64,9 @@ pub record IsAccepted (us : List FlatUnit) (ms : List Accepted) (u : SeenUnit) (
   pub flat : IsFlattened us u typing reached
   pub declarations : Declarations
   pub declared : Declares (reached_of us name reached) typing (flattened us u reached) declarations
-  pub holds : IsDeclaredModule name declarations (origins_of ms reached) (sides_of u.statements) a
+  pub objects : Option Classes
+  pub classes : AreObjectsOf u.word declarations.signature (flattened us u reached) objects
+  pub holds : IsDeclaredModule name declarations objects (origins_of ms reached) (sides_of u.statements) a
 
 -- Why it is none: the first of its own variables that has two sorts, or else its first import at fault, or else what its flattened module declares, or else its
 -- signature or statements.
@@ -71,8 +75,9 @@ pub data IsRefused (us : List FlatUnit) (ms : List Accepted) (u : SeenUnit) (nam
   by_imports : (typing : Typing) → typing_of u.statements ≡ Ok typing → ImportFault us name u.statements r → IsRefused us ms u name r
   by_declarations : (typing : Typing) (reached : List ℕ) → IsFlattened us u typing reached → DeclarationFault (reached_of us name reached) u.line (flattened us u reached) r
       → IsRefused us ms u name r
-  by_statements : (typing : Typing) (reached : List ℕ) (d : Declarations) → IsFlattened us u typing reached → Declares (reached_of us name reached) typing (flattened us u reached) d
-      → StatementsFault u.line d (origins_of ms reached) (sides_of u.statements) r → IsRefused us ms u name r
+  by_statements : (typing : Typing) (reached : List ℕ) (d : Declarations) (objects : Option Classes) → IsFlattened us u typing reached
+      → Declares (reached_of us name reached) typing (flattened us u reached) d → AreObjectsOf u.word d.signature (flattened us u reached) objects
+      → StatementsFault u.line d objects (origins_of ms reached) (sides_of u.statements) r → IsRefused us ms u name r
 
 -- what an accepted unit's module has of what the unit declares: its signature, whatever line faults are told at
 pub record IsOfUnit (us : List FlatUnit) (u : FlatUnit) (m : Accepted) : Type 0 where
@@ -107,12 +112,12 @@ pub record IsOfKnown (d : Declarations) : Type 0 where
   pub declared : Declares reached typing statements d
 
 -- The first so many statements stand for those of others, and the rest are the own ones.
-pub record AreAll (sig : Signature) (variables : List Variable) (origins : List Origin) (written : List Sides) (imported : ℕ) (sts : List Statement) : Type 0 where
+pub record AreAll (sig : Signature) (variables : List Variable) (objects : Option Classes) (origins : List Origin) (written : List Sides) (imported : ℕ) (sts : List Statement) : Type 0 where
   pub within : imported ≤ length sts
   pub imported_are : AreImported sig origins (take imported sts)
-  pub own_are : AreReadAs sig variables written (drop imported sts)
+  pub own_are : AreReadAs sig variables objects written (drop imported sts)
 
 -- the first of either that is at fault
-pub data NotAll (sig : Signature) (variables : List Variable) (line : ℕ) (origins : List Origin) (written : List Sides) (r : Fault) : Type 0 where
-  imported_fault : FirstImportedFault sig line origins r → NotAll sig variables line origins written r
-  own_fault : (imported : List Statement) → AreImported sig origins imported → FirstFault sig variables written r → NotAll sig variables line origins written r
+pub data NotAll (sig : Signature) (variables : List Variable) (objects : Option Classes) (line : ℕ) (origins : List Origin) (written : List Sides) (r : Fault) : Type 0 where
+  imported_fault : FirstImportedFault sig line origins r → NotAll sig variables objects line origins written r
+  own_fault : (imported : List Statement) → AreImported sig origins imported → FirstFault sig variables objects written r → NotAll sig variables objects line origins written r

@@ -2,7 +2,7 @@
 use Rattle.std.specs.Prelude.{ℕ, List, [], ◌∷◌, ◌++◌, Bool, map}
 use Rattle.mw_lex.specs.declared.token.Token.{Token}
 use Rattle.mw_module.specs.Conditions.{WrittenFragment, seen_fragments}
-use Rattle.mw_module.specs.Forms.{Shape, Sorts, Subsorts, Operators, Variables, Statement, Import}
+use Rattle.mw_module.specs.Forms.{Shape, Sorts, Subsorts, Operators, Variables, Statement, Import, Class}
 use Rattle.mw_module.specs.Units.{SeenLined}
 use Rattle.mw_build.specs.declared.statements.WrittenStatement.{WrittenStatement}
 
@@ -22,6 +22,7 @@ sides_in line (Operators names args result said) = []
 sides_in line (Variables names S) = []
 sides_in line (Statement rule left right fragments executable) = record { line = line; rule = rule; left = left; right = right; fragments = fragments; executable = executable } ∷ []
 sides_in line (Import m) = []
+sides_in line (Class c as_) = []
 
 -- all of them, in order
 abbrev pub sides_of : List SeenLined → List Sides

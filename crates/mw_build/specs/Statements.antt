@@ -1,6 +1,6 @@
 -- Which statement an equation or a rule is, and what is wrong with one. (Maude Manual, chapter 4, "Unconditional equations" and "Conditional equations and
 -- memberships"; chapter 5, "Unconditional rules" and "Conditional rules".)
-use Rattle.std.specs.Prelude.{◌≡◌, List, [], ◌∷◌, All, Bool, false, IsTrue, Option, Some, None}
+use Rattle.std.specs.Prelude.{◌≡◌, List, [], ◌∷◌, All, Bool, true, false, IsTrue, Option, Some, None}
 use Rattle.mw_logic.specs.Term.{Variable, RawTerm, variable}
 use Rattle.mw_logic.specs.Signature.{Signature}
 use Rattle.mw_logic.specs.Axioms.{EqualModulo}
@@ -11,9 +11,11 @@ use Rattle.mw_position.specs.Variables.{met}
 use Rattle.mw_text.specs.Mentions.{missing_in}
 use Rattle.mw_module.specs.declared.faults.Fault.{Fault}
 use Rattle.mw_module.specs.declared.faults.FaultKind.{FaultKind}
-use Rattle.mw_module.specs.declared.faults.FaultKind.TheVariants.{TooDeep, NumberTooLarge, LoneVariable, UnboundVariable}
+use Rattle.mw_module.specs.declared.faults.FaultKind.TheVariants.{TooDeep, NumberTooLarge, LoneVariable, UnboundVariable, BadObject}
 use Rattle.mw_text.specs.Readings.{ReadsPair}
 use Rattle.mw_module.specs.Words.{texts}
+use Rattle.mw_omod.specs.declared.classes.Classes.{Classes}
+use Rattle.mw_omod.specs.Completion.{IsCompletion, IsBad}
 use Rattle.mw_build.specs.Pairwise.{AreRelated, IsFirstWrong}
 use Rattle.mw_build.specs.Sides.{Sides}
 use Rattle.mw_build.specs.Fragments.{PairFault, AreFragments, FirstFragmentFault}
@@ -119,7 +121,36 @@ module _ (sig : Signature) (left right : RawTerm) (C : List Fragment) where
     big_term : FirstOversized sig cause (all_terms left right C) → TermsFault executable cause
     inapplicable : All (FitsIn sig) (all_terms left right C) → IsTrue executable → ApplicationFault cause → TermsFault executable cause
 
-module _ (sig : Signature) (variables : List Variable) where
+-- nothing is wrong with the terms of the statement; or this is
+abbrev pub IsFine : Signature → Statement → Type 0
+IsFine sig e = AreFine sig e.left e.right e.fragments e.executable
+
+abbrev pub HasFaultOfTerms : Signature → Statement → FaultKind → Type 0
+HasFaultOfTerms sig e cause = TermsFault sig e.left e.right e.fragments e.executable cause
+
+-- A rule of an object module is this one, completed, where nothing is wrong with its terms.
+pub record IsObjectRule (sig : Signature) (K : Classes) (e e' : Statement) : Type 0 where
+  pub completed : IsCompletion sig K e e'
+  pub fine : IsFine sig e'
+
+-- What is wrong with it, in this order: with the terms of the completed rule; and where a bad object stands in it, with its own terms, or else that.
+pub data ObjectRuleFault (sig : Signature) (K : Classes) (e : Statement) : FaultKind → Type 0 where
+  bad_completed : (e' : Statement) (cause : FaultKind) → IsCompletion sig K e e' → HasFaultOfTerms sig e' cause → ObjectRuleFault sig K e cause
+  bad_written : (cause : FaultKind) → IsBad sig K e.left e.right → HasFaultOfTerms sig e cause → ObjectRuleFault sig K e cause
+  bad_object : IsBad sig K e.left e.right → IsFine sig e → ObjectRuleFault sig K e BadObject
+
+-- An own statement of a module, of an object module with these classes: a rule of such a module is completed, any other statement is as it is written.
+pub data IsOwn (sig : Signature) : Option Classes → Statement → Statement → Type 0 where
+  own_rule : (K : Classes) (e e' : Statement) → e.rule ≡ true → IsObjectRule sig K e e' → IsOwn sig (Some K) e e'
+  own_equation : (K : Classes) (e : Statement) → e.rule ≡ false → IsFine sig e → IsOwn sig (Some K) e e
+  own_statement : (e : Statement) → IsFine sig e → IsOwn sig None e e
+
+pub data OwnFault (sig : Signature) : Option Classes → Statement → FaultKind → Type 0 where
+  of_rule : (K : Classes) (e : Statement) (cause : FaultKind) → e.rule ≡ true → ObjectRuleFault sig K e cause → OwnFault sig (Some K) e cause
+  of_equation : (K : Classes) (e : Statement) (cause : FaultKind) → e.rule ≡ false → HasFaultOfTerms sig e cause → OwnFault sig (Some K) e cause
+  of_statement : (e : Statement) (cause : FaultKind) → HasFaultOfTerms sig e cause → OwnFault sig None e cause
+
+module _ (sig : Signature) (variables : List Variable) (objects : Option Classes) where
   -- The written statement is read as this one: its texts spell these sides, and no others of one kind, and each fragment of its condition is one of these.
   pub record IsReadAs (e : Sides) (st : Statement) : Type 0 where
     pub left : RawTerm
@@ -127,7 +158,7 @@ module _ (sig : Signature) (variables : List Variable) where
     pub read : ReadsPair sig variables (texts e.left) (texts e.right) (left, right)
     pub condition : List Fragment
     pub fragments : AreFragments sig variables e.fragments condition
-    pub holds : IsStatementOf sig left right condition e.rule e.executable st
+    pub holds : IsOwn sig objects (statement_of left right condition e.rule e.executable) st
 
   -- what is wrong with a written statement, in this order: with the texts of its sides, with those of a fragment, or with its terms
   pub data StatementFault (e : Sides) (cause : FaultKind) : Type 0 where
@@ -135,7 +166,7 @@ module _ (sig : Signature) (variables : List Variable) where
     bad_fragment : (left right : RawTerm) → ReadsPair sig variables (texts e.left) (texts e.right) (left, right)
         → FirstFragmentFault sig variables e.fragments cause → StatementFault e cause
     bad_terms : (left right : RawTerm) (C : List Fragment) → ReadsPair sig variables (texts e.left) (texts e.right) (left, right)
-        → AreFragments sig variables e.fragments C → TermsFault sig left right C e.executable cause → StatementFault e cause
+        → AreFragments sig variables e.fragments C → OwnFault sig objects (statement_of left right C e.rule e.executable) cause → StatementFault e cause
 
   -- they are read as these statements, one for one
   abbrev pub AreReadAs : List Sides → List Statement → Type 0

@@ -22,6 +22,10 @@
 //! has, and then of what is evaluated in a fragment one that neither the left side nor the pattern of a match before it
 //! has.
 //!
+//! A module's own rules are completed where it is an object module (mw_omod), by the classes that the flattened module
+//! declares (specs/Classes): what is said of terms is said of those of the completed rule. Where a bad object stands in
+//! a rule, its own terms are looked at, and that is told last. Imported rules were completed in their own module.
+//!
 //! A fragment is a match or an equation as mw_module divides it, and its two texts are read as terms of one kind. Any
 //! other text is a sort test where it ends in a colon and a sort that is there, or such a sort in brackets; what stands
 //! before the colon is read as a term of the sort's kind. Else all of it is read as a term of the kind of Bool
@@ -37,8 +41,8 @@
 //! - `accepted`: the module has the signature that the flattened module declares, the variables of its own statements,
 //!   and for its statements, in flattened order, those that stand for the own statements of the modules that it reaches
 //!   (`IsImported`, specs/Imported), and then for each of its equations and rules the statement whose sides and
-//!   fragments its texts spell in its own signature, and no others (`IsReadAs`, specs/Statements; `IsAccepted`,
-//!   specs/Modules).
+//!   fragments its texts spell in its own signature, and no others, a rule of an object module completed (`IsReadAs`,
+//!   specs/Statements; `IsAccepted`, specs/Modules).
 //! - `fault`: a fault is answered only where the unit has it, and it is the first (`IsRefused`; `IsFirstWrong` of
 //!   specs/Pairwise). A unit is one module at most, and none where it is refused (proofs/OneModule).
 //! - `build` wants that the units before were accepted as the modules before (`AreLoaded`); with one more it is so
@@ -49,8 +53,9 @@
 //! - The law `texts_read_back`: the text of each raw term of a module that a source's unit is, cut into tokens, spells
 //!   this term in the module, where the term's variables can be printed and its quoted identifiers are tokens
 //!   (specs/Printing). By `statements_are_printable` so it is for the sides and the fragments' terms of the
-//!   module's statements. By `spellings_are_whole` each operator is spelled as one token. By `accepted_are_workable` what
-//!   a unit is accepted as is workable, by the definitions alone.
+//!   module's statements, where no rule was completed: the variables that completion adds can't be printed. By
+//!   `spellings_are_whole` each operator is spelled as one token. By `accepted_are_workable` what a unit is accepted as is
+//!   workable, by the definitions alone.
 //! - `Module::term`: the one term that the tokens spell, a term of the signature; no term only above 1,024 tokens,
 //!   where they spell none, or two. `Module::pair`: the one pair of terms of one kind, likewise.
 //! - `canonical`: the canonical form of a term that was read, or what keeps the term out.
@@ -62,6 +67,7 @@
 #![tactic(auto)]
 
 mod carrying;
+mod classes;
 mod fragments;
 mod laws;
 mod modules;

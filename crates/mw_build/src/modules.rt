@@ -1,5 +1,5 @@
 // Modules that were accepted.
-ghost use Rattle.std.specs.Prelude.{◌≡◌, ◌≤◌, ◌++◌, ℕ, List, length, drop, All, IfOk, IfErr, IfSome, None, IsTrue, codes};
+ghost use Rattle.std.specs.Prelude.{◌≡◌, ◌≤◌, ◌++◌, ℕ, List, length, drop, option_map, All, IfOk, IfErr, IfSome, None, IsTrue, codes};
 ghost use Rattle.mw_logic.specs.Term.{Variable};
 ghost use Rattle.mw_logic.specs.Signature.{IsRawTerm, IsSortNamed};
 ghost use Rattle.mw_logic.specs.Built.{HasBuiltIns};
@@ -24,12 +24,15 @@ ghost use Rattle.mw_declare.specs.Declarations.{Declares, DeclarationFault};
 ghost use Rattle.mw_build.specs.Sides.{sides_of};
 ghost use Rattle.mw_build.specs.Statements.{AreReadAs, FirstFault};
 ghost use Rattle.mw_build.specs.Imported.{IsNotOwise, ArePartsOf, origins_of};
+ghost use Rattle.mw_omod.specs.Workable.{AreClasses};
+ghost use Rattle.mw_build.specs.Classes.{AreObjectsOf};
 ghost use Rattle.mw_build.specs.Modules.{IsDeclaredModule, StatementsFault, IsAccepted, IsRefused, AreLoaded, AreAll, NotAll, IsOfKnown};
 ghost use Rattle.mw_build.specs.Modules.{reached_of, flattened};
 
 use crate::carrying::imported;
+use crate::classes::classes_of;
 use crate::signature::tables;
-use crate::statements::{statements_of, written_statements};
+use crate::statements::{Reader, statements_of, written_statements};
 use mw_canon::Facts;
 use mw_declare::{Declarations, Reached, Typing, all_typed, declare};
 use mw_grammar::Grammar;
@@ -38,6 +41,7 @@ use mw_index::Index;
 use mw_least::Ctx;
 use mw_lex::Token;
 use mw_module::{Lined, Unit, UnitError};
+use mw_omod::Classes;
 use mw_parse::{Unread, parse, parse_pair};
 use mw_poset::Poset;
 use mw_sorts::Tables;
@@ -153,22 +157,29 @@ impl Module {
 /// The statements that a module's equations and rules are, or their first fault.
 fn read(
     alloc: Global,
-    facts: &Facts,
-    grammar: &Grammar,
+    reader: Reader<'_>,
     statements: &[Lined<'_>],
 ) -> Result<Vec<Statement>, UnitError>
-    requires reading { IsReading grammar.now }
-    requires grammar { (variables : List Variable) × IsGrammarOf facts.now variables grammar.now }
-    ensures statements { (variables : List Variable) → IsGrammarOf facts.now variables grammar.now
-        → IfOk result (λ v. AreReadAs facts.now variables (sides_of (seen_statements statements.now)) v.items) }
-    ensures fault { (variables : List Variable) → IsGrammarOf facts.now variables grammar.now
-        → IfErr result (HasCause (FirstFault facts.now variables (sides_of (seen_statements statements.now)))) }
+    requires reading { IsReading reader.grammar.now }
+    requires grammar { (variables : List Variable) × IsGrammarOf reader.facts.now variables reader.grammar.now }
+    requires classes { IfSome reader.classes (λ K. AreClasses reader.facts.now K.now) }
+    ensures statements { (variables : List Variable) → IsGrammarOf reader.facts.now variables reader.grammar.now
+        → IfOk result (λ v. AreReadAs reader.facts.now variables (option_map (λ K. K.now) reader.classes) (sides_of (seen_statements statements.now)) v.items) }
+    ensures fault { (variables : List Variable) → IsGrammarOf reader.facts.now variables reader.grammar.now
+        → IfErr result (HasCause (FirstFault reader.facts.now variables (option_map (λ K. K.now) reader.classes) (sides_of (seen_statements statements.now)))) }
 {
     let written = written_statements(alloc, statements)?;
-    match statements_of(alloc, facts, grammar, written.as_slice())? {
+    match statements_of(alloc, reader, written.as_slice())? {
         Ok(found) => Ok(found),
         Err(fault) => Err(UnitError::Fault(fault)),
     }
+}
+
+/// A unit, and where it is an object module the classes by which its rules are completed.
+#[derive(Clone, Copy)]
+struct Source<'u, 's> {
+    unit: &'u Unit<'s>,
+    classes: Option<&'u Classes>,
 }
 
 /// The statements of a module, of which so many stand for those of others.
@@ -237,17 +248,18 @@ fn all_statements(
     grammar: &Grammar,
     modules: &[Module],
     reached: &[usize],
-    unit: &Unit<'_>,
+    source: Source<'_, '_>,
 ) -> Result<Statements, UnitError>
     requires numbers { HasItsSorts signed.now.facts }
     requires order { signed.now.order ≡ order_of signed.now.facts }
     requires parts { ArePartsOf modules.now reached.now signed.now.facts }
     requires reading { IsReading grammar.now }
+    requires classes { IfSome source.classes (λ K. AreClasses signed.now.facts K.now) }
     requires grammar { (variables : List Variable) × IsGrammarOf signed.now.facts variables grammar.now }
     ensures all { (variables : List Variable) → IsGrammarOf signed.now.facts variables grammar.now → IfOk result (λ s.
-        AreAll signed.now.facts variables (origins_of modules.now reached.now) (sides_of (seen_unit unit.now).statements) s.imported s.list.items) }
+        AreAll signed.now.facts variables (option_map (λ K. K.now) source.classes) (origins_of modules.now reached.now) (sides_of (seen_unit source.unit.now).statements) s.imported s.list.items) }
     ensures fault { (variables : List Variable) → IsGrammarOf signed.now.facts variables grammar.now → IfErr result (HasCause
-        (NotAll signed.now.facts variables (seen_unit unit.now).line (origins_of modules.now reached.now) (sides_of (seen_unit unit.now).statements))) }
+        (NotAll signed.now.facts variables (option_map (λ K. K.now) source.classes) (seen_unit source.unit.now).line (origins_of modules.now reached.now) (sides_of (seen_unit source.unit.now).statements))) }
 {
     let imported = imported(
         alloc,
@@ -255,9 +267,14 @@ fn all_statements(
         &signed.order,
         modules,
         reached,
-        unit.line,
+        source.unit.line,
     )?;
-    let own = read(alloc, &signed.facts, grammar, unit.statements.as_slice())?;
+    let reader = Reader {
+        facts: &signed.facts,
+        grammar,
+        classes: source.classes,
+    };
+    let own = read(alloc, reader, source.unit.statements.as_slice())?;
     Ok(joined(imported, own)?)
 }
 
@@ -305,11 +322,12 @@ fn module_of(
 fn declared_module(
     alloc: Global,
     name: Name,
-    unit: &Unit<'_>,
+    source: Source<'_, '_>,
     modules: &[Module],
     reached: &[usize],
     declarations: Box<Declarations>,
 ) -> Result<Module, UnitError>
+    requires classes { IfSome source.classes (λ K. AreClasses declarations.value.signature K.now) }
     requires declared { IsOfKnown declarations.value }
     requires parts { ArePartsOf modules.now reached.now declarations.value.signature }
     requires order { declarations.value.order ≡ order_of declarations.value.signature }
@@ -319,12 +337,12 @@ fn declared_module(
     requires naturals { IsTrue declarations.value.signature.nat → HasNaturals declarations.value.signature }
     requires quoted { IsTrue declarations.value.signature.qid → (S : ℕ) × IsSortNamed declarations.value.signature S (codes "Qid") }
     requires built { HasBuiltIns declarations.value.signature }
-    ensures holds { IfOk result (IsDeclaredModule name declarations.value (origins_of modules.now reached.now) (sides_of (seen_unit unit.now).statements)) }
-    ensures fault { IfErr result (HasCause (StatementsFault (seen_unit unit.now).line declarations.value (origins_of modules.now reached.now) (sides_of (seen_unit unit.now).statements))) }
+    ensures holds { IfOk result (IsDeclaredModule name declarations.value (option_map (λ K. K.now) source.classes) (origins_of modules.now reached.now) (sides_of (seen_unit source.unit.now).statements)) }
+    ensures fault { IfErr result (HasCause (StatementsFault (seen_unit source.unit.now).line declarations.value (option_map (λ K. K.now) source.classes) (origins_of modules.now reached.now) (sides_of (seen_unit source.unit.now).statements))) }
 {
     let tables = tables(
         alloc,
-        unit.line,
+        source.unit.line,
         &declarations.signature,
         &declarations.order,
     )?;
@@ -335,7 +353,7 @@ fn declared_module(
         &signed.order,
         signed.variables.as_slice(),
     )?;
-    let statements = all_statements(alloc, &signed, &grammar, modules, reached, unit)?;
+    let statements = all_statements(alloc, &signed, &grammar, modules, reached, source)?;
     Ok(module_of(alloc, name, signed, grammar, statements)?)
 }
 
@@ -368,6 +386,31 @@ fn flattened_declarations(
     declare(alloc, unit.line, reached, typing, statements.as_slice())
 }
 
+/// The classes of the flattened module of a unit, where it is an object module.
+fn classes(
+    alloc: Global,
+    units: &Units<'_>,
+    unit: &Unit<'_>,
+    flat: &Flat,
+    declarations: &Declarations,
+) -> Result<Option<Classes>, AllocError>
+    requires flat { IsFlat units.now (seen_unit unit.now).statements flat.now }
+    requires sorts { HasItsSorts declarations.now.signature }
+    requires order { declarations.now.order ≡ order_of declarations.now.signature }
+    ensures { IfOk result (AreObjectsOf (seen_unit unit.now).word declarations.now.signature (flattened units.now (seen_unit unit.now) flat.now)) }
+{
+    if unit.word != b"omod".as_slice() {
+        return Ok(None);
+    }
+    let statements = units.statements(alloc, unit.line, flat, unit.statements.as_slice())?;
+    let Declarations {
+        signature,
+        order,
+        ..
+    } = declarations;
+    classes_of(alloc, signature, order, statements.as_slice())
+}
+
 /// A module, with the units that it reaches.
 #[derive(Drop)]
 pub struct Built {
@@ -392,6 +435,11 @@ pub fn build(
     let typing = all_typed(alloc, unit.statements.as_slice())?;
     let flat = units.flatten(alloc, name.as_slice(), unit.statements.as_slice())?;
     let declarations = flattened_declarations(alloc, units, unit, name.as_slice(), &typing, &flat)?;
-    let module = declared_module(alloc, name, unit, modules, flat.as_slice(), declarations)?;
+    let classes = classes(alloc, units, unit, &flat, &declarations)?;
+    let source = Source {
+        unit,
+        classes: classes.as_ref(),
+    };
+    let module = declared_module(alloc, name, source, modules, flat.as_slice(), declarations)?;
     Ok(Built { flat, module })
 }

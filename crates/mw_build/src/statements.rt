@@ -1,5 +1,5 @@
 // Equations and rules, from tokens to statements.
-ghost use Rattle.std.specs.Prelude.{◌≡◌, ◌↔◌, List, All, map, IfOk, IsTrue, MatchOption, MatchResult};
+ghost use Rattle.std.specs.Prelude.{◌≡◌, ◌↔◌, List, All, map, option_map, IfOk, IfSome, IsTrue, MatchOption, MatchResult};
 ghost use Rattle.mw_logic.specs.Term.{Variable, variable as a_variable};
 ghost use Rattle.mw_logic.specs.Signature.{Signature as SignatureOf, IsRawTerm};
 ghost use Rattle.mw_logic.specs.Accepted.{IsAccepted};
@@ -11,16 +11,18 @@ ghost use Rattle.mw_module.specs.Words.{texts};
 ghost use Rattle.mw_text.specs.Readings.{ReadsPair};
 ghost use Rattle.mw_least.specs.Conditions.{AreRawFragments};
 ghost use Rattle.mw_grammar.specs.Grammars.{IsGrammarOf, IsReading};
-ghost use Rattle.mw_build.specs.Statements.{FitsIn, FirstOversized, all_terms, IsReadAs, StatementFault, IsApplicable, ApplicationFault, AreFine, IsStatementOf, TermsFault, AreReadAs, FirstFault};
+ghost use Rattle.mw_build.specs.Statements.{FitsIn, FirstOversized, all_terms, IsReadAs, StatementFault, IsApplicable, ApplicationFault, AreFine, IsStatementOf, TermsFault, IsFine, HasFaultOfTerms, IsObjectRule, ObjectRuleFault, IsOwn, OwnFault, AreReadAs, FirstFault, statement_of as made_statement};
+ghost use Rattle.mw_omod.specs.Workable.{AreClasses};
 ghost use Rattle.mw_build.specs.Sides.{sides_of, seen_sides, all_seen_sides};
 
 use crate::fragments::{fragments_of, pair};
 use crate::sizes::{canonical, fragments_fault, term_fault};
-use crate::variables::{unbound, variables_of};
+use crate::variables::unbound;
 use mw_canon::Facts;
 use mw_grammar::Grammar;
 use mw_lex::Token;
 use mw_module::{Fault, FaultKind, Form, Lined, WrittenFragment};
+use mw_omod::{Classes, CompletionError, complete, variables_of};
 use mw_term::{Fragment, Raw, Seq, Statement, Term, View};
 use std::alloc::{AllocError, Global};
 
@@ -151,6 +153,73 @@ fn terms_fault(
     }
 }
 
+/// What is wrong with the terms of a statement, if anything is.
+fn fault_of(
+    alloc: Global,
+    facts: &Facts,
+    statement: &Statement,
+) -> Result<Option<FaultKind>, AllocError>
+    requires left { IsRawTerm facts.now statement.now.left }
+    requires right { IsRawTerm facts.now statement.now.right }
+    requires fragments { AreRawFragments facts.now statement.now.fragments }
+    ensures { IfOk result (λ o. MatchOption o
+        (IsFine facts.now statement.now)
+        (λ kind. HasFaultOfTerms facts.now statement.now kind)) }
+{
+    let fragments = statement.fragments.as_slice();
+    let executable = statement.executable;
+    terms_fault(
+        alloc,
+        facts,
+        &statement.left,
+        &statement.right,
+        fragments,
+        executable,
+    )
+}
+
+/// The statement, or what is wrong with its terms.
+fn checked(
+    alloc: Global,
+    facts: &Facts,
+    statement: Statement,
+) -> Result<Result<Statement, FaultKind>, AllocError>
+    requires left { IsRawTerm facts.now statement.left }
+    requires right { IsRawTerm facts.now statement.right }
+    requires fragments { AreRawFragments facts.now statement.fragments }
+    ensures { IfOk result (λ r. MatchResult r
+        (λ st. IsFine facts.now statement × (st ≡ statement))
+        (λ kind. HasFaultOfTerms facts.now statement kind)) }
+{
+    match fault_of(alloc, facts, &statement)? {
+        Some(kind) => Ok(Err(kind)),
+        None => Ok(Ok(statement)),
+    }
+}
+
+/// The statement of these sides and fragments, whatever is wrong with their terms.
+fn unchecked(
+    alloc: Global,
+    left: Raw,
+    right: Raw,
+    fragments: Vec<Fragment>,
+    rule: bool,
+    executable: bool,
+) -> Result<Statement, AllocError>
+    ensures { IfOk result (λ st. st ≡ made_statement (raw_term left) (raw_term right) (map fragment_of fragments.items) rule executable) }
+{
+    let variables = variables_of(alloc, &left, &right, &fragments)?;
+    Ok(Statement {
+        left,
+        right,
+        fragments: Seq::of(fragments),
+        variables,
+        rule,
+        executable,
+        owise: false,
+    })
+}
+
 /// The statement of these sides and fragments, or what is wrong with their terms.
 pub fn statement_of(
     alloc: Global,
@@ -168,51 +237,92 @@ pub fn statement_of(
         (λ st. IsStatementOf facts.now (raw_term left) (raw_term right) (map fragment_of fragments.items) rule executable st)
         (λ kind. TermsFault facts.now (raw_term left) (raw_term right) (map fragment_of fragments.items) executable kind)) }
 {
-    if let Some(kind) = terms_fault(alloc, facts, &left, &right, &fragments, executable)? {
-        return Ok(Err(kind));
+    let statement = unchecked(alloc, left, right, fragments, rule, executable)?;
+    checked(alloc, facts, statement)
+}
+
+/// The completed rule that a rule of an object module is, or what is wrong with it.
+fn object_rule(
+    alloc: Global,
+    facts: &Facts,
+    classes: &Classes,
+    rule: Statement,
+) -> Result<Result<Statement, FaultKind>, AllocError>
+    requires classes { AreClasses facts.now classes.now }
+    requires left { IsRawTerm facts.now rule.left }
+    requires right { IsRawTerm facts.now rule.right }
+    requires fragments { AreRawFragments facts.now rule.fragments }
+    ensures { IfOk result (λ r. MatchResult r
+        (IsObjectRule facts.now classes.now rule)
+        (λ kind. ObjectRuleFault facts.now classes.now rule kind)) }
+{
+    let fault = fault_of(alloc, facts, &rule)?;
+    match complete(alloc, facts, classes, rule) {
+        Ok(completed) => checked(alloc, facts, completed),
+        Err(CompletionError::BadObject) => match fault {
+            Some(kind) => Ok(Err(kind)),
+            None => Ok(Err(FaultKind::BadObject)),
+        },
+        Err(CompletionError::Memory) => Err(AllocError),
     }
-    let variables = variables_of(alloc, &left, &right, &fragments)?;
-    Ok(Ok(Statement {
-        left,
-        right,
-        fragments: Seq::of(fragments),
-        variables,
-        rule,
-        executable,
-        owise: false,
-    }))
+}
+
+/// How the own statements of a module are read: with its signature, its grammar, and in an object module the classes
+/// by which its rules are completed.
+#[derive(Clone, Copy)]
+pub struct Reader<'r> {
+    pub facts: &'r Facts,
+    pub grammar: &'r Grammar,
+    pub classes: Option<&'r Classes>,
+}
+
+/// The statement among a module's own that this one is as it is written, or what is wrong with it.
+fn own_statement(
+    alloc: Global,
+    reader: Reader<'_>,
+    statement: Statement,
+) -> Result<Result<Statement, FaultKind>, AllocError>
+    requires left { IsRawTerm reader.facts.now statement.left }
+    requires right { IsRawTerm reader.facts.now statement.right }
+    requires fragments { AreRawFragments reader.facts.now statement.fragments }
+    requires classes { IfSome reader.classes (λ K. AreClasses reader.facts.now K.now) }
+    ensures { IfOk result (λ r. MatchResult r
+        (IsOwn reader.facts.now (option_map (λ K. K.now) reader.classes) statement)
+        (λ kind. OwnFault reader.facts.now (option_map (λ K. K.now) reader.classes) statement kind)) }
+{
+    match reader.classes {
+        Some(classes) if statement.rule => object_rule(alloc, reader.facts, classes, statement),
+        _ => checked(alloc, reader.facts, statement),
+    }
 }
 
 /// The statement that a written one is whose texts spell these sides, or what is wrong with it.
 fn with_condition(
     alloc: Global,
-    facts: &Facts,
-    grammar: &Grammar,
+    reader: Reader<'_>,
     written: &WrittenStatement<'_, '_>,
     left: Raw,
     right: Raw,
 ) -> Result<Result<Statement, FaultKind>, AllocError>
-    requires reading { IsReading grammar.now }
-    requires grammar { (variables : List Variable) × IsGrammarOf facts.now variables grammar.now }
-    requires left { IsRawTerm facts.now (raw_term left) }
-    requires right { IsRawTerm facts.now (raw_term right) }
-    ensures { (variables : List Variable) → IsGrammarOf facts.now variables grammar.now
-        → ReadsPair facts.now variables (texts (seen_sides written.now).left) (texts (seen_sides written.now).right) (raw_term left, raw_term right)
+    requires reading { IsReading reader.grammar.now }
+    requires grammar { (variables : List Variable) × IsGrammarOf reader.facts.now variables reader.grammar.now }
+    requires classes { IfSome reader.classes (λ K. AreClasses reader.facts.now K.now) }
+    requires left { IsRawTerm reader.facts.now (raw_term left) }
+    requires right { IsRawTerm reader.facts.now (raw_term right) }
+    ensures { (variables : List Variable) → IsGrammarOf reader.facts.now variables reader.grammar.now
+        → ReadsPair reader.facts.now variables (texts (seen_sides written.now).left) (texts (seen_sides written.now).right) (raw_term left, raw_term right)
         → IfOk result (λ r. MatchResult r
-        (IsReadAs facts.now variables (seen_sides written.now))
-        (λ kind. StatementFault facts.now variables (seen_sides written.now) kind)) }
+        (IsReadAs reader.facts.now variables (option_map (λ K. K.now) reader.classes) (seen_sides written.now))
+        (λ kind. StatementFault reader.facts.now variables (option_map (λ K. K.now) reader.classes) (seen_sides written.now) kind)) }
 {
-    facts.shows();
-    match fragments_of(alloc, grammar, written.fragments)? {
-        Ok(fragments) => statement_of(
-            alloc,
-            facts,
-            left,
-            right,
-            fragments,
-            written.rule,
-            written.executable,
-        ),
+    reader.facts.shows();
+    match fragments_of(alloc, reader.grammar, written.fragments)? {
+        Ok(fragments) => {
+            let rule = written.rule;
+            let executable = written.executable;
+            let statement = unchecked(alloc, left, right, fragments, rule, executable)?;
+            own_statement(alloc, reader, statement)
+        }
         Err(kind) => Ok(Err(kind)),
     }
 }
@@ -220,19 +330,19 @@ fn with_condition(
 /// The statement that a written one is, or what is wrong with it.
 fn statement(
     alloc: Global,
-    facts: &Facts,
-    grammar: &Grammar,
+    reader: Reader<'_>,
     written: &WrittenStatement<'_, '_>,
 ) -> Result<Result<Statement, FaultKind>, AllocError>
-    requires reading { IsReading grammar.now }
-    requires grammar { (variables : List Variable) × IsGrammarOf facts.now variables grammar.now }
-    ensures { (variables : List Variable) → IsGrammarOf facts.now variables grammar.now → IfOk result (λ r. MatchResult r
-        (IsReadAs facts.now variables (seen_sides written.now))
-        (λ kind. StatementFault facts.now variables (seen_sides written.now) kind)) }
+    requires reading { IsReading reader.grammar.now }
+    requires grammar { (variables : List Variable) × IsGrammarOf reader.facts.now variables reader.grammar.now }
+    requires classes { IfSome reader.classes (λ K. AreClasses reader.facts.now K.now) }
+    ensures { (variables : List Variable) → IsGrammarOf reader.facts.now variables reader.grammar.now → IfOk result (λ r. MatchResult r
+        (IsReadAs reader.facts.now variables (option_map (λ K. K.now) reader.classes) (seen_sides written.now))
+        (λ kind. StatementFault reader.facts.now variables (option_map (λ K. K.now) reader.classes) (seen_sides written.now) kind)) }
 {
-    facts.shows();
-    match pair(alloc, grammar, written.left, written.right)? {
-        Ok((left, right)) => with_condition(alloc, facts, grammar, written, left, right),
+    reader.facts.shows();
+    match pair(alloc, reader.grammar, written.left, written.right)? {
+        Ok((left, right)) => with_condition(alloc, reader, written, left, right),
         Err(kind) => Ok(Err(kind)),
     }
 }
@@ -240,19 +350,19 @@ fn statement(
 /// The statements that written ones are, or the first fault.
 pub fn statements_of(
     alloc: Global,
-    facts: &Facts,
-    grammar: &Grammar,
+    reader: Reader<'_>,
     statements: &[WrittenStatement<'_, '_>],
 ) -> Result<Result<Vec<Statement>, Fault>, AllocError>
-    requires reading { IsReading grammar.now }
-    requires grammar { (variables : List Variable) × IsGrammarOf facts.now variables grammar.now }
-    ensures { (variables : List Variable) → IsGrammarOf facts.now variables grammar.now → IfOk result (λ r. MatchResult r
-        (λ sts. AreReadAs facts.now variables (all_seen_sides statements.now) sts.items)
-        (λ fault. FirstFault facts.now variables (all_seen_sides statements.now) fault)) }
+    requires reading { IsReading reader.grammar.now }
+    requires grammar { (variables : List Variable) × IsGrammarOf reader.facts.now variables reader.grammar.now }
+    requires classes { IfSome reader.classes (λ K. AreClasses reader.facts.now K.now) }
+    ensures { (variables : List Variable) → IsGrammarOf reader.facts.now variables reader.grammar.now → IfOk result (λ r. MatchResult r
+        (λ sts. AreReadAs reader.facts.now variables (option_map (λ K. K.now) reader.classes) (all_seen_sides statements.now) sts.items)
+        (λ fault. FirstFault reader.facts.now variables (option_map (λ K. K.now) reader.classes) (all_seen_sides statements.now) fault)) }
 {
     let mut found = Vec::new(alloc);
     for written in statements {
-        match statement(alloc, facts, grammar, written)? {
+        match statement(alloc, reader, written)? {
             Ok(statement) => found.push(statement)?,
             Err(kind) => {
                 let line = written.line;

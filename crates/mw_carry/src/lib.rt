@@ -41,4 +41,4 @@ mod target;
 
 pub use carrier::Carrier;
 pub use laws::{carried_once, carried_terms_stay};
-pub use target::Target;
+pub use target::{Profile, Target};

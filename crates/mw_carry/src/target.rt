@@ -122,21 +122,21 @@ impl<'c> Target<'c> {
     }
 
     /// A sort of this name.
-    pub(crate) fn sort(&self, name: &[u8]) -> Option<SortId>
+    pub fn sort(&self, name: &[u8]) -> Option<SortId>
         ensures { IsFound (length self.now.sorts) (λ S. IsSortNamed self.now S name.now) result }
     {
         self.sorts.get(name).copied()
     }
 
     /// An operator of this profile.
-    pub(crate) fn operator(&self, profile: &Profile) -> Option<OpId>
+    pub fn operator(&self, profile: &Profile) -> Option<OpId>
         ensures { IsFound (length self.now.operators) (IsProfiled self.now (seen_profile profile.now)) result }
     {
         self.operators.get(profile).copied()
     }
 
     /// The kind of a sort, told by its least sort.
-    pub(crate) fn kind_of(&self, sort: SortId) -> KindId
+    pub fn kind_of(&self, sort: SortId) -> KindId
         requires { IsSortOf self.now sort }
         ensures { IsKindOf self.now.pairs sort result }
     {

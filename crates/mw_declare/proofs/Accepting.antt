@@ -1,5 +1,5 @@
 -- What a module declares is an accepted signature, whose sorts are there and lie in their kinds.
-use Rattle.std.proofs.Common.{◌≡◌, ◌∙◌, ℕ, List, [], ◌∷◌, length, map, Bool, true, false, Option, Some, None, All, if◌then◌else◌, refl, sym, ap, subst}
+use Rattle.std.proofs.Common.{◌≡◌, ◌∙◌, ℕ, List, [], ◌∷◌, ◌&&◌, length, map, Bool, true, false, Option, Some, None, All, if◌then◌else◌, refl, sym, ap, subst}
 use Rattle.std.specs.Option.{option_or}
 use Rattle.std.proofs.lemmas.Bool.{and_from}
 use Rattle.std.proofs.lemmas.List.Elements.{All-nil, All-cons, All-head, All-tail}
@@ -24,6 +24,7 @@ use Rattle.mw_declare.specs.Hierarchy.{Hierarchy, hierarchy_of}
 use Rattle.mw_declare.specs.Meaning.{sorts_of}
 use Rattle.mw_declare.specs.Operators.{Declared, operators_from, with_built, operators_of, operator_of, IsOfLeastKinds, IsNumbered, signature_of}
 use Rattle.mw_declare.specs.Faults.{Typing, wrong_with, wrong_among, operator_fault, told_at}
+use Rattle.mw_declare.specs.Freezing.{are_in_range}
 use Rattle.mw_declare.specs.Declarations.{declarations_with, unknown_in_all, operator_fault_of, IsAcyclic, Declares, DeclarationFault, of_operator}
 use Rattle.mw_declare.proofs.Building.{zero_kind, nonzero_kind, naturals, quoted, built_ins}
 use Rattle.mw_declare.proofs.KindNames.{numbered}
@@ -39,11 +40,12 @@ neither None p e = (refl, e)
 neither (Some x) p e = cc
 
 accepted_where : (sig : Signature) (b : Built) (all : List Declared) (o : Declared) → wrong_with sig b all o ≡ None → is_accepted_operator sig (operator_of b all o) ≡ true
-accepted_where sig b all o e = of (is_accepted_operator sig (operator_of b all o)) e
+accepted_where sig b all o e = of (is_accepted_operator sig (operator_of b all o)) (are_in_range (length o.profile.args) o.attributes) e
   where
-    of : (c : Bool) → (if c then (if o.attributes.clash then Some (AttributesDisagree o.profile.spelling) else None) else Some (BadAxioms o.profile.spelling)) ≡ None → c ≡ true
-    of true k = refl
-    of false k = cc
+    of : (c d : Bool) → (if c && d then (if o.attributes.clash then Some (AttributesDisagree o.profile.spelling) else None) else Some (BadAxioms o.profile.spelling)) ≡ None → c ≡ true
+    of true true k = refl
+    of true false k = cc
+    of false d k = cc
 
 all_accepted : (sig : Signature) (b : Built) (all os : List Declared) → wrong_among sig b all os ≡ None → are_accepted_operators sig (map (operator_of b all) os) ≡ true
 all_accepted sig b all [] e = refl

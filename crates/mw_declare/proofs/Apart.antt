@@ -5,16 +5,16 @@ use Rattle.std.proofs.lemmas.Bool.{and_from, and_parts, both_ways, eq-eqb}
 use Rattle.std.proofs.lemmas.List.Elements.{All-nil}
 use Rattle.std.proofs.lemmas.Option.{same_Some, slice_get-map}
 use Rattle.std.proofs.lemmas.Slice.Eq.{bytes_eq-Decides}
-use Rattle.mw_lex.specs.declared.token.Token.{Token}
 use Rattle.mw_logic.specs.Signature.{Operator, Declaration, IsOperator}
 use Rattle.mw_module.specs.Attributes.{Attributes}
-use Rattle.mw_module.specs.Forms.{Shape, Sorts, Subsorts, Operators, Variables, Statement, Import}
+use Rattle.mw_module.specs.Forms.{Shape, Sorts, Subsorts, Operators, Variables, Statement, Import, Class}
 use Rattle.mw_module.specs.Units.{SeenLined}
 use Rattle.mw_declare.specs.declared.built.Reached.{Reached}
 use Rattle.mw_declare.specs.declared.built.Truth.{Truth}
 use Rattle.mw_declare.specs.declared.built.Built.{Built}
 use Rattle.mw_declare.specs.Built.{truth_of, built_in, kinds_from}
 use Rattle.mw_declare.specs.Hierarchy.{Hierarchy, hierarchy_of}
+use Rattle.mw_declare.specs.Meaning.{Name}
 use Rattle.mw_declare.specs.Operators.{Rank, rank_of, Profile, same_profile, Declared, declared_again, with_operator, profile_of, with_named, with_operators, operators_from, Single, with_singles, built_for, with_kinds, with_built, operators_of, operator_of, signature_of}
 use Rattle.mw_declare.proofs.Folding.{declared_once, all_with}
 use Rattle.mw_declare.proofs.Proper.{all_at}
@@ -52,7 +52,7 @@ apart_with (o ∷ os) p d said a = of (same_profile p o.profile) refl (apart_wit
     of true e more = a
     of false e more = (all_with (IsOther o.profile) (other_again o.profile) os p d said a.0 (turned p o.profile e), more)
 
-apart_named : (os : List Declared) (names : List (List Token)) (rank : Rank) (said : Attributes) → AreApart os → AreApart (with_named os names rank said)
+apart_named : (os : List Declared) (names : List (List Name)) (rank : Rank) (said : Attributes) → AreApart os → AreApart (with_named os names rank said)
 apart_named os [] rank said a = a
 apart_named os (name ∷ names) rank said a =
     apart_named (with_operator os (profile_of name rank) rank.declaration said) names rank said (apart_with os (profile_of name rank) rank.declaration said a)
@@ -65,6 +65,7 @@ module _ (h : Hierarchy) where
   apart_shape os (Variables names S) a = a
   apart_shape os (Statement rule left right fragments executable) a = a
   apart_shape os (Import m) a = a
+  apart_shape os (Class c as_) a = a
 
   apart_from : (os : List Declared) (ss : List SeenLined) → AreApart os → AreApart (operators_from h os ss)
   apart_from os [] a = a

@@ -5,7 +5,7 @@ use Rattle.std.proofs.lemmas.Bool.{both_ways, eqb-true, eq-eqb, ne_eqb}
 use Rattle.std.proofs.lemmas.List.Elements.{All-head, All-tail}
 use Rattle.std.proofs.lemmas.Option.{same_Some, slice_get-map}
 use Rattle.mw_logic.specs.Signature.{Signature, Identity, constant_of, numeral_of, at_number, SameKind}
-use Rattle.mw_logic.specs.Accepted.{are_two, is_same_kind, is_constant_of_kind, is_identity_of_kind, is_accepted_identity, is_accepted_operator}
+use Rattle.mw_logic.specs.Accepted.{are_two, agree, is_member, is_same_kind, is_constant_of_kind, is_identity_of_kind, is_accepted_identity, is_accepted_operator}
 use Rattle.mw_logic.specs.Kinds.{kind_number, some_sort}
 use Rattle.mw_logic.proofs.Successor.{some_sort-from, some_sort-true}
 use Rattle.mw_logic.proofs.KindLaws.{SameKind-trans, SameKind-sym, kind_number-same, kind_number-sound}
@@ -19,6 +19,7 @@ use Rattle.mw_declare.specs.Meaning.{Name}
 use Rattle.mw_declare.specs.Faults.{wrong_with}
 use Rattle.mw_declare.specs.declared.built.Built.{Built}
 use Rattle.mw_declare.specs.Hierarchy.{Hierarchy, kind_of, IsLeastKind}
+use Rattle.mw_declare.specs.Freezing.{frozen_arguments, are_in_range}
 use Rattle.mw_declare.specs.Operators.{Profile, same_profile, Declared, constant_profile, operator_number, numeral_or_none, numeral_for, identity_at, identity_in, is_numeric, operator_of, IsOfLeastKinds, IsNumbered, signature_with}
 use Rattle.mw_declare.proofs.LeastKinds.{kind_same, kind_least}
 use Rattle.mw_declare.proofs.Named.{one_number}
@@ -143,33 +144,31 @@ module _ (b : Built) (h : Hierarchy) (os : List Declared) where
         of zero e = numeral_fits text b.nat refl
         of (suc c) e = e
 
-  last : (x y z w : Bool) → (x && (y && z)) ≡ (x && (y && (z && (not w || true))))
-  last true true true true = refl
-  last true true true false = refl
-  last true true false w = refl
-  last true false z w = refl
-  last false y z w = refl
+  four : (x y z w a b c d : Bool) → x ≡ a → y ≡ b → z ≡ c → w ≡ d → (x && (y && (z && w))) ≡ (a && (b && (c && d)))
+  four x y z w a b c d p q r s = rw (p, q, r, s) refl
 
-  four : (x y z a b c w : Bool) → x ≡ a → y ≡ b → z ≡ c → (x && (y && z)) ≡ (a && (b && (c && (not w || true))))
-  four x y z a b c w p q r = rw (p, q, r) (last a b c w)
+  -- the first two arguments are both frozen or both not, where they have to be alike
+  abbrev pub are_alike : Declared → Bool
+  are_alike o = let numbers = frozen_arguments (length o.profile.args) o.attributes in
+      not (o.attributes.assoc || o.attributes.comm) || agree (is_member 1 numbers) (is_member 2 numbers)
 
-  -- all axioms of an operator, by three tests
-  module _ (numbered : IsNumbered h b) (o : Declared) (least : IsOfLeastKinds h o) (assoc comm : Bool) (identity : Option Identity) (kept : Bool) where
+  -- all axioms of an operator, by four tests
+  module _ (numbered : IsNumbered h b) (o : Declared) (least : IsOfLeastKinds h o) (assoc comm : Bool) (identity : Option Identity) (kept alike : Bool) where
     kept_by : assoc ≡ (not o.attributes.assoc || are_two (λ K L. nat_eq K o.profile.result && nat_eq L o.profile.result) o.profile.args) → comm ≡ (not o.attributes.comm || are_two nat_eq o.profile.args)
-        → kept ≡ is_accepted_identity sig (operator_of b os o) (identity_in b os o)
-        → (assoc && (comm && kept)) ≡ is_accepted_operator sig (operator_of b os o)
-    kept_by a c i =
+        → kept ≡ is_accepted_identity sig (operator_of b os o) (identity_in b os o) → alike ≡ are_alike o
+        → (assoc && (comm && (kept && alike))) ≡ is_accepted_operator sig (operator_of b os o)
+    kept_by a c i l =
         let first = two_of h least.within sig refl o.profile.result least.result o.profile.args least.args in
         let second = two_alike h least.within sig refl o.profile.args least.args in
-        four assoc comm kept (not o.attributes.assoc || are_two (λ K L. is_same_kind sig K o.profile.result && is_same_kind sig L o.profile.result) o.profile.args)
-        (not o.attributes.comm || are_two (is_same_kind sig) o.profile.args) (is_accepted_identity sig (operator_of b os o) (identity_in b os o)) (o.attributes.assoc || o.attributes.comm)
-        (a ∙ ap (λ b. not o.attributes.assoc || b) (sym first)) (c ∙ ap (λ b. not o.attributes.comm || b) (sym second)) i
+        four assoc comm kept alike (not o.attributes.assoc || are_two (λ K L. is_same_kind sig K o.profile.result && is_same_kind sig L o.profile.result) o.profile.args)
+        (not o.attributes.comm || are_two (is_same_kind sig) o.profile.args) (is_accepted_identity sig (operator_of b os o) (identity_in b os o)) (are_alike o)
+        (a ∙ ap (λ b. not o.attributes.assoc || b) (sym first)) (c ∙ ap (λ b. not o.attributes.comm || b) (sym second)) i l
 
     pub kept_axioms : assoc ≡ (not o.attributes.assoc || are_two (λ K L. nat_eq K o.profile.result && nat_eq L o.profile.result) o.profile.args) → comm ≡ (not o.attributes.comm || are_two nat_eq o.profile.args)
         → identity ≡ identity_in b os o → (identity ≡ None → kept ≡ true) → ((n : ℕ) → identity ≡ Some (constant_of n) → kept ≡ (o.attributes.assoc && not (nat_eq n 0)))
-        → ((n : ℕ) → identity ≡ Some (numeral_of n) → kept ≡ (o.attributes.assoc && is_numeric b.nat o.profile.result))
-        → (assoc && (comm && kept)) ≡ is_accepted_operator sig (operator_of b os o)
-    kept_axioms a c i none some numeral = kept_by a c (of o.attributes.identity refl)
+        → ((n : ℕ) → identity ≡ Some (numeral_of n) → kept ≡ (o.attributes.assoc && is_numeric b.nat o.profile.result)) → alike ≡ are_alike o
+        → (assoc && (comm && (kept && alike))) ≡ is_accepted_operator sig (operator_of b os o)
+    kept_axioms a c i none some numeral l = kept_by a c (of o.attributes.identity refl) l
       where
         K : ℕ
         K = o.profile.result
@@ -193,11 +192,15 @@ module _ (sig : Signature) (b : Built) (os : List Declared) (o : Declared) where
   abbrev told_of : Bool → Bool → Option FaultKind
   told_of kept clash = if kept then (if clash then Some (AttributesDisagree o.profile.spelling) else None) else Some (BadAxioms o.profile.spelling)
 
-  pub wrong_axioms : is_accepted_operator sig (operator_of b os o) ≡ false → wrong_with sig b os o ≡ Some (BadAxioms o.profile.spelling)
+  -- the axioms are kept ones, and numbers of frozen arguments are those of some
+  abbrev pub is_fine : Bool
+  is_fine = is_accepted_operator sig (operator_of b os o) && are_in_range (length o.profile.args) o.attributes
+
+  pub wrong_axioms : is_fine ≡ false → wrong_with sig b os o ≡ Some (BadAxioms o.profile.spelling)
   wrong_axioms e = ap (λ k. told_of k o.attributes.clash) e
 
-  pub wrong_attributes : is_accepted_operator sig (operator_of b os o) ≡ true → o.attributes.clash ≡ true → wrong_with sig b os o ≡ Some (AttributesDisagree o.profile.spelling)
+  pub wrong_attributes : is_fine ≡ true → o.attributes.clash ≡ true → wrong_with sig b os o ≡ Some (AttributesDisagree o.profile.spelling)
   wrong_attributes e k = ap (λ k. told_of k o.attributes.clash) e ∙ ap (told_of true) k
 
-  pub none_wrong : is_accepted_operator sig (operator_of b os o) ≡ true → o.attributes.clash ≡ false → wrong_with sig b os o ≡ None
+  pub none_wrong : is_fine ≡ true → o.attributes.clash ≡ false → wrong_with sig b os o ≡ None
   none_wrong e k = ap (λ k. told_of k o.attributes.clash) e ∙ ap (told_of true) k

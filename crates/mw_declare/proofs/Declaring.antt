@@ -3,15 +3,14 @@ use Rattle.std.proofs.Common.{◌≡◌, ◌∙◌, ◌&&◌, not, ℕ, suc, Lis
 use Rattle.std.specs.List.{list_any}
 use Rattle.std.proofs.lemmas.Bool.{and_parts, or_cases, or_left, or_right}
 use Rattle.std.proofs.lemmas.Slice.Eq.{bytes_eq-Decides}
-use Rattle.mw_lex.specs.declared.token.Token.{Token}
 use Rattle.mw_logic.specs.Signature.{Sorted, sort, kind, Declaration, Member}
 use Rattle.mw_poset.proofs.Members.{member-all}
 use Rattle.mw_text.specs.Names.{name_of_tokens}
 use Rattle.mw_module.specs.Attributes.{Attributes}
-use Rattle.mw_module.specs.Forms.{Shape, Sorts, Subsorts, Operators, Variables, Statement, Import}
+use Rattle.mw_module.specs.Forms.{Shape, Sorts, Subsorts, Operators, Variables, Statement, Import, Class}
 use Rattle.mw_module.specs.Sortings.{WrittenSort}
 use Rattle.mw_module.specs.Units.{SeenLined, IsWithin}
-use Rattle.mw_declare.specs.Meaning.{Name, texts, is_among, number_of}
+use Rattle.mw_declare.specs.Meaning.{Name, is_among, number_of}
 use Rattle.mw_declare.specs.Hierarchy.{Hierarchy, kind_in, sorted_in}
 use Rattle.mw_declare.specs.Built.{is_sort, takes, is_name, declares_in, some_declares, kind_named}
 use Rattle.mw_declare.specs.Operators.{rank_of, Profile, profile_of}
@@ -41,11 +40,11 @@ not_so true e = cc
 not_so false e = refl
 
 sort_of_name : (n : Name) (s : WrittenSort) → is_sort n s ≡ true → (s.kind ≡ false) × (name_in s ≡ n)
-sort_of_name n s e = let p = and_parts (not s.kind) (bytes_eq s.name.text n) e in (not_so s.kind p.0, (bytes_eq-Decides s.name.text n).0 p.1)
+sort_of_name n s e = let p = and_parts (not s.kind) (bytes_eq s.name n) e in (not_so s.kind p.0, (bytes_eq-Decides s.name n).0 p.1)
 
-one_token : (n : Name) (ts : List Token) → is_name n ts ≡ true → texts ts ≡ n ∷ []
+one_token : (n : Name) (ts : List Name) → is_name n ts ≡ true → ts ≡ n ∷ []
 one_token n [] e = cc
-one_token n (t ∷ []) e = ap (λ m. m ∷ []) ((bytes_eq-Decides t.text n).0 e)
+one_token n (t ∷ []) e = ap (λ m. m ∷ []) ((bytes_eq-Decides t n).0 e)
 one_token n (t ∷ u ∷ ts) e = cc
 
 takes_none : (ss : List WrittenSort) → takes None ss ≡ true → ss ≡ []
@@ -69,14 +68,14 @@ arg_sorts h (Some n) = sort (number_of h.names n) ∷ []
 module _ (name : Name) (arg : Option Name) (value : Name) where
   -- a form that declares so
   pub record IsSaying (f : Shape) : Type 0 where
-    pub names : List (List Token)
+    pub names : List (List Name)
     pub args : List WrittenSort
     pub result : WrittenSort
     pub said : Attributes
     pub is : f ≡ Operators names args result said
     pub taken : takes arg args ≡ true
     pub given : is_sort value result ≡ true
-    pub token : List Token
+    pub token : List Name
     pub member : Member token names
     pub spelled : is_name name token ≡ true
 
@@ -91,6 +90,7 @@ module _ (name : Name) (arg : Option Name) (value : Name) where
   saying (Variables names S) e = cc
   saying (Statement rule left right fragments executable) e = cc
   saying (Import m) e = cc
+  saying (Class c as_) e = cc
 
   -- the profile and the declaration that it gives
   abbrev pub stated_profile : Hierarchy → Profile

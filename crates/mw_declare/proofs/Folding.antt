@@ -2,15 +2,15 @@
 use Rattle.std.proofs.Common.{◌≡◌, ℕ, List, [], ◌∷◌, length, Bool, true, false, Option, Some, None, All, if◌then◌else◌, refl}
 use Rattle.std.specs.Prelude.{⊤, codes}
 use Rattle.std.proofs.lemmas.List.Elements.{All-nil, All-cons, All-head, All-tail, All-weaker}
-use Rattle.mw_lex.specs.declared.token.Token.{Token}
 use Rattle.mw_logic.specs.Signature.{Declaration}
 use Rattle.mw_module.specs.Attributes.{Attributes}
-use Rattle.mw_module.specs.Forms.{Shape, Sorts, Subsorts, Operators, Variables, Statement, Import}
+use Rattle.mw_module.specs.Forms.{Shape, Sorts, Subsorts, Operators, Variables, Statement, Import, Class}
 use Rattle.mw_module.specs.Units.{SeenLined}
 use Rattle.mw_declare.specs.declared.built.Truth.{Truth}
 use Rattle.mw_declare.specs.Built.{truth_of, kinds_from}
 use Rattle.mw_declare.specs.Hierarchy.{Hierarchy, hierarchy_of}
 use Rattle.mw_declare.proofs.KindNames.{NamesKind, kinds_named}
+use Rattle.mw_declare.specs.Meaning.{Name}
 use Rattle.mw_declare.specs.Operators.{Rank, rank_of, Profile, same_profile, Declared, declared_again, with_operator, profile_of, with_named, with_operators, operators_from, Single, with_singles, choice_of, test_of, built_for, with_kinds, with_built, operators_of}
 
 -- an operator of one declaration
@@ -30,10 +30,10 @@ module _ (P : Declared → Type 0) (again : (o : Declared) (p : Profile) (d : De
       of false e more = All-cons P o (with_operator os p d said) this more
 
   -- a name declared so
-  abbrev pub HasNamed : Rank → Attributes → List Token → Type 0
+  abbrev pub HasNamed : Rank → Attributes → List Name → Type 0
   HasNamed rank said name = P (declared_once (profile_of name rank) rank.declaration said)
 
-  all_named : (os : List Declared) (names : List (List Token)) (rank : Rank) (said : Attributes) → All P os → All (HasNamed rank said) names → All P (with_named os names rank said)
+  all_named : (os : List Declared) (names : List (List Name)) (rank : Rank) (said : Attributes) → All P os → All (HasNamed rank said) names → All P (with_named os names rank said)
   all_named os [] rank said all each = all
   all_named os (name ∷ names) rank said all each =
       all_named (with_operator os (profile_of name rank) rank.declaration said) names rank said
@@ -48,6 +48,7 @@ module _ (P : Declared → Type 0) (again : (o : Declared) (p : Profile) (d : De
     HasEach (Variables names S) = ⊤
     HasEach (Statement rule left right fragments executable) = ⊤
     HasEach (Import m) = ⊤
+    HasEach (Class c as_) = ⊤
 
     abbrev pub HasEachLined : SeenLined → Type 0
     HasEachLined s = HasEach s.shape
@@ -59,6 +60,7 @@ module _ (P : Declared → Type 0) (again : (o : Declared) (p : Profile) (d : De
     all_shaped os (Variables names S) all each = all
     all_shaped os (Statement rule left right fragments executable) all each = all
     all_shaped os (Import m) all each = all
+    all_shaped os (Class c as_) all each = all
 
     all_from : (os : List Declared) (ss : List SeenLined) → All P os → All HasEachLined ss → All P (operators_from h os ss)
     all_from os [] all each = all

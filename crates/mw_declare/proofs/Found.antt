@@ -2,10 +2,9 @@
 use Rattle.std.proofs.Common.{◌≡◌, ℕ, List, [], ◌∷◌, length, Bool, true, false, Option, Some, None, All, if◌then◌else◌, refl, sym, subst, inl, inr}
 use Rattle.std.specs.Prelude.{⊤, codes}
 use Rattle.std.proofs.lemmas.List.Elements.{All-nil, All-cons, All-weaker}
-use Rattle.mw_lex.specs.declared.token.Token.{Token}
 use Rattle.mw_logic.specs.Signature.{Declaration, Member}
 use Rattle.mw_module.specs.Attributes.{Attributes}
-use Rattle.mw_module.specs.Forms.{Shape, Sorts, Subsorts, Operators, Variables, Statement, Import}
+use Rattle.mw_module.specs.Forms.{Shape, Sorts, Subsorts, Operators, Variables, Statement, Import, Class}
 use Rattle.mw_module.specs.Units.{SeenLined}
 use Rattle.mw_logic.proofs.Members.{member-left}
 use Rattle.mw_poset.proofs.Members.{member-last, member-all}
@@ -61,16 +60,16 @@ new_with (x ∷ os) p d said = of (same_profile p x.profile) refl (new_with os p
     of true e more = record { operator = declared_again x d said; member = inl refl; is = e; declared = member-last d x.declarations }
     of false e more = behind x (with_operator os p d said) p d more
 
-kept_named : (os : List Declared) (names : List (List Token)) (rank : Rank) (said : Attributes) (q : Profile) (c : Declaration) → IsFound os q c → IsFound (with_named os names rank said) q c
+kept_named : (os : List Declared) (names : List (List Name)) (rank : Rank) (said : Attributes) (q : Profile) (c : Declaration) → IsFound os q c → IsFound (with_named os names rank said) q c
 kept_named os [] rank said q c f = f
 kept_named os (name ∷ names) rank said q c f =
     let p = profile_of name rank in kept_named (with_operator os p rank.declaration said) names rank said q c (kept_with os p rank.declaration said q c f)
 
 -- the operator of this name and rank is among these
-abbrev pub IsNamed : List Declared → Rank → List Token → Type 0
+abbrev pub IsNamed : List Declared → Rank → List Name → Type 0
 IsNamed os rank name = IsFound os (profile_of name rank) rank.declaration
 
-new_named : (os : List Declared) (names : List (List Token)) (rank : Rank) (said : Attributes) → All (IsNamed (with_named os names rank said) rank) names
+new_named : (os : List Declared) (names : List (List Name)) (rank : Rank) (said : Attributes) → All (IsNamed (with_named os names rank said) rank) names
 new_named os [] rank said = All-nil (IsNamed os rank)
 new_named os (name ∷ names) rank said =
     let p = profile_of name rank in
@@ -86,6 +85,7 @@ module _ (h : Hierarchy) where
   HasFound os (Variables names S) = ⊤
   HasFound os (Statement rule left right fragments executable) = ⊤
   HasFound os (Import m) = ⊤
+  HasFound os (Class c as_) = ⊤
 
   kept_shape : (os : List Declared) (s : Shape) (q : Profile) (c : Declaration) → IsFound os q c → IsFound (with_operators h os s) q c
   kept_shape os (Sorts names) q c f = f
@@ -94,6 +94,7 @@ module _ (h : Hierarchy) where
   kept_shape os (Variables names S) q c f = f
   kept_shape os (Statement rule left right fragments executable) q c f = f
   kept_shape os (Import m) q c f = f
+  kept_shape os (Class n as_) q c f = f
 
   kept_from : (os : List Declared) (ss : List SeenLined) (q : Profile) (c : Declaration) → IsFound os q c → IsFound (operators_from h os ss) q c
   kept_from os [] q c f = f
@@ -108,6 +109,7 @@ module _ (h : Hierarchy) where
   new_shape os all (Variables names S) kept = tt
   new_shape os all (Statement rule left right fragments executable) kept = tt
   new_shape os all (Import m) kept = tt
+  new_shape os all (Class c as_) kept = tt
 
   pub found_from : (os : List Declared) (ss : List SeenLined) → AllShaped (HasFound (operators_from h os ss)) ss
   found_from os [] = All-nil (λ (s : SeenLined). HasFound os s.shape)
@@ -181,6 +183,7 @@ module _ (ss : List SeenLined) where
   found_shape (Variables names S) e = tt
   found_shape (Statement rule left right fragments executable) e = tt
   found_shape (Import m) e = tt
+  found_shape (Class c as_) e = tt
 
   pub found_all : AllShaped (HasFound (hierarchy_of ss) (operators_of ss)) ss
   found_all =

@@ -4,15 +4,13 @@ use Rattle.std.specs.Prelude.{codes}
 use Rattle.std.proofs.lemmas.Bool.{and_parts, eqb-true}
 use Rattle.std.proofs.lemmas.List.{length-map}
 use Rattle.std.proofs.lemmas.List.Elements.{All-nil, All-cons, All-head, All-tail}
-use Rattle.mw_lex.specs.declared.token.Token.{Token}
 use Rattle.mw_logic.specs.Signature.{Signature, Operator, Declaration, less, most}
 use Rattle.mw_logic.specs.Preregular.{IsSortOf, IsDeclarationOf}
 use Rattle.mw_text.specs.Names.{NameItem, piece, hole, items_of, count_holes, name_of_tokens}
 use Rattle.mw_text.proofs.Spellings.{spellings_read}
-use Rattle.mw_module.specs.Words.{texts}
 use Rattle.mw_module.specs.Sortings.{WrittenSort}
 use Rattle.mw_module.specs.Attributes.{Attributes}
-use Rattle.mw_module.specs.Forms.{Shape, Sorts, Subsorts, Operators, Variables, Statement, Import}
+use Rattle.mw_module.specs.Forms.{Shape, Sorts, Subsorts, Operators, Variables, Statement, Import, Class}
 use Rattle.mw_module.specs.Known.{IsNameFor, IsPrecedence, IsGather, AreAttributes, IsKnown, AreKnown}
 use Rattle.mw_module.proofs.Formed.{joined_known}
 use Rattle.mw_module.specs.Units.{SeenLined}
@@ -21,6 +19,7 @@ use Rattle.mw_declare.specs.declared.built.Truth.{Truth}
 use Rattle.mw_declare.specs.Built.{built_in}
 use Rattle.mw_declare.specs.Hierarchy.{Hierarchy, hierarchy_of, kind_in}
 use Rattle.mw_declare.specs.Grouping.{begins_open, ends_open, gather_behind, is_infix, default_gather, default_precedence, gather_of_mark, precedence_of, gather_of}
+use Rattle.mw_declare.specs.Meaning.{Name}
 use Rattle.mw_declare.specs.Operators.{rank_of, Profile, same_profile, Declared, declared_again, choice_of, test_of, operators_of, operator_of, signature_of}
 use Rattle.mw_declare.specs.Declarations.{unknown_in_all}
 use Rattle.mw_declare.proofs.Folding.{declared_once, HasNamed, HasEach, HasEachLined, all_operators}
@@ -45,8 +44,8 @@ said_again o p d said e this one =
     record { name = this.name; attributes = joined_known (length o.profile.args) o.attributes said this.attributes a }
 
 -- the items of a name's prefix spelling
-spelled_items : (arity : ℕ) (name : List Token) → IsNameFor arity name → AreItemsFor arity (items_of (name_of_tokens (texts name)))
-spelled_items arity name h = subst (AreItemsFor arity) (sym (spellings_read (texts name))) (record { some = h.some; no_hole = h.no_hole; fits = h.fits })
+spelled_items : (arity : ℕ) (name : List Name) → IsNameFor arity name → AreItemsFor arity (items_of (name_of_tokens name))
+spelled_items arity name h = subst (AreItemsFor arity) (sym (spellings_read name)) (record { some = h.some; no_hole = h.no_hole; fits = h.fits })
 
 abbrev IsKnownLined : SeenLined → Type 0
 IsKnownLined s = IsKnown s.shape
@@ -55,7 +54,7 @@ module _ (h : Hierarchy) where
   abbrev Says : Shape → Type 0
   Says s = HasEach IsSaid said_again h s
 
-  said_names : (names : List (List Token)) (args : List WrittenSort) (result : WrittenSort) (said : Attributes) → All (IsNameFor (length (rank_of h args result).args)) names
+  said_names : (names : List (List Name)) (args : List WrittenSort) (result : WrittenSort) (said : Attributes) → All (IsNameFor (length (rank_of h args result).args)) names
       → AreAttributes (length (rank_of h args result).args) said → Says (Operators names args result said)
   said_names [] args result said named known = All-nil (HasNamed IsSaid said_again (rank_of h args result) said)
   said_names (name ∷ names) args result said named known =
@@ -71,6 +70,7 @@ module _ (h : Hierarchy) where
   said_shape (Variables names S) known = tt
   said_shape (Statement rule left right fragments executable) known = tt
   said_shape (Import m) known = tt
+  said_shape (Class c as_) known = tt
 
   said_lined : (ss : List SeenLined) → AreKnown ss → All (HasEachLined IsSaid said_again h) ss
   said_lined [] known = All-nil (HasEachLined IsSaid said_again h)

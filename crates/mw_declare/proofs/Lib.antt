@@ -2,6 +2,7 @@
 pub mod Typings
 pub mod Tables
 pub mod Holes
+pub mod Frozen
 pub mod Unknown
 pub mod LeastKinds
 pub mod Pairs

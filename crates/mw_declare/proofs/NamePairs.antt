@@ -1,12 +1,11 @@
 -- The pairs of subsort statements by the names of their sorts.
 use Rattle.std.proofs.Common.{◌≡◌, ◌∙◌, ℕ, List, [], ◌∷◌, ◌++◌, map, refl, sym, ap, subst, inl, inr}
 use Rattle.std.proofs.lemmas.List.{map-append}
-use Rattle.mw_lex.specs.declared.token.Token.{Token}
 use Rattle.mw_logic.specs.Signature.{Member}
 use Rattle.mw_logic.proofs.Members.{member-left, member-right, member-append}
-use Rattle.mw_module.specs.Forms.{Shape, Sorts, Subsorts, Operators, Variables, Statement, Import}
+use Rattle.mw_module.specs.Forms.{Shape, Sorts, Subsorts, Operators, Variables, Statement, Import, Class}
 use Rattle.mw_module.specs.Units.{SeenLined, IsWithin}
-use Rattle.mw_declare.specs.Meaning.{Name, texts, number_of, numbers_of}
+use Rattle.mw_declare.specs.Meaning.{Name, number_of, numbers_of}
 use Rattle.mw_declare.specs.Hierarchy.{pairs_between, pairs_behind, pairs_in, pairs_from}
 
 -- each of the first names with each of the second
@@ -15,9 +14,9 @@ named_between [] uppers = []
 named_between (n ∷ lowers) uppers = map (λ (m : Name). (n, m)) uppers ++ named_between lowers uppers
 
 -- each name of a group with each of the next, where `lowers` is the group before
-abbrev named_behind : List Name → List (List Token) → List (Name × Name)
+abbrev named_behind : List Name → List (List Name) → List (Name × Name)
 named_behind lowers [] = []
-named_behind lowers (g ∷ gs) = named_between lowers (texts g) ++ named_behind (texts g) gs
+named_behind lowers (g ∷ gs) = named_between lowers g ++ named_behind g gs
 
 -- the pairs of a statement
 abbrev named_in : Shape → List (Name × Name)
@@ -27,6 +26,7 @@ named_in (Operators names args result said) = []
 named_in (Variables names S) = []
 named_in (Statement rule left right fragments executable) = []
 named_in (Import m) = []
+named_in (Class c as_) = []
 
 abbrev pub named_from : List SeenLined → List (Name × Name)
 named_from [] = []
@@ -41,9 +41,9 @@ module _ (sorts : List Name) where
   abbrev numbers : List Name → List ℕ
   numbers = map (number_of sorts)
 
-  numbers_are : (ts : List Token) → numbers_of sorts ts ≡ numbers (texts ts)
+  numbers_are : (ts : List Name) → numbers_of sorts ts ≡ numbers ts
   numbers_are [] = refl
-  numbers_are (t ∷ ts) = ap (λ ns. number_of sorts t.text ∷ ns) (numbers_are ts)
+  numbers_are (t ∷ ts) = ap (λ ns. number_of sorts t ∷ ns) (numbers_are ts)
 
   below_are : (n : Name) (ms : List Name) → map (λ (T : ℕ). (number_of sorts n, T)) (numbers ms) ≡ map (numbered sorts) (map (λ (m : Name). (n, m)) ms)
   below_are n [] = refl
@@ -55,12 +55,12 @@ module _ (sorts : List Name) where
       ap (λ ps. ps ++ pairs_between (numbers ns) (numbers ms)) (below_are n ms) ∙ ap (λ ps. map (numbered sorts) (map (λ (m : Name). (n, m)) ms) ++ ps) (between_are ns ms)
       ∙ sym (map-append (numbered sorts) (map (λ (m : Name). (n, m)) ms) (named_between ns ms))
 
-  behind_are : (ns : List Name) (gs : List (List Token)) → pairs_behind sorts (numbers ns) gs ≡ map (numbered sorts) (named_behind ns gs)
+  behind_are : (ns : List Name) (gs : List (List Name)) → pairs_behind sorts (numbers ns) gs ≡ map (numbered sorts) (named_behind ns gs)
   behind_are ns [] = refl
   behind_are ns (g ∷ gs) =
       ap (λ Ss. pairs_between (numbers ns) Ss ++ pairs_behind sorts Ss gs) (numbers_are g)
-      ∙ ap (λ ps. ps ++ pairs_behind sorts (numbers (texts g)) gs) (between_are ns (texts g)) ∙ ap (λ ps. map (numbered sorts) (named_between ns (texts g)) ++ ps) (behind_are (texts g) gs)
-      ∙ sym (map-append (numbered sorts) (named_between ns (texts g)) (named_behind (texts g) gs))
+      ∙ ap (λ ps. ps ++ pairs_behind sorts (numbers g) gs) (between_are ns g) ∙ ap (λ ps. map (numbered sorts) (named_between ns g) ++ ps) (behind_are g gs)
+      ∙ sym (map-append (numbered sorts) (named_between ns g) (named_behind g gs))
 
   in_are : (s : Shape) → pairs_in sorts s ≡ map (numbered sorts) (named_in s)
   in_are (Sorts names) = refl
@@ -69,6 +69,7 @@ module _ (sorts : List Name) where
   in_are (Variables names S) = refl
   in_are (Statement rule left right fragments executable) = refl
   in_are (Import m) = refl
+  in_are (Class c as_) = refl
 
   pub pairs_are : (ss : List SeenLined) → pairs_from sorts ss ≡ map (numbered sorts) (named_from ss)
   pairs_are [] = refl

@@ -8,9 +8,9 @@ use Rattle.mw_logic.specs.Signature.{at_number}
 use Rattle.mw_logic.specs.Accepted.{names_differ}
 use Rattle.mw_logic.proofs.AcceptedTest.{is_accepted-sound}
 use Rattle.mw_poset.specs.Order.{IsSort}
-use Rattle.mw_module.specs.Forms.{Shape, Sorts, Subsorts, Operators, Variables, Statement, Import}
+use Rattle.mw_module.specs.Forms.{Shape, Sorts, Subsorts, Operators, Variables, Statement, Import, Class}
 use Rattle.mw_module.specs.Units.{SeenLined}
-use Rattle.mw_declare.specs.Meaning.{Name, texts, is_among, with_name, with_names, with_sorts, sorts_from}
+use Rattle.mw_declare.specs.Meaning.{Name, is_among, with_name, with_names, with_sorts, sorts_from}
 use Rattle.mw_declare.proofs.Proper.{all_names}
 use Rattle.mw_declare.proofs.Within.{AllShaped}
 
@@ -73,22 +73,24 @@ new_names ns (m ∷ ms) =
 
 -- each sort that a statement declares has the property
 abbrev pub HasNames : (Name → Type 0) → Shape → Type 0
-HasNames P (Sorts names) = All P (texts names)
+HasNames P (Sorts names) = All P names
 HasNames P (Subsorts groups) = ⊤
 HasNames P (Operators names args result said) = ⊤
 HasNames P (Variables names S) = ⊤
 HasNames P (Statement rule left right fragments executable) = ⊤
 HasNames P (Import m) = ⊤
+HasNames P (Class c as_) = ⊤
 
 -- so each sort of the statements has it
 module _ (P : Name → Type 0) where
   all_sorts : (ns : List Name) (s : Shape) → All P ns → HasNames P s → All P (with_sorts ns s)
-  all_sorts ns (Sorts names) all each = all_names P ns (texts names) all each
+  all_sorts ns (Sorts names) all each = all_names P ns names all each
   all_sorts ns (Subsorts groups) all each = all
   all_sorts ns (Operators names args result said) all each = all
   all_sorts ns (Variables names S) all each = all
   all_sorts ns (Statement rule left right fragments executable) all each = all
   all_sorts ns (Import m) all each = all
+  all_sorts ns (Class c as_) all each = all
 
   pub all_sorts_from : (ns : List Name) (ss : List SeenLined) → All P ns → AllShaped (HasNames P) ss → All P (sorts_from ns ss)
   all_sorts_from ns [] all each = all
@@ -97,24 +99,26 @@ module _ (P : Name → Type 0) where
 
 -- the sorts that statements declare are there
 among_sorts : (ns : List Name) (s : Shape) (n : Name) → is_among ns n ≡ true → is_among (with_sorts ns s) n ≡ true
-among_sorts ns (Sorts names) n e = among_names ns (texts names) n e
+among_sorts ns (Sorts names) n e = among_names ns names n e
 among_sorts ns (Subsorts groups) n e = e
 among_sorts ns (Operators names args result said) n e = e
 among_sorts ns (Variables names S) n e = e
 among_sorts ns (Statement rule left right fragments executable) n e = e
 among_sorts ns (Import m) n e = e
+among_sorts ns (Class c as_) n e = e
 
 among_from : (ns : List Name) (ss : List SeenLined) (n : Name) → is_among ns n ≡ true → is_among (sorts_from ns ss) n ≡ true
 among_from ns [] n e = e
 among_from ns (s ∷ ss) n e = among_from (with_sorts ns s.shape) ss n (among_sorts ns s.shape n e)
 
 new_sorts : (ns more : List Name) (s : Shape) → ((n : Name) → is_among (with_sorts ns s) n ≡ true → is_among more n ≡ true) → HasNames (IsIn more) s
-new_sorts ns more (Sorts names) kept = All-weaker (IsIn (with_names ns (texts names))) (IsIn more) kept (texts names) (new_names ns (texts names))
+new_sorts ns more (Sorts names) kept = All-weaker (IsIn (with_names ns names)) (IsIn more) kept names (new_names ns names)
 new_sorts ns more (Subsorts groups) kept = tt
 new_sorts ns more (Operators names args result said) kept = tt
 new_sorts ns more (Variables names S) kept = tt
 new_sorts ns more (Statement rule left right fragments executable) kept = tt
 new_sorts ns more (Import m) kept = tt
+new_sorts ns more (Class c as_) kept = tt
 
 pub sorts_are_there : (ns : List Name) (ss : List SeenLined) → AllShaped (HasNames (λ n. is_among (sorts_from ns ss) n ≡ true)) ss
 sorts_are_there ns [] = All-nil (λ (s : SeenLined). HasNames (IsIn ns) s.shape)

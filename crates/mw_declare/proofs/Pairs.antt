@@ -1,13 +1,12 @@
 -- The pairs of statements whose sorts are all known are pairs of sorts.
 use Rattle.std.proofs.Common.{◌≡◌, ℕ, List, [], ◌∷◌, length, map, Option, Some, None, All, refl}
 use Rattle.std.proofs.lemmas.List.Elements.{All-nil, All-cons, All-head, All-tail, All-append}
-use Rattle.mw_lex.specs.declared.token.Token.{Token}
 use Rattle.mw_poset.specs.Order.{IsSort, ArePairsOf, IsOnCycle}
 use Rattle.mw_poset.proofs.Members.{member-all}
-use Rattle.mw_module.specs.Forms.{Shape, Sorts, Subsorts, Operators, Variables, Statement, Import}
+use Rattle.mw_module.specs.Forms.{Shape, Sorts, Subsorts, Operators, Variables, Statement, Import, Class}
 use Rattle.mw_module.specs.declared.faults.Fault.{Fault}
 use Rattle.mw_module.specs.Units.{SeenLined}
-use Rattle.mw_declare.specs.Meaning.{Name, texts, number_of, numbers_of}
+use Rattle.mw_declare.specs.Meaning.{Name, number_of, numbers_of}
 use Rattle.mw_declare.specs.Hierarchy.{pairs_between, pairs_behind, pairs_in, pairs_from}
 use Rattle.mw_declare.specs.Faults.{unknown_among, mentioned_in, mentioned, unknown_in, unknown_from}
 use Rattle.mw_declare.proofs.Unknown.{known_front, known_append, number_there}
@@ -23,11 +22,11 @@ known_statement sorts s ss e = of (unknown_among sorts (mentioned s.shape)) (unk
     of None p k = (refl, k)
     of (Some n) p k = cc
 
-numbers_there : (sorts : List Name) (ts : List Token) → unknown_among sorts (texts ts) ≡ None → All (IsSort (length sorts)) (numbers_of sorts ts)
+numbers_there : (sorts : List Name) (ts : List Name) → unknown_among sorts ts ≡ None → All (IsSort (length sorts)) (numbers_of sorts ts)
 numbers_there sorts [] e = All-nil (IsSort (length sorts))
 numbers_there sorts (t ∷ ts) e =
-    let k = known_front sorts t.text (texts ts) e in
-    All-cons (IsSort (length sorts)) (number_of sorts t.text) (numbers_of sorts ts) (number_there sorts t.text k.0) (numbers_there sorts ts k.1)
+    let k = known_front sorts t ts e in
+    All-cons (IsSort (length sorts)) (number_of sorts t) (numbers_of sorts ts) (number_there sorts t k.0) (numbers_there sorts ts k.1)
 
 below_there : (n S : ℕ) (uppers : List ℕ) → IsSort n S → All (IsSort n) uppers → ArePairsOf n (map (λ (T : ℕ). (S, T)) uppers)
 below_there n S [] low all = All-nil (IsPairOf n)
@@ -40,11 +39,11 @@ between_there n (S ∷ lowers) uppers low all =
     All-append (IsPairOf n) (map (λ (T : ℕ). (S, T)) uppers) (pairs_between lowers uppers) (below_there n S uppers (All-head (IsSort n) S lowers low) all)
     (between_there n lowers uppers (All-tail (IsSort n) S lowers low) all)
 
-behind_there : (sorts : List Name) (lowers : List ℕ) (gs : List (List Token)) → All (IsSort (length sorts)) lowers → unknown_among sorts (mentioned_in gs) ≡ None
+behind_there : (sorts : List Name) (lowers : List ℕ) (gs : List (List Name)) → All (IsSort (length sorts)) lowers → unknown_among sorts (mentioned_in gs) ≡ None
     → ArePairsOf (length sorts) (pairs_behind sorts lowers gs)
 behind_there sorts lowers [] low e = All-nil (IsPairOf (length sorts))
 behind_there sorts lowers (g ∷ gs) low e =
-    let k = known_append sorts (texts g) (mentioned_in gs) e in
+    let k = known_append sorts g (mentioned_in gs) e in
     let group = numbers_there sorts g k.0 in
     All-append (IsPairOf (length sorts)) (pairs_between lowers (numbers_of sorts g)) (pairs_behind sorts (numbers_of sorts g) gs) (between_there (length sorts) lowers (numbers_of sorts g) low group)
     (behind_there sorts (numbers_of sorts g) gs group k.1)
@@ -56,6 +55,7 @@ in_there sorts (Operators names args result said) e = All-nil (IsPairOf (length 
 in_there sorts (Variables names S) e = All-nil (IsPairOf (length sorts))
 in_there sorts (Statement rule left right fragments executable) e = All-nil (IsPairOf (length sorts))
 in_there sorts (Import m) e = All-nil (IsPairOf (length sorts))
+in_there sorts (Class c as_) e = All-nil (IsPairOf (length sorts))
 
 pub pairs_there : (sorts : List Name) (ss : List SeenLined) → unknown_from sorts ss ≡ None → ArePairsOf (length sorts) (pairs_from sorts ss)
 pairs_there sorts [] e = All-nil (IsPairOf (length sorts))

@@ -6,14 +6,13 @@ use Rattle.std.specs.Prelude.{IsTrue, is_some, codes}
 use Rattle.std.proofs.lemmas.Bool.{and_from, and_parts, or_left, or_right, eqb-true, eq-eqb}
 use Rattle.std.proofs.lemmas.Option.{same_Some, slice_get-map}
 use Rattle.std.proofs.lemmas.Slice.Eq.{bytes_eq-Decides}
-use Rattle.mw_lex.specs.declared.token.Token.{Token}
 use Rattle.mw_logic.specs.Signature.{Signature, Operator, Declaration, IsOperator, IsSortNamed, Member, SameKind, same, up, down, at_number}
 use Rattle.mw_logic.proofs.KindLaws.{SameKind-trans, SameKind-sym, SameKind-equal}
 use Rattle.mw_poset.specs.Order.{IsSort}
 use Rattle.mw_poset.proofs.Members.{member-all}
 use Rattle.mw_carry.specs.Carried.{IsSameSort, IsSameKind, AreSameKinds, IsSameOperator}
 use Rattle.mw_module.specs.Attributes.{Attributes}
-use Rattle.mw_module.specs.Forms.{Shape, Sorts, Subsorts, Operators, Variables, Statement, Import}
+use Rattle.mw_module.specs.Forms.{Shape, Sorts, Subsorts, Operators, Variables, Statement, Import, Class}
 use Rattle.mw_module.specs.Sortings.{WrittenSort}
 use Rattle.mw_module.specs.Units.{SeenLined, IsWithin}
 use Rattle.mw_declare.specs.declared.built.Reached.{Reached}
@@ -155,7 +154,7 @@ module _ (r s : Reached) (A B : List SeenLined) (reaches : ReachesMore r s) (wit
   AreThere f = HasEach IsOperatorThere there_again (hierarchy_of A) f
 
   module _ (args : List WrittenSort) (result : WrittenSort) (mentioned : unknown_among (sorts_of A) (mentioned_by args result) ≡ None) where
-    profile_there : (name : List Token) → IsNamed (operators_of B) (rank_of (hierarchy_of B) args result) name → IsProfileThere (profile_of name (rank_of (hierarchy_of A) args result))
+    profile_there : (name : List Name) → IsNamed (operators_of B) (rank_of (hierarchy_of B) args result) name → IsProfileThere (profile_of name (rank_of (hierarchy_of A) args result))
     profile_there name f =
         let q : Profile = profile_of name (rank_of (hierarchy_of B) args result) in
         let o : Declared = f.operator in
@@ -168,10 +167,10 @@ module _ (r s : Reached) (A B : List SeenLined) (reaches : ReachesMore r s) (wit
           result = subst (IsSameKind here there (kind_in (hierarchy_of A) result)) (same_result q o.profile f.is) (kind_carried (name_in result) (known_front (sorts_of A) (name_in result) [] k.1).0);
         }
 
-    names_there : (names : List (List Token)) (said : Attributes) → HasFound (hierarchy_of B) (operators_of B) (Operators names args result said) → AreThere (Operators names args result said)
+    names_there : (names : List (List Name)) (said : Attributes) → HasFound (hierarchy_of B) (operators_of B) (Operators names args result said) → AreThere (Operators names args result said)
     names_there [] said found = All-nil (HasNamed IsOperatorThere there_again (rank_of (hierarchy_of A) args result) said)
     names_there (name ∷ names) said found =
-        let IsThat : List Token → Type 0 = IsNamed (operators_of B) (rank_of (hierarchy_of B) args result) in
+        let IsThat : List Name → Type 0 = IsNamed (operators_of B) (rank_of (hierarchy_of B) args result) in
         All-cons (HasNamed IsOperatorThere there_again (rank_of (hierarchy_of A) args result) said) name names (profile_there name (All-head IsThat name names found))
         (names_there names said (All-tail IsThat name names found))
 
@@ -182,6 +181,7 @@ module _ (r s : Reached) (A B : List SeenLined) (reaches : ReachesMore r s) (wit
   shape_there (Variables names S) e found = tt
   shape_there (Statement rule left right fragments executable) e found = tt
   shape_there (Import m) e found = tt
+  shape_there (Class c as_) e found = tt
 
   -- the truth values, and the operators that each kind has
   truth_there : (t : Truth) → truth_of (hierarchy_of A) A ≡ Some t → truth_of (hierarchy_of B) B ≡ Some (record { sort = number (codes "Bool"); kind = kind_named (hierarchy_of B) (codes "Bool") })

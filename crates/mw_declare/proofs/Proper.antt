@@ -3,7 +3,6 @@ use Rattle.std.proofs.Common.{◌≡◌, ℕ, zero, suc, List, [], ◌∷◌, �
 use Rattle.std.specs.Prelude.{⊤, codes}
 use Rattle.std.proofs.lemmas.Option.{same_Some}
 use Rattle.std.proofs.lemmas.List.Elements.{All-nil, All-cons, All-head, All-tail, All-append, All-map, All-weaker}
-use Rattle.mw_lex.specs.declared.token.Token.{Token}
 use Rattle.mw_lex.specs.Texts.{IsRun, IsProper}
 use Rattle.mw_logic.specs.Term.{Variable}
 use Rattle.mw_logic.specs.Signature.{Signature, Operator, Declaration, at_number}
@@ -12,12 +11,12 @@ use Rattle.mw_text.specs.Names.{name_of_tokens}
 use Rattle.mw_text.specs.Proper.{IsProperName}
 use Rattle.mw_module.specs.Attributes.{Attributes}
 use Rattle.mw_module.specs.Sortings.{WrittenSort}
-use Rattle.mw_module.specs.Forms.{Shape, Sorts, Subsorts, Operators, Variables, Statement, Import}
+use Rattle.mw_module.specs.Forms.{Shape, Sorts, Subsorts, Operators, Variables, Statement, Import, Class}
 use Rattle.mw_module.specs.declared.faults.Fault.{Fault}
 use Rattle.mw_module.specs.declared.faults.FaultKind.TheVariants.{AlreadyDefined}
 use Rattle.mw_module.specs.Tokens.{HasProperParts}
 use Rattle.mw_module.specs.Units.{SeenLined, IsWithin}
-use Rattle.mw_declare.specs.Meaning.{Name, texts, is_among, with_name, with_names, with_sorts, sorts_from, sorts_of, number_of}
+use Rattle.mw_declare.specs.Meaning.{Name, is_among, with_name, with_names, with_sorts, sorts_from, sorts_of, number_of}
 use Rattle.mw_declare.specs.Operators.{rank_of, Profile, same_profile, Declared, declared_again, operators_of, operator_of, signature_of}
 use Rattle.mw_declare.specs.declared.built.Reached.{Reached}
 use Rattle.mw_declare.specs.Built.{built_in}
@@ -54,12 +53,13 @@ module _ (P : Name → Type 0) where
   all_names ns (m ∷ ms) all more = all_names (with_name ns m) ms (all_with ns m all (All-head P m ms more)) (All-tail P m ms more)
 
 sorts_with : (ns : List Name) (s : Shape) → All IsRun ns → HasProperParts s → All IsRun (with_sorts ns s)
-sorts_with ns (Sorts names) all p = all_names IsRun ns (texts names) all p
+sorts_with ns (Sorts names) all p = all_names IsRun ns names all p
 sorts_with ns (Subsorts groups) all p = all
 sorts_with ns (Operators names args result said) all p = all
 sorts_with ns (Variables names S) all p = all
 sorts_with ns (Statement rule left right fragments executable) all p = all
 sorts_with ns (Import m) all p = all
+sorts_with ns (Class c as_) all p = all
 
 sorts_proper : (ns : List Name) (ss : List SeenLined) → All IsRun ns → All IsProperLined ss → All IsRun (sorts_from ns ss)
 sorts_proper ns [] all p = all
@@ -70,8 +70,8 @@ module _ (P : List ℕ → Type 0) where
   abbrev HasSpelling : Declared → Type 0
   HasSpelling o = P o.profile.spelling
 
-  abbrev IsNamedSo : List Token → Type 0
-  IsNamedSo name = P (name_of_tokens (texts name))
+  abbrev IsNamedSo : List Name → Type 0
+  IsNamedSo name = P (name_of_tokens name)
 
   spelled_again : (o : Declared) (p : Profile) (d : Declaration) (said : Attributes) → same_profile p o.profile ≡ true → HasSpelling o → HasSpelling (declared_once p d said)
       → HasSpelling (declared_again o d said)
@@ -85,12 +85,13 @@ module _ (P : List ℕ → Type 0) where
   AreNamesSo (Variables names S) = ⊤
   AreNamesSo (Statement rule left right fragments executable) = ⊤
   AreNamesSo (Import m) = ⊤
+  AreNamesSo (Class c as_) = ⊤
 
   abbrev AreNamesOf : SeenLined → Type 0
   AreNamesOf s = AreNamesSo s.shape
 
   module _ (h : Hierarchy) where
-    names_spelled : (names : List (List Token)) (args : List WrittenSort) (result : WrittenSort) (said : Attributes) → All IsNamedSo names → HasEach HasSpelling spelled_again h (Operators names args result said)
+    names_spelled : (names : List (List Name)) (args : List WrittenSort) (result : WrittenSort) (said : Attributes) → All IsNamedSo names → HasEach HasSpelling spelled_again h (Operators names args result said)
     names_spelled [] args result said all = All-nil (HasNamed HasSpelling spelled_again (rank_of h args result) said)
     names_spelled (name ∷ names) args result said all =
         All-cons (HasNamed HasSpelling spelled_again (rank_of h args result) said) name names (All-head IsNamedSo name names all) (names_spelled names args result said (All-tail IsNamedSo name names all))
@@ -102,6 +103,7 @@ module _ (P : List ℕ → Type 0) where
     shape_spelled (Variables names S) p = tt
     shape_spelled (Statement rule left right fragments executable) p = tt
     shape_spelled (Import m) p = tt
+    shape_spelled (Class c as_) p = tt
 
     lined_spelled : (ss : List SeenLined) → All AreNamesOf ss → All (HasEachLined HasSpelling spelled_again h) ss
     lined_spelled [] p = All-nil (HasEachLined HasSpelling spelled_again h)
@@ -118,14 +120,15 @@ shape_proper (Operators names args result said) p = p
 shape_proper (Variables names S) p = tt
 shape_proper (Statement rule left right fragments executable) p = tt
 shape_proper (Import m) p = tt
+shape_proper (Class c as_) p = tt
 
 -- and what tokens spell
 abbrev IsSpelledByTokens : List ℕ → Type 0
 IsSpelledByTokens name = (ts : List (List ℕ)) × (name ≡ name_of_tokens ts)
 
-all_spelled : (names : List (List Token)) → All (IsNamedSo IsSpelledByTokens) names
+all_spelled : (names : List (List Name)) → All (IsNamedSo IsSpelledByTokens) names
 all_spelled [] = All-nil (IsNamedSo IsSpelledByTokens)
-all_spelled (name ∷ names) = All-cons (IsNamedSo IsSpelledByTokens) name names (texts name, refl) (all_spelled names)
+all_spelled (name ∷ names) = All-cons (IsNamedSo IsSpelledByTokens) name names (name, refl) (all_spelled names)
 
 shape_names : (s : Shape) → AreNamesSo IsSpelledByTokens s
 shape_names (Sorts names) = tt
@@ -134,6 +137,7 @@ shape_names (Operators names args result said) = all_spelled names
 shape_names (Variables names S) = tt
 shape_names (Statement rule left right fragments executable) = tt
 shape_names (Import m) = tt
+shape_names (Class c as_) = tt
 
 lined_names : (ss : List SeenLined) → All (AreNamesOf IsSpelledByTokens) ss
 lined_names [] = All-nil (AreNamesOf IsSpelledByTokens)
@@ -170,9 +174,10 @@ module _ (Q : Name × Name → Type 0) where
   HasVariables (Sorts names) = ⊤
   HasVariables (Subsorts groups) = ⊤
   HasVariables (Operators names args result said) = ⊤
-  HasVariables (Variables names S) = All (λ (t : Token). Q (t.text, S.text)) names
+  HasVariables (Variables names S) = All (λ (n : Name). Q (n, S)) names
   HasVariables (Statement rule left right fragments executable) = ⊤
   HasVariables (Import m) = ⊤
+  HasVariables (Class c as_) = ⊤
 
   abbrev HaveVariables : List SeenLined → Type 0
   HaveVariables ss = All (λ (s : SeenLined). HasVariables s.shape) ss
@@ -190,20 +195,21 @@ module _ (Q : Name × Name → Type 0) where
       of true = all
       of false = tt
 
-  all_typed : (line : ℕ) (r : Result Typing Fault) (ts : List Token) (S : Name) → AllTyped r → All (λ (t : Token). Q (t.text, S)) ts → AllTyped (typed line r ts S)
+  all_typed : (line : ℕ) (r : Result Typing Fault) (ts : List Name) (S : Name) → AllTyped r → All (λ (n : Name). Q (n, S)) ts → AllTyped (typed line r ts S)
   all_typed line (Err f) ts S all q = tt
   all_typed line (Ok es) [] S all q = all
   all_typed line (Ok es) (t ∷ ts) S all q =
-      all_typed line (joined line (sort_in es t.text) es t.text S) ts S (joined_typed line (sort_in es t.text) es t.text S all (All-head (λ (t : Token). Q (t.text, S)) t ts q))
-      (All-tail (λ (t : Token). Q (t.text, S)) t ts q)
+      all_typed line (joined line (sort_in es t) es t S) ts S (joined_typed line (sort_in es t) es t S all (All-head (λ (n : Name). Q (n, S)) t ts q))
+      (All-tail (λ (n : Name). Q (n, S)) t ts q)
 
   shape_typed : (es : Typing) (line : ℕ) (s : Shape) → All Q es → HasVariables s → AllTyped (typed_by es line s)
   shape_typed es line (Sorts names) all q = all
   shape_typed es line (Subsorts groups) all q = all
   shape_typed es line (Operators names args result said) all q = all
-  shape_typed es line (Variables names S) all q = all_typed line (Ok es) names S.text all q
+  shape_typed es line (Variables names S) all q = all_typed line (Ok es) names S all q
   shape_typed es line (Statement rule left right fragments executable) all q = all
   shape_typed es line (Import m) all q = all
+  shape_typed es line (Class c as_) all q = all
 
   from_typed : (r : Result Typing Fault) (ss : List SeenLined) → AllTyped r → HaveVariables ss → AllTyped (typing_from r ss)
   from_typed (Err f) ss all q = tt
@@ -215,9 +221,9 @@ module _ (Q : Name × Name → Type 0) where
   typing_has ss typing e q = subst AllTyped e (from_typed (Ok []) ss (All-nil Q) q)
 
 -- their names are runs
-run_names : (names : List Token) (S : Name) → All IsRun (texts names) → All (λ (t : Token). IsRun t.text) names
-run_names [] S all = All-nil (λ (t : Token). IsRun t.text)
-run_names (t ∷ names) S all = All-cons (λ (t : Token). IsRun t.text) t names (All-head IsRun t.text (texts names) all) (run_names names S (All-tail IsRun t.text (texts names) all))
+run_names : (names : List Name) (S : Name) → All IsRun names → All IsRun names
+run_names [] S all = All-nil IsRun
+run_names (t ∷ names) S all = All-cons IsRun t names (All-head IsRun t names all) (run_names names S (All-tail IsRun t names all))
 
 abbrev RunNamed : Name × Name → Type 0
 RunNamed e = IsRun e.0
@@ -226,9 +232,10 @@ variables_in : (s : Shape) → HasProperParts s → HasVariables RunNamed s
 variables_in (Sorts names) p = tt
 variables_in (Subsorts groups) p = tt
 variables_in (Operators names args result said) p = tt
-variables_in (Variables names S) p = run_names names S.text p
+variables_in (Variables names S) p = run_names names S p
 variables_in (Statement rule left right fragments executable) p = tt
 variables_in (Import m) p = tt
+variables_in (Class c as_) p = tt
 
 variables_run : (ss : List SeenLined) → All IsProperLined ss → HaveVariables RunNamed ss
 variables_run [] p = All-nil (λ (s : SeenLined). HasVariables RunNamed s.shape)
@@ -240,17 +247,18 @@ module _ (sorts : List Name) where
   abbrev SortThere : Name × Name → Type 0
   SortThere e = is_among sorts e.1 ≡ true
 
-  all_there : (names : List Token) (S : Name) → is_among sorts S ≡ true → All (λ (t : Token). SortThere (t.text, S)) names
-  all_there [] S e = All-nil (λ (t : Token). SortThere (t.text, S))
-  all_there (t ∷ names) S e = All-cons (λ (t : Token). SortThere (t.text, S)) t names e (all_there names S e)
+  all_there : (names : List Name) (S : Name) → is_among sorts S ≡ true → All (λ (n : Name). SortThere (n, S)) names
+  all_there [] S e = All-nil (λ (n : Name). SortThere (n, S))
+  all_there (t ∷ names) S e = All-cons (λ (n : Name). SortThere (n, S)) t names e (all_there names S e)
 
   there_in : (s : Shape) → IsKnownIn sorts s → HasVariables SortThere s
   there_in (Sorts names) k = tt
   there_in (Subsorts groups) k = tt
   there_in (Operators names args result said) k = tt
-  there_in (Variables names S) k = all_there names S.text (known_front sorts S.text [] k).0
+  there_in (Variables names S) k = all_there names S (known_front sorts S [] k).0
   there_in (Statement rule left right fragments executable) k = tt
   there_in (Import m) k = tt
+  there_in (Class c as_) k = tt
 
   -- the variables of statements that are among others, of which all sorts are known
   variables_there : (own ss : List SeenLined) → IsWithin own ss → unknown_from sorts ss ≡ None → HaveVariables SortThere own

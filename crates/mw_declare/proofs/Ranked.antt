@@ -4,13 +4,12 @@ use Rattle.std.specs.Prelude.{codes}
 use Rattle.std.proofs.lemmas.Bool.{and_parts, eqb-true}
 use Rattle.std.proofs.lemmas.List.Elements.{All-nil, All-cons, All-head, All-append}
 use Rattle.std.proofs.lemmas.Slice.Eq.{bytes_eq-Decides}
-use Rattle.mw_lex.specs.declared.token.Token.{Token}
 use Rattle.mw_logic.specs.Signature.{Signature, Declaration, Sorted, sort, kind, Member, SameKind, same}
 use Rattle.mw_logic.specs.Accepted.{number_of_sort}
 use Rattle.mw_logic.specs.Preregular.{IsSortOf, AreOfKinds}
 use Rattle.mw_logic.proofs.KindLaws.{SameKind-sym}
 use Rattle.mw_module.specs.Attributes.{Attributes}
-use Rattle.mw_module.specs.Forms.{Shape, Sorts, Subsorts, Operators, Variables, Statement, Import}
+use Rattle.mw_module.specs.Forms.{Shape, Sorts, Subsorts, Operators, Variables, Statement, Import, Class}
 use Rattle.mw_module.specs.Sortings.{WrittenSort}
 use Rattle.mw_module.specs.Units.{SeenLined}
 use Rattle.mw_declare.specs.declared.built.Reached.{Reached}
@@ -125,7 +124,7 @@ module _ (sig : Signature) where
       result_there = sorted_there sig result result_known;
     }
 
-    ranked_once : (name : List Token) (said : Attributes) → let rank = rank_of (sorts_held sig) args result in IsRankedOperator sig (declared_once (profile_of name rank) rank.declaration said)
+    ranked_once : (name : List Name) (said : Attributes) → let rank = rank_of (sorts_held sig) args result in IsRankedOperator sig (declared_once (profile_of name rank) rank.declaration said)
     ranked_once name said =
         let rank : Rank = rank_of (sorts_held sig) args result in
         record {
@@ -134,7 +133,7 @@ module _ (sig : Signature) where
           declarations = All-cons (IsRanked sig rank.args rank.result) rank.declaration [] ranked (All-nil (IsRanked sig rank.args rank.result));
         }
 
-    ranked_names : (names : List (List Token)) (said : Attributes) → HasEach (IsRankedOperator sig) (ranked_again sig) (sorts_held sig) (Operators names args result said)
+    ranked_names : (names : List (List Name)) (said : Attributes) → HasEach (IsRankedOperator sig) (ranked_again sig) (sorts_held sig) (Operators names args result said)
     ranked_names [] said = All-nil (HasNamed (IsRankedOperator sig) (ranked_again sig) (rank_of (sorts_held sig) args result) said)
     ranked_names (name ∷ names) said =
         All-cons (HasNamed (IsRankedOperator sig) (ranked_again sig) (rank_of (sorts_held sig) args result) said) name names (ranked_once name said) (ranked_names names said)
@@ -149,6 +148,7 @@ module _ (sig : Signature) where
   ranked_shape (Variables names S) there = tt
   ranked_shape (Statement rule left right fragments executable) there = tt
   ranked_shape (Import m) there = tt
+  ranked_shape (Class c as_) there = tt
 
   ranked_lined : (ss : List SeenLined) → unknown_from sig.sorts ss ≡ None → All (HasEachLined (IsRankedOperator sig) (ranked_again sig) (sorts_held sig)) ss
   ranked_lined [] there = All-nil (HasEachLined (IsRankedOperator sig) (ranked_again sig) (sorts_held sig))

@@ -5,9 +5,9 @@ use Rattle.std.proofs.lemmas.Slice.Eq.{bytes_eq-Decides}
 use Rattle.mw_logic.specs.Kinds.{same_name}
 use Rattle.mw_logic.specs.Accepted.{is_named_among, names_differ}
 use Rattle.mw_logic.proofs.Successor.{same_name-true}
-use Rattle.mw_module.specs.Forms.{Shape, Sorts, Subsorts, Operators, Variables, Statement, Import}
+use Rattle.mw_module.specs.Forms.{Shape, Sorts, Subsorts, Operators, Variables, Statement, Import, Class}
 use Rattle.mw_module.specs.Units.{SeenLined}
-use Rattle.mw_declare.specs.Meaning.{Name, texts, is_among, with_name, with_names, with_sorts, sorts_from, sorts_of}
+use Rattle.mw_declare.specs.Meaning.{Name, is_among, with_name, with_names, with_sorts, sorts_from, sorts_of}
 
 -- a name that isn't this one is another
 other_name : (n m : Name) → bytes_eq n m ≡ false → same_name n m ≡ false
@@ -45,12 +45,13 @@ differ_names ns [] d = d
 differ_names ns (m ∷ ms) d = differ_names (with_name ns m) ms (differ_with ns m d)
 
 differ_sorts : (ns : List Name) (s : Shape) → names_differ ns ≡ true → names_differ (with_sorts ns s) ≡ true
-differ_sorts ns (Sorts names) d = differ_names ns (texts names) d
+differ_sorts ns (Sorts names) d = differ_names ns names d
 differ_sorts ns (Subsorts groups) d = d
 differ_sorts ns (Operators names args result said) d = d
 differ_sorts ns (Variables names S) d = d
 differ_sorts ns (Statement rule left right fragments executable) d = d
 differ_sorts ns (Import m) d = d
+differ_sorts ns (Class c as_) d = d
 
 differ_from : (ns : List Name) (ss : List SeenLined) → names_differ ns ≡ true → names_differ (sorts_from ns ss) ≡ true
 differ_from ns [] d = d

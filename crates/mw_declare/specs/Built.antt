@@ -2,8 +2,7 @@
 -- chapter 7, "Predefined data modules".)
 use Rattle.std.specs.Prelude.{ℕ, zero, suc, List, [], ◌∷◌, Bool, false, true, ◌&&◌, not, nat_eq, bytes_eq, Option, None, Some, if◌then◌else◌, codes}
 use Rattle.std.specs.List.{list_any}
-use Rattle.mw_lex.specs.declared.token.Token.{Token}
-use Rattle.mw_module.specs.Forms.{Shape, Sorts, Subsorts, Operators, Variables, Statement, Import}
+use Rattle.mw_module.specs.Forms.{Shape, Sorts, Subsorts, Operators, Variables, Statement, Import, Class}
 use Rattle.mw_module.specs.Sortings.{WrittenSort}
 use Rattle.mw_module.specs.Units.{SeenLined}
 use Rattle.mw_declare.specs.declared.built.Reached.{Reached}
@@ -14,7 +13,7 @@ use Rattle.mw_declare.specs.Hierarchy.{Hierarchy, kind_of}
 
 -- the sort of this name is written, and not its kind
 abbrev pub is_sort : Name → WrittenSort → Bool
-is_sort n s = not s.kind && bytes_eq s.name.text n
+is_sort n s = not s.kind && bytes_eq s.name n
 
 -- one argument of the sort, or none where there is no sort
 abbrev pub takes : Option Name → List WrittenSort → Bool
@@ -24,11 +23,11 @@ takes (Some n) [] = false
 takes (Some n) (s ∷ []) = is_sort n s
 takes (Some n) (s ∷ u ∷ ss) = false
 
--- the name is this one token
-abbrev pub is_name : Name → List Token → Bool
+-- the name is this one word
+abbrev pub is_name : Name → List Name → Bool
 is_name n [] = false
-is_name n (t ∷ []) = bytes_eq t.text n
-is_name n (t ∷ u ∷ ts) = false
+is_name n (w ∷ []) = bytes_eq w n
+is_name n (w ∷ v ∷ ws) = false
 
 -- the statement declares an operator of this name, which takes the sort, or nothing, and gives that one
 abbrev pub declares_in : Name → Option Name → Name → Shape → Bool
@@ -38,6 +37,7 @@ declares_in name arg value (Operators names args result said) = (takes arg args 
 declares_in name arg value (Variables names S) = false
 declares_in name arg value (Statement rule left right fragments executable) = false
 declares_in name arg value (Import m) = false
+declares_in name arg value (Class c as_) = false
 
 -- one of the statements does
 abbrev pub some_declares : Name → Option Name → Name → List SeenLined → Bool

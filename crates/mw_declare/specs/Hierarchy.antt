@@ -1,11 +1,10 @@
 -- The sorts of a module in the order of its subsort statements, and their kinds. (Maude Manual, chapter 3, "Sorts and subsorts" and "Kinds".)
 use Rattle.std.specs.Prelude.{◌≡◌, ℕ, zero, suc, List, [], ◌∷◌, ◌++◌, map, length, Bool, nat_eq, if◌then◌else◌}
-use Rattle.mw_lex.specs.declared.token.Token.{Token}
 use Rattle.mw_logic.specs.Signature.{Sorted, sort, kind}
 use Rattle.mw_logic.specs.Kinds.{renamed_sort, joining_kinds}
 use Rattle.mw_poset.specs.SortOrder.{SortOrder}
 use Rattle.mw_poset.specs.Order.{IsSort, ArePairsOf}
-use Rattle.mw_module.specs.Forms.{Shape, Sorts, Subsorts, Operators, Variables, Statement, Import}
+use Rattle.mw_module.specs.Forms.{Shape, Sorts, Subsorts, Operators, Variables, Statement, Import, Class}
 use Rattle.mw_module.specs.Sortings.{WrittenSort}
 use Rattle.mw_module.specs.Units.{SeenLined}
 use Rattle.mw_declare.specs.Meaning.{Name, sorts_of, number_of, numbers_of}
@@ -21,7 +20,7 @@ pairs_between [] uppers = []
 pairs_between (S ∷ lowers) uppers = map (λ (T : ℕ). (S, T)) uppers ++ pairs_between lowers uppers
 
 -- each sort of a group with each of the next, where `lowers` is the group before
-abbrev pub pairs_behind : List Name → List ℕ → List (List Token) → List (ℕ × ℕ)
+abbrev pub pairs_behind : List Name → List ℕ → List (List Name) → List (ℕ × ℕ)
 pairs_behind sorts lowers [] = []
 pairs_behind sorts lowers (g ∷ gs) = pairs_between lowers (numbers_of sorts g) ++ pairs_behind sorts (numbers_of sorts g) gs
 
@@ -33,6 +32,7 @@ pairs_in sorts (Operators names args result said) = []
 pairs_in sorts (Variables names S) = []
 pairs_in sorts (Statement rule left right fragments executable) = []
 pairs_in sorts (Import m) = []
+pairs_in sorts (Class c as_) = []
 
 abbrev pub pairs_from : List Name → List SeenLined → List (ℕ × ℕ)
 pairs_from sorts [] = []
@@ -55,11 +55,11 @@ unfoldable pub kind_of : Hierarchy → ℕ → ℕ
 kind_of h S = first_from (are_connected h.pairs S) (length h.names) 1
 
 abbrev pub kind_in : Hierarchy → WrittenSort → ℕ
-kind_in h s = kind_of h (number_of h.names s.name.text)
+kind_in h s = kind_of h (number_of h.names s.name)
 
 -- the sort that is written, or its kind
 abbrev pub sorted_in : Hierarchy → WrittenSort → Sorted
-sorted_in h s = if s.kind then kind (kind_in h s) else sort (number_of h.names s.name.text)
+sorted_in h s = if s.kind then kind (kind_in h s) else sort (number_of h.names s.name)
 
 -- K names the kind of a sort that is there
 abbrev pub IsLeastKind : Hierarchy → ℕ → Type 0

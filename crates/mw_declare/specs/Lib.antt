@@ -2,6 +2,7 @@
 pub mod Meaning
 pub mod Hierarchy
 pub mod Grouping
+pub mod Freezing
 pub mod Built
 pub mod Operators
 pub mod Faults

@@ -1,18 +1,18 @@
 -- The operators that statements declare, and those that each kind has. (Maude Manual, chapter 3, "Operator declarations" and "Kinds", and chapter 7, "Boolean
 -- values"; that an operator has the attributes of all its declarations together is this project's own.)
 use Rattle.std.specs.Prelude.{◌≡◌, ℕ, zero, suc, List, [], ◌∷◌, ◌++◌, map, Bool, false, ◌&&◌, ◌||◌, Option, Some, None, is_some, option_map, unwrap_or, position, length, All, bytes_eq, nat_eq, if◌then◌else◌, codes, IsTrue}
-use Rattle.mw_lex.specs.declared.token.Token.{Token}
 use Rattle.mw_logic.specs.Signature.{Signature, Operator, Declaration, sort, kind, Identity, constant_of, numeral_of, at_number}
 use Rattle.mw_logic.specs.Accepted.{are_two, names_differ}
 use Rattle.mw_poset.specs.Order.{IsSort, ArePairsOf}
 use Rattle.mw_text.specs.Names.{name_of_tokens, items_of}
 use Rattle.mw_text.specs.Numerals.{number_in}
 use Rattle.mw_module.specs.Attributes.{Attributes, no_attributes, joined}
-use Rattle.mw_module.specs.Forms.{Shape, Sorts, Subsorts, Operators, Variables, Statement, Import}
+use Rattle.mw_module.specs.Forms.{Shape, Sorts, Subsorts, Operators, Variables, Statement, Import, Class}
 use Rattle.mw_module.specs.Sortings.{WrittenSort}
 use Rattle.mw_module.specs.Units.{SeenLined}
-use Rattle.mw_declare.specs.Meaning.{Name, texts}
+use Rattle.mw_declare.specs.Meaning.{Name}
 use Rattle.mw_declare.specs.Hierarchy.{Hierarchy, hierarchy_of, kind_of, kind_in, sorted_in, IsLeastKind}
+use Rattle.mw_declare.specs.Freezing.{frozen_arguments}
 use Rattle.mw_declare.specs.Grouping.{precedence_of, gather_of}
 use Rattle.mw_declare.specs.declared.built.Reached.{Reached}
 use Rattle.mw_declare.specs.declared.built.Truth.{Truth}
@@ -56,12 +56,12 @@ abbrev pub with_operator : List Declared → Profile → Declaration → Attribu
 with_operator [] p d said = record { profile = p; declarations = d ∷ []; attributes = said } ∷ []
 with_operator (o ∷ os) p d said = if same_profile p o.profile then declared_again o d said ∷ os else o ∷ with_operator os p d said
 
--- the profile of a name that these tokens are
-abbrev pub profile_of : List Token → Rank → Profile
-profile_of name rank = record { spelling = name_of_tokens (texts name); args = rank.args; result = rank.result }
+-- the profile of the name of these words
+abbrev pub profile_of : List Name → Rank → Profile
+profile_of name rank = record { spelling = name_of_tokens name; args = rank.args; result = rank.result }
 
 -- one operator for each of these names
-abbrev pub with_named : List Declared → List (List Token) → Rank → Attributes → List Declared
+abbrev pub with_named : List Declared → List (List Name) → Rank → Attributes → List Declared
 with_named os [] rank said = os
 with_named os (name ∷ names) rank said = with_named (with_operator os (profile_of name rank) rank.declaration said) names rank said
 
@@ -73,6 +73,7 @@ with_operators h os (Operators names args result said) = with_named os names (ra
 with_operators h os (Variables names S) = os
 with_operators h os (Statement rule left right fragments executable) = os
 with_operators h os (Import m) = os
+with_operators h os (Class c as_) = os
 
 abbrev pub operators_from : Hierarchy → List Declared → List SeenLined → List Declared
 operators_from h os [] = os
@@ -190,7 +191,7 @@ operator_with truth identity o = record {
   prec = precedence_of o.attributes.precedence (items_of o.profile.spelling);
   gather = gather_of o.attributes.gather o.attributes.assoc (items_of o.profile.spelling);
   config = o.attributes.config;
-  frozen = [];
+  frozen = frozen_arguments (length o.profile.args) o.attributes;
   built = is_built truth o.profile;
 }
 

@@ -4,15 +4,13 @@ ghost use Rattle.std.specs.List.{list_any};
 ghost use Rattle.mw_module.specs.Forms.{shape_of};
 ghost use Rattle.mw_module.specs.Sortings.{seen_sorting, seen_sortings};
 ghost use Rattle.mw_module.specs.Units.{seen_all};
-ghost use Rattle.mw_module.specs.Words.{seen_lists};
 ghost use Rattle.mw_declare.specs.Built as built;
 ghost use Rattle.mw_declare.specs.Faults.{unknown_from};
 ghost use Rattle.mw_declare.specs.Seen.{seen_name};
 
 use crate::hierarchy::Hierarchy;
-use mw_lex::Token;
-use mw_module::{Form, Stated, WrittenSort};
-use mw_term::{KindId, SortId};
+use mw_module::{Form, Stated, Word, WrittenSort};
+use mw_term::{KindId, Seq, SortId};
 use std::alloc::AllocError;
 
 /// Which modules of the prelude are among those that a module reaches.
@@ -42,7 +40,7 @@ pub struct Built {
 fn is_sort(sort: &WrittenSort<'_>, name: &[u8]) -> bool
     ensures { result ≡ built.is_sort name.now (seen_sorting sort.now) }
 {
-    !sort.kind && sort.name.text.as_slice() == name
+    !sort.kind && sort.name.as_slice() == name
 }
 
 /// Whether there is one argument of the sort, or none where there is no sort.
@@ -56,22 +54,22 @@ fn takes(args: &[WrittenSort<'_>], sort: Option<&[u8]>) -> bool
     }
 }
 
-/// Whether the name is this one token.
-fn is_name(name: &[Token], text: &[u8]) -> bool
+/// Whether the name is this one word.
+fn is_name(name: &[Word<'_>], text: &[u8]) -> bool
     ensures { result ≡ built.is_name text.now name.now }
 {
     match name {
-        [token] => token.text.as_slice() == text,
+        [word] => word.as_slice() == text,
         _ => false,
     }
 }
 
-/// Whether one of the names is this one token.
-fn has_name(names: &[&[Token]], text: &[u8]) -> bool
-    ensures { result ≡ list_any (built.is_name text.now) (seen_lists names.now) }
+/// Whether one of the names is this one word.
+fn has_name(names: &[Seq<Word<'_>>], text: &[u8]) -> bool
+    ensures { result ≡ list_any (built.is_name text.now) names.now }
 {
     for name in names {
-        if is_name(name, text) {
+        if is_name(name.as_slice(), text) {
             return true;
         }
     }

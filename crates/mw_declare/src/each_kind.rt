@@ -68,18 +68,12 @@ pub fn test_declaration(
 }
 
 /// What is said of an operator of which the precedence alone is said.
-pub fn said_precedence<'u>(precedence: u32) -> Attributes<'u>
+pub fn said_precedence<'s>(alloc: Global, precedence: u32) -> Attributes<'s>
     ensures { seen_attributes result ≡ said_alone precedence }
 {
-    Attributes {
-        assoc: false,
-        comm: false,
-        identity: None,
-        precedence: Some(precedence),
-        gather: None,
-        config: false,
-        clash: false,
-    }
+    let mut said = Attributes::none(alloc);
+    said.precedence = Some(precedence);
+    said
 }
 
 /// Whether a profile is that of a test that some kind has.

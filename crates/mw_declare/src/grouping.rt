@@ -2,11 +2,9 @@
 ghost use Rattle.std.specs.Prelude.{◌≡◌, true, map, IfOk};
 ghost use Rattle.mw_term.specs.Signatures.{gather_of as mark_of};
 ghost use Rattle.mw_text.specs.Names.{items_of};
-ghost use Rattle.mw_module.specs.Attributes.{gather_of as marks_of};
-ghost use Rattle.mw_declare.specs.Meaning.{texts};
 ghost use Rattle.mw_declare.specs.Grouping as grouping;
 
-use mw_lex::Token;
+use mw_module::Word;
 use mw_term::{Gather, Seq};
 use mw_text::{NameItem, first_item, holes};
 use std::alloc::{AllocError, Global};
@@ -104,12 +102,12 @@ fn gather_of_mark(mark: &[u8]) -> Gather
 }
 
 /// The marks that are said.
-fn said_gather(alloc: Global, said: &[Token]) -> Result<Vec<Gather>, AllocError>
-    ensures { IfOk result (λ marks. map mark_of marks.items ≡ map grouping.gather_of_mark (texts said.now)) }
+fn said_gather(alloc: Global, said: &[Word<'_>]) -> Result<Vec<Gather>, AllocError>
+    ensures { IfOk result (λ marks. map mark_of marks.items ≡ map grouping.gather_of_mark said.now) }
 {
     let mut marks = Vec::with_capacity(alloc, said.len())?;
     for mark in said {
-        marks.push(gather_of_mark(mark.text.as_slice()))?;
+        marks.push(gather_of_mark(mark.as_slice()))?;
     }
     Ok(marks)
 }
@@ -117,15 +115,15 @@ fn said_gather(alloc: Global, said: &[Token]) -> Result<Vec<Gather>, AllocError>
 /// A mark for each hole: those that are said, or else those of the name.
 pub fn gather(
     alloc: Global,
-    said: Option<&[Token]>,
+    said: &Option<Seq<Word<'_>>>,
     assoc: bool,
     spelling: &[u8],
 ) -> Result<Seq<Gather>, AllocError>
     ensures { IfOk result
-        (λ marks. map mark_of marks ≡ grouping.gather_of (marks_of said.entry) assoc (items_of spelling.now)) }
+        (λ marks. map mark_of marks ≡ grouping.gather_of said.now assoc (items_of spelling.now)) }
 {
     match said {
-        Some(said) if holes(spelling) != 0 => Ok(Seq::of(said_gather(alloc, said)?)),
+        Some(said) if holes(spelling) != 0 => { Ok(Seq::of(said_gather(alloc, said.as_slice())?)) }
         Some(_) => Ok(Seq::of(Vec::new(alloc))),
         None => Ok(Seq::of(default_gather(alloc, assoc, spelling)?)),
     }

@@ -7,7 +7,6 @@ ghost use Rattle.mw_module.specs.Sortings.{seen_sorting, seen_sortings};
 ghost use Rattle.mw_module.specs.Units.{seen_all};
 ghost use Rattle.mw_module.specs.Causes.{HasCause};
 ghost use Rattle.mw_poset.specs.Order.{IsSort};
-ghost use Rattle.mw_module.specs.Words.{seen_lists};
 ghost use Rattle.mw_declare.specs.Meaning.{Name, is_among, number_of, numbers_of};
 ghost use Rattle.mw_declare.specs.Built.{kind_named};
 ghost use Rattle.mw_declare.specs.Hierarchy.{pairs_between, pairs_behind, pairs_from, hierarchy_of, kind_of, kind_in, sorted_in};
@@ -18,10 +17,9 @@ ghost use Rattle.mw_declare.specs.Seen.{seen_rank};
 ghost use Rattle.mw_declare.specs.declared.built.Reached.{Reached};
 
 use crate::sorts::{all_known, all_sorts};
-use mw_lex::Token;
-use mw_module::{Fault, FaultKind, Form, Stated, UnitError, WrittenSort};
+use mw_module::{Fault, FaultKind, Form, Stated, UnitError, Word, WrittenSort};
 use mw_poset::{Poset, PosetError};
-use mw_term::{KindId, Name, SortId, Sorted};
+use mw_term::{KindId, Name, Seq, SortId, Sorted};
 use mw_text::Names;
 use std::alloc::{AllocError, Global};
 use std::marker::Model;
@@ -70,12 +68,12 @@ fn add_between(
 }
 
 /// The numbers of sorts, in order.
-fn numbers(alloc: Global, names: &Names, tokens: &[Token]) -> Result<Vec<SortId>, AllocError>
-    ensures { IfOk result (λ v. v.items ≡ numbers_of names.now tokens.now) }
+fn numbers(alloc: Global, names: &Names, words: &[Word<'_>]) -> Result<Vec<SortId>, AllocError>
+    ensures { IfOk result (λ v. v.items ≡ numbers_of names.now words.now) }
 {
-    let mut numbers = Vec::with_capacity(alloc, tokens.len())?;
-    for token in tokens {
-        numbers.push(names.number(token.text.as_slice())?)?;
+    let mut numbers = Vec::with_capacity(alloc, words.len())?;
+    for word in words {
+        numbers.push(names.number(word.as_slice())?)?;
     }
     Ok(numbers)
 }
@@ -85,13 +83,13 @@ fn add_groups(
     alloc: Global,
     pairs: &mut Vec<(SortId, SortId)>,
     names: &Names,
-    groups: &[&[Token]],
+    groups: &[Seq<Word<'_>>],
 ) -> Result<(), AllocError>
-    ensures { OnOk result (pairs.new.items ≡ pairs.old.items ++ pairs_behind names.now [] (seen_lists groups.now)) }
+    ensures { OnOk result (pairs.new.items ≡ pairs.old.items ++ pairs_behind names.now [] groups.now) }
 {
     let mut lowers = Vec::new(alloc);
     for group in groups {
-        let uppers = numbers(alloc, names, group)?;
+        let uppers = numbers(alloc, names, group.as_slice())?;
         add_between(pairs, lowers.as_slice(), uppers.as_slice())?;
         lowers = uppers;
     }
@@ -175,12 +173,12 @@ impl Hierarchy {
     }
 
     /// The sort that is written, or its kind, and its kind in any case.
-    fn sorted(&self, sorting: WrittenSort<'_>) -> Result<(Sorted, KindId), AllocError>
-        requires { is_among self.now.names (seen_sorting sorting).name.text ≡ true }
-        ensures sorted { IfOk result (λ r. sorted_of r.0 ≡ sorted_in self.now (seen_sorting sorting.entry)) }
-        ensures kind { IfOk result (λ r. r.1 ≡ kind_in self.now (seen_sorting sorting.entry)) }
+    fn sorted(&self, sorting: &WrittenSort<'_>) -> Result<(Sorted, KindId), AllocError>
+        requires { is_among self.now.names (seen_sorting sorting.now).name ≡ true }
+        ensures sorted { IfOk result (λ r. sorted_of r.0 ≡ sorted_in self.now (seen_sorting sorting.now)) }
+        ensures kind { IfOk result (λ r. r.1 ≡ kind_in self.now (seen_sorting sorting.now)) }
     {
-        let (sort, kind) = self.named(sorting.name.text.as_slice())?;
+        let (sort, kind) = self.named(sorting.name.as_slice())?;
         if sorting.kind {
             Ok((Sorted::Kind(kind), kind))
         } else {
@@ -193,15 +191,15 @@ impl Hierarchy {
         &self,
         alloc: Global,
         args: &[WrittenSort<'_>],
-        value: WrittenSort<'_>,
+        value: &WrittenSort<'_>,
     ) -> Result<Rank, AllocError>
-        requires { unknown_among self.now.names (mentioned_by (seen_sortings args.now) (seen_sorting value)) ≡ None }
-        ensures { IfOk result (λ r. seen_rank r ≡ rank_of self.now (seen_sortings args.now) (seen_sorting value.entry)) }
+        requires { unknown_among self.now.names (mentioned_by (seen_sortings args.now) (seen_sorting value.now)) ≡ None }
+        ensures { IfOk result (λ r. seen_rank r ≡ rank_of self.now (seen_sortings args.now) (seen_sorting value.now)) }
     {
         let mut sorts = Vec::new(alloc);
         let mut kinds = Vec::new(alloc);
         for arg in args {
-            let (sort, kind) = self.sorted(*arg)?;
+            let (sort, kind) = self.sorted(arg)?;
             sorts.push(sort)?;
             kinds.push(kind)?;
         }

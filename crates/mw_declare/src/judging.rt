@@ -1,5 +1,5 @@
 // What is wrong with operators.
-ghost use Rattle.std.specs.Prelude.{◌≡◌, ◌&&◌, ◌||◌, not, true, nat_eq, ℕ, List, IfOk, Some, None, option_map};
+ghost use Rattle.std.specs.Prelude.{◌≡◌, ◌&&◌, ◌||◌, not, true, nat_eq, ℕ, List, length, IfOk, Some, None, option_map};
 ghost use Rattle.mw_logic.specs.Signature.{constant_of, numeral_of};
 ghost use Rattle.mw_logic.specs.Accepted.{are_two, is_accepted_operator};
 ghost use Rattle.mw_term.specs.Signatures.{identity_of};
@@ -7,9 +7,11 @@ ghost use Rattle.mw_declare.specs.Hierarchy.{Hierarchy as HierarchyOf};
 ghost use Rattle.mw_declare.specs.Operators.{Declared, identity_in, is_numeric, IsOfLeastKinds, IsNumbered, signature_with};
 ghost use Rattle.mw_declare.specs.Operators.{operator_of as operator_among};
 ghost use Rattle.mw_declare.specs.Faults.{wrong_with};
+ghost use Rattle.mw_declare.specs.Freezing.{are_in_range as in_range};
 ghost use Rattle.mw_declare.specs.Seen.{seen_operator};
 
 use crate::built::Built;
+use crate::freezing::{are_in_range, counted, freezes_alike};
 use crate::operators::{Profile, Said};
 use mw_module::{Attributes, FaultKind};
 use mw_term::{Identity, KindId, Name};
@@ -61,21 +63,28 @@ fn fits_identity(nat: Option<KindId>, assoc: bool, kind: KindId, identity: Optio
     }
 }
 
-/// Whether an operator's axioms are kept ones, which fit its kinds.
+/// Whether an operator's axioms are kept ones, which fit its kinds, and the arguments that are said to be frozen are
+/// there, of which there are so many.
 fn has_kept_axioms(
     built: Built,
+    arity: u32,
     profile: &Profile,
     said: &Said<'_>,
     identity: Option<Identity>,
 ) -> bool
+    requires { arity ≡ length profile.now.args.items }
     ensures { (h : HierarchyOf) (os : List Declared) → IsNumbered h built → let o = seen_operator (profile.now, said.now) in IsOfLeastKinds h o
         → option_map identity_of identity ≡ identity_in built os o
-        → result ≡ is_accepted_operator (signature_with built h os) (operator_among built os o) }
+        → result ≡ (is_accepted_operator (signature_with built h os) (operator_among built os o) && in_range (length o.profile.args) o.attributes) }
 {
     let args = profile.args.as_slice();
-    let Attributes { assoc, comm, .. } = said.attributes;
-    fits_assoc(assoc, args, profile.result)
-        & (fits_comm(comm, args) & fits_identity(built.nat, assoc, profile.result, identity))
+    let Attributes { assoc, comm, .. } = &said.attributes;
+    let (assoc, comm) = (*assoc, *comm);
+    let kept = fits_assoc(assoc, args, profile.result)
+        & (fits_comm(comm, args)
+            & (fits_identity(built.nat, assoc, profile.result, identity)
+                & freezes_alike(assoc | comm, arity, &said.attributes)));
+    kept & are_in_range(arity, &said.attributes)
 }
 
 /// What is wrong with an operator of this identity.
@@ -90,7 +99,8 @@ pub fn fault(
         → option_map identity_of identity ≡ identity_in built os o
         → IfOk result (λ k. k ≡ wrong_with (signature_with built h os) built os o) }
 {
-    if !has_kept_axioms(built, profile, said, identity) {
+    let arity = counted(profile.args.as_slice())?;
+    if !has_kept_axioms(built, arity, profile, said, identity) {
         let name = Name::of(profile.spelling.as_slice().to_vec(alloc)?);
         return Ok(Some(FaultKind::BadAxioms(name)));
     }

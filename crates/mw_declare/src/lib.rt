@@ -3,7 +3,8 @@
 //! A module's statements are those of the modules that it imports, one module after the other, and then its own.
 //! `declare` takes all of them (`Stated` of mw_module), and answers the module's signature, the order of its sorts,
 //! and its variables; or the first fault. The variables are those of the module's own statements alone, which
-//! `all_typed` answers before, from these, or their fault. An import statement declares nothing, and mentions nothing.
+//! `all_typed` answers before, from these, or their fault. An import statement declares nothing, and mentions
+//! nothing; nor does a class, whose forms stand before it (mw_omod).
 //! `Reached` says which modules of the prelude are among those whose statements these are.
 //!
 //! - Sorts and operators are numbered, and variables stand, in the order of their first declaration, which may come
@@ -15,7 +16,8 @@
 //!   declaration with `~>`, is the kind of S. A name is known by its prefix spelling, so `a b` and `` a`b `` are one.
 //! - The attributes of an operator are those of all its declarations together, axioms too, or the defaults of
 //!   docs/LANGUAGE.md. An identity is the constant of that name in the kind of the operator's value, wherever that is
-//!   declared; where there is none, it is the numeral that the name is, in a module with numbers.
+//!   declared; where there is none, it is the numeral that the name is, in a module with numbers. Frozen
+//!   arguments are those that any declaration says.
 //! - Where statements declare `true` and `false` of the sort Bool, each kind has three operators more: a choice by a
 //!   truth value and two tests of equality. They come behind all others, kind by kind in the order of their least
 //!   sorts. One that statements declare too is that operator, whose last declaration is this one. They alone are marked
@@ -27,9 +29,9 @@
 //!   the statement. Those of `declare`, of which each kind's first in the text decides: a sort that isn't declared, of
 //!   a `subsort` statement, an operator or a variable, also of one that is imported, with the line of the statement;
 //!   then the least sort that is below itself; then the operator of least number with axioms that aren't kept, or
-//!   don't fit its kinds, or with an identity that isn't there (`is_accepted_operator` of mw_logic), or else with two
-//!   different identities, precedences or gathers; both with the line that `declare` is given, of the unit's first
-//!   token.
+//!   don't fit its kinds, or with an identity that isn't there (`is_accepted_operator` of mw_logic), or with a number of
+//!   a frozen argument that it hasn't; or else with two different identities, precedences or gathers; both with the line
+//!   that `declare` is given, of the unit's first token.
 //!
 //! Proved: the answer is exactly what the statements declare together with the variables, with the order of its sorts
 //! and pairs (`Declares`, specs/Declarations), and a fault is answered exactly where there is one, and is the first
@@ -58,6 +60,7 @@
 mod built;
 mod declarations;
 mod each_kind;
+mod freezing;
 mod grouping;
 mod hierarchy;
 mod judging;
@@ -70,4 +73,5 @@ mod variables;
 pub use built::Reached;
 pub use declarations::{Declarations, declare};
 pub use laws::{declared_apart, parts_are_there};
+pub use spelling::spelling_of;
 pub use variables::{Typing, all_typed};

@@ -5,7 +5,6 @@ ghost use Rattle.mw_term.specs.Signatures.{sorted_of, identity_of};
 ghost use Rattle.mw_module.specs.Attributes.{seen_attributes};
 ghost use Rattle.mw_module.specs.Units.{seen_all};
 ghost use Rattle.mw_module.specs.Causes.{HasCause};
-ghost use Rattle.mw_module.specs.Words.{seen_lists};
 ghost use Rattle.mw_declare.specs.Hierarchy.{Hierarchy as HierarchyOf};
 ghost use Rattle.mw_declare.specs.Operators.{profile_of as profile_with, with_operator, with_named, operators_from};
 ghost use Rattle.mw_declare.specs.Operators.{operator_number, identity_in, operator_with, IsOfLeastKinds, IsNumbered};
@@ -14,19 +13,19 @@ ghost use Rattle.mw_declare.specs.Operators.{identity_at as identity_with};
 ghost use Rattle.mw_declare.specs.Built.{kinds_from};
 ghost use Rattle.mw_declare.specs.Operators.{operator_of as operator_among};
 ghost use Rattle.mw_declare.specs.Faults.{unknown_from, operator_fault, told_at};
-ghost use Rattle.mw_declare.specs.Seen.{seen_rank, seen_profile, seen_operator};
+ghost use Rattle.mw_declare.specs.Seen.{seen_rank, seen_profile, seen_operator, seen_said, said_again, said_once};
 
 use crate::built::{Built, Truth};
 use crate::each_kind::{
     choice_declaration, choice_profile, is_built, said_precedence, test_declaration, test_profile,
 };
+use crate::freezing::{counted, frozen_arguments};
 use crate::grouping::{gather, precedence};
 use crate::hierarchy::{Hierarchy, Rank};
 use crate::judging::fault;
 use crate::spelling::{spelling_of, spelling_of_text};
 use indexmap::IndexMap;
-use mw_lex::Token;
-use mw_module::{Attributes, Fault, Form, Stated, UnitError};
+use mw_module::{Attributes, Fault, Form, Stated, UnitError, Word};
 use mw_term::{Declaration, Identity, KindId, Name, OpId, Operator, Seq, Sorted};
 use mw_text::number;
 use std::alloc::{AllocError, Global};
@@ -42,13 +41,42 @@ pub struct Profile {
 
 /// The declarations of an operator, and what they say of it.
 #[derive(Drop)]
-pub struct Said<'u> {
+pub struct Said<'s> {
     pub declarations: Vec<Declaration>,
-    pub attributes: Attributes<'u>,
+    pub attributes: Attributes<'s>,
 }
 
-/// The profile of a name that these tokens are.
-fn profile_of(alloc: Global, name: &[Token], rank: &Rank) -> Result<Profile, AllocError>
+/// Adds a declaration to an operator's.
+fn declare_again<'s>(
+    alloc: Global,
+    known: &mut Said<'s>,
+    declaration: Declaration,
+    attributes: &Attributes<'s>,
+) -> Result<(), AllocError>
+    ensures { OnOk result (seen_said known.new ≡ said_again (seen_said known.old) declaration (seen_attributes attributes.now)) }
+{
+    known.declarations.push(declaration)?;
+    known.attributes.add(alloc, attributes)
+}
+
+/// The one declaration of an operator.
+fn declared_once<'s>(
+    alloc: Global,
+    declaration: Declaration,
+    attributes: &Attributes<'s>,
+) -> Result<Said<'s>, AllocError>
+    ensures { IfOk result (λ s. seen_said s ≡ said_once declaration (seen_attributes attributes.now)) }
+{
+    let declarations = vec![in alloc; declaration]?;
+    let attributes = attributes.again(alloc)?;
+    Ok(Said {
+        declarations,
+        attributes,
+    })
+}
+
+/// The profile of the name of these words.
+fn profile_of(alloc: Global, name: &[Word<'_>], rank: &Rank) -> Result<Profile, AllocError>
     ensures { IfOk result (λ p. seen_profile p ≡ profile_with name.now (seen_rank rank.now)) }
 {
     Ok(Profile {
@@ -99,23 +127,17 @@ impl<'u> DeclaredOperators<'u> {
         alloc: Global,
         profile: Profile,
         declaration: Declaration,
-        attributes: Attributes<'u>,
+        attributes: &Attributes<'u>,
     ) -> Result<(), AllocError>
-        ensures { let said = seen_attributes attributes.entry in
+        ensures { let said = seen_attributes attributes.now in
             OnOk result (self.new ≡ with_operator self.old (seen_profile profile) declaration said) }
     {
         let table = &mut *self.table;
         if let Some(known) = table.get_mut(&profile) {
-            known.declarations.push(declaration)?;
-            known.attributes = known.attributes.joined(attributes);
+            declare_again(alloc, known, declaration, attributes)?;
             return Ok(());
         }
-        let mut declarations = Vec::new(alloc);
-        declarations.push(declaration)?;
-        let said = Said {
-            declarations,
-            attributes,
-        };
+        let said = declared_once(alloc, declaration, attributes)?;
         table.insert(profile, said)?;
         Ok(())
     }
@@ -124,15 +146,15 @@ impl<'u> DeclaredOperators<'u> {
     fn add_all(
         &mut self,
         alloc: Global,
-        names: &[&[Token]],
+        names: &[Seq<Word<'_>>],
         rank: &Rank,
-        attributes: Attributes<'u>,
+        attributes: &Attributes<'u>,
     ) -> Result<(), AllocError>
-        ensures { let said = seen_attributes attributes.entry in
-            OnOk result (self.new ≡ with_named self.old (seen_lists names.now) (seen_rank rank.now) said) }
+        ensures { let said = seen_attributes attributes.now in
+            OnOk result (self.new ≡ with_named self.old names.now (seen_rank rank.now) said) }
     {
         for name in names {
-            let profile = profile_of(alloc, name, rank)?;
+            let profile = profile_of(alloc, name.as_slice(), rank)?;
             let declaration = declaration_of(alloc, rank)?;
             self.add(alloc, profile, declaration, attributes)?;
         }
@@ -146,7 +168,8 @@ impl<'u> DeclaredOperators<'u> {
     {
         let profile = choice_profile(alloc, truth, kind)?;
         let declaration = choice_declaration(alloc, truth, kind)?;
-        self.add(alloc, profile, declaration, said_precedence(0))?;
+        let said = said_precedence(alloc, 0);
+        self.add(alloc, profile, declaration, &said)?;
         Ok(())
     }
 
@@ -163,7 +186,8 @@ impl<'u> DeclaredOperators<'u> {
     {
         let profile = test_profile(alloc, truth, name, kind)?;
         let declaration = test_declaration(alloc, truth, kind)?;
-        self.add(alloc, profile, declaration, said_precedence(51))?;
+        let said = said_precedence(alloc, 51);
+        self.add(alloc, profile, declaration, &said)?;
         Ok(())
     }
 
@@ -218,16 +242,16 @@ impl<'u> DeclaredOperators<'u> {
         ensures { let o = seen_operator (profile.now, said.now) in
             IfOk result (λ i. option_map identity_of i ≡ identity_in built self.now o) }
     {
-        let Some(token) = said.attributes.identity else {
+        let Some(word) = &said.attributes.identity else {
             return Ok(None);
         };
         let constant = Profile {
-            spelling: spelling_of_text(alloc, token.text.as_slice())?,
+            spelling: spelling_of_text(alloc, word.as_slice())?,
             args: Vec::new(alloc),
             result: profile.result,
         };
         let number = self.number(&constant)?;
-        Ok(Some(identity_at(number, built.nat, token.text.as_slice())))
+        Ok(Some(identity_at(number, built.nat, word.as_slice())))
     }
 
     /// The identities of the operators, where nothing is wrong with any; or else what is wrong with the first with
@@ -295,8 +319,8 @@ fn stated_operators<'s>(
             attributes,
         } = statement.form
         {
-            let rank = hierarchy.rank(alloc, args.as_slice(), *value)?;
-            operators.add_all(alloc, names.as_slice(), &rank, *attributes)?;
+            let rank = hierarchy.rank(alloc, args.as_slice(), value)?;
+            operators.add_all(alloc, names.as_slice(), &rank, attributes)?;
         }
     }
     Ok(operators)
@@ -360,10 +384,11 @@ fn operator_of(
     let prec = precedence(said.attributes.precedence, spelling);
     let gather = gather(
         alloc,
-        said.attributes.gather,
+        &said.attributes.gather,
         said.attributes.assoc,
         spelling,
     )?;
+    let frozen = frozen_arguments(alloc, counted(profile.args.as_slice())?, &said.attributes)?;
     Ok(Operator {
         spelling: Name::of(profile.spelling),
         args: Seq::of(profile.args),
@@ -375,7 +400,7 @@ fn operator_of(
         prec,
         gather,
         config: said.attributes.config,
-        frozen: Seq::of(Vec::new(alloc)),
+        frozen,
         built,
     })
 }

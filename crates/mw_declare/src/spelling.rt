@@ -2,9 +2,9 @@
 ghost use Rattle.std.specs.Prelude.{◌≡◌, ◌++◌, ◌∷◌, List, [], IfOk};
 ghost use Rattle.mw_text.specs.Names.{NameItem as ItemOf, items_of, spelled_behind, name_of_tokens, is_mark as is_mark_text};
 ghost use Rattle.mw_text.specs.Seen.{item_of};
-ghost use Rattle.mw_declare.specs.Meaning.{texts};
 
-use mw_lex::{Token, is_punctuation};
+use mw_lex::is_punctuation;
+use mw_module::Word;
 use mw_text::{NameItem, first_item};
 use std::alloc::{AllocError, Global};
 
@@ -65,14 +65,14 @@ pub fn spelling_of_text(alloc: Global, text: &[u8]) -> Result<Vec<u8>, AllocErro
     Ok(spelling)
 }
 
-/// The prefix spelling of the name that these tokens are.
-pub fn spelling_of(alloc: Global, name: &[Token]) -> Result<Vec<u8>, AllocError>
-    ensures { IfOk result (λ spelling. spelling.items ≡ name_of_tokens (texts name.now)) }
+/// The prefix spelling of the name of these words.
+pub fn spelling_of(alloc: Global, name: &[Word<'_>]) -> Result<Vec<u8>, AllocError>
+    ensures { IfOk result (λ spelling. spelling.items ≡ name_of_tokens name.now) }
 {
     let mut spelling = Vec::new(alloc);
     let mut touching = false;
-    for token in name {
-        touching = write_token(&mut spelling, touching, token.text.as_slice())?;
+    for word in name {
+        touching = write_token(&mut spelling, touching, word.as_slice())?;
     }
     Ok(spelling)
 }

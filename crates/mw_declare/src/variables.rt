@@ -5,8 +5,7 @@ ghost use Rattle.mw_module.specs.Causes.{HasCause};
 ghost use Rattle.mw_declare.specs.Faults.{sort_in, joined, typed, typing_of, variables_with};
 
 use indexmap::IndexMap;
-use mw_lex::Token;
-use mw_module::{Fault, FaultKind, Form, Lined, UnitError};
+use mw_module::{Fault, FaultKind, Form, Lined, UnitError, Word};
 use mw_term::{Name, Seq, VarId};
 use mw_text::Names;
 use std::alloc::{AllocError, Global};
@@ -76,14 +75,14 @@ impl Typing {
         &mut self,
         alloc: Global,
         line: u32,
-        names: &[Token],
+        names: &[Word<'_>],
         sort: &[u8],
     ) -> Result<(), UnitError>
         ensures added { OnOk result (typed line (Ok self.old) names.now sort.now ≡ Ok self.new) }
         ensures fault { IfErr result (HasCause (λ fault. typed line (Ok self.old) names.now sort.now ≡ Err fault)) }
     {
         for name in names {
-            self.join(alloc, line, name.text.as_slice(), sort)?;
+            self.join(alloc, line, name.as_slice(), sort)?;
         }
         Ok(())
     }
@@ -111,7 +110,7 @@ pub fn all_typed(alloc: Global, statements: &[Lined<'_>]) -> Result<Typing, Unit
     let mut typing = Typing::new(alloc)?;
     for statement in statements {
         if let Form::Variables { names, sort } = &statement.form {
-            typing.join_all(alloc, statement.line, names, sort.text.as_slice())?;
+            typing.join_all(alloc, statement.line, names.as_slice(), sort.as_slice())?;
         }
     }
     Ok(typing)

@@ -165,7 +165,8 @@ fn write_statement(records: &mut Records<'_>, statement: &Statement) -> Result<(
     for (index, variable) in statement.variables.as_slice().iter().enumerate() {
         records.begin_below("variable")?;
         records.place(index)?;
-        records.word(variable.name.as_slice())?;
+        records.word(b"")?;
+        records.name(variable.name.as_slice())?;
         records.number(variable.sort)?;
     }
     records.begin_below("left")?;

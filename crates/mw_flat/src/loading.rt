@@ -9,6 +9,7 @@ use mw_build::{Module, build};
 use mw_import::Units;
 use mw_lex::{LexError, Token, tokens};
 use mw_module::{Unit, UnitError, read_unit};
+use mw_omod::declare;
 use mw_prelude::Mentioned;
 use mw_term::Name;
 use std::alloc::{AllocError, Global};
@@ -75,7 +76,10 @@ fn records_of(alloc: Global, tokens: &[Token], prelude: usize) -> Result<Vec<u8>
     while at < tokens.len() {
         let (outcome, next) = read_unit(alloc, tokens, at, true)?;
         let accepted = match outcome {
-            Ok(unit) => accept(alloc, &mut units, &mut modules, unit)?,
+            Ok(unit) => {
+                let declared = declare(alloc, unit)?;
+                accept(alloc, &mut units, &mut modules, declared)?
+            }
             Err(_) => false,
         };
         if accepted

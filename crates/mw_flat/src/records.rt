@@ -47,6 +47,16 @@ impl<'m> Records<'m> {
         self.text.extend_from_slice(word)
     }
 
+    /// Writes the name of a variable. Of one that a completed rule has a blank stands in it, and none is written.
+    pub fn name(&mut self, name: &[u8]) -> Result<(), AllocError> {
+        for byte in name {
+            if *byte != b' ' {
+                self.text.push(*byte)?;
+            }
+        }
+        Ok(())
+    }
+
     pub fn number(&mut self, number: u32) -> Result<(), AllocError> {
         self.numeral(u128::from(number))
     }
@@ -95,7 +105,7 @@ impl<'m> Records<'m> {
             if other.name.as_slice() == name && other.sort == variable.sort {
                 push_decimal(u128::from(number_at(index)?), &mut self.text)?;
                 self.text.push(b':')?;
-                return self.text.extend_from_slice(name);
+                return self.name(name);
             }
         }
         Ok(())

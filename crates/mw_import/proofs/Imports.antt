@@ -92,13 +92,14 @@ module _ (us : List FlatUnit) (own : List ℕ) (all : List SeenLined) (s : SeenL
     })
 
 -- a form that is no import imports nothing
-pub no_import : (line : ℕ) (f : Form) → ((m : Bor Token) → f ≡ form.Import m → ⊥) → imports_in line (shape_of f) ≡ []
+pub no_import : (line : ℕ) (f : Form) → ((m : List ℕ) → f ≡ form.Import m → ⊥) → imports_in line (shape_of f) ≡ []
 no_import line (form.Sorts names) h = refl
 no_import line (form.Subsorts groups) h = refl
 no_import line (form.Operators names args result attributes) h = refl
 no_import line (form.Variables names sort) h = refl
 no_import line (form.Statement rule left right fragments executable) h = refl
 no_import line (form.Import m) h = absurd (h m refl)
+no_import line (form.Class class as_) h = refl
 
 -- what is left at a place
 pub left_at : {X : Type 0} (xs : List X) (i : ℕ) (x : X) → i < length xs → x ≡ get_or xs i x → drop i xs ≡ x ∷ drop (i + 1) xs

@@ -4,7 +4,7 @@ use Rattle.std.specs.Prelude.{◌≡◌, ◌≢◌, ◌<◌, ℕ, Bool, false, �
 use Rattle.mw_logic.specs.Signature.{Member}
 use Rattle.mw_module.specs.declared.faults.Fault.{Fault}
 use Rattle.mw_module.specs.declared.faults.FaultKind.TheVariants.{UnknownModule, CircularImport}
-use Rattle.mw_module.specs.Forms.{Shape, Sorts, Subsorts, Operators, Variables, Statement, Import}
+use Rattle.mw_module.specs.Forms.{Shape, Sorts, Subsorts, Operators, Variables, Statement, Import, Class}
 use Rattle.mw_module.specs.Units.{SeenLined}
 
 -- An accepted unit: its module's name, its statements, and which units it reaches by imports, by their numbers from 0, in flattened order and without
@@ -25,7 +25,8 @@ imports_in line (Subsorts groups) = []
 imports_in line (Operators names args result said) = []
 imports_in line (Variables names sort) = []
 imports_in line (Statement rule left right fragments executable) = []
-imports_in line (Import m) = record { line = line; name = m.text } ∷ []
+imports_in line (Import m) = record { line = line; name = m } ∷ []
+imports_in line (Class c as_) = []
 
 -- the import statements, in order
 abbrev pub imports_of : List SeenLined → List ImportOf

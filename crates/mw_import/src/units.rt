@@ -222,7 +222,7 @@ impl<'s> Units<'s> {
         self.bring_first(&mut there)?;
         for statement in statements {
             if let Form::Import { module } = &statement.form {
-                let text = module.text.as_slice();
+                let text = module.as_slice();
                 let unit = self.imported(alloc, name, statement.line, text)?;
                 self.bring(&mut there, unit)?;
             }

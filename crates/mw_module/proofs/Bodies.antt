@@ -8,6 +8,7 @@ use Rattle.mw_module.specs.declared.faults.Fault.{Fault}
 use Rattle.mw_module.specs.declared.faults.FaultKind.{FaultKind}
 use Rattle.mw_module.specs.declared.faults.FaultKind.TheVariants.{BadStatement}
 use Rattle.mw_module.specs.declared.forms.Form.{Form}
+use Rattle.mw_module.specs.declared.kinds.Kind.{Kind}
 use Rattle.mw_module.specs.declared.units.Lined.{Lined}
 use Rattle.mw_module.specs.Forms.{Shape, shape_of, form_of}
 use Rattle.mw_module.specs.Words.{is, count_before}
@@ -46,52 +47,52 @@ cut_whole [] h = refl
 cut_whole (t ∷ rest) h = whole_case (is (codes ".") t) t rest (count_before (codes ".") rest) (cut_whole rest) h
 
 -- a body by how it is cut
-abbrev body_by : Bool → Cut → Body
-body_by rules c = statements_before rules c.statements (left_of rules c.left)
+abbrev body_by : Kind → Cut → Body
+body_by K c = statements_before K c.statements (left_of K c.left)
 
 -- a statement of a form, and the others
-body_step : (rules : Bool) (ts : List Token) (n : ℕ) (shape : Shape) → n ≡ count_before (codes ".") ts → n < length ts → form_of rules (take n ts) ≡ Ok shape
-    → body_of rules ts ≡ with_statements (record { line = first_line ts; shape = shape } ∷ []) (body_of rules (drop (n + 1) ts))
-body_step rules ts n shape e h f =
+body_step : (K : Kind) (ts : List Token) (n : ℕ) (shape : Shape) → n ≡ count_before (codes ".") ts → n < length ts → form_of K (take n ts) ≡ Ok shape
+    → body_of K ts ≡ with_statements (record { line = first_line ts; shape = shape } ∷ []) (body_of K (drop (n + 1) ts))
+body_step K ts n shape e h f =
     let met : cut ts ≡ cut_before (first_line ts) (take n ts) (drop (n + 1) ts) = rw e (cut_at ts (omega arith)) in
-    ap (body_by rules) met ∙ rw f refl
+    ap (body_by K) met ∙ rw f refl
 
 -- a statement that is at fault, and that a full stop ends
-body_bad : (rules : Bool) (ts : List Token) (n : ℕ) (kind : FaultKind) → n ≡ count_before (codes ".") ts → n < length ts → form_of rules (take n ts) ≡ Err kind
-    → body_of rules ts ≡ Err (record { line = first_line ts; kind = kind })
-body_bad rules ts n kind e h f =
+body_bad : (K : Kind) (ts : List Token) (n : ℕ) (kind : FaultKind) → n ≡ count_before (codes ".") ts → n < length ts → form_of K (take n ts) ≡ Err kind
+    → body_of K ts ≡ Err (record { line = first_line ts; kind = kind })
+body_bad K ts n kind e h f =
     let met : cut ts ≡ cut_before (first_line ts) (take n ts) (drop (n + 1) ts) = rw e (cut_at ts (omega arith)) in
-    ap (body_by rules) met ∙ rw f refl
+    ap (body_by K) met ∙ rw f refl
 
 -- a statement that no full stop ends
-body_left : (rules : Bool) (ts : List Token) (n : ℕ) → n ≡ count_before (codes ".") ts → n ≡ length ts → 0 < length ts
-    → body_of rules ts ≡ Err (record { line = first_line ts; kind = kind_unended (form_of rules (take n ts)) })
-body_left rules [] n e whole some = absurd (omega arith)
-body_left rules (t ∷ rest) n e whole some =
+body_left : (K : Kind) (ts : List Token) (n : ℕ) → n ≡ count_before (codes ".") ts → n ≡ length ts → 0 < length ts
+    → body_of K ts ≡ Err (record { line = first_line ts; kind = kind_unended (form_of K (take n ts)) })
+body_left K [] n e whole some = absurd (omega arith)
+body_left K (t ∷ rest) n e whole some =
     let all : take n (t ∷ rest) ≡ t ∷ rest = rw whole (take-length (t ∷ rest)) in
     let met : cut (t ∷ rest) ≡ record { statements = []; left = t ∷ rest } = cut_whole (t ∷ rest) (sym e ∙ whole) in
-    ap (body_by rules) met ∙ rw all refl
+    ap (body_by K) met ∙ rw all refl
 
 first_line_is : (ts : List Token) (t : Token) → 0 < length ts → t ≡ get_or ts 0 t → first_line ts ≡ t.line
 first_line_is [] t some head = absurd (omega arith)
 first_line_is (u ∷ us) t some head = ap (λ (x : Token). x.line) (sym head)
 
 -- a body whose first statement is at fault
-pub body_fault : (rules : Bool) (ts : List Token) (t : Token) (n : ℕ) (kind : FaultKind) → 0 < length ts → t ≡ get_or ts 0 t → n ≡ count_before (codes ".") ts → n ≤ length ts
-    → form_of rules (take n ts) ≡ Err kind → body_of rules ts ≡ Err (record { line = t.line; kind = kind })
-body_fault rules ts t n kind some head e within form =
+pub body_fault : (K : Kind) (ts : List Token) (t : Token) (n : ℕ) (kind : FaultKind) → 0 < length ts → t ≡ get_or ts 0 t → n ≡ count_before (codes ".") ts → n ≤ length ts
+    → form_of K (take n ts) ≡ Err kind → body_of K ts ≡ Err (record { line = t.line; kind = kind })
+body_fault K ts t n kind some head e within form =
     let line : first_line ts ≡ t.line = first_line_is ts t some head in
     elim (eq-or-lt_of_le within) [
-      | inr short ↦ rw line at (body_bad rules ts n kind e short form)
-      | inl whole ↦ rw (line, form) at (body_left rules ts n e whole some)
+      | inr short ↦ rw line at (body_bad K ts n kind e short form)
+      | inl whole ↦ rw (line, form) at (body_left K ts n e whole some)
     ]
 
 -- a body whose first statement has no end, and nothing else that is wrong
-pub body_unended : (rules : Bool) (ts : List Token) (t : Token) (n : ℕ) (shape : Shape) → 0 < length ts → t ≡ get_or ts 0 t → n ≡ count_before (codes ".") ts → n ≡ length ts
-    → form_of rules (take n ts) ≡ Ok shape → body_of rules ts ≡ Err (record { line = t.line; kind = BadStatement })
-body_unended rules ts t n shape some head e whole form =
+pub body_unended : (K : Kind) (ts : List Token) (t : Token) (n : ℕ) (shape : Shape) → 0 < length ts → t ≡ get_or ts 0 t → n ≡ count_before (codes ".") ts → n ≡ length ts
+    → form_of K (take n ts) ≡ Ok shape → body_of K ts ≡ Err (record { line = t.line; kind = BadStatement })
+body_unended K ts t n shape some head e whole form =
     let line : first_line ts ≡ t.line = first_line_is ts t some head in
-    rw (line, form) at (body_left rules ts n e whole some)
+    rw (line, form) at (body_left K ts n e whole some)
 
 -- a fault stays what it is behind statements that came before
 pub fault_kept : (statements : List SeenLined) (b w : Body) (f : Fault) → with_statements statements b ≡ w → b ≡ Err f → Err f ≡ w
@@ -102,11 +103,11 @@ statements_twice xs ys (Ok others) = ap Ok (append_assoc xs ys others)
 statements_twice xs ys (Err fault) = refl
 
 -- one more statement came to those before
-pub statements_kept : (rules : Bool) (xs : List Lined) (form : Form) (ts behind : List Token) (t : Token) (n : ℕ) (w : Body) → 0 < length ts → t ≡ get_or ts 0 t → n ≡ count_before (codes ".") ts → n < length ts
-    → form_of rules (take n ts) ≡ Ok (shape_of form) → behind ≡ drop (n + 1) ts
-    → with_statements (seen_statements xs) (body_of rules ts) ≡ w → with_statements (seen_statements (xs ++ record { line = t.line; form = form } ∷ [])) (body_of rules behind) ≡ w
-statements_kept rules xs form ts behind t n w some head e short formed next kept =
+pub statements_kept : (K : Kind) (xs : List Lined) (form : Form) (ts behind : List Token) (t : Token) (n : ℕ) (w : Body) → 0 < length ts → t ≡ get_or ts 0 t → n ≡ count_before (codes ".") ts → n < length ts
+    → form_of K (take n ts) ≡ Ok (shape_of form) → behind ≡ drop (n + 1) ts
+    → with_statements (seen_statements xs) (body_of K ts) ≡ w → with_statements (seen_statements (xs ++ record { line = t.line; form = form } ∷ [])) (body_of K behind) ≡ w
+statements_kept K xs form ts behind t n w some head e short formed next kept =
     let line : first_line ts ≡ t.line = first_line_is ts t some head in
     let one : List SeenLined = record { line = t.line; shape = shape_of form } ∷ [] in
-    let step : body_of rules ts ≡ with_statements one (body_of rules (drop (n + 1) ts)) = rw line at (body_step rules ts n (shape_of form) e short formed) in
-    rw (map-append, next) (statements_twice (seen_statements xs) one (body_of rules (drop (n + 1) ts)) ∙ ap (with_statements (seen_statements xs)) (sym step) ∙ kept)
+    let step : body_of K ts ≡ with_statements one (body_of K (drop (n + 1) ts)) = rw line at (body_step K ts n (shape_of form) e short formed) in
+    rw (map-append, next) (statements_twice (seen_statements xs) one (body_of K (drop (n + 1) ts)) ∙ ap (with_statements (seen_statements xs)) (sym step) ∙ kept)

@@ -1,5 +1,5 @@
 -- What is known of a statement that has a form.
-use Rattle.std.proofs.Common.{◌≡◌, ◌≢◌, ◌∙◌, ◌<◌, ◌+◌, ◌-◌, ◌*◌, ◌==◌, ◌&&◌, ◌||◌, ◌⊎◌, inl, inr, not, nat_lt, nat_le, nat_eq, min, ℕ, suc, Bool, true, false, if◌then◌else◌, List, [], ◌∷◌, length, take, drop, Option, Some, None, IfSome, IfOk, Result, Ok, Err, All, codes, refl, ap, arith}
+use Rattle.std.proofs.Common.{◌≡◌, ◌≢◌, ◌∙◌, ◌<◌, ◌+◌, ◌-◌, ◌*◌, ◌==◌, ◌&&◌, ◌||◌, ◌⊎◌, inl, inr, not, nat_lt, nat_le, nat_eq, min, ℕ, suc, Bool, true, false, if◌then◌else◌, List, [], ◌∷◌, length, map, take, drop, Option, Some, None, IfSome, IfOk, Result, Ok, Err, All, codes, refl, ap, arith}
 use Rattle.std.specs.Char.{is_ascii_digit}
 use Rattle.std.specs.List.{list_all}
 use Rattle.std.specs.Option.{option_or}
@@ -19,15 +19,19 @@ use Rattle.mw_module.specs.declared.table.Wrong.{Wrong}
 use Rattle.mw_module.specs.declared.table.Wrong.TheVariants.{Bad, Unread}
 use Rattle.mw_module.specs.Words.{is, texts, count_before}
 use Rattle.mw_module.specs.Openings.{opening_of}
-use Rattle.mw_module.specs.OperatorNames.{items_in, is_name, fits, all_fit}
-use Rattle.mw_module.specs.Attributes.{Attributes, no_attributes, joined, in_range, precedence_of, precedence_in, is_mark, said_as}
+use Rattle.mw_module.specs.OperatorNames.{items_in, is_name, is_plain_name, fits, all_fit}
+use Rattle.mw_module.specs.Attributes.{Attributes, no_attributes, joined, frozen_by, in_range, precedence_of, precedence_in, is_mark, said_as}
 use Rattle.mw_module.specs.Sortings.{WrittenSort, sorting_of, sortings_of}
 use Rattle.mw_module.specs.Statements.{unlabelled, attributes_len, group_at_end}
 use Rattle.mw_module.specs.Conditions.{cut_at_if}
-use Rattle.mw_module.specs.Known.{IsNameFor, IsMark, IsPrecedence, IsGather, AreAttributes, IsKnown}
+use Rattle.mw_module.specs.declared.classes.ClassAttribute.{ClassAttribute}
+use Rattle.mw_module.specs.declared.kinds.Kind.{Kind}
+use Rattle.mw_module.specs.declared.operators.Asked.{Asked}
+use Rattle.mw_module.specs.Classes.{word_of, attributes_of, are_named, class_of, classed}
+use Rattle.mw_module.specs.Known.{IsPlainAttribute, IsNameFor, IsMark, IsPrecedence, IsGather, AreAttributes, IsKnown}
 use Rattle.mw_module.specs.Parts.{IsFine, AreParts}
 use Rattle.mw_module.specs.Reading.{then_of, tokens_of, has_marks, is_fine, read_at, lists_of, first_token, divided_at}
-use Rattle.mw_module.specs.Forms.{Shape, Import, Sorts, Operators, Formed, Shaped, import_form, grouped, typed, typed_names, said_from, Value, valued_with, valued, value_form, Profile, profiled, profile_form, declared, names_form, operators_form, fragments_form, sided, left_place, conditional, stated, statement_form, form_behind, formed, form_of}
+use Rattle.mw_module.specs.Forms.{Shape, Import, Class, Sorts, Operators, Formed, Shaped, import_form, grouped, typed, typed_names, said_by, said_from, said_behind, fits_message, asked, executable_by, Value, valued_with, valued, value_form, Profile, profiled, profile_form, declared, names_form, operators_form, fragments_form, sided, left_place, conditional, stated, statement_form, form_behind, formed, form_of}
 use Rattle.mw_module.proofs.Parts.{then_holds, parts_read}
 
 abbrev pub IsKnownWhereFormed : Formed → Type 0
@@ -55,12 +59,12 @@ fitting arity items e = elim (either (count_holes items == 0) (count_holes items
 abbrev pub AreNames : List (List Token) → Type 0
 AreNames = All (λ (name : List Token). is_name (items_in name) ≡ true)
 
-names_known : (arity : ℕ) (names : List (List Token)) → AreNames names → all_fit arity names ≡ true → All (IsNameFor arity) names
+names_known : (arity : ℕ) (names : List (List Token)) → AreNames names → all_fit arity names ≡ true → All (IsNameFor arity) (map texts names)
 names_known arity [] all fit = All-nil (IsNameFor arity)
 names_known arity (name ∷ names) all fit =
     let f = both (fits arity (items_in name)) (all_fit arity names) fit in
     let n = named (items_in name) (All-head (λ (m : List Token). is_name (items_in m) ≡ true) name names all) in
-    All-cons (IsNameFor arity) name names (record { some = n.0; no_hole = n.1; fits = fitting arity (items_in name) f.0 })
+    All-cons (IsNameFor arity) (texts name) (map texts names) (record { some = n.0; no_hole = n.1; fits = fitting arity (items_in name) f.0 })
     (names_known arity names (All-tail (λ (m : List Token). is_name (items_in m) ≡ true) name names all) f.1)
 
 lists_named : (ts : List Token) (parts : List Part) → All (IsFine ts want.Names) parts → AreNames (lists_of ts parts)
@@ -142,23 +146,34 @@ joined_known arity a b h k = record {
 }
 
 -- what one attribute says
-one_known : (arity : ℕ) (r : Role) (ts : List Token) → is_fine (want.Marks arity) r ts ≡ true → AreAttributes arity (said_as r ts)
-one_known arity role.Precedence ts e = record { precedence = number_known ts; gather = tt }
-one_known arity role.Gather ts e = record { precedence = tt; gather = marks_known arity ts e }
-one_known arity role.Config ts e = record { precedence = tt; gather = tt }
-one_known arity role.Words ts e = none_known arity
-one_known arity (role.Sort kind) ts e = none_known arity
-one_known arity role.Silent ts e = none_known arity
-one_known arity role.Assoc ts e = record { precedence = tt; gather = tt }
-one_known arity role.Comm ts e = record { precedence = tt; gather = tt }
-one_known arity role.Identity ts e = record { precedence = tt; gather = tt }
-one_known arity role.Nonexec ts e = none_known arity
+frozen_known : (arity : ℕ) (behind : List Token) → AreAttributes arity (frozen_by behind)
+frozen_known arity [] = record { precedence = tt; gather = tt }
+frozen_known arity (t ∷ rest) = of (is (codes "(") t)
+  where
+    of : (b : Bool)
+        → AreAttributes arity (if b then record no_attributes { frozen = texts (take (count_before (codes ")") rest) rest) } else record no_attributes { all_frozen = true })
+    of true = record { precedence = tt; gather = tt }
+    of false = record { precedence = tt; gather = tt }
+
+one_known : (arity : ℕ) (r : Role) (ts behind : List Token) → is_fine (want.Marks arity) r ts ≡ true → AreAttributes arity (said_as r ts behind)
+one_known arity role.Precedence ts behind e = record { precedence = number_known ts; gather = tt }
+one_known arity role.Gather ts behind e = record { precedence = tt; gather = marks_known arity ts e }
+one_known arity role.Config ts behind e = record { precedence = tt; gather = tt }
+one_known arity role.Words ts behind e = none_known arity
+one_known arity (role.Sort kind) ts behind e = none_known arity
+one_known arity role.Silent ts behind e = none_known arity
+one_known arity role.Assoc ts behind e = record { precedence = tt; gather = tt }
+one_known arity role.Comm ts behind e = record { precedence = tt; gather = tt }
+one_known arity role.Identity ts behind e = record { precedence = tt; gather = tt }
+one_known arity role.Nonexec ts behind e = none_known arity
+one_known arity role.Frozen ts behind e = frozen_known arity behind
+one_known arity role.Owise ts behind e = none_known arity
 
 said_known : (arity : ℕ) (ts : List Token) (said : Attributes) (parts : List Part) → AreAttributes arity said → All (IsFine ts (want.Marks arity)) parts → AreAttributes arity (said_from ts said parts)
 said_known arity ts said [] h all = h
 said_known arity ts said (p ∷ ps) h all =
-    said_known arity ts (joined said (said_as p.role (tokens_of ts p))) ps
-    (joined_known arity said (said_as p.role (tokens_of ts p)) h (one_known arity p.role (tokens_of ts p) (All-head (IsFine ts (want.Marks arity)) p ps all)))
+    said_known arity ts (joined said (said_by ts p)) ps
+    (joined_known arity said (said_by ts p) h (one_known arity p.role (tokens_of ts p) (drop p.to ts) (All-head (IsFine ts (want.Marks arity)) p ps all)))
     (All-tail (IsFine ts (want.Marks arity)) p ps all)
 
 -- declarations of operators
@@ -169,13 +184,16 @@ with_known : (arity : ℕ) (ss : List WrittenSort) (said : Attributes) → AreAt
 with_known arity [] said h = tt
 with_known arity (s ∷ ss) said h = h
 
+behind_said : (arity : ℕ) (ts : List Token) (parts : List Part) → All (IsFine ts (want.Marks arity)) parts → IfOk (said_behind ts parts) (AreAttributes arity)
+behind_said arity ts [] all = none_known arity
+behind_said arity ts (list ∷ []) all = tt
+behind_said arity ts (list ∷ (p ∷ ps)) all = said_known arity ts no_attributes (p ∷ ps) (none_known arity) (All-tail (IsFine ts (want.Marks arity)) list (p ∷ ps) all)
+
 valued_known : (kinds : Bool) (arity : ℕ) (ts : List Token) (parts : List Part) → All (IsFine ts (want.Marks arity)) parts → IfOk (valued kinds ts parts) (IsKnownValue arity)
 valued_known kinds arity ts [] all = tt
-valued_known kinds arity ts (v ∷ []) all = with_known arity (sorting_of kinds ts v) no_attributes (none_known arity)
-valued_known kinds arity ts (v ∷ (list ∷ [])) all = tt
-valued_known kinds arity ts (v ∷ (list ∷ (p ∷ ps))) all =
-    let fine = All-tail (IsFine ts (want.Marks arity)) list (p ∷ ps) (All-tail (IsFine ts (want.Marks arity)) v (list ∷ (p ∷ ps)) all) in
-    with_known arity (sorting_of kinds ts v) (said_from ts no_attributes (p ∷ ps)) (said_known arity ts no_attributes (p ∷ ps) (none_known arity) fine)
+valued_known kinds arity ts (v ∷ ps) all =
+    then_holds (AreAttributes arity) (IsKnownValue arity) (said_behind ts ps) (valued_with (sorting_of kinds ts v))
+    (behind_said arity ts ps (All-tail (IsFine ts (want.Marks arity)) v ps all)) (λ said h. with_known arity (sorting_of kinds ts v) said h)
 
 value_known : (kinds : Bool) (arity : ℕ) (ts : List Token) → IfOk (value_form kinds arity ts) (IsKnownValue arity)
 value_known kinds arity ts =
@@ -183,20 +201,22 @@ value_known kinds arity ts =
     (parts_read place.Value role.Silent (want.Marks arity) ts) (λ parts h. valued_known kinds arity ts parts h.fine)
 
 abbrev IsKnownProfile : List (List Token) → Profile → Type 0
-IsKnownProfile names p = All (IsNameFor (length p.args)) names × AreAttributes (length p.args) p.value.attributes
+IsKnownProfile names p = All (IsNameFor (length p.args)) (map texts names) × AreAttributes (length p.args) p.value.attributes
 
 fit_there : (a b : Bool) → (not a || not b) ≡ false → b ≡ true
 fit_there true true e = refl
 fit_there true false e = cc
 fit_there false b e = cc
 
-profiled_known : (kinds : Bool) (names : List (List Token)) (args : List WrittenSort) (arrow : Bool) (ts : List Token) → AreNames names → IfOk (profiled kinds names args arrow ts) (IsKnownProfile names)
-profiled_known kinds names args arrow ts all = of (not arrow || not (all_fit (length args) names)) refl
+profiled_known : (message kinds : Bool) (names : List (List Token)) (args : List WrittenSort) (arrow : Bool) (ts : List Token) → AreNames names
+    → IfOk (profiled message kinds names args arrow ts) (IsKnownProfile names)
+profiled_known message kinds names args arrow ts all = of (not arrow || not (all_fit (length args) names)) (not (fits_message message ts)) refl
   where
-    of : (b : Bool) → (not arrow || not (all_fit (length args) names)) ≡ b
-        → IfOk (if b then Err Bad else then_of (value_form kinds (length args) ts) (λ (v : Value). Ok (record { args = args; value = v }))) (IsKnownProfile names)
-    of true e = tt
-    of false e = then_holds (IsKnownValue (length args)) (IsKnownProfile names) (value_form kinds (length args) ts) (λ (v : Value). Ok (record { args = args; value = v })) (value_known kinds (length args) ts)
+    of : (b c : Bool) → (not arrow || not (all_fit (length args) names)) ≡ b
+        → IfOk (if b then Err Bad else if c then Err Bad else then_of (value_form kinds (length args) ts) (λ (v : Value). Ok (record { args = args; value = v }))) (IsKnownProfile names)
+    of true c e = tt
+    of false true e = tt
+    of false false e = then_holds (IsKnownValue (length args)) (IsKnownProfile names) (value_form kinds (length args) ts) (λ (v : Value). Ok (record { args = args; value = v })) (value_known kinds (length args) ts)
         (λ v h. (names_known (length args) names all (fit_there arrow (all_fit (length args) names) e), h))
 
 abbrev AnyParts : List Part → Type 0
@@ -206,33 +226,50 @@ any_parts : (r : Result (List Part) Wrong) → IfOk r AnyParts
 any_parts (Ok parts) = tt
 any_parts (Err wrong) = tt
 
-profile_known : (names : List (List Token)) (ts : List Token) → AreNames names → IfOk (profile_form names ts) (IsKnownProfile names)
-profile_known names ts all =
+profile_known : (message : Bool) (names : List (List Token)) (ts : List Token) → AreNames names → IfOk (profile_form message names ts) (IsKnownProfile names)
+profile_known message names ts all =
     let total = count_before (codes "->") ts in
     let partial = count_before (codes "~>") ts in
     let arrow = min total partial in
     let kinds = nat_lt partial total in
     let args = read_at place.Args role.Silent want.Nothing (take arrow ts) in
     then_holds AnyParts (IsKnownProfile names) args
-    (λ parts. profiled kinds names (sortings_of kinds (take arrow ts) parts) (not (arrow == length ts)) (drop (arrow + 1) ts)) (any_parts args)
-    (λ parts h. profiled_known kinds names (sortings_of kinds (take arrow ts) parts) (not (arrow == length ts)) (drop (arrow + 1) ts) all)
+    (λ parts. profiled message kinds names (sortings_of kinds (take arrow ts) parts) (not (arrow == length ts)) (drop (arrow + 1) ts)) (any_parts args)
+    (λ parts h. profiled_known message kinds names (sortings_of kinds (take arrow ts) parts) (not (arrow == length ts)) (drop (arrow + 1) ts) all)
 
-declared_known : (names : List (List Token)) (ts : List Token) → AreNames names → IfOk (declared names ts) IsKnown
-declared_known [] ts all = tt
-declared_known (n ∷ ns) ts all =
-    then_holds (IsKnownProfile (n ∷ ns)) IsKnown (profile_form (n ∷ ns) ts) (λ (p : Profile). Ok (Operators (n ∷ ns) p.args p.value.sort p.value.attributes)) (profile_known (n ∷ ns) ts all)
-    (λ p h. record { some = λ (e : n ∷ ns ≡ []). cc; names = h.0; attributes = h.1 })
+declared_known : (message : Bool) (names : List (List Token)) (ts : List Token) → AreNames names → IfOk (declared message names ts) IsKnown
+declared_known message [] ts all = tt
+declared_known message (n ∷ ns) ts all =
+    then_holds (IsKnownProfile (n ∷ ns)) IsKnown (profile_form message (n ∷ ns) ts) (λ (p : Profile). Ok (Operators (map texts (n ∷ ns)) p.args p.value.sort p.value.attributes))
+    (profile_known message (n ∷ ns) ts all) (λ p h. record { some = λ (e : map texts (n ∷ ns) ≡ []). cc; names = h.0; attributes = h.1 })
 
-operators_known : (single : Bool) (ts : List Token) → IfOk (operators_form single ts) IsKnown
-operators_known single ts = of (colon == length ts)
+operators_known : (a : Asked) (ts : List Token) → IfOk (operators_form a ts) IsKnown
+operators_known a ts = of (colon == length ts)
   where
     colon : ℕ
     colon = count_before (codes ":") ts
 
-    of : (b : Bool) → IfOk (if b then Err Bad else then_of (names_form single (take colon ts)) (λ names. declared names (drop (colon + 1) ts))) IsKnown
+    of : (b : Bool) → IfOk (if b then Err Bad else then_of (names_form a.single (take colon ts)) (λ names. declared a.message names (drop (colon + 1) ts))) IsKnown
     of true = tt
-    of false = then_holds AreNames IsKnown (names_form single (take colon ts)) (λ names. declared names (drop (colon + 1) ts)) (names_named single (take colon ts))
-        (λ names all. declared_known names (drop (colon + 1) ts) all)
+    of false = then_holds AreNames IsKnown (names_form a.single (take colon ts)) (λ names. declared a.message names (drop (colon + 1) ts)) (names_named a.single (take colon ts))
+        (λ names all. declared_known a.message names (drop (colon + 1) ts) all)
+
+-- classes
+attributes_known : (as_ : List ClassAttribute) → are_named as_ ≡ true → All IsPlainAttribute as_
+attributes_known [] e = All-nil IsPlainAttribute
+attributes_known (a ∷ as_) e =
+    let h = both (is_plain_name a.name) (are_named as_) e in All-cons IsPlainAttribute a as_ (record { named = h.0 }) (attributes_known as_ h.1)
+
+class_known : (name : List ℕ) (as_ : List ClassAttribute) → IfOk (class_of name as_) IsKnown
+class_known name as_ = of (is_plain_name name && are_named as_) refl
+  where
+    of : (b : Bool) → (is_plain_name name && are_named as_) ≡ b → IfOk (if b then Ok (Class name as_) else Err Bad) IsKnown
+    of true e = let h = both (is_plain_name name) (are_named as_) e in (record { named = h.0 }, attributes_known as_ h.1)
+    of false e = tt
+
+classed_known : (ts : List Token) (parts : List Part) → IfOk (classed ts parts) IsKnown
+classed_known ts [] = tt
+classed_known ts (p ∷ ps) = class_known (word_of ts p) (attributes_of ts ps)
 
 -- the other forms
 behind_any : {A : Type 0} (r : Result A Wrong) (next : A → Shaped) → ((a : A) → IfOk (next a) IsKnown) → IfOk (then_of r next) IsKnown
@@ -256,7 +293,7 @@ typed_names_known (t ∷ names) ts =
 
 sorts_known : (ts : List Token) → IfOk (form_behind opening.Sorts ts) IsKnown
 sorts_known [] = tt
-sorts_known (t ∷ ts) = behind_any (read_at place.Sorts role.Silent want.Nothing (t ∷ ts)) (λ parts. Ok (Sorts (t ∷ ts))) (λ parts. tt)
+sorts_known (t ∷ ts) = behind_any (read_at place.Sorts role.Silent want.Nothing (t ∷ ts)) (λ parts. Ok (Sorts (texts (t ∷ ts)))) (λ parts. tt)
 
 variables_known : (ts : List Token) → IfOk (form_behind opening.Variables ts) IsKnown
 variables_known ts = of (colon == length ts)
@@ -270,7 +307,7 @@ variables_known ts = of (colon == length ts)
 
 sided_known : (rule : Bool) (sides : Option (List Token × List Token)) (condition : Option (List Token)) (said : List Token) → IfOk (sided rule sides condition said) IsKnown
 sided_known rule None condition said = tt
-sided_known rule (Some sides) condition said = behind_any (fragments_form condition) _ (λ fragments. behind_any (read_at place.Statement role.Silent want.Nothing said) _ (λ more. tt))
+sided_known rule (Some sides) condition said = behind_any (fragments_form condition) _ (λ fragments. behind_any (executable_by rule said) _ (λ more. tt))
 
 conditional_known : (rule : Bool) (cut : Option (List Token × List Token)) (said : List Token) → IfOk (conditional rule cut said) IsKnown
 conditional_known rule None said = tt
@@ -287,7 +324,7 @@ import_known : (ts : List Token) → IfOk (import_form ts) IsKnown
 import_known [] = tt
 import_known (t ∷ []) = of (is (codes "{") t)
   where
-    of : (b : Bool) → IfOk (if b then Err Unread else Ok (Import t)) IsKnown
+    of : (b : Bool) → IfOk (if b then Err Unread else Ok (Import t.text)) IsKnown
     of true = tt
     of false = tt
 import_known (t ∷ u ∷ ts) = tt
@@ -295,14 +332,17 @@ import_known (t ∷ u ∷ ts) = tt
 behind_known : (o : Opening) (ts : List Token) → IfOk (form_behind o ts) IsKnown
 behind_known opening.Sorts ts = sorts_known ts
 behind_known opening.Subsorts ts = behind_any (read_at place.Group role.Words want.Nothing ts) (grouped ts) (grouped_known ts)
-behind_known opening.Operator ts = operators_known true ts
-behind_known opening.Operators ts = operators_known false ts
+behind_known opening.Operator ts = operators_known (asked true false) ts
+behind_known opening.Operators ts = operators_known (asked false false) ts
 behind_known opening.Variables ts = variables_known ts
 behind_known opening.Equation ts = statement_known false false ts
 behind_known opening.ConditionalEquation ts = statement_known false true ts
 behind_known opening.Rule ts = statement_known true false ts
 behind_known opening.ConditionalRule ts = statement_known true true ts
 behind_known opening.Import ts = import_known ts
+behind_known opening.Class ts = behind_any (read_at place.Class role.Silent want.Nothing ts) (classed ts) (classed_known ts)
+behind_known opening.Message ts = operators_known (asked true true) ts
+behind_known opening.Messages ts = operators_known (asked false true) ts
 behind_known opening.Elsewhere ts = tt
 behind_known opening.Unread ts = tt
 
@@ -311,6 +351,6 @@ pub formed_holds : (P : Shape → Type 0) (r : Shaped) → IfOk r P → IfOk (fo
 formed_holds P (Ok shape) h = h
 formed_holds P (Err wrong) h = tt
 
-pub form_known : (rules : Bool) (ts : List Token) → IsKnownWhereFormed (form_of rules ts)
-form_known rules [] = tt
-form_known rules (t ∷ ts) = formed_holds IsKnown (form_behind (opening_of rules t.text) ts) (behind_known (opening_of rules t.text) ts)
+pub form_known : (K : Kind) (ts : List Token) → IsKnownWhereFormed (form_of K ts)
+form_known K [] = tt
+form_known K (t ∷ ts) = formed_holds IsKnown (form_behind (opening_of K t.text) ts) (behind_known (opening_of K t.text) ts)

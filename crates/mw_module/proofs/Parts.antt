@@ -1,5 +1,5 @@
 -- What holds of the parts that are read by the table.
-use Rattle.std.proofs.Common.{◌≡◌, ◌≤◌, ◌+◌, if◌then◌else◌, ℕ, Bool, true, false, List, [], ◌∷◌, ◌++◌, length, Option, Some, None, Result, Ok, Err, IfOk, All, refl, arith}
+use Rattle.std.proofs.Common.{◌≡◌, ◌≤◌, ◌+◌, if◌then◌else◌, ℕ, Bool, true, false, List, [], ◌∷◌, ◌++◌, length, Option, Some, None, Result, Ok, Err, IfOk, All, refl, ap, arith}
 use Rattle.std.proofs.lemmas.List.Elements.{All-nil, All-cons, All-append}
 use Rattle.mw_lex.specs.declared.token.Token.{Token}
 use Rattle.mw_module.specs.declared.machine.Part.{Part}
@@ -95,3 +95,49 @@ module _ (ts : List Token) (want : Want) where
 -- the parts of a piece
 pub parts_read : (place : Place) (role : Role) (want : Want) (ts : List Token) → IfOk (read_at place role want ts) (AreParts ts want)
 parts_read place role want ts = reading_are ts want 0 (record { place = place; depth = 0; role = role; from = 0; parts = [] }) ts (omega arith) (All-nil (IsFine ts want), (omega arith, omega arith))
+
+-- the parts begin with this one
+abbrev pub Begins : Part → List Part → Type 0
+Begins p ps = (more : List Part) × (ps ≡ p ∷ more)
+
+module _ (ts : List Token) (want : Want) (p : Part) where
+  abbrev BeginsIn : State → Type 0
+  BeginsIn s = Begins p s.parts
+
+  closed_begins : (q : Part) (s : State) → BeginsIn s → IfOk (closed ts want q s) BeginsIn
+  closed_begins q s h = of (is_fine want q.role (tokens_of ts q))
+    where
+      of : (b : Bool) → IfOk (if b then Ok (record s { from = q.to; parts = s.parts ++ q ∷ [] }) else Err Bad) BeginsIn
+      of true = (h.0 ++ q ∷ [], ap (λ ps. ps ++ q ∷ []) h.1)
+      of false = tt
+
+  taken_begins : (act : Act) (i : ℕ) (s : State) → BeginsIn s → IfOk (taken ts want act i s) BeginsIn
+  taken_begins Skip i s h = h
+  taken_begins Deeper i s h = h
+  taken_begins Shallower i s h = h
+  taken_begins Close i s h = closed_begins (record { role = s.role; from = s.from; to = i }) s h
+  taken_begins (After r) i s h = h
+  taken_begins (Next r) i s h =
+      then_holds BeginsIn BeginsIn (closed_open ts want i s) (λ (t : State). Ok (opened r i t)) (closed_begins (record { role = s.role; from = s.from; to = i }) s h) (λ t k. k)
+  taken_begins (One r) i s h = closed_begins (record { role = r; from = i; to = i + 1 }) s h
+
+  placed_begins : (next : Result Place Wrong) (s : State) → BeginsIn s → IfOk (placed next s) BeginsIn
+  placed_begins (Ok place) s h = h
+  placed_begins (Err wrong) s h = tt
+
+  followed_begins : (i : ℕ) (s : State) (o : Option Row) → BeginsIn s → IfOk (followed ts want i s o) BeginsIn
+  followed_begins i s None h = tt
+  followed_begins i s (Some r) h = then_holds BeginsIn BeginsIn (taken ts want r.act i s) (placed r.next) (taken_begins r.act i s h) (placed_begins r.next)
+
+  ended_begins : (e : End) (s : State) → BeginsIn s → IfOk (ended ts want e s) (Begins p)
+  ended_begins Never s h = tt
+  ended_begins Free s h = h
+  ended_begins Closes s h =
+      then_holds BeginsIn (Begins p) (closed_open ts want (length ts) s) (λ (t : State). Ok t.parts) (closed_begins (record { role = s.role; from = s.from; to = length ts }) s h) (λ t k. k)
+
+  -- what is read behind the first part leaves it where it is
+  pub reading_begins : (i : ℕ) (s : State) (rest : List Token) → BeginsIn s → IfOk (reading ts want i s rest) (Begins p)
+  reading_begins i s [] h = ended_begins (entry s.place).end s h
+  reading_begins i s (t ∷ rest) h =
+      then_holds BeginsIn (Begins p) (stepped ts want i t s) (λ (u : State). reading ts want (i + 1) u rest)
+      (followed_begins i s (row_for s.depth t.text (entry s.place).rows) h) (λ u k. reading_begins (i + 1) u rest k)

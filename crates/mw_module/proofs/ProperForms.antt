@@ -1,5 +1,5 @@
 -- The parts of a statement that is made of tokens are proper.
-use Rattle.std.proofs.Common.{◌≡◌, ℕ, ◌+◌, ◌-◌, ◌==◌, ◌&&◌, ◌||◌, not, if◌then◌else◌, Bool, true, false, List, [], ◌∷◌, length, take, drop, Option, Some, None, option_map, Result, Ok, Err, IfSome, IfOk, All, codes, inl, inr, refl}
+use Rattle.std.proofs.Common.{◌≡◌, ℕ, ◌+◌, ◌-◌, ◌==◌, ◌&&◌, ◌||◌, not, if◌then◌else◌, Bool, true, false, List, [], ◌∷◌, length, map, take, drop, Option, Some, None, option_map, Result, Ok, Err, IfSome, IfOk, All, codes, inl, inr, refl, sym, subst}
 use Rattle.std.specs.List.{list_all}
 use Rattle.std.specs.Str.{bytes_eq}
 use Rattle.std.proofs.lemmas.Bool.{both_ways, and_parts, or_parts, not-true, eqb-false}
@@ -7,7 +7,7 @@ use Rattle.std.proofs.lemmas.List.Elements.{All-nil, All-cons, All-head, All-tai
 use Rattle.mw_lex.specs.Bytes.{is_punctuation}
 use Rattle.mw_lex.specs.declared.token.Token.{Token}
 use Rattle.mw_lex.specs.Texts.{IsRun, IsTokenText, AreTokens}
-use Rattle.mw_text.specs.Names.{NameItem, piece, hole, pieces, name_of_tokens}
+use Rattle.mw_text.specs.Names.{NameItem, piece, hole, pieces, items_of_tokens, name_of_tokens}
 use Rattle.mw_text.specs.Proper.{IsProperName, BeginsNothing, NamesAreProper}
 use Rattle.mw_module.specs.declared.machine.Part.{Part}
 use Rattle.mw_module.specs.declared.openings.Opening.{Opening}
@@ -19,18 +19,21 @@ use Rattle.mw_module.specs.declared.table.Role.TheVariants as role
 use Rattle.mw_module.specs.declared.table.Want.TheVariants as want
 use Rattle.mw_module.specs.declared.table.Wrong.{Wrong}
 use Rattle.mw_module.specs.declared.table.Wrong.TheVariants.{Bad, Unread}
-use Rattle.mw_module.specs.declared.table.Act.TheVariants.{Skip}
+use Rattle.mw_module.specs.declared.table.Act.TheVariants.{Skip, One}
 use Rattle.mw_module.specs.declared.table.Test.TheVariants as test
 use Rattle.mw_module.specs.Words.{is, texts, count_before, is_punctuation_word, is_quoted, is_no_piece}
 use Rattle.mw_module.specs.Openings.{opening_of}
-use Rattle.mw_module.specs.OperatorNames.{items_in, is_fine, is_name}
+use Rattle.mw_module.specs.declared.kinds.Kind.{Kind}
+use Rattle.mw_module.specs.declared.operators.Asked.{Asked}
+use Rattle.mw_module.specs.Classes.{front_word, word_of, attributes_of, are_named, class_of, classed}
+use Rattle.mw_module.specs.OperatorNames.{items_in, is_fine, is_name, is_plain_name}
 use Rattle.mw_module.specs.Statements.{has_label, unlabelled, attributes_len, group_at_end}
 use Rattle.mw_module.specs.Rows.{row}
-use Rattle.mw_module.specs.Reading.{then_of, tokens_of, followed, reading, read_at, lists_of, first_token, divided, divided_at}
-use Rattle.mw_module.specs.Forms.{Import, Sorts, Operators, import_form, grouped, typed, typed_names, Profile, profile_form, declared, names_form, fragments_form, sided, left_place, conditional, stated, statement_form, form_behind, form_of}
+use Rattle.mw_module.specs.Reading.{State, then_of, tokens_of, followed, reading, read_at, lists_of, first_token, divided, divided_at}
+use Rattle.mw_module.specs.Forms.{Import, Class, Sorts, Operators, asked, executable_by, import_form, grouped, typed, typed_names, Profile, profile_form, declared, names_form, fragments_form, sided, left_place, conditional, stated, statement_form, form_behind, form_of}
 use Rattle.mw_module.specs.Conditions.{open_if, cut_at_if, unmatched, matched, fragment_of, fragments_of}
-use Rattle.mw_module.specs.Tokens.{HasProperTexts, HasProperParts}
-use Rattle.mw_module.proofs.Parts.{then_holds}
+use Rattle.mw_module.specs.Tokens.{HasProperTexts, HasTokenName, HasProperParts}
+use Rattle.mw_module.proofs.Parts.{then_holds, Begins, reading_begins}
 use Rattle.mw_module.proofs.Formed.{AreNames, names_named, formed_holds}
 
 abbrev pub IsToken : Token → Type 0
@@ -101,13 +104,15 @@ fine_pieces (piece x ∷ items) e =
     All-cons BeginsNothing x (pieces items) (fine_piece x (not-true (is_no_piece x) h.0)) (fine_pieces items h.1)
 fine_pieces (hole ∷ items) e = fine_pieces items e
 
-abbrev IsProperlyNamed : List Token → Type 0
-IsProperlyNamed name = IsProperName (name_of_tokens (texts name))
+abbrev pub IsProperlyNamed : List (List ℕ) → Type 0
+IsProperlyNamed name = IsProperName (name_of_tokens name)
 
-proper_name : NamesAreProper → (name : List Token) → AreTokens name → is_name (items_in name) ≡ true → IsProperlyNamed name
-proper_name law name all e =
-    let h = and_parts (list_all is_fine (items_in name)) _ e in
-    law (texts name) (All-map IsTokenText (λ (t : Token). t.text) name all) (fine_pieces (items_in name) h.0)
+-- a name whose pieces may stand in one
+pub words_proper : NamesAreProper → (words : List (List ℕ)) → All IsTokenText words → list_all is_fine (items_of_tokens words) ≡ true → IsProperlyNamed words
+words_proper law words all e = law words all (fine_pieces (items_of_tokens words) e)
+
+proper_name : NamesAreProper → (name : List Token) → AreTokens name → is_name (items_in name) ≡ true → IsProperlyNamed (texts name)
+proper_name law name all e = words_proper law (texts name) (All-map IsTokenText (λ (t : Token). t.text) name all) (and_parts (list_all is_fine (items_in name)) _ e).0
 
 -- the tokens of a part are tokens
 part_tokens : (ts : List Token) (p : Part) → AreTokens ts → AreTokens (tokens_of ts p)
@@ -129,25 +134,26 @@ both_hold P Q (Err wrong) h k = tt
 made : (single : Bool) (ts : List Token) → AreTokens ts → IfOk (names_form single ts) (All AreTokens)
 made single ts all = any_holds (All AreTokens) (read_at (if single then place.Name else place.Names) role.Words want.Names ts) (λ parts. Ok (lists_of ts parts)) (λ parts. lists_tokens ts parts all)
 
-proper_names : NamesAreProper → (names : List (List Token)) → AreNames names → All AreTokens names → All IsProperlyNamed names
+proper_names : NamesAreProper → (names : List (List Token)) → AreNames names → All AreTokens names → All IsProperlyNamed (map texts names)
 proper_names law [] named all = All-nil IsProperlyNamed
 proper_names law (name ∷ names) named all =
-    All-cons IsProperlyNamed name names
+    All-cons IsProperlyNamed (texts name) (map texts names)
     (proper_name law name (All-head AreTokens name names all) (All-head (λ (m : List Token). is_name (items_in m) ≡ true) name names named))
     (proper_names law names (All-tail (λ (m : List Token). is_name (items_in m) ≡ true) name names named) (All-tail AreTokens name names all))
 
-declared_proper : (names : List (List Token)) (ts : List Token) → All IsProperlyNamed names → IfOk (declared names ts) HasProperParts
-declared_proper [] ts all = tt
-declared_proper (n ∷ ns) ts all = any_holds HasProperParts (profile_form (n ∷ ns) ts) (λ (p : Profile). Ok (Operators (n ∷ ns) p.args p.value.sort p.value.attributes)) (λ p. all)
+declared_proper : (message : Bool) (names : List (List Token)) (ts : List Token) → All IsProperlyNamed (map texts names) → IfOk (declared message names ts) HasProperParts
+declared_proper message [] ts all = tt
+declared_proper message (n ∷ ns) ts all =
+    any_holds HasProperParts (profile_form message (n ∷ ns) ts) (λ (p : Profile). Ok (Operators (map texts (n ∷ ns)) p.args p.value.sort p.value.attributes)) (λ p. all)
 
-operators_proper : NamesAreProper → (single : Bool) (colon : ℕ) (ts : List Token) (b : Bool) → AreTokens ts
-    → IfOk (if b then Err Bad else then_of (names_form single (take colon ts)) (λ names. declared names (drop (colon + 1) ts))) HasProperParts
-operators_proper law single colon ts true all = tt
-operators_proper law single colon ts false all =
+operators_proper : NamesAreProper → (a : Asked) (colon : ℕ) (ts : List Token) (b : Bool) → AreTokens ts
+    → IfOk (if b then Err Bad else then_of (names_form a.single (take colon ts)) (λ names. declared a.message names (drop (colon + 1) ts))) HasProperParts
+operators_proper law a colon ts true all = tt
+operators_proper law a colon ts false all =
     let front = take colon ts in
-    then_holds (λ names. AreNames names × All AreTokens names) HasProperParts (names_form single front) (λ names. declared names (drop (colon + 1) ts))
-    (both_hold AreNames (All AreTokens) (names_form single front) (names_named single front) (made single front (All-take IsToken colon ts all)))
-    (λ names h. declared_proper names (drop (colon + 1) ts) (proper_names law names h.0 h.1))
+    then_holds (λ names. AreNames names × All AreTokens names) HasProperParts (names_form a.single front) (λ names. declared a.message names (drop (colon + 1) ts))
+    (both_hold AreNames (All AreTokens) (names_form a.single front) (names_named a.single front) (made a.single front (All-take IsToken colon ts all)))
+    (λ names h. declared_proper a.message names (drop (colon + 1) ts) (proper_names law names h.0 h.1))
 
 -- variables
 typed_proper : (names : List Token) (o : Option Token) → All IsRun (texts names) → IfOk (typed names o) HasProperParts
@@ -217,7 +223,7 @@ sided_proper : (rule : Bool) (sides : Option (List Token × List Token)) (condit
 sided_proper rule None condition said two all = tt
 sided_proper rule (Some sides) condition said two all =
     then_holds (All HasProperTexts) HasProperParts (fragments_form condition) _ (condition_proper condition all)
-    (λ fragments each. any_holds HasProperParts (read_at place.Statement role.Silent want.Nothing said) _ (λ more. (two.0, two.1, each)))
+    (λ fragments each. any_holds HasProperParts (executable_by rule said) _ (λ more. (two.0, two.1, each)))
 
 conditional_proper : (rule : Bool) (cut : Option (List Token × List Token)) (said : List Token) → IfSome cut AreHalves → IfOk (conditional rule cut said) HasProperParts
 conditional_proper rule None said two = tt
@@ -233,6 +239,54 @@ statement_proper rule with_condition ts all =
     let n = attributes_len us in
     stated_proper rule with_condition (take (length us - n) us) (group_at_end n us) (All-take IsToken (length us - n) us (unlabelled_tokens ts all))
 
+-- classes: what isn't a run isn't read as a name
+words_are_tokens : (ts : List Token) (p : Part) → AreTokens ts → is_plain_name (word_of ts p) ≡ true → IsTokenText (word_of ts p)
+words_are_tokens ts p all named = of (tokens_of ts p) (part_tokens ts p all) named
+  where
+    of : (us : List Token) → AreTokens us → is_plain_name (front_word us) ≡ true → IsTokenText (front_word us)
+    of [] tokens e = cc
+    of (u ∷ us) tokens e = All-head IsToken u us tokens
+
+attributes_tokens : (ts : List Token) (parts : List Part) → AreTokens ts → are_named (attributes_of ts parts) ≡ true → All HasTokenName (attributes_of ts parts)
+attributes_tokens ts [] all e = All-nil HasTokenName
+attributes_tokens ts (p ∷ []) all e = All-nil HasTokenName
+attributes_tokens ts (p ∷ (q ∷ ps)) all e =
+    let h = and_parts (is_plain_name (word_of ts p)) (are_named (attributes_of ts ps)) e in
+    All-cons HasTokenName (record { name = word_of ts p; sort = word_of ts q }) (attributes_of ts ps) (words_are_tokens ts p all h.0) (attributes_tokens ts ps all h.1)
+
+class_named : (name : List ℕ) (ts : List Token) (parts : List Part) → AreTokens ts → IsRun name → IfOk (class_of name (attributes_of ts parts)) HasProperParts
+class_named name ts parts all run = of (is_plain_name name && are_named (attributes_of ts parts)) refl
+  where
+    of : (b : Bool) → (is_plain_name name && are_named (attributes_of ts parts)) ≡ b → IfOk (if b then Ok (Class name (attributes_of ts parts)) else Err Bad) HasProperParts
+    of true e = (run, attributes_tokens ts parts all (and_parts (is_plain_name name) (are_named (attributes_of ts parts)) e).1)
+    of false e = tt
+
+-- the first part is the first token
+abbrev first_part : Part
+first_part = record { role = role.Words; from = 0; to = 0 + 1 }
+
+named_front : (t : Token) (rest : List Token) (parts : List Part) → AreTokens (t ∷ rest) → IsRun t.text → Begins first_part parts → IfOk (classed (t ∷ rest) parts) HasProperParts
+named_front t rest parts all run h = subst (λ ps. IfOk (classed (t ∷ rest) ps) HasProperParts) (sym h.1) (class_named t.text (t ∷ rest) h.0 all run)
+
+class_proper : (ts : List Token) → AreTokens ts → IfOk (form_behind opening.Class ts) HasProperParts
+class_proper [] all = tt
+class_proper (t ∷ rest) all = of (bytes_eq t.text (codes "{") && true) (not (is_punctuation_word t.text) && not (is_quoted t.text)) refl
+  where
+    ts : List Token
+    ts = t ∷ rest
+
+    of : (b c : Bool) → (not (is_punctuation_word t.text) && not (is_quoted t.text)) ≡ c
+        → IfOk (then_of (then_of (followed ts want.Nothing 0 (record { place = place.Class; depth = 0; role = role.Silent; from = 0; parts = [] })
+        (if b then Some (row (codes "{") test.Any Skip (Err Unread)) else if c then Some (row [] test.Run (One role.Words) (Ok place.BehindClass)) else None))
+        (λ u. reading ts want.Nothing (0 + 1) u rest)) (classed ts)) HasProperParts
+    of true c e = tt
+    of false true e =
+        let u : State = record { place = place.BehindClass; depth = 0; role = role.Silent; from = 0 + 1; parts = first_part ∷ [] } in
+        then_holds (Begins first_part) HasProperParts (reading ts want.Nothing (0 + 1) u rest) (classed ts)
+        (reading_begins ts want.Nothing first_part (0 + 1) u rest ([], refl))
+        (λ parts h. named_front t rest parts all (passed t.text e (All-head IsToken t rest all)) h)
+    of false false e = tt
+
 -- the other forms
 grouped_proper : (ts : List Token) (parts : List Part) → IfOk (grouped ts parts) HasProperParts
 grouped_proper ts [] = tt
@@ -242,13 +296,13 @@ grouped_proper ts (p ∷ (q ∷ ps)) = tt
 sorts_proper : (ts : List Token) → AreTokens ts → IfOk (form_behind opening.Sorts ts) HasProperParts
 sorts_proper [] all = tt
 sorts_proper (t ∷ ts) all =
-    then_holds (AreRuns (t ∷ ts)) HasProperParts (read_at place.Sorts role.Silent want.Nothing (t ∷ ts)) (λ parts. Ok (Sorts (t ∷ ts))) (sorts_run (t ∷ ts) (t ∷ ts) 0 0 0 role.Silent [] all) (λ parts runs. runs)
+    then_holds (AreRuns (t ∷ ts)) HasProperParts (read_at place.Sorts role.Silent want.Nothing (t ∷ ts)) (λ parts. Ok (Sorts (texts (t ∷ ts)))) (sorts_run (t ∷ ts) (t ∷ ts) 0 0 0 role.Silent [] all) (λ parts runs. runs)
 
 import_proper : (ts : List Token) → IfOk (import_form ts) HasProperParts
 import_proper [] = tt
 import_proper (t ∷ []) = of (is (codes "{") t)
   where
-    of : (b : Bool) → IfOk (if b then Err Unread else Ok (Import t)) HasProperParts
+    of : (b : Bool) → IfOk (if b then Err Unread else Ok (Import t.text)) HasProperParts
     of true = tt
     of false = tt
 import_proper (t ∷ u ∷ ts) = tt
@@ -256,18 +310,21 @@ import_proper (t ∷ u ∷ ts) = tt
 behind_proper : NamesAreProper → (o : Opening) (ts : List Token) → AreTokens ts → IfOk (form_behind o ts) HasProperParts
 behind_proper law opening.Sorts ts all = sorts_proper ts all
 behind_proper law opening.Subsorts ts all = any_holds HasProperParts (read_at place.Group role.Words want.Nothing ts) (grouped ts) (grouped_proper ts)
-behind_proper law opening.Operator ts all = operators_proper law true (count_before (codes ":") ts) ts (count_before (codes ":") ts == length ts) all
-behind_proper law opening.Operators ts all = operators_proper law false (count_before (codes ":") ts) ts (count_before (codes ":") ts == length ts) all
+behind_proper law opening.Operator ts all = operators_proper law (asked true false) (count_before (codes ":") ts) ts (count_before (codes ":") ts == length ts) all
+behind_proper law opening.Operators ts all = operators_proper law (asked false false) (count_before (codes ":") ts) ts (count_before (codes ":") ts == length ts) all
 behind_proper law opening.Variables ts all = variables_proper (count_before (codes ":") ts) ts (count_before (codes ":") ts == length ts) all
 behind_proper law opening.Equation ts all = statement_proper false false ts all
 behind_proper law opening.ConditionalEquation ts all = statement_proper false true ts all
 behind_proper law opening.Rule ts all = statement_proper true false ts all
 behind_proper law opening.ConditionalRule ts all = statement_proper true true ts all
 behind_proper law opening.Import ts all = import_proper ts
+behind_proper law opening.Class ts all = class_proper ts all
+behind_proper law opening.Message ts all = operators_proper law (asked true true) (count_before (codes ":") ts) ts (count_before (codes ":") ts == length ts) all
+behind_proper law opening.Messages ts all = operators_proper law (asked false true) (count_before (codes ":") ts) ts (count_before (codes ":") ts == length ts) all
 behind_proper law opening.Elsewhere ts all = tt
 behind_proper law opening.Unread ts all = tt
 
 -- a statement that is made of tokens has proper parts
-pub form_proper : NamesAreProper → (rules : Bool) (ts : List Token) → AreTokens ts → IfOk (form_of rules ts) HasProperParts
-form_proper law rules [] all = tt
-form_proper law rules (t ∷ rest) all = formed_holds HasProperParts (form_behind (opening_of rules t.text) rest) (behind_proper law (opening_of rules t.text) rest (All-tail IsToken t rest all))
+pub form_proper : NamesAreProper → (K : Kind) (ts : List Token) → AreTokens ts → IfOk (form_of K ts) HasProperParts
+form_proper law K [] all = tt
+form_proper law K (t ∷ rest) all = formed_holds HasProperParts (form_behind (opening_of K t.text) rest) (behind_proper law (opening_of K t.text) rest (All-tail IsToken t rest all))

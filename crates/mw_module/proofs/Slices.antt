@@ -3,7 +3,9 @@ use Rattle.std.proofs.Common.{◌≡◌, ◌∙◌, ◌≤◌, ◌-◌, min, ℕ
 use Rattle.std.proofs.lemmas.List.{take_all, drop-drop}
 use Rattle.std.proofs.lemmas.List.Folds.{list_all-map}
 use Rattle.std.specs.Borrow.{Bor}
+use Rattle.std.specs.Char.{is_ascii_digit}
 use Rattle.std.specs.List.{list_all}
+use Rattle.mw_text.specs.Numerals.{are_digits}
 use Rattle.mw_lex.specs.declared.token.Token.{Token}
 use Rattle.mw_module.specs.Words.{seen_lists}
 use Rattle.mw_module.specs.OperatorNames.{items_in, fits, all_fit}
@@ -24,7 +26,7 @@ group_read n ts group at =
     let two : n - 1 - 1 ≡ n - 2 = omega arith in
     rw (at, drop-drop, two) refl
 
-drop_within : {A : Type 0} (n : ℕ) (xs : List A) → drop (min n (length xs)) xs ≡ drop n xs
+pub drop_within : {A : Type 0} (n : ℕ) (xs : List A) → drop (min n (length xs)) xs ≡ drop n xs
 drop_within zero xs = let e : min 0 (length xs) ≡ 0 = omega arith in rw e refl
 drop_within (suc n) [] = let e : min (suc n) 0 ≡ 0 = omega arith in rw e refl
 drop_within (suc n) (x ∷ xs) = let e : min (suc n) (length (x ∷ xs)) ≡ suc (min n (length xs)) = omega arith in rw e (drop_within n xs)
@@ -37,6 +39,11 @@ take_within (suc n) (x ∷ xs) = let e : min (suc n) (length (x ∷ xs)) ≡ suc
 -- the tokens of a part
 pub part_read : (from to : ℕ) (ts : List Token) → take (min (to - from) (length (drop (min from (length ts)) ts))) (drop (min from (length ts)) ts) ≡ take (to - from) (drop from ts)
 part_read from to ts = take_within (to - from) (drop (min from (length ts)) ts) ∙ ap (take (to - from)) (drop_within from ts)
+
+-- digits, byte by byte
+pub some_digits : (text : List ℕ) → 1 ≤ length text → are_digits text ≡ list_all is_ascii_digit text
+some_digits [] some = absurd (omega arith)
+some_digits (b ∷ bs) some = refl
 
 -- names in slices
 pub all_fitting : (arity : ℕ) (names : List (Bor (List Token))) → all_fit arity (seen_lists names) ≡ list_all (λ name. fits arity (items_in name.now)) names

@@ -17,7 +17,7 @@ use Rattle.mw_module.proofs.Bodies.{cut_before}
 use Rattle.mw_module.proofs.Formed.{form_known}
 use Rattle.mw_module.proofs.ProperForms.{IsToken, form_proper}
 
-module _ (Q : Token → Type 0) (P : Shape → Type 0) (formed : (rules : Bool) (ts : List Token) → All Q ts → IfOk (form_of rules ts) P) where
+module _ (Q : Token → Type 0) (P : Shape → Type 0) (formed : (K : Kind) (ts : List Token) → All Q ts → IfOk (form_of K ts) P) where
   abbrev IsSo : SeenLined → Type 0
   IsSo s = P s.shape
 
@@ -55,34 +55,35 @@ module _ (Q : Token → Type 0) (P : Shape → Type 0) (formed : (rules : Bool) 
   one_before line (Ok shape) (Err fault) one all = tt
   one_before line (Err kind) others one all = tt
 
-  all_before : (rules : Bool) (ss : List Statement) (others : Body) → All Has ss → AreSo others → AreSo (statements_before rules ss others)
-  all_before rules [] others these all = all
-  all_before rules (s ∷ ss) others these all =
-      one_before s.line (form_of rules s.tokens) (statements_before rules ss others) (formed rules s.tokens (All-head Has s ss these)) (all_before rules ss others (All-tail Has s ss these) all)
+  all_before : (K : Kind) (ss : List Statement) (others : Body) → All Has ss → AreSo others → AreSo (statements_before K ss others)
+  all_before K [] others these all = all
+  all_before K (s ∷ ss) others these all =
+      one_before s.line (form_of K s.tokens) (statements_before K ss others) (formed K s.tokens (All-head Has s ss these)) (all_before K ss others (All-tail Has s ss these) all)
 
   -- what is left makes no statement
-  none_left : (rules : Bool) (left : List Token) → AreSo (left_of rules left)
-  none_left rules [] = All-nil IsSo
-  none_left rules (t ∷ rest) = tt
+  none_left : (K : Kind) (left : List Token) → AreSo (left_of K left)
+  none_left K [] = All-nil IsSo
+  none_left K (t ∷ rest) = tt
 
-  body_so : (rules : Bool) (ts : List Token) → All Q ts → AreSo (body_of rules ts)
-  body_so rules ts all = all_before rules (cut ts).statements (left_of rules (cut ts).left) (statements_cut ts all) (none_left rules (cut ts).left)
+  body_so : (K : Kind) (ts : List Token) → All Q ts → AreSo (body_of K ts)
+  body_so K ts all = all_before K (cut ts).statements (left_of K (cut ts).left) (statements_cut ts all) (none_left K (cut ts).left)
 
   with_so : (ts : List Token) (first name : Token) (b : Body) → All Q ts → AreSo b → AreIn (module_with ts first name b)
   with_so ts first name (Ok statements) all so = (so, all)
   with_so ts first name (Err fault) all so = tt
 
-  named_so : (rules : Bool) (ts : List Token) (first name : Token) (behind : List Token) (o : Option FaultKind) → All Q ts → All Q behind → AreIn (module_named rules ts first name behind o)
-  named_so rules ts first name behind None whole all = with_so ts first name (body_of rules (drop 1 behind)) whole (body_so rules (drop 1 behind) (All-drop Q 1 behind all))
-  named_so rules ts first name behind (Some kind) whole all = tt
+  named_so : (K : Kind) (ts : List Token) (first name : Token) (behind : List Token) (o : Option FaultKind) → All Q ts → All Q behind → AreIn (module_named K ts first name behind o)
+  named_so K ts first name behind None whole all = with_so ts first name (body_of K (drop 1 behind)) whole (body_so K (drop 1 behind) (All-drop Q 1 behind all))
+  named_so K ts first name behind (Some kind) whole all = tt
 
-  module_so : (rules : Bool) (ts : List Token) (first : Token) (behind : List Token) → All Q ts → All Q behind → AreIn (module_behind rules ts first behind)
-  module_so rules ts first [] whole all = tt
-  module_so rules ts first (name ∷ behind) whole all = named_so rules ts first name behind (head_fault name behind) whole (All-tail Q name behind all)
+  module_so : (K : Kind) (ts : List Token) (first : Token) (behind : List Token) → All Q ts → All Q behind → AreIn (module_behind K ts first behind)
+  module_so K ts first [] whole all = tt
+  module_so K ts first (name ∷ behind) whole all = named_so K ts first name behind (head_fault name behind) whole (All-tail Q name behind all)
 
   unit_so : (k : Kind) (first : Token) (ts : List Token) → All Q ts → AreIn (unit_with k first ts)
-  unit_so kind.Functional first ts all = module_so false ts first (drop 1 ts) all (All-drop Q 1 ts all)
-  unit_so kind.System first ts all = module_so true ts first (drop 1 ts) all (All-drop Q 1 ts all)
+  unit_so kind.Functional first ts all = module_so kind.Functional ts first (drop 1 ts) all (All-drop Q 1 ts all)
+  unit_so kind.System first ts all = module_so kind.System ts first (drop 1 ts) all (All-drop Q 1 ts all)
+  unit_so kind.Object first ts all = module_so kind.Object ts first (drop 1 ts) all (All-drop Q 1 ts all)
   unit_so kind.Proof first ts all = (All-nil IsSo, all)
   unit_so kind.Command first ts all = (All-nil IsSo, all)
   unit_so _ first ts all = tt
@@ -122,4 +123,4 @@ any [] = All-nil IsAny
 any (t ∷ ts) = All-cons IsAny t ts tt (any ts)
 
 pub units_are_known : UnitsAreKnown
-units_are_known proofs tokens at next u reads = (units_so IsAny IsKnown (λ rules ts all. form_known rules ts) proofs tokens at next u (any tokens) reads).0
+units_are_known proofs tokens at next u reads = (units_so IsAny IsKnown (λ K ts all. form_known K ts) proofs tokens at next u (any tokens) reads).0

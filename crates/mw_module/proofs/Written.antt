@@ -1,5 +1,5 @@
 -- How declarations of operators are written.
-use Rattle.std.proofs.Common.{◌≡◌, ◌∙◌, ◌⊎◌, inl, inr, ◌+◌, ◌==◌, ◌||◌, not, nat_lt, min, if◌then◌else◌, cond, ℕ, suc, Bool, true, false, List, [], ◌∷◌, ◌++◌, length, take, drop, Result, Ok, Err, codes, refl, ap, subst, arith}
+use Rattle.std.proofs.Common.{◌≡◌, ◌∙◌, ◌⊎◌, inl, inr, ◌+◌, ◌==◌, ◌||◌, not, nat_lt, min, if◌then◌else◌, cond, ℕ, suc, Bool, true, false, List, [], ◌∷◌, ◌++◌, length, map, take, drop, Result, Ok, Err, codes, refl, ap, subst, arith}
 use Rattle.std.proofs.lemmas.Bool.{eqb-false, ne_eqb, ltb-true, ltb-false}
 use Rattle.std.proofs.lemmas.Slice.Eq.{bytes_eq-Decides}
 use Rattle.mw_lex.specs.declared.token.Token.{Token}
@@ -12,8 +12,8 @@ use Rattle.mw_module.specs.Attributes.{Attributes}
 use Rattle.mw_module.specs.OperatorNames.{all_fit}
 use Rattle.mw_module.specs.Sortings.{WrittenSort, sortings_of}
 use Rattle.mw_module.specs.Reading.{then_of, read_at}
-use Rattle.mw_module.specs.Words.{is, count_before}
-use Rattle.mw_module.specs.Forms.{Operators, Value, value_form, Profile, profiled, profile_form, declared, names_form}
+use Rattle.mw_module.specs.Words.{is, texts, count_before}
+use Rattle.mw_module.specs.Forms.{Operators, Value, value_form, Profile, fits_message, profiled, profile_form, declared, names_form}
 use Rattle.mw_module.specs.Written.{OperatorsAreWritten}
 
 -- tokens round one with this text
@@ -67,46 +67,49 @@ arrow_there true b e = cc
 arrow_there false b e = refl
 
 -- there is an arrow where a profile is read
-profile_cut : (names : List (List Token)) (ts : List Token) (p : Profile) → profile_form names ts ≡ Ok p → (min (count_before (codes "->") ts) (count_before (codes "~>") ts) == length ts) ≡ false
-profile_cut names ts p e =
+profile_cut : (message : Bool) (names : List (List Token)) (ts : List Token) (p : Profile) → profile_form message names ts ≡ Ok p → (min (count_before (codes "->") ts) (count_before (codes "~>") ts) == length ts) ≡ false
+profile_cut message names ts p e =
     let arrow = min (count_before (codes "->") ts) (count_before (codes "~>") ts) in
     let kinds = nat_lt (count_before (codes "~>") ts) (count_before (codes "->") ts) in
     let s = then_parts (read_at place.Args role.Silent want.Nothing (take arrow ts))
-    (λ parts. profiled kinds names (sortings_of kinds (take arrow ts) parts) (not (arrow == length ts)) (drop (arrow + 1) ts)) p e in
+    (λ parts. profiled message kinds names (sortings_of kinds (take arrow ts) parts) (not (arrow == length ts)) (drop (arrow + 1) ts)) p e in
     let args = sortings_of kinds (take arrow ts) s.0 in
     let f = if_parts (not (not (arrow == length ts)) || not (all_fit (length args) names))
-    (then_of (value_form kinds (length args) (drop (arrow + 1) ts)) (λ (v : Value). Ok (record { args = args; value = v }))) p s.1.1 in
+    (if not (fits_message message (drop (arrow + 1) ts)) then Err Bad
+    else then_of (value_form kinds (length args) (drop (arrow + 1) ts)) (λ (v : Value). Ok (record { args = args; value = v }))) p s.1.1 in
     arrow_there (arrow == length ts) (not (all_fit (length args) names)) f.0
 
 -- the names of a declaration, and what stands behind them
-declared_parts : (ns names : List (List Token)) (ts : List Token) (args : List WrittenSort) (value : WrittenSort) (said : Attributes) → declared ns ts ≡ Ok (Operators names args value said)
-    → (ns ≡ names) × ((p : Profile) × (profile_form ns ts ≡ Ok p))
-declared_parts [] names ts args value said e = cc
-declared_parts (n ∷ ns) names ts args value said e =
-    let s = then_parts (profile_form (n ∷ ns) ts) (λ (p : Profile). Ok (Operators (n ∷ ns) p.args p.value.sort p.value.attributes)) (Operators names args value said) e in
+declared_parts : (message : Bool) (ns : List (List Token)) (words : List (List (List ℕ))) (ts : List Token) (args : List WrittenSort) (value : WrittenSort) (said : Attributes)
+    → declared message ns ts ≡ Ok (Operators words args value said) → (words ≡ map texts ns) × ((p : Profile) × (profile_form message ns ts ≡ Ok p))
+declared_parts message [] words ts args value said e = cc
+declared_parts message (n ∷ ns) words ts args value said e =
+    let s = then_parts (profile_form message (n ∷ ns) ts) (λ (p : Profile). Ok (Operators (map texts (n ∷ ns)) p.args p.value.sort p.value.attributes)) (Operators words args value said) e in
     (cc, (s.0, s.1.0))
 
 behind_colon : (ts front : List Token) (c : Token) (rest more : List Token) → ts ≡ front ++ c ∷ rest → rest ≡ more → ts ≡ front ++ c ∷ more
 behind_colon ts front c rest more e f = e ∙ ap (λ us. front ++ c ∷ us) f
 
 pub operators_are_written : OperatorsAreWritten
-operators_are_written single ts names args value said e =
+operators_are_written a ts words args value said e =
     let colon = count_before (codes ":") ts in
-    let f = if_parts (colon == length ts) (then_of (names_form single (take colon ts)) (λ ns. declared ns (drop (colon + 1) ts))) (Operators names args value said) e in
-    let s = then_parts (names_form single (take colon ts)) (λ ns. declared ns (drop (colon + 1) ts)) (Operators names args value said) f.1 in
-    let d = declared_parts s.0 names (drop (colon + 1) ts) args value said s.1.1 in
+    let f = if_parts (colon == length ts) (then_of (names_form a.single (take colon ts)) (λ ns. declared a.message ns (drop (colon + 1) ts))) (Operators words args value said) e in
+    let s = then_parts (names_form a.single (take colon ts)) (λ ns. declared a.message ns (drop (colon + 1) ts)) (Operators words args value said) f.1 in
+    let d = declared_parts a.message s.0 words (drop (colon + 1) ts) args value said s.1.1 in
     let c = cut_at (codes ":") ts f.0 in
     let rest = drop (colon + 1) ts in
-    let a = arrow_at rest (profile_cut s.0 rest d.1.0 d.1.1) in
+    let r = arrow_at rest (profile_cut a.message s.0 rest d.1.0 d.1.1) in
     let arrow = min (count_before (codes "->") rest) (count_before (codes "~>") rest) in
     record {
+      names = s.0;
+      are = d.0;
       front = take colon ts;
       colon = c.0;
       middle = take arrow rest;
-      arrow = a.0;
+      arrow = r.0;
       behind = drop (arrow + 1) rest;
-      tokens = behind_colon ts (take colon ts) c.0 rest (take arrow rest ++ a.0 ∷ drop (arrow + 1) rest) c.1.0 a.1.0;
+      tokens = behind_colon ts (take colon ts) c.0 rest (take arrow rest ++ r.0 ∷ drop (arrow + 1) rest) c.1.0 r.1.0;
       is_colon = c.1.1;
-      is_arrow = a.1.1;
-      named = s.1.0 ∙ ap Ok d.0;
+      is_arrow = r.1.1;
+      named = s.1.0;
     }

@@ -1,6 +1,5 @@
 -- The attributes of operators.
-use Rattle.std.specs.Prelude.{ℕ, Bool, true, false, List, [], ◌∷◌, ◌+◌, ◌-◌, ◌*◌, ◌==◌, ◌&&◌, ◌||◌, not, nat_lt, nat_eq, Option, None, Some, is_some, option_map, if◌then◌else◌, codes}
-use Rattle.std.specs.Borrow.{Bor}
+use Rattle.std.specs.Prelude.{ℕ, Bool, true, false, List, [], ◌∷◌, ◌++◌, ◌+◌, ◌-◌, ◌*◌, ◌==◌, ◌&&◌, ◌||◌, not, nat_lt, nat_eq, Option, None, Some, is_some, take, if◌then◌else◌, codes}
 use Rattle.std.specs.Char.{is_ascii_digit}
 use Rattle.std.specs.Option.{option_or}
 use Rattle.std.specs.Str.{bytes_eq}
@@ -9,35 +8,50 @@ use Rattle.mw_module.specs.declared.attribute.Attributes.{Attributes as HeldAttr
 use Rattle.mw_module.specs.declared.table.Role.{Role}
 use Rattle.mw_module.specs.declared.table.Role.TheVariants as role
 use Rattle.mw_text.specs.Names.{NameItem, piece, hole, items_of}
-use Rattle.mw_module.specs.Words.{is, texts}
+use Rattle.mw_module.specs.Words.{is, texts, first_text, count_before}
 
 -- what the attributes of an operator say
 pub record Attributes : Type 0 where
   pub assoc : Bool
   pub comm : Bool
-  -- the text of the token that names the identity
+  -- the word that names the identity
   pub identity : Option (List ℕ)
   pub precedence : Option ℕ
-  -- the texts of the marks
+  -- the marks
   pub gather : Option (List (List ℕ))
   pub config : Bool
+  -- all arguments are frozen; and the numbers of frozen ones, as they are written
+  pub all_frozen : Bool
+  pub frozen : List (List ℕ)
   -- two different identities, precedences or gathers
   pub clash : Bool
 
--- the texts of a gather's marks
-abbrev pub gather_of : Option (Bor (List Token)) → Option (List (List ℕ))
-gather_of gather = option_map (λ marks. texts marks.now) gather
-
--- the text of an identity's token
-abbrev pub identity_of : Option (Bor Token) → Option (List ℕ)
-identity_of identity = option_map (λ (t : Bor Token). t.now.text) identity
-
 -- attributes as their readers see them
 abbrev pub seen_attributes : HeldAttributes → Attributes
-seen_attributes a = record { assoc = a.assoc; comm = a.comm; identity = identity_of a.identity; precedence = a.precedence; gather = gather_of a.gather; config = a.config; clash = a.clash }
+seen_attributes a = record {
+  assoc = a.assoc;
+  comm = a.comm;
+  identity = a.identity;
+  precedence = a.precedence;
+  gather = a.gather;
+  config = a.config;
+  all_frozen = a.all_frozen;
+  frozen = a.frozen.items;
+  clash = a.clash;
+}
 
 abbrev pub no_attributes : Attributes
-no_attributes = record { assoc = false; comm = false; identity = None; precedence = None; gather = None; config = false; clash = false }
+no_attributes = record {
+  assoc = false;
+  comm = false;
+  identity = None;
+  precedence = None;
+  gather = None;
+  config = false;
+  all_frozen = false;
+  frozen = [];
+  clash = false;
+}
 
 -- both have a value, and the two aren't the same
 abbrev pub differ : {A : Type 0} → (A → A → Bool) → Option A → Option A → Bool
@@ -71,6 +85,17 @@ same_name x y = same_items (items_of x) (items_of y)
 abbrev pub disagree : Attributes → Attributes → Bool
 disagree a b = differ same_name a.identity b.identity || (differ nat_eq a.precedence b.precedence || differ same_texts a.gather b.gather)
 
+-- what the first says, with what both say of yes and no, and of precedences
+abbrev pub joined_plainly : Attributes → Attributes → Attributes
+joined_plainly a b = record a {
+  assoc = a.assoc || b.assoc;
+  comm = a.comm || b.comm;
+  precedence = option_or a.precedence b.precedence;
+  config = a.config || b.config;
+  all_frozen = a.all_frozen || b.all_frozen;
+  clash = a.clash || b.clash || disagree a b;
+}
+
 -- what both say; they clash where one of them does, or where they differ
 abbrev pub joined : Attributes → Attributes → Attributes
 joined a b = record {
@@ -80,6 +105,8 @@ joined a b = record {
   precedence = option_or a.precedence b.precedence;
   gather = option_or a.gather b.gather;
   config = a.config || b.config;
+  all_frozen = a.all_frozen || b.all_frozen;
+  frozen = a.frozen ++ b.frozen;
   clash = a.clash || b.clash || disagree a b;
 }
 
@@ -108,20 +135,23 @@ abbrev pub precedence_in : List Token → Option ℕ
 precedence_in [] = None
 precedence_in (t ∷ rest) = precedence_of t.text
 
--- the text of the first token
-abbrev pub first_text : List Token → Option (List ℕ)
-first_text [] = None
-first_text (t ∷ rest) = Some t.text
+-- what stands behind the word `frozen` says which arguments: numbers in parentheses; or nothing, and then it is all
+abbrev pub frozen_by : List Token → Attributes
+frozen_by [] = record no_attributes { all_frozen = true }
+frozen_by (t ∷ rest) = if is (codes "(") t then record no_attributes { frozen = texts (take (count_before (codes ")") rest) rest) }
+    else record no_attributes { all_frozen = true }
 
--- what the tokens of one attribute say
-abbrev pub said_as : Role → List Token → Attributes
-said_as role.Assoc ts = record no_attributes { assoc = true }
-said_as role.Comm ts = record no_attributes { comm = true }
-said_as role.Identity ts = record no_attributes { identity = first_text ts }
-said_as role.Config ts = record no_attributes { config = true }
-said_as role.Precedence ts = record no_attributes { precedence = precedence_in ts }
-said_as role.Gather ts = record no_attributes { gather = Some (texts ts) }
-said_as role.Words ts = no_attributes
-said_as (role.Sort kind) ts = no_attributes
-said_as role.Silent ts = no_attributes
-said_as role.Nonexec ts = no_attributes
+-- what the tokens of one attribute say, with those behind them
+abbrev pub said_as : Role → List Token → List Token → Attributes
+said_as role.Assoc ts behind = record no_attributes { assoc = true }
+said_as role.Comm ts behind = record no_attributes { comm = true }
+said_as role.Identity ts behind = record no_attributes { identity = first_text ts }
+said_as role.Config ts behind = record no_attributes { config = true }
+said_as role.Precedence ts behind = record no_attributes { precedence = precedence_in ts }
+said_as role.Gather ts behind = record no_attributes { gather = Some (texts ts) }
+said_as role.Words ts behind = no_attributes
+said_as (role.Sort kind) ts behind = no_attributes
+said_as role.Silent ts behind = no_attributes
+said_as role.Nonexec ts behind = no_attributes
+said_as role.Frozen ts behind = frozen_by behind
+said_as role.Owise ts behind = no_attributes

@@ -1,4 +1,5 @@
 -- Units of a source.
+pub mod Held
 pub mod Words
 pub mod Causes
 pub mod Openings
@@ -10,6 +11,8 @@ pub mod Parts
 pub mod Sortings
 pub mod Statements
 pub mod Conditions
+pub mod Shapes
+pub mod Classes
 pub mod Forms
 pub mod Kinds
 pub mod Units

@@ -2,7 +2,7 @@
 use Rattle.std.specs.Prelude.{ℕ, Bool, true, false, List, ◌==◌, ◌&&◌, ◌||◌, not, nat_le}
 use Rattle.std.specs.List.{list_any, list_all}
 use Rattle.mw_lex.specs.declared.token.Token.{Token}
-use Rattle.mw_text.specs.Names.{NameItem, piece, hole, items_of_tokens, count_holes}
+use Rattle.mw_text.specs.Names.{NameItem, piece, hole, items_of, items_of_tokens, count_holes}
 use Rattle.mw_module.specs.Words.{texts, is_no_piece}
 
 -- the pieces and holes of a name
@@ -21,6 +21,10 @@ is_fine hole = true
 -- a name has one piece or two holes, at least, and its pieces are such as may stand in a name
 abbrev pub is_name : List NameItem → Bool
 is_name items = list_all is_fine items && (list_any is_piece items || nat_le 2 (count_holes items))
+
+-- a text is a name without holes
+abbrev pub is_plain_name : List ℕ → Bool
+is_plain_name text = is_name (items_of text) && count_holes (items_of text) == 0
 
 -- a name with holes has one for each argument
 abbrev pub fits : ℕ → List NameItem → Bool

@@ -22,6 +22,7 @@ use Rattle.mw_module.specs.declared.table.Wrong.{Wrong}
 use Rattle.mw_module.specs.declared.table.Wrong.TheVariants.{Bad, Unread}
 use Rattle.mw_module.specs.declared.table.End.{End}
 use Rattle.mw_module.specs.declared.table.End.TheVariants.{Never, Free, Closes}
+use Rattle.mw_text.specs.Numerals.{are_digits}
 use Rattle.mw_module.specs.Attributes.{is_mark, is_precedence}
 use Rattle.mw_module.specs.OperatorNames.{items_in, is_name}
 use Rattle.mw_module.specs.Rows.{Row, entry}
@@ -65,6 +66,7 @@ passes test.Plain depth text = not (is_punctuation_word text)
 passes test.Run depth text = not (is_punctuation_word text) && not (is_quoted text)
 passes test.Precedence depth text = is_precedence text
 passes test.Text depth text = is_whole_string text
+passes test.Digits depth text = are_digits text
 
 -- a token with this text meets the row
 abbrev pub meets : ℕ → List ℕ → Row → Bool
@@ -85,7 +87,23 @@ is_gather role.Precedence = false
 is_gather role.Assoc = false
 is_gather role.Comm = false
 is_gather role.Identity = false
+is_gather role.Frozen = false
 is_gather role.Nonexec = false
+is_gather role.Owise = false
+
+abbrev pub is_owise_role : Role → Bool
+is_owise_role role.Owise = true
+is_owise_role role.Words = false
+is_owise_role (role.Sort kind) = false
+is_owise_role role.Silent = false
+is_owise_role role.Config = false
+is_owise_role role.Precedence = false
+is_owise_role role.Assoc = false
+is_owise_role role.Comm = false
+is_owise_role role.Identity = false
+is_owise_role role.Gather = false
+is_owise_role role.Frozen = false
+is_owise_role role.Nonexec = false
 
 -- a mark for each argument, and one at least
 abbrev pub has_marks : ℕ → List Token → Bool

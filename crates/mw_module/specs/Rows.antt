@@ -40,6 +40,29 @@ seen_entry e = record { end = e.end; rows = map seen_row e.rows.now }
 abbrev pub at : End → List Row → Entry
 at end rows = record { end = end; rows = rows }
 
+-- how a list of attributes goes on
+abbrev pub attribute_rows : List Row
+attribute_rows = row (codes "]") test.Any Skip (Ok place.Whole)
+    ∷ row (codes "assoc") test.Any (One role.Assoc) (Ok place.Attribute)
+    ∷ row (codes "comm") test.Any (One role.Comm) (Ok place.Attribute)
+    ∷ row (codes "id:") test.Any Skip (Ok place.Identity)
+    ∷ row (codes "ctor") test.Any (One role.Silent) (Ok place.Attribute)
+    ∷ row (codes "ditto") test.Any (One role.Silent) (Ok place.Attribute)
+    ∷ row (codes "memo") test.Any (One role.Silent) (Ok place.Attribute)
+    ∷ row (codes "object") test.Any (One role.Silent) (Ok place.Attribute)
+    ∷ row (codes "message") test.Any (One role.Silent) (Ok place.Attribute)
+    ∷ row (codes "frozen") test.Any (One role.Frozen) (Ok place.Frozen)
+    ∷ row (codes "config") test.Any (One role.Config) (Ok place.Attribute)
+    ∷ row (codes "prec") test.Any Skip (Ok place.Precedence)
+    ∷ row (codes "gather") test.Any Skip (Ok place.Gather)
+    ∷ row (codes "format") test.Any (One role.Silent) (Ok place.Format)
+    ∷ row (codes "metadata") test.Any (One role.Silent) (Ok place.Metadata)
+    ∷ row [] test.Any Skip (Err Unread) ∷ []
+
+-- what may stand behind the word `frozen`: numbers in parentheses, or, as behind any attribute, what goes on with the list
+abbrev pub behind_frozen : List Row
+behind_frozen = row (codes "(") test.Any Skip (Ok place.Number) ∷ attribute_rows
+
 abbrev pub entry : Place → Entry
 entry place.Sorts = at end.Free (row (codes "{") test.Any Skip (Err Unread)
     ∷ row [] test.Run Skip (Ok place.Sorts) ∷ [])
@@ -76,21 +99,21 @@ entry place.ValueKindEnd = at end.Never (row (codes "]") test.Any Skip (Ok place
     ∷ row (codes "{") test.Any Skip (Err Unread) ∷ [])
 entry place.Behind = at end.Free (row (codes "[") test.Any (One role.Silent) (Ok place.Attribute)
     ∷ row (codes "{") test.Any Skip (Err Unread) ∷ [])
-entry place.Attribute = at end.Never (row (codes "]") test.Any Skip (Ok place.Whole)
-    ∷ row (codes "assoc") test.Any (One role.Assoc) (Ok place.Attribute)
-    ∷ row (codes "comm") test.Any (One role.Comm) (Ok place.Attribute)
-    ∷ row (codes "id:") test.Any Skip (Ok place.Identity)
-    ∷ row (codes "ctor") test.Any (One role.Silent) (Ok place.Attribute)
-    ∷ row (codes "ditto") test.Any (One role.Silent) (Ok place.Attribute)
-    ∷ row (codes "memo") test.Any (One role.Silent) (Ok place.Attribute)
-    ∷ row (codes "object") test.Any (One role.Silent) (Ok place.Attribute)
-    ∷ row (codes "message") test.Any (One role.Silent) (Ok place.Attribute)
-    ∷ row (codes "config") test.Any (One role.Config) (Ok place.Attribute)
-    ∷ row (codes "prec") test.Any Skip (Ok place.Precedence)
-    ∷ row (codes "gather") test.Any Skip (Ok place.Gather)
-    ∷ row (codes "format") test.Any (One role.Silent) (Ok place.Format)
-    ∷ row (codes "metadata") test.Any (One role.Silent) (Ok place.Metadata)
-    ∷ row [] test.Any Skip (Err Unread) ∷ [])
+entry place.Attribute = at end.Never attribute_rows
+entry place.Frozen = at end.Never behind_frozen
+entry place.Number = at end.Never (row [] test.Digits Skip (Ok place.Numbers) ∷ [])
+entry place.Numbers = at end.Never (row (codes ")") test.Any Skip (Ok place.Attribute)
+    ∷ row [] test.Digits Skip (Ok place.Numbers) ∷ [])
+entry place.Class = at end.Never (row (codes "{") test.Any Skip (Err Unread)
+    ∷ row [] test.Run (One role.Words) (Ok place.BehindClass) ∷ [])
+entry place.BehindClass = at end.Free (row (codes "|") test.Any Skip (Ok place.ClassAttribute)
+    ∷ row (codes "{") test.Any Skip (Err Unread) ∷ [])
+entry place.ClassAttribute = at end.Never (row [] test.Any (One role.Words) (Ok place.ClassColon) ∷ [])
+entry place.ClassColon = at end.Never (row (codes ":") test.Any Skip (Ok place.ClassSort) ∷ [])
+entry place.ClassSort = at end.Never (row (codes "{") test.Any Skip (Err Unread)
+    ∷ row [] test.Run (One role.Words) (Ok place.BehindClassSort) ∷ [])
+entry place.BehindClassSort = at end.Free (row (codes ",") test.Any Skip (Ok place.ClassAttribute)
+    ∷ row (codes "{") test.Any Skip (Err Unread) ∷ [])
 entry place.Identity = at end.Never (row [] test.Any (One role.Identity) (Ok place.Attribute) ∷ [])
 entry place.Precedence = at end.Never (row [] test.Precedence (One role.Precedence) (Ok place.Attribute) ∷ [])
 entry place.Gather = at end.Never (row (codes "(") test.Any (After role.Gather) (Ok place.Marks) ∷ [])
@@ -143,6 +166,7 @@ entry place.Condition = at end.Closes (row (codes "/\\") test.Outside (Next role
     ∷ row (codes "fi") test.Any Shallower (Ok place.Condition)
     ∷ row [] test.Any Skip (Ok place.Condition) ∷ [])
 entry place.Statement = at end.Free (row (codes "nonexec") test.Any (One role.Nonexec) (Ok place.Statement)
+    ∷ row (codes "owise") test.Any (One role.Owise) (Ok place.Statement)
     ∷ row (codes "label") test.Any Skip (Ok place.Label)
     ∷ row (codes "metadata") test.Any Skip (Ok place.Text)
     ∷ row [] test.Any Skip (Err Unread) ∷ [])

@@ -1,5 +1,5 @@
 -- The sorts of operators' arguments and values.
-use Rattle.std.specs.Prelude.{Bool, List, [], ◌∷◌, ◌++◌, ◌||◌, map, Option, None, Some}
+use Rattle.std.specs.Prelude.{ℕ, Bool, List, [], ◌∷◌, ◌++◌, ◌||◌, map, Option, None, Some}
 use Rattle.mw_lex.specs.declared.token.Token.{Token}
 use Rattle.mw_module.specs.declared.machine.Part.{Part}
 use Rattle.mw_module.specs.declared.sortings.WrittenSort.{WrittenSort as HeldSorting}
@@ -9,12 +9,12 @@ use Rattle.mw_module.specs.Reading.{tokens_of, front}
 
 -- a sort as it is written in a declaration: its name, and whether its kind is meant
 pub record WrittenSort : Type 0 where
-  pub name : Token
+  pub name : List ℕ
   pub kind : Bool
 
 -- a sort as its readers see it
 abbrev pub seen_sorting : HeldSorting → WrittenSort
-seen_sorting s = record { name = s.name.now; kind = s.kind }
+seen_sorting s = record { name = s.name; kind = s.kind }
 
 abbrev pub seen_optional : Option HeldSorting → List WrittenSort
 seen_optional None = []
@@ -26,7 +26,7 @@ seen_sortings = map seen_sorting
 
 abbrev pub sorting_with : Bool → Option Token → List WrittenSort
 sorting_with kind None = []
-sorting_with kind (Some t) = record { name = t; kind = kind } ∷ []
+sorting_with kind (Some t) = record { name = t.text; kind = kind } ∷ []
 
 -- the sort that a part of this role is, where `kinds` says that all kinds are meant
 abbrev pub sorting_as : Bool → Role → Option Token → List WrittenSort
@@ -39,7 +39,9 @@ sorting_as kinds role.Gather name = []
 sorting_as kinds role.Assoc name = []
 sorting_as kinds role.Comm name = []
 sorting_as kinds role.Identity name = []
+sorting_as kinds role.Frozen name = []
 sorting_as kinds role.Nonexec name = []
+sorting_as kinds role.Owise name = []
 
 abbrev pub sorting_of : Bool → List Token → Part → List WrittenSort
 sorting_of kinds ts p = sorting_as kinds p.role (front (tokens_of ts p))

@@ -100,23 +100,23 @@ abbrev pub with_statement : ℕ → Formed → Body → Body
 with_statement line (Ok shape) others = with_statements (record { line = line; shape = shape } ∷ []) others
 with_statement line (Err kind) others = Err (record { line = line; kind = kind })
 
--- in a module in which rules may stand, or may not
-abbrev pub statements_before : Bool → List Statement → Body → Body
-statements_before rules [] others = others
-statements_before rules (s ∷ ss) others = with_statement s.line (form_of rules s.tokens) (statements_before rules ss others)
+-- in a module of this kind
+abbrev pub statements_before : Kind → List Statement → Body → Body
+statements_before k [] others = others
+statements_before k (s ∷ ss) others = with_statement s.line (form_of k s.tokens) (statements_before k ss others)
 
 -- what is wrong with a statement of this form that no full stop ends: what else is wrong comes first
 abbrev pub kind_unended : Formed → FaultKind
 kind_unended (Ok shape) = BadStatement
 kind_unended (Err kind) = kind
 
-abbrev pub left_of : Bool → List Token → Body
-left_of rules [] = Ok []
-left_of rules (t ∷ rest) = Err (record { line = t.line; kind = kind_unended (form_of rules (t ∷ rest)) })
+abbrev pub left_of : Kind → List Token → Body
+left_of k [] = Ok []
+left_of k (t ∷ rest) = Err (record { line = t.line; kind = kind_unended (form_of k (t ∷ rest)) })
 
 -- a body: its statements one after the other
-abbrev pub body_of : Bool → List Token → Body
-body_of rules ts = statements_before rules (cut ts).statements (left_of rules (cut ts).left)
+abbrev pub body_of : Kind → List Token → Body
+body_of k ts = statements_before k (cut ts).statements (left_of k (cut ts).left)
 
 -- a brace stands before the first `is`
 abbrev pub has_brace : List Token → Bool
@@ -143,20 +143,20 @@ module_with ts first name (Ok statements) = Ok (record { line = first.line; word
 module_with ts first name (Err fault) = Err fault
 
 -- a module with a name, where nothing is wrong with it and `is`
-abbrev pub module_named : Bool → List Token → Token → Token → List Token → Option FaultKind → Outcome
-module_named rules ts first name behind None = module_with ts first name (body_of rules (drop 1 behind))
-module_named rules ts first name behind (Some kind) = Err (record { line = first.line; kind = kind })
+abbrev pub module_named : Kind → List Token → Token → Token → List Token → Option FaultKind → Outcome
+module_named k ts first name behind None = module_with ts first name (body_of k (drop 1 behind))
+module_named k ts first name behind (Some wrong) = Err (record { line = first.line; kind = wrong })
 
 -- a module behind its first word: its name, `is`, and statements
-abbrev pub module_behind : Bool → List Token → Token → List Token → Outcome
-module_behind rules ts first [] = Err (record { line = first.line; kind = BadStatement })
-module_behind rules ts first (name ∷ behind) = module_named rules ts first name behind (head_fault name behind)
+abbrev pub module_behind : Kind → List Token → Token → List Token → Outcome
+module_behind k ts first [] = Err (record { line = first.line; kind = BadStatement })
+module_behind k ts first (name ∷ behind) = module_named k ts first name behind (head_fault name behind)
 
 -- a unit of this kind, by its first token and all its tokens before the last
 abbrev pub unit_with : Kind → Token → List Token → Outcome
-unit_with kind.Functional first ts = module_behind false ts first (drop 1 ts)
-unit_with kind.System first ts = module_behind true ts first (drop 1 ts)
-unit_with kind.Object first ts = Err (record { line = first.line; kind = NotInProfile })
+unit_with kind.Functional first ts = module_behind kind.Functional ts first (drop 1 ts)
+unit_with kind.System first ts = module_behind kind.System ts first (drop 1 ts)
+unit_with kind.Object first ts = module_behind kind.Object ts first (drop 1 ts)
 unit_with kind.FunctionalTheory first ts = Err (record { line = first.line; kind = NotInProfile })
 unit_with kind.SystemTheory first ts = Err (record { line = first.line; kind = NotInProfile })
 unit_with kind.ObjectTheory first ts = Err (record { line = first.line; kind = NotInProfile })

@@ -1,5 +1,5 @@
 -- What single tokens say.
-use Rattle.std.specs.Prelude.{ℕ, Bool, List, [], ◌∷◌, ◌+◌, ◌-◌, ◌==◌, ◌&&◌, ◌||◌, not, nat_le, map, length, slice_index, true, false, if◌then◌else◌}
+use Rattle.std.specs.Prelude.{ℕ, Bool, List, [], ◌∷◌, ◌+◌, ◌-◌, ◌==◌, ◌&&◌, ◌||◌, not, nat_le, map, length, slice_index, true, false, Option, None, Some, if◌then◌else◌}
 use Rattle.std.specs.Borrow.{Bor}
 use Rattle.std.specs.Str.{bytes_eq}
 use Rattle.mw_lex.specs.Bytes.{is_punctuation}
@@ -17,6 +17,11 @@ begins word (t ∷ rest) = is word t
 -- the texts of tokens
 abbrev pub texts : List Token → List (List ℕ)
 texts ts = map (λ (t : Token). t.text) ts
+
+-- the text of the first token
+abbrev pub first_text : List Token → Option (List ℕ)
+first_text [] = None
+first_text (t ∷ rest) = Some t.text
 
 -- how many tokens come before the first with this text: all where none has it
 abbrev pub count_before : List ℕ → List Token → ℕ

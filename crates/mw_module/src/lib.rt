@@ -3,12 +3,14 @@
 //! A unit goes from its first word to the first token that is its end word, a command to the first full stop; a body's
 //! statement goes to the first full stop. docs/LANGUAGE.md has the statements and attributes, docs/ERRORS.md the
 //! faults. What the words `fmod`, `mod`, `omod`, `fth`, `th`, `oth`, `view`, `smod` (and `proof`, where proofs are
-//! asked for) begin is found up to its own end word; of these functional and system modules are read, the others aren't
-//! in the profile. A system module may hold rules besides what a functional one does. Where the input ends first, a
-//! module, command or proof is unended; theories, views and strategy modules aren't in the profile.
+//! asked for) begin is found up to its own end word; of these functional, system and object modules are read, the others
+//! aren't in the profile. A system module may hold rules besides what a functional one does, and an object module
+//! classes and messages too. Where the input ends first, a module, command or proof is unended; theories, views and
+//! strategy modules aren't in the profile.
 //!
 //! - `read_unit` answers the unit that begins at a token, with its statements, or its fault; and the place of the next
-//!   one. Each statement is read once, by `Form::of`: its form, with slices of the source's tokens for its parts.
+//!   one. Each statement is read once, by `Form::of`: its form. Its names and sorts are words, which
+//!   are lent by the source, or made where a form isn't one of the source (`Word`); its sides are slices of tokens.
 //! - The end of a unit is looked at first, then its head, then its statements in order, and in a form the first place
 //!   from the left that is at fault decides. A missing full stop comes last.
 //! - Statements are read by a table (table.rt, specs/Rows): each place in a statement has rows, and the first row that
@@ -28,9 +30,12 @@
 //!   this order: the `if`, the sides, the condition, attributes.
 //! - `op` has one name of one or more tokens, `ops` one or more, each a token or the tokens of a group in parentheses,
 //!   of which only parentheses are counted.
-//! - `Attributes` holds what a list says: the axioms, with the token that names an identity, a precedence, a gather,
-//!   `config`, and whether two identities, precedences or gathers differ (`clash`). `joined` is what two lists say
-//!   together.
+//! - A class has a name and attributes (`Form::Class`); what it declares isn't told here. `subclass` and `subclasses`
+//!   have the form of `subsort`, and `msg` and `msgs` that of `op` and `ops` with the value's sort `Msg`.
+//! - `Attributes` holds what a list says: the axioms, with the word that names an identity, a precedence, a gather,
+//!   `config`, frozen arguments, and whether two identities, precedences or gathers differ (`clash`). `add` joins what
+//!   another list says.
+//! - A statement with `owise` is refused: a rule as a bad statement, an equation as not in the profile.
 //! - [`FaultKind`] has the faults of all layers, one kind for each refusal that the program prints.
 //!
 //! Proved: the unit at a place, exactly, with the next place; a fault exactly where there is one, and the first; the
@@ -51,6 +56,7 @@
 #![tactic(auto)]
 
 mod attribute;
+mod classes;
 mod conditions;
 mod faults;
 mod forms;
@@ -63,9 +69,11 @@ mod sortings;
 mod statements;
 mod table;
 mod units;
+mod word;
 mod words;
 
 pub use attribute::Attributes;
+pub use classes::ClassAttribute;
 pub use conditions::WrittenFragment;
 pub use faults::{Fault, FaultKind, UnitError};
 pub use forms::Form;
@@ -73,4 +81,5 @@ pub use machine::parts_ascend;
 pub use operators::operators_are_written;
 pub use sortings::WrittenSort;
 pub use units::{Lined, Stated, Unit, read_unit, units_are_proper};
+pub use word::Word;
 pub use words::{count_before, is_word, tokens_from};

@@ -1,5 +1,5 @@
 // Statements, and pieces of statements, by the table.
-ghost use Rattle.std.specs.Prelude.{◌≡◌, ◌<◌, ◌≤◌, ◌+◌, map, length, option_map, IfOk, OnOk};
+ghost use Rattle.std.specs.Prelude.{◌≡◌, ◌<◌, ◌≤◌, ◌+◌, drop, map, length, option_map, IfOk, OnOk};
 ghost use Rattle.mw_module.specs.Rows.{seen_row};
 ghost use Rattle.mw_module.specs.Rows as spec;
 ghost use Rattle.mw_module.specs.Words.{seen_lists, seen_halves};
@@ -9,7 +9,7 @@ ghost use Rattle.mw_module.specs.Reading as reading;
 use crate::attribute::{are_marks, is_precedence};
 use crate::operator_names::is_name;
 use crate::table::{Act, End, Place, Read, Role, Row, Test, Want, Wrong, entry_of};
-use crate::words::{is_punctuation, is_quoted, is_whole_string};
+use crate::words::{are_digits, is_punctuation, is_quoted, is_whole_string};
 use mw_lex::Token;
 use std::alloc::{AllocError, Global};
 
@@ -42,6 +42,15 @@ pub fn part_tokens(tokens: &[Token], part: Part) -> &[Token]
     inside
 }
 
+/// What stands behind a part.
+#[tactic(auto, using(crate::proofs::Slices::drop_within))]
+pub fn behind_part(tokens: &[Token], part: Part) -> &[Token]
+    ensures { result.now ≡ drop part.to tokens.now }
+{
+    let (_, behind) = tokens.split_at(part.to.min(tokens.len()));
+    behind
+}
+
 fn passes(test: Test, depth: usize, text: &[u8]) -> bool
     ensures { result ≡ reading.passes test depth text.now }
 {
@@ -52,6 +61,7 @@ fn passes(test: Test, depth: usize, text: &[u8]) -> bool
         Test::Run => !is_punctuation(text) && !is_quoted(text),
         Test::Precedence => is_precedence(text),
         Test::Text => is_whole_string(text),
+        Test::Digits => are_digits(text),
     }
 }
 
@@ -99,7 +109,9 @@ fn is_gather(role: Role) -> bool
         | Role::Assoc
         | Role::Comm
         | Role::Identity
-        | Role::Nonexec => false,
+        | Role::Frozen
+        | Role::Nonexec
+        | Role::Owise => false,
     }
 }
 

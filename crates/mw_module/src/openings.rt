@@ -2,6 +2,7 @@
 ghost use Rattle.std.specs.Prelude.{◌≡◌};
 ghost use Rattle.mw_module.specs.Openings as openings;
 
+use crate::kinds::Kind;
 use crate::words::same;
 
 /// What a statement's first word asks for.
@@ -17,6 +18,9 @@ pub enum Opening {
     Rule,
     ConditionalRule,
     Import,
+    Class,
+    Message,
+    Messages,
     /// A statement of other kinds of modules.
     Elsewhere,
     /// No word of a statement that is read.
@@ -53,9 +57,38 @@ fn is_of_objects(word: &[u8]) -> bool
         || same(word, b"msgs")
 }
 
-/// What this first word asks for in a module in which rules may stand, or may not.
-pub fn opening_of(rules: bool, word: &[u8]) -> Opening
-    ensures { result ≡ openings.opening_of rules word.now }
+// Whether rules may stand in modules of this kind.
+fn has_rules(kind: Kind) -> bool
+    ensures { result ≡ openings.has_rules kind }
+{
+    matches!(kind, Kind::System | Kind::Object)
+}
+
+// Whether classes and messages may.
+fn has_objects(kind: Kind) -> bool
+    ensures { result ≡ openings.has_objects kind }
+{
+    matches!(kind, Kind::Object)
+}
+
+// What a word of statements that stand in object modules alone asks for there.
+fn opening_of_objects(word: &[u8]) -> Opening
+    ensures { result ≡ openings.opening_of_objects word.now }
+{
+    if same(word, b"class") {
+        Opening::Class
+    } else if same(word, b"msg") {
+        Opening::Message
+    } else if same(word, b"msgs") {
+        Opening::Messages
+    } else {
+        Opening::Subsorts
+    }
+}
+
+/// What this first word asks for in a module of this kind.
+pub fn opening_of(kind: Kind, word: &[u8]) -> Opening
+    ensures { result ≡ openings.opening_of kind word.now }
 {
     if same(word, b"sort") || same(word, b"sorts") {
         Opening::Sorts
@@ -73,10 +106,12 @@ pub fn opening_of(rules: bool, word: &[u8]) -> Opening
         Opening::ConditionalEquation
     } else if is_import(word) {
         Opening::Import
-    } else if rules && same(word, b"rl") {
+    } else if has_rules(kind) && same(word, b"rl") {
         Opening::Rule
-    } else if rules && same(word, b"crl") {
+    } else if has_rules(kind) && same(word, b"crl") {
         Opening::ConditionalRule
+    } else if has_objects(kind) && is_of_objects(word) {
+        opening_of_objects(word)
     } else if is_rule(word) || is_of_objects(word) {
         Opening::Elsewhere
     } else {

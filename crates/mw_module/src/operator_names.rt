@@ -75,6 +75,13 @@ pub fn is_name(name: &[Token]) -> bool
     is_fine(name) && (has_some_piece(name) || 2 <= holes_of(name))
 }
 
+/// Whether a text is a name without holes.
+pub fn is_plain_name(text: &[u8]) -> bool
+    ensures { result ≡ spec.is_plain_name text.now }
+{
+    has_fine_pieces(text) && has_piece(text) && holes_in(text) == 0
+}
+
 // Whether a name has no holes, or one for each argument.
 fn fits(arity: usize, name: &[Token]) -> bool
     requires { arity < 2 ^ 64 - 1 }

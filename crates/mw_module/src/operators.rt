@@ -10,12 +10,13 @@ use crate::machine::{Part, lists_of, read};
 use crate::operator_names::all_fit;
 use crate::sortings::{WrittenSort, sorting_of, sortings_of};
 use crate::table::{Place, Read, Role, Want, Wrong};
-use crate::words::{count_before, tokens_from};
+use crate::word::lists_of_words;
+use crate::words::{count_before, is_word, tokens_from};
 use mw_lex::Token;
 use std::alloc::Global;
 
 // A value's sort, and what is said of the operators.
-#[derive(Clone, Copy)]
+#[derive(Drop)]
 struct Value<'s> {
     sort: WrittenSort<'s>,
     attributes: Attributes<'s>,
@@ -28,24 +29,53 @@ struct Profile<'s> {
     value: Value<'s>,
 }
 
-// A value's part, and a list with one attribute at least, if there is one.
-fn valued<'s>(kinds: bool, tokens: &'s [Token], parts: &[Part]) -> Result<Value<'s>, Wrong>
-    ensures { forms.seen_valued result ≡ forms.valued kinds tokens.now parts.now }
+// What attributes say: a list with one attribute at least, if there is one.
+fn said_behind<'s>(alloc: Global, tokens: &'s [Token], parts: &[Part]) -> Read<Attributes<'s>>
+    ensures { IfOk result (λ r. forms.seen_said r ≡ forms.said_behind tokens.now parts.now) }
 {
-    let (value, attributes) = match parts {
-        [] | [_, _] => return Err(Wrong::Bad),
-        [value] => (value, Attributes::none()),
-        [value, _, more @ ..] => (value, said(tokens, more)),
-    };
-    match sorting_of(kinds, tokens, *value) {
-        Some(sort) => Ok(Value { sort, attributes }),
-        None => Err(Wrong::Bad),
+    match parts {
+        [] => Ok(Ok(Attributes::none(alloc))),
+        [_] => Ok(Err(Wrong::Bad)),
+        [_, more @ ..] => Ok(Ok(said(alloc, tokens, more)?)),
     }
 }
 
-// Argument sorts, an arrow and what comes behind.
-fn profile_form<'s>(alloc: Global, names: &[&[Token]], tokens: &'s [Token]) -> Read<Profile<'s>>
-    ensures { IfOk result (λ r. forms.seen_profiled r ≡ forms.profile_form (seen_lists names.now) tokens.now) }
+// A value's part, and attributes.
+fn valued<'s>(alloc: Global, kinds: bool, tokens: &'s [Token], parts: &[Part]) -> Read<Value<'s>>
+    ensures { IfOk result (λ r. forms.seen_valued r ≡ forms.valued kinds tokens.now parts.now) }
+{
+    let [value, behind @ ..] = parts else {
+        return Ok(Err(Wrong::Bad));
+    };
+    let attributes = match said_behind(alloc, tokens, behind)? {
+        Ok(attributes) => attributes,
+        Err(wrong) => return Ok(Err(wrong)),
+    };
+    match sorting_of(kinds, tokens, *value) {
+        Some(sort) => Ok(Ok(Value { sort, attributes })),
+        None => Ok(Err(Wrong::Bad)),
+    }
+}
+
+// Whether the sort that messages have stands in front, where it is asked for.
+fn fits_message(message: bool, tokens: &[Token]) -> bool
+    ensures { result ≡ forms.fits_message message tokens.now }
+{
+    match tokens {
+        [sort, ..] => !message || is_word(sort, b"Msg"),
+        [] => !message,
+    }
+}
+
+// Argument sorts, an arrow and what comes behind: the sort of messages where it is asked for.
+fn profile_form<'s>(
+    alloc: Global,
+    message: bool,
+    names: &[&[Token]],
+    tokens: &'s [Token],
+) -> Read<Profile<'s>>
+    ensures { IfOk result (λ r.
+        forms.seen_profiled r ≡ forms.profile_form message (seen_lists names.now) tokens.now) }
 {
     let total = count_before(tokens, b"->");
     let partial = count_before(tokens, b"~>");
@@ -59,7 +89,11 @@ fn profile_form<'s>(alloc: Global, names: &[&[Token]], tokens: &'s [Token]) -> R
     if arrow == tokens.len() || !all_fit(args.len(), names) {
         return Ok(Err(Wrong::Bad));
     }
-    match value_form(alloc, kinds, args.len(), tokens_from(tokens, arrow + 1))? {
+    let behind = tokens_from(tokens, arrow + 1);
+    if !fits_message(message, behind) {
+        return Ok(Err(Wrong::Bad));
+    }
+    match value_form(alloc, kinds, args.len(), behind)? {
         Ok(value) => Ok(Ok(Profile { args, value })),
         Err(wrong) => Ok(Err(wrong)),
     }
@@ -76,7 +110,7 @@ fn value_form<'s>(alloc: Global, kinds: bool, arity: usize, tokens: &'s [Token])
         Want::Marks(arity),
         tokens,
     )? {
-        Ok(parts) => Ok(valued(kinds, tokens, parts.as_slice())),
+        Ok(parts) => valued(alloc, kinds, tokens, parts.as_slice()),
         Err(wrong) => Ok(Err(wrong)),
     }
 }
@@ -92,30 +126,48 @@ fn names_form<'s>(alloc: Global, single: bool, tokens: &'s [Token]) -> Read<Vec<
     }
 }
 
+// Which operators a word asks for: one, or several, and whether they are messages.
+#[derive(Clone, Copy)]
+pub struct Asked {
+    pub single: bool,
+    pub message: bool,
+}
+
 // Names of operators, a colon and what comes behind.
-pub fn operators_form<'s>(alloc: Global, single: bool, tokens: &'s [Token]) -> Read<Form<'s>>
-    ensures { IfOk result (λ r. forms.seen_shaped r ≡ forms.operators_form single tokens.now) }
+pub fn operators_form<'s>(alloc: Global, asked: Asked, tokens: &'s [Token]) -> Read<Form<'s>>
+    ensures { IfOk result (λ r. forms.seen_shaped r ≡ forms.operators_form asked tokens.now) }
 {
     let colon = count_before(tokens, b":");
     if colon == tokens.len() {
         return Ok(Err(Wrong::Bad));
     }
-    match names_form(alloc, single, &tokens[..colon])? {
-        Ok(names) => declared(alloc, names, tokens_from(tokens, colon + 1)),
+    match names_form(alloc, asked.single, &tokens[..colon])? {
+        Ok(names) => declared(
+            alloc,
+            asked.message,
+            names.as_slice(),
+            tokens_from(tokens, colon + 1),
+        ),
         Err(wrong) => Ok(Err(wrong)),
     }
 }
 
 // Operators with these names, of which there is one at least.
-fn declared<'s>(alloc: Global, names: Vec<&'s [Token]>, tokens: &'s [Token]) -> Read<Form<'s>>
-    ensures { IfOk result (λ r. forms.seen_shaped r ≡ forms.declared (seen_lists names.entry.items) tokens.now) }
+fn declared<'s>(
+    alloc: Global,
+    message: bool,
+    names: &[&'s [Token]],
+    tokens: &'s [Token],
+) -> Read<Form<'s>>
+    ensures { IfOk result (λ r. forms.seen_shaped r ≡ forms.declared message (seen_lists names.now) tokens.now) }
 {
     if names.is_empty() {
         return Ok(Err(Wrong::Bad));
     }
-    match profile_form(alloc, names.as_slice(), tokens)? {
+    let words = lists_of_words(alloc, names)?;
+    match profile_form(alloc, message, names, tokens)? {
         Ok(profile) => Ok(Ok(Form::Operators {
-            names,
+            names: words,
             args: profile.args,
             result: profile.value.sort,
             attributes: profile.value.attributes,

@@ -4,13 +4,14 @@ ghost use Rattle.mw_module.specs.Sortings as spec;
 
 use crate::machine::{Part, part_tokens};
 use crate::table::Role;
+use crate::word::Word;
 use mw_lex::Token;
 use std::alloc::{AllocError, Global};
 
 /// A sort as it is written in a declaration of an operator.
-#[derive(Clone, Copy)]
+#[derive(Drop)]
 pub struct WrittenSort<'s> {
-    pub name: &'s Token,
+    pub name: Word<'s>,
     /// Whether the kind of the sort is meant.
     pub kind: bool,
 }
@@ -21,7 +22,7 @@ pub fn sorting_of<'s>(kinds: bool, tokens: &'s [Token], part: Part) -> Option<Wr
 {
     match (part.role, part_tokens(tokens, part)) {
         (Role::Sort(kind), [name, ..]) => Some(WrittenSort {
-            name,
+            name: Word::lent(name.text.as_slice()),
             kind: kinds || kind,
         }),
         _ => None,

@@ -1,12 +1,13 @@
 // Equations and rules.
 ghost use Rattle.std.specs.Prelude.{◌≡◌, ◌<◌, ◌≤◌, ◌+◌, ◌-◌, length, reverse, option_map, IfSome, IfOk};
+ghost use Rattle.std.specs.List.{list_any};
 ghost use Rattle.mw_module.specs.Conditions.{seen_condition};
 ghost use Rattle.mw_module.specs.Statements as statements;
 ghost use Rattle.mw_module.specs.Forms as forms;
 
 use crate::conditions::{WrittenFragment, condition_form, cut_at_if};
 use crate::forms::Form;
-use crate::machine::{divided_at, read};
+use crate::machine::{Part, divided_at, read};
 use crate::table::{Place, Read, Role, Want, Wrong};
 use crate::words::{is_word, tokens_from};
 use mw_lex::Token;
@@ -118,6 +119,33 @@ fn left_place(rule: bool) -> Place
     if rule { Place::RuleLeft } else { Place::Left }
 }
 
+// Whether one of the parts is the word `owise`.
+fn is_late(parts: &[Part]) -> bool
+    ensures { result ≡ list_any forms.is_owise parts.now }
+{
+    parts.iter().any(is_owise)
+}
+
+fn is_owise(part: &Part) -> bool
+    ensures { result ≡ forms.is_owise part.now }
+{
+    matches!(part.role, Role::Owise)
+}
+
+// Whether a statement with these attributes is executable. Equations with `owise` aren't read yet, and rules have none.
+fn executable_by(alloc: Global, rule: bool, said: &[Token]) -> Read<bool>
+    ensures { IfOk result (λ r. r ≡ forms.executable_by rule said.now) }
+{
+    let parts = match read(alloc, Place::Statement, Role::Silent, Want::Nothing, said)? {
+        Ok(parts) => parts,
+        Err(wrong) => return Ok(Err(wrong)),
+    };
+    if is_late(parts.as_slice()) {
+        return Ok(Err(if rule { Wrong::Bad } else { Wrong::Unread }));
+    }
+    Ok(Ok(parts.is_empty()))
+}
+
 // Two sides, a condition, if there is one, and attributes.
 fn sides_form<'s>(
     alloc: Global,
@@ -136,13 +164,13 @@ fn sides_form<'s>(
         Ok(fragments) => fragments,
         Err(wrong) => return Ok(Err(wrong)),
     };
-    match read(alloc, Place::Statement, Role::Silent, Want::Nothing, said)? {
-        Ok(more) => Ok(Ok(Form::Statement {
+    match executable_by(alloc, rule, said)? {
+        Ok(executable) => Ok(Ok(Form::Statement {
             rule,
             left,
             right,
             fragments,
-            executable: more.is_empty(),
+            executable,
         })),
         Err(wrong) => Ok(Err(wrong)),
     }

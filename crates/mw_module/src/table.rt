@@ -30,8 +30,19 @@ pub enum Place {
     ValueKind,
     ValueKindEnd,
     Behind,
+    /// The name of a class, and what stands behind it; the name of an attribute, its colon and its sort, and what stands
+    /// behind them.
+    Class,
+    BehindClass,
+    ClassAttribute,
+    ClassColon,
+    ClassSort,
+    BehindClassSort,
     /// Where an attribute begins, and behind the words of some.
     Attribute,
+    Frozen,
+    Number,
+    Numbers,
     Identity,
     Precedence,
     Gather,
@@ -73,7 +84,10 @@ pub enum Role {
     Config,
     Precedence,
     Gather,
+    /// The word `frozen`.
+    Frozen,
     Nonexec,
+    Owise,
 }
 
 /// What becomes of a token. It stands in the part that is open, opens or closes a level, ends the open part, stands
@@ -90,7 +104,7 @@ pub enum Act {
 }
 
 /// What is asked of a token besides its text: nothing, that no level is open, that it is no punctuation byte, that it
-/// isn't quoted either, that it is a precedence, or a string up to its end.
+/// isn't quoted either, that it is a precedence, a string up to its end, or decimal digits.
 #[derive(Clone, Copy)]
 pub enum Test {
     Any,
@@ -99,6 +113,7 @@ pub enum Test {
     Run,
     Precedence,
     Text,
+    Digits,
 }
 
 /// What is wrong with a statement: it isn't of its form, or it has a form that isn't read.
@@ -153,6 +168,35 @@ pub fn told(wrong: Wrong) -> FaultKind
         Wrong::Bad => FaultKind::BadStatement,
         Wrong::Unread => FaultKind::NotInProfile,
     }
+}
+
+/// What may stand behind the word `frozen`: numbers in parentheses, or, as behind any attribute, what goes on with the
+/// list.
+#[rattlefmt::skip]
+fn behind_frozen() -> &'static [Row]
+    ensures { map spec.seen_row result.now ≡ spec.behind_frozen }
+{
+    use Act::{One, Skip};
+    use Test::Any;
+    &[
+        Row { word: b"(", test: Any, act: Skip, next: Ok(Place::Number) },
+        Row { word: b"]", test: Any, act: Skip, next: Ok(Place::Whole) },
+        Row { word: b"assoc", test: Any, act: One(Role::Assoc), next: Ok(Place::Attribute) },
+        Row { word: b"comm", test: Any, act: One(Role::Comm), next: Ok(Place::Attribute) },
+        Row { word: b"id:", test: Any, act: Skip, next: Ok(Place::Identity) },
+        Row { word: b"ctor", test: Any, act: One(Role::Silent), next: Ok(Place::Attribute) },
+        Row { word: b"ditto", test: Any, act: One(Role::Silent), next: Ok(Place::Attribute) },
+        Row { word: b"memo", test: Any, act: One(Role::Silent), next: Ok(Place::Attribute) },
+        Row { word: b"object", test: Any, act: One(Role::Silent), next: Ok(Place::Attribute) },
+        Row { word: b"message", test: Any, act: One(Role::Silent), next: Ok(Place::Attribute) },
+        Row { word: b"frozen", test: Any, act: One(Role::Frozen), next: Ok(Place::Frozen) },
+        Row { word: b"config", test: Any, act: One(Role::Config), next: Ok(Place::Attribute) },
+        Row { word: b"prec", test: Any, act: Skip, next: Ok(Place::Precedence) },
+        Row { word: b"gather", test: Any, act: Skip, next: Ok(Place::Gather) },
+        Row { word: b"format", test: Any, act: One(Role::Silent), next: Ok(Place::Format) },
+        Row { word: b"metadata", test: Any, act: One(Role::Silent), next: Ok(Place::Metadata) },
+        Row { word: b"", test: Any, act: Skip, next: Err(Wrong::Unread) },
+    ]
 }
 
 /// What the table says of a place.
@@ -227,22 +271,36 @@ pub fn entry_of(place: Place) -> Entry
             Row { word: b"[", test: Any, act: One(Role::Silent), next: Ok(Place::Attribute) },
             Row { word: b"{", test: Any, act: Skip, next: Err(Wrong::Unread) },
         ] },
-        Place::Attribute => Entry { end: Never, rows: &[
-            Row { word: b"]", test: Any, act: Skip, next: Ok(Place::Whole) },
-            Row { word: b"assoc", test: Any, act: One(Role::Assoc), next: Ok(Place::Attribute) },
-            Row { word: b"comm", test: Any, act: One(Role::Comm), next: Ok(Place::Attribute) },
-            Row { word: b"id:", test: Any, act: Skip, next: Ok(Place::Identity) },
-            Row { word: b"ctor", test: Any, act: One(Role::Silent), next: Ok(Place::Attribute) },
-            Row { word: b"ditto", test: Any, act: One(Role::Silent), next: Ok(Place::Attribute) },
-            Row { word: b"memo", test: Any, act: One(Role::Silent), next: Ok(Place::Attribute) },
-            Row { word: b"object", test: Any, act: One(Role::Silent), next: Ok(Place::Attribute) },
-            Row { word: b"message", test: Any, act: One(Role::Silent), next: Ok(Place::Attribute) },
-            Row { word: b"config", test: Any, act: One(Role::Config), next: Ok(Place::Attribute) },
-            Row { word: b"prec", test: Any, act: Skip, next: Ok(Place::Precedence) },
-            Row { word: b"gather", test: Any, act: Skip, next: Ok(Place::Gather) },
-            Row { word: b"format", test: Any, act: One(Role::Silent), next: Ok(Place::Format) },
-            Row { word: b"metadata", test: Any, act: One(Role::Silent), next: Ok(Place::Metadata) },
-            Row { word: b"", test: Any, act: Skip, next: Err(Wrong::Unread) },
+        Place::Attribute => Entry { end: Never, rows: &behind_frozen()[1..] },
+        Place::Frozen => Entry { end: Never, rows: behind_frozen() },
+        Place::Number => Entry { end: Never, rows: &[
+            Row { word: b"", test: Test::Digits, act: Skip, next: Ok(Place::Numbers) },
+        ] },
+        Place::Numbers => Entry { end: Never, rows: &[
+            Row { word: b")", test: Any, act: Skip, next: Ok(Place::Attribute) },
+            Row { word: b"", test: Test::Digits, act: Skip, next: Ok(Place::Numbers) },
+        ] },
+        Place::Class => Entry { end: Never, rows: &[
+            Row { word: b"{", test: Any, act: Skip, next: Err(Wrong::Unread) },
+            Row { word: b"", test: Run, act: One(Role::Words), next: Ok(Place::BehindClass) },
+        ] },
+        Place::BehindClass => Entry { end: Free, rows: &[
+            Row { word: b"|", test: Any, act: Skip, next: Ok(Place::ClassAttribute) },
+            Row { word: b"{", test: Any, act: Skip, next: Err(Wrong::Unread) },
+        ] },
+        Place::ClassAttribute => Entry { end: Never, rows: &[
+            Row { word: b"", test: Any, act: One(Role::Words), next: Ok(Place::ClassColon) },
+        ] },
+        Place::ClassColon => Entry { end: Never, rows: &[
+            Row { word: b":", test: Any, act: Skip, next: Ok(Place::ClassSort) },
+        ] },
+        Place::ClassSort => Entry { end: Never, rows: &[
+            Row { word: b"{", test: Any, act: Skip, next: Err(Wrong::Unread) },
+            Row { word: b"", test: Run, act: One(Role::Words), next: Ok(Place::BehindClassSort) },
+        ] },
+        Place::BehindClassSort => Entry { end: Free, rows: &[
+            Row { word: b",", test: Any, act: Skip, next: Ok(Place::ClassAttribute) },
+            Row { word: b"{", test: Any, act: Skip, next: Err(Wrong::Unread) },
         ] },
         Place::Identity => Entry { end: Never, rows: &[
             Row { word: b"", test: Any, act: One(Role::Identity), next: Ok(Place::Attribute) },
@@ -321,6 +379,7 @@ pub fn entry_of(place: Place) -> Entry
         ] },
         Place::Statement => Entry { end: Free, rows: &[
             Row { word: b"nonexec", test: Any, act: One(Role::Nonexec), next: Ok(Place::Statement) },
+            Row { word: b"owise", test: Any, act: One(Role::Owise), next: Ok(Place::Statement) },
             Row { word: b"label", test: Any, act: Skip, next: Ok(Place::Label) },
             Row { word: b"metadata", test: Any, act: Skip, next: Ok(Place::Text) },
             Row { word: b"", test: Any, act: Skip, next: Err(Wrong::Unread) },

@@ -38,22 +38,22 @@ pub struct Unit<'s> {
     pub tokens: &'s [Token],
 }
 
-// The statements of a body in which rules may stand, or may not, or its first fault.
+// The statements of the body of a module of this kind, or its first fault.
 fn read_body<'s>(
     alloc: Global,
-    rules: bool,
+    kind: Kind,
     body: &'s [Token],
 ) -> Result<Result<Vec<Lined<'s>>, Fault>, AllocError>
-    ensures { IfOk result (λ r. units.seen_body r ≡ units.body_of rules body.now) }
+    ensures { IfOk result (λ r. units.seen_body r ≡ units.body_of kind body.now) }
 {
     let mut statements = Vec::new(alloc);
     let mut rest = body;
     while let [first, ..] = rest {
         let line = first.line;
         let len = count_before(rest, b".");
-        let form = match Form::of(alloc, rules, &rest[..len])? {
+        let form = match Form::of(alloc, kind, &rest[..len])? {
             Ok(form) => form,
-            Err(kind) => return Ok(Err(Fault { line, kind })),
+            Err(wrong) => return Ok(Err(Fault { line, kind: wrong })),
         };
         statements.push(Lined { line, form })?;
         if len == rest.len() {
@@ -81,25 +81,25 @@ fn head_fault(name: &Token, behind: &[Token]) -> Option<FaultKind>
     }
 }
 
-// A module, in which rules may stand, or may not, by its first token, what stands behind it, and all its tokens.
+// A module of this kind, by its first token, what stands behind it, and all its tokens.
 fn read_module<'s>(
     alloc: Global,
-    rules: bool,
+    kind: Kind,
     tokens: &'s [Token],
     first: &'s Token,
     behind_word: &'s [Token],
 ) -> Result<Result<Unit<'s>, Fault>, AllocError>
-    ensures { IfOk result (λ r. units.seen_outcome r ≡ units.module_behind rules tokens.now first.now behind_word.now) }
+    ensures { IfOk result (λ r. units.seen_outcome r ≡ units.module_behind kind tokens.now first.now behind_word.now) }
 {
     let line = first.line;
     let [name, behind @ ..] = behind_word else {
         let kind = FaultKind::BadStatement;
         return Ok(Err(Fault { line, kind }));
     };
-    if let Some(kind) = head_fault(name, behind) {
-        return Ok(Err(Fault { line, kind }));
+    if let Some(wrong) = head_fault(name, behind) {
+        return Ok(Err(Fault { line, kind: wrong }));
     }
-    match read_body(alloc, rules, &behind[1..])? {
+    match read_body(alloc, kind, &behind[1..])? {
         Err(fault) => Ok(Err(fault)),
         Ok(statements) => Ok(Ok(Unit {
             line,
@@ -131,8 +131,9 @@ fn read_whole<'s>(
     ensures { IfOk result (λ r. units.seen_outcome r ≡ units.unit_with kind first.now tokens.now) }
 {
     match kind {
-        Kind::Functional => read_module(alloc, false, tokens, first, behind_first(tokens)),
-        Kind::System => read_module(alloc, true, tokens, first, behind_first(tokens)),
+        Kind::Functional | Kind::System | Kind::Object => {
+            read_module(alloc, kind, tokens, first, behind_first(tokens))
+        }
         Kind::Proof | Kind::Command => Ok(Ok(Unit {
             line: first.line,
             word: first.text.as_slice(),

@@ -1,14 +1,14 @@
 -- What texts mention, one after the other.
-use Rattle.std.proofs.Common.{◌≡◌, ◌∙◌, ◌||◌, ◌++◌, ℕ, List, [], ◌∷◌, Bool, true, false, bytes_eq, if◌then◌else◌, refl, ap, append_assoc}
+use Rattle.std.proofs.Common.{◌≡◌, ◌∙◌, ◌||◌, ◌++◌, ℕ, List, [], ◌∷◌, Bool, true, false, if◌then◌else◌, refl, ap, append_assoc}
 use Rattle.std.specs.List.{list_any}
 use Rattle.mw_prelude.specs.declared.modules.Predefined.{Predefined}
 use Rattle.mw_prelude.specs.declared.modules.Predefined.TheVariants as module_of
 use Rattle.mw_prelude.specs.declared.mentions.Mentioned.{Mentioned}
-use Rattle.mw_prelude.specs.Modules.{name_of, text_of}
-use Rattle.mw_prelude.specs.Mentions.{mentioned_with, mentioned_from, mentioned_in, prelude_for}
+use Rattle.mw_prelude.specs.Modules.{text_of}
+use Rattle.mw_prelude.specs.Mentions.{asks_for, mentioned_with, mentioned_from, mentioned_in, prelude_for}
 
 abbrev named : Predefined → List (List ℕ) → Bool
-named m texts = list_any (λ (text : List ℕ). bytes_eq text (name_of m)) texts
+named m texts = list_any (asks_for m) texts
 
 assoc : (a b c : Bool) → ((a || b) || c) ≡ (a || (b || c))
 assoc true b c = refl
@@ -20,7 +20,7 @@ nat_from m [] = of m.nat
     of : (b : Bool) → b ≡ (b || false)
     of true = refl
     of false = refl
-nat_from m (t ∷ texts) = nat_from (mentioned_with m t) texts ∙ assoc m.nat (bytes_eq t (name_of module_of.Nat)) (named module_of.Nat texts)
+nat_from m (t ∷ texts) = nat_from (mentioned_with m t) texts ∙ assoc m.nat (asks_for module_of.Nat t) (named module_of.Nat texts)
 
 qid_from : (m : Mentioned) (texts : List (List ℕ)) → (mentioned_from m texts).qid ≡ (m.qid || named module_of.Qid texts)
 qid_from m [] = of m.qid
@@ -28,7 +28,7 @@ qid_from m [] = of m.qid
     of : (b : Bool) → b ≡ (b || false)
     of true = refl
     of false = refl
-qid_from m (t ∷ texts) = qid_from (mentioned_with m t) texts ∙ assoc m.qid (bytes_eq t (name_of module_of.Qid)) (named module_of.Qid texts)
+qid_from m (t ∷ texts) = qid_from (mentioned_with m t) texts ∙ assoc m.qid (asks_for module_of.Qid t) (named module_of.Qid texts)
 
 configuration_from : (m : Mentioned) (texts : List (List ℕ)) → (mentioned_from m texts).configuration ≡ (m.configuration || named module_of.Configuration texts)
 configuration_from m [] = of m.configuration
@@ -37,7 +37,7 @@ configuration_from m [] = of m.configuration
     of true = refl
     of false = refl
 configuration_from m (t ∷ texts) =
-    configuration_from (mentioned_with m t) texts ∙ assoc m.configuration (bytes_eq t (name_of module_of.Configuration)) (named module_of.Configuration texts)
+    configuration_from (mentioned_with m t) texts ∙ assoc m.configuration (asks_for module_of.Configuration t) (named module_of.Configuration texts)
 
 some_from : (m : Mentioned) (texts : List (List ℕ)) → m.some ≡ true → (mentioned_from m texts).some ≡ true
 some_from m [] e = e

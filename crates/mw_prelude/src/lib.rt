@@ -4,7 +4,8 @@
 //!   the same front end as a source, before it. NAT's operators have no equations: numbers are reckoned elsewhere.
 //! - [`Mentioned`] collects, from the texts of a source's tokens, which modules it names: `nothing`, then `with` for
 //!   each token; `prelude` answers the bytes that are to be read before the source: nothing where there is no token,
-//!   else BOOL, and behind it NAT, QID and CONFIGURATION, each where a token's text is its name.
+//!   else BOOL, and behind it NAT, QID and CONFIGURATION, each where a token's text is its name;
+//!   CONFIGURATION also where one is `omod`, since object modules import it.
 //!
 //! Proved: names and texts are those of specs/Modules, byte for byte (`name_of`, `text_of`), and the bytes are exactly
 //! those that the texts of tokens need (`prelude_for`, specs/Mentions). Want of memory may come at `prelude`. Only

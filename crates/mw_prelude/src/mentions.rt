@@ -1,7 +1,8 @@
 // Which modules of the prelude a source needs.
 ghost use Rattle.std.specs.Prelude.{◌≡◌, ◌++◌, ℕ, List, [], IfOk, OnOk, if◌then◌else◌};
 ghost use Rattle.mw_prelude.specs.Modules.{text_of};
-ghost use Rattle.mw_prelude.specs.Mentions.{mentioned_with, mentioned_in, prelude_for};
+ghost use Rattle.mw_prelude.specs.Mentions.{asks_for, mentioned_with, mentioned_in, prelude_for};
+ghost use Rattle.mw_prelude.specs.declared.modules.Predefined.TheVariants as module_of;
 
 use crate::modules::Predefined;
 use std::alloc::{AllocError, Global};
@@ -25,6 +26,13 @@ fn add(text: &mut Vec<u8>, asked: bool, predefined: Predefined) -> Result<(), Al
     Ok(())
 }
 
+/// Whether a text is the name of CONFIGURATION, or the word that begins an object module, which imports it.
+fn asks_for_configuration(text: &[u8]) -> bool
+    ensures { result ≡ asks_for module_of.Configuration text.now }
+{
+    text == Predefined::Configuration.name() || text == b"omod".as_slice()
+}
+
 impl Mentioned {
     /// What no text mentions.
     pub fn nothing() -> Mentioned
@@ -46,7 +54,7 @@ impl Mentioned {
             some: true,
             nat: self.nat || text == Predefined::Nat.name(),
             qid: self.qid || text == Predefined::Qid.name(),
-            configuration: self.configuration || text == Predefined::Configuration.name(),
+            configuration: self.configuration || asks_for_configuration(text),
         }
     }
 

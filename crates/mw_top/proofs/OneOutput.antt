@@ -15,6 +15,7 @@ use Rattle.mw_module.specs.Words.{texts}
 use Rattle.mw_command.specs.Commands.{SeenCommand, command_of}
 use Rattle.mw_import.specs.Flat.{FlatUnit, number_named}
 use Rattle.mw_build.specs.Statements.{Oversized}
+use Rattle.mw_omod.specs.Declaring.{declared_unit}
 use Rattle.mw_build.specs.Modules.{Accepted, IsAccepted, IsRefused}
 use Rattle.mw_build.proofs.OneModule.{not_big, one_module, not_refused}
 use Rattle.mw_build.proofs.Pairwise.{there}
@@ -122,7 +123,7 @@ module _ (options : Options) (before : Loaded) (alike : AreNamed before) where
   names_kept o text bad after (refused u n r named free wrong) = alike
   names_kept o text bad after (accepted u n reached a named free is) =
       map-append (λ (m : Accepted). m.name) before.modules (a ∷ []) ∙ ap (λ ns. ns ++ a.name ∷ []) alike ∙ ap (λ m. named_units before.units ++ m ∷ []) is.holds.named
-      ∙ sym (map-append (λ (u : FlatUnit). u.name) before.units (record { name = n; statements = u.statements; reached = reached } ∷ []))
+      ∙ sym (map-append (λ (u : FlatUnit). u.name) before.units (record { name = n; statements = (declared_unit u).statements; reached = reached } ∷ []))
   names_kept o text bad after (no_command opts u f by unnamed wrong) = alike
   names_kept o text bad after (faulty opts u c cause by unnamed command wrong) = alike
   names_kept o text bad after (answered opts u c b block by unnamed command m answer) = alike
@@ -131,8 +132,8 @@ module _ (options : Options) (before : Loaded) (alike : AreNamed before) where
 
   -- what a module gives that is accepted
   from_accepted : (u : SeenUnit) (n reached : List ℕ) (a : Accepted) → name_of u ≡ Some n → (IsNameTaken before.modules n → ⊥)
-      → IsAccepted before.units before.modules u n reached a → (o : Outcome) → o ≡ Ok u → (text : List ℕ) (bad : Bool) (after : Loaded) → Gives (Run options) before o text bad after
-      → (false ≡ bad) × (with_module before n u reached a ≡ after)
+      → IsAccepted before.units before.modules (declared_unit u) n reached a → (o : Outcome) → o ≡ Ok u → (text : List ℕ) (bad : Bool) (after : Loaded) → Gives (Run options) before o text bad after
+      → (false ≡ bad) × (with_module before n (declared_unit u) reached a ≡ after)
   from_accepted u n reached a named free is o e text bad after (formless f) = cc
   from_accepted u n reached a named free is o e text bad after (taken v m other is_taken) =
       let unit : v ≡ u = cc in
@@ -141,16 +142,16 @@ module _ (options : Options) (before : Loaded) (alike : AreNamed before) where
   from_accepted u n reached a named free is o e text bad after (refused v m r other not_taken wrong) =
       let unit : v ≡ u = cc in
       let name : m ≡ n = same_Some m n (sym other ∙ ap name_of unit ∙ named) in
-      absurd (not_refused before.units before.modules u n reached a is (not_there before alike n free) r
-      (subst (λ k. IsRefused before.units before.modules u k r) name (subst (λ w. IsRefused before.units before.modules w m r) unit wrong)))
+      absurd (not_refused before.units before.modules (declared_unit u) n reached a is (not_there before alike n free) r
+      (subst (λ k. IsRefused before.units before.modules (declared_unit u) k r) name (subst (λ w. IsRefused before.units before.modules (declared_unit w) m r) unit wrong)))
   from_accepted u n reached a named free is o e text bad after (accepted v m others b other not_taken module_is) =
       let unit : v ≡ u = cc in
       let name : m ≡ n = same_Some m n (sym other ∙ ap name_of unit ∙ named) in
-      let same = one_module before.units before.modules u n reached others a b is
-      (subst (λ k. IsAccepted before.units before.modules u k others b) name (subst (λ w. IsAccepted before.units before.modules w m others b) unit module_is)) in (
+      let same = one_module before.units before.modules (declared_unit u) n reached others a b is
+      (subst (λ k. IsAccepted before.units before.modules (declared_unit u) k others b) name (subst (λ w. IsAccepted before.units before.modules (declared_unit w) m others b) unit module_is)) in (
         refl,
-        ap (λ ks. with_module before n u ks a) same.0 ∙ ap (with_module before n u others) same.1 ∙ ap (λ k. with_module before k u others b) (sym name)
-            ∙ ap (λ w. with_module before m w others b) (sym unit),
+        ap (λ ks. with_module before n (declared_unit u) ks a) same.0 ∙ ap (with_module before n (declared_unit u) others) same.1 ∙ ap (λ k. with_module before k (declared_unit u) others b) (sym name)
+            ∙ ap (λ w. with_module before m (declared_unit w) others b) (sym unit),
       )
   from_accepted u n reached a named free is o e text bad after (no_command opts v f by unnamed wrong) =
       let unit : v ≡ u = cc in absurd (none-some n (sym unnamed ∙ ap name_of unit ∙ named))

@@ -8,6 +8,7 @@ use Rattle.mw_module.specs.declared.faults.FaultKind.{FaultKind}
 use Rattle.mw_module.specs.declared.faults.FaultKind.TheVariants.{AlreadyDefined}
 use Rattle.mw_module.specs.Units.{SeenUnit, Outcome, Reads}
 use Rattle.mw_command.specs.Commands.{SeenCommand, command_of}
+use Rattle.mw_omod.specs.Declaring.{declared_unit}
 use Rattle.mw_import.specs.Flat.{FlatUnit}
 use Rattle.mw_build.specs.Modules.{Accepted, IsAccepted, IsRefused}
 use Rattle.mw_check.specs.declared.checking.Verdict.{Verdict}
@@ -60,13 +61,13 @@ told_refusal purpose f = noted (is_noted purpose) (refusal_line f)
 pub data Gives (purpose : Purpose) (before : Loaded) : Outcome → List ℕ → Bool → Loaded → Type 0 where
   -- what isn't a unit by its form
   formless : (f : Fault) → Gives purpose before (Err f) (told_refusal purpose f) true before
-  -- a module: its name is taken, it has a fault, or it is accepted
+  -- a module, by what it declares: its name is taken, it has a fault, or it is accepted
   taken : (u : SeenUnit) (n : List ℕ) → name_of u ≡ Some n → IsNameTaken before.modules n
       → Gives purpose before (Ok u) (told_refusal purpose (record { line = u.line; kind = AlreadyDefined n })) true before
-  refused : (u : SeenUnit) (n : List ℕ) (r : Fault) → name_of u ≡ Some n → (IsNameTaken before.modules n → ⊥) → IsRefused before.units before.modules u n r
+  refused : (u : SeenUnit) (n : List ℕ) (r : Fault) → name_of u ≡ Some n → (IsNameTaken before.modules n → ⊥) → IsRefused before.units before.modules (declared_unit u) n r
       → Gives purpose before (Ok u) (told_refusal purpose r) true before
   accepted : (u : SeenUnit) (n reached : List ℕ) (a : Accepted) → name_of u ≡ Some n → (IsNameTaken before.modules n → ⊥)
-      → IsAccepted before.units before.modules u n reached a → Gives purpose before (Ok u) [] false (with_module before n u reached a)
+      → IsAccepted before.units before.modules (declared_unit u) n reached a → Gives purpose before (Ok u) [] false (with_module before n (declared_unit u) reached a)
   -- a command that is to be answered: it isn't of its form, it has a fault, or it is answered
   no_command : (options : Options) (u : SeenUnit) (f : Fault) → purpose ≡ Run options → name_of u ≡ None → command_of u ≡ Err f → Gives purpose before (Ok u) (told_refusal purpose f) true before
   faulty : (options : Options) (u : SeenUnit) (c : SeenCommand) (cause : FaultKind) → purpose ≡ Run options → name_of u ≡ None → command_of u ≡ Ok c → CommandFault before.modules c cause

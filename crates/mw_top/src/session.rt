@@ -20,6 +20,7 @@ use mw_command::{Command, Word, read};
 use mw_import::Units;
 use mw_lex::Token;
 use mw_module::{Fault, FaultKind, Unit, UnitError};
+use mw_omod::declare;
 use mw_prelude::Predefined;
 use mw_term::Name;
 use mw_words::Options;
@@ -196,9 +197,10 @@ impl<'s> Session<'s> {
         if self.is_taken(text) {
             return refused(alloc, purpose, unit.line, FaultKind::AlreadyDefined(name));
         }
-        match self.built(alloc, &unit, name)? {
+        let declared = declare(alloc, unit)?;
+        match self.built(alloc, &declared, name)? {
             Ok(built) => {
-                self.accept(alloc, text, unit, built)?;
+                self.accept(alloc, text, declared, built)?;
                 Ok(Answer {
                     text: Vec::new(alloc),
                     refused: false,

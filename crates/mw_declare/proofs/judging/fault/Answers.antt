@@ -8,7 +8,7 @@ use Rattle.mw_declare.proofs.judging.fault.Goals as goal
 pub returns-then-not-has_kept_axioms : goal.returns-then-not-has_kept_axioms
 returns-then-not-has_kept_axioms c h os numbered least identity =
     let o = seen_operator (c.args.profile.now, c.args.said.now) in
-    let name : c.of-name.result ≡ o.profile.spelling = c.of-name.ensures ∙ c.in_ok-to_vec.ensures.items_if_clones_equal (λ x y e. e) ∙ c.as_slice.ensures.value in
+    let name : c.of-name.result ≡ o.profile.spelling = c.of-name.ensures ∙ c.in_ok-to_vec.ensures.items_if_clones_equal (λ x y e. e) ∙ c.as_slice-then-not-has_kept_axioms.ensures.value in
     ap (λ (n : List ℕ). Some (BadAxioms n)) name
     ∙ sym (wrong_axioms (signature_with c.args.built h os) c.args.built os o (sym (c.has_kept_axioms.ensures h os numbered least identity) ∙ c.if-not-has_kept_axioms.true))
 

@@ -11,7 +11,7 @@ accept-requires-clause-known c =
     let at = c.loop-at.at in
     let next = c.in_ok-outcome.next in
     let read = subst (λ (r : Result SourceUnit Fault). Reads true c.args.tokens.now at (seen_outcome r) next) c.in-Ok.is c.in_ok-outcome.ensures in
-    units_are_known true c.args.tokens.now at next (seen_unit c.in-Ok.unit) read
+    c.in_ok-declared.ensures.known (units_are_known true c.args.tokens.now at next (seen_unit c.in-Ok.unit) read)
 
 pub loop-at-preserved : goal.loop-at-preserved
 loop-at-preserved c = elim c.match-outcome.branch [

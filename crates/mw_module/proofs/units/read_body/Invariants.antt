@@ -4,7 +4,7 @@ use Rattle.mw_module.proofs.units.read_body.Given as goal
 
 abbrev pub invariant-loop-rest : goal.invariant-loop-rest
 invariant-loop-rest l = record {
-  body : with_statements (seen_statements l.statements.items) (body_of l.rules l.rest) ≡ body_of l.rules l.body;
+  body : with_statements (seen_statements l.statements.items) (body_of l.kind l.rest) ≡ body_of l.kind l.body;
   fewer : length l.rest ≤ length l.body;
 }
 

@@ -2,8 +2,8 @@ use Rattle.std.proofs.Common.{◌∙◌, ℕ, List, sym, ap}
 use Rattle.mw_term.specs.Raws.{raw_term}
 use Rattle.mw_position.specs.Variables.{met}
 use Rattle.mw_text.specs.Mentions.{with_variable}
-use Rattle.mw_build.proofs.Mentioned.{with_met}
-use Rattle.mw_build.proofs.variables.+meet_all.Goals as goal
+use Rattle.mw_omod.proofs.Meeting.{with_met}
+use Rattle.mw_omod.proofs.mentions.+meet_all.Goals as goal
 
 pub returns-in_ok-meet-in-Var : goal.returns-in_ok-meet-in-Var
 returns-in_ok-meet-in-Var t c =

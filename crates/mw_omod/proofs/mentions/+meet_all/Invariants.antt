@@ -2,7 +2,7 @@ use Rattle.std.proofs.Common.{◌≡◌, ◌≤◌, ◌+◌, length}
 use Rattle.mw_logic.specs.NormalForm.{height, highest}
 use Rattle.mw_term.specs.Raws.{raw_term, raw_terms}
 use Rattle.mw_position.specs.Variables.{met, all_met}
-use Rattle.mw_build.proofs.variables.+meet_all.Given as goal
+use Rattle.mw_omod.proofs.mentions.+meet_all.Given as goal
 
 abbrev pub decreases-meet_all : goal.decreases-meet_all
 decreases-meet_all l = height (raw_term l.term.now)
