@@ -112,9 +112,10 @@ class Terms:
 
     def nested_ends(self, words):
         """Ends by which one more mixfix form is closed, as an object is behind its last attribute."""
-        rests = self.rests(inside_of(words), "")
+        wildcard = (self.wildcards() or [""])[0]
+        rests = self.rests(inside_of(words), wildcard)
         closing = [rest for rest in rests if not any(word.startswith("W:") for word in rest)]
-        levels = [word for level in levels_of(words)[::-1] for word in self.ends_of_level(level, "")[0]]
+        levels = [word for level in levels_of(words)[::-1] for word in self.ends_of_level(level, wildcard)[0] if word]
         for last in closing:
             yield from ([*end, *last, *levels] for end in rests)
 
