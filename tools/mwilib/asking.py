@@ -7,7 +7,7 @@ import time
 from .names import reached
 from .pages import prelude
 from .program import answers_of, printed
-from .sources import EQUATIONS
+from .sources import ENDS, EQUATIONS
 from .texts import spelled
 
 SECONDS = float(os.environ.get("MWI_SECONDS", "0.5"))           # for the questions about one refusal
@@ -18,6 +18,8 @@ STAGES = {kind: stage for stage, kinds in enumerate([
     ["circular import", "unknown module"], ["unknown sort"], ["sort cycle", "bad axioms", "attributes disagree"],
     ["not preregular", "not associative", "low identity"]]) for kind in kinds}
 LAST_STAGE = 7
+# Of one equation or rule texts come first, then the terms that they spell, and then what these are together.
+OF_TERMS = {"too deep": 1, "number too large": 1, "lone variable": 2, "unbound variable": 3, "bad object": 4}
 OF_FORMS = ("not in this profile", "bad statement")
 
 
@@ -42,8 +44,8 @@ class Copy:
         return Copy(self.word, lines)
 
     def text(self, name):
-        end = "endfm" if self.word == "fmod" else "endm"
-        lines = [f"{self.word} {name} is", *(spelled(words).replace("\n", " ") for _, words in self.lines), end]
+        lines = [f"{self.word} {name} is", *(spelled(words).replace("\n", " ") for _, words in self.lines),
+                 ENDS[self.word]]
         return "\n".join(lines) + "\n"
 
 
@@ -123,9 +125,8 @@ def is_better(told, before):
     """Whether a changed module is accepted, or its first fault comes behind the one that was told before."""
     if told is None:
         return True
-    stage, old_stage = STAGES.get(told[1], LAST_STAGE), STAGES.get(before[1], LAST_STAGE)
-    return (stage, told[0]) > (old_stage, before[0]) or stage == old_stage and told[1:] != before[1:] \
-        and told[0] >= before[0]
+    one, other = ((STAGES.get(kind, LAST_STAGE), number, OF_TERMS.get(kind, 0)) for number, kind, _ in (told, before))
+    return one > other or one == other and told[1:] != before[1:]
 
 
 def base_of(unit, units, with_it=False):

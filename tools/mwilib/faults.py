@@ -1,13 +1,11 @@
 """What is shown for each kind of refusal: the token, notes, and mendings."""
 import os
 
-from . import forms, names, pages, readings, terms
+from . import forms, names, objects, pages, readings, terms
 from .asking import LAST_STAGE, STAGES, Copy, Unsure, base_of, is_better
 from .findings import Finding, shown
-from .sources import ENDS, IMPORTS
+from .sources import ENDS, IMPORTS, SUBSORTS
 from .terms import Terms, parts_of, text_in
-
-SUBSORTS = ("subsort", "subsorts")
 
 
 def first_with(tokens, text, start=0):
@@ -156,18 +154,18 @@ def of_what_joins(fault):
     finding = Finding(statement[min(1, len(statement) - 1)], ["without this statement `mw` doesn't refuse this"])
     finding.also += [(fault.unit.statements[at][0], "or without this one") for at, _, _ in mending[:-1]]
     rows = pages.refusals()[fault.kind]
-    finding.mends += [rows[1][1]] if len(rows) > 1 else []
+    finding.mends += [rows[-1][1]] if len(rows) > 1 else []
     return finding
 
 
 def attribute_places(statement, number):
-    """The places of attributes that say something."""
-    for at, token in enumerate(statement):
-        if token.text in ("assoc", "comm"):
+    """The places of attributes that say something, frozen arguments first."""
+    for at, token in sorted(enumerate(statement), key=lambda place: place[1].text != "frozen"):
+        if token.text in ("assoc", "comm") or token.text == "frozen" and statement[at + 1].text != "(":
             yield number, at, at + 1
         elif token.text in ("id:", "prec"):
             yield number, at, at + 2
-        elif token.text == "gather":
+        elif token.text in ("gather", "frozen"):
             yield number, at, next((last for last in range(at, len(statement)) if statement[last].text == ")"), at) + 1
 
 
@@ -176,6 +174,8 @@ def at_place(fault, place, declared):
     statement = fault.unit.statements[number]
     what = f"`{shown(statement[first:last])}`" if first is not None else "this declaration"
     finding = Finding(statement[1 if first is None else first], [f"without {what} `mw` doesn't refuse this"])
+    if first is not None and statement[first].text == "frozen":
+        finding.mend("frozen arguments")
     others = [fault.unit.statements[other][1] for other in declared if other != number]
     finding.also += [(token, "it is declared here too") for token in others]
     return finding
@@ -254,6 +254,44 @@ def with_variables(fault, finding, token):
     return finding
 
 
+def bad_object(fault):
+    """The object of a rule that can't be completed: where an attribute, a name or another class comes again."""
+    sides = [objects.written(part) for part, _ in parts_of(fault.tokens)[:2]]
+    again = objects.named_twice(sides) or objects.repetition(sides)
+    if again:
+        finding = Finding(again.token, [f"`{again.text}` stands here for the second time"])
+        finding.also.append((again.first, "it stands here too"))
+        return without_tokens(fault, finding.mend(again.mistake), again.span)
+    changed = objects.other_class(sides)
+    if changed is None:
+        return Finding()
+    finding = Finding(changed.token, [f"`{changed.text}` is of the class {changed.first.text} on the left"])
+    finding.also.append((changed.first, "there it has this class"))
+    finding.near = [changed.first.text]
+    return with_token(fault, finding.mend("an object of another class"), changed.token, changed.first.text)
+
+
+def with_token(fault, finding, token, text):
+    """Says whether another word in the place of a token mends the statement."""
+    if is_mended(fault, [text if other is token else other.text for other in fault.tokens]):
+        finding.tried.append(f"`{text}` in place of `{token.text}`")
+    return finding
+
+
+def without_tokens(fault, finding, span):
+    """Says whether the statement is mended without these tokens."""
+    if is_mended(fault, [token.text for token in fault.tokens if not any(token is other for other in span)]):
+        finding.tried.append(f"without `{shown(span)}`")
+    return finding
+
+
+def is_mended(fault, words):
+    """Whether these words in the place of the statement mend its module."""
+    copy = Copy.of(fault.unit, fault.number)
+    changed = copy.with_lines([(at, words if at == fault.number else line) for at, line in copy.lines])
+    return is_better(fault.asker.copies(base_of(fault.unit, fault.accepted), [changed])[0], fault.told)
+
+
 def open_term(fault):
     """The first token that `mw` takes for a variable."""
     asked = Terms(fault)
@@ -298,8 +336,8 @@ FINDERS = {
     "not preregular": of_operator, "not associative": of_operator, "low identity": of_operator,
     "no parse": terms.no_parse, "ambiguous": readings.ambiguous, "unended module": unended_module,
     "unended command": unended_command, "lone variable": lone_variable, "unbound variable": unbound_variable,
-    "open term": open_term, "bad bound": bad_bound, "no module": no_module, "number too large": number_too_large,
-    "term too long": whole_place, "too deep": whole_place}
+    "bad object": bad_object, "open term": open_term, "bad bound": bad_bound, "no module": no_module,
+    "number too large": number_too_large, "term too long": whole_place, "too deep": whole_place}
 
 
 def finding_of(fault):

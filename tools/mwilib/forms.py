@@ -2,8 +2,9 @@
 from . import names, pages
 from .asking import longest
 from .findings import Finding, counted, shown
-from .sources import ENDS, MODULES
+from .sources import ENDS, MODULES, OF_OBJECTS, SUBSORTS
 
+OPERATORS = ("op", "ops", "msg", "msgs")
 CLOSING = {"(": ")", "[": "]", "{": "}"}
 MOST_SORTS = 6
 SIDES = ["x", "= x", "x = x", "l ] : x = x", "] : x = x", ": x = x", "nonexec ]", "]", 'l ]', '"" ]']
@@ -15,27 +16,30 @@ def tails_of(tokens):
     word = tokens[0]
     if word in ("sort", "sorts"):
         return ["", "S"]
-    if word in ("subsort", "subsorts"):
+    if word in SUBSORTS:
         return ["", "S", "< S"]
+    if word == "class":
+        return ["", "C", "S", ": S", "x : S"]
     if word in ("var", "vars"):
         return ["", "S", ": S", "X : S"]
     if word in names.IMPORTS:
         return ["", "M"]
-    if word in ("op", "ops"):
-        return tails_of_operator()
+    if word in OPERATORS:
+        return tails_of_operator("S" if word in ("op", "ops") else "Msg")
     sides = [side.replace("=", "=>") if word in ("rl", "crl") else side for side in SIDES]
     if word in ("ceq", "cq", "crl"):
         sides = [*sides, *(f"{side} if x" for side in sides), "if x"]
     return ["", *sides]
 
 
-def tails_of_operator():
+def tails_of_operator(sort):
     sorts = ["S " * count for count in range(MOST_SORTS)]
-    values = [f"{some}-> S" for some in sorts]
+    values = [f"{some}-> {sort}" for some in sorts]
     marks = ["e " * count + ") ]" for count in range(MOST_SORTS)]
-    ends = ["", "S", "S ]", *ATTRIBUTES, *marks, *(f"( {mark}" for mark in marks)]
+    ends = ["", sort, f"{sort} ]", *ATTRIBUTES, *marks, *(f"( {mark}" for mark in marks), "1 ) ]", "( 1 ) ]"]
     named = [f": {value}" for value in values]
-    return [*ends, *values, *named, *(f") {value}" for value in named), "S ] -> S", "] -> S", "x : -> S"]
+    return [*ends, *values, *named, *(f") {value}" for value in named), f"S ] -> {sort}", f"] -> {sort}",
+            f"x : -> {sort}"]
 
 
 def closers(words):
@@ -52,7 +56,7 @@ def closers(words):
 def ends_for(words):
     """Ends behind a beginning, with its open brackets closed first or not."""
     tails = [tail.split() for tail in tails_of(words)]
-    closed = closers(words) if words[0] not in ("op", "ops") else []
+    closed = closers(words) if words[0] not in OPERATORS else []
     return tails + [[*closed, *tail] for tail in tails if closed] + [["x", *closed, *tail] for tail in tails if closed]
 
 
@@ -117,9 +121,11 @@ def words_for(words, at):
     """The words that may be meant by one of a statement."""
     if at == 0:
         return names.STATEMENTS
+    if words[0] in ("msg", "msgs") and words[at - 1] in ("->", "~>"):
+        return ["Msg"]
     opened = max((place for place in range(at) if words[place] == "["), default=None)
     if opened is not None and "]" not in words[opened:at]:
-        return names.ATTRIBUTES if words[0] in ("op", "ops") else names.OF_STATEMENTS
+        return names.ATTRIBUTES if words[0] in OPERATORS else names.OF_STATEMENTS
     return names.MARKS
 
 
@@ -129,7 +135,7 @@ def near_words(fault, tokens, most):
     for at in range(most):
         asked += [(at, name) for name in names.near(words[at], words_for(words, at))]
         asked += [(at, name) for name in ("->", "=>", "=", "~>", ":=", ":") if at and len(words[at]) <= 2
-                  and words[at] not in names.MARKS + list("()[]{},_") and not words[at].isalnum()]
+                  and words[at] not in names.MARKS + list("()[]{},_") and not any(map(str.isalnum, words[at]))]
         asked += [(at, name) for name in ("->", "=", "=>", ":") if at and words[at] in ("=>", "=", "->", ":", "::")
                   and name != words[at]]
     have = fault.asker.have_forms(fault.unit.word, [[*words[:at], name, *words[at + 1:]] for at, name in asked])
@@ -198,13 +204,17 @@ def at_token_behind(fault, tokens, count, end):
         return of_first_word(fault, finding)
     how = f"it can with `{' '.join(end)} .`" if end else "it can end there"
     finding.notes.append(f"`{shown(tokens[:count])}` doesn't go on with `{token.text}` in any form; {how}")
+    if word == "class" and with_bar(fault, tokens, count, finding):
+        return of_form(finding, word)
     if token.text in pages.mistakes():
         return finding.mend(token.text)
-    more = of_operator(tokens, count) if word in ("op", "ops") else None
+    if tokens[count - 1].text == "frozen":
+        return finding.mend("frozen arguments")
+    more = of_operator(tokens, count) if word in OPERATORS else None
     if more:
         finding.notes.append(more)
         return finding.mend("holes and sorts")
-    if word in ("op", "ops") and in_brackets(fault, tokens, count, finding):
+    if word in OPERATORS and in_brackets(fault, tokens, count, finding):
         return finding
     if fault.kind == "bad statement":
         of_form(finding, word)
@@ -220,6 +230,18 @@ def in_brackets(fault, tokens, count, finding):
         return False
     finding.mend("attributes without brackets").tried.append(f"`[{' '.join(words[count:])}]`")
     return True
+
+
+def with_bar(fault, tokens, count, finding):
+    """Whether a class is of its form with a bar, a comma or a colon in front of the token."""
+    words = [token.text for token in tokens if token.text != "." or token is not tokens[-1]]
+    marks = ("|", ",", ":")
+    have = fault.asker.have_forms(fault.unit.word, [[*words[:count], mark, *words[count:], "."] for mark in marks])
+    good = [mark for mark, has_form in zip(marks, have) if has_form]
+    if len(good) == 1:
+        finding.notes.append(f"`{good[0]}` is missing")
+        finding.tried.append(f"`{good[0]}` in front of `{words[count]}`")
+    return len(good) == 1
 
 
 def with_mark(fault, tokens, end):
@@ -264,7 +286,7 @@ def of_operator(tokens, count):
         return None
     colon = words.index(":")
     sorts = len([word for word in words[colon + 1:-1] if word not in "[]"])
-    for name in names.names_of(tokens[1:colon], words[0] == "ops"):
+    for name in names.names_of(tokens[1:colon], words[0] in ("ops", "msgs")):
         holes = [piece for token in name for piece in names.PIECE.findall(token.text)].count("_")
         if holes and holes != sorts:
             return f"`{shown(name)}` has {counted(holes, 'hole')}, and {counted(sorts, 'sort')} in front of the arrow"
@@ -275,12 +297,13 @@ def of_first_word(fault, finding):
     """A first word that begins no statement here."""
     word = finding.token.text
     if fault.kind == "bad statement":
-        other = fault.asker.have_forms("mod", [[token.text for token in fault.tokens[:-1]] + ["."]])[0]
-        finding.notes.append(f"`{word}` stands in system modules only" if other else
-                             f"`{word}` stands in object modules only")
-        finding.mend("a rule in a functional module" if other else "a statement of object modules")
-        if other:
-            finding.tried.append("the statement in a module `mod .. endm`")
+        is_rule = word not in OF_OBJECTS
+        kind = "mod" if is_rule else "omod"
+        has_form = fault.asker.have_forms(kind, [[token.text for token in fault.tokens[:-1]] + ["."]])[0]
+        finding.notes.append(f"`{word}` stands in {'system and ' if is_rule else ''}object modules only")
+        finding.mend("a rule in a functional module" if is_rule else "a statement of object modules")
+        if has_form:
+            finding.tried.append(f"the statement in a module `{kind} .. {ENDS[kind]}`")
         return finding
     if word in pages.mistakes():
         return finding.mend(word)
@@ -323,7 +346,7 @@ def of_unit(fault):
     elif token.text in names.STATEMENTS:
         finding.mends.clear()
         finding.notes.append("a statement stands in a module, and none is open here")
-        finding.mend("a statement outside of a module")
+        finding.mend("a statement of object modules" if token.text in OF_OBJECTS else "a statement outside of a module")
     else:
         finding.notes.append(f"`{token.text}` begins no module and no command")
     return finding

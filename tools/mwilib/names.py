@@ -4,17 +4,17 @@ from functools import cached_property
 import re
 
 from . import pages
-from .sources import IMPORTS
+from .sources import IMPORTS, OF_OBJECTS, SUBSORTS
 
 PIECE = re.compile(r"_|[()\[\]{},]|[^_`()\[\]{},]+")
 STATEMENTS = ["sort", "sorts", "subsort", "subsorts", "op", "ops", "var", "vars", "eq", "ceq", "cq", "rl", "crl",
-              *IMPORTS]
-UNITS = ["fmod", "mod", "endfm", "endm"]
+              *OF_OBJECTS, *IMPORTS]
+UNITS = ["fmod", "mod", "omod", "endfm", "endm", "endom"]
 COMMANDS = ["reduce", "red", "rewrite", "rew", "parse", "match", "xmatch"]
-ATTRIBUTES = ["assoc", "comm", "id:", "prec", "gather", "ctor", "ditto", "memo", "config", "object", "message",
-              "format", "metadata"]
-OF_STATEMENTS = ["nonexec", "label", "metadata"]
-MARKS = [":", "->", "~>", "=", "=>", ":=", "/\\", "<", "if", "<=?"]
+ATTRIBUTES = ["assoc", "comm", "id:", "prec", "gather", "frozen", "ctor", "ditto", "memo", "config", "object",
+              "message", "format", "metadata"]
+OF_STATEMENTS = ["nonexec", "label", "metadata", "owise"]
+MARKS = [":", "->", "~>", "=", "=>", ":=", "/\\", "<", "|", "if", "<=?"]
 MOST_NEAR = 3
 ENCLOSING = {"(": 1, "[": 1, "{": 1, "if": 1, ")": -1, "]": -1, "}": -1, "fi": -1}
 
@@ -116,10 +116,14 @@ class Scope:
         words = [token.text for token in statement]
         if words[0] in ("sort", "sorts"):
             self.sorts |= {token.text: token for token in statement[1:-1]}
-        elif words[0] in ("subsort", "subsorts"):
+        elif words[0] in SUBSORTS:
             self.pairs += pairs_of(words[1:-1])
-        elif words[0] in ("op", "ops") and ":" in words:
+        elif words[0] in ("op", "ops", "msg", "msgs") and ":" in words:
             self.operators += declared_in(statement, words.index(":"))
+        elif words[0] == "class" and words[2:]:
+            self.sorts[words[1]] = statement[1]
+            self.pairs.append((words[1], "Cid"))
+            self.operators += declared_by_class(statement)
         elif words[0] in ("var", "vars") and own and ":" in words:
             colon = words.index(":")
             self.variables |= {token.text: words[colon + 1] for token in statement[1:colon] if words[colon + 1:]}
@@ -159,7 +163,19 @@ def declared_in(statement, colon):
     values = [word for word in words[arrow + 1:arrow + 4] if word not in "[]."]
     behind = arrow + (4 if words[arrow + 1:arrow + 2] == ["["] else 2)
     return [Declared(name, arguments, values[0] if values else "", words[behind + 1:-2], statement)
-            for name in names_of(statement[1:colon], words[0] == "ops") if name]
+            for name in names_of(statement[1:colon], words[0] in ("ops", "msgs")) if name]
+
+
+def declared_by_class(statement):
+    """The operators that a class declares: its constant, and for each attribute one with the hole for a value."""
+    name = statement[1]
+    found = [Declared([name], [], name.text, [], statement)]
+    for at, token in enumerate(statement[:-2]):
+        if token.text in ("|", ",") and statement[at + 2].text == ":" and len(statement) > at + 3:
+            hole = token._replace(text="_")
+            found.append(Declared([statement[at + 1], statement[at + 2], hole], [statement[at + 3].text], "Attribute",
+                                  [], statement))
+    return found
 
 
 def reached(unit, units):

@@ -17,7 +17,8 @@ def page(name):
 
 
 def cells_of(line):
-    return [cell.strip() for cell in line.strip().strip("|").split(" | ")]
+    """The cells of a row of a table, in which a bar is written `\\|`."""
+    return [cell.strip().replace("\\|", "|") for cell in re.split(r"(?<!\\)\|", line.strip())[1:-1]]
 
 
 def rows_below(name, heading):

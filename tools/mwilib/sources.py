@@ -8,7 +8,9 @@ from .texts import File, Token, spelled
 
 ENDS = {"fmod": "endfm", "mod": "endm", "omod": "endom", "fth": "endfth", "th": "endth", "oth": "endoth",
         "view": "endv", "smod": "endsm"}
-MODULES = ("fmod", "mod")
+MODULES = ("fmod", "mod", "omod")
+SUBSORTS = ("subsort", "subsorts", "subclass", "subclasses")
+OF_OBJECTS = ("class", "subclass", "subclasses", "msg", "msgs")
 IMPORTS = ("protecting", "pr", "extending", "ex", "including", "inc")
 EQUATIONS = ("eq", "ceq", "cq", "rl", "crl")
 LOADS = ("load", "in")
@@ -49,7 +51,9 @@ class Unit:
 
     @cached_property
     def imports(self):
-        return [words[1].text for words in self.statements if words[0].text in IMPORTS and len(words) > 1]
+        """The names of the modules that it imports; of an object module CONFIGURATION first."""
+        written = [words[1].text for words in self.statements if words[0].text in IMPORTS and len(words) > 1]
+        return [*(["CONFIGURATION"] if self.word == "omod" else []), *written]
 
     @cached_property
     def lines(self):

@@ -6,6 +6,7 @@ from . import names
 from .asking import Copy, Unsure, base_of, longest
 from .findings import Finding, counted, quoted, shown
 from .forms import at_missing_stop, closers, first_part, stop_splits
+from .sources import SUBSORTS
 from .texts import spelled
 
 READ = (None, "ambiguous", "open term", "too deep", "number too large")
@@ -37,6 +38,11 @@ def levels_of(words):
         elif word == "," and opened:
             opened[-1].commas += 1
     return opened
+
+
+def inside_of(words):
+    """The words behind the last bracket that opens."""
+    return words[max((at for at, word in enumerate(words) if word in BRACKETS), default=-1) + 1:]
 
 
 class Terms:
@@ -96,21 +102,30 @@ class Terms:
 
     def ends(self, words):
         """Ends with which a beginning may spell a term, short ones first."""
-        levels = levels_of(words)[::-1]
-        start = max((at for at, word in enumerate(words) if word in BRACKETS), default=-1) + 1
+        levels, inside = levels_of(words)[::-1], inside_of(words)
         for wildcard in self.wildcards() or [""]:
             outer = list(islice(product(*(self.ends_of_level(level, wildcard) for level in levels)), MOST_LEVELS))
-            inner = [[], [wildcard], *self.rests(words[start:], wildcard)]
+            inner = [[], [wildcard], *self.rests(inside, wildcard)]
             for end in inner:
                 for ends in outer:
                     yield [*filter(None, end), *(word for part in ends for word in part)]
+
+    def nested_ends(self, words):
+        """Ends by which one more mixfix form is closed, as an object is behind its last attribute."""
+        wildcard = (self.wildcards() or [""])[0]
+        rests = self.rests(inside_of(words), wildcard)
+        closing = [rest for rest in rests if not any(word.startswith("W:") for word in rest)]
+        levels = [word for level in levels_of(words)[::-1] for word in self.ends_of_level(level, wildcard)[0] if word]
+        for last in closing:
+            yield from ([*end, *last, *levels] for end in rests)
 
     def longest_beginning(self, words):
         """How many tokens can still be read, and the shortest end with which they are."""
         ends = {}
 
         def are_viable(lengths):
-            asked = [(length, end) for length in lengths for end in islice(self.ends(words[:length]), MOST_ENDS)]
+            asked = [(length, end) for length in lengths for ends in (self.ends, self.nested_ends)
+                     for end in islice(ends(words[:length]), MOST_ENDS)]
             asked = list({(length, *end): (length, end) for length, end in asked}.values())
             for (length, end), is_read in zip(asked, self.are_read([[*words[:length], *end] for length, end in asked])):
                 if is_read and (length not in ends or len(end) < len(ends[length])):
@@ -329,6 +344,8 @@ def of_kind(terms, tokens, count, end, finding):
     answers = terms.answers([words[:length] for length in range(1, len(words) + 1)])
     found = next(((length, answer.value("sort")) for length, answer in enumerate(answers, 1)
                   if answer.refusal is None), None)
+    if words[0] in terms.scope.variables:
+        found = found or (1, terms.scope.variables[words[0]])
     if found and end and end[0].startswith("W:"):
         text, wanted = shown(tokens[count:count + found[0]]), terms.scope.kinds.get(end[0][2:])
         finding.notes.append(f"`{text}` has the sort {found[1]}; here the kind [{wanted}] is wanted")
@@ -455,6 +472,8 @@ def changes_of_arguments(text):
     if text.token is None:
         return
     at = text.count
+    if text.words[at - 1:at + 1] == ["|", ">"]:
+        yield "an object without attributes", "`none` in front of `>`", text.put(at, 0, "none")
     yield "a missing comma", f"`,` in front of `{text.words[at]}`", text.put(at, 0, ",")
     if text.words[at] == ",":
         end = end_of_arguments(text.words, at)
@@ -508,7 +527,7 @@ def of_swallowed(text):
 def swallowed(unit):
     """Words that begin a statement, but stand as names of sorts or variables at the beginning of a line."""
     for statement in unit.statements if unit.is_module else []:
-        if statement[0].text in ("sort", "sorts", "var", "vars", "subsort", "subsorts"):
+        if statement[0].text in ("sort", "sorts", "var", "vars", *SUBSORTS):
             yield from (token for token in statement[1:] if token.text in names.STATEMENTS and token.is_first_of_line)
 
 

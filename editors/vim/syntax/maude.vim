@@ -4,12 +4,12 @@ if exists("b:current_syntax")
 endif
 
 syn case match
-syn keyword maudeModule fmod mod endfm endm is
-syn keyword maudeStatement sort sorts subsort subsorts op ops var vars eq ceq cq rl crl protecting pr extending ex including inc
+syn keyword maudeModule fmod mod omod endfm endm endom is
+syn keyword maudeStatement sort sorts subsort subsorts op ops var vars eq ceq cq rl crl class subclass subclasses msg msgs protecting pr extending ex including inc
 syn keyword maudeCommand reduce red rewrite rew parse match xmatch
-syn keyword maudeAttribute assoc comm prec gather ctor ditto memo config object message format metadata
+syn keyword maudeAttribute assoc comm prec gather frozen ctor ditto memo config object message format metadata
 syn match maudeAttribute /\%(^\|[ \t(\[{]\)\@<=id:\%($\|[ \t)\]}]\)\@=/
-syn keyword maudeAttribute nonexec label metadata
+syn keyword maudeAttribute nonexec label metadata owise
 syn keyword maudePrelude BOOL NAT QID CONFIGURATION
 syn keyword maudeLine load in set show eof quit q
 syn keyword maudeTerm if then else fi true false
@@ -22,6 +22,7 @@ syn match maudeMark /\%(^\|[ \t(\[{]\)\@<==>\%($\|[ \t)\]}]\)\@=/
 syn match maudeMark /\%(^\|[ \t(\[{]\)\@<=:=\%($\|[ \t)\]}]\)\@=/
 syn match maudeMark /\%(^\|[ \t(\[{]\)\@<=\/\\\%($\|[ \t)\]}]\)\@=/
 syn match maudeMark /\%(^\|[ \t(\[{]\)\@<=<\%($\|[ \t)\]}]\)\@=/
+syn match maudeMark /\%(^\|[ \t(\[{]\)\@<=|\%($\|[ \t)\]}]\)\@=/
 syn match maudeMark /\%(^\|[ \t(\[{]\)\@<=<=?\%($\|[ \t)\]}]\)\@=/
 syn match maudeComment /\%(\*\*\*\|---\)(\@!.*$/
 syn region maudeComment start=/\%(\*\*\*\|---\)(/ end=/)/ contains=maudeNested
