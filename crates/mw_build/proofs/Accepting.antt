@@ -108,5 +108,5 @@ objects_so sig word ss ts w e (Ok (Some K)) h = of_objects K w (subst (λ us. Ar
 -- which are classes of its signature
 pub objects_there : (sig : Signature) → IsAcceptedSignature sig → (word : List ℕ) (ss : List SeenLined) (o : Option Classes) → AreObjectsOf word sig ss o → IfSome o (AreClasses sig)
 objects_there sig ok word ss o (of_objects K w is) = classes_there sig ok ss K is
-objects_there sig ok word ss o (of_no_configuration w no) = tt
-objects_there sig ok word ss o (of_others no) = tt
+objects_there sig ok word ss o (of_no_configuration w not) = tt
+objects_there sig ok word ss o (of_others not) = tt

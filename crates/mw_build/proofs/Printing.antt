@@ -290,7 +290,7 @@ texts_read_back texts a t of raw printable identifiers =
     raw printable identifiers
 
 pub spellings_are_whole : SpellingsAreWhole
-spellings_are_whole texts a of = whole of.units of.modules (before texts a of).proper of.unit (made texts a of).statements a.name of.reached a of.accepted
+spellings_are_whole texts a of = whole of.units of.modules (before texts a of).proper (declared_unit of.unit) (made texts a of).statements a.name of.reached a of.accepted
 
 pub statements_are_printable : StatementsArePrintable
 statements_are_printable texts a k st of is =

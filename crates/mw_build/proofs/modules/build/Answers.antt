@@ -8,6 +8,7 @@ use Rattle.mw_module.specs.Units.{seen_lined, seen_unit}
 use Rattle.mw_module.specs.declared.units.Lined.{Lined}
 use Rattle.mw_module.proofs.Causes.{passed_on}
 use Rattle.mw_import.specs.Flat.{IsFlat, ImportFault}
+use Rattle.mw_declare.specs.declared.declarations.Declarations.{Declarations}
 use Rattle.mw_declare.specs.Faults.{typing_of}
 use Rattle.mw_declare.specs.Declarations.{Declares, DeclarationFault}
 use Rattle.mw_build.specs.Sides.{sides_of}
@@ -49,9 +50,10 @@ pub declared_module-requires-clause-classes : goal.declared_module-requires-clau
 declared_module-requires-clause-classes c =
     let d = c.in_ok-declarations.declarations.value in
     let u = seen_unit c.args.unit.now in
-    some_copied (AreClasses d.signature) c.as_ref.result
-    (subst (λ (o : Option Classes). IfSome o (AreClasses d.signature)) (sym c.as_ref.ensures.value)
-    (objects_there d.signature c.in_ok-declarations.ensures.accepted u.word (flattened c.args.units.now u c.in_ok-flat.flat) c.in_ok-classes.classes c.in_ok-classes.ensures))
+    some_copied (AreClasses d.signature) c.as_ref-objects.result
+    (subst (λ (o : Option Classes). IfSome o (AreClasses d.signature)) (sym c.as_ref-objects.ensures.value)
+    (objects_there d.signature c.in_ok-declarations.ensures.accepted u.word (flattened c.args.units.now u c.in_ok-flat.flat) c.in_ok-classes.classes
+    (subst (λ (x : Declarations). AreObjectsOf u.word x.signature (flattened c.args.units.now u c.in_ok-flat.flat) c.in_ok-classes.classes) c.deref.ensures c.in_ok-classes.ensures)))
 
 pub declared_module-requires-clause-declared : goal.declared_module-requires-clause-declared
 declared_module-requires-clause-declared c =
@@ -88,8 +90,9 @@ returns-in_err-module-clause-fault c =
       typed = subst (λ (ts : List Lined). typing_of (map seen_lined ts) ≡ Ok c.in_ok-typing.typing) c.as_slice.ensures.value c.in_ok-typing.ensures.typed;
       flat = subst (λ (ts : List Lined). IsFlat us (map seen_lined ts) c.in_ok-flat.flat) c.as_slice-3.ensures.value c.in_ok-flat.ensures.flat;
     } in
-    let objects = option_map (λ (K : Bor Classes). K.now) c.as_ref.result in
-    let are = subst (AreObjectsOf u.word d.signature (flattened us u c.in_ok-flat.flat)) (sym c.as_ref.ensures.value) c.in_ok-classes.ensures in
+    let objects = option_map (λ (K : Bor Classes). K.now) c.as_ref-objects.result in
+    let are = subst (AreObjectsOf u.word d.signature (flattened us u c.in_ok-flat.flat)) (sym c.as_ref-objects.ensures.value)
+    (subst (λ (x : Declarations). AreObjectsOf u.word x.signature (flattened c.args.units.now u c.in_ok-flat.flat) c.in_ok-classes.classes) c.deref.ensures c.in_ok-classes.ensures) in
     passed_on (StatementsFault u.line d objects (origins_of ms c.as_slice-5.result.now) (sides_of u.statements)) (IsRefused us ms u c.args.name)
     (λ f h. by_statements c.in_ok-typing.typing c.in_ok-flat.flat d objects flat
     (subst (λ (n : List ℕ). Declares (reached_of us n c.in_ok-flat.flat) c.in_ok-typing.typing (flattened us u c.in_ok-flat.flat) d) c.as_slice-4.ensures c.in_ok-declarations.ensures.declared) are
@@ -102,7 +105,7 @@ returns-clause-accepted c =
     let ms = c.args.modules.now in
     let u = seen_unit c.args.unit.now in
     let d = c.in_ok-declarations.declarations.value in
-    let objects = option_map (λ (K : Bor Classes). K.now) c.as_ref.result in
+    let objects = option_map (λ (K : Bor Classes). K.now) c.as_ref-objects.result in
     record {
       typing = c.in_ok-typing.typing;
       flat = record {
@@ -112,6 +115,7 @@ returns-clause-accepted c =
       declarations = d;
       declared = subst (λ (n : List ℕ). Declares (reached_of us n c.in_ok-flat.flat) c.in_ok-typing.typing (flattened us u c.in_ok-flat.flat) d) c.as_slice-4.ensures c.in_ok-declarations.ensures.declared;
       objects = objects;
-      classes = subst (AreObjectsOf u.word d.signature (flattened us u c.in_ok-flat.flat)) (sym c.as_ref.ensures.value) c.in_ok-classes.ensures;
+      classes = subst (AreObjectsOf u.word d.signature (flattened us u c.in_ok-flat.flat)) (sym c.as_ref-objects.ensures.value)
+          (subst (λ (x : Declarations). AreObjectsOf u.word x.signature (flattened c.args.units.now u c.in_ok-flat.flat) c.in_ok-classes.classes) c.deref.ensures c.in_ok-classes.ensures);
       holds = subst (λ (ks : List ℕ). IsDeclaredModule c.args.name d objects (origins_of ms ks) (sides_of u.statements) c.in_ok-module.module) c.as_slice-5.ensures c.in_ok-module.ensures.holds;
     }
