@@ -20,7 +20,7 @@ module _ (sig : Signature) where
   pub no_sort : (name : List ℕ) → IsFound (length sig.sorts) (λ S. IsSortNamed sig S name) None → (S : ℕ) → IsSortNamed sig S name → ⊥
   no_sort name none S named = none S (within_at sig.sorts S name named).1 named
 
-  first_named : (Ss : List ℕ) (name : List ℕ) (names : List (List ℕ)) → AreNamed sig Ss (name ∷ names) → (S : ℕ) × (Ts : List ℕ) × IsSortNamed sig S name × AreNamed sig Ts names
+  pub first_named : (Ss : List ℕ) (name : List ℕ) (names : List (List ℕ)) → AreNamed sig Ss (name ∷ names) → (S : ℕ) × (Ts : List ℕ) × IsSortNamed sig S name × AreNamed sig Ts names
   first_named [] name names n = absurd n
   first_named (S ∷ Ss) name names n = (S, Ss, n.0, n.1)
 

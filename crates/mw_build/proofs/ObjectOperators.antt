@@ -1,5 +1,5 @@
 -- Operators on the kinds of sorts: what is looked up by kinds, and what is told by the names of sorts.
-use Rattle.std.proofs.Common.{◌≡◌, ◌∙◌, ℕ, List, [], ◌∷◌, length, Option, Some, None, inl, inr, refl, sym, ap, subst}
+use Rattle.std.proofs.Common.{◌≡◌, ◌∙◌, ◌≤◌, ℕ, List, [], ◌∷◌, length, Option, Some, None, inl, inr, refl, sym, ap, subst}
 use Rattle.mw_logic.specs.Signature.{Signature, IsSortNamed, SameKind, Member}
 use Rattle.mw_logic.specs.Accepted.{IsAccepted}
 use Rattle.mw_logic.specs.Preregular.{IsSortOf}
@@ -50,6 +50,11 @@ module _ (sig : Signature) where
       result = kind-with sig S is.operator.result p.result (SameKind-sym is.gives) one;
     };
   })
+
+  -- what is found is the number of an operator
+  pub found_within : (spelling : List ℕ) (Ss : List ℕ) (S : ℕ) (o : Option ℕ) (f : ℕ) → o ≡ Some f → Finds (IsOperatorAt sig spelling Ss S) o → f ≤ length sig.operators
+  found_within spelling Ss S o f k is =
+      let at : IsOperatorAt sig spelling Ss S f = subst (Finds (IsOperatorAt sig spelling Ss S)) k is in (within_at sig.operators f at.operator at.is_there).1
 
   -- sorts of these names are there
   pub named_there : (Ss : List ℕ) (names : List (List ℕ)) → AreNamed sig Ss names → (S : ℕ) → Member S Ss → IsSortOf sig S

@@ -18,7 +18,7 @@ same_roles [] (y ∷ ys) n h = cc
 same_roles (x ∷ xs) [] n h = cc
 same_roles (x ∷ xs) (y ∷ ys) n h =
     let first : x ≡ y = h 1 in
-    let rest : xs ≡ ys = same_roles xs ys cc behind in
+    let rest : xs ≡ ys = same_roles xs ys (cc n) behind in
     ap (λ z. z ∷ xs) first ∙ ap (λ zs. y ∷ zs) rest
   where
     behind : (f : ℕ) → role_in xs f ≡ role_in ys f
@@ -62,11 +62,11 @@ module _ (sig : Signature) (ok : IsAccepted sig) where
 
     pub one_objects : (word : List ℕ) (ss : List SeenLined) (o p : Option Classes) → AreObjectsOf word sig ss o → AreObjectsOf word sig ss p → o ≡ p
     one_objects word ss o p (of_objects K w k) (of_objects L v l) = ap Some (one_classes ss K L k l)
-    one_objects word ss o p (of_objects K w k) (of_no_configuration v no) = absurd (no K k.configuration)
-    one_objects word ss o p (of_objects K w k) (of_others no) = absurd (no w)
-    one_objects word ss o p (of_no_configuration w no) (of_objects L v l) = absurd (no L l.configuration)
-    one_objects word ss o p (of_no_configuration w no) (of_no_configuration v not) = refl
-    one_objects word ss o p (of_no_configuration w no) (of_others not) = refl
-    one_objects word ss o p (of_others no) (of_objects L v l) = absurd (no v)
-    one_objects word ss o p (of_others no) (of_no_configuration v not) = refl
-    one_objects word ss o p (of_others no) (of_others not) = refl
+    one_objects word ss o p (of_objects K w k) (of_no_configuration v missing) = absurd (missing K k.configuration)
+    one_objects word ss o p (of_objects K w k) (of_others other) = absurd (other w)
+    one_objects word ss o p (of_no_configuration w missing) (of_objects L v l) = absurd (missing L l.configuration)
+    one_objects word ss o p (of_no_configuration w missing) (of_no_configuration v not) = refl
+    one_objects word ss o p (of_no_configuration w missing) (of_others not) = refl
+    one_objects word ss o p (of_others other) (of_objects L v l) = absurd (other v)
+    one_objects word ss o p (of_others other) (of_no_configuration v not) = refl
+    one_objects word ss o p (of_others other) (of_others not) = refl

@@ -1,8 +1,8 @@
 -- The roles of operators, with one declaration more.
-use Rattle.std.proofs.Common.{◌≡◌, ◌≢◌, ◌∙◌, ◌+◌, ◌<◌, ℕ, zero, suc, List, [], ◌∷◌, ◌++◌, length, map, take, get_or, append_assoc, Bool, true, false, nat_eq, replicate, refl, sym, ap, subst}
+use Rattle.std.proofs.Common.{◌≡◌, ◌≢◌, ◌∙◌, ◌+◌, ◌<◌, ℕ, zero, suc, List, [], ◌∷◌, ◌++◌, length, map, take, drop, get_or, append_assoc, Bool, true, false, nat_eq, replicate, refl, sym, ap, subst, arith}
 use Rattle.std.proofs.lemmas.Bool.{eqb-true, eq-eqb, both_ways}
-use Rattle.std.proofs.lemmas.List.{append-nil, map-append, length-replicate, take_more}
-use Rattle.mw_logic.specs.Signature.{Signature, IsSortNamed}
+use Rattle.std.proofs.lemmas.List.{append-nil, map-append, length-replicate, take_more, drop_all, take_all}
+use Rattle.mw_logic.specs.Signature.{Signature, IsSortNamed, Member}
 use Rattle.mw_module.specs.declared.classes.ClassAttribute.{ClassAttribute}
 use Rattle.mw_module.specs.declared.units.Stated.{Stated}
 use Rattle.mw_module.specs.Units.{SeenLined, seen_stated, seen_all}
@@ -22,7 +22,7 @@ none_in (suc n) (suc (suc i)) = none_in n (suc i)
 module _ (sig : Signature) where
   pub no_roles : (roles : List Role) → roles ≡ replicate (length sig.operators) role.Other → AreRolesOf sig [] roles
   no_roles roles e = record {
-    count = ap length e ∙ length-replicate role.Other (length sig.operators);
+    count = ap length e ∙ length-replicate (length sig.operators) role.Other;
     each = λ f. subst (IsRoleOf sig [] f) (sym (ap (λ rs. role_in rs f) e ∙ none_in (length sig.operators) f)) (of_none (λ d m p. m));
   }
 
@@ -34,22 +34,25 @@ module _ (sig : Signature) where
   module _ (ds : List Declared) (f : ℕ) where
     -- what an operator is that isn't declared so
     role_kept : (d : Declared) {r : Role} → (IsDeclaredAs sig f d → ⊥) → IsRoleOf sig ds f r → IsRoleOf sig (ds ++ d ∷ []) f r
-    role_kept d no (of_class name S first named) = of_class name S (first_before (IsDeclaredAs sig f) (d ∷ []) first) named
-    role_kept d no (of_attribute a S first named) = of_attribute a S (first_before (IsDeclaredAs sig f) (d ∷ []) first) named
-    role_kept d no (of_none none) = of_none (none_more (IsDeclaredAs sig f) d ds none no)
+    role_kept d lacks (of_class name S first named) = of_class name S (first_before (IsDeclaredAs sig f) (d ∷ []) first) named
+    role_kept d lacks (of_attribute a S first named) = of_attribute a S (first_before (IsDeclaredAs sig f) (d ∷ []) first) named
+    role_kept d lacks (of_none none) = of_none (none_more (IsDeclaredAs sig f) d ds none lacks)
 
-    -- and of one that is
+    -- what a declaration makes of one that is, where nothing before does
+    role_first : (d : Declared) (s : Role) → ((e : Declared) → Member e ds → IsDeclaredAs sig f e → ⊥) → IsDeclaredAs sig f d → IsTold d s → IsRoleOf sig (ds ++ d ∷ []) f s
+    role_first (a_constant name) s none is (S, e, named) =
+        subst (IsRoleOf sig (ds ++ a_constant name ∷ []) f) (sym e) (of_class name S (first_last (IsDeclaredAs sig f) (a_constant name) ds none is) named)
+    role_first (an_attribute a) s none is (S, e, named) =
+        subst (IsRoleOf sig (ds ++ an_attribute a ∷ []) f) (sym e) (of_attribute a S (first_last (IsDeclaredAs sig f) (an_attribute a) ds none is) named)
+
     role_told : (d : Declared) (s : Role) {r : Role} → IsDeclaredAs sig f d → IsTold d s → IsRoleOf sig ds f r → IsRoleOf sig (ds ++ d ∷ []) f (or_role r s)
     role_told d s is told (of_class name S first named) = of_class name S (first_before (IsDeclaredAs sig f) (d ∷ []) first) named
     role_told d s is told (of_attribute a S first named) = of_attribute a S (first_before (IsDeclaredAs sig f) (d ∷ []) first) named
-    role_told (a_constant name) s is (S, e, named) (of_none none) =
-        subst (IsRoleOf sig (ds ++ a_constant name ∷ []) f) (sym e) (of_class name S (first_last (IsDeclaredAs sig f) (a_constant name) ds none is) named)
-    role_told (an_attribute a) s is (S, e, named) (of_none none) =
-        subst (IsRoleOf sig (ds ++ an_attribute a ∷ []) f) (sym e) (of_attribute a S (first_last (IsDeclaredAs sig f) (an_attribute a) ds none is) named)
+    role_told d s is told (of_none none) = role_first d s none is told
 
   -- all of them, where no operator is declared so
   pub roles_kept : (ds : List Declared) (d : Declared) (roles : List Role) → ((f : ℕ) → IsDeclaredAs sig f d → ⊥) → AreRolesOf sig ds roles → AreRolesOf sig (ds ++ d ∷ []) roles
-  roles_kept ds d roles no are = record { count = are.count; each = λ f. role_kept ds f d (no f) (are.each f) }
+  roles_kept ds d roles lacks are = record { count = are.count; each = λ f. role_kept ds f d (lacks f) (are.each f) }
 
   -- and where g is, and no other one
   pub roles_told : (ds : List Declared) (d : Declared) (old new : List Role) (g : ℕ) (s : Role) → IsTold d s → IsDeclaredAs sig g d → ((f : ℕ) → IsDeclaredAs sig f d → f ≡ g)
@@ -83,3 +86,9 @@ pub declared_more : (ss : List Stated) (i : ℕ) (s : Stated) → i < length ss 
 declared_more ss i s low is =
     let taken : take (i + 1) ss ≡ take i ss ++ s ∷ [] = take_more ss i s low ∙ ap (λ t. take i ss ++ t ∷ []) (sym is) in
     sym (ap (λ ts. declared_in (seen_all ts)) taken ∙ ap declared_in (map-append seen_stated (take i ss) (s ∷ [])) ∙ declared_before (seen_all (take i ss)) (seen_stated s))
+
+-- what a slice of all roles was lent as comes back as all roles
+pub all_back : (n : ℕ) (new old : List Role) → n ≡ length old → length new ≡ length old → take n (new ++ drop (length new) old) ≡ new
+all_back n new old all long =
+    let none : drop (length new) old ≡ [] = drop_all (length new) old (omega arith) in
+    ap (λ rest. take n (new ++ rest)) none ∙ ap (take n) (append-nil new) ∙ take_all n new (omega arith)

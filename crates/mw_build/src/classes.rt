@@ -305,7 +305,8 @@ fn note_form(
     match form {
         Form::Class { name, attributes } => {
             note_class(alloc, target, name, roles)?;
-            note_attributes(alloc, target, value, attributes.as_slice(), roles)
+            note_attributes(alloc, target, value, attributes.as_slice(), roles)?;
+            Ok(())
         }
         Form::Sorts { .. }
         | Form::Subsorts { .. }
