@@ -1,6 +1,5 @@
 -- The sorts and operators of CONFIGURATION, where they are there.
-use Rattle.std.proofs.Common.{◌≡◌, ℕ, List, [], ◌∷◌, length, None, sym, subst}
-use Rattle.std.specs.Prelude.{codes}
+use Rattle.std.proofs.Common.{ℕ, List, [], ◌∷◌, length, None, subst}
 use Rattle.mw_logic.specs.Signature.{Signature, IsSortNamed, IsAssociative, SameKind}
 use Rattle.mw_logic.specs.Accepted.{IsAccepted}
 use Rattle.mw_carry.specs.Laws.{OperatorsApart}
@@ -28,8 +27,7 @@ module _ (sig : Signature) where
   pub configuration_of : (K : Classes) → AreOfConfiguration sig K → (c : Configuration) × IsConfiguration sig c
   configuration_of K p =
       let (A, Ss, name, more) = first_named p.object.sorts _ _ p.object.args_named in
-      let (B, Ts, class, rest) = first_named Ss _ _ more in
-      (
+      let (B, Ts, class, rest) = first_named Ss _ _ more in (
         record {
           sorts = record { attribute = p.set.attribute; set = K.set; name = A; class = B; object = p.object.sort; configuration = p.union.on.sort };
           operators = record { none = K.none; comma = K.comma; object = K.object; union = K.union };

@@ -1,8 +1,7 @@
 -- Own statements of a module, as they are written or completed.
-use Rattle.std.proofs.Common.{◌≡◌, ◌∙◌, Bool, true, false, Option, Some, None, IsTrue, Result, Ok, Err, IfOk, MatchOption, MatchResult, sym, subst}
+use Rattle.std.proofs.Common.{◌≡◌, ◌∙◌, true, false, Option, Some, None, IsTrue, Result, Ok, Err, IfOk, MatchOption, MatchResult, sym, subst}
 use Rattle.std.specs.Prelude.{IfSome, option_map}
 use denote.Ref.{Bor}
-use Rattle.std.proofs.lemmas.Bool.{both_ways}
 use Rattle.mw_logic.specs.Signature.{Signature, IsRawTerm}
 use Rattle.mw_logic.specs.Accepted.{IsAccepted}
 use Rattle.mw_logic.specs.Module.{Statement}

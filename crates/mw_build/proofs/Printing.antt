@@ -35,7 +35,7 @@ use Rattle.mw_declare.specs.declared.declarations.Declarations.{Declarations}
 use Rattle.mw_import.specs.Flat.{FlatUnit}
 use Rattle.mw_declare.specs.Proper.{IsProperVariable, AreProper}
 use Rattle.mw_declare.proofs.Proper.{all_at, declarations_are_proper}
-use Rattle.mw_print.specs.Laws.{AreBinary, ArePrintable, IsPrintable}
+use Rattle.mw_print.specs.Laws.{AreBinary, IsPrintable}
 use Rattle.mw_print.specs.PrefixLaws.{HasWholeSpellings}
 use Rattle.mw_print.proofs.ReadBack.{printed_reads_back}
 use Rattle.mw_print.proofs.WholeNames.{names_whole}

@@ -49,11 +49,7 @@ fn object_sorts(target: &Target<'_>) -> Option<ObjectSorts>
 }
 
 /// The kinds of sorts.
-fn kinds_of(
-    alloc: Global,
-    target: &Target<'_>,
-    sorts: &[SortId],
-) -> Result<Vec<KindId>, AllocError>
+fn kinds_of(alloc: Global, target: &Target<'_>, sorts: &[SortId]) -> Result<Vec<KindId>, AllocError>
     requires { (S : ℕ) → Member S sorts.now → IsSortOf target.now S }
     ensures { IfOk result (λ kinds. Pairwise (IsKindOf target.now.pairs) sorts.now kinds.items) }
 {
@@ -368,7 +364,8 @@ fn classes_in(
     requires apart { OperatorsApart signature.now }
     ensures { IfOk result (λ o. MatchOption o ((K : ClassesOf) → AreOfConfiguration signature.now K → ⊥) (AreClassesOf signature.now (seen_all statements.now))) }
 {
-    let Some(Configuration { sorts, operators }) = configuration_in(alloc, target, signature)? else {
+    let Some(Configuration { sorts, operators }) = configuration_in(alloc, target, signature)?
+    else {
         return Ok(None);
     };
     let roles = roles_of(alloc, target, signature, sorts.attribute, statements)?;

@@ -1,4 +1,4 @@
-use Rattle.std.proofs.Common.{◌≡◌, [], ◌∷◌, length, Some, None, refl, subst, arith}
+use Rattle.std.proofs.Common.{[], ◌∷◌, length, Some, None, refl, subst, arith}
 use Rattle.mw_logic.specs.Signature.{IsSortNamed}
 use Rattle.mw_carry.specs.Tables.{IsFound}
 use Rattle.mw_carry.proofs.Numbers.{within_at}

@@ -1,4 +1,4 @@
-use Rattle.std.proofs.Common.{◌≡◌, ◌∙◌, List, ℕ, Bool, true, false, ap, map, nat_eq, codes, subst, sym}
+use Rattle.std.proofs.Common.{◌≡◌, ◌∙◌, List, ℕ, true, ap, map, nat_eq, codes, subst, sym}
 use Rattle.std.proofs.lemmas.Bool.{both_ways, not-false, not-true}
 use lib.Pointwise.{pointwise}
 use Rattle.mw_sorts.proofs.Numbering.{same_numbers, numbers_same}
