@@ -1,5 +1,5 @@
 -- A module that was built, from what its unit declares.
-use Rattle.std.proofs.Common.{◌≡◌, ◌++◌, ℕ, zero, suc, List, [], ◌∷◌, length, length-append, take, drop, All, slice_get, Some, inl, inr, arith, refl, sym, subst}
+use Rattle.std.proofs.Common.{◌≡◌, ◌++◌, ℕ, zero, suc, List, [], ◌∷◌, length, length-append, take, drop, All, slice_get, Some, None, Ok, Err, Result, IfOk, MatchOption, codes, inl, inr, arith, refl, sym, subst}
 use Rattle.std.proofs.Math.Seq.{take-append_seam, drop-append_seam}
 use Rattle.std.proofs.lemmas.List.{take-append-drop}
 use Rattle.std.proofs.lemmas.List.Elements.{All-nil, All-cons}
@@ -17,6 +17,10 @@ use Rattle.mw_build.specs.Sides.{Sides}
 use Rattle.std.specs.Prelude.{Option, IfSome}
 use Rattle.mw_omod.specs.declared.classes.Classes.{Classes}
 use Rattle.mw_omod.specs.Workable.{AreClasses}
+use Rattle.mw_logic.specs.Accepted.{IsAccepted as IsAcceptedSignature}
+use Rattle.mw_module.specs.Units.{SeenLined}
+use Rattle.mw_build.specs.Classes.{AreOfConfiguration, AreClassesOf, AreObjectsOf, of_objects, of_no_configuration, of_others}
+use Rattle.mw_build.proofs.ClassesThere.{classes_there}
 use Rattle.mw_build.specs.Statements.{AreReadAs, statement_of}
 use Rattle.mw_build.specs.Imported.{Accepted, Origin, IsNotOwise, AreImported}
 use Rattle.mw_build.specs.Modules.{IsDeclaredModule, StatementsFault, by_imported, by_own, AreAll, NotAll, imported_fault, own_fault}
@@ -93,3 +97,16 @@ module _ (sig : Signature) (ok : IsPreregularModulo sig) (variables : List Varia
     | inl h ↦ front_stands i st h
     | inr h ↦ own_stands h.0 st h.1
   ]
+
+-- the classes of an object module's statements, as others tell these
+pub objects_so : {E : Type 0} (sig : Signature) (word : List ℕ) (ss ts : List SeenLined) → word ≡ codes "omod" → ss ≡ ts → (r : Result (Option Classes) E)
+    → IfOk r (λ o. MatchOption o ((K : Classes) → AreOfConfiguration sig K → ⊥) (AreClassesOf sig ss)) → IfOk r (AreObjectsOf word sig ts)
+objects_so sig word ss ts w e (Err x) h = h
+objects_so sig word ss ts w e (Ok None) h = of_no_configuration w h
+objects_so sig word ss ts w e (Ok (Some K)) h = of_objects K w (subst (λ us. AreClassesOf sig us K) e h)
+
+-- which are classes of its signature
+pub objects_there : (sig : Signature) → IsAcceptedSignature sig → (word : List ℕ) (ss : List SeenLined) (o : Option Classes) → AreObjectsOf word sig ss o → IfSome o (AreClasses sig)
+objects_there sig ok word ss o (of_objects K w is) = classes_there sig ok ss K is
+objects_there sig ok word ss o (of_no_configuration w not) = tt
+objects_there sig ok word ss o (of_others not) = tt

@@ -20,7 +20,8 @@ use Rattle.mw_module.specs.declared.faults.FaultKind.{FaultKind}
 use Rattle.mw_build.specs.Statements.{IsStatementOf, TermsFault, statement_of}
 use Rattle.mw_build.specs.Imported.{Origin, HaveSortsAmong, IsNotOwise, IsImported, ImportedFault}
 use Rattle.mw_build.proofs.FragmentTerms.{raws_carried, sorts_carried}
-use Rattle.mw_build.proofs.Sides.{CanStand, ordinary_statement}
+use Rattle.mw_build.proofs.Sides.{ordinary_statement}
+use Rattle.mw_build.proofs.Owned.{CanStand}
 
 -- the kind of a term whose variables have sorts that are there is there
 kind_there : (sig : Signature) → HasItsSorts sig → (t : RawTerm) (K : ℕ) → HasSortsOf sig t → HasKind sig t K → IsSortOf sig K

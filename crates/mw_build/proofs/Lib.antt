@@ -17,6 +17,10 @@ pub mod Naming
 pub mod PrintedVariables
 pub mod SidesOfTokens
 pub mod Printing
+pub mod FirstOf
+pub mod Roles
+pub mod ObjectOperators
+pub mod Configurations
 pub mod ClassesThere
 pub mod OneClasses
 pub mod Working

@@ -35,7 +35,7 @@ use Rattle.mw_declare.specs.declared.declarations.Declarations.{Declarations}
 use Rattle.mw_import.specs.Flat.{FlatUnit}
 use Rattle.mw_declare.specs.Proper.{IsProperVariable, AreProper}
 use Rattle.mw_declare.proofs.Proper.{all_at, declarations_are_proper}
-use Rattle.mw_print.specs.Laws.{AreBinary, ArePrintable, IsPrintable}
+use Rattle.mw_print.specs.Laws.{AreBinary, IsPrintable}
 use Rattle.mw_print.specs.PrefixLaws.{HasWholeSpellings}
 use Rattle.mw_print.proofs.ReadBack.{printed_reads_back}
 use Rattle.mw_print.proofs.WholeNames.{names_whole}
@@ -290,7 +290,7 @@ texts_read_back texts a t of raw printable identifiers =
     raw printable identifiers
 
 pub spellings_are_whole : SpellingsAreWhole
-spellings_are_whole texts a of = whole of.units of.modules (before texts a of).proper of.unit (made texts a of).statements a.name of.reached a of.accepted
+spellings_are_whole texts a of = whole of.units of.modules (before texts a of).proper (declared_unit of.unit) (made texts a of).statements a.name of.reached a of.accepted
 
 pub statements_are_printable : StatementsArePrintable
 statements_are_printable texts a k st of is =

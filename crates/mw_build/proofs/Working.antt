@@ -16,7 +16,9 @@ use Rattle.mw_build.specs.Sides.{Sides, sides_of}
 use Rattle.mw_build.specs.Imported.{Origin, origins_of}
 use Rattle.mw_build.specs.Modules.{Accepted, IsAccepted, AreAll, flattened, reached_of}
 use Rattle.mw_build.specs.Working.{AcceptedAreWorkable}
-use Rattle.mw_build.proofs.Accepting.{all_joined, all_stand}
+use Rattle.std.specs.Prelude.{IfSome}
+use Rattle.mw_omod.specs.Workable.{AreClasses}
+use Rattle.mw_build.proofs.Accepting.{objects_there, all_joined, all_stand}
 use Rattle.mw_build.proofs.Loading.{own_within}
 use Rattle.mw_build.proofs.Sides.{workable_module}
 
@@ -42,12 +44,15 @@ module _ (us : List FlatUnit) (ms : List Accepted) (u : SeenUnit) (name reached 
   sorted : (x : Variable) → Member x d.variables → IsSortOf d.signature x.sort
   sorted = member-all (λ (x : Variable). IsSortOf d.signature x.sort) d.variables (declared_sorted u.statements ss (own_within us u.line reached u.statements) p.typing p.flat.typed has d p.declared)
 
-  all : AreAll d.signature d.variables origins written (length p.holds.imported) sts
-  all = all_joined d.signature d.variables origins written p.holds.imported a.own sts (length p.holds.imported) refl p.holds.statements p.holds.imported_are p.holds.own_are
+  classes : IfSome p.objects (AreClasses d.signature)
+  classes = objects_there d.signature p.holds.preregular.accepted u.word ss p.objects p.classes
+
+  all : AreAll d.signature d.variables p.objects origins written (length p.holds.imported) sts
+  all = all_joined d.signature d.variables p.objects origins written p.holds.imported a.own sts (length p.holds.imported) refl p.holds.statements p.holds.imported_are p.holds.own_are
 
   workable : IsWorkable (record { signature = d.signature; statements = sts })
   workable = workable_module d.signature p.holds.preregular (sorts_declared has p.typing ss d p.declared) (built_declared has p.typing ss d p.declared) sts
-      (all_stand d.signature p.holds.preregular d.variables sorted origins written (length p.holds.imported) sts all)
+      (all_stand d.signature p.holds.preregular d.variables sorted p.objects classes origins written (length p.holds.imported) sts all)
 
 pub accepted_workable : AcceptedAreWorkable
 accepted_workable us ms u name reached a p =

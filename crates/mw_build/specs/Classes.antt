@@ -1,102 +1,112 @@
--- What the operators of a flattened module are to objects, by the classes that its statements declare. (Maude Manual, chapter 8, "Object-oriented modules".)
-use Rattle.std.specs.Prelude.{◌≡◌, ◌≢◌, ◌↔◌, ℕ, List, [], ◌∷◌, ◌++◌, length, Option, Some, None, codes}
-use Rattle.mw_logic.specs.Signature.{Signature, Operator, IsOperator, IsSortNamed, SameKind, IsAssociative, Member}
+-- What the operators of a flattened module are to objects, by the classes that its statements declare. (Maude Manual, chapter 8, "Object-based programming", and
+-- chapter 21, "Object-oriented modules"; whose sort an attribute has that two classes declare is this project's own.)
+use Rattle.std.specs.Prelude.{◌≡◌, ◌≢◌, ℕ, List, [], ◌∷◌, ◌++◌, map, length, unwrap_or, Option, Some, None, codes, ⊤}
+use Rattle.mw_logic.specs.Signature.{Signature, Operator, IsOperator, IsSortNamed, SameKind, IsAssociative, Member, at_number}
+use Rattle.mw_carry.specs.Laws.{AreAlike}
 use Rattle.mw_text.specs.Names.{name_of_tokens}
 use Rattle.mw_module.specs.declared.classes.ClassAttribute.{ClassAttribute}
 use Rattle.mw_module.specs.Forms.{Shape, Sorts, Subsorts, Operators, Variables, Statement, Import, Class}
 use Rattle.mw_module.specs.Units.{SeenLined}
 use Rattle.mw_omod.specs.Declaring.{attribute_name}
-use Rattle.mw_omod.specs.Objects.{role_of}
 use Rattle.mw_omod.specs.declared.classes.Classes.{Classes}
+use Rattle.mw_omod.specs.declared.classes.Role.{Role}
 use Rattle.mw_omod.specs.declared.classes.Role.TheVariants as role
 
--- a class: its name and its attributes
-pub record Declared : Type 0 where
-  pub name : List ℕ
-  pub attributes : List ClassAttribute
+-- what a class declares: a constant, which has its name, and an operator for each attribute
+pub data Declared : Type 0 where
+  a_constant : List ℕ → Declared
+  an_attribute : ClassAttribute → Declared
 
-abbrev pub classes_in : Shape → List Declared
-classes_in (Sorts names) = []
-classes_in (Subsorts groups) = []
-classes_in (Operators names args result said) = []
-classes_in (Variables names sort) = []
-classes_in (Statement rule left right fragments executable) = []
-classes_in (Import m) = []
-classes_in (Class name attributes) = record { name = name; attributes = attributes } ∷ []
+abbrev pub declared_by : Shape → List Declared
+declared_by (Sorts names) = []
+declared_by (Subsorts groups) = []
+declared_by (Operators names args result said) = []
+declared_by (Variables names sort) = []
+declared_by (Statement rule left right fragments executable) = []
+declared_by (Import m) = []
+declared_by (Class name attributes) = a_constant name ∷ map an_attribute attributes
 
--- the classes that statements declare, in order, and their attributes
-abbrev pub classes_of : List SeenLined → List Declared
-classes_of [] = []
-classes_of (s ∷ ss) = classes_in s.shape ++ classes_of ss
+-- what the classes among statements declare, in order
+abbrev pub declared_in : List SeenLined → List Declared
+declared_in [] = []
+declared_in (s ∷ ss) = declared_by s.shape ++ declared_in ss
 
-abbrev pub attributes_of : List Declared → List ClassAttribute
-attributes_of [] = []
-attributes_of (c ∷ cs) = c.attributes ++ attributes_of cs
+-- x is the first of the list that has the property
+pub data IsFirst {X : Type 0} (P : X → Type 0) : X → List X → Type 0 where
+  here : (x : X) (xs : List X) → P x → IsFirst P x (x ∷ xs)
+  behind : (x y : X) (ys : List X) → (P y → ⊥) → IsFirst P x ys → IsFirst P x (y ∷ ys)
+
+-- what operator number f is, where these are the roles of the operators in order
+abbrev pub role_in : List Role → ℕ → Role
+role_in roles f = unwrap_or (at_number roles f) role.Other
 
 module _ (sig : Signature) where
-  -- these are the kinds of sorts of these names
-  pub data AreOfSorts : List (List ℕ) → List ℕ → Type 0 where
-    no_kind : AreOfSorts [] []
-    a_kind : (S K : ℕ) (name : List ℕ) (names : List (List ℕ)) (Ks : List ℕ) → IsSortNamed sig S name → SameKind sig S K → AreOfSorts names Ks → AreOfSorts (name ∷ names) (K ∷ Ks)
+  -- the sorts have these names, one by one
+  abbrev pub AreNamed : List ℕ → List (List ℕ) → Type 0
+  AreNamed [] [] = ⊤
+  AreNamed [] (name ∷ names) = ⊥
+  AreNamed (S ∷ Ss) [] = ⊥
+  AreNamed (S ∷ Ss) (name ∷ names) = IsSortNamed sig S name × AreNamed Ss names
 
-  -- f is the operator of this spelling on the kinds of the sorts of these names, with a value of the kind of that one
-  pub record IsOperatorOn (f : ℕ) (spelling : List ℕ) (args : List (List ℕ)) (result : List ℕ) : Type 0 where
+  -- f is an operator of this spelling on the kinds of these sorts, with a value of the kind of this one
+  pub record IsOperatorAt (spelling : List ℕ) (sorts : List ℕ) (sort : ℕ) (f : ℕ) : Type 0 where
     pub operator : Operator
     pub is_there : IsOperator sig f operator
     pub spelled : operator.spelling ≡ spelling
-    pub takes : AreOfSorts args operator.args
-    pub gives : AreOfSorts (result ∷ []) (operator.result ∷ [])
+    pub takes : AreAlike sig sorts operator.args
+    pub gives : SameKind sig sort operator.result
 
-  -- f is the constant of this class
-  abbrev pub IsConstantOf : ℕ → Declared → Type 0
-  IsConstantOf f c = IsOperatorOn f (name_of_tokens (c.name ∷ [])) [] c.name
+  -- the same of sorts of these names
+  pub record IsOperatorOn (spelling : List ℕ) (args : List (List ℕ)) (value : List ℕ) (f : ℕ) : Type 0 where
+    pub sorts : List ℕ
+    pub sort : ℕ
+    pub args_named : AreNamed sorts args
+    pub value_named : IsSortNamed sig sort value
+    pub is : IsOperatorAt spelling sorts sort f
 
-  -- f is the operator of this attribute
-  abbrev pub IsOperatorOf : ℕ → ClassAttribute → Type 0
-  IsOperatorOf f a = IsOperatorOn f (name_of_tokens (attribute_name a.name)) (a.sort ∷ []) (codes "Attribute")
+  -- f is an operator of this spelling that joins two elements of a sort to one, and is associative
+  pub record IsJoining (spelling : List ℕ) (name : List ℕ) (f : ℕ) : Type 0 where
+    pub on : IsOperatorOn spelling (name ∷ name ∷ []) name f
+    pub assoc : IsAssociative sig f
 
-  -- The class constant f has the class's sort; the attribute operator f has the sort of the first attribute whose operator it is.
-  pub record IsClassConstant (cs : List Declared) (f S : ℕ) : Type 0 where
-    pub class : Declared
-    pub declared : Member class cs
-    pub constant : IsConstantOf f class
-    pub sort : IsSortNamed sig S class.name
-
-  pub record IsAttributeOperator (cs : List Declared) (f S : ℕ) : Type 0 where
-    pub attribute : ClassAttribute
-    pub before : List ClassAttribute
-    pub behind : List ClassAttribute
-    pub declared : attributes_of cs ≡ before ++ attribute ∷ behind
-    pub operator : IsOperatorOf f attribute
-    pub sort : IsSortNamed sig S attribute.sort
-    pub first : (a : ClassAttribute) → Member a before → IsOperatorOf f a → ⊥
-
-  -- CONFIGURATION's operators are these, and its sort of sets of attributes, in whose kind attributes are; what joins attributes, and what joins elements, is
-  -- associative
-  pub record AreObjectOperators (none comma object union set : ℕ) : Type 0 where
-    pub none_is : IsOperatorOn none (codes "none") [] (codes "AttributeSet")
-    pub comma_is : IsOperatorOn comma (codes "_`,_") (codes "AttributeSet" ∷ codes "AttributeSet" ∷ []) (codes "AttributeSet")
-    pub object_is : IsOperatorOn object (codes "<_:_|_>") (codes "Oid" ∷ codes "Cid" ∷ codes "AttributeSet" ∷ []) (codes "Object")
-    pub comma_joins : IsAssociative sig comma
-    pub union_joins : IsAssociative sig union
-    pub union_is : IsOperatorOn union (codes "__") (codes "Configuration" ∷ codes "Configuration" ∷ []) (codes "Configuration")
-    pub set_is : IsSortNamed sig set (codes "AttributeSet")
+  -- S is the sort of sets of attributes, and attributes are of its kind
+  pub record IsSortOfSets (S : ℕ) : Type 0 where
+    pub named : IsSortNamed sig S (codes "AttributeSet")
     pub attribute : ℕ
-    pub attribute_is : IsSortNamed sig attribute (codes "Attribute")
-    pub of_sets : SameKind sig attribute set
+    pub attribute_named : IsSortNamed sig attribute (codes "Attribute")
+    pub of_kind : SameKind sig attribute S
 
-  abbrev pub IsConfiguration : Type 0
-  IsConfiguration = (none comma object union set : ℕ) × AreObjectOperators none comma object union set
+  -- the operators of objects are CONFIGURATION's, and the sort of sets is, whatever the roles are
+  pub record AreOfConfiguration (K : Classes) : Type 0 where
+    pub none : IsOperatorOn (codes "none") [] (codes "AttributeSet") K.none
+    pub comma : IsJoining (codes "_`,_") (codes "AttributeSet") K.comma
+    pub object : IsOperatorOn (codes "<_:_|_>") (codes "Oid" ∷ codes "Cid" ∷ codes "AttributeSet" ∷ []) (codes "Object") K.object
+    pub union : IsJoining (codes "__") (codes "Configuration") K.union
+    pub set : IsSortOfSets K.set
+
+  -- f is the operator that is declared
+  abbrev pub IsDeclaredAs : ℕ → Declared → Type 0
+  IsDeclaredAs f (a_constant name) = IsOperatorOn (name_of_tokens (name ∷ [])) [] name f
+  IsDeclaredAs f (an_attribute a) = IsOperatorOn (name_of_tokens (attribute_name a.name)) (a.sort ∷ []) (codes "Attribute") f
+
+  -- What operator f is, by what first declares it: the constant of a class, with the class's sort, or the operator of an attribute, with the sort of its values.
+  pub data IsRoleOf (ds : List Declared) (f : ℕ) : Role → Type 0 where
+    of_class : (name : List ℕ) (S : ℕ) → IsFirst (IsDeclaredAs f) (a_constant name) ds → IsSortNamed sig S name → IsRoleOf ds f (role.Class S)
+    of_attribute : (a : ClassAttribute) (S : ℕ) → IsFirst (IsDeclaredAs f) (an_attribute a) ds → IsSortNamed sig S a.sort → IsRoleOf ds f (role.Attribute S)
+    of_none : ((d : Declared) → Member d ds → IsDeclaredAs f d → ⊥) → IsRoleOf ds f role.Other
+
+  -- each operator has its role
+  pub record AreRolesOf (ds : List Declared) (roles : List Role) : Type 0 where
+    pub count : length roles ≡ length sig.operators
+    pub each : (f : ℕ) → IsRoleOf ds f (role_in roles f)
 
   -- These are the classes of a module with these statements.
   pub record AreClassesOf (ss : List SeenLined) (K : Classes) : Type 0 where
-    pub counted : length K.roles ≡ length sig.operators
-    pub operators : AreObjectOperators K.none K.comma K.object K.union K.set
-    pub constants : (f S : ℕ) → role_of K f ≡ role.Class S ↔ IsClassConstant (classes_of ss) f S
-    pub values : (f S : ℕ) → role_of K f ≡ role.Attribute S ↔ IsAttributeOperator (classes_of ss) f S
+    pub configuration : AreOfConfiguration K
+    pub roles : AreRolesOf (declared_in ss) K.roles
 
 -- In an object module, where CONFIGURATION is reached, the classes are these; in any other module there are none.
 pub data AreObjectsOf (word : List ℕ) (sig : Signature) (ss : List SeenLined) : Option Classes → Type 0 where
   of_objects : (K : Classes) → word ≡ codes "omod" → AreClassesOf sig ss K → AreObjectsOf word sig ss (Some K)
-  of_no_configuration : word ≡ codes "omod" → (IsConfiguration sig → ⊥) → AreObjectsOf word sig ss None
+  of_no_configuration : word ≡ codes "omod" → ((K : Classes) → AreOfConfiguration sig K → ⊥) → AreObjectsOf word sig ss None
   of_others : word ≢ codes "omod" → AreObjectsOf word sig ss None

@@ -2,6 +2,7 @@
 pub mod Pairwise
 pub mod Sides
 pub mod Classes
+pub mod Configurations
 pub mod Fragments
 pub mod Endings
 pub mod Statements

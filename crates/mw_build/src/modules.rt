@@ -1,5 +1,5 @@
 // Modules that were accepted.
-ghost use Rattle.std.specs.Prelude.{◌≡◌, ◌≤◌, ◌++◌, ℕ, List, length, drop, option_map, All, IfOk, IfErr, IfSome, None, IsTrue, codes};
+ghost use Rattle.std.specs.Prelude.{◌≡◌, ◌≤◌, ◌++◌, ℕ, List, length, drop, option_copied, All, IfOk, IfErr, IfSome, None, IsTrue, codes};
 ghost use Rattle.mw_logic.specs.Term.{Variable};
 ghost use Rattle.mw_logic.specs.Signature.{IsRawTerm, IsSortNamed};
 ghost use Rattle.mw_logic.specs.Built.{HasBuiltIns};
@@ -20,6 +20,7 @@ ghost use Rattle.mw_sorts.specs.Diagrams.{AreTablesOf};
 ghost use Rattle.mw_least.specs.Workable.{AreSides, IsWorkable};
 ghost use Rattle.mw_index.specs.Index.{IsIndexOf};
 ghost use Rattle.mw_import.specs.Flat.{IsFlat};
+ghost use Rattle.mw_carry.specs.Laws.{OperatorsApart};
 ghost use Rattle.mw_declare.specs.Declarations.{Declares, DeclarationFault};
 ghost use Rattle.mw_build.specs.Sides.{sides_of};
 ghost use Rattle.mw_build.specs.Statements.{AreReadAs, FirstFault};
@@ -163,10 +164,10 @@ fn read(
     requires reading { IsReading reader.grammar.now }
     requires grammar { (variables : List Variable) × IsGrammarOf reader.facts.now variables reader.grammar.now }
     requires classes { IfSome reader.classes (λ K. AreClasses reader.facts.now K.now) }
-    ensures statements { (variables : List Variable) → IsGrammarOf reader.facts.now variables reader.grammar.now
-        → IfOk result (λ v. AreReadAs reader.facts.now variables (option_map (λ K. K.now) reader.classes) (sides_of (seen_statements statements.now)) v.items) }
-    ensures fault { (variables : List Variable) → IsGrammarOf reader.facts.now variables reader.grammar.now
-        → IfErr result (HasCause (FirstFault reader.facts.now variables (option_map (λ K. K.now) reader.classes) (sides_of (seen_statements statements.now)))) }
+    ensures statements { (variables : List Variable) → IsGrammarOf reader.entry.facts.now variables reader.entry.grammar.now
+        → IfOk result (λ v. AreReadAs reader.entry.facts.now variables (option_copied reader.entry.classes) (sides_of (seen_statements statements.now)) v.items) }
+    ensures fault { (variables : List Variable) → IsGrammarOf reader.entry.facts.now variables reader.entry.grammar.now
+        → IfErr result (HasCause (FirstFault reader.entry.facts.now variables (option_copied reader.entry.classes) (sides_of (seen_statements statements.now)))) }
 {
     let written = written_statements(alloc, statements)?;
     match statements_of(alloc, reader, written.as_slice())? {
@@ -177,9 +178,9 @@ fn read(
 
 /// A unit, and where it is an object module the classes by which its rules are completed.
 #[derive(Clone, Copy)]
-struct Source<'u, 's> {
+struct Source<'u, 's, 'c> {
     unit: &'u Unit<'s>,
-    classes: Option<&'u Classes>,
+    classes: Option<&'c Classes>,
 }
 
 /// The statements of a module, of which so many stand for those of others.
@@ -248,7 +249,7 @@ fn all_statements(
     grammar: &Grammar,
     modules: &[Module],
     reached: &[usize],
-    source: Source<'_, '_>,
+    source: Source<'_, '_, '_>,
 ) -> Result<Statements, UnitError>
     requires numbers { HasItsSorts signed.now.facts }
     requires order { signed.now.order ≡ order_of signed.now.facts }
@@ -257,9 +258,9 @@ fn all_statements(
     requires classes { IfSome source.classes (λ K. AreClasses signed.now.facts K.now) }
     requires grammar { (variables : List Variable) × IsGrammarOf signed.now.facts variables grammar.now }
     ensures all { (variables : List Variable) → IsGrammarOf signed.now.facts variables grammar.now → IfOk result (λ s.
-        AreAll signed.now.facts variables (option_map (λ K. K.now) source.classes) (origins_of modules.now reached.now) (sides_of (seen_unit source.unit.now).statements) s.imported s.list.items) }
+        AreAll signed.now.facts variables (option_copied source.entry.classes) (origins_of modules.now reached.now) (sides_of (seen_unit source.entry.unit.now).statements) s.imported s.list.items) }
     ensures fault { (variables : List Variable) → IsGrammarOf signed.now.facts variables grammar.now → IfErr result (HasCause
-        (NotAll signed.now.facts variables (option_map (λ K. K.now) source.classes) (seen_unit source.unit.now).line (origins_of modules.now reached.now) (sides_of (seen_unit source.unit.now).statements))) }
+        (NotAll signed.now.facts variables (option_copied source.entry.classes) (seen_unit source.entry.unit.now).line (origins_of modules.now reached.now) (sides_of (seen_unit source.entry.unit.now).statements))) }
 {
     let imported = imported(
         alloc,
@@ -322,7 +323,7 @@ fn module_of(
 fn declared_module(
     alloc: Global,
     name: Name,
-    source: Source<'_, '_>,
+    source: Source<'_, '_, '_>,
     modules: &[Module],
     reached: &[usize],
     declarations: Box<Declarations>,
@@ -337,8 +338,8 @@ fn declared_module(
     requires naturals { IsTrue declarations.value.signature.nat → HasNaturals declarations.value.signature }
     requires quoted { IsTrue declarations.value.signature.qid → (S : ℕ) × IsSortNamed declarations.value.signature S (codes "Qid") }
     requires built { HasBuiltIns declarations.value.signature }
-    ensures holds { IfOk result (IsDeclaredModule name declarations.value (option_map (λ K. K.now) source.classes) (origins_of modules.now reached.now) (sides_of (seen_unit source.unit.now).statements)) }
-    ensures fault { IfErr result (HasCause (StatementsFault (seen_unit source.unit.now).line declarations.value (option_map (λ K. K.now) source.classes) (origins_of modules.now reached.now) (sides_of (seen_unit source.unit.now).statements))) }
+    ensures holds { IfOk result (IsDeclaredModule name declarations.value (option_copied source.entry.classes) (origins_of modules.now reached.now) (sides_of (seen_unit source.entry.unit.now).statements)) }
+    ensures fault { IfErr result (HasCause (StatementsFault (seen_unit source.entry.unit.now).line declarations.value (option_copied source.entry.classes) (origins_of modules.now reached.now) (sides_of (seen_unit source.entry.unit.now).statements))) }
 {
     let tables = tables(
         alloc,
@@ -373,6 +374,7 @@ fn flattened_declarations(
     ensures accepted { IfOk result (λ d. IsAcceptedSignature d.value.signature) }
     ensures well_sorted { IfOk result (λ d. IsWellSorted d.value.signature) }
     ensures numbers { IfOk result (λ d. HasItsSorts d.value.signature) }
+    ensures apart { IfOk result (λ d. OperatorsApart d.value.signature) }
     ensures naturals { IfOk result (λ d. IsTrue d.value.signature.nat → HasNaturals d.value.signature) }
     ensures quoted { IfOk result (λ d. IsTrue d.value.signature.qid → (S : ℕ) × IsSortNamed d.value.signature S (codes "Qid")) }
     ensures built { IfOk result (λ d. HasBuiltIns d.value.signature) }
@@ -397,6 +399,8 @@ fn classes(
     requires flat { IsFlat units.now (seen_unit unit.now).statements flat.now }
     requires sorts { HasItsSorts declarations.now.signature }
     requires order { declarations.now.order ≡ order_of declarations.now.signature }
+    requires accepted { IsAcceptedSignature declarations.now.signature }
+    requires apart { OperatorsApart declarations.now.signature }
     ensures { IfOk result (AreObjectsOf (seen_unit unit.now).word declarations.now.signature (flattened units.now (seen_unit unit.now) flat.now)) }
 {
     if unit.word != b"omod".as_slice() {
@@ -436,9 +440,10 @@ pub fn build(
     let flat = units.flatten(alloc, name.as_slice(), unit.statements.as_slice())?;
     let declarations = flattened_declarations(alloc, units, unit, name.as_slice(), &typing, &flat)?;
     let classes = classes(alloc, units, unit, &flat, &declarations)?;
+    let objects = classes.as_ref();
     let source = Source {
         unit,
-        classes: classes.as_ref(),
+        classes: objects,
     };
     let module = declared_module(alloc, name, source, modules, flat.as_slice(), declarations)?;
     Ok(Built { flat, module })

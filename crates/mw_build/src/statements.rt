@@ -1,5 +1,5 @@
 // Equations and rules, from tokens to statements.
-ghost use Rattle.std.specs.Prelude.{◌≡◌, ◌↔◌, List, All, map, option_map, IfOk, IfSome, IsTrue, MatchOption, MatchResult};
+ghost use Rattle.std.specs.Prelude.{◌≡◌, ◌↔◌, List, All, map, option_copied, IfOk, IfSome, IsTrue, MatchOption, MatchResult};
 ghost use Rattle.mw_logic.specs.Term.{Variable, variable as a_variable};
 ghost use Rattle.mw_logic.specs.Signature.{Signature as SignatureOf, IsRawTerm};
 ghost use Rattle.mw_logic.specs.Accepted.{IsAccepted};
@@ -13,6 +13,7 @@ ghost use Rattle.mw_least.specs.Conditions.{AreRawFragments};
 ghost use Rattle.mw_grammar.specs.Grammars.{IsGrammarOf, IsReading};
 ghost use Rattle.mw_build.specs.Statements.{FitsIn, FirstOversized, all_terms, IsReadAs, StatementFault, IsApplicable, ApplicationFault, AreFine, IsStatementOf, TermsFault, IsFine, HasFaultOfTerms, IsObjectRule, ObjectRuleFault, IsOwn, OwnFault, AreReadAs, FirstFault, statement_of as made_statement};
 ghost use Rattle.mw_omod.specs.Workable.{AreClasses};
+ghost use Rattle.mw_module.specs.declared.faults.FaultKind.TheVariants.{BadObject};
 ghost use Rattle.mw_build.specs.Sides.{sides_of, seen_sides, all_seen_sides};
 
 use crate::fragments::{fragments_of, pair};
@@ -241,6 +242,16 @@ pub fn statement_of(
     checked(alloc, facts, statement)
 }
 
+/// What is told of a rule in which a bad object stands: what else is wrong with its terms, or else that.
+fn told(fault: Option<FaultKind>) -> FaultKind
+    ensures { MatchOption fault (result ≡ BadObject) (λ kind. result ≡ kind) }
+{
+    match fault {
+        Some(kind) => kind,
+        None => FaultKind::BadObject,
+    }
+}
+
 /// The completed rule that a rule of an object module is, or what is wrong with it.
 fn object_rule(
     alloc: Global,
@@ -256,13 +267,11 @@ fn object_rule(
         (IsObjectRule facts.now classes.now rule)
         (λ kind. ObjectRuleFault facts.now classes.now rule kind)) }
 {
+    facts.shows();
     let fault = fault_of(alloc, facts, &rule)?;
     match complete(alloc, facts, classes, rule) {
         Ok(completed) => checked(alloc, facts, completed),
-        Err(CompletionError::BadObject) => match fault {
-            Some(kind) => Ok(Err(kind)),
-            None => Ok(Err(FaultKind::BadObject)),
-        },
+        Err(CompletionError::BadObject) => Ok(Err(told(fault))),
         Err(CompletionError::Memory) => Err(AllocError),
     }
 }
@@ -287,12 +296,18 @@ fn own_statement(
     requires fragments { AreRawFragments reader.facts.now statement.fragments }
     requires classes { IfSome reader.classes (λ K. AreClasses reader.facts.now K.now) }
     ensures { IfOk result (λ r. MatchResult r
-        (IsOwn reader.facts.now (option_map (λ K. K.now) reader.classes) statement)
-        (λ kind. OwnFault reader.facts.now (option_map (λ K. K.now) reader.classes) statement kind)) }
+        (IsOwn reader.entry.facts.now (option_copied reader.entry.classes) statement)
+        (λ kind. OwnFault reader.entry.facts.now (option_copied reader.entry.classes) statement kind)) }
 {
     match reader.classes {
-        Some(classes) if statement.rule => object_rule(alloc, reader.facts, classes, statement),
-        _ => checked(alloc, reader.facts, statement),
+        Some(classes) => {
+            if statement.rule {
+                object_rule(alloc, reader.facts, classes, statement)
+            } else {
+                checked(alloc, reader.facts, statement)
+            }
+        }
+        None => checked(alloc, reader.facts, statement),
     }
 }
 
@@ -309,11 +324,11 @@ fn with_condition(
     requires classes { IfSome reader.classes (λ K. AreClasses reader.facts.now K.now) }
     requires left { IsRawTerm reader.facts.now (raw_term left) }
     requires right { IsRawTerm reader.facts.now (raw_term right) }
-    ensures { (variables : List Variable) → IsGrammarOf reader.facts.now variables reader.grammar.now
-        → ReadsPair reader.facts.now variables (texts (seen_sides written.now).left) (texts (seen_sides written.now).right) (raw_term left, raw_term right)
+    ensures { (variables : List Variable) → IsGrammarOf reader.entry.facts.now variables reader.entry.grammar.now
+        → ReadsPair reader.entry.facts.now variables (texts (seen_sides written.now).left) (texts (seen_sides written.now).right) (raw_term left, raw_term right)
         → IfOk result (λ r. MatchResult r
-        (IsReadAs reader.facts.now variables (option_map (λ K. K.now) reader.classes) (seen_sides written.now))
-        (λ kind. StatementFault reader.facts.now variables (option_map (λ K. K.now) reader.classes) (seen_sides written.now) kind)) }
+        (IsReadAs reader.entry.facts.now variables (option_copied reader.entry.classes) (seen_sides written.now))
+        (λ kind. StatementFault reader.entry.facts.now variables (option_copied reader.entry.classes) (seen_sides written.now) kind)) }
 {
     reader.facts.shows();
     match fragments_of(alloc, reader.grammar, written.fragments)? {
@@ -336,9 +351,9 @@ fn statement(
     requires reading { IsReading reader.grammar.now }
     requires grammar { (variables : List Variable) × IsGrammarOf reader.facts.now variables reader.grammar.now }
     requires classes { IfSome reader.classes (λ K. AreClasses reader.facts.now K.now) }
-    ensures { (variables : List Variable) → IsGrammarOf reader.facts.now variables reader.grammar.now → IfOk result (λ r. MatchResult r
-        (IsReadAs reader.facts.now variables (option_map (λ K. K.now) reader.classes) (seen_sides written.now))
-        (λ kind. StatementFault reader.facts.now variables (option_map (λ K. K.now) reader.classes) (seen_sides written.now) kind)) }
+    ensures { (variables : List Variable) → IsGrammarOf reader.entry.facts.now variables reader.entry.grammar.now → IfOk result (λ r. MatchResult r
+        (IsReadAs reader.entry.facts.now variables (option_copied reader.entry.classes) (seen_sides written.now))
+        (λ kind. StatementFault reader.entry.facts.now variables (option_copied reader.entry.classes) (seen_sides written.now) kind)) }
 {
     reader.facts.shows();
     match pair(alloc, reader.grammar, written.left, written.right)? {
@@ -356,9 +371,9 @@ pub fn statements_of(
     requires reading { IsReading reader.grammar.now }
     requires grammar { (variables : List Variable) × IsGrammarOf reader.facts.now variables reader.grammar.now }
     requires classes { IfSome reader.classes (λ K. AreClasses reader.facts.now K.now) }
-    ensures { (variables : List Variable) → IsGrammarOf reader.facts.now variables reader.grammar.now → IfOk result (λ r. MatchResult r
-        (λ sts. AreReadAs reader.facts.now variables (option_map (λ K. K.now) reader.classes) (all_seen_sides statements.now) sts.items)
-        (λ fault. FirstFault reader.facts.now variables (option_map (λ K. K.now) reader.classes) (all_seen_sides statements.now) fault)) }
+    ensures { (variables : List Variable) → IsGrammarOf reader.entry.facts.now variables reader.entry.grammar.now → IfOk result (λ r. MatchResult r
+        (λ sts. AreReadAs reader.entry.facts.now variables (option_copied reader.entry.classes) (all_seen_sides statements.now) sts.items)
+        (λ fault. FirstFault reader.entry.facts.now variables (option_copied reader.entry.classes) (all_seen_sides statements.now) fault)) }
 {
     let mut found = Vec::new(alloc);
     for written in statements {

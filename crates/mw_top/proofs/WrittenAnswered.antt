@@ -26,6 +26,7 @@ use Rattle.mw_build.specs.Statements.{terms_of}
 use Rattle.mw_build.specs.Printing.{IsOfTexts, IsPrintableTerm}
 use Rattle.mw_build.proofs.Printing.{spellings_are_whole, statements_are_printable}
 use Rattle.mw_build.proofs.Working.{accepted_workable}
+use Rattle.mw_omod.specs.Declaring.{declared_unit}
 use Rattle.mw_proof.specs.Deductions.{Deduction}
 use Rattle.mw_items.specs.Items.{Spot, Item, step, built, Items, none, more, Groups, end, group}
 use Rattle.mw_prooftext.specs.Passing.{Passes}
@@ -119,7 +120,7 @@ module _ (sources : List (List ℕ)) (a : Accepted) (of : IsOfTexts sources a) w
 
   apart : OperatorsApart sig
   apart = subst OperatorsApart (sym of.accepted.holds.signature)
-      (apart_declared (reached_of of.units a.name of.reached) of.accepted.typing (flattened of.units of.unit of.reached) of.accepted.declarations of.accepted.declared)
+      (apart_declared (reached_of of.units a.name of.reached) of.accepted.typing (flattened of.units (declared_unit of.unit) of.reached) of.accepted.declarations of.accepted.declared)
 
   one_row : AreSymmetric sig → HasOneRow M
   one_row symmetric = rows_are_one M ok (one_constants sig ok apart) symmetric
@@ -133,7 +134,7 @@ module _ (sources : List (List ℕ)) (a : Accepted) (of : IsOfTexts sources a) w
 
   writable : length sig.operators < 2 ^ 128 → IsWritable M
   writable few = record {
-    workable = accepted_workable of.units of.modules of.unit a.name of.reached a of.accepted;
+    workable = accepted_workable of.units of.modules (declared_unit of.unit) a.name of.reached a of.accepted;
     few = few;
     whole = spellings_are_whole sources a of;
     identifiers = λ k st e. let (left, right, condition) = statements_are_printable sources a k st of e in (left.identifiers, right.identifiers, fragments_have st.fragments condition);
