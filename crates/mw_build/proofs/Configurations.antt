@@ -1,13 +1,11 @@
 -- The sorts and operators of CONFIGURATION, where they are there.
-use Rattle.std.proofs.Common.{◌≡◌, ℕ, List, [], ◌∷◌, length, None, sym, subst}
-use Rattle.std.specs.Prelude.{codes}
+use Rattle.std.proofs.Common.{ℕ, List, [], ◌∷◌, length, None, subst}
 use Rattle.mw_logic.specs.Signature.{Signature, IsSortNamed, IsAssociative, SameKind}
 use Rattle.mw_logic.specs.Accepted.{IsAccepted}
 use Rattle.mw_carry.specs.Laws.{OperatorsApart}
 use Rattle.mw_carry.specs.Tables.{IsFound}
 use Rattle.mw_carry.proofs.Numbers.{within_at}
 use Rattle.mw_omod.specs.declared.classes.Classes.{Classes}
-use Rattle.mw_omod.specs.declared.classes.Role.{Role}
 use Rattle.mw_build.specs.declared.classes.ObjectSorts.{ObjectSorts}
 use Rattle.mw_build.specs.declared.classes.ObjectOperators.{ObjectOperators}
 use Rattle.mw_build.specs.declared.classes.Configuration.{Configuration}
@@ -20,7 +18,8 @@ module _ (sig : Signature) where
   pub no_sort : (name : List ℕ) → IsFound (length sig.sorts) (λ S. IsSortNamed sig S name) None → (S : ℕ) → IsSortNamed sig S name → ⊥
   no_sort name none S named = none S (within_at sig.sorts S name named).1 named
 
-  pub first_named : (Ss : List ℕ) (name : List ℕ) (names : List (List ℕ)) → AreNamed sig Ss (name ∷ names) → (S : ℕ) × (Ts : List ℕ) × IsSortNamed sig S name × AreNamed sig Ts names
+  pub first_named : (Ss : List ℕ) (name : List ℕ) (names : List (List ℕ)) → AreNamed sig Ss (name ∷ names)
+      → (S : ℕ) × (Ts : List ℕ) × IsSortNamed sig S name × AreNamed sig Ts names
   first_named [] name names n = absurd n
   first_named (S ∷ Ss) name names n = (S, Ss, n.0, n.1)
 
@@ -28,8 +27,7 @@ module _ (sig : Signature) where
   pub configuration_of : (K : Classes) → AreOfConfiguration sig K → (c : Configuration) × IsConfiguration sig c
   configuration_of K p =
       let (A, Ss, name, more) = first_named p.object.sorts _ _ p.object.args_named in
-      let (B, Ts, class, rest) = first_named Ss _ _ more in
-      (
+      let (B, Ts, class, rest) = first_named Ss _ _ more in (
         record {
           sorts = record { attribute = p.set.attribute; set = K.set; name = A; class = B; object = p.object.sort; configuration = p.union.on.sort };
           operators = record { none = K.none; comma = K.comma; object = K.object; union = K.union };
@@ -50,20 +48,9 @@ module _ (sig : Signature) where
         },
       )
 
-  -- and what was found so
-  pub of_configuration : (c : Configuration) (roles : List Role) → IsConfiguration sig c
-      → AreOfConfiguration sig (record { roles = roles; none = c.operators.none; comma = c.operators.comma; object = c.operators.object; union = c.operators.union; set = c.sorts.set })
-  of_configuration c roles is = record {
-    none = is.operators.none;
-    comma = record { on = is.operators.comma; assoc = is.comma };
-    object = is.operators.object;
-    union = record { on = is.operators.union; assoc = is.union };
-    set = record { named = is.sorts.set; attribute = c.sorts.attribute; attribute_named = is.sorts.attribute; of_kind = is.of_sets };
-  }
-
   -- CONFIGURATION's sorts and operators are one, and so these have what those have
-  module _ (ok : IsAccepted sig) (apart : OperatorsApart sig) (sorts : ObjectSorts) (operators : ObjectOperators) (are : AreObjectSorts sig sorts) (on : AreObjectOperators sig operators)
-      (c : Configuration) (is : IsConfiguration sig c) where
+  module _ (ok : IsAccepted sig) (apart : OperatorsApart sig) (sorts : ObjectSorts) (operators : ObjectOperators) (are : AreObjectSorts sig sorts)
+      (on : AreObjectOperators sig operators) (c : Configuration) (is : IsConfiguration sig c) where
     pub of_sets : SameKind sig sorts.attribute sorts.set
     of_sets =
         subst (λ S. SameKind sig S sorts.set) (ok.sorts_differ c.sorts.attribute sorts.attribute _ is.sorts.attribute are.attribute)

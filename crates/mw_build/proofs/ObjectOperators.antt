@@ -1,9 +1,9 @@
 -- Operators on the kinds of sorts: what is looked up by kinds, and what is told by the names of sorts.
 use Rattle.std.proofs.Common.{◌≡◌, ◌∙◌, ◌≤◌, ℕ, List, [], ◌∷◌, length, Option, Some, None, inl, inr, refl, sym, ap, subst}
-use Rattle.mw_logic.specs.Signature.{Signature, IsSortNamed, SameKind, Member}
+use Rattle.mw_logic.specs.Signature.{Signature, IsSortNamed, Member}
 use Rattle.mw_logic.specs.Accepted.{IsAccepted}
 use Rattle.mw_logic.specs.Preregular.{IsSortOf}
-use Rattle.mw_logic.proofs.KindLaws.{SameKind-trans, SameKind-sym, SameKind-equal}
+use Rattle.mw_logic.proofs.KindLaws.{SameKind-trans, SameKind-sym}
 use Rattle.mw_poset.specs.Order.{IsKindOf}
 use Rattle.mw_poset.proofs.Reading.{kinds_agree}
 use Rattle.mw_sorts.proofs.Connected.{kind-with}

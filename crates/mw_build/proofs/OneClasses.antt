@@ -1,5 +1,5 @@
 -- The classes of a module are one.
-use Rattle.std.proofs.Common.{◌≡◌, ◌≢◌, ◌∙◌, ℕ, zero, suc, List, [], ◌∷◌, length, Option, Some, None, refl, sym, ap, subst}
+use Rattle.std.proofs.Common.{◌≡◌, ◌∙◌, ℕ, zero, suc, List, [], ◌∷◌, length, Option, Some, refl, sym, ap, subst}
 use Rattle.mw_logic.specs.Signature.{Signature, IsSortNamed}
 use Rattle.mw_logic.specs.Accepted.{IsAccepted}
 use Rattle.mw_carry.specs.Laws.{OperatorsApart}
@@ -8,7 +8,7 @@ use Rattle.mw_module.specs.Units.{SeenLined}
 use Rattle.mw_omod.specs.declared.classes.Classes.{Classes}
 use Rattle.mw_omod.specs.declared.classes.Role.{Role}
 use Rattle.mw_omod.specs.declared.classes.Role.TheVariants as role
-use Rattle.mw_build.specs.Classes.{Declared, a_constant, an_attribute, IsFirst, role_in, IsOperatorOn, IsDeclaredAs, IsRoleOf, of_class, of_attribute, of_none, AreOfConfiguration, AreClassesOf, AreObjectsOf, of_objects, of_no_configuration, of_others, declared_in}
+use Rattle.mw_build.specs.Classes.{Declared, a_constant, an_attribute, role_in, IsOperatorOn, IsDeclaredAs, IsRoleOf, of_class, of_attribute, of_none, AreClassesOf, AreObjectsOf, of_objects, of_no_configuration, of_others, declared_in}
 use Rattle.mw_build.proofs.FirstOf.{first_one, first_among}
 use Rattle.mw_build.proofs.ObjectOperators.{one_operator}
 
@@ -45,7 +45,8 @@ module _ (sig : Signature) (ok : IsAccepted sig) where
   one_role ds f (of_none none) (of_none not) = refl
 
   module _ (apart : OperatorsApart sig) where
-    one_on : {spelling : List ℕ} {names : List (List ℕ)} {name : List ℕ} {f g : ℕ} → IsOperatorOn sig spelling names name f → IsOperatorOn sig spelling names name g → f ≡ g
+    one_on : {spelling : List ℕ} {names : List (List ℕ)} {name : List ℕ} {f g : ℕ} → IsOperatorOn sig spelling names name f
+        → IsOperatorOn sig spelling names name g → f ≡ g
     one_on {spelling} {names} {name} {f} {g} p q = one_operator sig ok apart spelling names name f g p q
 
     one_classes : (ss : List SeenLined) (K L : Classes) → AreClassesOf sig ss K → AreClassesOf sig ss L → K ≡ L

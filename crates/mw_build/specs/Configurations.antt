@@ -1,5 +1,5 @@
 -- What is looked for of CONFIGURATION: its sorts, and its operators on them.
-use Rattle.std.specs.Prelude.{List, [], ◌∷◌, Option, MatchOption, codes}
+use Rattle.std.specs.Prelude.{[], ◌∷◌, Option, MatchOption, codes}
 use Rattle.mw_logic.specs.Signature.{Signature, IsSortNamed, IsAssociative, SameKind}
 use Rattle.mw_omod.specs.declared.classes.Role.{Role}
 use Rattle.mw_omod.specs.declared.classes.Role.TheVariants as role

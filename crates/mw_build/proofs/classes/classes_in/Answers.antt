@@ -1,8 +1,6 @@
 use Rattle.std.proofs.Common.{subst}
 use Rattle.mw_build.specs.Configurations.{Finds, IsConfiguration}
 use Rattle.mw_build.proofs.Configurations.{configuration_of}
-use Rattle.mw_build.proofs.OneClasses.{one_objects}
-use Rattle.mw_build.proofs.ClassesThere.{classes_there}
 use Rattle.mw_build.proofs.classes.classes_in.Goals as goal
 
 pub returns-in_default : goal.returns-in_default

@@ -1,5 +1,5 @@
-use Rattle.std.proofs.Common.{◌≡◌, true, false, None, Some, refl, sym, subst}
-use Rattle.mw_logic.specs.Signature.{Signature, SameKind, IsAssociative}
+use Rattle.std.proofs.Common.{◌≡◌, true, false, refl, sym, subst}
+use Rattle.mw_logic.specs.Signature.{Signature, SameKind}
 use Rattle.mw_poset.specs.Order.{IsKindOf}
 use Rattle.mw_poset.proofs.Reading.{kinds_agree, kinds_same}
 use Rattle.mw_carry.proofs.Numbers.{within_at}
@@ -31,7 +31,8 @@ returns-then-is_associative-2 c =
     record {
       sorts = subst (λ (t : Signature). AreObjectSorts t s) c.requires.target c.in-Some.ensures;
       operators = subst (λ (t : Signature). AreObjectOperators t o) c.requires.target operators;
-      of_sets = subst (λ (t : Signature). SameKind t s.attribute s.set) c.requires.target (kinds_agree c.args.target.now.pairs s.attribute s.set c.kind_of.result c.kind_of.ensures second c.args.target.now refl);
+      of_sets = subst (λ (t : Signature). SameKind t s.attribute s.set) c.requires.target
+          (kinds_agree c.args.target.now.pairs s.attribute s.set c.kind_of.result c.kind_of.ensures second c.args.target.now refl);
       comma = c.if-is_associative.ensures.0 refl;
       union = c.if-is_associative-2.ensures.0 refl;
     }
@@ -46,7 +47,7 @@ returns-else-kind_of c = λ x is.
     let sorts : AreObjectSorts sig s = subst (λ (t : Signature). AreObjectSorts t s) c.requires.target c.in-Some.ensures in
     let operators : AreObjectOperators sig o = subst (λ (t : Signature). AreObjectOperators t o) c.requires.target found in
     elim c.else-kind_of.branch [
-      else-kind_of-via-then-kind_of+then-is_associative+else-is_associative-2 w ↦
+      | else-kind_of-via-then-kind_of+then-is_associative+else-is_associative-2 w ↦
           let no : false ≡ true = w.if-is_associative-2.ensures.1 (union_joins sig c.requires.accepted c.requires.apart s o sorts operators x is) in cc
       | else-kind_of-via-then-kind_of+else-is_associative w ↦
           let no : false ≡ true = w.if-is_associative.ensures.1 (comma_joins sig c.requires.accepted c.requires.apart s o sorts operators x is) in cc

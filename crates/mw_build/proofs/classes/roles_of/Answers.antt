@@ -1,4 +1,4 @@
-use Rattle.std.proofs.Common.{◌≡◌, ◌∙◌, [], length, replicate, sym, ap, subst}
+use Rattle.std.proofs.Common.{◌≡◌, ◌∙◌, length, replicate, sym, ap, subst}
 use Rattle.mw_logic.specs.Signature.{Signature}
 use Rattle.mw_module.specs.Units.{seen_all}
 use Rattle.mw_omod.specs.declared.classes.Role.TheVariants as role
