@@ -16,11 +16,13 @@ use Rattle.mw_build.proofs.FirstOf.{first_among}
 
 module _ (sig : Signature) (ok : IsAccepted sig) where
   -- an operator's value is of the kind of the sort of this name
-  value_kind : {spelling : List ℕ} {names : List (List ℕ)} {name : List ℕ} {f : ℕ} (on : IsOperatorOn sig spelling names name f) (S : ℕ) → IsSortNamed sig S name → SameKind sig S on.is.operator.result
+  value_kind : {spelling : List ℕ} {names : List (List ℕ)} {name : List ℕ} {f : ℕ} (on : IsOperatorOn sig spelling names name f) (S : ℕ) → IsSortNamed sig S name
+      → SameKind sig S on.is.operator.result
   value_kind {name = name} on S named = subst (λ T. SameKind sig T on.is.operator.result) (ok.sorts_differ on.sort S name on.value_named named) on.is.gives
 
   -- the one kind
-  one_kind : (Ss Ks : List ℕ) (name : List ℕ) (S : ℕ) → AreNamed sig Ss (name ∷ []) → AreAlike sig Ss Ks → IsSortNamed sig S name → (A : ℕ) × (Ks ≡ A ∷ []) × SameKind sig S A
+  one_kind : (Ss Ks : List ℕ) (name : List ℕ) (S : ℕ) → AreNamed sig Ss (name ∷ []) → AreAlike sig Ss Ks → IsSortNamed sig S name
+      → (A : ℕ) × (Ks ≡ A ∷ []) × SameKind sig S A
   one_kind [] Ks name S n k named = absurd n
   one_kind (T ∷ []) [] name S n k named = absurd k
   one_kind (T ∷ []) (K ∷ []) name S n k named = (K, refl, subst (λ T. SameKind sig T K) (ok.sorts_differ T S name n.0 named) k.0)
@@ -60,7 +62,8 @@ module _ (sig : Signature) (ok : IsAccepted sig) where
   classes_there ss K p =
       let c = p.configuration in
       let set = c.set.named in
-      let comma : c.comma.assoc.operator ≡ c.comma.on.is.operator = same_operator sig K.comma c.comma.assoc.operator c.comma.on.is.operator c.comma.assoc.is_there c.comma.on.is.is_there in
+      let comma : c.comma.assoc.operator ≡ c.comma.on.is.operator =
+      same_operator sig K.comma c.comma.assoc.operator c.comma.on.is.operator c.comma.assoc.is_there c.comma.on.is.is_there in
       let (A, B, C, args, attributes) = three_kinds c.object.sorts c.object.is.operator.args _ _ _ K.set c.object.args_named c.object.is.takes set in
       record {
         union = c.union.assoc;

@@ -6,7 +6,6 @@ use Rattle.mw_carry.specs.Laws.{OperatorsApart}
 use Rattle.mw_carry.specs.Tables.{IsFound}
 use Rattle.mw_carry.proofs.Numbers.{within_at}
 use Rattle.mw_omod.specs.declared.classes.Classes.{Classes}
-use Rattle.mw_omod.specs.declared.classes.Role.{Role}
 use Rattle.mw_build.specs.declared.classes.ObjectSorts.{ObjectSorts}
 use Rattle.mw_build.specs.declared.classes.ObjectOperators.{ObjectOperators}
 use Rattle.mw_build.specs.declared.classes.Configuration.{Configuration}
@@ -19,7 +18,8 @@ module _ (sig : Signature) where
   pub no_sort : (name : List ℕ) → IsFound (length sig.sorts) (λ S. IsSortNamed sig S name) None → (S : ℕ) → IsSortNamed sig S name → ⊥
   no_sort name none S named = none S (within_at sig.sorts S name named).1 named
 
-  pub first_named : (Ss : List ℕ) (name : List ℕ) (names : List (List ℕ)) → AreNamed sig Ss (name ∷ names) → (S : ℕ) × (Ts : List ℕ) × IsSortNamed sig S name × AreNamed sig Ts names
+  pub first_named : (Ss : List ℕ) (name : List ℕ) (names : List (List ℕ)) → AreNamed sig Ss (name ∷ names)
+      → (S : ℕ) × (Ts : List ℕ) × IsSortNamed sig S name × AreNamed sig Ts names
   first_named [] name names n = absurd n
   first_named (S ∷ Ss) name names n = (S, Ss, n.0, n.1)
 
@@ -48,20 +48,9 @@ module _ (sig : Signature) where
         },
       )
 
-  -- and what was found so
-  pub of_configuration : (c : Configuration) (roles : List Role) → IsConfiguration sig c
-      → AreOfConfiguration sig (record { roles = roles; none = c.operators.none; comma = c.operators.comma; object = c.operators.object; union = c.operators.union; set = c.sorts.set })
-  of_configuration c roles is = record {
-    none = is.operators.none;
-    comma = record { on = is.operators.comma; assoc = is.comma };
-    object = is.operators.object;
-    union = record { on = is.operators.union; assoc = is.union };
-    set = record { named = is.sorts.set; attribute = c.sorts.attribute; attribute_named = is.sorts.attribute; of_kind = is.of_sets };
-  }
-
   -- CONFIGURATION's sorts and operators are one, and so these have what those have
-  module _ (ok : IsAccepted sig) (apart : OperatorsApart sig) (sorts : ObjectSorts) (operators : ObjectOperators) (are : AreObjectSorts sig sorts) (on : AreObjectOperators sig operators)
-      (c : Configuration) (is : IsConfiguration sig c) where
+  module _ (ok : IsAccepted sig) (apart : OperatorsApart sig) (sorts : ObjectSorts) (operators : ObjectOperators) (are : AreObjectSorts sig sorts)
+      (on : AreObjectOperators sig operators) (c : Configuration) (is : IsConfiguration sig c) where
     pub of_sets : SameKind sig sorts.attribute sorts.set
     of_sets =
         subst (λ S. SameKind sig S sorts.set) (ok.sorts_differ c.sorts.attribute sorts.attribute _ is.sorts.attribute are.attribute)

@@ -45,7 +45,8 @@ module _ (sig : Signature) (ok : IsAccepted sig) where
   one_role ds f (of_none none) (of_none not) = refl
 
   module _ (apart : OperatorsApart sig) where
-    one_on : {spelling : List ℕ} {names : List (List ℕ)} {name : List ℕ} {f g : ℕ} → IsOperatorOn sig spelling names name f → IsOperatorOn sig spelling names name g → f ≡ g
+    one_on : {spelling : List ℕ} {names : List (List ℕ)} {name : List ℕ} {f g : ℕ} → IsOperatorOn sig spelling names name f
+        → IsOperatorOn sig spelling names name g → f ≡ g
     one_on {spelling} {names} {name} {f} {g} p q = one_operator sig ok apart spelling names name f g p q
 
     one_classes : (ss : List SeenLined) (K L : Classes) → AreClassesOf sig ss K → AreClassesOf sig ss L → K ≡ L

@@ -39,7 +39,8 @@ module _ (sig : Signature) where
     role_kept d lacks (of_none none) = of_none (none_more (IsDeclaredAs sig f) d ds none lacks)
 
     -- what a declaration makes of one that is, where nothing before does
-    role_first : (d : Declared) (s : Role) → ((e : Declared) → Member e ds → IsDeclaredAs sig f e → ⊥) → IsDeclaredAs sig f d → IsTold d s → IsRoleOf sig (ds ++ d ∷ []) f s
+    role_first : (d : Declared) (s : Role) → ((e : Declared) → Member e ds → IsDeclaredAs sig f e → ⊥) → IsDeclaredAs sig f d → IsTold d s
+        → IsRoleOf sig (ds ++ d ∷ []) f s
     role_first (a_constant name) s none is (S, e, named) =
         subst (IsRoleOf sig (ds ++ a_constant name ∷ []) f) (sym e) (of_class name S (first_last (IsDeclaredAs sig f) (a_constant name) ds none is) named)
     role_first (an_attribute a) s none is (S, e, named) =
@@ -51,12 +52,13 @@ module _ (sig : Signature) where
     role_told d s is told (of_none none) = role_first d s none is told
 
   -- all of them, where no operator is declared so
-  pub roles_kept : (ds : List Declared) (d : Declared) (roles : List Role) → ((f : ℕ) → IsDeclaredAs sig f d → ⊥) → AreRolesOf sig ds roles → AreRolesOf sig (ds ++ d ∷ []) roles
+  pub roles_kept : (ds : List Declared) (d : Declared) (roles : List Role) → ((f : ℕ) → IsDeclaredAs sig f d → ⊥) → AreRolesOf sig ds roles
+      → AreRolesOf sig (ds ++ d ∷ []) roles
   roles_kept ds d roles lacks are = record { count = are.count; each = λ f. role_kept ds f d (lacks f) (are.each f) }
 
   -- and where g is, and no other one
-  pub roles_told : (ds : List Declared) (d : Declared) (old new : List Role) (g : ℕ) (s : Role) → IsTold d s → IsDeclaredAs sig g d → ((f : ℕ) → IsDeclaredAs sig f d → f ≡ g)
-      → length new ≡ length old → role_in new g ≡ or_role (role_in old g) s → ((f : ℕ) → f ≢ g → role_in new f ≡ role_in old f)
+  pub roles_told : (ds : List Declared) (d : Declared) (old new : List Role) (g : ℕ) (s : Role) → IsTold d s → IsDeclaredAs sig g d
+      → ((f : ℕ) → IsDeclaredAs sig f d → f ≡ g) → length new ≡ length old → role_in new g ≡ or_role (role_in old g) s → ((f : ℕ) → f ≢ g → role_in new f ≡ role_in old f)
       → AreRolesOf sig ds old → AreRolesOf sig (ds ++ d ∷ []) new
   roles_told ds d old new g s told is only long noted others are = record { count = long ∙ are.count; each = λ f. of f (nat_eq f g) refl }
     where

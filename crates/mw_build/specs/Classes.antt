@@ -1,5 +1,5 @@
--- What the operators of a flattened module are to objects, by the classes that its statements declare. (Maude Manual, chapter 8, "Object-based programming", and
--- chapter 21, "Object-oriented modules"; whose sort an attribute has that two classes declare is this project's own.)
+-- What the operators of a flattened module are to objects, by the classes that its statements declare. (Maude Manual, chapter 8, "Object-based programming",
+-- and chapter 21, "Object-oriented modules"; whose sort an attribute has that two classes declare is this project's own.)
 use Rattle.std.specs.Prelude.{◌≡◌, ◌≢◌, ℕ, List, [], ◌∷◌, ◌++◌, map, length, unwrap_or, Option, Some, None, codes, ⊤}
 use Rattle.mw_logic.specs.Signature.{Signature, Operator, IsOperator, IsSortNamed, SameKind, IsAssociative, Member, at_number}
 use Rattle.mw_carry.specs.Laws.{AreAlike}
@@ -89,7 +89,8 @@ module _ (sig : Signature) where
   IsDeclaredAs f (a_constant name) = IsOperatorOn (name_of_tokens (name ∷ [])) [] name f
   IsDeclaredAs f (an_attribute a) = IsOperatorOn (name_of_tokens (attribute_name a.name)) (a.sort ∷ []) (codes "Attribute") f
 
-  -- What operator f is, by what first declares it: the constant of a class, with the class's sort, or the operator of an attribute, with the sort of its values.
+  -- What operator f is, by what first declares it: the constant of a class, with the class's sort, or the operator of an attribute, with the sort that the
+  -- class declares for its values.
   pub data IsRoleOf (ds : List Declared) (f : ℕ) : Role → Type 0 where
     of_class : (name : List ℕ) (S : ℕ) → IsFirst (IsDeclaredAs f) (a_constant name) ds → IsSortNamed sig S name → IsRoleOf ds f (role.Class S)
     of_attribute : (a : ClassAttribute) (S : ℕ) → IsFirst (IsDeclaredAs f) (an_attribute a) ds → IsSortNamed sig S a.sort → IsRoleOf ds f (role.Attribute S)

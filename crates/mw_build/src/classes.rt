@@ -325,7 +325,8 @@ fn note_all(
     requires apart { OperatorsApart target.now }
     requires value { IsSortNamed target.now value (codes "Attribute") }
     requires count { length roles.old ≡ length target.now.operators }
-    ensures { OnOk result (AreRolesOf target.now [] roles.old → AreRolesOf target.now (declared_in (seen_all statements.now)) roles.new) }
+    ensures { OnOk result (AreRolesOf target.now [] roles.old
+        → AreRolesOf target.now (declared_in (seen_all statements.now)) roles.new) }
 {
     for statement in statements {
         note_form(alloc, target, value, statement.form, roles)?;
@@ -362,7 +363,9 @@ fn classes_in(
     requires target { target.now ≡ signature.now }
     requires accepted { IsAccepted signature.now }
     requires apart { OperatorsApart signature.now }
-    ensures { IfOk result (λ o. MatchOption o ((K : ClassesOf) → AreOfConfiguration signature.now K → ⊥) (AreClassesOf signature.now (seen_all statements.now))) }
+    ensures { IfOk result (λ o. MatchOption o
+        ((K : ClassesOf) → AreOfConfiguration signature.now K → ⊥)
+        (AreClassesOf signature.now (seen_all statements.now))) }
 {
     let Some(Configuration { sorts, operators }) = configuration_in(alloc, target, signature)?
     else {
@@ -390,7 +393,9 @@ pub fn classes_of(
     requires order { order.now ≡ order_of signature.now }
     requires accepted { IsAccepted signature.now }
     requires apart { OperatorsApart signature.now }
-    ensures { IfOk result (λ o. MatchOption o ((K : ClassesOf) → AreOfConfiguration signature.now K → ⊥) (AreClassesOf signature.now (seen_all statements.now))) }
+    ensures { IfOk result (λ o. MatchOption o
+        ((K : ClassesOf) → AreOfConfiguration signature.now K → ⊥)
+        (AreClassesOf signature.now (seen_all statements.now))) }
 {
     let target = Target::of(alloc, signature, order)?;
     classes_in(alloc, &target, signature, statements)

@@ -31,7 +31,8 @@ returns-then-is_associative-2 c =
     record {
       sorts = subst (λ (t : Signature). AreObjectSorts t s) c.requires.target c.in-Some.ensures;
       operators = subst (λ (t : Signature). AreObjectOperators t o) c.requires.target operators;
-      of_sets = subst (λ (t : Signature). SameKind t s.attribute s.set) c.requires.target (kinds_agree c.args.target.now.pairs s.attribute s.set c.kind_of.result c.kind_of.ensures second c.args.target.now refl);
+      of_sets = subst (λ (t : Signature). SameKind t s.attribute s.set) c.requires.target
+          (kinds_agree c.args.target.now.pairs s.attribute s.set c.kind_of.result c.kind_of.ensures second c.args.target.now refl);
       comma = c.if-is_associative.ensures.0 refl;
       union = c.if-is_associative-2.ensures.0 refl;
     }

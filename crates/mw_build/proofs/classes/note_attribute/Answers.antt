@@ -17,7 +17,8 @@ returns-in_default c = λ ds are.
     let sig = c.args.target.now in
     let a = c.args.attribute.now in
     let none = subst (λ n. IsFound (length sig.sorts) (λ S. IsSortNamed sig S n) None) c.as_slice.ensures c.in_default.ensures in
-    roles_kept sig ds (an_attribute a) c.args.roles.now (λ f is. let (S, Ss, named, rest) = first_named sig is.sorts a.sort [] is.args_named in no_sort sig a.sort none S named) are
+    roles_kept sig ds (an_attribute a) c.args.roles.now
+    (λ f is. let (S, Ss, named, rest) = first_named sig is.sorts a.sort [] is.args_named in no_sort sig a.sort none S named) are
 
 pub operator_on-requires-clause-sorts : goal.operator_on-requires-clause-sorts
 operator_on-requires-clause-sorts c =
@@ -30,7 +31,8 @@ operator_on-requires-clause-sort c = within_at c.args.target.now.sorts c.args.va
 
 pub note-requires-clause-high : goal.note-requires-clause-high
 note-requires-clause-high c =
-    let high = found_within c.args.target.now c.in_ok-spelling.spelling.items (c.in-Some.sort ∷ []) c.args.value c.in_ok-operator.field-0 c.in-Some-2.operator c.in-Some-2.is c.in_ok-operator.ensures in
+    let high = found_within c.args.target.now c.in_ok-spelling.spelling.items (c.in-Some.sort ∷ []) c.args.value c.in_ok-operator.field-0 c.in-Some-2.operator c.in-Some-2.is
+    c.in_ok-operator.ensures in
     omega (arith, high, c.requires.count)
 
 pub returns-in-Some-2 : goal.returns-in-Some-2

@@ -14,5 +14,5 @@ loop-attribute-preserved c = λ ds are.
 
 pub returns : goal.returns
 returns c = λ ds are.
-    subst (λ as_. AreRolesOf c.args.target.now (ds ++ map an_attribute as_) c.loop-attribute.roles) (take_all c.loop-attribute.attribute-index c.args.attributes.now c.loop-attribute-test.false)
-    (c.loop-attribute.invariant ds are)
+    subst (λ as_. AreRolesOf c.args.target.now (ds ++ map an_attribute as_) c.loop-attribute.roles)
+    (take_all c.loop-attribute.attribute-index c.args.attributes.now c.loop-attribute-test.false) (c.loop-attribute.invariant ds are)

@@ -23,7 +23,8 @@ operator_on-requires-clause-sort c =
 
 pub note-requires-clause-high : goal.note-requires-clause-high
 note-requires-clause-high c =
-    let high = found_within c.args.target.now c.in_ok-spelling.spelling.items [] c.in-Some.sort c.in_ok-operator.field-0 c.in-Some-2.operator c.in-Some-2.is c.in_ok-operator.ensures in
+    let high = found_within c.args.target.now c.in_ok-spelling.spelling.items [] c.in-Some.sort c.in_ok-operator.field-0 c.in-Some-2.operator c.in-Some-2.is
+    c.in_ok-operator.ensures in
     omega (arith, high, c.requires.count)
 
 pub returns-in-Some-2 : goal.returns-in-Some-2

@@ -10,6 +10,7 @@ returns-in_ok-note_attributes-in-Class c = λ ds are.
     let new = c.note_attributes.new.roles in
     let name = a_constant c.in-Class.name in
     let class = c.in_ok-note_class-in-Class.ensures ds are in
-    let all = subst (λ as_. AreRolesOf sig ((ds ++ name ∷ []) ++ map an_attribute as_) new) c.as_slice.ensures (c.in_ok-note_attributes-in-Class.ensures (ds ++ name ∷ []) class) in
+    let all = subst (λ as_. AreRolesOf sig ((ds ++ name ∷ []) ++ map an_attribute as_) new) c.as_slice.ensures
+    (c.in_ok-note_attributes-in-Class.ensures (ds ++ name ∷ []) class) in
     subst (λ (form : Form). AreRolesOf sig (ds ++ declared_by (shape_of form)) new) (sym c.in-Class.is)
     (subst (λ es. AreRolesOf sig es new) (append_assoc ds (name ∷ []) (map an_attribute c.in-Class.attributes)) all)
