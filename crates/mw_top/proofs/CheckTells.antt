@@ -1,12 +1,12 @@
 -- What is written where proofs are checked tells whether something was refused or answered no: else it is the lines of yes alone, one for each proof.
-use Rattle.std.specs.Prelude.{◌≡◌, ◌<◌, ◌≤◌, ◌+◌, ◌^◌, ◌++◌, ◌||◌, ◌⊎◌, ℕ, zero, suc, Bool, true, false, List, [], ◌∷◌, length, get_or, Ok, codes, refl, ⊤}
+use Rattle.std.specs.Prelude.{◌≡◌, ◌<◌, ◌+◌, ◌^◌, ◌++◌, ◌||◌, ◌⊎◌, ℕ, suc, Bool, true, false, List, [], ◌∷◌, length, get_or, codes, refl, ⊤}
 use Rattle.std.specs.Fmt.{decimal}
 use Rattle.std.proofs.Common.{sym, subst, ap, ◌∙◌, inl, inr, ⊎_elim, arith, append_assoc, append-nil}
 use Rattle.mw_lex.specs.declared.token.Token.{Token}
 use Rattle.mw_module.specs.declared.faults.Fault.{Fault}
 use Rattle.mw_module.specs.declared.faults.FaultKind.TheVariants.{AlreadyDefined}
 use Rattle.mw_module.specs.Units.{Outcome}
-use Rattle.mw_print.proofs.Digits.{IsDigit, AreDigits, AreSome, decimal_digits}
+use Rattle.mw_print.proofs.Digits.{AreDigits, AreSome, decimal_digits}
 use Rattle.mw_block.specs.Blocks.{line}
 use Rattle.mw_block.specs.Refused.{refusal_line}
 use Rattle.mw_block.specs.Verdicts.{verdict_text, verdict_line}
@@ -19,7 +19,7 @@ use Rattle.mw_check.specs.declared.checking.Verdict.{Verdict}
 use Rattle.mw_check.specs.declared.checking.Verdict.TheVariants.{Yes, No}
 use Rattle.mw_top.specs.Proofs.{IsVerdictOn, IsProofAnswer, nameless, nowhere, formless as outside, checked, is_no}
 use Rattle.mw_top.specs.declared.purpose.Purpose.TheVariants.{Check}
-use Rattle.mw_top.specs.Sources.{Loaded, no_modules, Gives, formless, taken, refused, accepted, no_command, faulty, answered, passed, judged, Answered, nothing_yet, one_more}
+use Rattle.mw_top.specs.Sources.{Loaded, Gives, formless, taken, refused, accepted, no_command, faulty, answered, passed, judged, Answered, nothing_yet, one_more}
 use Rattle.mw_top.specs.Outputs.{IsOutput, unlexed, answered as of_tokens, lexing_refusal, AgreeInStatus}
 
 rest_is : {x y : ℕ} {xs ys : List ℕ} → x ∷ xs ≡ y ∷ ys → xs ≡ ys

@@ -1,5 +1,5 @@
 -- Where items are checked each number names what is there: none is 2^32 or more, so entries tell the items as the text does.
-use Rattle.std.specs.Prelude.{◌≡◌, ◌≢◌, ◌≤◌, ◌^◌, ℕ, zero, suc, nat_lt, cond, Bool, true, false, List, [], ◌∷◌, map, Option, Some, None, option_map, option_and_then, refl}
+use Rattle.std.specs.Prelude.{◌≡◌, ◌≢◌, ◌≤◌, ◌^◌, ℕ, suc, nat_lt, cond, Bool, true, false, List, [], ◌∷◌, map, Option, Some, None, option_map, option_and_then, refl}
 use Rattle.std.proofs.Common.{sym, subst, ap, ◌∙◌, arith}
 use Rattle.std.proofs.lemmas.Option.{none-some}
 use Rattle.mw_logic.specs.Term.{RawTerm}
@@ -11,7 +11,7 @@ use Rattle.mw_deduction.specs.Runs.{Done, Dones, Runs}
 use Rattle.mw_redex.specs.Paths.{argument, at_path}
 use Rattle.mw_redex.specs.Replaced.{IsTaken, IsPartAt}
 use Rattle.mw_items.specs.Items.{Spot, Item, step, built, Items, none, more, Groups, end, group}
-use Rattle.mw_verdict.specs.Checks.{Checks, ChecksOne, Evaluated, AreEvaluated, Shown, then, by_statement, by_row, evaluated, a_side, conditional}
+use Rattle.mw_verdict.specs.Checks.{Checks, ChecksOne, AreEvaluated, Shown, then, by_statement, by_row, evaluated, a_side, conditional}
 use Rattle.mw_proofread.specs.Numbers.{entry_number}
 use Rattle.mw_proofread.specs.Reading.{entry_spot, entry_item, entry_items, entry_groups}
 use Rattle.mw_check.specs.Whole.{IsDeductionOf, IsVerdictOf}

@@ -1,5 +1,5 @@
 -- What was written of a kept proof is answered yes, or no for a condition or a stop alone.
-use Rattle.std.specs.Prelude.{◌≡◌, ◌<◌, ◌^◌, ◌++◌, ℕ, cond, List, [], ◌∷◌, map, length, codes, All, Bool, false, Option, Some, None, option_map, refl}
+use Rattle.std.specs.Prelude.{◌≡◌, ◌<◌, ◌^◌, ◌++◌, ℕ, cond, List, [], ◌∷◌, map, length, codes, All, false, Option, Some, None, option_map, refl}
 use Rattle.std.proofs.Common.{sym, subst, ap, ◌∙◌, inl, inr}
 use Rattle.std.proofs.lemmas.Bool.{lt-ltb}
 use Rattle.std.proofs.lemmas.Option.{none-some, same_Some}

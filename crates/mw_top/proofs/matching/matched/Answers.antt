@@ -1,6 +1,5 @@
 use Rattle.std.proofs.Common.{rules, ◌≡◌, ◌∙◌, Bool, [], length, nat_eq, ap, sym, subst}
 use Rattle.std.proofs.lemmas.Bool.{eqb-true, eq-eqb}
-use Rattle.mw_logic.specs.Term.{RawTerm}
 use Rattle.mw_logic.specs.Signature.{Signature, IsRawTerm}
 use Rattle.mw_logic.specs.NormalForm.{normal_form}
 use Rattle.mw_logic.specs.Module.{Module}

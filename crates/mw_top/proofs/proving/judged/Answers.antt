@@ -1,7 +1,6 @@
-use Rattle.std.proofs.Common.{◌≡◌, ap, sym, subst}
+use Rattle.std.proofs.Common.{sym, subst}
 use Rattle.mw_logic.specs.Module.{Module}
 use Rattle.mw_module.specs.Words.{texts}
-use Rattle.mw_items.specs.Items.{Items}
 use Rattle.mw_proofread.specs.Faults.{OutsideAt}
 use Rattle.mw_proofread.specs.Outside.{IsOutside}
 use Rattle.mw_proofread.specs.Reading.{IsText, entry_items}

@@ -1,4 +1,4 @@
-use Rattle.std.proofs.Common.{Result, Err, false, subst}
+use Rattle.std.proofs.Common.{Result, Err, subst}
 use Rattle.mw_module.specs.declared.faults.Fault.{Fault}
 use Rattle.mw_module.specs.declared.units.Unit.{Unit as SourceUnit}
 use Rattle.mw_module.specs.Units.{Reads, seen_outcome, seen_unit}

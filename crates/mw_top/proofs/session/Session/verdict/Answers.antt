@@ -1,4 +1,4 @@
-use Rattle.std.proofs.Common.{◌≡◌, ◌∙◌, ap, sym, subst, List, ℕ, Option, Some, None, option_map, slice_get, IfOk, Ok, Err}
+use Rattle.std.proofs.Common.{◌≡◌, ◌∙◌, ap, sym, subst, List, Some, None, option_map, slice_get, IfOk}
 use Rattle.std.specs.Borrow.{Bor}
 use Rattle.mw_import.specs.Flat.{number_named}
 use Rattle.mw_build.specs.Modules.{Accepted}
