@@ -3,11 +3,15 @@
 #![tactic(auto)]
 
 #[cfg(test)]
+mod board;
+#[cfg(test)]
 mod numerals;
 #[cfg(test)]
 mod parts;
 #[cfg(test)]
 mod runs;
+#[cfg(test)]
+mod store;
 #[cfg(test)]
 mod streams;
 #[cfg(test)]
