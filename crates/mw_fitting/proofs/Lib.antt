@@ -1,0 +1,4 @@
+pub mod Depths
+pub mod Levels
+pub mod Heights
+pub mod Fitting
