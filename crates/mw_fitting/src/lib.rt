@@ -1,9 +1,9 @@
 //! Moves whose proof may be made wherever its term stands under an operator, as numbers alone tell: definitions and
 //! the law, over mw_multiset. It has no code.
 //!
-//! It is for a part of a multiset that is rewritten apart, and comes back beside the other elements. Of such a
-//! proof is asked that the whole before each replacement isn't the operator's identity, and that no element of the
-//! whole after it is deeper than 999 levels (`AllUnder` of mw_multiset).
+//! It is for a part of a multiset that is rewritten apart, and comes back beside the other elements. Two things are
+//! asked of such a proof (`AllUnder` of mw_multiset). The whole before each replacement isn't the operator's
+//! identity. No element of the whole after it is deeper than 999 levels.
 //!
 //! `Fits` (specs/Fits) tells this in one pass over the moves, and no term is made for it. Only moves outside the
 //! sides of conditions count:

@@ -74,8 +74,8 @@ abbrev pub AreLow : ℕ → List Receipt → Type 0
 AreLow n [] = ⊤
 AreLow n (r ∷ rs) = (r.rank ≤ n) × AreLow n rs
 
--- The receipts in order are one proof, from the operator on the elements at first to the operator on those at last, of about as many moves as they have
--- together. It carries out their runs, each beside the rest.
+-- The receipts in order are one proof, from the operator on the elements at first to the operator on those at last. It carries out their runs, each beside
+-- the rest, and has about as many moves as they have together.
 pub record AreOneProof (M : Module) (f n : ℕ) (xs : List RawTerm) (rs : List Receipt) (ys : List RawTerm) (h : Reaches M.signature f xs rs ys) : Type 0 where
   pub moves : List Move
   pub made : IsMade M n (together M.signature f xs) (together M.signature f ys) moves

@@ -13,8 +13,8 @@ use Rattle.mw_trail.specs.Tracks.{Track}
 use Rattle.mw_proof.specs.Deductions.{Deduction, IsKept, deduced}
 use Rattle.mw_multiset.specs.Together.{parts, IsOfMultisets, IsShallow, AllUnder}
 
--- A part that was taken out: its number, the pool's operator and limit for sides, the part, where in it a rule applies, the rule with values of its left
--- side's variables, and the steps that are granted.
+-- A part that was taken out, with its number and the pool's operator and limit for sides. `path` and `take` are where in it the rule applies, and `subst` has
+-- values of the variables of the rule's left side; `steps` are granted.
 pub record Claim : Type 0 where
   pub number : ℕ
   pub operator : ℕ

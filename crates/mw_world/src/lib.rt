@@ -22,9 +22,9 @@
 //! Proved:
 //!
 //! - Whatever events follow one another from a sound state, all states are sound ([`every_run`]).
-//! - In a sound state the journal's proofs in order, each beside the rest, are one deduction from the opening to
-//!   the operator on all elements, those of open parts among them ([`one_proof`]). It has at most two moves more
-//!   for each proof.
+//! - In a sound state the journal's proofs in order, each beside the rest, are one deduction ([`one_proof`]). It
+//!   leads from the opening to the operator on all elements, those of open parts among them, and has at most two
+//!   moves more for each proof.
 //! - The same proofs, given back in two orders, leave pools that hold the same ([`any_order`]): the same elements are
 //!   free, the same claims are open, and the same is left of both bounds.
 //!
