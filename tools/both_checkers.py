@@ -24,7 +24,7 @@ import sys
 from cases import TOP, all_cases
 import second_check
 
-SECONDS = 60
+SECONDS = 300
 LEAST_TEXTS = 60_000
 LONGEST = 60_000                                        # characters of a text; longer ones are left out
 HEAD = 4                                                # tokens up to the module's name, which may be a bracket
