@@ -44,16 +44,21 @@ pub(crate) struct Nodes {
     spare: Vec<Term>,
 }
 
+/// The last first: then each term's arguments are held still when it goes, and nothing recurs, however deep it is.
+fn drop_from_last(kept: Vec<Kept>) {
+    let mut kept = kept;
+    while let Some(_) = kept.pop() {}
+}
+
 impl Drop for Nodes {
-    // The last first: then each term's arguments are held still when it goes, and nothing recurs, however deep it is.
     fn drop(self) {
         let Nodes {
-            mut kept,
+            kept,
             arguments: _,
             slots: _,
             spare: _,
         } = self;
-        while let Some(_) = kept.pop() {}
+        drop_from_last(kept);
     }
 }
 
