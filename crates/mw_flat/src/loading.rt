@@ -67,6 +67,21 @@ fn accept<'s>(
     }
 }
 
+/// Accepts the module that a unit declares, behind these, and tells whether it is one.
+fn accept_declared<'s>(
+    alloc: Global,
+    units: &mut Units<'s>,
+    modules: &mut Vec<Module>,
+    unit: Unit<'s>,
+) -> Result<bool, AllocError>
+    requires loaded { AreLoaded units.old modules.old.items }
+    requires known { AreKnown (seen_unit unit).statements }
+    ensures { OnOk result (AreLoaded units.new modules.new.items) }
+{
+    let declared = declare(alloc, unit)?;
+    accept(alloc, units, modules, declared)
+}
+
 /// The records of the modules that these tokens are, where the first so many tokens are of the prelude.
 fn records_of(alloc: Global, tokens: &[Token], prelude: usize) -> Result<Vec<u8>, AllocError> {
     let mut text = Vec::new(alloc);
@@ -76,10 +91,7 @@ fn records_of(alloc: Global, tokens: &[Token], prelude: usize) -> Result<Vec<u8>
     while at < tokens.len() {
         let (outcome, next) = read_unit(alloc, tokens, at, true)?;
         let accepted = match outcome {
-            Ok(unit) => {
-                let declared = declare(alloc, unit)?;
-                accept(alloc, &mut units, &mut modules, declared)?
-            }
+            Ok(unit) => accept_declared(alloc, &mut units, &mut modules, unit)?,
             Err(_) => false,
         };
         if accepted

@@ -6,12 +6,12 @@ use Rattle.mw_module.proofs.Sources.{units_are_known}
 use Rattle.mw_flat.proofs.loading.records_of.Goals as goal
 use Rattle.mw_flat.proofs.loading.records_of.Goals.{in-Ok+in_ok-accepted-in-Ok, in-Err}
 
-pub accept-requires-clause-known : goal.accept-requires-clause-known
-accept-requires-clause-known c =
+pub accept_declared-requires-clause-known : goal.accept_declared-requires-clause-known
+accept_declared-requires-clause-known c =
     let at = c.loop-at.at in
     let next = c.in_ok-outcome.next in
     let read = subst (λ (r : Result SourceUnit Fault). Reads true c.args.tokens.now at (seen_outcome r) next) c.in-Ok.is c.in_ok-outcome.ensures in
-    c.in_ok-declared.ensures.known (units_are_known true c.args.tokens.now at next (seen_unit c.in-Ok.unit) read)
+    units_are_known true c.args.tokens.now at next (seen_unit c.in-Ok.unit) read
 
 pub loop-at-preserved : goal.loop-at-preserved
 loop-at-preserved c = elim c.match-outcome.branch [
