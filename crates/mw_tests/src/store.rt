@@ -1,5 +1,5 @@
 // Terms that are kept once each, by number.
-use mw_store::{Node, Store, Table};
+use mw_store::{Id, Node, Store, Table};
 use mw_term::{OpId, Term, same};
 use std::alloc::{AllocError, Global};
 use std::test::Fail;
@@ -22,14 +22,20 @@ fn has_second(alloc: Global, store: &Store, operator: OpId) -> Result<bool, Allo
     Ok(store.len() == 2 && same(store.get(1), &wanted))
 }
 
+/// The numbers of the pair, its second part, and the pair again.
+fn numbers_in_turn(alloc: Global, store: &mut Store) -> Result<[Id; 3], AllocError> {
+    let first = store.intern(alloc, pair(alloc)?)?;
+    let second = store.intern(alloc, constant(alloc, 2)?)?;
+    let again = store.intern(alloc, pair(alloc)?)?;
+    Ok([first, second, again])
+}
+
 #[test]
 fn terms_have_the_number_of_their_first_mention(rt: HostRuntime) -> Result<(), Fail> {
-    let alloc = rt.alloc();
-    let mut store = Store::new(alloc)?;
-    assert_eq!(rt; store.intern(alloc, pair(alloc)?)?, 0);
-    assert_eq!(rt; store.intern(alloc, constant(alloc, 2)?)?, 1);
-    assert_eq!(rt; store.intern(alloc, pair(alloc)?)?, 0);
-    assert!(rt; has_second(alloc, &store, 2)?);
+    let mut store = Store::new(rt.alloc())?;
+    let numbers = numbers_in_turn(rt.alloc(), &mut store)?;
+    assert_eq!(rt; numbers, [0, 1, 0]);
+    assert!(rt; has_second(rt.alloc(), &store, 2)?);
     Ok(())
 }
 
@@ -61,6 +67,13 @@ fn node_of_pair(alloc: Global, table: &mut Table) -> Result<Node, AllocError> {
     table.node_of(alloc, &term)
 }
 
+/// The numbers of the pair, from its parts twice and by a walk.
+fn nodes_in_turn(alloc: Global, table: &mut Table) -> Result<[Node; 3], AllocError> {
+    let first = pair_from_parts(alloc, table)?;
+    let again = pair_from_parts(alloc, table)?;
+    Ok([first, again, node_of_pair(alloc, table)?])
+}
+
 /// The numbers of all terms of a table in another one, which had the second constant.
 fn numbers_elsewhere(alloc: Global, table: &Table) -> Result<Vec<Node>, AllocError> {
     let mut other = Table::new(alloc);
@@ -70,13 +83,11 @@ fn numbers_elsewhere(alloc: Global, table: &Table) -> Result<Vec<Node>, AllocErr
 
 #[test]
 fn tables_have_each_term_once(rt: HostRuntime) -> Result<(), Fail> {
-    let alloc = rt.alloc();
-    let mut table = Table::new(alloc);
-    assert_eq!(rt; pair_from_parts(alloc, &mut table)?, 2);
-    assert_eq!(rt; pair_from_parts(alloc, &mut table)?, 2);
-    assert_eq!(rt; node_of_pair(alloc, &mut table)?, 2);
+    let mut table = Table::new(rt.alloc());
+    let nodes = nodes_in_turn(rt.alloc(), &mut table)?;
+    assert_eq!(rt; nodes, [2, 2, 2]);
     assert!(rt; table.len() == 3 && table.arguments(2) == [0, 1].as_slice());
-    let numbers = numbers_elsewhere(alloc, &table)?;
+    let numbers = numbers_elsewhere(rt.alloc(), &table)?;
     assert_eq!(rt; numbers.as_slice(), [1, 0, 2].as_slice());
     Ok(())
 }
