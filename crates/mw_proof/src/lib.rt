@@ -27,6 +27,7 @@
 //!   variables, which it puts in the statement's order, from the canonical term of the one instance to that of the
 //!   other; or a row of the built-in schemata. Evidence is kept proofs, in lower ranks: of each, the condition takes
 //!   the proof that leads on from what is equal, modulo the axioms, to its beginning (`evidence`, specs/Replacing).
+//! - `go_in` and `left` put the way to arguments before a trail, and the way out behind it.
 //! - [`Failing`] keeps of a statement and values of its variables that its condition fails for them, in rank 63.
 //! - [`Reason`] is why a run stops.
 //!
@@ -51,7 +52,8 @@ mod replacing;
 
 pub use besides::{Piece, beside};
 pub use failing::Failing;
-pub use lifting::under;
+pub use lifting::{left, under};
+pub use places::go_in;
 pub use proved::{Proved, refl, then};
 pub use reason::Reason;
 pub use replacing::{By, replace};

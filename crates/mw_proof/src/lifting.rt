@@ -97,8 +97,9 @@ fn ends_and_way(
     Ok(Lifted { from, to, trail })
 }
 
-/// What one trail does and then another, and out of where the first one went.
-fn left(trail: Trail, next: Trail) -> Result<Trail, AllocError>
+/// What one trail does and then another, and out of where the first one went. Where the other does nothing, the first
+/// one may take back that it went in.
+pub fn left(trail: Trail, next: Trail) -> Result<Trail, AllocError>
     ensures { IfOk result (λ t. (M : Module) → Leaves (moves M trail ++ moves M next) (moves M t)) }
 {
     let mut trail = trail.followed_by(next)?;

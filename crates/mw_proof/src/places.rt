@@ -113,8 +113,8 @@ fn numbers(
     Ok(found)
 }
 
-/// Into the one argument, or into several.
-fn go_in(trail: &mut Trail, numbers: &[u32]) -> Result<(), AllocError>
+/// Into the one argument of these numbers, or into several: the trail's last move is that way (specs/Ways).
+pub fn go_in(trail: &mut Trail, numbers: &[u32]) -> Result<(), AllocError>
     ensures { OnOk result ((M : Module) → moves M trail.new ≡ moves M trail.old ++ way numbers.now ∷ []) }
 {
     match numbers {

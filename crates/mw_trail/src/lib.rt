@@ -6,7 +6,7 @@
 //! keeps that it has as many terms and numbers as the items take.
 //!
 //! - `enter`, `among`, `begin`, `end`, `apply` and `row` put one move behind the others, `followed_by` all moves of
-//!   another trail.
+//!   another trail. `copied` is the same trail once more.
 //! - `leave` goes out of an argument; where nothing was done there, it takes back that it went in (`Leaves`).
 //! - `mark` tells how many moves there are, and `back` goes back to the first ones. A trail that only grew since the
 //!   mark is then what it was (`IsMark`). Each call that grows it tells that marks stay, and `leave` that those

@@ -6,7 +6,7 @@ ghost use Rattle.mw_canon.specs.Canonical.{meant};
 ghost use Rattle.mw_deduction.specs.Replay.{into, among, begins, ends, applies, meets, Leaves};
 ghost use Rattle.mw_trail.specs.Tracks.{Track, IsTrack, IsMark, Keeps, KeepsBefore, TakesBack, moves, needs, counts, needed, counted, variables_of, is_rule};
 
-use mw_term::Term;
+use mw_term::{Term, copy};
 use std::alloc::{AllocError, Global};
 use std::marker::Model;
 
@@ -273,6 +273,22 @@ impl Trail {
         }
     }
 
+    /// The same trail once more. Each of its terms is counted once more.
+    pub fn copied(&self, alloc: Global) -> Result<Trail, AllocError>
+        ensures { IfOk result (λ t. t ≡ self.now) }
+    {
+        let values = copies(alloc, self.values.as_slice())?;
+        let mut items = Vec::new(alloc);
+        items.extend_from_slice(self.items.as_slice())?;
+        let mut numbers = Vec::new(alloc);
+        numbers.extend_from_slice(self.numbers.as_slice())?;
+        Ok(Trail {
+            items,
+            values,
+            numbers,
+        })
+    }
+
     /// What another proof does is done behind this one.
     pub fn followed_by(self, next: Trail) -> Result<Trail, AllocError>
         ensures moves { IfOk result (λ t. (M : Module) → moves M t ≡ moves M self ++ moves M next) }
@@ -302,6 +318,17 @@ impl Trail {
             numbers,
         })
     }
+}
+
+/// The same terms once more.
+fn copies(alloc: Global, terms: &[Term]) -> Result<Vec<Term>, AllocError>
+    ensures { IfOk result (λ ts. ts.items ≡ terms.now) }
+{
+    let mut made = Vec::with_capacity(alloc, terms.len())?;
+    for term in terms {
+        made.push(copy(term)?)?;
+    }
+    Ok(made)
 }
 
 /// Three lists behind three others.
