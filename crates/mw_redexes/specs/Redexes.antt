@@ -1,5 +1,5 @@
 -- How far rules are asked at the parts of a term.
-use Rattle.std.specs.Prelude.{◌≡◌, ◌⊎◌, ◌<◌, ℕ, List, [], true, Some, slice_get, length}
+use Rattle.std.specs.Prelude.{◌≡◌, ◌⊎◌, ◌<◌, ℕ, List, [], true, Option, Some, slice_get, length}
 use Rattle.mw_logic.specs.Term.{RawTerm, RawTerms, apply}
 use Rattle.mw_logic.specs.Signature.{Member}
 use Rattle.mw_logic.specs.CanonicalPart.{IsOpen}
@@ -7,7 +7,9 @@ use Rattle.mw_logic.specs.Substitution.{Substitution, IsSolution}
 use Rattle.mw_logic.specs.Parts.{nested}
 use Rattle.mw_logic.specs.Module.{Module, Statement, IsStatement}
 use Rattle.mw_solving.specs.Values.{IsValue}
-use Rattle.mw_index.specs.Index.{Asks, operator_of}
+use Rattle.mw_redex.specs.Paths.{at_path}
+use Rattle.mw_redex.specs.Replaced.{IsOpenWay, way_of_place}
+use Rattle.mw_index.specs.Index.{Asks, IsOf, operator_of}
 use Rattle.mw_index.specs.Choices.{Tried, tried_of, IsTried, IsChoice, IsKept, IsUnderWay}
 use Rattle.mw_index.specs.declared.index.Rule.{Rule}
 use Rattle.mw_index.specs.declared.choices.Choice.{Choice}
@@ -33,6 +35,15 @@ pub record IsFoundAt (M : Module) (v : RawTerm) (c : Choice) : Type 0 where
   pub sized : length c.values.items ≡ length c.by.now.sorts
   pub rule : c.by.now.rule ≡ true
   pub free : (ks : List ℕ) (f : ℕ) (ts : RawTerms) → c.take ≡ Some ks → v ≡ apply f ts → IsOpen M.signature true f 1
+
+-- The choice is one of a rule at the part of t to which the path leads, or at several of its arguments. Rules may change what stands there.
+pub record IsRedexAt (M : Module) (t : RawTerm) (path : List ℕ) (c : Choice) : Type 0 where
+  pub part : RawTerm
+  pub there : at_path t path ≡ Some part
+  pub open_way : IsOpenWay M.signature true (way_of_place path c.take) t
+  pub found : IsFoundAt M part c
+  pub top : Option ℕ
+  pub of : IsOf M top c.by.now
 
 -- c takes several arguments of v that rules may not change
 pub record IsShut (M : Module) (v : RawTerm) (c : Tried) : Type 0 where
