@@ -68,7 +68,9 @@ fn are_declared_alike(one: &Operator, other: &Operator) -> bool
 fn have_same_axioms(one: &Operator, other: &Operator) -> bool
     ensures { IsTrue result ↔ HaveSameAxioms one.now other.now }
 {
-    one.assoc == other.assoc && one.comm == other.comm && same_identity(one.identity, other.identity)
+    one.assoc == other.assoc
+        && one.comm == other.comm
+        && same_identity(one.identity, other.identity)
 }
 
 /// Whether the rest of their attributes is the same.

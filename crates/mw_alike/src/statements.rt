@@ -12,8 +12,12 @@ impl Alike for Fragment {
         ensures { IsTrue result ↔ (self.now ≡ other.now) }
     {
         match (self, other) {
-            (Fragment::Equal(left, right), Fragment::Equal(first, second)) => are_same(left, right, first, second),
-            (Fragment::Match(left, right), Fragment::Match(first, second)) => are_same(left, right, first, second),
+            (Fragment::Equal(left, right), Fragment::Equal(first, second)) => are_same(
+                left, right, first, second,
+            ),
+            (Fragment::Match(left, right), Fragment::Match(first, second)) => are_same(
+                left, right, first, second,
+            ),
             (Fragment::HasSort(term, sort), Fragment::HasSort(second, wanted)) => {
                 *sort == *wanted && is_same(term, second)
             }

@@ -6,13 +6,13 @@
 //! the trail of all of it, in rank 63, from the term at the beginning to the operator on the elements.
 //!
 //! - `Gathered::of` begins at a term: its elements, and nothing carried out.
-//! - `add` carries out a proof of some of the elements beside the others. Its part's elements are taken out of the list,
-//!   and those of its result come in. What is carried out is its run, in the operator beside the rest (`Adds`).
+//! - `add` carries out a proof of some of the elements beside the others. Its part's elements are taken out of the
+//!   list, and those of its result come in. What is carried out is its run, in the operator beside the rest (`Adds`).
 //! - `close` makes it a kept deduction of mw_proof, from the term at the beginning to the operator on the elements.
 //!
-//! Conditions of `add` (`MayAdd`): the proof is over the same module, its part has elements, which are among the
-//! gathering's, and each of its replacements may be made beside others: the whole before it isn't the operator's
-//! identity, and no element of the whole after it is deeper than 999 levels. So too the term at its end.
+//! Conditions of `add` (`MayAdd`): the proof is over the same module, and its part has elements, which are among the
+//! gathering's. Each of its replacements may be made beside others: the whole before it isn't the operator's identity,
+//! and no element of the whole after it is deeper than 999 levels. No element of the term at its end is deeper either.
 //!
 //! How it works: a proof's trail comes behind the trail so far, between one move into its elements, by their numbers,
 //! and one move out of them; where it takes all elements, neither is made. No term of the whole is made between the
