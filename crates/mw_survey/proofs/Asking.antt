@@ -102,27 +102,27 @@ pub ok_weaker : {X E : Type 0} (P Q : X → Type 0) → ((x : X) → P x → Q x
 ok_weaker P Q w (Ok x) h = w x h
 ok_weaker P Q w (Err e) h = tt
 
+-- several or not
+pub told : (all : List RawTerm) → AreSeveral (terms_of all) ⊎ (AreSeveral (terms_of all) → ⊥)
+told [] = inr (λ s. s)
+told (x ∷ []) = inr (λ s. s)
+told (x ∷ y ∷ zs) = inl tt
+
+pub some_several : (all : List RawTerm) → AreSeveral (terms_of all) → all ≡ [] → ⊥
+some_several [] s e = s
+some_several (x ∷ xs) s e = cc e
+
+pub some_there : (all : List RawTerm) (i : ℕ) (x : RawTerm) → slice_get all i ≡ Some x → all ≡ [] → ⊥
+some_there [] zero x at e = none-some x at
+some_there [] (suc i) x at e = none-some x at
+some_there (y ∷ ys) i x at e = cc e
+
 module _ (M : Module) (work : IsWorkable M) (f : ℕ) (rules : List Rule) (are : AreRulesOf M rules) (op : IsOfMultisets M f) where
   abbrev sig : Signature
   sig = M.signature
 
   abbrev ok : IsAccepted sig
   ok = work.signature.accepted
-
-  -- several or not
-  pub told : (all : List RawTerm) → AreSeveral (terms_of all) ⊎ (AreSeveral (terms_of all) → ⊥)
-  told [] = inr (λ s. s)
-  told (x ∷ []) = inr (λ s. s)
-  told (x ∷ y ∷ zs) = inl tt
-
-  pub some_several : (all : List RawTerm) → AreSeveral (terms_of all) → all ≡ [] → ⊥
-  some_several [] s e = s
-  some_several (x ∷ xs) s e = cc e
-
-  pub some_there : (all : List RawTerm) (i : ℕ) (x : RawTerm) → slice_get all i ≡ Some x → all ≡ [] → ⊥
-  some_there [] zero x at e = none-some x at
-  some_there [] (suc i) x at e = none-some x at
-  some_there (y ∷ ys) i x at e = cc e
 
   module _ (tries : List Try) (free all : List RawTerm) (at : ℕ) (passed : List Tried) (h : Covers M f tries free all at passed) where
     whole_value : (all ≡ [] → ⊥) → IsValue sig (together sig f all)

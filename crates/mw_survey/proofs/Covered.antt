@@ -56,7 +56,7 @@ module _ (M : Module) (f : ℕ) (tries more_tries : List Try) (free taken less :
     statement = h.statement;
     is_there = h.is_there;
     part = h.part;
-    admitted = h.admitted;
+    value = h.value;
     solution = h.solution;
     taken = h.taken;
     takes = h.takes;

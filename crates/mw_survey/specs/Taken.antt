@@ -12,7 +12,7 @@ use Rattle.mw_trail.specs.Tracks.{variables_of}
 use Rattle.mw_index.specs.Choices.{tried_of}
 use Rattle.mw_index.specs.declared.choices.Choice.{Choice}
 use Rattle.mw_multiset.specs.Together.{parts, IsShallow}
-use Rattle.mw_world.specs.World.{Try}
+use Rattle.mw_world.specs.World.{Claim, Try, World}
 use Rattle.mw_redexes.specs.Redexes.{IsRedexAt}
 use Rattle.mw_redexes.specs.declared.redexes.Found.{Found}
 use Rattle.mw_survey.specs.Surveys.{IsPast, IsPassed}
@@ -57,3 +57,13 @@ pub record IsTakenBy (M : Module) (f : ℕ) (s : Survey) (t : Taken) : Type 0 wh
   pub alone : ((t.path ≡ []) × (t.choice.take ≡ None)) ⊎ (parts M.signature f t.part ≡ t.part ∷ [])
   pub passed : (tries : List Try) (free : List RawTerm) → IsPast M.signature f tries free t.part t.choice.by.now.number (meant M.signature (named_values M t.choice))
       → IsPassed M f tries free s.all.items s.at (tried_of found.choice)
+
+-- the claim is the pool's, and takes this
+pub record IsClaimOf (w : World) (t : Taken) (c : Claim) : Type 0 where
+  pub operator : c.operator ≡ w.operator
+  pub side : c.side ≡ w.side
+  pub part : c.part ≡ t.part
+  pub path : c.path ≡ t.path
+  pub take : c.take ≡ t.choice.take
+  pub rule : c.rule ≡ t.choice.by.now.number
+  pub values : c.subst ≡ named_values w.over t.choice

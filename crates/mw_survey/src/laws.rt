@@ -5,13 +5,15 @@ ghost use Rattle.mw_logic.specs.Signature.{Member};
 ghost use Rattle.mw_logic.specs.Module.{Module};
 ghost use Rattle.mw_least.specs.Workable.{IsWorkable};
 ghost use Rattle.mw_index.specs.declared.index.Rule.{Rule as RuleOf};
-ghost use Rattle.mw_world.specs.World.{Claim, Try, World};
+ghost use Rattle.mw_world.specs.World.{Claim, Try, World, IsClaim};
 ghost use Rattle.mw_world.specs.Events.{Claims};
 ghost use Rattle.mw_multiset.specs.Together.{IsOfMultisets};
 ghost use Rattle.mw_survey.specs.Surveys.{IsExhausted};
 ghost use Rattle.mw_survey.specs.Runs.{Survey as SurveyOf, begun, Steps, IsOf, IsUsedUp, IsGood};
 ghost use Rattle.mw_survey.specs.Asked.{IsSurveyOf};
+ghost use Rattle.mw_survey.specs.Taken.{IsTakenBy, IsClaimOf};
 ghost use Rattle.mw_survey.specs.declared.survey.Survey.{Survey as SurveyHeld};
+ghost use Rattle.mw_survey.specs.declared.taking.Taken.{Taken as TakenHeld};
 
 /// A survey that began at some state, and is used up at a later one while no element came, leaves nothing to claim,
 /// whatever claims, receipts and releases there were between.
@@ -34,4 +36,15 @@ pub fn survey_kept()
 pub fn survey_exhausted()
     ensures { (M : Module) → IsWorkable M → (f : ℕ) → IsOfMultisets M f → (rules : List RuleOf) (tries : List Try) (free : List RawTerm) (s : SurveyHeld)
         → IsSurveyOf M f rules tries free s → length s.all.items < s.at → IsExhausted M f tries free }
+{}
+
+/// What a survey lets be taken is a claim of the pool.
+pub fn is_claim()
+    ensures { (w : World) → IsWorkable w.over → (s : SurveyHeld) (t : TakenHeld) → IsTakenBy w.over w.operator s t
+        → (c : Claim) → IsClaimOf w t c → IsClaim w c }
+{}
+
+/// Where a claim is made, something was left to claim.
+pub fn not_nothing()
+    ensures { (w v : World) (c : Claim) → IsGood w → Claims w v c → IsExhausted w.over w.operator w.tries w.free → ⊥ }
 {}

@@ -14,7 +14,7 @@ mod parts;
 mod survey;
 mod taking;
 
-pub use laws::{claims_keep, nothing_left, survey_exhausted, survey_kept};
+pub use laws::{claims_keep, is_claim, not_nothing, nothing_left, survey_exhausted, survey_kept};
 pub use parts::Part;
 pub use survey::Survey;
 pub use taking::Taken;
