@@ -23,13 +23,13 @@ use Rattle.mw_world.specs.World.{Claim, World, IsClaim}
 use Rattle.mw_world.specs.Events.{Claims}
 use Rattle.mw_survey.specs.Surveys.{AreAllTried, IsExhausted}
 use Rattle.mw_survey.specs.Runs.{IsGood}
-use Rattle.mw_survey.specs.Taken.{named_values, IsTakenBy, IsClaimOf}
+use Rattle.mw_survey.specs.Takings.{named_values, IsTakenBy, IsClaimOf}
 use Rattle.mw_survey.specs.declared.survey.Survey.{Survey}
 use Rattle.mw_survey.specs.declared.taking.Taken.{Taken}
 use Rattle.mw_survey.proofs.Permuted.{none_left}
 use Rattle.mw_survey.proofs.Exhausted.{fewer_part}
 use Rattle.mw_survey.proofs.Running.{free_members, free_admitted}
-use Rattle.mw_survey.proofs.Taken.{taken_there, named_there}
+use Rattle.mw_survey.proofs.Again.{taken_there, named_there}
 
 -- what is taken is a claim
 pub is_claim : (w : World) → IsWorkable w.over → (s : Survey) (t : Taken) → IsTakenBy w.over w.operator s t → (c : Claim) → IsClaimOf w t c → IsClaim w c

@@ -25,7 +25,7 @@ use Rattle.mw_redexes.specs.Spots.{IsOpenTop, whole, several}
 use Rattle.mw_survey.specs.Surveys.{AreFree}
 use Rattle.mw_survey.proofs.Permuted.{list-join, sorted_shuffles, member_permuted, all_left}
 
-same_top : {f g : ℕ} {ts us : RawTerms} → apply f ts ≡ apply g us → (f ≡ g) × (ts ≡ us)
+pub same_top : {f g : ℕ} {ts us : RawTerms} → apply f ts ≡ apply g us → (f ≡ g) × (ts ≡ us)
 same_top e = (let z : _ ≡ _ = cc in z, cc)
 
 pub several_terms : (xs : List RawTerm) → 2 ≤ length xs → AreSeveral (terms_of xs)

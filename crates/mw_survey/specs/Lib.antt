@@ -5,4 +5,4 @@ pub mod Runs
 -- A survey as the program holds it.
 pub mod Asked
 -- What a claim of the choice that waits takes.
-pub mod Taken
+pub mod Takings

@@ -11,7 +11,7 @@ ghost use Rattle.mw_multiset.specs.Together.{IsOfMultisets};
 ghost use Rattle.mw_survey.specs.Surveys.{IsExhausted};
 ghost use Rattle.mw_survey.specs.Runs.{Survey as SurveyOf, begun, Steps, IsOf, IsUsedUp, IsGood};
 ghost use Rattle.mw_survey.specs.Asked.{IsSurveyOf};
-ghost use Rattle.mw_survey.specs.Taken.{IsTakenBy, IsClaimOf};
+ghost use Rattle.mw_survey.specs.Takings.{IsTakenBy, IsClaimOf};
 ghost use Rattle.mw_survey.specs.declared.survey.Survey.{Survey as SurveyHeld};
 ghost use Rattle.mw_survey.specs.declared.taking.Taken.{Taken as TakenHeld};
 

@@ -8,7 +8,7 @@ ghost use Rattle.mw_redex.specs.Replaced.{IsTaken};
 ghost use Rattle.mw_multiset.specs.Together.{IsOfMultisets};
 ghost use Rattle.mw_world.specs.World.{Try};
 ghost use Rattle.mw_survey.specs.Asked.{AreWaysOn, IsSurveyOf};
-ghost use Rattle.mw_survey.specs.Taken.{IsAgain, IsAtWhole, IsAtElement, IsTakenBy};
+ghost use Rattle.mw_survey.specs.Takings.{IsAgain, IsAtWhole, IsAtElement, IsTakenBy};
 ghost use Rattle.mw_survey.specs.declared.parts.Part.{Part as PartOf};
 
 use crate::parts::{Part, copied, several, spots_on};
