@@ -1,5 +1,5 @@
 -- A choice again, at its term or at what it takes; what is taken of a whole.
-use Rattle.std.specs.Prelude.{◌≡◌, ◌≢◌, ◌≤◌, ◌+◌, ℕ, suc, List, [], ◌∷◌, length, Bool, true, false, cond, nat_eq, Option, Some, None, option_map, unwrap_or, IsPermutation, refl}
+use Rattle.std.specs.Prelude.{◌<◌, ◌≡◌, ◌≢◌, ◌≤◌, ◌+◌, ℕ, suc, List, [], ◌∷◌, length, Bool, true, false, cond, nat_eq, Option, Some, None, option_map, unwrap_or, IsPermutation, refl}
 use Rattle.std.specs.List.{zip}
 use Rattle.std.proofs.Common.{sym, subst, ap, ◌∙◌, arith}
 use Rattle.std.proofs.lemmas.List.{length-append}
@@ -10,14 +10,14 @@ use Rattle.mw_logic.specs.Terms.{terms_of, list_of}
 use Rattle.mw_logic.specs.Signature.{Signature, IsAssociative}
 use Rattle.mw_logic.specs.Accepted.{IsAccepted}
 use Rattle.mw_logic.specs.TermOrder.{sorted_terms}
-use Rattle.mw_logic.specs.Parts.{nested}
+use Rattle.mw_logic.specs.Parts.{nested, number_of_terms}
 use Rattle.mw_logic.specs.NormalForm.{identity_of, elements, rebuilt, height}
 use Rattle.mw_logic.specs.CanonicalPart.{AreSeveral, IsOpen}
 use Rattle.mw_logic.specs.Substitution.{IsSolution}
 use Rattle.mw_logic.specs.Module.{Module, Statement, IsStatement}
 use Rattle.mw_logic.proofs.Canonical.{Each, assoc_operator, is_identity-arguments, nat_eq-refl}
 use Rattle.mw_logic.proofs.Soundness.{several-arranged, rebuilt-several}
-use Rattle.mw_arguments.specs.Places.{chosen, Takes}
+use Rattle.mw_arguments.specs.Places.{chosen, Rise, Takes}
 use Rattle.mw_position.specs.Variables.{met, sorts_of}
 use Rattle.mw_redex.specs.Paths.{at_path}
 use Rattle.mw_redex.specs.Replaced as replaced
@@ -36,6 +36,7 @@ use Rattle.mw_multiset.specs.Together.{IsOfMultisets, parts, together, IsMember,
 use Rattle.mw_multiset.proofs.Together.{each_of, terms_list, list_terms, each_weaker}
 use Rattle.mw_redexes.specs.Redexes.{IsFoundAt}
 use Rattle.mw_redexes.proofs.Ways.{way_more}
+use Rattle.mw_survey.specs.Asked.{IsWholeOf}
 use Rattle.mw_survey.specs.Takings.{named_values, IsAgain}
 use Rattle.mw_survey.proofs.Permuted.{sorted_shuffles}
 use Rattle.mw_survey.proofs.Fewer.{same_top, together_several, parts_several}
@@ -49,6 +50,30 @@ whole_is M work f op all h order s =
 -- an operator of multisets is associative
 pub is_associative : (M : Module) (f : ℕ) → IsOfMultisets M f → IsAssociative M.signature f
 is_associative M f op = let (o, is, a) = assoc_operator M.signature f op.assoc in record { operator = o; is_there = is; assoc = a }
+
+pub begun_with : (M : Module) (work : IsWorkable M) (f : ℕ) (op : IsOfMultisets M f) (all : List RawTerm) (whole : Option RawTerm) → AreMembers M.signature f all → sorted_terms (terms_of all) ≡ terms_of all
+    → (AreSeveral (terms_of all) → whole ≡ Some (rebuilt (identity_of M.signature f) f (terms_of all))) → ((AreSeveral (terms_of all) → ⊥) → whole ≡ None) → IsWholeOf M.signature f all whole
+begun_with M work f op all whole h order some none = (λ s. some s ∙ ap Some (whole_is M work f op all h order s), none)
+
+-- numbers that are taken rise
+pub rise_there : (sig : Signature) (ks : List ℕ) (t w : RawTerm) (f : ℕ) (args : List RawTerm) → t ≡ apply f (terms_of args) → Takes sig ks t w → Rise 1 (suc (length args)) ks
+rise_there sig ks t w f args is m =
+    let (g, ts) = same_top (sym is ∙ m.term) in
+    subst (λ n. Rise 1 (suc n) ks) (ap number_of_terms (sym ts) ∙ counted args) m.rise
+  where
+    counted : (xs : List RawTerm) → number_of_terms (terms_of xs) ≡ length xs
+    counted [] = refl
+    counted (x ∷ xs) = ap suc (counted xs)
+
+pub fewer_than_two : (xs : List RawTerm) → length xs < 2 → AreSeveral (terms_of xs) → ⊥
+fewer_than_two [] l s = s
+fewer_than_two (x ∷ []) l s = s
+fewer_than_two (x ∷ y ∷ xs) l s = absurd (omega (arith, l))
+
+pub two_or_more : (xs : List RawTerm) → 2 ≤ length xs → AreSeveral (terms_of xs)
+two_or_more [] l = absurd (omega (arith, l))
+two_or_more (x ∷ []) l = absurd (omega (arith, l))
+two_or_more (x ∷ y ∷ xs) l = tt
 
 -- arguments by their numbers, as a term
 pub taken_is : (sig : Signature) (ks : List ℕ) (t w : RawTerm) (f : ℕ) (args us : List RawTerm) → t ≡ apply f (terms_of args) → Takes sig ks t w → terms_of us ≡ chosen 1 ks (terms_of args) → rebuilt (identity_of sig f) f (terms_of us) ≡ w
