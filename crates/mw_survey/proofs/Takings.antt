@@ -1,8 +1,9 @@
 -- What a claim of the choice that waits takes is a part with a redex, and where it is past the choice may be passed over.
-use Rattle.std.specs.Prelude.{◌≡◌, ◌≢◌, ◌⊎◌, ◌≤◌, ℕ, suc, List, [], ◌∷◌, true, Option, Some, None, MatchOption, slice_get, refl, ⊤}
+use Rattle.std.specs.Prelude.{◌≡◌, ◌≢◌, ◌⊎◌, ◌≤◌, ◌<◌, ℕ, suc, List, [], ◌∷◌, true, Option, Some, None, MatchOption, slice_get, refl, ⊤}
 use Rattle.std.specs.List.{AllByRecursion}
-use Rattle.std.proofs.Common.{sym, subst, ap, ◌∙◌, inl, inr, ⊎_elim}
+use Rattle.std.proofs.Common.{sym, subst, ap, ◌∙◌, inl, inr, ⊎_elim, arith}
 use Rattle.std.proofs.lemmas.List.Elements.{recursion_from_All}
+use Rattle.std.proofs.lemmas.Option.{same_Some}
 use Rattle.mw_logic.specs.Term.{RawTerm}
 use Rattle.mw_logic.specs.Terms.{terms_of, list_of}
 use Rattle.mw_logic.specs.Signature.{Signature, Member}
@@ -32,15 +33,15 @@ use Rattle.mw_redexes.specs.declared.redexes.Found.{Found}
 use Rattle.mw_redexes.proofs.Reaching.{open_part_of}
 use Rattle.mw_redexes.proofs.Standing.{open_taken}
 use Rattle.mw_survey.specs.Surveys.{IsPast, IsPassed, IsTaking}
-use Rattle.mw_survey.specs.Asked.{term_of, parts_in, IsFoundAmong, IsWaiting, IsSubject, IsSurveyWith}
+use Rattle.mw_survey.specs.Asked.{AreWaysOn, HaveWays, term_of, parts_in, IsFoundAmong, IsWaiting, IsSubject, IsSurveyWith}
 use Rattle.mw_survey.specs.Takings.{named_values, IsAgain, IsAtWhole, IsAtElement, IsTakenBy}
 use Rattle.mw_survey.specs.declared.parts.Part.{Part}
 use Rattle.mw_survey.specs.declared.survey.Survey.{Survey}
 use Rattle.mw_survey.specs.declared.taking.Taken.{Taken}
 use Rattle.mw_survey.proofs.Permuted.{cons_not_nil}
-use Rattle.mw_survey.proofs.Asking.{told, some_several, some_there, map_back, member_of_place, subject_values}
+use Rattle.mw_survey.proofs.Asking.{map_there, told, some_several, some_there, map_back, member_of_place, subject_values}
 use Rattle.mw_survey.proofs.Exhausted.{admitted_part, element_part}
-use Rattle.mw_survey.proofs.Again.{open_there, same_again, part_again, named_there, enough_names, same_names, standing_part}
+use Rattle.mw_survey.proofs.Again.{taken_there, open_there, same_again, part_again, named_there, enough_names, same_names, standing_part}
 
 -- a member
 is_member : (M : Module) (f : ℕ) (all : List RawTerm) → AreMembers M.signature f all → (y : RawTerm) → Member y all → IsMember M.signature f y
@@ -57,6 +58,23 @@ waiting M f rules tries free passed s x e h = subst (λ o. MatchOption o ⊤ (Is
 -- is at one of the parts
 pub part_there : (M : Module) (s : Survey) (x : Found) (is : IsFoundAmong M (parts_in s) x) → (p : Part) × (slice_get s.parts.items x.at ≡ Some p) × (p.term ≡ is.term)
 part_there M s x is = map_back term_of s.parts.items x.at is.term is.there
+
+module _ (M : Module) (f : ℕ) (rules : List Rule) (tries : List Try) (free : List RawTerm) (passed : List Tried) (s : Survey) (h : IsSurveyWith M f rules tries free passed s) where
+  pub waiting_place : (x : Found) (e : s.found ≡ Some x) → (p : Part) × (slice_get s.parts.items x.at ≡ Some p) × (p.term ≡ (waiting M f rules tries free passed s x e h).found.term)
+  waiting_place x e = part_there M s x (waiting M f rules tries free passed s x e h).found
+
+  -- what the choice takes of its part
+  pub whole_taken : (x : Found) (e : s.found ≡ Some x) (p : Part) → slice_get s.parts.items x.at ≡ Some p → replaced.IsTaken M.signature x.choice.take p.term (waiting M f rules tries free passed s x e h).found.found.choice.part
+  whole_taken x e p at =
+      let z = (waiting M f rules tries free passed s x e h).found in
+      let same : z.term ≡ p.term = same_Some z.term p.term (sym z.there ∙ map_there term_of s.parts.items x.at p at) in
+      subst (λ u. replaced.IsTaken M.signature x.choice.take u z.found.choice.part) same (taken_there M.signature x.choice.take z.term z.found.choice.part z.found.choice.taken)
+
+  pub element_below : (x : Found) → s.found ≡ Some x → (i : ℕ) → s.at ≡ suc i → i < length s.all.items
+  element_below x e i next = let l = (waiting M f rules tries free passed s x e h).within in omega (arith, l, next)
+
+  pub element_ways : (i : ℕ) → s.at ≡ suc i → (y : RawTerm) → slice_get s.all.items i ≡ Some y → AreWaysOn M.signature y s.parts.items
+  element_ways i next y at = subst (λ n. HaveWays M.signature s.all.items n s.parts.items) next h.ways y at
 
 module _ (M : Module) (work : IsWorkable M) (f : ℕ) (op : IsOfMultisets M f) (rules : List Rule) (are : AreRulesOf M rules) (tries : List Try) (free : List RawTerm) (passed : List Tried) (s : Survey)
     (h : IsSurveyWith M f rules tries free passed s) (x : Found) (waits : s.found ≡ Some x) where
