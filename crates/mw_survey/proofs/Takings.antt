@@ -1,5 +1,5 @@
 -- What a claim of the choice that waits takes is a part with a redex, and where it is past the choice may be passed over.
-use Rattle.std.specs.Prelude.{◌≡◌, ◌≢◌, ◌⊎◌, ◌≤◌, ◌<◌, ℕ, suc, List, [], ◌∷◌, true, Option, Some, None, MatchOption, slice_get, refl, ⊤}
+use Rattle.std.specs.Prelude.{◌≡◌, ◌≢◌, ◌⊎◌, ◌≤◌, ◌<◌, ℕ, suc, List, [], ◌∷◌, true, Option, Some, None, MatchOption, slice_get, length, refl, ⊤}
 use Rattle.std.specs.List.{AllByRecursion}
 use Rattle.std.proofs.Common.{sym, subst, ap, ◌∙◌, inl, inr, ⊎_elim, arith}
 use Rattle.std.proofs.lemmas.List.Elements.{recursion_from_All}

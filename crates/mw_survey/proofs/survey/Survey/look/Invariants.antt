@@ -1,6 +1,7 @@
 use Rattle.std.proofs.Common.{◌≡◌, ℕ, List}
 use Rattle.mw_logic.specs.Term.{RawTerm}
 use Rattle.mw_world.specs.World.{Try}
+use Rattle.mw_multiset.specs.Together.{IsOfMultisets}
 use Rattle.mw_survey.specs.Asked.{IsSurveyOf}
 use Rattle.mw_survey.proofs.survey.Survey.look.Given as goal
 

@@ -6,7 +6,7 @@ use Rattle.mw_redex.specs.Replaced.{IsTaken}
 use Rattle.mw_redexes.specs.declared.redexes.Found.{Found}
 use Rattle.mw_redexes.proofs.Listed.{got_below}
 use Rattle.mw_redexes.proofs.Passed.{got_at}
-use Rattle.mw_survey.specs.Asked.{standing_of}
+use Rattle.mw_survey.specs.Asked.{AreWaysOn, standing_of}
 use Rattle.mw_survey.specs.Takings.{IsAtWhole, IsAtElement, IsTakenBy}
 use Rattle.mw_survey.specs.declared.survey.Survey.{Survey}
 use Rattle.mw_survey.specs.declared.parts.Part.{Part}
@@ -19,7 +19,8 @@ at_whole-requires c =
     let M : Module = c.args.context.now in
     let s : Survey = c.args.self.now in
     let x : Found = c.in-Some.found in
-    let (f, rs, tries, free, op, are, passed, h) = c.requires.is in
+    let (f, rs, tries, free, op, are, survey) = c.requires.is in
+    let (passed, h) = survey in
     let (p, at, is) = waiting_place M f rs tries free passed s h x c.in-Some.is in
     let here : slice_get s.parts.items x.at ≡ Some c.index.result.now = got_at s.parts.items x.at c.index.result.now (got_below s.parts.items x.at p at) c.index.ensures in
     let w : RawTerm = (waiting M f rs tries free passed s x c.in-Some.is h).found.found.choice.part in
@@ -45,7 +46,8 @@ at_element-requires-clause-ways c =
     let M : Module = c.args.context.now in
     let s : Survey = c.args.self.now in
     let x : Found = c.in-Some.found in
-    let (f, rs, tries, free, op, are, passed, h) = c.requires.is in
+    let (f, rs, tries, free, op, are, survey) = c.requires.is in
+    let (passed, h) = survey in
     let z = c.if-self-eq0.false in
     let next : s.at ≡ suc (s.at - 1) = omega (arith, z) in
     let here : slice_get s.all.items (s.at - 1) ≡ Some c.index-element.result.now = got_at s.all.items (s.at - 1) c.index-element.result.now (element_below M f rs tries free passed s h x c.in-Some.is (s.at - 1) next) c.index-element.ensures in
@@ -56,7 +58,8 @@ at_element-requires-clause-there c =
     let M : Module = c.args.context.now in
     let s : Survey = c.args.self.now in
     let x : Found = c.in-Some.found in
-    let (f, rs, tries, free, op, are, passed, h) = c.requires.is in
+    let (f, rs, tries, free, op, are, survey) = c.requires.is in
+    let (passed, h) = survey in
     let (p, at, is) = waiting_place M f rs tries free passed s h x c.in-Some.is in
     subst (λ (ps : List Part). x.at < length ps) (sym c.as_slice.ensures.value) (got_below s.parts.items x.at p at)
 
@@ -70,6 +73,6 @@ returns c = λ f rs tries free op are (passed, h).
     let y : RawTerm = c.index-element.result.now in
     let here : slice_get s.all.items (s.at - 1) ≡ Some y = got_at s.all.items (s.at - 1) y (element_below M f rs tries free passed s h x c.in-Some.is (s.at - 1) next) c.index-element.ensures in
     let (p, at, is) = waiting_place M f rs tries free passed s h x c.in-Some.is in
-    let ways = λ spots e. element_ways M f rs tries free passed s h (s.at - 1) next y here spots (e ∙ ap (map standing_of) c.as_slice.ensures.value) in
+    let ways : AreWaysOn M.signature y c.as_slice.result.now = λ spots e. element_ways M f rs tries free passed s h (s.at - 1) next y here spots (e ∙ ap (map standing_of) c.as_slice.ensures.value) in
     ok_weaker (IsAtElement M.signature y p.term x.choice) (IsTakenBy M f s) (λ t a. taken_element M c.shows.ensures f op rs are tries free passed s h x c.in-Some.is (s.at - 1) next y here p.term is t a) c.at_element.result
         (c.at_element.ensures M.signature p ways (subst (λ (ps : List Part). slice_get ps x.at ≡ Some p) (sym c.as_slice.ensures.value) at))
