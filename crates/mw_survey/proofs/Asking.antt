@@ -1,33 +1,30 @@
 -- How far rules are asked at the parts of a subject, by the parts' terms alone.
-use Rattle.std.specs.Prelude.{◌≡◌, ◌⊎◌, ◌<◌, ◌≤◌, ℕ, zero, suc, List, [], ◌++◌, ◌∷◌, length, map, true, Option, Some, None, MatchOption, option_map, slice_get, IsTrue, refl, ⊤, IfOk, Result, Ok, Err}
+use Rattle.std.specs.Prelude.{◌≡◌, ◌⊎◌, ◌≤◌, ℕ, zero, suc, List, [], ◌++◌, ◌∷◌, length, map, Option, Some, None, MatchOption, slice_get, refl, IfOk, Result, Ok, Err}
 use Rattle.std.proofs.Common.{sym, subst, ap, ◌∙◌, inl, inr, ⊎_elim, arith}
 use Rattle.std.proofs.lemmas.Option.{same_Some, none-some}
-use Rattle.mw_logic.specs.Term.{RawTerm, nil, cons}
+use Rattle.mw_logic.specs.Term.{RawTerm}
 use Rattle.mw_logic.specs.Terms.{terms_of}
 use Rattle.mw_logic.specs.Signature.{Signature, Member}
 use Rattle.mw_logic.specs.Accepted.{IsAccepted}
-use Rattle.mw_logic.specs.Parts.{nested}
-use Rattle.mw_logic.specs.CanonicalPart.{AreSeveral, IsPartOf}
-use Rattle.mw_logic.specs.Substitution.{Substitution, IsSolution}
-use Rattle.mw_logic.specs.Module.{Module, Statement, IsStatement}
+use Rattle.mw_logic.specs.CanonicalPart.{AreSeveral}
+use Rattle.mw_logic.specs.Module.{Module, IsStatement}
 use Rattle.mw_least.specs.Workable.{IsWorkable}
 use Rattle.mw_solving.specs.Values.{IsValue}
 use Rattle.mw_index.specs.Index.{Asks, operator_of, AreRulesOf}
-use Rattle.mw_index.specs.Choices.{Tried, tried_of, IsTried}
+use Rattle.mw_index.specs.Choices.{Tried, tried_of}
 use Rattle.mw_index.specs.declared.index.Rule.{Rule}
 use Rattle.mw_index.proofs.Staying.{top_value}
 use Rattle.mw_solving.proofs.Admitted.{admitted_value}
-use Rattle.mw_multiset.specs.Together.{IsOfMultisets, together, AreMembers}
+use Rattle.mw_multiset.specs.Together.{IsOfMultisets, together}
 use Rattle.mw_world.specs.World.{Try}
-use Rattle.mw_redexes.specs.Spots.{IsReached, itself, IsOpenTop}
+use Rattle.mw_redexes.specs.Spots.{itself}
 use Rattle.mw_redexes.specs.Redexes.{AreTriedOpen, IsFoundIn, IsFoundAt, AreBehind, AreAsked, AreAllAsked, AreValuesAt}
 use Rattle.mw_redexes.specs.declared.spots.Spot.{Spot}
 use Rattle.mw_redexes.specs.declared.redexes.Found.{Found}
 use Rattle.mw_redexes.specs.declared.redexes.Redexes.{Redexes}
 use Rattle.mw_redexes.proofs.Everywhere.{value_reached}
-use Rattle.mw_redexes.proofs.Passed.{member_place}
 use Rattle.mw_redexes.proofs.Reaching.{part_reached, open_top}
-use Rattle.mw_survey.specs.Surveys.{IsPartOfSubject, IsTaking, IsDone, IsPassed, ArePassed, Covers}
+use Rattle.mw_survey.specs.Surveys.{IsPartOfSubject, IsDone, Covers}
 use Rattle.mw_survey.specs.Asked.{term_at, AreAllParts, IsSubject, AreTermValues, AreAskedAt, AreAllAskedAt, IsFoundAmong}
 use Rattle.mw_survey.proofs.Covered.{past_of, whole_done}
 use Rattle.mw_survey.proofs.Exhausted.{element_value}

@@ -1,13 +1,13 @@
 -- What a survey lets be taken is a claim; and where a claim is made, not all is tried.
-use Rattle.std.specs.Prelude.{◌≡◌, ℕ, List, [], ◌∷◌, ◌++◌, true, IsPermutation, refl}
+use Rattle.std.specs.Prelude.{◌≡◌, ℕ, [], ◌∷◌, ◌++◌, true, IsPermutation, refl}
 use Rattle.std.proofs.Common.{sym, subst, ap, ◌∙◌, inl, inr, ⊎_elim}
-use Rattle.mw_logic.specs.Term.{RawTerm, Context}
+use Rattle.mw_logic.specs.Term.{RawTerm}
 use Rattle.mw_logic.specs.Signature.{Signature}
 use Rattle.mw_logic.specs.Accepted.{IsAccepted}
 use Rattle.mw_logic.specs.Parts.{nested, IsPart}
 use Rattle.mw_logic.specs.CanonicalPart.{IsPartOf}
 use Rattle.mw_logic.specs.Substitution.{IsSolution}
-use Rattle.mw_logic.specs.Module.{Statement, IsStatement}
+use Rattle.mw_logic.specs.Module.{IsStatement}
 use Rattle.mw_logic.proofs.Frozen.{IsOpenContext, open_append}
 use Rattle.mw_logic.proofs.PartsOfNormalForm.{part_found, part_from_replacing}
 use Rattle.mw_logic.proofs.SameSolutions.{same_solution-sym}
@@ -39,7 +39,7 @@ is_claim w work s t h c e =
     let q = r.found.choice in
     let place : IsPartAt sig t.path t.choice.take t.part q.part = record { end = r.part; there = r.there; taken = taken_there sig t.choice.take r.part q.part q.taken } in
     let solves : IsSolution sig q.statement.left (nested sig q.part) [] (meant sig (named_values w.over t.choice)) =
-        subst (λ z. IsSolution sig q.statement.left (nested sig q.part) [] (meant sig z)) (sym (named_there w.over work r.part t.choice r.found)) q.solution in
+    subst (λ z. IsSolution sig q.statement.left (nested sig q.part) [] (meant sig z)) (sym (named_there w.over work r.part t.choice r.found)) q.solution in
     record {
       of_operator = e.operator;
       of_side = e.side;

@@ -1,16 +1,15 @@
 -- What is past stays so where elements go and tries come; a subject is done where each answer at it is past and all was asked.
-use Rattle.std.specs.Prelude.{◌≡◌, ◌⊎◌, ◌<◌, ◌≤◌, ℕ, zero, suc, List, [], ◌++◌, ◌∷◌, length, true, Option, Some, slice_get, IsTrue, IsPermutation, refl}
+use Rattle.std.specs.Prelude.{◌≡◌, ◌⊎◌, ◌<◌, ◌≤◌, ℕ, zero, suc, List, [], ◌++◌, ◌∷◌, IsPermutation}
 use Rattle.std.proofs.Common.{sym, subst, ap, ◌∙◌, inl, inr, ⊎_elim, arith}
 use Rattle.std.proofs.lemmas.Option.{same_Some}
 use Rattle.std.proofs.lemmas.List.{append_assoc}
-use Rattle.std.proofs.lemmas.List.Sorted.{IsPermutation-refl, IsPermutation-trans, IsPermutation-append_left, IsPermutation-append_comm}
+use Rattle.std.proofs.lemmas.List.Sorted.{IsPermutation-trans, IsPermutation-append_left, IsPermutation-append_comm}
 use Rattle.mw_logic.specs.Term.{RawTerm}
 use Rattle.mw_logic.specs.Signature.{Signature, Member, at_number}
 use Rattle.mw_logic.specs.Accepted.{IsAccepted}
-use Rattle.mw_logic.specs.Parts.{nested, is_assoc}
-use Rattle.mw_logic.specs.NormalForm.{is_comm, normal_form}
-use Rattle.mw_logic.specs.CanonicalPart.{IsPartOf}
-use Rattle.mw_logic.specs.Substitution.{Substitution, instance, IsSolution, SameSolution}
+use Rattle.mw_logic.specs.Parts.{nested}
+use Rattle.mw_logic.specs.NormalForm.{normal_form}
+use Rattle.mw_logic.specs.Substitution.{Substitution, instance, IsSolution}
 use Rattle.mw_logic.specs.Module.{Module, Statement, IsStatement}
 use Rattle.mw_logic.proofs.AxiomLaws.{trans}
 use Rattle.mw_logic.proofs.CanonicalTerms.{canonical_unique}
@@ -20,19 +19,16 @@ use Rattle.mw_canon.specs.Canonical.{IsAdmittedTerm, meant}
 use Rattle.mw_poset.proofs.Members.{member-push}
 use Rattle.mw_least.specs.Workable.{IsWorkable}
 use Rattle.mw_solving.specs.Values.{IsValue}
-use Rattle.mw_index.specs.Index.{Asks, operator_of, AreRulesOf}
+use Rattle.mw_index.specs.Index.{AreRulesOf}
 use Rattle.mw_index.specs.Choices.{Tried, solution_of, IsTried}
 use Rattle.mw_index.specs.declared.index.Rule.{Rule}
 use Rattle.mw_index.proofs.Staying.{top_value}
 use Rattle.mw_multiset.specs.Together.{together, AreMembers}
 use Rattle.mw_world.specs.World.{Try}
-use Rattle.mw_redexes.specs.Spots.{IsReached, itself, IsOpenTop, AreWanted, AreAllSpots}
-use Rattle.mw_redexes.specs.Redexes.{AreTriedOpen, AreAllAsked}
-use Rattle.mw_redexes.specs.declared.spots.Wanted.{Wanted}
-use Rattle.mw_redexes.specs.declared.spots.Spot.{Spot}
-use Rattle.mw_redexes.proofs.Everywhere.{value_reached, tried_everywhere}
-use Rattle.mw_redexes.proofs.Reaching.{part_reached, open_top}
-use Rattle.mw_survey.specs.Surveys.{HasTry, AreFree, IsPast, ArePast, IsTaking, IsPartOfSubject, IsDone, IsPassed, ArePassed, Covers}
+use Rattle.mw_redexes.specs.Spots.{IsOpenTop}
+use Rattle.mw_redexes.specs.Redexes.{AreTriedOpen}
+use Rattle.mw_redexes.proofs.Reaching.{open_top}
+use Rattle.mw_survey.specs.Surveys.{AreFree, IsPast, IsTaking, IsPartOfSubject, IsDone, IsPassed, ArePassed, Covers}
 use Rattle.mw_survey.proofs.Fewer.{free_before}
 
 -- at the beginning

@@ -1,18 +1,18 @@
 -- A survey that has done all its subjects while no element came leaves nothing to claim.
-use Rattle.std.specs.Prelude.{◌≡◌, ◌⊎◌, ◌<◌, ℕ, zero, suc, List, [], ◌++◌, ◌∷◌, length, true, Option, Some, slice_get, IsTrue, IsPermutation, refl}
-use Rattle.std.proofs.Common.{sym, subst, ap, ◌∙◌, inl, inr, ⊎_elim, arith}
-use Rattle.mw_logic.specs.Term.{RawTerm, RawTerms, apply, nil, cons, Context}
+use Rattle.std.specs.Prelude.{◌≡◌, ◌<◌, ℕ, suc, List, [], ◌++◌, ◌∷◌, length, true, IsPermutation, refl}
+use Rattle.std.proofs.Common.{sym, subst, ◌∙◌, inl, inr, ⊎_elim, arith}
+use Rattle.mw_logic.specs.Term.{RawTerm, RawTerms}
 use Rattle.mw_logic.specs.Terms.{terms_of, list_of}
 use Rattle.mw_logic.specs.Signature.{Signature, Member, IsRawTerm}
 use Rattle.mw_logic.specs.Accepted.{IsAccepted}
 use Rattle.mw_logic.specs.Axioms.{done}
-use Rattle.mw_logic.specs.Parts.{nested, is_assoc, IsPartForRules}
+use Rattle.mw_logic.specs.Parts.{nested, is_assoc}
 use Rattle.mw_logic.specs.TermOrder.{sorted_terms}
 use Rattle.mw_logic.specs.NormalForm.{is_comm, normal_form}
 use Rattle.mw_logic.specs.CanonicalPart.{IsPartOf}
 use Rattle.mw_logic.specs.CanonicalPart as part
-use Rattle.mw_logic.specs.Substitution.{Substitution, IsSolution}
-use Rattle.mw_logic.specs.Module.{Module, Statement, IsStatement}
+use Rattle.mw_logic.specs.Substitution.{IsSolution}
+use Rattle.mw_logic.specs.Module.{Module}
 use Rattle.mw_logic.proofs.CanonicalTerms.{fixed}
 use Rattle.mw_logic.proofs.Inside.{raw_inside}
 use Rattle.mw_logic.proofs.PartsOfNormalForm.{part_kept, part_found}
@@ -25,7 +25,7 @@ use Rattle.mw_least.specs.Workable.{IsWorkable}
 use Rattle.mw_solving.specs.Values.{IsValue}
 use Rattle.mw_solving.proofs.Admitted.{admitted_value}
 use Rattle.mw_index.proofs.Staying.{top_value}
-use Rattle.mw_multiset.specs.Together.{together, IsMember, AreMembers}
+use Rattle.mw_multiset.specs.Together.{together, AreMembers}
 use Rattle.mw_multiset.specs.Together.{IsOpenOperator}
 use Rattle.mw_multiset.proofs.Together.{list_terms}
 use Rattle.mw_world.specs.World.{Try}
@@ -33,9 +33,9 @@ use Rattle.mw_redexes.specs.Spots.{IsReached, itself, argument}
 use Rattle.mw_redexes.proofs.Everywhere.{value_reached}
 use Rattle.mw_redexes.proofs.Passed.{member_place}
 use Rattle.mw_redexes.proofs.Reaching.{part_reached, reached_part, open_part_of, open_top}
-use Rattle.mw_survey.specs.Surveys.{HasTry, AreAllTried, IsExhausted, Covers}
-use Rattle.mw_survey.proofs.Permuted.{sorted_shuffles, member_permuted, member_shuffled, cons_not_nil, none_left}
-use Rattle.mw_survey.proofs.Fewer.{part_of_fewer, together_several, together_one, several_terms, IsPartOfOne, IsPartOfSeveral}
+use Rattle.mw_survey.specs.Surveys.{AreAllTried, IsExhausted, Covers}
+use Rattle.mw_survey.proofs.Permuted.{sorted_shuffles, member_shuffled, cons_not_nil, none_left}
+use Rattle.mw_survey.proofs.Fewer.{part_of_fewer, together_several, together_one, IsPartOfOne, IsPartOfSeveral}
 
 module _ (M : Module) (work : IsWorkable M) (f : ℕ) (assoc : is_assoc M.signature f ≡ true) (comm : is_comm M.signature f ≡ true) (open_operator : IsOpenOperator M.signature f) where
   abbrev sig : Signature

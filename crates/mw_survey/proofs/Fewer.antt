@@ -1,27 +1,27 @@
 -- Where elements went, each part of what is left is a part of what was there: several of all elements, or a part of one.
-use Rattle.std.specs.Prelude.{◌≡◌, ◌⊎◌, ◌≤◌, ◌<◌, ℕ, zero, suc, ◌+◌, List, [], ◌∷◌, ◌++◌, length, All, Bool, true, false, cond, nat_eq, Option, Some, None, slice_get, IsPermutation, refl}
+use Rattle.std.specs.Prelude.{◌≡◌, ◌⊎◌, ◌≤◌, ℕ, ◌+◌, List, [], ◌∷◌, ◌++◌, length, true, IsPermutation, refl}
 use Rattle.std.proofs.Common.{sym, subst, ap, ◌∙◌, inl, inr, arith}
 use Rattle.std.proofs.lemmas.List.{length-append}
 use Rattle.std.proofs.lemmas.List.Elements.{recursion_from_All}
 use Rattle.std.proofs.lemmas.List.Sorted.{IsPermutation-refl, IsPermutation-sym, IsPermutation-trans, IsPermutation-append_left, IsPermutation-append_right, IsPermutation-middle, length_permutation, All-permutation}
-use Rattle.mw_logic.specs.Term.{RawTerm, numeral, quoted, variable, apply, RawTerms, nil, cons, join}
+use Rattle.mw_logic.specs.Term.{RawTerm, apply, RawTerms, nil, cons, join}
 use Rattle.mw_logic.specs.Terms.{terms_of, list_of}
-use Rattle.mw_logic.specs.Signature.{Signature, Identity, IsAssociative, Member}
+use Rattle.mw_logic.specs.Signature.{Signature, IsAssociative, Member}
 use Rattle.mw_logic.specs.Accepted.{IsAccepted}
-use Rattle.mw_logic.specs.Parts.{is_assoc, number_of_terms}
+use Rattle.mw_logic.specs.Parts.{is_assoc}
 use Rattle.mw_logic.specs.TermOrder.{sorted_terms}
-use Rattle.mw_logic.specs.NormalForm.{is_comm, identity_of, is_identity, elements, arranged, rebuilt, applied_in}
+use Rattle.mw_logic.specs.NormalForm.{is_comm, identity_of, arranged}
 use Rattle.mw_logic.specs.CanonicalPart.{IsOpen, AreSeveral, IsCut, IsPartOf}
 use Rattle.mw_logic.specs.CanonicalPart as part
-use Rattle.mw_logic.proofs.Canonical.{Each, assoc_operator, is_identity-arguments, nat_eq-refl}
+use Rattle.mw_logic.proofs.Canonical.{assoc_operator, is_identity-arguments, nat_eq-refl}
 use Rattle.mw_logic.proofs.SortLaws.{join-nil, join_assoc, sorted_terms-left, sorted_terms-idempotent}
 use Rattle.mw_logic.proofs.SortedLists.{sorted_terms-permutation}
 use Rattle.mw_logic.proofs.Soundness.{several-arranged, rebuilt-several}
 use Rattle.mw_multiset.specs.Together.{parts, together, IsMember, AreMembers}
 use Rattle.mw_multiset.specs.Together.{IsOpenOperator}
-use Rattle.mw_multiset.proofs.Together.{terms-append, terms_list, list_terms, each_of, on_members}
+use Rattle.mw_multiset.proofs.Together.{terms-append, list_terms, each_of, on_members}
 use Rattle.mw_world.proofs.Slots.{front_over}
-use Rattle.mw_redexes.specs.Spots.{IsOpenTop, whole, several}
+use Rattle.mw_redexes.specs.Spots.{IsOpenTop, several}
 use Rattle.mw_survey.specs.Surveys.{AreFree}
 use Rattle.mw_survey.proofs.Permuted.{list-join, sorted_shuffles, member_permuted, all_left}
 

@@ -1,7 +1,7 @@
 -- A claim keeps a survey, and one that is used up leaves nothing to claim.
-use Rattle.std.specs.Prelude.{◌≡◌, ◌<◌, ◌≤◌, ℕ, List, ◌++◌, length, IsPermutation}
+use Rattle.std.specs.Prelude.{◌<◌, ℕ, List, ◌++◌, length, IsPermutation}
 use Rattle.mw_logic.specs.Term.{RawTerm}
-use Rattle.mw_logic.specs.Signature.{Signature, Member}
+use Rattle.mw_logic.specs.Signature.{Member}
 use Rattle.mw_logic.specs.Module.{Module}
 use Rattle.mw_least.specs.Workable.{IsWorkable}
 use Rattle.mw_index.specs.declared.index.Rule.{Rule}

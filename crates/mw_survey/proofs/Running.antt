@@ -1,6 +1,6 @@
 -- Each step keeps what a survey says of its pool; one that is used up leaves nothing to claim.
-use Rattle.std.specs.Prelude.{◌≡◌, ◌<◌, ℕ, suc, List, [], ◌++◌, ◌∷◌, length, true, false, refl}
-use Rattle.std.proofs.Common.{sym, subst, ap, ◌∙◌, inl, inr}
+use Rattle.std.specs.Prelude.{◌≡◌, ℕ, List, [], ◌++◌}
+use Rattle.std.proofs.Common.{sym, subst}
 use Rattle.mw_logic.specs.Term.{RawTerm}
 use Rattle.mw_logic.specs.Signature.{Signature, Member}
 use Rattle.mw_logic.specs.Module.{Module}
@@ -8,13 +8,12 @@ use Rattle.mw_canon.specs.Canonical.{IsAdmittedTerm}
 use Rattle.mw_least.specs.Workable.{IsWorkable}
 use Rattle.mw_index.specs.Choices.{Tried}
 use Rattle.mw_multiset.specs.Together.{IsOfMultisets, parts, together, IsMember, AreMembers}
-use Rattle.mw_proof.specs.Deductions.{Deduction}
 use Rattle.mw_world.specs.World.{Claim, Try, World, claimed, IsSound}
 use Rattle.mw_world.specs.Whole.{IsOneProof}
-use Rattle.mw_world.specs.Events.{IsSamePool, Claims, Gives, Releases}
+use Rattle.mw_world.specs.Events.{IsSamePool, Claims}
 use Rattle.mw_world.proofs.Keeping.{claims_sound, gives_sound, releases_sound}
 use Rattle.mw_world.proofs.Whole.{one_proof}
-use Rattle.mw_survey.specs.Surveys.{IsExhausted, IsPassed, IsDone, Covers}
+use Rattle.mw_survey.specs.Surveys.{IsExhausted, Covers}
 use Rattle.mw_survey.specs.Runs.{Survey, begun, Step, claims, gives, releases, passes, ends, begins, Steps, none, more, IsOf, IsUsedUp, IsGood}
 use Rattle.mw_survey.proofs.Permuted.{all_left}
 use Rattle.mw_survey.proofs.Covered.{covers_begun, covers_kept, covers_passed, covers_ended}

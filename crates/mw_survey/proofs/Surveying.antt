@@ -1,28 +1,26 @@
 -- What a survey says, as it begins, answers, passes over and turns to the next subject.
 use Rattle.std.specs.Prelude.{◌≡◌, ◌⊎◌, ◌<◌, ◌≤◌, ℕ, zero, suc, List, [], ◌++◌, ◌∷◌, length, map, true, Option, Some, None, MatchOption, IfSome, slice_get, refl, ⊤}
-use Rattle.std.proofs.Common.{sym, subst, ap, ◌∙◌, inl, inr, ⊎_elim, arith}
-use Rattle.std.proofs.lemmas.Option.{same_Some, none-some}
+use Rattle.std.proofs.Common.{sym, subst, ap, ◌∙◌, inl, inr, ⊎_elim}
 use Rattle.mw_logic.specs.Term.{RawTerm}
-use Rattle.mw_logic.specs.Terms.{terms_of, list_of}
+use Rattle.mw_logic.specs.Terms.{list_of}
 use Rattle.mw_logic.specs.Signature.{Signature, Member, at_number}
-use Rattle.mw_logic.specs.CanonicalPart.{AreSeveral, IsOpen}
+use Rattle.mw_logic.specs.CanonicalPart.{IsOpen}
 use Rattle.mw_logic.specs.Module.{Module}
 use Rattle.mw_least.specs.Workable.{IsWorkable}
-use Rattle.mw_index.specs.Index.{Asks, operator_of, AreRulesOf}
+use Rattle.mw_index.specs.Index.{AreRulesOf}
 use Rattle.mw_index.specs.Choices.{Tried, tried_of}
 use Rattle.mw_index.specs.declared.index.Rule.{Rule}
 use Rattle.mw_multiset.specs.Together.{together}
 use Rattle.mw_multiset.specs.Together.{IsOfMultisets}
 use Rattle.mw_world.specs.World.{Try}
 use Rattle.mw_redexes.specs.Spots.{IsReached, IsSpot, AreWanted, AreAllSpots, AreWays}
-use Rattle.mw_redexes.specs.Redexes.{AreAsked}
 use Rattle.mw_redexes.specs.declared.spots.Spot.{Spot}
 use Rattle.mw_redexes.specs.declared.spots.Wanted.{Wanted}
 use Rattle.mw_redexes.specs.declared.redexes.Found.{Found}
 use Rattle.mw_redexes.specs.declared.redexes.Redexes.{Redexes}
 use Rattle.mw_redexes.proofs.Passed.{member_place}
 use Rattle.mw_survey.specs.Surveys.{IsPassed, Covers}
-use Rattle.mw_survey.specs.Asked.{Standing, term_of, term_at, standing_of, standing_at, AreWaysOn, HaveWays, IsWaiting, parts_in, AreAllParts, IsSubject, AreAskedAt, AreAllAskedAt, IsFoundAmong, with_last, IsSurveyWith, IsSurveyOf, IsWholeOf}
+use Rattle.mw_survey.specs.Asked.{Standing, term_of, term_at, standing_of, standing_at, AreWaysOn, HaveWays, IsWaiting, parts_in, AreAllParts, IsSubject, AreAskedAt, AreAllAskedAt, with_last, IsSurveyWith, IsSurveyOf, IsWholeOf}
 use Rattle.mw_survey.specs.declared.parts.Part.{Part}
 use Rattle.mw_survey.specs.declared.survey.Survey.{Survey}
 use Rattle.mw_survey.proofs.Covered.{covers_passed, covers_ended}
@@ -69,7 +67,12 @@ ways_alike sig root ss zs same h j z there = alike (h j (at_other j z there).0 (
               (λ (p, at, below, f, ts, is, arg, o).
               let (q, there, same_term) = parent_there s.parent z.parent p parent at in
               inr (
-                q, there, subst (λ n. n < j) parent below, f, ts, sym same_term ∙ is,
+                q,
+                there,
+                subst (λ n. n < j) parent below,
+                f,
+                ts,
+                sym same_term ∙ is,
                 subst (λ n. at_number (list_of ts) n ≡ Some z.term.now) number (subst (λ u. at_number (list_of ts) s.number ≡ Some u) term arg),
                 subst (IsOpen sig true f) number o,
               ))

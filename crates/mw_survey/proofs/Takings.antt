@@ -167,8 +167,8 @@ module _ (M : Module) (work : IsWorkable M) (f : ℕ) (op : IsOfMultisets M f) (
         of = of_again None t.choice a.again;
       } in
       made t None a.again (subst (IsAdmittedTerm sig) (sym a.part) admitted) (subst (IsShallow sig f) (sym a.part) standing.shallow) (λ e. standing.filled (ap (parts sig f) (sym a.part) ∙ e))
-          (subst (λ u. IsRedexAt M u t.path t.choice) (sym a.part) (subst (λ y. IsRedexAt M p y t.choice) (sym a.path) redex)) (inl (a.path, a.again.takes))
-          (subst (λ n. IsTaking all n p t.part) (sym first) a.part)
+      (subst (λ u. IsRedexAt M u t.path t.choice) (sym a.part) (subst (λ y. IsRedexAt M p y t.choice) (sym a.path) redex)) (inl (a.path, a.again.takes))
+      (subst (λ n. IsTaking all n p t.part) (sym first) a.part)
 
   -- at an element
   pub taken_element : (i : ℕ) → s.at ≡ suc i → (y : RawTerm) → slice_get all i ≡ Some y → (u : RawTerm) → u ≡ v → (t : Taken) → IsAtElement sig y u x.choice t → IsTakenBy M f s t
@@ -189,5 +189,5 @@ module _ (M : Module) (work : IsWorkable M) (f : ℕ) (op : IsOfMultisets M f) (
       } in
       let one : parts sig f y ≡ y ∷ [] = ap list_of m.element in
       made t x.choice.take a.again (subst (IsAdmittedTerm sig) (sym a.part) admitted) (subst (IsShallow sig f) (sym a.part) (subst (Each (λ z. height z ≤ 999)) (sym m.element) (m.low, tt)))
-          (λ e. cons_not_nil y [] (sym one ∙ ap (parts sig f) (sym a.part) ∙ e)) (subst (λ z. IsRedexAt M z t.path t.choice) (sym a.part) redex)
-          (inr (subst (λ z. parts sig f z ≡ z ∷ []) (sym a.part) one)) (subst (λ n. IsTaking all n q.part t.part) (sym next) (at ∙ ap Some (sym a.part)))
+      (λ e. cons_not_nil y [] (sym one ∙ ap (parts sig f) (sym a.part) ∙ e)) (subst (λ z. IsRedexAt M z t.path t.choice) (sym a.part) redex)
+      (inr (subst (λ z. parts sig f z ≡ z ∷ []) (sym a.part) one)) (subst (λ n. IsTaking all n q.part t.part) (sym next) (at ∙ ap Some (sym a.part)))

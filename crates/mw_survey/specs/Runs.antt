@@ -1,7 +1,6 @@
 -- A survey of a pool's free elements among the events of the pool.
-use Rattle.std.specs.Prelude.{◌≡◌, ◌⊎◌, ◌<◌, ℕ, suc, List, [], ◌∷◌, ◌++◌, length, Bool, true, false}
+use Rattle.std.specs.Prelude.{◌≡◌, ◌<◌, ℕ, suc, List, [], ◌∷◌, ◌++◌, length, Bool, true, false}
 use Rattle.mw_logic.specs.Term.{RawTerm}
-use Rattle.mw_logic.specs.Signature.{Member}
 use Rattle.mw_least.specs.Workable.{IsWorkable}
 use Rattle.mw_proof.specs.Deductions.{Deduction}
 use Rattle.mw_index.specs.Choices.{Tried}

@@ -59,11 +59,7 @@ impl<'m> Survey<'m> {
     }
 
     /// The same with the whole of the elements, where they are two or more.
-    fn of(
-        alloc: Global,
-        all: Vec<Term>,
-        whole: Option<Term>,
-    ) -> Result<Survey<'m>, AllocError>
+    fn of(alloc: Global, all: Vec<Term>, whole: Option<Term>) -> Result<Survey<'m>, AllocError>
         ensures came { IfOk result (λ s. IsFalse s.came) }
         ensures is { (M : Module) (f : ℕ) (rules : List RuleOf) (tries : List Try) → AreMembers M.signature f all.items
             → ((all.items ≡ [] → ⊥) → IsAdmittedTerm M.signature (together M.signature f all.items)) → IsWholeOf M.signature f all.items whole

@@ -1,5 +1,4 @@
-use Rattle.std.proofs.Common.{◌≡◌, sym}
-use Rattle.mw_survey.proofs.Again.{rise_there, taken_is}
+use Rattle.mw_survey.proofs.Again.{rise_there}
 use Rattle.mw_survey.proofs.parts.several.Goals as goal
 
 pub chosen-requires : goal.chosen-requires

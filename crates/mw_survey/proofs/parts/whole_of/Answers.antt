@@ -1,4 +1,4 @@
-use Rattle.std.proofs.Common.{◌≡◌, length, arith}
+use Rattle.std.proofs.Common.{arith}
 use Rattle.mw_survey.proofs.Again.{fewer_than_two, two_or_more}
 use Rattle.mw_survey.proofs.parts.whole_of.Goals as goal
 

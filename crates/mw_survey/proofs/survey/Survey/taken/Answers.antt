@@ -1,5 +1,5 @@
 use Rattle.std.specs.Prelude.{slice_get}
-use Rattle.std.proofs.Common.{arith, ◌≡◌, ◌<◌, ◌-◌, suc, ◌∙◌, ap, sym, subst, Some, List, ℕ, length, map}
+use Rattle.std.proofs.Common.{arith, ◌≡◌, ◌<◌, ◌-◌, suc, ◌∙◌, ap, sym, subst, Some, List, length, map}
 use Rattle.mw_logic.specs.Module.{Module}
 use Rattle.mw_logic.specs.Term.{RawTerm}
 use Rattle.mw_redex.specs.Replaced.{IsTaken}
@@ -39,7 +39,7 @@ returns-then-self-eq0 c = λ f rs tries free op are (passed, h).
     let w : RawTerm = (waiting M f rs tries free passed s x c.in-Some.is h).found.found.choice.part in
     let taken = whole_taken M f rs tries free passed s h x c.in-Some.is c.index.result.now here in
     ok_weaker (IsAtWhole w x.choice) (IsTakenBy M f s) (λ t a. taken_whole M c.shows.ensures f op rs are tries free passed s h x c.in-Some.is first t a) c.at_whole.result
-        (c.at_whole.ensures w (subst (λ g. IsTaken g x.choice.take c.index.result.now.term w) (sym c.facts.ensures) taken))
+    (c.at_whole.ensures w (subst (λ g. IsTaken g x.choice.take c.index.result.now.term w) (sym c.facts.ensures) taken))
 
 pub at_element-requires-clause-ways : goal.at_element-requires-clause-ways
 at_element-requires-clause-ways c =
@@ -75,4 +75,4 @@ returns c = λ f rs tries free op are (passed, h).
     let (p, at, is) = waiting_place M f rs tries free passed s h x c.in-Some.is in
     let ways : AreWaysOn M.signature y c.as_slice.result.now = λ spots e. element_ways M f rs tries free passed s h (s.at - 1) next y here spots (e ∙ ap (map standing_of) c.as_slice.ensures.value) in
     ok_weaker (IsAtElement M.signature y p.term x.choice) (IsTakenBy M f s) (λ t a. taken_element M c.shows.ensures f op rs are tries free passed s h x c.in-Some.is (s.at - 1) next y here p.term is t a) c.at_element.result
-        (c.at_element.ensures M.signature p ways (subst (λ (ps : List Part). slice_get ps x.at ≡ Some p) (sym c.as_slice.ensures.value) at))
+    (c.at_element.ensures M.signature p ways (subst (λ (ps : List Part). slice_get ps x.at ≡ Some p) (sym c.as_slice.ensures.value) at))
