@@ -1,0 +1,25 @@
+// A part is claimed.
+ghost use Rattle.std.specs.Prelude.{◌≡◌, ◌⊎◌, ◌↔◌, IfOk, OnErr, Err, Some};
+ghost use Rattle.mw_survey.specs.Surveys.{IsExhausted};
+ghost use Rattle.mw_world.specs.Events.{Claims};
+ghost use Rattle.mw_core.specs.Calls.{IsSpent};
+ghost use Rattle.mw_core.specs.declared.errors.ClaimError.TheVariants.{Nothing, Spent};
+
+use crate::claim::Claim;
+use crate::errors::ClaimError;
+use crate::pool::Pool;
+use std::alloc::Global;
+
+impl<'m> Pool<'m> {
+    /// Takes a part out of the free elements for which a rule has a solution that wasn't tried, and grants one rule step
+    /// and up to 1,000 steps.
+    pub fn claim(&mut self, alloc: Global) -> Result<Claim<'m>, ClaimError>
+        ensures ok { IfOk result (λ c. Claims self.old self.new c.claim × (c.over ≡ self.old.over)) }
+        ensures spent { (result ≡ Err Spent) ↔ IsSpent self.old }
+        ensures nothing { (result ≡ Err Nothing) → IsExhausted self.old.over self.old.operator self.old.tries self.old.free }
+        ensures not_nothing { IfOk result (λ _. IsExhausted self.old.over self.old.operator self.old.tries self.old.free → ⊥) }
+        ensures err { OnErr result (self.new ≡ self.old) }
+    {
+        Err(ClaimError::Memory)
+    }
+}

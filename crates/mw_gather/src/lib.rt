@@ -1,0 +1,6 @@
+//! Stub.
+#![tactic(auto)]
+
+mod gathering;
+
+pub use gathering::Gathered;
