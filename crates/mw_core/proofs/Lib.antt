@@ -1,0 +1,9 @@
+-- Lists of terms in order.
+pub mod Sorted
+-- Open claims in their slots.
+pub mod Slots
+-- Tries.
+pub mod Noted
+pub mod Gathering
+pub mod Opening
+pub mod Released

@@ -5,6 +5,7 @@ use Rattle.mw_logic.specs.Signature.{Member}
 use Rattle.mw_logic.specs.Module.{Module}
 use Rattle.mw_logic.specs.Proof.{rules, steps}
 use Rattle.mw_proof.specs.Deductions.{Deduction}
+use Rattle.mw_proof.specs.Failures.{IsFailure}
 use Rattle.mw_multiset.specs.Together.{parts, together, IsShallow, AllUnder}
 use Rattle.mw_world.specs.World.{World, Try, claim_at, Leads}
 use Rattle.mw_world.specs.Whole.{runs_beside}
@@ -49,6 +50,12 @@ abbrev pub IsCause : Claimed → Why → Type 0
 IsCause c (Failed f) = (f.over ≡ c.over) × (f.statement ≡ c.claim.rule) × (f.subst ≡ c.claim.subst)
 IsCause c (Stopped r) = IsStopped c.over c.claim r
 IsCause c NoMemory = ⊤
+
+-- what a failure's type keeps
+abbrev pub IsShown : Why → Type 0
+IsShown (Failed f) = IsFailure f
+IsShown (Stopped r) = ⊤
+IsShown NoMemory = ⊤
 
 -- Of the claim's rule with its values it is noted that it failed, or that it stopped; where memory was wanting nothing is noted.
 abbrev pub IsNoted : World → Claimed → Why → World → Type 0

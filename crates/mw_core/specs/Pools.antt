@@ -1,6 +1,7 @@
 -- A pool as a state of mw_world, and what its type keeps.
 use Rattle.std.specs.Prelude.{◌≡◌, ◌⊎◌, ◌≤◌, ◌+◌, ℕ, List, [], ◌++◌, length, map, Bool, true, false, Option, Some, None, MatchOption, IsTrue, option_map, slice_index_or, vec_len, vec_capacity, ⊤}
 use Rattle.std.specs.List.{zip}
+use Rattle.std.specs.Global.{Global}
 use Rattle.std.specs.declared.vec.Vec.{Vec}
 use Rattle.mw_logic.specs.Term.{RawTerm, numeral, quoted, variable, apply}
 use Rattle.mw_logic.specs.Terms.{terms_of, list_of, args_of}
@@ -59,12 +60,12 @@ pub record IsHeldBy (b : Book) (h : Held) : Type 0 where
   pub subst : zip (variables_of b.context.now (rule_of h.key)) (list_of (args_of h.key)) ≡ h.claim.claim.subst
 
 -- The pool is sound. Free elements and tries stand in order. There is room for all that may come back, and for a try of each open claim.
-pub record IsPool (b : Book) (free : Vec RawTerm) : Type 0 where
+pub record IsPool (b : Book) (free : Vec RawTerm Global) : Type 0 where
   pub sound : IsSound (world_of b free.items)
   pub index : IsIndexOf b.context.now b.index.now
-  pub free : IsInOrder free.items
-  pub failed : IsInOrder b.failed.items
-  pub stopped : IsInOrder b.stopped.items
+  pub in_order : IsInOrder free.items
+  pub failed_order : IsInOrder b.failed.items
+  pub stopped_order : IsInOrder b.stopped.items
   pub held : (k : ℕ) (h : Held) → slice_index_or b.held.slots k None ≡ Some h → IsHeldBy b h
   pub out : b.out ≡ length (claimed b.context.now.signature b.operator (claims_of b.held.slots))
   pub room : vec_len free + b.out ≤ vec_capacity free

@@ -2,7 +2,7 @@
 ghost use Rattle.std.specs.Prelude.{◌≡◌, ◌≤◌, ◌<◌, ◌+◌, ◌^◌, ◌-◌, ℕ, None, Option, Some, OnOk, IfSome, IfNone, option_map, vec_len, vec_capacity};
 ghost use Rattle.slab.specs.Slab.{Updates, get};
 ghost use Rattle.mw_core.specs.Ordered.{IsInOrder};
-ghost use Rattle.mw_core.specs.Books.{IsNotedIn, IsTakenBack};
+ghost use Rattle.mw_core.specs.Books.{IsNotedIn};
 ghost use Rattle.mw_core.specs.declared.book.Book.{Book as BookOf};
 ghost use Rattle.mw_core.specs.declared.book.Held.{Held as HeldOf};
 
@@ -66,7 +66,8 @@ pub fn take_back<'m>(book: &mut Book<'m>, number: usize, rules: u64, steps: u64)
     requires steps { book.old.steps + steps < 2 ^ 64 }
     ensures held { get book.old.held number ≡ Some result }
     ensures slots { Updates book.old.held book.new.held number None }
-    ensures rest { IsTakenBack book.old rules steps result book.new }
+    ensures rest { book.new ≡ record book.old { held = book.new.held; out = book.new.out; rules = option_map (λ (n : ℕ). n + rules) book.old.rules; steps = book.old.steps + steps } }
+    ensures out { book.new.out + vec_len result.elements ≡ book.old.out }
 {
     let Some(held) = book.held.try_remove(number) else {
         unreachable!();

@@ -5,7 +5,7 @@ use mw_term::OpId;
 
 /// What a pool is opened for: the operator that joins its elements, how many steps a side of a condition may take, and
 /// how many rules and steps may be spent in all.
-#[derive(Clone, Copy, Debug)]
+#[derive(Clone, Copy)]
 pub struct Setting {
     pub operator: OpId,
     pub side: u64,
@@ -14,7 +14,7 @@ pub struct Setting {
 }
 
 /// Why nothing was claimed.
-#[derive(Clone, Copy, Debug, PartialEq, Eq)]
+#[derive(Clone, Copy)]
 pub enum ClaimError {
     /// Each solution of each rule at a part of the free elements was tried.
     Nothing,
@@ -24,7 +24,7 @@ pub enum ClaimError {
 }
 
 /// Why a proof wasn't taken.
-#[derive(Clone, Copy, Debug, PartialEq, Eq)]
+#[derive(Clone, Copy)]
 pub enum GiveError {
     /// No open claim is this one.
     NotOpen,
@@ -32,7 +32,7 @@ pub enum GiveError {
 }
 
 /// Why there is no proof of the whole.
-#[derive(Clone, Copy, Debug, PartialEq, Eq)]
+#[derive(Clone, Copy)]
 pub enum FinishError {
     /// So many claims are open.
     Open(usize),
@@ -40,7 +40,7 @@ pub enum FinishError {
 }
 
 /// The place of a proof in the journal, from 0.
-#[derive(Clone, Copy, Debug, PartialEq, Eq)]
+#[derive(Clone, Copy)]
 pub struct Receipt {
     pub place: u64,
 }

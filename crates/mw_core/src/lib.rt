@@ -4,7 +4,7 @@
 mod alike;
 mod book;
 mod claim;
-mod claiming;
+
 mod errors;
 mod finishing;
 mod giving;

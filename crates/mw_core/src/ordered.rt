@@ -23,8 +23,13 @@ pub fn find(terms: &[Term], term: &Term) -> Option<usize>
     ensures { MatchOption result (Member term.now terms.now → ⊥)
         (λ at. slice_get terms.now at ≡ Some term.now) }
 {
-    let at = place(terms, term).checked_sub(1)?;
-    if same(&terms[at], term) { Some(at) } else { None }
+    let count = place(terms, term);
+    if count == 0 {
+        return None;
+    }
+    let last = count - 1;
+    let found = same(&terms[last], term);
+    if found { Some(last) } else { None }
 }
 
 /// A term comes to where it stands in order. There must be room for it.

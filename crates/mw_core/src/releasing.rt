@@ -1,13 +1,24 @@
 // A claim comes back without a proof.
 ghost use Rattle.std.specs.Prelude.{◌≡◌, IfErr, OnOk, OnErr};
 ghost use Rattle.mw_world.specs.Events.{Releases};
-ghost use Rattle.mw_core.specs.Calls.{IsCause, IsNoted, IsOpenIn};
+ghost use Rattle.mw_core.specs.Calls.{IsCause, IsNoted, IsOpenIn, IsShown};
 
 use crate::book::{Held, note, take_back};
 use crate::claim::Claim;
 use crate::errors::Why;
 use crate::ordered::put_all;
 use crate::pool::Pool;
+
+/// What a reason's type keeps.
+fn shows(why: &Why<'_>)
+    ensures { IsShown why.now }
+{
+    match why {
+        Why::Failed(failing) => failing.shows(),
+        Why::Stopped(_) => {}
+        Why::NoMemory => {}
+    }
+}
 
 impl<'m> Pool<'m> {
     /// Gives a claim back that is open: its part's elements are free again, and what was granted may be claimed again.
@@ -24,6 +35,7 @@ impl<'m> Pool<'m> {
         if !self.is_open(&claim) {
             return Err(claim);
         }
+        shows(&why);
         let held = take_back(&mut self.book, claim.number() as usize, 1, claim.steps());
         let Held { elements, key, .. } = held;
         put_all(&mut self.free, elements);
