@@ -7,3 +7,4 @@ pub mod Noted
 pub mod Gathering
 pub mod Opening
 pub mod Released
+pub mod Given

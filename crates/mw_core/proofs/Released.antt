@@ -103,6 +103,8 @@ module _ (b : Book) (free : Vec RawTerm Global) (p : IsPool b free) (c : Claimed
         room = omega (arith, p.room, less, capacity, len);
         failed_room = n.failed_room;
         stopped_room = n.stopped_room;
+        rules_small = p.rules_small;
+        steps_small = p.steps_small;
       }
 
   abbrev rule_is : (t : Try) (d : Bool) → try_of b.context.now d h.key ≡ t → t.rule ≡ c.claim.rule

@@ -77,3 +77,10 @@ rules_fit (Some l) (Some b) used more a m r = omega (arith, a, m, r)
 pub one_rule_more : (left : Option ℕ) → option_map (λ (n : ℕ). n + 1) left ≡ option_map suc left
 one_rule_more None = refl
 one_rule_more (Some n) = let e : n + 1 ≡ suc n = omega arith in ap Some e
+
+-- who holds a claim that stands at a number
+pub held_at : (slots : List (Option Held)) (k : ℕ) (x : worlds.Claim) → claim_at (claims_of slots) k ≡ Some x → (h : Held) × (At slots k ≡ Some h)
+held_at [] k x e = cc e
+held_at (None ∷ slots) zero x e = cc e
+held_at (Some h ∷ slots) zero x e = (h, refl)
+held_at (s ∷ slots) (suc k) x e = held_at slots k x e

@@ -4,7 +4,8 @@ use Rattle.mw_logic.specs.Term.{RawTerm}
 use Rattle.mw_logic.specs.Signature.{Member}
 use Rattle.mw_logic.specs.Module.{Module}
 use Rattle.mw_logic.specs.Proof.{rules, steps}
-use Rattle.mw_proof.specs.Deductions.{Deduction}
+use Rattle.mw_trail.specs.Tracks.{Track}
+use Rattle.mw_proof.specs.Deductions.{Deduction, IsKept, deduced}
 use Rattle.mw_proof.specs.Failures.{IsFailure}
 use Rattle.mw_multiset.specs.Together.{parts, together, IsShallow, AllUnder}
 use Rattle.mw_world.specs.World.{World, Try, claim_at, Leads}
@@ -44,6 +45,10 @@ pub record MayGive (c : Claimed) (d : Deduction) : Type 0 where
   pub within : steps d.proof ≤ c.claim.steps
   pub under : AllUnder c.over.signature c.claim.operator d.run
   pub shallow : IsShallow c.over.signature c.claim.operator d.to
+
+-- it is kept by some trail
+abbrev pub IsKeptProof : Deduction → Type 0
+IsKeptProof d = (k : Track) × IsKept d.over d.rank d.from d.to k × (d ≡ deduced d.over d.rank d.from d.to k)
 
 -- The claim may come back for this reason: its rule fails for its values, or stops for them.
 abbrev pub IsCause : Claimed → Why → Type 0

@@ -1,5 +1,5 @@
 -- A pool as a state of mw_world, and what its type keeps.
-use Rattle.std.specs.Prelude.{◌≡◌, ◌⊎◌, ◌≤◌, ◌+◌, ℕ, List, [], ◌++◌, length, map, Bool, true, false, Option, Some, None, MatchOption, IsTrue, option_map, slice_index_or, vec_len, vec_capacity, ⊤}
+use Rattle.std.specs.Prelude.{◌≡◌, ◌⊎◌, ◌≤◌, ◌<◌, ◌+◌, ◌^◌, ℕ, List, [], ◌++◌, length, map, Bool, true, false, Option, Some, None, MatchOption, IfSome, IsTrue, option_map, slice_index_or, vec_len, vec_capacity, ⊤}
 use Rattle.std.specs.List.{zip}
 use Rattle.std.specs.Global.{Global}
 use Rattle.std.specs.declared.vec.Vec.{Vec}
@@ -59,7 +59,7 @@ pub record IsHeldBy (b : Book) (h : Held) : Type 0 where
   pub rule : rule_of h.key ≡ h.claim.claim.rule
   pub subst : zip (variables_of b.context.now (rule_of h.key)) (list_of (args_of h.key)) ≡ h.claim.claim.subst
 
--- The pool is sound. Free elements and tries stand in order. There is room for all that may come back, and for a try of each open claim.
+-- The pool is sound. Free elements and tries stand in order. The bounds are numbers of 64 bits. There is room for all that may come back, and for a try of each open claim.
 pub record IsPool (b : Book) (free : Vec RawTerm Global) : Type 0 where
   pub sound : IsSound (world_of b free.items)
   pub index : IsIndexOf b.context.now b.index.now
@@ -71,3 +71,5 @@ pub record IsPool (b : Book) (free : Vec RawTerm Global) : Type 0 where
   pub room : vec_len free + b.out ≤ vec_capacity free
   pub failed_room : vec_len b.failed + open_count (claims_of b.held.slots) ≤ vec_capacity b.failed
   pub stopped_room : vec_len b.stopped + open_count (claims_of b.held.slots) ≤ vec_capacity b.stopped
+  pub rules_small : IfSome b.rules_bound (λ n. n < 2 ^ 64)
+  pub steps_small : b.steps_bound < 2 ^ 64

@@ -166,14 +166,15 @@ impl<'m> Claim<'m> {
     pub fn same(&self, other: &Claim<'m>) -> bool
         ensures { IsTrue result ↔ (self.now ≡ other.now) }
     {
-        let numbers = self.number == other.number
-            && self.operator == other.operator
-            && self.side == other.side
-            && self.steps == other.steps;
-        numbers
-            && same(&self.part, &other.part)
-            && self.path.as_slice() == other.path.as_slice()
-            && same_choice(&self.choice, &other.choice)
-            && same_module(self.context, other.context)
+        if self.number != other.number || self.steps != other.steps {
+            return false;
+        }
+        if self.operator != other.operator || self.side != other.side {
+            return false;
+        }
+        if !same(&self.part, &other.part) || self.path.as_slice() != other.path.as_slice() {
+            return false;
+        }
+        same_choice(&self.choice, &other.choice) && same_module(self.context, other.context)
     }
 }

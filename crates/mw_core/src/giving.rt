@@ -2,7 +2,7 @@
 ghost use Rattle.std.specs.Prelude.{◌≡◌, ◌↔◌, ◌+◌, ◌≤◌, length, IfErr, IfOk, OnErr, OnOk, IsTrue, vec_len, vec_capacity};
 ghost use Rattle.mw_multiset.specs.Together.{parts as parts_of, IsOfMultisets};
 ghost use Rattle.mw_world.specs.Events.{Gives};
-ghost use Rattle.mw_core.specs.Calls.{IsOpenIn, MayGive};
+ghost use Rattle.mw_core.specs.Calls.{IsKeptProof, IsOpenIn, MayGive};
 ghost use Rattle.mw_core.specs.declared.errors.GiveError.TheVariants.{NotOpen};
 
 use crate::book::{Book, make_room, take_back};
@@ -54,6 +54,7 @@ impl<'m> Pool<'m> {
         if make_room(&mut self.book, &mut self.free, elements.len()).is_err() {
             return Err(Refused { why, claim, proof });
         }
+        shows(&proof);
         let place = self.book.journal.len() as u64;
         let rules = 1 - proof.rules();
         let steps = claim.steps() - proof.steps();
@@ -62,6 +63,13 @@ impl<'m> Pool<'m> {
         self.book.journal.push_reserved(proof);
         Ok(Receipt { place })
     }
+}
+
+/// A trail keeps the proof.
+fn shows(proof: &Proved<'_>)
+    ensures { IsKeptProof proof.now }
+{
+    let _ = proof.trail();
 }
 
 /// The elements that a proof ends in, under the pool's operator.

@@ -1,0 +1,92 @@
+-- A proof is given for a claim, which is closed.
+use Rattle.std.specs.Prelude.{◌≡◌, ◌≢◌, ◌×◌, ◌≤◌, ◌<◌, ◌+◌, ◌-◌, ◌^◌, ℕ, suc, List, [], ◌∷◌, ◌++◌, length, min, Option, None, Some, option_map, slice_index_or, vec_len, vec_capacity, refl, IsPermutation}
+use Rattle.std.specs.Global.{Global}
+use Rattle.std.specs.declared.vec.Vec.{Vec}
+use Rattle.std.proofs.Common.{arith, ap, sym, subst, ◌∙◌}
+use Rattle.slab.specs.Slab.{Slab, Updates}
+use Rattle.mw_logic.specs.Term.{RawTerm}
+use Rattle.mw_logic.specs.Module.{Module}
+use Rattle.mw_logic.specs.Proof.{rules, steps}
+use Rattle.mw_proof.specs.Deductions.{Deduction}
+use Rattle.mw_multiset.specs.Together.{parts, IsShallow, AllUnder}
+use Rattle.mw_world.specs.World as worlds
+use Rattle.mw_world.specs.World.{World, claim_at, claimed, open_count, IsClaim, IsReceipt}
+use Rattle.mw_world.specs.Events.{Gives}
+use Rattle.mw_world.proofs.Keeping.{gives_sound}
+use Rattle.mw_core.specs.Claims.{Claimed}
+use Rattle.mw_core.specs.Calls.{IsOpenIn, MayGive, IsKeptProof}
+use Rattle.mw_core.specs.Ordered.{IsInOrder}
+use Rattle.mw_core.specs.Pools.{IsPool, IsHeldBy, claims_of, claim_of, world_of}
+use Rattle.mw_core.specs.declared.book.Book.{Book}
+use Rattle.mw_core.specs.declared.book.Held.{Held}
+use Rattle.mw_core.proofs.Slots.{Closes, closes, total_closed, claimed_closed}
+use Rattle.mw_core.proofs.Released.{still_held, is_claim_of}
+
+module _ (b : Book) (free : Vec RawTerm Global) (p : IsPool b free) (c : Claimed) (o : IsOpenIn (world_of b free.items) c) (h : Held) (there : slice_index_or b.held.slots c.claim.number None ≡ Some h)
+    (hs : Slab Held) (u : Updates b.held hs c.claim.number None) (out : ℕ) (less : out + vec_len h.elements ≡ b.out)
+    (d : Deduction) (may : MayGive c d) (kept : IsKeptProof d) (journal : Vec Deduction Global) (more : journal.items ≡ b.journal.items ++ d ∷ [])
+    (back : Vec RawTerm Global) (order : IsInOrder back.items) (come : IsPermutation (parts b.context.now.signature b.operator d.to ++ free.items) back.items)
+    (room : vec_len back + out ≤ vec_capacity back) where
+  abbrev is_of : c.claim ≡ h.claim.claim
+  is_of = is_claim_of b free.items c h o there
+
+  abbrev shut : Closes b.held.slots hs.slots c.claim.number h
+  shut = closes b.held.slots hs.slots c.claim.number h there u.changed u.others
+
+  abbrev claim_is : IsClaim (world_of b free.items) c.claim
+  claim_is = (p.sound.claims c.claim.number c.claim o.1).1
+
+  open_less : open_count (claims_of b.held.slots) ≡ 1 + open_count (claims_of hs.slots)
+  open_less = total_closed (λ k. 1) b.held.slots hs.slots c.claim.number h shut
+
+  abbrev pub after : Book
+  after = record b { held = hs; out = out; rules = option_map (λ (n : ℕ). n + (1 - rules d.proof)) b.rules; steps = b.steps + (c.claim.steps - steps d.proof); journal = journal }
+
+  receipt : IsReceipt b.context.now b.operator d
+  receipt = record {
+    over = may.over ∙ o.0;
+    track = kept.0;
+    kept = kept.1;
+    is = kept.2;
+    filled = λ e. claim_is.filled (ap (parts b.context.now.signature b.operator) (sym may.from) ∙ e);
+    under = subst (λ f. AllUnder b.context.now.signature f d.run) claim_is.of_operator (subst (λ (M : Module). AllUnder M.signature c.claim.operator d.run) o.0 may.under);
+    shallow = subst (λ f. IsShallow b.context.now.signature f d.to) claim_is.of_operator (subst (λ (M : Module). IsShallow M.signature c.claim.operator d.to) o.0 may.shallow);
+  }
+
+  pub event : Gives (world_of b free.items) (world_of after back.items) c.claim d
+  event = record {
+    was_open = o.1;
+    closed = shut.closed;
+    others = shut.others;
+    from = may.from;
+    receipt = receipt;
+    one_rule = may.one;
+    within = may.within;
+    come = come;
+    rules = refl;
+    steps = refl;
+    journal = more;
+    tries = refl;
+    same = record { over = refl; opening = refl; operator = refl; side = refl; rules_bound = refl; steps_bound = refl };
+  }
+
+  pub kept_pool : IsPool after back
+  kept_pool =
+      let sig = b.context.now.signature in
+      let f = b.operator in
+      let l : length (claimed sig f (claims_of b.held.slots)) ≡ length (parts sig f h.claim.claim.part) + length (claimed sig f (claims_of hs.slots)) = claimed_closed sig f b.held.slots hs.slots c.claim.number h shut in
+      let m : vec_len h.elements ≡ length (parts sig f h.claim.claim.part) = h.elements.ok.0 ∙ ap length (p.held c.claim.number h there).elements in
+      record {
+        sound = gives_sound (world_of b free.items) (world_of after back.items) c.claim d p.sound event;
+        index = p.index;
+        in_order = order;
+        failed_order = p.failed_order;
+        stopped_order = p.stopped_order;
+        held = still_held b b.held.slots hs.slots c.claim.number p.held u.changed u.others;
+        out = omega (arith, l, m, less, p.out);
+        room = room;
+        failed_room = omega (arith, p.failed_room, open_less);
+        stopped_room = omega (arith, p.stopped_room, open_less);
+        rules_small = p.rules_small;
+        steps_small = p.steps_small;
+      }
