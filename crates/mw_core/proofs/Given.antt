@@ -1,5 +1,5 @@
 -- A proof is given for a claim, which is closed.
-use Rattle.std.specs.Prelude.{◌≡◌, ◌≢◌, ◌×◌, ◌≤◌, ◌<◌, ◌+◌, ◌-◌, ◌^◌, ℕ, suc, List, [], ◌∷◌, ◌++◌, length, min, Option, None, Some, option_map, slice_index_or, vec_len, vec_capacity, refl, IsPermutation}
+use Rattle.std.specs.Prelude.{◌≡◌, ◌≢◌, ◌≤◌, ◌<◌, ◌+◌, ◌-◌, ◌^◌, ℕ, suc, List, [], ◌∷◌, ◌++◌, length, min, Option, None, Some, option_map, slice_index_or, vec_len, vec_capacity, refl, IsPermutation}
 use Rattle.std.specs.Global.{Global}
 use Rattle.std.specs.declared.vec.Vec.{Vec}
 use Rattle.std.proofs.Common.{arith, ap, sym, subst, ◌∙◌}
@@ -82,7 +82,7 @@ module _ (b : Book) (free : Vec RawTerm Global) (p : IsPool b free) (c : Claimed
         in_order = order;
         failed_order = p.failed_order;
         stopped_order = p.stopped_order;
-        held = still_held b b.held.slots hs.slots c.claim.number p.held u.changed u.others;
+        held = λ k g e. let x = still_held b b.held.slots hs.slots c.claim.number p.held u.changed u.others k g e in record { over = x.over; elements = x.elements; rule = x.rule; subst = x.subst };
         out = omega (arith, l, m, less, p.out);
         room = room;
         failed_room = omega (arith, p.failed_room, open_less);

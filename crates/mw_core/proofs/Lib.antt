@@ -8,3 +8,4 @@ pub mod Gathering
 pub mod Opening
 pub mod Released
 pub mod Given
+pub mod Zipped

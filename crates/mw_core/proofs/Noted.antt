@@ -1,5 +1,5 @@
 -- What is among the tries after one more is noted.
-use Rattle.std.specs.Prelude.{◌≡◌, ◌⊎◌, ◌×◌, ℕ, List, [], ◌∷◌, ◌++◌, map, Bool, true, false, IsPermutation, All, refl}
+use Rattle.std.specs.Prelude.{◌≡◌, ◌⊎◌, ℕ, List, [], ◌∷◌, ◌++◌, map, Bool, true, false, IsPermutation, All, refl}
 use Rattle.std.specs.List.{AllByRecursion, zip}
 use Rattle.std.proofs.Common.{ap, sym, subst, ◌∙◌, inl, inr}
 use Rattle.std.proofs.lemmas.List.Elements.{recursion_from_All, All-from_recursion}
@@ -21,8 +21,8 @@ of_all P (y ∷ zs) h z (inr k) = of_all P zs h.1 z k
 
 -- what stands in a list stands in it in another order
 pub shuffled : {X : Type 0} (xs ys : List X) → IsPermutation xs ys → (x : X) → Member x xs → Member x ys
-shuffled xs ys p x m =
-    let P = λ y. Member y ys in
+shuffled {X} xs ys p x m =
+    let P : X → Type 0 = λ y. Member y ys in
     of_all P xs (recursion_from_All P xs (All-permutation P ys xs (IsPermutation-sym xs ys p) (All-from_recursion P ys (all_members ys ys (λ y k. k))))) x m
 
 pub in_left : {X : Type 0} (xs ys : List X) (x : X) → Member x xs → Member x (xs ++ ys)
@@ -59,44 +59,38 @@ pub record OneMore (M : Module) (b : Bool) (k : RawTerm) (old new : List Try) : 
 
 pub failed_more : (M : Module) (xs ys zs : List RawTerm) (k : RawTerm) → IsPermutation (k ∷ xs) ys → OneMore M true k (tries_of M xs zs) (tries_of M ys zs)
 failed_more M xs ys zs k p = record {
-  kept = λ t m. kept t (in_either (map (try_of M true) xs) others t m);
-  noted = in_left (map (try_of M true) ys) others (try_of M true k) (more_tries M true xs ys k p (try_of M true k) (inl refl));
-  only = λ t m. only t (in_either (map (try_of M true) ys) others t m);
+  kept = λ t m. kept t (in_either (map (try_of M true) xs) (map (try_of M false) zs) t m);
+  noted = in_left (map (try_of M true) ys) (map (try_of M false) zs) (try_of M true k) (more_tries M true xs ys k p (try_of M true k) (inl refl));
+  only = λ t m. only t (in_either (map (try_of M true) ys) (map (try_of M false) zs) t m);
 }
   where
-    abbrev others : List Try
-    others = map (try_of M false) zs
-
-    kept : (t : Try) → Member t (map (try_of M true) xs) ⊎ Member t others → Member t (tries_of M ys zs)
-    kept t (inl m) = in_left (map (try_of M true) ys) others t (more_tries M true xs ys k p t (inr m))
-    kept t (inr m) = in_right (map (try_of M true) ys) others t m
+    kept : (t : Try) → Member t (map (try_of M true) xs) ⊎ Member t (map (try_of M false) zs) → Member t (tries_of M ys zs)
+    kept t (inl m) = in_left (map (try_of M true) ys) (map (try_of M false) zs) t (more_tries M true xs ys k p t (inr m))
+    kept t (inr m) = in_right (map (try_of M true) ys) (map (try_of M false) zs) t m
 
     first : (t : Try) → Member t (map (try_of M true) (k ∷ xs)) → Member t (tries_of M xs zs) ⊎ (try_of M true k ≡ t)
     first t (inl e) = inr e
-    first t (inr m) = inl (in_left (map (try_of M true) xs) others t m)
+    first t (inr m) = inl (in_left (map (try_of M true) xs) (map (try_of M false) zs) t m)
 
-    only : (t : Try) → Member t (map (try_of M true) ys) ⊎ Member t others → Member t (tries_of M xs zs) ⊎ (try_of M true k ≡ t)
+    only : (t : Try) → Member t (map (try_of M true) ys) ⊎ Member t (map (try_of M false) zs) → Member t (tries_of M xs zs) ⊎ (try_of M true k ≡ t)
     only t (inl m) = first t (tries_before M true xs ys k p t m)
-    only t (inr m) = inl (in_right (map (try_of M true) xs) others t m)
+    only t (inr m) = inl (in_right (map (try_of M true) xs) (map (try_of M false) zs) t m)
 
 pub stopped_more : (M : Module) (xs ys zs : List RawTerm) (k : RawTerm) → IsPermutation (k ∷ xs) ys → OneMore M false k (tries_of M zs xs) (tries_of M zs ys)
 stopped_more M xs ys zs k p = record {
-  kept = λ t m. kept t (in_either others (map (try_of M false) xs) t m);
-  noted = in_right others (map (try_of M false) ys) (try_of M false k) (more_tries M false xs ys k p (try_of M false k) (inl refl));
-  only = λ t m. only t (in_either others (map (try_of M false) ys) t m);
+  kept = λ t m. kept t (in_either (map (try_of M true) zs) (map (try_of M false) xs) t m);
+  noted = in_right (map (try_of M true) zs) (map (try_of M false) ys) (try_of M false k) (more_tries M false xs ys k p (try_of M false k) (inl refl));
+  only = λ t m. only t (in_either (map (try_of M true) zs) (map (try_of M false) ys) t m);
 }
   where
-    abbrev others : List Try
-    others = map (try_of M true) zs
-
-    kept : (t : Try) → Member t others ⊎ Member t (map (try_of M false) xs) → Member t (tries_of M zs ys)
-    kept t (inl m) = in_left others (map (try_of M false) ys) t m
-    kept t (inr m) = in_right others (map (try_of M false) ys) t (more_tries M false xs ys k p t (inr m))
+    kept : (t : Try) → Member t (map (try_of M true) zs) ⊎ Member t (map (try_of M false) xs) → Member t (tries_of M zs ys)
+    kept t (inl m) = in_left (map (try_of M true) zs) (map (try_of M false) ys) t m
+    kept t (inr m) = in_right (map (try_of M true) zs) (map (try_of M false) ys) t (more_tries M false xs ys k p t (inr m))
 
     last : (t : Try) → Member t (map (try_of M false) (k ∷ xs)) → Member t (tries_of M zs xs) ⊎ (try_of M false k ≡ t)
     last t (inl e) = inr e
-    last t (inr m) = inl (in_right others (map (try_of M false) xs) t m)
+    last t (inr m) = inl (in_right (map (try_of M true) zs) (map (try_of M false) xs) t m)
 
-    only : (t : Try) → Member t others ⊎ Member t (map (try_of M false) ys) → Member t (tries_of M zs xs) ⊎ (try_of M false k ≡ t)
-    only t (inl m) = inl (in_left others (map (try_of M false) xs) t m)
+    only : (t : Try) → Member t (map (try_of M true) zs) ⊎ Member t (map (try_of M false) ys) → Member t (tries_of M zs xs) ⊎ (try_of M false k ≡ t)
+    only t (inl m) = inl (in_left (map (try_of M true) zs) (map (try_of M false) xs) t m)
     only t (inr m) = last t (tries_before M false xs ys k p t m)

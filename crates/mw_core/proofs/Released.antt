@@ -1,5 +1,5 @@
 -- A claim comes back, and is closed.
-use Rattle.std.specs.Prelude.{◌≡◌, ◌≢◌, ◌⊎◌, ◌×◌, ◌≤◌, ◌+◌, ℕ, suc, List, [], ◌∷◌, ◌++◌, length, Bool, true, false, Option, None, Some, option_map, slice_index_or, vec_len, vec_capacity, refl, IsPermutation, IsTrue}
+use Rattle.std.specs.Prelude.{◌≡◌, ◌≢◌, ◌⊎◌, ◌≤◌, ◌+◌, ℕ, suc, List, [], ◌∷◌, ◌++◌, length, Bool, true, false, Option, None, Some, option_map, slice_index_or, vec_len, vec_capacity, refl, IsPermutation, IsTrue}
 use Rattle.std.specs.Global.{Global}
 use Rattle.std.specs.declared.vec.Vec.{Vec}
 use Rattle.std.specs.List.{zip}
@@ -98,7 +98,7 @@ module _ (b : Book) (free : Vec RawTerm Global) (p : IsPool b free) (c : Claimed
         in_order = order;
         failed_order = n.failed_order;
         stopped_order = n.stopped_order;
-        held = still_held b b.held.slots hs.slots c.claim.number p.held u.changed u.others;
+        held = λ k g e. let x = still_held b b.held.slots hs.slots c.claim.number p.held u.changed u.others k g e in record { over = x.over; elements = x.elements; rule = x.rule; subst = x.subst };
         out = omega (arith, l, m, less, p.out);
         room = omega (arith, p.room, less, capacity, len);
         failed_room = n.failed_room;
@@ -182,12 +182,12 @@ module _ (b : Book) (free : Vec RawTerm Global) (p : IsPool b free) (c : Claimed
       let notes = failed_notes f cause.0 cause.1 cause.2 shown b2.failed put in
       let m = failed_more b.context.now b.failed.items b2.failed.items b.stopped.items h.key put.come in
       let e2 : b2 ≡ after b2.failed b.stopped = n.0 ∙ ap (λ (x : Book). record x { failed = b2.failed }) e in
-      subst (Done (Failed f)) (sym e2) (event b2.failed b.stopped notes, kept_pool b2.failed b.stopped notes, subst (λ t. Member t (tries_of b.context.now b2.failed.items b.stopped.items)) (noted_is true) m.noted)
+      subst (Done (Failed f)) (sym e2) (event b2.failed b.stopped notes, (kept_pool b2.failed b.stopped notes, subst (λ (t : Try). Member t (tries_of b.context.now b2.failed.items b.stopped.items)) (noted_is true) m.noted))
   done (Stopped r) cause shown b1 b2 e n =
       let put : IsPutIn b.stopped h.key b2.stopped = subst (λ (x : Book). IsPutIn x.stopped h.key b2.stopped) e n.1 in
       let notes = stopped_notes b2.stopped put in
       let m = stopped_more b.context.now b.stopped.items b2.stopped.items b.failed.items h.key put.come in
       let e2 : b2 ≡ after b.failed b2.stopped = n.0 ∙ ap (λ (x : Book). record x { stopped = b2.stopped }) e in
-      subst (Done (Stopped r)) (sym e2) (event b.failed b2.stopped notes, kept_pool b.failed b2.stopped notes, subst (λ t. Member t (tries_of b.context.now b.failed.items b2.stopped.items)) (noted_is false) m.noted)
+      subst (Done (Stopped r)) (sym e2) (event b.failed b2.stopped notes, (kept_pool b.failed b2.stopped notes, subst (λ (t : Try). Member t (tries_of b.context.now b.failed.items b2.stopped.items)) (noted_is false) m.noted))
   done NoMemory cause shown b1 b2 e n =
-      subst (Done NoMemory) (sym (n ∙ e)) (event b.failed b.stopped no_notes, kept_pool b.failed b.stopped no_notes, refl)
+      subst (Done NoMemory) (sym (n ∙ e)) (event b.failed b.stopped no_notes, (kept_pool b.failed b.stopped no_notes, refl))
