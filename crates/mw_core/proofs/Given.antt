@@ -10,17 +10,60 @@ use Rattle.mw_logic.specs.Proof.{rules, steps}
 use Rattle.mw_proof.specs.Deductions.{Deduction}
 use Rattle.mw_multiset.specs.Together.{parts, IsShallow, AllUnder}
 use Rattle.mw_world.specs.World as worlds
-use Rattle.mw_world.specs.World.{World, claim_at, claimed, open_count, IsClaim, IsReceipt}
+use Rattle.mw_world.specs.World.{World, claim_at, claimed, open_count, IsClaim, IsReceipt, IsSound}
 use Rattle.mw_world.specs.Events.{Gives}
 use Rattle.mw_world.proofs.Keeping.{gives_sound}
 use Rattle.mw_core.specs.Claims.{Claimed}
 use Rattle.mw_core.specs.Calls.{IsOpenIn, MayGive, IsKeptProof}
 use Rattle.mw_core.specs.Ordered.{IsInOrder}
-use Rattle.mw_core.specs.Pools.{IsPool, IsHeldBy, claims_of, claim_of, world_of}
+use Rattle.mw_core.specs.Pools.{IsPool, IsHeldBy, claims_of, claim_of, tries_of, world_of}
 use Rattle.mw_core.specs.declared.book.Book.{Book}
 use Rattle.mw_core.specs.declared.book.Held.{Held}
 use Rattle.mw_core.proofs.Slots.{Closes, closes, total_closed, claimed_closed}
 use Rattle.mw_core.proofs.Released.{still_held, is_claim_of}
+
+-- where no memory was used but for room
+module _ (b : Book) (free : Vec RawTerm Global) (p : IsPool b free) (journal : Vec Deduction Global) (same : journal.items ≡ b.journal.items) (room : Vec RawTerm Global) (items : room.items ≡ free.items) (grows : vec_capacity free ≤ vec_capacity room) where
+  abbrev pub roomy : Book
+  roomy = record b { journal = journal }
+
+  pub roomy_world : world_of roomy room.items ≡ world_of b free.items
+  roomy_world = λ i. record {
+    over = b.context.now;
+    opening = b.opening;
+    operator = b.operator;
+    side = b.side;
+    free = items i;
+    claims = claims_of b.held.slots;
+    journal = same i;
+    tries = tries_of b.context.now b.failed.items b.stopped.items;
+    rules_left = b.rules;
+    steps_left = b.steps;
+    rules_bound = b.rules_bound;
+    steps_bound = b.steps_bound;
+  }
+
+  roomy_pool : IsPool roomy room
+  roomy_pool = record {
+    sound = subst IsSound (sym roomy_world) p.sound;
+    index = p.index;
+    in_order = subst IsInOrder (sym items) p.in_order;
+    failed_order = p.failed_order;
+    stopped_order = p.stopped_order;
+    held = λ k g e. let x = p.held k g e in record { over = x.over; elements = x.elements; rule = x.rule; subst = x.subst };
+    out = p.out;
+    room = let l : vec_len room ≡ vec_len free = room.ok.0 ∙ ap length items ∙ sym free.ok.0 in omega (arith, l, grows, p.room);
+    failed_room = p.failed_room;
+    stopped_room = p.stopped_room;
+    rules_small = p.rules_small;
+    steps_small = p.steps_small;
+  }
+
+  pub grown : (x : Book) → x ≡ roomy → IsPool x room × (world_of x room.items ≡ world_of b free.items)
+  grown x e = (subst (λ (y : Book). IsPool y room) (sym e) roomy_pool, ap (λ (y : Book). world_of y room.items) e ∙ roomy_world)
+
+pub min_small : (n m : ℕ) → n ≤ m → m < 2 ^ 64 → min n (2 ^ 64 - 1) ≡ n
+min_small n m l k = omega (arith, l, k)
 
 module _ (b : Book) (free : Vec RawTerm Global) (p : IsPool b free) (c : Claimed) (o : IsOpenIn (world_of b free.items) c) (h : Held) (there : slice_index_or b.held.slots c.claim.number None ≡ Some h)
     (hs : Slab Held) (u : Updates b.held hs c.claim.number None) (out : ℕ) (less : out + vec_len h.elements ≡ b.out)
