@@ -139,6 +139,15 @@ gathering_goes w done rest d g k h a =
       (IsPermutation-trans k.elements (parts sig f d.to ++ b.rest) (parts sig f d.to ++ h.on.0) b.put (IsPermutation-append_right (parts sig f d.to) b.rest h.on.0 same)) h.on.2;
     }
 
+-- the end in another order
+record Moved (sig : Signature) (f : ℕ) (xs : List RawTerm) (ds : List Deduction) (ys : List RawTerm) (h : Leads sig f xs ds ys) (zs : List RawTerm) : Type 0 where
+  led : Leads sig f xs ds zs
+  run : runs_beside sig f xs ds zs led ≡ runs_beside sig f xs ds ys h
+
+moved : (sig : Signature) (f : ℕ) (xs : List RawTerm) (ds : List Deduction) (ys : List RawTerm) (h : Leads sig f xs ds ys) (zs : List RawTerm) → IsPermutation ys zs → Moved sig f xs ds ys h zs
+moved sig f xs [] ys h zs p = record { led = IsPermutation-trans xs ys zs h p; run = refl }
+moved sig f xs (d ∷ ds) ys h zs p = let m = moved sig f (parts sig f d.to ++ h.0) ds ys h.2 zs p in record { led = (h.0, h.1, m.led); run = ap (both (beside sig f h.0 d.run)) m.run }
+
 pub gathering_ends : (w : World) (s : IsSound w) → open_count w.claims ≡ 0 → (g : Gathering) → IsGathering w w.journal [] g
     → (p : Deduction) → p.over ≡ g.over → p.rank ≡ 63 → p.from ≡ g.from → p.to ≡ together g.over.signature g.operator g.elements → p.run ≡ g.run → IsWholeProof w p
 gathering_ends w s closed g h p over rank from to run =
@@ -157,14 +166,6 @@ gathering_ends w s closed g h p over rank from to run =
       leads = m.led;
       run = run ∙ h.run ∙ sym m.run;
     }
-  where
-    record Moved (sig : Signature) (f : ℕ) (xs : List RawTerm) (ds : List Deduction) (ys : List RawTerm) (h : Leads sig f xs ds ys) (zs : List RawTerm) : Type 0 where
-      led : Leads sig f xs ds zs
-      run : runs_beside sig f xs ds zs led ≡ runs_beside sig f xs ds ys h
-
-    moved : (sig : Signature) (f : ℕ) (xs : List RawTerm) (ds : List Deduction) (ys : List RawTerm) (h : Leads sig f xs ds ys) (zs : List RawTerm) → IsPermutation ys zs → Moved sig f xs ds ys h zs
-    moved sig f xs [] ys h zs p = record { led = IsPermutation-trans xs ys zs h p; run = refl }
-    moved sig f xs (d ∷ ds) ys h zs p = let m = moved sig f (parts sig f d.to ++ h.0) ds ys h.2 zs p in record { led = (h.0, h.1, m.led); run = ap (both (beside sig f h.0 d.run)) m.run }
 
 -- the receipt at a place
 pub receipt_at : (M : Module) (f : ℕ) (ds : List Deduction) (i : ℕ) (d : Deduction) → AreReceipts M f ds → slice_get ds i ≡ Some d → IsReceipt M f d

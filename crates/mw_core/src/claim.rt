@@ -5,8 +5,8 @@ ghost use Rattle.mw_trail.specs.Tracks.{variables_of};
 ghost use Rattle.mw_redexes.specs.Redexes.{IsRedexAt};
 ghost use Rattle.mw_core.specs.Claims.{Claimed, IsTakenPart, IsOfClaim, AreSameChoice};
 
-use crate::alike::same_module;
 use crate::ordered::{copied, same_terms};
+use mw_alike::same_module;
 use mw_index::Choice;
 use mw_least::Ctx;
 use mw_term::{OpId, Seq, Term, same};

@@ -1,7 +1,6 @@
 //! A pool of elements from which parts are claimed, and the proofs that are given back for them.
 #![tactic(auto)]
 
-mod alike;
 mod book;
 mod claim;
 

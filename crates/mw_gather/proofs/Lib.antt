@@ -1,0 +1,3 @@
+pub mod Taken
+pub mod Among
+pub mod Gathers

@@ -1,13 +1,12 @@
 -- Proofs of parts of a multiset, one after another, as one proof of the whole.
 use Rattle.std.specs.Prelude.{◌≡◌, ◌≢◌, ◌⊎◌, ◌+◌, ◌≤◌, ◌++◌, ℕ, suc, List, [], ◌∷◌, length, IsPermutation, Some, slice_get, ⊤}
-use Rattle.mw_logic.specs.Term.{RawTerm, RawTerms, cons, join}
+use Rattle.mw_logic.specs.Term.{RawTerm, RawTerms, join}
 use Rattle.mw_logic.specs.Terms.{terms_of, front, skip}
-use Rattle.mw_logic.specs.Signature.{Signature}
 use Rattle.mw_logic.specs.Parts.{number_of_terms}
 use Rattle.mw_logic.specs.TermOrder.{sorted_terms}
 use Rattle.mw_logic.specs.Module.{Module}
 use Rattle.mw_arguments.specs.Places.{chosen, others, Rise}
-use Rattle.mw_deduction.specs.Runs.{Dones, none, both}
+use Rattle.mw_deduction.specs.Runs.{Dones, both}
 use Rattle.mw_trail.specs.Tracks.{Track}
 use Rattle.mw_multiset.specs.Together.{parts, together, AreMembers, IsOfMultisets, IsShallow, AllUnder}
 use Rattle.mw_multiset.specs.Receipts.{beside}

@@ -82,7 +82,10 @@ invariant_of-self-2 c =
     let there : slice_index_or x.held.slots k.claim.number None ≡ Some t.result = subst (λ (n : ℕ). slice_index_or x.held.slots n None ≡ Some t.result) c.number.ensures t.ensures.held in
     let u : Updates x.held t.new.book.held k.claim.number None = subst (λ (n : ℕ). Updates x.held t.new.book.held n None) c.number.ensures t.ensures.slots in
     let rule : c.rules-rules.result ≡ rules_in d.proof = c.rules-rules.ensures ∙ min_small (rules_in d.proof) 1 c.requires.one (omega arith) in
-    let few : c.steps-2.result ≡ steps_in d.proof = c.steps-2.ensures ∙ min_small (steps_in d.proof) k.claim.steps c.requires.within (c.claim.ranges.steps) in
+    let q = held_at x.held.slots k.claim.number k.claim o.1 in
+    let all_steps = total_there (λ (i : worlds.Claim). i.steps) x.held.slots k.claim.number q.0 q.1 in
+    let its : k.claim.steps ≡ q.0.claim.claim.steps = ap (λ (i : worlds.Claim). i.steps) (is_claim_of x m.new.free.items k q.0 o q.1) in
+    let few : c.steps-2.result ≡ steps_in d.proof = c.steps-2.ensures ∙ min_small (steps_in d.proof) k.claim.steps c.requires.within (omega (arith, all_steps, its, p.sound.steps, p.steps_small)) in
     let journal = c.push_reserved.new.self in
     let make : ℕ → ℕ → Book = λ r n. record x { held = t.new.book.held; out = t.new.book.out; rules = option_map (λ (i : ℕ). i + (1 - r)) x.rules; steps = x.steps + n } in
     let rest = t.ensures.rest ∙ ap (λ (r : ℕ). make r (c.steps.result - c.steps-2.result)) rule ∙ ap (make (rules_in d.proof)) (ap (λ (n : ℕ). n - c.steps-2.result) c.steps.ensures ∙ ap (λ (n : ℕ). k.claim.steps - n) few) in
@@ -110,7 +113,10 @@ returns-clause-ok c =
     let there : slice_index_or x.held.slots k.claim.number None ≡ Some t.result = subst (λ (n : ℕ). slice_index_or x.held.slots n None ≡ Some t.result) c.number.ensures t.ensures.held in
     let u : Updates x.held t.new.book.held k.claim.number None = subst (λ (n : ℕ). Updates x.held t.new.book.held n None) c.number.ensures t.ensures.slots in
     let rule : c.rules-rules.result ≡ rules_in d.proof = c.rules-rules.ensures ∙ min_small (rules_in d.proof) 1 c.requires.one (omega arith) in
-    let few : c.steps-2.result ≡ steps_in d.proof = c.steps-2.ensures ∙ min_small (steps_in d.proof) k.claim.steps c.requires.within (c.claim.ranges.steps) in
+    let q = held_at x.held.slots k.claim.number k.claim o.1 in
+    let all_steps = total_there (λ (i : worlds.Claim). i.steps) x.held.slots k.claim.number q.0 q.1 in
+    let its : k.claim.steps ≡ q.0.claim.claim.steps = ap (λ (i : worlds.Claim). i.steps) (is_claim_of x m.new.free.items k q.0 o q.1) in
+    let few : c.steps-2.result ≡ steps_in d.proof = c.steps-2.ensures ∙ min_small (steps_in d.proof) k.claim.steps c.requires.within (omega (arith, all_steps, its, p.sound.steps, p.steps_small)) in
     let journal = c.push_reserved.new.self in
     let make : ℕ → ℕ → Book = λ r n. record x { held = t.new.book.held; out = t.new.book.out; rules = option_map (λ (i : ℕ). i + (1 - r)) x.rules; steps = x.steps + n } in
     let rest = t.ensures.rest ∙ ap (λ (r : ℕ). make r (c.steps.result - c.steps-2.result)) rule ∙ ap (make (rules_in d.proof)) (ap (λ (n : ℕ). n - c.steps-2.result) c.steps.ensures ∙ ap (λ (n : ℕ). k.claim.steps - n) few) in
