@@ -1,5 +1,5 @@
 -- The journal's proofs, gathered one after another.
-use Rattle.std.specs.Prelude.{◌≡◌, ◌+◌, ℕ, zero, suc, List, [], ◌∷◌, ◌++◌, length, take, drop, Bool, true, false, cond, Option, None, Some, slice_get, refl, IsPermutation}
+use Rattle.std.specs.Prelude.{◌≡◌, ◌≤◌, ◌<◌, ◌+◌, ℕ, zero, suc, List, [], ◌∷◌, ◌++◌, length, take, drop, Bool, true, false, cond, Option, None, Some, Result, Ok, Err, IfOk, slice_get, slice_index_or, refl, IsPermutation}
 use Rattle.std.proofs.Common.{arith, ap, sym, subst, ◌∙◌}
 use Rattle.std.proofs.lemmas.List.{append-nil}
 use Rattle.std.proofs.lemmas.List.Sorted.{IsPermutation-refl, IsPermutation-sym, IsPermutation-trans, IsPermutation-cons, IsPermutation-middle, IsPermutation-append_right, All-permutation}
@@ -172,3 +172,37 @@ pub receipt_at : (M : Module) (f : ℕ) (ds : List Deduction) (i : ℕ) (d : Ded
 receipt_at M f [] i d h e = cc e
 receipt_at M f (c ∷ ds) zero d h e = let g : c ≡ d = cc e in subst (IsReceipt M f) g h.0
 receipt_at M f (c ∷ ds) (suc i) d h e = receipt_at M f ds i d h.1 e
+
+-- A list, split at an index.
+pub split_take : {X : Type 0} (ds : List X) (i : ℕ) (d : X) → i < length ds → d ≡ slice_index_or ds i d → take (suc i) ds ≡ take i ds ++ d ∷ []
+split_take [] i d l e = absurd (omega (arith, l))
+split_take (x ∷ ds) zero d l e = let f : x ≡ d = sym e in ap (λ y. y ∷ []) f
+split_take (x ∷ ds) (suc i) d l e = ap (λ ys. x ∷ ys) (split_take ds i d (omega (arith, l)) e)
+
+pub split_drop : {X : Type 0} (ds : List X) (i : ℕ) (d : X) → i < length ds → d ≡ slice_index_or ds i d → drop i ds ≡ d ∷ drop (suc i) ds
+split_drop [] i d l e = absurd (omega (arith, l))
+split_drop (x ∷ ds) zero d l e = let f : x ≡ d = sym e in ap (λ y. y ∷ ds) f
+split_drop (x ∷ ds) (suc i) d l e = split_drop ds i d (omega (arith, l)) e
+
+pub got_at : {X : Type 0} (ds : List X) (i : ℕ) (d : X) → i < length ds → d ≡ slice_index_or ds i d → slice_get ds i ≡ Some d
+got_at [] i d l e = absurd (omega (arith, l))
+got_at (x ∷ ds) zero d l e = let f : x ≡ d = sym e in ap Some f
+got_at (x ∷ ds) (suc i) d l e = got_at ds i d (omega (arith, l)) e
+
+pub take_all : {X : Type 0} (ds : List X) (i : ℕ) → length ds ≤ i → take i ds ≡ ds
+take_all [] zero l = refl
+take_all [] (suc i) l = refl
+take_all (x ∷ ds) zero l = absurd (omega (arith, l))
+take_all (x ∷ ds) (suc i) l = ap (λ ys. x ∷ ys) (take_all ds i (omega (arith, l)))
+
+pub drop_all : {X : Type 0} (ds : List X) (i : ℕ) → length ds ≤ i → drop i ds ≡ []
+drop_all [] zero l = refl
+drop_all [] (suc i) l = refl
+drop_all (x ∷ ds) zero l = absurd (omega (arith, l))
+drop_all (x ∷ ds) (suc i) l = drop_all ds i (omega (arith, l))
+
+-- what closing gives, where it gives a proof
+pub gathering_closes : {E : Type 0} (w : World) → IsSound w → open_count w.claims ≡ 0 → (g : Gathering) → IsGathering w w.journal [] g → (r : Result Deduction E)
+    → IfOk r (λ p. p.over ≡ g.over) → IfOk r (λ p. p.rank ≡ 63) → IfOk r (λ p. p.from ≡ g.from) → IfOk r (λ p. p.to ≡ together g.over.signature g.operator g.elements) → IfOk r (λ p. p.run ≡ g.run) → IfOk r (IsWholeProof w)
+gathering_closes w s closed g h (Ok p) over rank from to run = gathering_ends w s closed g h p over rank from to run
+gathering_closes w s closed g h (Err x) over rank from to run = tt
