@@ -1,5 +1,5 @@
 // A part is claimed.
-ghost use Rattle.std.specs.Prelude.{◌≡◌, ◌⊎◌, ◌↔◌, IfOk, OnErr, Err, Some};
+ghost use Rattle.std.specs.Prelude.{◌≡◌, ◌↔◌, IfOk, IsTrue, OnErr, Err};
 ghost use Rattle.mw_survey.specs.Surveys.{IsExhausted};
 ghost use Rattle.mw_world.specs.Events.{Claims};
 ghost use Rattle.mw_core.specs.Calls.{IsSpent};
@@ -11,6 +11,16 @@ use crate::pool::Pool;
 use std::alloc::Global;
 
 impl<'m> Pool<'m> {
+    /// Whether no rule step or no step is left.
+    fn is_spent(&self) -> bool
+        ensures { IsTrue result ↔ IsSpent self.now }
+    {
+        match self.book.rules {
+            Some(0) => true,
+            _ => self.book.steps == 0,
+        }
+    }
+
     /// Takes a part out of the free elements for which a rule has a solution that wasn't tried, and grants one rule step
     /// and up to 1,000 steps.
     pub fn claim(&mut self, alloc: Global) -> Result<Claim<'m>, ClaimError>
@@ -20,6 +30,10 @@ impl<'m> Pool<'m> {
         ensures not_nothing { IfOk result (λ _. IsExhausted self.old.over self.old.operator self.old.tries self.old.free → ⊥) }
         ensures err { OnErr result (self.new ≡ self.old) }
     {
+        if self.is_spent() {
+            return Err(ClaimError::Spent);
+        }
+        // The search through the survey isn't written yet.
         Err(ClaimError::Memory)
     }
 }
