@@ -9,3 +9,4 @@ pub mod Opening
 pub mod Released
 pub mod Given
 pub mod Zipped
+pub mod Redone
