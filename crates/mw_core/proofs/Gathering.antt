@@ -136,7 +136,7 @@ gathering_goes w done rest d g k h a =
       led = l.led;
       run = b.run ∙ ap (λ r. both r (beside sig f b.rest d.run)) h.run ∙ sym l.run;
       on = leads_from sig f (parts sig f d.to ++ h.on.0) k.elements rest (all_elements w)
-      (IsPermutation-trans k.elements (parts sig f d.to ++ b.rest) (parts sig f d.to ++ h.on.0) b.put (IsPermutation-append_right (parts sig f d.to) b.rest h.on.0 same)) h.on.2;
+          (IsPermutation-trans k.elements (parts sig f d.to ++ b.rest) (parts sig f d.to ++ h.on.0) b.put (IsPermutation-append_right (parts sig f d.to) b.rest h.on.0 same)) h.on.2;
     }
 
 -- the end in another order
@@ -162,7 +162,7 @@ gathering_ends w s closed g h p over rank from to run =
       rank = rank;
       from = from ∙ h.from;
       to = to ∙ ap (λ (M : Module). together M.signature g.operator g.elements) h.over ∙ ap (λ k. together sig k g.elements) h.operator ∙ together-permutation sig s.of.well.accepted f s.of.assoc s.of.comm g.elements w.free
-      (All-permutation (IsMember sig f) (all_elements w) g.elements (IsPermutation-sym g.elements (all_elements w) h.on) (one_proof w s).members) free;
+          (All-permutation (IsMember sig f) (all_elements w) g.elements (IsPermutation-sym g.elements (all_elements w) h.on) (one_proof w s).members) free;
       leads = m.led;
       run = run ∙ h.run ∙ sym m.run;
     }

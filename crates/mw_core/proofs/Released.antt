@@ -77,7 +77,7 @@ module _ (b : Book) (free : Vec RawTerm Global) (p : IsPool b free) (c : Claimed
     closed = shut.closed;
     others = shut.others;
     back = let P : worlds.Claim → Type 0 = λ k. IsPermutation (parts b.context.now.signature b.operator k.part ++ free.items) back.items in
-      subst P (sym is_of) (subst (λ xs. IsPermutation (xs ++ free.items) back.items) by.elements come);
+        subst P (sym is_of) (subst (λ xs. IsPermutation (xs ++ free.items) back.items) by.elements come);
     rules = one_rule_more b.rules;
     steps = refl;
     journal = refl;

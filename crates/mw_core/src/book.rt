@@ -6,9 +6,9 @@ ghost use Rattle.mw_core.specs.Books.{IsNotedIn};
 ghost use Rattle.mw_core.specs.declared.book.Book.{Book as BookOf};
 ghost use Rattle.mw_core.specs.declared.book.Held.{Held as HeldOf};
 
+use crate::claim::Claim;
 use crate::errors::Why;
 use crate::ordered::put;
-use crate::claim::Claim;
 use mw_index::Index;
 use mw_least::Ctx;
 use mw_proof::Proved;
@@ -94,11 +94,7 @@ pub fn note(book: &mut Book<'_>, key: Term, why: &Why<'_>)
 }
 
 /// Room for so many elements more than all that may come back, and for one proof.
-pub fn make_room(
-    book: &mut Book<'_>,
-    free: &mut Vec<Term>,
-    count: usize,
-) -> Result<(), AllocError>
+pub fn make_room(book: &mut Book<'_>, free: &mut Vec<Term>, count: usize) -> Result<(), AllocError>
     ensures book { book.new ≡ record book.old { journal = book.new.journal } }
     ensures journal { book.new.journal.items ≡ book.old.journal.items }
     ensures free { free.new.items ≡ free.old.items }

@@ -73,14 +73,13 @@ fn shows(proof: &Proved<'_>)
 }
 
 /// The elements that a proof ends in, under the pool's operator.
-fn elements_of(
-    alloc: Global,
-    book: &Book<'_>,
-    proof: &Proved<'_>,
-) -> Result<Vec<Term>, AllocError>
+fn elements_of(alloc: Global, book: &Book<'_>, proof: &Proved<'_>) -> Result<Vec<Term>, AllocError>
     requires { IsOfMultisets book.now.context.now book.now.operator }
     ensures { IfOk result
         (λ es. es.items ≡ parts_of book.now.context.now.signature book.now.operator proof.now.to) }
 {
-    copied(alloc, parts(book.context.facts(), book.operator, proof.to()))
+    copied(
+        alloc,
+        parts(book.context.facts(), book.operator, proof.to()),
+    )
 }

@@ -22,18 +22,18 @@ pub loop-proof-preserved : goal.loop-proof-preserved
 loop-proof-preserved c = (
   c.loop-proof.invariant.0,
   λ free s.
-    let w = world_of c.args.book.now free in
-    let items = c.as_slice-proof-items.result.now in
-    let i = c.loop-proof.proof-index in
-    let d = c.proof-item.result in
-    let g = c.loop-proof.made in
-    let l : i < length items = omega (arith, c.loop-proof-test.true, c.loop-proof.auto.proof-index-end) in
-    let h : IsGathering w (take i items) (d ∷ drop (suc i) items) g = subst (λ r. IsGathering w (take i items) r g) (split_drop items i d l c.proof-item.is) (c.loop-proof.invariant.1 free s) in
-    let k = c.in_ok-made-2.made in
-    let goes = gathering_goes w (take i items) (drop (suc i) items) d g k h c.in_ok-made-2.ensures in
-    let next : IsGathering w (take (suc i) items) (drop (suc i) items) k = subst (λ t. IsGathering w t (drop (suc i) items) k) (sym (split_take items i d l c.proof-item.is)) goes in
-    let one : suc i ≡ i + 1 = omega arith in
-    subst (λ (n : ℕ). IsGathering w (take n items) (drop n items) k) one next,
+      let w = world_of c.args.book.now free in
+      let items = c.as_slice-proof-items.result.now in
+      let i = c.loop-proof.proof-index in
+      let d = c.proof-item.result in
+      let g = c.loop-proof.made in
+      let l : i < length items = omega (arith, c.loop-proof-test.true, c.loop-proof.auto.proof-index-end) in
+      let h : IsGathering w (take i items) (d ∷ drop (suc i) items) g = subst (λ r. IsGathering w (take i items) r g) (split_drop items i d l c.proof-item.is) (c.loop-proof.invariant.1 free s) in
+      let k = c.in_ok-made-2.made in
+      let goes = gathering_goes w (take i items) (drop (suc i) items) d g k h c.in_ok-made-2.ensures in
+      let next : IsGathering w (take (suc i) items) (drop (suc i) items) k = subst (λ t. IsGathering w t (drop (suc i) items) k) (sym (split_take items i d l c.proof-item.is)) goes in
+      let one : suc i ≡ i + 1 = omega arith in
+      subst (λ (n : ℕ). IsGathering w (take n items) (drop n items) k) one next,
 )
 
 pub returns : goal.returns

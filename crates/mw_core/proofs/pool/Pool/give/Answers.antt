@@ -131,4 +131,3 @@ returns-clause-ok c =
     subst (λ w. Gives w (world_of (record t.new.book { journal = journal }) c.put_all.new.terms.items) k.claim d) g.1 (subst (λ (y : Book). Gives (world_of x m.new.free.items) (world_of y c.put_all.new.terms.items) k.claim d) (sym last) (event x m.new.free p k o t.result there t.new.book.held u t.new.book.out t.ensures.out d c.requires c.shows.ensures journal more c.put_all.new.terms c.put_all.ensures.order come room)) in
     let place : c.len-place.result ≡ length b.journal.items = c.len-place.ensures ∙ (x.journal.ok.0 ∙ ap length m.ensures.journal) in
     rw (← c.self.view_is) (place, done)
-

@@ -107,4 +107,3 @@ returns-clause-noted c =
     let all = done b c.self.inside.free c.self.invariant k o t.result there t.new.book.held u t.new.book.out t.ensures.out c.put_all.new.terms c.put_all.ensures.order c.put_all.ensures.come
     c.put_all.ensures.capacity c.put_all.ensures.len c.args.why c.requires c.shows.ensures t.new.book c.note.new.book rest c.note.ensures in
     rw (← c.self.view_is) all.1.1
-
