@@ -8,3 +8,7 @@ pub mod Calls
 pub mod Ordered
 -- What calls leave of a pool but its free elements.
 pub mod Books
+-- Claims as they are granted.
+pub mod Granted
+-- Searches for claims.
+pub mod Searches

@@ -1,16 +1,20 @@
 -- A pool as a state of mw_world, and what its type keeps.
-use Rattle.std.specs.Prelude.{◌≡◌, ◌⊎◌, ◌≤◌, ◌<◌, ◌+◌, ◌^◌, ℕ, List, [], ◌++◌, length, map, Bool, true, false, Option, Some, None, MatchOption, IfSome, IsTrue, option_map, slice_index_or, vec_len, vec_capacity, ⊤}
+use Rattle.std.specs.Prelude.{◌≡◌, ◌⊎◌, ◌≤◌, ◌<◌, ◌+◌, ◌^◌, ℕ, List, [], ◌++◌, length, map, Bool, true, false, Option, Some, None, MatchOption, IfSome, IsTrue, IsFalse, option_map, slice_index_or, vec_len, vec_capacity, ⊤}
 use Rattle.std.specs.List.{zip}
 use Rattle.std.specs.Global.{Global}
 use Rattle.std.specs.declared.vec.Vec.{Vec}
 use Rattle.mw_logic.specs.Term.{RawTerm, numeral, quoted, variable, apply}
 use Rattle.mw_logic.specs.Terms.{terms_of, list_of, args_of}
+use Rattle.mw_logic.specs.Signature.{Member}
 use Rattle.mw_logic.specs.Module.{Module}
 use Rattle.mw_trail.specs.Tracks.{variables_of}
-use Rattle.mw_index.specs.Index.{IsIndexOf}
+use Rattle.mw_index.specs.Index.{AreRulesOf}
+use Rattle.mw_index.specs.declared.choices.Choice.{Choice}
 use Rattle.mw_multiset.specs.Together.{parts}
 use Rattle.mw_world.specs.World as worlds
 use Rattle.mw_world.specs.World.{World, Try, claim_at, claimed, open_count, IsSound}
+use Rattle.mw_redexes.specs.Redexes.{IsFoundAt}
+use Rattle.mw_survey.specs.Asked.{IsSurveyOf}
 use Rattle.mw_core.specs.Claims.{Claimed}
 use Rattle.mw_core.specs.Ordered.{IsInOrder}
 use Rattle.mw_core.specs.declared.book.Book.{Book}
@@ -52,17 +56,35 @@ world_of b free = record {
   steps_bound = b.steps_bound;
 }
 
+-- It is the try of a rule with values that it has at some place.
+pub record IsKey (M : Module) (t : RawTerm) : Type 0 where
+  pub place : RawTerm
+  pub choice : Choice
+  pub found : IsFoundAt M place choice
+  pub is : t ≡ apply choice.by.now.number (terms_of choice.values.items)
+
+abbrev pub AreKeys : Module → List RawTerm → Type 0
+AreKeys M ts = (t : RawTerm) → Member t ts → IsKey M t
+
+-- The survey is one of these tries and free elements, as long as no element came. In any case it is one where none of its elements is free.
+abbrev pub IsSurveyed : Book → List RawTerm → Type 0
+IsSurveyed b free =
+    MatchOption b.survey ⊤
+    (λ s. ((tries : List Try) × IsSurveyOf b.context.now b.operator b.asked.now tries [] s)
+    × (IsFalse b.came → IsSurveyOf b.context.now b.operator b.asked.now (tries_of b.context.now b.failed.items b.stopped.items) free s))
+
 -- An open claim is of the pool's module. Its elements are its part's, and its try is of its rule with its values.
 pub record IsHeldBy (b : Book) (h : Held) : Type 0 where
   pub over : h.claim.over ≡ b.context.now
   pub elements : h.elements.items ≡ parts b.context.now.signature b.operator h.claim.claim.part
   pub rule : rule_of h.key ≡ h.claim.claim.rule
   pub subst : zip (variables_of b.context.now (rule_of h.key)) (list_of (args_of h.key)) ≡ h.claim.claim.subst
+  pub key : IsKey b.context.now h.key
 
--- The pool is sound. Free elements and tries stand in order. The bounds are numbers of 64 bits. There is room for all that may come back, and for a try of each open claim.
+-- The pool is sound. Free elements and tries stand in order. The bounds are numbers of 64 bits. There is room for all that may come back, and for a try of each open claim. Tries are of rules, and the survey is of the pool.
 pub record IsPool (b : Book) (free : Vec RawTerm Global) : Type 0 where
   pub sound : IsSound (world_of b free.items)
-  pub index : IsIndexOf b.context.now b.index.now
+  pub asked : AreRulesOf b.context.now b.asked.now
   pub in_order : IsInOrder free.items
   pub failed_order : IsInOrder b.failed.items
   pub stopped_order : IsInOrder b.stopped.items
@@ -73,3 +95,6 @@ pub record IsPool (b : Book) (free : Vec RawTerm Global) : Type 0 where
   pub stopped_room : vec_len b.stopped + open_count (claims_of b.held.slots) ≤ vec_capacity b.stopped
   pub rules_small : IfSome b.rules_bound (λ n. n < 2 ^ 64)
   pub steps_small : b.steps_bound < 2 ^ 64
+  pub failed_keys : AreKeys b.context.now b.failed.items
+  pub stopped_keys : AreKeys b.context.now b.stopped.items
+  pub survey : IsSurveyed b free.items

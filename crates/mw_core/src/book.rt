@@ -1,5 +1,5 @@
 // Everything that a pool keeps but its free elements.
-ghost use Rattle.std.specs.Prelude.{◌≡◌, ◌≤◌, ◌<◌, ◌+◌, ◌^◌, ◌-◌, ℕ, None, Option, Some, OnOk, IfSome, IfNone, option_map, vec_len, vec_capacity};
+ghost use Rattle.std.specs.Prelude.{◌≡◌, ◌≤◌, ◌<◌, ◌+◌, ◌^◌, ◌-◌, ℕ, None, true, Option, Some, OnOk, IfSome, IfNone, option_map, vec_len, vec_capacity};
 ghost use Rattle.slab.specs.Slab.{Updates, get};
 ghost use Rattle.mw_core.specs.Ordered.{IsInOrder};
 ghost use Rattle.mw_core.specs.Books.{IsNotedIn};
@@ -9,9 +9,10 @@ ghost use Rattle.mw_core.specs.declared.book.Held.{Held as HeldOf};
 use crate::claim::Claim;
 use crate::errors::Why;
 use crate::ordered::put;
-use mw_index::Index;
+use mw_index::Rule;
 use mw_least::Ctx;
 use mw_proof::Proved;
+use mw_survey::Survey;
 use mw_term::{OpId, Term};
 use slab::Slab;
 use std::alloc::AllocError;
@@ -29,7 +30,8 @@ pub struct Held<'m> {
 #[derive(Drop)]
 pub struct Book<'m> {
     pub context: &'m Ctx,
-    pub index: &'m Index,
+    /// The rules that are asked.
+    pub asked: &'m [Rule],
     pub opening: Term,
     pub operator: OpId,
     pub side: u64,
@@ -46,6 +48,10 @@ pub struct Book<'m> {
     pub steps_bound: u64,
     /// How many elements all open parts have.
     pub out: usize,
+    /// How far the free elements are looked through.
+    pub survey: Option<Survey<'m>>,
+    /// Whether elements came since that began.
+    pub came: bool,
 }
 
 /// So many rule steps may be claimed again.
@@ -66,7 +72,7 @@ pub fn take_back<'m>(book: &mut Book<'m>, number: usize, rules: u64, steps: u64)
     requires steps { book.old.steps + steps < 2 ^ 64 }
     ensures held { get book.old.held number ≡ Some result }
     ensures slots { Updates book.old.held book.new.held number None }
-    ensures rest { book.new ≡ record book.old { held = book.new.held; out = book.new.out; rules = option_map (λ (n : ℕ). n + rules) book.old.rules; steps = book.old.steps + steps } }
+    ensures rest { book.new ≡ record book.old { held = book.new.held; out = book.new.out; rules = option_map (λ (n : ℕ). n + rules) book.old.rules; steps = book.old.steps + steps; came = true } }
     ensures out { book.new.out + vec_len result.elements ≡ book.old.out }
 {
     let Some(held) = book.held.try_remove(number) else {
@@ -75,6 +81,7 @@ pub fn take_back<'m>(book: &mut Book<'m>, number: usize, rules: u64, steps: u64)
     book.out -= held.elements.len();
     book.rules = more_rules(book.rules, rules);
     book.steps += steps;
+    book.came = true;
     held
 }
 

@@ -3,13 +3,15 @@ ghost use Rattle.std.specs.Prelude.{◌≡◌, ◌↔◌, IfOk, IsTrue};
 ghost use Rattle.std.specs.List.{zip};
 ghost use Rattle.mw_trail.specs.Tracks.{variables_of};
 ghost use Rattle.mw_redexes.specs.Redexes.{IsRedexAt};
-ghost use Rattle.mw_core.specs.Claims.{Claimed, IsTakenPart, IsOfClaim, AreSameChoice};
+ghost use Rattle.mw_core.specs.Claims.{Claimed, IsHeld, IsTakenPart, IsOfClaim, AreSameChoice};
+ghost use Rattle.mw_core.specs.Granted.{claimed_of};
 
 use crate::ordered::{copied, same_terms};
 use mw_alike::same_module;
 use mw_index::Choice;
 use mw_least::Ctx;
-use mw_term::{OpId, Seq, Term, same};
+use mw_survey::Taken;
+use mw_term::{OpId, Seq, Term, copy, same};
 use std::alloc::{AllocError, Global};
 use std::marker::Model;
 
@@ -64,6 +66,15 @@ pub struct Claim<'m> {
     steps: u64,
 }
 
+/// What is granted to a claim, and its number.
+#[derive(Clone, Copy)]
+pub struct Grant {
+    pub number: u64,
+    pub operator: OpId,
+    pub side: u64,
+    pub steps: u64,
+}
+
 impl<'m> Model for Claim<'m> {
     ghost use Rattle.std.specs.List.{zip};
     ghost use Rattle.std.specs.Coded.{codes};
@@ -94,6 +105,43 @@ impl<'m> Model for Claim<'m> {
 }
 
 impl<'m> Claim<'m> {
+    /// A claim of what a survey lets be taken.
+    pub(crate) fn of(context: &'m Ctx, grant: Grant, taken: Taken<'m>) -> Claim<'m>
+        requires { IsHeld context.now grant.operator taken.part taken.path taken.choice }
+        ensures { result ≡ claimed_of context.now grant taken }
+    {
+        let Taken { part, path, choice } = taken;
+        Claim {
+            context,
+            number: grant.number,
+            operator: grant.operator,
+            side: grant.side,
+            part,
+            path,
+            choice,
+            steps: grant.steps,
+        }
+    }
+
+    /// The same claim again.
+    pub(crate) fn again(&self, alloc: Global) -> Result<Claim<'m>, AllocError>
+        ensures { IfOk result (λ c. c ≡ self.now) }
+    {
+        let choice = choice_again(alloc, &self.choice)?;
+        let numbers = self.path.as_slice().to_vec(alloc)?;
+        let part = copy(&self.part)?;
+        Ok(Claim {
+            context: self.context,
+            number: self.number,
+            operator: self.operator,
+            side: self.side,
+            part,
+            path: Seq::of(numbers),
+            choice,
+            steps: self.steps,
+        })
+    }
+
     /// What a pool knows of each part that it gave out.
     pub fn shows(&self)
         ensures { IsTakenPart self.now }

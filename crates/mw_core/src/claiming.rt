@@ -8,6 +8,7 @@ ghost use Rattle.mw_core.specs.declared.errors.ClaimError.TheVariants.{Nothing, 
 use crate::claim::Claim;
 use crate::errors::ClaimError;
 use crate::pool::Pool;
+use crate::searching::search;
 use std::alloc::Global;
 
 impl<'m> Pool<'m> {
@@ -33,7 +34,11 @@ impl<'m> Pool<'m> {
         if self.is_spent() {
             return Err(ClaimError::Spent);
         }
-        // The search through the survey isn't written yet.
-        Err(ClaimError::Memory)
+        self.book.context.shows();
+        match search(alloc, &mut self.book, &mut self.free) {
+            Ok(Some(claim)) => Ok(claim),
+            Ok(None) => Err(ClaimError::Nothing),
+            Err(_) => Err(ClaimError::Memory),
+        }
     }
 }

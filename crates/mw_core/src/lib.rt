@@ -18,7 +18,8 @@
 //! - `finish` answers a proof from the opening to the operator on the free elements, which carries out the receipts'
 //!   runs in order, each beside the elements that it doesn't take (`IsWholeProof`). `Open` tells how many claims are
 //!   open.
-//! - `claim` answers `Spent` exactly where no rule step or no step is left.
+//! - `claim` is the event `Claims`. It answers `Spent` exactly where no rule step or no step is left, and `Nothing` only
+//!   where each solution of each rule at a part of the free elements was tried.
 //!
 //! How it works: free elements are a list in canonical order, and so are the tries, each as a term: the rule's number
 //! as the operator, on its values. So both are found and put by binary search. Open claims stand in a slab, whose keys
@@ -37,6 +38,7 @@ mod giving;
 mod ordered;
 mod pool;
 mod releasing;
+mod searching;
 
 pub use claim::Claim;
 pub use errors::{ClaimError, FinishError, GiveError, Receipt, Refused, Setting, Why};

@@ -1,5 +1,6 @@
 // Lists of terms in order.
-ghost use Rattle.std.specs.Prelude.{◌≡◌, ◌≤◌, ◌<◌, ◌↔◌, ◌+◌, ◌++◌, ◌∷◌, [], length, IfOk, IsPermutation, IsTrue, MatchOption, Some, slice_get, vec_len, vec_capacity};
+ghost use Rattle.std.specs.Prelude.{◌≡◌, ◌≤◌, ◌<◌, ◌↔◌, ◌+◌, ◌++◌, ◌∷◌, [], List, length, IfOk, IfSome, IfNone, OnErr, IsPermutation, IsTrue, MatchOption, Some, slice_get, vec_len, vec_capacity};
+ghost use Rattle.mw_logic.specs.Term.{RawTerm};
 ghost use Rattle.mw_logic.specs.Terms.{terms_of};
 ghost use Rattle.mw_logic.specs.Signature.{Member};
 ghost use Rattle.mw_stack.specs.Places.{Divides};
@@ -58,6 +59,49 @@ pub fn put_all(terms: &mut Vec<Term>, more: Vec<Term>)
     while let Some(term) = more.pop() {
         put(terms, term);
     }
+}
+
+/// A term goes, where it stands.
+pub fn take(terms: &mut Vec<Term>, term: &Term) -> Option<Term>
+    requires order { IsInOrder terms.old.items }
+    ensures order { IsInOrder terms.new.items }
+    ensures is { MatchOption result (terms.new ≡ terms.old)
+        (λ t. (t ≡ term.now) × IsPermutation terms.old.items (t ∷ terms.new.items)) }
+    ensures none { IfNone result (Member term.now terms.old.items → ⊥) }
+    ensures capacity { vec_capacity terms.new ≡ vec_capacity terms.old }
+{
+    match find(terms.as_slice(), term) {
+        Some(at) => Some(terms.remove(at)),
+        None => None,
+    }
+}
+
+/// All of some terms go, each as often as it is there, where there are so many.
+pub fn take_some(
+    alloc: Global,
+    terms: &mut Vec<Term>,
+    some: &[Term],
+) -> Result<Option<Vec<Term>>, AllocError>
+    requires order { IsInOrder terms.old.items }
+    ensures order { IsInOrder terms.new.items }
+    ensures some { IfOk result (λ o. IfSome o
+        (λ ts. (ts.items ≡ some.now) × IsPermutation terms.old.items (some.now ++ terms.new.items))) }
+    ensures none { IfOk result (λ o. IfNone o (((rest : List RawTerm) × IsPermutation terms.old.items (some.now ++ rest)) → ⊥)) }
+    ensures stay { IfOk result (λ o. IfNone o (terms.new.items ≡ terms.old.items)) }
+    ensures err { OnErr result (terms.new ≡ terms.old) }
+    ensures capacity { vec_capacity terms.new ≡ vec_capacity terms.old }
+{
+    let mut taken = Vec::with_capacity(alloc, some.len())?;
+    for term in some {
+        match take(terms, term) {
+            Some(term) => taken.push_reserved(term),
+            None => {
+                put_all(terms, taken);
+                return Ok(None);
+            }
+        }
+    }
+    Ok(Some(taken))
 }
 
 /// The same terms again, one count for each.

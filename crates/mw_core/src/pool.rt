@@ -63,7 +63,7 @@ impl<'m> Pool<'m> {
         Ok(Pool {
             book: Book {
                 context,
-                index,
+                asked: index.rules(),
                 opening: term,
                 operator: setting.operator,
                 side: setting.side,
@@ -76,6 +76,8 @@ impl<'m> Pool<'m> {
                 steps: setting.steps,
                 steps_bound: setting.steps,
                 out: 0,
+                survey: None,
+                came: false,
             },
             free,
         })
