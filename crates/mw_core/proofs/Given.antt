@@ -16,10 +16,11 @@ use Rattle.mw_world.proofs.Keeping.{gives_sound}
 use Rattle.mw_core.specs.Claims.{Claimed}
 use Rattle.mw_core.specs.Calls.{IsOpenIn, MayGive, IsKeptProof}
 use Rattle.mw_core.specs.Ordered.{IsInOrder}
-use Rattle.mw_core.specs.Pools.{IsPool, IsHeldBy, claims_of, claim_of, tries_of, world_of}
+use Rattle.mw_core.specs.Pools.{IsPool, IsHeldBy, IsSurveyed, claims_of, claim_of, tries_of, world_of}
 use Rattle.mw_core.specs.declared.book.Book.{Book}
 use Rattle.mw_core.specs.declared.book.Held.{Held}
 use Rattle.mw_core.proofs.Slots.{Closes, closes, total_closed, claimed_closed}
+use Rattle.mw_core.proofs.Surveyed.{came_survey}
 use Rattle.mw_core.proofs.Released.{still_held, is_claim_of}
 
 -- where no memory was used but for room
@@ -46,17 +47,20 @@ module _ (b : Book) (free : Vec RawTerm Global) (p : IsPool b free) (journal : V
   roomy_pool : IsPool roomy room
   roomy_pool = record {
     sound = subst IsSound (sym roomy_world) p.sound;
-    index = p.index;
+    asked = p.asked;
     in_order = subst IsInOrder (sym items) p.in_order;
     failed_order = p.failed_order;
     stopped_order = p.stopped_order;
-    held = λ k g e. let x = p.held k g e in record { over = x.over; elements = x.elements; rule = x.rule; subst = x.subst };
+    held = λ k g e. let x = p.held k g e in record { over = x.over; elements = x.elements; rule = x.rule; subst = x.subst; key = x.key };
     out = p.out;
     room = let l : vec_len room ≡ vec_len free = room.ok.0 ∙ ap length items ∙ sym free.ok.0 in omega (arith, l, grows, p.room);
     failed_room = p.failed_room;
     stopped_room = p.stopped_room;
     rules_small = p.rules_small;
     steps_small = p.steps_small;
+    failed_keys = p.failed_keys;
+    stopped_keys = p.stopped_keys;
+    survey = subst (IsSurveyed b) (sym items) p.survey;
   }
 
   pub grown : (x : Book) → x ≡ roomy → IsPool x room × (world_of x room.items ≡ world_of b free.items)
@@ -83,7 +87,7 @@ module _ (b : Book) (free : Vec RawTerm Global) (p : IsPool b free) (c : Claimed
   open_less = total_closed (λ k. 1) b.held.slots hs.slots c.claim.number h shut
 
   abbrev pub after : Book
-  after = record b { held = hs; out = out; rules = option_map (λ (n : ℕ). n + (1 - rules d.proof)) b.rules; steps = b.steps + (c.claim.steps - steps d.proof); journal = journal }
+  after = record b { held = hs; out = out; rules = option_map (λ (n : ℕ). n + (1 - rules d.proof)) b.rules; steps = b.steps + (c.claim.steps - steps d.proof); came = true; journal = journal }
 
   receipt : IsReceipt b.context.now b.operator d
   receipt = record {
@@ -121,15 +125,18 @@ module _ (b : Book) (free : Vec RawTerm Global) (p : IsPool b free) (c : Claimed
       let m : vec_len h.elements ≡ length (parts sig f h.claim.claim.part) = h.elements.ok.0 ∙ ap length (p.held c.claim.number h there).elements in
       record {
         sound = gives_sound (world_of b free.items) (world_of after back.items) c.claim d p.sound event;
-        index = p.index;
+        asked = p.asked;
         in_order = order;
         failed_order = p.failed_order;
         stopped_order = p.stopped_order;
-        held = λ k g e. let x = still_held b b.held.slots hs.slots c.claim.number p.held u.changed u.others k g e in record { over = x.over; elements = x.elements; rule = x.rule; subst = x.subst };
+        held = λ k g e. let x = still_held b b.held.slots hs.slots c.claim.number p.held u.changed u.others k g e in record { over = x.over; elements = x.elements; rule = x.rule; subst = x.subst; key = x.key };
         out = omega (arith, l, m, less, p.out);
         room = room;
         failed_room = omega (arith, p.failed_room, open_less);
         stopped_room = omega (arith, p.stopped_room, open_less);
         rules_small = p.rules_small;
         steps_small = p.steps_small;
+        failed_keys = p.failed_keys;
+        stopped_keys = p.stopped_keys;
+        survey = came_survey b free.items back.items (tries_of b.context.now b.failed.items b.stopped.items) p.survey;
       }

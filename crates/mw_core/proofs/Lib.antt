@@ -10,3 +10,7 @@ pub mod Released
 pub mod Given
 pub mod Zipped
 pub mod Redone
+-- Terms that are taken out.
+pub mod Taking
+-- Surveys.
+pub mod Surveyed

@@ -8,7 +8,7 @@ use Rattle.mw_logic.specs.Term.{RawTerm}
 use Rattle.mw_logic.specs.Signature.{Member}
 use Rattle.mw_logic.specs.Module.{Module}
 use Rattle.mw_world.specs.World.{Try}
-use Rattle.mw_core.specs.Pools.{try_of, tries_of}
+use Rattle.mw_core.specs.Pools.{try_of, tries_of, IsKey, AreKeys}
 
 all_members : {X : Type 0} (xs ys : List X) → ((x : X) → Member x xs → Member x ys) → AllByRecursion (λ x. Member x ys) xs
 all_members [] ys h = tt
@@ -94,3 +94,11 @@ stopped_more M xs ys zs k p = record {
     only : (t : Try) → Member t (map (try_of M true) zs) ⊎ Member t (map (try_of M false) ys) → Member t (tries_of M zs xs) ⊎ (try_of M false k ≡ t)
     only t (inl m) = inl (in_left (map (try_of M true) zs) (map (try_of M false) xs) t m)
     only t (inr m) = last t (tries_before M false xs ys k p t m)
+
+-- one key more
+pub keys_more : (M : Module) (k : RawTerm) (xs ys : List RawTerm) → IsPermutation (k ∷ xs) ys → IsKey M k → AreKeys M xs → AreKeys M ys
+keys_more M k xs ys p h a t m = by_place (shuffled ys (k ∷ xs) (IsPermutation-sym (k ∷ xs) ys p) t m)
+  where
+    by_place : Member t (k ∷ xs) → IsKey M t
+    by_place (inl e) = subst (IsKey M) e h
+    by_place (inr n) = a t n

@@ -1,5 +1,5 @@
 -- A pool that is opened.
-use Rattle.std.specs.Prelude.{◌≡◌, ◌≤◌, ◌<◌, ◌+◌, ◌^◌, ℕ, List, [], ◌++◌, length, Option, None, Some, IfSome, slice_index_or, vec_len, true, refl, IsPermutation}
+use Rattle.std.specs.Prelude.{◌≡◌, ◌≤◌, ◌<◌, ◌+◌, ◌^◌, ℕ, List, [], ◌++◌, length, Option, None, Some, IfSome, IsFalse, MatchOption, ⊤, slice_index_or, vec_len, true, refl, IsPermutation}
 use Rattle.std.specs.Global.{Global}
 use Rattle.std.specs.declared.vec.Vec.{Vec}
 use Rattle.std.proofs.Common.{arith, ap, sym, subst, ◌∙◌}
@@ -16,11 +16,14 @@ use Rattle.mw_arguments.proofs.Arguments.{in_order}
 use Rattle.mw_multiset.specs.Together.{parts, IsOfMultisets, IsShallow}
 use Rattle.mw_multiset.proofs.Members.{admitted_canonical}
 use Rattle.mw_multiset.proofs.Together.{terms_list, list_terms}
-use Rattle.mw_index.specs.Index.{IsIndexOf}
+use Rattle.mw_index.specs.Index.{AreRulesOf}
+use Rattle.mw_survey.specs.Asked.{IsSurveyOf}
+use Rattle.mw_world.specs.World.{Try}
 use Rattle.mw_world.specs.World.{World, IsSound, AddsUp, open_count, claimed}
 use Rattle.mw_core.specs.Pools.{IsPool, world_of, claims_of, tries_of}
 use Rattle.mw_core.specs.declared.book.Book.{Book}
 use Rattle.mw_core.specs.declared.book.Held.{Held}
+use Rattle.mw_survey.specs.declared.survey.Survey.{Survey}
 use Rattle.mw_core.specs.Calls.{opened}
 use Rattle.mw_core.specs.Ordered.{IsInOrder}
 use Rattle.mw_core.specs.declared.errors.Setting.{Setting}
@@ -74,9 +77,9 @@ is_opened M t s b free e1 e2 e3 e4 e5 e6 e7 e8 e9 e10 e11 e12 e13 = λ i. record
   steps_bound = e13 i;
 }
 
-pub opens : (M : Module) (t : RawTerm) (s : Setting) (b : Book) (free : Vec RawTerm Global) → IsOfMultisets M s.operator → IsAdmittedTerm M.signature t → IsShallow M.signature s.operator t → IsIndexOf b.context.now b.index.now
-    → world_of b free.items ≡ opened M t s → b.held.slots ≡ [] → b.failed.items ≡ [] → b.stopped.items ≡ [] → b.out ≡ 0 → IfSome b.rules_bound (λ n. n < 2 ^ 64) → b.steps_bound < 2 ^ 64 → IsPool b free
-opens M t s b free of a shallow index w slots failed stopped out small_rules small_steps =
+pub opens : (M : Module) (t : RawTerm) (s : Setting) (b : Book) (free : Vec RawTerm Global) → IsOfMultisets M s.operator → IsAdmittedTerm M.signature t → IsShallow M.signature s.operator t → AreRulesOf b.context.now b.asked.now
+    → world_of b free.items ≡ opened M t s → b.held.slots ≡ [] → b.failed.items ≡ [] → b.stopped.items ≡ [] → b.out ≡ 0 → IfSome b.rules_bound (λ n. n < 2 ^ 64) → b.steps_bound < 2 ^ 64 → b.survey ≡ None → IsPool b free
+opens M t s b free of a shallow index w slots failed stopped out small_rules small_steps no_survey =
     let none : claims_of b.held.slots ≡ [] = ap claims_of slots in
     let zero_open : open_count (claims_of b.held.slots) ≡ 0 = ap open_count none in
     let zero_out : length (claimed b.context.now.signature b.operator (claims_of b.held.slots)) ≡ 0 = ap (λ cs. length (claimed b.context.now.signature b.operator cs)) none in
@@ -85,7 +88,7 @@ opens M t s b free of a shallow index w slots failed stopped out small_rules sma
     let there : free.items ≡ parts M.signature s.operator t = ap (λ (x : World). x.free) w in
     record {
       sound = subst IsSound (sym w) (opened_sound M t s of a shallow);
-      index = index;
+      asked = index;
       in_order = subst IsInOrder (sym there) (elements_in_order M s.operator of t a);
       failed_order = subst IsInOrder (sym failed) refl;
       stopped_order = subst IsInOrder (sym stopped) refl;
@@ -96,6 +99,12 @@ opens M t s b free of a shallow index w slots failed stopped out small_rules sma
       stopped_room = omega (arith, zero_stopped, zero_open);
       rules_small = small_rules;
       steps_small = small_steps;
+      failed_keys = subst (AreKeys b.context.now) (sym failed) (λ t m. absurd m);
+      stopped_keys = subst (AreKeys b.context.now) (sym stopped) (λ t m. absurd m);
+      survey = subst
+          (λ (o : Option Survey). MatchOption o ⊤ (λ s. ((ts : List Try) × IsSurveyOf b.context.now b.operator b.asked.now ts [] s)
+          × (IsFalse b.came → IsSurveyOf b.context.now b.operator b.asked.now (tries_of b.context.now b.failed.items b.stopped.items) free.items s)))
+          (sym no_survey) tt;
     }
   where
     none_held : (k : ℕ) (h : Held) → slice_index_or [] k None ≡ Some h → ⊥

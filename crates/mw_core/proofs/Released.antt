@@ -23,13 +23,14 @@ use Rattle.mw_core.specs.Claims.{Claimed}
 use Rattle.mw_core.specs.Calls.{IsOpenIn, IsCause, IsNoted, IsShown}
 use Rattle.mw_core.specs.Books.{IsPutIn, IsNotedIn}
 use Rattle.mw_core.specs.Ordered.{IsInOrder}
-use Rattle.mw_core.specs.Pools.{IsPool, IsHeldBy, claims_of, claim_of, tries_of, try_of, rule_of, world_of}
+use Rattle.mw_core.specs.Pools.{IsPool, IsHeldBy, AreKeys, claims_of, claim_of, tries_of, try_of, rule_of, world_of}
 use Rattle.mw_core.specs.declared.book.Book.{Book}
 use Rattle.mw_core.specs.declared.book.Held.{Held}
 use Rattle.mw_core.specs.declared.errors.Why.{Why}
 use Rattle.mw_core.specs.declared.errors.Why.TheVariants.{Failed, Stopped, NoMemory}
 use Rattle.mw_core.proofs.Slots.{Closes, closes, claim_there, total_closed, claimed_closed, one_rule_more}
-use Rattle.mw_core.proofs.Noted.{OneMore, failed_more, stopped_more}
+use Rattle.mw_core.proofs.Noted.{OneMore, failed_more, stopped_more, keys_more}
+use Rattle.mw_core.proofs.Surveyed.{came_survey}
 
 -- the claims that stay open are held as before
 pub still_held : (b : Book) (xs ys : List (Option Held)) (number : ℕ) → ((k : ℕ) (h : Held) → slice_index_or xs k None ≡ Some h → IsHeldBy b h) → slice_index_or ys number None ≡ None
@@ -59,7 +60,7 @@ module _ (b : Book) (free : Vec RawTerm Global) (p : IsPool b free) (c : Claimed
 
   -- the pool after these tries are noted
   abbrev pub after : Vec RawTerm Global → Vec RawTerm Global → Book
-  after failed stopped = record b { held = hs; out = out; rules = option_map (λ (n : ℕ). n + 1) b.rules; steps = b.steps + c.claim.steps; failed = failed; stopped = stopped }
+  after failed stopped = record b { held = hs; out = out; rules = option_map (λ (n : ℕ). n + 1) b.rules; steps = b.steps + c.claim.steps; came = true; failed = failed; stopped = stopped }
 
   -- what the tries are then
   pub record Notes (failed stopped : Vec RawTerm Global) : Type 0 where
@@ -67,6 +68,8 @@ module _ (b : Book) (free : Vec RawTerm Global) (p : IsPool b free) (c : Claimed
     pub stopped_order : IsInOrder stopped.items
     pub failed_room : vec_len failed + open_count (claims_of hs.slots) ≤ vec_capacity failed
     pub stopped_room : vec_len stopped + open_count (claims_of hs.slots) ≤ vec_capacity stopped
+    pub failed_keys : AreKeys b.context.now failed.items
+    pub stopped_keys : AreKeys b.context.now stopped.items
     pub kept : (t : Try) → Member t (world_of b free.items).tries → Member t (tries_of b.context.now failed.items stopped.items)
     pub tries : (t : Try) → Member t (tries_of b.context.now failed.items stopped.items)
         → Member t (world_of b free.items).tries ⊎ ((t.rule ≡ c.claim.rule) × (t.subst ≡ c.claim.subst) × HasFailed b.context.now t)
@@ -94,17 +97,20 @@ module _ (b : Book) (free : Vec RawTerm Global) (p : IsPool b free) (c : Claimed
       let m : vec_len h.elements ≡ length (parts sig f h.claim.claim.part) = h.elements.ok.0 ∙ ap length by.elements in
       record {
         sound = releases_sound (world_of b free.items) (world_of (after failed stopped) back.items) c.claim p.sound (event failed stopped n);
-        index = p.index;
+        asked = p.asked;
         in_order = order;
         failed_order = n.failed_order;
         stopped_order = n.stopped_order;
-        held = λ k g e. let x = still_held b b.held.slots hs.slots c.claim.number p.held u.changed u.others k g e in record { over = x.over; elements = x.elements; rule = x.rule; subst = x.subst };
+        held = λ k g e. let x = still_held b b.held.slots hs.slots c.claim.number p.held u.changed u.others k g e in record { over = x.over; elements = x.elements; rule = x.rule; subst = x.subst; key = x.key };
         out = omega (arith, l, m, less, p.out);
         room = omega (arith, p.room, less, capacity, len);
         failed_room = n.failed_room;
         stopped_room = n.stopped_room;
         rules_small = p.rules_small;
         steps_small = p.steps_small;
+        failed_keys = n.failed_keys;
+        stopped_keys = n.stopped_keys;
+        survey = came_survey b free.items back.items (tries_of b.context.now failed.items stopped.items) p.survey;
       }
 
   abbrev rule_is : (t : Try) (d : Bool) → try_of b.context.now d h.key ≡ t → t.rule ≡ c.claim.rule
@@ -141,6 +147,8 @@ module _ (b : Book) (free : Vec RawTerm Global) (p : IsPool b free) (c : Claimed
         stopped_order = p.stopped_order;
         failed_room = omega (arith, p.failed_room, put.len, put.capacity, open_less);
         stopped_room = omega (arith, p.stopped_room, open_less);
+        failed_keys = keys_more b.context.now h.key b.failed.items failed.items put.come by.key p.failed_keys;
+        stopped_keys = p.stopped_keys;
         kept = m.kept;
         tries = λ t k. elim (m.only t k) as (λ _. Member t (world_of b free.items).tries ⊎ ((t.rule ≡ c.claim.rule) × (t.subst ≡ c.claim.subst) × HasFailed b.context.now t)) [
           | inl a ↦ inl a
@@ -156,6 +164,8 @@ module _ (b : Book) (free : Vec RawTerm Global) (p : IsPool b free) (c : Claimed
         stopped_order = put.order;
         failed_room = omega (arith, p.failed_room, open_less);
         stopped_room = omega (arith, p.stopped_room, put.len, put.capacity, open_less);
+        failed_keys = p.failed_keys;
+        stopped_keys = keys_more b.context.now h.key b.stopped.items stopped.items put.come by.key p.stopped_keys;
         kept = m.kept;
         tries = λ t k. elim (m.only t k) as (λ _. Member t (world_of b free.items).tries ⊎ ((t.rule ≡ c.claim.rule) × (t.subst ≡ c.claim.subst) × HasFailed b.context.now t)) [
           | inl a ↦ inl a
@@ -169,6 +179,8 @@ module _ (b : Book) (free : Vec RawTerm Global) (p : IsPool b free) (c : Claimed
     stopped_order = p.stopped_order;
     failed_room = omega (arith, p.failed_room, open_less);
     stopped_room = omega (arith, p.stopped_room, open_less);
+    failed_keys = p.failed_keys;
+    stopped_keys = p.stopped_keys;
     kept = λ t m. m;
     tries = λ t m. inl m;
   }

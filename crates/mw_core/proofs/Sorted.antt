@@ -5,12 +5,13 @@ use Rattle.std.proofs.Common.{arith, ap, sym, subst, ◌∙◌, inl, inr}
 use Rattle.std.proofs.lemmas.List.{append_assoc}
 use Rattle.std.proofs.lemmas.List.Sorted.{IsPermutation-refl, IsPermutation-sym, IsPermutation-trans, IsPermutation-append_right}
 use Rattle.mw_logic.specs.Term.{RawTerm, join, cons, nil}
-use Rattle.mw_logic.specs.Terms.{terms_of, front, skip}
+use Rattle.mw_logic.specs.Terms.{terms_of, list_of, front, skip}
 use Rattle.mw_logic.specs.Signature.{Member}
 use Rattle.mw_logic.specs.TermOrder.{stands_after, sorted_terms}
 use Rattle.mw_logic.proofs.OrderLaws.{not_after_itself, after-antisym}
 use Rattle.mw_logic.proofs.Canonical.{Each}
-use Rattle.mw_logic.proofs.SortedLists.{Climbs, climbs, climbs-sorted, sorted_terms-climbing}
+use Rattle.mw_logic.proofs.SortedLists.{Climbs, climbs, climbs-sorted, sorted_terms-climbing, sorted_terms-permutation}
+use Rattle.mw_multiset.proofs.Together.{list_terms}
 use Rattle.mw_stack.specs.Places.{Divides}
 use Rattle.mw_stack.proofs.Piles.{own_inserted}
 use Rattle.mw_core.specs.Ordered.{IsInOrder}
@@ -88,3 +89,28 @@ pub got : (xs : List RawTerm) (k : ℕ) (x : RawTerm) → k < length xs → x �
 got [] k x l e = absurd (omega (arith, l))
 got (y ∷ xs) zero x l e = let f : y ≡ x = sym e in ap Some f
 got (y ∷ xs) (suc k) x l e = got xs k x (omega (arith, l)) e
+
+-- without one term they are in order still
+each_removed : (P : RawTerm → Type 0) (xs : List RawTerm) (i : ℕ) → Each P (terms_of xs) → Each P (terms_of (take i xs ++ drop (suc i) xs))
+each_removed P [] zero h = tt
+each_removed P [] (suc i) h = tt
+each_removed P (x ∷ xs) zero h = h.1
+each_removed P (x ∷ xs) (suc i) h = (h.0, each_removed P xs i h.1)
+
+climbs_removed : (xs : List RawTerm) (i : ℕ) → Climbs (terms_of xs) → Climbs (terms_of (take i xs ++ drop (suc i) xs))
+climbs_removed [] zero h = tt
+climbs_removed [] (suc i) h = tt
+climbs_removed (x ∷ xs) zero h = h.1
+climbs_removed (x ∷ xs) (suc i) h = (each_removed (λ u. stands_after x u ≡ false) xs i h.0, climbs_removed xs i h.1)
+
+pub remove_order : (xs : List RawTerm) (i : ℕ) → IsInOrder xs → IsInOrder (take i xs ++ drop (suc i) xs)
+remove_order xs i o = sorted_terms-climbing (terms_of (take i xs ++ drop (suc i) xs)) (climbs_removed xs i (climbs (terms_of xs) o))
+
+pub got_back : (xs : List RawTerm) (i : ℕ) (t d : RawTerm) → slice_get xs i ≡ Some t → (slice_index_or xs i d ≡ t) × (i < length xs)
+got_back [] i t d e = cc e
+got_back (x ∷ xs) zero t d e = (cc e, omega arith)
+got_back (x ∷ xs) (suc i) t d e = let r = got_back xs i t d e in (r.0, omega (arith, r.1))
+
+-- two lists in order with the same terms are one
+pub same_lists : (xs ys : List RawTerm) → IsInOrder xs → IsInOrder ys → IsPermutation xs ys → xs ≡ ys
+same_lists xs ys o q p = sym (list_terms xs) ∙ ap list_of (sym o ∙ sorted_terms-permutation xs ys p ∙ q) ∙ list_terms ys

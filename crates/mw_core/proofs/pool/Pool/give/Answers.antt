@@ -1,4 +1,4 @@
-use Rattle.std.proofs.Common.{rules, arith, ◌≡◌, ◌≤◌, ◌<◌, ◌+◌, ◌-◌, ◌++◌, ◌∷◌, ◌∙◌, [], ℕ, Some, None, option_map, IsPermutation, length, slice_index_or, vec_len, vec_capacity, sym, subst, ap}
+use Rattle.std.proofs.Common.{rules, arith, ◌≡◌, ◌≤◌, ◌<◌, ◌+◌, ◌-◌, ◌++◌, ◌∷◌, ◌∙◌, [], ℕ, Some, None, true, option_map, IsPermutation, length, slice_index_or, vec_len, vec_capacity, sym, subst, ap}
 use Rattle.slab.specs.Slab.{Updates}
 use Rattle.mw_logic.specs.Proof.{rules as rules_in, steps as steps_in}
 use Rattle.mw_multiset.specs.Together.{parts}
@@ -87,7 +87,7 @@ invariant_of-self-2 c =
     let its : k.claim.steps ≡ q.0.claim.claim.steps = ap (λ (i : worlds.Claim). i.steps) (is_claim_of x m.new.free.items k q.0 o q.1) in
     let few : c.steps-2.result ≡ steps_in d.proof = c.steps-2.ensures ∙ min_small (steps_in d.proof) k.claim.steps c.requires.within (omega (arith, all_steps, its, p.sound.steps, p.steps_small)) in
     let journal = c.push_reserved.new.self in
-    let make : ℕ → ℕ → Book = λ r n. record x { held = t.new.book.held; out = t.new.book.out; rules = option_map (λ (i : ℕ). i + (1 - r)) x.rules; steps = x.steps + n } in
+    let make : ℕ → ℕ → Book = λ r n. record x { held = t.new.book.held; out = t.new.book.out; rules = option_map (λ (i : ℕ). i + (1 - r)) x.rules; steps = x.steps + n; came = true } in
     let rest = t.ensures.rest ∙ ap (λ (r : ℕ). make r (c.steps.result - c.steps-2.result)) rule ∙ ap (make (rules_in d.proof)) (ap (λ (n : ℕ). n - c.steps-2.result) c.steps.ensures ∙ ap (λ (n : ℕ). k.claim.steps - n) few) in
     let more : journal.items ≡ x.journal.items ++ d ∷ [] = c.push_reserved.ensures.items ∙ ap (λ (y : Book). y.journal.items ++ d ∷ []) t.ensures.rest in
     let el : c.in-Ok.elements.items ≡ parts x.context.now.signature x.operator d.to = c.in-Ok.ensures ∙ sym (ap (λ (y : Book). parts y.context.now.signature y.operator d.to) m.ensures.book) in
@@ -118,7 +118,7 @@ returns-clause-ok c =
     let its : k.claim.steps ≡ q.0.claim.claim.steps = ap (λ (i : worlds.Claim). i.steps) (is_claim_of x m.new.free.items k q.0 o q.1) in
     let few : c.steps-2.result ≡ steps_in d.proof = c.steps-2.ensures ∙ min_small (steps_in d.proof) k.claim.steps c.requires.within (omega (arith, all_steps, its, p.sound.steps, p.steps_small)) in
     let journal = c.push_reserved.new.self in
-    let make : ℕ → ℕ → Book = λ r n. record x { held = t.new.book.held; out = t.new.book.out; rules = option_map (λ (i : ℕ). i + (1 - r)) x.rules; steps = x.steps + n } in
+    let make : ℕ → ℕ → Book = λ r n. record x { held = t.new.book.held; out = t.new.book.out; rules = option_map (λ (i : ℕ). i + (1 - r)) x.rules; steps = x.steps + n; came = true } in
     let rest = t.ensures.rest ∙ ap (λ (r : ℕ). make r (c.steps.result - c.steps-2.result)) rule ∙ ap (make (rules_in d.proof)) (ap (λ (n : ℕ). n - c.steps-2.result) c.steps.ensures ∙ ap (λ (n : ℕ). k.claim.steps - n) few) in
     let more : journal.items ≡ x.journal.items ++ d ∷ [] = c.push_reserved.ensures.items ∙ ap (λ (y : Book). y.journal.items ++ d ∷ []) t.ensures.rest in
     let el : c.in-Ok.elements.items ≡ parts x.context.now.signature x.operator d.to = c.in-Ok.ensures ∙ sym (ap (λ (y : Book). parts y.context.now.signature y.operator d.to) m.ensures.book) in

@@ -1,4 +1,4 @@
-use Rattle.std.proofs.Common.{rules, arith, ◌≡◌, ◌≤◌, ◌<◌, ◌+◌, ◌∙◌, ℕ, Some, None, option_map, length, slice_index_or, vec_len, vec_capacity, sym, subst, ap}
+use Rattle.std.proofs.Common.{rules, arith, ◌≡◌, ◌≤◌, ◌<◌, ◌+◌, ◌∙◌, ℕ, Some, None, true, option_map, length, slice_index_or, vec_len, vec_capacity, sym, subst, ap}
 use Rattle.slab.specs.Slab.{Updates}
 use Rattle.mw_multiset.specs.Together.{parts}
 use Rattle.mw_world.specs.World as worlds
@@ -74,7 +74,7 @@ invariant_of-self c =
     let t = c.take_back-held in
     let there : slice_index_or b.held.slots k.claim.number None ≡ Some t.result = subst (λ (n : ℕ). slice_index_or b.held.slots n None ≡ Some t.result) c.number.ensures t.ensures.held in
     let u : Updates b.held t.new.book.held k.claim.number None = subst (λ (n : ℕ). Updates b.held t.new.book.held n None) c.number.ensures t.ensures.slots in
-    let steps : ℕ → Book = λ n. record b { held = t.new.book.held; out = t.new.book.out; rules = option_map (λ (m : ℕ). m + 1) b.rules; steps = b.steps + n } in
+    let steps : ℕ → Book = λ n. record b { held = t.new.book.held; out = t.new.book.out; rules = option_map (λ (m : ℕ). m + 1) b.rules; steps = b.steps + n; came = true } in
     let rest = t.ensures.rest ∙ ap steps c.steps.ensures in
     let all = done b c.self.inside.free c.self.invariant k o t.result there t.new.book.held u t.new.book.out t.ensures.out c.put_all.new.terms c.put_all.ensures.order c.put_all.ensures.come
     c.put_all.ensures.capacity c.put_all.ensures.len c.args.why c.requires c.shows.ensures t.new.book c.note.new.book rest c.note.ensures in
@@ -88,7 +88,7 @@ returns-clause-ok c =
     let t = c.take_back-held in
     let there : slice_index_or b.held.slots k.claim.number None ≡ Some t.result = subst (λ (n : ℕ). slice_index_or b.held.slots n None ≡ Some t.result) c.number.ensures t.ensures.held in
     let u : Updates b.held t.new.book.held k.claim.number None = subst (λ (n : ℕ). Updates b.held t.new.book.held n None) c.number.ensures t.ensures.slots in
-    let steps : ℕ → Book = λ n. record b { held = t.new.book.held; out = t.new.book.out; rules = option_map (λ (m : ℕ). m + 1) b.rules; steps = b.steps + n } in
+    let steps : ℕ → Book = λ n. record b { held = t.new.book.held; out = t.new.book.out; rules = option_map (λ (m : ℕ). m + 1) b.rules; steps = b.steps + n; came = true } in
     let rest = t.ensures.rest ∙ ap steps c.steps.ensures in
     let all = done b c.self.inside.free c.self.invariant k o t.result there t.new.book.held u t.new.book.out t.ensures.out c.put_all.new.terms c.put_all.ensures.order c.put_all.ensures.come
     c.put_all.ensures.capacity c.put_all.ensures.len c.args.why c.requires c.shows.ensures t.new.book c.note.new.book rest c.note.ensures in
@@ -102,7 +102,7 @@ returns-clause-noted c =
     let t = c.take_back-held in
     let there : slice_index_or b.held.slots k.claim.number None ≡ Some t.result = subst (λ (n : ℕ). slice_index_or b.held.slots n None ≡ Some t.result) c.number.ensures t.ensures.held in
     let u : Updates b.held t.new.book.held k.claim.number None = subst (λ (n : ℕ). Updates b.held t.new.book.held n None) c.number.ensures t.ensures.slots in
-    let steps : ℕ → Book = λ n. record b { held = t.new.book.held; out = t.new.book.out; rules = option_map (λ (m : ℕ). m + 1) b.rules; steps = b.steps + n } in
+    let steps : ℕ → Book = λ n. record b { held = t.new.book.held; out = t.new.book.out; rules = option_map (λ (m : ℕ). m + 1) b.rules; steps = b.steps + n; came = true } in
     let rest = t.ensures.rest ∙ ap steps c.steps.ensures in
     let all = done b c.self.inside.free c.self.invariant k o t.result there t.new.book.held u t.new.book.out t.ensures.out c.put_all.new.terms c.put_all.ensures.order c.put_all.ensures.come
     c.put_all.ensures.capacity c.put_all.ensures.len c.args.why c.requires c.shows.ensures t.new.book c.note.new.book rest c.note.ensures in
