@@ -1,5 +1,5 @@
 -- A proof is given for a claim, which is closed.
-use Rattle.std.specs.Prelude.{◌≡◌, ◌≢◌, ◌≤◌, ◌<◌, ◌+◌, ◌-◌, ◌^◌, ℕ, suc, List, [], ◌∷◌, ◌++◌, length, min, Option, None, Some, option_map, slice_index_or, vec_len, vec_capacity, refl, IsPermutation}
+use Rattle.std.specs.Prelude.{◌≡◌, ◌≢◌, ◌≤◌, ◌<◌, ◌+◌, ◌-◌, ◌^◌, ℕ, suc, List, [], ◌∷◌, ◌++◌, length, min, Option, None, Some, true, option_map, slice_index_or, vec_len, vec_capacity, refl, IsPermutation}
 use Rattle.std.specs.Global.{Global}
 use Rattle.std.specs.declared.vec.Vec.{Vec}
 use Rattle.std.proofs.Common.{arith, ap, sym, subst, ◌∙◌}

@@ -20,7 +20,7 @@ use Rattle.mw_index.specs.Index.{AreRulesOf}
 use Rattle.mw_survey.specs.Asked.{IsSurveyOf}
 use Rattle.mw_world.specs.World.{Try}
 use Rattle.mw_world.specs.World.{World, IsSound, AddsUp, open_count, claimed}
-use Rattle.mw_core.specs.Pools.{IsPool, world_of, claims_of, tries_of}
+use Rattle.mw_core.specs.Pools.{IsPool, AreKeys, world_of, claims_of, tries_of}
 use Rattle.mw_core.specs.declared.book.Book.{Book}
 use Rattle.mw_core.specs.declared.book.Held.{Held}
 use Rattle.mw_survey.specs.declared.survey.Survey.{Survey}

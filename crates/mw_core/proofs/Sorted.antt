@@ -1,13 +1,13 @@
 -- Where a term stands, or comes, in a list of terms in order.
-use Rattle.std.specs.Prelude.{◌≡◌, ◌≢◌, ◌≤◌, ◌<◌, ◌-◌, ℕ, zero, suc, List, [], ◌∷◌, ◌++◌, length, take, drop, Some, slice_get, slice_index_or, true, false, refl, IsPermutation, Result, Ok, Err, IsOk, is_ok, if◌then◌else◌}
+use Rattle.std.specs.Prelude.{◌≡◌, ◌≢◌, ◌≤◌, ◌<◌, ℕ, zero, suc, List, [], ◌∷◌, ◌++◌, length, take, drop, Some, slice_get, slice_index_or, true, false, refl, IsPermutation, Result, Ok, Err, IsOk, is_ok, if◌then◌else◌}
 use Rattle.std.specs.List.{insert}
 use Rattle.std.proofs.Common.{arith, ap, sym, subst, ◌∙◌, inl, inr}
 use Rattle.std.proofs.lemmas.List.{append_assoc}
-use Rattle.std.proofs.lemmas.List.Sorted.{IsPermutation-refl, IsPermutation-sym, IsPermutation-trans, IsPermutation-append_right}
+use Rattle.std.proofs.lemmas.List.Sorted.{IsPermutation-trans, IsPermutation-append_right}
 use Rattle.mw_logic.specs.Term.{RawTerm, join, cons, nil}
 use Rattle.mw_logic.specs.Terms.{terms_of, list_of, front, skip}
 use Rattle.mw_logic.specs.Signature.{Member}
-use Rattle.mw_logic.specs.TermOrder.{stands_after, sorted_terms}
+use Rattle.mw_logic.specs.TermOrder.{stands_after}
 use Rattle.mw_logic.proofs.OrderLaws.{not_after_itself, after-antisym}
 use Rattle.mw_logic.proofs.Canonical.{Each}
 use Rattle.mw_logic.proofs.SortedLists.{Climbs, climbs, climbs-sorted, sorted_terms-climbing, sorted_terms-permutation}

@@ -1,4 +1,4 @@
-use Rattle.std.proofs.Common.{rules, arith, ◌≡◌, ◌-◌, ◌∙◌, Some, slice_get, subst, sym, ap}
+use Rattle.std.proofs.Common.{arith, ◌≡◌, ◌-◌, ◌∙◌, Some, slice_get, sym, ap}
 use Rattle.mw_core.proofs.Sorted.{not_there, got}
 use Rattle.mw_core.proofs.ordered.find.Goals as goal
 

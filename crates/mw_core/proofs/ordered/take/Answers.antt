@@ -1,4 +1,4 @@
-use Rattle.std.proofs.Common.{rules, ◌≡◌, ◌∙◌, ◌∷◌, IsPermutation, Some, slice_get, slice_index_or, sym, subst}
+use Rattle.std.proofs.Common.{◌≡◌, ◌∙◌, ◌∷◌, IsPermutation, Some, slice_get, sym, subst}
 use Rattle.std.proofs.lemmas.List.Sorted.{IsPermutation-remove}
 use Rattle.mw_core.specs.Ordered.{IsInOrder}
 use Rattle.mw_core.proofs.Sorted.{remove_order, got_back}
