@@ -14,3 +14,7 @@ pub mod Redone
 pub mod Taking
 -- Surveys.
 pub mod Surveyed
+-- Searches for claims.
+pub mod Searching
+-- Claims that are opened.
+pub mod Opened
