@@ -14,7 +14,7 @@ pub mod Redone
 pub mod Taking
 -- Surveys.
 pub mod Surveyed
--- Searches for claims.
-pub mod Searching
+-- Tries of choices.
+pub mod Tried
 -- Claims that are opened.
 pub mod Opened

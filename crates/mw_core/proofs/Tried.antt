@@ -1,4 +1,4 @@
--- The search for a claim: which tries a choice has, and what stays of the pool.
+-- Which tries a choice has, and what stays of the pool where only its survey changes.
 use Rattle.std.specs.Prelude.{◌≡◌, ◌⊎◌, ◌<◌, ℕ, suc, List, [], ◌∷◌, ◌++◌, length, map, Bool, true, false, Option, Some, None, MatchOption, option_map, unwrap_or, refl, ⊤}
 use Rattle.std.specs.Global.{Global}
 use Rattle.std.specs.declared.vec.Vec.{Vec}
