@@ -53,7 +53,7 @@ module _ (b : Book) (free : Vec RawTerm Global) (p : IsPool b free) (work : IsWo
     is_open = claim_there hs.slots g.number ∙ ap (option_map claim_of) u.changed ∙ ap (λ (k : Claimed). Some k.claim) is;
     others = λ k d. claim_there hs.slots k ∙ ap (option_map claim_of) (u.others k d) ∙ sym (claim_there b.held.slots k);
     is_claim = is_claim (world_of b free.items) work s t offered c (record { operator = operator; side = side; part = refl; path = refl; take = refl; rule = refl; values = refl });
-    not_tried = λ x. untried (x.0, x.1.0, x.1.1.0, same_solution-sym b.context.now.signature (meant b.context.now.signature x.0.subst) (meant b.context.now.signature c.subst) x.1.1.1);
+    not_tried = λ x. untried (x.0, x.1, x.2, same_solution-sym b.context.now.signature (meant b.context.now.signature x.0.subst) (meant b.context.now.signature c.subst) x.3);
     granted = steps;
     taken = taken;
     rules = refl;

@@ -1,5 +1,5 @@
 -- Where a term stands, or comes, in a list of terms in order.
-use Rattle.std.specs.Prelude.{◌≡◌, ◌≢◌, ◌≤◌, ◌<◌, ℕ, zero, suc, List, [], ◌∷◌, ◌++◌, length, take, drop, Some, slice_get, slice_index_or, true, false, refl, IsPermutation, Result, Ok, Err, IsOk, is_ok, if◌then◌else◌}
+use Rattle.std.specs.Prelude.{◌≡◌, ◌≢◌, ◌≤◌, ◌<◌, ℕ, zero, suc, List, [], ◌∷◌, ◌++◌, length, take, drop, Some, slice_get, slice_index_or, true, false, refl, IsPermutation, Result, Ok, Err, IsOk, is_ok, if◌then◌else◌, Option, None, Bool, is_some, MatchOption}
 use Rattle.std.specs.List.{insert}
 use Rattle.std.proofs.Common.{arith, ap, sym, subst, ◌∙◌, inl, inr}
 use Rattle.std.proofs.lemmas.List.{append_assoc}
@@ -114,3 +114,13 @@ got_back (x ∷ xs) (suc i) t d e = let r = got_back xs i t d e in (r.0, omega (
 -- two lists in order with the same terms are one
 pub same_lists : (xs ys : List RawTerm) → IsInOrder xs → IsInOrder ys → IsPermutation xs ys → xs ≡ ys
 same_lists xs ys o q p = sym (list_terms xs) ∙ ap list_of (sym o ∙ sorted_terms-permutation xs ys p ∙ q) ∙ list_terms ys
+
+-- what stands at a place is a member
+place_member : (xs : List RawTerm) (i : ℕ) (t : RawTerm) → slice_get xs i ≡ Some t → Member t xs
+place_member [] i t e = cc e
+place_member (x ∷ xs) zero t e = inl (cc e)
+place_member (x ∷ xs) (suc i) t e = inr (place_member xs i t e)
+
+pub found_member : (o : Option ℕ) (b : Bool) (xs ys : List RawTerm) (t : RawTerm) → b ≡ is_some o → b ≡ true → MatchOption o (Member t xs → ⊥) (λ at. slice_get xs at ≡ Some t) → xs ≡ ys → Member t ys
+found_member None b xs ys t e h m d = cc (e, h)
+found_member (Some at) b xs ys t e h m d = subst (Member t) d (place_member xs at t m)
