@@ -1,7 +1,7 @@
 -- Why a claimed part may come back although its rule wasn't found to fail.
 use Rattle.std.specs.Prelude.{◌≡◌, ◌⊎◌, ℕ, List, ◌∷◌, ◌++◌, None, false}
 use Rattle.mw_logic.specs.Term.{RawTerm}
-use Rattle.mw_logic.specs.Substitution.{Substitution, instance}
+use Rattle.mw_logic.specs.Substitution.{Substitution, Extends, instance}
 use Rattle.mw_logic.specs.Parts.{IsAdmitted}
 use Rattle.mw_logic.specs.NormalForm.{normal_form, has_largest}
 use Rattle.mw_logic.specs.Module.{Module, Fragment, Statement, IsStatement}
@@ -34,13 +34,15 @@ pub record IsSideStopped (M : Module) (limit : ℕ) (C : List Fragment) (s : Sub
   pub is_side : ends.IsSide fragment side
   pub stops : SideStops M 62 limit (instance reached side)
 
--- The condition holds, and what the rule leaves of the part has an element of more than 999 levels, or a number that is too large.
+-- The condition holds for values that extend the claim's, and what the rule leaves of the part by them has an element of more than 999 levels, or a number
+-- that is too large.
 pub record IsPastBounds (M : Module) (c : Claim) (e : Statement) : Type 0 where
+  pub values : Substitution
+  pub extends : Extends (meant M.signature c.subst) values
   pub proofs : Proofs
-  pub reached : Substitution
-  pub holds : (judgements M 63).Held e.fragments (meant M.signature c.subst) proofs reached
+  pub holds : (judgements M 63).Held e.fragments values proofs values
   pub whole : RawTerm
-  pub is : whole ≡ replaced_at M.signature c.path c.take (normal_form M.signature (instance reached e.right)) c.part
+  pub is : whole ≡ replaced_at M.signature c.path c.take (normal_form M.signature (instance values e.right)) c.part
   pub past : (IsShallow M.signature c.operator whole × (has_largest M.signature whole ≡ false)) → ⊥
 
 -- The claim's rule may stop for this reason: a side of its condition stops, or the one step leaves what may not stand in a pool.
