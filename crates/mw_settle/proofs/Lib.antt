@@ -1,0 +1,2 @@
+-- Into a place of a term, and out again.
+pub mod Ways
