@@ -1,2 +1,10 @@
 -- Into a place of a term, and out again.
 pub mod Ways
+-- The one step of a rule there.
+pub mod Stepping
+-- A choice at a place of a part.
+pub mod Placed
+-- What comes of it.
+pub mod Outcomes
+-- What a rule leaves, and the limits.
+pub mod Leaving

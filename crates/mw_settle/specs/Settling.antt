@@ -71,6 +71,7 @@ left_of M w c = replaced_at M.signature w.path.now c.take (evaluated M.signature
 -- One step leads there, and it may stand among others; or it may not.
 pub record IsMoved (M : Module) (w : Work) (c : Choice) (d : Deduction) : Type 0 where
   pub step : IsStep M w.part.now (left_of M w c) c d
+  pub canonical : normal_form M.signature (nested M.signature (left_of M w c)) ≡ left_of M w c
   pub shallow : IsShallow M.signature w.operator (left_of M w c)
 
 abbrev pub IsPast : Module → Work → Choice → Type 0

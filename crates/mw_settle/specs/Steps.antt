@@ -4,7 +4,7 @@ use Rattle.std.specs.List.{zip}
 use Rattle.mw_logic.specs.Term.{RawTerm}
 use Rattle.mw_logic.specs.Signature.{Signature}
 use Rattle.mw_logic.specs.Parts.{nested}
-use Rattle.mw_logic.specs.NormalForm.{height, has_largest}
+use Rattle.mw_logic.specs.NormalForm.{normal_form, height, has_largest}
 use Rattle.mw_logic.specs.Module.{Module}
 use Rattle.mw_logic.specs.Proof.{rules, steps}
 use Rattle.mw_canon.specs.Canonical.{meant}
@@ -56,7 +56,7 @@ IsWithin sig v = (height v ≤ 1000) × (has_largest sig v ≡ false)
 
 -- what is left is u, within the limits; or u is past them
 abbrev pub IsLeft : Signature → RawTerm → Left → Type 0
-IsLeft sig u (Whole w) = (w ≡ u) × IsWithin sig u
+IsLeft sig u (Whole w) = (w ≡ u) × IsWithin sig u × (normal_form sig (nested sig u) ≡ u)
 IsLeft sig u Deep = IsWithin sig u → ⊥
 IsLeft sig u Large = IsWithin sig u → ⊥
 

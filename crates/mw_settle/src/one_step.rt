@@ -16,7 +16,7 @@ ghost use Rattle.mw_least.specs.Workable.{IsWorkable};
 ghost use Rattle.mw_frames.specs.State.{Run, IsRun, Leads};
 ghost use Rattle.mw_frames.specs.Machines.{all_moves};
 ghost use Rattle.mw_multiset.specs.Together.{IsShallow};
-ghost use Rattle.mw_settle.specs.Steps.{last_way, way_in, levels as levels_of, AppliesAt, IsReadyAt, IsStepKept, AreLeft, IsLeft};
+ghost use Rattle.mw_settle.specs.Steps.{last_way, way_in, AppliesAt, IsReadyAt, IsStepKept, AreLeft, IsLeft};
 
 use mw_canon::{CanonError, Facts, parts};
 use mw_frames::instance;
@@ -170,7 +170,7 @@ fn go_in(trail: &mut Trail, path: &[u32], take: &Option<Seq<u32>>) -> Result<(),
 
 /// A trail, and then what shows the sides of a condition, in order.
 fn shown(trail: Trail, sides: Vec<Trail>) -> Result<Trail, AllocError>
-    ensures { IfOk result (λ t. (M : Module) → moves M t ≡ moves M trail ++ all_moves M sides.entry.items) }
+    ensures { IfOk result (λ t. (M : Module) → moves M t ≡ moves M trail ++ all_moves M sides.items) }
 {
     let mut trail = trail;
     let mut sides = sides;
@@ -181,18 +181,15 @@ fn shown(trail: Trail, sides: Vec<Trail>) -> Result<Trail, AllocError>
     Ok(trail)
 }
 
-/// Out of each argument on the path, and before out of those that are taken.
-fn go_out(trail: &mut Trail, path: &[u32], take: &Option<Seq<u32>>) -> Result<(), AllocError>
+/// Out of all arguments that were gone into, so many.
+fn go_out(trail: &mut Trail, levels: usize) -> Result<(), AllocError>
     ensures { (K : Run) (count : ℕ) (S : Stand) → IsRun K K.over.signature → Leads K count (moves K.over trail.old) S
-        → length S.opens ≡ levels_of path.now take.now → OnOk result (AreLeft K count (moves K.over trail.new) S) }
+        → length S.opens ≡ levels → OnOk result (AreLeft K count (moves K.over trail.new) S) }
 {
-    if take.is_some() {
+    let mut left = levels;
+    while left > 0 {
         trail.leave()?;
-    }
-    let mut left = path;
-    while let [_, after @ ..] = left {
-        trail.leave()?;
-        left = after;
+        left -= 1;
     }
     Ok(())
 }
@@ -204,7 +201,7 @@ pub fn trail_of(
     choice: Choice<'_>,
     sides: Vec<Trail>,
 ) -> Result<Trail, AllocError>
-    ensures { (M : Module) (t v : RawTerm) → IsWorkable M → IsAdmittedTerm M.signature t → IsReadyAt M t path.now choice.entry sides.entry.items v
+    ensures { (M : Module) (t v : RawTerm) → IsWorkable M → IsAdmittedTerm M.signature t → IsReadyAt M t path.now choice.entry sides.items v
         → IfOk result (IsStepKept M t v choice.entry) }
 {
     let Choice {
@@ -214,8 +211,9 @@ pub fn trail_of(
     } = choice;
     let mut trail = Trail::new(alloc);
     go_in(&mut trail, path, &take)?;
+    let levels = trail.mark();
     let mut trail = shown(trail, sides)?;
     trail.apply(by.number, &mut values)?;
-    go_out(&mut trail, path, &take)?;
+    go_out(&mut trail, levels)?;
     Ok(trail)
 }
