@@ -103,7 +103,7 @@ fn rewritten<'m>(
     requires of { IsOfMultisets context.now work.operator }
     requires admitted { IsAdmittedTerm context.now.signature work.part.now }
     requires applies { AppliesAt context.now work.part.now work.path.now choice sides.items }
-    ensures { IfOk result (IsOutcome context.now work choice.entry) }
+    ensures { IfOk result (IsOutcome context.now work.entry choice.entry) }
 {
     context.shows();
     match left_by(alloc, context, work.part, work.path, &choice)? {
@@ -136,7 +136,7 @@ pub fn settle<'m>(
     requires shallow { IsShallow context.now.signature work.operator work.part.now }
     requires steps { 0 < work.steps }
     requires redex { IsRedexAt context.now work.part.now work.path.now choice }
-    ensures { IfOk result (IsSettled context.now work choice.entry) }
+    ensures { IfOk result (IsSettled context.now work.entry choice.entry) }
 {
     context.shows();
     let by = choice.by;

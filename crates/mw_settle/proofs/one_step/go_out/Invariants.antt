@@ -5,8 +5,8 @@ use Rattle.mw_frames.specs.State.{Run, IsRun, Leads}
 use Rattle.mw_settle.proofs.Stepping.{IsLeftTo}
 use Rattle.mw_settle.proofs.one_step.go_out.Given as goal
 
-abbrev pub invariant-loop : goal.invariant-loop
-invariant-loop l = (K : Run) (count : ℕ) (S : Stand) → IsRun K K.over.signature → Leads K count (moves K.over l.fn.trail) S → length S.opens ≡ l.levels → IsLeftTo K count (moves K.over l.trail) S l.left
+abbrev pub invariant-loop-left : goal.invariant-loop-left
+invariant-loop-left l = (K : Run) (count : ℕ) (S : Stand) → IsRun K K.over.signature → Leads K count (moves K.over l.fn.trail) S → length S.opens ≡ l.levels → IsLeftTo K count (moves K.over l.trail) S l.left
 
-abbrev pub decreases-loop : goal.decreases-loop
-decreases-loop l = l.left
+abbrev pub decreases-loop-left : goal.decreases-loop-left
+decreases-loop-left l = l.left
