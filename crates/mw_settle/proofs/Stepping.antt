@@ -200,7 +200,7 @@ module _ (M : Module) (work : IsWorkable M) (t v : RawTerm) (a : IsAdmittedTerm 
   abbrev all : List Move
   all = way ++ (ss ++ applies number true s us ∷ [])
 
-  fired : IsReplaced K true 0 all S (evaluated sig us right)
+  pub fired : IsReplaced K true 0 all S (evaluated sig us right)
   fired = fires K ok sorted 0 number ss us right w r true rule_there way S free_there run.start leads_in gone.hand seen_there admitted_there
 
   -- where the rule was applied

@@ -236,8 +236,9 @@ module _ (M : Module) (ok : IsAccepted M.signature) where
           let vu : IsValue sig u = value_reached sig ok (apply f ts) u v (spots.IsReached.argument f ts (suc m) u spots.IsReached.itself h o.0) in
           let r : GoesTo path take u w T = rec u T vu refl e taken (o.1 u h) in
           let first : into_argument sig (suc m) S.hand S ≡ T = ap (λ z. into_argument sig (suc m) z S) (hand ∙ ap (apply f) d.whole) ∙ into_is sig (suc m) f d.before u d.after S size in
+          let one_more : suc m ≡ 1 + number_of_terms d.before = let g = d.size in omega (arith, g) in
           let put_there : (x : RawTerm) → filled sig p x ≡ put_in sig (suc m) [] x (apply f ts) = λ x.
-          ap (applied_in sig f) (sym (ap (exchanged 1 (suc m) [] x) d.whole ∙ exchanged-middle 1 (suc m) [] x d.before u d.after size)) in
+          ap (applied_in sig f) (sym (ap (exchanged 1 (suc m) [] x) d.whole ∙ exchanged-middle 1 (suc m) [] x d.before u d.after one_more)) in
           record {
             inner = r.inner;
             may = (
