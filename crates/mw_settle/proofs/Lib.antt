@@ -8,3 +8,7 @@ pub mod Placed
 pub mod Outcomes
 -- What a rule leaves, and the limits.
 pub mod Leaving
+-- A condition of which it is not told whether it holds.
+pub mod Halting
+-- The step that is made, and what is asked for it.
+pub mod Moving
