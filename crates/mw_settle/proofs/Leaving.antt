@@ -1,6 +1,6 @@
 -- What a rule leaves of a term, and the limits.
 use Rattle.std.specs.Prelude.{◌≡◌, ◌≤◌, ◌<◌, ℕ, List, max, Bool, true, false, cond, Option, Some, None, refl}
-use Rattle.std.proofs.Common.{sym, subst, ap, ◌∙◌, arith}
+use Rattle.std.proofs.Common.{sym, subst, ap, ◌∙◌, arith, true≢false}
 use Rattle.std.proofs.lemmas.Bool.{both_ways}
 use Rattle.mw_logic.specs.Term.{RawTerm, RawTerms, numeral, quoted, variable, apply, nil, cons}
 use Rattle.mw_logic.specs.Terms.{terms_of}
@@ -16,6 +16,9 @@ use Rattle.mw_logic.proofs.EqualTerms.{ground_kept}
 use Rattle.mw_logic.proofs.RawKept.{raw_kept}
 use Rattle.mw_logic.proofs.Soundness.{normal_form-sound}
 use Rattle.mw_canon.specs.Canonical.{IsAdmittedTerm}
+use Rattle.mw_canon.specs.Causes.{IsLimit}
+use Rattle.mw_canon.specs.declared.CanonError.{CanonError}
+use Rattle.mw_canon.specs.declared.CanonError.TheVariants.{Deep, Nat, Memory}
 use Rattle.mw_pattern.specs.Clean.{clean}
 use Rattle.mw_matching.specs.Matches.{evaluated}
 use Rattle.mw_least.specs.Workable.{IsWorkable}
@@ -56,6 +59,12 @@ low_whole (Some (numeral_of n)) f (apply g (cons t ts)) h = of_own f g t ts h
 
 pub shallow_low : (sig : Signature) (f : ℕ) (t : RawTerm) → IsShallow sig f t → height t ≤ 1000
 shallow_low sig f t h = low_whole (Rattle.mw_logic.specs.NormalForm.identity_of sig f) f t h
+
+-- what is past a limit isn't within both
+beyond : (h : ℕ) (b : Bool) (e : CanonError) → IsLimit h b e → (e ≡ Memory → ⊥) → h ≤ 1000 → b ≡ false → ⊥
+beyond h b Deep p n l s = omega (arith, p, l)
+beyond h b Nat p n l s = true≢false (sym p.0 ∙ s)
+beyond h b Memory p n l s = n refl
 
 module _ (M : Module) (work : IsWorkable M) (t : RawTerm) (a : IsAdmittedTerm M.signature t) (path : List ℕ) (c : Choice) (sides : List Track) (h : AppliesAt M t path c sides) where
   abbrev sig : Signature
@@ -120,3 +129,23 @@ module _ (M : Module) (work : IsWorkable M) (t : RawTerm) (a : IsAdmittedTerm M.
       put_within sig ok w x x_canonical t u (subst (IsCanonical sig) a.canonical (canonical sig ok (nested sig t)))
       (place_in_term sig ok true w x t u path c.take a.canonical
       (record { part = record { end = h.end; there = h.there; taken = taken_at_end sig c.take h.end w h.made.taken }; open_way = h.open_way; becomes = refl })) l
+
+  -- the same as a call tells it, whose signature and values are these
+  module _ (g : Signature) (eg : g ≡ sig) (vs : List RawTerm) (ev : vs ≡ us) where
+    small_there : some_largest g (terms_of vs) ≡ false
+    small_there = ap (λ k. some_largest k (terms_of vs)) eg ∙ ap (λ zs. some_largest sig (terms_of zs)) ev ∙ small_values
+
+    evaluated_there : evaluated g vs right ≡ x
+    evaluated_there = ap (λ k. evaluated k vs right) eg ∙ ap (λ zs. evaluated sig zs right) ev
+
+    pub admitted_there : (y : RawTerm) → y ≡ evaluated g vs right → height y ≤ 1000 → (some_largest g (terms_of vs) ≡ false → has_largest g y ≡ false) → IsAdmittedTerm g y
+    admitted_there y ey low small =
+        let here : y ≡ x = ey ∙ evaluated_there in
+        let s : has_largest sig y ≡ false = ap (λ k. has_largest k y) (sym eg) ∙ small small_there in
+        subst (λ k. IsAdmittedTerm k y) (sym eg) (subst (IsAdmittedTerm sig) (sym here) (instance_admitted (subst (λ z. height z ≤ 1000) here low, subst (λ z. has_largest sig z ≡ false) here s)))
+
+    pub past_there : (e : CanonError) → (e ≡ Memory → ⊥) → (some_largest g (terms_of vs) ≡ false → IsLimit (height (evaluated g vs right)) (has_largest g (evaluated g vs right)) e) → IsWithin sig u → ⊥
+    past_there e memory cause l =
+        let z = within_there l in
+        let p : IsLimit (height x) (has_largest sig x) e = subst (λ k. IsLimit (height x) (has_largest k x) e) eg (subst (λ y. IsLimit (height y) (has_largest g y) e) evaluated_there (cause small_there)) in
+        beyond (height x) (has_largest sig x) e p memory z.0 z.1

@@ -141,7 +141,7 @@ module _ (M : Module) (work : IsWorkable M) (t v : RawTerm) (a : IsAdmittedTerm 
   run : IsRun K sig
   run = is_run M work 63 t a
 
-  gone : GoesTo M ok path c.take t w (begun 63 t)
+  pub gone : GoesTo M ok path c.take t w (begun 63 t)
   gone = goes_to M ok path c.take t h.applies.end w (begun 63 t) (admitted_value sig ok t a) refl h.applies.there h.applies.made.taken h.applies.open_way
 
   abbrev S : Stand

@@ -4,8 +4,8 @@ use Rattle.mw_trail.specs.Tracks.{moves}
 use Rattle.mw_frames.specs.Machines.{all_moves}
 use Rattle.mw_settle.proofs.one_step.shown.Given as goal
 
-abbrev pub invariant-loop-sides : goal.invariant-loop-sides
-invariant-loop-sides l = (M : Module) → moves M l.trail ++ all_moves M (reverse l.sides.items) ≡ moves M l.fn.trail ++ all_moves M l.fn.sides.items
+abbrev pub invariant-loop-side : goal.invariant-loop-side
+invariant-loop-side l = (M : Module) → moves M l.trail ++ all_moves M (reverse l.sides.items) ≡ moves M l.fn.trail ++ all_moves M l.fn.sides.items
 
-abbrev pub decreases-loop-sides : goal.decreases-loop-sides
-decreases-loop-sides l = length l.sides.items
+abbrev pub decreases-loop-side : goal.decreases-loop-side
+decreases-loop-side l = length l.sides.items
