@@ -31,7 +31,7 @@ use Rattle.mw_frames.specs.Redex.{IsRedex, MayCome}
 use Rattle.mw_frames.proofs.Redexes.{made, made_comes}
 use Rattle.mw_frames.proofs.RightSides.{right_is}
 use Rattle.mw_frames.proofs.SmallValues.{redex_small}
-use Rattle.mw_rule.proofs.Limits.{put_within}
+use Rattle.mw_settle.proofs.Limits.{put_within}
 use Rattle.mw_multiset.specs.Together.{IsShallow}
 use Rattle.mw_settle.specs.Steps.{AppliesAt, IsWithin}
 use Rattle.mw_settle.proofs.Placed.{taken_at_end, applies_admitted}

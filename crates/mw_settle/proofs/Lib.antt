@@ -12,3 +12,5 @@ pub mod Leaving
 pub mod Halting
 -- The step that is made, and what is asked for it.
 pub mod Moving
+-- A replacement in a canonical term, and the limits.
+pub mod Limits

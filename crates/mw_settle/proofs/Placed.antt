@@ -88,6 +88,7 @@ module _ (M : Module) (work : IsWorkable M) (t : RawTerm) (a : IsAdmittedTerm M.
   triable = record { choice = h.found.choice; sized = h.found.sized; admitted = place_admitted M work t a path c.take h.part w h.there (taken_there sig c.take h.part w h.found.choice.taken) h.open_way }
 
   bound : AreBoundTo M lefts us
+  unfolding triable
   bound = left_bound M work h.part c triable
 
   -- its values, by name
