@@ -24,7 +24,7 @@ side_stops M side t why (inl x) = (equality, t, reason_of why, inl x)
 side_stops M side t why (inr (a, (q, v, r, s))) = (q, v, reason_of why, inr (a, r, s))
 
 pub untold_stops : (M : Module) (side : ℕ) (e : Statement) (s : Substitution) (why : Reason) → IsUntold M 63 side e s why → IsSideStopped M side e.fragments (meant M.signature s)
-untold_stops M side e s why (inl (z, x)) = absurd (omega (arith, z))
+untold_stops M side e s why (inl (z, x, y)) = absurd (omega (arith, z))
 untold_stops M side e s why (inr (m, same, inside)) =
     let at : m ≡ 62 = omega (arith, same) in
     let h : IsStoppedInside M 62 side e.fragments (meant M.signature s) why = subst (λ k. IsStoppedInside M k side e.fragments (meant M.signature s) why) at inside in
