@@ -1,6 +1,6 @@
 -- The step that is made, and what is asked for it.
-use Rattle.std.specs.Prelude.{◌≡◌, ◌≤◌, ◌≢◌, ◌<◌, ◌++◌, ℕ, List, [], Bool, true, false, not, IsTrue, refl}
-use Rattle.std.proofs.Common.{sym, subst, ap, ◌∙◌, true≢false}
+use Rattle.std.specs.Prelude.{◌≡◌, ◌≤◌, ◌≢◌, ◌<◌, ◌++◌, ℕ, List, [], false}
+use Rattle.std.proofs.Common.{sym, subst, ap, ◌∙◌}
 use Rattle.mw_logic.specs.Term.{RawTerm}
 use Rattle.mw_logic.specs.Parts.{nested}
 use Rattle.mw_logic.specs.NormalForm.{normal_form, height, has_largest}
@@ -73,8 +73,3 @@ made_settled M work w a old new sides r same made rest values filled some o h =
     let applies : AppliesAt M w.part.now w.path.now new sides = applies_there M w.part.now w.path.now old new sides r same made in
     outcome_settled M work w a old new sides applies rest values (same_by M w.part.now w.path.now old new sides r same) (same_take M w.part.now w.path.now old new sides r same) filled some
     (applies_admitted M work w.part.now a w.path.now new sides applies) o h
-
--- what isn't untrue
-pub kept_true : (b : Bool) → not b ≡ false → IsTrue b
-kept_true true e = refl
-kept_true false e = absurd (true≢false e)

@@ -4,7 +4,7 @@ use Rattle.mw_proof.specs.Deductions.{IsKept, deduced}
 use Rattle.mw_multiset.specs.Together.{IsShallow}
 use Rattle.mw_settle.specs.Steps.{IsLeft}
 use Rattle.mw_settle.specs.Settling.{left_of}
-use Rattle.mw_settle.proofs.Moving.{past_limits, ready, moved, kept_true}
+use Rattle.mw_settle.proofs.Moving.{past_limits, ready, moved}
 use Rattle.mw_settle.proofs.settling.rewritten.Goals as goal
 
 pub returns-in-Deep : goal.returns-in-Deep
@@ -36,5 +36,5 @@ returns c =
     let k = c.in_ok-trail-in-Whole.trail in
     let left = subst (IsLeft M.signature (left_of M w q)) c.in-Whole.is c.in_ok-left_by.ensures in
     let step = c.in_ok-trail-in-Whole.ensures M w.part.now v c.shows.ensures c.requires.admitted (ready M w q c.args.sides.items c.requires.applies v left.0 left.1) in
-    let shallow : IsShallow M.signature w.operator v = subst (λ g. IsShallow g w.operator v) c.facts.ensures (c.is_shallow.ensures.0 (kept_true c.is_shallow.result c.if-not-is_shallow.false)) in
+    let shallow : IsShallow M.signature w.operator v = subst (λ g. IsShallow g w.operator v) c.facts.ensures (c.is_shallow.ensures.0 c.if-not-is_shallow.false) in
     moved M w q v k c.of-proved.result left.0 left.2 (subst (IsShallow M.signature w.operator) left.0 shallow) step (c.of-proved.ensures ∙ ap (λ t. deduced M 63 t v k) c.in_ok-part-in-Whole.ensures)

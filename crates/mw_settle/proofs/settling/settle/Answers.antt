@@ -3,7 +3,7 @@ use Rattle.mw_logic.specs.Module.{Module}
 use Rattle.mw_reduce.specs.Attempts.{IsAttempt}
 use Rattle.mw_settle.specs.Settling.{IsFailedFor, IsAskedFor}
 use Rattle.mw_settle.proofs.Placed.{triable, is_asked, is_failed}
-use Rattle.mw_settle.proofs.Moving.{applies_there, made_settled, kept_true}
+use Rattle.mw_settle.proofs.Moving.{applies_there, made_settled}
 use Rattle.mw_settle.proofs.settling.settle.Goals as goal
 
 pub rewritten-requires-clause-applies : goal.rewritten-requires-clause-applies
@@ -22,7 +22,7 @@ returns-in-Made c =
     let r = c.requires.redex in
     let new = c.try_choice.new.choice in
     let told = c.in_ok-sides.ensures.means r.part (triable M c.shows.ensures w.part.now c.requires.admitted w.path.now c.args.choice r) in
-    let (rest, begins) = c.begin_with.ensures (kept_true c.begin_with.result c.if-not-begin_with.false) in
+    let (rest, begins) = c.begin_with.ensures c.if-not-begin_with.false in
     let given = c.as_slice-in-Made-2.ensures.value ∙ c.in_ok-given.ensures ∙ c.as_slice.ensures.value in
     made_settled M c.shows.ensures w c.requires.admitted c.args.choice new c.in-Made.sides.items r c.in_ok-sides.ensures.same (subst (IsAttempt M 63 w.side r.part c.args.choice new) c.in-Made.is told)
     rest (sym c.as_slice-in-Made.ensures.value ∙ begins ∙ ap (λ us. us ++ rest) given) c.requires.filled c.requires.steps c.in_ok-settled-in-Made.settled c.in_ok-settled-in-Made.ensures
