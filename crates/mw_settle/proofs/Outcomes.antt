@@ -58,7 +58,7 @@ value_kept sig (y ∷ ys) [] vs x t h = absurd (none_some h)
   where
     none_some : {A : Type 0} {z : A} → None ≡ Some z → ⊥
     none_some e = cc
-value_kept sig (y ∷ ys) (u ∷ us) vs x t h = by_test (value_kept sig ys us vs x t) (Rattle.mw_logic.specs.Term.same_variable y x) h
+value_kept sig (y ∷ ys) (u ∷ us) vs x t h = by_test (value_kept sig ys us vs x t) (Rattle.mw_logic.specs.Substitution.same_variable y x) h
   where
     by_test : (value (meant sig (zip ys us)) x ≡ Some t → value (meant sig (zip ys (us ++ vs))) x ≡ Some t) → (b : Bool)
         → Rattle.std.specs.Prelude.cond b (Some (nested sig u)) (value (meant sig (zip ys us)) x) ≡ Some t → Rattle.std.specs.Prelude.cond b (Some (nested sig u)) (value (meant sig (zip ys (us ++ vs))) x) ≡ Some t
