@@ -207,7 +207,7 @@ pub fn run<'m, R: Threads + Wait + Sync, G: Gate>(
 ) -> Result<(Proved<'m>, Outcome), AllocError>
     requires index { IsIndexOf context.now index.now }
     requires admitted { IsAdmittedTerm context.now.signature task.term }
-    ensures { IfOk result (λ r. IsRewritingOf context.now task.entry.term task.entry.bounds r.0 r.1) }
+    ensures { IfOk result (λ r. IsRewritingOf context.now task.term task.bounds r.0 r.1) }
 {
     let Task { term, bounds } = task;
     if crew.workers < 2 {
