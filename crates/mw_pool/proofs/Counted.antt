@@ -1,5 +1,5 @@
 -- What a proof carries out tells how many steps and rules it has; so two proofs, one behind the other, have as many as both.
-use Rattle.std.specs.Prelude.{◌≡◌, ◌+◌, ℕ, zero, suc, List, cond, Option, Some, None, refl}
+use Rattle.std.specs.Prelude.{◌≡◌, ◌+◌, ℕ, zero, suc, List, [], cond, Option, Some, None, refl}
 use Rattle.std.proofs.Common.{sym, ap, ◌∙◌, arith}
 use Rattle.mw_logic.specs.Term.{RawTerm, RawTerms, Context}
 use Rattle.mw_logic.specs.Signature.{Signature, at_number}

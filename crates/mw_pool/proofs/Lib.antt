@@ -2,3 +2,9 @@
 pub mod Counted
 -- Ends of runs behind proofs.
 pub mod Tails
+-- Proofs behind others, within bounds.
+pub mod Behind
+-- What events leave of a module.
+mod Desks
+-- What may be returned for a claim.
+mod Returned

@@ -1,5 +1,5 @@
 -- The end of a run that goes on behind a proof, within what that leaves of the limits, is the end of both.
-use Rattle.std.specs.Prelude.{◌≡◌, ◌≢◌, ◌⊎◌, ◌<◌, ℕ, zero, suc, Some, None, false, IsTrue, IsFalse, ⊤}
+use Rattle.std.specs.Prelude.{◌≡◌, ◌≢◌, ◌⊎◌, ◌<◌, ℕ, zero, suc, Some, None, false, IsTrue, IsFalse, refl, ⊤}
 use Rattle.std.proofs.Common.{sym, subst, inl, inr}
 use Rattle.mw_logic.specs.Term.{RawTerm, Context}
 use Rattle.mw_logic.specs.Substitution.{Substitution, instance}

@@ -35,10 +35,14 @@ fn configured(facts: &Facts, term: &Term) -> Option<OpId>
 fn are_low(terms: &[Term]) -> bool
     ensures { IsTrue result → Each (λ x. height x ≤ 999) (terms_of terms.now) }
 {
-    match terms {
-        [] => true,
-        [first, rest @ ..] => depth(first) <= 999 && are_low(rest),
+    let mut rest = terms;
+    while let [term, after @ ..] = rest {
+        if depth(term) > 999 {
+            return false;
+        }
+        rest = after;
     }
+    true
 }
 
 /// Whether an operator is associative and commutative.

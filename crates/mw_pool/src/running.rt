@@ -99,7 +99,7 @@ fn pooled<'m, R: Threads + Wait + Sync, G: Gate>(
 ) -> Option<Proved<'m>>
     requires index { IsIndexOf place.context.now place.index.now }
     requires admitted { IsAdmittedTerm place.context.now.signature own.now }
-    ensures { IfSome result (IsMore place.context.now own.now place.bounds) }
+    ensures { IfSome result (IsMore place.entry.context.now own.now place.entry.bounds) }
 {
     let Place {
         context,
@@ -128,7 +128,8 @@ fn more_of<'m>(begun: Proved<'m>, more: Proved<'m>) -> Result<Proved<'m>, AllocE
     ensures from { IfOk result (λ p. p.from ≡ begun.entry.from) }
 {
     more.shows();
-    joined(begun, more)
+    let whole = joined(begun, more)?;
+    Ok(whole)
 }
 
 /// A proof, and behind it what workers make of its end.
@@ -140,7 +141,7 @@ fn shared_out<'m, R: Threads + Wait + Sync, G: Gate>(
 ) -> Result<Proved<'m>, AllocError>
     requires index { IsIndexOf place.context.now place.index.now }
     requires begun { IsBegun place.context.now place.bounds begun }
-    ensures begun { IfOk result (IsBegun place.context.now place.bounds) }
+    ensures begun { IfOk result (IsBegun place.entry.context.now place.entry.bounds) }
     ensures from { IfOk result (λ p. p.from ≡ begun.entry.from) }
 {
     begun.shows();
@@ -163,8 +164,8 @@ fn rest_of<'m>(
 ) -> Result<(Proved<'m>, Outcome), AllocError>
     requires index { IsIndexOf place.context.now place.index.now }
     requires module { begun.now.over ≡ place.context.now }
-    ensures { let left = bounds_behind place.bounds begun.now.proof in
-        IfOk result (λ r. IsRewritingOf place.context.now begun.now.to left r.0 r.1) }
+    ensures { let left = bounds_behind place.entry.bounds begun.now.proof in
+        IfOk result (λ r. IsRewritingOf place.entry.context.now begun.now.to left r.0 r.1) }
 {
     begun.shows();
     let end = copy(begun.to())?;
@@ -180,7 +181,7 @@ fn gone_on<'m>(
 ) -> Result<(Proved<'m>, Outcome), AllocError>
     requires index { IsIndexOf place.context.now place.index.now }
     requires begun { IsBegun place.context.now place.bounds begun }
-    ensures { IfOk result (λ r. IsRewritingOf place.context.now begun.entry.from place.bounds r.0 r.1) }
+    ensures { IfOk result (λ r. IsRewritingOf place.entry.context.now begun.entry.from place.entry.bounds r.0 r.1) }
 {
     let (rest, outcome) = rest_of(alloc, place, &begun)?;
     let whole = joined(begun, rest)?;

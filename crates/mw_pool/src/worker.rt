@@ -26,7 +26,8 @@ fn settled<'m>(alloc: Global, job: &Job<'m>) -> Result<Settled<'m>, AllocError>
         steps: claim.steps(),
         side: claim.side(),
     };
-    settle(alloc, claim.module(), job.index, work, choice)
+    let come = settle(alloc, claim.module(), job.index, work, choice)?;
+    Ok(come)
 }
 
 impl<'m> SharedPool<'m> {
