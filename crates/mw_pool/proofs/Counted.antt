@@ -95,12 +95,12 @@ dones_of (run t u ds) = ds
 steps_of_run : (d : Deduction) → IsDeduction d → steps d.proof ≡ number d.run
 steps_of_run d h =
     let x = h.denotes in
-    sym (carries_begins d.over.signature [] d.proof x.from x.to x.done x.carries).size ∙ sym (same_number d.over.signature d.run x.done x.same.1.1)
+    sym (carries_begins d.over.signature [] d.proof x.from x.to x.done x.carries).size ∙ sym (same_number d.over.signature d.run x.done x.same.2)
 
 rules_of_run : (d : Deduction) → IsDeduction d → rules d.proof ≡ rules_done d.over.statements d.run
 rules_of_run d h =
     let x = h.denotes in
-    rules_proved d.over d.rank [] d.proof x.from x.to _ _ x.done h.proves x.carries ∙ sym (same_rules d.over.signature d.over.statements d.run x.done x.same.1.1)
+    rules_proved d.over d.rank [] d.proof x.from x.to _ _ x.done h.proves x.carries ∙ sym (same_rules d.over.signature d.over.statements d.run x.done x.same.2)
 
 module _ (d e p : Deduction) (a : IsDeduction d) (b : IsDeduction e) (c : IsDeduction p) (is : p.run ≡ both d.run e.run) where
   pub steps_joined : steps p.proof ≡ steps d.proof + steps e.proof

@@ -8,3 +8,7 @@ pub mod Behind
 mod Desks
 -- What may be returned for a claim.
 mod Returned
+-- Operators of multisets, and proofs of a whole pool.
+mod Multisets
+-- Types that cross threads.
+pub mod Crossing

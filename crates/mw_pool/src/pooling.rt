@@ -1,7 +1,8 @@
 // From a term to a pool of its elements, and from what workers leave of it to one proof.
-ghost use Rattle.std.specs.Prelude.{◌≡◌, ◌≤◌, IfSome, IsTrue};
+ghost use Rattle.std.specs.Prelude.{◌≡◌, ◌≤◌, IfSome, IsTrue, true};
 ghost use Rattle.mw_logic.specs.Terms.{terms_of};
-ghost use Rattle.mw_logic.specs.NormalForm.{height};
+ghost use Rattle.mw_logic.specs.Parts.{is_assoc};
+ghost use Rattle.mw_logic.specs.NormalForm.{height, is_comm};
 ghost use Rattle.mw_logic.proofs.Canonical.{Each};
 ghost use Rattle.mw_multiset.specs.Together.{IsOfMultisets, IsOpenOperator, IsShallow};
 ghost use Rattle.mw_rule.specs.Rewritings.{IsWithin};
@@ -46,8 +47,13 @@ fn are_low(terms: &[Term]) -> bool
 }
 
 /// Whether an operator is associative and commutative.
-fn joins(facts: &Facts, operator: OpId) -> bool {
-    matches!(facts.axioms(operator), Axioms::Associative { comm: true, .. })
+fn joins(facts: &Facts, operator: OpId) -> bool
+    ensures { IsTrue result → (is_assoc facts.now operator ≡ true) × (is_comm facts.now operator ≡ true) }
+{
+    match facts.axioms(operator) {
+        Axioms::Associative { comm, .. } => comm,
+        _ => false,
+    }
 }
 
 /// The operator under which a term's elements make a pool, if there is one.
@@ -58,7 +64,10 @@ pub fn joined_by(context: &Ctx, term: &Term) -> Option<OpId>
     context.shows();
     let facts = context.facts();
     let operator = configured(facts, term)?;
-    if joins(facts, operator) && are_low(parts(facts, operator, term)) {
+    if !joins(facts, operator) {
+        return None;
+    }
+    if are_low(parts(facts, operator, term)) {
         Some(operator)
     } else {
         None
@@ -97,6 +106,12 @@ pub fn tested<'m>(
     if !is_own(&pool, context, own) {
         return None;
     }
-    let proof = pool.finish(alloc).ok()?;
-    if is_within(&proof, bounds) { Some(proof) } else { None }
+    let Ok(proof) = pool.finish(alloc) else {
+        return None;
+    };
+    if is_within(&proof, bounds) {
+        Some(proof)
+    } else {
+        None
+    }
 }
