@@ -64,10 +64,10 @@ pub schemata_sync : IsSync Schemata.the_row
 schemata_sync = search (sendable, crosses) depth 60 fits 20000
 
 pub fragment_sync : IsSync Fragment.the_row
-fragment_sync = search (raw.both_sync-Raw, sendable, crosses) depth 60 fits 20000
+fragment_sync = search (raw.sync-Raw, raw.both_sync-Raw, raw.sync-Raws, raw.both_sync-Raws, sendable, crosses) depth 60 fits 20000
 
 pub statement_sync : IsSync Statement.the_row
-statement_sync = search (fragment_sync, raw.both_sync-Raw, sendable, crosses) depth 60 fits 20000
+statement_sync = search (fragment_sync, raw.sync-Raw, raw.both_sync-Raw, raw.sync-Raws, raw.both_sync-Raws, sendable, crosses) depth 60 fits 20000
 
 pub sure_sync : IsSync Sure.the_row
 sure_sync = search (sendable, crosses) depth 60 fits 20000
@@ -82,31 +82,31 @@ pub compiled_sync : IsSync Compiled.the_row
 compiled_sync = search (term.both_sync-Term, sendable, crosses) depth 60 fits 20000
 
 pub side_sync : IsSync Side.the_row
-side_sync = search (pattern.both_sync-Pattern, sendable, crosses) depth 60 fits 20000
+side_sync = search (pattern.sync-Pattern, pattern.both_sync-Pattern, pattern.sync-Patterns, pattern.both_sync-Patterns, sendable, crosses) depth 60 fits 20000
 
 pub matched_sync : IsSync Matched.the_row
-matched_sync = search (compiled_sync, side_sync, sendable, crosses) depth 60 fits 20000
+matched_sync = search (compiled_sync, side_sync, pattern.sync-Pattern, pattern.both_sync-Pattern, pattern.sync-Patterns, pattern.both_sync-Patterns, term.both_sync-Term, sendable, crosses) depth 60 fits 20000
 
 pub test_sync : IsSync Test.the_row
-test_sync = search (side_sync, matched_sync, sendable, crosses) depth 60 fits 20000
+test_sync = search (matched_sync, side_sync, pattern.sync-Pattern, pattern.both_sync-Pattern, pattern.sync-Patterns, pattern.both_sync-Patterns, sendable, crosses) depth 60 fits 20000
 
 pub condition_sync : IsSync Condition.the_row
 condition_sync = search (test_sync, sendable, crosses) depth 60 fits 20000
 
 pub searched_sync : IsSync Searched.the_row
-searched_sync = search (compiled_sync, sendable, crosses) depth 60 fits 20000
+searched_sync = search (compiled_sync, term.both_sync-Term, sendable, crosses) depth 60 fits 20000
 
 pub left_sync : IsSync Left.the_row
-left_sync = search (searched_sync, pattern.both_sync-Patterns, sendable, crosses) depth 60 fits 20000
+left_sync = search (searched_sync, pattern.sync-Patterns, pattern.both_sync-Patterns, sendable, crosses) depth 60 fits 20000
 
 pub oriented_sync : IsSync Oriented.the_row
-oriented_sync = search (left_sync, condition_sync, pattern.both_sync-Pattern, sendable, crosses) depth 60 fits 20000
+oriented_sync = search (left_sync, searched_sync, test_sync, condition_sync, pattern.sync-Pattern, pattern.both_sync-Pattern, pattern.sync-Patterns, pattern.both_sync-Patterns, sendable, crosses) depth 60 fits 20000
 
 pub group_sync : IsSync Group.the_row
 group_sync = search (oriented_sync, sendable, crosses) depth 60 fits 20000
 
 pub rule_sync : IsSync Rule.the_row
-rule_sync = search (oriented_sync, sendable, crosses) depth 60 fits 20000
+rule_sync = search (oriented_sync, left_sync, searched_sync, test_sync, condition_sync, pattern.sync-Pattern, pattern.both_sync-Pattern, pattern.sync-Patterns, pattern.both_sync-Patterns, sendable, crosses) depth 60 fits 20000
 
 pub index_sync : IsSync Index.the_row
 index_sync = search (group_sync, rule_sync, oriented_sync, sendable, crosses) depth 60 fits 20000
@@ -121,7 +121,7 @@ pub proved_send : (κ : NamedLft) → IsSend (Proved.the_row κ)
 proved_send κ = search (trail_send, ctx_sync, term.both_send-Term, sendable, crosses) depth 60 fits 20000
 
 pub claim_send : (κ : NamedLft) → IsSend (Claim.the_row κ)
-claim_send κ = search (choice_send, ctx_sync, term.both_send-Term, sendable, crosses) depth 60 fits 20000
+claim_send κ = search (choice_send, oriented_sync, ctx_sync, term.both_send-Term, sendable, crosses) depth 60 fits 20000
 
 pub held_send : (κ : NamedLft) → IsSend (Held.the_row κ)
 held_send κ = search (claim_send, term.both_send-Term, sendable, crosses) depth 60 fits 20000
@@ -130,7 +130,7 @@ pub book_send : (κ : NamedLft) → IsSend (Book.the_row κ)
 book_send κ = search (held_send, proved_send, ctx_sync, index_sync, term.both_send-Term, sendable, crosses) depth 60 fits 20000
 
 pub pool_send : (κ : NamedLft) → IsSend (Pool.the_row κ)
-pool_send κ = search (book_send, term.both_send-Term, sendable, crosses) depth 60 fits 20000
+pool_send κ = search (held_send, proved_send, ctx_sync, index_sync, term.both_send-Term, sendable, crosses) depth 60 fits 20000
 
 pub desk_send : (κ : NamedLft) → IsSend (Desk.the_row κ)
 desk_send κ = search (pool_send, index_sync, sendable, crosses) depth 60 fits 20000
