@@ -9,7 +9,7 @@ use Rattle.mw_logic.specs.Proof.{Proof, reflexivity, equality, congruence, trans
 use Rattle.mw_logic.specs.Proof as proof
 use Rattle.mw_logic.specs.Parts.{ReplacesPart}
 use Rattle.mw_logic.specs.Judgements.{StepTest, Leads, LeadsIn, Proves, judgements_with, Held, Fails}
-use Rattle.mw_deduction.specs.Runs.{Done, by_statement, by_row, Dones, none, more, Run, run, both, Carries, CarriesIn, SameDone, SameDones, Denotes}
+use Rattle.mw_deduction.specs.Runs.{Done, by_statement, by_row, Dones, none, more, Run, run, both, Carries, CarriesIn, SameDone, SameDones}
 use Rattle.mw_proof.specs.Deductions.{Deduction, IsDeduction}
 use Rattle.mw_proof.proofs.Begun.{number, carries_begins}
 

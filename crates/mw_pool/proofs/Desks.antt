@@ -1,7 +1,6 @@
 -- What events leave of a pool's module.
 use Rattle.std.specs.Prelude.{◌≡◌, Result, Ok, Err, OnOk, OnErr}
 use Rattle.std.proofs.Common.{ap}
-use Rattle.mw_logic.specs.Module.{Module}
 use Rattle.mw_world.specs.World.{World, Claim}
 use Rattle.mw_world.specs.Events.{Releases}
 

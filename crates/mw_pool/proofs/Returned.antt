@@ -1,13 +1,10 @@
 -- What comes of a claimed part may be returned for its claim.
-use Rattle.std.specs.Prelude.{◌≡◌, ◌≤◌, ℕ}
+use Rattle.std.specs.Prelude.{◌≡◌}
 use Rattle.std.proofs.Common.{sym, subst, ap, ◌∙◌, arith}
-use Rattle.mw_logic.specs.Module.{Module}
-use Rattle.mw_logic.specs.Proof.{rules}
-use Rattle.mw_trail.specs.Tracks.{variables_of}
 use Rattle.mw_proof.specs.Failures.{Failure}
 use Rattle.mw_index.specs.declared.choices.Choice.{Choice}
 use Rattle.mw_core.specs.Claims.{Claimed, IsOfClaim}
-use Rattle.mw_settle.specs.Settling.{IsSettled, IsRewritten}
+use Rattle.mw_settle.specs.Settling.{IsSettled}
 use Rattle.mw_settle.specs.declared.settling.Work.{Work}
 use Rattle.mw_settle.specs.declared.settling.Settled.{Settled}
 use Rattle.mw_settle.specs.declared.settling.Settled.TheVariants.{Rewritten, Failed, Stopped}

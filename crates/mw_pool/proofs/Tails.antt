@@ -54,4 +54,4 @@ unfolding Stops
 goes_behind M zero limits most t u p q v why h x = stops_behind M (judgements M 0) limits most t u p q v h.same h.not_bound ⊤ (λ side. ⊥) (λ side. ⊥) (λ side z. z) h x
 goes_behind M (suc n) limits most t u p q v why h x =
     stops_behind M (judgements M (suc n)) limits most t u p q v h.same h.not_bound ⊥ (SideStops M n limits.most_of_sides) (SideStops M n most.most_of_sides)
-        (λ side z. subst (λ m. SideStops M n m side) (sym h.sides) z) h x
+    (λ side z. subst (λ m. SideStops M n m side) (sym h.sides) z) h x

@@ -1,5 +1,5 @@
 -- Proofs with which a rewriting has begun, and what they leave of its bounds.
-use Rattle.std.specs.Prelude.{◌≡◌, ◌-◌, ℕ, option_map}
+use Rattle.std.specs.Prelude.{◌≡◌, ◌-◌, option_map}
 use Rattle.mw_logic.specs.Term.{RawTerm}
 use Rattle.mw_logic.specs.Module.{Module}
 use Rattle.mw_logic.specs.Proof.{Proof, rules, steps}

@@ -1,5 +1,5 @@
 -- What a worker does next, and what it may give back.
-use Rattle.std.specs.Prelude.{ℕ, ◌<◌, ⊤}
+use Rattle.std.specs.Prelude.{◌<◌, ⊤}
 use Rattle.mw_index.specs.Index.{IsIndexOf}
 use Rattle.mw_core.specs.Claims.{Claimed}
 use Rattle.mw_core.specs.Calls.{MayGive, IsCause}

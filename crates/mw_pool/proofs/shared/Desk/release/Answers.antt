@@ -1,7 +1,6 @@
-use Rattle.std.proofs.Common.{sym, subst, ap, ◌∙◌}
+use Rattle.std.proofs.Common.{sym, subst}
 use Rattle.mw_logic.specs.Module.{Module}
 use Rattle.mw_index.specs.Index.{IsIndexOf}
-use Rattle.mw_world.specs.World.{World}
 use Rattle.mw_pool.proofs.Desks.{released_over}
 use Rattle.mw_pool.proofs.shared.Desk.release.Goals as goal
 
