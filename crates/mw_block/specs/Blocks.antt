@@ -1,5 +1,5 @@
 -- The block of a command.
-use Rattle.std.specs.Prelude.{◌++◌, ℕ, List, [], ◌∷◌, Option, Some, None, codes}
+use Rattle.std.specs.Prelude.{◌++◌, ℕ, Bool, true, false, List, [], ◌∷◌, Option, Some, None, codes}
 use Rattle.std.specs.Fmt.{decimal}
 use Rattle.mw_logic.specs.Ends.{Reason, by_rules, by_rewrites, by_depth, by_nat, by_condition, by_nest}
 use Rattle.mw_logic.specs.Term.{RawTerm}
@@ -39,17 +39,22 @@ echo_line command sig name from = line (command ++ codes " in " ++ name ++ codes
 abbrev pub count_line : ℕ → List ℕ
 count_line count = line (codes "rewrites: " ++ decimal count)
 
+-- the term of a result, behind its sort or kind; in brief it isn't told
+abbrev pub told_term : Bool → Signature → RawTerm → List ℕ
+told_term true sig to = []
+told_term false sig to = codes ": " ++ term_text sig to
+
 -- the result, with its sort or kind
-abbrev pub result_line : Signature → Sorted → RawTerm → List ℕ
-result_line sig S to = line (codes "result " ++ sorted_name sig S ++ codes ": " ++ term_text sig to)
+abbrev pub result_line : Bool → Signature → Sorted → RawTerm → List ℕ
+result_line brief sig S to = line (codes "result " ++ sorted_name sig S ++ told_term brief sig to)
 
 -- how it ended
 abbrev pub status_line : Word → List ℕ
 status_line word = line (codes "status: " ++ word_text word)
 
 -- the four lines for a reduction or a rewriting
-abbrev pub block : List ℕ → Signature → List ℕ → RawTerm → ℕ → Sorted → RawTerm → Word → List ℕ
-block command sig name from count S to word = echo_line command sig name from ++ count_line count ++ result_line sig S to ++ status_line word
+abbrev pub block : Bool → List ℕ → Signature → List ℕ → RawTerm → ℕ → Sorted → RawTerm → Word → List ℕ
+block brief command sig name from count S to word = echo_line command sig name from ++ count_line count ++ result_line brief sig S to ++ status_line word
 
 -- the sort or kind of a term that was read
 abbrev pub sort_line : Signature → Sorted → List ℕ

@@ -3,7 +3,7 @@ ghost use Rattle.std.specs.Prelude.{◌≡◌, ◌++◌, IfOk, OnOk};
 ghost use Rattle.mw_term.specs.Signatures.{sorted_of};
 ghost use Rattle.mw_poset.specs.SortOrder.{order_of};
 ghost use Rattle.mw_print.specs.Sorts.{IsKindThere};
-ghost use Rattle.mw_block.specs.Blocks.{block, command_text, count_line, echo_line, parsed_block, result_line, sort_line, status_line, word_text};
+ghost use Rattle.mw_block.specs.Blocks.{block, command_text, count_line, echo_line, parsed_block, result_line, sort_line, status_line, told_term, word_text};
 ghost use Rattle.mw_block.specs.Seen.{word_of};
 
 use crate::printing::print;
@@ -74,23 +74,37 @@ fn write_count(count: u64, text: &mut Vec<u8>) -> Result<(), AllocError>
     text.extend_from_slice("\n".as_bytes())
 }
 
+/// The term of the result, behind its sort or kind, or nothing in brief.
+fn write_term(
+    alloc: Global,
+    signature: &Signature,
+    reached: &Reached<'_>,
+    text: &mut Vec<u8>,
+) -> Result<(), AllocError>
+    ensures { OnOk result (text.new.items ≡ text.old.items ++ told_term reached.now.brief signature.now reached.now.term.now) }
+{
+    if reached.brief {
+        return Ok(());
+    }
+    text.extend_from_slice(": ".as_bytes())?;
+    print(alloc, signature, reached.term, text)
+}
+
 /// The result, with its sort or kind.
 fn write_result(
     alloc: Global,
     signature: &Signature,
     order: &Poset,
-    sort: Sorted,
-    term: &Term,
+    reached: &Reached<'_>,
     text: &mut Vec<u8>,
 ) -> Result<(), AllocError>
     requires order { order.now ≡ order_of signature.now }
-    requires kind { IsKindThere signature.now (sorted_of sort) }
-    ensures { OnOk result (text.new.items ≡ text.old.items ++ result_line signature.now (sorted_of sort) term.now) }
+    requires kind { IsKindThere signature.now (sorted_of reached.now.sort) }
+    ensures { OnOk result (text.new.items ≡ text.old.items ++ result_line reached.now.brief signature.now (sorted_of reached.now.sort) reached.now.term.now) }
 {
     text.extend_from_slice("result ".as_bytes())?;
-    print_sorted(alloc, signature, order, sort, text)?;
-    text.extend_from_slice(": ".as_bytes())?;
-    print(alloc, signature, term, text)?;
+    print_sorted(alloc, signature, order, reached.sort, text)?;
+    write_term(alloc, signature, reached, text)?;
     text.extend_from_slice("\n".as_bytes())
 }
 
@@ -135,13 +149,15 @@ fn write_sort(
     text.extend_from_slice("\n".as_bytes())
 }
 
-/// What a reduction or a rewriting came to: how many replacements, a term, its sort or kind, and how it ended.
+/// What a reduction or a rewriting came to: how many replacements, a term, its sort or kind, and how it ended. In brief
+/// the term isn't told.
 #[derive(Clone, Copy)]
 pub struct Reached<'t> {
     pub count: u64,
     pub sort: Sorted,
     pub term: &'t Term,
     pub status: Status,
+    pub brief: bool,
 }
 
 /// The block of a reduction or a rewriting: its command, and what it came to. The signature's sorts have this order.
@@ -154,19 +170,12 @@ pub fn deduction(
 ) -> Result<Vec<u8>, AllocError>
     requires order { order.now ≡ order_of signature.now }
     requires kind { IsKindThere signature.now (sorted_of reached.now.sort) }
-    ensures { IfOk result (λ text. text.items ≡ block (command_text echo.now.command.now echo.now.bound) signature.now echo.now.name.now echo.now.term.now reached.now.count (sorted_of reached.now.sort) reached.now.term.now (word_of reached.now.status)) }
+    ensures { IfOk result (λ text. text.items ≡ block reached.now.brief (command_text echo.now.command.now echo.now.bound) signature.now echo.now.name.now echo.now.term.now reached.now.count (sorted_of reached.now.sort) reached.now.term.now (word_of reached.now.status)) }
 {
     let mut text = Vec::new(alloc);
     write_echo(alloc, signature, echo, &mut text)?;
     write_count(reached.count, &mut text)?;
-    write_result(
-        alloc,
-        signature,
-        order,
-        reached.sort,
-        reached.term,
-        &mut text,
-    )?;
+    write_result(alloc, signature, order, reached, &mut text)?;
     write_status(reached.status, &mut text)?;
     Ok(text)
 }

@@ -10,7 +10,8 @@ use Rattle.mw_top.specs.Purposes.{AskFor}
 use Rattle.mw_top.specs.declared.purpose.Purpose.{Purpose}
 use Rattle.mw_top.specs.declared.purpose.Purpose.TheVariants as purposes
 use Rattle.mw_words.specs.declared.Asked.{Asked}
-use Rattle.mw_words.specs.declared.Asked.TheVariants.{Help, Version}
+use Rattle.mw_words.specs.declared.Asked.TheVariants.{Gen, Help, Version}
+use Rattle.mw_gen.specs.Workload.{workload_text}
 use Rattle.mw_block.specs.Blocks.{line}
 use Rattle.mw_top.specs.Moved.{Gave, Took}
 use Rattle.mw_top.specs.Outputs.{IsOutput, IsBegun, IsCut}
@@ -33,12 +34,17 @@ pub record ReadsWhole (old new : Option (List ℕ)) (bytes : List ℕ) : Type 0 
   pub end : IsAtEnd new
   pub short : length bytes ≤ 8388608
 
--- the words ask for a run or a check, the source was read to its end, and a text with this property was written
+-- What is answered: the source, read to its end, where the words ask for a run or a check of it; or the workload that they ask for, and nothing was read.
+pub data IsAnswered (words : List (List ℕ)) (left left_after : Option (List ℕ)) : Purpose → List ℕ → Type 0 where
+  source : (purpose : Purpose) (bytes : List ℕ) → AskFor words purpose → ReadsWhole left left_after bytes → IsAnswered words left left_after purpose bytes
+  workload : (size : ℕ) (options : Options) → Asks words (Gen size options) → Keeps left left_after
+      → IsAnswered words left left_after (purposes.Run options) (workload_text size)
+
+-- these bytes are answered, and a text with this property was written
 pub record Ran (words : List (List ℕ)) (left left_after held held_after : Option (List ℕ)) (P : Purpose → List ℕ → List ℕ → Type 0) : Type 0 where
   pub purpose : Purpose
-  pub asked : AskFor words purpose
   pub bytes : List ℕ
-  pub read : ReadsWhole left left_after bytes
+  pub answers : IsAnswered words left left_after purpose bytes
   pub text : List ℕ
   pub written : P purpose bytes text
   pub appended : Appends held held_after text
@@ -72,7 +78,7 @@ pub record Did (words : List (List ℕ)) (left left_after : Option (List ℕ)) (
   pub sink_failed : status ≡ 4 → Rose sink sink_after
   pub cut : status ≡ 4 → Ran words left left_after held held_after IsCut
       ⊎ ((text : List ℕ) × (AskText words text ⊎ (AskNothing words × (text ≡ usage))) × Keeps left left_after × Took held held_after text)
-  -- 5: want of memory; the source was read to its end, and the sink holds the texts of the first units, of which one at least is undone; or nothing was written, and the source gave no more than the limit
+  -- 5: want of memory; the source was read to its end, or is a workload, and the sink holds the texts of the first units, of which one at least is undone; or nothing was written, and the source gave no more than the limit
   pub memory : status ≡ 5 → Ran words left left_after held held_after IsBegun ⊎ (Keeps held held_after × Gave left left_after (λ n. n ≤ 8388608))
   -- 6: the source gave more than the limit, and nothing was written
   pub too_long : status ≡ 6 → ((purpose : Purpose) × AskFor words purpose) × Gave left left_after (λ n. n ≡ 8388609) × Keeps held held_after
@@ -98,3 +104,8 @@ pub record IsExactFor (purpose : Purpose) (bytes : List ℕ) (status : ℕ) : Ty
 abbrev pub IsExact : List (List ℕ) → Option (List ℕ) → (source_rose sink_rose : Type 0) → ℕ → Type 0
 IsExact words left source_rose sink_rose status = (bytes : List ℕ) (purpose : Purpose) → left ≡ Some bytes → AskFor words purpose
     → (source_rose → ⊥) → (sink_rose → ⊥) → (status ≡ 5) ⊎ IsExactFor purpose bytes status
+
+-- The same of a workload that the words ask for, where the sink didn't fail.
+abbrev pub IsExactOfWorkload : List (List ℕ) → (sink_rose : Type 0) → ℕ → Type 0
+IsExactOfWorkload words sink_rose status = (size : ℕ) (options : Options) → Asks words (Gen size options) → (sink_rose → ⊥)
+    → (status ≡ 5) ⊎ IsExactFor (purposes.Run options) (workload_text size) status

@@ -75,8 +75,8 @@ IsProofWritten true d name proof = IsTextOf d 1 name proof
 -- The text is the block of the kept deduction in this module, for a command that is repeated so: what the `Proved` that was made is seen as, with all that its type keeps of it (`IsDeduction`: its
 -- proof leads from the one canonical term to the other, through admitted terms alone), at rank 63. It begins at the canonical form of this term, which the block repeats, and leads to
 -- the canonical term that is printed, with its least sort or kind; the count is that of the proof, and what the status word says is true of it. Where proofs are asked for, its
--- proof text stands behind.
-pub record IsDeduced (a : Accepted) (proofs : Bool) (command : List ℕ) (Says : RawTerm → Proof → RawTerm → Word → Type 0) (t : RawTerm) (text : List ℕ) : Type 0 where
+-- proof text stands behind. In brief the printed term is left out.
+pub record IsDeduced (a : Accepted) (options : Options) (command : List ℕ) (Says : RawTerm → Proof → RawTerm → Word → Type 0) (t : RawTerm) (text : List ℕ) : Type 0 where
   pub kept : Deduction
   pub deduction : IsDeduction kept
   pub over : kept.over ≡ a.module
@@ -87,16 +87,16 @@ pub record IsDeduced (a : Accepted) (proofs : Bool) (command : List ℕ) (Says :
   pub least_sort : IsLeastSort a.module.signature (nested a.module.signature kept.to) S
   pub true_word : Says (nested a.module.signature kept.from) kept.proof (nested a.module.signature kept.to) word
   pub proof : List ℕ
-  pub proof_is : IsProofWritten proofs kept a.name proof
-  pub written : text ≡ noted proofs (block command a.module.signature a.name kept.from (min (count kept.proof) (2 ^ 64 - 1)) S kept.to word) ++ proof
+  pub proof_is : IsProofWritten options.proof kept a.name proof
+  pub written : text ≡ noted options.proof (block options.brief command a.module.signature a.name kept.from (min (count kept.proof) (2 ^ 64 - 1)) S kept.to word) ++ proof
 
 -- the block of a reduction of this term
 abbrev pub IsReduced : Accepted → Options → RawTerm → List ℕ → Type 0
-IsReduced a options t text = IsDeduced a options.proof (codes "reduce") (IsTrueWord a.module options.max) t text
+IsReduced a options t text = IsDeduced a options (codes "reduce") (IsTrueWord a.module options.max) t text
 
 -- the block of a rewriting of this term with this bound, which the block repeats
 abbrev pub IsRewritten : Accepted → Option ℕ → Options → RawTerm → List ℕ → Type 0
-IsRewritten a bound options t text = IsDeduced a options.proof (command_text (codes "rewrite") bound) (IsTrueOfRewriting a.module bound options.max) t text
+IsRewritten a bound options t text = IsDeduced a options (command_text (codes "rewrite") bound) (IsTrueOfRewriting a.module bound options.max) t text
 
 -- The text tells the canonical form of this term, with its least sort or kind.
 pub record IsParsed (a : Accepted) (proofs : Bool) (t : RawTerm) (text : List ℕ) : Type 0 where

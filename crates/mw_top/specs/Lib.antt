@@ -1,5 +1,6 @@
 -- What a call of the program reads and writes.
 pub mod Moved
+pub mod Rewriters
 pub mod Preludes
 pub mod Matches
 pub mod Commands

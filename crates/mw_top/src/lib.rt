@@ -39,14 +39,19 @@
 //! Neither: time. `alone` returns; `top` may wait, and so promises only for its return.
 #![tactic(auto)]
 
-ghost use Rattle.std.specs.Prelude.{◌≡◌, ◌≢◌, ◌⊎◌, ◌≤◌, ℕ, List, length, true, false, IfSome, IsSome};
+ghost use Rattle.std.specs.Prelude.{◌≡◌, ◌≢◌, ◌⊎◌, ◌≤◌, ◌↔◌, ℕ, List, length, true, false, None, Err, IfSome, IsTrue};
+ghost use Rattle.std.specs.declared.option.Option.{Option};
+ghost use Rattle.std.specs.Thread.{IsSync};
 ghost use Rattle.std.specs.Io.KnownBytes.{Appends, Keeps};
 ghost use Rattle.mw_outside.specs.Causes.{Rose};
-ghost use Rattle.mw_words.specs.Asked.{texts};
-ghost use Rattle.mw_top.specs.Purposes.{AskFor, IsAllowed};
+ghost use Rattle.mw_words.specs.Asked.{texts, Asks, AskSeveral};
+ghost use Rattle.mw_words.specs.declared.Asked.TheVariants.{Gen as GenOf};
+ghost use Rattle.mw_words.specs.declared.WordsError.TheVariants.{Memory as NoMemory};
+ghost use Rattle.mw_top.specs.Purposes.{AskFor, CanBeDone, IsAllowed, IsForSeveral, IsReadOf};
+ghost use Rattle.mw_top.specs.Rewriters.{IsRewriting, MayBeRewritten};
 ghost use Rattle.mw_top.specs.Sources.{told_refusal};
 ghost use Rattle.mw_top.specs.Moved.{Took, Wrote};
-ghost use Rattle.mw_top.specs.Call.{Did, IsExact};
+ghost use Rattle.mw_top.specs.Call.{Did, IsExact, IsExactOfWorkload};
 ghost use Rattle.mw_top.specs.Written.{RowsOfAccepted, WrittenAnswered};
 ghost use Rattle.mw_top.specs.Outputs.{IsOutput, AgreeInRefusal, AgreeInStatus, IsBegun, IsCut, lexing_refusal};
 
@@ -56,20 +61,26 @@ mod proving;
 mod purpose;
 mod reduction;
 mod replies;
+mod rewriters;
 mod rewriting;
 mod session;
 mod streams;
 mod units;
 
 use mw_gate::Gate;
+use mw_gen::generate;
 use mw_lex::{LexError, LexFault, LexKind};
 use mw_module::{Fault, FaultKind};
 use mw_outside::{Sink, Source};
-use mw_words::{Asked, WordsError, help_text, read_words, version_text};
+use mw_pool::Crew;
+use mw_proof::Proved;
+use mw_reduce::Outcome;
+use mw_words::{Asked, Options, WordsError, help_text, read_words, version_text};
 use prelude::source_tokens;
 use purpose::Purpose;
+use rewriters::{Rewriting, by_one, by_several};
 use session::refused_by;
-use std::alloc::Global;
+use std::alloc::{AllocError, Global};
 use std::sync::Wait;
 use std::thread::Threads;
 use streams::{ReadError, read_to_end, write_whole};
@@ -91,18 +102,30 @@ const USAGE: &str = "usage: mw run, mw check, mw gen\n";
 /// | 5 | want of memory; the sink holds the texts of the units done before |
 /// | 6 | the source has more than 8,388,608 bytes; nothing was written |
 ///
-/// It is never `None`: that is kept for words that ask for more than one thread.
+/// It is `None` exactly for words that ask for several workers, where memory doesn't run out before they are read;
+/// nothing is read or written then. The source of `gen` isn't read either, so it gives neither 3 nor 6.
 pub fn alone<S: Source, K: Sink>(
     alloc: Global,
     words: &[String],
     source: &mut S,
     sink: &mut K,
 ) -> Option<u8>
-    ensures some { IsSome result }
+    ensures none { result ≡ None → AskSeveral (texts words.now) }
+    ensures some { IfSome result (λ status. (status ≡ 5) ⊎ (AskSeveral (texts words.now) → ⊥)) }
+    ensures unread { result ≡ None → source.new ≡ source.old }
+    ensures unwritten { result ≡ None → sink.new ≡ sink.old }
     ensures did { IfSome result (Did (texts words.now) (S.left source.old) (S.left source.new) (S.faults source.old) (S.faults source.new) (K.held sink.old) (K.held sink.new) (K.faults sink.old) (K.faults sink.new)) }
     ensures exact { IfSome result (IsExact (texts words.now) (S.left source.old) (Rose (S.faults source.old) (S.faults source.new)) (Rose (K.faults sink.old) (K.faults sink.new))) }
+    ensures exact_of_workload { IfSome result (IsExactOfWorkload (texts words.now) (Rose (K.faults sink.old) (K.faults sink.new))) }
 {
-    Some(run(alloc, words, source, sink))
+    let asked = read_words(alloc, words);
+    if is_for_several(&asked) {
+        return None;
+    }
+    let status = run(alloc, asked, source, sink, &|rewriting| {
+        by_one(alloc, rewriting)
+    });
+    Some(status)
 }
 
 /// The same, on as many threads as the words ask for; the observer is told of each claim and receipt.
@@ -116,11 +139,26 @@ pub fn top<R: Threads + Wait + Sync, S: Source, K: Sink, G: Gate>(
 ) -> u8
     ensures did { Did (texts words.now) (S.left source.old) (S.left source.new) (S.faults source.old) (S.faults source.new) (K.held sink.old) (K.held sink.new) (K.faults sink.old) (K.faults sink.new) result }
     ensures exact { IsExact (texts words.now) (S.left source.old) (Rose (S.faults source.old) (S.faults source.new)) (Rose (K.faults sink.old) (K.faults sink.new)) result }
+    ensures exact_of_workload { IsExactOfWorkload (texts words.now) (Rose (K.faults sink.old) (K.faults sink.new)) result }
 {
-    match alone(alloc, words, source, sink) {
-        Some(status) => status,
-        None => unreachable!(),
+    if let Some(status) = alone(alloc, words, source, sink) {
+        return status;
     }
+    let asked = read_words(alloc, words);
+    let crew = Crew {
+        runtime: rt,
+        gate,
+        workers: workers_of(&asked),
+    };
+    run(
+        alloc,
+        asked,
+        source,
+        sink,
+        &|rewriting|
+            requires { IsSync R.row × IsSync G.row × MayBeRewritten rewriting }
+        { by_several(alloc, &crew, rewriting) },
+    )
 }
 
 /// Of the same bytes, by the same limit, no two outputs of a run differ in whether something was refused.
@@ -144,13 +182,54 @@ pub fn written_answered()
     ensures { WrittenAnswered }
 {}
 
-/// What `alone` does, with the status as a number.
-fn run<S: Source, K: Sink>(alloc: Global, words: &[String], source: &mut S, sink: &mut K) -> u8
-    ensures { Did (texts words.now) (S.left source.old) (S.left source.new) (S.faults source.old) (S.faults source.new) (K.held sink.old) (K.held sink.new) (K.faults sink.old) (K.faults sink.new) result }
+/// Whether what was read of the words is for more than one worker.
+fn is_for_several(asked: &Result<Asked, WordsError>) -> bool
+    ensures { IsTrue result ↔ IsForSeveral asked.now }
 {
-    match read_words(alloc, words) {
-        Ok(Asked::Run(options)) => answer_source(alloc, Purpose::Run(options), source, sink),
-        Ok(Asked::Check { max }) => answer_source(alloc, Purpose::Check { max }, source, sink),
+    match asked {
+        Ok(Asked::Run(options)) => options.workers > 1,
+        Ok(Asked::Gen { options, .. }) => options.workers > 1,
+        _ => false,
+    }
+}
+
+/// For how many workers it is.
+fn workers_of(asked: &Result<Asked, WordsError>) -> u32 {
+    match asked {
+        Ok(Asked::Run(options)) => options.workers,
+        Ok(Asked::Gen { options, .. }) => options.workers,
+        _ => 1,
+    }
+}
+
+/// Does what was read of the words, and rewrites so.
+fn run<
+    S: Source,
+    K: Sink,
+    F: for<'m> Fn(Rewriting<'m>) -> Result<(Proved<'m>, Outcome), AllocError>,
+>(
+    alloc: Global,
+    asked: Result<Asked, WordsError>,
+    source: &mut S,
+    sink: &mut K,
+    rewrite: &F,
+) -> u8
+    requires can { CanBeDone asked }
+    requires may { (x : _) → MayBeRewritten x → F.pre rewrite.now x }
+    requires gives { (x : _) (r : _) → F.post rewrite.now x r → IsRewriting x r }
+    ensures did { (words : List (List ℕ)) → IsReadOf words asked → Did words (S.left source.old) (S.left source.new) (S.faults source.old) (S.faults source.new) (K.held sink.old) (K.held sink.new) (K.faults sink.old) (K.faults sink.new) result }
+    ensures memory { asked ≡ Err NoMemory → result ≡ 5 }
+{
+    match asked {
+        Ok(Asked::Run(options)) => {
+            answer_source(alloc, Purpose::Run(options), source, sink, rewrite)
+        }
+        Ok(Asked::Check { max }) => {
+            answer_source(alloc, Purpose::Check { max }, source, sink, rewrite)
+        }
+        Ok(Asked::Gen { size, options }) => {
+            answer_workload(alloc, size, options, sink, rewrite)
+        }
         Ok(Asked::Help) => tell(sink, help_text(), 0),
         Ok(Asked::Version) => tell(sink, version_text(), 0),
         Err(WordsError::Usage) => tell(sink, USAGE, 2),
@@ -175,28 +254,70 @@ fn tell<K: Sink>(sink: &mut K, text: &str, status: u8) -> u8
 }
 
 /// Reads a source to its end, and answers its units.
-fn answer_source<S: Source, K: Sink>(
+fn answer_source<
+    S: Source,
+    K: Sink,
+    F: for<'m> Fn(Rewriting<'m>) -> Result<(Proved<'m>, Outcome), AllocError>,
+>(
     alloc: Global,
     purpose: Purpose,
     source: &mut S,
     sink: &mut K,
+    rewrite: &F,
 ) -> u8
-    requires { IsAllowed purpose }
+    requires allowed { IsAllowed purpose }
+    requires may { (x : _) → MayBeRewritten x → F.pre rewrite.now x }
+    requires gives { (x : _) (r : _) → F.post rewrite.now x r → IsRewriting x r }
     ensures { (words : List (List ℕ)) → AskFor words purpose
         → Did words (S.left source.old) (S.left source.new) (S.faults source.old) (S.faults source.new) (K.held sink.old) (K.held sink.new) (K.faults sink.old) (K.faults sink.new) result }
 {
     match read_to_end(alloc, source) {
-        Ok(bytes) => answer_bytes(alloc, bytes.as_slice(), purpose, sink),
+        Ok(bytes) => answer_bytes(alloc, bytes.as_slice(), purpose, sink, rewrite),
         Err(ReadError::Memory) => 5,
         Err(ReadError::Failed) => 3,
         Err(ReadError::TooLong) => 6,
     }
 }
 
+/// Answers a workload of this size; no source is read.
+fn answer_workload<
+    K: Sink,
+    F: for<'m> Fn(Rewriting<'m>) -> Result<(Proved<'m>, Outcome), AllocError>,
+>(
+    alloc: Global,
+    size: u32,
+    options: Options,
+    sink: &mut K,
+    rewrite: &F,
+) -> u8
+    requires some { 2 ≤ size }
+    requires few { size ≤ 2000 }
+    requires may { (x : _) → MayBeRewritten x → F.pre rewrite.now x }
+    requires gives { (x : _) (r : _) → F.post rewrite.now x r → IsRewriting x r }
+    ensures { (words : List (List ℕ)) (left : Option (List ℕ)) (faults : ℕ) → Asks words (GenOf size options)
+        → Did words left left faults faults (K.held sink.old) (K.held sink.new) (K.faults sink.old) (K.faults sink.new) result }
+{
+    match generate(alloc, size) {
+        Ok(text) => answer_bytes(alloc, text.as_slice(), Purpose::Run(options), sink, rewrite),
+        Err(_) => 5,
+    }
+}
+
 /// Answers the units of these bytes.
-fn answer_bytes<K: Sink>(alloc: Global, bytes: &[u8], purpose: Purpose, sink: &mut K) -> u8
+fn answer_bytes<
+    K: Sink,
+    F: for<'m> Fn(Rewriting<'m>) -> Result<(Proved<'m>, Outcome), AllocError>,
+>(
+    alloc: Global,
+    bytes: &[u8],
+    purpose: Purpose,
+    sink: &mut K,
+    rewrite: &F,
+) -> u8
     requires short { length bytes.now ≤ 8388608 }
     requires allowed { IsAllowed purpose }
+    requires may { (x : _) → MayBeRewritten x → F.pre rewrite.now x }
+    requires gives { (x : _) (r : _) → F.post rewrite.now x r → IsRewriting x r }
     ensures known { (result ≤ 1) ⊎ ((result ≡ 4) ⊎ (result ≡ 5)) }
     ensures later { K.faults sink.old ≤ K.faults sink.new }
     ensures kept { result ≢ 4 → K.faults sink.new ≡ K.faults sink.old }
@@ -207,7 +328,7 @@ fn answer_bytes<K: Sink>(alloc: Global, bytes: &[u8], purpose: Purpose, sink: &m
     ensures memory { result ≡ 5 → Wrote (K.held sink.old) (K.held sink.new) (IsBegun purpose bytes.now) }
 {
     match source_tokens(alloc, bytes) {
-        Ok(tokens) => answer_units(alloc, tokens.as_slice(), purpose, sink),
+        Ok(tokens) => answer_units(alloc, tokens.as_slice(), purpose, sink, rewrite),
         Err(LexError::Fault(fault)) => refuse_whole(alloc, fault, purpose, sink),
         Err(LexError::Memory) => 5,
     }

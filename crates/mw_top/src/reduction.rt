@@ -104,10 +104,11 @@ fn block(
     repeated: Repeated,
     proved: &Proved<'_>,
     status: Status,
+    brief: bool,
 ) -> Result<Vec<u8>, AllocError>
     requires { IsAdmittedTerm accepted.now.module.signature proved.now.to }
     ensures { IfOk result (λ text. (S : SortedOf) × IsLeastSort accepted.now.module.signature (nested accepted.now.module.signature proved.now.to) S
-        × (text.items ≡ block_of (command_text repeated.command.now repeated.bound) accepted.now.module.signature accepted.now.name proved.now.from (min (count proved.now.proof) (2 ^ 64 - 1)) S proved.now.to (word_of_status status))) }
+        × (text.items ≡ block_of brief (command_text repeated.command.now repeated.bound) accepted.now.module.signature accepted.now.name proved.now.from (min (count proved.now.proof) (2 ^ 64 - 1)) S proved.now.to (word_of_status status))) }
 {
     let context = accepted.context();
     context.shows();
@@ -122,6 +123,7 @@ fn block(
         sort: context.least_sort(proved.to()),
         term: proved.to(),
         status,
+        brief,
     };
     deduction(alloc, context.signature(), context.order(), &echo, &reached)
 }
@@ -138,9 +140,9 @@ pub fn told(
     requires { IsAdmittedTerm accepted.now.module.signature proved.now.to }
     ensures { IfOk result (λ text. (S : SortedOf) × IsLeastSort accepted.now.module.signature (nested accepted.now.module.signature proved.now.to) S
         × (proof : List ℕ) × IsProofWritten options.proof proved.now accepted.now.name proof
-        × (text.items ≡ notes.noted options.proof (block_of (command_text repeated.command.now repeated.bound) accepted.now.module.signature accepted.now.name proved.now.from (min (count proved.now.proof) (2 ^ 64 - 1)) S proved.now.to (word_of_status status)) ++ proof)) }
+        × (text.items ≡ notes.noted options.proof (block_of options.brief (command_text repeated.command.now repeated.bound) accepted.now.module.signature accepted.now.name proved.now.from (min (count proved.now.proof) (2 ^ 64 - 1)) S proved.now.to (word_of_status status)) ++ proof)) }
 {
-    let block = block(alloc, accepted, repeated, proved, status)?;
+    let block = block(alloc, accepted, repeated, proved, status, options.brief)?;
     let mut text = noted(alloc, options.proof, block)?;
     if options.proof {
         let mut proof = write(alloc, accepted.name(), proved, 1)?;

@@ -7,12 +7,14 @@ ghost use Rattle.mw_build.specs.Modules.{Accepted, IsAccepted, IsRefused};
 ghost use Rattle.mw_top.specs.Commands.{CommandFault, is_kept as is_kept_name, module_named, module_at, last_module, module_for};
 ghost use Rattle.mw_top.specs.Proofs.{IsProofAnswer, is_no as is_no_of};
 ghost use Rattle.mw_top.specs.Purposes.{IsAllowed};
+ghost use Rattle.mw_top.specs.Rewriters.{IsRewriting, MayBeRewritten};
 ghost use Rattle.mw_top.specs.declared.purpose.Purpose.TheVariants.{Run as RunOf, Check as CheckOf};
 ghost use Rattle.mw_top.specs.Sources.{IsNameTaken, Gives, name_of, no_modules, told_refusal, with_module};
 
 use crate::proving::{judged, named_module};
 use crate::purpose::Purpose;
 use crate::replies::reply;
+use crate::rewriters::Rewriting;
 use mw_block::{noted, refusal, verdict};
 use mw_build::{Built, Module, build};
 use mw_check::{Cause, Verdict};
@@ -22,6 +24,8 @@ use mw_lex::Token;
 use mw_module::{Fault, FaultKind, Unit, UnitError};
 use mw_omod::declare;
 use mw_prelude::Predefined;
+use mw_proof::Proved;
+use mw_reduce::Outcome;
 use mw_term::Name;
 use mw_words::Options;
 use std::alloc::{AllocError, Global};
@@ -252,20 +256,23 @@ impl<'s> Session<'s> {
     }
 
     /// What a command gives.
-    fn answer_command(
+    fn answer_command<F: for<'m> Fn(Rewriting<'m>) -> Result<(Proved<'m>, Outcome), AllocError>>(
         &self,
         alloc: Global,
         line: u32,
         command: &Command<'_>,
         options: Options,
+        rewrite: &F,
     ) -> Result<Answer, AllocError>
+        requires may { (x : _) → MayBeRewritten x → F.pre rewrite.now x }
+        requires gives { (x : _) (r : _) → F.post rewrite.now x r → IsRewriting x r }
         ensures { (u : SeenUnit) → u.line ≡ line → name_of u ≡ None → command_of u ≡ Ok (seen_command command.now)
             → IfOk result (λ a. Gives (RunOf options) self.now (Ok u) a.text.items a.refused self.now) }
     {
         let Some(module) = self.module_for(command) else {
             return refused(alloc, Purpose::Run(options), line, missing(alloc, command)?);
         };
-        match reply(alloc, module, command, options)? {
+        match reply(alloc, module, command, options, rewrite)? {
             Ok(text) => Ok(Answer {
                 text,
                 refused: false,
@@ -275,19 +282,22 @@ impl<'s> Session<'s> {
     }
 
     /// What a command's unit gives.
-    fn answer_unit(
+    fn answer_unit<F: for<'m> Fn(Rewriting<'m>) -> Result<(Proved<'m>, Outcome), AllocError>>(
         &mut self,
         alloc: Global,
         unit: &Unit<'s>,
         options: Options,
+        rewrite: &F,
     ) -> Result<Answer, AllocError>
-        requires { name_of (seen_unit unit.now) ≡ None }
+        requires unnamed { name_of (seen_unit unit.now) ≡ None }
+        requires may { (x : _) → MayBeRewritten x → F.pre rewrite.now x }
+        requires gives { (x : _) (r : _) → F.post rewrite.now x r → IsRewriting x r }
         ensures { IfOk result (λ a. Gives (RunOf options) self.old (Ok (seen_unit unit.now)) a.text.items a.refused self.new) }
     {
         match read(unit) {
             Ok(command) => {
                 self.prepare(alloc, &command)?;
-                self.answer_command(alloc, unit.line, &command, options)
+                self.answer_command(alloc, unit.line, &command, options, rewrite)
             }
             Err(fault) => refused_by(alloc, Purpose::Run(options), fault),
         }
@@ -349,21 +359,24 @@ impl<'s> Session<'s> {
     }
 
     /// What a unit gives, where a command makes at most so many steps.
-    pub fn answer(
+    pub fn answer<F: for<'m> Fn(Rewriting<'m>) -> Result<(Proved<'m>, Outcome), AllocError>>(
         &mut self,
         alloc: Global,
         unit: Unit<'s>,
         purpose: Purpose,
+        rewrite: &F,
     ) -> Result<Answer, AllocError>
         requires known { AreKnown (seen_unit unit).statements }
         requires allowed { IsAllowed purpose }
+        requires may { (x : _) → MayBeRewritten x → F.pre rewrite.now x }
+        requires gives { (x : _) (r : _) → F.post rewrite.now x r → IsRewriting x r }
         ensures { IfOk result (λ a. Gives purpose self.old (Ok (seen_unit unit.entry)) a.text.items a.refused self.new) }
     {
         if let Some(name) = unit.name {
             return self.answer_module(alloc, unit, name, purpose);
         }
         match purpose {
-            Purpose::Run(options) => self.answer_unit(alloc, &unit, options),
+            Purpose::Run(options) => self.answer_unit(alloc, &unit, options, rewrite),
             Purpose::Check { max } => self.answer_proof(alloc, &unit, max),
         }
     }

@@ -8,9 +8,9 @@ use Rattle.clap.specs.Kinds.{IsAmong}
 use Rattle.clap.specs.declared.error.kind.ErrorKind.{ErrorKind}
 use Rattle.clap.specs.declared.error.kind.ErrorKind.TheVariants.{DisplayHelp, DisplayVersion, OutOfMemory}
 use Rattle.mw_words.specs.declared.Asked.{Asked}
-use Rattle.mw_words.specs.declared.Asked.TheVariants.{Run, Check, Help, Version}
+use Rattle.mw_words.specs.declared.Asked.TheVariants.{Run, Check, Gen, Help, Version}
 use Rattle.mw_words.specs.declared.WordsError.{WordsError}
-use Rattle.mw_words.specs.Asked.{Asks, AreOptions, IsCommand, IsMax, IsProofAsked, IsValue}
+use Rattle.mw_words.specs.Asked.{Asks, AreOptions, IsCommand, IsGenerating, IsMax, IsProofAsked, IsSize, IsValue, IsWorkers}
 use Rattle.mw_words.specs.declared.Options.{Options}
 use Rattle.mw_words.specs.CommandLine.{mw_app}
 use Rattle.mw_words.proofs.Apart.{is_request, request_alone}
@@ -28,6 +28,12 @@ one_command words m n r s p q =
 run≢check : codes "run" ≢ codes "check"
 run≢check e = (cc)
 
+run≢gen : codes "run" ≢ codes "gen"
+run≢gen e = (cc)
+
+check≢gen : codes "check" ≢ codes "gen"
+check≢gen e = (cc)
+
 -- both say whether the flag was given
 one_flag : (rows : List Row) (a b : Bool) → IsProofAsked rows a → IsProofAsked rows b → a ≡ b
 one_flag rows true true p q = refl
@@ -38,32 +44,64 @@ one_flag rows false false p q = refl
 one_max : (rows : List Row) (m n : ℕ) → IsMax rows m → IsMax rows n → m ≡ n
 one_max rows m n p q = one_value 1 10000000 1000000 (omega arith) (first_of (codes "max") rows) m n p q
 
+one_workers : (rows : List Row) (m n : ℕ) → IsWorkers rows m → IsWorkers rows n → m ≡ n
+one_workers rows m n p q = one_value 1 64 1 (omega arith) (first_of (codes "workers") rows) m n p q
+
+same_options : (a b : Options) → a.max ≡ b.max → a.proof ≡ b.proof → a.workers ≡ b.workers → a.brief ≡ b.brief → a ≡ b
+same_options a b max proof workers brief =
+    let made : ℕ → Bool → ℕ → Bool → Options = λ m p w k. record { max = m; proof = p; workers = w; brief = k } in
+    ap (λ m. made m a.proof a.workers a.brief) max ∙ ap (λ p. made b.max p a.workers a.brief) proof ∙ ap (λ w. made b.max b.proof w a.brief) workers
+    ∙ ap (λ k. made b.max b.proof b.workers k) brief
+
 one_options : (rows : List Row) (a b : Options) → AreOptions rows a → AreOptions rows b → a ≡ b
 one_options rows a b p q =
-    let most : a.max ≡ b.max = one_max rows a.max b.max p.max q.max in
-    let proof : a.proof ≡ b.proof = one_flag rows a.proof b.proof p.proof q.proof in
-    let made : ℕ → Bool → Options = λ m p. record { max = m; proof = p } in
-    ap (λ m. made m a.proof) most ∙ ap (λ p. made b.max p) proof
+    same_options a b (one_max rows a.max b.max p.max q.max) (one_flag rows a.proof b.proof p.proof q.proof) (one_workers rows a.workers b.workers p.workers q.workers) (p.whole ∙ sym q.whole)
+
+same_text : {x y : List ℕ} → Some x ≡ Some y → x ≡ y
+same_text e = cc
+
+one_size : (rows : List Row) (m n : ℕ) → IsSize rows m → IsSize rows n → m ≡ n
+one_size rows m n p q =
+    let text : p.text ≡ q.text = same_text (sym p.there ∙ q.there) in
+    decimal_injective m n (omega (arith, p.number.most)) (omega (arith, q.number.most)) (sym p.number.digits ∙ text ∙ q.number.digits)
+
+one_generating : (rows : List Row) (m n : ℕ) (a b : Options) → IsGenerating rows m a → IsGenerating rows n b → (m ≡ n) × (a ≡ b)
+one_generating rows m n a b p q = (
+  one_size rows m n p.size_is q.size_is,
+  same_options a b (p.max ∙ sym q.max) (p.proof ∙ sym q.proof) (one_workers rows a.workers b.workers p.workers q.workers) (p.brief ∙ sym q.brief),
+)
 
 pub one_answer : (words : List (List ℕ)) (a b : Asked) → Asks words a → Asks words b → b ≡ a
 one_answer words (Run m) (Run n) p q =
     let same = one_command words (codes "run") (codes "run") q.0 p.0 q.1 p.1 in
     ap Run (one_options p.0 n m (subst (λ rows. AreOptions rows n) same.1 q.2) p.2)
 one_answer words (Run m) (Check n) p q = absurd (run≢check (one_command words (codes "run") (codes "check") p.0 q.0 p.1 q.1).0)
+one_answer words (Run m) (Gen n o) p q = absurd (run≢gen (one_command words (codes "run") (codes "gen") p.0 q.0 p.1 q.1).0)
 one_answer words (Run m) Help p q = (cc (p.1.taken, q))
 one_answer words (Run m) Version p q = (cc (p.1.taken, q))
 one_answer words (Check m) (Run n) p q = absurd (run≢check (one_command words (codes "run") (codes "check") q.0 p.0 q.1 p.1).0)
 one_answer words (Check m) (Check n) p q =
     let same = one_command words (codes "check") (codes "check") q.0 p.0 q.1 p.1 in
     ap Check (one_max p.0 n m (subst (λ rows. IsMax rows n) same.1 q.2) p.2)
+one_answer words (Check m) (Gen n o) p q = absurd (check≢gen (one_command words (codes "check") (codes "gen") p.0 q.0 p.1 q.1).0)
 one_answer words (Check m) Help p q = (cc (p.1.taken, q))
 one_answer words (Check m) Version p q = (cc (p.1.taken, q))
+one_answer words (Gen m o) (Run n) p q = absurd (run≢gen (one_command words (codes "run") (codes "gen") q.0 p.0 q.1 p.1).0)
+one_answer words (Gen m o) (Check n) p q = absurd (check≢gen (one_command words (codes "check") (codes "gen") q.0 p.0 q.1 p.1).0)
+one_answer words (Gen m o) (Gen n r) p q =
+    let same = one_command words (codes "gen") (codes "gen") q.0 p.0 q.1 p.1 in
+    let one = one_generating p.0 n m r o (subst (λ rows. IsGenerating rows n r) same.1 q.2) p.2 in
+    ap (λ k. Gen k r) one.0 ∙ ap (Gen m) one.1
+one_answer words (Gen m o) Help p q = (cc (p.1.taken, q))
+one_answer words (Gen m o) Version p q = (cc (p.1.taken, q))
 one_answer words Help (Run n) p q = (cc (p, q.1.taken))
 one_answer words Help (Check n) p q = (cc (p, q.1.taken))
+one_answer words Help (Gen n o) p q = (cc (p, q.1.taken))
 one_answer words Help Help p q = refl
 one_answer words Help Version p q = (cc (p, q))
 one_answer words Version (Run n) p q = (cc (p, q.1.taken))
 one_answer words Version (Check n) p q = (cc (p, q.1.taken))
+one_answer words Version (Gen n o) p q = (cc (p, q.1.taken))
 one_answer words Version Help p q = (cc (p, q))
 one_answer words Version Version p q = refl
 

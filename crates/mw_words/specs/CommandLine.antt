@@ -16,13 +16,25 @@ flag_rule name = record (new_rule name) { long = Some name; action = Some SetTru
 abbrev pub max_rule : Rule
 max_rule = option_rule (codes "max")
 
--- `run [--max N] [--proof]`
+-- `--workers W`, of each subcommand that has it
+abbrev pub workers_rule : Rule
+workers_rule = option_rule (codes "workers")
+
+-- a number that has to stand there, by its place
+abbrev pub size_rule : Rule
+size_rule = record (new_rule (codes "size")) { required = true; action = Some Set }
+
+-- `run [--max N] [--proof] [--workers W]`
 abbrev pub run_app : App
-run_app = with_rule (with_rule (new_app (codes "run")) max_rule) (flag_rule (codes "proof"))
+run_app = with_rule (with_rule (with_rule (new_app (codes "run")) max_rule) (flag_rule (codes "proof"))) workers_rule
 
 -- `check [--max N]`
 abbrev pub check_app : App
 check_app = with_rule (new_app (codes "check")) max_rule
+
+-- `gen SIZE [--workers W]`
+abbrev pub gen_app : App
+gen_app = with_rule (with_rule (new_app (codes "gen")) size_rule) workers_rule
 
 -- the program without its subcommands: it wants one, `help` is none, and it has a version
 abbrev pub program_app : App
@@ -30,4 +42,4 @@ program_app = on_top (λ s. record s { subcommand_required = true; disable_help_
 
 -- the whole command line
 abbrev pub mw_app : App
-mw_app = with_subcommand (with_subcommand program_app run_app.top) check_app.top
+mw_app = with_subcommand (with_subcommand (with_subcommand program_app run_app.top) check_app.top) gen_app.top

@@ -10,10 +10,11 @@ version_line = line (codes "mw 0.1.0")
 
 -- the commands with their options
 abbrev pub help_commands : List ℕ
-help_commands = line (codes "mw run [--max N] [--proof]    answers the commands of the source on standard input")
-    ++ line (codes "mw check [--max N]            reads modules and proof texts there, and answers each proof `yes` or `no`")
-    ++ line (codes "mw --help, -h                 writes this text, as `mw run --help` and `mw check --help` do")
-    ++ line (codes "mw --version, -V              writes the version")
+help_commands = line (codes "mw run [--max N] [--proof] [--workers W]    answers the commands of the source on standard input")
+    ++ line (codes "mw check [--max N]                          reads modules and proof texts there, and answers each proof `yes` or `no`")
+    ++ line (codes "mw gen SIZE [--workers W]                   answers a workload of SIZE accounts, 2 to 2000, and reads no source")
+    ++ line (codes "mw --help, -h                               writes this text, as `mw run --help` and the like do")
+    ++ line (codes "mw --version, -V                            writes the version")
 
 -- the options with their ranges and defaults
 abbrev pub help_options : List ℕ
@@ -21,6 +22,7 @@ help_options = line (codes "--max N     the most rewrites of each chain by itsel
     ++ line (codes "            most solutions of a match, 1 to 10000000 (default 1000000)")
     ++ line (codes "--proof     writes behind each block of reduce and rewrite its proof, and `*** ` before each other line;")
     ++ line (codes "            a proof is held in memory whole, and spells out the values of each step")
+    ++ line (codes "--workers W the threads that rewrite the elements of a configuration, 1 to 64 (default 1)")
 
 -- the statuses
 abbrev pub help_statuses : List ℕ

@@ -7,7 +7,7 @@ ghost use Rattle.clap.specs.Kinds.{IsAmong};
 ghost use Rattle.clap.specs.Walk.{rule_of};
 ghost use Rattle.clap.specs.declared.builder.command.Command.TheViews.{out-Command as fields_of};
 ghost use Rattle.mw_words.specs.Asked.{texts};
-ghost use Rattle.mw_words.specs.CommandLine.{check_app, flag_rule, max_rule, mw_app, option_rule, program_app, run_app};
+ghost use Rattle.mw_words.specs.CommandLine.{check_app, flag_rule, gen_app, max_rule, mw_app, option_rule, program_app, run_app, size_rule, workers_rule};
 
 use crate::texts::version_text;
 use clap::error::ErrorKind;
@@ -36,12 +36,29 @@ fn max_option<'a>(alloc: Global) -> Arg<'a>
     option(alloc, "max")
 }
 
+/// `--workers W`, of each subcommand that has it.
+fn workers_option<'a>(alloc: Global) -> Arg<'a>
+    ensures rule { rule_of result ≡ workers_rule }
+    ensures local { result.global ≡ false }
+{
+    option(alloc, "workers")
+}
+
+/// The number behind `gen`.
+fn size_argument<'a>(alloc: Global) -> Arg<'a>
+    ensures rule { rule_of result ≡ size_rule }
+    ensures local { result.global ≡ false }
+{
+    Arg::new(alloc, "size").required(true).action(ArgAction::Set)
+}
+
 fn run_command<'a>(alloc: Global) -> Result<Command<'a>, AllocError>
     ensures app { IfOk result (λ c. app_of c ≡ run_app) }
     ensures local { IfOk result (λ c. (fields_of c).has_globals ≡ false) }
 {
     let command = Command::new(alloc, "run").arg(max_option(alloc))?;
-    command.arg(flag(alloc, "proof"))
+    let command = command.arg(flag(alloc, "proof"))?;
+    command.arg(workers_option(alloc))
 }
 
 fn check_command<'a>(alloc: Global) -> Result<Command<'a>, AllocError>
@@ -49,6 +66,14 @@ fn check_command<'a>(alloc: Global) -> Result<Command<'a>, AllocError>
     ensures local { IfOk result (λ c. (fields_of c).has_globals ≡ false) }
 {
     Command::new(alloc, "check").arg(max_option(alloc))
+}
+
+fn gen_command<'a>(alloc: Global) -> Result<Command<'a>, AllocError>
+    ensures app { IfOk result (λ c. app_of c ≡ gen_app) }
+    ensures local { IfOk result (λ c. (fields_of c).has_globals ≡ false) }
+{
+    let command = Command::new(alloc, "gen").arg(size_argument(alloc))?;
+    command.arg(workers_option(alloc))
 }
 
 /// With a version, so that clap knows `--version`; what it would write for it is never shown.
@@ -66,7 +91,11 @@ fn mw_command<'a>(alloc: Global) -> Result<Command<'a>, AllocError>
 {
     let run = run_command(alloc)?;
     let check = check_command(alloc)?;
-    program_command(alloc).subcommand(run)?.subcommand(check)
+    let workload = gen_command(alloc)?;
+    program_command(alloc)
+        .subcommand(run)?
+        .subcommand(check)?
+        .subcommand(workload)
 }
 
 /// What clap makes of the words: the subcommand with its arguments, or the kind of its error.

@@ -1,10 +1,12 @@
 //! The words of the command line, read by clap: what they ask for, and the texts that answer `--help` and `--version`.
 //!
-//! - The first word is the program's name, whatever it is. `run`, with `--max N` or `--max=N` and `--proof` each at
-//!   most once, is a run; `check`, with `--max N` or `--max=N` at most once, a check of proof texts. N is a number from
-//!   1 to 10,000,000 in digits, with no sign and no zero in front, 1,000,000 without the option.
-//! - `--help` and `-h`, of the program, of `run` and of `check`, ask for help, `--version` and `-V` of the program for
-//!   the version. Clap reads from the left: words behind such a wish say nothing, a word in front that it refuses is
+//! - The first word is the program's name, whatever it is. `run`, with `--max N` or `--max=N`, `--proof` and `--workers
+//!   W` or `--workers=W` each at most once, is a run; `check`, with `--max N` or `--max=N` at most once, a check of proof
+//!   texts; `gen SIZE`, with `--workers` at most once, a run of a generated workload. N is a number from 1 to
+//!   10,000,000, 1,000,000 without the option; W one from 1 to 64, 1 without it; SIZE one from 2 to 2,000. Each is in
+//!   digits, with no sign and no zero in front.
+//! - `--help` and `-h`, of the program, of `run`, of `check` and of `gen`, ask for help, `--version` and `-V` of the
+//!   program for the version. Clap reads from the left: words behind such a wish say nothing, a word in front that it refuses is
 //!   refused. What N is is looked at last: `mw run --max 007 --help` is help.
 //! - There is no subcommand `help`. `mw run --` is `mw run`, and `mw check --` is `mw check`. Other words ask for
 //!   nothing (`Usage`).
@@ -28,7 +30,7 @@ ghost use Rattle.std.specs.Prelude.{◌≡◌, ◌≢◌, ◌⊎◌, ◌↔◌, 
 ghost use Rattle.clap.specs.Walk.{first_of, rows_of};
 ghost use Rattle.clap.specs.Matches.{found_of};
 ghost use Rattle.clap.specs.Simple.{subcommand_rows_of};
-ghost use Rattle.mw_words.specs.Asked.{texts, Asks, AreOptions, IsMax};
+ghost use Rattle.mw_words.specs.Asked.{texts, Asks, AreOptions, IsGenerating, IsMax, IsSize, IsWorkers};
 ghost use Rattle.mw_words.specs.declared.Options.{Options as OptionsOf};
 ghost use Rattle.mw_words.specs.declared.WordsError.TheVariants.{Memory as MemoryError};
 
@@ -39,7 +41,7 @@ mod texts;
 use clap::ArgMatches;
 use clap::error::ErrorKind;
 use command_line::matches_of;
-use number::option_number;
+use number::{argument_number, option_number};
 use std::alloc::{AllocError, Global};
 pub use texts::{help_text, version_text};
 
@@ -50,6 +52,10 @@ pub struct Options {
     pub max: u64,
     /// With the proof of each reduction and rewriting.
     pub proof: bool,
+    /// Where rewriting may use several workers, with so many.
+    pub workers: u32,
+    /// The line for the result of a reduction or a rewriting has its sort alone.
+    pub brief: bool,
 }
 
 /// What the words ask for.
@@ -61,6 +67,13 @@ pub enum Asked {
     Check {
         /// What `--max` gives.
         max: u64,
+    },
+    /// `gen`: to answer a workload of this size.
+    Gen {
+        /// How many accounts it has.
+        size: u32,
+        /// How it is answered.
+        options: Options,
     },
     /// `--help` or `-h`, of the program or of a command: to write the help text.
     Help,
@@ -119,6 +132,29 @@ fn read_max(alloc: Global, matches: &ArgMatches<'_>) -> Result<u64, WordsError>
     option_number(alloc, matches, "max", 1, 10_000_000, 1_000_000)?.ok_or(WordsError::Usage)
 }
 
+/// What `--workers` gives, of each subcommand that has it: its number, or 1 where it is absent.
+fn read_workers(alloc: Global, matches: &ArgMatches<'_>) -> Result<u32, WordsError>
+    ensures workers { IfOk result (IsWorkers (rows_of (found_of matches.now))) }
+    ensures usage { IsErrOf result WordsError.Usage → (n : ℕ) → IsWorkers (rows_of (found_of matches.now)) n → ⊥ }
+{
+    let workers = option_number(alloc, matches, "workers", 1, 64, 1)?;
+    match workers {
+        Some(workers) => Ok(workers as u32),
+        None => Err(WordsError::Usage),
+    }
+}
+
+/// The size of a workload.
+fn read_size(alloc: Global, matches: &ArgMatches<'_>) -> Result<u32, WordsError>
+    ensures size { IfOk result (IsSize (rows_of (found_of matches.now))) }
+    ensures usage { IsErrOf result WordsError.Usage → (n : ℕ) → IsSize (rows_of (found_of matches.now)) n → ⊥ }
+{
+    match argument_number(alloc, matches, "size", 2, 2000)? {
+        Some(size) => Ok(size as u32),
+        None => Err(WordsError::Usage),
+    }
+}
+
 /// What `run` with these arguments asks for.
 fn read_run(alloc: Global, matches: &ArgMatches<'_>) -> Result<Asked, WordsError>
     ensures asked { IfOk result (λ asked. (o : OptionsOf)
@@ -128,7 +164,13 @@ fn read_run(alloc: Global, matches: &ArgMatches<'_>) -> Result<Asked, WordsError
 {
     let max = read_max(alloc, matches)?;
     let proof = is_given(matches, "proof");
-    Ok(Asked::Run(Options { max, proof }))
+    let workers = read_workers(alloc, matches)?;
+    Ok(Asked::Run(Options {
+        max,
+        proof,
+        workers,
+        brief: false,
+    }))
 }
 
 /// What `check` with these arguments asks for.
@@ -141,11 +183,30 @@ fn read_check(alloc: Global, matches: &ArgMatches<'_>) -> Result<Asked, WordsErr
     Ok(Asked::Check { max })
 }
 
+/// What `gen` with these arguments asks for.
+fn read_gen(alloc: Global, matches: &ArgMatches<'_>) -> Result<Asked, WordsError>
+    ensures asked { IfOk result (λ asked. (size : ℕ) × (o : OptionsOf)
+        × (asked ≡ Asked.Gen size o) × IsGenerating (rows_of (found_of matches.now)) size o) }
+    ensures usage { IsErrOf result WordsError.Usage
+        → (size : ℕ) → (o : OptionsOf) → IsGenerating (rows_of (found_of matches.now)) size o → ⊥ }
+{
+    let size = read_size(alloc, matches)?;
+    let workers = read_workers(alloc, matches)?;
+    let options = Options {
+        max: 1_000_000,
+        proof: false,
+        workers,
+        brief: true,
+    };
+    Ok(Asked::Gen { size, options })
+}
+
 /// Reads the words of a command line, of which the first is the program's name.
 ///
-/// - `run`, with `--max N` or `--max=N` and `--proof` each at most once, asks for a run, `check`, with `--max N` or
-///   `--max=N` at most once, for a check. N is a number from 1 to 10,000,000 in digits, with no sign and no zero in
-///   front. Without it it is 1,000,000.
+/// - `run`, with `--max N` or `--max=N`, `--proof` and `--workers W` or `--workers=W` each at most once, asks for a run,
+///   `check`, with `--max N` or `--max=N` at most once, for a check. `gen SIZE`, with `--workers` at most once, asks for
+///   a run of a workload. N is a number from 1 to 10,000,000, and 1,000,000 without it; W one from 1 to 64, and 1
+///   without it; SIZE one from 2 to 2,000. They are in digits, with no sign and no zero in front.
 /// - `--help` and `-h` ask for help, `--version` and `-V` for the version. Clap reads from the left and ends there, so
 ///   the words behind them say nothing, but a word in front that clap refuses is refused.
 ///
@@ -162,6 +223,7 @@ pub fn read_words(alloc: Global, words: &[String]) -> Result<Asked, WordsError>
     match matches.subcommand() {
         Some(("run", arguments)) => read_run(alloc, arguments),
         Some(("check", arguments)) => read_check(alloc, arguments),
+        Some(("gen", arguments)) => read_gen(alloc, arguments),
         _ => Err(WordsError::Usage),
     }
 }

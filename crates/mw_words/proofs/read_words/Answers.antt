@@ -10,3 +10,6 @@ returns-in-Some-run-default-clause-only c = asked_only _ c.read_run.result (sear
 
 pub returns-in-Some-check-default-clause-only : goal.returns-in-Some-check-default-clause-only
 returns-in-Some-check-default-clause-only c = asked_only _ c.read_check.result (search rules)
+
+pub returns-in-Some-gen-default-clause-only : goal.returns-in-Some-gen-default-clause-only
+returns-in-Some-gen-default-clause-only c = asked_only _ c.read_gen.result (search rules)
